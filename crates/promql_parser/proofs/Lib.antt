@@ -1,0 +1,3 @@
+pub mod NumeralLemmas
+pub mod Pieces
+pub mod Counting
