@@ -1,3 +1,10 @@
 pub mod Numerals
 pub mod Lexing
 pub mod Cutting
+pub mod Tree
+pub mod OneLine
+pub mod Grammar
+pub mod Building
+pub mod Reading
+pub mod Front
+pub mod Parts

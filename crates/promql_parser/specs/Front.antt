@@ -1,0 +1,11 @@
+-- What does not stand at the front of a list of tokens.
+use Rattle.std.specs.Prelude.{List, [], ◌∷◌}
+use Rattle.promql_parser.specs.Grammar.{Symbol, number_word, name_word, sign, opening, closing}
+
+abbrev pub HasNoClosing : List Symbol → Type 0
+HasNoClosing (closing ∷ ts) = ⊥
+HasNoClosing ts = Unit {0}
+
+abbrev pub HasNoSign : List Symbol → Type 0
+HasNoSign (sign op ∷ ts) = ⊥
+HasNoSign ts = Unit {0}

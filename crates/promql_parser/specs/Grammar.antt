@@ -1,0 +1,86 @@
+-- The grammar: derivation trees, their tokens, and which of them are well formed (docs/GRAMMAR.md, "Grammar").
+use Rattle.std.specs.Prelude.{◌≡◌, ℕ, ◌+◌, ◌≤◌, ◌<◌, min, max, List, [], ◌∷◌, ◌++◌}
+use Rattle.promql_parser.specs.declared.tokens.Operator.{Operator}
+use Rattle.promql_parser.specs.declared.tokens.Operator.TheVariants.{Add, Sub}
+use Rattle.promql_parser.specs.declared.tokens.TokenKind.TheVariants as kinds
+use Rattle.promql_parser.specs.Lexing.{Text, Token}
+
+-- what a token is to the grammar; the text is kept where the grammar needs it
+pub data Symbol : Type 0 where
+  number_word : Text → Symbol
+  name_word : Text → Symbol
+  sign : Operator → Symbol
+  opening : Symbol
+  closing : Symbol
+
+abbrev pub symbol_of : Token → Symbol
+symbol_of (kinds.Number, text) = number_word text
+symbol_of (kinds.Identifier, text) = name_word text
+symbol_of (kinds.Operator op, text) = sign op
+symbol_of (kinds.LeftParen, text) = opening
+symbol_of (kinds.RightParen, text) = closing
+
+-- a derivation, with a case for each alternative of the grammar
+pub data Derivation : Type 0 where
+  number : Text → Derivation
+  name : Text → Derivation
+  paren : Derivation → Derivation
+  binary : Operator → Derivation → Derivation → Derivation
+
+-- the tokens that a derivation spells
+abbrev pub yield : Derivation → List Symbol
+yield (number text) = number_word text ∷ []
+yield (name text) = name_word text ∷ []
+yield (paren d) = opening ∷ (yield d ++ closing ∷ [])
+yield (binary op l r) = yield l ++ sign op ∷ yield r
+
+-- how tightly an operator binds
+abbrev pub level : Operator → ℕ
+level Add = 4
+level Sub = 4
+
+-- how tightly an operator outside must bind at least to take the form whole on its left
+abbrev pub openness : Derivation → ℕ
+openness (number text) = 7
+openness (name text) = 7
+openness (paren d) = 7
+openness (binary op l r) = min (level op) (openness r)
+
+-- the left side's openness is at least the operator's level
+abbrev pub FitsLeft : Operator → Derivation → Type 0
+FitsLeft op l = level op ≤ openness l
+
+-- a right side that is binary has a higher level
+abbrev pub FitsRight : Operator → Derivation → Type 0
+FitsRight op (binary inner l r) = level op < level inner
+FitsRight op (number text) = Unit {0}
+FitsRight op (name text) = Unit {0}
+FitsRight op (paren d) = Unit {0}
+
+-- a sign stands over no binary form; no form of the core has a sign in front yet
+abbrev pub FitsSign : Derivation → Type 0
+FitsSign (binary op l r) = ⊥
+FitsSign (number text) = Unit {0}
+FitsSign (name text) = Unit {0}
+FitsSign (paren d) = Unit {0}
+
+-- a base has no operator outside; no form of the core stands on a base yet
+abbrev pub IsBase : Derivation → Type 0
+IsBase (binary op l r) = ⊥
+IsBase (number text) = Unit {0}
+IsBase (name text) = Unit {0}
+IsBase (paren d) = Unit {0}
+
+-- the conditions hold everywhere in the derivation
+abbrev pub IsWellFormed : Derivation → Type 0
+IsWellFormed (number text) = Unit {0}
+IsWellFormed (name text) = Unit {0}
+IsWellFormed (paren d) = IsWellFormed d
+IsWellFormed (binary op l r) = IsWellFormed l × IsWellFormed r × FitsLeft op l × FitsRight op r
+
+-- a derivation is one higher than its highest part
+abbrev pub height : Derivation → ℕ
+height (number text) = 1
+height (name text) = 1
+height (paren d) = 1 + height d
+height (binary op l r) = 1 + max (height l) (height r)

@@ -1,0 +1,41 @@
+// The tree of an expression.
+
+use crate::tokens::Operator;
+
+/// A number.
+#[derive(Clone, Copy, PartialEq, Eq, Debug)]
+pub struct NumberLiteral {
+    pub val: u128,
+}
+
+/// A selector of the series with this name.
+#[derive(PartialEq, Eq, Debug, Drop)]
+pub struct VectorSelector {
+    pub name: Option<String>,
+}
+
+/// An expression in parentheses.
+#[cycle(ast)]
+#[derive(Drop)]
+pub struct ParenExpr {
+    pub expr: Box<Expr>,
+}
+
+/// An operator between two expressions.
+#[cycle(ast)]
+#[derive(Drop)]
+pub struct BinaryExpr {
+    pub op: Operator,
+    pub lhs: Box<Expr>,
+    pub rhs: Box<Expr>,
+}
+
+/// An expression.
+#[cycle(ast)]
+#[derive(Drop)]
+pub enum Expr {
+    Binary(BinaryExpr),
+    Paren(ParenExpr),
+    NumberLiteral(NumberLiteral),
+    VectorSelector(VectorSelector),
+}
