@@ -6,3 +6,6 @@ pub mod Complete
 pub mod Sound
 pub mod Unique
 pub mod Climbing
+pub mod Wholes
+pub mod Readable
+pub mod AnswerLemmas

@@ -8,3 +8,5 @@ pub mod Building
 pub mod Reading
 pub mod Front
 pub mod Parts
+pub mod Wholes
+pub mod Answers

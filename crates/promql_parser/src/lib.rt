@@ -2,6 +2,8 @@
 #![tactic(auto)]
 
 mod grammar;
+pub mod laws;
+pub mod parser;
 mod show;
 mod texts;
 mod tokens;

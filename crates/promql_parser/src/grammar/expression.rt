@@ -3,11 +3,14 @@
 ghost use Rattle.std.specs.Prelude.{◌≡◌, ℕ, ◌+◌, ◌<◌, ◌≤◌, length, IfOk, MatchResult};
 ghost use Rattle.promql_parser.specs.Parts.{Fails, IsGiven, symbols_of};
 ghost use Rattle.promql_parser.specs.Reading.{first, expression};
+ghost use Rattle.promql_parser.specs.Wholes.{IsWhole};
 
 use crate::grammar::front::{after_close, after_operator, level_above, level_of, split};
 use crate::grammar::part::{Halt, Part, binary_part, name_part, number_part, paren_part};
 use crate::grammar::symbol::Symbol;
+use crate::texts::NumberFault;
 use crate::tokens::Token;
+use crate::tree::Expr;
 use std::alloc::Global;
 
 /// A form with no operator outside.
@@ -75,4 +78,21 @@ pub fn read_expression<'a, 't>(
         rest = after;
     }
     Ok((left, rest))
+}
+
+/// What all the tokens build, as one expression of height at most `room`.
+pub fn read_all(
+    alloc: Global,
+    room: usize,
+    tokens: &[Token<'_>],
+) -> Result<Result<Expr, NumberFault>, Halt>
+    requires { room < 600 }
+    ensures { IsWhole room (symbols_of tokens.now) result }
+{
+    let (part, rest) = read_expression(alloc, room, 0, tokens)?;
+    if !rest.is_empty() {
+        return Err(Halt::Syntax);
+    }
+    let Part { value, height: _ } = part;
+    Ok(value)
 }

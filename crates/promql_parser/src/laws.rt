@@ -1,0 +1,9 @@
+// Laws of the grammar.
+
+ghost use Rattle.std.specs.Prelude.{◌≡◌};
+ghost use Rattle.promql_parser.specs.Grammar.{Derivation, IsWellFormed, yield};
+
+/// No two well formed derivations spell the same tokens, so a text has one tree.
+pub fn one_tree()
+    ensures { (a b : Derivation) → IsWellFormed a → IsWellFormed b → yield a ≡ yield b → a ≡ b }
+{}

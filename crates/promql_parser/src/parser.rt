@@ -1,0 +1,96 @@
+// From a text to its tree.
+
+ghost use Rattle.std.specs.Prelude.{◌≡◌, ℕ, ◌≤◌, ◌↔◌, [], None, Some, IfOk, IsErrOf};
+ghost use Rattle.promql_parser.specs.Answers.{Derives, IsAnswer, IsBuilt, answer_of};
+ghost use Rattle.promql_parser.specs.Building.{build};
+ghost use Rattle.promql_parser.specs.Grammar.{Derivation, height};
+ghost use Rattle.promql_parser.specs.Lexing.{tokens};
+ghost use Rattle.promql_parser.specs.Tree.{tree_of, tree_height};
+
+pub use crate::tokens::Operator;
+pub use crate::tree::{BinaryExpr, Expr, NumberLiteral, ParenExpr, VectorSelector};
+
+use crate::grammar::expression::read_all;
+use crate::grammar::part::Halt;
+use crate::tokens::{LexicalFault, count_tokens, list_tokens};
+use std::alloc::{AllocError, Global};
+use thiserror::Error;
+
+/// The greatest height of an expression.
+pub const MAX_DEPTH: usize = 512;
+
+/// Why a text has no tree (docs/GRAMMAR.md, "The answer to a text").
+#[derive(Clone, Copy, PartialEq, Eq, Debug, Error)]
+pub enum ParseError {
+    /// A growth was refused.
+    #[error("out of memory")]
+    Memory,
+    /// The text has no token.
+    #[error("no expression found in input")]
+    Empty,
+    /// The text has no token list, or its tokens are no expression.
+    #[error("invalid promql query")]
+    Syntax,
+    /// The tokens are more than 512, their end counted, and no expression of height at most 512.
+    #[error("expression nested too deeply")]
+    TooDeep,
+}
+
+impl From<AllocError> for ParseError {
+    ghost use Rattle.std.specs.Prelude.{◌≡◌};
+    ghost use Rattle.promql_parser.specs.declared.parser.ParseError.TheVariants.{Memory};
+
+    ghost from_gives = { λ _ e. e ≡ Memory };
+
+    fn from(_e: AllocError) -> ParseError {
+        ParseError::Memory
+    }
+}
+
+impl From<LexicalFault> for ParseError {
+    ghost use Rattle.std.specs.Prelude.{◌≡◌};
+    ghost use Rattle.promql_parser.specs.declared.parser.ParseError.TheVariants.{Syntax};
+
+    ghost from_gives = { λ _ e. e ≡ Syntax };
+
+    fn from(_e: LexicalFault) -> ParseError {
+        ParseError::Syntax
+    }
+}
+
+impl From<Halt> for ParseError {
+    ghost use Rattle.promql_parser.specs.Answers.{IsHalt};
+
+    ghost from_gives = { IsHalt };
+
+    fn from(halt: Halt) -> ParseError {
+        match halt {
+            Halt::Memory => ParseError::Memory,
+            Halt::Syntax => ParseError::Syntax,
+            Halt::TooDeep => ParseError::TooDeep,
+        }
+    }
+}
+
+/// The tree of a text.
+///
+/// `Empty` and a lexical fault are answered whatever memory there is.
+pub fn parse(alloc: Global, text: &str) -> Result<Expr, ParseError>
+    // The answer is right: a tree is built of a derivation of the text, and a refusal has its reason.
+    ensures answer { IsAnswer text.now (answer_of result) }
+    // What is right is answered: for each derivation of the text that is low enough, what it builds.
+    ensures only { (d : Derivation) → Derives text.now d → height d ≤ 512 → IsBuilt (answer_of result) (build d) }
+    ensures empty { IsErrOf result ParseError.Empty ↔ (tokens text.now ≡ Some []) }
+    ensures lexical { tokens text.now ≡ None → IsErrOf result ParseError.Syntax }
+    ensures low { IfOk result (λ e. tree_height (tree_of e) ≤ 512) }
+{
+    if count_tokens(text)? == 0 {
+        return Err(ParseError::Empty);
+    }
+    let tokens = list_tokens(alloc, text)?;
+    match read_all(alloc, MAX_DEPTH, tokens.as_slice())? {
+        Ok(expr) => Ok(expr),
+        // Each number token is a numeral that can be read.
+        Err(_) => unreachable!(),
+    }
+}
