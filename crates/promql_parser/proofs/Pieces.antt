@@ -168,11 +168,11 @@ module _ (text dark : Text) (same : pieces dark ≡ pieces text) (starts : 0 < l
   begins_none b nonempty first none =
       let no_token : begins_token (get_or dark 0 0) ≡ false = ap begins_token first ∙ none in
       record {
-    piece = take (piece_len dark) dark;
-    others = pieces (drop (piece_len dark) dark);
-    cuts = sym same ∙ front_of nonempty;
-    kind = ap kind_of (one_byte dark nonempty no_token) ∙ no_kind (get_or dark 0 0) no_token;
-  }
+        piece = take (piece_len dark) dark;
+        others = pieces (drop (piece_len dark) dark);
+        cuts = sym same ∙ front_of nonempty;
+        kind = ap kind_of (one_byte dark nonempty no_token) ∙ no_kind (get_or dark 0 0) no_token;
+      }
 
   pub cut_of : (token : code.Token) (after : Text) → IsUtf8 dark → begins_token (get_or dark 0 0) ≡ true → 0 < length dark → token.text.now ≡ take (piece_len dark) dark → after ≡ drop (piece_len dark) dark → kind_of token.text.now ≡ Some token.kind → IsCut text token after
   cut_of token after utf8 begins nonempty front back kind = record {

@@ -29,9 +29,9 @@ ReadsAs piece (Some token_kinds.RightParen) = Unit {0}
 sign_reads : (piece : Text) (b : ℕ) → ReadsAs piece (sign_of b)
 sign_reads piece b =
     cond_both (b == 40) _ _ (ReadsAs piece) (λ is. tt) (λ other.
-        cond_both (b == 41) _ _ (ReadsAs piece) (λ is. tt) (λ third.
-            cond_both (b == 43) _ _ (ReadsAs piece) (λ is. tt) (λ fourth.
-                cond_both (b == 45) _ _ (ReadsAs piece) (λ is. tt) (λ none. tt))))
+    cond_both (b == 41) _ _ (ReadsAs piece) (λ is. tt) (λ third.
+    cond_both (b == 43) _ _ (ReadsAs piece) (λ is. tt) (λ fourth.
+    cond_both (b == 45) _ _ (ReadsAs piece) (λ is. tt) (λ none. tt))))
 
 kind_reads : (piece : Text) → ReadsAs piece (kind_of piece)
 kind_reads [] = tt
@@ -39,8 +39,8 @@ kind_reads (b ∷ w) =
     cond_both (is_ascii_digit b) _ _ (ReadsAs (b ∷ w))
     (λ digit. cond_both (is_numeral (b ∷ w)) _ _ (ReadsAs (b ∷ w)) (λ numeral. numeral) (λ none. tt))
     (λ other. cond_both (is_word_byte b) _ _ (ReadsAs (b ∷ w))
-        (λ word. cond_both (is_keyword (b ∷ w)) _ _ (ReadsAs (b ∷ w)) (λ keyword. tt) (λ free. tt))
-        (λ none. sign_reads (b ∷ w) b))
+    (λ word. cond_both (is_keyword (b ∷ w)) _ _ (ReadsAs (b ∷ w)) (λ keyword. tt) (λ free. tt))
+    (λ none. sign_reads (b ∷ w) b))
 
 -- each number's text is a numeral
 abbrev pub AllReadable : List Symbol → Type 0

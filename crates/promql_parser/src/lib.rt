@@ -5,6 +5,8 @@ mod grammar;
 pub mod laws;
 pub mod parser;
 mod show;
+#[cfg(test)]
+mod tests;
 mod texts;
 mod tokens;
 mod tree;

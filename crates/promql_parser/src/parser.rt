@@ -7,12 +7,11 @@ ghost use Rattle.promql_parser.specs.Grammar.{Derivation, height};
 ghost use Rattle.promql_parser.specs.Lexing.{tokens};
 ghost use Rattle.promql_parser.specs.Tree.{tree_of, tree_height};
 
-pub use crate::tokens::Operator;
-pub use crate::tree::{BinaryExpr, Expr, NumberLiteral, ParenExpr, VectorSelector};
-
 use crate::grammar::expression::read_all;
 use crate::grammar::part::Halt;
+pub use crate::tokens::Operator;
 use crate::tokens::{LexicalFault, count_tokens, list_tokens};
+pub use crate::tree::{BinaryExpr, Expr, NumberLiteral, ParenExpr, VectorSelector};
 use std::alloc::{AllocError, Global};
 use thiserror::Error;
 

@@ -42,10 +42,41 @@ pub struct LexicalFault;
 
 /// The words that the language keeps for itself, in lower case.
 const KEYWORDS: [&str; 35] = [
-    "and", "or", "unless", "atan2", "avg", "bottomk", "count", "count_values", "group", "max",
-    "min", "quantile", "stddev", "stdvar", "sum", "topk", "limitk", "limit_ratio", "offset", "by",
-    "without", "on", "ignoring", "group_left", "group_right", "bool", "smoothed", "anchored",
-    "fill", "fill_left", "fill_right", "start", "end", "inf", "nan",
+    "and",
+    "or",
+    "unless",
+    "atan2",
+    "avg",
+    "bottomk",
+    "count",
+    "count_values",
+    "group",
+    "max",
+    "min",
+    "quantile",
+    "stddev",
+    "stdvar",
+    "sum",
+    "topk",
+    "limitk",
+    "limit_ratio",
+    "offset",
+    "by",
+    "without",
+    "on",
+    "ignoring",
+    "group_left",
+    "group_right",
+    "bool",
+    "smoothed",
+    "anchored",
+    "fill",
+    "fill_left",
+    "fill_right",
+    "start",
+    "end",
+    "inf",
+    "nan",
 ];
 
 fn is_word_byte(b: u8) -> bool
@@ -96,10 +127,18 @@ fn kind_of(piece: &str) -> Option<TokenKind>
 {
     let first = *piece.as_bytes().first()?;
     if first.is_ascii_digit() {
-        return if is_numeral(piece) { Some(TokenKind::Number) } else { None };
+        return if is_numeral(piece) {
+            Some(TokenKind::Number)
+        } else {
+            None
+        };
     }
     if is_word_byte(first) {
-        return if is_keyword(piece) { None } else { Some(TokenKind::Identifier) };
+        return if is_keyword(piece) {
+            None
+        } else {
+            Some(TokenKind::Identifier)
+        };
     }
     sign_of(first)
 }
@@ -195,7 +234,11 @@ pub fn count_tokens(text: &str) -> Result<usize, LexicalFault>
         depth = open;
         rest = after;
     }
-    if depth == 0 { Ok(count) } else { Err(LexicalFault) }
+    if depth == 0 {
+        Ok(count)
+    } else {
+        Err(LexicalFault)
+    }
 }
 
 /// The tokens of the text, where each of its pieces is one.

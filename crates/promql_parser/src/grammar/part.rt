@@ -93,12 +93,7 @@ pub fn paren_part(alloc: Global, inner: Part) -> Result<Part, AllocError>
     })
 }
 
-pub fn binary_part(
-    alloc: Global,
-    op: Operator,
-    left: Part,
-    right: Part,
-) -> Result<Part, AllocError>
+pub fn binary_part(alloc: Global, op: Operator, left: Part, right: Part) -> Result<Part, AllocError>
     requires low_left { left.height < 1000 }
     requires low_right { right.height < 1000 }
     ensures built { IfOk result (λ part. (l r : Derivation) → IsPart left l → IsPart right r → IsPart part (binary op l r)) }
