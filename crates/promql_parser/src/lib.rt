@@ -5,6 +5,7 @@ mod grammar;
 pub mod laws;
 pub mod parser;
 mod show;
-mod texts;
+#[cfg(test)]
+mod tests;
 mod tokens;
 mod tree;

@@ -1,0 +1,196 @@
+// Worked rows.
+
+use crate::parser::{Expr, ParseError, parse};
+use promql_text::NumberFault;
+use promql_token::{LexFault, LexFaultKind};
+use std::alloc::{AllocError, Global};
+use std::test::Fail;
+
+// What is printed of the text's tree, or the message of its refusal.
+fn answer(alloc: Global, text: &str) -> Result<String, AllocError> {
+    match parse(alloc, text) {
+        Ok(expr) => format!(in alloc; "{expr}"),
+        Err(error) => format!(in alloc; "{error}"),
+    }
+}
+
+const SYNTAX: &str = "invalid promql query";
+
+const EMPTY: &str = "no expression found in input";
+
+const TOO_DEEP: &str = "expression nested too deeply";
+
+const NUMERAL: &str = "bad number or duration syntax";
+
+const UNCLOSED: &str = "unclosed left parenthesis";
+
+#[test]
+fn core_texts(rt: HostRuntime) -> Result<(), Fail> {
+    let alloc = rt.alloc();
+    let rows = [
+        ("1 + (foo - 2)", "1 + (foo - 2)"),
+        ("1-2-3", "1 - 2 - 3"),
+        ("1-(2-3)", "1 - (2 - 3)"),
+        ("\t((0))\r\n+\x0cfoo_Bar9", "((0)) + foo_Bar9"),
+        ("_", "_"),
+        ("summed", "summed"),
+        (
+            "99999999999999999999999999999999999999",
+            "99999999999999999999999999999999999999",
+        ),
+        ("", EMPTY),
+        (" \n\t\x0c\r ", EMPTY),
+        ("# nothing", EMPTY),
+        ("1 +", SYNTAX),
+        ("a b", SYNTAX),
+        ("()", SYNTAX),
+        ("+ 1", SYNTAX),
+        ("(1", UNCLOSED),
+        ("1)", "unexpected right parenthesis ')'"),
+        (")(", "unexpected right parenthesis ')'"),
+        ("1a", NUMERAL),
+        ("1_", NUMERAL),
+        ("007", "7"),
+        ("00", "0"),
+        ("0x1F + 1.50", "31 + 1.5"),
+        ("sum", "sum"),
+        ("SUM - Group", "SUM - Group"),
+        ("by + and - start", "by + and - start"),
+        ("a:b", "a:b"),
+        ("bool", SYNTAX),
+        ("Group_Left", SYNTAX),
+        ("Inf - nan", "Inf - NaN"),
+        ("1 # 2", "1"),
+        ("1 * 2", SYNTAX),
+        ("5m", SYNTAX),
+        ("a{b=\"é\"}", SYNTAX),
+        ("é", "unexpected character: 'é'"),
+        ("1 + \u{1f600}", "unexpected character: '\u{1f600}'"),
+        (
+            "999999999999999999999999999999999999999",
+            "more than 38 significant digits",
+        ),
+        ("1e", "not a number"),
+        ("1e309", "number out of range"),
+        ("1e309 + 1e", "number out of range"),
+        ("1 + 1e309 +", SYNTAX),
+        ("1e309 + 1a", NUMERAL),
+    ];
+    for (text, want) in &rows {
+        let found = answer(alloc, text)?;
+        assert_eq!(rt; found.as_str(), *want, "at {text:?}");
+    }
+    Ok(())
+}
+
+#[test]
+fn lexical_faults_keep_their_places(rt: HostRuntime) -> Result<(), Fail> {
+    let alloc = rt.alloc();
+    let unclosed = repeated(alloc, "", "(", 100_000, "")?;
+    let rows = [
+        ("(1", LexFaultKind::UnclosedParen, 2),
+        ("1a", LexFaultKind::Numeral, 0),
+        ("foo[:5m]", LexFaultKind::FirstColon, 4),
+        (unclosed.as_str(), LexFaultKind::UnclosedParen, 100_000),
+    ];
+    for (i, (text, kind, at)) in rows.iter().enumerate() {
+        let Some(ParseError::Lex(fault)) = refusal(alloc, text) else {
+            return Err(Fail::new("no lexical fault"));
+        };
+        assert_eq!(rt; fault.kind, *kind, "at row {i}");
+        assert_eq!(rt; fault.at, *at, "at row {i}");
+    }
+    Ok(())
+}
+
+#[test]
+fn sums_are_read_from_the_left(rt: HostRuntime) -> Result<(), Fail> {
+    let alloc = rt.alloc();
+    let Ok(Expr::Binary(outer)) = parse(alloc, "1-2-3") else {
+        return Err(Fail::new("no sum"));
+    };
+    let Expr::Binary(inner) = &*outer.lhs else {
+        return Err(Fail::new("no sum on the left"));
+    };
+    let left = format!(in alloc; "{inner}")?;
+    assert_eq!(rt; left.as_str(), "1 - 2");
+    Ok(())
+}
+
+// The text, so many times, between two others.
+fn repeated(
+    alloc: Global,
+    front: &str,
+    text: &str,
+    times: usize,
+    back: &str,
+) -> Result<String, AllocError> {
+    let mut made = String::from_str(alloc, front)?;
+    for _ in 0..times {
+        made.push_str(text)?;
+    }
+    made.push_str(back)?;
+    Ok(made)
+}
+
+// The number, in so many parentheses.
+fn nested(alloc: Global, pairs: usize) -> Result<String, AllocError> {
+    let open = repeated(alloc, "", "(", pairs, "1")?;
+    repeated(alloc, open.as_str(), ")", pairs, "")
+}
+
+fn refusal(alloc: Global, text: &str) -> Option<ParseError> {
+    parse(alloc, text).err()
+}
+
+#[test]
+fn heights(rt: HostRuntime) -> Result<(), Fail> {
+    let alloc = rt.alloc();
+    let rows = [
+        (repeated(alloc, "1", "+1", 511, "")?, None),
+        (
+            repeated(alloc, "1", "+1", 512, "")?,
+            Some(ParseError::TooDeep),
+        ),
+        (nested(alloc, 511)?, None),
+        (nested(alloc, 512)?, Some(ParseError::TooDeep)),
+        (nested(alloc, 20_000)?, Some(ParseError::TooDeep)),
+        (
+            repeated(alloc, "", " \n", 50_000, "")?,
+            Some(ParseError::Empty),
+        ),
+    ];
+    for (i, (text, want)) in rows.iter().enumerate() {
+        let found = refusal(alloc, text.as_str());
+        assert_eq!(rt; found, *want, "at row {i}");
+    }
+    let bracketed = repeated(alloc, "1", "+1", 599, "]")?;
+    let Some(ParseError::Lex(fault)) = refusal(alloc, bracketed.as_str()) else {
+        return Err(Fail::new("no lexical fault"));
+    };
+    assert_eq!(rt; fault.kind, LexFaultKind::RightBracket);
+    Ok(())
+}
+
+#[test]
+fn messages(rt: HostRuntime) -> Result<(), Fail> {
+    let alloc = rt.alloc();
+    let fault = LexFault {
+        kind: LexFaultKind::Character,
+        at: 3,
+        ch: Some('~'),
+    };
+    let rows = [
+        (ParseError::Memory, "out of memory"),
+        (ParseError::Lex(fault), "unexpected character: '~'"),
+        (ParseError::Empty, EMPTY),
+        (ParseError::Syntax, SYNTAX),
+        (ParseError::TooDeep, TOO_DEEP),
+        (ParseError::Number(NumberFault::NotANumber), "not a number"),
+    ];
+    for (error, want) in &rows {
+        let found = format!(in alloc; "{error}")?;
+        assert_eq!(rt; found.as_str(), *want);
+    }
+    Ok(())
+}
