@@ -2,6 +2,7 @@
 use Rattle.std.specs.Prelude.{◌≡◌, ◌≢◌, ◌↔◌, ℕ, ◌≤◌, ◌++◌, List, [], ◌∷◌, Option, Some, None, Result, Ok, Err, if◌then◌else◌, bytes_eq, codes}
 use Rattle.std.specs.Str.{IsUtf8}
 use Rattle.std.specs.Io.KnownBytes.{Appends, Consumes, IsAtEnd}
+use Rattle.promql_token.specs.declared.fault.LexFault.{LexFault}
 use Rattle.promql_parser.specs.declared.parser.ParseError.{ParseError}
 use Rattle.promql_parser.specs.declared.parser.ParseError.TheVariants as parse_errors
 use Rattle.promql_parser.specs.Lexing.{Text, tokens}
@@ -28,9 +29,11 @@ error_number Write = 5
 -- a refusal of the parser as an error of the run
 abbrev pub IsRaised : ParseError → RunError → Type 0
 IsRaised parse_errors.Memory e = e ≡ Memory
+IsRaised (parse_errors.Lex fault) e = e ≡ Parse (parse_errors.Lex fault)
 IsRaised parse_errors.Empty e = e ≡ Parse parse_errors.Empty
 IsRaised parse_errors.Syntax e = e ≡ Parse parse_errors.Syntax
 IsRaised parse_errors.TooDeep e = e ≡ Parse parse_errors.TooDeep
+IsRaised (parse_errors.Number fault) e = e ≡ Parse (parse_errors.Number fault)
 
 abbrev pub IsReadError : RunError → Type 0
 IsReadError Memory = Unit {0}
@@ -55,8 +58,8 @@ pub record HasRead (old new : Option (List ℕ)) (input : List ℕ) : Type 0 whe
 pub record IsParsed (text : Text) (answer : Result Tree ParseError) : Type 0 where
   pub right : IsAnswer text answer
   pub only : (d : Derivation) → Derives text d → height d ≤ 512 → IsBuilt answer (build d)
-  pub empty : (answer ≡ Err parse_errors.Empty) ↔ (tokens text ≡ Some [])
-  pub lexical : tokens text ≡ None → answer ≡ Err parse_errors.Syntax
+  pub empty : (answer ≡ Err parse_errors.Empty) ↔ (tokens text ≡ Ok [])
+  pub lexical : (fault : LexFault) → (answer ≡ Err (parse_errors.Lex fault)) ↔ (tokens text ≡ Err fault)
 
 -- this is the text of the text's tree, and a line feed
 pub record IsPrinted (text printed : Text) : Type 0 where

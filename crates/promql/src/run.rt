@@ -87,7 +87,11 @@ impl From<ParseError> for RunError {
     fn from(error: ParseError) -> RunError {
         match error {
             ParseError::Memory => RunError::Memory,
-            ParseError::Empty | ParseError::Syntax | ParseError::TooDeep => RunError::Parse(error),
+            ParseError::Lex(_)
+            | ParseError::Empty
+            | ParseError::Syntax
+            | ParseError::TooDeep
+            | ParseError::Number(_) => RunError::Parse(error),
         }
     }
 }

@@ -3,6 +3,7 @@
 use crate::ended::Ended;
 use crate::run::{Mode, RunError, run};
 use promql_parser::parser::ParseError;
+use promql_text::NumberFault;
 use std::alloc::Global;
 use std::io;
 use std::io::{ErrorKind, Read, Write};
@@ -79,11 +80,15 @@ impl Write for FlakyWriter {
 #[test]
 fn bytes_in_and_out(rt: HostRuntime) -> Result<(), Fail> {
     let alloc = rt.alloc();
-    let rows: [(&[u8], Result<&[u8], RunError>); 6] = [
+    let rows: [(&[u8], Result<&[u8], RunError>); 7] = [
         (b"1 + (foo - 2)", Ok(b"1 + (foo - 2)\n")),
         (b"1-2-3\n", Ok(b"1 - 2 - 3\n")),
         (b"", Err(RunError::Parse(ParseError::Empty))),
         (b"a b", Err(RunError::Parse(ParseError::Syntax))),
+        (
+            b"1e309",
+            Err(RunError::Parse(ParseError::Number(NumberFault::OutOfRange))),
+        ),
         (b"1 + \xff", Err(RunError::NotUtf8)),
         (b"+ \xff", Err(RunError::NotUtf8)),
     ];

@@ -1,27 +1,25 @@
 -- From what a token list gives to the answer to its text.
-use Rattle.std.proofs.Common.{◌≡◌, ℕ, ◌+◌, ◌<◌, ◌≤◌, max, List, [], ◌∷◌, length, map, length-append, suc, refl, sym, ap, ◌∙◌, subst, arith}
-use Rattle.std.specs.Prelude.{Option, Some, None, Result, Ok, Err}
-use Rattle.std.specs.Option.{option_map}
+use Rattle.std.proofs.Common.{◌≡◌, ℕ, ◌+◌, ◌<◌, ◌≤◌, max, List, [], ◌∷◌, length, map, length-append, refl, sym, ap, ◌∙◌, subst, arith}
+use Rattle.std.specs.Prelude.{Result, Ok, Err}
+use Rattle.promql_text.specs.declared.number.Number.{Number}
+use Rattle.promql_text.specs.declared.number.NumberFault.{NumberFault}
+use Rattle.promql_text.specs.NumberText.{num}
+use Rattle.promql_token.specs.declared.fault.LexFault.{LexFault}
 use Rattle.promql_parser.specs.declared.tokens.Token as code
-use Rattle.promql_parser.specs.declared.tokens.Operator.{Operator}
 use Rattle.promql_parser.specs.declared.tree.Expr.{Expr}
-use Rattle.promql_parser.specs.declared.texts.NumberFault.{NumberFault}
 use Rattle.promql_parser.specs.declared.grammar.part.Halt.{Halt}
 use Rattle.promql_parser.specs.declared.grammar.part.Halt.TheVariants as halts
 use Rattle.promql_parser.specs.declared.parser.ParseError.{ParseError}
-use Rattle.promql_parser.specs.declared.parser.ParseError.TheVariants.{Memory, Empty, Syntax, TooDeep}
-use Rattle.promql_parser.specs.Lexing.{Text, Token, tokens}
-use Rattle.promql_parser.specs.Cutting.{token_of}
+use Rattle.promql_parser.specs.declared.parser.ParseError.TheVariants as errors
+use Rattle.promql_parser.specs.Lexing.{Text, tokens, on_result}
 use Rattle.promql_parser.specs.Tree as tree
 use Rattle.promql_parser.specs.Tree.{tree_of, tree_height}
-use Rattle.promql_parser.specs.Grammar.{Symbol, sign, symbol_of, Derivation, number, name, paren, binary, yield, height, IsWellFormed}
+use Rattle.promql_parser.specs.Symbols.{sign, symbol_of, symbols_of, token_of, operator_id}
+use Rattle.promql_parser.specs.Grammar.{Derivation, number, name, paren, binary, yield, height, IsWellFormed}
 use Rattle.promql_parser.specs.Building.{build, ◌then◌}
-use Rattle.promql_parser.specs.Parts.{symbols_of, on_ok}
 use Rattle.promql_parser.specs.Wholes.{IsWhole}
-use Rattle.promql_parser.specs.Answers.{Derives, IsLong, IsAnswer, IsBuilt, IsHalt}
-use Rattle.promql_parser.specs.Numerals.{number_of}
+use Rattle.promql_parser.specs.Answers.{Derives, IsAnswer, IsBuilt, IsHalt}
 use Rattle.promql_parser.proofs.Unique.{one_derivation}
-use Rattle.promql_parser.proofs.Readable.{AllReadable, tokens_readable, IsTree, build_tree}
 
 symbols_map : (ts : List code.Token) → symbols_of ts ≡ map symbol_of (map token_of ts)
 symbols_map [] = refl
@@ -31,32 +29,33 @@ length_symbols : (ts : List code.Token) → length (symbols_of ts) ≡ length (m
 length_symbols [] = refl
 length_symbols (t ∷ ts) = let rest = length_symbols ts in omega arith
 
--- a list of tokens that was counted and listed is the text's
-pub listed : (o : Option (List Token)) (n : ℕ) (ts : List code.Token) → option_map length o ≡ Some n → ((us : List Token) → o ≡ Some us → map token_of ts ≡ us) → o ≡ Some (map token_of ts)
-listed None n ts counted same = cc
-listed (Some us) n ts counted same = ap Some (sym (same us refl))
+-- a text with a lexical fault derives nothing, nor does one with no token
+abbrev IsFault : {A : Type 0} → Result A LexFault → Type 0
+IsFault (Ok x) = ⊥
+IsFault (Err e) = Unit {0}
 
--- a text with no token derives nothing
-no_yield : (d : Derivation) → 0 < length (yield d)
-no_yield (number text) = omega arith
-no_yield (name text) = omega arith
-no_yield (paren d) = omega arith
-no_yield (binary op l r) = omega (arith, no_yield l, length-append (yield l) (sign op ∷ yield r))
+pub fault_none : (text : Text) (fault : LexFault) → tokens text ≡ Err fault → (d : Derivation) → ¬ (Derives text d)
+fault_none text fault is d derives = subst IsFault (sym (ap (on_result (map symbol_of)) is) ∙ derives.spells) tt
 
-pub empty_none : (text : Text) (n : ℕ) → option_map length (tokens text) ≡ Some n → n ≡ 0 → (d : Derivation) → ¬ (Derives text d)
-empty_none text n counted none d derives = by_list (tokens text) counted derives.spells
-  where
-    by_list : (o : Option (List Token)) → option_map length o ≡ Some n → option_map (map symbol_of) o ≡ Some (yield d) → ⊥
-    by_list None counted spells = cc
-    by_list (Some []) counted spells = let is : [] ≡ yield d = cc in let some = no_yield d in absurd (omega (arith, ap length is))
-    by_list (Some (t ∷ ts)) counted spells = let is : suc (length ts) ≡ n = cc in absurd (omega arith)
+some_yield : (d : Derivation) → 0 < length (yield d)
+some_yield (number text) = omega arith
+some_yield (name text) = omega arith
+some_yield (paren d) = omega arith
+some_yield (binary op l r) = omega (arith, some_yield l, length-append (yield l) (sign op ∷ yield r))
+
+pub empty_none : (text : Text) → tokens text ≡ Ok [] → (d : Derivation) → ¬ (Derives text d)
+empty_none text is d derives =
+    let both : Ok [] ≡ Ok (yield d) = sym (ap (on_result (map symbol_of)) is) ∙ derives.spells in
+    let none : [] ≡ yield d = cc in
+    let some = some_yield d in
+    absurd (omega (arith, ap length none))
 
 -- what is built is no higher than the derivation
 abbrev IsLow : ℕ → Result tree.Tree NumberFault → Type 0
 IsLow n (Ok t) = tree_height t ≤ n
 IsLow n (Err e) = Unit {0}
 
-number_low : (r : Result ℕ NumberFault) → IsLow 1 (r then λ n. Ok (tree.number n))
+number_low : (r : Result Number NumberFault) → IsLow 1 (r then λ n. Ok (tree.number n))
 number_low (Ok n) = omega arith
 number_low (Err e) = tt
 
@@ -64,29 +63,29 @@ paren_low : (n : ℕ) (r : Result tree.Tree NumberFault) → IsLow n r → IsLow
 paren_low n (Ok t) low = omega arith
 paren_low n (Err e) low = tt
 
-binary_low : (m n : ℕ) (op : Operator) (l r : Result tree.Tree NumberFault) → IsLow m l → IsLow n r → IsLow (1 + max m n) (l then λ s. r then λ t. Ok (tree.binary op s t))
-binary_low m n op (Ok s) (Ok t) left right = omega arith
-binary_low m n op (Ok s) (Err e) left right = tt
-binary_low m n op (Err e) r left right = tt
+binary_low : (m n id : ℕ) (l r : Result tree.Tree NumberFault) → IsLow m l → IsLow n r → IsLow (1 + max m n) (l then λ s. r then λ t. Ok (tree.binary id s t))
+binary_low m n id (Ok s) (Ok t) left right = omega arith
+binary_low m n id (Ok s) (Err e) left right = tt
+binary_low m n id (Err e) r left right = tt
 
 build_low : (d : Derivation) → IsLow (height d) (build d)
-build_low (number text) = number_low (number_of text)
+build_low (number text) = number_low (num text)
 build_low (name text) = omega arith
 build_low (paren d) = paren_low (height d) (build d) (build_low d)
-build_low (binary op l r) = binary_low (height l) (height r) op (build l) (build r) (build_low l) (build_low r)
+build_low (binary op l r) = binary_low (height l) (height r) (operator_id op) (build l) (build r) (build_low l) (build_low r)
 
 -- for a text whose tokens these are
-module _ (text : Text) (ts : List code.Token) (is : tokens text ≡ Some (map token_of ts)) where
+module _ (text : Text) (ts : List code.Token) (is : tokens text ≡ Ok (map token_of ts)) where
   spelled : (d : Derivation) → Derives text d → yield d ≡ symbols_of ts
   spelled d derives =
-      let both : Some (yield d) ≡ Some (map symbol_of (map token_of ts)) = sym derives.spells ∙ ap (option_map (map symbol_of)) is in
+      let both : Ok (yield d) ≡ Ok (map symbol_of (map token_of ts)) = sym derives.spells ∙ ap (on_result (map symbol_of)) is in
       let same : yield d ≡ map symbol_of (map token_of ts) = cc in
       same ∙ sym (symbols_map ts)
 
   derives_of : (d : Derivation) → IsWellFormed d → yield d ≡ symbols_of ts → Derives text d
   derives_of d formed spells = record {
     formed = formed;
-    spells = ap (option_map (map symbol_of)) is ∙ ap Some (sym (spells ∙ symbols_map ts));
+    spells = ap (on_result (map symbol_of)) is ∙ ap Ok (sym (spells ∙ symbols_map ts));
   }
 
   pub halt_answer : (halt : Halt) (e : ParseError) → IsHalt halt e → IsWhole 512 (symbols_of ts) (Err halt) → IsAnswer text (Err e)
@@ -107,11 +106,11 @@ module _ (text : Text) (ts : List code.Token) (is : tokens text ≡ Some (map to
   pub tree_only : (e : Expr) → IsWhole 512 (symbols_of ts) (Ok (Ok e)) → (d : Derivation) → Derives text d → height d ≤ 512 → build d ≡ Ok (tree_of e)
   tree_only e whole d derives low = ap build (one_derivation d whole.0 derives.formed whole.1 (spelled d derives ∙ sym whole.3)) ∙ sym whole.4
 
-  pub answer_low : (e : Expr) → IsWhole 512 (symbols_of ts) (Ok (Ok e)) → tree_height (tree_of e) ≤ 512
-  answer_low e whole = let low : tree_height (tree_of e) ≤ height whole.0 = subst (IsLow (height whole.0)) (sym whole.4) (build_low whole.0) in let bound = whole.2 in omega arith
+  pub tree_low : (e : Expr) → IsWhole 512 (symbols_of ts) (Ok (Ok e)) → tree_height (tree_of e) ≤ 512
+  tree_low e whole = let low : tree_height (tree_of e) ≤ height whole.0 = subst (IsLow (height whole.0)) (sym whole.4) (build_low whole.0) in let bound = whole.2 in omega arith
 
-  -- no number token has a fault
-  pub fault_none : (fault : NumberFault) → ¬ (IsWhole 512 (symbols_of ts) (Ok (Err fault)))
-  fault_none fault whole =
-      subst IsTree (sym whole.4)
-      (build_tree whole.0 (subst AllReadable (sym (whole.3 ∙ symbols_map ts)) (tokens_readable text (map token_of ts) is)))
+  pub number_answer : (fault : NumberFault) → IsWhole 512 (symbols_of ts) (Ok (Err fault)) → IsAnswer text (Err (errors.Number fault))
+  number_answer fault whole = (whole.0, derives_of whole.0 whole.1 whole.3, whole.2, sym whole.4)
+
+  pub number_only : (fault : NumberFault) → IsWhole 512 (symbols_of ts) (Ok (Err fault)) → (d : Derivation) → Derives text d → height d ≤ 512 → build d ≡ Err fault
+  number_only fault whole d derives low = ap build (one_derivation d whole.0 derives.formed whole.1 (spelled d derives ∙ sym whole.3)) ∙ sym whole.4

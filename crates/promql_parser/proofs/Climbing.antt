@@ -1,12 +1,13 @@
 -- What the parser's loop keeps.
-use Rattle.std.proofs.Common.{◌≡◌, ℕ, zero, suc, ◌+◌, ◌<◌, ◌≤◌, refl, sym, ◌∙◌, ap, arith, List, [], ◌∷◌, length}
+use Rattle.std.proofs.Common.{◌≡◌, ℕ, zero, suc, ◌+◌, ◌≤◌, refl, sym, ◌∙◌, ap, arith, List, ◌∷◌, length}
 use Rattle.std.specs.Prelude.{Result, Ok, Err}
-use Rattle.std.proofs.lemmas.Bool.{cond_below, cond_above}
-use Rattle.promql_parser.specs.declared.tokens.Operator.{Operator}
+use Rattle.std.proofs.lemmas.Bool.{cond_above}
+use Rattle.promql_parser.specs.declared.grammar.symbol.Operator.{Operator}
 use Rattle.promql_parser.specs.declared.grammar.part.Halt.{Halt}
 use Rattle.promql_parser.specs.declared.grammar.part.Halt.TheVariants.{Memory, Syntax, TooDeep}
 use Rattle.promql_parser.specs.declared.grammar.part.Part.{Part}
-use Rattle.promql_parser.specs.Grammar.{Symbol, sign, Derivation, binary, level, height}
+use Rattle.promql_parser.specs.Symbols.{Symbol, sign}
+use Rattle.promql_parser.specs.Grammar.{Derivation, binary, level, height}
 use Rattle.promql_parser.specs.Parts.{IsPart, IsGiven, Fails}
 use Rattle.promql_parser.specs.Reading.{above, Stop, too_deep, ◌>>=◌, Reader, first, climb, expression}
 

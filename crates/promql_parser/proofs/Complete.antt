@@ -2,9 +2,9 @@
 use Rattle.std.proofs.Common.{◌≡◌, ℕ, zero, suc, ◌+◌, ◌-◌, ◌<◌, ◌≤◌, ⊎_elim, max, refl, sym, ◌∙◌, ap, arith, List, [], ◌∷◌, ◌++◌, length, append_assoc, append-nil, length-append, true, false, cond}
 use Rattle.std.specs.Prelude.{nat_lt, if◌then◌else◌, Result, Ok, Err}
 use Rattle.std.proofs.lemmas.Bool.{cases_lt, cond_below, cond_above}
-use Rattle.promql_parser.specs.declared.tokens.Operator.{Operator}
-use Rattle.promql_parser.specs.Grammar.{Symbol, number_word, name_word, sign, opening, closing, Derivation, number, name, paren, binary, yield, level, openness, height, IsWellFormed, IsBase}
-use Rattle.promql_parser.specs.Reading.{above, Stop, misread, too_deep, ◌>>=◌, Read, Reader, closed, first, climb, expression}
+use Rattle.promql_parser.specs.Symbols.{Symbol, number_word, name_word, sign, opening, closing, other}
+use Rattle.promql_parser.specs.Grammar.{Derivation, number, name, paren, binary, yield, level, openness, height, IsWellFormed, IsBase}
+use Rattle.promql_parser.specs.Reading.{above, Stop, too_deep, ◌>>=◌, Reader, closed, first, climb, expression}
 use Rattle.promql_parser.proofs.Levels.{IsAbove, Stops, Follows, follows_right, above_left, above_right, above_zero}
 
 -- a result, where the height is at most n
@@ -68,6 +68,7 @@ stops r (suc k) n m d (number_word text ∷ ts) stop = refl
 stops r (suc k) n m d (name_word text ∷ ts) stop = refl
 stops r (suc k) n m d (opening ∷ ts) stop = refl
 stops r (suc k) n m d (closing ∷ ts) stop = refl
+stops r (suc k) n m d (other ∷ ts) stop = refl
 
 module _ (r : Reader) (n : ℕ) (reads : Reads r n) where
   bases : (d : Derivation) (rest : List Symbol) → IsWellFormed d → IsBase d → first r (yield d ++ rest) ≡ within (suc n) (height d) (Ok (d, rest))

@@ -1,8 +1,9 @@
 -- Levels, openness, and what may stand behind a derivation.
-use Rattle.std.proofs.Common.{◌≡◌, ℕ, ◌+◌, ◌<◌, ◌≤◌, min, refl, arith, List, [], ◌∷◌}
-use Rattle.promql_parser.specs.declared.tokens.Operator.{Operator}
-use Rattle.promql_parser.specs.declared.tokens.Operator.TheVariants.{Add, Sub}
-use Rattle.promql_parser.specs.Grammar.{Symbol, number_word, name_word, sign, opening, closing, Derivation, number, name, paren, binary, level, openness, FitsLeft, FitsRight}
+use Rattle.std.proofs.Common.{ℕ, ◌<◌, ◌≤◌, min, arith, List, [], ◌∷◌}
+use Rattle.promql_parser.specs.declared.grammar.symbol.Operator.{Operator}
+use Rattle.promql_parser.specs.declared.grammar.symbol.Operator.TheVariants.{Add, Sub}
+use Rattle.promql_parser.specs.Symbols.{Symbol, number_word, name_word, sign, opening, closing, other}
+use Rattle.promql_parser.specs.Grammar.{Derivation, number, name, paren, binary, level, FitsLeft, FitsRight}
 use Rattle.promql_parser.specs.Reading.{above}
 
 -- no level reaches the openness of a closed form
@@ -35,6 +36,7 @@ follows_right op o (number_word text ∷ ts) fits = (tt, tt)
 follows_right op o (name_word text ∷ ts) fits = (tt, tt)
 follows_right op o (opening ∷ ts) fits = (tt, tt)
 follows_right op o (closing ∷ ts) fits = (tt, tt)
+follows_right op o (other ∷ ts) fits = (tt, tt)
 
 pub right_follows : (op : Operator) (o : ℕ) (ts : List Symbol) → Follows o ts → Stops (above op) ts → Follows (min (level op) o) ts
 right_follows op o (sign next ∷ ts) fits stops = omega arith

@@ -1,11 +1,8 @@
-pub mod NumeralLemmas
-pub mod Pieces
-pub mod Counting
 pub mod Levels
 pub mod Complete
 pub mod Sound
 pub mod Unique
 pub mod Climbing
 pub mod Wholes
-pub mod Readable
 pub mod AnswerLemmas
+pub mod Listing

@@ -1,10 +1,11 @@
 -- What is read is a well formed derivation of the tokens.
-use Rattle.std.proofs.Common.{◌≡◌, ℕ, zero, suc, ◌+◌, ◌<◌, ◌≤◌, ⊎_elim, min, max, refl, sym, ◌∙◌, ap, subst, arith, List, [], ◌∷◌, ◌++◌, length, append_assoc, length-append}
-use Rattle.std.specs.Prelude.{Result, Ok, Err}
+use Rattle.std.proofs.Common.{◌≡◌, ℕ, zero, suc, ◌≤◌, ⊎_elim, refl, sym, ◌∙◌, ap, subst, arith, List, [], ◌∷◌, ◌++◌, length, append_assoc, length-append}
+use Rattle.std.specs.Prelude.{Ok, Err}
 use Rattle.std.proofs.lemmas.Bool.{cases_lt, cond_below, cond_above}
-use Rattle.promql_parser.specs.declared.tokens.Operator.{Operator}
-use Rattle.promql_parser.specs.Grammar.{Symbol, number_word, name_word, sign, opening, closing, Derivation, number, name, paren, binary, yield, level, openness, height, IsWellFormed, FitsLeft}
-use Rattle.promql_parser.specs.Reading.{above, Stop, misread, too_deep, ◌>>=◌, Read, Reader, closed, first, climb, expression}
+use Rattle.promql_parser.specs.declared.grammar.symbol.Operator.{Operator}
+use Rattle.promql_parser.specs.Symbols.{Symbol, number_word, name_word, sign, opening, closing, other}
+use Rattle.promql_parser.specs.Grammar.{Derivation, number, name, paren, binary, yield, level, openness, height, IsWellFormed, FitsLeft}
+use Rattle.promql_parser.specs.Reading.{above, misread, too_deep, ◌>>=◌, Read, Reader, closed, first, climb, expression}
 use Rattle.promql_parser.proofs.Levels.{IsAbove, Stops, Follows, right_follows, right_above, follows_closed}
 
 -- no derivation is higher than its tokens are many
@@ -62,6 +63,7 @@ module _ (n : ℕ) (r : Reader) (sound : IsSound r n) where
   closed_sound d (name_word text ∷ us) ts formed low spells = tt
   closed_sound d (sign op ∷ us) ts formed low spells = tt
   closed_sound d (opening ∷ us) ts formed low spells = tt
+  closed_sound d (other ∷ us) ts formed low spells = tt
 
   paren_sound : (ts : List Symbol) (o : Read) → IsSoundRead n 0 ts o → IsSoundFirst (suc n) (opening ∷ ts) (o >>= λ x. closed x.0 x.1)
   paren_sound ts (Ok x) read = closed_sound x.0 x.1 ts read.formed read.low read.spells
@@ -75,6 +77,7 @@ module _ (n : ℕ) (r : Reader) (sound : IsSound r n) where
   first_sound [] = tt
   first_sound (sign op ∷ ts) = tt
   first_sound (closing ∷ ts) = tt
+  first_sound (other ∷ ts) = tt
 
   read_here : (m : ℕ) (d : Derivation) (ts all : List Symbol) → IsWellFormed d → height d ≤ suc n → IsAbove m d → Follows (openness d) ts → Stops m ts → all ≡ yield d ++ ts → IsSoundRead (suc n) m all (Ok (d, ts))
   read_here m d ts all formed low top fits stops spells = record { formed = formed; low = low; top = top; fits = fits; stops = stops; spells = spells }
@@ -108,6 +111,7 @@ module _ (n : ℕ) (r : Reader) (sound : IsSound r n) where
   climb_sound m (suc k) d (name_word text ∷ ts) all formed low top fits spells turns = read_here m d _ all formed low top fits tt spells
   climb_sound m (suc k) d (opening ∷ ts) all formed low top fits spells turns = read_here m d _ all formed low top fits tt spells
   climb_sound m (suc k) d (closing ∷ ts) all formed low top fits spells turns = read_here m d _ all formed low top fits tt spells
+  climb_sound m (suc k) d (other ∷ ts) all formed low top fits spells turns = read_here m d _ all formed low top fits tt spells
 
   next_sound : (m : ℕ) (ts : List Symbol) (o : Read) → IsSoundFirst (suc n) ts o → IsSoundRead (suc n) m ts (o >>= λ x. climb r (length ts) n m x.0 x.1)
   next_sound m ts (Ok x) read = climb_sound m (length ts) x.0 x.1 ts read.formed read.low (read.top m) read.fits read.spells (shorter ts x.0 x.1 read.spells)

@@ -1,5 +1,5 @@
 -- No two well formed derivations spell the same tokens.
-use Rattle.std.proofs.Common.{◌≡◌, ℕ, max, sym, ◌∙◌, ap, arith, []}
+use Rattle.std.proofs.Common.{◌≡◌, max, sym, ◌∙◌, ap, arith, []}
 use Rattle.std.specs.Prelude.{Ok, Err}
 use Rattle.promql_parser.specs.Grammar.{Derivation, yield, height, IsWellFormed}
 use Rattle.promql_parser.specs.Reading.{Read, expression}

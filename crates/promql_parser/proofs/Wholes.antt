@@ -1,16 +1,16 @@
 -- From what reading gives to the answer.
 use Rattle.std.proofs.Common.{◌≡◌, ℕ, ◌+◌, ◌<◌, ◌≤◌, ⊎_elim, true, false, suc, refl, sym, ◌∙◌, ap, subst, arith, List, [], ◌∷◌, ◌++◌, length, append-nil}
-use Rattle.std.specs.Prelude.{◌==◌, Result, Ok, Err}
+use Rattle.std.specs.Prelude.{◌==◌, Ok, Err}
 use Rattle.std.proofs.lemmas.Bool.Decides.{nat_tests}
 use Rattle.promql_parser.specs.declared.tokens.Token as code
 use Rattle.std.proofs.lemmas.Bool.{cases_lt}
 use Rattle.promql_parser.specs.declared.grammar.part.Part.{Part}
 use Rattle.promql_parser.specs.declared.grammar.part.Halt.{Halt}
 use Rattle.promql_parser.specs.declared.grammar.part.Halt.TheVariants.{Memory, Syntax, TooDeep}
-use Rattle.promql_parser.specs.Tree.{tree_of}
-use Rattle.promql_parser.specs.Grammar.{Symbol, Derivation, yield, height, IsWellFormed}
-use Rattle.promql_parser.specs.Building.{build}
-use Rattle.promql_parser.specs.Parts.{symbols_of, on_ok, IsGiven, Fails}
+use Rattle.promql_parser.specs.Symbols.{Symbol}
+use Rattle.promql_parser.specs.Grammar.{Derivation, yield, height, IsWellFormed}
+use Rattle.promql_parser.specs.Symbols.{symbols_of}
+use Rattle.promql_parser.specs.Parts.{IsGiven, Fails}
 use Rattle.promql_parser.specs.Reading.{misread, too_deep, Read, expression}
 use Rattle.promql_parser.specs.Wholes.{IsWhole}
 use Rattle.promql_parser.proofs.Complete.{within, within_low, within_high, whole}

@@ -1,6 +1,6 @@
 -- What does not stand at the front of a list of tokens.
-use Rattle.std.specs.Prelude.{List, [], ◌∷◌}
-use Rattle.promql_parser.specs.Grammar.{Symbol, number_word, name_word, sign, opening, closing}
+use Rattle.std.specs.Prelude.{List, ◌∷◌}
+use Rattle.promql_parser.specs.Symbols.{Symbol, sign, closing}
 
 abbrev pub HasNoClosing : List Symbol → Type 0
 HasNoClosing (closing ∷ ts) = ⊥

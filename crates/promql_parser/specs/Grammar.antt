@@ -1,24 +1,9 @@
 -- The grammar: derivation trees, their tokens, and which of them are well formed (docs/GRAMMAR.md, "Grammar").
-use Rattle.std.specs.Prelude.{◌≡◌, ℕ, ◌+◌, ◌≤◌, ◌<◌, min, max, List, [], ◌∷◌, ◌++◌}
-use Rattle.promql_parser.specs.declared.tokens.Operator.{Operator}
-use Rattle.promql_parser.specs.declared.tokens.Operator.TheVariants.{Add, Sub}
-use Rattle.promql_parser.specs.declared.tokens.TokenKind.TheVariants as kinds
-use Rattle.promql_parser.specs.Lexing.{Text, Token}
-
--- what a token is to the grammar; the text is kept where the grammar needs it
-pub data Symbol : Type 0 where
-  number_word : Text → Symbol
-  name_word : Text → Symbol
-  sign : Operator → Symbol
-  opening : Symbol
-  closing : Symbol
-
-abbrev pub symbol_of : Token → Symbol
-symbol_of (kinds.Number, text) = number_word text
-symbol_of (kinds.Identifier, text) = name_word text
-symbol_of (kinds.Operator op, text) = sign op
-symbol_of (kinds.LeftParen, text) = opening
-symbol_of (kinds.RightParen, text) = closing
+use Rattle.std.specs.Prelude.{ℕ, ◌+◌, ◌≤◌, ◌<◌, min, max, List, [], ◌∷◌, ◌++◌}
+use Rattle.promql_parser.specs.declared.grammar.symbol.Operator.{Operator}
+use Rattle.promql_parser.specs.declared.grammar.symbol.Operator.TheVariants.{Add, Sub}
+use Rattle.promql_parser.specs.Lexing.{Text}
+use Rattle.promql_parser.specs.Symbols.{Symbol, number_word, name_word, sign, opening, closing}
 
 -- a derivation, with a case for each alternative of the grammar
 pub data Derivation : Type 0 where

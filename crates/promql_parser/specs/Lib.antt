@@ -1,6 +1,5 @@
-pub mod Numerals
 pub mod Lexing
-pub mod Cutting
+pub mod Symbols
 pub mod Tree
 pub mod OneLine
 pub mod Grammar

@@ -1,7 +1,8 @@
 -- Reading as a function on lists of tokens, to which the parser's functions are held.
 use Rattle.std.specs.Prelude.{ℕ, zero, suc, ◌+◌, nat_lt, if◌then◌else◌, List, ◌∷◌, length, Result, Ok, Err}
-use Rattle.promql_parser.specs.declared.tokens.Operator.{Operator}
-use Rattle.promql_parser.specs.Grammar.{Symbol, number_word, name_word, sign, opening, closing, Derivation, number, name, paren, binary, level, height}
+use Rattle.promql_parser.specs.declared.grammar.symbol.Operator.{Operator}
+use Rattle.promql_parser.specs.Symbols.{Symbol, number_word, name_word, sign, opening, closing}
+use Rattle.promql_parser.specs.Grammar.{Derivation, number, name, paren, binary, level, height}
 
 -- why reading ends early
 pub data Stop : Type 0 where

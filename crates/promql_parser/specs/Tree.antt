@@ -1,15 +1,15 @@
 -- Trees (docs/GRAMMAR.md, "Trees").
-use Rattle.std.specs.Prelude.{ℕ, ◌+◌, max, List, Option, String, string_bytes}
+use Rattle.std.specs.Prelude.{ℕ, ◌+◌, max, List, Option, string_bytes}
 use Rattle.std.specs.Option.{option_map}
-use Rattle.promql_parser.specs.declared.tokens.Operator.{Operator}
+use Rattle.promql_text.specs.declared.number.Number.{Number}
 use Rattle.promql_parser.specs.declared.tree.Expr.{Expr, Binary', Paren', NumberLiteral, VectorSelector}
 
--- a tree without the places where it lies in memory
+-- a tree without the places where it lies in memory; an operator is its token id
 pub data Tree : Type 0 where
-  number : ℕ → Tree
+  number : Number → Tree
   selector : Option (List ℕ) → Tree
   paren : Tree → Tree
-  binary : Operator → Tree → Tree → Tree
+  binary : ℕ → Tree → Tree → Tree
 
 -- the tree that an expression of the code is
 abbrev pub tree_of : Expr → Tree

@@ -7,6 +7,5 @@ pub mod parser;
 mod show;
 #[cfg(test)]
 mod tests;
-mod texts;
 mod tokens;
 mod tree;

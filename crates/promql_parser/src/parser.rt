@@ -1,17 +1,19 @@
 // From a text to its tree.
 
-ghost use Rattle.std.specs.Prelude.{◌≡◌, ℕ, ◌≤◌, ◌↔◌, [], None, Some, IfOk, IsErrOf};
+ghost use Rattle.std.specs.Prelude.{◌≡◌, ℕ, ◌≤◌, ◌↔◌, [], Ok, Err, IfOk, IsErrOf};
 ghost use Rattle.promql_parser.specs.Answers.{Derives, IsAnswer, IsBuilt, answer_of};
 ghost use Rattle.promql_parser.specs.Building.{build};
 ghost use Rattle.promql_parser.specs.Grammar.{Derivation, height};
+ghost use Rattle.promql_token.specs.declared.fault.LexFault.{LexFault};
 ghost use Rattle.promql_parser.specs.Lexing.{tokens};
 ghost use Rattle.promql_parser.specs.Tree.{tree_of, tree_height};
 
 use crate::grammar::expression::read_all;
 use crate::grammar::part::Halt;
-pub use crate::tokens::Operator;
-use crate::tokens::{LexicalFault, count_tokens, list_tokens};
+use crate::tokens::{has_tokens, list_tokens};
 pub use crate::tree::{BinaryExpr, Expr, NumberLiteral, ParenExpr, VectorSelector};
+use promql_text::NumberFault;
+use promql_token::{LexError, LexFault};
 use std::alloc::{AllocError, Global};
 use thiserror::Error;
 
@@ -24,15 +26,21 @@ pub enum ParseError {
     /// A growth was refused.
     #[error("out of memory")]
     Memory,
+    /// The text has a lexical fault.
+    #[error("{0}")]
+    Lex(LexFault),
     /// The text has no token.
     #[error("no expression found in input")]
     Empty,
-    /// The text has no token list, or its tokens are no expression.
+    /// The tokens are no expression.
     #[error("invalid promql query")]
     Syntax,
     /// The tokens are more than 512, their end counted, and no expression of height at most 512.
     #[error("expression nested too deeply")]
     TooDeep,
+    /// A number token is no number that can be held; the first one, where the tokens are an expression.
+    #[error("{0}")]
+    Number(NumberFault),
 }
 
 impl From<AllocError> for ParseError {
@@ -46,14 +54,27 @@ impl From<AllocError> for ParseError {
     }
 }
 
-impl From<LexicalFault> for ParseError {
+impl From<LexFault> for ParseError {
     ghost use Rattle.std.specs.Prelude.{◌≡◌};
-    ghost use Rattle.promql_parser.specs.declared.parser.ParseError.TheVariants.{Syntax};
+    ghost use Rattle.promql_parser.specs.declared.parser.ParseError.TheVariants.{Lex};
 
-    ghost from_gives = { λ _ e. e ≡ Syntax };
+    ghost from_gives = { λ fault e. e ≡ Lex fault };
 
-    fn from(_e: LexicalFault) -> ParseError {
-        ParseError::Syntax
+    fn from(fault: LexFault) -> ParseError {
+        ParseError::Lex(fault)
+    }
+}
+
+impl From<LexError> for ParseError {
+    ghost use Rattle.promql_parser.specs.Answers.{IsLexError};
+
+    ghost from_gives = { IsLexError };
+
+    fn from(error: LexError) -> ParseError {
+        match error {
+            LexError::Memory => ParseError::Memory,
+            LexError::Fault(fault) => ParseError::Lex(fault),
+        }
     }
 }
 
@@ -79,17 +100,16 @@ pub fn parse(alloc: Global, text: &str) -> Result<Expr, ParseError>
     ensures answer { IsAnswer text.now (answer_of result) }
     // What is right is answered: for each derivation of the text that is low enough, what it builds.
     ensures only { (d : Derivation) → Derives text.now d → height d ≤ 512 → IsBuilt (answer_of result) (build d) }
-    ensures empty { IsErrOf result ParseError.Empty ↔ (tokens text.now ≡ Some []) }
-    ensures lexical { tokens text.now ≡ None → IsErrOf result ParseError.Syntax }
+    ensures empty { IsErrOf result ParseError.Empty ↔ (tokens text.now ≡ Ok []) }
+    ensures lexical { (fault : LexFault) → IsErrOf result (ParseError.Lex fault) ↔ (tokens text.now ≡ Err fault) }
     ensures low { IfOk result (λ e. tree_height (tree_of e) ≤ 512) }
 {
-    if count_tokens(text)? == 0 {
+    if !has_tokens(text)? {
         return Err(ParseError::Empty);
     }
     let tokens = list_tokens(alloc, text)?;
     match read_all(alloc, MAX_DEPTH, tokens.as_slice())? {
         Ok(expr) => Ok(expr),
-        // Each number token is a numeral that can be read.
-        Err(_) => unreachable!(),
+        Err(fault) => Err(ParseError::Number(fault)),
     }
 }

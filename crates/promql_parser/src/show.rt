@@ -2,28 +2,17 @@
 
 ghost use Rattle.std.specs.Prelude.{Some, ◌++◌, codes, string_bytes, unwrap_or, []};
 ghost use Rattle.std.specs.Option.{option_map};
-ghost use Rattle.std.specs.Fmt.{decimal};
+ghost use Rattle.promql_text.specs.NumberText.{numtext};
+ghost use Rattle.promql_token.specs.Ids.{text_of};
 ghost use Rattle.promql_parser.specs.Tree.{tree_of};
-ghost use Rattle.promql_parser.specs.OneLine.{operator_text, line};
+ghost use Rattle.promql_parser.specs.OneLine.{line};
 
-use crate::tokens::Operator;
 use crate::tree::{BinaryExpr, Expr, NumberLiteral, ParenExpr, VectorSelector};
 use std::fmt;
 use std::fmt::Display;
 
-impl fmt::Display for Operator {
-    ghost output = { λ op. Some (operator_text op) };
-
-    fn fmt<W: fmt::Write>(&self, f: &mut fmt::Formatter<W>) -> fmt::Result {
-        match self {
-            Operator::Add => f.write_str("+"),
-            Operator::Sub => f.write_str("-"),
-        }
-    }
-}
-
 impl fmt::Display for NumberLiteral {
-    ghost output = { λ e. Some (decimal e.val) };
+    ghost output = { λ e. Some (numtext e.val) };
 
     fn fmt<W: fmt::Write>(&self, f: &mut fmt::Formatter<W>) -> fmt::Result {
         self.val.fmt(f)
@@ -53,7 +42,7 @@ impl fmt::Display for ParenExpr {
 }
 
 impl fmt::Display for BinaryExpr {
-    ghost output = { λ e. Some (line (tree_of e.lhs.value) ++ (codes " " ++ (operator_text e.op ++ (codes " " ++ line (tree_of e.rhs.value))))) };
+    ghost output = { λ e. Some (line (tree_of e.lhs.value) ++ (codes " " ++ (text_of e.op ++ (codes " " ++ line (tree_of e.rhs.value))))) };
 
     #[cycle(show)]
     fn fmt<W: fmt::Write>(&self, f: &mut fmt::Formatter<W>) -> fmt::Result {

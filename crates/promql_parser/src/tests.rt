@@ -1,6 +1,8 @@
 // Worked rows.
 
 use crate::parser::{Expr, ParseError, parse};
+use promql_text::NumberFault;
+use promql_token::{LexFault, LexFaultKind};
 use std::alloc::{AllocError, Global};
 use std::test::Fail;
 
@@ -18,6 +20,10 @@ const EMPTY: &str = "no expression found in input";
 
 const TOO_DEEP: &str = "expression nested too deeply";
 
+const NUMERAL: &str = "bad number or duration syntax";
+
+const UNCLOSED: &str = "unclosed left parenthesis";
+
 #[test]
 fn core_texts(rt: HostRuntime) -> Result<(), Fail> {
     let alloc = rt.alloc();
@@ -34,30 +40,65 @@ fn core_texts(rt: HostRuntime) -> Result<(), Fail> {
         ),
         ("", EMPTY),
         (" \n\t\x0c\r ", EMPTY),
+        ("# nothing", EMPTY),
         ("1 +", SYNTAX),
         ("a b", SYNTAX),
         ("()", SYNTAX),
         ("+ 1", SYNTAX),
-        ("(1", SYNTAX),
-        ("1)", SYNTAX),
-        (")(", SYNTAX),
-        ("1a", SYNTAX),
-        ("1_", SYNTAX),
-        ("007", SYNTAX),
-        ("00", SYNTAX),
-        ("sum", SYNTAX),
-        ("SUM", SYNTAX),
+        ("(1", UNCLOSED),
+        ("1)", "unexpected right parenthesis ')'"),
+        (")(", "unexpected right parenthesis ')'"),
+        ("1a", NUMERAL),
+        ("1_", NUMERAL),
+        ("007", "7"),
+        ("00", "0"),
+        ("0x1F + 1.50", "31 + 1.5"),
+        ("sum", "sum"),
+        ("SUM - Group", "SUM - Group"),
+        ("by + and - start", "by + and - start"),
+        ("a:b", "a:b"),
+        ("bool", SYNTAX),
         ("Group_Left", SYNTAX),
-        ("a:b", SYNTAX),
-        ("1 # 2", SYNTAX),
-        ("1.5", SYNTAX),
-        ("é", SYNTAX),
-        ("1 + \u{1f600}", SYNTAX),
-        ("999999999999999999999999999999999999999", SYNTAX),
+        ("Inf - nan", "Inf - NaN"),
+        ("1 # 2", "1"),
+        ("1 * 2", SYNTAX),
+        ("5m", SYNTAX),
+        ("a{b=\"é\"}", SYNTAX),
+        ("é", "unexpected character: 'é'"),
+        ("1 + \u{1f600}", "unexpected character: '\u{1f600}'"),
+        (
+            "999999999999999999999999999999999999999",
+            "more than 38 significant digits",
+        ),
+        ("1e", "not a number"),
+        ("1e309", "number out of range"),
+        ("1e309 + 1e", "number out of range"),
+        ("1 + 1e309 +", SYNTAX),
+        ("1e309 + 1a", NUMERAL),
     ];
     for (text, want) in &rows {
         let found = answer(alloc, text)?;
         assert_eq!(rt; found.as_str(), *want, "at {text:?}");
+    }
+    Ok(())
+}
+
+#[test]
+fn lexical_faults_keep_their_places(rt: HostRuntime) -> Result<(), Fail> {
+    let alloc = rt.alloc();
+    let unclosed = repeated(alloc, "", "(", 100_000, "")?;
+    let rows = [
+        ("(1", LexFaultKind::UnclosedParen, 2),
+        ("1a", LexFaultKind::Numeral, 0),
+        ("foo[:5m]", LexFaultKind::FirstColon, 4),
+        (unclosed.as_str(), LexFaultKind::UnclosedParen, 100_000),
+    ];
+    for (i, (text, kind, at)) in rows.iter().enumerate() {
+        let Some(ParseError::Lex(fault)) = refusal(alloc, text) else {
+            return Err(Fail::new("no lexical fault"));
+        };
+        assert_eq!(rt; fault.kind, *kind, "at row {i}");
+        assert_eq!(rt; fault.at, *at, "at row {i}");
     }
     Ok(())
 }
@@ -111,17 +152,9 @@ fn heights(rt: HostRuntime) -> Result<(), Fail> {
             repeated(alloc, "1", "+1", 512, "")?,
             Some(ParseError::TooDeep),
         ),
-        (
-            repeated(alloc, "1", "+1", 599, "]")?,
-            Some(ParseError::Syntax),
-        ),
         (nested(alloc, 511)?, None),
         (nested(alloc, 512)?, Some(ParseError::TooDeep)),
-        (
-            repeated(alloc, "", "(", 100_000, "")?,
-            Some(ParseError::Syntax),
-        ),
-        (nested(alloc, 100_000)?, Some(ParseError::TooDeep)),
+        (nested(alloc, 20_000)?, Some(ParseError::TooDeep)),
         (
             repeated(alloc, "", " \n", 50_000, "")?,
             Some(ParseError::Empty),
@@ -131,17 +164,29 @@ fn heights(rt: HostRuntime) -> Result<(), Fail> {
         let found = refusal(alloc, text.as_str());
         assert_eq!(rt; found, *want, "at row {i}");
     }
+    let bracketed = repeated(alloc, "1", "+1", 599, "]")?;
+    let Some(ParseError::Lex(fault)) = refusal(alloc, bracketed.as_str()) else {
+        return Err(Fail::new("no lexical fault"));
+    };
+    assert_eq!(rt; fault.kind, LexFaultKind::RightBracket);
     Ok(())
 }
 
 #[test]
 fn messages(rt: HostRuntime) -> Result<(), Fail> {
     let alloc = rt.alloc();
+    let fault = LexFault {
+        kind: LexFaultKind::Character,
+        at: 3,
+        ch: Some('~'),
+    };
     let rows = [
         (ParseError::Memory, "out of memory"),
+        (ParseError::Lex(fault), "unexpected character: '~'"),
         (ParseError::Empty, EMPTY),
         (ParseError::Syntax, SYNTAX),
         (ParseError::TooDeep, TOO_DEEP),
+        (ParseError::Number(NumberFault::NotANumber), "not a number"),
     ];
     for (error, want) in &rows {
         let found = format!(in alloc; "{error}")?;

@@ -1,11 +1,12 @@
 // The tree of an expression.
 
-use crate::tokens::Operator;
+use promql_text::Number;
+use promql_token::TokenType;
 
 /// A number.
 #[derive(Clone, Copy, PartialEq, Eq, Debug)]
 pub struct NumberLiteral {
-    pub val: u128,
+    pub val: Number,
 }
 
 /// A selector of the series with this name.
@@ -25,7 +26,7 @@ pub struct ParenExpr {
 #[cycle(ast)]
 #[derive(Drop)]
 pub struct BinaryExpr {
-    pub op: Operator,
+    pub op: TokenType,
     pub lhs: Box<Expr>,
     pub rhs: Box<Expr>,
 }

@@ -1,16 +1,17 @@
 // The parser.
 
 ghost use Rattle.std.specs.Prelude.{◌≡◌, ℕ, ◌+◌, ◌<◌, ◌≤◌, length, IfOk, MatchResult};
-ghost use Rattle.promql_parser.specs.Parts.{Fails, IsGiven, symbols_of};
+ghost use Rattle.promql_parser.specs.Parts.{Fails, IsGiven};
+ghost use Rattle.promql_parser.specs.Symbols.{symbols_of};
 ghost use Rattle.promql_parser.specs.Reading.{first, expression};
 ghost use Rattle.promql_parser.specs.Wholes.{IsWhole};
 
 use crate::grammar::front::{after_close, after_operator, level_above, level_of, split};
 use crate::grammar::part::{Halt, Part, binary_part, name_part, number_part, paren_part};
 use crate::grammar::symbol::Symbol;
-use crate::texts::NumberFault;
 use crate::tokens::Token;
 use crate::tree::Expr;
+use promql_text::NumberFault;
 use std::alloc::Global;
 
 /// A form with no operator outside.
@@ -40,7 +41,7 @@ fn read_first<'a, 't>(
             };
             Ok((paren_part(alloc, inner)?, after))
         }
-        Symbol::Operator(_) | Symbol::Close => Err(Halt::Syntax),
+        Symbol::Operator(_) | Symbol::Close | Symbol::Other => Err(Halt::Syntax),
     }
 }
 

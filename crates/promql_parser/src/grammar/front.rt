@@ -2,12 +2,12 @@
 
 ghost use Rattle.std.specs.Prelude.{◌≡◌, [], ◌∷◌, MatchOption};
 ghost use Rattle.promql_parser.specs.Front.{HasNoClosing, HasNoSign};
-ghost use Rattle.promql_parser.specs.Grammar.{level, closing, sign};
-ghost use Rattle.promql_parser.specs.Parts.{symbol_view, symbols_of};
+ghost use Rattle.promql_parser.specs.Grammar.{level};
+ghost use Rattle.promql_parser.specs.Symbols.{closing, sign, symbol_view, symbols_of};
 ghost use Rattle.promql_parser.specs.Reading.{above};
 
-use crate::grammar::symbol::{Symbol, symbol_of};
-use crate::tokens::{Operator, Token};
+use crate::grammar::symbol::{Operator, Symbol, symbol_of};
+use crate::tokens::Token;
 
 /// The first symbol, and the tokens behind it.
 pub fn split<'a, 't>(tokens: &'t [Token<'a>]) -> Option<(Symbol<'a>, &'t [Token<'a>])>

@@ -4,9 +4,10 @@ ghost use Rattle.std.specs.Prelude.{◌≡◌, ℕ, ◌+◌, ◌<◌, max, IfOk}
 ghost use Rattle.promql_parser.specs.Grammar.{Derivation, number, name, paren, binary};
 ghost use Rattle.promql_parser.specs.Parts.{IsPart};
 
-use crate::texts::{NumberFault, parse_numeral};
-use crate::tokens::Operator;
+use crate::grammar::symbol::Operator;
 use crate::tree::{BinaryExpr, Expr, NumberLiteral, ParenExpr, VectorSelector};
+use promql_text::{NumberFault, parse_str_radix};
+use promql_token::TokenType;
 use std::alloc::{AllocError, AllocFailed, Global};
 
 /// What was built, and how high its derivation is.
@@ -52,7 +53,7 @@ pub fn number_part(text: &str) -> Part
     ensures built { IsPart result (number text.now) }
     ensures low { result.height ≡ 1 }
 {
-    match parse_numeral(text) {
+    match parse_str_radix(text) {
         Ok(val) => Part {
             value: Ok(Expr::NumberLiteral(NumberLiteral { val })),
             height: 1,
@@ -102,7 +103,7 @@ pub fn binary_part(alloc: Global, op: Operator, left: Part, right: Part) -> Resu
     let height = left.height.max(right.height);
     let value = match (left.value, right.value) {
         (Ok(lhs), Ok(rhs)) => Ok(Expr::Binary(BinaryExpr {
-            op,
+            op: TokenType::new(op.id()),
             lhs: Box::new(alloc, lhs)?,
             rhs: Box::new(alloc, rhs)?,
         })),

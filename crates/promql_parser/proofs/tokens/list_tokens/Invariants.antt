@@ -1,10 +1,7 @@
-use Rattle.std.proofs.Common.{map, length, IsUtf8}
-use Rattle.promql_parser.specs.Cutting.{token_of}
-use Rattle.promql_parser.proofs.Counting.{IsListed}
+use Rattle.std.proofs.Common.{◌≡◌, map, take}
+use Rattle.promql_parser.specs.Symbols.{token_of}
+use Rattle.promql_parser.proofs.Listing.{listed}
 use Rattle.promql_parser.proofs.tokens.list_tokens.Given as goal
 
-abbrev pub invariant-loop-token : goal.invariant-loop-token
-invariant-loop-token l = record { utf8 : IsUtf8 l.rest; goes : IsListed l.text (map token_of l.list.items) l.rest }
-
-abbrev pub decreases-loop-token : goal.decreases-loop-token
-decreases-loop-token l = length l.rest
+abbrev pub invariant-loop-lexeme : goal.invariant-loop-lexeme
+invariant-loop-lexeme l = map token_of l.list.items ≡ listed l.text (take l.lexeme-index l.lexeme-items)

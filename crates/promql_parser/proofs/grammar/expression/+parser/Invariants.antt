@@ -1,5 +1,5 @@
 use Rattle.std.proofs.Common.{◌≡◌, ◌+◌, ◌*◌, ◌≤◌, length}
-use Rattle.promql_parser.specs.Parts.{symbols_of}
+use Rattle.promql_parser.specs.Symbols.{symbols_of}
 use Rattle.promql_parser.proofs.Climbing.{Climbing}
 use Rattle.promql_parser.proofs.grammar.expression.+parser.Given as goal
 

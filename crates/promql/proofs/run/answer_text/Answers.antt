@@ -1,0 +1,16 @@
+use Rattle.std.proofs.Common.{◌≡◌, sym, ◌∙◌, subst}
+use Rattle.std.specs.Prelude.{Err}
+use Rattle.std.proofs.lemmas.Result.{err_from_is_err_and}
+use Rattle.promql.specs.declared.run.RunError.TheVariants.{Parse}
+use Rattle.promql.specs.Running.{IsParsed}
+use Rattle.promql.proofs.Refusals.{raised_own, parsed_refusal}
+use Rattle.promql.proofs.run.answer_text.Goals as goal
+
+pub returns-in_err-expr-clause-parse : goal.returns-in_err-expr-clause-parse
+returns-in_err-expr-clause-parse c = λ e is.
+    let refusal = c.in_err-expr.ensures in
+    let same = err_from_is_err_and c.from_residual.result c.from_residual.ensures.1 in
+    let raised : Err same.0 ≡ Err (Parse e) = sym same.1 ∙ is in
+    let own : same.0 ≡ Parse e = cc in
+    let parsed = raised_own c.in_err-expr.field-0.0 same.0 same.2 e own in
+    (subst (λ f. IsParsed c.args.text.now (Err f)) parsed.0 (parsed_refusal c.args.text.now c.in_err-expr.field-0.0 refusal.answer refusal.only refusal.empty refusal.lexical), parsed.1)

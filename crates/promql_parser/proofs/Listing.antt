@@ -1,0 +1,76 @@
+-- What the loops over the tokens of a text keep.
+use Rattle.std.proofs.Common.{◌≡◌, ℕ, zero, suc, ◌<◌, Bool, true, false, List, [], ◌∷◌, ◌++◌, length, get_or, refl, sym, ap, ◌∙◌, arith}
+use Rattle.std.specs.Prelude.{◌==◌, ◌||◌, not, Result, Ok, Err, filter}
+use Rattle.std.specs.List.{list_any}
+use Rattle.std.proofs.lemmas.Bool.{cond-true, cond-false}
+use Rattle.std.proofs.lemmas.Bool.Decides.{nat_tests}
+use Rattle.promql_token.specs.declared.lexeme.Lexeme.{Lexeme}
+use Rattle.promql_token.specs.declared.fault.LexFault.{LexFault}
+use Rattle.promql_token.specs.Laws.{IsPlaced, ArePlaced}
+use Rattle.promql_token.specs.Lexing.{sliced, result_sliced, text_at, collected, items, lex}
+use Rattle.promql_parser.specs.Lexing.{Text, Token, is_before_end, on_result, has_any, tokens}
+
+abbrev pub is_token : Lexeme → Bool
+is_token x = not (x.id == 6)
+
+abbrev pub any_token : Result (List Lexeme) LexFault → Result Bool LexFault
+any_token lexed = on_result (list_any is_token) lexed
+
+-- tokens were seen before the rest
+abbrev pub or_any : Bool → Result Bool LexFault → Result Bool LexFault
+or_any some (Ok more) = Ok (some || more)
+or_any some (Err e) = Err e
+
+-- the tokens of lexemes, without the end
+abbrev pub listed : Text → List Lexeme → List Token
+listed s xs = filter is_before_end (sliced s xs)
+
+listed-token : (s : Text) (x : Lexeme) (xs : List Lexeme) → is_token x ≡ true → listed s (x ∷ xs) ≡ (x.id, text_at s x) ∷ listed s xs
+listed-token s x xs token = cond-true (is_token x) _ _ token
+
+listed-end : (s : Text) (x : Lexeme) (xs : List Lexeme) → is_token x ≡ false → listed s (x ∷ xs) ≡ listed s xs
+listed-end s x xs end = cond-false (is_token x) _ _ end
+
+some_zero : (n : ℕ) → (suc n == 0) ≡ false
+some_zero n = grind (arith, nat_tests)
+
+-- there is a token in the list where a lexeme is one
+some_listed : (s : Text) (xs : List Lexeme) → not (length (listed s xs) == 0) ≡ list_any is_token xs
+some_listed s [] = refl
+some_listed s (x ∷ xs) = by_test (is_token x) refl (some_listed s xs)
+  where
+    by_test : (b : Bool) → is_token x ≡ b → not (length (listed s xs) == 0) ≡ list_any is_token xs → not (length (listed s (x ∷ xs)) == 0) ≡ list_any is_token (x ∷ xs)
+    by_test true token rest = ap (λ l. not (length l == 0)) (listed-token s x xs token) ∙ ap not (some_zero (length (listed s xs))) ∙ sym (ap (λ b. b || list_any is_token xs) token)
+    by_test false end rest = ap (λ l. not (length l == 0)) (listed-end s x xs end) ∙ rest ∙ sym (ap (λ b. b || list_any is_token xs) end)
+
+pub any_listed : (s : Text) (r : Result (List Lexeme) LexFault) → has_any (on_result (filter is_before_end) (result_sliced s r)) ≡ any_token r
+any_listed s (Ok xs) = ap Ok (some_listed s xs)
+any_listed s (Err e) = refl
+
+pub has_any_tokens : (s : Text) → has_any (tokens s) ≡ any_token (collected (items s))
+unfolding lex
+has_any_tokens s = any_listed s (collected (items s))
+
+-- each lexeme of a list is placed
+pub placed_at : (s : Text) (xs : List Lexeme) (i : ℕ) (d : Lexeme) → ArePlaced s xs → i < length xs → IsPlaced s (get_or xs i d)
+placed_at s [] i d placed within = absurd (omega arith)
+placed_at s (x ∷ xs) zero d placed within = placed.0
+placed_at s (x ∷ xs) (suc i) d placed within = placed_at s xs i d placed.1 (omega arith)
+
+-- one more lexeme
+listed-append : (s : Text) (xs ys : List Lexeme) → listed s (xs ++ ys) ≡ listed s xs ++ listed s ys
+listed-append s [] ys = refl
+listed-append s (x ∷ xs) ys = by_test (is_token x) refl (listed-append s xs ys)
+  where
+    by_test : (b : Bool) → is_token x ≡ b → listed s (xs ++ ys) ≡ listed s xs ++ listed s ys → listed s (x ∷ (xs ++ ys)) ≡ listed s (x ∷ xs) ++ listed s ys
+    by_test true token rest = listed-token s x (xs ++ ys) token ∙ ap (λ l. (x.id, text_at s x) ∷ l) rest ∙ sym (ap (λ l. l ++ listed s ys) (listed-token s x xs token))
+    by_test false end rest = listed-end s x (xs ++ ys) end ∙ rest ∙ sym (ap (λ l. l ++ listed s ys) (listed-end s x xs end))
+
+-- a text with no token has the empty list
+pub none_listed : (r : Result (List Token) LexFault) → has_any r ≡ Ok false → r ≡ Ok []
+none_listed (Ok []) none = refl
+none_listed (Ok (t ∷ ts)) none =
+    let fails : not (suc (length ts) == 0) ≡ false = cc in
+    let holds : not (suc (length ts) == 0) ≡ true = ap not (some_zero (length ts)) in
+    cc
+none_listed (Err e) none = cc

@@ -1,0 +1,50 @@
+-- Exact decimal numbers.
+use Rattle.std.proofs.Common.{◌≡◌, ◌≢◌, ◌==◌, ℕ, ◌-◌, ◌*◌, ◌/◌, ◌%◌, ◌^◌, ◌<◌, ◌≤◌, Bool, false, cond, refl, ap, ◌∙◌, sym, arith, lit<, lit≤}
+use Rattle.std.specs.Fmt.{digits}
+use Rattle.promql_text.specs.Numbers.{IsExact, exact_zero, digit_count, scaled, whole, tens}
+use Rattle.std.proofs.lemmas.Bool.{ne_eqb}
+use Rattle.promql_text.proofs.Counts.{count_within}
+use Rattle.promql_text.proofs.Tens.{below_product, zeros_below, Splits, splits}
+
+pub exact_zero_is : IsExact exact_zero
+unfolding digits
+exact_zero_is = record {
+  short = lit< tt;
+  ends = λ _. refl;
+  unsigned = λ _. refl;
+  no_zeros = λ _. refl;
+  no_places = λ _. refl;
+  one_side = λ _. refl;
+  below = lit≤ tt;
+  above = lit≤ tt;
+}
+
+-- ---- whole numbers
+
+pub whole_is : (neg : Bool) (a z n : ℕ) → a * 10 ^ z ≡ n → 0 < a → a % 10 ≢ 0 → n < 2 ^ 64 → IsExact (record { is_negative = neg; digits = a; zeros = z; places = 0 })
+whole_is neg a z n is some ends less =
+    let small : n < 10 ^ 20 = omega arith in
+    let few : z < 20 = zeros_below a z n 20 is some small in
+    let low : a < 10 ^ 20 = (let h = below_product a z in omega (arith, h, is)) in
+    let count : digit_count a ≤ 20 = count_within 20 a (omega arith) low (omega arith) in
+    record {
+      short = omega arith;
+      ends = λ e. absurd (ends e);
+      unsigned = λ e. absurd (omega arith);
+      no_zeros = λ e. absurd (omega arith);
+      no_places = λ e. absurd (omega arith);
+      one_side = λ e. absurd (omega arith);
+      below = omega arith;
+      above = omega arith;
+    }
+
+scaled_whole : (neg : Bool) (a z : ℕ) → scaled neg a z 0 ≡ record { is_negative = neg; digits = a; zeros = z; places = 0 }
+scaled_whole neg a z = let e : z - 0 ≡ z = omega arith in let f : 0 - z ≡ 0 = omega arith in rw (e, f)
+
+pub whole_value : (neg : Bool) (a z n : ℕ) → a * 10 ^ z ≡ n → 0 < a → a % 10 ≢ 0 → n < 2 ^ 64 → record { is_negative = neg; digits = a; zeros = z; places = 0 } ≡ whole neg n
+whole_value neg a z n is some ends less =
+    let s : Splits 20 n a z = splits 20 n a z is ends (omega arith) in
+    let low : a ≤ n = (let h = below_product a z in omega (arith, h, is)) in
+    let test : (n == 0) ≡ false = ne_eqb n 0 (omega arith) in
+    let e : scaled neg (n / 10 ^ tens 20 n) (tens 20 n) 0 ≡ scaled neg a z 0 = ap (λ d. scaled neg d (tens 20 n) 0) s.digits ∙ ap (λ k. scaled neg a k 0) s.zeros in
+    sym (ap (λ b. cond b exact_zero (scaled neg (n / 10 ^ tens 20 n) (tens 20 n) 0)) test ∙ e ∙ scaled_whole neg a z)

@@ -1,0 +1,5 @@
+use Rattle.promql_text.proofs.ReadsBack.{reads_back}
+use Rattle.promql_text.proofs.laws.number_reads_back.Goals as goal
+
+pub returns : goal.returns
+returns c = reads_back

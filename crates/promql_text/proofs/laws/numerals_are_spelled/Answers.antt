@@ -1,0 +1,5 @@
+use Rattle.promql_text.proofs.Spelled.{numeral_spelled}
+use Rattle.promql_text.proofs.laws.numerals_are_spelled.Goals as goal
+
+pub returns : goal.returns
+returns c = numeral_spelled

@@ -1,0 +1,10 @@
+use Rattle.std.proofs.Common.{◌*◌, ◌^◌, ◌∙◌, ap}
+use Rattle.promql_text.specs.Durations.{capped}
+use Rattle.promql_text.proofs.Rounding.{capped_zeros}
+use Rattle.promql_text.proofs.seconds.with_zeros.Goals as goal
+
+pub returns : goal.returns
+returns c =
+    c.saturating_mul.ensures
+    ∙ ap (λ p. capped (c.args.n * p)) (c.saturating_pow.ensures ∙ ap (λ z. capped (10 ^ z)) c.min.ensures)
+    ∙ capped_zeros c.args.n c.args.zeros

@@ -1,0 +1,12 @@
+use Rattle.std.proofs.Common.{◌≡◌, ◌<◌, ◌^◌, length}
+use Rattle.std.specs.Str.Parse.{digits_value_after, digits_value}
+use Rattle.promql_text.specs.DecimalForm.{digit_run}
+use Rattle.promql_text.proofs.significand.capped_number.Given as goal
+
+abbrev pub invariant-loop-c : goal.invariant-loop-c
+invariant-loop-c g l =
+    (digits_value_after 10 l.number (digit_run (g.S.Source.left l.rest)) ≡ digits_value 10 (digit_run (g.S.Source.left l.fn.text)))
+    × (l.number < 10 ^ 32)
+
+abbrev pub decreases-loop-c : goal.decreases-loop-c
+decreases-loop-c g l = length (g.S.Source.left l.rest)

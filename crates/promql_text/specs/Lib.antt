@@ -1,0 +1,14 @@
+pub mod DecimalForm
+pub mod DecimalParts
+pub mod DurationText
+pub mod Durations
+pub mod Millis
+pub mod NumberDigits
+pub mod NumberText
+pub mod Numbers
+pub mod Quoting
+pub mod Rounding
+pub mod Significands
+pub mod Spelling
+pub mod Spellings
+pub mod Values

@@ -1,0 +1,55 @@
+-- Exact decimal numbers (docs/TEXTS.md, "Numbers").
+use Rattle.std.specs.Prelude.{◌≡◌, ℕ, zero, suc, ◌+◌, ◌-◌, ◌/◌, ◌%◌, ◌^◌, ◌<◌, ◌≤◌, Bool, false, not, ◌&&◌, if◌then◌else◌, ◌==◌, nat_le, length, Option, Some, None}
+use Rattle.std.specs.Fmt.{decimal}
+
+-- A finite number is its digits, read as a whole number, times 10 to `zeros`, divided by 10 to `places`.
+pub record Exact : Type 0 where
+  pub is_negative : Bool
+  pub digits : ℕ
+  pub zeros : ℕ
+  pub places : ℕ
+
+-- how many decimal digits a whole number has; zero has one
+abbrev pub digit_count : ℕ → ℕ
+digit_count n = length (decimal n)
+
+-- Each number has one such form: its digits end in no zero, it has zeros behind its digits or places behind the point
+-- and not both, and there is one zero. It has at most 38 digits, and the first of them stands at a place from 10^-324 to 10^308.
+pub record IsExact (d : Exact) : Type 0 where
+  pub short : d.digits < 10 ^ 38
+  pub ends : d.digits % 10 ≡ 0 → d.digits ≡ 0
+  pub unsigned : d.digits ≡ 0 → d.is_negative ≡ false
+  pub no_zeros : d.digits ≡ 0 → d.zeros ≡ 0
+  pub no_places : d.digits ≡ 0 → d.places ≡ 0
+  pub one_side : 0 < d.places → d.zeros ≡ 0
+  pub below : digit_count d.digits + d.zeros ≤ 309 + d.places
+  pub above : d.places ≤ digit_count d.digits + d.zeros + 323
+
+abbrev pub exact_zero : Exact
+exact_zero = record { is_negative = false; digits = 0; zeros = 0; places = 0 }
+
+-- how often 10 divides a number above zero; `most` is at least the answer
+abbrev pub tens : ℕ → ℕ → ℕ
+tens zero n = 0
+tens (suc most) n = if n % 10 == 0 then suc (tens most (n / 10)) else 0
+
+-- the first digit of c, times 10 to `up`, divided by 10 to `down`, stands at a place from 10^-324 to 10^308
+abbrev pub is_in_range : ℕ → ℕ → ℕ → Bool
+is_in_range c up down = nat_le (digit_count c + up) (309 + down) && nat_le down (digit_count c + up + 323)
+
+-- c, which ends in no zero, times 10 to `up`, divided by 10 to `down`
+abbrev pub scaled : Bool → ℕ → ℕ → ℕ → Exact
+scaled is_negative c up down = record { is_negative = is_negative; digits = c; zeros = up - down; places = down - up }
+
+-- the same, where it is a number
+abbrev pub placed : Bool → ℕ → ℕ → ℕ → Option Exact
+placed is_negative c up down =
+    if c == 0 then Some exact_zero else (if is_in_range c up down then Some (scaled is_negative c up down) else None)
+
+-- a whole number below 2^64, which has at most 20 digits
+abbrev pub whole : Bool → ℕ → Exact
+whole is_negative n = let z = tens 20 n in if n == 0 then exact_zero else scaled is_negative (n / 10 ^ z) z 0
+
+-- the number with the other sign; zero stays zero
+abbrev pub negated : Exact → Exact
+negated d = record d { is_negative = not d.is_negative && not (d.digits == 0) }

@@ -1,0 +1,124 @@
+-- Quoted texts, in bytes of UTF-8: docs/TEXTS.md, "Strings".
+use Rattle.std.specs.Prelude.{◌≡◌, ℕ, zero, suc, true, ◌+◌, ◌-◌, ◌*◌, Bool, if◌then◌else◌, ◌==◌, ◌||◌, nat_lt, nat_le, List, [], ◌∷◌, ◌++◌, length, drop, Option, Some, None, option_and_then, option_map, Result, Ok, Err}
+use Rattle.std.specs.Char.{encode_utf8, digit_value}
+use lib.Utf8.{scalar}
+use Rattle.promql_text.specs.declared.quote.QuoteError.{QuoteError}
+use Rattle.promql_text.specs.declared.quote.QuoteError.TheVariants as errors
+
+-- a text, as its bytes
+abbrev pub Text : Type 0
+Text = List ℕ
+
+-- "Escaping": a byte, or the two that stand for it
+abbrev pub escaped_byte : ℕ → Text
+escaped_byte b =
+    if b == 92 then 92 ∷ 92 ∷ []
+    else (if b == 34 then 92 ∷ 34 ∷ []
+    else (if b == 10 then 92 ∷ 110 ∷ []
+    else (if b == 13 then 92 ∷ 114 ∷ []
+    else (if b == 9 then 92 ∷ 116 ∷ []
+    else b ∷ []))))
+
+-- "Escaping": the text with each of the five characters escaped
+abbrev pub escaped : Text → Text
+escaped [] = []
+escaped (b ∷ s) = escaped_byte b ++ escaped s
+
+-- the escape of a text between double quotes
+abbrev pub quoted : Text → Text
+quoted s = 34 ∷ (escaped s ++ 34 ∷ [])
+
+-- "Quotes": the three bytes that may stand round a text
+abbrev pub is_quote : ℕ → Bool
+is_quote b = (b == 34 || b == 39) || b == 96
+
+-- "Letter escapes": the character that one letter, or a backslash, stands for behind a backslash
+abbrev pub letter : ℕ → Option ℕ
+letter b =
+    if b == 97 then Some 7
+    else (if b == 98 then Some 8
+    else (if b == 102 then Some 12
+    else (if b == 110 then Some 10
+    else (if b == 114 then Some 13
+    else (if b == 116 then Some 9
+    else (if b == 118 then Some 11
+    else (if b == 92 then Some 92
+    else None)))))))
+
+-- the number that n more digits write in a base, behind those that wrote `start`
+abbrev pub number : ℕ → ℕ → ℕ → Text → Option ℕ
+number base zero start z = Some start
+number base (suc n) start [] = None
+number base (suc n) start (b ∷ z) =
+    if nat_lt (digit_value b) base then number base n (start * base + digit_value b) z else None
+
+-- "Number escapes": the character that n hexadecimal digits number, and the length of its escape
+abbrev pub hexadecimal : ℕ → Text → Option (ℕ × ℕ)
+hexadecimal n z = option_and_then (λ c. if scalar c then Some (c, n + 1) else None) (number 16 n 0 z)
+
+-- the character that a digit and two more octal ones number, up to 255
+abbrev pub octal : ℕ → Text → Option (ℕ × ℕ)
+octal b z = option_and_then (λ c. if nat_le c 255 then Some (c, 3) else None) (number 8 2 (b - 48) z)
+
+-- "Escapes": the character that what follows a backslash stands for, and the length of what stands for it
+unfoldable pub escape : ℕ → Text → Option (ℕ × ℕ)
+escape quote [] = None
+escape quote (b ∷ z) =
+    if b == quote then Some (b, 1)
+    else (if b == 120 then hexadecimal 2 z
+    else (if b == 117 then hexadecimal 4 z
+    else (if b == 85 then hexadecimal 8 z
+    else (if nat_le 48 b then (if nat_le b 55 then octal b z else option_map (λ c. (c, 1)) (letter b))
+    else option_map (λ c. (c, 1)) (letter b)))))
+
+-- "Spellings": what the byte b, with what follows it, stands for, and the length of the spelling. Between backticks each
+-- byte stands for itself; else a line feed stands for nothing, and a backslash begins an escape.
+abbrev pub spelling : ℕ → ℕ → Text → Option (Text × ℕ)
+spelling quote b z =
+    if quote == 96 then Some (b ∷ [], 1)
+    else (if b == 10 then None
+    else (if b == 92 then option_map (λ e. (encode_utf8 e.0, e.1 + 1)) (escape quote z)
+    else Some (b ∷ [], 1)))
+
+-- what the spellings up to the closing quote, which ends the text, stand for; `left` bytes of a spelling are still to be passed
+abbrev pub inside : ℕ → ℕ → Text → Option Text
+inside quote left [] = None
+inside quote (suc left) (b ∷ z) = inside quote left z
+inside quote zero (b ∷ z) =
+    if b == quote then (if length z == 0 then Some [] else None)
+    else option_and_then (λ s. option_map (λ more. s.0 ++ more) (inside quote (s.1 - 1) z)) (spelling quote b z)
+
+-- "Quoted texts": a quote, spellings of characters, and the same quote
+unfoldable pub unquoted : Text → Option Text
+unquoted [] = None
+unquoted (b ∷ z) = if is_quote b then inside b 0 z else None
+
+-- the answer is what was said: its value, or the refusal where there is none. Want of memory may come in place of either.
+abbrev pub Unquotes : {X : Type 0} → (X → Text) → Result X QuoteError → Option Text → Type 0
+Unquotes view (Ok x) said = said ≡ Some (view x)
+Unquotes view (Err errors.Memory) said = Unit {0}
+Unquotes view (Err errors.InvalidSyntax) said = said ≡ None
+
+-- a reader of digits, of an escape and of a spelling, which moves from the text `old` on to `new`
+
+abbrev pub ReadsNumber : ℕ → ℕ → ℕ → Text → Option ℕ → Text → Type 0
+ReadsNumber base n start old None new = number base n start old ≡ None
+ReadsNumber base n start old (Some c) new = (number base n start old ≡ Some c) × (new ≡ drop n old)
+
+-- a reader of the n digits by which the escape `said` ends
+abbrev pub ReadsDigits : Option (ℕ × ℕ) → ℕ → Text → Option ℕ → Text → Type 0
+ReadsDigits said n old None new = said ≡ None
+ReadsDigits said n old (Some c) new = (said ≡ Some (c, n + 1)) × (new ≡ drop n old)
+
+abbrev pub ReadsEscape : ℕ → Text → Option ℕ → Text → Type 0
+ReadsEscape quote old None new = escape quote old ≡ None
+ReadsEscape quote old (Some c) new = (len : ℕ) × (escape quote old ≡ Some (c, len)) × (new ≡ drop len old)
+
+abbrev pub ReadsSpelling : ℕ → Text → Option ℕ → Text → Type 0
+ReadsSpelling quote old None new = inside quote 0 old ≡ None
+ReadsSpelling quote old (Some c) new = inside quote 0 old ≡ option_map (λ more. encode_utf8 c ++ more) (inside quote 0 new)
+
+-- a reader of the quote that a quoted text begins with
+abbrev pub ReadsQuote : Text → Option ℕ → Text → Type 0
+ReadsQuote old None new = unquoted old ≡ None
+ReadsQuote old (Some quote) new = (is_quote quote ≡ true) × (unquoted old ≡ inside quote 0 new)

@@ -1,0 +1,51 @@
+-- What is asked of a number, and the number with the other sign (docs/TEXTS.md, "Numbers").
+use Rattle.std.specs.Prelude.{◌≡◌, ◌+◌, ◌*◌, ◌^◌, Bool, true, false, ◌==◌, ℤ, unsigned_abs}
+use Rattle.std.specs.Int.{is_negative}
+use Rattle.promql_text.specs.Numbers.{Exact, IsExact, negated, whole}
+use Rattle.promql_text.specs.declared.number.Number.{Number}
+use Rattle.promql_text.specs.declared.number.Number.TheVariants.{Finite, Inf, NegInf, NaN}
+
+abbrev pub from_whole : ℤ → Number
+from_whole n = Finite (whole (is_negative n) (unsigned_abs n))
+
+abbrev pub neg : Number → Number
+neg (Finite d) = Finite (negated d)
+neg Inf = NegInf
+neg NegInf = Inf
+neg NaN = NaN
+
+abbrev pub is_nan : Number → Bool
+is_nan NaN = true
+is_nan (Finite d) = false
+is_nan Inf = false
+is_nan NegInf = false
+
+abbrev pub is_infinite : Number → Bool
+is_infinite Inf = true
+is_infinite NegInf = true
+is_infinite (Finite d) = false
+is_infinite NaN = false
+
+abbrev pub is_below_zero : Number → Bool
+is_below_zero (Finite d) = d.is_negative
+is_below_zero NegInf = true
+is_below_zero Inf = false
+is_below_zero NaN = false
+
+abbrev pub is_zero : Number → Bool
+is_zero (Finite d) = d.digits == 0
+is_zero Inf = false
+is_zero NegInf = false
+is_zero NaN = false
+
+-- a number in its one form, as all that the program makes are
+abbrev pub IsNumber : Number → Type 0
+IsNumber (Finite d) = IsExact d
+IsNumber Inf = Unit {0}
+IsNumber NegInf = Unit {0}
+IsNumber NaN = Unit {0}
+
+-- two finite numbers of one value: their digits, with the zeros and places of both, are one whole number
+pub record SameValue (v w : Exact) : Type 0 where
+  pub sign : v.is_negative ≡ w.is_negative
+  pub size : v.digits * 10 ^ (v.zeros + w.places) ≡ w.digits * 10 ^ (w.zeros + v.places)

@@ -1,0 +1,125 @@
+//! Finite decimal numbers, exactly (docs/TEXTS.md, "Numbers").
+
+ghost use Rattle.std.specs.Prelude.{◌≡◌, ◌∷◌, ℕ, ◌+◌, ◌-◌, ◌*◌, ◌^◌, ◌%◌, ◌<◌, ◌≤◌, true, false, ◌==◌, Option, Some, None};
+ghost use Rattle.promql_text.specs.Numbers.{Exact, IsExact, digit_count, exact_zero, negated, placed, whole};
+
+use std::marker::Model;
+
+/// A finite decimal number: at most 38 digits without zeros at either end, the first of them at a place
+/// from 10^-324 to 10^308. There is one zero.
+#[derive(Clone, Copy, Debug, PartialEq, Eq, Hash, Drop)]
+pub struct Decimal {
+    pub(crate) is_negative: bool,
+    /// The digits as a whole number.
+    pub(crate) digits: u128,
+    /// How many zeros follow the digits before the point.
+    pub(crate) zeros: u16,
+    /// How many of the digits, and of zeros in front of them, stand behind the point.
+    pub(crate) places: u16,
+}
+
+impl Model for Decimal {
+    ghost Value = { Exact };
+
+    ghost view = { λ d. record { is_negative = d.is_negative; digits = d.digits; zeros = d.zeros; places = d.places } };
+
+    ghost invariant = { λ d. IsExact (record { is_negative = d.is_negative; digits = d.digits; zeros = d.zeros; places = d.places }) };
+
+    ghost inverse = { λ v. record { is_negative = v.is_negative; digits = v.digits; zeros = v.zeros; places = v.places } };
+}
+
+/// How many digits the number has; zero has one.
+#[tactic(auto, using(crate::proofs::Counts::count_step, crate::proofs::Counts::count_small, crate::proofs::Counts::count_short))]
+pub(crate) fn digit_count(n: u128) -> u128
+    requires { n < 10 ^ 38 }
+    ensures value { result ≡ digit_count n }
+    ensures within { result ≤ 38 }
+{
+    let mut count = 1;
+    let mut rest = n;
+    while rest >= 10 {
+        rest /= 10;
+        count += 1;
+    }
+    count
+}
+
+impl Decimal {
+    /// The digits with `up` zeros behind them, divided by 10 to `down`; None where its first digit is out of range.
+    pub(crate) fn placed(is_negative: bool, digits: u128, up: u128, down: u128) -> Option<Decimal>
+        requires short { digits < 10 ^ 38 }
+        requires ends { digits % 10 ≡ 0 → digits ≡ 0 }
+        requires room { (up < 2 ^ 120) × (down < 2 ^ 120) }
+        ensures { result ≡ placed is_negative digits up down }
+    {
+        if digits == 0 {
+            return Some(Decimal::zero());
+        }
+        let count = digit_count(digits);
+        if count + up > 309 + down || down > count + up + 323 {
+            return None;
+        }
+        Some(Decimal {
+            is_negative,
+            digits,
+            zeros: up.saturating_sub(down) as u16,
+            places: down.saturating_sub(up) as u16,
+        })
+    }
+
+    /// A whole number.
+    pub(crate) fn whole(is_negative: bool, n: u64) -> Decimal
+        ensures { result ≡ whole is_negative n }
+    {
+        if n == 0 {
+            return Decimal::zero();
+        }
+        let mut digits = u128::from(n);
+        let mut zeros = 0;
+        while digits % 10 == 0 {
+            digits /= 10;
+            zeros += 1;
+        }
+        Decimal {
+            is_negative,
+            digits,
+            zeros,
+            places: 0,
+        }
+    }
+
+    /// Zero.
+    pub(crate) const fn zero() -> Decimal
+        ensures { result ≡ exact_zero }
+    {
+        Decimal {
+            is_negative: false,
+            digits: 0,
+            zeros: 0,
+            places: 0,
+        }
+    }
+
+    /// The number with the other sign; zero stays zero.
+    pub(crate) fn neg(self) -> Decimal
+        ensures { result ≡ negated self }
+    {
+        Decimal {
+            is_negative: !self.is_negative && self.digits != 0,
+            ..self
+        }
+    }
+
+    /// Whether the number is below zero.
+    pub(crate) fn is_negative(&self) -> bool
+        ensures { result ≡ self.now.is_negative }
+    {
+        self.is_negative
+    }
+
+    pub(crate) fn is_zero(&self) -> bool
+        ensures { result ≡ (self.now.digits == 0) }
+    {
+        self.digits == 0
+    }
+}

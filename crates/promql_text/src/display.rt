@@ -1,0 +1,84 @@
+//! Writes the text of a number (docs/TEXTS.md, "Numbers").
+
+ghost use Rattle.std.specs.Prelude.{◌≡◌, ◌/◌, ◌%◌, ◌^◌, ◌<◌, Some, replicate};
+ghost use Rattle.promql_text.specs.NumberDigits.{exact_text, magnitude_text};
+ghost use Rattle.promql_text.specs.NumberText.{numtext};
+
+use crate::decimal::{Decimal, digit_count};
+use crate::number::Number;
+use std::fmt;
+
+/// So many zeros.
+#[derive(Clone, Copy)]
+struct Zeros(u128);
+
+impl fmt::Display for Zeros {
+    ghost output = { λ z. Some (replicate z.0 48) };
+
+    fn fmt<W: fmt::Write>(&self, f: &mut fmt::Formatter<W>) -> fmt::Result {
+        for _i in 0..self.0 {
+            write!(f, "0")?;
+        }
+        Ok(())
+    }
+}
+
+/// The digits before the point, and those behind it.
+fn split_at_point(digits: u128, places: u16) -> (u128, u128)
+    requires { digits < 10 ^ 38 }
+    ensures { (result.0 ≡ digits / 10 ^ places) × (result.1 ≡ digits % 10 ^ places) }
+{
+    if places >= 38 {
+        return (0, digits);
+    }
+    let power = 10u128.pow(u32::from(places));
+    (digits / power, digits % power)
+}
+
+/// A decimal without its sign.
+#[derive(Clone, Copy)]
+struct Magnitude<'a>(&'a Decimal);
+
+impl fmt::Display for Magnitude<'_> {
+    ghost output = { λ m. Some (magnitude_text m.0.now) };
+
+    fn fmt<W: fmt::Write>(&self, f: &mut fmt::Formatter<W>) -> fmt::Result {
+        let number = self.0;
+        if number.places == 0 {
+            let digits = number.digits;
+            let zeros = Zeros(u128::from(number.zeros));
+            return write!(f, "{digits}{zeros}");
+        }
+        let (whole, part) = split_at_point(number.digits, number.places);
+        let zeros = Zeros(u128::from(number.places) - digit_count(part));
+        write!(f, "{whole}.{zeros}{part}")
+    }
+}
+
+/// The number in plain positional form, without exponent.
+impl fmt::Display for Decimal {
+    ghost output = { λ d. Some (exact_text d) };
+
+    fn fmt<W: fmt::Write>(&self, f: &mut fmt::Formatter<W>) -> fmt::Result {
+        let magnitude = Magnitude(self);
+        if self.is_negative {
+            write!(f, "-{magnitude}")
+        } else {
+            write!(f, "{magnitude}")
+        }
+    }
+}
+
+/// The number in plain positional form, without exponent; or `Inf`, `-Inf`, `NaN`.
+impl fmt::Display for Number {
+    ghost output = { λ n. Some (numtext n) };
+
+    fn fmt<W: fmt::Write>(&self, f: &mut fmt::Formatter<W>) -> fmt::Result {
+        match self {
+            Number::Finite(decimal) => write!(f, "{decimal}"),
+            Number::Inf => write!(f, "Inf"),
+            Number::NegInf => write!(f, "-Inf"),
+            Number::NaN => write!(f, "NaN"),
+        }
+    }
+}

@@ -1,0 +1,265 @@
+//! The duration of a text: docs/TEXTS.md, "Durations".
+
+ghost use Rattle.std.specs.Prelude.{◌≡◌, ◌<◌, ◌≤◌, length, option_map};
+ghost use Rattle.std.specs.Duration.{as_nanos};
+ghost use Rattle.std.specs.List.{prefix_len};
+ghost use Rattle.promql_text.specs.DecimalParts.{reading_of};
+ghost use Rattle.promql_text.specs.Durations as spec;
+
+use crate::decimal_form::{DecimalForm, Reading, decimal_form};
+use crate::seconds::nanoseconds;
+use std::time::Duration;
+use thiserror::Error;
+
+/// Why a text gives no duration.
+#[derive(Clone, Copy, Debug, PartialEq, Eq, Error)]
+pub enum DurationFault {
+    /// The text is empty.
+    #[error("empty duration string")]
+    Empty,
+    /// The text means zero, rounds to it, or has a minus sign.
+    #[error("duration must be greater than 0")]
+    NotPositive,
+    /// The text means no duration.
+    #[error("not a valid duration string")]
+    Invalid,
+    /// The text means more than the greatest duration.
+    #[error("duration overflowed")]
+    Overflow,
+}
+
+/// A unit of time.
+#[derive(Clone, Copy, Debug, PartialEq, Eq)]
+pub enum Unit {
+    Year,
+    Week,
+    Day,
+    Hour,
+    Minute,
+    Second,
+    Milli,
+}
+
+/// The units, the longest first.
+const UNITS: [Unit; 7] = [
+    Unit::Year,
+    Unit::Week,
+    Unit::Day,
+    Unit::Hour,
+    Unit::Minute,
+    Unit::Second,
+    Unit::Milli,
+];
+
+impl Unit {
+    /// How many nanoseconds the unit has.
+    pub fn nanos(self) -> u64
+        ensures { result ≡ spec.nanos_of self }
+    {
+        match self {
+            Unit::Year => 31_536_000_000_000_000,
+            Unit::Week => 604_800_000_000_000,
+            Unit::Day => 86_400_000_000_000,
+            Unit::Hour => 3_600_000_000_000,
+            Unit::Minute => 60_000_000_000,
+            Unit::Second => 1_000_000_000,
+            Unit::Milli => 1_000_000,
+        }
+    }
+
+    /// The unit's word.
+    pub fn word(self) -> &'static str
+        ensures { result.now ≡ spec.word_of self }
+    {
+        match self {
+            Unit::Year => "y",
+            Unit::Week => "w",
+            Unit::Day => "d",
+            Unit::Hour => "h",
+            Unit::Minute => "m",
+            Unit::Second => "s",
+            Unit::Milli => "ms",
+        }
+    }
+}
+
+/// The whole number of the digits at the front of a text, or `u128::MAX` where it is greater, and what follows them.
+pub(crate) fn count(text: &[u8]) -> Option<(u128, &[u8])>
+    ensures { spec.ReadsCount text.now result }
+{
+    let [b'0'..=b'9', ..] = text else {
+        return None;
+    };
+    let mut value: u128 = 0;
+    let mut rest = text;
+    while let [b @ b'0'..=b'9', more @ ..] = rest {
+        value = value
+            .saturating_mul(10)
+            .saturating_add(u128::from(*b - b'0'));
+        rest = more;
+    }
+    Some((value, rest))
+}
+
+/// How many bytes stand before the first digit.
+fn word_len(text: &[u8]) -> usize
+    ensures value { result ≡ prefix_len spec.is_no_digit text.now }
+    ensures within { result ≤ length text.now }
+{
+    for (i, b) in text.iter().enumerate() {
+        if b.is_ascii_digit() {
+            return i;
+        }
+    }
+    text.len()
+}
+
+/// The first of the units that has this word, and the units behind it.
+fn find<'a>(units: &'a [Unit], word: &[u8]) -> Option<(Unit, &'a [Unit])>
+    ensures { spec.FindsUnit units.now word.now result }
+{
+    let mut rest = units;
+    while let [unit, later @ ..] = rest {
+        if unit.word().as_bytes() == word {
+            return Some((*unit, later));
+        }
+        rest = later;
+    }
+    None
+}
+
+/// The part at the front of a text: its nanoseconds, or `u128::MAX` where there are more, the units behind its own,
+/// and what follows it.
+fn part<'a, 'b>(units: &'a [Unit], text: &'b [u8]) -> Option<(u128, &'a [Unit], &'b [u8])>
+    requires { 0 < length text.now }
+    ensures { spec.TakesPart units.now text.now result }
+{
+    let (count, behind) = count(text)?;
+    let (word, behind) = behind.split_at(word_len(behind));
+    let (unit, later) = find(units, word)?;
+    Some((
+        count.saturating_mul(u128::from(unit.nanos())),
+        later,
+        behind,
+    ))
+}
+
+/// The nanoseconds of a text of parts, or `u128::MAX` where there are more.
+fn parts(text: &[u8]) -> Option<u128>
+    ensures { result ≡ option_map spec.capped (spec.parts_nanos spec.units text.now) }
+{
+    let mut units: &[Unit] = &UNITS;
+    let mut rest = text;
+    let mut total: u128 = 0;
+    while !rest.is_empty() {
+        let (nanos, later, behind) = part(units, rest)?;
+        total = total.saturating_add(nanos);
+        units = later;
+        rest = behind;
+    }
+    Some(total)
+}
+
+/// The duration of so many nanoseconds, above zero and no more than the greatest.
+fn in_range(nanos: u128) -> Result<Duration, DurationFault>
+    ensures { spec.GivesDuration result (spec.in_range nanos) }
+{
+    if nanos == 0 {
+        Err(DurationFault::NotPositive)
+    } else if nanos <= Duration::MAX.as_nanos() {
+        Ok(Duration::from_nanos_u128(nanos))
+    } else {
+        Err(DurationFault::Overflow)
+    }
+}
+
+/// The duration of a number of seconds.
+fn of_seconds(form: DecimalForm<&[u8]>) -> Result<Duration, DurationFault>
+    ensures { spec.GivesDuration result (spec.of_seconds form.entry.is_negative (reading_of (λ s. s.now) form.entry.reading)) }
+{
+    match form.reading {
+        Reading::NaN => Err(DurationFault::Invalid),
+        _ if form.is_negative => Err(DurationFault::NotPositive),
+        Reading::Inf => Err(DurationFault::Overflow),
+        Reading::Finite(numeral) => in_range(nanoseconds(numeral)),
+    }
+}
+
+/// The duration of a text of parts.
+fn of_parts(text: &[u8]) -> Result<Duration, DurationFault>
+    ensures { spec.GivesDuration result (spec.of_parts (spec.parts_nanos spec.units text.now)) }
+{
+    match parts(text) {
+        Some(nanos) => in_range(nanos),
+        None => Err(DurationFault::Invalid),
+    }
+}
+
+/// The duration of a text: a number of seconds in decimal digits, rounded to the nearest nanosecond, or parts with the
+/// units `y w d h m s ms` in this order, each at most once.
+///
+/// # Errors
+///
+/// `Empty` for the empty text; `NotPositive` where the text means zero, rounds to it, or is a number with a minus sign;
+/// `Overflow` where it means more than `Duration::MAX`; `Invalid` for `nan` and for every other text.
+pub fn parse_duration(ds: &str) -> Result<Duration, DurationFault>
+    ensures { spec.GivesDuration result (spec.duration_of ds.now) }
+{
+    let text = ds.as_bytes();
+    if text.is_empty() {
+        return Err(DurationFault::Empty);
+    }
+    match decimal_form(text) {
+        Some(form) => of_seconds(form),
+        None => of_parts(text),
+    }
+}
+
+/// One millisecond.
+pub fn milli_duration() -> Duration
+    ensures { as_nanos result ≡ spec.nanos_of Unit.Milli }
+{
+    Duration::from_millis(1)
+}
+
+/// One second.
+pub fn second_duration() -> Duration
+    ensures { as_nanos result ≡ spec.nanos_of Unit.Second }
+{
+    Duration::from_secs(1)
+}
+
+/// One minute.
+pub fn minute_duration() -> Duration
+    ensures { as_nanos result ≡ spec.nanos_of Unit.Minute }
+{
+    Duration::from_secs(60)
+}
+
+/// One hour.
+pub fn hour_duration() -> Duration
+    ensures { as_nanos result ≡ spec.nanos_of Unit.Hour }
+{
+    Duration::from_secs(60 * 60)
+}
+
+/// One day, of 24 hours.
+pub fn day_duration() -> Duration
+    ensures { as_nanos result ≡ spec.nanos_of Unit.Day }
+{
+    Duration::from_secs(60 * 60 * 24)
+}
+
+/// One week, of 7 days.
+pub fn week_duration() -> Duration
+    ensures { as_nanos result ≡ spec.nanos_of Unit.Week }
+{
+    Duration::from_secs(60 * 60 * 24 * 7)
+}
+
+/// One year, of 365 days.
+pub fn year_duration() -> Duration
+    ensures { as_nanos result ≡ spec.nanos_of Unit.Year }
+{
+    Duration::from_secs(60 * 60 * 24 * 365)
+}

@@ -1,0 +1,61 @@
+//! Laws on the definitions alone. Each is the contract of a function that does nothing.
+
+ghost use Rattle.std.specs.Prelude.{◌≡◌, ℕ, ◌*◌, ◌^◌, ◌<◌, List, Ok, Some, encode_utf8_all};
+ghost use Rattle.std.specs.Str.{IsUtf8};
+ghost use Rattle.promql_text.specs.Durations.{duration_of};
+ghost use Rattle.promql_text.specs.DurationText.{duration_text};
+ghost use Rattle.promql_text.specs.Quoting as quoting;
+ghost use Rattle.promql_text.specs.Spellings.{IsQuotedText};
+ghost use Rattle.promql_text.specs.NumberText.{num, numtext};
+ghost use Rattle.promql_text.specs.DecimalForm.{Text};
+ghost use Rattle.promql_text.specs.Numbers.{Exact, IsExact};
+ghost use Rattle.promql_text.specs.Spelling.{NumeralsAreSpelled};
+ghost use Rattle.promql_text.specs.Values.{IsNumber, SameValue, neg};
+ghost use Rattle.promql_text.specs.declared.number.Number.{Number};
+
+/// Unquoting the quoted escape of a text gives the text, for every text.
+pub fn unquoting_undoes_escaping()
+    ensures { (s : quoting.Text) → quoting.unquoted (quoting.quoted s) ≡ Some s }
+{}
+
+/// Reading the text of a duration above zero gives the duration.
+pub fn durations_read_back()
+    ensures { (n : ℕ) → 0 < n → n < 2 ^ 64 * 1_000_000_000 → duration_of (duration_text n) ≡ Ok n }
+{}
+
+/// A quoted text, which is a quote, spellings of characters and the same quote, is read as these characters.
+pub fn quoted_texts_are_read()
+    ensures { (s : quoting.Text) (cs : List ℕ) → IsQuotedText s cs
+        → quoting.unquoted s ≡ Some (encode_utf8_all cs) }
+{}
+
+/// A text that is read is a quoted text, of the characters that are read.
+pub fn what_is_read_is_quoted()
+    ensures { (s t : quoting.Text) → IsUtf8 s → quoting.unquoted s ≡ Some t
+        → (cs : List ℕ) × IsQuotedText s cs × (encode_utf8_all cs ≡ t) }
+{}
+
+/// Reading the text of a number gives the number.
+pub fn number_reads_back()
+    ensures { (v : Number) → IsNumber v → num (numtext v) ≡ Ok v }
+{}
+
+/// Each number that a text gives is in its one form.
+pub fn read_numbers_are_numbers()
+    ensures { (s : Text) (v : Number) → num s ≡ Ok v → IsNumber v }
+{}
+
+/// So is the number with the other sign.
+pub fn negated_numbers_are_numbers()
+    ensures { (v : Number) → IsNumber v → IsNumber (neg v) }
+{}
+
+/// Finite numbers of one value are one number.
+pub fn equal_values_are_one()
+    ensures { (v w : Exact) → IsExact v → IsExact w → SameValue v w → v ≡ w }
+{}
+
+/// A text is a numeral exactly if it is spelled as one: digits, a point or none, digits, an exponent or none.
+pub fn numerals_are_spelled()
+    ensures { NumeralsAreSpelled }
+{}

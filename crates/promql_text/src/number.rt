@@ -1,0 +1,80 @@
+//! Numbers (docs/TEXTS.md, "Numbers").
+
+ghost use Rattle.std.specs.Prelude.{◌≡◌, ℕ, true, false, not, ◌==◌, Option, Some, None};
+ghost use Rattle.promql_text.specs.Values as spec;
+
+use crate::decimal::Decimal;
+use thiserror::Error;
+
+/// A number as the language has them: exact decimals in place of floating-point values.
+#[derive(Clone, Copy, Debug, PartialEq, Eq, Hash, Drop)]
+pub enum Number {
+    Finite(Decimal),
+    Inf,
+    NegInf,
+    NaN,
+}
+
+/// Why a text gives no number.
+#[derive(Clone, Copy, Debug, PartialEq, Eq, Drop, Error)]
+pub enum NumberFault {
+    #[error("not a number")]
+    NotANumber,
+    #[error("more than 38 significant digits")]
+    TooManyDigits,
+    #[error("number out of range")]
+    OutOfRange,
+}
+
+impl Number {
+    /// A whole number.
+    pub fn from_i64(n: i64) -> Number
+        ensures { result ≡ spec.from_whole n }
+    {
+        Number::Finite(Decimal::whole(n < 0, n.unsigned_abs()))
+    }
+
+    /// The number with the other sign; zero and NaN stay as they are.
+    pub fn neg(self) -> Number
+        ensures { result ≡ spec.neg self }
+    {
+        match self {
+            Number::Finite(d) => Number::Finite(d.neg()),
+            Number::Inf => Number::NegInf,
+            Number::NegInf => Number::Inf,
+            Number::NaN => Number::NaN,
+        }
+    }
+
+    pub fn is_nan(&self) -> bool
+        ensures { result ≡ spec.is_nan self.now }
+    {
+        matches!(self, Number::NaN)
+    }
+
+    pub fn is_infinite(&self) -> bool
+        ensures { result ≡ spec.is_infinite self.now }
+    {
+        matches!(self, Number::Inf | Number::NegInf)
+    }
+
+    /// Whether the number is below zero.
+    pub fn is_negative(&self) -> bool
+        ensures { result ≡ spec.is_below_zero self.now }
+    {
+        match self {
+            Number::Finite(d) => d.is_negative(),
+            Number::NegInf => true,
+            Number::Inf | Number::NaN => false,
+        }
+    }
+
+    pub fn is_zero(&self) -> bool
+        ensures { result ≡ spec.is_zero self.now }
+    {
+        match self {
+            Number::Finite(d) => d.is_zero(),
+            _ => false,
+        }
+    }
+}

@@ -1,0 +1,228 @@
+//! Reads the number of a text (docs/TEXTS.md, "Numbers").
+
+ghost use Rattle.std.specs.Prelude.{◌≡◌, ◌∷◌, ℕ, List, [], ◌+◌, ◌*◌, ◌^◌, ◌<◌, ◌≤◌, true, false, if◌then◌else◌, drop, length, Option, Some, None, MatchOption, IfSome, SomeIff};
+ghost use Rattle.std.specs.List.{list_all, list_any};
+ghost use Rattle.std.specs.Str.Parse.{digits_value};
+ghost use Rattle.promql_text.specs.DecimalForm.{digits_number, digit_run, exponent_size, is_minus, places};
+ghost use Rattle.promql_text.specs.DecimalParts as parts;
+ghost use Rattle.promql_text.specs.NumberText as spec;
+ghost use Rattle.promql_text.specs.Numbers.{placed};
+ghost use Rattle.promql_text.specs.Significands.{IsLong};
+
+use crate::decimal::Decimal;
+use crate::decimal_form::{
+    self, DecimalForm, Numeral, Reading, Source, behind, front, is_empty, unsigned,
+};
+use crate::number::{Number, NumberFault};
+use crate::significand::{self, Significand};
+
+/// A text without its white space.
+#[derive(Clone, Copy)]
+struct Kept<'a>(&'a str);
+
+impl<'a> Source for Kept<'a> {
+    ghost left = { λ s. spec.kept s.0.now };
+
+    fn first(self) -> Option<(char, Kept<'a>)> {
+        let (c, rest) = first_kept(self.0)?;
+        Some((c, Kept(rest)))
+    }
+}
+
+/// The first character that is no white space, and the text behind it.
+fn first_kept(text: &str) -> Option<(char, &str)>
+    ensures value { MatchOption result (spec.kept text.now ≡ []) (λ p. spec.kept text.now ≡ p.0 ∷ spec.kept p.1.now) }
+    ensures small { length (spec.kept text.now) < 2 ^ 64 }
+{
+    let mut chars = text.chars();
+    while let Some(c) = chars.next() {
+        if !c.is_whitespace() {
+            return Some((c, chars.as_str()));
+        }
+    }
+    None
+}
+
+fn is_x(c: char) -> bool
+    ensures { result ≡ spec.is_x c }
+{
+    matches!(c, 'x' | 'X')
+}
+
+fn holds_x<S: Source>(text: S) -> bool
+    ensures { result ≡ list_any spec.is_x (S.left text) }
+{
+    let mut rest = text;
+    while let Some((c, more)) = rest.first() {
+        if is_x(c) {
+            return true;
+        }
+        rest = more;
+    }
+    false
+}
+
+/// Whether the text holds a point, an 8 or a 9.
+fn is_past_octal<S: Source>(text: S) -> bool
+    ensures { result ≡ list_any spec.is_past_octal (S.left text) }
+{
+    let mut rest = text;
+    while let Some((c, more)) = rest.first() {
+        if matches!(c, '.' | '8' | '9') {
+            return true;
+        }
+        rest = more;
+    }
+    false
+}
+
+fn is_octal<S: Source>(text: S) -> bool
+    ensures { result ≡ spec.is_octal (S.left text) }
+{
+    let body = unsigned(text);
+    front(body) == '0' && !is_empty(behind(body)) && !is_past_octal(text)
+}
+
+fn all_digits<S: Source>(text: S, radix: u32) -> bool
+    requires { (2 ≤ radix) × (radix ≤ 36) }
+    ensures { result ≡ list_all (spec.is_digit_below radix) (S.left text) }
+{
+    let mut rest = text;
+    while let Some((c, more)) = rest.first() {
+        if !c.is_digit(radix) {
+            return false;
+        }
+        rest = more;
+    }
+    true
+}
+
+/// The number of the digits, if it is at most 2^63 - 1.
+#[tactic(auto, using(crate::proofs::Radix::radix_value_ge))]
+fn magnitude<S: Source>(text: S, radix: u32) -> Option<u64>
+    requires radix { (2 ≤ radix) × (radix ≤ 36) }
+    requires digits { list_all (spec.is_digit_below radix) (S.left text) ≡ true }
+    ensures { SomeIff result (digits_value radix (S.left text) < 2 ^ 63) (digits_value radix (S.left text)) }
+{
+    let mut number: u128 = 0;
+    let mut rest = text;
+    while let Some((c, more)) = rest.first() {
+        let digit = c.to_digit(radix)?;
+        number = number * u128::from(radix) + u128::from(digit);
+        if number >= 0x8000_0000_0000_0000 {
+            return None;
+        }
+        rest = more;
+    }
+    Some(number as u64)
+}
+
+/// The number of one or more digits in a radix.
+#[tactic(auto, unfolding(crate::specs::NumberText::radix_number))]
+fn radix_number<S: Source>(digits: S, radix: u32, is_negative: bool) -> Result<Number, NumberFault>
+    requires { (2 ≤ radix) × (radix ≤ 36) }
+    ensures { result ≡ spec.radix_number radix is_negative (S.left digits) }
+{
+    if is_empty(digits) || !all_digits(digits, radix) {
+        return Err(NumberFault::NotANumber);
+    }
+    match magnitude(digits, radix) {
+        Some(n) => Ok(Number::Finite(Decimal::whole(is_negative, n))),
+        None => Err(NumberFault::OutOfRange),
+    }
+}
+
+#[tactic(auto, unfolding(crate::specs::NumberText::hexadecimal))]
+fn hexadecimal<S: Source>(text: S) -> Result<Number, NumberFault>
+    ensures { result ≡ spec.hexadecimal (S.left text) }
+{
+    let body = unsigned(text);
+    let prefix = behind(body);
+    if front(body) != '0' || !is_x(front(prefix)) {
+        return Err(NumberFault::NotANumber);
+    }
+    radix_number(behind(prefix), 16, front(text) == '-')
+}
+
+/// All digits of a numeral; None where there are more than 38.
+fn significand_of<S: Source>(numeral: Numeral<S>) -> Option<Significand>
+    ensures value { let n = digits_number (parts.numeral_of S.left numeral) in MatchOption result (IsLong n) (λ s. s.digits * 10 ^ s.zeros ≡ n) }
+    ensures room { IfSome result (λ s. s.zeros < 2 ^ 66) }
+{
+    let whole = significand::gather(Significand::new(), numeral.whole)?;
+    significand::gather(whole, numeral.fraction)
+}
+
+/// The digits at their place; None where the place is out of range.
+fn at_place<S: Source>(is_negative: bool, read: Significand, numeral: Numeral<S>) -> Option<Decimal>
+    requires { read.zeros < 2 ^ 66 }
+    ensures { result ≡ spec.at_place is_negative read.digits read.zeros (parts.numeral_of S.left numeral) }
+{
+    let places = significand::run_len(numeral.fraction);
+    let exponent = significand::capped_number(numeral.exponent);
+    if numeral.exponent_is_negative {
+        Decimal::placed(is_negative, read.digits, read.zeros, places + exponent)
+    } else {
+        Decimal::placed(is_negative, read.digits, read.zeros + exponent, places)
+    }
+}
+
+fn finite<S: Source>(is_negative: bool, numeral: Numeral<S>) -> Result<Number, NumberFault>
+    ensures { result ≡ spec.finite is_negative (parts.numeral_of S.left numeral) }
+{
+    let Some(read) = significand_of(numeral) else {
+        return Err(NumberFault::TooManyDigits);
+    };
+    match at_place(is_negative, read, numeral) {
+        Some(placed) => Ok(Number::Finite(placed)),
+        None => Err(NumberFault::OutOfRange),
+    }
+}
+
+fn of_form<S: Source>(form: DecimalForm<S>) -> Result<Number, NumberFault>
+    ensures { result ≡ spec.signed form.is_negative (parts.reading_of S.left form.reading) }
+{
+    let DecimalForm {
+        is_negative,
+        reading,
+    } = form;
+    match reading {
+        Reading::NaN => Ok(Number::NaN),
+        Reading::Inf => Ok(if is_negative {
+            Number::NegInf
+        } else {
+            Number::Inf
+        }),
+        Reading::Finite(numeral) => finite(is_negative, numeral),
+    }
+}
+
+#[tactic(auto, unfolding(crate::specs::NumberText::number_of))]
+fn number_of<S: Source>(text: S) -> Result<Number, NumberFault>
+    ensures { result ≡ spec.number_of (S.left text) }
+{
+    if holds_x(text) {
+        return hexadecimal(text);
+    }
+    if is_octal(text) {
+        return radix_number(behind(unsigned(text)), 8, front(text) == '-');
+    }
+    match decimal_form::decimal_form(text) {
+        Some(form) => of_form(form),
+        None => Err(NumberFault::NotANumber),
+    }
+}
+
+/// The number of a text, in which white space counts for nothing: decimal with a point and an exponent, `inf`,
+/// `infinity` or `nan` in any case, hexadecimal behind `0x`, or octal behind `0`.
+///
+/// # Errors
+///
+/// `NotANumber` where the text is none; `TooManyDigits` for more than 38 digits between the first and the last
+/// that is no zero; else `OutOfRange`, for a decimal whose first digit stands at no place from 10^-324 to 10^308,
+/// and for a hexadecimal or octal number past 2^63 - 1.
+pub fn parse_str_radix(text: &str) -> Result<Number, NumberFault>
+    ensures { result ≡ spec.num text.now }
+{
+    number_of(Kept(text))
+}

@@ -1,0 +1,182 @@
+//! Quoted strings: docs/TEXTS.md, "Strings".
+
+ghost use Rattle.std.specs.Prelude.{◌≡◌, ◌≢◌, ◌++◌, ◌≤◌, ◌*◌, ◌+◌, ◌^◌, length, true, IfOk};
+ghost use Rattle.std.specs.Char.{encode_utf8};
+ghost use Rattle.std.specs.String.{string_bytes};
+ghost use Rattle.std.specs.Str.Iter.{chars_rest};
+ghost use Rattle.promql_text.specs.Quoting.{escaped, hexadecimal, is_quote, letter, octal, ReadsDigits, ReadsEscape, ReadsNumber, ReadsQuote, ReadsSpelling, unquoted, Unquotes};
+
+use std::alloc::{AllocError, Global};
+use std::str::Chars;
+use thiserror::Error;
+
+/// Why a text isn't unquoted.
+#[derive(Clone, Copy, Debug, PartialEq, Eq, Error)]
+pub enum QuoteError {
+    /// Memory ran out.
+    #[error("out of memory")]
+    Memory,
+    /// The text isn't a quoted text.
+    #[error("invalid syntax")]
+    InvalidSyntax,
+}
+
+impl From<AllocError> for QuoteError {
+    ghost use Rattle.std.specs.Prelude.{◌≡◌};
+    ghost use Rattle.promql_text.specs.declared.quote.QuoteError.TheVariants.{Memory};
+
+    ghost from_gives = { λ _ e. e ≡ Memory };
+
+    fn from(_: AllocError) -> QuoteError {
+        QuoteError::Memory
+    }
+}
+
+/// The text with a backslash before backslash and `"`, and `\n`, `\r`, `\t` for line feed, carriage return and tab.
+/// Between two `"` it stands for the text.
+pub fn escape_string(alloc: Global, s: &str) -> Result<String, AllocError>
+    ensures { IfOk result (λ t. string_bytes t ≡ escaped s.now) }
+{
+    let mut out = String::new(alloc);
+    for c in s.chars() {
+        match c {
+            '\\' => out.push_str("\\\\")?,
+            '"' => out.push_str("\\\"")?,
+            '\n' => out.push_str("\\n")?,
+            '\r' => out.push_str("\\r")?,
+            '\t' => out.push_str("\\t")?,
+            _ => out.push(c)?,
+        }
+    }
+    Ok(out)
+}
+
+/// The text that a quoted text stands for.
+///
+/// # Errors
+///
+/// `InvalidSyntax` for every text that isn't a quote, spellings of characters and the same quote; `Memory` where the
+/// answer finds no room.
+pub fn unquote_string(alloc: Global, s: &str) -> Result<String, QuoteError>
+    ensures { Unquotes string_bytes result (unquoted s.now) }
+{
+    let mut rest = s.chars();
+    let quote = opening(&mut rest).ok_or(QuoteError::InvalidSyntax)?;
+    let mut out = String::new(alloc);
+    while let Some(c) = rest.next() {
+        if c == quote {
+            return match rest.next() {
+                None => Ok(out),
+                Some(_) => Err(QuoteError::InvalidSyntax),
+            };
+        }
+        out.push(spelled(quote, c, &mut rest).ok_or(QuoteError::InvalidSyntax)?)?;
+    }
+    Err(QuoteError::InvalidSyntax)
+}
+
+/// The quote at the front.
+fn opening(rest: &mut Chars<'_>) -> Option<char>
+    ensures { ReadsQuote (chars_rest rest.old) result (chars_rest rest.new) }
+{
+    let quote = rest.next()?;
+    if is_quote(quote) { Some(quote) } else { None }
+}
+
+fn is_quote(c: char) -> bool
+    ensures { result ≡ is_quote c }
+{
+    c == '"' || c == '\'' || c == '`'
+}
+
+/// The character that the spelling beginning with `first` stands for, with the rest of the spelling taken from `rest`.
+fn spelled(quote: char, first: char, rest: &mut Chars<'_>) -> Option<char>
+    requires quote { is_quote quote ≡ true }
+    requires inner { first ≢ quote }
+    ensures value { ReadsSpelling quote (encode_utf8 first ++ chars_rest rest.old) result (chars_rest rest.new) }
+    ensures onward { length (chars_rest rest.new) ≤ length (chars_rest rest.old) }
+{
+    if quote == '`' {
+        return Some(first);
+    }
+    match first {
+        '\n' => None,
+        '\\' => escape(quote, rest),
+        _ => Some(first),
+    }
+}
+
+/// The character that an escape stands for, behind its backslash.
+fn escape(quote: char, rest: &mut Chars<'_>) -> Option<char>
+    requires { is_quote quote ≡ true }
+    ensures value { ReadsEscape quote (chars_rest rest.old) result (chars_rest rest.new) }
+    ensures onward { length (chars_rest rest.new) ≤ length (chars_rest rest.old) }
+{
+    let first = rest.next()?;
+    if first == quote {
+        return Some(first);
+    }
+    match first {
+        'x' => hexadecimal(2, rest),
+        'u' => hexadecimal(4, rest),
+        'U' => hexadecimal(8, rest),
+        '0'..='7' => octal(first, rest),
+        _ => letter(first),
+    }
+}
+
+/// The character that `count` hexadecimal digits number.
+fn hexadecimal(count: usize, rest: &mut Chars<'_>) -> Option<char>
+    requires { 16 ^ count ≤ 2 ^ 32 }
+    ensures value { ReadsDigits (hexadecimal count (chars_rest rest.old)) count (chars_rest rest.old) result (chars_rest rest.new) }
+    ensures onward { length (chars_rest rest.new) ≤ length (chars_rest rest.old) }
+{
+    char::from_u32(number(16, count, 0, rest)?)
+}
+
+/// The character that `first` and two more octal digits number, up to 255.
+fn octal(first: char, rest: &mut Chars<'_>) -> Option<char>
+    requires low { 48 ≤ first }
+    requires high { first ≤ 55 }
+    ensures value { ReadsDigits (octal first (chars_rest rest.old)) 2 (chars_rest rest.old) result (chars_rest rest.new) }
+    ensures onward { length (chars_rest rest.new) ≤ length (chars_rest rest.old) }
+{
+    let code = number(8, 2, first as u32 - '0' as u32, rest)?;
+    if code <= 255 {
+        char::from_u32(code)
+    } else {
+        None
+    }
+}
+
+/// The number that `count` more digits write, behind those that wrote `start`.
+fn number(base: u32, count: usize, start: u32, rest: &mut Chars<'_>) -> Option<u32>
+    requires binary { 2 ≤ base }
+    requires digits { base ≤ 16 }
+    requires fits { (start + 1) * base ^ count ≤ 2 ^ 32 }
+    ensures value { ReadsNumber base count start (chars_rest rest.old) result (chars_rest rest.new) }
+    ensures onward { length (chars_rest rest.new) ≤ length (chars_rest rest.old) }
+{
+    let mut value = start;
+    for i in 0..count {
+        value = value * base + rest.next()?.to_digit(base)?;
+    }
+    Some(value)
+}
+
+/// The character that a letter or a backslash stands for behind a backslash.
+fn letter(c: char) -> Option<char>
+    ensures { result ≡ letter c }
+{
+    match c {
+        'a' => Some('\x07'),
+        'b' => Some('\x08'),
+        'f' => Some('\x0c'),
+        'n' => Some('\n'),
+        'r' => Some('\r'),
+        't' => Some('\t'),
+        'v' => Some('\x0b'),
+        '\\' => Some('\\'),
+        _ => None,
+    }
+}

@@ -1,0 +1,177 @@
+//! Seconds in decimal digits, rounded to nanoseconds: docs/TEXTS.md, "Durations".
+
+ghost use Rattle.std.specs.Prelude.{◌≡◌, ◌∷◌, ◌++◌, ◌<◌, ◌*◌, ◌^◌, ℕ, [], length};
+ghost use Rattle.std.specs.Char.{digit_value, is_ascii_digit};
+ghost use Rattle.std.specs.List.{prefix_len};
+ghost use Rattle.std.specs.Str.Parse.{AllDigits, digits_value};
+ghost use Rattle.promql_text.specs.DecimalForm.{Text, digit_run};
+ghost use Rattle.promql_text.specs.DecimalParts.{numeral_of};
+ghost use Rattle.promql_text.specs.Durations.{capped, second_nanos};
+ghost use Rattle.promql_text.specs.Rounding.{at_point, Compares, ComparesHalf, HasRead, PlacesPoint};
+
+use crate::decimal_form::Numeral;
+use crate::duration::count;
+
+/// How the digits behind the point compare with a half.
+#[derive(Clone, Copy)]
+pub enum Tail {
+    /// There is no such digit.
+    Empty,
+    Below,
+    Half,
+    Above,
+}
+
+/// What is kept of digits with a point among or behind them.
+#[derive(Clone, Copy)]
+pub struct Digits {
+    /// How many of the digits to come stand before the point.
+    to_point: u128,
+    /// The number of the digits before the point, or `u128::MAX` where it is greater.
+    whole: u128,
+    tail: Tail,
+}
+
+impl Digits {
+    /// No digit, with the point to come behind so many of them.
+    fn new(to_point: u128) -> Digits
+        ensures { HasRead to_point [] result }
+    {
+        Digits {
+            to_point,
+            whole: 0,
+            tail: Tail::Empty,
+        }
+    }
+
+    /// Reads one more digit.
+    fn push(&mut self, digit: u8)
+        requires { digit < 10 }
+        ensures { (n : ℕ) (ds : Text) (c : ℕ) → digit_value c ≡ digit → HasRead n ds self.old
+            → HasRead n (ds ++ (c ∷ [])) self.new }
+    {
+        if self.to_point > 0 {
+            self.to_point -= 1;
+            self.whole = self
+                .whole
+                .saturating_mul(10)
+                .saturating_add(u128::from(digit));
+        } else {
+            self.tail = compared(self.tail, digit);
+        }
+    }
+
+    /// Reads more digits.
+    fn read(&mut self, digits: &[u8])
+        requires { AllDigits 10 digits.now }
+        ensures { (n : ℕ) (ds : Text) → HasRead n ds self.old → HasRead n (ds ++ digits.now) self.new }
+    {
+        for b in digits {
+            self.push(*b - b'0');
+        }
+    }
+
+    /// The number, rounded to the nearest whole one, a tie to the even one; `u128::MAX` where it is greater.
+    fn rounded(self) -> u128
+        ensures { (n : ℕ) (ds : Text) → AllDigits 10 ds → HasRead n ds self → result ≡ capped (at_point n ds) }
+    {
+        match self.tail {
+            Tail::Empty => with_zeros(self.whole, self.to_point),
+            Tail::Below => self.whole,
+            Tail::Half => self.whole.saturating_add(self.whole % 2),
+            Tail::Above => self.whole.saturating_add(1),
+        }
+    }
+}
+
+/// How digits behind the point compare with a half, with one more digit behind them.
+fn compared(tail: Tail, digit: u8) -> Tail
+    requires { digit < 10 }
+    ensures { (ds : Text) (c : ℕ) → digit_value c ≡ digit → ComparesHalf tail ds
+        → ComparesHalf result (ds ++ (c ∷ [])) }
+{
+    match tail {
+        Tail::Empty => first_digit(digit),
+        Tail::Below => Tail::Below,
+        Tail::Half => { if digit == 0 { Tail::Half } else { Tail::Above } }
+        Tail::Above => Tail::Above,
+    }
+}
+
+/// How one digit behind the point compares with a half.
+fn first_digit(digit: u8) -> Tail
+    ensures { Compares result digit 5 }
+{
+    if digit < 5 {
+        Tail::Below
+    } else if digit == 5 {
+        Tail::Half
+    } else {
+        Tail::Above
+    }
+}
+
+/// The number with so many zeros behind its digits; `u128::MAX` where that is greater.
+fn with_zeros(n: u128, zeros: u128) -> u128
+    ensures { result ≡ capped (n * 10 ^ zeros) }
+{
+    n.saturating_mul(10u128.saturating_pow(zeros.min(39) as u32))
+}
+
+/// How many digits stand at the front of a text.
+fn run_len(text: &[u8]) -> usize
+    ensures { result ≡ prefix_len is_ascii_digit text.now }
+{
+    for (i, b) in text.iter().enumerate() {
+        if !b.is_ascii_digit() {
+            return i;
+        }
+    }
+    text.len()
+}
+
+/// The digits at the front of a text.
+fn run(text: &[u8]) -> &[u8]
+    ensures value { result.now ≡ digit_run text.now }
+    ensures digits { AllDigits 10 result.now }
+    ensures fits { length result.now < 2 ^ 64 }
+{
+    &text[..run_len(text)]
+}
+
+/// The number of the digits at the front of a text, zero where there are none; `u128::MAX` where it is greater.
+fn number(text: &[u8]) -> u128
+    ensures { result ≡ capped (digits_value 10 (digit_run text.now)) }
+{
+    match count(text) {
+        Some((value, _)) => value,
+        None => 0,
+    }
+}
+
+/// Behind how many of a numeral's digits the point of its nanoseconds stands, or `u128::MAX` where those are more;
+/// none where it stands before them, with a zero between.
+fn point(numeral: Numeral<&[u8]>) -> Option<u128>
+    ensures { PlacesPoint (numeral_of (λ s. s.now) numeral.entry) result }
+{
+    let nine_on = run_len(numeral.whole) as u128 + 9;
+    let exponent = number(numeral.exponent);
+    if numeral.exponent_is_negative {
+        nine_on.checked_sub(exponent)
+    } else {
+        Some(nine_on.saturating_add(exponent))
+    }
+}
+
+/// The nanoseconds of a numeral of seconds, rounded; `u128::MAX` where there are more.
+pub fn nanoseconds(numeral: Numeral<&[u8]>) -> u128
+    ensures { result ≡ capped (second_nanos (numeral_of (λ s. s.now) numeral.entry)) }
+{
+    let Some(to_point) = point(numeral) else {
+        return 0;
+    };
+    let mut digits = Digits::new(to_point);
+    digits.read(run(numeral.whole));
+    digits.read(run(numeral.fraction));
+    digits.rounded()
+}

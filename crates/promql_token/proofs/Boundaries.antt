@@ -1,0 +1,78 @@
+-- Tokens stand between characters.
+use Rattle.std.proofs.Common.{◌≡◌, ℕ, ◌+◌, ◌≤◌, Bool, true, false, cond, List, [], ◌∷◌, length, take, drop, IsUtf8, Result, Ok, Err, refl, sym, ap, ◌∙◌, subst, arith, length-drop, length-take-le}
+use Rattle.std.specs.Str.{IsCharBoundary}
+use Rattle.std.proofs.lemmas.List.{drop-drop}
+use Rattle.std.proofs.lemmas.Str.{IsCharBoundary-start, IsCharBoundary-from_rest, IsUtf8-drop}
+use Rattle.promql_token.specs.declared.fault.LexFault.{LexFault}
+use Rattle.promql_token.specs.declared.lexeme.Lexeme.{Lexeme}
+use Rattle.promql_token.specs.declared.state.State.{State}
+use Rattle.promql_token.specs.Classes.{Text}
+use Rattle.promql_token.specs.Laws.{ArePlaced, Places}
+use Rattle.promql_token.specs.Lexing.{What, Found, what, cut, found, goes_on, behind, len_of, start, lex, collected, placed, item}
+use Rattle.promql_token.specs.Pieces.{Piece, piece, gap_len, behind_gap}
+use Rattle.promql_token.proofs.Ends.{PieceEnds, piece_ends}
+use Rattle.promql_token.proofs.Places.{Ends, boundary, front, gap_len_ends}
+use Rattle.promql_token.proofs.Spans.{front_ok}
+use Rattle.promql_token.proofs.Steps.{cut_is, found_fits}
+
+-- a place in what follows a place is one of the text
+rest_boundary : (s : Text) (at n : ℕ) → IsUtf8 s → IsCharBoundary s at → Ends (drop at s) n → IsCharBoundary s (at + n)
+rest_boundary s at n utf8 here ends = IsCharBoundary-from_rest s at n here.0 (boundary (drop at s) n (IsUtf8-drop s at utf8 here) ends)
+
+what_ends : (p : Piece) (z : Text) → PieceEnds z p → Ends z (len_of (what p z))
+what_ends (Ok t) z ends = let within = ends.0.within in subst (Ends z) (sym (length-take-le t.1 z within)) ends.0
+what_ends (Err f) z ends = front z
+
+-- where a gap ends, and the token behind it
+record StandsAt (s : Text) (at : ℕ) (f : Found) : Type 0 where
+  start : IsCharBoundary s (at + f.gap)
+  end : IsCharBoundary s (at + f.gap + len_of f.what)
+
+stands_at : (s : Text) (at : ℕ) (state : State) → IsUtf8 s → IsCharBoundary s at → StandsAt s at (found state (drop at s))
+unfolding found
+stands_at s at state utf8 here =
+    let z = drop at s in
+    let n = gap_len state.mode z in
+    let p = piece (behind_gap n state) (drop n z) in
+    let begins : IsCharBoundary s (at + n) = rest_boundary s at n utf8 here (gap_len_ends state.mode z) in
+    let ends : Ends (drop (at + n) s) (len_of (what p (drop n z))) =
+    subst (λ l. Ends l (len_of (what p (drop n z)))) (drop-drop n at s) (what_ends p (drop n z) (piece_ends (behind_gap n state) (drop n z))) in
+    record { start = begins; end = rest_boundary s (at + n) (len_of (what p (drop n z))) utf8 begins ends }
+
+nothing : (s : Text) (at : ℕ) (fs : List Found) (ys : List Lexeme) → fs ≡ [] → collected (placed at fs) ≡ Ok ys → ArePlaced s ys
+nothing s at [] [] none all = tt
+nothing s at [] (y ∷ ys) none all = cc
+nothing s at (f ∷ fs) ys none all = cc
+
+token_placed : (s : Text) (at g : ℕ) (w : What) (fs : List Found) (xs : List Lexeme) → StandsAt s at (record { gap = g; what = w })
+    → ((ys : List Lexeme) → collected (placed (at + g + len_of w) fs) ≡ Ok ys → ArePlaced s ys)
+    → collected (item (at + g) w ∷ placed (at + g + len_of w) fs) ≡ Ok xs → ArePlaced s xs
+token_placed s at g (Err e) fs xs stands more all = cc
+token_placed s at g (Ok t) fs xs stands more all =
+    let x : Lexeme = record { id = t.0; start = at + g; len = length t.1 } in
+    let split = front_ok x (collected (placed (at + g + length t.1) fs)) xs all in
+    subst (ArePlaced s) split.2 ((stands.start, stands.end), more split.0 split.1)
+
+all_placed : (s : Text) (fs : List Found) (state : State) (at : ℕ) (xs : List Lexeme) → IsUtf8 s → IsCharBoundary s at → cut state (drop at s) ≡ fs → collected (placed at fs) ≡ Ok xs → ArePlaced s xs
+all_placed s [] state at xs utf8 here is all = let head = cut_is state (drop at s) in cc
+all_placed s (f ∷ fs) state at xs utf8 here is all =
+    let z = drop at s in
+    let f0 = found state z in
+    let head = sym is ∙ cut_is state z in
+    let first : f ≡ f0 = cc in
+    let rest : fs ≡ cond (goes_on f0.what) (cut (behind state f0.what) (drop (f0.gap + len_of f0.what) z)) [] = cc in
+    let stands = subst (λ f. StandsAt s at f) (sym first) (stands_at s at state utf8 here) in
+    let next : ℕ = at + f.gap + len_of f.what in
+    let at_rest : drop next s ≡ drop (f0.gap + len_of f0.what) z =
+    let e : at + f0.gap + len_of f0.what ≡ at + (f0.gap + len_of f0.what) = omega arith in
+    ap (λ h. drop (at + h.gap + len_of h.what) s) first ∙ ap (λ n. drop n s) e ∙ sym (drop-drop (f0.gap + len_of f0.what) at s) in
+    token_placed s at f.gap f.what fs xs stands
+    (elim (goes_on f0.what) as (λ b. fs ≡ cond b (cut (behind state f0.what) (drop (f0.gap + len_of f0.what) z)) [] → (ys : List Lexeme) → collected (placed next fs) ≡ Ok ys → ArePlaced s ys) [
+      | true ↦ λ e ys all. all_placed s fs (behind state f0.what) next ys utf8 stands.end (ap (cut (behind state f0.what)) at_rest ∙ sym e) all
+      | false ↦ λ e ys all. nothing s next fs ys e all
+    ] rest)
+    all
+
+pub places : Places
+unfolding lex
+places s xs utf8 is = all_placed s (cut start s) start 0 xs utf8 (IsCharBoundary-start s utf8) refl is

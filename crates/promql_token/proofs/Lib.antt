@@ -1,0 +1,16 @@
+pub mod Beside
+pub mod Counted
+pub mod Cuts
+pub mod Durations
+pub mod Ends
+pub mod Inner
+pub mod Items
+pub mod Joins
+pub mod Parts
+pub mod Places
+pub mod Printed
+pub mod Rows
+pub mod Spans
+pub mod Steps
+pub mod Told
+pub mod Boundaries

@@ -1,0 +1,118 @@
+-- The cut of a text is its first token and the cut of what is behind it.
+use Rattle.std.proofs.Common.{◌≡◌, ℕ, suc, ◌+◌, ◌<◌, ◌≤◌, Bool, true, false, cond, [], ◌∷◌, ◌++◌, length, drop, map, Ok, Err, refl, sym, ap, ◌∙◌, zero-add, arith, length-drop, length-take-le}
+use Rattle.std.specs.Prelude.{◌==◌, not}
+use Rattle.std.specs.Char.{is_ascii_whitespace}
+use Rattle.std.specs.List.{list_all}
+use Rattle.std.proofs.lemmas.Grind.{common_steps}
+use Rattle.std.proofs.Math.Seq.{take-append_seam, drop-append_seam}
+use Rattle.std.proofs.lemmas.Bool.{cond_both, eqb-false}
+use Rattle.promql_token.specs.declared.state.Mode.{Mode}
+use Rattle.promql_token.specs.declared.state.Mode.TheVariants as mode
+use Rattle.promql_token.specs.declared.state.State.{State}
+use Rattle.promql_token.specs.Classes.{Text}
+use Rattle.promql_token.specs.Lexing.{whats, cut, found, goes_on, behind, len_of, what, start}
+use Rattle.promql_token.specs.Pieces.{Piece, gap_len, gap_from, piece, behind_gap, after, moved}
+use Rattle.promql_token.proofs.Cuts.{cut_goes, cut_stops}
+use Rattle.promql_token.proofs.Ends.{PieceEnds, piece_ends}
+use Rattle.promql_token.proofs.Places.{gap_len_ends}
+
+pub not_true : (b : Bool) → not b ≡ true → b ≡ false
+not_true true h = sym h
+not_true false h = refl
+
+what_fits : (z : Text) (p : Piece) → PieceEnds z p → (len_of (what p z) ≤ length z) × (goes_on (what p z) ≡ true → 0 < len_of (what p z))
+what_fits z (Ok t) e =
+    let within = e.0.within in
+    let len = length-take-le t.1 z within in
+    (omega arith, λ goes. let moves = e.1 (eqb-false _ _ (not_true _ goes)) in omega arith)
+what_fits z (Err f) e = (omega arith, λ (no : false ≡ true). cc)
+
+pub found_fits : (state : State) (z : Text) → let f = found state z in (f.gap + len_of f.what ≤ length z) × (goes_on f.what ≡ true → 1 ≤ f.gap + len_of f.what)
+unfolding found
+found_fits state z =
+    let gap = gap_len_ends state.mode z in
+    let within = gap.within in
+    let g = gap_len state.mode z in
+    let fits = what_fits (drop g z) _ (piece_ends (behind_gap g state) (drop g z)) in
+    (omega (arith, fits.0, length-drop g z), λ goes. omega (arith, fits.1 goes))
+
+pub cut_is : (state : State) (z : Text) → let f = found state z in cut state z ≡ f ∷ cond (goes_on f.what) (cut (behind state f.what) (drop (f.gap + len_of f.what) z)) []
+cut_is state z =
+    let f = found state z in
+    let fits = found_fits state z in
+    elim (goes_on f.what) as (λ b. goes_on f.what ≡ b → cut state z ≡ f ∷ cond b (cut (behind state f.what) (drop (f.gap + len_of f.what) z)) []) [
+      | true ↦ λ goes. cut_goes state z goes (fits.1 goes) fits.0
+      | false ↦ λ stops. cut_stops state z stops
+    ] refl
+
+-- ---- the same without the gaps
+
+map_cond : (b : Bool) (state : State) (z : Text) → map (λ f. f.what) (cond b (cut state z) []) ≡ cond b (whats state z) []
+map_cond true state z = refl
+map_cond false state z = refl
+
+pub whats_is : (state : State) (z : Text) → let f = found state z in whats state z ≡ f.what ∷ cond (goes_on f.what) (whats (behind state f.what) (drop (f.gap + len_of f.what) z)) []
+whats_is state z = let f = found state z in ap (map (λ f. f.what)) (cut_is state z) ∙ ap (λ ws. f.what ∷ ws) (map_cond (goes_on f.what) (behind state f.what) (drop (f.gap + len_of f.what) z))
+
+-- no gap leaves the state as it is
+pub no_gap_state : (state : State) → behind_gap 0 state ≡ state
+unfolding behind_gap
+no_gap_state state = refl
+
+-- a piece with no gap before it
+pub whats_piece : (state : State) (w r : Text) (id : ℕ) → gap_len state.mode (w ++ r) ≡ 0 → piece state (w ++ r) ≡ Ok (id, length w) → (id == 6) ≡ false → whats state (w ++ r) ≡ Ok (id, w) ∷ whats (after state id) r
+unfolding found
+whats_piece state w r id gap is more =
+    let z = w ++ r in
+    let what_is : (found state z).what ≡ Ok (id, w) =
+    ap (λ n. what (piece (behind_gap n state) (drop n z)) (drop n z)) gap ∙ ap (λ s. what (piece s z) z) (no_gap_state state) ∙ ap (λ p. what p z) is ∙ ap (λ t. Ok (id, t)) (take-append_seam w r) in
+    let goes : goes_on (Ok (id, w)) ≡ true = ap not more in
+    whats_is state z
+    ∙ (λ i. what_is i ∷ cond (goes_on (what_is i)) (whats (behind state (what_is i)) (drop (gap i + len_of (what_is i)) z)) [])
+    ∙ ap (λ b. Ok (id, w) ∷ cond b (whats (after state id) (drop (0 + length w) z)) []) goes
+    ∙ ap (λ n. Ok (id, w) ∷ whats (after state id) (drop n z)) (zero-add (length w))
+    ∙ ap (λ q. Ok (id, w) ∷ whats (after state id) q) (drop-append_seam w r)
+
+pub whats_end : whats start [] ≡ Ok (6, []) ∷ []
+unfolding found gap_len piece behind_gap cut
+whats_end = refl
+
+-- ---- white space
+
+no_hash : (b : ℕ) → is_ascii_whitespace b ≡ true → (b == 35) ≡ false
+no_hash b h = grind (arith, common_steps)
+
+from_white : (b : ℕ) (r : Text) → is_ascii_whitespace b ≡ true → gap_from false (b ∷ r) ≡ suc (gap_from false r)
+from_white b r white =
+    ap (λ c. cond c (suc (gap_from true r)) (cond (is_ascii_whitespace b) (suc (gap_from false r)) 0)) (no_hash b white) ∙ ap (λ c. cond c (suc (gap_from false r)) 0) white
+
+white_gap : (m : Mode) (b : ℕ) (r : Text) → is_ascii_whitespace b ≡ true → gap_len m (b ∷ r) ≡ suc (gap_len m r)
+unfolding gap_len
+white_gap mode.Outside b r white = from_white b r white
+white_gap mode.Braces b r white = from_white b r white
+white_gap mode.Opened b r white = rw white (omega arith)
+white_gap mode.Brackets b r white = rw white (omega arith)
+white_gap mode.PastColon b r white = rw white (omega arith)
+
+-- a gap changes no state but that directly behind a bracket
+pub same_state : (n : ℕ) (state : State) → moved state.mode ≡ state.mode → behind_gap n state ≡ state
+unfolding behind_gap
+same_state n state same = cond_both (n == 0) _ _ (λ s. s ≡ state) (λ _. refl) (λ _ i. record { depth = state.depth; mode = same i })
+
+whats_white : (state : State) (b : ℕ) (r : Text) → moved state.mode ≡ state.mode → is_ascii_whitespace b ≡ true → whats state (b ∷ r) ≡ whats state r
+unfolding found
+whats_white state b r same white =
+    let w = (found state r).what in
+    let z = b ∷ r in
+    let n = gap_len state.mode r in
+    let gap = white_gap state.mode b r white in
+    let states = same_state (suc n) state same ∙ sym (same_state n state same) in
+    let what_is : (found state z).what ≡ w = ap (λ n. what (piece (behind_gap n state) (drop n z)) (drop n z)) gap ∙ ap (λ s. what (piece s (drop n r)) (drop n r)) states in
+    let one_more : suc n + len_of w ≡ suc (n + len_of w) = omega arith in
+    whats_is state z
+    ∙ (λ i. what_is i ∷ cond (goes_on (what_is i)) (whats (behind state (what_is i)) (drop (gap i + len_of (what_is i)) z)) [])
+    ∙ ap (λ n. w ∷ cond (goes_on w) (whats (behind state w) (drop n z)) []) one_more ∙ sym (whats_is state r)
+
+pub whats_run : (state : State) (g r : Text) → moved state.mode ≡ state.mode → list_all is_ascii_whitespace g ≡ true → whats state (g ++ r) ≡ whats state r
+whats_run state [] r same white = refl
+whats_run state (b ∷ g) r same white = whats_white state b (g ++ r) same (grind (arith, common_steps, white)) ∙ whats_run state g r same (grind (arith, common_steps, white))

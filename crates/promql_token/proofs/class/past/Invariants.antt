@@ -1,0 +1,9 @@
+use Rattle.std.proofs.Common.{◌≡◌, ◌-◌, ◌≤◌, length}
+use Rattle.promql_token.specs.Classes as spec
+use Rattle.promql_token.proofs.class.past.Given as goal
+
+abbrev pub invariant-loop-end : goal.invariant-loop-end
+invariant-loop-end l = (spec.past l.class l.z l.end ≡ spec.past l.class l.z l.at) × (l.at ≤ l.end) × (l.end ≤ length l.z)
+
+abbrev pub decreases-loop-end : goal.decreases-loop-end
+decreases-loop-end l = length l.z - l.end

@@ -1,0 +1,10 @@
+use Rattle.std.proofs.Common.{◌≡◌, length, map}
+use Rattle.std.specs.Str.{str_eq_ignore_ascii_case}
+use Rattle.promql_token.specs.Ids as spec
+use Rattle.promql_token.proofs.ids.lookup_in_any_case.Given as goal
+
+abbrev pub invariant-loop-table : goal.invariant-loop-table
+invariant-loop-table l = spec.lookup str_eq_ignore_ascii_case (map (λ k. (k.0.now, k.1)) l.table) l.word ≡ spec.lookup str_eq_ignore_ascii_case (map (λ k. (k.0.now, k.1)) l.initial.table) l.word
+
+abbrev pub decreases-loop-table : goal.decreases-loop-table
+decreases-loop-table l = length l.table

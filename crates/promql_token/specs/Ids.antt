@@ -1,0 +1,176 @@
+-- Ids of tokens: their texts, the keywords and the classes (docs/TOKENS.md, "Ids").
+use Rattle.std.specs.Prelude.{ℕ, Bool, ◌&&◌, ◌==◌, nat_le, if◌then◌else◌, List, [], ◌∷◌, codes, slice_get, Option, Some, None}
+use Rattle.std.specs.List.{list_any}
+use Rattle.std.specs.Option.{unwrap_or}
+use Rattle.std.specs.Str.{bytes_eq, str_eq_ignore_ascii_case}
+use Rattle.promql_token.specs.declared.ids.TheConstants.{T_LAND, T_LOR, T_LUNLESS, T_ATAN2, T_AVG, T_BOTTOMK, T_COUNT, T_COUNT_VALUES, T_GROUP, T_MAX, T_MIN, T_QUANTILE, T_STDDEV, T_STDVAR, T_SUM, T_TOPK, T_LIMITK, T_LIMIT_RATIO, T_OFFSET, T_BY, T_WITHOUT, T_ON, T_IGNORING, T_GROUP_LEFT, T_GROUP_RIGHT, T_BOOL, T_SMOOTHED, T_ANCHORED, T_FILL, T_FILL_LEFT, T_FILL_RIGHT, T_START, T_END, T_NUMBER, T_EQLC, T_NEQ, T_LTE, T_LSS, T_GTE, T_GTR}
+use Rattle.promql_token.specs.Classes.{Text}
+
+-- the texts of the ids from 0 on
+abbrev pub texts : List Text
+texts =
+    codes "=" ∷
+    codes "_" ∷
+    codes ":" ∷
+    codes "," ∷
+    codes "#" ∷
+    codes "[du]" ∷
+    codes "<eof>" ∷
+    codes "{Err}" ∷
+    codes "{ID}" ∷
+    codes "{" ∷
+    codes "[" ∷
+    codes "(" ∷
+    codes "{{" ∷
+    codes "}}" ∷
+    codes "{Metric_ID}" ∷
+    codes "{Num}" ∷
+    codes "}" ∷
+    codes "]" ∷
+    codes ")" ∷
+    codes "," ∷
+    codes "<space>" ∷
+    codes "{Str}" ∷
+    codes "x" ∷
+    codes "operators_start" ∷
+    codes "+" ∷
+    codes "/" ∷
+    codes "==" ∷
+    codes "=~" ∷
+    codes ">=" ∷
+    codes ">" ∷
+    codes "and" ∷
+    codes "or" ∷
+    codes "<" ∷
+    codes "<=" ∷
+    codes "unless" ∷
+    codes "%" ∷
+    codes "*" ∷
+    codes "!=" ∷
+    codes "!~" ∷
+    codes "^" ∷
+    codes "-" ∷
+    codes "@" ∷
+    codes "atan2" ∷
+    codes "operators_end" ∷
+    codes "aggregators_start" ∷
+    codes "avg" ∷
+    codes "bottomk" ∷
+    codes "count" ∷
+    codes "count_values" ∷
+    codes "group" ∷
+    codes "max" ∷
+    codes "min" ∷
+    codes "quantile" ∷
+    codes "stddev" ∷
+    codes "stdvar" ∷
+    codes "sum" ∷
+    codes "topk" ∷
+    codes "limitk" ∷
+    codes "limit_ratio" ∷
+    codes "aggregators_end" ∷
+    codes "keywords_start" ∷
+    codes "bool" ∷
+    codes "by" ∷
+    codes "group_left" ∷
+    codes "group_right" ∷
+    codes "ignoring" ∷
+    codes "offset" ∷
+    codes "smoothed" ∷
+    codes "anchored" ∷
+    codes "on" ∷
+    codes "without" ∷
+    codes "fill" ∷
+    codes "fill_left" ∷
+    codes "fill_right" ∷
+    codes "keywords_end" ∷
+    codes "preprocessor_start" ∷
+    codes "start" ∷
+    codes "end" ∷
+    codes "step" ∷
+    codes "preprocessors_end" ∷
+    codes "not used" ∷
+    codes "not used" ∷
+    codes "not used" ∷
+    codes "not used" ∷
+    codes "not used" ∷
+    codes "not used" ∷
+    []
+
+-- the text that an id prints as
+abbrev pub text_of : ℕ → Text
+text_of id = unwrap_or (slice_get texts id) (codes "unknown token")
+
+-- the words that are keywords, and their ids
+abbrev pub keywords : List (Text × ℕ)
+keywords =
+    (codes "and", T_LAND) ∷
+    (codes "or", T_LOR) ∷
+    (codes "unless", T_LUNLESS) ∷
+    (codes "atan2", T_ATAN2) ∷
+    (codes "avg", T_AVG) ∷
+    (codes "bottomk", T_BOTTOMK) ∷
+    (codes "count", T_COUNT) ∷
+    (codes "count_values", T_COUNT_VALUES) ∷
+    (codes "group", T_GROUP) ∷
+    (codes "max", T_MAX) ∷
+    (codes "min", T_MIN) ∷
+    (codes "quantile", T_QUANTILE) ∷
+    (codes "stddev", T_STDDEV) ∷
+    (codes "stdvar", T_STDVAR) ∷
+    (codes "sum", T_SUM) ∷
+    (codes "topk", T_TOPK) ∷
+    (codes "limitk", T_LIMITK) ∷
+    (codes "limit_ratio", T_LIMIT_RATIO) ∷
+    (codes "offset", T_OFFSET) ∷
+    (codes "by", T_BY) ∷
+    (codes "without", T_WITHOUT) ∷
+    (codes "on", T_ON) ∷
+    (codes "ignoring", T_IGNORING) ∷
+    (codes "group_left", T_GROUP_LEFT) ∷
+    (codes "group_right", T_GROUP_RIGHT) ∷
+    (codes "bool", T_BOOL) ∷
+    (codes "smoothed", T_SMOOTHED) ∷
+    (codes "anchored", T_ANCHORED) ∷
+    (codes "fill", T_FILL) ∷
+    (codes "fill_left", T_FILL_LEFT) ∷
+    (codes "fill_right", T_FILL_RIGHT) ∷
+    (codes "start", T_START) ∷
+    (codes "end", T_END) ∷
+    (codes "inf", T_NUMBER) ∷
+    (codes "nan", T_NUMBER) ∷
+    []
+
+-- the id beside the first word of the table that is the same
+abbrev pub lookup : (Text → Text → Bool) → List (Text × ℕ) → Text → Option ℕ
+lookup same [] word = None
+lookup same (k ∷ ks) word = if same k.0 word then Some k.1 else lookup same ks word
+
+-- the keyword that a word is, in lower case
+unfoldable pub keyword : Text → Option ℕ
+keyword = lookup bytes_eq keywords
+
+-- the keyword that a word is in any case of its letters
+unfoldable pub keyword_in_any_case : Text → Option ℕ
+keyword_in_any_case = lookup str_eq_ignore_ascii_case keywords
+
+-- ---- classes
+
+abbrev pub is_operator : ℕ → Bool
+is_operator id = nat_le 24 id && nat_le id 42
+
+abbrev pub is_aggregator : ℕ → Bool
+is_aggregator id = nat_le 45 id && nat_le id 58
+
+-- whether it is one of them
+abbrev pub is_one_of : List ℕ → ℕ → Bool
+is_one_of ids id = list_any (λ k. id == k) ids
+
+abbrev pub is_aggregator_with_param : ℕ → Bool
+is_aggregator_with_param = is_one_of (T_TOPK ∷ T_BOTTOMK ∷ T_COUNT_VALUES ∷ T_QUANTILE ∷ T_LIMITK ∷ T_LIMIT_RATIO ∷ [])
+
+abbrev pub is_comparison_operator : ℕ → Bool
+is_comparison_operator = is_one_of (T_EQLC ∷ T_NEQ ∷ T_LTE ∷ T_LSS ∷ T_GTE ∷ T_GTR ∷ [])
+
+abbrev pub is_set_operator : ℕ → Bool
+is_set_operator = is_one_of (T_LAND ∷ T_LOR ∷ T_LUNLESS ∷ [])

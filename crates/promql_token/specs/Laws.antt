@@ -1,0 +1,125 @@
+-- Laws of the token list (docs/TOKENS.md, "Laws").
+use Rattle.std.specs.Prelude.{◌≡◌, ℕ, ◌+◌, ◌-◌, ◌<◌, ◌≤◌, Bool, true, false, not, ◌&&◌, ◌||◌, if◌then◌else◌, ◌==◌, List, [], ◌∷◌, ◌++◌, length, take, drop, map, slice_index, Ok}
+use Rattle.std.specs.Char.{is_ascii_digit, is_ascii_whitespace}
+use Rattle.std.specs.List.{list_all}
+use Rattle.std.specs.Str.{IsUtf8, IsCharBoundary}
+use Rattle.promql_token.specs.declared.class.Class.TheVariants as class
+use Rattle.promql_token.specs.declared.ids.TheConstants.{T_EOF}
+use Rattle.promql_token.specs.declared.lexeme.Lexeme.{Lexeme}
+use Rattle.promql_token.specs.declared.state.Mode.{Mode}
+use Rattle.promql_token.specs.declared.state.Mode.TheVariants as mode
+use Rattle.promql_token.specs.declared.state.State.{State}
+use Rattle.promql_token.specs.Bytes.{plus, minus, point, colon, less, equal, greater, tilde}
+use Rattle.promql_token.specs.Classes.{Text, is_in, is_label, is_letter, past}
+use Rattle.promql_token.specs.Lexing.{found, len_of, goes_on, behind, cut, whats, start, lex, tokens, sliced}
+use Rattle.promql_token.specs.Pieces.{gap_from, begins_numeral, is_quote, word_id, braces_id, piece, after, moved}
+
+-- ---- the cut
+
+-- the cut of a text is what stands at its front, and the cut of what is behind it
+abbrev pub Cuts : Type 0
+Cuts = (state : State) (z : Text) → let f = found state z in cut state z ≡ f ∷ (if goes_on f.what then cut (behind state f.what) (drop (f.gap + len_of f.what) z) else [])
+
+-- ---- spans
+
+-- white space and comments, and nothing else
+abbrev pub IsGap : Text → Type 0
+IsGap g = gap_from false g ≡ length g
+
+-- from `at` on the spans are in order, and only gaps lie between them
+abbrev pub InOrder : Text → ℕ → List Lexeme → Type 0
+InOrder s at [] = Unit {0}
+InOrder s at (x ∷ xs) = (at ≤ x.start) × IsGap (take (x.start - at) (drop at s)) × (x.start + x.len ≤ length s) × InOrder s (x.start + x.len) xs
+
+-- the tokens of a text have its spans in order, and their texts are the slices there
+abbrev pub Spans : Type 0
+Spans = (s : Text) (xs : List Lexeme) → lex s ≡ Ok xs → InOrder s 0 xs × (whats start s ≡ map (λ t. Ok t) (sliced s xs))
+
+-- a text whose pieces are all tokens has these tokens
+abbrev pub Lexes : Type 0
+Lexes = (s : Text) (ts : List (ℕ × Text)) → whats start s ≡ map (λ t. Ok t) ts → tokens s ≡ Ok ts
+
+-- a token begins and ends between characters, so that its text is a text
+abbrev pub IsPlaced : Text → Lexeme → Type 0
+IsPlaced s x = IsCharBoundary s x.start × IsCharBoundary s (x.start + x.len)
+
+abbrev pub ArePlaced : Text → List Lexeme → Type 0
+ArePlaced s [] = Unit {0}
+ArePlaced s (x ∷ xs) = IsPlaced s x × ArePlaced s xs
+
+abbrev pub Places : Type 0
+Places = (s : Text) (xs : List Lexeme) → IsUtf8 s → lex s ≡ Ok xs → ArePlaced s xs
+
+-- ---- neighbours
+
+abbrev pub is_sign : ℕ → Bool
+is_sign b = b == plus || b == minus
+
+abbrev pub is_exponent : ℕ → Bool
+is_exponent b = b == 101 || b == 69
+
+-- the text r doesn't go on with the numeral w
+abbrev pub stops_numeral : Text → Text → Bool
+stops_numeral w r =
+    let c = slice_index r 0 in
+    not (is_in class.Name c) && not (c == point) && not (is_sign c && is_exponent (slice_index w (length w - 1)))
+
+-- nor with a sign that may be longer
+abbrev pub stops_sign : Text → Text → Bool
+stops_sign w r =
+    let b = slice_index w 0 in
+    let c = slice_index r 0 in
+    not (length w == 1 && (b == equal || b == less || b == greater) && (c == equal || c == tilde))
+
+-- nor with any token w outside; a fill word stays what it is
+abbrev pub parts_outside : Text → Text → Bool
+parts_outside w r =
+    let b = slice_index w 0 in
+    if begins_numeral w then stops_numeral w r
+    else (if is_letter b || b == colon then not (is_in class.Word (slice_index r 0)) && word_id w r == word_id w []
+    else (if is_quote b then true else stops_sign w r))
+
+-- nor in braces; `or` stays what it is
+abbrev pub parts_in_braces : Text → Text → Bool
+parts_in_braces w r =
+    let b = slice_index w 0 in
+    if is_letter b then not (is_in class.Name (slice_index r 0)) && braces_id w r == braces_id w []
+    else (if is_quote b then true else stops_sign w r)
+
+-- nor in brackets
+abbrev pub parts_in_brackets : Text → Text → Bool
+parts_in_brackets w r = if is_ascii_digit (slice_index w 0) then stops_numeral w r else true
+
+abbrev pub parts : Mode → Text → Text → Bool
+parts mode.Outside w r = parts_outside w r
+parts mode.Braces w r = parts_in_braces w r
+parts mode.Opened w r = parts_in_brackets w r
+parts mode.Brackets w r = parts_in_brackets w r
+parts mode.PastColon w r = parts_in_brackets w r
+
+-- what is one token alone is that token in front of a text that doesn't go on with it
+abbrev pub Joins : Type 0
+Joins = (state : State) (w r : Text) (id : ℕ) → 0 < length w → piece state w ≡ Ok (id, length w) → parts state.mode w r ≡ true
+    → whats state (w ++ r) ≡ Ok (id, w) ∷ whats (after state id) r
+
+-- a letter, `_` or `:`, then letters, digits, `_` and `:`
+abbrev pub is_word : Text → Bool
+is_word w = (is_letter (slice_index w 0) || slice_index w 0 == colon) && past class.Word w 0 == length w
+
+-- a word outside, also a fill word
+abbrev pub JoinsWord : Type 0
+JoinsWord = (depth : ℕ) (w r : Text) → is_word w ≡ true → is_in class.Word (slice_index r 0) ≡ false
+    → let state : State = record { depth = depth; mode = mode.Outside } in whats state (w ++ r) ≡ Ok (word_id w r, w) ∷ whats state r
+
+-- a word in braces, also `or`
+abbrev pub JoinsName : Type 0
+JoinsName = (depth : ℕ) (w r : Text) → is_label w ≡ true → is_in class.Name (slice_index r 0) ≡ false
+    → let state : State = record { depth = depth; mode = mode.Braces } in whats state (w ++ r) ≡ Ok (braces_id w r, w) ∷ whats state r
+
+-- white space before a token changes nothing, but directly behind `[`
+abbrev pub SkipsWhite : Type 0
+SkipsWhite = (state : State) (g r : Text) → moved state.mode ≡ state.mode → list_all is_ascii_whitespace g ≡ true → whats state (g ++ r) ≡ whats state r
+
+-- the end outside, with no parenthesis open
+abbrev pub Ends : Type 0
+Ends = whats start [] ≡ Ok (T_EOF, []) ∷ []

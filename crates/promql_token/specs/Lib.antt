@@ -1,0 +1,12 @@
+pub mod Bytes
+pub mod Chars
+pub mod Classes
+pub mod Cut
+pub mod Faults
+pub mod Ids
+pub mod Laws
+pub mod Lexing
+pub mod Pieces
+pub mod Printed
+pub mod Rows
+pub mod Scan

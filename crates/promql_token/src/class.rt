@@ -1,0 +1,64 @@
+//! Classes of bytes, and runs of one class.
+
+ghost use Rattle.std.specs.Prelude.{◌≡◌, ◌≢◌, ◌<◌, ◌≤◌, length, slice_index};
+ghost use Rattle.promql_token.specs.Classes as spec;
+
+/// Bytes that go together.
+#[derive(Clone, Copy, Debug, PartialEq, Eq)]
+pub enum Class {
+    /// Space, TAB, LF, FF, CR.
+    White,
+    Digit,
+    HexDigit,
+    /// Letters, digits and `_`.
+    Name,
+    /// Letters, digits, `_` and `:`.
+    Word,
+}
+
+/// The byte at a place, and 0 past the end.
+pub fn byte(z: &[u8], at: usize) -> u8
+    ensures value { result ≡ slice_index z.now at }
+    ensures within { result ≢ 0 → at < length z.now }
+{
+    if at < z.len() { z[at] } else { 0 }
+}
+
+/// Whether it is a letter or `_`.
+pub fn is_letter(b: u8) -> bool
+    ensures { result ≡ spec.is_letter b }
+{
+    b.is_ascii_alphabetic() || b == b'_'
+}
+
+fn is_name_byte(b: u8) -> bool
+    ensures { result ≡ spec.is_name_byte b }
+{
+    b.is_ascii_alphanumeric() || b == b'_'
+}
+
+/// Whether it is of the class.
+pub fn is_in(class: Class, b: u8) -> bool
+    ensures { result ≡ spec.is_in class b }
+{
+    match class {
+        Class::White => b.is_ascii_whitespace(),
+        Class::Digit => b.is_ascii_digit(),
+        Class::HexDigit => b.is_ascii_hexdigit(),
+        Class::Name => is_name_byte(b),
+        Class::Word => is_name_byte(b) || b == b':',
+    }
+}
+
+/// The first place from `at` on whose byte is not of the class.
+pub fn past(class: Class, z: &[u8], at: usize) -> usize
+    requires { at ≤ length z.now }
+    ensures value { result ≡ spec.past class z.now at }
+    ensures within { (at ≤ result) × (result ≤ length z.now) }
+{
+    let mut end = at;
+    while end < z.len() && is_in(class, z[end]) {
+        end += 1;
+    }
+    end
+}

@@ -1,0 +1,206 @@
+//! Lexical faults and their messages.
+
+ghost use Rattle.std.specs.Prelude.{◌≡◌};
+ghost use Rattle.promql_token.specs.Faults as spec;
+
+use std::alloc::{AllocError, AllocFailed};
+use std::error::Error;
+use std::fmt;
+
+/// What is wrong at a place of a text where nothing may begin.
+#[derive(Clone, Copy, Debug, PartialEq, Eq)]
+pub enum LexFaultKind {
+    /// A left parenthesis is open at the end.
+    UnclosedParen,
+    /// A `~` behind `=`, outside braces.
+    AfterEqual,
+    /// No `=` behind `!`, outside braces.
+    AfterBang,
+    /// A `!` is the last character.
+    BangAtEnd,
+    /// No digit behind `.`.
+    AfterDot,
+    /// A `.` is the last character.
+    DotAtEnd,
+    /// No parenthesis is open at `)`.
+    RightParen,
+    /// A `}` outside braces.
+    RightBrace,
+    /// A `]` outside brackets.
+    RightBracket,
+    /// Any other character outside.
+    Character,
+    /// Neither a number nor a duration.
+    Numeral,
+    /// What follows a backslash is no escape.
+    Escape,
+    /// A backslash is the last character.
+    EscapeAtEnd,
+    /// The string's quote doesn't come again.
+    OpenString,
+    /// Neither `=` nor `~` behind `!`.
+    AfterBangInBraces,
+    /// A `{` in braces.
+    BraceInBraces,
+    /// Any other character in braces.
+    InBraces,
+    /// The text ends in braces.
+    EndInBraces,
+    /// A second `:` in brackets.
+    SecondColon,
+    /// A `:` directly behind `[`.
+    FirstColon,
+    /// A `[` in brackets.
+    BracketInBrackets,
+    /// Any other character in brackets.
+    InBrackets,
+    /// The text ends in brackets.
+    EndInBrackets,
+}
+
+impl LexFaultKind {
+    /// What stands before the character in a message, or the whole message.
+    fn words(self) -> &'static str
+        ensures { result.now ≡ spec.words self }
+    {
+        match self {
+            LexFaultKind::UnclosedParen => "unclosed left parenthesis",
+            LexFaultKind::AfterEqual => "unexpected character after '=': '~'",
+            LexFaultKind::AfterBang => "unexpected character after '!': '",
+            LexFaultKind::BangAtEnd => "'!' can not be at the end",
+            LexFaultKind::AfterDot => "unexpected character after '.': '",
+            LexFaultKind::DotAtEnd => "unexpected character: '.'",
+            LexFaultKind::RightParen => "unexpected right parenthesis ')'",
+            LexFaultKind::RightBrace => "unexpected right brace '}'",
+            LexFaultKind::RightBracket => "unexpected right bracket ']'",
+            LexFaultKind::Character => "unexpected character: '",
+            LexFaultKind::Numeral => "bad number or duration syntax",
+            LexFaultKind::Escape => "unknown escape sequence '",
+            LexFaultKind::EscapeAtEnd => "escape sequence not terminated",
+            LexFaultKind::OpenString => "unterminated quoted string ",
+            LexFaultKind::AfterBangInBraces => "unexpected character after '!' inside braces: '",
+            LexFaultKind::BraceInBraces => "unexpected left brace '{' inside braces",
+            LexFaultKind::InBraces => "unexpected character inside braces: '",
+            LexFaultKind::EndInBraces => "unexpected end of input inside braces",
+            LexFaultKind::SecondColon => "unexpected second colon(:) in brackets",
+            LexFaultKind::FirstColon => "expect duration before first colon(:) in brackets",
+            LexFaultKind::BracketInBrackets => "unexpected left brace '[' inside brackets",
+            LexFaultKind::InBrackets => "unexpected character inside brackets: '",
+            LexFaultKind::EndInBrackets => "unexpected end of input inside brackets",
+        }
+    }
+
+    /// What stands behind the character.
+    fn closing(self) -> &'static str
+        ensures { result.now ≡ spec.closing self }
+    {
+        match self {
+            LexFaultKind::AfterBang
+            | LexFaultKind::AfterDot
+            | LexFaultKind::Character
+            | LexFaultKind::Escape
+            | LexFaultKind::AfterBangInBraces
+            | LexFaultKind::InBraces
+            | LexFaultKind::InBrackets => "'",
+            LexFaultKind::UnclosedParen
+            | LexFaultKind::AfterEqual
+            | LexFaultKind::BangAtEnd
+            | LexFaultKind::DotAtEnd
+            | LexFaultKind::RightParen
+            | LexFaultKind::RightBrace
+            | LexFaultKind::RightBracket
+            | LexFaultKind::Numeral
+            | LexFaultKind::EscapeAtEnd
+            | LexFaultKind::OpenString
+            | LexFaultKind::BraceInBraces
+            | LexFaultKind::EndInBraces
+            | LexFaultKind::SecondColon
+            | LexFaultKind::FirstColon
+            | LexFaultKind::BracketInBrackets
+            | LexFaultKind::EndInBrackets => "",
+        }
+    }
+
+    /// Whether a fault of this kind shows the character.
+    pub fn shows(self) -> bool
+        ensures { result ≡ spec.shows self }
+    {
+        matches!(
+            self,
+            LexFaultKind::AfterBang
+                | LexFaultKind::AfterDot
+                | LexFaultKind::Character
+                | LexFaultKind::Escape
+                | LexFaultKind::OpenString
+                | LexFaultKind::AfterBangInBraces
+                | LexFaultKind::InBraces
+                | LexFaultKind::InBrackets
+        )
+    }
+}
+
+/// What is wrong, at which byte, and the character at fault for the kinds that show it.
+#[derive(Clone, Copy, Debug, PartialEq, Eq)]
+pub struct LexFault {
+    pub kind: LexFaultKind,
+    pub at: usize,
+    pub ch: Option<char>,
+}
+
+impl fmt::Display for LexFault {
+    ghost use Rattle.std.specs.Prelude.{Some};
+
+    ghost output = { λ f. Some (spec.message f) };
+
+    fn fmt<W: fmt::Write>(&self, f: &mut fmt::Formatter<W>) -> fmt::Result {
+        f.write_str(self.kind.words())?;
+        if let Some(ch) = self.ch {
+            f.write_char(ch)?;
+        }
+        f.write_str(self.kind.closing())
+    }
+}
+
+impl Error for LexFault {}
+
+/// Why there is no token list.
+#[derive(Debug, Drop, PartialEq, Eq, thiserror::Error)]
+pub enum LexError {
+    #[error("out of memory")]
+    Memory,
+    #[error(transparent)]
+    Fault(LexFault),
+}
+
+impl From<AllocError> for LexError {
+    ghost use Rattle.std.specs.Prelude.{◌≡◌};
+    ghost use Rattle.promql_token.specs.declared.fault.LexError.TheVariants.{Memory};
+
+    ghost from_gives = { λ _ e. e ≡ Memory };
+
+    fn from(_: AllocError) -> LexError {
+        LexError::Memory
+    }
+}
+
+impl<T: Drop> From<AllocFailed<T>> for LexError {
+    ghost use Rattle.std.specs.Prelude.{◌≡◌};
+    ghost use Rattle.promql_token.specs.declared.fault.LexError.TheVariants.{Memory};
+
+    ghost from_gives = { λ _ e. e ≡ Memory };
+
+    fn from(_: AllocFailed<T>) -> LexError {
+        LexError::Memory
+    }
+}
+
+impl From<LexFault> for LexError {
+    ghost use Rattle.std.specs.Prelude.{◌≡◌};
+    ghost use Rattle.promql_token.specs.declared.fault.LexError.TheVariants.{Fault};
+
+    ghost from_gives = { λ f e. e ≡ Fault f };
+
+    fn from(fault: LexFault) -> LexError {
+        LexError::Fault(fault)
+    }
+}

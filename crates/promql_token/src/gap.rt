@@ -1,0 +1,36 @@
+//! White space and comments.
+
+ghost use Rattle.std.specs.Prelude.{◌≡◌, ◌≤◌, false, length};
+ghost use Rattle.promql_token.specs.Pieces as spec;
+
+use crate::class::{Class, past};
+use crate::state::Mode;
+
+fn with_comments(z: &[u8]) -> usize
+    ensures value { result ≡ spec.gap_from false z.now }
+    ensures within { result ≤ length z.now }
+{
+    let mut in_comment = false;
+    for (n, b) in z.iter().enumerate() {
+        if in_comment {
+            in_comment = *b != b'\n' && *b != b'\r';
+        } else if *b == b'#' {
+            in_comment = true;
+        } else if !b.is_ascii_whitespace() {
+            return n;
+        }
+    }
+    z.len()
+}
+
+/// The length of the gap at the front: white space, and outside brackets comments.
+#[tactic(auto, unfolding(crate::specs::Pieces::gap_len))]
+pub fn gap_len(mode: Mode, z: &[u8]) -> usize
+    ensures value { result ≡ spec.gap_len mode z.now }
+    ensures within { result ≤ length z.now }
+{
+    match mode {
+        Mode::Outside | Mode::Braces => with_comments(z),
+        Mode::Opened | Mode::Brackets | Mode::PastColon => past(Class::White, z, 0),
+    }
+}

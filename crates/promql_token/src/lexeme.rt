@@ -1,0 +1,15 @@
+//! Tokens by their places.
+
+use crate::fault::LexFaultKind;
+use crate::ids::TokenId;
+
+/// A token: its id, and where its text stands, in bytes.
+#[derive(Clone, Copy, Debug, PartialEq, Eq)]
+pub struct Lexeme {
+    pub id: TokenId,
+    pub start: usize,
+    pub len: usize,
+}
+
+/// A token's id and length, or a fault and how far from the front it is.
+pub type Piece = Result<(TokenId, usize), (LexFaultKind, usize)>;

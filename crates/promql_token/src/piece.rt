@@ -1,0 +1,192 @@
+//! What begins at a place, in bytes.
+
+ghost use Rattle.std.specs.Prelude.{◌≡◌, ◌<◌, length};
+ghost use Rattle.promql_token.specs.Pieces as spec;
+
+use crate::class::{byte, is_letter};
+use crate::fault::LexFaultKind;
+use crate::ids::*;
+use crate::lexeme::Piece;
+use crate::numeral::numeral;
+use crate::state::{Mode, State};
+use crate::string::{is_quote, string};
+use crate::word::{word, word_in_braces};
+
+fn equal(next: u8) -> Piece
+    ensures { result ≡ spec.equal_sign next }
+{
+    match next {
+        b'=' => Ok((T_EQLC, 2)),
+        b'~' => Err((LexFaultKind::AfterEqual, 1)),
+        _ => Ok((T_EQL, 1)),
+    }
+}
+
+// `short` alone, or `long` with an equal sign behind it.
+fn or_equal(next: u8, long: TokenId, short: TokenId) -> Piece
+    ensures { result ≡ spec.or_equal next long short }
+{
+    if next == b'=' {
+        Ok((long, 2))
+    } else {
+        Ok((short, 1))
+    }
+}
+
+fn bang(z: &[u8]) -> Piece
+    ensures { result ≡ spec.bang_sign z.now }
+{
+    if z.len() == 1 {
+        Err((LexFaultKind::BangAtEnd, 1))
+    } else if byte(z, 1) == b'=' {
+        Ok((T_NEQ, 2))
+    } else {
+        Err((LexFaultKind::AfterBang, 1))
+    }
+}
+
+// A sign of one byte, which `)` is only where a parenthesis is open.
+fn single(depth: usize, b: u8) -> Piece
+    ensures { result ≡ spec.single depth b }
+{
+    match b {
+        b'@' => Ok((T_AT, 1)),
+        b',' => Ok((T_COMMA, 1)),
+        b'*' => Ok((T_MUL, 1)),
+        b'/' => Ok((T_DIV, 1)),
+        b'%' => Ok((T_MOD, 1)),
+        b'+' => Ok((T_ADD, 1)),
+        b'-' => Ok((T_SUB, 1)),
+        b'^' => Ok((T_POW, 1)),
+        b'{' => Ok((T_LEFT_BRACE, 1)),
+        b'[' => Ok((T_LEFT_BRACKET, 1)),
+        b'(' => Ok((T_LEFT_PAREN, 1)),
+        b')' if depth == 0 => Err((LexFaultKind::RightParen, 0)),
+        b')' => Ok((T_RIGHT_PAREN, 1)),
+        b'}' => Err((LexFaultKind::RightBrace, 0)),
+        b']' => Err((LexFaultKind::RightBracket, 0)),
+        _ => Err((LexFaultKind::Character, 0)),
+    }
+}
+
+#[tactic(auto, unfolding(crate::specs::Pieces::sign))]
+fn sign(depth: usize, z: &[u8]) -> Piece
+    requires { 0 < length z.now }
+    ensures { result ≡ spec.sign depth z.now }
+{
+    let next = byte(z, 1);
+    match byte(z, 0) {
+        b'.' if z.len() == 1 => Err((LexFaultKind::DotAtEnd, 0)),
+        b'.' => Err((LexFaultKind::AfterDot, 1)),
+        b'=' => equal(next),
+        b'<' => or_equal(next, T_LTE, T_LSS),
+        b'>' => or_equal(next, T_GTE, T_GTR),
+        b'!' => bang(z),
+        b => single(depth, b),
+    }
+}
+
+fn begins_numeral(z: &[u8]) -> bool
+    ensures { result ≡ spec.begins_numeral z.now }
+{
+    byte(z, 0).is_ascii_digit() || (byte(z, 0) == b'.' && byte(z, 1).is_ascii_digit())
+}
+
+#[tactic(auto, unfolding(crate::specs::Pieces::outside))]
+fn outside(depth: usize, z: &[u8]) -> Piece
+    requires { 0 < length z.now }
+    ensures { result ≡ spec.outside depth z.now }
+{
+    let b = byte(z, 0);
+    if begins_numeral(z) {
+        numeral(z)
+    } else if is_letter(b) || b == b':' {
+        word(z)
+    } else if is_quote(b) {
+        string(z)
+    } else {
+        sign(depth, z)
+    }
+}
+
+fn bang_in_braces(z: &[u8]) -> Piece
+    ensures { result ≡ spec.bang_in_braces z.now }
+{
+    if z.len() == 1 {
+        return Err((LexFaultKind::BangAtEnd, 1));
+    }
+    match byte(z, 1) {
+        b'~' => Ok((T_NEQ_REGEX, 2)),
+        b'=' => Ok((T_NEQ, 2)),
+        _ => Err((LexFaultKind::AfterBangInBraces, 1)),
+    }
+}
+
+#[tactic(auto, unfolding(crate::specs::Pieces::in_braces))]
+fn in_braces(z: &[u8]) -> Piece
+    requires { 0 < length z.now }
+    ensures { result ≡ spec.in_braces z.now }
+{
+    match byte(z, 0) {
+        b',' => Ok((T_COMMA, 1)),
+        b'=' if byte(z, 1) == b'~' => Ok((T_EQL_REGEX, 2)),
+        b'=' => Ok((T_EQL, 1)),
+        b'!' => bang_in_braces(z),
+        b'{' => Err((LexFaultKind::BraceInBraces, 0)),
+        b'}' => Ok((T_RIGHT_BRACE, 1)),
+        b if is_letter(b) => word_in_braces(z),
+        b if is_quote(b) => string(z),
+        _ => Err((LexFaultKind::InBraces, 0)),
+    }
+}
+
+// One colon may stand in brackets, and not directly behind the bracket.
+fn colon_in(mode: Mode) -> Piece
+    ensures { result ≡ spec.colon_in mode }
+{
+    match mode {
+        Mode::PastColon => Err((LexFaultKind::SecondColon, 0)),
+        Mode::Opened => Err((LexFaultKind::FirstColon, 0)),
+        Mode::Outside | Mode::Braces | Mode::Brackets => Ok((T_COLON, 1)),
+    }
+}
+
+#[tactic(auto, unfolding(crate::specs::Pieces::in_brackets))]
+fn in_brackets(mode: Mode, z: &[u8]) -> Piece
+    requires { 0 < length z.now }
+    ensures { result ≡ spec.in_brackets mode z.now }
+{
+    match byte(z, 0) {
+        b':' => colon_in(mode),
+        b']' => Ok((T_RIGHT_BRACKET, 1)),
+        b'[' => Err((LexFaultKind::BracketInBrackets, 0)),
+        b'0'..=b'9' => numeral(z),
+        _ => Err((LexFaultKind::InBrackets, 0)),
+    }
+}
+
+fn end_in(mode: Mode, depth: usize) -> Piece
+    ensures { result ≡ spec.end_in mode depth }
+{
+    match mode {
+        Mode::Outside if depth == 0 => Ok((T_EOF, 0)),
+        Mode::Outside => Err((LexFaultKind::UnclosedParen, 0)),
+        Mode::Braces => Err((LexFaultKind::EndInBraces, 0)),
+        Mode::Opened | Mode::Brackets | Mode::PastColon => Err((LexFaultKind::EndInBrackets, 0)),
+    }
+}
+
+/// What begins at the front of a text that begins with no gap.
+#[tactic(auto, unfolding(crate::specs::Pieces::piece))]
+pub fn piece(state: State, z: &[u8]) -> Piece
+    ensures { result ≡ spec.piece state z.now }
+{
+    if z.is_empty() {
+        return end_in(state.mode, state.depth);
+    }
+    match state.mode {
+        Mode::Outside => outside(state.depth, z),
+        Mode::Braces => in_braces(z),
+        Mode::Opened | Mode::Brackets | Mode::PastColon => in_brackets(state.mode, z),
+    }
+}

@@ -1,0 +1,138 @@
+//! The tokens of a text, one by one.
+
+ghost use Rattle.std.specs.Prelude.{◌≡◌, ◌≢◌, ◌<◌, ◌≤◌, ◌+◌, length, drop, IfOk};
+ghost use Rattle.std.specs.Iterator.{YieldsFirst, item_count};
+ghost use Rattle.std.specs.Str.{IsCharBoundary, chars};
+ghost use Rattle.promql_token.specs.Chars.{byte_of, AtChar};
+ghost use Rattle.promql_token.specs.Lexing as spec;
+
+use crate::fault::{LexFault, LexFaultKind};
+use crate::gap::gap_len;
+use crate::ids::T_EOF;
+use crate::lexeme::Lexeme;
+use crate::piece::piece;
+use crate::state::{Mode, State, after, behind_gap};
+
+/// The tokens of a text, one by one, up to T_EOF or the text's fault. Behind either it ends for
+/// good. It takes no memory.
+#[derive(Drop)]
+pub struct Lexer<'a> {
+    text: &'a str,
+    /// The index of the next character.
+    index: usize,
+    state: State,
+    ended: bool,
+    ghost within: { index ≤ length (chars text.now) },
+    ghost depth: { state.depth ≤ byte_of text.now index },
+}
+
+fn shown(text: &str, kind: LexFaultKind, at: usize) -> Option<char>
+    requires { IsCharBoundary text.now at }
+    ensures { result ≡ spec.shown kind (drop at text.now) }
+{
+    if kind.shows() {
+        text[at..].chars().next()
+    } else {
+        None
+    }
+}
+
+// The token or fault behind the gap at a place.
+fn item_at(text: &str, at: usize, state: State) -> Result<Lexeme, LexFault>
+    requires { IsCharBoundary text.now at }
+    ensures value { result ≡ spec.first at (spec.found state (drop at text.now)) }
+    ensures place { IfOk result (λ x. IsCharBoundary text.now (x.start + x.len)) }
+    ensures order { IfOk result (λ x. at ≤ x.start) }
+    ensures moves { IfOk result (λ x. x.id ≢ 6 → 0 < x.len) }
+{
+    let bytes = text.as_bytes();
+    let gap = gap_len(state.mode, &bytes[at..]);
+    let start = at + gap;
+    match piece(behind_gap(gap, state), &bytes[start..]) {
+        Ok((id, len)) => Ok(Lexeme { id, start, len }),
+        Err((kind, offset)) => {
+            let at = start + offset;
+            let ch = shown(text, kind, at);
+            Err(LexFault { kind, at, ch })
+        }
+    }
+}
+
+// The byte at which a character begins, found from the text's start.
+fn byte_at(text: &str, index: usize) -> usize
+    requires { index ≤ length (chars text.now) }
+    ensures value { result ≡ byte_of text.now index }
+    ensures place { IsCharBoundary text.now result }
+    ensures rest { AtChar text.now index (drop result text.now) }
+{
+    let mut rest = text.chars();
+    for _i in 0..index {
+        rest.next();
+    }
+    text.len() - rest.as_str().len()
+}
+
+fn count(text: &str) -> usize
+    ensures { result ≡ length (chars text.now) }
+{
+    text.chars().count()
+}
+
+// The index of the character that begins at the byte `end`, from that of the one at `at`.
+fn index_at(text: &str, index: usize, at: usize, end: usize) -> usize
+    requires char { AtChar text.now index (drop at text.now) }
+    requires within { index ≤ length (chars text.now) }
+    requires place { IsCharBoundary text.now at }
+    requires order { at ≤ end }
+    requires end { IsCharBoundary text.now end }
+    ensures value { byte_of text.now result ≡ end }
+    ensures within { result ≤ length (chars text.now) }
+{
+    index + count(&text[at..end])
+}
+
+impl<'a> Lexer<'a> {
+    ghost use Rattle.promql_token.specs.Scan.{items_left};
+
+    /// The lexer of a text.
+    pub fn new(text: &'a str) -> Lexer<'a>
+        ensures { items_left result ≡ spec.items text.now }
+    {
+        Lexer {
+            text,
+            index: 0,
+            state: State {
+                depth: 0,
+                mode: Mode::Outside,
+            },
+            ended: false,
+        }
+    }
+}
+
+impl<'a> Iterator for Lexer<'a> {
+    ghost use Rattle.promql_token.specs.Scan.{items_left};
+
+    type Item = Result<Lexeme, LexFault>;
+
+    ghost next_gives = { YieldsFirst items_left };
+
+    ghost remaining = { item_count items_left };
+
+    fn next(&mut self) -> Option<Result<Lexeme, LexFault>> {
+        if self.ended {
+            return None;
+        }
+        let at = byte_at(self.text, self.index);
+        let item = item_at(self.text, at, self.state);
+        match item {
+            Ok(token) => {
+                self.state = after(self.state, token.id);
+                self.index = index_at(self.text, self.index, at, token.start + token.len);
+                self.ended = token.id == T_EOF;
+            }
+            Err(_) => self.ended = true,
+        }
+        Some(item)
+    }
+}

@@ -1,0 +1,488 @@
+//! Worked rows.
+
+mod ids;
+
+use crate::fault::{LexError, LexFault, LexFaultKind};
+use crate::ids::*;
+use crate::lexeme::Lexeme;
+use crate::lexer;
+use crate::scan::Lexer;
+use crate::token::{Token, TokenType, is_label};
+use std::alloc::{AllocError, Global};
+use std::test::Fail;
+
+// A text and its tokens, T_EOF left out.
+const TEXTS: [(&str, &[(TokenId, usize, usize)]); 24] = [
+    ("", &[]),
+    ("\r\n", &[]),
+    ("# only a note", &[]),
+    (
+        "fill (1)",
+        &[
+            (T_FILL, 0, 4),
+            (T_LEFT_PAREN, 5, 1),
+            (T_NUMBER, 6, 1),
+            (T_RIGHT_PAREN, 7, 1),
+        ],
+    ),
+    ("fill 1", &[(T_IDENTIFIER, 0, 4), (T_NUMBER, 5, 1)]),
+    (
+        "{or or}",
+        &[
+            (T_LEFT_BRACE, 0, 1),
+            (T_LOR, 1, 2),
+            (T_IDENTIFIER, 4, 2),
+            (T_RIGHT_BRACE, 6, 1),
+        ],
+    ),
+    (
+        "{OR\tor,orx or }",
+        &[
+            (T_LEFT_BRACE, 0, 1),
+            (T_IDENTIFIER, 1, 2),
+            (T_IDENTIFIER, 4, 2),
+            (T_COMMA, 6, 1),
+            (T_IDENTIFIER, 7, 3),
+            (T_LOR, 11, 2),
+            (T_RIGHT_BRACE, 14, 1),
+        ],
+    ),
+    ("5m30s", &[(T_DURATION, 0, 5)]),
+    ("1y2w3d4h5m6s7ms", &[(T_DURATION, 0, 15)]),
+    ("1e", &[(T_NUMBER, 0, 2)]),
+    (
+        ".5 1. 0x 0X1F.8 1.5e-3 007",
+        &[
+            (T_NUMBER, 0, 2),
+            (T_NUMBER, 3, 2),
+            (T_NUMBER, 6, 2),
+            (T_NUMBER, 9, 6),
+            (T_NUMBER, 16, 6),
+            (T_NUMBER, 23, 3),
+        ],
+    ),
+    (
+        "0x1e+5",
+        &[(T_NUMBER, 0, 4), (T_ADD, 4, 1), (T_NUMBER, 5, 1)],
+    ),
+    ("Inf NaN", &[(T_NUMBER, 0, 3), (T_NUMBER, 4, 3)]),
+    ("`\\q`", &[(T_STRING, 0, 4)]),
+    ("'\\'' \"'\"", &[(T_STRING, 0, 4), (T_STRING, 5, 3)]),
+    ("a # b\nc", &[(T_IDENTIFIER, 0, 1), (T_IDENTIFIER, 6, 1)]),
+    ("a # b\rc", &[(T_IDENTIFIER, 0, 1), (T_IDENTIFIER, 6, 1)]),
+    (
+        "a:b :c sum _x step",
+        &[
+            (T_METRIC_IDENTIFIER, 0, 3),
+            (T_METRIC_IDENTIFIER, 4, 2),
+            (T_SUM, 7, 3),
+            (T_IDENTIFIER, 11, 2),
+            (T_IDENTIFIER, 14, 4),
+        ],
+    ),
+    (
+        "foo[ :5m]",
+        &[
+            (T_IDENTIFIER, 0, 3),
+            (T_LEFT_BRACKET, 3, 1),
+            (T_COLON, 5, 1),
+            (T_DURATION, 6, 2),
+            (T_RIGHT_BRACKET, 8, 1),
+        ],
+    ),
+    (
+        "[5m:1m][5:]",
+        &[
+            (T_LEFT_BRACKET, 0, 1),
+            (T_DURATION, 1, 2),
+            (T_COLON, 3, 1),
+            (T_DURATION, 4, 2),
+            (T_RIGHT_BRACKET, 6, 1),
+            (T_LEFT_BRACKET, 7, 1),
+            (T_NUMBER, 8, 1),
+            (T_COLON, 9, 1),
+            (T_RIGHT_BRACKET, 10, 1),
+        ],
+    ),
+    (
+        "@,*/%+-^()",
+        &[
+            (T_AT, 0, 1),
+            (T_COMMA, 1, 1),
+            (T_MUL, 2, 1),
+            (T_DIV, 3, 1),
+            (T_MOD, 4, 1),
+            (T_ADD, 5, 1),
+            (T_SUB, 6, 1),
+            (T_POW, 7, 1),
+            (T_LEFT_PAREN, 8, 1),
+            (T_RIGHT_PAREN, 9, 1),
+        ],
+    ),
+    (
+        "= == != < <= > >=",
+        &[
+            (T_EQL, 0, 1),
+            (T_EQLC, 2, 2),
+            (T_NEQ, 5, 2),
+            (T_LSS, 8, 1),
+            (T_LTE, 10, 2),
+            (T_GTR, 13, 1),
+            (T_GTE, 15, 2),
+        ],
+    ),
+    (
+        "{a=b!=c=~d!~e,#\n}",
+        &[
+            (T_LEFT_BRACE, 0, 1),
+            (T_IDENTIFIER, 1, 1),
+            (T_EQL, 2, 1),
+            (T_IDENTIFIER, 3, 1),
+            (T_NEQ, 4, 2),
+            (T_IDENTIFIER, 6, 1),
+            (T_EQL_REGEX, 7, 2),
+            (T_IDENTIFIER, 9, 1),
+            (T_NEQ_REGEX, 10, 2),
+            (T_IDENTIFIER, 12, 1),
+            (T_COMMA, 13, 1),
+            (T_RIGHT_BRACE, 16, 1),
+        ],
+    ),
+    (
+        "\"\\a\\b\\f\\n\\r\\t\\v\\\\\\0\\7\\x\\u\\U\"",
+        &[(T_STRING, 0, 28)],
+    ),
+];
+
+// A text, its fault and the fault's message.
+const FAULTS: [(&str, LexFaultKind, usize, Option<char>, &str); 30] = [
+    (
+        "(a",
+        LexFaultKind::UnclosedParen,
+        2,
+        None,
+        "unclosed left parenthesis",
+    ),
+    (
+        "a =~ b",
+        LexFaultKind::AfterEqual,
+        3,
+        None,
+        "unexpected character after '=': '~'",
+    ),
+    (
+        "a !é",
+        LexFaultKind::AfterBang,
+        3,
+        Some('é'),
+        "unexpected character after '!': 'é'",
+    ),
+    (
+        "a !",
+        LexFaultKind::BangAtEnd,
+        3,
+        None,
+        "'!' can not be at the end",
+    ),
+    (
+        "{!",
+        LexFaultKind::BangAtEnd,
+        2,
+        None,
+        "'!' can not be at the end",
+    ),
+    (
+        "a .b",
+        LexFaultKind::AfterDot,
+        3,
+        Some('b'),
+        "unexpected character after '.': 'b'",
+    ),
+    (
+        "a .",
+        LexFaultKind::DotAtEnd,
+        2,
+        None,
+        "unexpected character: '.'",
+    ),
+    (
+        "())",
+        LexFaultKind::RightParen,
+        2,
+        None,
+        "unexpected right parenthesis ')'",
+    ),
+    (
+        "a}",
+        LexFaultKind::RightBrace,
+        1,
+        None,
+        "unexpected right brace '}'",
+    ),
+    (
+        "a]",
+        LexFaultKind::RightBracket,
+        1,
+        None,
+        "unexpected right bracket ']'",
+    ),
+    (
+        "a{b=\"é\"} ~",
+        LexFaultKind::Character,
+        10,
+        Some('~'),
+        "unexpected character: '~'",
+    ),
+    (
+        "1x2",
+        LexFaultKind::Numeral,
+        0,
+        None,
+        "bad number or duration syntax",
+    ),
+    (
+        "a + 5m6",
+        LexFaultKind::Numeral,
+        4,
+        None,
+        "bad number or duration syntax",
+    ),
+    (
+        "1mss",
+        LexFaultKind::Numeral,
+        0,
+        None,
+        "bad number or duration syntax",
+    ),
+    (
+        "1.2.3",
+        LexFaultKind::Numeral,
+        0,
+        None,
+        "bad number or duration syntax",
+    ),
+    (
+        "5m3y",
+        LexFaultKind::Numeral,
+        0,
+        None,
+        "bad number or duration syntax",
+    ),
+    (
+        "\"\\q\"",
+        LexFaultKind::Escape,
+        2,
+        Some('q'),
+        "unknown escape sequence 'q'",
+    ),
+    (
+        "\"\\é\"",
+        LexFaultKind::Escape,
+        2,
+        Some('é'),
+        "unknown escape sequence 'é'",
+    ),
+    (
+        "'\\\"'",
+        LexFaultKind::Escape,
+        2,
+        Some('\"'),
+        "unknown escape sequence '\"'",
+    ),
+    (
+        "\"a\\",
+        LexFaultKind::EscapeAtEnd,
+        3,
+        None,
+        "escape sequence not terminated",
+    ),
+    (
+        "a 'b",
+        LexFaultKind::OpenString,
+        2,
+        Some('\''),
+        "unterminated quoted string '",
+    ),
+    (
+        "{a!b",
+        LexFaultKind::AfterBangInBraces,
+        3,
+        Some('b'),
+        "unexpected character after '!' inside braces: 'b'",
+    ),
+    (
+        "{{",
+        LexFaultKind::BraceInBraces,
+        1,
+        None,
+        "unexpected left brace '{' inside braces",
+    ),
+    (
+        "{a:",
+        LexFaultKind::InBraces,
+        2,
+        Some(':'),
+        "unexpected character inside braces: ':'",
+    ),
+    (
+        "a b {",
+        LexFaultKind::EndInBraces,
+        5,
+        None,
+        "unexpected end of input inside braces",
+    ),
+    (
+        "a[5m:1m:",
+        LexFaultKind::SecondColon,
+        7,
+        None,
+        "unexpected second colon(:) in brackets",
+    ),
+    (
+        "foo[:5m]",
+        LexFaultKind::FirstColon,
+        4,
+        None,
+        "expect duration before first colon(:) in brackets",
+    ),
+    (
+        "a[[",
+        LexFaultKind::BracketInBrackets,
+        2,
+        None,
+        "unexpected left brace '[' inside brackets",
+    ),
+    (
+        "a[ #",
+        LexFaultKind::InBrackets,
+        3,
+        Some('#'),
+        "unexpected character inside brackets: '#'",
+    ),
+    (
+        "a[5m",
+        LexFaultKind::EndInBrackets,
+        4,
+        None,
+        "unexpected end of input inside brackets",
+    ),
+];
+
+fn last_item(text: &str) -> Option<Result<Lexeme, LexFault>> {
+    let mut last = None;
+    for item in Lexer::new(text) {
+        last = Some(item);
+    }
+    last
+}
+
+fn has_tokens(alloc: Global, text: &str, wanted: &[(TokenId, usize, usize)]) -> bool {
+    let Ok(found) = lexer(alloc, text) else {
+        return false;
+    };
+    let end = Lexeme {
+        id: T_EOF,
+        start: text.len(),
+        len: 0,
+    };
+    last_item(text) == Some(Ok(end))
+        && found.last() == Some(&end)
+        && found.len().checked_sub(1) == Some(wanted.len())
+        && found
+            .iter()
+            .zip(wanted)
+            .all(|(x, w)| x.id == w.0 && x.start == w.1 && x.len == w.2)
+}
+
+fn wrong_text<'a>(
+    alloc: Global,
+    rows: &[(&'a str, &[(TokenId, usize, usize)])],
+) -> Option<&'a str> {
+    for (text, wanted) in rows {
+        if !has_tokens(alloc, text, wanted) {
+            return Some(text);
+        }
+    }
+    None
+}
+
+#[test]
+fn texts_have_their_tokens(rt: HostRuntime) {
+    let wrong = wrong_text(rt.alloc(), &TEXTS);
+    assert!(rt; wrong.is_none(), "{wrong:?}");
+}
+
+// A text whose tokens are well, to stand before one that is at fault.
+const BEFORE: [&str; 3] = ["", "'é' ", "`😀`\n"];
+
+fn has_fault(
+    alloc: Global,
+    before: &str,
+    text: &str,
+    wanted: LexFault,
+) -> Result<bool, AllocError> {
+    let whole = format!(in alloc; "{before}{text}")?;
+    let at = wanted.at.wrapping_add(before.len());
+    match lexer(alloc, whole.as_str()) {
+        Err(LexError::Fault(found)) => Ok(
+            found.kind == wanted.kind && found.at == at && found.ch == wanted.ch,
+        ),
+        _ => Ok(false),
+    }
+}
+
+fn prints(alloc: Global, fault: LexFault, message: &str) -> Result<bool, AllocError> {
+    Ok(format!(in alloc; "{fault}")?.as_str() == message)
+}
+
+fn wrong_fault<'a>(
+    alloc: Global,
+    before: &str,
+    rows: &[(&'a str, LexFaultKind, usize, Option<char>, &str)],
+) -> Result<Option<&'a str>, AllocError> {
+    for row in rows {
+        let wanted = LexFault {
+            kind: row.1,
+            at: row.2,
+            ch: row.3,
+        };
+        if !has_fault(alloc, before, row.0, wanted)? || !prints(alloc, wanted, row.4)? {
+            return Ok(Some(row.0));
+        }
+    }
+    Ok(None)
+}
+
+#[test]
+fn faults_have_their_places_and_messages(rt: HostRuntime) -> Result<(), Fail> {
+    for before in BEFORE {
+        let wrong = wrong_fault(rt.alloc(), before, &FAULTS)?;
+        assert!(rt; wrong.is_none(), "{wrong:?} behind {before}");
+    }
+    Ok(())
+}
+
+#[test]
+fn classes_and_tokens(rt: HostRuntime) -> Result<(), Fail> {
+    let topk = TokenType::new(T_TOPK);
+    assert!(rt; topk.is_aggregator() && topk.is_aggregator_with_param());
+    assert!(rt; !topk.is_operator() && topk.id() == T_TOPK);
+    let atan2 = TokenType::new(T_ATAN2);
+    assert!(rt; atan2.is_operator() && !atan2.is_set_operator());
+    assert!(rt; TokenType::new(T_LUNLESS).is_set_operator());
+    assert!(rt; TokenType::new(T_GTE).is_comparison_operator());
+    let token = Token::new(T_STRING, String::from_str(rt.alloc(), "'é'")?);
+    let twin = token.try_clone(rt.alloc())?;
+    assert!(rt; token == twin && twin.id() == T_STRING);
+    for (text, wanted) in [
+        ("", false),
+        ("_", true),
+        ("a1_B", true),
+        ("1a", false),
+        ("a:b", false),
+        ("é", false),
+    ] {
+        assert_eq!(rt; is_label(text), wanted, "{text}");
+    }
+    Ok(())
+}
