@@ -1,9 +1,8 @@
 -- Tokens stand between characters.
-use Rattle.std.proofs.Common.{◌≡◌, ℕ, ◌+◌, ◌≤◌, Bool, true, false, cond, List, [], ◌∷◌, length, take, drop, IsUtf8, Result, Ok, Err, refl, sym, ap, ◌∙◌, subst, arith, length-drop, length-take-le}
+use Rattle.std.proofs.Common.{◌≡◌, ℕ, ◌+◌, true, false, cond, List, [], ◌∷◌, length, drop, IsUtf8, Ok, Err, refl, sym, ap, ◌∙◌, subst, arith, length-take-le}
 use Rattle.std.specs.Str.{IsCharBoundary}
 use Rattle.std.proofs.lemmas.List.{drop-drop}
 use Rattle.std.proofs.lemmas.Str.{IsCharBoundary-start, IsCharBoundary-from_rest, IsUtf8-drop}
-use Rattle.promql_token.specs.declared.fault.LexFault.{LexFault}
 use Rattle.promql_token.specs.declared.lexeme.Lexeme.{Lexeme}
 use Rattle.promql_token.specs.declared.state.State.{State}
 use Rattle.promql_token.specs.Classes.{Text}
@@ -13,7 +12,7 @@ use Rattle.promql_token.specs.Pieces.{Piece, piece, gap_len, behind_gap}
 use Rattle.promql_token.proofs.Ends.{PieceEnds, piece_ends}
 use Rattle.promql_token.proofs.Places.{Ends, boundary, front, gap_len_ends}
 use Rattle.promql_token.proofs.Spans.{front_ok}
-use Rattle.promql_token.proofs.Steps.{cut_is, found_fits}
+use Rattle.promql_token.proofs.Steps.{cut_is}
 
 -- a place in what follows a place is one of the text
 rest_boundary : (s : Text) (at n : ℕ) → IsUtf8 s → IsCharBoundary s at → Ends (drop at s) n → IsCharBoundary s (at + n)

@@ -1,5 +1,4 @@
 pub mod Bytes
-pub mod Chars
 pub mod Classes
 pub mod Cut
 pub mod Faults

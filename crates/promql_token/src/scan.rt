@@ -1,9 +1,8 @@
 //! The tokens of a text, one by one.
 
-ghost use Rattle.std.specs.Prelude.{◌≡◌, ◌≢◌, ◌<◌, ◌≤◌, ◌+◌, length, drop, IfOk};
+ghost use Rattle.std.specs.Prelude.{◌≡◌, ◌≢◌, ◌<◌, ◌≤◌, ◌+◌, drop, IfOk};
 ghost use Rattle.std.specs.Iterator.{YieldsFirst, item_count};
-ghost use Rattle.std.specs.Str.{IsCharBoundary, chars};
-ghost use Rattle.promql_token.specs.Chars.{byte_of, AtChar};
+ghost use Rattle.std.specs.Str.{IsCharBoundary};
 ghost use Rattle.promql_token.specs.Lexing as spec;
 
 use crate::fault::{LexFault, LexFaultKind};
@@ -14,16 +13,16 @@ use crate::piece::piece;
 use crate::state::{Mode, State, after, behind_gap};
 
 /// The tokens of a text, one by one, up to T_EOF or the text's fault. Behind either it ends for
-/// good. It takes no memory.
+/// good. It takes no memory, and each token is read where the one before it ends.
 #[derive(Drop)]
 pub struct Lexer<'a> {
     text: &'a str,
-    /// The index of the next character.
-    index: usize,
+    /// The byte behind the last token.
+    at: usize,
     state: State,
     ended: bool,
-    ghost within: { index ≤ length (chars text.now) },
-    ghost depth: { state.depth ≤ byte_of text.now index },
+    ghost place: { IsCharBoundary text.now at },
+    ghost depth: { state.depth ≤ at },
 }
 
 fn shown(text: &str, kind: LexFaultKind, at: usize) -> Option<char>
@@ -58,39 +57,6 @@ fn item_at(text: &str, at: usize, state: State) -> Result<Lexeme, LexFault>
     }
 }
 
-// The byte at which a character begins, found from the text's start.
-fn byte_at(text: &str, index: usize) -> usize
-    requires { index ≤ length (chars text.now) }
-    ensures value { result ≡ byte_of text.now index }
-    ensures place { IsCharBoundary text.now result }
-    ensures rest { AtChar text.now index (drop result text.now) }
-{
-    let mut rest = text.chars();
-    for _i in 0..index {
-        rest.next();
-    }
-    text.len() - rest.as_str().len()
-}
-
-fn count(text: &str) -> usize
-    ensures { result ≡ length (chars text.now) }
-{
-    text.chars().count()
-}
-
-// The index of the character that begins at the byte `end`, from that of the one at `at`.
-fn index_at(text: &str, index: usize, at: usize, end: usize) -> usize
-    requires char { AtChar text.now index (drop at text.now) }
-    requires within { index ≤ length (chars text.now) }
-    requires place { IsCharBoundary text.now at }
-    requires order { at ≤ end }
-    requires end { IsCharBoundary text.now end }
-    ensures value { byte_of text.now result ≡ end }
-    ensures within { result ≤ length (chars text.now) }
-{
-    index + count(&text[at..end])
-}
-
 impl<'a> Lexer<'a> {
     ghost use Rattle.promql_token.specs.Scan.{items_left};
 
@@ -100,7 +66,7 @@ impl<'a> Lexer<'a> {
     {
         Lexer {
             text,
-            index: 0,
+            at: 0,
             state: State {
                 depth: 0,
                 mode: Mode::Outside,
@@ -123,12 +89,11 @@ impl<'a> Iterator for Lexer<'a> {
         if self.ended {
             return None;
         }
-        let at = byte_at(self.text, self.index);
-        let item = item_at(self.text, at, self.state);
+        let item = item_at(self.text, self.at, self.state);
         match item {
             Ok(token) => {
                 self.state = after(self.state, token.id);
-                self.index = index_at(self.text, self.index, at, token.start + token.len);
+                self.at = token.start + token.len;
                 self.ended = token.id == T_EOF;
             }
             Err(_) => self.ended = true,

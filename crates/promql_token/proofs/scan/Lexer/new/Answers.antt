@@ -1,7 +1,5 @@
-use Rattle.std.proofs.Common.{refl}
-use Rattle.promql_token.specs.Chars.{byte_of}
+use Rattle.std.proofs.lemmas.Str.{IsCharBoundary-start}
 use Rattle.promql_token.proofs.scan.Lexer.new.Goals as goal
 
-pub returns : goal.returns
-unfolding byte_of
-returns c = refl
+pub invariant_of-result-clause-place : goal.invariant_of-result-clause-place
+invariant_of-result-clause-place c = IsCharBoundary-start _ c.utf8.text
