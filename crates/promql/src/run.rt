@@ -1,6 +1,6 @@
 // From the bytes of a reader to the bytes of a writer.
 
-ghost use Rattle.std.specs.Prelude.{◌≡◌, ◌≢◌, ◌++◌, [], ◌∷◌, List, ℕ, true, Ok, Err, OnOk, IfOk, IfErr, OnErr, IsErrOf, string_bytes};
+ghost use Rattle.std.specs.Prelude.{◌≡◌, ◌≢◌, ◌++◌, [], ◌∷◌, List, ℕ, true, false, Ok, Err, OnOk, IfOk, IfErr, OnErr, IsErrOf, string_bytes};
 ghost use Rattle.std.specs.Str.{IsUtf8};
 ghost use Rattle.std.specs.Io.KnownBytes.{Appends};
 ghost use Rattle.promql_parser.specs.declared.parser.ParseError.{ParseError};
@@ -132,6 +132,7 @@ fn answer_text(alloc: Global, mode: Mode, text: &str) -> Result<String, RunError
 fn write_answer<W: Write>(writer: &mut Ended<W>, text: &str) -> Result<(), RunError>
     ensures ok { OnOk result (Appends (W.contents writer.old.inner) (W.contents writer.new.inner) text.now) }
     ensures kept { OnOk result (writer.new.failed ≡ writer.old.failed) }
+    ensures flushed { OnOk result (writer.new.pending ≡ false) }
     ensures failed { OnErr result (writer.new.failed ≡ true) }
     ensures errors { IfErr result (λ e. e ≡ RunError.Write) }
 {
@@ -158,11 +159,12 @@ pub fn run<R: Read, W: Write>(
     reader: &mut Ended<R>,
     writer: &mut Ended<W>,
 ) -> Result<(), RunError>
-    // No call failed, all of the input was read, and what was written is the answer's text and a line feed.
+    // No call failed, all of the input was read, and what was written is the answer's text and a line feed, flushed.
     ensures ok { OnOk result (Prints (R.remaining reader.old.inner) (R.remaining reader.new.inner)
         (W.contents writer.old.inner) (W.contents writer.new.inner)) }
     ensures quiet_reader { OnOk result (reader.new.failed ≡ reader.old.failed) }
     ensures quiet_writer { OnOk result (writer.new.failed ≡ writer.old.failed) }
+    ensures flushed { OnOk result (writer.new.pending ≡ false) }
     // The input's own faults, in this order, where all of it was read.
     ensures not_utf8 { IsErrOf result RunError.NotUtf8 → IsNotUtf8 (R.remaining reader.old.inner) (R.remaining reader.new.inner) }
     ensures parse { (e : ParseError) → IsErrOf result (RunError.Parse e) →

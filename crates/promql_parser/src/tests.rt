@@ -154,7 +154,7 @@ fn heights(rt: HostRuntime) -> Result<(), Fail> {
         ),
         (nested(alloc, 511)?, None),
         (nested(alloc, 512)?, Some(ParseError::TooDeep)),
-        (nested(alloc, 20_000)?, Some(ParseError::TooDeep)),
+        (nested(alloc, 100_000)?, Some(ParseError::TooDeep)),
         (
             repeated(alloc, "", " \n", 50_000, "")?,
             Some(ParseError::Empty),
