@@ -1,20 +1,18 @@
 -- Counts and parts under saturating arithmetic.
-use Rattle.std.proofs.Common.{◌≡◌, ℕ, ◌+◌, ◌-◌, ◌*◌, ◌^◌, ◌<◌, ◌≤◌, true, false, cond, List, [], ◌∷◌, length, get_or, take, drop, Some, None, Option, Err, refl, sym, ap, ◌∙◌, inl, inr, ⊎_elim, leb, lit<, length-drop, arith}
-use Rattle.std.specs.Prelude.{◌⊎◌, ◌&&◌, ◌==◌, nat_lt, option_map}
+use Rattle.std.proofs.Common.{◌≡◌, ℕ, ◌+◌, ◌-◌, ◌*◌, ◌^◌, ◌<◌, ◌≤◌, true, false, cond, List, [], ◌∷◌, length, Some, None, Option, Err, refl, sym, ap, ◌∙◌, ⊎_elim, lit<, length-drop, arith}
+use Rattle.std.specs.Prelude.{◌&&◌, ◌==◌, nat_lt, option_map}
 use Rattle.std.specs.Char.{digit_value, is_ascii_digit}
 use Rattle.std.specs.List.{prefix_len}
 use Rattle.std.specs.Str.{bytes_eq}
 use Rattle.std.specs.Str.Parse.{digits_value, digits_value_after}
-use Rattle.std.proofs.lemmas.Bool.{cond-true, cond-false, cases_lt, cases_Bool, ne_eqb, eq-eqb, le-ltb, le-leb, lt-leb, and_from, and_left, and_right}
-use Rattle.std.proofs.lemmas.Grind.{common_steps}
-use Rattle.std.proofs.lemmas.List.{take_all}
+use Rattle.std.proofs.lemmas.Bool.{cond-true, cond-false, cases_lt, cases_Bool, ne_eqb, eq-eqb, le-ltb}
 use Rattle.std.proofs.lemmas.Nat.{mul-le}
 use Rattle.promql_text.specs.DecimalForm.{Text, front, digit_run, past_run, Signed, decimal_form}
 use Rattle.promql_text.specs.Durations.{capped, is_no_digit, word_run, past_word, word_of, nanos_of, begins_part, parts_nanos, seek, in_range, of_parts, of_form, duration_of}
 use Rattle.promql_text.specs.declared.duration.Unit.{Unit}
 use Rattle.promql_text.specs.declared.duration.Unit.TheVariants.{Year, Week, Day, Hour, Minute, Second, Milli}
 use Rattle.promql_text.specs.declared.duration.DurationFault.TheVariants.{Empty, Invalid, Overflow}
-use Rattle.promql_text.proofs.Runs.{past_run_digit, past_run_other, digit_run_digit, digit_run_other}
+use Rattle.promql_text.proofs.Runs.{past_run_digit, digit_run_digit}
 
 -- ---- capped numbers
 
@@ -35,61 +33,15 @@ capped_after x (c ∷ cs) =
     ∙ ap (λ n. capped (digits_value_after 10 n cs)) (capped_ten x (digit_value c))
     ∙ capped_after (x * 10 + digit_value c) cs
 
--- ---- runs of digits
-
-is_digit : (b : ℕ) → 48 ≤ b → b ≤ 57 → is_ascii_digit b ≡ true
-is_digit b low high = and_from (leb 48 b) (leb b 57) (le-leb 48 b low) (le-leb b 57 high)
-
-no_digit : (b : ℕ) → (b < 48) ⊎ (58 ≤ b) → is_ascii_digit b ≡ false
-no_digit b h = ⊎_elim (λ low. and_left (leb 48 b) (leb b 57) (lt-leb 48 b low)) (λ high. and_right (leb 48 b) (leb b 57) (lt-leb b 57 high)) h
-
 -- one more digit of a count
-pub count_more : (value b : ℕ) (z : Text) → is_ascii_digit b ≡ true → capped (digits_value_after 10 (capped (capped (value * 10) + (b - 48))) (digit_run z)) ≡ capped (digits_value_after 10 value (digit_run (b ∷ z)))
-count_more value b z is =
-    ap (λ n. capped (digits_value_after 10 n (digit_run z))) (twice (value * 10) (b - 48) ∙ ap (λ d. capped (value * 10 + d)) (value_is b is))
+pub count_more : (value d b : ℕ) (z : Text) → is_ascii_digit b ≡ true → d ≡ digit_value b → capped (digits_value_after 10 (capped (capped (value * 10) + d)) (digit_run z)) ≡ capped (digits_value_after 10 value (digit_run (b ∷ z)))
+count_more value d b z is value_is =
+    ap (λ n. capped (digits_value_after 10 n (digit_run z))) (twice (value * 10) d ∙ ap (λ d. capped (value * 10 + d)) value_is)
     ∙ capped_after (value * 10 + digit_value b) (digit_run z)
     ∙ ap (λ ds. capped (digits_value_after 10 value ds)) (sym (digit_run_digit b z is))
   where
     twice : (x d : ℕ) → capped (capped x + d) ≡ capped (x + d)
     twice x d = omega arith
-
-    value_is : (b : ℕ) → is_ascii_digit b ≡ true → b - 48 ≡ digit_value b
-    value_is b is = grind (arith, common_steps)
-
--- the same of a slice's first byte and the rest
-pub count_step : (value : ℕ) (z : Text) → 0 < length z → 48 ≤ get_or z 0 0 → get_or z 0 0 ≤ 57 → capped (digits_value_after 10 (capped (capped (value * 10) + (get_or z 0 0 - 48))) (digit_run (drop 1 z))) ≡ capped (digits_value_after 10 value (digit_run z))
-count_step value [] some low high = absurd (omega arith)
-count_step value (b ∷ z) some low high = count_more value b z (is_digit b low high)
-
-pub run_step : (z : Text) → 0 < length z → 48 ≤ get_or z 0 0 → get_or z 0 0 ≤ 57 → past_run (drop 1 z) ≡ past_run z
-run_step [] some low high = absurd (omega arith)
-run_step (b ∷ z) some low high = sym (past_run_digit b z (is_digit b low high))
-
-pub first_digit : (z : Text) → 48 ≤ get_or z 0 0 → get_or z 0 0 ≤ 57 → is_ascii_digit (front z) ≡ true
-first_digit z low high = is_digit (get_or z 0 0) low high
-
--- what a slice pattern leaves behind the first byte
-pub tail_is : (z : Text) → take (length z - 1) (drop 1 z) ≡ drop 1 z
-tail_is z = take_all (length z - 1) (drop 1 z) (omega (arith, length-drop 1 z))
-
--- a text that begins with no digit
-pub first_none : (z : Text) → length z < 1 → is_ascii_digit (front z) ≡ false
-first_none [] h = refl
-first_none (b ∷ z) h = absurd (omega arith)
-
-pub first_low : (z : Text) → get_or z 0 0 < 48 → is_ascii_digit (front z) ≡ false
-first_low z low = no_digit (get_or z 0 0) (inl low)
-
-pub first_high : (z : Text) → 58 ≤ get_or z 0 0 → is_ascii_digit (front z) ≡ false
-first_high z high = no_digit (get_or z 0 0) (inr high)
-
-pub count_ends : (value : ℕ) (z : Text) → is_ascii_digit (front z) ≡ false → value < 2 ^ 128 → value ≡ capped (digits_value_after 10 value (digit_run z))
-count_ends value [] other fits = sym (capped_small value fits)
-count_ends value (b ∷ z) other fits = sym (capped_small value fits) ∙ ap (λ ds. capped (digits_value_after 10 value ds)) (sym (digit_run_other b z other))
-
-pub run_ends : (z : Text) → is_ascii_digit (front z) ≡ false → z ≡ past_run z
-run_ends [] other = refl
-run_ends (b ∷ z) other = sym (past_run_other b z other)
 
 -- ---- parts
 

@@ -1,5 +1,5 @@
 -- Runs of digits.
-use Rattle.std.proofs.Common.{◌≡◌, ℕ, Bool, true, false, ◌∷◌, [], cond, ap, ◌∙◌, refl, drop, take, arith, suc, ◌+◌, ◌<◌}
+use Rattle.std.proofs.Common.{◌≡◌, ℕ, Bool, true, false, ◌∷◌, [], cond, ap, ◌∙◌, refl, drop, take, length, arith, suc, ◌+◌, ◌<◌}
 use Rattle.std.specs.Char.{is_ascii_digit, digit_value}
 use Rattle.std.specs.List.{prefix_len}
 use Rattle.std.specs.Str.Parse.{AllDigits}
@@ -32,3 +32,12 @@ run_at c z false is rest = rw (digit_run_other c z is) tt
 pub run_digits : (z : Text) → AllDigits 10 (digit_run z)
 run_digits [] = tt
 run_digits (c ∷ z) = run_at c z (is_ascii_digit c) refl (run_digits z)
+
+-- a run is as long as it says
+pub take_run : (z : Text) → take (length (digit_run z)) z ≡ digit_run z
+take_run [] = refl
+take_run (c ∷ z) = take_at c z (is_ascii_digit c) refl (take_run z)
+  where
+    take_at : (c : ℕ) (z : Text) (b : Bool) → is_ascii_digit c ≡ b → take (length (digit_run z)) z ≡ digit_run z → take (length (digit_run (c ∷ z))) (c ∷ z) ≡ digit_run (c ∷ z)
+    take_at c z true is rest = rw (digit_run_digit c z is) (ap (λ r. c ∷ r) rest)
+    take_at c z false is rest = rw (digit_run_other c z is) refl

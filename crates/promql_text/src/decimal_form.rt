@@ -56,7 +56,7 @@ pub struct DecimalForm<S> {
 
 /// The text behind the longest run of digits at the front.
 #[tactic(auto, using(crate::proofs::Runs::past_run_digit, crate::proofs::Runs::past_run_other))]
-fn past_run<S: Source>(text: S) -> S
+pub(crate) fn past_run<S: Source>(text: S) -> S
     ensures { S.left result ≡ spec.past_run (S.left text) }
 {
     let mut rest = text;

@@ -6,8 +6,9 @@ ghost use Rattle.std.specs.List.{prefix_len};
 ghost use Rattle.promql_text.specs.DecimalParts.{reading_of};
 ghost use Rattle.promql_text.specs.Durations as spec;
 
-use crate::decimal_form::{DecimalForm, Reading, decimal_form};
+use crate::decimal_form::{DecimalForm, Reading, decimal_form, front, past_run};
 use crate::seconds::nanoseconds;
+use crate::significand::number;
 use std::time::Duration;
 use thiserror::Error;
 
@@ -84,21 +85,14 @@ impl Unit {
 }
 
 /// The whole number of the digits at the front of a text, or `u128::MAX` where it is greater, and what follows them.
-pub(crate) fn count(text: &[u8]) -> Option<(u128, &[u8])>
+fn count(text: &[u8]) -> Option<(u128, &[u8])>
     ensures { spec.ReadsCount text.now result }
 {
-    let [b'0'..=b'9', ..] = text else {
-        return None;
-    };
-    let mut value: u128 = 0;
-    let mut rest = text;
-    while let [b @ b'0'..=b'9', more @ ..] = rest {
-        value = value
-            .saturating_mul(10)
-            .saturating_add(u128::from(*b - b'0'));
-        rest = more;
+    if front(text).is_ascii_digit() {
+        Some((number(text), past_run(text)))
+    } else {
+        None
     }
-    Some((value, rest))
 }
 
 /// How many bytes stand before the first digit.

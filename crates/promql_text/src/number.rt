@@ -9,19 +9,26 @@ use thiserror::Error;
 /// A number as the language has them: exact decimals in place of floating-point values.
 #[derive(Clone, Copy, Debug, PartialEq, Eq, Hash, Drop)]
 pub enum Number {
+    /// An exact decimal.
     Finite(Decimal),
+    /// Above every decimal.
     Inf,
+    /// Below every decimal.
     NegInf,
+    /// Not a number; it equals itself.
     NaN,
 }
 
 /// Why a text gives no number.
 #[derive(Clone, Copy, Debug, PartialEq, Eq, Drop, Error)]
 pub enum NumberFault {
+    /// The text means no number.
     #[error("not a number")]
     NotANumber,
+    /// The text has more than 38 digits between the first and the last that is no zero.
     #[error("more than 38 significant digits")]
     TooManyDigits,
+    /// The number is too great, or too near to zero.
     #[error("number out of range")]
     OutOfRange,
 }
@@ -46,12 +53,14 @@ impl Number {
         }
     }
 
+    /// Whether it is NaN.
     pub fn is_nan(&self) -> bool
         ensures { result ≡ spec.is_nan self.now }
     {
         matches!(self, Number::NaN)
     }
 
+    /// Whether it is infinite, of either sign.
     pub fn is_infinite(&self) -> bool
         ensures { result ≡ spec.is_infinite self.now }
     {
@@ -69,6 +78,7 @@ impl Number {
         }
     }
 
+    /// Whether the number is zero.
     pub fn is_zero(&self) -> bool
         ensures { result ≡ spec.is_zero self.now }
     {

@@ -159,7 +159,7 @@ fn at_place<S: Source>(is_negative: bool, read: Significand, numeral: Numeral<S>
     ensures { result ≡ spec.at_place is_negative read.digits read.zeros (parts.numeral_of S.left numeral) }
 {
     let places = significand::run_len(numeral.fraction);
-    let exponent = significand::capped_number(numeral.exponent);
+    let exponent = significand::number(numeral.exponent).min(significand::FAR);
     if numeral.exponent_is_negative {
         Decimal::placed(is_negative, read.digits, read.zeros, places + exponent)
     } else {

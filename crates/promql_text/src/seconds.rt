@@ -10,7 +10,7 @@ ghost use Rattle.promql_text.specs.Durations.{capped, second_nanos};
 ghost use Rattle.promql_text.specs.Rounding.{at_point, Compares, ComparesHalf, HasRead, PlacesPoint};
 
 use crate::decimal_form::Numeral;
-use crate::duration::count;
+use crate::significand::{number, run_len};
 
 /// How the digits behind the point compare with a half.
 #[derive(Clone, Copy)]
@@ -118,35 +118,13 @@ fn with_zeros(n: u128, zeros: u128) -> u128
     n.saturating_mul(10u128.saturating_pow(zeros.min(39) as u32))
 }
 
-/// How many digits stand at the front of a text.
-fn run_len(text: &[u8]) -> usize
-    ensures { result ≡ prefix_len is_ascii_digit text.now }
-{
-    for (i, b) in text.iter().enumerate() {
-        if !b.is_ascii_digit() {
-            return i;
-        }
-    }
-    text.len()
-}
-
 /// The digits at the front of a text.
 fn run(text: &[u8]) -> &[u8]
     ensures value { result.now ≡ digit_run text.now }
     ensures digits { AllDigits 10 result.now }
     ensures fits { length result.now < 2 ^ 64 }
 {
-    &text[..run_len(text)]
-}
-
-/// The number of the digits at the front of a text, zero where there are none; `u128::MAX` where it is greater.
-fn number(text: &[u8]) -> u128
-    ensures { result ≡ capped (digits_value 10 (digit_run text.now)) }
-{
-    match count(text) {
-        Some((value, _)) => value,
-        None => 0,
-    }
+    &text[..run_len(text) as usize]
 }
 
 /// Behind how many of a numeral's digits the point of its nanoseconds stands, or `u128::MAX` where those are more;
@@ -154,7 +132,7 @@ fn number(text: &[u8]) -> u128
 fn point(numeral: Numeral<&[u8]>) -> Option<u128>
     ensures { PlacesPoint (numeral_of (λ s. s.now) numeral.entry) result }
 {
-    let nine_on = run_len(numeral.whole) as u128 + 9;
+    let nine_on = run_len(numeral.whole) + 9;
     let exponent = number(numeral.exponent);
     if numeral.exponent_is_negative {
         nine_on.checked_sub(exponent)

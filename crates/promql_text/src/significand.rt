@@ -1,8 +1,9 @@
 //! The digits of a number, read from the first one on.
 
-ghost use Rattle.std.specs.Prelude.{◌≡◌, ℕ, ◌+◌, ◌*◌, ◌^◌, ◌%◌, ◌<◌, ◌≤◌, true, false, length, min, Option, Some, None, MatchOption, IfSome, SomeIff};
+ghost use Rattle.std.specs.Prelude.{◌≡◌, ℕ, ◌+◌, ◌*◌, ◌^◌, ◌%◌, ◌<◌, ◌≤◌, true, false, length, Option, Some, None, MatchOption, IfSome, SomeIff};
 ghost use Rattle.std.specs.Str.Parse.{digits_value, digits_value_after};
 ghost use Rattle.promql_text.specs.DecimalForm.{digit_run};
+ghost use Rattle.promql_text.specs.Durations.{capped};
 ghost use Rattle.promql_text.specs.Significands.{IsLong, ReadsDigit};
 
 use crate::decimal_form::Source;
@@ -119,22 +120,19 @@ pub fn run_len<S: Source>(text: S) -> u128
     count
 }
 
-/// The number of the digits at the front of the text, or `FAR` where it is at least that.
-#[tactic(auto, using(crate::proofs::Runs::digit_run_digit, crate::proofs::Runs::digit_run_other, crate::proofs::Tens::value_after_ge))]
-pub fn capped_number<S: Source>(text: S) -> u128
-    ensures { result ≡ min (digits_value 10 (digit_run (S.left text))) FAR }
+/// The number of the digits at the front of the text; `u128::MAX` where it is greater.
+#[tactic(auto, using(crate::proofs::Runs::digit_run_other, crate::proofs::Parts::count_more, crate::proofs::Parts::capped_small))]
+pub fn number<S: Source>(text: S) -> u128
+    ensures { result ≡ capped (digits_value 10 (digit_run (S.left text))) }
 {
-    let mut number = 0;
+    let mut number: u128 = 0;
     let mut rest = text;
     while let Some((c, more)) = rest.first() {
         let Some(digit) = decimal_digit(c) else {
             break;
         };
-        if number >= FAR {
-            return FAR;
-        }
-        number = number * 10 + digit;
+        number = number.saturating_mul(10).saturating_add(digit);
         rest = more;
     }
-    number.min(FAR)
+    number
 }

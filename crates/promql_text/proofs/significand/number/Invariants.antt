@@ -1,12 +1,13 @@
 use Rattle.std.proofs.Common.{◌≡◌, ◌<◌, ◌^◌, length}
 use Rattle.std.specs.Str.Parse.{digits_value_after, digits_value}
 use Rattle.promql_text.specs.DecimalForm.{digit_run}
-use Rattle.promql_text.proofs.significand.capped_number.Given as goal
+use Rattle.promql_text.specs.Durations.{capped}
+use Rattle.promql_text.proofs.significand.number.Given as goal
 
 abbrev pub invariant-loop-c : goal.invariant-loop-c
 invariant-loop-c g l =
-    (digits_value_after 10 l.number (digit_run (g.S.Source.left l.rest)) ≡ digits_value 10 (digit_run (g.S.Source.left l.fn.text)))
-    × (l.number < 10 ^ 32)
+    (capped (digits_value_after 10 l.number (digit_run (g.S.Source.left l.rest))) ≡ capped (digits_value 10 (digit_run (g.S.Source.left l.fn.text))))
+    × (l.number < 2 ^ 128)
 
 abbrev pub decreases-loop-c : goal.decreases-loop-c
 decreases-loop-c g l = length (g.S.Source.left l.rest)
