@@ -1,15 +1,16 @@
 -- Texts of digits, points and minus signs.
-use Rattle.std.proofs.Common.{◌≡◌, ℕ, zero, suc, ◌<◌, Bool, true, false, not, cond, ◌&&◌, ◌||◌, [], ◌∷◌, ◌++◌, drop, arith, ap, ◌∙◌, refl}
+use Rattle.std.proofs.Common.{◌≡◌, ℕ, zero, suc, ◌<◌, Bool, true, false, not, cond, ◌||◌, [], ◌∷◌, ◌++◌, arith, ap, ◌∙◌, refl}
 use Rattle.std.specs.Prelude.{◌==◌}
-use Rattle.std.specs.Char.{digit_value, is_ascii_digit, is_whitespace, is_not_whitespace, to_ascii_lowercase}
+use Rattle.std.specs.Char.{digit_value, is_ascii_digit, is_whitespace, is_not_whitespace}
 use Rattle.std.specs.List.{filter, list_any}
-use Rattle.std.specs.Str.{IsAscii, bytes_eq, str_to_ascii_lowercase}
+use Rattle.std.specs.Str.{IsAscii}
 use Rattle.std.specs.Str.Parse.{AllDigits}
 use Rattle.std.proofs.lemmas.Bool.Decides.{nat_tests}
 use Rattle.std.proofs.lemmas.Str.{chars-IsAscii}
 use Rattle.std.proofs.lemmas.Str.Parse.{digit_from_value}
-use Rattle.promql_text.specs.DecimalForm.{Text, front, unsigned, is_word, is_minus}
+use Rattle.promql_text.specs.DecimalForm.{Text}
 use Rattle.promql_text.specs.NumberText.{kept, is_x, is_past_octal}
+use Rattle.promql_text.proofs.TextForms.{with_sign}
 
 abbrev pub is_plain : ℕ → Bool
 is_plain c = is_ascii_digit c || (c == 45 || c == 46)
@@ -70,23 +71,6 @@ holds_point (x ∷ xs) ys = ap (λ b. is_past_octal x || b) (holds_point xs ys) 
 
 -- ---- a sign in front
 
-abbrev pub with_sign : Bool → Text → Text
-with_sign b t = cond b (45 ∷ []) [] ++ t
-
-digit_no_sign : (s : Text) → is_ascii_digit (front s) ≡ true → (front s == 43 || front s == 45) ≡ false
-digit_no_sign s digit = grind (arith, nat_tests)
-
-pub unsigned_is : (b : Bool) (t : Text) → is_ascii_digit (front t) ≡ true → unsigned (with_sign b t) ≡ t
-unsigned_is true t digit = refl
-unsigned_is false t digit = ap (λ b. cond b (drop 1 t) t) (digit_no_sign t digit)
-
-digit_no_minus : (s : Text) → is_ascii_digit (front s) ≡ true → is_minus s ≡ false
-digit_no_minus s digit = grind (arith, nat_tests)
-
-pub minus_is : (b : Bool) (t : Text) → is_ascii_digit (front t) ≡ true → is_minus (with_sign b t) ≡ b
-minus_is true t digit = refl
-minus_is false t digit = digit_no_minus t digit
-
 pub plain_signed : (b : Bool) (t : Text) → AllPlain t → AllPlain (with_sign b t)
 plain_signed true t plain = (refl, plain)
 plain_signed false t plain = plain
@@ -94,17 +78,3 @@ plain_signed false t plain = plain
 pub point_signed : (b : Bool) (xs ys : Text) → list_any is_past_octal (with_sign b (xs ++ (46 ∷ ys))) ≡ true
 point_signed true xs ys = holds_point xs ys
 point_signed false xs ys = holds_point xs ys
-
--- ---- no word begins with a digit
-
-lower_digit : (c : ℕ) → is_ascii_digit c ≡ true → to_ascii_lowercase c ≡ c
-lower_digit c digit = grind (arith, nat_tests)
-
-digit_no_letter : (c b : ℕ) → is_ascii_digit c ≡ true → 96 < b → (c == b) ≡ false
-digit_no_letter c b digit letter = grind (arith, nat_tests)
-
-pub no_word : (s word : Text) (b : ℕ) → is_ascii_digit (front s) ≡ true → 96 < b → is_word s (b ∷ word) ≡ false
-no_word [] word b digit letter = refl
-no_word (c ∷ cs) word b digit letter =
-    ap (λ n. (n == b) && bytes_eq (str_to_ascii_lowercase cs) word) (lower_digit c digit)
-    ∙ ap (λ t. t && bytes_eq (str_to_ascii_lowercase cs) word) (digit_no_letter c b digit letter)

@@ -1,7 +1,7 @@
 -- Reading the text of a number.
-use Rattle.std.proofs.Common.{◌≡◌, ℕ, zero, suc, ◌+◌, ◌-◌, ◌*◌, ◌/◌, ◌%◌, ◌^◌, ◌<◌, ◌≤◌, Bool, true, false, not, cond, ◌&&◌, ◌||◌, [], ◌∷◌, ◌++◌, length, drop, replicate, arith, ap, ◌∙◌, sym, refl, subst, ⊎_elim, append-nil, Some, None, Result, Ok, length-append}
+use Rattle.std.proofs.Common.{◌≡◌, ℕ, zero, suc, ◌+◌, ◌-◌, ◌*◌, ◌/◌, ◌%◌, ◌^◌, ◌<◌, ◌≤◌, Bool, true, false, not, cond, ◌&&◌, [], ◌∷◌, ◌++◌, length, drop, replicate, arith, ap, ◌∙◌, sym, refl, subst, ⊎_elim, append-nil, Some, None, Result, Ok, length-append}
 use Rattle.std.specs.Option.{ok_or}
-use Rattle.std.specs.Prelude.{codes, option_map, ◌==◌}
+use Rattle.std.specs.Prelude.{option_map, ◌==◌}
 use Rattle.std.specs.Char.{digit_value, is_ascii_digit}
 use Rattle.std.specs.Fmt.{decimal, digits}
 use Rattle.std.specs.List.{list_any}
@@ -9,7 +9,6 @@ use Rattle.std.specs.Str.{chars}
 use Rattle.std.specs.Str.Parse.{AllDigits, digits_value, digits_value_after}
 use Rattle.std.proofs.lemmas.Bool.Decides.{nat_tests}
 use Rattle.std.proofs.lemmas.Fmt.{decimal_is_IsNumeral_wide, decimal_by_steps_wide}
-use Rattle.std.proofs.lemmas.Str.Parse.{digit_from_value}
 use Rattle.std.proofs.Math.Nat.{pow-suc, zero-mul, div-le_self, mod-le}
 use Rattle.std.proofs.lemmas.Bool.{cases_lt, eq-eqb, ne_eqb}
 use Rattle.std.proofs.lemmas.List.{length-replicate}
@@ -27,30 +26,10 @@ use Rattle.promql_text.specs.declared.number.NumberFault.TheVariants as fault
 use Rattle.promql_text.proofs.Finites.{finite_short, all_digits_append}
 use Rattle.promql_text.proofs.Points.{part_count}
 use Rattle.promql_text.proofs.Tens.{times_one}
-use Rattle.promql_text.proofs.Plain.{AllPlain, kept_plain, plain_holds_no_x, plain_append, plain_digits, plain_signed, point_signed, with_sign, unsigned_is, minus_is, no_word}
+use Rattle.promql_text.proofs.Plain.{AllPlain, kept_plain, plain_holds_no_x, plain_append, plain_digits, plain_signed, point_signed}
 use Rattle.promql_text.proofs.Radix.{value_append}
-use Rattle.promql_text.proofs.Runs.{digit_run_digit, digit_run_other, past_run_digit, past_run_other}
-
--- ---- digits and what follows them
-
-is_digit : (c : ℕ) → digit_value c < 10 → is_ascii_digit c ≡ true
-is_digit c below = let h = digit_from_value c below in grind (arith, nat_tests)
-
-run_stops : (r : Text) → is_ascii_digit (front r) ≡ false → digit_run r ≡ []
-run_stops [] stops = refl
-run_stops (c ∷ r) stops = digit_run_other c r stops
-
-past_stops : (r : Text) → is_ascii_digit (front r) ≡ false → past_run r ≡ r
-past_stops [] stops = refl
-past_stops (c ∷ r) stops = past_run_other c r stops
-
-pub run_append : (ds r : Text) → AllDigits 10 ds → is_ascii_digit (front r) ≡ false → digit_run (ds ++ r) ≡ ds
-run_append [] r digits stops = run_stops r stops
-run_append (c ∷ cs) r digits stops = digit_run_digit c (cs ++ r) (is_digit c digits.0) ∙ ap (λ z. c ∷ z) (run_append cs r digits.1 stops)
-
-pub past_append : (ds r : Text) → AllDigits 10 ds → is_ascii_digit (front r) ≡ false → past_run (ds ++ r) ≡ r
-past_append [] r digits stops = past_stops r stops
-past_append (c ∷ cs) r digits stops = past_run_digit c (cs ++ r) (is_digit c digits.0) ∙ past_append cs r digits.1 stops
+use Rattle.promql_text.proofs.Runs.{front_digit}
+use Rattle.promql_text.proofs.TextForms.{with_sign, unsigned_is, minus_is, form_at, plain_numeral, reading_digits, reading_point}
 
 -- ---- what digits write
 
@@ -75,58 +54,7 @@ zeros_value (suc k) v =
     let f : (v * 10 + 0) * 10 ^ k ≡ v * (10 ^ k * 10) = omega arith in
     e ∙ f ∙ ap (λ n. v * n) (sym p)
 
-pub past_all : (ds : Text) → AllDigits 10 ds → past_run ds ≡ []
-past_all [] digits = refl
-past_all (c ∷ cs) digits = past_run_digit c cs (is_digit c digits.0) ∙ past_all cs digits.1
-
-pub run_all : (ds : Text) → AllDigits 10 ds → digit_run ds ≡ ds
-run_all [] digits = refl
-run_all (c ∷ cs) digits = digit_run_digit c cs (is_digit c digits.0) ∙ ap (λ z. c ∷ z) (run_all cs digits.1)
-
-pub front_digit : (ds r : Text) → 0 < length ds → AllDigits 10 ds → is_ascii_digit (front (ds ++ r)) ≡ true
-front_digit [] r some digits = absurd (omega arith)
-front_digit (c ∷ cs) r some digits = is_digit c digits.0
-
--- ---- numerals without exponent
-
-abbrev pub plain_numeral : Text → Text → Numeral
-plain_numeral w f = record { whole = w; fraction = f; is_down = false; exponent = [] }
-
-numeral_ended : (s behind : Text) → past_point (past_run s) ≡ behind → past_run behind ≡ [] → is_ascii_digit (front s) ≡ true → numeral s ≡ Some (plain_numeral (digit_run s) (digit_run behind))
-unfolding numeral
-numeral_ended s behind is end digit = rw (is, end) (ap (λ b. cond ((b || is_ascii_digit (front behind)) && true) (Some (plain_numeral (digit_run s) (digit_run behind))) None) digit)
-
-reading_ended : (s : Text) (n : Numeral) → is_ascii_digit (front s) ≡ true → numeral s ≡ Some n → reading s ≡ Some (form.Finite n)
-unfolding reading
-reading_ended s n digit is =
-    ap (λ b. cond (b || is_word s (codes "infinity")) (Some Infinite) (cond (is_word s (codes "nan")) (Some NotANumber) (option_map form.Finite (numeral s)))) (no_word s (drop 1 (codes "inf")) 105 digit (omega arith))
-    ∙ ap (λ b. cond b (Some Infinite) (cond (is_word s (codes "nan")) (Some NotANumber) (option_map form.Finite (numeral s)))) (no_word s (drop 1 (codes "infinity")) 105 digit (omega arith))
-    ∙ ap (λ b. cond b (Some NotANumber) (option_map form.Finite (numeral s))) (no_word s (drop 1 (codes "nan")) 110 digit (omega arith))
-    ∙ ap (option_map form.Finite) is
-
-pub reading_digits : (ds : Text) → 0 < length ds → AllDigits 10 ds → reading ds ≡ Some (form.Finite (plain_numeral ds []))
-reading_digits ds some digits =
-    let first : is_ascii_digit (front ds) ≡ true = (let h = front_digit ds [] some digits in rw append-nil at h) in
-    reading_ended ds (plain_numeral ds []) first
-    (numeral_ended ds [] (ap past_point (past_all ds digits)) refl first ∙ ap (λ w. Some (plain_numeral w [])) (run_all ds digits))
-
-pub reading_point : (ds fs : Text) → 0 < length ds → AllDigits 10 ds → AllDigits 10 fs → reading (ds ++ (46 ∷ fs)) ≡ Some (form.Finite (plain_numeral ds fs))
-reading_point ds fs some digits more =
-    let first = front_digit ds (46 ∷ fs) some digits in
-    reading_ended (ds ++ (46 ∷ fs)) (plain_numeral ds fs) first
-    (numeral_ended (ds ++ (46 ∷ fs)) fs (ap past_point (past_append ds (46 ∷ fs) digits refl)) (past_all fs more) first
-    ∙ ap (λ w. Some (plain_numeral w (digit_run fs))) (run_append ds (46 ∷ fs) digits refl)
-    ∙ ap (λ f. Some (plain_numeral ds f)) (run_all fs more))
-
 -- ---- the number of a text with a sign
-
-abbrev signed_of : Bool → Reading → Signed
-signed_of b r = record { is_negative = b; reading = r }
-
-form_at : (t body : Text) (b : Bool) (r : Reading) → is_minus t ≡ b → unsigned t ≡ body → reading body ≡ Some r → decimal_form t ≡ Some (signed_of b r)
-unfolding decimal_form
-form_at t body b r minus rest is =
-    ap (λ m. option_map (signed_of m) (reading (unsigned t))) minus ∙ ap (λ u. option_map (signed_of b) (reading u)) rest ∙ ap (option_map (signed_of b)) is
 
 number_at : (t : Text) → list_any is_x t ≡ false → is_octal t ≡ false → number_of t ≡ of_form (decimal_form t)
 unfolding number_of

@@ -10,7 +10,7 @@ use Rattle.std.proofs.lemmas.Bool.{cond_both, cond-true, cond-false, cases_eq, e
 use Rattle.std.proofs.lemmas.Fmt.{decimal_is_IsNumeral_wide}
 use Rattle.std.proofs.Math.Seq.{take-append_seam, drop-append_seam}
 use Rattle.std.proofs.Math.Nat.{div-add-mod}
-use Rattle.promql_text.specs.DecimalForm.{Text, front, past_run, past_point, ends_well, decimal_form}
+use Rattle.promql_text.specs.DecimalForm.{Text, front, past_run, past_point, ends_well, Finite, decimal_form}
 use Rattle.promql_text.specs.Durations.{nanos_of, word_of, units, is_no_digit, word_run, past_word, begins_part, parts_nanos, in_range, nearest, second_nanos, of_parts, duration_of}
 use Rattle.promql_text.specs.DurationText.{count_text, counts_text, short_units, whole_text, fraction_text, duration_text}
 use Rattle.promql_text.specs.declared.duration.Unit.{Unit}
@@ -18,7 +18,8 @@ use Rattle.promql_text.specs.declared.duration.Unit.TheVariants.{Year, Week, Day
 use Rattle.promql_text.proofs.Parts.{parts-end, duration-form}
 use Rattle.promql_text.proofs.Fractions.{fraction_is}
 use Rattle.promql_text.proofs.Rounding.{nearest_right, ten_split, digits_value-append}
-use Rattle.promql_text.proofs.TextForms.{run_of, past_of, front_of, word_form, point_form, point_numeral, unsigned_form}
+use Rattle.promql_text.proofs.Runs.{run_append, past_append, front_digit}
+use Rattle.promql_text.proofs.TextForms.{word_form, point_form, plain_numeral, signed_of}
 
 -- ---- one part, and what follows it
 
@@ -81,8 +82,8 @@ count_is n h = let is = decimal_is_IsNumeral_wide n h in record { some = is.0.0;
 
 part_begins : (n : ℕ) (u v : Unit) (r : Text) → IsCount n → prefix_len is_no_digit r ≡ 0 → begins_part v (part_text n u r) ≡ bytes_eq (word_of u) (word_of v)
 part_begins n u v r is h =
-    ap (λ d. d && bytes_eq (word_run (past_run (part_text n u r))) (word_of v)) (front_of (decimal n) (word_of u ++ r) is.some is.digits)
-    ∙ ap (λ w. bytes_eq (word_run w) (word_of v)) (past_of (decimal n) (word_of u ++ r) is.digits (word_letter u r))
+    ap (λ d. d && bytes_eq (word_run (past_run (part_text n u r))) (word_of v)) (front_digit (decimal n) (word_of u ++ r) is.some is.digits)
+    ∙ ap (λ w. bytes_eq (word_run w) (word_of v)) (past_append (decimal n) (word_of u ++ r) is.digits (word_letter u r))
     ∙ ap (λ w. bytes_eq w (word_of v)) (word_runs u r h)
 
 same_word : (u : Unit) → bytes_eq (word_of u) (word_of u) ≡ true
@@ -98,9 +99,9 @@ part_reads : (n : ℕ) (u : Unit) (us : List Unit) (r : Text) → IsCount n → 
 part_reads n u us r is h =
     let t : Text = part_text n u r in
     cond-true (begins_part u t) _ _ (part_begins n u u r is h ∙ same_word u)
-    ∙ ap (λ ds. option_map (λ k. digits_value 10 ds * nanos_of u + k) (parts_nanos us (past_word (past_run t)))) (run_of (decimal n) (word_of u ++ r) is.digits (word_letter u r))
+    ∙ ap (λ ds. option_map (λ k. digits_value 10 ds * nanos_of u + k) (parts_nanos us (past_word (past_run t)))) (run_append (decimal n) (word_of u ++ r) is.digits (word_letter u r))
     ∙ ap (λ v. option_map (λ k. v * nanos_of u + k) (parts_nanos us (past_word (past_run t)))) is.value
-    ∙ ap (λ w. option_map (λ k. n * nanos_of u + k) (parts_nanos us (past_word w))) (past_of (decimal n) (word_of u ++ r) is.digits (word_letter u r))
+    ∙ ap (λ w. option_map (λ k. n * nanos_of u + k) (parts_nanos us (past_word w))) (past_append (decimal n) (word_of u ++ r) is.digits (word_letter u r))
     ∙ ap (λ w. option_map (λ k. n * nanos_of u + k) (parts_nanos us w)) (word_passed u r h)
 
 -- ---- counts, from the greatest unit on
@@ -125,7 +126,7 @@ counts_follow (u ∷ us) n h =
     let r : Text = counts_text us (n % nanos_of u) in
     count_front (n / nanos_of u) u r (λ t. prefix_len is_no_digit t ≡ 0)
     (λ _. counts_follow us (n % nanos_of u) (remainder_fits n (nanos_of u) h))
-    (λ _. let is = count_is (n / nanos_of u) (quotient_fits n (nanos_of u) h) in no_run (part_text (n / nanos_of u) u r) (front_of (decimal (n / nanos_of u)) (word_of u ++ r) is.some is.digits))
+    (λ _. let is = count_is (n / nanos_of u) (quotient_fits n (nanos_of u) h) in no_run (part_text (n / nanos_of u) u r) (front_digit (decimal (n / nanos_of u)) (word_of u ++ r) is.some is.digits))
   where
     no_run : (t : Text) → is_ascii_digit (front t) ≡ true → prefix_len is_no_digit t ≡ 0
     no_run [] digit = refl
@@ -320,7 +321,7 @@ seconds_read n some fits =
     ∙ ap (λ v. v * 10 ^ (9 - places)) value
     ∙ joined s (10 ^ places) (digits_value 10 fs) (10 ^ (9 - places)) r n (sym (ten_split 9 places fraction.short)) fraction.value (omega (arith, div-add-mod n (nanos_of Second)))
     in
-    duration-form t (Some (unsigned_form (point_numeral ds fs))) more (point_form ds fs is.some is.digits fraction.digits)
+    duration-form t (Some (signed_of false (Finite (plain_numeral ds fs)))) more (point_form ds fs is.some is.digits fraction.digits)
     ∙ ap in_range nanos ∙ in_range_is n some fits
   where
     joined : (s p v q r n : ℕ) → q * p ≡ 10 ^ 9 → v * q ≡ r → s * 1_000_000_000 + r ≡ n → (s * p + v) * q ≡ n

@@ -4,20 +4,13 @@ use Rattle.std.specs.Prelude.{◌==◌}
 use Rattle.std.specs.Char.{is_ascii_digit}
 use Rattle.std.specs.List.{prefix_len}
 use Rattle.std.specs.Str.Parse.{AllDigits}
-use Rattle.std.proofs.lemmas.Bool.Decides.{nat_tests}
 use Rattle.std.proofs.lemmas.Bool.{eq-eqb, eqb-true, ne_eqb}
 use Rattle.promql_text.specs.DecimalForm.{Text, front, digit_run, past_run, past_point, unsigned, is_minus, is_exponent, ends_well, Numeral, numeral}
 use Rattle.promql_text.specs.Spelling.{IsSign, IsPoint, HasNoExponent, HasExponent, Spells, NumeralsAreSpelled}
-use Rattle.promql_text.proofs.ReadsBack.{run_append, past_append, run_all, past_all, front_digit}
-use Rattle.promql_text.proofs.Runs.{run_digits, past_run_digit, past_run_other, digit_run_digit, digit_run_other}
+use Rattle.promql_text.proofs.Runs.{run_digits, past_run_digit, past_run_other, digit_run_digit, digit_run_other, run_append, past_append, run_all, past_all, front_digit}
+use Rattle.promql_text.proofs.TextForms.{digit_no_sign, digit_no_minus}
 
 -- ---- what is spelled so is read so
-
-digit_no_sign : (s : Text) → is_ascii_digit (front s) ≡ true → (front s == 43 || front s == 45) ≡ false
-digit_no_sign s digit = grind (arith, nat_tests)
-
-digit_no_minus : (s : Text) → is_ascii_digit (front s) ≡ true → is_minus s ≡ false
-digit_no_minus s digit = grind (arith, nat_tests)
 
 first_digit : (ds : Text) → 0 < length ds → AllDigits 10 ds → is_ascii_digit (front ds) ≡ true
 first_digit ds some digits = ap (λ s. is_ascii_digit (front s)) (sym (append-nil ds)) ∙ front_digit ds [] some digits
