@@ -99,10 +99,10 @@ pub fn parse(alloc: Global, text: &str) -> Result<Expr, ParseError>
     // The answer is right: a tree is built of a derivation of the text, and a refusal has its reason.
     ensures answer { IsAnswer text.now (answer_of result) }
     // What is right is answered: for each derivation of the text that is low enough, what it builds.
-    ensures only { (d : Derivation) → Derives text.now d → height d ≤ 512 → IsBuilt (answer_of result) (build d) }
+    ensures only { (d : Derivation) → Derives text.now d → height d ≤ MAX_DEPTH → IsBuilt (answer_of result) (build d) }
     ensures empty { IsErrOf result ParseError.Empty ↔ (tokens text.now ≡ Ok []) }
     ensures lexical { (fault : LexFault) → IsErrOf result (ParseError.Lex fault) ↔ (tokens text.now ≡ Err fault) }
-    ensures low { IfOk result (λ e. tree_height (tree_of e) ≤ 512) }
+    ensures low { IfOk result (λ e. tree_height (tree_of e) ≤ MAX_DEPTH) }
 {
     if !has_tokens(text)? {
         return Err(ParseError::Empty);

@@ -139,11 +139,13 @@ impl LexFaultKind {
     }
 }
 
-/// What is wrong, at which byte, and the character at fault for the kinds that show it.
+/// What is wrong, and where.
 #[derive(Clone, Copy, Debug, PartialEq, Eq)]
 pub struct LexFault {
     pub kind: LexFaultKind,
+    /// The place in the text, in bytes.
     pub at: usize,
+    /// The character at fault, for the kinds that show it.
     pub ch: Option<char>,
 }
 
@@ -166,8 +168,10 @@ impl Error for LexFault {}
 /// Why there is no token list.
 #[derive(Debug, Drop, PartialEq, Eq, thiserror::Error)]
 pub enum LexError {
+    /// A growth was refused.
     #[error("out of memory")]
     Memory,
+    /// The text's first fault.
     #[error(transparent)]
     Fault(LexFault),
 }

@@ -3,11 +3,13 @@
 use crate::fault::LexFaultKind;
 use crate::ids::TokenId;
 
-/// A token: its id, and where its text stands, in bytes.
+/// A token: its id, and where its text stands.
 #[derive(Clone, Copy, Debug, PartialEq, Eq)]
 pub struct Lexeme {
     pub id: TokenId,
+    /// Where its text begins, in bytes.
     pub start: usize,
+    /// The length of its text, in bytes.
     pub len: usize,
 }
 

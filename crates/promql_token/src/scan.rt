@@ -42,7 +42,7 @@ fn item_at(text: &str, at: usize, state: State) -> Result<Lexeme, LexFault>
     ensures value { result ≡ spec.first at (spec.found state (drop at text.now)) }
     ensures place { IfOk result (λ x. IsCharBoundary text.now (x.start + x.len)) }
     ensures order { IfOk result (λ x. at ≤ x.start) }
-    ensures moves { IfOk result (λ x. x.id ≢ 6 → 0 < x.len) }
+    ensures moves { IfOk result (λ x. x.id ≢ T_EOF → 0 < x.len) }
 {
     let bytes = text.as_bytes();
     let gap = gap_len(state.mode, &bytes[at..]);

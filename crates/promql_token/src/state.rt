@@ -92,7 +92,7 @@ pub fn after(state: State, id: TokenId) -> State
     requires { state.depth < 2 ^ 63 }
     ensures value { result ≡ spec.after state id }
     ensures grows { result.depth ≤ state.depth + 1 }
-    ensures stays { id ≡ 6 → result.depth ≡ state.depth }
+    ensures stays { id ≡ T_EOF → result.depth ≡ state.depth }
 {
     State {
         depth: depth_behind(state.depth, id),
