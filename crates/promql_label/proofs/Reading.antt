@@ -1,0 +1,21 @@
+-- What the forms of a value that were tried say of its answer.
+use Rattle.std.proofs.Common.{◌≡◌, Option, Some, None, subst, sym}
+use Rattle.promql_label.specs.Answers.{Allows, as_it_is, built, escaped, IsTried, MayRefusePair, neither, refused}
+use Rattle.promql_label.specs.Repeats.{escaped_repeats}
+use Rattle.promql_label.specs.Texts.{Text}
+
+tried_as : (u form : Text) (o made : Option Text) → o ≡ made → u ≡ form → IsTried u o → IsTried form made
+tried_as u form o made made_is form_is tried = subst (λ f. IsTried f made) form_is (subst (IsTried u) made_is tried)
+
+pub read_as_it_is : (v w : Text) (o : Option Text) → o ≡ Some w → IsTried v o → Allows v (built w)
+read_as_it_is v w o is tried =
+    let read : IsTried v (Some w) = subst (IsTried v) is tried in
+    subst (λ w. Allows v (built w)) (sym read.0) (as_it_is v read.1)
+
+pub read_escaped : (v u w : Text) (o : Option Text) → MayRefusePair v → u ≡ escaped_repeats v → o ≡ Some w → IsTried u o → Allows v (built w)
+read_escaped v u w o refuses form is tried =
+    let read = tried_as u (escaped_repeats v) o (Some w) is form tried in
+    subst (λ w. Allows v (built w)) (sym read.0) (escaped v refuses read.1)
+
+pub refused_twice : (v u : Text) (o : Option Text) → MayRefusePair v → u ≡ escaped_repeats v → o ≡ None → IsTried u o → Allows v refused
+refused_twice v u o refuses form is tried = neither v refuses (tried_as u (escaped_repeats v) o None is form tried)

@@ -1,0 +1,5 @@
+use Rattle.promql_label.proofs.CommonLabels.{common-once}
+use Rattle.promql_label.proofs.laws.common_labels_are_distinct.Goals as goal
+
+pub returns : goal.returns
+returns c = common-once

@@ -1,0 +1,5 @@
+use Rattle.promql_label.proofs.SameMatchers.{list_Decides}
+use Rattle.promql_label.proofs.laws.equal_matcher_lists.Goals as goal
+
+pub returns : goal.returns
+returns c = list_Decides

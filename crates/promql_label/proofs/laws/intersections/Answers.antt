@@ -1,0 +1,5 @@
+use Rattle.promql_label.proofs.CommonLabels.{common-Contains}
+use Rattle.promql_label.proofs.laws.intersections.Goals as goal
+
+pub returns : goal.returns
+returns c = common-Contains

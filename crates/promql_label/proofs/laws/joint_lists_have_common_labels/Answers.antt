@@ -1,0 +1,5 @@
+use Rattle.promql_label.proofs.CommonLabels.{joint-common}
+use Rattle.promql_label.proofs.laws.joint_lists_have_common_labels.Goals as goal
+
+pub returns : goal.returns
+returns c = joint-common

@@ -1,0 +1,54 @@
+-- What `regex` may answer for a pattern: docs/MATCHERS.md, "Patterns".
+use Rattle.std.specs.Prelude.{◌≡◌, ◌≢◌, ◌⊎◌, Bool, false, ◌++◌, Option, Some, None, is_some, option_map, unwrap_or, codes, chars}
+use Rattle.regex.specs.Failures.{IsPattern}
+use Rattle.regex.specs.Strings.{regex_source, regex_config, IsReadFromSource, IsDefaultFailure}
+use Rattle.regex.specs.Patterns.{default_config, find_str}
+use Rattle.regex.specs.declared.error.Error.{Error}
+use Rattle.regex.specs.declared.string.regex.Regex.{Regex}
+use Rattle.regex.specs.declared.error.Error.TheVariants.{OutOfMemory}
+use Rattle.regex_syntax.specs.Grammar.{read}
+use Rattle.promql_label.specs.Texts.{Text}
+use Rattle.promql_label.specs.Repeats.{escaped_repeats}
+
+-- "Anchoring": the text that is built of a pattern
+abbrev pub anchored : Text → Text
+anchored u = codes "^(?:" ++ (u ++ codes ")$")
+
+-- the grammar of `regex` reads the text
+abbrev pub IsRead : Text → Type 0
+IsRead = IsPattern default_config
+
+-- `regex` may refuse the text for another cause than memory
+abbrev pub MayRefuse : Text → Type 0
+MayRefuse w = (e : Error) × (e ≢ OutOfMemory) × IsDefaultFailure w e
+
+-- what is compiled is the text
+abbrev pub IsCompiledFrom : Text → Regex → Type 0
+IsCompiledFrom w r = (regex_source r ≡ w) × (regex_config r ≡ default_config) × IsReadFromSource r
+
+-- a form of a pattern is read, or refused, by itself or anchored
+abbrev pub IsReadPair : Text → Type 0
+IsReadPair u = IsRead u × IsRead (anchored u)
+
+abbrev pub MayRefusePair : Text → Type 0
+MayRefusePair u = MayRefuse u ⊎ MayRefuse (anchored u)
+
+-- what becomes of a form that is tried: its anchored text, or nothing
+abbrev pub IsTried : Text → Option Text → Type 0
+IsTried u (Some w) = (w ≡ anchored u) × IsReadPair u
+IsTried u None = MayRefusePair u
+
+-- what is answered for a pattern: the built text, or that it is refused
+pub data Answer : Type 0 where
+  built : Text → Answer
+  refused : Answer
+
+-- "Answers": `regex` allows this answer for a pattern
+pub data Allows : Text → Answer → Type 0 where
+  as_it_is : (v : Text) → IsReadPair v → Allows v (built (anchored v))
+  escaped : (v : Text) → MayRefusePair v → IsReadPair (escaped_repeats v) → Allows v (built (anchored (escaped_repeats v)))
+  neither : (v : Text) → MayRefusePair v → MayRefusePair (escaped_repeats v) → Allows v refused
+
+-- "Matching by a pattern": whether `regex` finds the pattern of a built text in a text
+abbrev pub finds : Text → Text → Bool
+finds w z = unwrap_or (option_map (λ p. is_some (find_str p.0.value z 0)) (read default_config (chars w))) false

@@ -1,0 +1,11 @@
+pub mod Texts
+pub mod Labels
+pub mod LabelLaws
+pub mod Repeats
+pub mod Answers
+pub mod Refusals
+pub mod Conditions
+pub mod Views
+pub mod Operators
+pub mod MatcherErrors
+pub mod Equalities

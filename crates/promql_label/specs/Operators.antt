@@ -1,0 +1,28 @@
+-- The operators that token ids stand for: docs/MATCHERS.md, "Operators of tokens".
+use Rattle.std.specs.Prelude.{◌≡◌, ℕ, Bool, ◌||◌, [], ◌∷◌}
+use Rattle.promql_token.specs.declared.ids.TheConstants.{T_EQL, T_NEQ, T_EQL_REGEX, T_NEQ_REGEX}
+use Rattle.promql_token.specs.Ids.{is_one_of}
+use Rattle.promql_label.specs.Answers.{Allows, built}
+use Rattle.promql_label.specs.Conditions.{Operator, equal, not_equal, matches, matches_not, Condition, condition}
+use Rattle.promql_label.specs.Texts.{Text}
+
+-- the ids that compare with a text, and those that compare by a pattern
+abbrev pub is_text_id : ℕ → Bool
+is_text_id = is_one_of (T_EQL ∷ T_NEQ ∷ [])
+
+abbrev pub is_pattern_id : ℕ → Bool
+is_pattern_id = is_one_of (T_EQL_REGEX ∷ T_NEQ_REGEX ∷ [])
+
+abbrev pub is_operator_id : ℕ → Bool
+is_operator_id id = is_text_id id || is_pattern_id id
+
+-- the operator is the id's, and a pattern in it is one that is allowed for the value
+abbrev pub OperatorOf : ℕ → Text → Operator → Type 0
+OperatorOf id value equal = id ≡ T_EQL
+OperatorOf id value not_equal = id ≡ T_NEQ
+OperatorOf id value (matches w) = (id ≡ T_EQL_REGEX) × Allows value (built w)
+OperatorOf id value (matches_not w) = (id ≡ T_NEQ_REGEX) × Allows value (built w)
+
+-- a matcher of an id, a name and a value
+abbrev pub ConditionOf : ℕ → Text → Text → Condition → Type 0
+ConditionOf id name value (condition op n v) = OperatorOf id value op × (n ≡ name) × (v ≡ value)

@@ -1,0 +1,43 @@
+-- Repetitions in a pattern: docs/MATCHERS.md, "Repetitions".
+use Rattle.std.specs.Prelude.{◌≡◌, ℕ, ◌<◌, Bool, true, not, ◌==◌, ◌&&◌, ◌||◌, if◌then◌else◌, [], ◌∷◌, ◌++◌, length, drop, slice_index, codes}
+use Rattle.std.specs.Char.{is_ascii_digit}
+use Rattle.std.specs.List.{list_all, prefix_len}
+use Rattle.promql_label.specs.Texts.{Text}
+
+-- one or more digits
+pub record IsNumeral (n : Text) : Type 0 where
+  pub some : 0 < length n
+  pub digits : list_all is_ascii_digit n ≡ true
+
+-- "Repetitions": a count, which is `n}`, `n,}` or `n,m}`, stands in front of some text
+pub data OpensCount : Text → Type 0 where
+  exactly : (n z : Text) → IsNumeral n → OpensCount (n ++ (codes "}" ++ z))
+  at_least : (n z : Text) → IsNumeral n → OpensCount (n ++ (codes ",}" ++ z))
+  between : (n m z : Text) → IsNumeral n → IsNumeral m → OpensCount (n ++ (codes "," ++ (m ++ (codes "}" ++ z))))
+
+-- what is left behind the digits that the text begins with
+abbrev pub behind_digits : Text → Text
+behind_digits z = drop (prefix_len is_ascii_digit z) z
+
+-- whether a count stands in front: the law `counts`
+abbrev pub opens_count : Text → Bool
+opens_count z =
+    is_ascii_digit (slice_index z 0)
+    && (let end = behind_digits z in
+    slice_index end 0 == 125
+    || slice_index end 0 == 44 && slice_index (behind_digits (drop 1 end)) 0 == 125)
+
+-- "Repetitions": a `{` behind which no count stands
+abbrev pub is_loose : ℕ → Text → Bool
+is_loose b z = b == 123 && not (opens_count z)
+
+-- a byte in front of z, with a backslash if it is loose
+abbrev pub marked : ℕ → Text → Text
+marked b z = if is_loose b z then 92 ∷ b ∷ [] else b ∷ []
+
+-- "Repetitions": the escaped form of a pattern. A backslash stays, and so does the byte behind it.
+abbrev pub escaped_repeats : Text → Text
+escaped_repeats [] = []
+escaped_repeats (b ∷ []) = marked b []
+escaped_repeats (b ∷ c ∷ z) =
+    if b == 92 then b ∷ c ∷ escaped_repeats z else marked b (c ∷ z) ++ escaped_repeats (c ∷ z)

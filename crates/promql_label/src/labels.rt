@@ -1,0 +1,138 @@
+//! Lists of labels: docs/MATCHERS.md, "Labels".
+
+ghost use Rattle.std.specs.Prelude.{◌≡◌, ◌≢◌, ◌↔◌, ◌++◌, ◌∷◌, [], IfOk, IsTrue, map, string_bytes};
+ghost use Rattle.std.specs.List.{list_any};
+ghost use Rattle.promql_label.specs.Labels.{common, is_among, is_number_word, labels_of};
+
+use crate::joined::write_separator;
+use crate::quoted::Quoted;
+use promql_token::is_label;
+use std::alloc::{AllocError, Global};
+use std::fmt;
+use std::fmt::Display;
+
+/// A label's name.
+pub type Label = String;
+
+/// A list of labels.
+#[derive(Debug, Drop, PartialEq, Eq)]
+pub struct Labels {
+    pub labels: Vec<Label>,
+}
+
+impl Labels {
+    /// The list of these labels.
+    pub fn new(alloc: Global, labels: Vec<&str>) -> Result<Labels, AllocError>
+        ensures { IfOk result (λ x. labels_of x ≡ map (λ label. label.now) labels.entry.items) }
+    {
+        let mut owned = Vec::with_capacity(alloc, labels.len())?;
+        for label in &labels {
+            owned.push(String::from_str(alloc, label)?)?;
+        }
+        Ok(Labels { labels: owned })
+    }
+
+    /// The list with a label behind it.
+    pub fn append(self, label: Label) -> Result<Labels, AllocError>
+        ensures { IfOk result (λ x. labels_of x ≡ labels_of self ++ string_bytes label ∷ []) }
+    {
+        let mut labels = self.labels;
+        labels.push(label)?;
+        Ok(Labels { labels })
+    }
+
+    /// Whether there is no label.
+    pub fn is_empty(&self) -> bool
+        ensures { IsTrue result ↔ (labels_of self.now ≡ []) }
+    {
+        self.labels.is_empty()
+    }
+
+    /// Whether the lists have a label in common: docs/MATCHERS.md, "Common labels".
+    pub fn is_joint(&self, other: &Labels) -> bool
+        ensures value { result ≡ list_any (is_among (labels_of other.now)) (labels_of self.now) }
+        ensures common { IsTrue result ↔ (common (labels_of self.now) (labels_of other.now) ≢ []) }
+    {
+        self.labels
+            .iter()
+            .any(|label| other.contains(label.as_str()))
+    }
+
+    /// The labels of this list that the other has too, each once, in the order in which this list has them first:
+    /// docs/MATCHERS.md, "Common labels".
+    pub fn intersect(&self, alloc: Global, other: &Labels) -> Result<Labels, AllocError>
+        ensures { IfOk result (λ x. labels_of x ≡ common (labels_of self.now) (labels_of other.now)) }
+    {
+        let mut both = Labels {
+            labels: Vec::new(alloc),
+        };
+        for own in &self.labels {
+            let label = own.as_str();
+            if other.contains(label) && !both.contains(label) {
+                both = both.append(String::from_str(alloc, label)?)?;
+            }
+        }
+        Ok(both)
+    }
+
+    /// The same list, in memory of its own.
+    pub fn try_clone(&self, alloc: Global) -> Result<Labels, AllocError>
+        ensures { IfOk result (λ x. labels_of x ≡ labels_of self.now) }
+    {
+        let mut labels = Vec::with_capacity(alloc, self.labels.len())?;
+        for label in &self.labels {
+            labels.push(String::from_str(alloc, label.as_str())?)?;
+        }
+        Ok(Labels { labels })
+    }
+
+    fn contains(&self, label: &str) -> bool
+        ensures { result ≡ is_among (labels_of self.now) label.now }
+    {
+        self.labels.iter().any(|other| label == other.as_str())
+    }
+}
+
+impl fmt::Display for Labels {
+    ghost use Rattle.std.specs.Prelude.{Some};
+    ghost use Rattle.promql_label.specs.Labels.{labels_text, labels_of};
+
+    ghost output = { λ x. Some (labels_text (labels_of x)) };
+
+    fn fmt<W: fmt::Write>(&self, f: &mut fmt::Formatter<W>) -> fmt::Result {
+        for (i, label) in self.labels.iter().enumerate() {
+            write_separator(", ", i, f)?;
+            LabelText(label.as_str()).fmt(f)?;
+        }
+        Ok(())
+    }
+}
+
+/// A label as it prints: docs/MATCHERS.md, "Printed labels".
+#[derive(Clone, Copy)]
+struct LabelText<'a>(&'a str);
+
+impl fmt::Display for LabelText<'_> {
+    ghost use Rattle.std.specs.Prelude.{Some};
+    ghost use Rattle.promql_label.specs.Labels.{label_text};
+
+    ghost output = { λ label. Some (label_text label.0.now) };
+
+    fn fmt<W: fmt::Write>(&self, f: &mut fmt::Formatter<W>) -> fmt::Result {
+        if is_label(self.0) && !is_number_word(self.0) {
+            f.write_str(self.0)
+        } else {
+            Quoted(self.0).fmt(f)
+        }
+    }
+}
+
+/// Whether it would be read as a number: `inf` or `nan`, in any case.
+fn is_number_word(label: &str) -> bool
+    ensures { result ≡ is_number_word label.now }
+{
+    label.eq_ignore_ascii_case("inf") || label.eq_ignore_ascii_case("nan")
+}
+
+#[cfg(test)]
+mod tests;

@@ -1,0 +1,116 @@
+//! Worked rows.
+
+use crate::joined::write_joined;
+use crate::labels::{Label, Labels};
+use std::alloc::{AllocError, Global};
+use std::fmt;
+use std::test::Fail;
+
+// Labels, and their list as it prints.
+const PRINTED: [(&[&str], &str); 14] = [
+    (&[], ""),
+    (&["by"], "by"),
+    (&["_a1", "B"], "_a1, B"),
+    (
+        &["inf", "a b", "NaN", "infx"],
+        r#""inf", "a b", "NaN", infx"#,
+    ),
+    (
+        &["Inf", "INF", "nan", "Infinity"],
+        r#""Inf", "INF", "nan", Infinity"#,
+    ),
+    (&["a:b"], r#""a:b""#),
+    (&["1a"], r#""1a""#),
+    (&[""], r#""""#),
+    (&["", ""], r#""", """#),
+    (&["\"\\\n"], r#""\"\\\n""#),
+    (&["\r\t\0'`"], "\"\\r\\t\0'`\""),
+    (&["é"], r#""é""#),
+    (&["ok", "日本\n", "z"], "ok, \"日本\\n\", z"),
+    (&["😀\"é"], r#""😀\"é""#),
+];
+
+// Two lists, and their common labels.
+const COMMON: [(&[&str], &[&str], &[&str]); 9] = [
+    (&["foo"], &["bar"], &[]),
+    (&["foo"], &["foo", "bar"], &["foo"]),
+    (&["foo", "bar", "foo"], &["bar", "foo"], &["foo", "bar"]),
+    (&["a", "b", "c"], &["c", "b", "a"], &["a", "b", "c"]),
+    (&["a", "a", "b", "b", "a"], &["b", "b"], &["b"]),
+    (&["a"], &["A"], &[]),
+    (&["", "a"], &["", ""], &[""]),
+    (&[], &["a"], &[]),
+    (&["a"], &[], &[]),
+];
+
+fn list(alloc: Global, labels: &[&str]) -> Result<Labels, AllocError> {
+    Labels::new(alloc, labels.to_vec(alloc)?)
+}
+
+#[test]
+fn prints(rt: HostRuntime) -> Result<(), Fail> {
+    for (labels, text) in PRINTED {
+        let labels = list(rt.alloc(), labels)?;
+        assert_eq!(rt; labels.to_string(rt.alloc())?.as_str(), text);
+        assert_eq!(rt; labels.is_empty(), text.is_empty());
+    }
+    Ok(())
+}
+
+#[test]
+fn common(rt: HostRuntime) -> Result<(), Fail> {
+    for (labels, others, both) in COMMON {
+        let labels = list(rt.alloc(), labels)?;
+        let others = list(rt.alloc(), others)?;
+        let both = list(rt.alloc(), both)?;
+        assert!(rt; labels.intersect(rt.alloc(), &others)? == both);
+        assert_eq!(rt; labels.is_joint(&others), !both.is_empty());
+    }
+    Ok(())
+}
+
+#[test]
+fn lists(rt: HostRuntime) -> Result<(), Fail> {
+    let empty = list(rt.alloc(), &[])?;
+    assert!(rt; empty.is_empty());
+    let labels = empty
+        .append(String::from_str(rt.alloc(), "foo")?)?
+        .append(String::from_str(rt.alloc(), "bar")?)?;
+    assert!(rt; !labels.is_empty());
+    assert_eq!(rt; labels.to_string(rt.alloc())?.as_str(), "foo, bar");
+    assert!(rt; labels == list(rt.alloc(), &["foo", "bar"])?);
+    assert!(rt; labels != list(rt.alloc(), &["bar", "foo"])?);
+    assert!(rt; labels != list(rt.alloc(), &["foo"])?);
+    let twin = labels.try_clone(rt.alloc())?;
+    assert!(rt; twin == labels);
+    Ok(())
+}
+
+// Labels that print as they are, behind a bar.
+#[derive(Clone, Copy)]
+struct Barred<'a>(&'a [Label]);
+
+impl fmt::Display for Barred<'_> {
+    ghost use Rattle.std.specs.Prelude.{Some, codes, map, string_bytes};
+    ghost use Rattle.promql_label.specs.Texts.{joined};
+
+    ghost output = { λ labels. Some (joined (codes " | ") (map string_bytes labels.0.now)) };
+
+    fn fmt<W: fmt::Write>(&self, f: &mut fmt::Formatter<W>) -> fmt::Result {
+        write_joined(self.0, " | ", f)
+    }
+}
+
+#[test]
+fn joins(rt: HostRuntime) -> Result<(), Fail> {
+    for (labels, text) in [
+        (&[][..], ""),
+        (&["a"][..], "a"),
+        (&["inf", "", "b"][..], "inf |  | b"),
+    ] {
+        let labels = list(rt.alloc(), labels)?;
+        let barred = Barred(labels.labels.as_slice());
+        assert_eq!(rt; format!(in rt.alloc(); "{barred}")?.as_str(), text);
+    }
+    Ok(())
+}

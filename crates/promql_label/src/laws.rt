@@ -1,0 +1,71 @@
+//! Laws on the definitions alone. Each is the contract of a function that does nothing.
+
+ghost use Rattle.std.specs.Prelude.{◌≡◌, ◌≢◌, ◌↔◌, ◌<◌, [], List, IsTrue};
+ghost use Rattle.std.specs.List.{list_any, AllPairs, Contains};
+ghost use Rattle.promql_label.specs.Texts.{Text};
+ghost use Rattle.promql_label.specs.Labels.{common, is_among, labels_of};
+ghost use Rattle.promql_label.specs.LabelLaws.{first_place};
+ghost use Rattle.promql_label.specs.Repeats.{opens_count, OpensCount};
+ghost use Rattle.promql_label.specs.Equalities.{HashesAlike, IsSameBy};
+ghost use Rattle.promql_label.specs.Views.{condition_of, conditions_of, operator_of};
+
+use crate::labels::Labels;
+use crate::matcher::{MatchOp, Matcher};
+use crate::matchers::Matchers;
+use std::hash::Hash;
+
+/// The common labels of two lists are those that both have.
+pub fn intersections()
+    ensures { (ls others : List Text) (l : Text)
+        → Contains (common ls others) l ↔ (Contains ls l × Contains others l) }
+{}
+
+/// Each common label is there once.
+pub fn common_labels_are_distinct()
+    ensures { (ls others : List Text) → AllPairs (λ l k. l ≢ k) (common ls others) }
+{}
+
+/// The common labels stand in the order in which the first list has them first.
+pub fn common_labels_keep_their_order()
+    ensures { (ls others : List Text) → AllPairs (λ l k. first_place ls l < first_place ls k) (common ls others) }
+{}
+
+/// No other list has these labels in this order.
+pub fn common_labels_are_one_list()
+    ensures { (ls others both : List Text)
+        → ((l : Text) → Contains both l ↔ (Contains ls l × Contains others l))
+        → AllPairs (λ l k. first_place ls l < first_place ls k) both
+        → both ≡ common ls others }
+{}
+
+/// A label of the one list is among the others exactly if there are common labels.
+pub fn joint_lists_have_common_labels()
+    ensures { (ls others : List Text) → IsTrue (list_any (is_among others) ls) ↔ (common ls others ≢ []) }
+{}
+
+/// A count, as the rules have it, stands in front of a text exactly if the test of `escape_repeats` says so.
+pub fn counts()
+    ensures { (z : Text) → IsTrue (opens_count z) ↔ OpensCount z }
+{}
+
+/// Lists of labels are equal exactly if they have the same texts in the same order.
+pub fn equal_label_lists()
+    ensures { IsSameBy labels_of ⟦<Labels as PartialEq>⟧.eq }
+{}
+
+/// Operators are equal exactly if they are of one kind, and of one text where they have a pattern.
+pub fn equal_operators()
+    ensures same { IsSameBy operator_of ⟦<MatchOp as PartialEq>⟧.eq }
+    ensures hashed { HashesAlike operator_of ⟦<MatchOp as Hash>⟧.hash_input }
+{}
+
+/// Matchers are equal exactly if their operators, names and values are.
+pub fn equal_matchers()
+    ensures same { IsSameBy condition_of ⟦<Matcher as PartialEq>⟧.eq }
+    ensures hashed { HashesAlike condition_of ⟦<Matcher as Hash>⟧.hash_input }
+{}
+
+/// Lists of matchers are equal exactly if they have the same matchers beside the groups, and the same groups.
+pub fn equal_matcher_lists()
+    ensures { IsSameBy conditions_of ⟦<Matchers as PartialEq>⟧.eq }
+{}

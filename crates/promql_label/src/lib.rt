@@ -1,0 +1,29 @@
+//! Labels and label matchers: lists of labels, patterns, matchers and their or-groups.
+//! The rules stand in docs/MATCHERS.md.
+#![tactic(auto)]
+
+pub use labels::{Label, Labels};
+pub use matcher::{MatchOp, Matcher, MatcherError};
+pub use matchers::Matchers;
+pub use pattern::{Pattern, PatternFault};
+pub use repeats::escape_repeats;
+
+pub mod joined;
+pub mod labels;
+pub mod laws;
+pub mod matcher;
+pub mod matchers;
+pub mod pattern;
+mod quoted;
+pub mod repeats;
+#[cfg(test)]
+mod tests;
+
+/// The label that holds a metric's name.
+pub const METRIC_NAME: &str = "__name__";
+/// The label that holds an alert's name.
+pub const ALERT_NAME: &str = "alertname";
+/// The label that holds the upper bound of a histogram's bucket.
+pub const BUCKET_LABEL: &str = "le";
+/// The label that holds the instance that was scraped.
+pub const INSTANCE_NAME: &str = "instance";

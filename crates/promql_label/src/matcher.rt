@@ -1,0 +1,192 @@
+//! Matchers: docs/MATCHERS.md, "Matchers".
+
+ghost use Rattle.std.specs.Prelude.{◌≡◌, ◌↔◌, false, true, IfOk, IfErr, IsOk, IsErrOf, codes, string_bytes};
+ghost use Rattle.promql_label.specs.Conditions.{condition, equal, holds};
+ghost use Rattle.promql_label.specs.MatcherErrors.{IsFaultOf};
+ghost use Rattle.promql_label.specs.Operators.{ConditionOf, is_operator_id, is_text_id};
+ghost use Rattle.promql_label.specs.Views.{condition_of, operator_of};
+
+use crate::METRIC_NAME;
+use crate::pattern::{Pattern, PatternFault};
+use crate::quoted::Quoted;
+use promql_token::ids::{T_EQL, T_EQL_REGEX, T_NEQ, T_NEQ_REGEX};
+use promql_token::{TokenId, TokenType, is_label};
+use std::alloc::{AllocError, Global};
+use std::fmt;
+use thiserror::Error;
+
+#[cfg(test)]
+mod tests;
+
+/// How a matcher compares.
+#[derive(Debug, Drop, PartialEq, Eq, Hash)]
+pub enum MatchOp {
+    /// The text is the value.
+    Equal,
+    /// The text is not the value.
+    NotEqual,
+    /// The pattern matches the text.
+    Re(Pattern),
+    /// The pattern does not match the text.
+    NotRe(Pattern),
+}
+
+impl MatchOp {
+    /// The same operator. A pattern shares what was compiled.
+    pub fn try_clone(&self, alloc: Global) -> Result<MatchOp, AllocError>
+        ensures { IfOk result (λ op. operator_of op ≡ operator_of self.now) }
+    {
+        Ok(match self {
+            MatchOp::Equal => MatchOp::Equal,
+            MatchOp::NotEqual => MatchOp::NotEqual,
+            MatchOp::Re(pattern) => MatchOp::Re(pattern.try_clone(alloc)?),
+            MatchOp::NotRe(pattern) => MatchOp::NotRe(pattern.try_clone(alloc)?),
+        })
+    }
+}
+
+impl fmt::Display for MatchOp {
+    ghost use Rattle.std.specs.Prelude.{Some};
+    ghost use Rattle.promql_label.specs.Conditions.{operator_text};
+    ghost use Rattle.promql_label.specs.Views.{operator_of};
+
+    ghost output = { λ op. Some (operator_text (operator_of op)) };
+
+    fn fmt<W: fmt::Write>(&self, f: &mut fmt::Formatter<W>) -> fmt::Result {
+        f.write_str(match self {
+            MatchOp::Equal => "=",
+            MatchOp::NotEqual => "!=",
+            MatchOp::Re(_) => "=~",
+            MatchOp::NotRe(_) => "!~",
+        })
+    }
+}
+
+/// A test of one label's value.
+#[derive(Debug, Drop, PartialEq, Eq, Hash)]
+pub struct Matcher {
+    pub op: MatchOp,
+    /// The label's name.
+    pub name: String,
+    /// What the label's value is compared with, or the pattern as it was given.
+    pub value: String,
+}
+
+impl Matcher {
+    /// The matcher of an operator, a name and a value.
+    pub fn new(alloc: Global, op: MatchOp, name: &str, value: &str) -> Result<Matcher, AllocError>
+        ensures { IfOk result (λ m. condition_of m ≡ condition (operator_of op) name.now value.now) }
+    {
+        Ok(Matcher {
+            op,
+            name: String::from_str(alloc, name)?,
+            value: String::from_str(alloc, value)?,
+        })
+    }
+
+    /// Whether the matcher matches a text. Only want of memory can come in place of the answer.
+    pub fn is_match(&self, alloc: Global, text: &str) -> Result<bool, AllocError>
+        ensures { IfOk result (λ b. b ≡ holds (condition_of self.now) text.now) }
+    {
+        match &self.op {
+            MatchOp::Equal => Ok(self.value.as_str() == text),
+            MatchOp::NotEqual => Ok(self.value.as_str() != text),
+            MatchOp::Re(pattern) => pattern.is_match(alloc, text),
+            MatchOp::NotRe(pattern) => Ok(!pattern.is_match(alloc, text)?),
+        }
+    }
+
+    /// The matcher that a token's id, a name and a value make. The name and the value are moved, so it takes memory for a
+    /// pattern alone.
+    ///
+    /// # Errors
+    ///
+    /// `InvalidOp` for an id that is no operator of matchers; `Pattern` with the value, where it is to be a pattern and
+    /// `regex` refuses it; `Memory` where a pattern finds no room.
+    pub fn new_matcher(
+        alloc: Global,
+        id: TokenId,
+        name: String,
+        value: String,
+    ) -> Result<Matcher, MatcherError>
+        ensures built { IfOk result (λ m. ConditionOf id (string_bytes name) (string_bytes value) (condition_of m)) }
+        ensures text { is_text_id id ≡ true → IsOk result }
+        ensures invalid { IsErrOf result (MatcherError.InvalidOp id) ↔ (is_operator_id id ≡ false) }
+        ensures fault { IfErr result (IsFaultOf id (string_bytes value)) }
+    {
+        let op = match id {
+            T_EQL => MatchOp::Equal,
+            T_NEQ => MatchOp::NotEqual,
+            T_EQL_REGEX => MatchOp::Re(Pattern::read(alloc, &value)?),
+            T_NEQ_REGEX => MatchOp::NotRe(Pattern::read(alloc, &value)?),
+            _ => return Err(MatcherError::InvalidOp(id)),
+        };
+        Ok(Matcher { op, name, value })
+    }
+
+    /// The matcher that the metric's name is this one.
+    pub fn new_metric_name_matcher(alloc: Global, name: String) -> Result<Matcher, AllocError>
+        ensures { IfOk result (λ m. condition_of m ≡ condition equal (codes "__name__") (string_bytes name)) }
+    {
+        Ok(Matcher {
+            op: MatchOp::Equal,
+            name: String::from_str(alloc, METRIC_NAME)?,
+            value: name,
+        })
+    }
+
+    /// The same matcher.
+    pub fn try_clone(&self, alloc: Global) -> Result<Matcher, AllocError>
+        ensures { IfOk result (λ m. condition_of m ≡ condition_of self.now) }
+    {
+        Matcher::new(alloc, self.op.try_clone(alloc)?, &self.name, &self.value)
+    }
+}
+
+impl fmt::Display for Matcher {
+    ghost use Rattle.std.specs.Prelude.{Some};
+    ghost use Rattle.promql_label.specs.Conditions.{condition_text};
+    ghost use Rattle.promql_label.specs.Views.{condition_of};
+
+    ghost output = { λ m. Some (condition_text (condition_of m)) };
+
+    fn fmt<W: fmt::Write>(&self, f: &mut fmt::Formatter<W>) -> fmt::Result {
+        let name = self.name.as_str();
+        let op = &self.op;
+        let value = Quoted(&self.value);
+        if is_label(name) {
+            write!(f, "{name}{op}{value}")
+        } else {
+            let name = Quoted(name);
+            write!(f, "{name}{op}{value}")
+        }
+    }
+}
+
+/// Why no matcher is made of a token's id, a name and a value.
+#[derive(Debug, Drop, PartialEq, Eq, Error)]
+pub enum MatcherError {
+    /// Memory ran out.
+    #[error("out of memory")]
+    Memory,
+    /// No operator of matchers has this id.
+    #[error("invalid match op {}", TokenType::new(*.0))]
+    InvalidOp(TokenId),
+    /// `regex` refuses the value.
+    #[error("illegal regex for {0}")]
+    Pattern(String),
+}
+
+impl From<PatternFault> for MatcherError {
+    ghost use Rattle.std.specs.Prelude.{◌≡◌};
+    ghost use Rattle.promql_label.specs.MatcherErrors.{error_of};
+
+    ghost from_gives = { λ fault e. e ≡ error_of fault };
+
+    fn from(fault: PatternFault) -> MatcherError {
+        match fault {
+            PatternFault::Memory => MatcherError::Memory,
+            PatternFault::Refused(value) => MatcherError::Pattern(value),
+        }
+    }
+}

@@ -1,0 +1,198 @@
+//! Lists of matchers: docs/MATCHERS.md, "Lists of matchers".
+
+ghost use Rattle.std.specs.Prelude.{◌≡◌, [], ◌∷◌, ◌++◌, IfOk, OnOk, filter, find, map, option_map};
+ghost use Rattle.std.specs.List.{list_all};
+ghost use Rattle.promql_label.specs.Conditions.{all_match_empty, appended, appended_or, conditions, found, found_value, holds, is_of, value_of};
+ghost use Rattle.promql_label.specs.Views.{condition_of, conditions_of};
+
+use crate::matcher::Matcher;
+use std::alloc::{AllocError, Global};
+use std::mem;
+
+#[cfg(test)]
+mod tests;
+
+/// Matchers that all have to hold, and groups of which one has to.
+#[derive(Debug, Drop, PartialEq, Eq)]
+pub struct Matchers {
+    /// The matchers beside the groups.
+    pub matchers: Vec<Matcher>,
+    /// The groups, each of which holds where all its matchers do.
+    pub or_matchers: Vec<Vec<Matcher>>,
+}
+
+impl Matchers {
+    /// No matchers and no groups.
+    pub fn empty(alloc: Global) -> Matchers
+        ensures { conditions_of result ≡ conditions [] [] }
+    {
+        Matchers::new(alloc, Vec::new(alloc))
+    }
+
+    /// One matcher, and no groups.
+    pub fn one(alloc: Global, matcher: Matcher) -> Result<Matchers, AllocError>
+        ensures { IfOk result (λ m. conditions_of m ≡ conditions (condition_of matcher ∷ []) []) }
+    {
+        let mut matchers = Vec::new(alloc);
+        matchers.push(matcher)?;
+        Ok(Matchers::new(alloc, matchers))
+    }
+
+    /// These matchers, and no groups.
+    pub fn new(alloc: Global, matchers: Vec<Matcher>) -> Matchers
+        ensures { conditions_of result ≡ conditions (map condition_of matchers.items) [] }
+    {
+        Matchers {
+            matchers,
+            or_matchers: Vec::new(alloc),
+        }
+    }
+
+    /// The same matchers, with these groups.
+    pub fn with_or_matchers(self, or_matchers: Vec<Vec<Matcher>>) -> Matchers
+        ensures { conditions_of result ≡ conditions (map condition_of self.matchers.items)
+            (map (λ g. map condition_of g.items) or_matchers.items) }
+    {
+        Matchers {
+            matchers: self.matchers,
+            or_matchers,
+        }
+    }
+
+    /// The list with one more matcher: in the last group if there is one, else beside the groups.
+    pub fn append(mut self, matcher: Matcher) -> Result<Matchers, AllocError>
+        ensures { IfOk result (λ m. conditions_of m ≡ appended (conditions_of self) (condition_of matcher)) }
+    {
+        match self.or_matchers.last_mut() {
+            Some(group) => group.push(matcher)?,
+            None => self.matchers.push(matcher)?,
+        }
+        Ok(self)
+    }
+
+    /// The list with one more group, which has this matcher alone. Matchers beside the groups become a group before it.
+    pub fn append_or(mut self, matcher: Matcher) -> Result<Matchers, AllocError>
+        ensures { IfOk result (λ m. conditions_of m ≡ appended_or (conditions_of self) (condition_of matcher)) }
+    {
+        let alloc = *self.or_matchers.allocator();
+        let mut group = Vec::new(alloc);
+        group.push(matcher)?;
+        if !self.matchers.is_empty() {
+            let plain = mem::replace(&mut self.matchers, Vec::new(alloc));
+            self.or_matchers.push(plain)?;
+        }
+        self.or_matchers.push(group)?;
+        Ok(self)
+    }
+
+    /// Whether every matcher matches the empty text. Only want of memory can come in place of the answer.
+    pub fn is_empty_matchers(&self, alloc: Global) -> Result<bool, AllocError>
+        ensures { IfOk result (λ b. b ≡ all_match_empty (conditions_of self.now)) }
+    {
+        if !match_empty(alloc, &self.matchers)? {
+            return Ok(false);
+        }
+        for group in &self.or_matchers {
+            if !match_empty(alloc, group)? {
+                return Ok(false);
+            }
+        }
+        Ok(true)
+    }
+
+    /// The value of the first matcher of this name.
+    #[tactic(auto, using(crate::proofs::Found::searching))]
+    pub fn find_matcher_value(&self, name: &str) -> Option<&str>
+        ensures { option_map (λ v. v.now) result ≡ found_value (conditions_of self.now) name.now }
+    {
+        if let Some(value) = named_value(&self.matchers, name) {
+            return Some(value);
+        }
+        for group in &self.or_matchers {
+            if let Some(value) = named_value(group, name) {
+                return Some(value);
+            }
+        }
+        None
+    }
+
+    /// Copies of all matchers of this name: those beside the groups, then those in the groups, in order.
+    pub fn find_matchers(&self, alloc: Global, name: &str) -> Result<Vec<Matcher>, AllocError>
+        ensures { IfOk result (λ v. map condition_of v.items ≡ found (conditions_of self.now) name.now) }
+    {
+        let mut matchers = Vec::new(alloc);
+        copy_named(alloc, &self.matchers, name, &mut matchers)?;
+        for group in &self.or_matchers {
+            copy_named(alloc, group, name, &mut matchers)?;
+        }
+        Ok(matchers)
+    }
+
+    /// The same list.
+    pub fn try_clone(&self, alloc: Global) -> Result<Matchers, AllocError>
+        ensures { IfOk result (λ m. conditions_of m ≡ conditions_of self.now) }
+    {
+        let mut or_matchers = Vec::new(alloc);
+        for group in &self.or_matchers {
+            or_matchers.push(copied(alloc, group)?)?;
+        }
+        Ok(Matchers {
+            matchers: copied(alloc, &self.matchers)?,
+            or_matchers,
+        })
+    }
+}
+
+/// Whether each matches the empty text.
+fn match_empty(alloc: Global, matchers: &[Matcher]) -> Result<bool, AllocError>
+    ensures { IfOk result (λ b. b ≡ list_all (λ c. holds c []) (map condition_of matchers.now)) }
+{
+    for matcher in matchers {
+        if !matcher.is_match(alloc, "")? {
+            return Ok(false);
+        }
+    }
+    Ok(true)
+}
+
+/// The value of the first of this name.
+fn named_value<'a>(matchers: &'a [Matcher], name: &str) -> Option<&'a str>
+    ensures { option_map (λ v. v.now) result
+        ≡ option_map value_of (find (is_of name.now) (map condition_of matchers.now)) }
+{
+    for matcher in matchers {
+        if matcher.name.as_str() == name {
+            return Some(matcher.value.as_str());
+        }
+    }
+    None
+}
+
+/// Appends copies of those of this name.
+fn copy_named(
+    alloc: Global,
+    matchers: &[Matcher],
+    name: &str,
+    copies: &mut Vec<Matcher>,
+) -> Result<(), AllocError>
+    ensures { OnOk result (map condition_of copies.new.items
+        ≡ map condition_of copies.old.items ++ filter (is_of name.now) (map condition_of matchers.now)) }
+{
+    for matcher in matchers {
+        if matcher.name.as_str() == name {
+            copies.push(matcher.try_clone(alloc)?)?;
+        }
+    }
+    Ok(())
+}
+
+/// The same matchers.
+fn copied(alloc: Global, matchers: &[Matcher]) -> Result<Vec<Matcher>, AllocError>
+    ensures { IfOk result (λ v. map condition_of v.items ≡ map condition_of matchers.now) }
+{
+    let mut copies = Vec::new(alloc);
+    for matcher in matchers {
+        copies.push(matcher.try_clone(alloc)?)?;
+    }
+    Ok(copies)
+}

@@ -1,0 +1,4 @@
+//! Worked rows.
+
+mod patterns;
+mod repeats;

@@ -1,0 +1,36 @@
+//! Escaped repetitions.
+
+use crate::escape_repeats;
+use std::test::Fail;
+
+#[test]
+fn braces_that_open_no_count_are_escaped(rt: HostRuntime) -> Result<(), Fail> {
+    let rows = [
+        ("c{}", r"c\{}"),
+        ("c{d", r"c\{d"),
+        ("c{1}", "c{1}"),
+        ("c{1,}", "c{1,}"),
+        ("c{,2}", r"c\{,2}"),
+        ("c{1,,2}", r"c\{1,,2}"),
+        ("c{1,2,3}", r"c\{1,2,3}"),
+        (r"c\{d", r"c\{d"),
+        ("{{a}", r"\{\{a}"),
+        ("abc{{1,2}}", r"abc\{{1,2}}"),
+        ("", ""),
+        ("c{12,345}", "c{12,345}"),
+        ("c{1", r"c\{1"),
+        ("c{1,2", r"c\{1,2"),
+        ("c{1 }", r"c\{1 }"),
+        ("{", r"\{"),
+        ("\\", "\\"),
+        (r"\\{d", r"\\\{d"),
+        (r"\\\{d", r"\\\{d"),
+        ("\\é{é}", "\\é\\{é}"),
+        ("é{2}é{é", "é{2}é\\{é"),
+    ];
+    for (pattern, want) in rows {
+        let escaped = escape_repeats(rt.alloc(), pattern)?;
+        assert_eq!(rt; escaped.as_str(), want);
+    }
+    Ok(())
+}
