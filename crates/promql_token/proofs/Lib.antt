@@ -1,4 +1,5 @@
 pub mod Beside
+pub mod Counted
 pub mod Cuts
 pub mod Durations
 pub mod Ends

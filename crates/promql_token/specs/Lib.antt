@@ -1,4 +1,6 @@
 pub mod Bytes
+pub mod ByIndex
+pub mod Chars
 pub mod Classes
 pub mod Cut
 pub mod Faults

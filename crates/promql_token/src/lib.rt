@@ -10,6 +10,7 @@ pub use lexeme::Lexeme;
 use std::alloc::Global;
 pub use token::{Token, TokenType, is_label};
 
+mod by_index;
 mod class;
 pub mod fault;
 mod gap;

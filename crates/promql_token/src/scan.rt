@@ -37,7 +37,7 @@ fn shown(text: &str, kind: LexFaultKind, at: usize) -> Option<char>
 }
 
 // The token or fault behind the gap at a place.
-fn item_at(text: &str, at: usize, state: State) -> Result<Lexeme, LexFault>
+pub(crate) fn item_at(text: &str, at: usize, state: State) -> Result<Lexeme, LexFault>
     requires { IsCharBoundary text.now at }
     ensures value { result ≡ spec.first at (spec.found state (drop at text.now)) }
     ensures place { IfOk result (λ x. IsCharBoundary text.now (x.start + x.len)) }
