@@ -4,6 +4,7 @@ use Rattle.std.specs.Prelude.{Bool, false, ◌==◌, ◌&&◌, ◌||◌, not, Op
 use Rattle.std.proofs.Math.Bool.{or-false}
 use Rattle.std.proofs.lemmas.Bool.Decides.{nat_tests}
 use Rattle.std.specs.Io.KnownBytes.{Consumes, Appends, Keeps}
+use Rattle.promql.specs.Ended.{AppendsBeginning}
 
 pub consumes_none : (o : Option (List ℕ)) → Consumes o o []
 consumes_none None = tt
@@ -31,11 +32,20 @@ appends_keeps (Some xs) None new front first same = absurd first
 appends_keeps (Some xs) (Some ys) None front first same = absurd same
 appends_keeps (Some xs) (Some ys) (Some zs) front first same = same ∙ first
 
--- a front of the text was written, and the rest is left
+-- a beginning of the text was written, and this rest is left
 pub record IsPartlyWritten (old new : Option (List ℕ)) (text rest : List ℕ) : Type 0 where
   pub front : List ℕ
   pub whole : front ++ rest ≡ text
   pub appends : Appends old new front
+
+-- what was written so far is a beginning, also after a call that writes nothing more
+pub beginning_keeps : (old mid new : Option (List ℕ)) (text rest : List ℕ) → IsPartlyWritten old mid text rest → Keeps mid new → AppendsBeginning old new text
+beginning_keeps old mid new text rest so_far same = record {
+  front = so_far.front;
+  rest = rest;
+  whole = so_far.whole;
+  appends = appends_keeps old mid new so_far.front so_far.appends same;
+}
 
 pub written_none : (o : Option (List ℕ)) (text rest : List ℕ) → rest ≡ text → IsPartlyWritten o o text rest
 written_none o text rest same = record { front = []; whole = same; appends = appends_none o }

@@ -11,6 +11,7 @@ use Rattle.promql_parser.specs.Grammar.{Derivation, height}
 use Rattle.promql_parser.specs.Building.{build}
 use Rattle.promql_parser.specs.OneLine.{line}
 use Rattle.promql_parser.specs.Answers.{Derives, IsAnswer, IsBuilt}
+use Rattle.promql.specs.Ended.{AppendsBeginning}
 use Rattle.promql.specs.declared.run.Mode.{Mode}
 use Rattle.promql.specs.declared.run.Mode.TheVariants.{Line}
 use Rattle.promql.specs.declared.run.RunError.{RunError}
@@ -26,28 +27,20 @@ error_number NotUtf8 = 3
 error_number (Parse e) = 4
 error_number Write = 5
 
--- a refusal of the parser as an error of the run
+-- an error of the parser as an error of the run
 abbrev pub IsRaised : ParseError → RunError → Type 0
 IsRaised parse_errors.Memory e = e ≡ Memory
-IsRaised (parse_errors.Lex fault) e = e ≡ Parse (parse_errors.Lex fault)
-IsRaised parse_errors.Empty e = e ≡ Parse parse_errors.Empty
-IsRaised parse_errors.Syntax e = e ≡ Parse parse_errors.Syntax
-IsRaised parse_errors.TooDeep e = e ≡ Parse parse_errors.TooDeep
-IsRaised (parse_errors.Number fault) e = e ≡ Parse (parse_errors.Number fault)
+IsRaised other e = e ≡ Parse other
 
 abbrev pub IsReadError : RunError → Type 0
 IsReadError Memory = Unit {0}
 IsReadError Read = Unit {0}
-IsReadError NotUtf8 = ⊥
-IsReadError (Parse e) = ⊥
-IsReadError Write = ⊥
+IsReadError _ = ⊥
 
 abbrev pub IsAnswerError : RunError → Type 0
 IsAnswerError Memory = Unit {0}
-IsAnswerError Read = ⊥
-IsAnswerError NotUtf8 = ⊥
 IsAnswerError (Parse e) = Unit {0}
-IsAnswerError Write = ⊥
+IsAnswerError _ = ⊥
 
 -- these bytes were read, and none is left
 pub record HasRead (old new : Option (List ℕ)) (input : List ℕ) : Type 0 where
@@ -82,18 +75,29 @@ pub record IsNotUtf8 (left left_after : Option (List ℕ)) : Type 0 where
   pub read : HasRead left left_after input
   pub not_utf8 : ¬ (IsUtf8 input)
 
--- all of the input was read, and it is a text that the parser refuses
-pub record IsRefused (e : ParseError) (left left_after : Option (List ℕ)) : Type 0 where
+-- all of the input was read, and it is a text that the parser rejects
+pub record IsRejected (e : ParseError) (left left_after : Option (List ℕ)) : Type 0 where
   pub input : List ℕ
   pub read : HasRead left left_after input
   pub utf8 : IsUtf8 input
-  pub refused : IsParsed input (Err e)
+  pub rejected : IsParsed input (Err e)
   pub own : e ≢ parse_errors.Memory
 
--- for each error but that of writing
-abbrev pub IsBeforeWriting : RunError → Type 0 → Type 0
-IsBeforeWriting Memory unwritten = unwritten
-IsBeforeWriting Read unwritten = unwritten
-IsBeforeWriting NotUtf8 unwritten = unwritten
-IsBeforeWriting (Parse e) unwritten = unwritten
-IsBeforeWriting Write unwritten = Unit {0}
+-- a write failed: all of the input was read, and a beginning of its line with a line feed was written
+pub record BeginsToPrint (left left_after held held_after : Option (List ℕ)) : Type 0 where
+  pub input : List ℕ
+  pub printed : List ℕ
+  pub read : HasRead left left_after input
+  pub utf8 : IsUtf8 input
+  pub is : IsPrinted input printed
+  pub begun : AppendsBeginning held held_after printed
+
+-- the fact, for each error but a failed read
+abbrev pub UnlessRead : RunError → Type 0 → Type 0
+UnlessRead Read fact = Unit {0}
+UnlessRead _ fact = fact
+
+-- the fact, for each error but a failed write
+abbrev pub UnlessWrite : RunError → Type 0 → Type 0
+UnlessWrite Write fact = Unit {0}
+UnlessWrite _ fact = fact

@@ -1,12 +1,10 @@
-// From the bytes of a reader to the bytes of a writer.
+//! From the bytes of a reader to the bytes of a writer.
 
-ghost use Rattle.std.specs.Prelude.{◌≡◌, ◌≢◌, ◌++◌, [], ◌∷◌, List, ℕ, true, false, Ok, Err, OnOk, IfOk, IfErr, OnErr, IsErrOf, string_bytes};
-ghost use Rattle.std.specs.Str.{IsUtf8};
+ghost use Rattle.std.specs.Prelude.{◌≡◌, ◌≢◌, true, false, Ok, Err, OnOk, IfOk, IfErr, OnErr, IsErrOf, MatchResult, string_bytes};
 ghost use Rattle.std.specs.Io.KnownBytes.{Appends};
 ghost use Rattle.promql_parser.specs.declared.parser.ParseError.{ParseError};
-ghost use Rattle.promql_parser.specs.OneLine.{line};
-ghost use Rattle.promql_parser.specs.Tree.{Tree};
-ghost use Rattle.promql.specs.Running.{HasRead, IsParsed, IsPrinted, Prints, IsNotUtf8, IsRefused, IsBeforeWriting, mode_named, error_number, IsReadError, IsAnswerError};
+ghost use Rattle.promql.specs.Ended.{AppendsBeginning};
+ghost use Rattle.promql.specs.Running.{HasRead, IsParsed, IsPrinted, Prints, BeginsToPrint, IsNotUtf8, IsRejected, UnlessRead, UnlessWrite, mode_named, error_number, IsReadError, IsAnswerError};
 
 use crate::ended::Ended;
 use promql_parser::parser::{ParseError, parse};
@@ -36,19 +34,19 @@ impl Mode {
 /// Why a run ended without its answer (docs/PROGRAM.md, "Errors").
 #[derive(Clone, Copy, PartialEq, Eq, Debug, Error)]
 pub enum RunError {
-    /// A growth was refused.
+    /// An allocation failed.
     #[error("out of memory")]
     Memory,
     /// A read failed.
     #[error("read failed")]
     Read,
-    /// The input is no text.
+    /// The input is not valid UTF-8.
     #[error("input is not UTF-8")]
     NotUtf8,
-    /// The text has no tree.
+    /// The parser rejects the text.
     #[error("{0}")]
     Parse(ParseError),
-    /// A write failed; a beginning of the answer may have gone out.
+    /// A write failed, or took nothing. A beginning of the answer may have been written.
     #[error("write failed")]
     Write,
 }
@@ -87,19 +85,16 @@ impl From<ParseError> for RunError {
     fn from(error: ParseError) -> RunError {
         match error {
             ParseError::Memory => RunError::Memory,
-            ParseError::Lex(_)
-            | ParseError::Empty
-            | ParseError::Syntax
-            | ParseError::TooDeep
-            | ParseError::Number(_) => RunError::Parse(error),
+            _ => RunError::Parse(error),
         }
     }
 }
 
-/// All that the reader has. Each read but the last adds a byte, so an endless input ends in `Memory`.
+/// Reads all that the reader has. Each read but the last adds a byte, so an endless input ends in `Memory`.
 fn read_input<R: Read>(alloc: Global, reader: &mut Ended<R>) -> Result<Vec<u8>, RunError>
     ensures read { IfOk result (λ bytes. HasRead (R.remaining reader.old.inner) (R.remaining reader.new.inner) bytes.items) }
-    ensures kept { OnOk result (reader.new.failed ≡ reader.old.failed) }
+    ensures quiet { MatchResult result (λ _. reader.new.failed ≡ reader.old.failed)
+        (λ e. UnlessRead e (reader.new.failed ≡ reader.old.failed)) }
     ensures failed { IsErrOf result RunError.Read → reader.new.failed ≡ true }
     ensures errors { IfErr result IsReadError }
 {
@@ -116,7 +111,7 @@ fn read_input<R: Read>(alloc: Global, reader: &mut Ended<R>) -> Result<Vec<u8>, 
     }
 }
 
-/// The whole answer to a text, with a line feed behind it.
+/// The whole answer to a text, with a line feed after it.
 fn answer_text(alloc: Global, mode: Mode, text: &str) -> Result<String, RunError>
     ensures ok { IfOk result (λ answer. IsPrinted text.now (string_bytes answer)) }
     ensures parse { (e : ParseError) → IsErrOf result (RunError.Parse e) → IsParsed text.now (Err e) × (e ≢ ParseError.Memory) }
@@ -128,11 +123,14 @@ fn answer_text(alloc: Global, mode: Mode, text: &str) -> Result<String, RunError
     }
 }
 
-/// The text goes out whole, and is flushed.
-fn write_answer<W: Write>(writer: &mut Ended<W>, text: &str) -> Result<(), RunError>
+/// Writes the whole text, and flushes. No call that failed is made again.
+///
+/// `Write` is returned only where a call failed: then a beginning of the text was written, and nothing else.
+pub fn write_text<W: Write>(writer: &mut Ended<W>, text: &str) -> Result<(), RunError>
     ensures ok { OnOk result (Appends (W.contents writer.old.inner) (W.contents writer.new.inner) text.now) }
-    ensures kept { OnOk result (writer.new.failed ≡ writer.old.failed) }
+    ensures quiet { OnOk result (writer.new.failed ≡ writer.old.failed) }
     ensures flushed { OnOk result (writer.new.pending ≡ false) }
+    ensures begun { OnErr result (AppendsBeginning (W.contents writer.old.inner) (W.contents writer.new.inner) text.now) }
     ensures failed { OnErr result (writer.new.failed ≡ true) }
     ensures errors { IfErr result (λ e. e ≡ RunError.Write) }
 {
@@ -150,34 +148,38 @@ fn write_answer<W: Write>(writer: &mut Ended<W>, text: &str) -> Result<(), RunEr
     }
 }
 
-/// Reads all of the input, and writes what the mode makes of it, with a line feed behind it.
+/// Reads all of the input, and writes what the mode makes of it, with a line feed after it.
 ///
-/// The whole answer is made before the first byte of it is written.
+/// The whole answer is made before the first byte of it is written (docs/PROGRAM.md, "A run").
 pub fn run<R: Read, W: Write>(
     alloc: Global,
     mode: Mode,
     reader: &mut Ended<R>,
     writer: &mut Ended<W>,
 ) -> Result<(), RunError>
-    // No call failed, all of the input was read, and what was written is the answer's text and a line feed, flushed.
+    // All of the input was read, and what was written is the answer's text and a line feed, flushed.
     ensures ok { OnOk result (Prints (R.remaining reader.old.inner) (R.remaining reader.new.inner)
         (W.contents writer.old.inner) (W.contents writer.new.inner)) }
-    ensures quiet_reader { OnOk result (reader.new.failed ≡ reader.old.failed) }
-    ensures quiet_writer { OnOk result (writer.new.failed ≡ writer.old.failed) }
     ensures flushed { OnOk result (writer.new.pending ≡ false) }
+    // No read failed but for `Read`, and no write but for `Write`.
+    ensures quiet_reader { MatchResult result (λ _. reader.new.failed ≡ reader.old.failed)
+        (λ e. UnlessRead e (reader.new.failed ≡ reader.old.failed)) }
+    ensures quiet_writer { OnOk result (writer.new.failed ≡ writer.old.failed) }
+    ensures read { IsErrOf result RunError.Read → reader.new.failed ≡ true }
+    ensures write { IsErrOf result RunError.Write → writer.new.failed ≡ true }
     // The input's own faults, in this order, where all of it was read.
     ensures not_utf8 { IsErrOf result RunError.NotUtf8 → IsNotUtf8 (R.remaining reader.old.inner) (R.remaining reader.new.inner) }
     ensures parse { (e : ParseError) → IsErrOf result (RunError.Parse e) →
-        IsRefused e (R.remaining reader.old.inner) (R.remaining reader.new.inner) }
-    // Nothing was written before the whole answer stood.
-    ensures unwritten { IfErr result (λ e. IsBeforeWriting e (writer.new ≡ writer.old)) }
-    ensures read { IsErrOf result RunError.Read → reader.new.failed ≡ true }
-    ensures write { IsErrOf result RunError.Write → writer.new.failed ≡ true }
+        IsRejected e (R.remaining reader.old.inner) (R.remaining reader.new.inner) }
+    // Nothing was written before the whole answer was made, and nothing but a beginning of it where a write failed.
+    ensures unwritten { IfErr result (λ e. UnlessWrite e (writer.new ≡ writer.old)) }
+    ensures begun { IsErrOf result RunError.Write → BeginsToPrint (R.remaining reader.old.inner)
+        (R.remaining reader.new.inner) (W.contents writer.old.inner) (W.contents writer.new.inner) }
 {
     let input = read_input(alloc, reader)?;
     let Ok(text) = str::from_utf8(input.as_slice()) else {
         return Err(RunError::NotUtf8);
     };
     let answer = answer_text(alloc, mode, text)?;
-    write_answer(writer, answer.as_str())
+    write_text(writer, answer.as_str())
 }

@@ -3,7 +3,7 @@ use Rattle.std.specs.Prelude.{Err}
 use Rattle.std.specs.Str.{IsUtf8}
 use Rattle.std.proofs.lemmas.Result.{err_from_is_err_and}
 use Rattle.promql.specs.declared.run.RunError.TheVariants.{Parse}
-use Rattle.promql.proofs.Refusals.{refused_of}
+use Rattle.promql.proofs.Refusals.{rejected_of}
 use Rattle.promql.proofs.run.run.Goals as goal
 
 pub returns-in_err-answer-clause-parse : goal.returns-in_err-answer-clause-parse
@@ -12,6 +12,6 @@ returns-in_err-answer-clause-parse g c = λ e is.
     let raised : Err same.0 ≡ Err (Parse e) = sym same.1 ∙ is in
     let own : same.0 ≡ Parse e = cc in
     let text = c.in-Ok.ensures.cases in
-    refused_of e _ _ c.in_ok-input.input.items c.in-Ok.text.now c.in_ok-input.ensures.read
+    rejected_of e _ _ c.in_ok-input.input.items c.in-Ok.text.now c.in_ok-input.ensures.read
     (text.0 ∙ c.as_slice.ensures.value) (subst IsUtf8 c.as_slice.ensures.value text.1)
     (c.in_err-answer.ensures.parse e (ap Err (sym same.2 ∙ own)))

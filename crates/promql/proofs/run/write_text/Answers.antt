@@ -1,7 +1,7 @@
 use Rattle.std.proofs.lemmas.List.{take_rest}
 use Rattle.promql.proofs.KnownBytes.{written_more, write_kept}
 use Rattle.std.proofs.Common.{◌∙◌}
-use Rattle.promql.proofs.run.write_answer.Goals as goal
+use Rattle.promql.proofs.run.write_text.Goals as goal
 
 pub loop-rest-preserved : goal.loop-rest-preserved
 loop-rest-preserved g c = record {

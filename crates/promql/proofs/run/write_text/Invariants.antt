@@ -1,6 +1,6 @@
 use Rattle.std.proofs.Common.{◌≡◌, length}
 use Rattle.promql.proofs.KnownBytes.{IsPartlyWritten}
-use Rattle.promql.proofs.run.write_answer.Given as goal
+use Rattle.promql.proofs.run.write_text.Given as goal
 
 abbrev pub invariant-loop-rest : goal.invariant-loop-rest
 invariant-loop-rest g l = record {
