@@ -31,7 +31,7 @@ impl Mode {
     }
 }
 
-/// Why a run ended without its answer (docs/PROGRAM.md, "Errors").
+/// Why a run ended without its answer (docs/PROGRAM.md, "Statuses and messages").
 #[derive(Clone, Copy, PartialEq, Eq, Debug, Error)]
 pub enum RunError {
     /// An allocation failed.
