@@ -1,15 +1,17 @@
 -- What the parser's loop keeps.
-use Rattle.std.proofs.Common.{◌≡◌, ℕ, zero, suc, ◌+◌, ◌≤◌, refl, sym, ◌∙◌, ap, arith, List, ◌∷◌, length}
+use Rattle.std.proofs.Common.{◌≡◌, ℕ, zero, suc, ◌+◌, ◌<◌, ◌≤◌, refl, sym, ◌∙◌, ap, arith, List, ◌∷◌, length}
 use Rattle.std.specs.Prelude.{Result, Ok, Err}
-use Rattle.std.proofs.lemmas.Bool.{cond_above}
-use Rattle.promql_parser.specs.declared.grammar.symbol.Operator.{Operator}
+use Rattle.std.proofs.lemmas.Bool.{cond_above, cond_below}
 use Rattle.promql_parser.specs.declared.grammar.part.Halt.{Halt}
 use Rattle.promql_parser.specs.declared.grammar.part.Halt.TheVariants.{Memory, Syntax, TooDeep}
 use Rattle.promql_parser.specs.declared.grammar.part.Part.{Part}
-use Rattle.promql_parser.specs.Symbols.{Symbol, sign}
+use Rattle.promql_parser.specs.declared.grammar.symbol.Kind.TheVariants as kind
+use Rattle.promql_parser.specs.Symbols.{Symbol, mark}
 use Rattle.promql_parser.specs.Grammar.{Derivation, binary, level, height}
 use Rattle.promql_parser.specs.Parts.{IsPart, IsGiven, Fails}
+use Rattle.promql_parser.specs.Front.{Stops}
 use Rattle.promql_parser.specs.Reading.{above, Stop, too_deep, ◌>>=◌, Reader, first, climb, expression}
+use Rattle.promql_parser.proofs.Complete.{stops}
 
 -- an error of a step is one of the whole
 fails_bind : {A B : Type 0} (e : Halt) (r : Result A Stop) (f : A → Result B Stop) → Fails e r → Fails e (r >>= f)
@@ -54,15 +56,15 @@ climbing_first room below m all left rest under given short = record {
   goes = expression_at room below m all under ∙ ap (λ o. o >>= λ x. climb (expression below) (length all) below m x.0 x.1) given.is;
 }
 
-climb_on : (r : Reader) (k n m : ℕ) (d : Derivation) (op : Operator) (ts us : List Symbol) → ts ≡ sign op ∷ us → length ts ≤ k → m ≤ level op → height d ≤ n → (j : ℕ) × (length us ≤ j) × (climb r k n m d ts ≡ (r (above op) us >>= λ x. climb r j n m (binary op d x.0) x.1))
+climb_on : (r : Reader) (k n m : ℕ) (d : Derivation) (op : ℕ) (ts us : List Symbol) → ts ≡ mark (kind.Operator op) ∷ us → length ts ≤ k → m ≤ level op → height d ≤ n → (j : ℕ) × (length us ≤ j) × (climb r k n m d ts ≡ (r (above op) us >>= λ x. climb r j n m (binary op d x.0) x.1))
 climb_on r zero n m d op ts us front turns least low = absurd (omega (arith, ap length front))
 climb_on r (suc k) n m d op ts us front turns least low = (
   k,
   omega (arith, ap length front),
-  ap (climb r (suc k) n m d) front ∙ sym (cond_above (level op) m (Ok (d, sign op ∷ us)) _ _ least refl) ∙ sym (cond_above n (height d) (Err too_deep) _ _ low refl),
+  ap (climb r (suc k) n m d) front ∙ sym (cond_above (level op) m (Ok (d, mark (kind.Operator op) ∷ us)) _ _ least refl) ∙ sym (cond_above n (height d) (Err too_deep) _ _ low refl),
 )
 
-pub climbing_on : (room below m : ℕ) (all ts : List Symbol) (left : Part) → Climbing room below m all left ts → (op : Operator) (us vs : List Symbol) (right made : Part) → ts ≡ sign op ∷ us → m ≤ level op → left.height ≤ below → IsGiven right vs (expression below (above op) us) → length vs ≤ length us
+pub climbing_on : (room below m : ℕ) (all ts : List Symbol) (left : Part) → Climbing room below m all left ts → (op : ℕ) (us vs : List Symbol) (right made : Part) → ts ≡ mark (kind.Operator op) ∷ us → m ≤ level op → left.height ≤ below → IsGiven right vs (expression below (above op) us) → length vs ≤ length us
     → ((l r : Derivation) → IsPart left l → IsPart right r → IsPart made (binary op l r)) → Climbing room below m all made vs
 climbing_on room below m all ts left climbing op us vs right made front least low given short built =
     let so_far = climbing.built in
@@ -75,3 +77,23 @@ climbing_on room below m all ts left climbing op us vs right made front least lo
       built = built climbing.derivation given.derivation climbing.built given.built;
       goes = climbing.goes ∙ step.2 ∙ ap (λ o. o >>= λ x. climb (expression below) step.0 below m (binary op climbing.derivation x.0) x.1) given.is;
     }
+
+-- no operator follows
+pub climbing_stops : (room below m : ℕ) (all ts : List Symbol) (left : Part) → Climbing room below m all left ts → Stops m ts → IsGiven left ts (expression room m all)
+climbing_stops room below m all ts left climbing stop = record {
+  derivation = climbing.derivation;
+  is = climbing.goes ∙ stops (expression below) climbing.turns below m climbing.derivation ts stop;
+  built = climbing.built;
+}
+
+climb_deep : (r : Reader) (k n m : ℕ) (d : Derivation) (op : ℕ) (ts us : List Symbol) → ts ≡ mark (kind.Operator op) ∷ us → length ts ≤ k → m ≤ level op → n < height d → climb r k n m d ts ≡ Err too_deep
+climb_deep r zero n m d op ts us front turns least high = absurd (omega (arith, ap length front))
+climb_deep r (suc k) n m d op ts us front turns least high =
+    ap (climb r (suc k) n m d) front ∙ sym (cond_above (level op) m (Ok (d, mark (kind.Operator op) ∷ us)) _ _ least refl) ∙ sym (cond_below n (height d) (Err too_deep) _ high)
+
+-- an operator follows, and what stands before it is too high
+pub climbing_deep : (room below m : ℕ) (all ts : List Symbol) (left : Part) → Climbing room below m all left ts → (op : ℕ) (us : List Symbol) → ts ≡ mark (kind.Operator op) ∷ us → m ≤ level op → below < left.height → expression room m all ≡ Err too_deep
+climbing_deep room below m all ts left climbing op us front least high =
+    let so_far = climbing.built in
+    let tall = so_far.tall in
+    climbing.goes ∙ climb_deep (expression below) climbing.turns below m climbing.derivation op ts us front climbing.enough least (omega arith)

@@ -2,10 +2,12 @@
 use Rattle.std.proofs.Common.{◌≡◌, ℕ, zero, suc, ◌+◌, ◌-◌, ◌<◌, ◌≤◌, ⊎_elim, max, refl, sym, ◌∙◌, ap, arith, List, [], ◌∷◌, ◌++◌, length, append_assoc, append-nil, length-append, true, false, cond}
 use Rattle.std.specs.Prelude.{nat_lt, if◌then◌else◌, Result, Ok, Err}
 use Rattle.std.proofs.lemmas.Bool.{cases_lt, cond_below, cond_above}
-use Rattle.promql_parser.specs.Symbols.{Symbol, number_word, name_word, sign, opening, closing, other}
+use Rattle.promql_parser.specs.declared.grammar.symbol.Kind.TheVariants as kind
+use Rattle.promql_parser.specs.Symbols.{Symbol, word, mark}
 use Rattle.promql_parser.specs.Grammar.{Derivation, number, name, paren, binary, yield, level, openness, height, IsWellFormed, IsBase}
+use Rattle.promql_parser.specs.Front.{Stops}
 use Rattle.promql_parser.specs.Reading.{above, Stop, too_deep, ◌>>=◌, Reader, closed, first, climb, expression}
-use Rattle.promql_parser.proofs.Levels.{IsAbove, Stops, Follows, follows_right, above_left, above_right, above_zero}
+use Rattle.promql_parser.proofs.Levels.{IsAbove, Follows, follows_right, above_left, above_right, above_zero}
 
 -- a result, where the height is at most n
 abbrev pub within : {A : Type 0} → ℕ → ℕ → Result A Stop → Result A Stop
@@ -60,24 +62,26 @@ spine (number text) = 0
 spine (name text) = 0
 spine (paren d) = 0
 
-stops : (r : Reader) (k n m : ℕ) (d : Derivation) (ts : List Symbol) → Stops m ts → climb r k n m d ts ≡ Ok (d, ts)
+-- reading ends in front of what stops it
+pub stops : (r : Reader) (k n m : ℕ) (d : Derivation) (ts : List Symbol) → Stops m ts → climb r k n m d ts ≡ Ok (d, ts)
 stops r zero n m d ts stop = refl
-stops r (suc k) n m d (sign op ∷ ts) stop = sym (cond_below (level op) m (Ok (d, sign op ∷ ts)) _ stop)
+stops r (suc k) n m d (mark (kind.Operator op) ∷ ts) stop = sym (cond_below (level op) m (Ok (d, mark (kind.Operator op) ∷ ts)) _ stop)
 stops r (suc k) n m d [] stop = refl
-stops r (suc k) n m d (number_word text ∷ ts) stop = refl
-stops r (suc k) n m d (name_word text ∷ ts) stop = refl
-stops r (suc k) n m d (opening ∷ ts) stop = refl
-stops r (suc k) n m d (closing ∷ ts) stop = refl
-stops r (suc k) n m d (other ∷ ts) stop = refl
+stops r (suc k) n m d (word kept text ∷ ts) stop = refl
+stops r (suc k) n m d (mark kind.Number ∷ ts) stop = refl
+stops r (suc k) n m d (mark kind.Name ∷ ts) stop = refl
+stops r (suc k) n m d (mark kind.Open ∷ ts) stop = refl
+stops r (suc k) n m d (mark kind.Close ∷ ts) stop = refl
+stops r (suc k) n m d (mark kind.Other ∷ ts) stop = refl
 
 module _ (r : Reader) (n : ℕ) (reads : Reads r n) where
   bases : (d : Derivation) (rest : List Symbol) → IsWellFormed d → IsBase d → first r (yield d ++ rest) ≡ within (suc n) (height d) (Ok (d, rest))
   bases (number text) rest formed base = sym (within_low (suc n) 1 (Ok (number text, rest)) (omega arith))
   bases (name text) rest formed base = sym (within_low (suc n) 1 (Ok (name text, rest)) (omega arith))
   bases (paren d) rest formed base =
-      ap (λ ts. r 0 ts >>= λ x. closed x.0 x.1) (append_assoc (yield d) (closing ∷ []) rest)
-      ∙ ap (λ o. o >>= λ x. closed x.0 x.1) (reads.by d 0 (closing ∷ rest) formed (above_zero d) tt tt)
-      ∙ within_bind n (height d) (Ok (d, closing ∷ rest)) (λ x. closed x.0 x.1)
+      ap (λ ts. r 0 ts >>= λ x. closed x.0 x.1) (append_assoc (yield d) (mark kind.Close ∷ []) rest)
+      ∙ ap (λ o. o >>= λ x. closed x.0 x.1) (reads.by d 0 (mark kind.Close ∷ rest) formed (above_zero d) tt tt)
+      ∙ within_bind n (height d) (Ok (d, mark kind.Close ∷ rest)) (λ x. closed x.0 x.1)
       ∙ within_suc n (height d) (Ok (paren d, rest))
   bases (binary op a b) rest formed base = absurd base
 
@@ -93,9 +97,9 @@ module _ (r : Reader) (n : ℕ) (reads : Reads r n) where
   climbs (paren d) m j k rest turns formed top fits = base_climbs (paren d) m j k rest (omega arith) formed tt
   climbs (binary op a b) m j k rest turns formed top fits =
       let behind = follows_right op (openness b) rest fits in
-      ap (λ ts. first r ts >>= λ x. climb r k n m x.0 x.1) (append_assoc (yield a) (sign op ∷ yield b) rest)
-      ∙ climbs a m (suc j) k (sign op ∷ (yield b ++ rest)) (omega arith) formed.0 (above_left m op a top formed.2) formed.2
-      ∙ ap (within (suc n) (height a)) (sym (cond_above (level op) m (Ok (a, sign op ∷ (yield b ++ rest))) _ _ top refl)
+      ap (λ ts. first r ts >>= λ x. climb r k n m x.0 x.1) (append_assoc (yield a) (mark (kind.Operator op) ∷ yield b) rest)
+      ∙ climbs a m (suc j) k (mark (kind.Operator op) ∷ (yield b ++ rest)) (omega arith) formed.0 (above_left m op a top formed.2) formed.2
+      ∙ ap (within (suc n) (height a)) (sym (cond_above (level op) m (Ok (a, mark (kind.Operator op) ∷ (yield b ++ rest))) _ _ top refl)
       ∙ ap (λ o. within n (height a) (o >>= λ x. climb r j n m (binary op a x.0) x.1)) (reads.by b (above op) rest formed.1 (above_right op b formed.3) behind.0 behind.1)
       ∙ ap (within n (height a)) (within_bind n (height b) (Ok (b, rest)) (λ x. climb r j n m (binary op a x.0) x.1)))
       ∙ within_three n (height a) (height b) (climb r j n m (binary op a b) rest)
@@ -104,7 +108,7 @@ module _ (r : Reader) (n : ℕ) (reads : Reads r n) where
   spine_length (number text) = omega arith
   spine_length (name text) = omega arith
   spine_length (paren d) = omega arith
-  spine_length (binary op a b) = omega (arith, spine_length a, length-append (yield a) (sign op ∷ yield b))
+  spine_length (binary op a b) = omega (arith, spine_length a, length-append (yield a) (mark (kind.Operator op) ∷ yield b))
 
   next_reads : (d : Derivation) (m : ℕ) (rest : List Symbol) → IsWellFormed d → IsAbove m d → Follows (openness d) rest → Stops m rest → (first r (yield d ++ rest) >>= λ x. climb r (length (yield d ++ rest)) n m x.0 x.1) ≡ within (suc n) (height d) (Ok (d, rest))
   next_reads d m rest formed top fits stop =

@@ -2,18 +2,19 @@
 use Rattle.std.proofs.Common.{◌≡◌, ℕ, zero, suc, ◌≤◌, ⊎_elim, refl, sym, ◌∙◌, ap, subst, arith, List, [], ◌∷◌, ◌++◌, length, append_assoc, length-append}
 use Rattle.std.specs.Prelude.{Ok, Err}
 use Rattle.std.proofs.lemmas.Bool.{cases_lt, cond_below, cond_above}
-use Rattle.promql_parser.specs.declared.grammar.symbol.Operator.{Operator}
-use Rattle.promql_parser.specs.Symbols.{Symbol, number_word, name_word, sign, opening, closing, other}
+use Rattle.promql_parser.specs.declared.grammar.symbol.Kind.TheVariants as kind
+use Rattle.promql_parser.specs.Symbols.{Symbol, word, mark}
 use Rattle.promql_parser.specs.Grammar.{Derivation, number, name, paren, binary, yield, level, openness, height, IsWellFormed, FitsLeft}
+use Rattle.promql_parser.specs.Front.{Stops}
 use Rattle.promql_parser.specs.Reading.{above, misread, too_deep, ◌>>=◌, Read, Reader, closed, first, climb, expression}
-use Rattle.promql_parser.proofs.Levels.{IsAbove, Stops, Follows, right_follows, right_above, follows_closed}
+use Rattle.promql_parser.proofs.Levels.{IsAbove, Follows, right_follows, right_above, follows_closed}
 
 -- no derivation is higher than its tokens are many
 pub height_yield : (d : Derivation) → height d ≤ length (yield d)
 height_yield (number text) = omega arith
 height_yield (name text) = omega arith
-height_yield (paren d) = omega (arith, height_yield d, length-append (yield d) (closing ∷ []))
-height_yield (binary op a b) = omega (arith, height_yield a, height_yield b, length-append (yield a) (sign op ∷ yield b))
+height_yield (paren d) = omega (arith, height_yield d, length-append (yield d) (mark kind.Close ∷ []))
+height_yield (binary op a b) = omega (arith, height_yield a, height_yield b, length-append (yield a) (mark (kind.Operator op) ∷ yield b))
 
 -- a derivation at the front of the tokens
 pub record IsRead (n m : ℕ) (ts : List Symbol) (d : Derivation) (rest : List Symbol) : Type 0 where
@@ -50,34 +51,38 @@ shorter : (ts : List Symbol) (d : Derivation) (rest : List Symbol) → ts ≡ yi
 shorter ts d rest spells = omega (arith, ap length spells, length-append (yield d) rest)
 
 module _ (n : ℕ) (r : Reader) (sound : IsSound r n) where
-  closed_sound : (d : Derivation) (us ts : List Symbol) → IsWellFormed d → height d ≤ n → ts ≡ yield d ++ us → IsSoundFirst (suc n) (opening ∷ ts) (closed d us)
-  closed_sound d (closing ∷ us) ts formed low spells = record {
+  closed_sound : (d : Derivation) (us ts : List Symbol) → IsWellFormed d → height d ≤ n → ts ≡ yield d ++ us → IsSoundFirst (suc n) (mark kind.Open ∷ ts) (closed d us)
+  closed_sound d (mark kind.Close ∷ us) ts formed low spells = record {
     formed = formed;
     low = omega arith;
     top = λ m. tt;
     fits = follows_closed us;
-    spells = ap (λ l. opening ∷ l) (spells ∙ sym (append_assoc (yield d) (closing ∷ []) us));
+    spells = ap (λ l. mark kind.Open ∷ l) (spells ∙ sym (append_assoc (yield d) (mark kind.Close ∷ []) us));
   }
   closed_sound d [] ts formed low spells = tt
-  closed_sound d (number_word text ∷ us) ts formed low spells = tt
-  closed_sound d (name_word text ∷ us) ts formed low spells = tt
-  closed_sound d (sign op ∷ us) ts formed low spells = tt
-  closed_sound d (opening ∷ us) ts formed low spells = tt
-  closed_sound d (other ∷ us) ts formed low spells = tt
+  closed_sound d (word kept text ∷ us) ts formed low spells = tt
+  closed_sound d (mark kind.Number ∷ us) ts formed low spells = tt
+  closed_sound d (mark kind.Name ∷ us) ts formed low spells = tt
+  closed_sound d (mark (kind.Operator op) ∷ us) ts formed low spells = tt
+  closed_sound d (mark kind.Open ∷ us) ts formed low spells = tt
+  closed_sound d (mark kind.Other ∷ us) ts formed low spells = tt
 
-  paren_sound : (ts : List Symbol) (o : Read) → IsSoundRead n 0 ts o → IsSoundFirst (suc n) (opening ∷ ts) (o >>= λ x. closed x.0 x.1)
+  paren_sound : (ts : List Symbol) (o : Read) → IsSoundRead n 0 ts o → IsSoundFirst (suc n) (mark kind.Open ∷ ts) (o >>= λ x. closed x.0 x.1)
   paren_sound ts (Ok x) read = closed_sound x.0 x.1 ts read.formed read.low read.spells
   paren_sound ts (Err too_deep) long = omega arith
   paren_sound ts (Err misread) read = tt
 
   first_sound : (ts : List Symbol) → IsSoundFirst (suc n) ts (first r ts)
-  first_sound (number_word text ∷ ts) = record { formed = tt; low = omega arith; top = λ m. tt; fits = follows_closed ts; spells = refl }
-  first_sound (name_word text ∷ ts) = record { formed = tt; low = omega arith; top = λ m. tt; fits = follows_closed ts; spells = refl }
-  first_sound (opening ∷ ts) = paren_sound ts (r 0 ts) (sound.by 0 ts)
+  first_sound (word kind.Number text ∷ ts) = record { formed = tt; low = omega arith; top = λ m. tt; fits = follows_closed ts; spells = refl }
+  first_sound (word kind.Name text ∷ ts) = record { formed = tt; low = omega arith; top = λ m. tt; fits = follows_closed ts; spells = refl }
+  first_sound (mark kind.Open ∷ ts) = paren_sound ts (r 0 ts) (sound.by 0 ts)
   first_sound [] = tt
-  first_sound (sign op ∷ ts) = tt
-  first_sound (closing ∷ ts) = tt
-  first_sound (other ∷ ts) = tt
+  first_sound (word kept text ∷ ts) = tt
+  first_sound (mark kind.Number ∷ ts) = tt
+  first_sound (mark kind.Name ∷ ts) = tt
+  first_sound (mark (kind.Operator op) ∷ ts) = tt
+  first_sound (mark kind.Close ∷ ts) = tt
+  first_sound (mark kind.Other ∷ ts) = tt
 
   read_here : (m : ℕ) (d : Derivation) (ts all : List Symbol) → IsWellFormed d → height d ≤ suc n → IsAbove m d → Follows (openness d) ts → Stops m ts → all ≡ yield d ++ ts → IsSoundRead (suc n) m all (Ok (d, ts))
   read_here m d ts all formed low top fits stops spells = record { formed = formed; low = low; top = top; fits = fits; stops = stops; spells = spells }
@@ -85,33 +90,34 @@ module _ (n : ℕ) (r : Reader) (sound : IsSound r n) where
   abbrev Climbs : ℕ → ℕ → Type 0
   Climbs m k = (d : Derivation) (ts all : List Symbol) → IsWellFormed d → height d ≤ suc n → IsAbove m d → Follows (openness d) ts → all ≡ yield d ++ ts → length ts ≤ k → IsSoundRead (suc n) m all (climb r k n m d ts)
 
-  climb_on : (m k : ℕ) (op : Operator) (d : Derivation) (ts all : List Symbol) → IsWellFormed d → height d ≤ n → m ≤ level op → FitsLeft op d → all ≡ yield d ++ sign op ∷ ts → length ts ≤ k → Climbs m k → (o : Read) → IsSoundRead n (above op) ts o → IsSoundRead (suc n) m all (o >>= λ x. climb r k n m (binary op d x.0) x.1)
+  climb_on : (m k : ℕ) (op : ℕ) (d : Derivation) (ts all : List Symbol) → IsWellFormed d → height d ≤ n → m ≤ level op → FitsLeft op d → all ≡ yield d ++ mark (kind.Operator op) ∷ ts → length ts ≤ k → Climbs m k → (o : Read) → IsSoundRead n (above op) ts o → IsSoundRead (suc n) m all (o >>= λ x. climb r k n m (binary op d x.0) x.1)
   climb_on m k op d ts all formed low least fits spells turns goes_on (Ok x) read =
       let right_low = read.low in
       let short = shorter ts x.0 x.1 read.spells in
       goes_on (binary op d x.0) x.1 all (formed, read.formed, fits, right_above op x.0 read.top) (omega arith) least
       (right_follows op (openness x.0) x.1 read.fits read.stops)
-      (spells ∙ ap (λ l. yield d ++ sign op ∷ l) read.spells ∙ sym (append_assoc (yield d) (sign op ∷ yield x.0) x.1))
+      (spells ∙ ap (λ l. yield d ++ mark (kind.Operator op) ∷ l) read.spells ∙ sym (append_assoc (yield d) (mark (kind.Operator op) ∷ yield x.0) x.1))
       (omega arith)
-  climb_on m k op d ts all formed low least fits spells turns goes_on (Err too_deep) long = omega (arith, ap length spells, length-append (yield d) (sign op ∷ ts))
+  climb_on m k op d ts all formed low least fits spells turns goes_on (Err too_deep) long = omega (arith, ap length spells, length-append (yield d) (mark (kind.Operator op) ∷ ts))
   climb_on m k op d ts all formed low least fits spells turns goes_on (Err misread) read = tt
 
   climb_sound : (m k : ℕ) → Climbs m k
   climb_sound m zero d [] all formed low top fits spells turns = read_here m d [] all formed low top fits tt spells
   climb_sound m zero d (t ∷ ts) all formed low top fits spells turns = absurd (omega arith)
-  climb_sound m (suc k) d (sign op ∷ ts) all formed low top fits spells turns =
-      ⊎_elim (λ lower. subst (IsSoundRead (suc n) m all) (cond_below (level op) m (Ok (d, sign op ∷ ts)) _ lower) (read_here m d (sign op ∷ ts) all formed low top fits lower spells))
-      (λ least. subst (IsSoundRead (suc n) m all) (cond_above (level op) m (Ok (d, sign op ∷ ts)) _ _ least refl)
-      (⊎_elim (λ high. let long : suc n ≤ length all = omega (arith, height_yield d, ap length spells, length-append (yield d) (sign op ∷ ts)) in subst (IsSoundRead (suc n) m all) (cond_below n (height d) (Err too_deep) _ high) long)
+  climb_sound m (suc k) d (mark (kind.Operator op) ∷ ts) all formed low top fits spells turns =
+      ⊎_elim (λ lower. subst (IsSoundRead (suc n) m all) (cond_below (level op) m (Ok (d, mark (kind.Operator op) ∷ ts)) _ lower) (read_here m d (mark (kind.Operator op) ∷ ts) all formed low top fits lower spells))
+      (λ least. subst (IsSoundRead (suc n) m all) (cond_above (level op) m (Ok (d, mark (kind.Operator op) ∷ ts)) _ _ least refl)
+      (⊎_elim (λ high. let long : suc n ≤ length all = omega (arith, height_yield d, ap length spells, length-append (yield d) (mark (kind.Operator op) ∷ ts)) in subst (IsSoundRead (suc n) m all) (cond_below n (height d) (Err too_deep) _ high) long)
       (λ fit. subst (IsSoundRead (suc n) m all) (cond_above n (height d) (Err too_deep) _ _ fit refl) (climb_on m k op d ts all formed fit least fits spells (omega arith) (climb_sound m k) (r (above op) ts) (sound.by (above op) ts)))
       (cases_lt n (height d))))
       (cases_lt (level op) m)
   climb_sound m (suc k) d [] all formed low top fits spells turns = read_here m d _ all formed low top fits tt spells
-  climb_sound m (suc k) d (number_word text ∷ ts) all formed low top fits spells turns = read_here m d _ all formed low top fits tt spells
-  climb_sound m (suc k) d (name_word text ∷ ts) all formed low top fits spells turns = read_here m d _ all formed low top fits tt spells
-  climb_sound m (suc k) d (opening ∷ ts) all formed low top fits spells turns = read_here m d _ all formed low top fits tt spells
-  climb_sound m (suc k) d (closing ∷ ts) all formed low top fits spells turns = read_here m d _ all formed low top fits tt spells
-  climb_sound m (suc k) d (other ∷ ts) all formed low top fits spells turns = read_here m d _ all formed low top fits tt spells
+  climb_sound m (suc k) d (word kept text ∷ ts) all formed low top fits spells turns = read_here m d _ all formed low top fits tt spells
+  climb_sound m (suc k) d (mark kind.Number ∷ ts) all formed low top fits spells turns = read_here m d _ all formed low top fits tt spells
+  climb_sound m (suc k) d (mark kind.Name ∷ ts) all formed low top fits spells turns = read_here m d _ all formed low top fits tt spells
+  climb_sound m (suc k) d (mark kind.Open ∷ ts) all formed low top fits spells turns = read_here m d _ all formed low top fits tt spells
+  climb_sound m (suc k) d (mark kind.Close ∷ ts) all formed low top fits spells turns = read_here m d _ all formed low top fits tt spells
+  climb_sound m (suc k) d (mark kind.Other ∷ ts) all formed low top fits spells turns = read_here m d _ all formed low top fits tt spells
 
   next_sound : (m : ℕ) (ts : List Symbol) (o : Read) → IsSoundFirst (suc n) ts o → IsSoundRead (suc n) m ts (o >>= λ x. climb r (length ts) n m x.0 x.1)
   next_sound m ts (Ok x) read = climb_sound m (length ts) x.0 x.1 ts read.formed read.low (read.top m) read.fits read.spells (shorter ts x.0 x.1 read.spells)

@@ -2,14 +2,12 @@
 use Rattle.std.proofs.Common.{◌≡◌, ℕ, ◌+◌, ◌<◌, ◌≤◌, ⊎_elim, true, false, suc, refl, sym, ◌∙◌, ap, subst, arith, List, [], ◌∷◌, ◌++◌, length, append-nil}
 use Rattle.std.specs.Prelude.{◌==◌, Ok, Err}
 use Rattle.std.proofs.lemmas.Bool.Decides.{nat_tests}
-use Rattle.promql_parser.specs.declared.tokens.Token as code
 use Rattle.std.proofs.lemmas.Bool.{cases_lt}
 use Rattle.promql_parser.specs.declared.grammar.part.Part.{Part}
 use Rattle.promql_parser.specs.declared.grammar.part.Halt.{Halt}
 use Rattle.promql_parser.specs.declared.grammar.part.Halt.TheVariants.{Memory, Syntax, TooDeep}
 use Rattle.promql_parser.specs.Symbols.{Symbol}
 use Rattle.promql_parser.specs.Grammar.{Derivation, yield, height, IsWellFormed}
-use Rattle.promql_parser.specs.Symbols.{symbols_of}
 use Rattle.promql_parser.specs.Parts.{IsGiven, Fails}
 use Rattle.promql_parser.specs.Reading.{misread, too_deep, Read, expression}
 use Rattle.promql_parser.specs.Wholes.{IsWhole}
@@ -81,10 +79,10 @@ whole_given n ts rest part given none =
     (given.derivation, read.formed, read.low, no_rest given.derivation ts rest none read.spells, built.built)
 
 -- whether tokens are left
-pub some_left : (ts : List code.Token) → false ≡ (length ts == 0) → 0 < length (symbols_of ts)
+pub some_left : (ts : List Symbol) → false ≡ (length ts == 0) → 0 < length ts
 some_left [] empty = cc
 some_left (t ∷ ts) empty = omega arith
 
-pub none_left : (ts : List code.Token) → true ≡ (length ts == 0) → length (symbols_of ts) ≡ 0
+pub none_left : (ts : List Symbol) → true ≡ (length ts == 0) → length ts ≡ 0
 none_left [] empty = refl
 none_left (t ∷ ts) empty = let none : suc (length ts) ≡ 0 = grind (arith, nat_tests) in absurd (omega arith)

@@ -1,8 +1,6 @@
 -- The answer to a text (docs/GRAMMAR.md, "The answer to a text").
 use Rattle.std.specs.Prelude.{◌≡◌, ◌+◌, ◌<◌, ◌≤◌, List, [], length, map, Result, Ok, Err}
 use Rattle.promql_text.specs.declared.number.NumberFault.{NumberFault}
-use Rattle.promql_token.specs.declared.fault.LexError.{LexError}
-use Rattle.promql_token.specs.declared.fault.LexError.TheVariants as lex_errors
 use Rattle.promql_parser.specs.declared.tree.Expr.{Expr}
 use Rattle.promql_parser.specs.declared.grammar.part.Halt.{Halt}
 use Rattle.promql_parser.specs.declared.grammar.part.Halt.TheVariants as halts
@@ -50,12 +48,8 @@ IsBuilt (Err Syntax) built = ⊥
 IsBuilt (Err TooDeep) built = ⊥
 IsBuilt (Err (Number fault)) built = built ≡ Err fault
 
--- a stop of reading, and of the lexer, as an answer
+-- a stop of reading as an answer
 abbrev pub IsHalt : Halt → ParseError → Type 0
 IsHalt halts.Memory e = e ≡ Memory
 IsHalt halts.Syntax e = e ≡ Syntax
 IsHalt halts.TooDeep e = e ≡ TooDeep
-
-abbrev pub IsLexError : LexError → ParseError → Type 0
-IsLexError lex_errors.Memory e = e ≡ Memory
-IsLexError (lex_errors.Fault fault) e = e ≡ Lex fault

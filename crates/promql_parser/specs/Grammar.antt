@@ -1,28 +1,26 @@
 -- The grammar: derivation trees, their tokens, and which of them are well formed (docs/GRAMMAR.md, "Grammar").
-use Rattle.std.specs.Prelude.{ℕ, ◌+◌, ◌≤◌, ◌<◌, min, max, List, [], ◌∷◌, ◌++◌}
-use Rattle.promql_parser.specs.declared.grammar.symbol.Operator.{Operator}
-use Rattle.promql_parser.specs.declared.grammar.symbol.Operator.TheVariants.{Add, Sub}
+use Rattle.std.specs.Prelude.{ℕ, ◌+◌, ◌≤◌, ◌<◌, if◌then◌else◌, min, max, List, [], ◌∷◌, ◌++◌}
 use Rattle.promql_parser.specs.Lexing.{Text}
-use Rattle.promql_parser.specs.Symbols.{Symbol, number_word, name_word, sign, opening, closing}
+use Rattle.promql_parser.specs.declared.grammar.symbol.Kind.TheVariants as kind
+use Rattle.promql_parser.specs.Symbols.{Symbol, is_operator, word, mark}
 
 -- a derivation, with a case for each alternative of the grammar
 pub data Derivation : Type 0 where
   number : Text → Derivation
   name : Text → Derivation
   paren : Derivation → Derivation
-  binary : Operator → Derivation → Derivation → Derivation
+  binary : ℕ → Derivation → Derivation → Derivation
 
 -- the tokens that a derivation spells
 abbrev pub yield : Derivation → List Symbol
-yield (number text) = number_word text ∷ []
-yield (name text) = name_word text ∷ []
-yield (paren d) = opening ∷ (yield d ++ closing ∷ [])
-yield (binary op l r) = yield l ++ sign op ∷ yield r
+yield (number text) = word kind.Number text ∷ []
+yield (name text) = word kind.Name text ∷ []
+yield (paren d) = mark kind.Open ∷ (yield d ++ mark kind.Close ∷ [])
+yield (binary op l r) = yield l ++ mark (kind.Operator op) ∷ yield r
 
 -- how tightly an operator binds
-abbrev pub level : Operator → ℕ
-level Add = 4
-level Sub = 4
+abbrev pub level : ℕ → ℕ
+level op = if is_operator op then 4 else 0
 
 -- how tightly an operator outside must bind at least to take the form whole on its left
 abbrev pub openness : Derivation → ℕ
@@ -32,11 +30,11 @@ openness (paren d) = 7
 openness (binary op l r) = min (level op) (openness r)
 
 -- the left side's openness is at least the operator's level
-abbrev pub FitsLeft : Operator → Derivation → Type 0
+abbrev pub FitsLeft : ℕ → Derivation → Type 0
 FitsLeft op l = level op ≤ openness l
 
 -- a right side that is binary has a higher level
-abbrev pub FitsRight : Operator → Derivation → Type 0
+abbrev pub FitsRight : ℕ → Derivation → Type 0
 FitsRight op (binary inner l r) = level op < level inner
 FitsRight op (number text) = Unit {0}
 FitsRight op (name text) = Unit {0}

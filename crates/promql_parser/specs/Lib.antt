@@ -1,5 +1,6 @@
 pub mod Lexing
 pub mod Symbols
+pub mod Drawing
 pub mod Tree
 pub mod OneLine
 pub mod Grammar

@@ -10,10 +10,10 @@ ghost use Rattle.promql_parser.specs.Tree.{tree_of, tree_height};
 
 use crate::grammar::expression::read_all;
 use crate::grammar::part::Halt;
-use crate::tokens::{has_tokens, list_tokens};
+use crate::tokens::{Tokens, has_tokens};
 pub use crate::tree::{BinaryExpr, Expr, NumberLiteral, ParenExpr, VectorSelector};
 use promql_text::NumberFault;
-use promql_token::{LexError, LexFault};
+use promql_token::LexFault;
 use std::alloc::{AllocError, Global};
 use thiserror::Error;
 
@@ -65,19 +65,6 @@ impl From<LexFault> for ParseError {
     }
 }
 
-impl From<LexError> for ParseError {
-    ghost use Rattle.promql_parser.specs.Answers.{IsLexError};
-
-    ghost from_gives = { IsLexError };
-
-    fn from(error: LexError) -> ParseError {
-        match error {
-            LexError::Memory => ParseError::Memory,
-            LexError::Fault(fault) => ParseError::Lex(fault),
-        }
-    }
-}
-
 impl From<Halt> for ParseError {
     ghost use Rattle.promql_parser.specs.Answers.{IsHalt};
 
@@ -107,8 +94,7 @@ pub fn parse(alloc: Global, text: &str) -> Result<Expr, ParseError>
     if !has_tokens(text)? {
         return Err(ParseError::Empty);
     }
-    let tokens = list_tokens(alloc, text)?;
-    match read_all(alloc, MAX_DEPTH, tokens.as_slice())? {
+    match read_all(alloc, MAX_DEPTH, Tokens::new(text))? {
         Ok(expr) => Ok(expr),
         Err(fault) => Err(ParseError::Number(fault)),
     }

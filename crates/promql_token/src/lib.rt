@@ -12,6 +12,7 @@ pub use token::{Token, TokenType, is_label};
 
 mod by_index;
 mod class;
+pub mod cursor;
 pub mod fault;
 mod gap;
 pub mod ids;

@@ -40,6 +40,7 @@ fn shown(text: &str, kind: LexFaultKind, at: usize) -> Option<char>
 pub(crate) fn item_at(text: &str, at: usize, state: State) -> Result<Lexeme, LexFault>
     requires { IsCharBoundary text.now at }
     ensures value { result ≡ spec.first at (spec.found state (drop at text.now)) }
+    ensures front { IfOk result (λ x. IsCharBoundary text.now x.start) }
     ensures place { IfOk result (λ x. IsCharBoundary text.now (x.start + x.len)) }
     ensures order { IfOk result (λ x. at ≤ x.start) }
     ensures moves { IfOk result (λ x. x.id ≢ T_EOF → 0 < x.len) }

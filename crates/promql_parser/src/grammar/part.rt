@@ -4,10 +4,9 @@ ghost use Rattle.std.specs.Prelude.{◌≡◌, ℕ, ◌+◌, ◌<◌, max, IfOk}
 ghost use Rattle.promql_parser.specs.Grammar.{Derivation, number, name, paren, binary};
 ghost use Rattle.promql_parser.specs.Parts.{IsPart};
 
-use crate::grammar::symbol::Operator;
 use crate::tree::{BinaryExpr, Expr, NumberLiteral, ParenExpr, VectorSelector};
 use promql_text::{NumberFault, parse_str_radix};
-use promql_token::TokenType;
+use promql_token::{TokenId, TokenType};
 use std::alloc::{AllocError, AllocFailed, Global};
 
 /// What was built, and how high its derivation is.
@@ -94,7 +93,7 @@ pub fn paren_part(alloc: Global, inner: Part) -> Result<Part, AllocError>
     })
 }
 
-pub fn binary_part(alloc: Global, op: Operator, left: Part, right: Part) -> Result<Part, AllocError>
+pub fn binary_part(alloc: Global, op: TokenId, left: Part, right: Part) -> Result<Part, AllocError>
     requires low_left { left.height < 1000 }
     requires low_right { right.height < 1000 }
     ensures built { IfOk result (λ part. (l r : Derivation) → IsPart left l → IsPart right r → IsPart part (binary op l r)) }
@@ -103,7 +102,7 @@ pub fn binary_part(alloc: Global, op: Operator, left: Part, right: Part) -> Resu
     let height = left.height.max(right.height);
     let value = match (left.value, right.value) {
         (Ok(lhs), Ok(rhs)) => Ok(Expr::Binary(BinaryExpr {
-            op: TokenType::new(op.id()),
+            op: TokenType::new(op),
             lhs: Box::new(alloc, lhs)?,
             rhs: Box::new(alloc, rhs)?,
         })),

@@ -1,6 +1,6 @@
-use Rattle.std.proofs.Common.{◌≡◌, ◌+◌, ◌-◌, arith}
+use Rattle.std.proofs.Common.{◌≡◌, ◌+◌, ◌-◌, ◌≤◌, ap, arith, length}
 use Rattle.std.proofs.lemmas.Result.{err_from_is_err_and}
-use Rattle.promql_parser.proofs.Climbing.{expression_zero, expression_fails, climbing_first}
+use Rattle.promql_parser.proofs.Climbing.{expression_zero, expression_fails, climbing_first, climbing_on, climbing_stops, climbing_deep}
 use Rattle.promql_parser.proofs.grammar.expression.+parser.Goals as goal
 
 pub read_expression-returns-then-room-eq0-clause-gives :
@@ -22,4 +22,25 @@ read_expression-loop-op-init t c =
       under = under;
       short = c.in_ok-first.ensures.short;
       goes = climbing_first _ _ _ _ _ _ under c.in_ok-first.ensures.gives c.in_ok-first.ensures.short;
+    }
+
+pub read_expression-returns-clause-gives : goal.read_expression-returns-clause-gives
+read_expression-returns-clause-gives t c = rw c.in_default.ensures.stays (climbing_stops _ _ _ _ _ _ c.loop-op.invariant.goes c.in_default.ensures.front)
+
+pub read_expression-returns-then-below-left-clause-gives :
+    goal.read_expression-returns-then-below-left-clause-gives
+read_expression-returns-then-below-left-clause-gives t c =
+    climbing_deep _ _ _ _ _ _ c.loop-op.invariant.goes _ _ c.in-Some.ensures.front c.in-Some.ensures.stays c.if-below-left.true
+
+pub read_expression-loop-op-preserved : goal.read_expression-loop-op-preserved
+read_expression-loop-op-preserved t c =
+    let so_far = c.loop-op.invariant in
+    let front = c.in-Some.ensures.front in
+    let low_left : c.loop-op.left.height ≤ c.args.room - 1 = let high = c.if-below-left.false in omega arith in
+    let gives = rw c.level_above.ensures at c.in_ok-right.ensures.gives in
+    record {
+      low = let under = so_far.under in let right = c.in_ok-right.ensures.low in let made = c.in_ok-left.ensures.low in omega arith;
+      under = so_far.under;
+      short = let short = c.in_ok-right.ensures.short in let before = so_far.short in omega (arith, ap length front);
+      goes = climbing_on _ _ _ _ _ _ so_far.goes _ _ _ _ _ front c.in-Some.ensures.stays low_left gives c.in_ok-right.ensures.short c.in_ok-left.ensures.built;
     }

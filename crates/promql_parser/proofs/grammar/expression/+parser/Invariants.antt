@@ -1,5 +1,5 @@
 use Rattle.std.proofs.Common.{◌≡◌, ◌+◌, ◌*◌, ◌≤◌, length}
-use Rattle.promql_parser.specs.Symbols.{symbols_of}
+use Rattle.promql_parser.specs.Drawing.{symbols_left}
 use Rattle.promql_parser.proofs.Climbing.{Climbing}
 use Rattle.promql_parser.proofs.grammar.expression.+parser.Given as goal
 
@@ -13,9 +13,9 @@ abbrev pub invariant-read_expression-loop-op : goal.invariant-read_expression-lo
 invariant-read_expression-loop-op l = record {
   low : l.left.height ≤ l.room;
   under : l.room ≡ l.below + 1;
-  short : length (symbols_of l.rest) ≤ length (symbols_of l.tokens);
-  goes : Climbing l.room l.below l.lowest (symbols_of l.tokens) l.left (symbols_of l.rest);
+  short : length (symbols_left l.tokens) ≤ length (symbols_left l.fn.tokens);
+  goes : Climbing l.room l.below l.lowest (symbols_left l.fn.tokens) l.left (symbols_left l.tokens);
 }
 
 abbrev pub decreases-read_expression-loop-op : goal.decreases-read_expression-loop-op
-decreases-read_expression-loop-op l = length (symbols_of l.rest)
+decreases-read_expression-loop-op l = length (symbols_left l.tokens)
