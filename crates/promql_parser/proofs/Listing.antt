@@ -1,5 +1,5 @@
 -- The tokens of a text, and what the loop over them keeps.
-use Rattle.std.proofs.Common.{◌≡◌, ℕ, suc, Bool, true, false, List, [], ◌∷◌, length, refl, sym, ap, ◌∙◌, arith}
+use Rattle.std.proofs.Common.{◌≡◌, ℕ, ◌<◌, suc, Bool, true, false, List, [], ◌∷◌, length, refl, sym, ap, ◌∙◌, arith}
 use Rattle.std.specs.Prelude.{◌==◌, ◌||◌, not, Result, Ok, Err, filter}
 use Rattle.std.specs.List.{list_any}
 use Rattle.std.proofs.lemmas.Bool.{cond-true, cond-false}
@@ -8,7 +8,8 @@ use Rattle.promql_token.specs.declared.lexeme.Lexeme.{Lexeme}
 use Rattle.promql_token.specs.declared.fault.LexFault.{LexFault}
 use Rattle.promql_token.specs.Lexing.{sliced, result_sliced, text_at, collected, items, lex}
 use Rattle.promql_token.specs.Cursor.{is_before_end}
-use Rattle.promql_parser.specs.Lexing.{Text, Token, on_result, has_any, tokens}
+use Rattle.promql_parser.specs.Results.{on_result}
+use Rattle.promql_parser.specs.Lexing.{Text, Token, has_any, tokens}
 
 abbrev pub is_token : Lexeme → Bool
 is_token x = not (x.id == 6)
@@ -60,9 +61,15 @@ none_listed (Ok (t ∷ ts)) none =
     cc
 none_listed (Err e) none = cc
 
--- a text without a fault has a list
-pub some_list : (r : Result (List Token) LexFault) → has_any r ≡ Ok true → (list : List Token) × (r ≡ Ok list)
-some_list (Ok ts) some = (ts, refl)
+-- a text with a token has a list that isn't empty
+pub record SomeList (r : Result (List Token) LexFault) : Type 0 where
+  pub list : List Token
+  pub is : r ≡ Ok list
+  pub some : 0 < length list
+
+pub some_list : (r : Result (List Token) LexFault) → has_any r ≡ Ok true → SomeList r
+some_list (Ok []) some = let none : false ≡ true = cc in cc
+some_list (Ok (t ∷ ts)) some = record { list = t ∷ ts; is = refl; some = omega arith }
 some_list (Err e) some = cc
 
 -- the list is what the lexer gives, without the end

@@ -1,8 +1,9 @@
 -- The tokens of a text before its end (docs/GRAMMAR.md, "Tokens").
-use Rattle.std.specs.Prelude.{ℕ, Bool, not, ◌==◌, List, length, Result, Ok, Err, filter}
+use Rattle.std.specs.Prelude.{ℕ, Bool, not, ◌==◌, List, length, Result, filter}
 use Rattle.promql_token.specs.declared.fault.LexFault.{LexFault}
 use Rattle.promql_token.specs.Cursor.{is_before_end}
 use Rattle.promql_token.specs.Lexing as lexing
+use Rattle.promql_parser.specs.Results.{on_result}
 
 abbrev pub Text : Type 0
 Text = List ℕ
@@ -10,10 +11,6 @@ Text = List ℕ
 -- a token is its id and its text
 abbrev pub Token : Type 0
 Token = ℕ × Text
-
-abbrev pub on_result : {A B E : Type 0} → (A → B) → Result A E → Result B E
-on_result f (Ok x) = Ok (f x)
-on_result f (Err e) = Err e
 
 -- the tokens of a text before its end, or its lexical fault
 abbrev pub tokens : Text → Result (List Token) LexFault

@@ -1,3 +1,4 @@
+pub mod Results
 pub mod Lexing
 pub mod Symbols
 pub mod Drawing
@@ -10,3 +11,4 @@ pub mod Front
 pub mod Parts
 pub mod Wholes
 pub mod Answers
+pub mod Halts

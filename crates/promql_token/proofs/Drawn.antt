@@ -1,16 +1,19 @@
--- The next token of a cursor, and what is left behind it.
+-- The next token of a cursor, and what is left after it.
 use Rattle.std.proofs.Common.{◌≡◌, ◌≢◌, ℕ, ◌+◌, true, false, cond, List, [], ◌∷◌, length, take, drop, map, Result, Ok, Err, refl, sym, ap, ◌∙◌, arith}
+use denote.Bor.{Bor}
 use Rattle.std.specs.Prelude.{◌==◌, not, filter}
-use Rattle.std.proofs.lemmas.Bool.{ne_eqb}
+use Rattle.std.proofs.lemmas.Bool.{eqb-false, ne_eqb}
 use Rattle.std.proofs.lemmas.List.{drop-drop}
 use Rattle.promql_token.specs.declared.fault.LexFault.{LexFault}
 use Rattle.promql_token.specs.declared.lexeme.Lexeme.{Lexeme}
 use Rattle.promql_token.specs.declared.state.State.{State}
 use Rattle.promql_token.specs.Classes.{Text}
-use Rattle.promql_token.specs.Cursor.{is_before_end, up_to_fault}
-use Rattle.promql_token.specs.Lexing.{What, whats, found, first, item, goes_on, len_of, start, lex, tokens, sliced, result_sliced, text_at}
+use Rattle.promql_token.specs.declared.cursor.Cursor as code
+use Rattle.promql_token.specs.Cursor.{is_before_end, up_to_fault, tokens_left, IsPast}
+use Rattle.promql_token.specs.Lexing.{What, whats, found, first, item, goes_on, len_of, start, lex, tokens, cut, placed, sliced, result_sliced, text_at}
 use Rattle.promql_token.specs.Pieces.{after}
 use Rattle.promql_token.proofs.Items.{is_token}
+use Rattle.promql_token.proofs.Items.{left_token as left_item}
 use Rattle.promql_token.proofs.Spans.{stands, spans}
 use Rattle.promql_token.proofs.Steps.{whats_is}
 
@@ -25,8 +28,9 @@ listed s (Ok xs) ts lexed is =
 listed s (Err f) ts lexed is = cc
 
 -- a whole text
-pub new_left : (s : Text) (ts : List (ℕ × Text)) → tokens s ≡ Ok ts → filter is_before_end (up_to_fault (whats start s)) ≡ filter is_before_end ts
-new_left s ts is = ap (filter is_before_end) (listed s (lex s) ts refl is)
+pub new_left : (s : Text) (c : code.Cursor) → c.text.now ≡ s → c.at ≡ 0 → c.state ≡ start → (ts : List (ℕ × Text)) → tokens s ≡ Ok ts → tokens_left c ≡ filter is_before_end ts
+new_left s c text at state ts is =
+    (λ i. filter is_before_end (up_to_fault (whats (state i) (drop (at i) (text i))))) ∙ ap (filter is_before_end) (listed s (lex s) ts refl is)
 
 abbrev left : What → List What → List (ℕ × Text)
 left w ws = filter is_before_end (up_to_fault (w ∷ cond (goes_on w) ws []))
@@ -70,10 +74,10 @@ none_fault text at state fault is =
     let f = found state z in
     ap (λ ws. filter is_before_end (up_to_fault ws)) (whats_is state z) ∙ left_fault (at + f.gap) f.what _ fault (sym is)
 
--- a token, and what is left behind it
-pub some_token : (text : Text) (at : ℕ) (state : State) (x : Lexeme) → Ok x ≡ first at (found state (drop at text)) → x.id ≢ 6
+-- a token, and what is left after it
+token_left : (text : Text) (at : ℕ) (state : State) (x : Lexeme) → Ok x ≡ first at (found state (drop at text)) → x.id ≢ 6
     → filter is_before_end (up_to_fault (whats state (drop at text))) ≡ (x.id, text_at text x) ∷ filter is_before_end (up_to_fault (whats (after state x.id) (drop (x.start + x.len) text)))
-some_token text at state x is more =
+token_left text at state x is more =
     let z = drop at text in
     let f = found state z in
     let t = is_token (at + f.gap) f.what x (sym is) in
@@ -86,3 +90,26 @@ some_token text at state x is more =
     ap (λ ws. filter is_before_end (up_to_fault ws)) (whats_is state z)
     ∙ left_token (at + f.gap) f.what _ x (drop x.start text) (sym is) (ne_eqb x.id 6 more) (λ id t w. st.text id t w ∙ ap (take (length t)) from)
     ∙ (λ i. (x.id, text_at text x) ∷ filter is_before_end (up_to_fault (whats (t.state state i) (rest i))))
+
+pub some_token : (x : Lexeme) (old new : code.Cursor) → Ok x ≡ first old.at (found old.state (drop old.at old.text.now)) → IsPast x old new → x.id ≢ 6
+    → tokens_left old ≡ (x.id, text_at old.text.now x) ∷ tokens_left new
+some_token x old new is past more =
+    let text = ap (λ (t : Bor Text). t.now) past.text in
+    let at = past.at more in
+    let state = past.state more in
+    token_left old.text.now old.at old.state x is more
+    ∙ (λ i. (x.id, text_at old.text.now x) ∷ filter is_before_end (up_to_fault (whats ((sym state) i) (drop ((sym at) i) ((sym text) i)))))
+
+-- the same with places
+pub left_past : (x : Lexeme) (old new : code.Cursor) → Ok x ≡ first old.at (found old.state (drop old.at old.text.now)) → IsPast x old new
+    → placed old.at (cut old.state (drop old.at old.text.now)) ≡ Ok x ∷ cond (x.id == 6) [] (placed new.at (cut new.state (drop new.at new.text.now)))
+left_past x old new is past =
+    let text = ap (λ (t : Bor Text). t.now) past.text in
+    let place = past.placed in
+    left_item old.text.now old.at old.state x is past.order place.1.0 past.moves
+    ∙ ap (λ l. Ok x ∷ l) (elim (x.id == 6) as (λ b. (x.id == 6) ≡ b → cond b [] (placed (x.start + x.len) (cut (after old.state x.id) (drop (x.start + x.len) old.text.now))) ≡ cond b [] (placed new.at (cut new.state (drop new.at new.text.now)))) [
+      | true ↦ λ end. refl
+      | false ↦ λ goes.
+          let more = eqb-false _ _ goes in
+          (λ i. placed ((sym (past.at more)) i) (cut ((sym (past.state more)) i) (drop ((sym (past.at more)) i) ((sym text) i))))
+    ] refl)

@@ -1,5 +1,4 @@
 pub mod Beside
-pub mod Counted
 pub mod Cuts
 pub mod Drawn
 pub mod Durations

@@ -1,6 +1,4 @@
 pub mod Bytes
-pub mod ByIndex
-pub mod Chars
 pub mod Classes
 pub mod Cursor
 pub mod Cut

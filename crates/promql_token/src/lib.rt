@@ -10,7 +10,6 @@ pub use lexeme::Lexeme;
 use std::alloc::Global;
 pub use token::{Token, TokenType, is_label};
 
-mod by_index;
 mod class;
 pub mod cursor;
 pub mod fault;

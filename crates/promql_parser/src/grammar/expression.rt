@@ -1,14 +1,15 @@
-// The parser.
+//! The rule `expr`.
 
-ghost use Rattle.std.specs.Prelude.{◌≡◌, ℕ, ◌+◌, ◌<◌, ◌≤◌, length, IfOk, MatchResult};
-ghost use Rattle.promql_parser.specs.Parts.{Fails, IsGiven};
+ghost use Rattle.std.specs.Prelude.{◌≡◌, ◌≢◌, ℕ, ◌+◌, ◌≤◌, true, length, IfOk, IsErrOf, MatchResult, OnOk};
 ghost use Rattle.promql_parser.specs.Drawing.{symbols_left};
-ghost use Rattle.promql_parser.specs.Reading.{first, expression};
+ghost use Rattle.promql_parser.specs.Parts.{Fails, IsGiven};
+ghost use Rattle.promql_parser.specs.Reading.{begins, first, expression};
 ghost use Rattle.promql_parser.specs.Wholes.{IsWhole};
 
-use crate::grammar::front::{level_above, next, take_operator, takes_close};
-use crate::grammar::part::{Halt, Part, binary_part, name_part, number_part, paren_part};
-use crate::grammar::symbol::Kind;
+use crate::grammar::front::{LOWEST_LEVEL, level_above, next, take_operator, takes_right_paren};
+use crate::grammar::kind::Kind;
+use crate::grammar::part::{Halt, Part, binary_part, name_part, number_part, paren_part, unboxed};
+use crate::parser::MAX_DEPTH;
 use crate::tokens::Tokens;
 use crate::tree::Expr;
 use promql_text::NumberFault;
@@ -17,27 +18,32 @@ use std::alloc::Global;
 /// A form with no operator outside.
 #[cycle(parser)]
 fn read_first(alloc: Global, room: usize, tokens: &mut Tokens<'_>) -> Result<Part, Halt>
-    requires { room < 600 }
+    requires { room ≤ MAX_DEPTH }
     ensures gives { MatchResult result
-        (λ part. IsGiven part (symbols_left tokens.new) (first (expression room) (symbols_left tokens.old)))
+        (λ part. IsGiven part (symbols_left tokens.new)
+        (first (expression room) (symbols_left tokens.old)))
         (λ e. Fails e (first (expression room) (symbols_left tokens.old))) }
     ensures low { IfOk result (λ part. part.height ≤ room + 1) }
-    ensures short { IfOk result (λ _. length (symbols_left tokens.new) ≤ length (symbols_left tokens.old)) }
+    ensures short { OnOk result
+        (length (symbols_left tokens.new) ≤ length (symbols_left tokens.old)) }
+    ensures memory { IsErrOf result Halt.Memory → begins (symbols_left tokens.old) ≡ true }
 {
     let Some((kind, text)) = next(tokens) else {
         return Err(Halt::Syntax);
     };
+    if kind.may_be_name() {
+        return Ok(name_part(alloc, text)?);
+    }
     match kind {
-        Kind::Number => Ok(number_part(text)),
-        Kind::Name => Ok(name_part(alloc, text)?),
-        Kind::Open => {
-            let inner = read_expression(alloc, room, 0, tokens)?;
-            if !takes_close(tokens) {
+        Kind::Number => Ok(number_part(alloc, text)?),
+        Kind::LeftParen => {
+            let inner = read_expression(alloc, room, LOWEST_LEVEL, tokens)?;
+            if !takes_right_paren(tokens) {
                 return Err(Halt::Syntax);
             }
             Ok(paren_part(alloc, inner)?)
         }
-        Kind::Operator(_) | Kind::Close | Kind::Other => Err(Halt::Syntax),
+        _ => Err(Halt::Syntax),
     }
 }
 
@@ -49,19 +55,21 @@ pub fn read_expression(
     lowest: usize,
     tokens: &mut Tokens<'_>,
 ) -> Result<Part, Halt>
-    requires { room < 600 }
+    requires { room ≤ MAX_DEPTH }
     ensures gives { MatchResult result
-        (λ part. IsGiven part (symbols_left tokens.new) (expression room lowest (symbols_left tokens.old)))
+        (λ part. IsGiven part (symbols_left tokens.new)
+        (expression room lowest (symbols_left tokens.old)))
         (λ e. Fails e (expression room lowest (symbols_left tokens.old))) }
     ensures low { IfOk result (λ part. part.height ≤ room) }
-    ensures short { IfOk result (λ _. length (symbols_left tokens.new) ≤ length (symbols_left tokens.old)) }
+    ensures short { OnOk result
+        (length (symbols_left tokens.new) ≤ length (symbols_left tokens.old)) }
+    ensures memory { IsErrOf result Halt.Memory → begins (symbols_left tokens.old) ≡ true }
 {
     if room == 0 {
         return Err(Halt::TooDeep);
     }
     let below = room - 1;
-    let first = read_first(alloc, below, tokens)?;
-    let mut left = first;
+    let mut left = read_first(alloc, below, tokens)?;
     while let Some(op) = take_operator(tokens, lowest) {
         if below < left.height {
             return Err(Halt::TooDeep);
@@ -78,14 +86,14 @@ pub fn read_all(
     room: usize,
     tokens: Tokens<'_>,
 ) -> Result<Result<Expr, NumberFault>, Halt>
-    requires { room < 600 }
-    ensures { IsWhole room (symbols_left tokens.entry) result }
+    requires { room ≤ MAX_DEPTH }
+    ensures whole { IsWhole room (symbols_left tokens.entry) result }
+    ensures memory { IsErrOf result Halt.Memory → begins (symbols_left tokens.entry) ≡ true }
 {
     let mut rest = tokens;
-    let part = read_expression(alloc, room, 0, &mut rest)?;
+    let part = read_expression(alloc, room, LOWEST_LEVEL, &mut rest)?;
     if !rest.is_empty() {
         return Err(Halt::Syntax);
     }
-    let Part { value, height: _ } = part;
-    Ok(value)
+    Ok(unboxed(part))
 }

@@ -1,32 +1,39 @@
-// The token at the front.
+//! The first token, and how tightly operators bind.
 
-ghost use Rattle.std.specs.Prelude.{◌≡◌, ◌≤◌, [], ◌∷◌, MatchBool, MatchOption};
-ghost use Rattle.promql_parser.specs.declared.grammar.symbol.Kind.TheVariants as kind;
+ghost use Rattle.std.specs.Prelude.{◌≡◌, ◌≤◌, [], ◌∷◌, IfNone, MatchBool, MatchOption};
+ghost use Rattle.promql_parser.specs.declared.grammar.kind.Kind.TheVariants as kinds;
 ghost use Rattle.promql_parser.specs.Drawing.{symbols_left};
-ghost use Rattle.promql_parser.specs.Front.{HasNoClosing, Stops};
+ghost use Rattle.promql_parser.specs.Front.{HasNoClosing, Stops, TakesOperator};
 ghost use Rattle.promql_parser.specs.Grammar.{level};
-ghost use Rattle.promql_parser.specs.Symbols.{mark, symbol};
+ghost use Rattle.promql_parser.specs.Symbols.{sign, symbol};
 ghost use Rattle.promql_parser.specs.Reading.{above};
 
-use crate::grammar::symbol::{Kind, is_operator};
+use crate::grammar::kind::Kind;
 use crate::tokens::Tokens;
 use promql_token::TokenId;
+use promql_token::ids::{T_ADD, T_SUB};
+
+/// The lowest level of an operator.
+pub const LOWEST_LEVEL: usize = 1;
 
 /// Takes the first token: its kind and text.
 pub fn next<'a>(tokens: &mut Tokens<'a>) -> Option<(Kind, &'a str)>
-    ensures { MatchOption result (symbols_left tokens.old ≡ []) (λ x. symbols_left tokens.old ≡ symbol x.0 x.1.now ∷ symbols_left tokens.new) }
+    ensures { MatchOption result (symbols_left tokens.old ≡ [])
+        (λ x. symbols_left tokens.old ≡ symbol x.0 x.1.now ∷ symbols_left tokens.new) }
 {
     let front = tokens.front();
     tokens.pass();
     front
 }
 
-/// Takes a closing parenthesis, if one is at the front.
-pub fn takes_close(tokens: &mut Tokens<'_>) -> bool
-    ensures { MatchBool result (symbols_left tokens.old ≡ mark kind.Close ∷ symbols_left tokens.new) (HasNoClosing (symbols_left tokens.old)) }
+/// Takes a right parenthesis, if it is the first token.
+pub fn takes_right_paren(tokens: &mut Tokens<'_>) -> bool
+    ensures { MatchBool result
+        (symbols_left tokens.old ≡ sign kinds.RightParen ∷ symbols_left tokens.new)
+        (HasNoClosing (symbols_left tokens.old)) }
 {
     match tokens.front() {
-        Some((Kind::Close, _)) => {
+        Some((Kind::RightParen, _)) => {
             tokens.pass();
             true
         }
@@ -34,10 +41,11 @@ pub fn takes_close(tokens: &mut Tokens<'_>) -> bool
     }
 }
 
-/// Takes an operator of at least the lowest level, if one is at the front.
+/// Takes an operator of at least the lowest level, if it is the first token.
 pub fn take_operator(tokens: &mut Tokens<'_>, lowest: usize) -> Option<TokenId>
-    ensures front { MatchOption result (Stops lowest (symbols_left tokens.old)) (λ op. symbols_left tokens.old ≡ mark (kind.Operator op) ∷ symbols_left tokens.new) }
-    ensures stays { MatchOption result (symbols_left tokens.new ≡ symbols_left tokens.old) (λ op. lowest ≤ level op) }
+    ensures front { MatchOption result (Stops lowest (symbols_left tokens.old))
+        (λ op. TakesOperator lowest op (symbols_left tokens.old) (symbols_left tokens.new)) }
+    ensures stays { IfNone result (symbols_left tokens.new ≡ symbols_left tokens.old) }
 {
     match tokens.front() {
         Some((Kind::Operator(op), _)) if lowest <= level_of(op) => {
@@ -48,12 +56,15 @@ pub fn take_operator(tokens: &mut Tokens<'_>, lowest: usize) -> Option<TokenId>
     }
 }
 
-/// How tightly the operator binds.
+/// How tightly the operator binds; 0 for one that the grammar doesn't have.
 pub fn level_of(op: TokenId) -> usize
     ensures value { result ≡ level op }
-    ensures low { result ≤ 5 }
+    ensures low { result ≤ 6 }
 {
-    if is_operator(op) { 4 } else { 0 }
+    match op {
+        T_ADD | T_SUB => 4,
+        _ => 0,
+    }
 }
 
 /// The lowest level on the right of the operator.

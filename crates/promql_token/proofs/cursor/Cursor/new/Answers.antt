@@ -1,9 +1,9 @@
-use Rattle.std.proofs.lemmas.Str.{IsCharBoundary-start}
+use denote.Bor.{Bor}
+use Rattle.std.proofs.Common.{ℕ, List, ap}
 use Rattle.promql_token.proofs.Drawn.{new_left}
 use Rattle.promql_token.proofs.cursor.Cursor.new.Goals as goal
 
-pub invariant_of-result-clause-place : goal.invariant_of-result-clause-place
-invariant_of-result-clause-place c = IsCharBoundary-start _ c.utf8.text
-
 pub returns : goal.returns
-returns c = new_left c.args.text.now
+returns c =
+    let e = c.front.ensures in
+    new_left c.args.text.now c.front.result (ap (λ (t : Bor (List ℕ)). t.now) e.text) e.at e.state
