@@ -1,16 +1,13 @@
 -- What a run does (docs/PROGRAM.md, "A run").
-use Rattle.std.specs.Prelude.{◌≡◌, ◌≢◌, ◌↔◌, ℕ, ◌≤◌, ◌++◌, List, [], ◌∷◌, Option, Some, None, Result, Ok, Err, if◌then◌else◌, bytes_eq, codes}
+use Rattle.std.specs.Prelude.{◌≡◌, ◌≢◌, ℕ, ◌++◌, List, [], ◌∷◌, Option, Some, None, Result, Ok, Err, if◌then◌else◌, bytes_eq, codes}
 use Rattle.std.specs.Str.{IsUtf8}
 use Rattle.std.specs.Io.KnownBytes.{Appends, Consumes, IsAtEnd}
-use Rattle.promql_token.specs.declared.fault.LexFault.{LexFault}
 use Rattle.promql_parser.specs.declared.parser.ParseError.{ParseError}
 use Rattle.promql_parser.specs.declared.parser.ParseError.TheVariants as parse_errors
-use Rattle.promql_parser.specs.Lexing.{Text, tokens}
+use Rattle.promql_parser.specs.Lexing.{Text}
 use Rattle.promql_parser.specs.Tree.{Tree}
-use Rattle.promql_parser.specs.Grammar.{Derivation, height}
-use Rattle.promql_parser.specs.Building.{build}
 use Rattle.promql_parser.specs.OneLine.{line}
-use Rattle.promql_parser.specs.Answers.{Derives, IsAnswer, IsBuilt}
+use Rattle.promql_parser.specs.Answers.{IsAnswerTo}
 use Rattle.promql.specs.Ended.{AppendsBeginning}
 use Rattle.promql.specs.declared.run.Mode.{Mode}
 use Rattle.promql.specs.declared.run.Mode.TheVariants.{Line}
@@ -47,17 +44,10 @@ pub record HasRead (old new : Option (List ℕ)) (input : List ℕ) : Type 0 whe
   pub consumes : Consumes old new input
   pub ended : IsAtEnd new
 
--- this is the parser's answer to the text
-pub record IsParsed (text : Text) (answer : Result Tree ParseError) : Type 0 where
-  pub right : IsAnswer text answer
-  pub only : (d : Derivation) → Derives text d → height d ≤ 512 → IsBuilt answer (build d)
-  pub empty : (answer ≡ Err parse_errors.Empty) ↔ (tokens text ≡ Ok [])
-  pub lexical : (fault : LexFault) → (answer ≡ Err (parse_errors.Lex fault)) ↔ (tokens text ≡ Err fault)
-
 -- this is the text of the text's tree, and a line feed
 pub record IsPrinted (text printed : Text) : Type 0 where
   pub tree : Tree
-  pub parsed : IsParsed text (Ok tree)
+  pub parsed : IsAnswerTo text (Ok tree)
   pub is : printed ≡ line tree ++ 10 ∷ []
 
 -- all of the input was read, it is a text, and its line with a line feed was written
@@ -80,7 +70,7 @@ pub record IsRejected (e : ParseError) (left left_after : Option (List ℕ)) : T
   pub input : List ℕ
   pub read : HasRead left left_after input
   pub utf8 : IsUtf8 input
-  pub rejected : IsParsed input (Err e)
+  pub rejected : IsAnswerTo input (Err e)
   pub own : e ≢ parse_errors.Memory
 
 -- a write failed: all of the input was read, and a beginning of its line with a line feed was written

@@ -3,8 +3,9 @@
 ghost use Rattle.std.specs.Prelude.{◌≡◌, ◌≢◌, true, false, Ok, Err, OnOk, IfOk, IfErr, OnErr, IsErrOf, MatchResult, string_bytes};
 ghost use Rattle.std.specs.Io.KnownBytes.{Appends};
 ghost use Rattle.promql_parser.specs.declared.parser.ParseError.{ParseError};
+ghost use Rattle.promql_parser.specs.Answers.{IsAnswerTo};
 ghost use Rattle.promql.specs.Ended.{AppendsBeginning};
-ghost use Rattle.promql.specs.Running.{HasRead, IsParsed, IsPrinted, Prints, BeginsToPrint, IsNotUtf8, IsRejected, UnlessRead, UnlessWrite, mode_named, error_number, IsReadError, IsAnswerError};
+ghost use Rattle.promql.specs.Running.{HasRead, IsPrinted, Prints, BeginsToPrint, IsNotUtf8, IsRejected, UnlessRead, UnlessWrite, mode_named, error_number, IsReadError, IsAnswerError};
 
 use crate::ended::Ended;
 use promql_parser::parser::{ParseError, parse};
@@ -114,7 +115,7 @@ fn read_input<R: Read>(alloc: Global, reader: &mut Ended<R>) -> Result<Vec<u8>, 
 /// The whole answer to a text, with a line feed after it.
 fn answer_text(alloc: Global, mode: Mode, text: &str) -> Result<String, RunError>
     ensures ok { IfOk result (λ answer. IsPrinted text.now (string_bytes answer)) }
-    ensures parse { (e : ParseError) → IsErrOf result (RunError.Parse e) → IsParsed text.now (Err e) × (e ≢ ParseError.Memory) }
+    ensures parse { (e : ParseError) → IsErrOf result (RunError.Parse e) → IsAnswerTo text.now (Err e) × (e ≢ ParseError.Memory) }
     ensures errors { IfErr result IsAnswerError }
 {
     let expr = parse(alloc, text)?;

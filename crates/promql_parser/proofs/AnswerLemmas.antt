@@ -1,49 +1,44 @@
 -- From what a token list gives to the answer to its text.
-use Rattle.std.proofs.Common.{◌≡◌, ℕ, ◌+◌, ◌<◌, ◌≤◌, max, List, [], ◌∷◌, length, map, length-append, refl, sym, ap, ◌∙◌, subst, arith}
+use Rattle.std.proofs.Common.{◌≡◌, ◌≢◌, ℕ, ◌+◌, ◌<◌, ◌≤◌, ⊎_elim, max, true, List, [], ◌∷◌, length, map, length-append, refl, sym, ap, ◌∙◌, subst, arith}
 use Rattle.std.specs.Prelude.{Result, Ok, Err}
+use Rattle.std.proofs.lemmas.Bool.{cases_lt}
+use Rattle.std.proofs.lemmas.List.{length-map}
 use Rattle.promql_text.specs.declared.number.Number.{Number}
 use Rattle.promql_text.specs.declared.number.NumberFault.{NumberFault}
 use Rattle.promql_text.specs.NumberText.{read_number}
 use Rattle.promql_token.specs.declared.fault.LexFault.{LexFault}
-use Rattle.promql_parser.specs.declared.tokens.Token as code
-use Rattle.promql_parser.specs.declared.tree.Expr.{Expr}
+use Rattle.promql_parser.specs.declared.grammar.kind.Kind.TheVariants as kind
 use Rattle.promql_parser.specs.declared.grammar.part.Halt.{Halt}
 use Rattle.promql_parser.specs.declared.grammar.part.Halt.TheVariants as halts
 use Rattle.promql_parser.specs.declared.parser.ParseError.{ParseError}
 use Rattle.promql_parser.specs.declared.parser.ParseError.TheVariants as errors
-use Rattle.promql_parser.specs.Lexing.{Text, tokens, on_result}
+use Rattle.promql_parser.specs.declared.tree.Expr.{Expr}
+use Rattle.promql_parser.specs.Results.{on_result, ◌then◌}
+use Rattle.promql_parser.specs.Lexing.{Text, Token, tokens}
 use Rattle.promql_parser.specs.Tree as tree
 use Rattle.promql_parser.specs.Tree.{tree_of, tree_height}
-use Rattle.promql_parser.specs.Symbols.{sign, symbol_of, symbols_of, token_of, operator_id}
+use Rattle.promql_parser.specs.Symbols.{Symbol, symbol_of, sign, word}
 use Rattle.promql_parser.specs.Grammar.{Derivation, number, name, paren, binary, yield, height, IsWellFormed}
-use Rattle.promql_parser.specs.Building.{build, ◌then◌}
+use Rattle.promql_parser.specs.Building.{build}
+use Rattle.promql_parser.specs.Halts.{error_of}
+use Rattle.promql_parser.specs.Reading.{begins}
 use Rattle.promql_parser.specs.Wholes.{IsWhole}
-use Rattle.promql_parser.specs.Answers.{Derives, IsAnswer, IsBuilt, IsHalt}
+use Rattle.promql_parser.specs.Answers.{Derives, BeginsNone, IsBuilt, IsAnswerTo, built_answer}
 use Rattle.promql_parser.proofs.Unique.{one_derivation}
-
-symbols_map : (ts : List code.Token) → symbols_of ts ≡ map symbol_of (map token_of ts)
-symbols_map [] = refl
-symbols_map (t ∷ ts) = ap (λ l. symbol_of (token_of t) ∷ l) (symbols_map ts)
-
-length_symbols : (ts : List code.Token) → length (symbols_of ts) ≡ length (map token_of ts)
-length_symbols [] = refl
-length_symbols (t ∷ ts) = let rest = length_symbols ts in omega arith
 
 -- a text with a lexical fault derives nothing, nor does one with no token
 abbrev IsFault : {A : Type 0} → Result A LexFault → Type 0
 IsFault (Ok x) = ⊥
 IsFault (Err e) = Unit {0}
 
-pub fault_none : (text : Text) (fault : LexFault) → tokens text ≡ Err fault → (d : Derivation) → ¬ (Derives text d)
+fault_none : (text : Text) (fault : LexFault) → tokens text ≡ Err fault → (d : Derivation) → ¬ (Derives text d)
 fault_none text fault is d derives = subst IsFault (sym (ap (on_result (map symbol_of)) is) ∙ derives.spells) tt
 
 some_yield : (d : Derivation) → 0 < length (yield d)
-some_yield (number text) = omega arith
-some_yield (name text) = omega arith
-some_yield (paren d) = omega arith
-some_yield (binary op l r) = omega (arith, some_yield l, length-append (yield l) (sign op ∷ yield r))
+some_yield (binary op text l r) = omega (arith, some_yield l, length-append (yield l) (word (kind.Operator op) text ∷ yield r))
+some_yield d = omega arith
 
-pub empty_none : (text : Text) → tokens text ≡ Ok [] → (d : Derivation) → ¬ (Derives text d)
+empty_none : (text : Text) → tokens text ≡ Ok [] → (d : Derivation) → ¬ (Derives text d)
 empty_none text is d derives =
     let both : Ok [] ≡ Ok (yield d) = sym (ap (on_result (map symbol_of)) is) ∙ derives.spells in
     let none : [] ≡ yield d = cc in
@@ -70,47 +65,152 @@ binary_low m n id (Err e) r left right = tt
 
 build_low : (d : Derivation) → IsLow (height d) (build d)
 build_low (number text) = number_low (read_number text)
-build_low (name text) = omega arith
+build_low (name k text) = omega arith
 build_low (paren d) = paren_low (height d) (build d) (build_low d)
-build_low (binary op l r) = binary_low (height l) (height r) (operator_id op) (build l) (build r) (build_low l) (build_low r)
+build_low (binary op text l r) = binary_low (height l) (height r) op (build l) (build r) (build_low l) (build_low r)
 
--- for a text whose tokens these are
-module _ (text : Text) (ts : List code.Token) (is : tokens text ≡ Ok (map token_of ts)) where
-  spelled : (d : Derivation) → Derives text d → yield d ≡ symbols_of ts
+-- ---- answers without reading
+
+abbrev IsOk : Result tree.Tree ParseError → Type 0
+IsOk (Ok t) = Unit {0}
+IsOk (Err e) = ⊥
+
+-- an error is the answer where nothing can be derived, it isn't one of reading, and the tokens agree
+none_answer : (text : Text) (e : ParseError) → ((d : Derivation) → ¬ (Derives text d)) → ((fault : NumberFault) → e ≢ errors.Number fault)
+    → e ≢ errors.Syntax → e ≢ errors.TooDeep → e ≢ errors.Memory → ((e ≡ errors.Empty → tokens text ≡ Ok []) × (tokens text ≡ Ok [] → e ≡ errors.Empty))
+    → ((fault : LexFault) → (e ≡ errors.Lex fault → tokens text ≡ Err fault) × (tokens text ≡ Err fault → e ≡ errors.Lex fault)) → IsAnswerTo text (Err e)
+none_answer text e none numbers syntax deep memory empty lexical = record {
+  tree = λ t is. absurd (subst IsOk (sym is) tt);
+  number = λ fault is. absurd (numbers fault (cc));
+  syntax = λ is d derives. none d derives;
+  too_deep = λ is. absurd (deep (cc));
+  only = λ d derives low own. absurd (none d derives);
+  empty = (λ is. empty.0 (cc), λ is. ap Err (empty.1 is));
+  lexical = λ fault. (λ is. (lexical fault).0 (cc), λ is. ap Err ((lexical fault).1 is));
+  early = λ first is. memory (cc);
+  low = λ t is. absurd (subst IsOk (sym is) tt);
+}
+
+pub empty_answer : (text : Text) → tokens text ≡ Ok [] → IsAnswerTo text (Err errors.Empty)
+empty_answer text none =
+    none_answer text errors.Empty (empty_none text none) (λ fault is. cc) (λ is. cc) (λ is. cc) (λ is. cc)
+    (λ _. none, λ _. refl) (λ fault. (λ is. cc, λ is. cc))
+
+pub fault_answer : (text : Text) (fault : LexFault) → tokens text ≡ Err fault → IsAnswerTo text (Err (errors.Lex fault))
+fault_answer text fault is =
+    none_answer text (errors.Lex fault) (fault_none text fault is) (λ other e. cc) (λ e. cc) (λ e. cc) (λ e. cc)
+    (λ e. cc, λ e. cc) (λ other. (λ e. let same : fault ≡ other = cc in is ∙ ap Err same, λ e. let same : fault ≡ other = cc in ap errors.Lex same))
+
+-- ---- answers of reading
+
+-- where an expression may begin with a token, a derivation does
+front_derivation : (t : Symbol) (us : List Symbol) → begins (t ∷ us) ≡ true → (d : Derivation) × (others : List Symbol) × IsWellFormed d × (yield d ≡ t ∷ others)
+front_derivation (word kind.Number text) us may = (number text, [], tt, refl)
+front_derivation (word k text) us may = (name k text, [], may, refl)
+front_derivation (sign kind.LeftParen) us may = (paren (number []), word kind.Number [] ∷ sign kind.RightParen ∷ [], tt, refl)
+front_derivation t us may = cc
+
+-- for a text whose tokens are of these kinds
+module _ (text : Text) (list : List Token) (is : tokens text ≡ Ok list) (some : 0 < length list) (ts : List Symbol) (kinds : ts ≡ map symbol_of list) where
+  spelled : (d : Derivation) → Derives text d → yield d ≡ ts
   spelled d derives =
-      let both : Ok (yield d) ≡ Ok (map symbol_of (map token_of ts)) = sym derives.spells ∙ ap (on_result (map symbol_of)) is in
-      let same : yield d ≡ map symbol_of (map token_of ts) = cc in
-      same ∙ sym (symbols_map ts)
+      let both : Ok (yield d) ≡ Ok (map symbol_of list) = sym derives.spells ∙ ap (on_result (map symbol_of)) is in
+      let same : yield d ≡ map symbol_of list = cc in
+      same ∙ sym kinds
 
-  derives_of : (d : Derivation) → IsWellFormed d → yield d ≡ symbols_of ts → Derives text d
+  derives_of : (d : Derivation) → IsWellFormed d → yield d ≡ ts → Derives text d
   derives_of d formed spells = record {
     formed = formed;
-    spells = ap (on_result (map symbol_of)) is ∙ ap Ok (sym (spells ∙ symbols_map ts));
+    spells = ap (on_result (map symbol_of)) is ∙ ap Ok (sym (spells ∙ kinds));
   }
 
-  pub halt_answer : (halt : Halt) (e : ParseError) → IsHalt halt e → IsWhole 512 (symbols_of ts) (Err halt) → IsAnswer text (Err e)
-  halt_answer halts.Memory e same whole = subst (λ x. IsAnswer text (Err x)) (sym same) tt
-  halt_answer halts.Syntax e same whole = subst (λ x. IsAnswer text (Err x)) (sym same) (λ d derives. whole d derives.formed (spelled d derives))
-  halt_answer halts.TooDeep e same whole =
-      subst (λ x. IsAnswer text (Err x)) (sym same)
-      (record { list = map token_of ts; is = is; many = let many = whole.0 in omega (arith, length_symbols ts) }, λ d derives low. whole.1 d derives.formed low (spelled d derives))
+  not_empty : ¬ (tokens text ≡ Ok [])
+  not_empty none = let same : list ≡ [] = cc in omega (arith, ap length same)
 
-  pub halt_only : (halt : Halt) (e : ParseError) → IsHalt halt e → IsWhole 512 (symbols_of ts) (Err halt) → (d : Derivation) → Derives text d → height d ≤ 512 → IsBuilt (Err e) (build d)
-  halt_only halts.Memory e same whole d derives low = subst (λ x. IsBuilt (Err x) (build d)) (sym same) tt
-  halt_only halts.Syntax e same whole d derives low = absurd (whole d derives.formed (spelled d derives))
-  halt_only halts.TooDeep e same whole d derives low = absurd (whole.1 d derives.formed low (spelled d derives))
+  no_fault : (fault : LexFault) → ¬ (tokens text ≡ Err fault)
+  no_fault fault faulty = cc
 
-  pub tree_answer : (e : Expr) → IsWhole 512 (symbols_of ts) (Ok (Ok e)) → IsAnswer text (Ok (tree_of e))
-  tree_answer e whole = (whole.0, derives_of whole.0 whole.1 whole.3, whole.2, sym whole.4)
+  no_memory : begins ts ≡ true → ¬ (BeginsNone text)
+  no_memory may none =
+      let same : list ≡ none.token ∷ none.rest = let both : Ok list ≡ Ok (none.token ∷ none.rest) = sym is ∙ none.is in cc in
+      let front = front_derivation (symbol_of none.token) (map symbol_of none.rest) (sym (ap begins (kinds ∙ ap (map symbol_of) same)) ∙ may) in
+      none.none front.0 front.1 front.2 front.3
 
-  pub tree_only : (e : Expr) → IsWhole 512 (symbols_of ts) (Ok (Ok e)) → (d : Derivation) → Derives text d → height d ≤ 512 → build d ≡ Ok (tree_of e)
-  tree_only e whole d derives low = ap build (one_derivation d whole.0 derives.formed whole.1 (spelled d derives ∙ sym whole.3)) ∙ sym whole.4
+  whole_built : (value : Result Expr NumberFault) → (whole : IsWhole 512 ts (Ok value)) → IsBuilt text (built_answer (on_result tree_of value))
+  whole_built value whole = record {
+    derivation = whole.0;
+    derives = derives_of whole.0 whole.1 whole.3;
+    low = whole.2;
+    is = ap built_answer whole.4;
+  }
 
-  pub tree_low : (e : Expr) → IsWhole 512 (symbols_of ts) (Ok (Ok e)) → tree_height (tree_of e) ≤ 512
-  tree_low e whole = let low : tree_height (tree_of e) ≤ height whole.0 = subst (IsLow (height whole.0)) (sym whole.4) (build_low whole.0) in let bound = whole.2 in omega arith
+  whole_only : (value : Result Expr NumberFault) → (whole : IsWhole 512 ts (Ok value)) → (d : Derivation) → Derives text d → built_answer (on_result tree_of value) ≡ built_answer (build d)
+  whole_only value whole d derives = ap built_answer (whole.4 ∙ ap build (one_derivation whole.0 d whole.1 derives.formed (whole.3 ∙ sym (spelled d derives))))
 
-  pub number_answer : (fault : NumberFault) → IsWhole 512 (symbols_of ts) (Ok (Err fault)) → IsAnswer text (Err (errors.Number fault))
-  number_answer fault whole = (whole.0, derives_of whole.0 whole.1 whole.3, whole.2, sym whole.4)
+  pub tree_answer : (e : Expr) → IsWhole 512 ts (Ok (Ok e)) → IsAnswerTo text (Ok (tree_of e))
+  tree_answer e whole = record {
+    tree = λ t same. whole_built (Ok e) whole;
+    number = λ fault same. cc;
+    syntax = λ same. cc;
+    too_deep = λ same. cc;
+    only = λ d derives low own. whole_only (Ok e) whole d derives;
+    empty = (λ same. cc, λ none. absurd (not_empty none));
+    lexical = λ fault. (λ same. cc, λ faulty. absurd (no_fault fault faulty));
+    early = λ first same. cc;
+    low = λ t same.
+        let low : tree_height (tree_of e) ≤ height whole.0 = subst (IsLow (height whole.0)) (sym whole.4) (build_low whole.0) in
+        let bound = whole.2 in
+        let is : tree_of e ≡ t = cc in
+        omega (arith, ap tree_height is);
+  }
 
-  pub number_only : (fault : NumberFault) → IsWhole 512 (symbols_of ts) (Ok (Err fault)) → (d : Derivation) → Derives text d → height d ≤ 512 → build d ≡ Err fault
-  number_only fault whole d derives low = ap build (one_derivation d whole.0 derives.formed whole.1 (spelled d derives ∙ sym whole.3)) ∙ sym whole.4
+  pub number_answer : (fault : NumberFault) → IsWhole 512 ts (Ok (Err fault)) → IsAnswerTo text (Err (errors.Number fault))
+  number_answer fault whole = record {
+    tree = λ t same. cc;
+    number = λ other same. whole_built (Err fault) whole;
+    syntax = λ same. cc;
+    too_deep = λ same. cc;
+    only = λ d derives low own. whole_only (Err fault) whole d derives;
+    empty = (λ same. cc, λ none. absurd (not_empty none));
+    lexical = λ fault. (λ same. cc, λ faulty. absurd (no_fault fault faulty));
+    early = λ first same. cc;
+    low = λ t same. cc;
+  }
+
+  pub halt_answer : (halt : Halt) → IsWhole 512 ts (Err halt) → (halt ≡ halts.Memory → begins ts ≡ true) → IsAnswerTo text (Err (error_of halt))
+  halt_answer halts.Memory whole memory = record {
+    tree = λ t same. cc;
+    number = λ fault same. cc;
+    syntax = λ same. cc;
+    too_deep = λ same. cc;
+    only = λ d derives low own. absurd (own refl);
+    empty = (λ same. cc, λ none. absurd (not_empty none));
+    lexical = λ fault. (λ same. cc, λ faulty. absurd (no_fault fault faulty));
+    early = λ none same. no_memory (memory refl) none;
+    low = λ t same. cc;
+  }
+  halt_answer halts.Syntax whole memory = record {
+    tree = λ t same. cc;
+    number = λ fault same. cc;
+    syntax = λ same d derives. whole d derives.formed (spelled d derives);
+    too_deep = λ same. cc;
+    only = λ d derives low own. absurd (whole d derives.formed (spelled d derives));
+    empty = (λ same. cc, λ none. absurd (not_empty none));
+    lexical = λ fault. (λ same. cc, λ faulty. absurd (no_fault fault faulty));
+    early = λ none same. cc;
+    low = λ t same. cc;
+  }
+  halt_answer halts.TooDeep whole memory = record {
+    tree = λ t same. cc;
+    number = λ fault same. cc;
+    syntax = λ same. cc;
+    too_deep = λ same. (
+      record { list = list; is = is; many = let many = whole.0 in let count = ap length kinds ∙ length-map list symbol_of in omega arith },
+      λ d derives. ⊎_elim (λ high. high) (λ low. absurd (whole.1 d derives.formed low (spelled d derives))) (cases_lt 512 (height d)),
+    );
+    only = λ d derives low own. absurd (whole.1 d derives.formed low (spelled d derives));
+    empty = (λ same. cc, λ none. absurd (not_empty none));
+    lexical = λ fault. (λ same. cc, λ faulty. absurd (no_fault fault faulty));
+    early = λ none same. cc;
+    low = λ t same. cc;
+  }

@@ -2,34 +2,41 @@
 use Rattle.std.proofs.Common.{◌≡◌, ℕ, zero, suc, ◌+◌, ◌-◌, ◌<◌, ◌≤◌, ⊎_elim, max, refl, sym, ◌∙◌, ap, arith, List, [], ◌∷◌, ◌++◌, length, append_assoc, append-nil, length-append, true, false, cond}
 use Rattle.std.specs.Prelude.{nat_lt, if◌then◌else◌, Result, Ok, Err}
 use Rattle.std.proofs.lemmas.Bool.{cases_lt, cond_below, cond_above}
-use Rattle.promql_parser.specs.Symbols.{Symbol, number_word, name_word, sign, opening, closing, other}
-use Rattle.promql_parser.specs.Grammar.{Derivation, number, name, paren, binary, yield, level, openness, height, IsWellFormed, IsBase}
-use Rattle.promql_parser.specs.Reading.{above, Stop, too_deep, ◌>>=◌, Reader, closed, first, climb, expression}
-use Rattle.promql_parser.proofs.Levels.{IsAbove, Stops, Follows, follows_right, above_left, above_right, above_zero}
+use Rattle.promql_parser.specs.declared.grammar.kind.Kind.{Kind}
+use Rattle.promql_parser.specs.declared.grammar.kind.Kind.TheVariants as kind
+use Rattle.promql_parser.specs.declared.grammar.part.Halt.{Halt}
+use Rattle.promql_parser.specs.declared.grammar.part.Halt.TheVariants.{Syntax, TooDeep}
+use Rattle.promql_parser.specs.Results.{◌then◌}
+use Rattle.promql_parser.specs.Lexing.{Text}
+use Rattle.promql_parser.specs.Symbols.{Symbol, may_be_name, sign, word}
+use Rattle.promql_parser.specs.Grammar.{Derivation, number, name, paren, binary, yield, level, openness, height, IsWellFormed}
+use Rattle.promql_parser.specs.Front.{Stops}
+use Rattle.promql_parser.specs.Reading.{above, Reader, closed, first, climb, expression}
+use Rattle.promql_parser.proofs.Levels.{IsAbove, IsBase, Follows, follows_right, stops_right, above_left, above_right, above_lowest}
 
 -- a result, where the height is at most n
-abbrev pub within : {A : Type 0} → ℕ → ℕ → Result A Stop → Result A Stop
-within n h r = if nat_lt n h then Err too_deep else r
+abbrev pub within : {A : Type 0} → ℕ → ℕ → Result A Halt → Result A Halt
+within n h r = if nat_lt n h then Err TooDeep else r
 
-pub within_low : {A : Type 0} (n h : ℕ) (r : Result A Stop) → h ≤ n → within n h r ≡ r
-within_low n h r low = sym (cond_above n h (Err too_deep) r r low refl)
+pub within_low : {A : Type 0} (n h : ℕ) (r : Result A Halt) → h ≤ n → within n h r ≡ r
+within_low n h r low = sym (cond_above n h (Err TooDeep) r r low refl)
 
-pub within_high : {A : Type 0} (n h : ℕ) (r : Result A Stop) → n < h → within n h r ≡ Err too_deep
-within_high n h r high = sym (cond_below n h (Err too_deep) r high)
+pub within_high : {A : Type 0} (n h : ℕ) (r : Result A Halt) → n < h → within n h r ≡ Err TooDeep
+within_high n h r high = sym (cond_below n h (Err TooDeep) r high)
 
-within_bind : {A B : Type 0} (n h : ℕ) (r : Result A Stop) (f : A → Result B Stop) → (within n h r >>= f) ≡ within n h (r >>= f)
-within_bind n h r f = elim (nat_lt n h) as (λ b. (cond b (Err too_deep) r >>= f) ≡ cond b (Err too_deep) (r >>= f)) [ true ↦ refl | false ↦ refl ]
+within_bind : {A B : Type 0} (n h : ℕ) (r : Result A Halt) (f : A → Result B Halt) → (within n h r then f) ≡ within n h (r then f)
+within_bind n h r f = elim (nat_lt n h) as (λ b. (cond b (Err TooDeep) r then f) ≡ cond b (Err TooDeep) (r then f)) [ true ↦ refl | false ↦ refl ]
 
-within_deep : {A : Type 0} (n h : ℕ) (r : Result A Stop) → r ≡ Err too_deep → within n h r ≡ Err too_deep
-within_deep n h r deep = elim (nat_lt n h) as (λ b. cond b (Err too_deep) r ≡ Err too_deep) [ true ↦ refl | false ↦ deep ]
+within_deep : {A : Type 0} (n h : ℕ) (r : Result A Halt) → r ≡ Err TooDeep → within n h r ≡ Err TooDeep
+within_deep n h r deep = elim (nat_lt n h) as (λ b. cond b (Err TooDeep) r ≡ Err TooDeep) [ true ↦ refl | false ↦ deep ]
 
-within_suc : {A : Type 0} (n h : ℕ) (r : Result A Stop) → within n h r ≡ within (suc n) (1 + h) r
+within_suc : {A : Type 0} (n h : ℕ) (r : Result A Halt) → within n h r ≡ within (suc n) (1 + h) r
 within_suc n h r =
     ⊎_elim (λ high. within_high n h r high ∙ sym (within_high (suc n) (1 + h) r (omega arith)))
     (λ low. within_low n h r low ∙ sym (within_low (suc n) (1 + h) r (omega arith)))
     (cases_lt n h)
 
-within_both : {A : Type 0} (n a b : ℕ) (r : Result A Stop) → within n a (within n b r) ≡ within n (max a b) r
+within_both : {A : Type 0} (n a b : ℕ) (r : Result A Halt) → within n a (within n b r) ≡ within n (max a b) r
 within_both n a b r =
     ⊎_elim (λ high. within_high n a (within n b r) high ∙ sym (within_high n (max a b) r (omega arith)))
     (λ low. within_low n a (within n b r) low ∙ second low)
@@ -42,7 +49,7 @@ within_both n a b r =
         (cases_lt n b)
 
 -- a form whose left part is read at the outer bound, and both parts at the inner one
-within_three : {A : Type 0} (n a b : ℕ) (r : Result A Stop) → within (suc n) a (within n a (within n b r)) ≡ within (suc n) (1 + max a b) r
+within_three : {A : Type 0} (n a b : ℕ) (r : Result A Halt) → within (suc n) a (within n a (within n b r)) ≡ within (suc n) (1 + max a b) r
 within_three n a b r =
     ap (within (suc n) a) (within_both n a b r)
     ∙ ⊎_elim (λ high. within_deep (suc n) a _ (within_high n (max a b) r high) ∙ sym (within_high (suc n) (1 + max a b) r (omega arith)))
@@ -53,60 +60,57 @@ within_three n a b r =
 pub record Reads (r : Reader) (n : ℕ) : Type 0 where
   pub by : (d : Derivation) (m : ℕ) (rest : List Symbol) → IsWellFormed d → IsAbove m d → Follows (openness d) rest → Stops m rest → r m (yield d ++ rest) ≡ within n (height d) (Ok (d, rest))
 
--- how many operators stand on the way down the left sides
+-- how many operators are on the way down the left sides
 abbrev spine : Derivation → ℕ
-spine (binary op l r) = suc (spine l)
-spine (number text) = 0
-spine (name text) = 0
-spine (paren d) = 0
+spine (binary op text l r) = suc (spine l)
+spine d = 0
 
-stops : (r : Reader) (k n m : ℕ) (d : Derivation) (ts : List Symbol) → Stops m ts → climb r k n m d ts ≡ Ok (d, ts)
+-- reading ends before what stops it
+pub stops : (r : Reader) (k n m : ℕ) (d : Derivation) (ts : List Symbol) → Stops m ts → climb r k n m d ts ≡ Ok (d, ts)
 stops r zero n m d ts stop = refl
-stops r (suc k) n m d (sign op ∷ ts) stop = sym (cond_below (level op) m (Ok (d, sign op ∷ ts)) _ stop)
-stops r (suc k) n m d [] stop = refl
-stops r (suc k) n m d (number_word text ∷ ts) stop = refl
-stops r (suc k) n m d (name_word text ∷ ts) stop = refl
-stops r (suc k) n m d (opening ∷ ts) stop = refl
-stops r (suc k) n m d (closing ∷ ts) stop = refl
-stops r (suc k) n m d (other ∷ ts) stop = refl
+stops r (suc k) n m d (word (kind.Operator op) text ∷ ts) stop = sym (cond_below (level op) m (Ok (d, word (kind.Operator op) text ∷ ts)) _ stop)
+stops r (suc k) n m d ts stop = refl
+
+-- a name is read as one
+pub first_name : (r : Reader) (k : Kind) (text : Text) (ts : List Symbol) → may_be_name k ≡ true → first r (word k text ∷ ts) ≡ Ok (name k text, ts)
+first_name r kind.Number text ts is = cc
+first_name r k text ts is = ap (λ b. cond b (Ok (name k text, ts)) (Err Syntax)) is
 
 module _ (r : Reader) (n : ℕ) (reads : Reads r n) where
   bases : (d : Derivation) (rest : List Symbol) → IsWellFormed d → IsBase d → first r (yield d ++ rest) ≡ within (suc n) (height d) (Ok (d, rest))
   bases (number text) rest formed base = sym (within_low (suc n) 1 (Ok (number text, rest)) (omega arith))
-  bases (name text) rest formed base = sym (within_low (suc n) 1 (Ok (name text, rest)) (omega arith))
+  bases (name k text) rest formed base = first_name r k text rest formed ∙ sym (within_low (suc n) 1 (Ok (name k text, rest)) (omega arith))
   bases (paren d) rest formed base =
-      ap (λ ts. r 0 ts >>= λ x. closed x.0 x.1) (append_assoc (yield d) (closing ∷ []) rest)
-      ∙ ap (λ o. o >>= λ x. closed x.0 x.1) (reads.by d 0 (closing ∷ rest) formed (above_zero d) tt tt)
-      ∙ within_bind n (height d) (Ok (d, closing ∷ rest)) (λ x. closed x.0 x.1)
+      ap (λ ts. r 1 ts then λ x. closed x.0 x.1) (append_assoc (yield d) (sign kind.RightParen ∷ []) rest)
+      ∙ ap (λ o. o then λ x. closed x.0 x.1) (reads.by d 1 (sign kind.RightParen ∷ rest) formed (above_lowest d formed) tt tt)
+      ∙ within_bind n (height d) (Ok (d, sign kind.RightParen ∷ rest)) (λ x. closed x.0 x.1)
       ∙ within_suc n (height d) (Ok (paren d, rest))
-  bases (binary op a b) rest formed base = absurd base
+  bases (binary op text a b) rest formed base = absurd base
 
-  base_climbs : (d : Derivation) (m j k : ℕ) (rest : List Symbol) → k ≡ j → IsWellFormed d → IsBase d → (first r (yield d ++ rest) >>= λ x. climb r k n m x.0 x.1) ≡ within (suc n) (height d) (climb r j n m d rest)
+  base_climbs : (d : Derivation) (m j k : ℕ) (rest : List Symbol) → k ≡ j → IsWellFormed d → IsBase d → (first r (yield d ++ rest) then λ x. climb r k n m x.0 x.1) ≡ within (suc n) (height d) (climb r j n m d rest)
   base_climbs d m j k rest same formed base =
-      ap (λ o. o >>= λ x. climb r k n m x.0 x.1) (bases d rest formed base)
+      ap (λ o. o then λ x. climb r k n m x.0 x.1) (bases d rest formed base)
       ∙ within_bind (suc n) (height d) (Ok (d, rest)) (λ x. climb r k n m x.0 x.1)
       ∙ ap (λ i. within (suc n) (height d) (climb r i n m d rest)) same
 
-  climbs : (d : Derivation) (m j k : ℕ) (rest : List Symbol) → k ≡ spine d + j → IsWellFormed d → IsAbove m d → Follows (openness d) rest → (first r (yield d ++ rest) >>= λ x. climb r k n m x.0 x.1) ≡ within (suc n) (height d) (climb r j n m d rest)
+  climbs : (d : Derivation) (m j k : ℕ) (rest : List Symbol) → k ≡ spine d + j → IsWellFormed d → IsAbove m d → Follows (openness d) rest → (first r (yield d ++ rest) then λ x. climb r k n m x.0 x.1) ≡ within (suc n) (height d) (climb r j n m d rest)
   climbs (number text) m j k rest turns formed top fits = base_climbs (number text) m j k rest (omega arith) formed tt
-  climbs (name text) m j k rest turns formed top fits = base_climbs (name text) m j k rest (omega arith) formed tt
+  climbs (name c text) m j k rest turns formed top fits = base_climbs (name c text) m j k rest (omega arith) formed tt
   climbs (paren d) m j k rest turns formed top fits = base_climbs (paren d) m j k rest (omega arith) formed tt
-  climbs (binary op a b) m j k rest turns formed top fits =
-      let behind = follows_right op (openness b) rest fits in
-      ap (λ ts. first r ts >>= λ x. climb r k n m x.0 x.1) (append_assoc (yield a) (sign op ∷ yield b) rest)
-      ∙ climbs a m (suc j) k (sign op ∷ (yield b ++ rest)) (omega arith) formed.0 (above_left m op a top formed.2) formed.2
-      ∙ ap (within (suc n) (height a)) (sym (cond_above (level op) m (Ok (a, sign op ∷ (yield b ++ rest))) _ _ top refl)
-      ∙ ap (λ o. within n (height a) (o >>= λ x. climb r j n m (binary op a x.0) x.1)) (reads.by b (above op) rest formed.1 (above_right op b formed.3) behind.0 behind.1)
-      ∙ ap (within n (height a)) (within_bind n (height b) (Ok (b, rest)) (λ x. climb r j n m (binary op a x.0) x.1)))
-      ∙ within_three n (height a) (height b) (climb r j n m (binary op a b) rest)
+  climbs (binary op text a b) m j k rest turns formed top fits =
+      let op_word = word (kind.Operator op) text in
+      ap (λ ts. first r ts then λ x. climb r k n m x.0 x.1) (append_assoc (yield a) (op_word ∷ yield b) rest)
+      ∙ climbs a m (suc j) k (op_word ∷ (yield b ++ rest)) (omega arith) formed.0 (above_left m op a top formed.3) formed.3
+      ∙ ap (within (suc n) (height a)) (sym (cond_above (level op) m (Ok (a, op_word ∷ (yield b ++ rest))) _ _ top refl)
+      ∙ ap (λ o. within n (height a) (o then λ x. climb r j n m (binary op text a x.0) x.1)) (reads.by b (above op) rest formed.1 (above_right op b formed.4) (follows_right op (openness b) rest fits) (stops_right op (openness b) rest fits))
+      ∙ ap (within n (height a)) (within_bind n (height b) (Ok (b, rest)) (λ x. climb r j n m (binary op text a x.0) x.1)))
+      ∙ within_three n (height a) (height b) (climb r j n m (binary op text a b) rest)
 
   spine_length : (d : Derivation) → spine d ≤ length (yield d)
-  spine_length (number text) = omega arith
-  spine_length (name text) = omega arith
-  spine_length (paren d) = omega arith
-  spine_length (binary op a b) = omega (arith, spine_length a, length-append (yield a) (sign op ∷ yield b))
+  spine_length (binary op text a b) = omega (arith, spine_length a, length-append (yield a) (word (kind.Operator op) text ∷ yield b))
+  spine_length d = omega arith
 
-  next_reads : (d : Derivation) (m : ℕ) (rest : List Symbol) → IsWellFormed d → IsAbove m d → Follows (openness d) rest → Stops m rest → (first r (yield d ++ rest) >>= λ x. climb r (length (yield d ++ rest)) n m x.0 x.1) ≡ within (suc n) (height d) (Ok (d, rest))
+  next_reads : (d : Derivation) (m : ℕ) (rest : List Symbol) → IsWellFormed d → IsAbove m d → Follows (openness d) rest → Stops m rest → (first r (yield d ++ rest) then λ x. climb r (length (yield d ++ rest)) n m x.0 x.1) ≡ within (suc n) (height d) (Ok (d, rest))
   next_reads d m rest formed top fits stop =
       let k = length (yield d ++ rest) in
       let j = k - spine d in
@@ -114,10 +118,7 @@ module _ (r : Reader) (n : ℕ) (reads : Reads r n) where
       ∙ ap (within (suc n) (height d)) (stops r j n m d rest stop)
 
 height_some : (d : Derivation) → 0 < height d
-height_some (number text) = omega arith
-height_some (name text) = omega arith
-height_some (paren d) = omega arith
-height_some (binary op a b) = omega arith
+height_some d = elim d as (λ d. 0 < height d) [ number text ↦ omega arith | name k text ↦ omega arith | paren d ↦ omega arith | binary op text a b ↦ omega arith ]
 
 pub expression_reads : (n : ℕ) → Reads (expression n) n
 unfolding expression
@@ -125,5 +126,5 @@ expression_reads zero = record { by = λ d m rest formed top fits stop. sym (wit
 expression_reads (suc n) = record { by = λ d m rest formed top fits stop. next_reads (expression n) n (expression_reads n) d m rest formed top fits stop }
 
 -- a whole list is read as its derivation
-pub whole : (n : ℕ) (d : Derivation) → IsWellFormed d → expression n 0 (yield d) ≡ within n (height d) (Ok (d, []))
-whole n d formed = ap (expression n 0) (sym (append-nil (yield d))) ∙ (expression_reads n).by d 0 [] formed (above_zero d) tt tt
+pub whole : (n : ℕ) (d : Derivation) → IsWellFormed d → expression n 1 (yield d) ≡ within n (height d) (Ok (d, []))
+whole n d formed = ap (expression n 1) (sym (append-nil (yield d))) ∙ (expression_reads n).by d 1 [] formed (above_lowest d formed) tt tt

@@ -1,14 +1,15 @@
--- What the loops over the tokens of a text keep.
-use Rattle.std.proofs.Common.{◌≡◌, ℕ, zero, suc, ◌<◌, Bool, true, false, List, [], ◌∷◌, ◌++◌, length, get_or, refl, sym, ap, ◌∙◌, arith}
+-- The tokens of a text, and what the loop over them keeps.
+use Rattle.std.proofs.Common.{◌≡◌, ℕ, ◌<◌, suc, Bool, true, false, List, [], ◌∷◌, length, refl, sym, ap, ◌∙◌, arith}
 use Rattle.std.specs.Prelude.{◌==◌, ◌||◌, not, Result, Ok, Err, filter}
 use Rattle.std.specs.List.{list_any}
 use Rattle.std.proofs.lemmas.Bool.{cond-true, cond-false}
 use Rattle.std.proofs.lemmas.Bool.Decides.{nat_tests}
 use Rattle.promql_token.specs.declared.lexeme.Lexeme.{Lexeme}
 use Rattle.promql_token.specs.declared.fault.LexFault.{LexFault}
-use Rattle.promql_token.specs.Laws.{IsPlaced, ArePlaced}
 use Rattle.promql_token.specs.Lexing.{sliced, result_sliced, text_at, collected, items, lex}
-use Rattle.promql_parser.specs.Lexing.{Text, Token, is_before_end, on_result, has_any, tokens}
+use Rattle.promql_token.specs.Cursor.{is_before_end}
+use Rattle.promql_parser.specs.Results.{on_result}
+use Rattle.promql_parser.specs.Lexing.{Text, Token, has_any, tokens}
 
 abbrev pub is_token : Lexeme → Bool
 is_token x = not (x.id == 6)
@@ -51,21 +52,6 @@ pub has_any_tokens : (s : Text) → has_any (tokens s) ≡ any_token (collected 
 unfolding lex
 has_any_tokens s = any_listed s (collected (items s))
 
--- each lexeme of a list is placed
-pub placed_at : (s : Text) (xs : List Lexeme) (i : ℕ) (d : Lexeme) → ArePlaced s xs → i < length xs → IsPlaced s (get_or xs i d)
-placed_at s [] i d placed within = absurd (omega arith)
-placed_at s (x ∷ xs) zero d placed within = placed.0
-placed_at s (x ∷ xs) (suc i) d placed within = placed_at s xs i d placed.1 (omega arith)
-
--- one more lexeme
-listed-append : (s : Text) (xs ys : List Lexeme) → listed s (xs ++ ys) ≡ listed s xs ++ listed s ys
-listed-append s [] ys = refl
-listed-append s (x ∷ xs) ys = by_test (is_token x) refl (listed-append s xs ys)
-  where
-    by_test : (b : Bool) → is_token x ≡ b → listed s (xs ++ ys) ≡ listed s xs ++ listed s ys → listed s (x ∷ (xs ++ ys)) ≡ listed s (x ∷ xs) ++ listed s ys
-    by_test true token rest = listed-token s x (xs ++ ys) token ∙ ap (λ l. (x.id, text_at s x) ∷ l) rest ∙ sym (ap (λ l. l ++ listed s ys) (listed-token s x xs token))
-    by_test false end rest = listed-end s x (xs ++ ys) end ∙ rest ∙ sym (ap (λ l. l ++ listed s ys) (listed-end s x xs end))
-
 -- a text with no token has the empty list
 pub none_listed : (r : Result (List Token) LexFault) → has_any r ≡ Ok false → r ≡ Ok []
 none_listed (Ok []) none = refl
@@ -74,3 +60,19 @@ none_listed (Ok (t ∷ ts)) none =
     let holds : not (suc (length ts) == 0) ≡ true = ap not (some_zero (length ts)) in
     cc
 none_listed (Err e) none = cc
+
+-- a text with a token has a list that isn't empty
+pub record SomeList (r : Result (List Token) LexFault) : Type 0 where
+  pub list : List Token
+  pub is : r ≡ Ok list
+  pub some : 0 < length list
+
+pub some_list : (r : Result (List Token) LexFault) → has_any r ≡ Ok true → SomeList r
+some_list (Ok []) some = let none : false ≡ true = cc in cc
+some_list (Ok (t ∷ ts)) some = record { list = t ∷ ts; is = refl; some = omega arith }
+some_list (Err e) some = cc
+
+-- the list is what the lexer gives, without the end
+pub whole_list : (r : Result (List Token) LexFault) (list : List Token) → on_result (filter is_before_end) r ≡ Ok list → (ts : List Token) × (r ≡ Ok ts) × (filter is_before_end ts ≡ list)
+whole_list (Ok ts) list is = (ts, refl, cc)
+whole_list (Err e) list is = cc

@@ -13,7 +13,7 @@ pub one_derivation : (a b : Derivation) → IsWellFormed a → IsWellFormed b �
 unfolding read_or
 one_derivation a b a_formed b_formed same =
     let n = max (height a) (height b) in
-    let reads_a : expression n 0 (yield a) ≡ Ok (a, []) = whole n a a_formed ∙ within_low n (height a) _ (omega arith) in
-    let reads_b : expression n 0 (yield b) ≡ Ok (b, []) = whole n b b_formed ∙ within_low n (height b) _ (omega arith) in
-    let both : Ok (a, []) ≡ Ok (b, []) = sym reads_a ∙ ap (expression n 0) same ∙ reads_b in
+    let reads_a : expression n 1 (yield a) ≡ Ok (a, []) = whole n a a_formed ∙ within_low n (height a) _ (omega arith) in
+    let reads_b : expression n 1 (yield b) ≡ Ok (b, []) = whole n b b_formed ∙ within_low n (height b) _ (omega arith) in
+    let both : Ok (a, []) ≡ Ok (b, []) = sym reads_a ∙ ap (expression n 1) same ∙ reads_b in
     ap (read_or a) both

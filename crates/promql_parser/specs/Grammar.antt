@@ -1,71 +1,52 @@
--- The grammar: derivation trees, their tokens, and which of them are well formed (docs/GRAMMAR.md, "Grammar").
-use Rattle.std.specs.Prelude.{ℕ, ◌+◌, ◌≤◌, ◌<◌, min, max, List, [], ◌∷◌, ◌++◌}
-use Rattle.promql_parser.specs.declared.grammar.symbol.Operator.{Operator}
-use Rattle.promql_parser.specs.declared.grammar.symbol.Operator.TheVariants.{Add, Sub}
+-- The grammar: derivations, their tokens, and which of them are well formed (docs/GRAMMAR.md, "Grammar").
+use Rattle.std.specs.Prelude.{◌≡◌, ℕ, ◌+◌, ◌≤◌, ◌<◌, true, ◌==◌, ◌||◌, if◌then◌else◌, min, max, List, [], ◌∷◌, ◌++◌}
+use Rattle.promql_token.specs.declared.ids.TheConstants.{T_ADD, T_SUB}
+use Rattle.promql_parser.specs.declared.grammar.kind.Kind.{Kind}
+use Rattle.promql_parser.specs.declared.grammar.kind.Kind.TheVariants as kind
 use Rattle.promql_parser.specs.Lexing.{Text}
-use Rattle.promql_parser.specs.Symbols.{Symbol, number_word, name_word, sign, opening, closing}
+use Rattle.promql_parser.specs.Symbols.{Symbol, may_be_name, sign, word}
 
--- a derivation, with a case for each alternative of the grammar
+-- a derivation, with a case for each alternative of the grammar; it keeps the words of its alternative
 pub data Derivation : Type 0 where
   number : Text → Derivation
-  name : Text → Derivation
+  name : Kind → Text → Derivation
   paren : Derivation → Derivation
-  binary : Operator → Derivation → Derivation → Derivation
+  binary : ℕ → Text → Derivation → Derivation → Derivation
 
 -- the tokens that a derivation spells
 abbrev pub yield : Derivation → List Symbol
-yield (number text) = number_word text ∷ []
-yield (name text) = name_word text ∷ []
-yield (paren d) = opening ∷ (yield d ++ closing ∷ [])
-yield (binary op l r) = yield l ++ sign op ∷ yield r
+yield (number text) = word kind.Number text ∷ []
+yield (name k text) = word k text ∷ []
+yield (paren d) = sign kind.LeftParen ∷ (yield d ++ sign kind.RightParen ∷ [])
+yield (binary op text l r) = yield l ++ word (kind.Operator op) text ∷ yield r
 
--- how tightly an operator binds
-abbrev pub level : Operator → ℕ
-level Add = 4
-level Sub = 4
+-- how tightly an operator binds; 0 for one that the grammar doesn't have
+abbrev pub level : ℕ → ℕ
+level op = if op == T_ADD || op == T_SUB then 4 else 0
 
--- how tightly an operator outside must bind at least to take the form whole on its left
+-- how tightly an operator outside must bind at most to take the form whole on its left
 abbrev pub openness : Derivation → ℕ
-openness (number text) = 7
-openness (name text) = 7
-openness (paren d) = 7
-openness (binary op l r) = min (level op) (openness r)
+openness (binary op text l r) = min (level op) (openness r)
+openness d = 7
 
 -- the left side's openness is at least the operator's level
-abbrev pub FitsLeft : Operator → Derivation → Type 0
+abbrev pub FitsLeft : ℕ → Derivation → Type 0
 FitsLeft op l = level op ≤ openness l
 
 -- a right side that is binary has a higher level
-abbrev pub FitsRight : Operator → Derivation → Type 0
-FitsRight op (binary inner l r) = level op < level inner
-FitsRight op (number text) = Unit {0}
-FitsRight op (name text) = Unit {0}
-FitsRight op (paren d) = Unit {0}
-
--- a sign stands over no binary form; no form of the core has a sign in front yet
-abbrev pub FitsSign : Derivation → Type 0
-FitsSign (binary op l r) = ⊥
-FitsSign (number text) = Unit {0}
-FitsSign (name text) = Unit {0}
-FitsSign (paren d) = Unit {0}
-
--- a base has no operator outside; no form of the core stands on a base yet
-abbrev pub IsBase : Derivation → Type 0
-IsBase (binary op l r) = ⊥
-IsBase (number text) = Unit {0}
-IsBase (name text) = Unit {0}
-IsBase (paren d) = Unit {0}
+abbrev pub FitsRight : ℕ → Derivation → Type 0
+FitsRight op (binary inner text l r) = level op < level inner
+FitsRight op d = Unit {0}
 
 -- the conditions hold everywhere in the derivation
 abbrev pub IsWellFormed : Derivation → Type 0
 IsWellFormed (number text) = Unit {0}
-IsWellFormed (name text) = Unit {0}
+IsWellFormed (name k text) = may_be_name k ≡ true
 IsWellFormed (paren d) = IsWellFormed d
-IsWellFormed (binary op l r) = IsWellFormed l × IsWellFormed r × FitsLeft op l × FitsRight op r
+IsWellFormed (binary op text l r) = IsWellFormed l × IsWellFormed r × (0 < level op) × FitsLeft op l × FitsRight op r
 
 -- a derivation is one higher than its highest part
 abbrev pub height : Derivation → ℕ
-height (number text) = 1
-height (name text) = 1
 height (paren d) = 1 + height d
-height (binary op l r) = 1 + max (height l) (height r)
+height (binary op text l r) = 1 + max (height l) (height r)
+height d = 1

@@ -1,10 +1,9 @@
 -- The tokens of a text before its end (docs/GRAMMAR.md, "Tokens").
-use Rattle.std.specs.Prelude.{◌≡◌, ℕ, Bool, not, ◌==◌, List, length, Result, Ok, Err, filter}
-use Rattle.promql_token.specs.declared.ids.TheConstants.{T_EOF}
+use Rattle.std.specs.Prelude.{ℕ, Bool, not, ◌==◌, List, length, Result, filter}
 use Rattle.promql_token.specs.declared.fault.LexFault.{LexFault}
-use Rattle.promql_token.specs.declared.fault.LexError.{LexError}
-use Rattle.promql_token.specs.declared.fault.LexError.TheVariants as errors
+use Rattle.promql_token.specs.Cursor.{is_before_end}
 use Rattle.promql_token.specs.Lexing as lexing
+use Rattle.promql_parser.specs.Results.{on_result}
 
 abbrev pub Text : Type 0
 Text = List ℕ
@@ -13,14 +12,6 @@ Text = List ℕ
 abbrev pub Token : Type 0
 Token = ℕ × Text
 
-abbrev pub on_result : {A B E : Type 0} → (A → B) → Result A E → Result B E
-on_result f (Ok x) = Ok (f x)
-on_result f (Err e) = Err e
-
--- every token but T_EOF, which is the last
-abbrev pub is_before_end : Token → Bool
-is_before_end t = not (t.0 == T_EOF)
-
 -- the tokens of a text before its end, or its lexical fault
 abbrev pub tokens : Text → Result (List Token) LexFault
 tokens text = on_result (filter is_before_end) (lexing.tokens text)
@@ -28,9 +19,3 @@ tokens text = on_result (filter is_before_end) (lexing.tokens text)
 -- whether there is a token
 abbrev pub has_any : Result (List Token) LexFault → Result Bool LexFault
 has_any tokens = on_result (λ ts. not (length ts == 0)) tokens
-
--- a call lists these tokens, or answers this fault, or want of memory
-abbrev pub Lists : {X : Type 0} → (X → List Token) → Result X LexError → Result (List Token) LexFault → Type 0
-Lists view (Ok x) tokens = tokens ≡ Ok (view x)
-Lists view (Err errors.Memory) tokens = Unit {0}
-Lists view (Err (errors.Fault fault)) tokens = tokens ≡ Err fault

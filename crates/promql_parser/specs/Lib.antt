@@ -1,5 +1,7 @@
+pub mod Results
 pub mod Lexing
 pub mod Symbols
+pub mod Drawing
 pub mod Tree
 pub mod OneLine
 pub mod Grammar
@@ -9,3 +11,4 @@ pub mod Front
 pub mod Parts
 pub mod Wholes
 pub mod Answers
+pub mod Halts

@@ -1,6 +1,6 @@
-// The parser, over a list of tokens.
+//! The parser, over tokens that are drawn one by one.
 
 pub mod expression;
 pub mod front;
+pub mod kind;
 pub mod part;
-pub mod symbol;

@@ -1,4 +1,4 @@
-// Laws of the grammar.
+//! Laws of the grammar.
 
 ghost use Rattle.std.specs.Prelude.{◌≡◌};
 ghost use Rattle.promql_parser.specs.Grammar.{Derivation, IsWellFormed, yield};

@@ -1,19 +1,13 @@
-// From a text to its tree.
+//! From a text to its tree.
 
-ghost use Rattle.std.specs.Prelude.{◌≡◌, ℕ, ◌≤◌, ◌↔◌, [], Ok, Err, IfOk, IsErrOf};
-ghost use Rattle.promql_parser.specs.Answers.{Derives, IsAnswer, IsBuilt, answer_of};
-ghost use Rattle.promql_parser.specs.Building.{build};
-ghost use Rattle.promql_parser.specs.Grammar.{Derivation, height};
-ghost use Rattle.promql_token.specs.declared.fault.LexFault.{LexFault};
-ghost use Rattle.promql_parser.specs.Lexing.{tokens};
-ghost use Rattle.promql_parser.specs.Tree.{tree_of, tree_height};
+ghost use Rattle.promql_parser.specs.Answers.{IsAnswerTo, answer_of};
 
 use crate::grammar::expression::read_all;
 use crate::grammar::part::Halt;
-use crate::tokens::{has_tokens, list_tokens};
+use crate::tokens::{Tokens, has_tokens};
 pub use crate::tree::{BinaryExpr, Expr, NumberLiteral, ParenExpr, VectorSelector};
 use promql_text::NumberFault;
-use promql_token::{LexError, LexFault};
+use promql_token::LexFault;
 use std::alloc::{AllocError, Global};
 use thiserror::Error;
 
@@ -65,23 +59,11 @@ impl From<LexFault> for ParseError {
     }
 }
 
-impl From<LexError> for ParseError {
-    ghost use Rattle.promql_parser.specs.Answers.{IsLexError};
-
-    ghost from_gives = { IsLexError };
-
-    fn from(error: LexError) -> ParseError {
-        match error {
-            LexError::Memory => ParseError::Memory,
-            LexError::Fault(fault) => ParseError::Lex(fault),
-        }
-    }
-}
-
 impl From<Halt> for ParseError {
-    ghost use Rattle.promql_parser.specs.Answers.{IsHalt};
+    ghost use Rattle.std.specs.Prelude.{◌≡◌};
+    ghost use Rattle.promql_parser.specs.Halts.{error_of};
 
-    ghost from_gives = { IsHalt };
+    ghost from_gives = { λ halt e. e ≡ error_of halt };
 
     fn from(halt: Halt) -> ParseError {
         match halt {
@@ -92,23 +74,16 @@ impl From<Halt> for ParseError {
     }
 }
 
-/// The tree of a text.
+/// The tree of a text (docs/GRAMMAR.md, "The answer to a text").
 ///
-/// `Empty` and a lexical fault are answered whatever memory there is.
+/// `Empty` and `Lex` come before any other error, and reading for them allocates nothing.
 pub fn parse(alloc: Global, text: &str) -> Result<Expr, ParseError>
-    // The answer is right: a tree is built of a derivation of the text, and a refusal has its reason.
-    ensures answer { IsAnswer text.now (answer_of result) }
-    // What is right is answered: for each derivation of the text that is low enough, what it builds.
-    ensures only { (d : Derivation) → Derives text.now d → height d ≤ MAX_DEPTH → IsBuilt (answer_of result) (build d) }
-    ensures empty { IsErrOf result ParseError.Empty ↔ (tokens text.now ≡ Ok []) }
-    ensures lexical { (fault : LexFault) → IsErrOf result (ParseError.Lex fault) ↔ (tokens text.now ≡ Err fault) }
-    ensures low { IfOk result (λ e. tree_height (tree_of e) ≤ MAX_DEPTH) }
+    ensures { IsAnswerTo text.now (answer_of result) }
 {
     if !has_tokens(text)? {
         return Err(ParseError::Empty);
     }
-    let tokens = list_tokens(alloc, text)?;
-    match read_all(alloc, MAX_DEPTH, tokens.as_slice())? {
+    match read_all(alloc, MAX_DEPTH, Tokens::new(text))? {
         Ok(expr) => Ok(expr),
         Err(fault) => Err(ParseError::Number(fault)),
     }

@@ -1,4 +1,4 @@
-// How a tree prints on one line.
+//! How a tree prints on one line.
 
 ghost use Rattle.std.specs.Prelude.{Some, ◌++◌, codes, string_bytes, unwrap_or, []};
 ghost use Rattle.std.specs.Option.{option_map};

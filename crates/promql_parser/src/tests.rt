@@ -1,7 +1,8 @@
-// Worked rows.
+//! Texts with their answers, from docs/GRAMMAR.md.
 
 use crate::parser::{Expr, ParseError, parse};
 use promql_text::NumberFault;
+use promql_token::scan::Lexer;
 use promql_token::{LexFault, LexFaultKind};
 use std::alloc::{AllocError, Global};
 use std::test::Fail;
@@ -62,6 +63,8 @@ fn core_texts(rt: HostRuntime) -> Result<(), Fail> {
         ("Inf - nan", "Inf - NaN"),
         ("1 # 2", "1"),
         ("1 * 2", SYNTAX),
+        ("1 and 2", SYNTAX),
+        ("* 1", SYNTAX),
         ("5m", SYNTAX),
         ("a{b=\"é\"}", SYNTAX),
         ("é", "unexpected character: 'é'"),
@@ -91,6 +94,8 @@ fn lexical_faults_keep_their_places(rt: HostRuntime) -> Result<(), Fail> {
         ("(1", LexFaultKind::UnclosedParen, 2),
         ("1a", LexFaultKind::Numeral, 0),
         ("foo[:5m]", LexFaultKind::FirstColon, 4),
+        ("a )", LexFaultKind::RightParen, 2),
+        ("a b {", LexFaultKind::EndInBraces, 5),
         (unclosed.as_str(), LexFaultKind::UnclosedParen, 100_000),
     ];
     for (i, (text, kind, at)) in rows.iter().enumerate() {
@@ -141,6 +146,43 @@ fn nested(alloc: Global, pairs: usize) -> Result<String, AllocError> {
 
 fn refusal(alloc: Global, text: &str) -> Option<ParseError> {
     parse(alloc, text).err()
+}
+
+// The text twice in parentheses, with a minus between: the left one's height, and one more.
+fn doubled(alloc: Global, text: &str) -> Result<String, AllocError> {
+    format!(in alloc; "({text}) - ({text})")
+}
+
+// A balanced tree of so many levels.
+fn balanced(alloc: Global, levels: usize) -> Result<String, AllocError> {
+    let mut text = String::from_str(alloc, "metric")?;
+    for _ in 0..levels {
+        text = doubled(alloc, text.as_str())?;
+    }
+    Ok(text)
+}
+
+#[test]
+fn long_texts_are_accepted(rt: HostRuntime) -> Result<(), Fail> {
+    let alloc = rt.alloc();
+    for (levels, least) in [(11, 10_000), (15, 100_000)] {
+        let text = balanced(alloc, levels)?;
+        let count = Lexer::new(text.as_str()).count();
+        assert!(rt; least < count, "{count}");
+        let printed = answer(alloc, text.as_str())?;
+        assert!(rt; printed == text, "at {levels}");
+    }
+    Ok(())
+}
+
+#[test]
+fn the_first_token_decides_without_memory(rt: HostRuntime) {
+    for text in ["* 1", ") 1 + (", "bool", "{a=\"b\"} + 1", "5m"] {
+        let found = parse(rt.alloc(), text);
+        assert!(rt; !matches!(found, Err(ParseError::Memory)), "{text}");
+    }
+    let found = parse(rt.alloc(), "* 1");
+    assert!(rt; matches!(found, Err(ParseError::Syntax)));
 }
 
 #[test]

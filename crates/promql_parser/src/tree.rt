@@ -1,4 +1,4 @@
-// The tree of an expression.
+//! The tree of an expression.
 
 use promql_text::Number;
 use promql_token::TokenType;

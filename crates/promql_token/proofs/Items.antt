@@ -37,7 +37,7 @@ here text bytes at state state2 g p u b same gap_is state_is piece_is = record {
 }
 
 module _ {text : Text} {at : ℕ} {state : State} {g : ℕ} {p : Piece} (h : Here text at state g p) where
-  behind_here : IsCharBoundary text (at + g)
+  pub behind_here : IsCharBoundary text (at + g)
   behind_here = ends_at text at g h.utf8 h.place (subst (Ends (drop at text)) (sym h.gap_is) (gap_len_ends state.mode (drop at text)))
 
   ends : PieceEnds (drop (at + g) text) p
@@ -88,7 +88,7 @@ pub record IsToken (at : ℕ) (w : What) (x : Lexeme) : Type 0 where
   pub goes : goes_on w ≡ not (x.id == 6)
   pub state : (s : State) → behind s w ≡ after s x.id
 
-is_token : (at : ℕ) (w : What) (x : Lexeme) → item at w ≡ Ok x → IsToken at w x
+pub is_token : (at : ℕ) (w : What) (x : Lexeme) → item at w ≡ Ok x → IsToken at w x
 is_token at (Ok t) x is = subst (IsToken at (Ok t)) (ok_is _ _ (item at (Ok t)) refl is) (record { start = refl; len = refl; goes = refl; state = λ s. refl })
 is_token at (Err f) x is = cc
 

@@ -1,6 +1,6 @@
 pub mod Beside
-pub mod Counted
 pub mod Cuts
+pub mod Drawn
 pub mod Durations
 pub mod Ends
 pub mod Inner

@@ -83,12 +83,12 @@ what_text (Ok q) z id t e is =
 what_text (Err f) z id t e is = cc
 
 -- what is known of a gap and what stands behind it
-record Stands (s : Text) (at : ℕ) (f : Found) : Type 0 where
-  gap : IsGap (take f.gap (drop at s))
-  text : (id : ℕ) (t : Text) → f.what ≡ Ok (id, t) → t ≡ take (length t) (drop f.gap (drop at s))
-  fits : f.gap + len_of f.what ≤ length (drop at s)
+pub record Stands (s : Text) (at : ℕ) (f : Found) : Type 0 where
+  pub gap : IsGap (take f.gap (drop at s))
+  pub text : (id : ℕ) (t : Text) → f.what ≡ Ok (id, t) → t ≡ take (length t) (drop f.gap (drop at s))
+  pub fits : f.gap + len_of f.what ≤ length (drop at s)
 
-stands : (s : Text) (at : ℕ) (state : State) → Stands s at (found state (drop at s))
+pub stands : (s : Text) (at : ℕ) (state : State) → Stands s at (found state (drop at s))
 unfolding found
 stands s at state =
     let z = drop at s in

@@ -1,7 +1,6 @@
 pub mod Bytes
-pub mod ByIndex
-pub mod Chars
 pub mod Classes
+pub mod Cursor
 pub mod Cut
 pub mod Faults
 pub mod Ids

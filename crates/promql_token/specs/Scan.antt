@@ -1,4 +1,4 @@
--- What a `Lexer` is still to give.
+-- What a `Lexer` is still to give. Private: nothing rests on believing it.
 use Rattle.std.specs.Prelude.{List, [], drop, Result, if◌then◌else◌}
 use Rattle.promql_token.specs.declared.fault.LexFault.{LexFault}
 use Rattle.promql_token.specs.declared.lexeme.Lexeme.{Lexeme}
@@ -7,4 +7,4 @@ use Rattle.promql_token.specs.Lexing.{cut, placed}
 
 -- the items that are to come
 abbrev pub items_left : Lexer → List (Result Lexeme LexFault)
-items_left l = if l.ended then [] else placed l.at (cut l.state (drop l.at l.text.now))
+items_left l = if l.ended then [] else placed l.cursor.at (cut l.cursor.state (drop l.cursor.at l.cursor.text.now))

@@ -10,8 +10,8 @@ pub use lexeme::Lexeme;
 use std::alloc::Global;
 pub use token::{Token, TokenType, is_label};
 
-mod by_index;
 mod class;
+pub mod cursor;
 pub mod fault;
 mod gap;
 pub mod ids;

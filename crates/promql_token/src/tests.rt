@@ -5,9 +5,9 @@ mod ids;
 use crate::fault::{LexError, LexFault, LexFaultKind};
 use crate::ids::*;
 use crate::lexeme::Lexeme;
+use crate::lexer;
 use crate::scan::Lexer;
 use crate::token::{Token, TokenType, is_label};
-use crate::{by_index, lexer};
 use std::alloc::{AllocError, Global};
 use std::test::Fail;
 
@@ -460,21 +460,6 @@ fn faults_have_their_places_and_messages(rt: HostRuntime) -> Result<(), Fail> {
         assert!(rt; wrong.is_none(), "{wrong:?} behind {before}");
     }
     Ok(())
-}
-
-fn same_items(text: &str) -> bool {
-    Lexer::new(text).eq(by_index::Lexer::new(text))
-}
-
-#[test]
-fn the_plain_lexer_gives_the_same(rt: HostRuntime) {
-    for (text, _tokens) in &TEXTS {
-        assert!(rt; same_items(text), "{text}");
-    }
-    for row in &FAULTS {
-        let text = row.0;
-        assert!(rt; same_items(text), "{text}");
-    }
 }
 
 #[test]

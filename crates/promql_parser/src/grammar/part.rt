@@ -1,21 +1,24 @@
-// What was built of a part of the tokens: its tree, or its first fault, and the height of its derivation.
+//! What was built of a part of the tokens: its tree or first fault, and the height of its derivation.
 
-ghost use Rattle.std.specs.Prelude.{◌≡◌, ℕ, ◌+◌, ◌<◌, max, IfOk};
+ghost use Rattle.std.specs.Prelude.{◌≡◌, ℕ, ◌+◌, ◌≤◌, max, List, IfOk};
+ghost use Rattle.promql_parser.specs.declared.grammar.kind.Kind as kinds;
 ghost use Rattle.promql_parser.specs.Grammar.{Derivation, number, name, paren, binary};
-ghost use Rattle.promql_parser.specs.Parts.{IsPart};
+ghost use Rattle.promql_parser.specs.Parts.{IsPart, built_of};
+ghost use Rattle.promql_parser.specs.Results.{on_result};
+ghost use Rattle.promql_parser.specs.Tree.{tree_of};
 
-use crate::grammar::symbol::Operator;
+use crate::parser::MAX_DEPTH;
 use crate::tree::{BinaryExpr, Expr, NumberLiteral, ParenExpr, VectorSelector};
 use promql_text::{NumberFault, parse_str_radix};
-use promql_token::TokenType;
+use promql_token::{TokenId, TokenType};
 use std::alloc::{AllocError, AllocFailed, Global};
 
 /// What was built, and how high its derivation is.
 ///
-/// A fault is carried along, since the tokens behind it may be wrong too, which comes first.
+/// A fault is carried along, since the tokens after it may be wrong too, which comes first.
 #[derive(Drop)]
 pub struct Part {
-    pub value: Result<Expr, NumberFault>,
+    pub value: Result<Box<Expr>, NumberFault>,
     pub height: usize,
 }
 
@@ -49,43 +52,37 @@ impl<T: Drop> From<AllocFailed<T>> for Halt {
     }
 }
 
-pub fn number_part(text: &str) -> Part
-    ensures built { IsPart result (number text.now) }
-    ensures low { result.height ≡ 1 }
+pub fn number_part(alloc: Global, text: &str) -> Result<Part, AllocError>
+    ensures built { IfOk result (λ part. IsPart part (number text.now)) }
+    ensures low { IfOk result (λ part. part.height ≡ 1) }
 {
-    match parse_str_radix(text) {
-        Ok(val) => Part {
-            value: Ok(Expr::NumberLiteral(NumberLiteral { val })),
-            height: 1,
-        },
-        Err(fault) => Part {
-            value: Err(fault),
-            height: 1,
-        },
-    }
+    let value = match parse_str_radix(text) {
+        Ok(val) => Ok(Box::new(alloc, Expr::NumberLiteral(NumberLiteral { val }))?),
+        Err(fault) => Err(fault),
+    };
+    Ok(Part { value, height: 1 })
 }
 
 pub fn name_part(alloc: Global, text: &str) -> Result<Part, AllocError>
-    ensures built { IfOk result (λ part. IsPart part (name text.now)) }
+    ensures built { IfOk result (λ part. (kind : kinds.Kind) → IsPart part (name kind text.now)) }
     ensures low { IfOk result (λ part. part.height ≡ 1) }
 {
     let name = Some(String::from_str(alloc, text)?);
+    let expr = Box::new(alloc, Expr::VectorSelector(VectorSelector { name }))?;
     Ok(Part {
-        value: Ok(Expr::VectorSelector(VectorSelector { name })),
+        value: Ok(expr),
         height: 1,
     })
 }
 
 pub fn paren_part(alloc: Global, inner: Part) -> Result<Part, AllocError>
-    requires { inner.height < 1000 }
+    requires { inner.height ≤ MAX_DEPTH }
     ensures built { IfOk result (λ part. (d : Derivation) → IsPart inner d → IsPart part (paren d)) }
     ensures low { IfOk result (λ part. part.height ≡ inner.height + 1) }
 {
     let Part { value, height } = inner;
     let value = match value {
-        Ok(expr) => Ok(Expr::Paren(ParenExpr {
-            expr: Box::new(alloc, expr)?,
-        })),
+        Ok(expr) => Ok(Box::new(alloc, Expr::Paren(ParenExpr { expr }))?),
         Err(fault) => Err(fault),
     };
     Ok(Part {
@@ -94,19 +91,19 @@ pub fn paren_part(alloc: Global, inner: Part) -> Result<Part, AllocError>
     })
 }
 
-pub fn binary_part(alloc: Global, op: Operator, left: Part, right: Part) -> Result<Part, AllocError>
-    requires low_left { left.height < 1000 }
-    requires low_right { right.height < 1000 }
-    ensures built { IfOk result (λ part. (l r : Derivation) → IsPart left l → IsPart right r → IsPart part (binary op l r)) }
+pub fn binary_part(alloc: Global, op: TokenId, left: Part, right: Part) -> Result<Part, AllocError>
+    requires low_left { left.height ≤ MAX_DEPTH }
+    requires low_right { right.height ≤ MAX_DEPTH }
+    ensures built { IfOk result (λ part. (text : List ℕ) (l r : Derivation)
+        → IsPart left l → IsPart right r → IsPart part (binary op text l r)) }
     ensures low { IfOk result (λ part. part.height ≡ max left.height right.height + 1) }
 {
     let height = left.height.max(right.height);
     let value = match (left.value, right.value) {
-        (Ok(lhs), Ok(rhs)) => Ok(Expr::Binary(BinaryExpr {
-            op: TokenType::new(op.id()),
-            lhs: Box::new(alloc, lhs)?,
-            rhs: Box::new(alloc, rhs)?,
-        })),
+        (Ok(lhs), Ok(rhs)) => {
+            let op = TokenType::new(op);
+            Ok(Box::new(alloc, Expr::Binary(BinaryExpr { op, lhs, rhs }))?)
+        }
         (Err(fault), _) => Err(fault),
         (Ok(_), Err(fault)) => Err(fault),
     };
@@ -114,4 +111,14 @@ pub fn binary_part(alloc: Global, op: Operator, left: Part, right: Part) -> Resu
         value,
         height: height + 1,
     })
+}
+
+/// The expression or fault of a part.
+pub fn unboxed(part: Part) -> Result<Expr, NumberFault>
+    ensures { on_result tree_of result ≡ built_of part }
+{
+    match part.value {
+        Ok(expr) => Ok(Box::into_inner(expr)),
+        Err(fault) => Err(fault),
+    }
 }

@@ -1,21 +1,23 @@
-use Rattle.std.proofs.Common.{◌≡◌, ◌+◌, ◌*◌, ◌≤◌, length}
-use Rattle.promql_parser.specs.Symbols.{symbols_of}
+use Rattle.std.proofs.Common.{◌≡◌, ◌+◌, ◌*◌, ◌≤◌, true, length}
+use Rattle.promql_parser.specs.Drawing.{symbols_left}
+use Rattle.promql_parser.specs.Reading.{begins}
 use Rattle.promql_parser.proofs.Climbing.{Climbing}
 use Rattle.promql_parser.proofs.grammar.expression.+parser.Given as goal
 
-abbrev pub decreases-read_expression : goal.decreases-read_expression
-decreases-read_expression l = 3 * l.room
-
 abbrev pub decreases-read_first : goal.decreases-read_first
 decreases-read_first l = 3 * l.room + 2
+
+abbrev pub decreases-read_expression : goal.decreases-read_expression
+decreases-read_expression l = 3 * l.room
 
 abbrev pub invariant-read_expression-loop-op : goal.invariant-read_expression-loop-op
 invariant-read_expression-loop-op l = record {
   low : l.left.height ≤ l.room;
   under : l.room ≡ l.below + 1;
-  short : length (symbols_of l.rest) ≤ length (symbols_of l.tokens);
-  goes : Climbing l.room l.below l.lowest (symbols_of l.tokens) l.left (symbols_of l.rest);
+  short : length (symbols_left l.tokens) ≤ length (symbols_left l.fn.tokens);
+  begun : begins (symbols_left l.fn.tokens) ≡ true;
+  goes : Climbing l.room l.below l.lowest (symbols_left l.fn.tokens) l.left (symbols_left l.tokens);
 }
 
 abbrev pub decreases-read_expression-loop-op : goal.decreases-read_expression-loop-op
-decreases-read_expression-loop-op l = length (symbols_of l.rest)
+decreases-read_expression-loop-op l = length (symbols_left l.tokens)

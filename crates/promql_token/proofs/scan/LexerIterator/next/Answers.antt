@@ -1,20 +1,20 @@
 use Rattle.std.proofs.Common.{length, ap, rules}
-use Rattle.promql_token.proofs.Items.{left_token, left_fault}
+use Rattle.promql_token.proofs.Drawn.{left_past}
+use Rattle.promql_token.proofs.Items.{left_fault}
 use Rattle.promql_token.proofs.scan.LexerIterator.next.Goals as goal
 
 pub returns-in-Ok-clause-steps : goal.returns-in-Ok-clause-steps
 returns-in-Ok-clause-steps c =
-    let s = c.args.self.now in
     let e = c.in-Ok.ensures in
-    rw (c.if-self.false, c.after-self.ensures.value) (left_token s.text.now s.at s.state c.in-Ok.token e.value e.order e.place.0 e.moves)
+    rw c.if-self.false (left_past c.in-Ok.token c.args.self.now.cursor c.advance-item.new.self e.value e.token)
 
 pub returns-in-Ok-clause-goes : goal.returns-in-Ok-clause-goes
 returns-in-Ok-clause-goes c = let e = ap length (returns-in-Ok-clause-steps c) in search (rules, e)
 
 pub returns-in-Err-clause-steps : goal.returns-in-Err-clause-steps
 returns-in-Err-clause-steps c =
-    let s = c.args.self.now in
-    rw c.if-self.false (left_fault _ s.at s.state _ _ c.item_at-item.ensures.value c.in-Err.is)
+    let s = c.args.self.now.cursor in
+    rw c.if-self.false (left_fault _ s.at s.state _ _ c.advance-item.ensures.value c.in-Err.is)
 
 pub returns-in-Err-clause-goes : goal.returns-in-Err-clause-goes
 returns-in-Err-clause-goes c = let e = ap length (returns-in-Err-clause-steps c) in search (rules, e)

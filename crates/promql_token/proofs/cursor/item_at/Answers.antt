@@ -1,7 +1,7 @@
 use Rattle.std.proofs.Common.{rules}
-use Rattle.promql_token.proofs.Items.{Here, here, token_ends, token_place, fault_place, token_value, fault_value}
-use Rattle.promql_token.proofs.scan.item_at.Goals as goal
-use Rattle.promql_token.proofs.scan.item_at.Goals.{After-piece}
+use Rattle.promql_token.proofs.Items.{Here, here, token_ends, behind_here, token_place, fault_place, token_value, fault_value}
+use Rattle.promql_token.proofs.cursor.item_at.Goals as goal
+use Rattle.promql_token.proofs.cursor.item_at.Goals.{After-piece}
 
 facts : (c : After-piece) → Here c.args.text.now c.args.at c.args.state c.gap_len-gap.result c.piece.result
 facts c = here _ _ _ _ _ _ _ c.utf8.text c.requires c.as_bytes-bytes.ensures.value c.gap_len-gap.ensures.value c.behind_gap.ensures c.piece.ensures
@@ -14,6 +14,9 @@ shown-ch-requires c = fault_place (facts (goal.at.shown-ch-requires c).After-pie
 
 pub returns-in-Ok-clause-value : goal.returns-in-Ok-clause-value
 returns-in-Ok-clause-value c = token_value (facts (goal.at.returns-in-Ok-clause-value c).After-piece) _ _ c.in-Ok.is
+
+pub returns-in-Ok-clause-front : goal.returns-in-Ok-clause-front
+returns-in-Ok-clause-front c = behind_here (facts (goal.at.returns-in-Ok-clause-front c).After-piece)
 
 pub returns-in-Ok-clause-place : goal.returns-in-Ok-clause-place
 returns-in-Ok-clause-place c = token_place (facts (goal.at.returns-in-Ok-clause-place c).After-piece) _ _ c.in-Ok.is

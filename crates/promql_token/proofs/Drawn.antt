@@ -1,0 +1,115 @@
+-- The next token of a cursor, and what is left after it.
+use Rattle.std.proofs.Common.{◌≡◌, ◌≢◌, ℕ, ◌+◌, true, false, cond, List, [], ◌∷◌, length, take, drop, map, Result, Ok, Err, refl, sym, ap, ◌∙◌, arith}
+use denote.Bor.{Bor}
+use Rattle.std.specs.Prelude.{◌==◌, not, filter}
+use Rattle.std.proofs.lemmas.Bool.{eqb-false, ne_eqb}
+use Rattle.std.proofs.lemmas.List.{drop-drop}
+use Rattle.promql_token.specs.declared.fault.LexFault.{LexFault}
+use Rattle.promql_token.specs.declared.lexeme.Lexeme.{Lexeme}
+use Rattle.promql_token.specs.declared.state.State.{State}
+use Rattle.promql_token.specs.Classes.{Text}
+use Rattle.promql_token.specs.declared.cursor.Cursor as code
+use Rattle.promql_token.specs.Cursor.{is_before_end, up_to_fault, tokens_left, IsPast}
+use Rattle.promql_token.specs.Lexing.{What, whats, found, first, item, goes_on, len_of, start, lex, tokens, cut, placed, sliced, result_sliced, text_at}
+use Rattle.promql_token.specs.Pieces.{after}
+use Rattle.promql_token.proofs.Items.{is_token}
+use Rattle.promql_token.proofs.Items.{left_token as left_item}
+use Rattle.promql_token.proofs.Spans.{stands, spans}
+use Rattle.promql_token.proofs.Steps.{whats_is}
+
+up_to_no_fault : (ts : List (ℕ × Text)) → up_to_fault (map (λ t. Ok t) ts) ≡ ts
+up_to_no_fault [] = refl
+up_to_no_fault (t ∷ ts) = ap (λ us. t ∷ us) (up_to_no_fault ts)
+
+listed : (s : Text) (r : Result (List Lexeme) LexFault) (ts : List (ℕ × Text)) → lex s ≡ r → result_sliced s r ≡ Ok ts → up_to_fault (whats start s) ≡ ts
+listed s (Ok xs) ts lexed is =
+    let same : sliced s xs ≡ ts = cc in
+    ap up_to_fault (spans s xs lexed).1 ∙ up_to_no_fault (sliced s xs) ∙ same
+listed s (Err f) ts lexed is = cc
+
+-- a whole text
+pub new_left : (s : Text) (c : code.Cursor) → c.text.now ≡ s → c.at ≡ 0 → c.state ≡ start → (ts : List (ℕ × Text)) → tokens s ≡ Ok ts → tokens_left c ≡ filter is_before_end ts
+new_left s c text at state ts is =
+    (λ i. filter is_before_end (up_to_fault (whats (state i) (drop (at i) (text i))))) ∙ ap (filter is_before_end) (listed s (lex s) ts refl is)
+
+abbrev left : What → List What → List (ℕ × Text)
+left w ws = filter is_before_end (up_to_fault (w ∷ cond (goes_on w) ws []))
+
+ok_is : (a b : Lexeme) (r : Result Lexeme LexFault) → r ≡ Ok a → r ≡ Ok b → a ≡ b
+ok_is a b r e f = cc
+
+left_end : (at : ℕ) (w : What) (ws : List What) (x : Lexeme) → item at w ≡ Ok x → (x.id == 6) ≡ true → left w ws ≡ []
+left_end at (Ok t) ws x is end =
+    let id : t.0 ≡ x.id = ap (λ (x : Lexeme). x.id) (ok_is _ _ (item at (Ok t)) refl is) in
+    let e : (t.0 == 6) ≡ true = ap (λ id. id == 6) id ∙ end in
+    ap (λ b. cond (not b) (t ∷ filter is_before_end (up_to_fault (cond (not b) ws []))) (filter is_before_end (up_to_fault (cond (not b) ws [])))) e
+left_end at (Err f) ws x is end = cc
+
+left_fault : (at : ℕ) (w : What) (ws : List What) (f : LexFault) → item at w ≡ Err f → left w ws ≡ []
+left_fault at (Ok t) ws f is = cc
+left_fault at (Err e) ws f is = refl
+
+left_token : (at : ℕ) (w : What) (ws : List What) (x : Lexeme) (text : Text) → item at w ≡ Ok x → (x.id == 6) ≡ false → ((id : ℕ) (t : Text) → w ≡ Ok (id, t) → t ≡ take (length t) text)
+    → left w ws ≡ (x.id, take x.len text) ∷ filter is_before_end (up_to_fault ws)
+left_token at (Ok t) ws x text is more texts =
+    let same = ok_is _ _ (item at (Ok t)) refl is in
+    let id : t.0 ≡ x.id = ap (λ (x : Lexeme). x.id) same in
+    let len : length t.1 ≡ x.len = ap (λ (x : Lexeme). x.len) same in
+    let e : (t.0 == 6) ≡ false = ap (λ id. id == 6) id ∙ more in
+    let slice : t.1 ≡ take x.len text = texts t.0 t.1 refl ∙ ap (λ n. take n text) len in
+    ap (λ b. cond (not b) (t ∷ filter is_before_end (up_to_fault (cond (not b) ws []))) (filter is_before_end (up_to_fault (cond (not b) ws [])))) e
+    ∙ (λ i. (id i, slice i) ∷ filter is_before_end (up_to_fault ws))
+left_token at (Err f) ws x text is more texts = cc
+
+-- the end, or a fault
+pub none_end : (text : Text) (at : ℕ) (state : State) (x : Lexeme) → Ok x ≡ first at (found state (drop at text)) → x.id ≡ 6 → filter is_before_end (up_to_fault (whats state (drop at text))) ≡ []
+none_end text at state x is end =
+    let z = drop at text in
+    let f = found state z in
+    ap (λ ws. filter is_before_end (up_to_fault ws)) (whats_is state z) ∙ left_end (at + f.gap) f.what _ x (sym is) (ap (λ id. id == 6) end)
+
+pub none_fault : (text : Text) (at : ℕ) (state : State) (fault : LexFault) → Err fault ≡ first at (found state (drop at text)) → filter is_before_end (up_to_fault (whats state (drop at text))) ≡ []
+none_fault text at state fault is =
+    let z = drop at text in
+    let f = found state z in
+    ap (λ ws. filter is_before_end (up_to_fault ws)) (whats_is state z) ∙ left_fault (at + f.gap) f.what _ fault (sym is)
+
+-- a token, and what is left after it
+token_left : (text : Text) (at : ℕ) (state : State) (x : Lexeme) → Ok x ≡ first at (found state (drop at text)) → x.id ≢ 6
+    → filter is_before_end (up_to_fault (whats state (drop at text))) ≡ (x.id, text_at text x) ∷ filter is_before_end (up_to_fault (whats (after state x.id) (drop (x.start + x.len) text)))
+token_left text at state x is more =
+    let z = drop at text in
+    let f = found state z in
+    let t = is_token (at + f.gap) f.what x (sym is) in
+    let start : x.start ≡ at + f.gap = t.start in
+    let len = t.len in
+    let st = stands text at state in
+    let from : drop f.gap z ≡ drop x.start text = drop-drop f.gap at text ∙ ap (λ n. drop n text) (sym start) in
+    let place : at + (f.gap + len_of f.what) ≡ x.start + x.len = omega (arith, start, len) in
+    let rest : drop (f.gap + len_of f.what) z ≡ drop (x.start + x.len) text = drop-drop (f.gap + len_of f.what) at text ∙ ap (λ n. drop n text) place in
+    ap (λ ws. filter is_before_end (up_to_fault ws)) (whats_is state z)
+    ∙ left_token (at + f.gap) f.what _ x (drop x.start text) (sym is) (ne_eqb x.id 6 more) (λ id t w. st.text id t w ∙ ap (take (length t)) from)
+    ∙ (λ i. (x.id, text_at text x) ∷ filter is_before_end (up_to_fault (whats (t.state state i) (rest i))))
+
+pub some_token : (x : Lexeme) (old new : code.Cursor) → Ok x ≡ first old.at (found old.state (drop old.at old.text.now)) → IsPast x old new → x.id ≢ 6
+    → tokens_left old ≡ (x.id, text_at old.text.now x) ∷ tokens_left new
+some_token x old new is past more =
+    let text = ap (λ (t : Bor Text). t.now) past.text in
+    let at = past.at more in
+    let state = past.state more in
+    token_left old.text.now old.at old.state x is more
+    ∙ (λ i. (x.id, text_at old.text.now x) ∷ filter is_before_end (up_to_fault (whats ((sym state) i) (drop ((sym at) i) ((sym text) i)))))
+
+-- the same with places
+pub left_past : (x : Lexeme) (old new : code.Cursor) → Ok x ≡ first old.at (found old.state (drop old.at old.text.now)) → IsPast x old new
+    → placed old.at (cut old.state (drop old.at old.text.now)) ≡ Ok x ∷ cond (x.id == 6) [] (placed new.at (cut new.state (drop new.at new.text.now)))
+left_past x old new is past =
+    let text = ap (λ (t : Bor Text). t.now) past.text in
+    let place = past.placed in
+    left_item old.text.now old.at old.state x is past.order place.1.0 past.moves
+    ∙ ap (λ l. Ok x ∷ l) (elim (x.id == 6) as (λ b. (x.id == 6) ≡ b → cond b [] (placed (x.start + x.len) (cut (after old.state x.id) (drop (x.start + x.len) old.text.now))) ≡ cond b [] (placed new.at (cut new.state (drop new.at new.text.now)))) [
+      | true ↦ λ end. refl
+      | false ↦ λ goes.
+          let more = eqb-false _ _ goes in
+          (λ i. placed ((sym (past.at more)) i) (cut ((sym (past.state more)) i) (drop ((sym (past.at more)) i) ((sym text) i))))
+    ] refl)

@@ -1,0 +1,32 @@
+-- What is still to be drawn from a cursor.
+use Rattle.std.specs.Prelude.{◌≡◌, ◌≢◌, ℕ, ◌+◌, ◌<◌, ◌≤◌, Bool, not, ◌==◌, List, [], ◌∷◌, drop, filter, Ok, Err}
+use Rattle.promql_token.specs.declared.ids.TheConstants.{T_EOF}
+use Rattle.promql_token.specs.declared.cursor.Cursor as code
+use Rattle.promql_token.specs.declared.lexeme.Lexeme.{Lexeme}
+use Rattle.promql_token.specs.Classes.{Text}
+use Rattle.promql_token.specs.Laws.{IsPlaced}
+use Rattle.promql_token.specs.Pieces.{after}
+use Rattle.promql_token.specs.Lexing.{What, whats}
+
+-- every token but T_EOF, which is the last
+abbrev pub is_before_end : ℕ × Text → Bool
+is_before_end t = not (t.0 == T_EOF)
+
+-- the tokens up to a fault
+abbrev pub up_to_fault : List What → List (ℕ × Text)
+up_to_fault [] = []
+up_to_fault (Ok t ∷ ws) = t ∷ up_to_fault ws
+up_to_fault (Err f ∷ ws) = []
+
+-- the tokens that are to come, before the end
+abbrev pub tokens_left : code.Cursor → List (ℕ × Text)
+tokens_left c = filter is_before_end (up_to_fault (whats c.state (drop c.at c.text.now)))
+
+-- a cursor moved past a token, and stays before the end
+pub record IsPast (x : Lexeme) (old new : code.Cursor) : Type 0 where
+  pub text : new.text ≡ old.text
+  pub at : x.id ≢ T_EOF → new.at ≡ x.start + x.len
+  pub state : x.id ≢ T_EOF → new.state ≡ after old.state x.id
+  pub placed : IsPlaced old.text.now x
+  pub order : old.at ≤ x.start
+  pub moves : x.id ≢ T_EOF → 0 < x.len

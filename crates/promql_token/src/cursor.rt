@@ -1,0 +1,118 @@
+//! A place of a text between two tokens, from which the tokens are drawn one by one.
+
+ghost use Rattle.std.specs.Prelude.{◌≡◌, ◌≢◌, ◌<◌, ◌≤◌, ◌+◌, [], ◌∷◌, List, ℕ, drop, filter, Ok, IfOk, OnErr, MatchOption};
+ghost use Rattle.std.specs.Str.{IsCharBoundary};
+ghost use Rattle.promql_token.specs.Lexing as spec;
+ghost use Rattle.promql_token.specs.Pieces as pieces;
+
+use crate::fault::{LexFault, LexFaultKind};
+use crate::gap::gap_len;
+use crate::ids::{T_EOF, TokenId};
+use crate::lexeme::Lexeme;
+use crate::piece::piece;
+use crate::state::{Mode, State, after, behind_gap};
+
+/// A place of a text between two tokens. It may be copied, and it allocates nothing.
+#[derive(Clone, Copy)]
+pub struct Cursor<'a> {
+    pub(crate) text: &'a str,
+    /// The byte after the last token.
+    pub(crate) at: usize,
+    pub(crate) state: State,
+    ghost place: { IsCharBoundary text.now at },
+    ghost depth: { state.depth ≤ at },
+}
+
+fn shown(text: &str, kind: LexFaultKind, at: usize) -> Option<char>
+    requires { IsCharBoundary text.now at }
+    ensures { result ≡ spec.shown kind (drop at text.now) }
+{
+    if kind.shows() {
+        text[at..].chars().next()
+    } else {
+        None
+    }
+}
+
+// The token or fault after the gap at a place.
+fn item_at(text: &str, at: usize, state: State) -> Result<Lexeme, LexFault>
+    requires { IsCharBoundary text.now at }
+    ensures value { result ≡ spec.first at (spec.found state (drop at text.now)) }
+    ensures front { IfOk result (λ x. IsCharBoundary text.now x.start) }
+    ensures place { IfOk result (λ x. IsCharBoundary text.now (x.start + x.len)) }
+    ensures order { IfOk result (λ x. at ≤ x.start) }
+    ensures moves { IfOk result (λ x. x.id ≢ T_EOF → 0 < x.len) }
+{
+    let bytes = text.as_bytes();
+    let gap = gap_len(state.mode, &bytes[at..]);
+    let start = at + gap;
+    match piece(behind_gap(gap, state), &bytes[start..]) {
+        Ok((id, len)) => Ok(Lexeme { id, start, len }),
+        Err((kind, offset)) => {
+            let at = start + offset;
+            let ch = shown(text, kind, at);
+            Err(LexFault { kind, at, ch })
+        }
+    }
+}
+
+impl<'a> Cursor<'a> {
+    ghost use Rattle.promql_token.specs.Cursor.{tokens_left, is_before_end, IsPast};
+
+    /// The cursor before a text's first token.
+    pub fn new(text: &'a str) -> Cursor<'a>
+        ensures { (ts : List (ℕ × List ℕ)) → spec.tokens text.now ≡ Ok ts
+            → tokens_left result ≡ filter is_before_end ts }
+    {
+        Cursor::front(text)
+    }
+
+    pub(crate) fn front(text: &'a str) -> Cursor<'a>
+        ensures text { result.text ≡ text.entry }
+        ensures at { result.at ≡ 0 }
+        ensures state { result.state ≡ spec.start }
+    {
+        Cursor {
+            text,
+            at: 0,
+            state: State {
+                depth: 0,
+                mode: Mode::Outside,
+            },
+        }
+    }
+
+    /// The next token or the fault there. It moves past a token, and stays before the end and a fault.
+    pub(crate) fn advance(&mut self) -> Result<Lexeme, LexFault>
+        ensures value { result ≡ spec.first self.old.at
+            (spec.found self.old.state (drop self.old.at self.old.text.now)) }
+        ensures token { IfOk result (λ x. IsPast x self.old self.new) }
+        ensures stays { IfOk result (λ x. x.id ≡ T_EOF → self.new ≡ self.old) }
+        ensures fault { OnErr result (self.new ≡ self.old) }
+    {
+        let item = item_at(self.text, self.at, self.state);
+        if let Ok(token) = item
+            && token.id != T_EOF
+        {
+            self.state = after(self.state, token.id);
+            self.at = token.start + token.len;
+        }
+        item
+    }
+
+    /// The next token's id and text, if a token comes before the end or a fault. It moves past it.
+    pub fn next(&mut self) -> Option<(TokenId, &'a str)>
+        ensures { MatchOption result
+            ((tokens_left self.old ≡ []) × (tokens_left self.new ≡ []))
+            (λ x. tokens_left self.old ≡ (x.0, x.1.now) ∷ tokens_left self.new) }
+    {
+        let text = self.text;
+        let Ok(token) = self.advance() else {
+            return None;
+        };
+        if token.id == T_EOF {
+            return None;
+        }
+        Some((token.id, &text[token.start..token.start + token.len]))
+    }
+}
