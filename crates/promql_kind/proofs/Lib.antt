@@ -1,0 +1,2 @@
+mod Equal
+pub mod Same
