@@ -6,7 +6,7 @@ use Rattle.std.specs.List.{flat_map}
 use Rattle.std.proofs.lemmas.List.{drop_more}
 use Rattle.promql_label.specs.declared.matcher.Matcher.{Matcher}
 use Rattle.promql_label.specs.Conditions.{Condition, value_of}
-use Rattle.promql_label.specs.Texts.{Text}
+use Rattle.promql_text.specs.Texts.{Text}
 use Rattle.promql_label.specs.Views.{condition_of}
 
 -- the matchers from index i on

@@ -5,7 +5,7 @@ use Rattle.std.specs.Str.{bytes_eq}
 use Rattle.promql_text.specs.Quoting.{quoted}
 use Rattle.promql_token.specs.Classes.{is_label}
 use Rattle.promql_label.specs.Answers.{finds}
-use Rattle.promql_label.specs.Texts.{Text}
+use Rattle.promql_text.specs.Texts.{Text}
 
 -- what a matcher compares by; a pattern is its built text
 pub data Operator : Type 0 where

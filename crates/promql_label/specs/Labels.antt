@@ -5,7 +5,7 @@ use Rattle.std.specs.Str.{bytes_eq, str_eq_ignore_ascii_case}
 use Rattle.promql_text.specs.Quoting.{quoted}
 use Rattle.promql_token.specs.Classes.{is_label}
 use Rattle.promql_label.specs.declared.labels.Labels.{Labels}
-use Rattle.promql_label.specs.Texts.{Text, joined}
+use Rattle.promql_text.specs.Texts.{Text, joined}
 
 -- the labels, as texts
 abbrev pub labels_of : Labels → List Text

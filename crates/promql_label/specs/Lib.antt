@@ -1,4 +1,3 @@
-pub mod Texts
 pub mod Labels
 pub mod LabelLaws
 pub mod Repeats

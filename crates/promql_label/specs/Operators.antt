@@ -4,7 +4,7 @@ use Rattle.promql_token.specs.declared.ids.TheConstants.{T_EQL, T_NEQ, T_EQL_REG
 use Rattle.promql_token.specs.Ids.{is_one_of}
 use Rattle.promql_label.specs.Answers.{Allows, built}
 use Rattle.promql_label.specs.Conditions.{Operator, equal, not_equal, matches, matches_not, Condition, condition}
-use Rattle.promql_label.specs.Texts.{Text}
+use Rattle.promql_text.specs.Texts.{Text}
 
 -- the ids that compare with a text, and those that compare by a pattern
 abbrev pub is_text_id : ℕ → Bool

@@ -2,7 +2,7 @@
 
 ghost use Rattle.std.specs.Prelude.{◌≡◌, ◌≢◌, ◌↔◌, ◌<◌, [], List, IsTrue};
 ghost use Rattle.std.specs.List.{list_any, AllPairs, Contains};
-ghost use Rattle.promql_label.specs.Texts.{Text};
+ghost use Rattle.promql_text.specs.Texts.{Text};
 ghost use Rattle.promql_label.specs.Labels.{common, is_among, labels_of};
 ghost use Rattle.promql_label.specs.LabelLaws.{first_place};
 ghost use Rattle.promql_label.specs.Repeats.{opens_count, OpensCount};

@@ -8,7 +8,7 @@ ghost use Rattle.promql_label.specs.Views.{condition_of, operator_of};
 
 use crate::METRIC_NAME;
 use crate::pattern::{Pattern, PatternFault};
-use crate::quoted::Quoted;
+use promql_text::Quoted;
 use promql_token::ids::{T_EQL, T_EQL_REGEX, T_NEQ, T_NEQ_REGEX};
 use promql_token::{TokenId, TokenType, is_label};
 use std::alloc::{AllocError, Global};

@@ -8,7 +8,8 @@ use Rattle.std.proofs.lemmas.Bool.{cond-true, cond-false, cases_eq, eq-eqb, ne_e
 use Rattle.std.proofs.lemmas.Grind.{common_steps}
 use Rattle.std.proofs.lemmas.Str.{encode_ascii}
 use Rattle.std.proofs.Math.Seq.{drop-append_seam}
-use Rattle.promql_text.specs.Quoting.{Text, is_quote, letter, number, hexadecimal, escape, inside, unquoted}
+use Rattle.promql_text.specs.Texts.{Text}
+use Rattle.promql_text.specs.Quoting.{is_quote, letter, number, hexadecimal, escape, inside, unquoted}
 use Rattle.promql_text.specs.Spellings.{Spelling, Itself, OwnQuote, Letter, Octal, Hexadecimal, text_of, digits_behind, Spells, spelled_text, AllSpell, IsQuotedText}
 use Rattle.promql_text.proofs.Quotes.{escape-own, escape-x, escape-u, escape-U, escape-octal, escape-letter}
 use Rattle.promql_text.proofs.Spellings.{reads_between_backticks, reads_itself, reads_escape}

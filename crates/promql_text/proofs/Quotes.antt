@@ -9,7 +9,8 @@ use Rattle.std.proofs.lemmas.Str.{encode_ascii, inside_one, length-encode, len_u
 use Rattle.std.proofs.lemmas.Nat.{mul-le}
 use Rattle.std.proofs.Math.Nat.{pow-suc, one-le-pow}
 use Rattle.std.proofs.str.Laws.{order}
-use Rattle.promql_text.specs.Quoting.{Text, escaped_byte, escaped, quoted, is_quote, letter, number, hexadecimal, octal, escape, inside, unquoted}
+use Rattle.promql_text.specs.Texts.{Text}
+use Rattle.promql_text.specs.Quoting.{escaped_byte, escaped, quoted, is_quote, letter, number, hexadecimal, octal, escape, inside, unquoted}
 
 -- ---- unquoting what was escaped
 

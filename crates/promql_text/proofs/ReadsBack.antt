@@ -13,7 +13,8 @@ use Rattle.std.proofs.Math.Nat.{pow-suc, zero-mul, div-le_self, mod-le}
 use Rattle.std.proofs.lemmas.Bool.{cases_lt, eq-eqb, ne_eqb}
 use Rattle.std.proofs.lemmas.List.{length-replicate}
 use Rattle.std.proofs.lemmas.Nat.{div-add-mod'}
-use Rattle.promql_text.specs.DecimalForm.{Text, front, digit_run, past_run, past_point, unsigned, is_word, is_minus, Numeral, numeral, Reading, reading, NotANumber, Infinite, Signed, decimal_form}
+use Rattle.promql_text.specs.Texts.{Text}
+use Rattle.promql_text.specs.DecimalForm.{front, digit_run, past_run, past_point, unsigned, is_word, is_minus, Numeral, numeral, Reading, reading, NotANumber, Infinite, Signed, decimal_form}
 use Rattle.promql_text.specs.DecimalForm as form
 use Rattle.promql_text.specs.NumberText.{is_x, is_octal, is_past_octal, num, number_of, finite, of_form, hexadecimal, radix_number, numtext}
 use Rattle.promql_text.specs.NumberDigits.{padded}

@@ -9,7 +9,8 @@ use Rattle.std.proofs.lemmas.Grind.{common_steps}
 use Rattle.std.proofs.lemmas.Str.{encode_ascii, length-encode, len_utf8_bounds, IsUtf8-past_char}
 use Rattle.std.proofs.Math.Seq.{drop-append_seam}
 use lib.Utf8.{scalar, scalars}
-use Rattle.promql_text.specs.Quoting.{Text, is_quote, letter, number, hexadecimal, octal, escape, inside, unquoted}
+use Rattle.promql_text.specs.Texts.{Text}
+use Rattle.promql_text.specs.Quoting.{is_quote, letter, number, hexadecimal, octal, escape, inside, unquoted}
 use Rattle.promql_text.specs.Spellings.{Spelling, Itself, OwnQuote, Letter, Octal, Hexadecimal, text_of, digits_behind, Spells, spelled_text, AllSpell, IsQuotedText}
 use Rattle.promql_text.proofs.Quotes.{escape-own, escape-x, escape-u, escape-U, escape-octal, escape-letter}
 use Rattle.promql_text.proofs.QuotedTexts.{slash_no_quote}

@@ -1,7 +1,9 @@
+pub mod Bytes
 pub mod DecimalForm
 pub mod DecimalParts
 pub mod DurationText
 pub mod Durations
+pub mod EscapedBytes
 pub mod Millis
 pub mod NumberDigits
 pub mod NumberText
@@ -11,4 +13,5 @@ pub mod Rounding
 pub mod Significands
 pub mod Spelling
 pub mod Spellings
+pub mod Texts
 pub mod Values

@@ -5,7 +5,8 @@ use Rattle.std.specs.List.{filter, list_all, list_any}
 use Rattle.std.specs.Option.{ok_or}
 use Rattle.std.specs.Str.{chars}
 use Rattle.std.specs.Str.Parse.{digits_value}
-use Rattle.promql_text.specs.DecimalForm.{Text, front, unsigned, is_minus, Numeral, Reading, NotANumber, Infinite, Signed, decimal_form, digits_number, places, exponent_size}
+use Rattle.promql_text.specs.Texts.{Text}
+use Rattle.promql_text.specs.DecimalForm.{front, unsigned, is_minus, Numeral, Reading, NotANumber, Infinite, Signed, decimal_form, digits_number, places, exponent_size}
 use Rattle.promql_text.specs.DecimalForm as form
 use Rattle.promql_text.specs.NumberDigits.{exact_text}
 use Rattle.promql_text.specs.Numbers.{Exact, tens, placed, whole}

@@ -1,13 +1,10 @@
 -- Quoted texts, in bytes of UTF-8: docs/TEXTS.md, "Strings".
-use Rattle.std.specs.Prelude.{◌≡◌, ℕ, zero, suc, true, ◌+◌, ◌-◌, ◌*◌, Bool, if◌then◌else◌, ◌==◌, ◌||◌, nat_lt, nat_le, List, [], ◌∷◌, ◌++◌, length, drop, Option, Some, None, option_and_then, option_map, Result, Ok, Err}
+use Rattle.std.specs.Prelude.{◌≡◌, ℕ, zero, suc, true, ◌+◌, ◌-◌, ◌*◌, Bool, if◌then◌else◌, ◌==◌, ◌||◌, nat_lt, nat_le, [], ◌∷◌, ◌++◌, length, drop, Option, Some, None, option_and_then, option_map, Result, Ok, Err}
 use Rattle.std.specs.Char.{encode_utf8, digit_value}
 use lib.Utf8.{scalar}
+use Rattle.promql_text.specs.Texts.{Text}
 use Rattle.promql_text.specs.declared.quote.QuoteError.{QuoteError}
 use Rattle.promql_text.specs.declared.quote.QuoteError.TheVariants as errors
-
--- a text, as its bytes
-abbrev pub Text : Type 0
-Text = List ℕ
 
 -- "Escaping": a byte, or the two that stand for it
 abbrev pub escaped_byte : ℕ → Text

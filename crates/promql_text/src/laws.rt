@@ -7,7 +7,7 @@ ghost use Rattle.promql_text.specs.DurationText.{duration_text};
 ghost use Rattle.promql_text.specs.Quoting as quoting;
 ghost use Rattle.promql_text.specs.Spellings.{IsQuotedText};
 ghost use Rattle.promql_text.specs.NumberText.{num, numtext};
-ghost use Rattle.promql_text.specs.DecimalForm.{Text};
+ghost use Rattle.promql_text.specs.Texts.{Text};
 ghost use Rattle.promql_text.specs.Numbers.{Exact, IsExact};
 ghost use Rattle.promql_text.specs.Spelling.{NumeralsAreSpelled};
 ghost use Rattle.promql_text.specs.Values.{IsNumber, SameValue, neg};
@@ -15,7 +15,7 @@ ghost use Rattle.promql_text.specs.declared.number.Number.{Number};
 
 /// Unquoting the quoted escape of a text gives the text, for every text.
 pub fn unquoting_undoes_escaping()
-    ensures { (s : quoting.Text) → quoting.unquoted (quoting.quoted s) ≡ Some s }
+    ensures { (s : Text) → quoting.unquoted (quoting.quoted s) ≡ Some s }
 {}
 
 /// Reading the text of a duration above zero gives the duration.
@@ -25,13 +25,13 @@ pub fn durations_read_back()
 
 /// A quoted text, which is a quote, spellings of characters and the same quote, is read as these characters.
 pub fn quoted_texts_are_read()
-    ensures { (s : quoting.Text) (cs : List ℕ) → IsQuotedText s cs
+    ensures { (s : Text) (cs : List ℕ) → IsQuotedText s cs
         → quoting.unquoted s ≡ Some (encode_utf8_all cs) }
 {}
 
 /// A text that is read is a quoted text, of the characters that are read.
 pub fn what_is_read_is_quoted()
-    ensures { (s t : quoting.Text) → IsUtf8 s → quoting.unquoted s ≡ Some t
+    ensures { (s t : Text) → IsUtf8 s → quoting.unquoted s ≡ Some t
         → (cs : List ℕ) × IsQuotedText s cs × (encode_utf8_all cs ≡ t) }
 {}
 

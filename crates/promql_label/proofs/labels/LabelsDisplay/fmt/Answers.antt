@@ -1,8 +1,8 @@
 use Rattle.std.proofs.Common.{◌∙◌, codes, string_bytes, map, refl, ap}
 use Rattle.std.proofs.Output.{has_written_append, has_written_of_eq}
 use Rattle.promql_label.specs.Labels.{label_text}
-use Rattle.promql_label.specs.Texts.{joined}
-use Rattle.promql_label.proofs.Joins.{join_next, join_end_of}
+use Rattle.promql_text.specs.Texts.{joined}
+use Rattle.promql_text.proofs.Joins.{join_next, join_end_of}
 use Rattle.promql_label.proofs.labels.LabelsDisplay.fmt.Goals as goal
 
 pub loop-i-preserved : goal.loop-i-preserved

@@ -1,8 +1,8 @@
 use Rattle.std.specs.Fmt.{IsPlainFormatter}
 use Rattle.std.specs.Str.Iter.{chars_rest}
 use Rattle.promql_text.specs.Quoting.{escaped}
-use Rattle.promql_label.proofs.Writing.{Writing}
-use Rattle.promql_label.proofs.quoted.write_escaped.Given as goal
+use Rattle.promql_text.proofs.Writing.{Writing}
+use Rattle.promql_text.proofs.quoted.write_escaped.Given as goal
 
 -- what is written, and the escape of what is left, are the escape of all
 abbrev pub invariant-loop-c : goal.invariant-loop-c

@@ -1,8 +1,8 @@
 use Rattle.std.proofs.Common.{◌≡◌, Some, take}
 use Rattle.std.specs.Fmt.{HasWritten, IsPlainFormatter}
 use Rattle.std.specs.List.{join_by}
-use Rattle.promql_label.specs.Texts.{Text}
-use Rattle.promql_label.proofs.joined.write_joined.Given as goal
+use Rattle.promql_text.specs.Texts.{Text}
+use Rattle.promql_text.proofs.joined.write_joined.Given as goal
 
 abbrev pub invariant-loop-i : goal.invariant-loop-i
 invariant-loop-i g l =

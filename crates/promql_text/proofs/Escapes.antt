@@ -1,7 +1,8 @@
 -- The escape of a text is that of its characters, one after another.
 use Rattle.std.proofs.Common.{◌≡◌, ℕ, ◌<◌, [], ◌∷◌, ◌++◌, length, sym, ap, ◌∙◌, refl, append_assoc, append-nil, arith}
 use Rattle.std.specs.Char.{encode_utf8}
-use Rattle.promql_text.specs.Quoting.{Text, escaped, escaped_byte}
+use Rattle.promql_text.specs.Texts.{Text}
+use Rattle.promql_text.specs.Quoting.{escaped, escaped_byte}
 use Rattle.promql_text.proofs.Quotes.{escaped_plain}
 
 pub escaped-append : (s t : Text) → escaped (s ++ t) ≡ escaped s ++ escaped t

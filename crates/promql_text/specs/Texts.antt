@@ -1,8 +1,8 @@
--- Texts, and lists of them.
+-- Texts, and lists of them (docs/TEXTS.md, "Lists").
 use Rattle.std.specs.Prelude.{ℕ, List}
 use Rattle.std.specs.List.{join_by}
 
--- a text, as its bytes
+-- a text, as its bytes or its characters
 abbrev pub Text : Type 0
 Text = List ℕ
 

@@ -1,7 +1,7 @@
 use Rattle.std.proofs.Common.{refl}
 use Rattle.std.proofs.Output.{has_written_append, has_written_of_eq}
-use Rattle.promql_label.proofs.Joins.{displayed, join_next, join_end}
-use Rattle.promql_label.proofs.joined.write_joined.Goals as goal
+use Rattle.promql_text.proofs.Joins.{displayed, join_next, join_end}
+use Rattle.promql_text.proofs.joined.write_joined.Goals as goal
 
 pub loop-i-preserved : goal.loop-i-preserved
 loop-i-preserved g c = λ text is plain.

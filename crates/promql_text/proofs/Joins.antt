@@ -8,7 +8,7 @@ use Rattle.std.proofs.lemmas.Bool.{ne_eqb}
 use Rattle.std.proofs.lemmas.List.{take_more, take_all, flat_map_more}
 use Rattle.std.proofs.lemmas.Simd.{map-map}
 use Rattle.std.proofs.lemmas.List.Folds.{flat_map-map}
-use Rattle.promql_label.specs.Texts.{Text, joined}
+use Rattle.promql_text.specs.Texts.{Text, joined}
 
 -- what is written of the list is its items' texts, joined
 pub join_by-joined : {X : Type 0} (f : X → Text) (sep : Text) (xs : List X) → join_by f sep xs ≡ joined sep (map f xs)

@@ -2,9 +2,9 @@ use Rattle.std.proofs.Common.{refl, ap, ◌∙◌}
 use Rattle.std.specs.Char.{encode_utf8}
 use Rattle.std.specs.Str.Iter.{chars_rest}
 use Rattle.promql_text.specs.Quoting.{escaped}
-use Rattle.promql_label.proofs.Escapes.{escaped-append, escaped-empty}
-use Rattle.promql_label.proofs.Writing.{writing_plain, writing_start, writing_more, writing_end}
-use Rattle.promql_label.proofs.quoted.write_escaped.Goals as goal
+use Rattle.promql_text.proofs.Escapes.{escaped-append, escaped-empty}
+use Rattle.promql_text.proofs.Writing.{writing_plain, writing_start, writing_more, writing_end}
+use Rattle.promql_text.proofs.quoted.write_escaped.Goals as goal
 
 pub loop-c-init : goal.loop-c-init
 loop-c-init g c = λ plain. writing_start g.W.Write.write_str_gives _ _ _ plain cc
