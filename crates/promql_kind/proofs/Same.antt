@@ -11,7 +11,7 @@ use Rattle.promql_text.specs.declared.number.Number.{Number}
 use Rattle.promql_text.specs.declared.number.Number.TheVariants.{Finite, Inf, NegInf, NaN}
 use Rattle.promql_label.specs.Equalities.{IsSameBy}
 use Rattle.promql_label.specs.Labels.{labels_of}
-use Rattle.promql_label.specs.Texts.{Text}
+use Rattle.promql_text.specs.Texts.{Text}
 use Rattle.promql_kind.specs.Functions.{Signature, signature, signature_of}
 use Rattle.promql_kind.specs.Modifiers.{Clause, including, excluding, Cardinality, one_to_one, many_to_one, one_to_many, many_to_many, Fills, fills, Matching, matching, exact_eq, number_eq}
 use Rattle.promql_kind.specs.Same.{option_eq, texts_eq, clause_eq, cardinality_eq, fills_eq, matching_eq, signature_eq}

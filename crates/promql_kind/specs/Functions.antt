@@ -1,7 +1,7 @@
 -- Functions, as plain data, and the row that a name has in the table (docs/FUNCTIONS.md).
 use Rattle.std.specs.Prelude.{ℕ, ℤ, Bool, List, Option, find, map}
 use Rattle.std.specs.Str.{bytes_eq}
-use Rattle.promql_label.specs.Texts.{Text}
+use Rattle.promql_text.specs.Texts.{Text}
 use Rattle.promql_kind.specs.declared.function.Function.{Function}
 use Rattle.promql_kind.specs.declared.function_table.TheConstants.{FUNCTIONS}
 use Rattle.promql_kind.specs.declared.value.ValueType.{ValueType}

@@ -6,7 +6,7 @@ use Rattle.promql_text.specs.Numbers.{Exact}
 use Rattle.promql_text.specs.declared.number.Number.{Number}
 use Rattle.promql_text.specs.declared.number.Number.TheVariants.{Finite, Inf, NegInf, NaN}
 use Rattle.promql_label.specs.Labels.{common, is_among}
-use Rattle.promql_label.specs.Texts.{Text}
+use Rattle.promql_text.specs.Texts.{Text}
 
 -- labels to include, after `by` and `on`, or to exclude, after `without` and `ignoring`
 pub data Clause : Type 0 where

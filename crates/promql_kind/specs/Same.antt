@@ -4,7 +4,7 @@ use mathlib.Core.Bool.{beq}
 use lib.Pointwise.{pointwise}
 use Rattle.std.specs.Ordering.{int_eq}
 use Rattle.std.specs.Str.{bytes_eq}
-use Rattle.promql_label.specs.Texts.{Text}
+use Rattle.promql_text.specs.Texts.{Text}
 use Rattle.promql_kind.specs.Functions.{Signature, signature}
 use Rattle.promql_kind.specs.Modifiers.{Clause, including, excluding, Cardinality, one_to_one, many_to_one, one_to_many, many_to_many, Fills, fills, Matching, matching, number_eq}
 use Rattle.promql_kind.specs.ValueTypes.{type_eq}

@@ -1,6 +1,6 @@
 -- Value types (docs/TREE.md, "Value types").
 use Rattle.std.specs.Prelude.{Bool, true, false, codes}
-use Rattle.promql_label.specs.Texts.{Text}
+use Rattle.promql_text.specs.Texts.{Text}
 use Rattle.promql_kind.specs.declared.value.ValueType.{ValueType}
 use Rattle.promql_kind.specs.declared.value.ValueType.TheVariants.{Vector, Scalar, Matrix, String}
 
