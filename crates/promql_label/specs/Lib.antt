@@ -3,8 +3,7 @@ pub mod LabelLaws
 pub mod Repeats
 pub mod Answers
 pub mod Refusals
-pub mod Conditions
+pub mod PlainMatchers
 pub mod Views
 pub mod Operators
 pub mod MatcherErrors
-pub mod Equalities

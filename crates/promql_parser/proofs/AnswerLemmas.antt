@@ -3,7 +3,7 @@ use Rattle.std.proofs.Common.{◌≡◌, ℕ, ◌+◌, ◌<◌, ◌≤◌, max, 
 use Rattle.std.specs.Prelude.{Result, Ok, Err}
 use Rattle.promql_text.specs.declared.number.Number.{Number}
 use Rattle.promql_text.specs.declared.number.NumberFault.{NumberFault}
-use Rattle.promql_text.specs.NumberText.{num}
+use Rattle.promql_text.specs.NumberText.{read_number}
 use Rattle.promql_token.specs.declared.fault.LexFault.{LexFault}
 use Rattle.promql_parser.specs.declared.tokens.Token as code
 use Rattle.promql_parser.specs.declared.tree.Expr.{Expr}
@@ -69,7 +69,7 @@ binary_low m n id (Ok s) (Err e) left right = tt
 binary_low m n id (Err e) r left right = tt
 
 build_low : (d : Derivation) → IsLow (height d) (build d)
-build_low (number text) = number_low (num text)
+build_low (number text) = number_low (read_number text)
 build_low (name text) = omega arith
 build_low (paren d) = paren_low (height d) (build d) (build_low d)
 build_low (binary op l r) = binary_low (height l) (height r) (operator_id op) (build l) (build r) (build_low l) (build_low r)

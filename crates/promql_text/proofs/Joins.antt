@@ -8,10 +8,10 @@ use Rattle.std.proofs.lemmas.Bool.{ne_eqb}
 use Rattle.std.proofs.lemmas.List.{take_more, take_all, flat_map_more}
 use Rattle.std.proofs.lemmas.Simd.{map-map}
 use Rattle.std.proofs.lemmas.List.Folds.{flat_map-map}
-use Rattle.promql_text.specs.Texts.{Text, joined}
+use Rattle.promql_text.specs.Texts.{Text, joined_text}
 
 -- what is written of the list is its items' texts, joined
-pub join_by-joined : {X : Type 0} (f : X → Text) (sep : Text) (xs : List X) → join_by f sep xs ≡ joined sep (map f xs)
+pub join_by-joined : {X : Type 0} (f : X → Text) (sep : Text) (xs : List X) → join_by f sep xs ≡ joined_text sep (map f xs)
 join_by-joined f sep [] = refl
 join_by-joined f sep (x ∷ xs) = ap (λ t. f x ++ t) (sym (flat_map-map (λ y. sep ++ y) f xs))
 
@@ -32,7 +32,7 @@ pub join_next : {X : Type 0} (f : X → Text) (sep : Text) (xs : List X) (i : �
 join_next f sep xs i y h e = ap (λ z. (join_by f sep (take i xs) ++ (if i == 0 then [] else sep)) ++ f z) e ∙ join_more f sep xs i y h
 
 -- all items
-pub join_end : {X : Type 0} (f : X → Text) (sep : Text) (xs : List X) (i : ℕ) → length xs ≤ i → join_by f sep (take i xs) ≡ joined sep (map f xs)
+pub join_end : {X : Type 0} (f : X → Text) (sep : Text) (xs : List X) (i : ℕ) → length xs ≤ i → join_by f sep (take i xs) ≡ joined_text sep (map f xs)
 join_end f sep xs i h = ap (join_by f sep) (take_all i xs h) ∙ join_by-joined f sep xs
 
 -- what a value has displayed, where its output is known
@@ -42,5 +42,5 @@ displayed took f x o text g is writes plain = let written : WritesOnOk took f (O
 
 -- all items, by what contracts see of them
 pub join_end_of : {X Y : Type 0} (f : Y → Text) (h : X → Y) (sep : Text) (xs : List X) (i : ℕ) → length xs ≤ i
-    → join_by (λ x. f (h x)) sep (take i xs) ≡ joined sep (map f (map h xs))
-join_end_of f h sep xs i end = join_end (λ x. f (h x)) sep xs i end ∙ ap (joined sep) (sym (map-map f h xs))
+    → join_by (λ x. f (h x)) sep (take i xs) ≡ joined_text sep (map f (map h xs))
+join_end_of f h sep xs i end = join_end (λ x. f (h x)) sep xs i end ∙ ap (joined_text sep) (sym (map-map f h xs))

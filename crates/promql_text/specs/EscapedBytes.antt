@@ -2,8 +2,8 @@
 use Rattle.std.specs.Prelude.{◌++◌}
 use Rattle.std.specs.Str.Iter.{bytes_rest}
 use Rattle.promql_text.specs.declared.quoted.EscapedBytes.{EscapedBytes}
-use Rattle.promql_text.specs.Quoting.{escaped}
+use Rattle.promql_text.specs.Quoting.{escaped_text}
 use Rattle.promql_text.specs.Texts.{Text}
 
 abbrev pub bytes_left : EscapedBytes → Text
-bytes_left s = bytes_rest s.escape ++ escaped (bytes_rest s.rest)
+bytes_left s = bytes_rest s.escape ++ escaped_text (bytes_rest s.rest)

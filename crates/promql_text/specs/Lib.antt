@@ -3,6 +3,7 @@ pub mod DecimalForm
 pub mod DecimalParts
 pub mod DurationText
 pub mod Durations
+pub mod Equalities
 pub mod EscapedBytes
 pub mod Millis
 pub mod NumberDigits

@@ -7,5 +7,5 @@ abbrev pub Text : Type 0
 Text = List ℕ
 
 -- "Lists": the texts in a row, with a separator between each two
-abbrev pub joined : Text → List Text → Text
-joined = join_by (λ t. t)
+abbrev pub joined_text : Text → List Text → Text
+joined_text = join_by (λ t. t)

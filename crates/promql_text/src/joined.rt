@@ -19,7 +19,7 @@
 
 ghost use Rattle.std.specs.Prelude.{◌≡◌, ◌==◌, if◌then◌else◌, [], Some, map};
 ghost use Rattle.std.specs.Fmt.{WritesOnOk};
-ghost use Rattle.promql_text.specs.Texts.{Text, joined};
+ghost use Rattle.promql_text.specs.Texts.{Text, joined_text};
 
 use std::fmt;
 use std::fmt::Display;
@@ -47,7 +47,7 @@ pub fn write_joined<T: Display, W: fmt::Write>(
     f: &mut fmt::Formatter<W>,
 ) -> fmt::Result
     ensures { (text : T → Text) → ((item : T) → T.output item ≡ Some (text item))
-        → WritesOnOk W.write_str_gives f.old result (joined separator.now (map text items.now)) f.new }
+        → WritesOnOk W.write_str_gives f.old result (joined_text separator.now (map text items.now)) f.new }
 {
     for (i, item) in items.iter().enumerate() {
         write_separator(separator, i, f)?;

@@ -4,7 +4,7 @@ ghost use Rattle.std.specs.Prelude.{◌≡◌, ◌≢◌, ◌∷◌, [], ◌++�
 ghost use Rattle.std.specs.Char.{encode_utf8};
 ghost use Rattle.std.specs.String.{string_bytes};
 ghost use Rattle.std.specs.Str.Iter.{chars_rest};
-ghost use Rattle.promql_text.specs.Quoting.{escaped, escaped_byte, hexadecimal, is_quote, letter, octal, ReadsDigits, ReadsEscape, ReadsNumber, ReadsQuote, ReadsSpelling, unquoted, Unquotes};
+ghost use Rattle.promql_text.specs.Quoting.{escaped_text, escaped_byte, hexadecimal, is_quote, letter, octal, ReadsDigits, ReadsEscape, ReadsNumber, ReadsQuote, ReadsSpelling, unquoted_text, Unquotes};
 
 use std::alloc::{AllocError, Global};
 use std::str::Chars;
@@ -35,7 +35,7 @@ impl From<AllocError> for QuoteError {
 /// The text with a backslash before backslash and `"`, and `\n`, `\r`, `\t` for line feed, carriage return and tab.
 /// Between two `"` it stands for the text.
 pub fn escape_string(alloc: Global, s: &str) -> Result<String, AllocError>
-    ensures { IfOk result (λ t. string_bytes t ≡ escaped s.now) }
+    ensures { IfOk result (λ t. string_bytes t ≡ escaped_text s.now) }
 {
     let mut out = String::new(alloc);
     for c in s.chars() {
@@ -69,7 +69,7 @@ pub(crate) fn escape_of(c: char) -> Option<&'static str>
 /// `InvalidSyntax` for every text that isn't a quote, spellings of characters and the same quote; `Memory` where the
 /// answer finds no room.
 pub fn unquote_string(alloc: Global, s: &str) -> Result<String, QuoteError>
-    ensures { Unquotes string_bytes result (unquoted s.now) }
+    ensures { Unquotes string_bytes result (unquoted_text s.now) }
 {
     let mut rest = s.chars();
     let quote = opening(&mut rest).ok_or(QuoteError::InvalidSyntax)?;

@@ -5,7 +5,7 @@ ghost use Rattle.std.specs.Char.{encode_utf8};
 ghost use Rattle.std.specs.Fmt.{WritesOnOk};
 ghost use Rattle.std.specs.Iterator.{YieldsFirst, item_count};
 ghost use Rattle.promql_text.specs.EscapedBytes.{bytes_left};
-ghost use Rattle.promql_text.specs.Quoting.{escaped};
+ghost use Rattle.promql_text.specs.Quoting.{escaped_text};
 
 use crate::quote::escape_of;
 use std::fmt;
@@ -18,9 +18,9 @@ pub struct Quoted<'a>(pub &'a str);
 
 impl fmt::Display for Quoted<'_> {
     ghost use Rattle.std.specs.Prelude.{Some};
-    ghost use Rattle.promql_text.specs.Quoting.{quoted};
+    ghost use Rattle.promql_text.specs.Quoting.{quoted_text};
 
-    ghost output = { λ text. Some (quoted text.0.now) };
+    ghost output = { λ text. Some (quoted_text text.0.now) };
 
     fn fmt<W: fmt::Write>(&self, f: &mut fmt::Formatter<W>) -> fmt::Result {
         f.write_str("\"")?;
@@ -30,7 +30,7 @@ impl fmt::Display for Quoted<'_> {
 }
 
 fn write_escaped<W: fmt::Write>(text: &str, f: &mut fmt::Formatter<W>) -> fmt::Result
-    ensures { WritesOnOk W.write_str_gives f.old result (escaped text.now) f.new }
+    ensures { WritesOnOk W.write_str_gives f.old result (escaped_text text.now) f.new }
 {
     for c in text.chars() {
         write_escaped_char(c, f)?;
@@ -39,7 +39,7 @@ fn write_escaped<W: fmt::Write>(text: &str, f: &mut fmt::Formatter<W>) -> fmt::R
 }
 
 fn write_escaped_char<W: fmt::Write>(c: char, f: &mut fmt::Formatter<W>) -> fmt::Result
-    ensures { WritesOnOk W.write_str_gives f.old result (escaped (encode_utf8 c)) f.new }
+    ensures { WritesOnOk W.write_str_gives f.old result (escaped_text (encode_utf8 c)) f.new }
 {
     match escape_of(c) {
         Some(escape) => f.write_str(escape),
@@ -58,7 +58,7 @@ pub struct EscapedBytes<'a> {
 impl<'a> EscapedBytes<'a> {
     /// The bytes of the escaped form of a text.
     pub fn new(text: &'a str) -> EscapedBytes<'a>
-        ensures { bytes_left result ≡ escaped text.now }
+        ensures { bytes_left result ≡ escaped_text text.now }
     {
         EscapedBytes {
             escape: "".bytes(),

@@ -9,10 +9,10 @@ struct Barred<'a>(&'a [Quoted<'a>]);
 
 impl fmt::Display for Barred<'_> {
     ghost use Rattle.std.specs.Prelude.{Some, codes, map};
-    ghost use Rattle.promql_text.specs.Quoting.{quoted};
-    ghost use Rattle.promql_text.specs.Texts.{joined};
+    ghost use Rattle.promql_text.specs.Quoting.{quoted_text};
+    ghost use Rattle.promql_text.specs.Texts.{joined_text};
 
-    ghost output = { λ texts. Some (joined (codes " | ") (map (λ t. quoted t.0.now) texts.0.now)) };
+    ghost output = { λ texts. Some (joined_text (codes " | ") (map (λ t. quoted_text t.0.now) texts.0.now)) };
 
     fn fmt<W: fmt::Write>(&self, f: &mut fmt::Formatter<W>) -> fmt::Result {
         write_joined(self.0, " | ", f)
