@@ -2,10 +2,11 @@
 use Rattle.std.proofs.Common.{◌≡◌, ◌∙◌, Bool, true, false, Option, Some, None, refl, ap, sym, option_map, string_bytes}
 use Rattle.std.specs.Cmp.{booleans_Decides}
 use Rattle.std.specs.Cmp.Derive.Mapped.{pointwise-map}
+use Rattle.std.specs.Option.{option_eq}
 use Rattle.std.specs.Str.{bytes_eq}
 use Rattle.std.proofs.lemmas.Bool.Decides.{Decides-and, Decides-int_eq, Decides-like}
 use Rattle.std.proofs.lemmas.Slice.Eq.{bytes_eq-Decides, slice_eq-Decides}
-use Rattle.promql_label.specs.Equalities.{IsSameBy}
+use Rattle.promql_text.specs.Equalities.{IsSameBy}
 use Rattle.promql_label.specs.Labels.{labels_of}
 use Rattle.promql_label.specs.contracts.labels.LabelsPartialEq.TheImpl as labels
 use Rattle.promql_text.specs.contracts.number.Number as number
@@ -14,7 +15,6 @@ use Rattle.std.specs.contracts.prelude.OptionPartialEq.TheImpl as options
 use Rattle.promql_text.specs.declared.number.Number.TheVariants.{Finite, Inf, NegInf, NaN}
 use Rattle.promql_kind.specs.Functions.{signature_of}
 use Rattle.promql_kind.specs.Modifiers.{including, excluding, many_to_one, one_to_many, number_eq}
-use Rattle.promql_kind.specs.Same.{option_eq}
 use Rattle.promql_kind.specs.Views.{clause_of, cardinality_of, fills_of, matching_of}
 use Rattle.promql_kind.specs.contracts.bin_modifier.BinModifierPartialEq.TheImpl as matchings
 use Rattle.promql_kind.specs.contracts.cardinality.VectorMatchCardinalityPartialEq.TheImpl as cardinalities

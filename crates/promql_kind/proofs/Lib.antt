@@ -1,2 +1,2 @@
-mod Equal
+pub mod Equal
 pub mod Same

@@ -1,6 +1,6 @@
 -- How modifiers print (docs/PRINTING.md, "Modifiers"): each part with one space before it.
 use Rattle.std.specs.Prelude.{Bool, true, false, if◌then◌else◌, List, [], ◌∷◌, ◌++◌, Option, Some, None, codes}
-use Rattle.promql_text.specs.NumberText.{numtext}
+use Rattle.promql_text.specs.NumberText.{number_text}
 use Rattle.promql_text.specs.declared.number.Number.{Number}
 use Rattle.promql_label.specs.Labels.{labels_text}
 use Rattle.promql_text.specs.Texts.{Text}
@@ -28,7 +28,7 @@ grouping_text (one_to_many ls) = codes " group_right (" ++ (labels_text ls ++ co
 grouping_text many_to_many = []
 
 abbrev pub fill_text : Text → Number → Text
-fill_text before n = before ++ (numtext n ++ codes ")")
+fill_text before n = before ++ (number_text n ++ codes ")")
 
 abbrev pub fills_text : Fills → Text
 fills_text (fills None None) = []

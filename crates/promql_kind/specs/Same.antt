@@ -1,18 +1,14 @@
 -- Tests of whether modifiers, numbers and functions are the same (docs/TREE.md, "Equality"). Each decides `≡`.
-use Rattle.std.specs.Prelude.{Bool, true, false, ◌&&◌, List, Option, Some, None}
+use Rattle.std.specs.Prelude.{Bool, true, false, ◌&&◌, List}
 use mathlib.Core.Bool.{beq}
 use lib.Pointwise.{pointwise}
+use Rattle.std.specs.Option.{option_eq}
 use Rattle.std.specs.Ordering.{int_eq}
 use Rattle.std.specs.Str.{bytes_eq}
 use Rattle.promql_text.specs.Texts.{Text}
 use Rattle.promql_kind.specs.Functions.{Signature, signature}
 use Rattle.promql_kind.specs.Modifiers.{Clause, including, excluding, Cardinality, one_to_one, many_to_one, one_to_many, many_to_many, Fills, fills, Matching, matching, number_eq}
 use Rattle.promql_kind.specs.ValueTypes.{type_eq}
-
-abbrev pub option_eq : {X : Type 0} → (X → X → Bool) → Option X → Option X → Bool
-option_eq same None None = true
-option_eq same (Some a) (Some b) = same a b
-option_eq same _ _ = false
 
 abbrev pub texts_eq : List Text → List Text → Bool
 texts_eq = pointwise bytes_eq

@@ -2,7 +2,7 @@
 
 ghost use Rattle.std.specs.Prelude.{◌≡◌, ◌++◌, [], Some, None, IfOk, codes, if◌then◌else◌, map, option_map, string_bytes};
 ghost use Rattle.std.specs.Fmt.{WritesOnOk};
-ghost use Rattle.promql_text.specs.NumberText.{numtext};
+ghost use Rattle.promql_text.specs.NumberText.{number_text};
 ghost use Rattle.promql_label.specs.Labels.{labels_of, labels_text};
 ghost use Rattle.promql_kind.specs.Modifiers as spec;
 ghost use Rattle.promql_kind.specs.ModifierText.{bool_text, matched_text, grouping_text, fills_text, modifier_text};
@@ -284,7 +284,7 @@ fn write_fill<W: fmt::Write>(
     number: &Number,
     f: &mut fmt::Formatter<W>,
 ) -> fmt::Result
-    ensures { WritesOnOk W.write_str_gives f.old result (before.now ++ (numtext number.now ++ codes ")")) f.new }
+    ensures { WritesOnOk W.write_str_gives f.old result (before.now ++ (number_text number.now ++ codes ")")) f.new }
 {
     f.write_str(before)?;
     number.fmt(f)?;

@@ -46,9 +46,7 @@ impl VectorMatchCardinality {
         ensures { IfOk result (λ card. cardinality_of card
             ≡ many_to_one (map (λ label. label.now) labels.entry.items)) }
     {
-        Ok(VectorMatchCardinality::ManyToOne(Labels::new(
-            alloc, labels,
-        )?))
+        Ok(VectorMatchCardinality::ManyToOne(Labels::new(alloc, labels)?))
     }
 
     /// `group_right` with these labels.
@@ -63,9 +61,7 @@ impl VectorMatchCardinality {
         ensures { IfOk result (λ card. cardinality_of card
             ≡ one_to_many (map (λ label. label.now) labels.entry.items)) }
     {
-        Ok(VectorMatchCardinality::OneToMany(Labels::new(
-            alloc, labels,
-        )?))
+        Ok(VectorMatchCardinality::OneToMany(Labels::new(alloc, labels)?))
     }
 
     /// A copy of the cardinality.

@@ -1,6 +1,6 @@
 //! Laws on the definitions alone. Each is the contract of a function that does nothing.
 
-ghost use Rattle.promql_label.specs.Equalities.{IsSameBy};
+ghost use Rattle.promql_text.specs.Equalities.{IsSameBy};
 ghost use Rattle.promql_kind.specs.Functions.{signature_of};
 ghost use Rattle.promql_kind.specs.Views.{cardinality_of, clause_of, fills_of, matching_of};
 

@@ -34,9 +34,23 @@ const PRINTED: [Case; 15] = [
         None,
         " ignoring () group_left (a, inf_)",
     ),
-    ("right", "on", false, None, None, " on (a) group_right (a, inf_)"),
+    (
+        "right",
+        "on",
+        false,
+        None,
+        None,
+        " on (a) group_right (a, inf_)",
+    ),
     ("left", "", false, None, None, " group_left (a, inf_)"),
-    ("", "", false, Some(1), Some(2), " fill_left (1) fill_right (2)"),
+    (
+        "",
+        "",
+        false,
+        Some(1),
+        Some(2),
+        " fill_left (1) fill_right (2)",
+    ),
     ("", "", false, Some(-3), Some(-3), " fill (-3)"),
     ("", "", false, Some(0), None, " fill_left (0)"),
     ("", "", false, None, Some(7), " fill_right (7)"),
@@ -79,11 +93,13 @@ fn modifier(alloc: Global, case: Case) -> Result<BinModifier, AllocError> {
     if let Some(rhs) = rhs {
         values = values.with_rhs(Number::from_i64(rhs));
     }
-    Ok(BinModifier::default()
-        .with_card(card(alloc, card_word)?)
-        .with_matching(matching(alloc, matching_word)?)
-        .with_return_bool(return_bool)
-        .with_fill_values(values))
+    Ok(
+        BinModifier::default()
+            .with_card(card(alloc, card_word)?)
+            .with_matching(matching(alloc, matching_word)?)
+            .with_return_bool(return_bool)
+            .with_fill_values(values),
+    )
 }
 
 #[test]
