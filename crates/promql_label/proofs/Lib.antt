@@ -4,6 +4,9 @@ pub mod Escaping
 pub mod Finding
 pub mod Found
 pub mod Groups
+pub mod NextText
 pub mod OneOrder
+pub mod PrintedMatchers
+pub mod PrintedTexts
 pub mod Reading
 pub mod SameMatchers

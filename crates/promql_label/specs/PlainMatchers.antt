@@ -1,11 +1,12 @@
 -- Matchers and their lists, as plain data: docs/MATCHERS.md, "Matchers" and "Lists of matchers".
-use Rattle.std.specs.Prelude.{Bool, not, if◌then◌else◌, List, [], ◌∷◌, ◌++◌, Option, filter, find, option_map, codes}
+use Rattle.std.specs.Prelude.{Bool, not, if◌then◌else◌, List, [], ◌∷◌, ◌++◌, Option, filter, find, map, option_map, codes}
 use Rattle.std.specs.List.{flat_map, list_all}
 use Rattle.std.specs.Str.{bytes_eq}
 use Rattle.promql_text.specs.Quoting.{quoted_text}
 use Rattle.promql_token.specs.Classes.{is_label}
 use Rattle.promql_label.specs.Answers.{finds}
-use Rattle.promql_text.specs.Texts.{Text}
+use Rattle.promql_label.specs.SortedTexts.{sorted_texts}
+use Rattle.promql_text.specs.Texts.{Text, joined_text}
 
 -- what a matcher compares by; a pattern is its built text
 pub data Operator : Type 0 where
@@ -85,3 +86,12 @@ found_value cs name = option_map value_of (find (is_of name) (every cs))
 -- "Empty matchers": every one matches the empty text
 abbrev pub all_match_empty : PlainMatchers → Bool
 all_match_empty cs = list_all (λ c. holds c []) (every cs)
+
+-- "Printed lists": the matchers of a group in order
+abbrev pub group_text : List PlainMatcher → Text
+group_text g = joined_text (codes ", ") (map matcher_text g)
+
+-- "Printed lists": the groups alone, if there are any; else the matchers in byte order of their texts
+abbrev pub matchers_text : PlainMatchers → Text
+matchers_text (plain_matchers plain []) = joined_text (codes ",") (sorted_texts (map matcher_text plain))
+matchers_text (plain_matchers plain (g ∷ groups)) = joined_text (codes " or ") (map group_text (g ∷ groups))

@@ -14,6 +14,7 @@ pub mod matcher;
 pub mod matchers;
 pub mod pattern;
 pub mod repeats;
+mod sorted;
 #[cfg(test)]
 mod tests;
 

@@ -1,7 +1,7 @@
 //! Matchers: docs/MATCHERS.md, "Matchers".
 
 ghost use Rattle.std.specs.Prelude.{◌≡◌, ◌↔◌, false, true, IfOk, IfErr, IsOk, IsErrOf, codes, string_bytes};
-ghost use Rattle.promql_label.specs.PlainMatchers.{plain_matcher, equal, holds};
+ghost use Rattle.promql_label.specs.PlainMatchers.{plain_matcher, equal, holds, operator_text};
 ghost use Rattle.promql_label.specs.MatcherErrors.{IsFaultOf};
 ghost use Rattle.promql_label.specs.Operators.{IsMatcherOf, is_operator_id, is_text_id};
 ghost use Rattle.promql_label.specs.Views.{plain_matcher_of, operator_of};
@@ -43,6 +43,18 @@ impl MatchOp {
             MatchOp::NotRe(pattern) => MatchOp::NotRe(pattern.try_clone(alloc)?),
         })
     }
+
+    /// The operator as it prints.
+    pub(crate) fn text(&self) -> &'static str
+        ensures { result.now ≡ operator_text (operator_of self.now) }
+    {
+        match self {
+            MatchOp::Equal => "=",
+            MatchOp::NotEqual => "!=",
+            MatchOp::Re(_) => "=~",
+            MatchOp::NotRe(_) => "!~",
+        }
+    }
 }
 
 impl fmt::Display for MatchOp {
@@ -53,12 +65,7 @@ impl fmt::Display for MatchOp {
     ghost output = { λ op. Some (operator_text (operator_of op)) };
 
     fn fmt<W: fmt::Write>(&self, f: &mut fmt::Formatter<W>) -> fmt::Result {
-        f.write_str(match self {
-            MatchOp::Equal => "=",
-            MatchOp::NotEqual => "!=",
-            MatchOp::Re(_) => "=~",
-            MatchOp::NotRe(_) => "!~",
-        })
+        f.write_str(self.text())
     }
 }
 

@@ -1,13 +1,17 @@
 //! Lists of matchers: docs/MATCHERS.md, "Lists of matchers".
 
-ghost use Rattle.std.specs.Prelude.{◌≡◌, [], ◌∷◌, ◌++◌, IfOk, OnOk, filter, find, map, option_map};
+ghost use Rattle.std.specs.Prelude.{◌≡◌, [], ◌∷◌, ◌++◌, IfOk, OnOk, codes, filter, find, map, option_map};
+ghost use Rattle.std.specs.Fmt.{WritesOnOk};
 ghost use Rattle.std.specs.List.{list_all};
-ghost use Rattle.promql_label.specs.PlainMatchers.{all_match_empty, appended, appended_or, plain_matchers, found, found_value, holds, is_of, value_of};
+ghost use Rattle.promql_label.specs.PlainMatchers.{all_match_empty, appended, appended_or, plain_matchers, found, found_value, group_text, holds, is_of, value_of};
 ghost use Rattle.promql_label.specs.Views.{plain_matcher_of, plain_matchers_of};
+ghost use Rattle.promql_text.specs.Texts.{joined_text};
 
 use crate::matcher::Matcher;
+use crate::sorted::write_sorted;
+use promql_text::{write_joined, write_separator};
 use std::alloc::{AllocError, Global};
-use std::mem;
+use std::{fmt, mem};
 
 #[cfg(test)]
 mod tests;
@@ -141,6 +145,34 @@ impl Matchers {
             or_matchers,
         })
     }
+}
+
+impl fmt::Display for Matchers {
+    ghost use Rattle.std.specs.Prelude.{Some};
+    ghost use Rattle.promql_label.specs.PlainMatchers.{matchers_text};
+
+    ghost output = { λ m. Some (matchers_text (plain_matchers_of m)) };
+
+    fn fmt<W: fmt::Write>(&self, f: &mut fmt::Formatter<W>) -> fmt::Result {
+        let groups = self.or_matchers.as_slice();
+        if groups.is_empty() {
+            write_sorted(&self.matchers, f)
+        } else {
+            write_groups(groups, f)
+        }
+    }
+}
+
+fn write_groups<W: fmt::Write>(groups: &[Vec<Matcher>], f: &mut fmt::Formatter<W>) -> fmt::Result
+    ensures { WritesOnOk W.write_str_gives f.old result
+        (joined_text (codes " or ") (map (λ g. group_text (map plain_matcher_of g.items)) groups.now))
+        f.new }
+{
+    for (i, group) in groups.iter().enumerate() {
+        write_separator(" or ", i, f)?;
+        write_joined(group, ", ", f)?;
+    }
+    Ok(())
 }
 
 /// Whether each matches the empty text.

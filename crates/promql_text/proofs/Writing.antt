@@ -23,3 +23,7 @@ module _ {W : Type 0} (took : W → Text → W → Type 0) (f : Formatter W) (wh
 
   pub writing_end : (g : Formatter W) (rest : Text) → Writing took f whole g rest → rest ≡ [] → HasWritten took f whole g
   writing_end g rest (w, (so_far, e)) is = has_written_of_eq _ _ _ _ _ (sym (append-nil w) ∙ ap (λ r. w ++ r) (sym is) ∙ e) so_far
+
+  -- what is still to be written, in other words
+  pub writing_as : (g : Formatter W) (rest less : Text) → Writing took f whole g rest → rest ≡ less → Writing took f whole g less
+  writing_as g rest less (w, (so_far, e)) is = (w, (so_far, ap (λ r. w ++ r) (sym is) ∙ e))

@@ -4,11 +4,11 @@ pub mod DecimalParts
 pub mod DurationText
 pub mod Durations
 pub mod Equalities
-pub mod EscapedBytes
 pub mod Millis
 pub mod NumberDigits
 pub mod NumberText
 pub mod Numbers
+pub mod QuotedBytes
 pub mod Quoting
 pub mod Rounding
 pub mod Significands

@@ -26,7 +26,7 @@ pub use joined::{write_joined, write_separator};
 pub use number::{Number, NumberFault};
 pub use number_text::parse_str_radix;
 pub use quote::{QuoteError, escape_string, unquote_string};
-pub use quoted::Quoted;
+pub use quoted::{Quoted, QuotedBytes};
 
 #[cfg(test)]
 mod tests;

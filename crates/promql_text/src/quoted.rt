@@ -4,8 +4,8 @@ ghost use Rattle.std.specs.Prelude.{◌≡◌};
 ghost use Rattle.std.specs.Char.{encode_utf8};
 ghost use Rattle.std.specs.Fmt.{WritesOnOk};
 ghost use Rattle.std.specs.Iterator.{YieldsFirst, item_count};
-ghost use Rattle.promql_text.specs.EscapedBytes.{bytes_left};
-ghost use Rattle.promql_text.specs.Quoting.{escaped_text};
+ghost use Rattle.promql_text.specs.QuotedBytes.{bytes_left};
+ghost use Rattle.promql_text.specs.Quoting.{escaped_text, quoted_text};
 
 use crate::quote::escape_of;
 use std::fmt;
@@ -18,7 +18,6 @@ pub struct Quoted<'a>(pub &'a str);
 
 impl fmt::Display for Quoted<'_> {
     ghost use Rattle.std.specs.Prelude.{Some};
-    ghost use Rattle.promql_text.specs.Quoting.{quoted_text};
 
     ghost output = { λ text. Some (quoted_text text.0.now) };
 
@@ -47,27 +46,29 @@ fn write_escaped_char<W: fmt::Write>(c: char, f: &mut fmt::Formatter<W>) -> fmt:
     }
 }
 
-/// The bytes of an escaped text in order, computed as they are asked for.
+/// The bytes of a quoted text in order, computed as they are asked for.
 #[derive(Drop)]
-pub struct EscapedBytes<'a> {
-    /// What is left of the escape of a byte that was passed.
-    escape: Bytes<'a>,
+pub struct QuotedBytes<'a> {
+    /// The opening quote, and later what is left of an escape.
+    pending: Bytes<'a>,
     rest: Bytes<'a>,
+    close: Bytes<'a>,
 }
 
-impl<'a> EscapedBytes<'a> {
-    /// The bytes of the escaped form of a text.
-    pub fn new(text: &'a str) -> EscapedBytes<'a>
-        ensures { bytes_left result ≡ escaped_text text.now }
+impl<'a> QuotedBytes<'a> {
+    /// The bytes that `Quoted` prints for the text.
+    pub fn new(text: &'a str) -> QuotedBytes<'a>
+        ensures { bytes_left result ≡ quoted_text text.now }
     {
-        EscapedBytes {
-            escape: "".bytes(),
+        QuotedBytes {
+            pending: "\"".bytes(),
             rest: text.bytes(),
+            close: "\"".bytes(),
         }
     }
 }
 
-impl<'a> Iterator for EscapedBytes<'a> {
+impl<'a> Iterator for QuotedBytes<'a> {
     type Item = u8;
 
     ghost next_gives = { YieldsFirst bytes_left };
@@ -75,14 +76,16 @@ impl<'a> Iterator for EscapedBytes<'a> {
     ghost remaining = { item_count bytes_left };
 
     fn next(&mut self) -> Option<u8> {
-        if let Some(b) = self.escape.next() {
+        if let Some(b) = self.pending.next() {
             return Some(b);
         }
-        let b = self.rest.next()?;
+        let Some(b) = self.rest.next() else {
+            return self.close.next();
+        };
         match escape_of(b as char) {
             Some(escape) => {
-                self.escape = escape.bytes();
-                self.escape.next()
+                self.pending = escape.bytes();
+                self.pending.next()
             }
             None => Some(b),
         }

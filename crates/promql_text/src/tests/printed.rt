@@ -1,5 +1,5 @@
 use crate::joined::write_joined;
-use crate::quoted::{EscapedBytes, Quoted};
+use crate::quoted::{QuotedBytes, Quoted};
 use std::fmt;
 use std::test::Fail;
 
@@ -36,10 +36,14 @@ fn joins_quoted_texts(rt: HostRuntime) -> Result<(), Fail> {
 }
 
 #[test]
-fn bytes_of_escaped_texts(rt: HostRuntime) -> Result<(), Fail> {
-    for (text, want) in [("", ""), ("\\\"\n\r\t", r#"\\\"\n\r\t"#), ("aé\n", "aé\\n")] {
-        let escaped: Vec<u8> = EscapedBytes::new(text).collect(rt.alloc())?;
-        assert_eq!(rt; escaped.as_slice(), want.as_bytes());
+fn bytes_of_quoted_texts(rt: HostRuntime) -> Result<(), Fail> {
+    for (text, want) in [
+        ("", r#""""#),
+        ("\\\"\n\r\t", r#""\\\"\n\r\t""#),
+        ("aé\n", r#""aé\n""#),
+    ] {
+        let bytes: Vec<u8> = QuotedBytes::new(text).collect(rt.alloc())?;
+        assert_eq!(rt; bytes.as_slice(), want.as_bytes());
     }
     Ok(())
 }
