@@ -1,14 +1,10 @@
 -- Lists of arguments (docs/TREE.md, "Calls").
-use Rattle.std.specs.Prelude.{ℕ, ◌+◌, Bool, true, false, Option, Some, None}
+use Rattle.std.specs.Prelude.{ℕ, ◌+◌, Option, Some, None}
 use Rattle.promql_ast.specs.Tree.{Tree, Trees, no_trees, first_tree}
 
 abbrev pub appended : Trees → Tree → Trees
 appended no_trees u = first_tree u no_trees
 appended (first_tree t ts) u = first_tree t (appended ts u)
-
-abbrev pub is_none : Trees → Bool
-is_none no_trees = true
-is_none (first_tree t ts) = false
 
 abbrev pub count : Trees → ℕ
 count no_trees = 0

@@ -3,7 +3,8 @@ use Rattle.std.specs.Prelude.{ℕ, ℤ, ◌==◌, if◌then◌else◌, Option, S
 use Rattle.promql_text.specs.Millis.{to_millis}
 use Rattle.promql_text.specs.declared.number.Number.{Number}
 use Rattle.promql_token.specs.declared.ids.TheConstants.{T_START, T_END}
-use Rattle.promql_ast.specs.Tree.{Tree, number}
+use Rattle.promql_ast.specs.Builds.{scalar_value}
+use Rattle.promql_ast.specs.Tree.{Tree}
 use Rattle.promql_ast.specs.declared.at_modifier.AtFault.{AtFault}
 use Rattle.promql_ast.specs.declared.at_modifier.AtFault.TheVariants.{NotPreprocessor, OutOfBounds, NotANumber}
 use Rattle.promql_ast.specs.declared.at_modifier.AtModifier.{AtModifier}
@@ -21,7 +22,10 @@ at_of_millis seconds None = Err (OutOfBounds seconds)
 abbrev pub at_of_number : Number → Result AtModifier AtFault
 at_of_number seconds = at_of_millis seconds (to_millis seconds)
 
--- the number of a number literal
+-- an expression: the number of a number literal
+abbrev pub at_of_scalar : Option Number → Result AtModifier AtFault
+at_of_scalar (Some seconds) = at_of_number seconds
+at_of_scalar None = Err NotANumber
+
 abbrev pub at_of_expr : Tree → Result AtModifier AtFault
-at_of_expr (number seconds) = at_of_number seconds
-at_of_expr _ = Err NotANumber
+at_of_expr t = at_of_scalar (scalar_value t)

@@ -1,5 +1,5 @@
 -- What the builders make of trees (docs/TREE.md, "Builders").
-use Rattle.std.specs.Prelude.{ℕ, ◌+◌, if◌then◌else◌, Option, Some, None}
+use Rattle.std.specs.Prelude.{ℕ, if◌then◌else◌, Option, Some, None}
 use Rattle.promql_text.specs.Values.{neg}
 use Rattle.promql_text.specs.declared.number.Number.{Number}
 use Rattle.promql_token.specs.Ids.{is_aggregator_with_param}
@@ -64,13 +64,12 @@ mode_given _ mode = rejected (node ModeBase)
 abbrev pub aggregated_alone : ℕ → Option Clause → Trees → Verdict
 aggregated_alone op m no_trees = rejected (node (NoArguments op))
 aggregated_alone op m (first_tree e no_trees) = passes (aggregate op e absent m)
-aggregated_alone op m (first_tree e (first_tree f ts)) = rejected (node (ArgumentCount 1 (count ts + 2)))
+aggregated_alone op m ts = rejected (node (ArgumentCount 1 (count ts)))
 
 abbrev pub aggregated_with : ℕ → Option Clause → Trees → Verdict
 aggregated_with op m no_trees = rejected (node (NoArguments op))
-aggregated_with op m (first_tree p no_trees) = rejected (node (ArgumentCount 2 1))
 aggregated_with op m (first_tree p (first_tree e no_trees)) = passes (aggregate op e (present p) m)
-aggregated_with op m (first_tree p (first_tree e (first_tree f ts))) = rejected (node (ArgumentCount 2 (count ts + 3)))
+aggregated_with op m ts = rejected (node (ArgumentCount 2 (count ts)))
 
 abbrev pub aggregated : ℕ → Option Clause → Trees → Verdict
 aggregated op m ts = if is_aggregator_with_param op then aggregated_with op m ts else aggregated_alone op m ts
