@@ -1,0 +1,39 @@
+//! Range modes: docs/TREE.md, "Range modes".
+
+ghost use Rattle.std.specs.Fmt.{WritesOnOk};
+ghost use Rattle.promql_ast.specs.node.Matrix.{mode_text};
+
+use std::fmt;
+
+/// How samples are taken at the ends of a matrix selector's range.
+#[derive(Clone, Copy, Debug, PartialEq, Eq)]
+pub enum RangeMode {
+    /// As they are.
+    Plain,
+    /// `smoothed`.
+    Smoothed,
+    /// `anchored`.
+    Anchored,
+}
+
+impl Default for RangeMode {
+    ghost use Rattle.std.specs.Prelude.{◌≡◌};
+    ghost use Rattle.promql_ast.specs.declared.range_mode.RangeMode.TheVariants.{Plain};
+
+    ghost is_default = { λ mode. mode ≡ Plain };
+
+    fn default() -> RangeMode {
+        RangeMode::Plain
+    }
+}
+
+/// Writes the mode's word with a space before it; nothing for `Plain`.
+pub(crate) fn write_mode<W: fmt::Write>(mode: RangeMode, f: &mut fmt::Formatter<W>) -> fmt::Result
+    ensures { WritesOnOk W.write_str_gives f.old result (mode_text mode) f.new }
+{
+    match mode {
+        RangeMode::Plain => Ok(()),
+        RangeMode::Smoothed => f.write_str(" smoothed"),
+        RangeMode::Anchored => f.write_str(" anchored"),
+    }
+}

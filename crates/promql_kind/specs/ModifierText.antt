@@ -1,0 +1,43 @@
+-- How modifiers print (docs/PRINTING.md, "Modifiers"): each part with one space before it.
+use Rattle.std.specs.Prelude.{Bool, true, false, if◌then◌else◌, List, [], ◌∷◌, ◌++◌, Option, Some, None, codes}
+use Rattle.promql_text.specs.NumberText.{number_text}
+use Rattle.promql_text.specs.declared.number.Number.{Number}
+use Rattle.promql_label.specs.Labels.{labels_text}
+use Rattle.promql_text.specs.Texts.{Text}
+use Rattle.promql_kind.specs.Modifiers.{Clause, including, excluding, Cardinality, one_to_one, many_to_one, one_to_many, many_to_many, Fills, fills, Matching, matching, is_grouping, number_eq}
+
+abbrev pub bool_text : Bool → Text
+bool_text true = codes " bool"
+bool_text false = []
+
+-- an empty list after `ignoring` prints only before a grouping
+abbrev pub ignoring_text : Bool → List Text → Text
+ignoring_text false [] = []
+ignoring_text true [] = codes " ignoring (" ++ (labels_text [] ++ codes ")")
+ignoring_text _ (l ∷ ls) = codes " ignoring (" ++ (labels_text (l ∷ ls) ++ codes ")")
+
+abbrev pub matched_text : Bool → Option Clause → Text
+matched_text is_grouping None = []
+matched_text is_grouping (Some (including ls)) = codes " on (" ++ (labels_text ls ++ codes ")")
+matched_text is_grouping (Some (excluding ls)) = ignoring_text is_grouping ls
+
+abbrev pub grouping_text : Cardinality → Text
+grouping_text one_to_one = []
+grouping_text (many_to_one ls) = codes " group_left (" ++ (labels_text ls ++ codes ")")
+grouping_text (one_to_many ls) = codes " group_right (" ++ (labels_text ls ++ codes ")")
+grouping_text many_to_many = []
+
+abbrev pub fill_text : Text → Number → Text
+fill_text before n = before ++ (number_text n ++ codes ")")
+
+abbrev pub fills_text : Fills → Text
+fills_text (fills None None) = []
+fills_text (fills (Some r) None) = fill_text (codes " fill_right (") r
+fills_text (fills None (Some l)) = fill_text (codes " fill_left (") l
+fills_text (fills (Some r) (Some l)) =
+    if number_eq l r then fill_text (codes " fill (") l
+    else fill_text (codes " fill_left (") l ++ fill_text (codes " fill_right (") r
+
+abbrev pub modifier_text : Matching → Text
+modifier_text (matching card clause return_bool values) =
+    bool_text return_bool ++ (matched_text (is_grouping card) clause ++ (grouping_text card ++ fills_text values))

@@ -1,0 +1,42 @@
+//! Laws on the definitions alone. Each is the contract of a function that does nothing.
+
+ghost use Rattle.promql_text.specs.Equalities.{IsSameBy};
+ghost use Rattle.promql_kind.specs.Functions.{signature_of};
+ghost use Rattle.promql_kind.specs.Views.{cardinality_of, clause_of, fills_of, matching_of};
+
+use crate::bin_modifier::BinModifier;
+use crate::cardinality::VectorMatchCardinality;
+use crate::fill_values::VectorMatchFillValues;
+use crate::function::Function;
+use crate::label_modifier::LabelModifier;
+use crate::value::ValueType;
+
+/// Value types are equal exactly if they are the same.
+pub fn equal_value_types()
+    ensures { IsSameBy (λ t. t) ⟦<ValueType as PartialEq>⟧.eq }
+{}
+
+/// Lists of labels are equal exactly if both include or both exclude, and they have the same labels in the same order.
+pub fn equal_label_modifiers()
+    ensures { IsSameBy clause_of ⟦<LabelModifier as PartialEq>⟧.eq }
+{}
+
+/// Cardinalities are equal exactly if they are of one kind, with the same labels in the same order.
+pub fn equal_cardinalities()
+    ensures { IsSameBy cardinality_of ⟦<VectorMatchCardinality as PartialEq>⟧.eq }
+{}
+
+/// Fill values are equal exactly if both sides have the same number or none. NaN is equal to itself.
+pub fn equal_fill_values()
+    ensures { IsSameBy fills_of ⟦<VectorMatchFillValues as PartialEq>⟧.eq }
+{}
+
+/// Modifiers of binary expressions are equal exactly if all their parts are.
+pub fn equal_bin_modifiers()
+    ensures { IsSameBy matching_of ⟦<BinModifier as PartialEq>⟧.eq }
+{}
+
+/// Functions are equal exactly if all their parts are.
+pub fn equal_functions()
+    ensures { IsSameBy signature_of ⟦<Function as PartialEq>⟧.eq }
+{}
