@@ -8,7 +8,7 @@ use Rattle.std.proofs.lemmas.Bool.{cond_both, eqb-true}
 use Rattle.std.proofs.lemmas.List.{take-append-drop}
 use Rattle.promql_token.proofs.Ends.{and_left, and_right, or_cases}
 use Rattle.promql_token.proofs.Printed.{prefix_all}
-use Rattle.promql_label.specs.Texts.{Text}
+use Rattle.promql_text.specs.Texts.{Text}
 use Rattle.promql_label.specs.Repeats.{IsNumeral, OpensCount, exactly, at_least, between, behind_digits, opens_count}
 
 -- whether a count ends here, behind its first digits

@@ -5,7 +5,7 @@ use Rattle.std.proofs.lemmas.Bool.{cond_both, eqb-true, ne_eqb}
 use Rattle.std.proofs.lemmas.Str.{encode_ascii, length-encode, len_utf8_bounds}
 use Rattle.std.proofs.str.Laws.{order}
 use Rattle.promql_text.proofs.Quotes.{bytes_high}
-use Rattle.promql_label.specs.Texts.{Text}
+use Rattle.promql_text.specs.Texts.{Text}
 use Rattle.promql_label.specs.Repeats.{opens_count, is_loose, marked, escaped_repeats}
 
 -- the escaped form, from a place on where `taken` says whether a backslash takes the next byte

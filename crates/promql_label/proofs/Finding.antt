@@ -8,7 +8,7 @@ use Rattle.regex.specs.Strings.{regex_source, regex_config, regex_pattern, IsRea
 use Rattle.regex.specs.declared.string.regex.Regex.{Regex}
 use Rattle.regex.proofs.ForCallers.{is_match_alike}
 use Rattle.promql_label.specs.Answers.{finds}
-use Rattle.promql_label.specs.Texts.{Text}
+use Rattle.promql_text.specs.Texts.{Text}
 
 -- a pattern that matches as what was read finds the same
 found_alike : (a : Re) (z : Text) → ((k : ℕ) → get_or z k 0 < 256) → (P : Nested Re × Names → Type 0) →

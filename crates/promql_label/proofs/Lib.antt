@@ -1,12 +1,12 @@
 pub mod CommonLabels
 pub mod Counts
-pub mod Escapes
 pub mod Escaping
 pub mod Finding
 pub mod Found
 pub mod Groups
-pub mod Joins
+pub mod NextText
 pub mod OneOrder
+pub mod PrintedMatchers
+pub mod PrintedTexts
 pub mod Reading
 pub mod SameMatchers
-pub mod Writing

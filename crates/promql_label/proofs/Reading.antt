@@ -2,7 +2,7 @@
 use Rattle.std.proofs.Common.{◌≡◌, Option, Some, None, subst, sym}
 use Rattle.promql_label.specs.Answers.{Allows, as_it_is, built, escaped, IsTried, MayRefusePair, neither, refused}
 use Rattle.promql_label.specs.Repeats.{escaped_repeats}
-use Rattle.promql_label.specs.Texts.{Text}
+use Rattle.promql_text.specs.Texts.{Text}
 
 tried_as : (u form : Text) (o made : Option Text) → o ≡ made → u ≡ form → IsTried u o → IsTried form made
 tried_as u form o made made_is form_is tried = subst (λ f. IsTried f made) form_is (subst (IsTried u) made_is tried)

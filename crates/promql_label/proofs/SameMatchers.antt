@@ -12,9 +12,9 @@ use Rattle.promql_label.specs.contracts.matcher.MatcherHash.TheImpl as matcher_h
 use Rattle.promql_label.specs.contracts.matcher.MatcherHash.TheImpl.Laws as matcher_laws
 use Rattle.promql_label.specs.contracts.matchers.MatchersPartialEq.TheImpl as lists
 use Rattle.promql_label.specs.declared.matcher.Matcher.{Matcher}
-use Rattle.promql_label.specs.Conditions.{matches, matches_not}
-use Rattle.promql_label.specs.Equalities.{HashesAlike, IsSameBy}
-use Rattle.promql_label.specs.Views.{condition_of, conditions_of, operator_of}
+use Rattle.promql_label.specs.PlainMatchers.{matches, matches_not}
+use Rattle.promql_text.specs.Equalities.{HashesAlike, IsSameBy}
+use Rattle.promql_label.specs.Views.{plain_matcher_of, plain_matchers_of, operator_of}
 
 pub operator_Decides : IsSameBy operator_of operators.ghosts.eq
 operator_Decides Equal Equal = ((λ _. refl), (λ _. refl))
@@ -37,7 +37,7 @@ operator_Decides (NotRe p) (NotRe q) = Decides-like _ (λ e. ap matches_not e) (
 pub operator_hashes_alike : HashesAlike operator_of operator_hashes.ghosts.hash_input
 operator_hashes_alike a b same = operator_laws.respects_eq-law a b ((operator_Decides a b).1 same)
 
-pub matcher_Decides : IsSameBy condition_of matchers.ghosts.eq
+pub matcher_Decides : IsSameBy plain_matcher_of matchers.ghosts.eq
 matcher_Decides a b =
     Decides-like _
     (λ same. let op = same.0 in let name = same.1.0 in let value = same.1.1 in cc)
@@ -46,7 +46,7 @@ matcher_Decides a b =
     (Decides-and _ _ (bytes_eq-Decides (string_bytes a.name) (string_bytes b.name))
     (bytes_eq-Decides (string_bytes a.value) (string_bytes b.value))))
 
-pub matcher_hashes_alike : HashesAlike condition_of matcher_hashes.ghosts.hash_input
+pub matcher_hashes_alike : HashesAlike plain_matcher_of matcher_hashes.ghosts.hash_input
 matcher_hashes_alike a b same = matcher_laws.respects_eq-law a b ((matcher_Decides a b).1 same)
 
 -- two lists are the same item by item exactly if what they are seen as is the same
@@ -61,10 +61,10 @@ pointwise-map-Decides view test each (x ∷ xs) (y ∷ ys) =
     (λ same. ((cc), (cc)))
     (Decides-and _ _ (each x y) (pointwise-map-Decides view test each xs ys))
 
-pub list_Decides : IsSameBy conditions_of lists.ghosts.eq
+pub list_Decides : IsSameBy plain_matchers_of lists.ghosts.eq
 list_Decides a b =
-    let plain = pointwise-map-Decides condition_of matchers.ghosts.eq matcher_Decides in
-    let group : IsSameBy (λ (g : Vec Matcher Global). map condition_of g.items) (λ x y. pointwise matchers.ghosts.eq x.items y.items) = λ x y. plain x.items y.items in
+    let plain = pointwise-map-Decides plain_matcher_of matchers.ghosts.eq matcher_Decides in
+    let group : IsSameBy (λ (g : Vec Matcher Global). map plain_matcher_of g.items) (λ x y. pointwise matchers.ghosts.eq x.items y.items) = λ x y. plain x.items y.items in
     Decides-like _
     (λ same. let all = same.0 in let groups = same.1 in cc)
     (λ same. ((cc), (cc)))

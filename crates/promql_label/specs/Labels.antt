@@ -2,10 +2,10 @@
 use Rattle.std.specs.Prelude.{Bool, not, ◌&&◌, ◌||◌, if◌then◌else◌, List, [], ◌∷◌, map, filter, codes, string_bytes}
 use Rattle.std.specs.List.{list_any}
 use Rattle.std.specs.Str.{bytes_eq, str_eq_ignore_ascii_case}
-use Rattle.promql_text.specs.Quoting.{quoted}
+use Rattle.promql_text.specs.Quoting.{quoted_text}
 use Rattle.promql_token.specs.Classes.{is_label}
 use Rattle.promql_label.specs.declared.labels.Labels.{Labels}
-use Rattle.promql_label.specs.Texts.{Text, joined}
+use Rattle.promql_text.specs.Texts.{Text, joined_text}
 
 -- the labels, as texts
 abbrev pub labels_of : Labels → List Text
@@ -30,7 +30,7 @@ is_number_word l = str_eq_ignore_ascii_case l (codes "inf") || str_eq_ignore_asc
 
 -- "Printed labels": a label as it is, or quoted
 abbrev pub label_text : Text → Text
-label_text l = if is_label l && not (is_number_word l) then l else quoted l
+label_text l = if is_label l && not (is_number_word l) then l else quoted_text l
 
 abbrev pub labels_text : List Text → Text
-labels_text ls = joined (codes ", ") (map label_text ls)
+labels_text ls = joined_text (codes ", ") (map label_text ls)

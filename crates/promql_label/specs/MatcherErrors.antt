@@ -6,7 +6,7 @@ use Rattle.promql_label.specs.declared.matcher.MatcherError.TheVariants as error
 use Rattle.promql_label.specs.declared.pattern.PatternFault.{PatternFault}
 use Rattle.promql_label.specs.declared.pattern.PatternFault.TheVariants.{Memory, Refused}
 use Rattle.promql_label.specs.Operators.{is_operator_id, is_pattern_id}
-use Rattle.promql_label.specs.Texts.{Text}
+use Rattle.promql_text.specs.Texts.{Text}
 
 -- the fault of a pattern, as a matcher's
 abbrev pub error_of : PatternFault → MatcherError

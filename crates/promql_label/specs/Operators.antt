@@ -3,8 +3,8 @@ use Rattle.std.specs.Prelude.{◌≡◌, ℕ, Bool, ◌||◌, [], ◌∷◌}
 use Rattle.promql_token.specs.declared.ids.TheConstants.{T_EQL, T_NEQ, T_EQL_REGEX, T_NEQ_REGEX}
 use Rattle.promql_token.specs.Ids.{is_one_of}
 use Rattle.promql_label.specs.Answers.{Allows, built}
-use Rattle.promql_label.specs.Conditions.{Operator, equal, not_equal, matches, matches_not, Condition, condition}
-use Rattle.promql_label.specs.Texts.{Text}
+use Rattle.promql_label.specs.PlainMatchers.{Operator, equal, not_equal, matches, matches_not, PlainMatcher, plain_matcher}
+use Rattle.promql_text.specs.Texts.{Text}
 
 -- the ids that compare with a text, and those that compare by a pattern
 abbrev pub is_text_id : ℕ → Bool
@@ -24,5 +24,5 @@ OperatorOf id value (matches w) = (id ≡ T_EQL_REGEX) × Allows value (built w)
 OperatorOf id value (matches_not w) = (id ≡ T_NEQ_REGEX) × Allows value (built w)
 
 -- a matcher of an id, a name and a value
-abbrev pub ConditionOf : ℕ → Text → Text → Condition → Type 0
-ConditionOf id name value (condition op n v) = OperatorOf id value op × (n ≡ name) × (v ≡ value)
+abbrev pub IsMatcherOf : ℕ → Text → Text → PlainMatcher → Type 0
+IsMatcherOf id name value (plain_matcher op n v) = OperatorOf id value op × (n ≡ name) × (v ≡ value)

@@ -2,7 +2,7 @@
 use Rattle.std.specs.Prelude.{◌≡◌, ℕ, ◌<◌, Bool, true, not, ◌==◌, ◌&&◌, ◌||◌, if◌then◌else◌, [], ◌∷◌, ◌++◌, length, drop, slice_index, codes}
 use Rattle.std.specs.Char.{is_ascii_digit}
 use Rattle.std.specs.List.{list_all, prefix_len}
-use Rattle.promql_label.specs.Texts.{Text}
+use Rattle.promql_text.specs.Texts.{Text}
 
 -- one or more digits
 pub record IsNumeral (n : Text) : Type 0 where

@@ -4,8 +4,7 @@ ghost use Rattle.std.specs.Prelude.{◌≡◌, ◌≢◌, ◌↔◌, ◌++◌, �
 ghost use Rattle.std.specs.List.{list_any};
 ghost use Rattle.promql_label.specs.Labels.{common, is_among, is_number_word, labels_of};
 
-use crate::joined::write_separator;
-use crate::quoted::Quoted;
+use promql_text::{Quoted, write_separator};
 use promql_token::is_label;
 use std::alloc::{AllocError, Global};
 use std::fmt;

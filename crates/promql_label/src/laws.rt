@@ -2,12 +2,12 @@
 
 ghost use Rattle.std.specs.Prelude.{◌≡◌, ◌≢◌, ◌↔◌, ◌<◌, [], List, IsTrue};
 ghost use Rattle.std.specs.List.{list_any, AllPairs, Contains};
-ghost use Rattle.promql_label.specs.Texts.{Text};
+ghost use Rattle.promql_text.specs.Texts.{Text};
 ghost use Rattle.promql_label.specs.Labels.{common, is_among, labels_of};
 ghost use Rattle.promql_label.specs.LabelLaws.{first_place};
 ghost use Rattle.promql_label.specs.Repeats.{opens_count, OpensCount};
-ghost use Rattle.promql_label.specs.Equalities.{HashesAlike, IsSameBy};
-ghost use Rattle.promql_label.specs.Views.{condition_of, conditions_of, operator_of};
+ghost use Rattle.promql_text.specs.Equalities.{HashesAlike, IsSameBy};
+ghost use Rattle.promql_label.specs.Views.{plain_matcher_of, plain_matchers_of, operator_of};
 
 use crate::labels::Labels;
 use crate::matcher::{MatchOp, Matcher};
@@ -61,11 +61,11 @@ pub fn equal_operators()
 
 /// Matchers are equal exactly if their operators, names and values are.
 pub fn equal_matchers()
-    ensures same { IsSameBy condition_of ⟦<Matcher as PartialEq>⟧.eq }
-    ensures hashed { HashesAlike condition_of ⟦<Matcher as Hash>⟧.hash_input }
+    ensures same { IsSameBy plain_matcher_of ⟦<Matcher as PartialEq>⟧.eq }
+    ensures hashed { HashesAlike plain_matcher_of ⟦<Matcher as Hash>⟧.hash_input }
 {}
 
 /// Lists of matchers are equal exactly if they have the same matchers beside the groups, and the same groups.
 pub fn equal_matcher_lists()
-    ensures { IsSameBy conditions_of ⟦<Matchers as PartialEq>⟧.eq }
+    ensures { IsSameBy plain_matchers_of ⟦<Matchers as PartialEq>⟧.eq }
 {}

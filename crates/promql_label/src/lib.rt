@@ -8,14 +8,13 @@ pub use matchers::Matchers;
 pub use pattern::{Pattern, PatternFault};
 pub use repeats::escape_repeats;
 
-pub mod joined;
 pub mod labels;
 pub mod laws;
 pub mod matcher;
 pub mod matchers;
 pub mod pattern;
-mod quoted;
 pub mod repeats;
+mod sorted;
 #[cfg(test)]
 mod tests;
 

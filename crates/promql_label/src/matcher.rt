@@ -1,14 +1,14 @@
 //! Matchers: docs/MATCHERS.md, "Matchers".
 
 ghost use Rattle.std.specs.Prelude.{◌≡◌, ◌↔◌, false, true, IfOk, IfErr, IsOk, IsErrOf, codes, string_bytes};
-ghost use Rattle.promql_label.specs.Conditions.{condition, equal, holds};
+ghost use Rattle.promql_label.specs.PlainMatchers.{plain_matcher, equal, holds, operator_text};
 ghost use Rattle.promql_label.specs.MatcherErrors.{IsFaultOf};
-ghost use Rattle.promql_label.specs.Operators.{ConditionOf, is_operator_id, is_text_id};
-ghost use Rattle.promql_label.specs.Views.{condition_of, operator_of};
+ghost use Rattle.promql_label.specs.Operators.{IsMatcherOf, is_operator_id, is_text_id};
+ghost use Rattle.promql_label.specs.Views.{plain_matcher_of, operator_of};
 
 use crate::METRIC_NAME;
 use crate::pattern::{Pattern, PatternFault};
-use crate::quoted::Quoted;
+use promql_text::Quoted;
 use promql_token::ids::{T_EQL, T_EQL_REGEX, T_NEQ, T_NEQ_REGEX};
 use promql_token::{TokenId, TokenType, is_label};
 use std::alloc::{AllocError, Global};
@@ -43,22 +43,29 @@ impl MatchOp {
             MatchOp::NotRe(pattern) => MatchOp::NotRe(pattern.try_clone(alloc)?),
         })
     }
+
+    /// The operator as it prints.
+    pub(crate) fn text(&self) -> &'static str
+        ensures { result.now ≡ operator_text (operator_of self.now) }
+    {
+        match self {
+            MatchOp::Equal => "=",
+            MatchOp::NotEqual => "!=",
+            MatchOp::Re(_) => "=~",
+            MatchOp::NotRe(_) => "!~",
+        }
+    }
 }
 
 impl fmt::Display for MatchOp {
     ghost use Rattle.std.specs.Prelude.{Some};
-    ghost use Rattle.promql_label.specs.Conditions.{operator_text};
+    ghost use Rattle.promql_label.specs.PlainMatchers.{operator_text};
     ghost use Rattle.promql_label.specs.Views.{operator_of};
 
     ghost output = { λ op. Some (operator_text (operator_of op)) };
 
     fn fmt<W: fmt::Write>(&self, f: &mut fmt::Formatter<W>) -> fmt::Result {
-        f.write_str(match self {
-            MatchOp::Equal => "=",
-            MatchOp::NotEqual => "!=",
-            MatchOp::Re(_) => "=~",
-            MatchOp::NotRe(_) => "!~",
-        })
+        f.write_str(self.text())
     }
 }
 
@@ -75,7 +82,7 @@ pub struct Matcher {
 impl Matcher {
     /// The matcher of an operator, a name and a value.
     pub fn new(alloc: Global, op: MatchOp, name: &str, value: &str) -> Result<Matcher, AllocError>
-        ensures { IfOk result (λ m. condition_of m ≡ condition (operator_of op) name.now value.now) }
+        ensures { IfOk result (λ m. plain_matcher_of m ≡ plain_matcher (operator_of op) name.now value.now) }
     {
         Ok(Matcher {
             op,
@@ -86,7 +93,7 @@ impl Matcher {
 
     /// Whether the matcher matches a text. Only want of memory can come in place of the answer.
     pub fn is_match(&self, alloc: Global, text: &str) -> Result<bool, AllocError>
-        ensures { IfOk result (λ b. b ≡ holds (condition_of self.now) text.now) }
+        ensures { IfOk result (λ b. b ≡ holds (plain_matcher_of self.now) text.now) }
     {
         match &self.op {
             MatchOp::Equal => Ok(self.value.as_str() == text),
@@ -109,7 +116,7 @@ impl Matcher {
         name: String,
         value: String,
     ) -> Result<Matcher, MatcherError>
-        ensures built { IfOk result (λ m. ConditionOf id (string_bytes name) (string_bytes value) (condition_of m)) }
+        ensures built { IfOk result (λ m. IsMatcherOf id (string_bytes name) (string_bytes value) (plain_matcher_of m)) }
         ensures text { is_text_id id ≡ true → IsOk result }
         ensures invalid { IsErrOf result (MatcherError.InvalidOp id) ↔ (is_operator_id id ≡ false) }
         ensures fault { IfErr result (IsFaultOf id (string_bytes value)) }
@@ -126,7 +133,7 @@ impl Matcher {
 
     /// The matcher that the metric's name is this one.
     pub fn new_metric_name_matcher(alloc: Global, name: String) -> Result<Matcher, AllocError>
-        ensures { IfOk result (λ m. condition_of m ≡ condition equal (codes "__name__") (string_bytes name)) }
+        ensures { IfOk result (λ m. plain_matcher_of m ≡ plain_matcher equal (codes "__name__") (string_bytes name)) }
     {
         Ok(Matcher {
             op: MatchOp::Equal,
@@ -137,7 +144,7 @@ impl Matcher {
 
     /// The same matcher.
     pub fn try_clone(&self, alloc: Global) -> Result<Matcher, AllocError>
-        ensures { IfOk result (λ m. condition_of m ≡ condition_of self.now) }
+        ensures { IfOk result (λ m. plain_matcher_of m ≡ plain_matcher_of self.now) }
     {
         Matcher::new(alloc, self.op.try_clone(alloc)?, &self.name, &self.value)
     }
@@ -145,10 +152,10 @@ impl Matcher {
 
 impl fmt::Display for Matcher {
     ghost use Rattle.std.specs.Prelude.{Some};
-    ghost use Rattle.promql_label.specs.Conditions.{condition_text};
-    ghost use Rattle.promql_label.specs.Views.{condition_of};
+    ghost use Rattle.promql_label.specs.PlainMatchers.{matcher_text};
+    ghost use Rattle.promql_label.specs.Views.{plain_matcher_of};
 
-    ghost output = { λ m. Some (condition_text (condition_of m)) };
+    ghost output = { λ m. Some (matcher_text (plain_matcher_of m)) };
 
     fn fmt<W: fmt::Write>(&self, f: &mut fmt::Formatter<W>) -> fmt::Result {
         let name = self.name.as_str();

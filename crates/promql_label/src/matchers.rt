@@ -1,13 +1,17 @@
 //! Lists of matchers: docs/MATCHERS.md, "Lists of matchers".
 
-ghost use Rattle.std.specs.Prelude.{◌≡◌, [], ◌∷◌, ◌++◌, IfOk, OnOk, filter, find, map, option_map};
+ghost use Rattle.std.specs.Prelude.{◌≡◌, [], ◌∷◌, ◌++◌, IfOk, OnOk, codes, filter, find, map, option_map};
+ghost use Rattle.std.specs.Fmt.{WritesOnOk};
 ghost use Rattle.std.specs.List.{list_all};
-ghost use Rattle.promql_label.specs.Conditions.{all_match_empty, appended, appended_or, conditions, found, found_value, holds, is_of, value_of};
-ghost use Rattle.promql_label.specs.Views.{condition_of, conditions_of};
+ghost use Rattle.promql_label.specs.PlainMatchers.{all_match_empty, appended, appended_or, plain_matchers, found, found_value, group_text, holds, is_of, value_of};
+ghost use Rattle.promql_label.specs.Views.{plain_matcher_of, plain_matchers_of};
+ghost use Rattle.promql_text.specs.Texts.{joined_text};
 
 use crate::matcher::Matcher;
+use crate::sorted::write_sorted;
+use promql_text::{write_joined, write_separator};
 use std::alloc::{AllocError, Global};
-use std::mem;
+use std::{fmt, mem};
 
 #[cfg(test)]
 mod tests;
@@ -24,14 +28,14 @@ pub struct Matchers {
 impl Matchers {
     /// No matchers and no groups.
     pub fn empty(alloc: Global) -> Matchers
-        ensures { conditions_of result ≡ conditions [] [] }
+        ensures { plain_matchers_of result ≡ plain_matchers [] [] }
     {
         Matchers::new(alloc, Vec::new(alloc))
     }
 
     /// One matcher, and no groups.
     pub fn one(alloc: Global, matcher: Matcher) -> Result<Matchers, AllocError>
-        ensures { IfOk result (λ m. conditions_of m ≡ conditions (condition_of matcher ∷ []) []) }
+        ensures { IfOk result (λ m. plain_matchers_of m ≡ plain_matchers (plain_matcher_of matcher ∷ []) []) }
     {
         let mut matchers = Vec::new(alloc);
         matchers.push(matcher)?;
@@ -40,7 +44,7 @@ impl Matchers {
 
     /// These matchers, and no groups.
     pub fn new(alloc: Global, matchers: Vec<Matcher>) -> Matchers
-        ensures { conditions_of result ≡ conditions (map condition_of matchers.items) [] }
+        ensures { plain_matchers_of result ≡ plain_matchers (map plain_matcher_of matchers.items) [] }
     {
         Matchers {
             matchers,
@@ -50,8 +54,8 @@ impl Matchers {
 
     /// The same matchers, with these groups.
     pub fn with_or_matchers(self, or_matchers: Vec<Vec<Matcher>>) -> Matchers
-        ensures { conditions_of result ≡ conditions (map condition_of self.matchers.items)
-            (map (λ g. map condition_of g.items) or_matchers.items) }
+        ensures { plain_matchers_of result ≡ plain_matchers (map plain_matcher_of self.matchers.items)
+            (map (λ g. map plain_matcher_of g.items) or_matchers.items) }
     {
         Matchers {
             matchers: self.matchers,
@@ -61,7 +65,7 @@ impl Matchers {
 
     /// The list with one more matcher: in the last group if there is one, else beside the groups.
     pub fn append(mut self, matcher: Matcher) -> Result<Matchers, AllocError>
-        ensures { IfOk result (λ m. conditions_of m ≡ appended (conditions_of self) (condition_of matcher)) }
+        ensures { IfOk result (λ m. plain_matchers_of m ≡ appended (plain_matchers_of self) (plain_matcher_of matcher)) }
     {
         match self.or_matchers.last_mut() {
             Some(group) => group.push(matcher)?,
@@ -72,7 +76,7 @@ impl Matchers {
 
     /// The list with one more group, which has this matcher alone. Matchers beside the groups become a group before it.
     pub fn append_or(mut self, matcher: Matcher) -> Result<Matchers, AllocError>
-        ensures { IfOk result (λ m. conditions_of m ≡ appended_or (conditions_of self) (condition_of matcher)) }
+        ensures { IfOk result (λ m. plain_matchers_of m ≡ appended_or (plain_matchers_of self) (plain_matcher_of matcher)) }
     {
         let alloc = *self.or_matchers.allocator();
         let mut group = Vec::new(alloc);
@@ -87,7 +91,7 @@ impl Matchers {
 
     /// Whether every matcher matches the empty text. Only want of memory can come in place of the answer.
     pub fn is_empty_matchers(&self, alloc: Global) -> Result<bool, AllocError>
-        ensures { IfOk result (λ b. b ≡ all_match_empty (conditions_of self.now)) }
+        ensures { IfOk result (λ b. b ≡ all_match_empty (plain_matchers_of self.now)) }
     {
         if !match_empty(alloc, &self.matchers)? {
             return Ok(false);
@@ -103,7 +107,7 @@ impl Matchers {
     /// The value of the first matcher of this name.
     #[tactic(auto, using(crate::proofs::Found::searching))]
     pub fn find_matcher_value(&self, name: &str) -> Option<&str>
-        ensures { option_map (λ v. v.now) result ≡ found_value (conditions_of self.now) name.now }
+        ensures { option_map (λ v. v.now) result ≡ found_value (plain_matchers_of self.now) name.now }
     {
         if let Some(value) = named_value(&self.matchers, name) {
             return Some(value);
@@ -118,7 +122,7 @@ impl Matchers {
 
     /// Copies of all matchers of this name: those beside the groups, then those in the groups, in order.
     pub fn find_matchers(&self, alloc: Global, name: &str) -> Result<Vec<Matcher>, AllocError>
-        ensures { IfOk result (λ v. map condition_of v.items ≡ found (conditions_of self.now) name.now) }
+        ensures { IfOk result (λ v. map plain_matcher_of v.items ≡ found (plain_matchers_of self.now) name.now) }
     {
         let mut matchers = Vec::new(alloc);
         copy_named(alloc, &self.matchers, name, &mut matchers)?;
@@ -130,7 +134,7 @@ impl Matchers {
 
     /// The same list.
     pub fn try_clone(&self, alloc: Global) -> Result<Matchers, AllocError>
-        ensures { IfOk result (λ m. conditions_of m ≡ conditions_of self.now) }
+        ensures { IfOk result (λ m. plain_matchers_of m ≡ plain_matchers_of self.now) }
     {
         let mut or_matchers = Vec::new(alloc);
         for group in &self.or_matchers {
@@ -143,9 +147,37 @@ impl Matchers {
     }
 }
 
+impl fmt::Display for Matchers {
+    ghost use Rattle.std.specs.Prelude.{Some};
+    ghost use Rattle.promql_label.specs.PlainMatchers.{matchers_text};
+
+    ghost output = { λ m. Some (matchers_text (plain_matchers_of m)) };
+
+    fn fmt<W: fmt::Write>(&self, f: &mut fmt::Formatter<W>) -> fmt::Result {
+        let groups = self.or_matchers.as_slice();
+        if groups.is_empty() {
+            write_sorted(&self.matchers, f)
+        } else {
+            write_groups(groups, f)
+        }
+    }
+}
+
+fn write_groups<W: fmt::Write>(groups: &[Vec<Matcher>], f: &mut fmt::Formatter<W>) -> fmt::Result
+    ensures { WritesOnOk W.write_str_gives f.old result
+        (joined_text (codes " or ") (map (λ g. group_text (map plain_matcher_of g.items)) groups.now))
+        f.new }
+{
+    for (i, group) in groups.iter().enumerate() {
+        write_separator(" or ", i, f)?;
+        write_joined(group, ", ", f)?;
+    }
+    Ok(())
+}
+
 /// Whether each matches the empty text.
 fn match_empty(alloc: Global, matchers: &[Matcher]) -> Result<bool, AllocError>
-    ensures { IfOk result (λ b. b ≡ list_all (λ c. holds c []) (map condition_of matchers.now)) }
+    ensures { IfOk result (λ b. b ≡ list_all (λ c. holds c []) (map plain_matcher_of matchers.now)) }
 {
     for matcher in matchers {
         if !matcher.is_match(alloc, "")? {
@@ -158,7 +190,7 @@ fn match_empty(alloc: Global, matchers: &[Matcher]) -> Result<bool, AllocError>
 /// The value of the first of this name.
 fn named_value<'a>(matchers: &'a [Matcher], name: &str) -> Option<&'a str>
     ensures { option_map (λ v. v.now) result
-        ≡ option_map value_of (find (is_of name.now) (map condition_of matchers.now)) }
+        ≡ option_map value_of (find (is_of name.now) (map plain_matcher_of matchers.now)) }
 {
     for matcher in matchers {
         if matcher.name.as_str() == name {
@@ -175,8 +207,8 @@ fn copy_named(
     name: &str,
     copies: &mut Vec<Matcher>,
 ) -> Result<(), AllocError>
-    ensures { OnOk result (map condition_of copies.new.items
-        ≡ map condition_of copies.old.items ++ filter (is_of name.now) (map condition_of matchers.now)) }
+    ensures { OnOk result (map plain_matcher_of copies.new.items
+        ≡ map plain_matcher_of copies.old.items ++ filter (is_of name.now) (map plain_matcher_of matchers.now)) }
 {
     for matcher in matchers {
         if matcher.name.as_str() == name {
@@ -188,7 +220,7 @@ fn copy_named(
 
 /// The same matchers.
 fn copied(alloc: Global, matchers: &[Matcher]) -> Result<Vec<Matcher>, AllocError>
-    ensures { IfOk result (λ v. map condition_of v.items ≡ map condition_of matchers.now) }
+    ensures { IfOk result (λ v. map plain_matcher_of v.items ≡ map plain_matcher_of matchers.now) }
 {
     let mut copies = Vec::new(alloc);
     for matcher in matchers {

@@ -5,7 +5,7 @@ use Rattle.std.proofs.lemmas.Bool.{cases_lt}
 use Rattle.std.proofs.lemmas.List.{length-map}
 use Rattle.promql_text.specs.declared.number.Number.{Number}
 use Rattle.promql_text.specs.declared.number.NumberFault.{NumberFault}
-use Rattle.promql_text.specs.NumberText.{num}
+use Rattle.promql_text.specs.NumberText.{read_number}
 use Rattle.promql_token.specs.declared.fault.LexFault.{LexFault}
 use Rattle.promql_parser.specs.declared.grammar.kind.Kind.TheVariants as kind
 use Rattle.promql_parser.specs.declared.grammar.part.Halt.{Halt}
@@ -14,7 +14,8 @@ use Rattle.promql_parser.specs.declared.parser.ParseError.{ParseError}
 use Rattle.promql_parser.specs.declared.parser.ParseError.TheVariants as errors
 use Rattle.promql_parser.specs.declared.tree.Expr.{Expr}
 use Rattle.promql_parser.specs.Results.{on_result, ◌then◌}
-use Rattle.promql_parser.specs.Lexing.{Text, Token, tokens}
+use Rattle.promql_text.specs.Texts.{Text}
+use Rattle.promql_parser.specs.Lexing.{Token, tokens}
 use Rattle.promql_parser.specs.Tree as tree
 use Rattle.promql_parser.specs.Tree.{tree_of, tree_height}
 use Rattle.promql_parser.specs.Symbols.{Symbol, symbol_of, sign, word}
@@ -64,7 +65,7 @@ binary_low m n id (Ok s) (Err e) left right = tt
 binary_low m n id (Err e) r left right = tt
 
 build_low : (d : Derivation) → IsLow (height d) (build d)
-build_low (number text) = number_low (num text)
+build_low (number text) = number_low (read_number text)
 build_low (name k text) = omega arith
 build_low (paren d) = paren_low (height d) (build d) (build_low d)
 build_low (binary op text l r) = binary_low (height l) (height r) op (build l) (build r) (build_low l) (build_low r)

@@ -6,7 +6,8 @@ use Rattle.promql_token.specs.declared.ids.TheConstants.{T_LAND, T_LOR, T_LUNLES
 use Rattle.promql_parser.specs.declared.grammar.kind.Kind.{Kind}
 use Rattle.promql_parser.specs.declared.grammar.kind.Kind.TheVariants as kind
 use Rattle.promql_parser.specs.declared.grammar.kind.TheConstants.{KINDS}
-use Rattle.promql_parser.specs.Lexing.{Text, Token}
+use Rattle.promql_text.specs.Texts.{Text}
+use Rattle.promql_parser.specs.Lexing.{Token}
 
 -- the kind of a token id, by a table in the order of the ids
 abbrev pub kind_in : List (ℕ × Kind) → ℕ → Kind

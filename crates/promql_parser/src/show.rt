@@ -2,7 +2,7 @@
 
 ghost use Rattle.std.specs.Prelude.{Some, ◌++◌, codes, string_bytes, unwrap_or, []};
 ghost use Rattle.std.specs.Option.{option_map};
-ghost use Rattle.promql_text.specs.NumberText.{numtext};
+ghost use Rattle.promql_text.specs.NumberText.{number_text};
 ghost use Rattle.promql_token.specs.Ids.{text_of};
 ghost use Rattle.promql_parser.specs.Tree.{tree_of};
 ghost use Rattle.promql_parser.specs.OneLine.{line};
@@ -12,7 +12,7 @@ use std::fmt;
 use std::fmt::Display;
 
 impl fmt::Display for NumberLiteral {
-    ghost output = { λ e. Some (numtext e.val) };
+    ghost output = { λ e. Some (number_text e.val) };
 
     fn fmt<W: fmt::Write>(&self, f: &mut fmt::Formatter<W>) -> fmt::Result {
         self.val.fmt(f)

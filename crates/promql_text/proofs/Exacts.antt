@@ -1,7 +1,7 @@
 -- Exact decimal numbers.
 use Rattle.std.proofs.Common.{◌≡◌, ◌≢◌, ◌==◌, ℕ, ◌-◌, ◌*◌, ◌/◌, ◌%◌, ◌^◌, ◌<◌, ◌≤◌, Bool, false, cond, refl, ap, ◌∙◌, sym, arith, lit<, lit≤}
 use Rattle.std.specs.Fmt.{digits}
-use Rattle.promql_text.specs.Numbers.{IsExact, exact_zero, digit_count, scaled, whole, tens}
+use Rattle.promql_text.specs.Numbers.{IsExact, exact_zero, digit_count, scaled, seconds_of, whole, tens}
 use Rattle.std.proofs.lemmas.Bool.{ne_eqb}
 use Rattle.promql_text.proofs.Counts.{count_within}
 use Rattle.promql_text.proofs.Tens.{below_product, zeros_below, Splits, splits}
@@ -48,3 +48,32 @@ whole_value neg a z n is some ends less =
     let test : (n == 0) ≡ false = ne_eqb n 0 (omega arith) in
     let e : scaled neg (n / 10 ^ tens 20 n) (tens 20 n) 0 ≡ scaled neg a z 0 = ap (λ d. scaled neg d (tens 20 n) 0) s.digits ∙ ap (λ k. scaled neg a k 0) s.zeros in
     sym (ap (λ b. cond b exact_zero (scaled neg (n / 10 ^ tens 20 n) (tens 20 n) 0)) test ∙ e ∙ scaled_whole neg a z)
+
+-- ---- seconds of nanoseconds
+
+pub seconds_is : (a z n : ℕ) → a * 10 ^ z ≡ n → 0 < a → a % 10 ≢ 0 → n < 2 ^ 64 * 1_000_000_000
+    → IsExact (record { is_negative = false; digits = a; zeros = z - 9; places = 9 - z })
+seconds_is a z n is some ends less =
+    let few : z < 29 = zeros_below a z n 29 is some (omega arith) in
+    let low : a < 10 ^ 29 = (let h = below_product a z in omega (arith, h, is)) in
+    let count : digit_count a ≤ 29 = count_within 29 a (omega arith) low (omega arith) in
+    record {
+      short = omega arith;
+      ends = λ e. absurd (ends e);
+      unsigned = λ e. refl;
+      no_zeros = λ e. absurd (omega arith);
+      no_places = λ e. absurd (omega arith);
+      one_side = λ e. omega arith;
+      below = omega arith;
+      above = omega arith;
+    }
+
+pub seconds_value : (a z n : ℕ) → a * 10 ^ z ≡ n → 0 < a → a % 10 ≢ 0 → n < 2 ^ 64 * 1_000_000_000
+    → record { is_negative = false; digits = a; zeros = z - 9; places = 9 - z } ≡ seconds_of n
+seconds_value a z n is some ends less =
+    let s : Splits 29 n a z = splits 29 n a z is ends (omega arith) in
+    let low : a ≤ n = (let h = below_product a z in omega (arith, h, is)) in
+    let test : (n == 0) ≡ false = ne_eqb n 0 (omega arith) in
+    let e : scaled false (n / 10 ^ tens 29 n) (tens 29 n) 9 ≡ scaled false a z 9
+    = ap (λ d. scaled false d (tens 29 n) 9) s.digits ∙ ap (λ k. scaled false a k 9) s.zeros in
+    sym (ap (λ b. cond b exact_zero (scaled false (n / 10 ^ tens 29 n) (tens 29 n) 9)) test ∙ e)

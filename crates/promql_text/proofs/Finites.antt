@@ -7,7 +7,8 @@ use Rattle.std.proofs.lemmas.Bool.{cases_lt, le-leb}
 use Rattle.std.proofs.lemmas.Bool.Decides.{nat_tests}
 use Rattle.std.proofs.lemmas.Int.Digits.{digits_value-lt}
 use Rattle.std.proofs.Math.Nat.{zero-div, zero-mul}
-use Rattle.promql_text.specs.DecimalForm.{Text, Numeral, digits_number}
+use Rattle.promql_text.specs.Texts.{Text}
+use Rattle.promql_text.specs.DecimalForm.{Numeral, digits_number}
 use Rattle.promql_text.specs.NumberText.{at_place, finite, zeros_of}
 use Rattle.promql_text.specs.Numbers.{placed, digit_count}
 use Rattle.promql_text.specs.Significands.{IsLong}

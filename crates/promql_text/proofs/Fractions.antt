@@ -8,7 +8,7 @@ use Rattle.std.proofs.lemmas.Bool.{cond_both, cond-false, eqb-true, ne_eqb}
 use Rattle.std.proofs.lemmas.Grind.{common_steps}
 use Rattle.std.proofs.lemmas.Fmt.{decimal_digit}
 use Rattle.std.proofs.Math.Nat.{pow-suc, div-lt_iff_lt-mul, div-add-mod}
-use Rattle.promql_text.specs.DecimalForm.{Text}
+use Rattle.promql_text.specs.Texts.{Text}
 use Rattle.promql_text.specs.DurationText.{fraction_text}
 use Rattle.promql_text.proofs.Rounding.{ten_positive, ten_split, digits_after}
 

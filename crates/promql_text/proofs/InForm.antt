@@ -8,9 +8,10 @@ use Rattle.std.specs.Str.Parse.{AllDigits, digits_value}
 use Rattle.std.proofs.Math.Nat.{zero-div, div-div-eq-div-mul, mul-div_left, div-one, pow-succ', pow-suc}
 use Rattle.std.proofs.lemmas.Bool.{cases_lt, eqb-false}
 use Rattle.std.proofs.lemmas.Bool.Decides.{nat_tests}
-use Rattle.promql_text.specs.DecimalForm.{Text, front, digit_run, past_run, past_point, unsigned, is_word, is_minus, is_exponent, ends_well, Numeral, numeral, Reading, reading, NotANumber, Infinite, Signed, decimal_form, digits_number, exponent_size, places}
+use Rattle.promql_text.specs.Texts.{Text}
+use Rattle.promql_text.specs.DecimalForm.{front, digit_run, past_run, past_point, unsigned, is_word, is_minus, is_exponent, ends_well, Numeral, numeral, Reading, reading, NotANumber, Infinite, Signed, decimal_form, digits_number, exponent_size, places}
 use Rattle.promql_text.specs.DecimalForm as form
-use Rattle.promql_text.specs.NumberText.{at_place, finite, hexadecimal, is_digit_below, is_octal, is_x, kept, num, number_of, of_form, radix_number, signed, zeros_of}
+use Rattle.promql_text.specs.NumberText.{at_place, finite, hexadecimal, is_digit_below, is_octal, is_x, kept, read_number, number_of, of_form, radix_number, signed, zeros_of}
 use Rattle.promql_text.specs.Numbers.{Exact, IsExact, digit_count, exact_zero, is_in_range, placed, scaled, tens, whole}
 use Rattle.promql_text.specs.Values.{IsNumber}
 use Rattle.promql_text.specs.declared.number.Number.{Number}
@@ -238,7 +239,7 @@ number_form s =
     (λ _. radix_form 8 (is_minus s) (drop 1 (unsigned s)))
     (λ _. of_form_form (decimal_form s) (decimal_form_form s)))
 
-pub read_in_form : (s : Text) (v : Number) → num s ≡ Ok v → IsNumber v
+pub read_in_form : (s : Text) (v : Number) → read_number s ≡ Ok v → IsNumber v
 read_in_form s v is =
     let P : Result Number NumberFault → Type 0 = λ r. InForm r in
     subst P is (number_form (kept s))

@@ -1,10 +1,12 @@
 pub mod Counts
 pub mod DigitsRead
+pub mod Escapes
 pub mod Exacts
 pub mod Examples
 pub mod Finites
 pub mod Fractions
 pub mod InForm
+pub mod Joins
 pub mod Kept
 pub mod OneForm
 pub mod Parts
@@ -24,3 +26,4 @@ pub mod Spellings
 pub mod Tens
 pub mod TextForms
 pub mod TextsRead
+pub mod Writing

@@ -8,7 +8,7 @@ use Rattle.std.specs.Str.Parse.{AllDigits}
 use Rattle.std.proofs.lemmas.Bool.Decides.{nat_tests}
 use Rattle.std.proofs.lemmas.Str.{chars-IsAscii}
 use Rattle.std.proofs.lemmas.Str.Parse.{digit_from_value}
-use Rattle.promql_text.specs.DecimalForm.{Text}
+use Rattle.promql_text.specs.Texts.{Text}
 use Rattle.promql_text.specs.NumberText.{kept, is_x, is_past_octal}
 use Rattle.promql_text.proofs.TextForms.{with_sign}
 

@@ -5,7 +5,8 @@ use Rattle.std.specs.Str.Parse.{digits_value, AllDigits}
 use Rattle.std.proofs.lemmas.Bool.{cond-true, cond-false, cases_lt, cases_Bool, le-leb}
 use Rattle.std.proofs.lemmas.Int.Digits.{digits_value-lt}
 use Rattle.std.proofs.lemmas.Nat.{mul-le, pow-add}
-use Rattle.promql_text.specs.DecimalForm.{Text, Numeral, digits_number, places, exponent_size}
+use Rattle.promql_text.specs.Texts.{Text}
+use Rattle.promql_text.specs.DecimalForm.{Numeral, digits_number, places, exponent_size}
 use Rattle.promql_text.specs.Durations.{capped, second_nanos}
 use Rattle.promql_text.specs.Rounding.{at_point, PlacesPoint}
 use Rattle.promql_text.proofs.Rounding.{nearest_none, nearest-at_point, ten_positive, ten_split, capped_zeros}

@@ -8,7 +8,8 @@ use Rattle.std.proofs.lemmas.Bool.{cond-true, cond-false, cases_eq, eq-eqb, ne_e
 use Rattle.std.proofs.lemmas.Grind.{common_steps}
 use Rattle.std.proofs.lemmas.Str.{encode_ascii}
 use Rattle.std.proofs.Math.Seq.{drop-append_seam}
-use Rattle.promql_text.specs.Quoting.{Text, is_quote, letter, number, hexadecimal, escape, inside, unquoted}
+use Rattle.promql_text.specs.Texts.{Text}
+use Rattle.promql_text.specs.Quoting.{is_quote, letter, number, hexadecimal, escape, inside, unquoted_text}
 use Rattle.promql_text.specs.Spellings.{Spelling, Itself, OwnQuote, Letter, Octal, Hexadecimal, text_of, digits_behind, Spells, spelled_text, AllSpell, IsQuotedText}
 use Rattle.promql_text.proofs.Quotes.{escape-own, escape-x, escape-u, escape-U, escape-octal, escape-letter}
 use Rattle.promql_text.proofs.Spellings.{reads_between_backticks, reads_itself, reads_escape}
@@ -141,6 +142,6 @@ all_read quote (p ∷ ps) (c ∷ cs) is spell =
     ∙ spelling_reads quote p c r is spell.0
     ∙ ap (option_map (λ more. encode_utf8 c ++ more)) (all_read quote ps cs is spell.1)
 
-pub quoted_text_is_read : (s : Text) (cs : List ℕ) → IsQuotedText s cs → unquoted s ≡ Some (encode_utf8_all cs)
-unfolding unquoted
-quoted_text_is_read s cs q = ap unquoted q.text ∙ cond-true (is_quote q.quote) _ _ q.is_quote ∙ all_read q.quote q.spellings cs q.is_quote q.spell
+pub quoted_text_is_read : (s : Text) (cs : List ℕ) → IsQuotedText s cs → unquoted_text s ≡ Some (encode_utf8_all cs)
+unfolding unquoted_text
+quoted_text_is_read s cs q = ap unquoted_text q.text ∙ cond-true (is_quote q.quote) _ _ q.is_quote ∙ all_read q.quote q.spellings cs q.is_quote q.spell

@@ -9,7 +9,8 @@ use Rattle.std.proofs.lemmas.Str.{encode_ascii, inside_one, length-encode, len_u
 use Rattle.std.proofs.lemmas.Nat.{mul-le}
 use Rattle.std.proofs.Math.Nat.{pow-suc, one-le-pow}
 use Rattle.std.proofs.str.Laws.{order}
-use Rattle.promql_text.specs.Quoting.{Text, escaped_byte, escaped, quoted, is_quote, letter, number, hexadecimal, octal, escape, inside, unquoted}
+use Rattle.promql_text.specs.Texts.{Text}
+use Rattle.promql_text.specs.Quoting.{escaped_byte, escaped_text, quoted_text, is_quote, letter, number, hexadecimal, octal, escape, inside, unquoted_text}
 
 -- ---- unquoting what was escaped
 
@@ -24,13 +25,13 @@ two x b z s is low reads =
     ∙ ap (λ e. option_map (λ more. e ++ more) (inside 34 0 z)) (encode_ascii b low)
     ∙ ap (option_map (λ more. b ∷ more)) reads
 
-escaped_reads : (s : Text) → Reads (escaped s ++ 34 ∷ []) s
+escaped_reads : (s : Text) → Reads (escaped_text s ++ 34 ∷ []) s
 unfolding Reads escape
 escaped_reads [] = refl
 escaped_reads (b ∷ s) =
-    let z : Text = escaped s ++ 34 ∷ [] in
+    let z : Text = escaped_text s ++ 34 ∷ [] in
     let rest = escaped_reads s in
-    let P : Text → Type 0 = λ e. Reads ((e ++ escaped s) ++ 34 ∷ []) (b ∷ s) in
+    let P : Text → Type 0 = λ e. Reads ((e ++ escaped_text s) ++ 34 ∷ []) (b ∷ s) in
     cond_both (b == 92) _ _ P (λ e. subst (λ k. Reads (92 ∷ 92 ∷ z) (k ∷ s)) (sym (eqb-true b 92 e)) (two 92 92 z s refl (lit< tt) rest)) (λ slash.
     cond_both (b == 34) _ _ P (λ e. subst (λ k. Reads (92 ∷ 34 ∷ z) (k ∷ s)) (sym (eqb-true b 34 e)) (two 34 34 z s refl (lit< tt) rest)) (λ quote.
     cond_both (b == 10) _ _ P (λ e. subst (λ k. Reads (92 ∷ 110 ∷ z) (k ∷ s)) (sym (eqb-true b 10 e)) (two 110 10 z s refl (lit< tt) rest)) (λ feed.
@@ -38,9 +39,9 @@ escaped_reads (b ∷ s) =
     cond_both (b == 9) _ _ P (λ e. subst (λ k. Reads (92 ∷ 116 ∷ z) (k ∷ s)) (sym (eqb-true b 9 e)) (two 116 9 z s refl (lit< tt) rest)) (λ _.
     rw (quote, feed, slash) (ap (option_map (λ more. b ∷ more)) rest))))))
 
-pub unquoted-quoted : (s : Text) → unquoted (quoted s) ≡ Some s
-unfolding unquoted Reads
-unquoted-quoted s = escaped_reads s
+pub unquoted_text-quoted : (s : Text) → unquoted_text (quoted_text s) ≡ Some s
+unfolding unquoted_text Reads
+unquoted_text-quoted s = escaped_reads s
 
 -- ---- characters of more than one byte
 
@@ -55,18 +56,18 @@ bytes_high c h k lt =
     (λ high. high)
     (order (get_or (encode_utf8 c) k 0) 128)
 
-escaped_high : (h r : Text) → ((k : ℕ) → k < length h → 128 ≤ get_or h k 0) → escaped (h ++ r) ≡ h ++ escaped r
+escaped_high : (h r : Text) → ((k : ℕ) → k < length h → 128 ≤ get_or h k 0) → escaped_text (h ++ r) ≡ h ++ escaped_text r
 escaped_high [] r high = refl
-escaped_high (b ∷ h) r high = ap (λ e. e ++ escaped (h ++ r)) (plain b (high 0 (omega arith))) ∙ ap (λ t. b ∷ t) (escaped_high h r (λ k lt. high (suc k) (omega arith)))
+escaped_high (b ∷ h) r high = ap (λ e. e ++ escaped_text (h ++ r)) (plain b (high 0 (omega arith))) ∙ ap (λ t. b ∷ t) (escaped_high h r (λ k lt. high (suc k) (omega arith)))
   where
     plain : (b : ℕ) → 128 ≤ b → escaped_byte b ≡ b ∷ []
     plain b h = grind (arith, common_steps)
 
 -- a character that isn't escaped stays in front
-pub escaped_plain : (c : ℕ) (r : Text) → (c < 128 → escaped_byte c ≡ c ∷ []) → escaped (encode_utf8 c ++ r) ≡ encode_utf8 c ++ escaped r
+pub escaped_plain : (c : ℕ) (r : Text) → (c < 128 → escaped_byte c ≡ c ∷ []) → escaped_text (encode_utf8 c ++ r) ≡ encode_utf8 c ++ escaped_text r
 escaped_plain c r plain =
     ⊎_elim
-    (λ (low : c < 128). ap (λ e. escaped (e ++ r)) (encode_ascii c low) ∙ ap (λ e. e ++ escaped r) (plain low) ∙ ap (λ e. e ++ escaped r) (sym (encode_ascii c low)))
+    (λ (low : c < 128). ap (λ e. escaped_text (e ++ r)) (encode_ascii c low) ∙ ap (λ e. e ++ escaped_text r) (plain low) ∙ ap (λ e. e ++ escaped_text r) (sym (encode_ascii c low)))
     (λ high. escaped_high (encode_utf8 c) r (bytes_high c high))
     (order c 128)
 
@@ -131,34 +132,34 @@ room_now v b d n digit fits =
 
 -- ---- the quote at the front
 
-pub unquoted-none : (z : Text) → length z ≡ 0 → unquoted z ≡ None
-unfolding unquoted
-unquoted-none [] e = refl
-unquoted-none (b ∷ z) e = absurd (omega arith)
+pub unquoted_text-none : (z : Text) → length z ≡ 0 → unquoted_text z ≡ None
+unfolding unquoted_text
+unquoted_text-none [] e = refl
+unquoted_text-none (b ∷ z) e = absurd (omega arith)
 
 pub quote_low : (c : ℕ) → is_quote c ≡ true → c < 128
 quote_low c h = grind (arith, common_steps)
 
-pub unquoted-quote : (c : ℕ) (z r : Text) → z ≡ encode_utf8 c ++ r → is_quote c ≡ true → unquoted z ≡ inside c 0 r
-unfolding unquoted
-unquoted-quote c z r front is =
-    ap unquoted (front ∙ ap (λ e. e ++ r) (encode_ascii c (quote_low c is)))
+pub unquoted_text-quote : (c : ℕ) (z r : Text) → z ≡ encode_utf8 c ++ r → is_quote c ≡ true → unquoted_text z ≡ inside c 0 r
+unfolding unquoted_text
+unquoted_text-quote c z r front is =
+    ap unquoted_text (front ∙ ap (λ e. e ++ r) (encode_ascii c (quote_low c is)))
     ∙ cond-true (is_quote c) (inside c 0 r) None is
 
 high_no_quote : (b : ℕ) → 128 ≤ b → is_quote b ≡ false
 high_no_quote b h = grind (arith, common_steps)
 
-unquoted_high : (h r : Text) → 0 < length h → 128 ≤ get_or h 0 0 → unquoted (h ++ r) ≡ None
-unfolding unquoted
+unquoted_high : (h r : Text) → 0 < length h → 128 ≤ get_or h 0 0 → unquoted_text (h ++ r) ≡ None
+unfolding unquoted_text
 unquoted_high [] r some high = absurd (omega arith)
 unquoted_high (b ∷ h) r some high = cond-false (is_quote b) (inside b 0 (h ++ r)) None (high_no_quote b high)
 
-pub unquoted-other : (c : ℕ) (z r : Text) → z ≡ encode_utf8 c ++ r → is_quote c ≡ false → unquoted z ≡ None
-unfolding unquoted
-unquoted-other c z r front is =
-    ap unquoted front
+pub unquoted_text-other : (c : ℕ) (z r : Text) → z ≡ encode_utf8 c ++ r → is_quote c ≡ false → unquoted_text z ≡ None
+unfolding unquoted_text
+unquoted_text-other c z r front is =
+    ap unquoted_text front
     ∙ ⊎_elim
-    (λ (low : c < 128). ap (λ e. unquoted (e ++ r)) (encode_ascii c low) ∙ cond-false (is_quote c) (inside c 0 r) None is)
+    (λ (low : c < 128). ap (λ e. unquoted_text (e ++ r)) (encode_ascii c low) ∙ cond-false (is_quote c) (inside c 0 r) None is)
     (λ high. unquoted_high (encode_utf8 c) r (first_high c high).0 (first_high c high).1)
     (order c 128)
 

@@ -13,9 +13,10 @@ use Rattle.std.proofs.Math.Nat.{pow-suc, zero-mul, div-le_self, mod-le}
 use Rattle.std.proofs.lemmas.Bool.{cases_lt, eq-eqb, ne_eqb}
 use Rattle.std.proofs.lemmas.List.{length-replicate}
 use Rattle.std.proofs.lemmas.Nat.{div-add-mod'}
-use Rattle.promql_text.specs.DecimalForm.{Text, front, digit_run, past_run, past_point, unsigned, is_word, is_minus, Numeral, numeral, Reading, reading, NotANumber, Infinite, Signed, decimal_form}
+use Rattle.promql_text.specs.Texts.{Text}
+use Rattle.promql_text.specs.DecimalForm.{front, digit_run, past_run, past_point, unsigned, is_word, is_minus, Numeral, numeral, Reading, reading, NotANumber, Infinite, Signed, decimal_form}
 use Rattle.promql_text.specs.DecimalForm as form
-use Rattle.promql_text.specs.NumberText.{is_x, is_octal, is_past_octal, num, number_of, finite, of_form, hexadecimal, radix_number, numtext}
+use Rattle.promql_text.specs.NumberText.{is_x, is_octal, is_past_octal, read_number, number_of, finite, of_form, hexadecimal, radix_number, number_text}
 use Rattle.promql_text.specs.NumberDigits.{padded}
 use Rattle.promql_text.specs.Numbers.{Exact, IsExact, exact_zero, placed, scaled, is_in_range, digit_count}
 use Rattle.promql_text.specs.Values.{IsNumber}
@@ -63,7 +64,7 @@ number_at t no_x decimal_text =
     let octal : Result Number NumberFault = radix_number 8 (is_minus t) (drop 1 (unsigned t)) in
     ap (λ b. cond b (hexadecimal t) (cond (is_octal t) octal last)) no_x ∙ ap (λ b. cond b octal last) decimal_text
 
-pub number_signed : (b : Bool) (t : Text) (n : Numeral) → is_ascii_digit (front t) ≡ true → AllPlain t → is_octal (with_sign b t) ≡ false → reading t ≡ Some (form.Finite n) → num (with_sign b t) ≡ finite b n
+pub number_signed : (b : Bool) (t : Text) (n : Numeral) → is_ascii_digit (front t) ≡ true → AllPlain t → is_octal (with_sign b t) ≡ false → reading t ≡ Some (form.Finite n) → read_number (with_sign b t) ≡ finite b n
 number_signed b t n digit plain decimal_text is =
     let all : AllPlain (with_sign b t) = plain_signed b t plain in
     ap number_of (kept_plain (with_sign b t) all)
@@ -145,7 +146,7 @@ not_octal_point b xs ys =
     ap (λ x. (front (unsigned s) == 48) && (not (length (drop 1 (unsigned s)) == 0) && not x)) (point_signed b xs ys)
     ∙ false_both (front (unsigned s) == 48) (not (length (drop 1 (unsigned s)) == 0))
 
-whole_text : (d : Exact) → IsExact d → 0 < d.digits → d.places ≡ 0 → num (with_sign d.is_negative (decimal d.digits ++ replicate d.zeros 48)) ≡ Ok (number.Finite d)
+whole_text : (d : Exact) → IsExact d → 0 < d.digits → d.places ≡ 0 → read_number (with_sign d.is_negative (decimal d.digits ++ replicate d.zeros 48)) ≡ Ok (number.Finite d)
 whole_text d e some no_places =
     let own = decimal_digits d.digits e.short in
     let t : Text = decimal d.digits ++ replicate d.zeros 48 in
@@ -182,7 +183,7 @@ point_value c k q r short few room is =
     ∙ ap (λ l. q * 10 ^ l + digits_value 10 (padded k r)) (padded_length k r room)
     ∙ ap (λ v. q * 10 ^ k + v) (padded_value k r few) ∙ is
 
-point_text : (d : Exact) → IsExact d → 0 < d.places → num (with_sign d.is_negative (decimal (d.digits / 10 ^ d.places) ++ (46 ∷ padded d.places (d.digits % 10 ^ d.places)))) ≡ Ok (number.Finite d)
+point_text : (d : Exact) → IsExact d → 0 < d.places → read_number (with_sign d.is_negative (decimal (d.digits / 10 ^ d.places) ++ (46 ∷ padded d.places (d.digits % 10 ^ d.places)))) ≡ Ok (number.Finite d)
 point_text d e some =
     let q : ℕ = d.digits / 10 ^ d.places in
     let r : ℕ = d.digits % 10 ^ d.places in
@@ -199,39 +200,39 @@ point_text d e some =
     number_signed d.is_negative (decimal q ++ (46 ∷ f)) (plain_numeral (decimal q) f) first plain (not_octal_point d.is_negative (decimal q) f) (reading_point (decimal q) f own.0 own.1 more)
     ∙ finite_is d (decimal q) f e own.1 more value (padded_length d.places r room)
 
-zero_text : num (numtext (number.Finite exact_zero)) ≡ Ok (number.Finite exact_zero)
+zero_text : read_number (number_text (number.Finite exact_zero)) ≡ Ok (number.Finite exact_zero)
 unfolding chars number_of decimal_form reading numeral finite digits
 zero_text = refl
 
-infinity_text : num (numtext number.Inf) ≡ Ok number.Inf
+infinity_text : read_number (number_text number.Inf) ≡ Ok number.Inf
 unfolding chars number_of decimal_form reading
 infinity_text = refl
 
-minus_text : num (numtext number.NegInf) ≡ Ok number.NegInf
+minus_text : read_number (number_text number.NegInf) ≡ Ok number.NegInf
 unfolding chars number_of decimal_form reading
 minus_text = refl
 
-nan_text : num (numtext number.NaN) ≡ Ok number.NaN
+nan_text : read_number (number_text number.NaN) ≡ Ok number.NaN
 unfolding chars number_of decimal_form reading
 nan_text = refl
 
-finite_text : (d : Exact) → IsExact d → num (numtext (number.Finite d)) ≡ Ok (number.Finite d)
+finite_text : (d : Exact) → IsExact d → read_number (number_text (number.Finite d)) ≡ Ok (number.Finite d)
 finite_text d e =
     let whole : Text = decimal d.digits ++ replicate d.zeros 48 in
     let point : Text = decimal (d.digits / 10 ^ d.places) ++ (46 ∷ padded d.places (d.digits % 10 ^ d.places)) in
     ⊎_elim
-    (λ some. ap (λ b. num (with_sign d.is_negative (cond b whole point))) (ne_eqb d.places 0 (omega arith)) ∙ point_text d e some)
+    (λ some. ap (λ b. read_number (with_sign d.is_negative (cond b whole point))) (ne_eqb d.places 0 (omega arith)) ∙ point_text d e some)
     (λ low.
     let no_places : d.places ≡ 0 = omega arith in
     ⊎_elim
-    (λ some. ap (λ b. num (with_sign d.is_negative (cond b whole point))) (eq-eqb d.places 0 no_places) ∙ whole_text d e some no_places)
+    (λ some. ap (λ b. read_number (with_sign d.is_negative (cond b whole point))) (eq-eqb d.places 0 no_places) ∙ whole_text d e some no_places)
     (λ none.
-    let P : Exact → Type 0 = λ x. num (numtext (number.Finite x)) ≡ Ok (number.Finite x) in
+    let P : Exact → Type 0 = λ x. read_number (number_text (number.Finite x)) ≡ Ok (number.Finite x) in
     subst P (zero_is d e (omega arith)) zero_text)
     (cases_lt 0 d.digits))
     (cases_lt 0 d.places)
 
-pub reads_back : (v : Number) → IsNumber v → num (numtext v) ≡ Ok v
+pub reads_back : (v : Number) → IsNumber v → read_number (number_text v) ≡ Ok v
 reads_back (number.Finite d) is = finite_text d is
 reads_back number.Inf is = infinity_text
 reads_back number.NegInf is = minus_text

@@ -6,7 +6,7 @@ use Rattle.std.specs.Str.Parse.{digits_value, digits_value_after}
 use Rattle.std.proofs.lemmas.Bool.{cond-true, cond-false, cases_lt, cases_order, lt-ltb, le-ltb, eq-eqb, ne_eqb, le-leb, lt-leb}
 use Rattle.std.proofs.lemmas.Nat.{mul-le, div-mul-add, mod-mul-add, pow-add}
 use Rattle.std.proofs.Math.Nat.{pow-suc, one-le-pow, div-add-mod}
-use Rattle.promql_text.specs.DecimalForm.{Text}
+use Rattle.promql_text.specs.Texts.{Text}
 use Rattle.promql_text.specs.Durations.{capped, rounded, nearest}
 use Rattle.promql_text.specs.Rounding.{at_point}
 

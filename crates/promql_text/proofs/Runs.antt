@@ -5,7 +5,8 @@ use Rattle.std.specs.List.{prefix_len}
 use Rattle.std.specs.Str.Parse.{AllDigits}
 use Rattle.std.proofs.lemmas.Bool.Decides.{nat_tests}
 use Rattle.std.proofs.lemmas.Str.Parse.{digit_from_value}
-use Rattle.promql_text.specs.DecimalForm.{Text, front, past_run, digit_run}
+use Rattle.promql_text.specs.Texts.{Text}
+use Rattle.promql_text.specs.DecimalForm.{front, past_run, digit_run}
 
 one_more : (n : ℕ) → 1 + n ≡ suc n
 one_more n = grind arith

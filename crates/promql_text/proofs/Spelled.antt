@@ -5,7 +5,8 @@ use Rattle.std.specs.Char.{is_ascii_digit}
 use Rattle.std.specs.List.{prefix_len}
 use Rattle.std.specs.Str.Parse.{AllDigits}
 use Rattle.std.proofs.lemmas.Bool.{eq-eqb, eqb-true, ne_eqb}
-use Rattle.promql_text.specs.DecimalForm.{Text, front, digit_run, past_run, past_point, unsigned, is_minus, is_exponent, ends_well, Numeral, numeral}
+use Rattle.promql_text.specs.Texts.{Text}
+use Rattle.promql_text.specs.DecimalForm.{front, digit_run, past_run, past_point, unsigned, is_minus, is_exponent, ends_well, Numeral, numeral}
 use Rattle.promql_text.specs.Spelling.{IsSign, IsPoint, HasNoExponent, HasExponent, Spells, NumeralsAreSpelled}
 use Rattle.promql_text.proofs.Runs.{run_digits, past_run_digit, past_run_other, digit_run_digit, digit_run_other, run_append, past_append, run_all, past_all, front_digit}
 use Rattle.promql_text.proofs.TextForms.{digit_no_sign, digit_no_minus}

@@ -7,7 +7,8 @@ use Rattle.std.specs.Char.{digit_value}
 use Rattle.std.specs.Str.Parse.{digits_value_after, AllDigits}
 use Rattle.promql_text.specs.Numbers.{tens}
 use Rattle.promql_text.specs.Significands.{IsLong}
-use Rattle.promql_text.specs.DecimalForm.{Text, digit_run}
+use Rattle.promql_text.specs.Texts.{Text}
+use Rattle.promql_text.specs.DecimalForm.{digit_run}
 use Rattle.promql_text.proofs.Runs.{run_digits}
 
 -- one more zero

@@ -5,7 +5,8 @@ use Rattle.std.specs.Char.{is_ascii_digit, to_ascii_lowercase}
 use Rattle.std.specs.Str.{bytes_eq, str_to_ascii_lowercase}
 use Rattle.std.specs.Str.Parse.{AllDigits}
 use Rattle.std.proofs.lemmas.Bool.Decides.{nat_tests}
-use Rattle.promql_text.specs.DecimalForm.{Text, front, digit_run, past_run, past_point, unsigned, is_minus, is_word, ends_well, Numeral, numeral, Reading, reading, NotANumber, Infinite, Finite, Signed, decimal_form}
+use Rattle.promql_text.specs.Texts.{Text}
+use Rattle.promql_text.specs.DecimalForm.{front, digit_run, past_run, past_point, unsigned, is_minus, is_word, ends_well, Numeral, numeral, Reading, reading, NotANumber, Infinite, Finite, Signed, decimal_form}
 use Rattle.promql_text.proofs.Runs.{run_append, past_append, run_all, past_all, past_stops, front_digit}
 
 -- ---- a sign in front

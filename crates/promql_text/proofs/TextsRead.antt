@@ -9,7 +9,8 @@ use Rattle.std.proofs.lemmas.Grind.{common_steps}
 use Rattle.std.proofs.lemmas.Str.{encode_ascii, length-encode, len_utf8_bounds, IsUtf8-past_char}
 use Rattle.std.proofs.Math.Seq.{drop-append_seam}
 use lib.Utf8.{scalar, scalars}
-use Rattle.promql_text.specs.Quoting.{Text, is_quote, letter, number, hexadecimal, octal, escape, inside, unquoted}
+use Rattle.promql_text.specs.Texts.{Text}
+use Rattle.promql_text.specs.Quoting.{is_quote, letter, number, hexadecimal, octal, escape, inside, unquoted_text}
 use Rattle.promql_text.specs.Spellings.{Spelling, Itself, OwnQuote, Letter, Octal, Hexadecimal, text_of, digits_behind, Spells, spelled_text, AllSpell, IsQuotedText}
 use Rattle.promql_text.proofs.Quotes.{escape-own, escape-x, escape-u, escape-U, escape-octal, escape-letter}
 use Rattle.promql_text.proofs.QuotedTexts.{slash_no_quote}
@@ -318,8 +319,8 @@ all_found quote zero is z t utf8 short reads = absurd (none_some (ap (inside quo
     empty (b ∷ z) e = absurd (omega arith)
 all_found quote (suc k) is z t utf8 short reads = by_chars quote k utf8.0 z t (all_found quote k is) is utf8.1.0 utf8.1.1 short reads
 
-pub text_is_quoted : (s t : Text) → IsUtf8 s → unquoted s ≡ Some t → (cs : List ℕ) × IsQuotedText s cs × (encode_utf8_all cs ≡ t)
-unfolding unquoted Reads
+pub text_is_quoted : (s t : Text) → IsUtf8 s → unquoted_text s ≡ Some t → (cs : List ℕ) × IsQuotedText s cs × (encode_utf8_all cs ≡ t)
+unfolding unquoted_text Reads
 text_is_quoted [] t utf8 reads = absurd (none_some reads)
 text_is_quoted (b ∷ z) t utf8 reads =
     ⊎_elim

@@ -1,12 +1,10 @@
 -- The decimal form of a text (docs/TEXTS.md, "The decimal form"). A text is a list of codes: bytes or characters.
-use Rattle.std.specs.Prelude.{ℕ, Bool, ◌&&◌, ◌||◌, if◌then◌else◌, ◌==◌, List, ◌++◌, length, take, drop, slice_index, codes, Option, Some, None, option_map}
+use Rattle.std.specs.Prelude.{ℕ, Bool, ◌&&◌, ◌||◌, if◌then◌else◌, ◌==◌, ◌++◌, length, take, drop, slice_index, codes, Option, Some, None, option_map}
 use Rattle.std.specs.Char.{is_ascii_digit}
 use Rattle.std.specs.List.{prefix_len}
 use Rattle.std.specs.Str.{bytes_eq, str_to_ascii_lowercase}
 use Rattle.std.specs.Str.Parse.{digits_value}
-
-abbrev pub Text : Type 0
-Text = List ℕ
+use Rattle.promql_text.specs.Texts.{Text}
 
 -- the first code, or 0 where there is none
 abbrev pub front : Text → ℕ

@@ -1,7 +1,7 @@
 -- The text of a duration: docs/TEXTS.md, "The text of a duration".
 use Rattle.std.specs.Prelude.{ℕ, zero, suc, ◌+◌, ◌/◌, ◌%◌, ◌^◌, if◌then◌else◌, ◌==◌, List, [], ◌∷◌, ◌++◌, codes}
 use Rattle.std.specs.Fmt.{decimal}
-use Rattle.promql_text.specs.DecimalForm.{Text}
+use Rattle.promql_text.specs.Texts.{Text}
 use Rattle.promql_text.specs.Durations.{nanos_of, word_of}
 use Rattle.promql_text.specs.declared.duration.Unit.{Unit}
 use Rattle.promql_text.specs.declared.duration.Unit.TheVariants.{Year, Week, Day, Hour, Minute, Second, Milli}

@@ -1,7 +1,7 @@
 -- The text of a finite number (docs/TEXTS.md, "Numbers").
 use Rattle.std.specs.Prelude.{ℕ, ◌-◌, ◌/◌, ◌%◌, ◌^◌, if◌then◌else◌, ◌==◌, [], ◌∷◌, ◌++◌, length, replicate}
 use Rattle.std.specs.Fmt.{decimal}
-use Rattle.promql_text.specs.DecimalForm.{Text}
+use Rattle.promql_text.specs.Texts.{Text}
 use Rattle.promql_text.specs.Numbers.{Exact}
 
 -- the digits of n, with zeros in front of them up to this length

@@ -5,7 +5,8 @@ use Rattle.std.specs.List.{filter, list_all, list_any}
 use Rattle.std.specs.Option.{ok_or}
 use Rattle.std.specs.Str.{chars}
 use Rattle.std.specs.Str.Parse.{digits_value}
-use Rattle.promql_text.specs.DecimalForm.{Text, front, unsigned, is_minus, Numeral, Reading, NotANumber, Infinite, Signed, decimal_form, digits_number, places, exponent_size}
+use Rattle.promql_text.specs.Texts.{Text}
+use Rattle.promql_text.specs.DecimalForm.{front, unsigned, is_minus, Numeral, Reading, NotANumber, Infinite, Signed, decimal_form, digits_number, places, exponent_size}
 use Rattle.promql_text.specs.DecimalForm as form
 use Rattle.promql_text.specs.NumberDigits.{exact_text}
 use Rattle.promql_text.specs.Numbers.{Exact, tens, placed, whole}
@@ -83,13 +84,13 @@ number_of s =
     else (if is_octal s then radix_number 8 (is_minus s) (drop 1 (unsigned s))
     else of_form (decimal_form s))
 
-abbrev pub num : Text → Result Number NumberFault
-num s = number_of (kept s)
+abbrev pub read_number : Text → Result Number NumberFault
+read_number s = number_of (kept s)
 
 -- ---- the text of a number
 
-abbrev pub numtext : Number → Text
-numtext (number.Finite d) = exact_text d
-numtext number.Inf = codes "Inf"
-numtext number.NegInf = codes "-Inf"
-numtext number.NaN = codes "NaN"
+abbrev pub number_text : Number → Text
+number_text (number.Finite d) = exact_text d
+number_text number.Inf = codes "Inf"
+number_text number.NegInf = codes "-Inf"
+number_text number.NaN = codes "NaN"

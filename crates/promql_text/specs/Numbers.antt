@@ -50,6 +50,10 @@ placed is_negative c up down =
 abbrev pub whole : Bool → ℕ → Exact
 whole is_negative n = let z = tens 20 n in if n == 0 then exact_zero else scaled is_negative (n / 10 ^ z) z 0
 
+-- the seconds of a number of nanoseconds below 2^64 * 10^9, which has at most 29 digits
+abbrev pub seconds_of : ℕ → Exact
+seconds_of n = let z = tens 29 n in if n == 0 then exact_zero else scaled false (n / 10 ^ z) z 9
+
 -- the number with the other sign; zero stays zero
 abbrev pub negated : Exact → Exact
 negated d = record d { is_negative = not d.is_negative && not (d.digits == 0) }

@@ -1,13 +1,10 @@
 -- Quoted texts, in bytes of UTF-8: docs/TEXTS.md, "Strings".
-use Rattle.std.specs.Prelude.{◌≡◌, ℕ, zero, suc, true, ◌+◌, ◌-◌, ◌*◌, Bool, if◌then◌else◌, ◌==◌, ◌||◌, nat_lt, nat_le, List, [], ◌∷◌, ◌++◌, length, drop, Option, Some, None, option_and_then, option_map, Result, Ok, Err}
+use Rattle.std.specs.Prelude.{◌≡◌, ℕ, zero, suc, true, ◌+◌, ◌-◌, ◌*◌, Bool, if◌then◌else◌, ◌==◌, ◌||◌, nat_lt, nat_le, [], ◌∷◌, ◌++◌, length, drop, Option, Some, None, option_and_then, option_map, Result, Ok, Err}
 use Rattle.std.specs.Char.{encode_utf8, digit_value}
 use lib.Utf8.{scalar}
+use Rattle.promql_text.specs.Texts.{Text}
 use Rattle.promql_text.specs.declared.quote.QuoteError.{QuoteError}
 use Rattle.promql_text.specs.declared.quote.QuoteError.TheVariants as errors
-
--- a text, as its bytes
-abbrev pub Text : Type 0
-Text = List ℕ
 
 -- "Escaping": a byte, or the two that stand for it
 abbrev pub escaped_byte : ℕ → Text
@@ -20,13 +17,13 @@ escaped_byte b =
     else b ∷ []))))
 
 -- "Escaping": the text with each of the five characters escaped
-abbrev pub escaped : Text → Text
-escaped [] = []
-escaped (b ∷ s) = escaped_byte b ++ escaped s
+abbrev pub escaped_text : Text → Text
+escaped_text [] = []
+escaped_text (b ∷ s) = escaped_byte b ++ escaped_text s
 
 -- the escape of a text between double quotes
-abbrev pub quoted : Text → Text
-quoted s = 34 ∷ (escaped s ++ 34 ∷ [])
+abbrev pub quoted_text : Text → Text
+quoted_text s = 34 ∷ (escaped_text s ++ 34 ∷ [])
 
 -- "Quotes": the three bytes that may stand round a text
 abbrev pub is_quote : ℕ → Bool
@@ -89,9 +86,9 @@ inside quote zero (b ∷ z) =
     else option_and_then (λ s. option_map (λ more. s.0 ++ more) (inside quote (s.1 - 1) z)) (spelling quote b z)
 
 -- "Quoted texts": a quote, spellings of characters, and the same quote
-unfoldable pub unquoted : Text → Option Text
-unquoted [] = None
-unquoted (b ∷ z) = if is_quote b then inside b 0 z else None
+unfoldable pub unquoted_text : Text → Option Text
+unquoted_text [] = None
+unquoted_text (b ∷ z) = if is_quote b then inside b 0 z else None
 
 -- the answer is what was said: its value, or the refusal where there is none. Want of memory may come in place of either.
 abbrev pub Unquotes : {X : Type 0} → (X → Text) → Result X QuoteError → Option Text → Type 0
@@ -120,5 +117,5 @@ ReadsSpelling quote old (Some c) new = inside quote 0 old ≡ option_map (λ mor
 
 -- a reader of the quote that a quoted text begins with
 abbrev pub ReadsQuote : Text → Option ℕ → Text → Type 0
-ReadsQuote old None new = unquoted old ≡ None
-ReadsQuote old (Some quote) new = (is_quote quote ≡ true) × (unquoted old ≡ inside quote 0 new)
+ReadsQuote old None new = unquoted_text old ≡ None
+ReadsQuote old (Some quote) new = (is_quote quote ≡ true) × (unquoted_text old ≡ inside quote 0 new)

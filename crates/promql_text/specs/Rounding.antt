@@ -1,7 +1,8 @@
 -- Digits that are read one by one and rounded at a point among or behind them.
 use Rattle.std.specs.Prelude.{◌≡◌, ℕ, ◌+◌, ◌-◌, ◌*◌, ◌^◌, ◌<◌, if◌then◌else◌, nat_le, length, take, drop, true, false, Option, Some, None}
 use Rattle.std.specs.Str.Parse.{digits_value}
-use Rattle.promql_text.specs.DecimalForm.{Text, Numeral, exponent_size}
+use Rattle.promql_text.specs.Texts.{Text}
+use Rattle.promql_text.specs.DecimalForm.{Numeral, exponent_size}
 use Rattle.promql_text.specs.Durations.{capped, nearest}
 use Rattle.promql_text.specs.declared.seconds.Digits.{Digits}
 use Rattle.promql_text.specs.declared.seconds.Tail.{Tail}

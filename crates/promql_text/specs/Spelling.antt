@@ -1,7 +1,8 @@
 -- How the decimal form is spelled: a relation between texts and what they are (docs/TEXTS.md, "The decimal form").
 use Rattle.std.specs.Prelude.{◌≡◌, ◌⊎◌, ◌↔◌, ℕ, ◌+◌, ◌<◌, Bool, true, false, [], ◌∷◌, ◌++◌, length, Some}
 use Rattle.std.specs.Str.Parse.{AllDigits}
-use Rattle.promql_text.specs.DecimalForm.{Text, Numeral, numeral}
+use Rattle.promql_text.specs.Texts.{Text}
+use Rattle.promql_text.specs.DecimalForm.{Numeral, numeral}
 
 -- `-`, or `+` or nothing
 abbrev pub IsSign : Bool → Text → Type 0

@@ -2,7 +2,8 @@
 use Rattle.std.specs.Prelude.{◌≡◌, ◌≢◌, ℕ, ◌≤◌, ⊤, true, if◌then◌else◌, ◌==◌, List, [], ◌∷◌, ◌++◌, length, Option, Some, None}
 use Rattle.std.specs.Char.{encode_utf8, IsScalar}
 use Rattle.std.specs.Str.Parse.{AllDigits, digits_value}
-use Rattle.promql_text.specs.Quoting.{Text, is_quote, letter}
+use Rattle.promql_text.specs.Texts.{Text}
+use Rattle.promql_text.specs.Quoting.{is_quote, letter}
 
 -- a character that stands for itself, or an escape: the own quote, a letter, three octal digits, or hexadecimal digits behind a letter
 pub data Spelling : Type 0 where

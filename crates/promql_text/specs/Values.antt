@@ -1,12 +1,16 @@
 -- What is asked of a number, and the number with the other sign (docs/TEXTS.md, "Numbers").
-use Rattle.std.specs.Prelude.{◌≡◌, ◌+◌, ◌*◌, ◌^◌, Bool, true, false, ◌==◌, ℤ, unsigned_abs}
+use Rattle.std.specs.Prelude.{◌≡◌, ℕ, ◌+◌, ◌*◌, ◌^◌, Bool, true, false, ◌==◌, ℤ, unsigned_abs}
 use Rattle.std.specs.Int.{is_negative}
-use Rattle.promql_text.specs.Numbers.{Exact, IsExact, negated, whole}
+use Rattle.promql_text.specs.Numbers.{Exact, IsExact, negated, seconds_of, whole}
 use Rattle.promql_text.specs.declared.number.Number.{Number}
 use Rattle.promql_text.specs.declared.number.Number.TheVariants.{Finite, Inf, NegInf, NaN}
 
 abbrev pub from_whole : ℤ → Number
 from_whole n = Finite (whole (is_negative n) (unsigned_abs n))
+
+-- the seconds of so many nanoseconds
+abbrev pub from_nanos : ℕ → Number
+from_nanos n = Finite (seconds_of n)
 
 abbrev pub neg : Number → Number
 neg (Finite d) = Finite (negated d)

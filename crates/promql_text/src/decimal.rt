@@ -1,7 +1,7 @@
 //! Finite decimal numbers, exactly (docs/TEXTS.md, "Numbers").
 
-ghost use Rattle.std.specs.Prelude.{◌≡◌, ◌∷◌, ℕ, ◌+◌, ◌-◌, ◌*◌, ◌^◌, ◌%◌, ◌<◌, ◌≤◌, true, false, ◌==◌, Option, Some, None};
-ghost use Rattle.promql_text.specs.Numbers.{Exact, IsExact, digit_count, exact_zero, negated, placed, whole};
+ghost use Rattle.std.specs.Prelude.{◌≡◌, ◌≢◌, ◌∷◌, ℕ, ◌+◌, ◌-◌, ◌*◌, ◌^◌, ◌%◌, ◌<◌, ◌≤◌, true, false, ◌==◌, Option, Some, None};
+ghost use Rattle.promql_text.specs.Numbers.{Exact, IsExact, digit_count, exact_zero, negated, placed, seconds_of, whole};
 
 use std::marker::Model;
 
@@ -44,6 +44,22 @@ pub(crate) fn digit_count(n: u128) -> u128
     count
 }
 
+/// The digits of a number above zero without the zeros at their end, and how many zeros those are.
+fn without_zeros(n: u128) -> (u128, u16)
+    requires some { 0 < n }
+    requires short { n < 10 ^ 38 }
+    ensures value { result.0 * 10 ^ result.1 ≡ n }
+    ensures ends { result.0 % 10 ≢ 0 }
+{
+    let mut digits = n;
+    let mut zeros = 0;
+    while digits % 10 == 0 {
+        digits /= 10;
+        zeros += 1;
+    }
+    (digits, zeros)
+}
+
 impl Decimal {
     /// The digits with `up` zeros behind them, divided by 10 to `down`; None where its first digit is out of range.
     pub(crate) fn placed(is_negative: bool, digits: u128, up: u128, down: u128) -> Option<Decimal>
@@ -74,17 +90,29 @@ impl Decimal {
         if n == 0 {
             return Decimal::zero();
         }
-        let mut digits = u128::from(n);
-        let mut zeros = 0;
-        while digits % 10 == 0 {
-            digits /= 10;
-            zeros += 1;
-        }
+        let (digits, zeros) = without_zeros(u128::from(n));
         Decimal {
             is_negative,
             digits,
             zeros,
             places: 0,
+        }
+    }
+
+    /// The seconds of a number of nanoseconds.
+    pub(crate) fn seconds(nanos: u128) -> Decimal
+        requires { nanos < 2 ^ 64 * 1_000_000_000 }
+        ensures { result ≡ seconds_of nanos }
+    {
+        if nanos == 0 {
+            return Decimal::zero();
+        }
+        let (digits, zeros) = without_zeros(nanos);
+        Decimal {
+            is_negative: false,
+            digits,
+            zeros: zeros.saturating_sub(9),
+            places: 9u16.saturating_sub(zeros),
         }
     }
 

@@ -2,7 +2,7 @@
 
 ghost use Rattle.std.specs.Prelude.{◌≡◌, ◌/◌, ◌%◌, ◌^◌, ◌<◌, Some, replicate};
 ghost use Rattle.promql_text.specs.NumberDigits.{exact_text, magnitude_text};
-ghost use Rattle.promql_text.specs.NumberText.{numtext};
+ghost use Rattle.promql_text.specs.NumberText.{number_text};
 
 use crate::decimal::{Decimal, digit_count};
 use crate::number::Number;
@@ -71,7 +71,7 @@ impl fmt::Display for Decimal {
 
 /// The number in plain positional form, without exponent; or `Inf`, `-Inf`, `NaN`.
 impl fmt::Display for Number {
-    ghost output = { λ n. Some (numtext n) };
+    ghost output = { λ n. Some (number_text n) };
 
     fn fmt<W: fmt::Write>(&self, f: &mut fmt::Formatter<W>) -> fmt::Result {
         match self {

@@ -6,8 +6,8 @@ ghost use Rattle.promql_text.specs.Durations.{duration_of};
 ghost use Rattle.promql_text.specs.DurationText.{duration_text};
 ghost use Rattle.promql_text.specs.Quoting as quoting;
 ghost use Rattle.promql_text.specs.Spellings.{IsQuotedText};
-ghost use Rattle.promql_text.specs.NumberText.{num, numtext};
-ghost use Rattle.promql_text.specs.DecimalForm.{Text};
+ghost use Rattle.promql_text.specs.NumberText.{read_number, number_text};
+ghost use Rattle.promql_text.specs.Texts.{Text};
 ghost use Rattle.promql_text.specs.Numbers.{Exact, IsExact};
 ghost use Rattle.promql_text.specs.Spelling.{NumeralsAreSpelled};
 ghost use Rattle.promql_text.specs.Values.{IsNumber, SameValue, neg};
@@ -15,7 +15,7 @@ ghost use Rattle.promql_text.specs.declared.number.Number.{Number};
 
 /// Unquoting the quoted escape of a text gives the text, for every text.
 pub fn unquoting_undoes_escaping()
-    ensures { (s : quoting.Text) → quoting.unquoted (quoting.quoted s) ≡ Some s }
+    ensures { (s : Text) → quoting.unquoted_text (quoting.quoted_text s) ≡ Some s }
 {}
 
 /// Reading the text of a duration above zero gives the duration.
@@ -25,24 +25,24 @@ pub fn durations_read_back()
 
 /// A quoted text, which is a quote, spellings of characters and the same quote, is read as these characters.
 pub fn quoted_texts_are_read()
-    ensures { (s : quoting.Text) (cs : List ℕ) → IsQuotedText s cs
-        → quoting.unquoted s ≡ Some (encode_utf8_all cs) }
+    ensures { (s : Text) (cs : List ℕ) → IsQuotedText s cs
+        → quoting.unquoted_text s ≡ Some (encode_utf8_all cs) }
 {}
 
 /// A text that is read is a quoted text, of the characters that are read.
 pub fn what_is_read_is_quoted()
-    ensures { (s t : quoting.Text) → IsUtf8 s → quoting.unquoted s ≡ Some t
+    ensures { (s t : Text) → IsUtf8 s → quoting.unquoted_text s ≡ Some t
         → (cs : List ℕ) × IsQuotedText s cs × (encode_utf8_all cs ≡ t) }
 {}
 
 /// Reading the text of a number gives the number.
 pub fn number_reads_back()
-    ensures { (v : Number) → IsNumber v → num (numtext v) ≡ Ok v }
+    ensures { (v : Number) → IsNumber v → read_number (number_text v) ≡ Ok v }
 {}
 
 /// Each number that a text gives is in its one form.
 pub fn read_numbers_are_numbers()
-    ensures { (s : Text) (v : Number) → num s ≡ Ok v → IsNumber v }
+    ensures { (s : Text) (v : Number) → read_number s ≡ Ok v → IsNumber v }
 {}
 
 /// So is the number with the other sign.

@@ -6,11 +6,13 @@ mod decimal_form;
 mod display;
 pub mod duration;
 pub mod duration_text;
+pub mod joined;
 pub mod laws;
 mod millis;
 mod number;
 mod number_text;
 pub mod quote;
+pub mod quoted;
 mod seconds;
 mod significand;
 
@@ -20,9 +22,11 @@ pub use duration::{
     second_duration, week_duration, year_duration,
 };
 pub use duration_text::{DurationText, display_duration};
+pub use joined::{write_joined, write_separator};
 pub use number::{Number, NumberFault};
 pub use number_text::parse_str_radix;
 pub use quote::{QuoteError, escape_string, unquote_string};
+pub use quoted::{Quoted, QuotedBytes};
 
 #[cfg(test)]
 mod tests;

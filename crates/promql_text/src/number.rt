@@ -1,9 +1,11 @@
 //! Numbers (docs/TEXTS.md, "Numbers").
 
 ghost use Rattle.std.specs.Prelude.{◌≡◌, ℕ, true, false, not, ◌==◌, Option, Some, None};
+ghost use Rattle.std.specs.Duration.{as_nanos};
 ghost use Rattle.promql_text.specs.Values as spec;
 
 use crate::decimal::Decimal;
+use std::time::Duration;
 use thiserror::Error;
 
 /// A number as the language has them: exact decimals in place of floating-point values.
@@ -39,6 +41,15 @@ impl Number {
         ensures { result ≡ spec.from_whole n }
     {
         Number::Finite(Decimal::whole(n < 0, n.unsigned_abs()))
+    }
+
+    /// The seconds of a duration, exactly: at most 20 digits before the point and 9 after it.
+    pub fn of_duration(duration: &Duration) -> Number
+        ensures { result ≡ spec.from_nanos (as_nanos duration.now) }
+    {
+        let whole = u128::from(duration.as_secs()) * 1_000_000_000;
+        let nanos = whole + u128::from(duration.subsec_nanos());
+        Number::Finite(Decimal::seconds(nanos))
     }
 
     /// The number with the other sign; zero and NaN stay as they are.

@@ -222,7 +222,7 @@ fn number_of<S: Source>(text: S) -> Result<Number, NumberFault>
 /// that is no zero; else `OutOfRange`, for a decimal whose first digit stands at no place from 10^-324 to 10^308,
 /// and for a hexadecimal or octal number past 2^63 - 1.
 pub fn parse_str_radix(text: &str) -> Result<Number, NumberFault>
-    ensures { result ≡ spec.num text.now }
+    ensures { result ≡ spec.read_number text.now }
 {
     number_of(Kept(text))
 }

@@ -1,10 +1,10 @@
 //! Quoted strings: docs/TEXTS.md, "Strings".
 
-ghost use Rattle.std.specs.Prelude.{◌≡◌, ◌≢◌, ◌++◌, ◌≤◌, ◌*◌, ◌+◌, ◌^◌, length, true, IfOk};
+ghost use Rattle.std.specs.Prelude.{◌≡◌, ◌≢◌, ◌∷◌, [], ◌++◌, ◌<◌, ◌≤◌, ◌*◌, ◌+◌, ◌^◌, length, true, IfOk, MatchOption};
 ghost use Rattle.std.specs.Char.{encode_utf8};
 ghost use Rattle.std.specs.String.{string_bytes};
 ghost use Rattle.std.specs.Str.Iter.{chars_rest};
-ghost use Rattle.promql_text.specs.Quoting.{escaped, hexadecimal, is_quote, letter, octal, ReadsDigits, ReadsEscape, ReadsNumber, ReadsQuote, ReadsSpelling, unquoted, Unquotes};
+ghost use Rattle.promql_text.specs.Quoting.{escaped_text, escaped_byte, hexadecimal, is_quote, letter, octal, ReadsDigits, ReadsEscape, ReadsNumber, ReadsQuote, ReadsSpelling, unquoted_text, Unquotes};
 
 use std::alloc::{AllocError, Global};
 use std::str::Chars;
@@ -35,20 +35,31 @@ impl From<AllocError> for QuoteError {
 /// The text with a backslash before backslash and `"`, and `\n`, `\r`, `\t` for line feed, carriage return and tab.
 /// Between two `"` it stands for the text.
 pub fn escape_string(alloc: Global, s: &str) -> Result<String, AllocError>
-    ensures { IfOk result (λ t. string_bytes t ≡ escaped s.now) }
+    ensures { IfOk result (λ t. string_bytes t ≡ escaped_text s.now) }
 {
     let mut out = String::new(alloc);
     for c in s.chars() {
-        match c {
-            '\\' => out.push_str("\\\\")?,
-            '"' => out.push_str("\\\"")?,
-            '\n' => out.push_str("\\n")?,
-            '\r' => out.push_str("\\r")?,
-            '\t' => out.push_str("\\t")?,
-            _ => out.push(c)?,
+        match escape_of(c) {
+            Some(escape) => out.push_str(escape)?,
+            None => out.push(c)?,
         }
     }
     Ok(out)
+}
+
+/// The escape of a character between double quotes; `None` if the character is not escaped.
+pub(crate) fn escape_of(c: char) -> Option<&'static str>
+    ensures { MatchOption result (escaped_byte c ≡ c ∷ [])
+        (λ escape. (c < 128) × (escape.now ≡ escaped_byte c)) }
+{
+    match c {
+        '\\' => Some("\\\\"),
+        '"' => Some("\\\""),
+        '\n' => Some("\\n"),
+        '\r' => Some("\\r"),
+        '\t' => Some("\\t"),
+        _ => None,
+    }
 }
 
 /// The text that a quoted text stands for.
@@ -58,7 +69,7 @@ pub fn escape_string(alloc: Global, s: &str) -> Result<String, AllocError>
 /// `InvalidSyntax` for every text that isn't a quote, spellings of characters and the same quote; `Memory` where the
 /// answer finds no room.
 pub fn unquote_string(alloc: Global, s: &str) -> Result<String, QuoteError>
-    ensures { Unquotes string_bytes result (unquoted s.now) }
+    ensures { Unquotes string_bytes result (unquoted_text s.now) }
 {
     let mut rest = s.chars();
     let quote = opening(&mut rest).ok_or(QuoteError::InvalidSyntax)?;

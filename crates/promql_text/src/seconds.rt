@@ -4,7 +4,8 @@ ghost use Rattle.std.specs.Prelude.{◌≡◌, ◌∷◌, ◌++◌, ◌<◌, ◌
 ghost use Rattle.std.specs.Char.{digit_value, is_ascii_digit};
 ghost use Rattle.std.specs.List.{prefix_len};
 ghost use Rattle.std.specs.Str.Parse.{AllDigits, digits_value};
-ghost use Rattle.promql_text.specs.DecimalForm.{Text, digit_run};
+ghost use Rattle.promql_text.specs.Texts.{Text};
+ghost use Rattle.promql_text.specs.DecimalForm.{digit_run};
 ghost use Rattle.promql_text.specs.DecimalParts.{numeral_of};
 ghost use Rattle.promql_text.specs.Durations.{capped, second_nanos};
 ghost use Rattle.promql_text.specs.Rounding.{at_point, Compares, ComparesHalf, HasRead, PlacesPoint};

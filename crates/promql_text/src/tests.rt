@@ -1,6 +1,7 @@
-//! Worked rows, from outside.
+//! Test cases with values from outside.
 
 mod duration;
 mod duration_text;
 mod numbers;
+mod printed;
 mod quote;

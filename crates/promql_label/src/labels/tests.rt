@@ -1,9 +1,7 @@
 //! Worked rows.
 
-use crate::joined::write_joined;
-use crate::labels::{Label, Labels};
+use crate::labels::Labels;
 use std::alloc::{AllocError, Global};
-use std::fmt;
 use std::test::Fail;
 
 // Labels, and their list as it prints.
@@ -83,34 +81,5 @@ fn lists(rt: HostRuntime) -> Result<(), Fail> {
     assert!(rt; labels != list(rt.alloc(), &["foo"])?);
     let twin = labels.try_clone(rt.alloc())?;
     assert!(rt; twin == labels);
-    Ok(())
-}
-
-// Labels that print as they are, behind a bar.
-#[derive(Clone, Copy)]
-struct Barred<'a>(&'a [Label]);
-
-impl fmt::Display for Barred<'_> {
-    ghost use Rattle.std.specs.Prelude.{Some, codes, map, string_bytes};
-    ghost use Rattle.promql_label.specs.Texts.{joined};
-
-    ghost output = { λ labels. Some (joined (codes " | ") (map string_bytes labels.0.now)) };
-
-    fn fmt<W: fmt::Write>(&self, f: &mut fmt::Formatter<W>) -> fmt::Result {
-        write_joined(self.0, " | ", f)
-    }
-}
-
-#[test]
-fn joins(rt: HostRuntime) -> Result<(), Fail> {
-    for (labels, text) in [
-        (&[][..], ""),
-        (&["a"][..], "a"),
-        (&["inf", "", "b"][..], "inf |  | b"),
-    ] {
-        let labels = list(rt.alloc(), labels)?;
-        let barred = Barred(labels.labels.as_slice());
-        assert_eq!(rt; format!(in rt.alloc(); "{barred}")?.as_str(), text);
-    }
     Ok(())
 }

@@ -115,3 +115,66 @@ fn copies_are_equal(rt: HostRuntime) -> Result<(), Fail> {
     assert!(rt; Matchers::empty(alloc) != list);
     Ok(())
 }
+
+// Matchers as they print in a list without groups.
+const PRINTED: [(&[(&str, &str)], &str); 6] = [
+    (&[], ""),
+    (&[("b", "1"), ("a b", "2")], r#""a b"="2",b="1""#),
+    (&[("a", "1"), ("a", "1")], r#"a="1",a="1""#),
+    (
+        &[("c", "1"), ("a", "2"), ("b", "3"), ("a", "1"), ("c", "1")],
+        r#"a="1",a="2",b="3",c="1",c="1""#,
+    ),
+    (
+        &[("a", "1"), ("a", ""), ("B", "1"), ("a1", "")],
+        r#"B="1",a1="",a="",a="1""#,
+    ),
+    (
+        &[("a", "\\"), ("a", "\n"), ("a", "z"), ("a", "é")],
+        r#"a="\\",a="\n",a="z",a="é""#,
+    ),
+];
+
+#[test]
+fn prints_in_byte_order(rt: HostRuntime) -> Result<(), Fail> {
+    let alloc = rt.alloc();
+    for (rows, want) in PRINTED {
+        let mut matchers = Vec::new(alloc);
+        for (name, value) in rows {
+            matchers.push(equal(alloc, name, value)?)?;
+        }
+        let list = Matchers::new(alloc, matchers);
+        assert_eq!(rt; list.to_string(alloc)?.as_str(), want);
+    }
+    Ok(())
+}
+
+#[test]
+fn prints_operators_in_byte_order(rt: HostRuntime) -> Result<(), Fail> {
+    let alloc = rt.alloc();
+    let list = Matchers::one(alloc, pattern(alloc, "a", "1")?)?
+        .append(equal(alloc, "a", "1")?)?
+        .append(Matcher::new(alloc, MatchOp::NotEqual, "a", "1")?)?;
+    assert_eq!(rt; list.to_string(alloc)?.as_str(), r#"a!="1",a="1",a=~"1""#);
+    Ok(())
+}
+
+#[test]
+fn prints_groups_alone(rt: HostRuntime) -> Result<(), Fail> {
+    let alloc = rt.alloc();
+    let list = Matchers::one(alloc, equal(alloc, "b", "1")?)?
+        .append_or(equal(alloc, "c", "2")?)?
+        .append(equal(alloc, "a b", "3")?)?;
+    let text = list.to_string(alloc)?;
+    assert_eq!(rt; text.as_str(), r#"b="1" or c="2", "a b"="3""#);
+    let plain = vec![in alloc; equal(alloc, "z", "9")?]?;
+    let beside = Matchers::new(alloc, plain).with_or_matchers(list.or_matchers);
+    assert_eq!(rt;
+        beside.to_string(alloc)?.as_str(),
+        r#"b="1" or c="2", "a b"="3""#
+    );
+    let empty = vec![in alloc; Vec::new(alloc), Vec::new(alloc)]?;
+    let groups = Matchers::empty(alloc).with_or_matchers(empty);
+    assert_eq!(rt; groups.to_string(alloc)?.as_str(), " or ");
+    Ok(())
+}

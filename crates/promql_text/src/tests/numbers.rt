@@ -3,6 +3,7 @@ use crate::number_text::parse_str_radix;
 use std::alloc::{AllocError, Global};
 use std::process::Abort;
 use std::test::Fail;
+use std::time::Duration;
 
 /// The text of the number, or the message of the fault.
 fn answer(alloc: Global, text: &str) -> Result<String, AllocError> {
@@ -185,5 +186,25 @@ fn milliseconds_of_seconds(rt: HostRuntime) -> Result<(), Fail> {
         let found = millis(rt.alloc(), text)?;
         assert_eq!(rt; found.as_str(), wanted, "{text}");
     }
+    Ok(())
+}
+
+#[test]
+fn seconds_of_durations(rt: HostRuntime) -> Result<(), Fail> {
+    let rows = [
+        (0, "0"),
+        (1, "0.000000001"),
+        (1_000_000, "0.001"),
+        (1_500_000_000, "1.5"),
+        (10_000_000_000, "10"),
+        (31_536_000_000_000_000, "31536000"),
+    ];
+    for (nanos, wanted) in rows {
+        let number = Number::of_duration(&Duration::from_nanos(nanos));
+        assert_eq!(rt; number.to_string(rt.alloc())?.as_str(), wanted);
+    }
+    let greatest = Number::of_duration(&Duration::MAX);
+    let text = greatest.to_string(rt.alloc())?;
+    assert_eq!(rt; text.as_str(), "18446744073709551615.999999999");
     Ok(())
 }

@@ -1,10 +1,10 @@
 use Rattle.std.proofs.Common.{◌≡◌, [], map}
 use Rattle.std.specs.List.{list_all}
-use Rattle.promql_label.specs.Conditions.{holds}
-use Rattle.promql_label.specs.Views.{condition_of}
+use Rattle.promql_label.specs.PlainMatchers.{holds}
+use Rattle.promql_label.specs.Views.{plain_matcher_of}
 use Rattle.promql_label.proofs.Found.{rest_from}
 use Rattle.promql_label.proofs.matchers.match_empty.Given as goal
 
 abbrev pub invariant-loop-matcher : goal.invariant-loop-matcher
 invariant-loop-matcher l =
-    list_all (λ c. holds c []) (map condition_of l.matchers) ≡ list_all (λ c. holds c []) (rest_from l.matchers l.matcher-index)
+    list_all (λ c. holds c []) (map plain_matcher_of l.matchers) ≡ list_all (λ c. holds c []) (rest_from l.matchers l.matcher-index)

@@ -1,6 +1,7 @@
 use Rattle.std.proofs.Common.{◌∙◌, ◌++◌, ◌^◌, ◌<◌, [], length, ap, arith, length-append}
 use Rattle.std.specs.Str.Parse.{AllDigits}
-use Rattle.promql_text.specs.DecimalForm.{Text, digit_run}
+use Rattle.promql_text.specs.Texts.{Text}
+use Rattle.promql_text.specs.DecimalForm.{digit_run}
 use Rattle.promql_text.specs.DecimalParts.{numeral_of}
 use Rattle.promql_text.proofs.Runs.{run_digits}
 use Rattle.promql_text.proofs.PointAmong.{digits_append, second_none, second_some}

@@ -1,6 +1,6 @@
 use Rattle.std.proofs.Common.{◌≡◌, ◌+◌, ◌∙◌, ◌++◌, ◌∷◌, [], List, map, string_bytes, take, sym, ap}
 use Rattle.std.proofs.lemmas.List.{map_more}
-use Rattle.promql_label.specs.Texts.{Text}
+use Rattle.promql_text.specs.Texts.{Text}
 use Rattle.promql_label.specs.Labels.{common, is_among, labels_of}
 use Rattle.promql_label.proofs.CommonLabels.{common-kept, common-not_there, common-seen}
 use Rattle.promql_label.proofs.labels.Labels.intersect.Goals as goal

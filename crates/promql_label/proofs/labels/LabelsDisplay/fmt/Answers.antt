@@ -1,8 +1,8 @@
 use Rattle.std.proofs.Common.{◌∙◌, codes, string_bytes, map, refl, ap}
 use Rattle.std.proofs.Output.{has_written_append, has_written_of_eq}
 use Rattle.promql_label.specs.Labels.{label_text}
-use Rattle.promql_label.specs.Texts.{joined}
-use Rattle.promql_label.proofs.Joins.{join_next, join_end_of}
+use Rattle.promql_text.specs.Texts.{joined_text}
+use Rattle.promql_text.proofs.Joins.{join_next, join_end_of}
 use Rattle.promql_label.proofs.labels.LabelsDisplay.fmt.Goals as goal
 
 pub loop-i-preserved : goal.loop-i-preserved
@@ -17,5 +17,5 @@ pub returns-clause-writes : goal.returns-clause-writes
 returns-clause-writes g c = λ plain ok.
     has_written_of_eq _ _ _ _ _ (
     join_end_of label_text string_bytes (codes ", ") c.deref-label-items.result.now c.loop-i.i c.loop-i-test.false
-    ∙ ap (λ labels. joined (codes ", ") (map label_text (map string_bytes labels))) c.deref-label-items.ensures.value
+    ∙ ap (λ labels. joined_text (codes ", ") (map label_text (map string_bytes labels))) c.deref-label-items.ensures.value
     ) (c.loop-i.invariant plain)

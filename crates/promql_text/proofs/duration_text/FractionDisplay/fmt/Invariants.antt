@@ -1,6 +1,6 @@
 use Rattle.std.proofs.Common.{◌≡◌, ◌++◌, ◌-◌, ◌^◌, ◌<◌}
 use Rattle.std.specs.Fmt.{HasWritten, IsPlainFormatter}
-use Rattle.promql_text.specs.DecimalForm.{Text}
+use Rattle.promql_text.specs.Texts.{Text}
 use Rattle.promql_text.specs.DurationText.{fraction_text}
 use Rattle.promql_text.proofs.duration_text.FractionDisplay.fmt.Given as goal
 

@@ -1,0 +1,19 @@
+use Rattle.std.proofs.Common.{◌<◌, arith}
+use Rattle.promql_text.proofs.Exacts.{seconds_is, seconds_value}
+use Rattle.promql_text.proofs.decimal.Decimal.seconds.Goals as goal
+
+pub invariant_of-result : goal.invariant_of-result
+invariant_of-result c =
+    let made = c.without_zeros-digits in
+    let ends = made.ensures.ends in
+    let some : 0 < made.result.0 = omega (arith, ends) in
+    rw (c.saturating_sub.ensures, c.saturating_sub-2.ensures)
+    (seconds_is made.result.0 made.result.1 c.args.nanos made.ensures.value some ends c.requires)
+
+pub returns : goal.returns
+returns c =
+    let made = c.without_zeros-digits in
+    let ends = made.ensures.ends in
+    let some : 0 < made.result.0 = omega (arith, ends) in
+    rw (c.saturating_sub.ensures, c.saturating_sub-2.ensures)
+    (seconds_value made.result.0 made.result.1 c.args.nanos made.ensures.value some ends c.requires)

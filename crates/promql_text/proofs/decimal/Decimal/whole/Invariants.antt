@@ -1,8 +1,0 @@
-use Rattle.std.proofs.Common.{◌≡◌, ◌<◌, ◌*◌, ◌^◌}
-use Rattle.promql_text.proofs.decimal.Decimal.whole.Given as goal
-
-abbrev pub invariant-loop-digits : goal.invariant-loop-digits
-invariant-loop-digits l = (l.digits * 10 ^ l.zeros ≡ l.fn.n) × (0 < l.digits)
-
-abbrev pub decreases-loop-digits : goal.decreases-loop-digits
-decreases-loop-digits l = l.digits

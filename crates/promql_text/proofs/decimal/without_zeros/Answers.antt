@@ -1,0 +1,5 @@
+use Rattle.promql_text.proofs.Tens.{whole_step}
+use Rattle.promql_text.proofs.decimal.without_zeros.Goals as goal
+
+pub loop-digits-preserved : goal.loop-digits-preserved
+loop-digits-preserved c = whole_step c.loop-digits.digits c.loop-digits.zeros c.args.n c.loop-digits.invariant.0 c.loop-digits-test.true c.loop-digits.invariant.1

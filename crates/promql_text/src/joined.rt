@@ -1,0 +1,57 @@
+//! Lists that print with a separator between each two items (docs/TEXTS.md, "Lists"). Nothing is
+//! allocated.
+//!
+//! A printer of a type whose values hold no others of that type calls `write_joined`, and cites its
+//! clause with the text of an item: `c.write_joined.ensures text_of (λ item. refl)`.
+//!
+//! A recursive printer writes the loop itself, since a call through a type parameter has no proof in
+//! a cycle of calls:
+//!
+//! ```text
+//! for (i, item) in items.iter().enumerate() {
+//!     write_separator(", ", i, f)?;
+//!     item.fmt(f)?;
+//! }
+//! ```
+//!
+//! The loop's invariant says that `join_by text separator (take i items)` has been written. The lemmas
+//! of `proofs/Joins` carry it: `join_next` for one more item, `join_end` and `join_end_of` at the end.
+
+ghost use Rattle.std.specs.Prelude.{◌≡◌, ◌==◌, if◌then◌else◌, [], Some, map};
+ghost use Rattle.std.specs.Fmt.{WritesOnOk};
+ghost use Rattle.promql_text.specs.Texts.{Text, joined_text};
+
+use std::fmt;
+use std::fmt::Display;
+
+/// Writes what comes before the item at the index `at`: the separator, or nothing before the first item.
+pub fn write_separator<W: fmt::Write>(
+    separator: &str,
+    at: usize,
+    f: &mut fmt::Formatter<W>,
+) -> fmt::Result
+    ensures { WritesOnOk W.write_str_gives f.old result
+        (if at == 0 then [] else separator.now) f.new }
+{
+    if at == 0 {
+        Ok(())
+    } else {
+        f.write_str(separator)
+    }
+}
+
+/// Writes the items in order, with the separator between each two.
+pub fn write_joined<T: Display, W: fmt::Write>(
+    items: &[T],
+    separator: &str,
+    f: &mut fmt::Formatter<W>,
+) -> fmt::Result
+    ensures { (text : T → Text) → ((item : T) → T.output item ≡ Some (text item))
+        → WritesOnOk W.write_str_gives f.old result (joined_text separator.now (map text items.now)) f.new }
+{
+    for (i, item) in items.iter().enumerate() {
+        write_separator(separator, i, f)?;
+        item.fmt(f)?;
+    }
+    Ok(())
+}
