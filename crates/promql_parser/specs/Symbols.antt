@@ -1,5 +1,5 @@
 -- What a token is to the grammar (docs/GRAMMAR.md, "Kinds of tokens").
-use Rattle.std.specs.Prelude.{ℕ, Bool, true, false, ◌==◌, if◌then◌else◌, List, [], ◌∷◌, slice_get}
+use Rattle.std.specs.Prelude.{ℕ, Bool, true, false, ◌==◌, if◌then◌else◌, List, [], ◌∷◌, map, slice_get}
 use Rattle.std.specs.List.{list_any}
 use Rattle.std.specs.Option.{unwrap_or, option_map}
 use Rattle.promql_token.specs.declared.ids.TheConstants.{T_LAND, T_LOR, T_LUNLESS, T_ATAN2}
@@ -15,6 +15,10 @@ kind_in table id = unwrap_or (option_map (λ row. row.1) (slice_get table id)) k
 
 abbrev pub kind_of : ℕ → Kind
 kind_of = kind_in KINDS
+
+-- the ids of that table
+abbrev pub ids_of_kinds : List ℕ
+ids_of_kinds = map (λ row. row.0) KINDS
 
 -- the operators that are words
 abbrev pub is_word_operator : ℕ → Bool

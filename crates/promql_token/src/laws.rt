@@ -13,9 +13,8 @@ ghost use Rattle.promql_token.specs.declared.fault.LexFault.{LexFault};
 ghost use Rattle.promql_token.specs.declared.fault.LexFaultKind.{LexFaultKind};
 ghost use Rattle.promql_token.specs.declared.lexeme.Lexeme.{Lexeme};
 
-use crate::fault;
-use crate::lexeme;
 use crate::token::{Token, TokenType};
+use crate::{fault, lexeme};
 
 /// The cut of a text is what stands at its front, and the cut of what is behind it.
 #[tactic(auto, using(crate::proofs::Steps::cut_is))]
