@@ -4,7 +4,7 @@ use Rattle.std.specs.Str.{IsUtf8}
 use Rattle.std.specs.Io.KnownBytes.{Appends, Consumes, IsAtEnd}
 use Rattle.promql_parser.specs.declared.parser.ParseError.{ParseError}
 use Rattle.promql_parser.specs.declared.parser.ParseError.TheVariants as parse_errors
-use Rattle.promql_parser.specs.Lexing.{Text}
+use Rattle.promql_text.specs.Texts.{Text}
 use Rattle.promql_parser.specs.Tree.{Tree}
 use Rattle.promql_parser.specs.OneLine.{line}
 use Rattle.promql_parser.specs.Answers.{IsAnswerTo}

@@ -14,7 +14,8 @@ use Rattle.promql_parser.specs.declared.parser.ParseError.{ParseError}
 use Rattle.promql_parser.specs.declared.parser.ParseError.TheVariants as errors
 use Rattle.promql_parser.specs.declared.tree.Expr.{Expr}
 use Rattle.promql_parser.specs.Results.{on_result, ◌then◌}
-use Rattle.promql_parser.specs.Lexing.{Text, Token, tokens}
+use Rattle.promql_text.specs.Texts.{Text}
+use Rattle.promql_parser.specs.Lexing.{Token, tokens}
 use Rattle.promql_parser.specs.Tree as tree
 use Rattle.promql_parser.specs.Tree.{tree_of, tree_height}
 use Rattle.promql_parser.specs.Symbols.{Symbol, symbol_of, sign, word}

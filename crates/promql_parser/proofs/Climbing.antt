@@ -8,7 +8,7 @@ use Rattle.promql_parser.specs.declared.grammar.part.Halt.{Halt}
 use Rattle.promql_parser.specs.declared.grammar.part.Halt.TheVariants.{Memory, Syntax, TooDeep}
 use Rattle.promql_parser.specs.declared.grammar.part.Part.{Part}
 use Rattle.promql_parser.specs.Results.{◌then◌}
-use Rattle.promql_parser.specs.Lexing.{Text}
+use Rattle.promql_text.specs.Texts.{Text}
 use Rattle.promql_parser.specs.Symbols.{Symbol, may_be_name, sign, symbol, word}
 use Rattle.promql_parser.specs.Grammar.{Derivation, name, binary, level, height}
 use Rattle.promql_parser.specs.Parts.{IsPart, IsGiven, Fails}

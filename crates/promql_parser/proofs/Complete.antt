@@ -7,7 +7,7 @@ use Rattle.promql_parser.specs.declared.grammar.kind.Kind.TheVariants as kind
 use Rattle.promql_parser.specs.declared.grammar.part.Halt.{Halt}
 use Rattle.promql_parser.specs.declared.grammar.part.Halt.TheVariants.{Syntax, TooDeep}
 use Rattle.promql_parser.specs.Results.{◌then◌}
-use Rattle.promql_parser.specs.Lexing.{Text}
+use Rattle.promql_text.specs.Texts.{Text}
 use Rattle.promql_parser.specs.Symbols.{Symbol, may_be_name, sign, word}
 use Rattle.promql_parser.specs.Grammar.{Derivation, number, name, paren, binary, yield, level, openness, height, IsWellFormed}
 use Rattle.promql_parser.specs.Front.{Stops}

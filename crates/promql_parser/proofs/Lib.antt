@@ -6,3 +6,4 @@ pub mod Climbing
 pub mod Wholes
 pub mod AnswerLemmas
 pub mod Listing
+pub mod SameErrors

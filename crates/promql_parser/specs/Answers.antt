@@ -7,7 +7,8 @@ use Rattle.promql_parser.specs.declared.parser.ParseError.{ParseError}
 use Rattle.promql_parser.specs.declared.parser.ParseError.TheVariants.{Memory, Lex, Empty, Syntax, TooDeep, Number}
 use Rattle.promql_parser.specs.declared.parser.TheConstants.{MAX_DEPTH}
 use Rattle.promql_parser.specs.Results.{on_result}
-use Rattle.promql_parser.specs.Lexing.{Text, Token, tokens}
+use Rattle.promql_text.specs.Texts.{Text}
+use Rattle.promql_parser.specs.Lexing.{Token, tokens}
 use Rattle.promql_parser.specs.Tree.{Tree, tree_of, tree_height}
 use Rattle.promql_parser.specs.Symbols.{Symbol, symbol_of}
 use Rattle.promql_parser.specs.Grammar.{Derivation, yield, height, IsWellFormed}

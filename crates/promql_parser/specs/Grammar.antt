@@ -3,7 +3,7 @@ use Rattle.std.specs.Prelude.{◌≡◌, ℕ, ◌+◌, ◌≤◌, ◌<◌, true,
 use Rattle.promql_token.specs.declared.ids.TheConstants.{T_ADD, T_SUB}
 use Rattle.promql_parser.specs.declared.grammar.kind.Kind.{Kind}
 use Rattle.promql_parser.specs.declared.grammar.kind.Kind.TheVariants as kind
-use Rattle.promql_parser.specs.Lexing.{Text}
+use Rattle.promql_text.specs.Texts.{Text}
 use Rattle.promql_parser.specs.Symbols.{Symbol, may_be_name, sign, word}
 
 -- a derivation, with a case for each alternative of the grammar; it keeps the words of its alternative

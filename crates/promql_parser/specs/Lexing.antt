@@ -1,12 +1,10 @@
 -- The tokens of a text before its end (docs/GRAMMAR.md, "Tokens").
 use Rattle.std.specs.Prelude.{ℕ, Bool, not, ◌==◌, List, length, Result, filter}
+use Rattle.promql_text.specs.Texts.{Text}
 use Rattle.promql_token.specs.declared.fault.LexFault.{LexFault}
 use Rattle.promql_token.specs.Cursor.{is_before_end}
 use Rattle.promql_token.specs.Lexing as lexing
 use Rattle.promql_parser.specs.Results.{on_result}
-
-abbrev pub Text : Type 0
-Text = List ℕ
 
 -- a token is its id and its text
 abbrev pub Token : Type 0

@@ -1,12 +1,13 @@
 -- What a token is to the grammar (docs/GRAMMAR.md, "Kinds of tokens").
-use Rattle.std.specs.Prelude.{ℕ, Bool, true, false, ◌==◌, if◌then◌else◌, List, [], ◌∷◌, slice_get}
+use Rattle.std.specs.Prelude.{ℕ, Bool, true, false, ◌==◌, if◌then◌else◌, List, [], ◌∷◌, map, slice_get}
 use Rattle.std.specs.List.{list_any}
 use Rattle.std.specs.Option.{unwrap_or, option_map}
 use Rattle.promql_token.specs.declared.ids.TheConstants.{T_LAND, T_LOR, T_LUNLESS, T_ATAN2}
 use Rattle.promql_parser.specs.declared.grammar.kind.Kind.{Kind}
 use Rattle.promql_parser.specs.declared.grammar.kind.Kind.TheVariants as kind
 use Rattle.promql_parser.specs.declared.grammar.kind.TheConstants.{KINDS}
-use Rattle.promql_parser.specs.Lexing.{Text, Token}
+use Rattle.promql_text.specs.Texts.{Text}
+use Rattle.promql_parser.specs.Lexing.{Token}
 
 -- the kind of a token id, by a table in the order of the ids
 abbrev pub kind_in : List (ℕ × Kind) → ℕ → Kind
@@ -14,6 +15,10 @@ kind_in table id = unwrap_or (option_map (λ row. row.1) (slice_get table id)) k
 
 abbrev pub kind_of : ℕ → Kind
 kind_of = kind_in KINDS
+
+-- the ids of that table
+abbrev pub ids_of_kinds : List ℕ
+ids_of_kinds = map (λ row. row.0) KINDS
 
 -- the operators that are words
 abbrev pub is_word_operator : ℕ → Bool

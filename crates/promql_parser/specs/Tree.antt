@@ -2,6 +2,7 @@
 use Rattle.std.specs.Prelude.{ℕ, ◌+◌, max, List, Option, string_bytes}
 use Rattle.std.specs.Option.{option_map}
 use Rattle.promql_text.specs.declared.number.Number.{Number}
+use Rattle.promql_parser.specs.declared.tree.VectorSelector.{VectorSelector as Selector}
 use Rattle.promql_parser.specs.declared.tree.Expr.{Expr, Binary', Paren', NumberLiteral, VectorSelector}
 
 -- a tree without the places where it lies in memory; an operator is its token id
@@ -11,10 +12,14 @@ pub data Tree : Type 0 where
   paren : Tree → Tree
   binary : ℕ → Tree → Tree → Tree
 
+-- the name of a selector
+abbrev pub name_of : Selector → Option (List ℕ)
+name_of e = option_map string_bytes e.name
+
 -- the tree that an expression of the code is
 abbrev pub tree_of : Expr → Tree
 tree_of (NumberLiteral e) = number e.val
-tree_of (VectorSelector e) = selector (option_map string_bytes e.name)
+tree_of (VectorSelector e) = selector (name_of e)
 tree_of (Paren' place e) = paren (tree_of e)
 tree_of (Binary' op left_place l right_place r) = binary op (tree_of l) (tree_of r)
 

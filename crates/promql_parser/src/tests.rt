@@ -1,9 +1,11 @@
 //! Texts with their answers, from docs/GRAMMAR.md.
 
-use crate::parser::{Expr, ParseError, parse};
+use crate::grammar::kind::{Kind, kind_of};
+use crate::parser::{Expr, ParseError, VectorSelector, parse};
 use promql_text::NumberFault;
+use promql_token::ids::*;
 use promql_token::scan::Lexer;
-use promql_token::{LexFault, LexFaultKind};
+use promql_token::{LexFault, LexFaultKind, TokenType};
 use std::alloc::{AllocError, Global};
 use std::test::Fail;
 
@@ -211,6 +213,93 @@ fn heights(rt: HostRuntime) -> Result<(), Fail> {
         return Err(Fail::new("no lexical fault"));
     };
     assert_eq!(rt; fault.kind, LexFaultKind::RightBracket);
+    Ok(())
+}
+
+#[test]
+fn equality(rt: HostRuntime) -> Result<(), Fail> {
+    let alloc = rt.alloc();
+    let fault = LexFault {
+        kind: LexFaultKind::Character,
+        at: 3,
+        ch: Some('~'),
+    };
+    let later = LexFault { at: 4, ..fault };
+    let errors = [
+        ParseError::Memory,
+        ParseError::Lex(fault),
+        ParseError::Lex(later),
+        ParseError::Empty,
+        ParseError::Syntax,
+        ParseError::TooDeep,
+        ParseError::Number(NumberFault::NotANumber),
+        ParseError::Number(NumberFault::TooManyDigits),
+    ];
+    for (i, a) in errors.iter().enumerate() {
+        for (j, b) in errors.iter().enumerate() {
+            assert_eq!(rt; *a == *b, i == j, "{i} and {j}");
+            assert_eq!(rt; *a != *b, i != j, "{i} and {j}");
+        }
+    }
+    let named = |name: &str| -> Result<VectorSelector, AllocError> {
+        Ok(VectorSelector {
+            name: Some(String::from_str(alloc, name)?),
+        })
+    };
+    assert!(rt; named("up")? == named("up")? && named("up")? != named("down")?);
+    assert!(rt; named("up")? != VectorSelector { name: None });
+    Ok(())
+}
+
+// Each kind with its ids, from docs/GRAMMAR.md.
+#[test]
+fn kinds_of_tokens(rt: HostRuntime) -> Result<(), Fail> {
+    let alloc = rt.alloc();
+    let signs = [
+        (T_NUMBER, Kind::Number),
+        (T_DURATION, Kind::Duration),
+        (T_STRING, Kind::Str),
+        (T_IDENTIFIER, Kind::Name),
+        (T_METRIC_IDENTIFIER, Kind::Name),
+        (T_BY, Kind::By),
+        (T_WITHOUT, Kind::Without),
+        (T_ON, Kind::On),
+        (T_IGNORING, Kind::Ignoring),
+        (T_GROUP_LEFT, Kind::GroupLeft),
+        (T_GROUP_RIGHT, Kind::GroupRight),
+        (T_BOOL, Kind::Bool),
+        (T_OFFSET, Kind::Offset),
+        (T_START, Kind::Start),
+        (T_END, Kind::End),
+        (T_SMOOTHED, Kind::Smoothed),
+        (T_ANCHORED, Kind::Anchored),
+        (T_FILL, Kind::Fill),
+        (T_FILL_LEFT, Kind::FillLeft),
+        (T_FILL_RIGHT, Kind::FillRight),
+        (T_LEFT_PAREN, Kind::LeftParen),
+        (T_RIGHT_PAREN, Kind::RightParen),
+        (T_LEFT_BRACE, Kind::LeftBrace),
+        (T_RIGHT_BRACE, Kind::RightBrace),
+        (T_LEFT_BRACKET, Kind::LeftBracket),
+        (T_RIGHT_BRACKET, Kind::RightBracket),
+        (T_COMMA, Kind::Comma),
+        (T_COLON, Kind::Colon),
+        (T_EQL, Kind::Equal),
+        (T_EQL_REGEX, Kind::EqualRegex),
+        (T_NEQ_REGEX, Kind::NotEqualRegex),
+        (T_AT, Kind::At),
+    ];
+    for id in 0..100u16 {
+        let token = TokenType::new(id);
+        let wanted = match signs.iter().find(|row| row.0 == id) {
+            Some(row) => row.1,
+            None if token.is_aggregator() => Kind::Aggregator(id),
+            None if token.is_operator() => Kind::Operator(id),
+            None => Kind::Other,
+        };
+        let found = format!(in alloc; "{:?}", kind_of(id))?;
+        assert!(rt; found == format!(in alloc; "{wanted:?}")?, "{id}: {found}");
+    }
     Ok(())
 }
 

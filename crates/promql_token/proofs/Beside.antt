@@ -12,7 +12,8 @@ use Rattle.promql_token.specs.declared.class.Class.{Class}
 use Rattle.promql_token.specs.declared.class.Class.TheVariants as class
 use Rattle.promql_token.specs.declared.fault.LexFaultKind.TheVariants.{Numeral, Escape}
 use Rattle.promql_token.specs.declared.ids.TheConstants.{T_DURATION, T_NUMBER, T_STRING}
-use Rattle.promql_token.specs.Classes.{Text, is_in, past}
+use Rattle.promql_text.specs.Texts.{Text}
+use Rattle.promql_token.specs.Classes.{is_in, past}
 use Rattle.promql_token.specs.Laws.{is_sign, is_exponent, stops_numeral}
 use Rattle.promql_token.specs.Pieces.{Piece, word_id, word, braces_id, word_in_braces, is_hex, digits, past_whole, past_point, past_sign, past_exponent, number_end, units, numeral, is_escape, string_from}
 use Rattle.promql_token.proofs.Ends.{and_left, and_right, or_cases}

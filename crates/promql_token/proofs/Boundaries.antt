@@ -5,7 +5,7 @@ use Rattle.std.proofs.lemmas.List.{drop-drop}
 use Rattle.std.proofs.lemmas.Str.{IsCharBoundary-start, IsCharBoundary-from_rest, IsUtf8-drop}
 use Rattle.promql_token.specs.declared.lexeme.Lexeme.{Lexeme}
 use Rattle.promql_token.specs.declared.state.State.{State}
-use Rattle.promql_token.specs.Classes.{Text}
+use Rattle.promql_text.specs.Texts.{Text}
 use Rattle.promql_token.specs.Laws.{ArePlaced, Places}
 use Rattle.promql_token.specs.Lexing.{What, Found, what, cut, found, goes_on, behind, len_of, start, lex, collected, placed, item}
 use Rattle.promql_token.specs.Pieces.{Piece, piece, gap_len, behind_gap}

@@ -5,7 +5,7 @@ use Rattle.std.proofs.lemmas.Bool.{cond_both}
 use Rattle.promql_token.specs.declared.state.Mode.{Mode}
 use Rattle.promql_token.specs.declared.state.Mode.TheVariants as mode
 use Rattle.promql_token.specs.declared.state.State.{State}
-use Rattle.promql_token.specs.Classes.{Text}
+use Rattle.promql_text.specs.Texts.{Text}
 use Rattle.promql_token.specs.Lexing.{found, cut, cut_from, len_of, goes_on, behind, what}
 use Rattle.promql_token.specs.Pieces.{end_in, gap_len, piece, behind_gap}
 

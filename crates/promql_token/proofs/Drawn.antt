@@ -7,7 +7,7 @@ use Rattle.std.proofs.lemmas.List.{drop-drop}
 use Rattle.promql_token.specs.declared.fault.LexFault.{LexFault}
 use Rattle.promql_token.specs.declared.lexeme.Lexeme.{Lexeme}
 use Rattle.promql_token.specs.declared.state.State.{State}
-use Rattle.promql_token.specs.Classes.{Text}
+use Rattle.promql_text.specs.Texts.{Text}
 use Rattle.promql_token.specs.declared.cursor.Cursor as code
 use Rattle.promql_token.specs.Cursor.{is_before_end, up_to_fault, tokens_left, IsPast}
 use Rattle.promql_token.specs.Lexing.{What, whats, found, first, item, goes_on, len_of, start, lex, tokens, cut, placed, sliced, result_sliced, text_at}

@@ -10,7 +10,8 @@ use Rattle.std.proofs.lemmas.List.Folds.{list_all-append}
 use Rattle.promql_token.specs.declared.class.Class.TheVariants as class
 use Rattle.promql_token.specs.declared.fault.LexFaultKind.TheVariants.{Numeral}
 use Rattle.promql_token.specs.declared.ids.TheConstants.{T_DURATION, T_NUMBER}
-use Rattle.promql_token.specs.Classes.{Text, is_in, past}
+use Rattle.promql_text.specs.Texts.{Text}
+use Rattle.promql_token.specs.Classes.{is_in, past}
 use Rattle.promql_token.specs.Pieces.{Piece, is_unit, unit_len, part_len, parts_from, units, numeral}
 use Rattle.promql_token.specs.Printed.{are_digits, is_part, parts_text, JoinsDuration}
 use Rattle.promql_token.proofs.Ends.{and_left, and_right}

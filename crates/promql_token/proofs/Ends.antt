@@ -11,7 +11,8 @@ use Rattle.promql_token.specs.declared.class.Class.TheVariants as class
 use Rattle.promql_token.specs.declared.state.Mode.{Mode}
 use Rattle.promql_token.specs.declared.state.Mode.TheVariants as mode
 use Rattle.promql_token.specs.declared.state.State.{State}
-use Rattle.promql_token.specs.Classes.{Text, is_in, is_letter, past}
+use Rattle.promql_text.specs.Texts.{Text}
+use Rattle.promql_token.specs.Classes.{is_in, is_letter, past}
 use Rattle.promql_token.specs.Pieces.{Piece, word, word_in_braces, is_hex, digits, past_whole, past_point, past_sign, past_exponent, number_end, units, numeral, is_quote, is_escape, string_from, string, equal_sign, or_equal, bang_sign, dot_sign, single, sign, begins_numeral, outside, bang_in_braces, in_braces, colon_in, in_brackets, end_in, begun, piece}
 use Rattle.promql_token.proofs.Places.{Ends, front, behind_low, low_eq, IsAsciiRun, run_ends, no_run, past_run, one_more, past_moves}
 

@@ -10,7 +10,8 @@ use Rattle.std.proofs.lemmas.Grind.{common_steps}
 use Rattle.promql_token.specs.declared.class.Class.TheVariants as class
 use Rattle.promql_token.specs.declared.state.Mode.{Mode}
 use Rattle.promql_token.specs.declared.state.Mode.TheVariants as mode
-use Rattle.promql_token.specs.Classes.{Text, is_letter, past}
+use Rattle.promql_text.specs.Texts.{Text}
+use Rattle.promql_token.specs.Classes.{is_letter, past}
 use Rattle.promql_token.specs.Ids.{lookup, keywords, keyword_in_any_case}
 use Rattle.promql_token.specs.Pieces.{Piece, is_fill, opens, name_id, word_id, word, braces_id, word_in_braces, number_end, units, numeral, is_quote, is_escape, string_from, string, equal_sign, bang_sign, single, sign, begins_numeral, outside, bang_in_braces, in_braces, colon_in, in_brackets, begun, after}
 use Rattle.promql_token.proofs.Ends.{and_left, and_right}

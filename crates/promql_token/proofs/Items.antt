@@ -9,7 +9,7 @@ use Rattle.promql_token.specs.declared.fault.LexFault.{LexFault}
 use Rattle.promql_token.specs.declared.fault.LexFaultKind.{LexFaultKind}
 use Rattle.promql_token.specs.declared.lexeme.Lexeme.{Lexeme}
 use Rattle.promql_token.specs.declared.state.State.{State}
-use Rattle.promql_token.specs.Classes.{Text}
+use Rattle.promql_text.specs.Texts.{Text}
 use Rattle.promql_token.specs.Lexing.{found, first, shown, what, item, placed, What, len_of, goes_on, behind, cut}
 use Rattle.promql_token.specs.Pieces.{Piece, gap_len, piece, behind_gap, after}
 use Rattle.promql_token.proofs.Cuts.{cut_goes, cut_stops}

@@ -11,7 +11,8 @@ use Rattle.promql_token.specs.declared.ids.TheConstants.{T_EQL, T_EQLC, T_EQL_RE
 use Rattle.promql_token.specs.declared.state.Mode.{Mode}
 use Rattle.promql_token.specs.declared.state.Mode.TheVariants as mode
 use Rattle.promql_token.specs.declared.state.State.{State}
-use Rattle.promql_token.specs.Classes.{Text, is_in, is_letter, past}
+use Rattle.promql_text.specs.Texts.{Text}
+use Rattle.promql_token.specs.Classes.{is_in, is_letter, past}
 use Rattle.promql_token.specs.Laws.{Joins, JoinsWord, JoinsName, stops_numeral, stops_sign, parts, parts_outside, parts_in_braces, parts_in_brackets}
 use Rattle.promql_token.specs.Lexing.{whats}
 use Rattle.promql_token.specs.Pieces.{Piece, gap_from, gap_len, word_id, word, braces_id, word_in_braces, numeral, is_quote, string, bang_sign, dot_sign, sign, begins_numeral, outside, bang_in_braces, in_braces, in_brackets, begun, piece, after}

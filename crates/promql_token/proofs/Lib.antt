@@ -14,3 +14,4 @@ pub mod Spans
 pub mod Steps
 pub mod Told
 pub mod Boundaries
+pub mod SameTokens

@@ -14,7 +14,8 @@ use Rattle.promql_token.specs.declared.class.Class.{Class}
 use Rattle.promql_token.specs.declared.class.Class.TheVariants as class
 use Rattle.promql_token.specs.declared.state.Mode.{Mode}
 use Rattle.promql_token.specs.declared.state.Mode.TheVariants as mode
-use Rattle.promql_token.specs.Classes.{Text, is_in, past}
+use Rattle.promql_text.specs.Texts.{Text}
+use Rattle.promql_token.specs.Classes.{is_in, past}
 use Rattle.promql_token.specs.Pieces.{gap_from, gap_in, gap_len, is_line_end}
 
 -- n is the front, the end, or behind an ASCII byte

@@ -13,7 +13,8 @@ use Rattle.promql_token.specs.declared.ids.TheConstants.{T_DURATION, T_NUMBER, T
 use Rattle.promql_token.specs.declared.state.Mode.{Mode}
 use Rattle.promql_token.specs.declared.state.Mode.TheVariants as mode
 use Rattle.promql_token.specs.declared.state.State.{State}
-use Rattle.promql_token.specs.Classes.{Text, is_in, is_letter, past}
+use Rattle.promql_text.specs.Texts.{Text}
+use Rattle.promql_token.specs.Classes.{is_in, is_letter, past}
 use Rattle.promql_token.specs.Laws.{parts, stops_numeral}
 use Rattle.promql_token.specs.Lexing.{whats}
 use Rattle.promql_token.specs.Pieces.{Piece, begins_numeral, is_hex, past_whole, past_point, past_sign, past_exponent, number_end, digits, units, is_quote, is_escape, string, string_from, numeral, outside, in_braces, in_brackets, piece, after}

@@ -11,7 +11,7 @@ use Rattle.promql_token.specs.declared.lexeme.Lexeme.{Lexeme}
 use Rattle.promql_token.specs.declared.state.Mode.{Mode}
 use Rattle.promql_token.specs.declared.state.Mode.TheVariants as mode
 use Rattle.promql_token.specs.declared.state.State.{State}
-use Rattle.promql_token.specs.Classes.{Text}
+use Rattle.promql_text.specs.Texts.{Text}
 use Rattle.promql_token.specs.Laws.{IsGap, InOrder, Spans, Lexes}
 use Rattle.promql_token.specs.Lexing.{What, Found, what, cut, found, goes_on, behind, len_of, start, lex, result_sliced, collected, placed, item, with_front, sliced}
 use Rattle.promql_token.specs.Pieces.{Piece, piece, gap_len, gap_from, is_line_end, behind_gap}

@@ -9,7 +9,7 @@ use Rattle.std.proofs.lemmas.Bool.{cond_both, eqb-false}
 use Rattle.promql_token.specs.declared.state.Mode.{Mode}
 use Rattle.promql_token.specs.declared.state.Mode.TheVariants as mode
 use Rattle.promql_token.specs.declared.state.State.{State}
-use Rattle.promql_token.specs.Classes.{Text}
+use Rattle.promql_text.specs.Texts.{Text}
 use Rattle.promql_token.specs.Lexing.{whats, cut, found, goes_on, behind, len_of, what, start}
 use Rattle.promql_token.specs.Pieces.{Piece, gap_len, gap_from, piece, behind_gap, after, moved}
 use Rattle.promql_token.proofs.Cuts.{cut_goes, cut_stops}

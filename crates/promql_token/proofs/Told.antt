@@ -10,7 +10,7 @@ use Rattle.promql_token.specs.declared.lexeme.Lexeme.{Lexeme}
 use Rattle.promql_token.specs.declared.state.Mode.{Mode}
 use Rattle.promql_token.specs.declared.state.Mode.TheVariants as mode
 use Rattle.promql_token.specs.declared.state.State.{State}
-use Rattle.promql_token.specs.Classes.{Text}
+use Rattle.promql_text.specs.Texts.{Text}
 use Rattle.promql_token.specs.Cut.{count_of, is_bound, mode_by, mode_at, state_at, ids_behind, IsCut, CutOnce, EndsOnce}
 use Rattle.promql_token.specs.Lexing.{What, Found, found, what, len_of, goes_on, behind, cut, whats, start, lex, placed, collected, item}
 use Rattle.promql_token.specs.Pieces.{Piece, begun, end_in, piece, behind_gap, after, depth_behind, mode_behind, moved, past_colon, gap_len}

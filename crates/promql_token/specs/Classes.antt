@@ -1,13 +1,11 @@
 -- Classes of bytes, and runs of one class (docs/TOKENS.md, "Bytes").
-use Rattle.std.specs.Prelude.{ℕ, ◌+◌, Bool, ◌||◌, ◌==◌, ◌&&◌, List, length, drop, slice_index}
+use Rattle.std.specs.Prelude.{ℕ, ◌+◌, Bool, ◌||◌, ◌==◌, ◌&&◌, length, drop, slice_index}
 use Rattle.std.specs.Char.{is_ascii_alphabetic, is_ascii_alphanumeric, is_ascii_digit, is_ascii_hexdigit, is_ascii_whitespace}
 use Rattle.std.specs.List.{prefix_len}
+use Rattle.promql_text.specs.Texts.{Text}
 use Rattle.promql_token.specs.declared.class.Class.{Class}
 use Rattle.promql_token.specs.declared.class.Class.TheVariants as class
-use Rattle.promql_token.specs.Bytes.{colon, underscore}
-
-abbrev pub Text : Type 0
-Text = List ℕ
+use Rattle.promql_text.specs.Bytes.{colon, underscore}
 
 abbrev pub is_letter : ℕ → Bool
 is_letter b = is_ascii_alphabetic b || b == underscore

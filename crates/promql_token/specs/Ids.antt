@@ -1,10 +1,10 @@
 -- Ids of tokens: their texts, the keywords and the classes (docs/TOKENS.md, "Ids").
-use Rattle.std.specs.Prelude.{ℕ, Bool, ◌&&◌, ◌==◌, nat_le, if◌then◌else◌, List, [], ◌∷◌, codes, slice_get, Option, Some, None}
+use Rattle.std.specs.Prelude.{ℕ, zero, suc, ◌+◌, Bool, ◌&&◌, ◌==◌, nat_le, if◌then◌else◌, List, [], ◌∷◌, codes, slice_get, Option, Some, None}
 use Rattle.std.specs.List.{list_any}
 use Rattle.std.specs.Option.{unwrap_or}
 use Rattle.std.specs.Str.{bytes_eq, str_eq_ignore_ascii_case}
-use Rattle.promql_token.specs.declared.ids.TheConstants.{T_LAND, T_LOR, T_LUNLESS, T_ATAN2, T_AVG, T_BOTTOMK, T_COUNT, T_COUNT_VALUES, T_GROUP, T_MAX, T_MIN, T_QUANTILE, T_STDDEV, T_STDVAR, T_SUM, T_TOPK, T_LIMITK, T_LIMIT_RATIO, T_OFFSET, T_BY, T_WITHOUT, T_ON, T_IGNORING, T_GROUP_LEFT, T_GROUP_RIGHT, T_BOOL, T_SMOOTHED, T_ANCHORED, T_FILL, T_FILL_LEFT, T_FILL_RIGHT, T_START, T_END, T_NUMBER, T_EQLC, T_NEQ, T_LTE, T_LSS, T_GTE, T_GTR}
-use Rattle.promql_token.specs.Classes.{Text}
+use Rattle.promql_token.specs.declared.ids.TheConstants.{T_EQL, T_BLANK, T_COLON, T_COMMA, T_COMMENT, T_DURATION, T_EOF, T_ERROR, T_IDENTIFIER, T_LEFT_BRACE, T_LEFT_BRACKET, T_LEFT_PAREN, T_OPEN_HIST, T_CLOSE_HIST, T_METRIC_IDENTIFIER, T_NUMBER, T_RIGHT_BRACE, T_RIGHT_BRACKET, T_RIGHT_PAREN, T_SEMICOLON, T_SPACE, T_STRING, T_TIMES, T_OPERATORS_START, T_ADD, T_DIV, T_EQLC, T_EQL_REGEX, T_GTE, T_GTR, T_LAND, T_LOR, T_LSS, T_LTE, T_LUNLESS, T_MOD, T_MUL, T_NEQ, T_NEQ_REGEX, T_POW, T_SUB, T_AT, T_ATAN2, T_OPERATORS_END, T_AGGREGATORS_START, T_AVG, T_BOTTOMK, T_COUNT, T_COUNT_VALUES, T_GROUP, T_MAX, T_MIN, T_QUANTILE, T_STDDEV, T_STDVAR, T_SUM, T_TOPK, T_LIMITK, T_LIMIT_RATIO, T_AGGREGATORS_END, T_KEYWORDS_START, T_BOOL, T_BY, T_GROUP_LEFT, T_GROUP_RIGHT, T_IGNORING, T_OFFSET, T_SMOOTHED, T_ANCHORED, T_ON, T_WITHOUT, T_FILL, T_FILL_LEFT, T_FILL_RIGHT, T_KEYWORDS_END, T_PREPROCESSOR_START, T_START, T_END, T_STEP, T_PREPROCESSOR_END, T_STARTSYMBOLS_START, T_START_METRIC, T_START_SERIES_DESCRIPTION, T_START_EXPRESSION, T_START_METRIC_SELECTOR, T_STARTSYMBOLS_END}
+use Rattle.promql_text.specs.Texts.{Text}
 
 -- the texts of the ids from 0 on
 abbrev pub texts : List Text
@@ -174,3 +174,25 @@ is_comparison_operator = is_one_of (T_EQLC ∷ T_NEQ ∷ T_LTE ∷ T_LSS ∷ T_G
 
 abbrev pub is_set_operator : ℕ → Bool
 is_set_operator = is_one_of (T_LAND ∷ T_LOR ∷ T_LUNLESS ∷ [])
+
+-- ---- numbers
+
+-- the numbers from n on
+abbrev pub count_up : ℕ → ℕ → List ℕ
+count_up n zero = []
+count_up n (suc more) = n ∷ count_up (n + 1) more
+
+-- the constants in the order of the page
+abbrev pub constants : List ℕ
+constants =
+    T_EQL ∷ T_BLANK ∷ T_COLON ∷ T_COMMA ∷ T_COMMENT ∷ T_DURATION ∷ T_EOF ∷ T_ERROR ∷ T_IDENTIFIER ∷
+    T_LEFT_BRACE ∷ T_LEFT_BRACKET ∷ T_LEFT_PAREN ∷ T_OPEN_HIST ∷ T_CLOSE_HIST ∷ T_METRIC_IDENTIFIER ∷
+    T_NUMBER ∷ T_RIGHT_BRACE ∷ T_RIGHT_BRACKET ∷ T_RIGHT_PAREN ∷ T_SEMICOLON ∷ T_SPACE ∷ T_STRING ∷ T_TIMES ∷
+    T_OPERATORS_START ∷ T_ADD ∷ T_DIV ∷ T_EQLC ∷ T_EQL_REGEX ∷ T_GTE ∷ T_GTR ∷ T_LAND ∷ T_LOR ∷ T_LSS ∷ T_LTE ∷
+    T_LUNLESS ∷ T_MOD ∷ T_MUL ∷ T_NEQ ∷ T_NEQ_REGEX ∷ T_POW ∷ T_SUB ∷ T_AT ∷ T_ATAN2 ∷ T_OPERATORS_END ∷
+    T_AGGREGATORS_START ∷ T_AVG ∷ T_BOTTOMK ∷ T_COUNT ∷ T_COUNT_VALUES ∷ T_GROUP ∷ T_MAX ∷ T_MIN ∷ T_QUANTILE ∷
+    T_STDDEV ∷ T_STDVAR ∷ T_SUM ∷ T_TOPK ∷ T_LIMITK ∷ T_LIMIT_RATIO ∷ T_AGGREGATORS_END ∷ T_KEYWORDS_START ∷
+    T_BOOL ∷ T_BY ∷ T_GROUP_LEFT ∷ T_GROUP_RIGHT ∷ T_IGNORING ∷ T_OFFSET ∷ T_SMOOTHED ∷ T_ANCHORED ∷ T_ON ∷
+    T_WITHOUT ∷ T_FILL ∷ T_FILL_LEFT ∷ T_FILL_RIGHT ∷ T_KEYWORDS_END ∷ T_PREPROCESSOR_START ∷ T_START ∷ T_END ∷
+    T_STEP ∷ T_PREPROCESSOR_END ∷ T_STARTSYMBOLS_START ∷ T_START_METRIC ∷ T_START_SERIES_DESCRIPTION ∷
+    T_START_EXPRESSION ∷ T_START_METRIC_SELECTOR ∷ T_STARTSYMBOLS_END ∷ []

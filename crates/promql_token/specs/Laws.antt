@@ -9,8 +9,9 @@ use Rattle.promql_token.specs.declared.lexeme.Lexeme.{Lexeme}
 use Rattle.promql_token.specs.declared.state.Mode.{Mode}
 use Rattle.promql_token.specs.declared.state.Mode.TheVariants as mode
 use Rattle.promql_token.specs.declared.state.State.{State}
-use Rattle.promql_token.specs.Bytes.{plus, minus, point, colon, less, equal, greater, tilde}
-use Rattle.promql_token.specs.Classes.{Text, is_in, is_label, is_letter, past}
+use Rattle.promql_text.specs.Bytes.{plus, minus, point, colon, less, equal, greater, tilde}
+use Rattle.promql_text.specs.Texts.{Text}
+use Rattle.promql_token.specs.Classes.{is_in, is_label, is_letter, past}
 use Rattle.promql_token.specs.Lexing.{found, len_of, goes_on, behind, cut, whats, start, lex, tokens, sliced}
 use Rattle.promql_token.specs.Pieces.{gap_from, begins_numeral, is_quote, word_id, braces_id, piece, after, moved}
 

@@ -9,7 +9,7 @@ use Rattle.promql_token.specs.declared.fault.LexError.{LexError}
 use Rattle.promql_token.specs.declared.fault.LexError.TheVariants as errors
 use Rattle.promql_token.specs.declared.state.Mode.TheVariants as mode
 use Rattle.promql_token.specs.declared.state.State.{State}
-use Rattle.promql_token.specs.Classes.{Text}
+use Rattle.promql_text.specs.Texts.{Text}
 use Rattle.promql_token.specs.Faults.{shows}
 use Rattle.promql_token.specs.Pieces.{Piece, gap_len, piece, behind_gap, after}
 

@@ -1,4 +1,3 @@
-pub mod Bytes
 pub mod Classes
 pub mod Cursor
 pub mod Cut
@@ -10,3 +9,4 @@ pub mod Pieces
 pub mod Printed
 pub mod Rows
 pub mod Scan
+pub mod Tokens

@@ -12,8 +12,9 @@ use Rattle.promql_token.specs.declared.fault.LexFaultKind.TheVariants.{UnclosedP
 use Rattle.promql_token.specs.declared.state.Mode.{Mode}
 use Rattle.promql_token.specs.declared.state.Mode.TheVariants as mode
 use Rattle.promql_token.specs.declared.state.State.{State}
-use Rattle.promql_token.specs.Bytes.{line_feed, carriage_return, space, bang, double_quote, hash, percent, single_quote, left_paren, right_paren, star, plus, comma, minus, point, slash, digit_zero, colon, less, equal, greater, at_sign, left_bracket, backslash, right_bracket, caret, backtick, left_brace, right_brace, tilde}
-use Rattle.promql_token.specs.Classes.{Text, is_letter, past}
+use Rattle.promql_text.specs.Bytes.{line_feed, carriage_return, space, bang, double_quote, hash, percent, single_quote, left_paren, right_paren, star, plus, comma, minus, point, slash, digit_zero, colon, less, equal, greater, at_sign, left_bracket, backslash, right_bracket, caret, backtick, left_brace, right_brace, tilde}
+use Rattle.promql_text.specs.Texts.{Text}
+use Rattle.promql_token.specs.Classes.{is_letter, past}
 use Rattle.promql_token.specs.Ids.{keyword_in_any_case}
 
 -- ---- gaps

@@ -6,8 +6,8 @@ use Rattle.promql_token.specs.declared.ids.TheConstants.{T_DURATION, T_NUMBER, T
 use Rattle.promql_token.specs.declared.state.Mode.{Mode}
 use Rattle.promql_token.specs.declared.state.Mode.TheVariants as mode
 use Rattle.promql_token.specs.declared.state.State.{State}
-use Rattle.promql_token.specs.Bytes.{backslash, backtick, point}
-use Rattle.promql_token.specs.Classes.{Text}
+use Rattle.promql_text.specs.Bytes.{backslash, backtick, point}
+use Rattle.promql_text.specs.Texts.{Text}
 use Rattle.promql_token.specs.Laws.{stops_numeral}
 use Rattle.promql_token.specs.Lexing.{whats}
 use Rattle.promql_token.specs.Pieces.{is_escape, is_quote, is_unit, after}

@@ -5,7 +5,7 @@ use Rattle.promql_token.specs.declared.fault.LexFaultKind.{LexFaultKind}
 use Rattle.promql_token.specs.declared.fault.LexFaultKind.TheVariants.{EndInBraces, Escape, FirstColon, Numeral, UnclosedParen}
 use Rattle.promql_token.specs.declared.ids.TheConstants.{T_ADD, T_COLON, T_DURATION, T_EOF, T_FILL, T_IDENTIFIER, T_LEFT_BRACE, T_LEFT_BRACKET, T_LEFT_PAREN, T_LOR, T_NUMBER, T_RIGHT_BRACE, T_RIGHT_BRACKET, T_RIGHT_PAREN, T_STRING}
 use Rattle.promql_token.specs.declared.lexeme.Lexeme.{Lexeme}
-use Rattle.promql_token.specs.Bytes.{backslash, backtick, double_quote, line_feed}
+use Rattle.promql_text.specs.Bytes.{backslash, backtick, double_quote, line_feed}
 use Rattle.promql_token.specs.Lexing.{lex}
 
 abbrev pub token : ℕ → ℕ → ℕ → Lexeme

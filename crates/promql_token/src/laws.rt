@@ -1,9 +1,20 @@
 //! Laws of the token list: the contracts of functions that do nothing.
 
+ghost use Rattle.std.specs.Prelude.{◌≡◌, ℕ};
+ghost use Rattle.promql_text.specs.Equalities.{IsSameBy};
 ghost use Rattle.promql_token.specs.Cut as cuts;
+ghost use Rattle.promql_token.specs.Ids as ids;
 ghost use Rattle.promql_token.specs.Laws as spec;
 ghost use Rattle.promql_token.specs.Printed as printed;
 ghost use Rattle.promql_token.specs.Rows as rows;
+ghost use Rattle.promql_token.specs.Tokens.{id_and_text};
+ghost use Rattle.promql_token.specs.declared.fault.LexError.{LexError};
+ghost use Rattle.promql_token.specs.declared.fault.LexFault.{LexFault};
+ghost use Rattle.promql_token.specs.declared.fault.LexFaultKind.{LexFaultKind};
+ghost use Rattle.promql_token.specs.declared.lexeme.Lexeme.{Lexeme};
+
+use crate::token::{Token, TokenType};
+use crate::{fault, lexeme};
 
 /// The cut of a text is what stands at its front, and the cut of what is behind it.
 #[tactic(auto, using(crate::proofs::Steps::cut_is))]
@@ -43,6 +54,29 @@ pub fn joins()
     ensures token { spec.Joins }
     ensures word { spec.JoinsWord }
     ensures name { spec.JoinsName }
+{}
+
+/// Kinds of tokens are equal exactly if they have one id, and tokens exactly if they have one id and one text.
+pub fn equal_tokens()
+    ensures kinds { IsSameBy (λ (id : ℕ). id) ⟦<TokenType as PartialEq>⟧.eq }
+    ensures tokens { IsSameBy id_and_text ⟦<Token as PartialEq>⟧.eq }
+{}
+
+/// Lexemes are equal exactly if they have one id and one place.
+pub fn equal_lexemes()
+    ensures { IsSameBy (λ (x : Lexeme). x) ⟦<lexeme::Lexeme as PartialEq>⟧.eq }
+{}
+
+/// Faults are equal exactly if they are of one kind, at one place, and show one character.
+pub fn equal_faults()
+    ensures kinds { IsSameBy (λ (k : LexFaultKind). k) ⟦<fault::LexFaultKind as PartialEq>⟧.eq }
+    ensures faults { IsSameBy (λ (f : LexFault). f) ⟦<fault::LexFault as PartialEq>⟧.eq }
+    ensures errors { IsSameBy (λ (e : LexError). e) ⟦<fault::LexError as PartialEq>⟧.eq }
+{}
+
+/// The constants, in the order in which docs/TOKENS.md lists them, are the numbers from 0 on.
+pub fn ids_count_up()
+    ensures { ids.constants ≡ ids.count_up 0 86 }
 {}
 
 /// What the definition gives for worked texts.

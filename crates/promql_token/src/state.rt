@@ -6,7 +6,7 @@ ghost use Rattle.promql_token.specs.Pieces as spec;
 use crate::ids::*;
 
 /// Which tokens may begin at a place.
-#[derive(Clone, Copy, Debug, PartialEq, Eq)]
+#[derive(Clone, Copy, Debug)]
 pub enum Mode {
     Outside,
     /// Behind `{`, until `}`.
@@ -20,7 +20,7 @@ pub enum Mode {
 }
 
 /// The state of a place.
-#[derive(Clone, Copy, Debug, PartialEq, Eq)]
+#[derive(Clone, Copy, Debug)]
 pub struct State {
     /// How many parentheses are open.
     pub depth: usize,

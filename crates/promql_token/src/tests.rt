@@ -1,4 +1,4 @@
-//! Worked rows.
+//! Texts with their tokens and faults, from docs/TOKENS.md.
 
 mod ids;
 
@@ -459,6 +459,56 @@ fn faults_have_their_places_and_messages(rt: HostRuntime) -> Result<(), Fail> {
         let wrong = wrong_fault(rt.alloc(), before, &FAULTS)?;
         assert!(rt; wrong.is_none(), "{wrong:?} behind {before}");
     }
+    Ok(())
+}
+
+#[test]
+fn equality(rt: HostRuntime) -> Result<(), Fail> {
+    let alloc = rt.alloc();
+    let lexeme = Lexeme {
+        id: T_STRING,
+        start: 1,
+        len: 2,
+    };
+    assert!(rt; lexeme == Lexeme { ..lexeme });
+    assert!(rt;
+        lexeme
+            != Lexeme {
+                id: T_NUMBER,
+                ..lexeme
+            }
+    );
+    assert!(rt; lexeme != Lexeme { start: 2, ..lexeme });
+    assert!(rt; lexeme != Lexeme { len: 1, ..lexeme });
+    let fault = LexFault {
+        kind: LexFaultKind::Character,
+        at: 3,
+        ch: Some('~'),
+    };
+    assert!(rt; fault == LexFault { ..fault });
+    assert!(rt;
+        fault
+            != LexFault {
+                kind: LexFaultKind::InBraces,
+                ..fault
+            }
+    );
+    assert!(rt; fault != LexFault { at: 4, ..fault });
+    assert!(rt;
+        fault
+            != LexFault {
+                ch: Some('é'),
+                ..fault
+            }
+    );
+    assert!(rt; fault != LexFault { ch: None, ..fault });
+    assert!(rt; LexError::Fault(fault) == LexError::Fault(fault));
+    assert!(rt; LexError::Fault(fault) != LexError::Memory);
+    assert!(rt; TokenType::new(T_STRING) != TokenType::new(T_NUMBER));
+    let token = Token::new(T_STRING, String::from_str(alloc, "'é'")?);
+    assert!(rt; token == Token::new(T_STRING, String::from_str(alloc, "'é'")?));
+    assert!(rt; token != Token::new(T_STRING, String::from_str(alloc, "'e'")?));
+    assert!(rt; token != Token::new(T_NUMBER, String::from_str(alloc, "'é'")?));
     Ok(())
 }
 

@@ -7,7 +7,7 @@ use promql_token::TokenId;
 use promql_token::ids::*;
 
 /// The kind of a token (docs/GRAMMAR.md, "Kinds of tokens").
-#[derive(Clone, Copy, PartialEq, Eq, Debug)]
+#[derive(Clone, Copy, Debug)]
 pub enum Kind {
     Number,
     Duration,

@@ -23,7 +23,7 @@ pub struct Part {
 }
 
 /// Why reading stops.
-#[derive(Clone, Copy, PartialEq, Eq, Debug)]
+#[derive(Clone, Copy, Debug)]
 pub enum Halt {
     Memory,
     Syntax,

@@ -1,0 +1,5 @@
+use Rattle.promql_token.proofs.SameTokens.{token_type_Decides, token_Decides}
+use Rattle.promql_token.proofs.laws.equal_tokens.Goals as goal
+
+pub returns : goal.returns
+returns c = record { kinds = token_type_Decides; tokens = token_Decides }
