@@ -1,3 +1,4 @@
 pub mod KnownBytes
 pub mod Refusals
+pub mod SameErrors
 pub mod Statuses

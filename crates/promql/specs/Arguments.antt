@@ -1,6 +1,6 @@
 -- What the arguments ask for (docs/PROGRAM.md, "Statuses and messages").
 use Rattle.std.specs.Prelude.{List, [], ◌∷◌, Option, None}
-use Rattle.promql_parser.specs.Lexing.{Text}
+use Rattle.promql_text.specs.Texts.{Text}
 use Rattle.promql.specs.declared.run.Mode.{Mode}
 use Rattle.promql.specs.Running.{mode_named}
 

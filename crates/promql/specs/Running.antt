@@ -5,8 +5,8 @@ use Rattle.std.specs.Io.KnownBytes.{Appends, Consumes, IsAtEnd}
 use Rattle.promql_parser.specs.declared.parser.ParseError.{ParseError}
 use Rattle.promql_parser.specs.declared.parser.ParseError.TheVariants as parse_errors
 use Rattle.promql_text.specs.Texts.{Text}
-use Rattle.promql_parser.specs.Tree.{Tree}
-use Rattle.promql_parser.specs.OneLine.{line}
+use Rattle.promql_ast.specs.Text as one_line
+use Rattle.promql_ast.specs.Tree.{Tree}
 use Rattle.promql_parser.specs.Answers.{IsAnswerTo}
 use Rattle.promql.specs.Ended.{AppendsBeginning}
 use Rattle.promql.specs.declared.run.Mode.{Mode}
@@ -48,7 +48,7 @@ pub record HasRead (old new : Option (List ℕ)) (input : List ℕ) : Type 0 whe
 pub record IsPrinted (text printed : Text) : Type 0 where
   pub tree : Tree
   pub parsed : IsAnswerTo text (Ok tree)
-  pub is : printed ≡ line tree ++ 10 ∷ []
+  pub is : printed ≡ one_line.text tree ++ 10 ∷ []
 
 -- all of the input was read, it is a text, and its line with a line feed was written
 pub record Prints (left left_after held held_after : Option (List ℕ)) : Type 0 where

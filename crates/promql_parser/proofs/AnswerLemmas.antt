@@ -1,5 +1,5 @@
 -- From what a token list gives to the answer to its text.
-use Rattle.std.proofs.Common.{◌≡◌, ◌≢◌, ℕ, ◌+◌, ◌<◌, ◌≤◌, ⊎_elim, max, true, List, [], ◌∷◌, length, map, length-append, refl, sym, ap, ◌∙◌, subst, arith}
+use Rattle.std.proofs.Common.{◌≡◌, ◌≢◌, ℕ, ◌+◌, ◌<◌, ◌≤◌, ⊎_elim, max, true, List, [], ◌∷◌, length, map, Option, None, length-append, refl, sym, ap, ◌∙◌, subst, arith}
 use Rattle.std.specs.Prelude.{Result, Ok, Err}
 use Rattle.std.proofs.lemmas.Bool.{cases_lt}
 use Rattle.std.proofs.lemmas.List.{length-map}
@@ -12,12 +12,13 @@ use Rattle.promql_parser.specs.declared.grammar.part.Halt.{Halt}
 use Rattle.promql_parser.specs.declared.grammar.part.Halt.TheVariants as halts
 use Rattle.promql_parser.specs.declared.parser.ParseError.{ParseError}
 use Rattle.promql_parser.specs.declared.parser.ParseError.TheVariants as errors
-use Rattle.promql_parser.specs.declared.tree.Expr.{Expr}
+use Rattle.promql_ast.specs.declared.expr.Expr.{Expr}
 use Rattle.promql_parser.specs.Results.{on_result, ◌then◌}
 use Rattle.promql_text.specs.Texts.{Text}
 use Rattle.promql_parser.specs.Lexing.{Token, tokens}
-use Rattle.promql_parser.specs.Tree as tree
-use Rattle.promql_parser.specs.Tree.{tree_of, tree_height}
+use Rattle.promql_ast.specs.Tree as tree
+use Rattle.promql_ast.specs.View.{tree_of}
+use Rattle.promql_ast.specs.Height.{height as tree_height}
 use Rattle.promql_parser.specs.Symbols.{Symbol, symbol_of, sign, word}
 use Rattle.promql_parser.specs.Grammar.{Derivation, number, name, paren, binary, yield, height, IsWellFormed}
 use Rattle.promql_parser.specs.Building.{build}
@@ -59,7 +60,7 @@ paren_low : (n : ℕ) (r : Result tree.Tree NumberFault) → IsLow n r → IsLow
 paren_low n (Ok t) low = omega arith
 paren_low n (Err e) low = tt
 
-binary_low : (m n id : ℕ) (l r : Result tree.Tree NumberFault) → IsLow m l → IsLow n r → IsLow (1 + max m n) (l then λ s. r then λ t. Ok (tree.binary id s t))
+binary_low : (m n id : ℕ) (l r : Result tree.Tree NumberFault) → IsLow m l → IsLow n r → IsLow (1 + max m n) (l then λ s. r then λ t. Ok (tree.binary id s t None))
 binary_low m n id (Ok s) (Ok t) left right = omega arith
 binary_low m n id (Ok s) (Err e) left right = tt
 binary_low m n id (Err e) r left right = tt

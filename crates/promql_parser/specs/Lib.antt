@@ -2,8 +2,6 @@ pub mod Results
 pub mod Lexing
 pub mod Symbols
 pub mod Drawing
-pub mod Tree
-pub mod OneLine
 pub mod Grammar
 pub mod Building
 pub mod Reading

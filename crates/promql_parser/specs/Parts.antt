@@ -5,7 +5,8 @@ use Rattle.promql_parser.specs.declared.grammar.part.Halt.{Halt}
 use Rattle.promql_parser.specs.declared.grammar.part.Halt.TheVariants.{Memory}
 use Rattle.promql_parser.specs.declared.grammar.part.Part.{Part}
 use Rattle.promql_parser.specs.Results.{on_result}
-use Rattle.promql_parser.specs.Tree.{Tree, tree_of}
+use Rattle.promql_ast.specs.Tree.{Tree}
+use Rattle.promql_ast.specs.View.{tree_of}
 use Rattle.promql_parser.specs.Symbols.{Symbol}
 use Rattle.promql_parser.specs.Grammar.{Derivation, height}
 use Rattle.promql_parser.specs.Building.{build}

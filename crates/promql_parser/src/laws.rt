@@ -5,10 +5,9 @@ ghost use Rattle.promql_text.specs.Equalities.{IsSameBy};
 ghost use Rattle.promql_token.specs.Ids.{count_up};
 ghost use Rattle.promql_parser.specs.Grammar.{Derivation, IsWellFormed, yield};
 ghost use Rattle.promql_parser.specs.Symbols.{ids_of_kinds};
-ghost use Rattle.promql_parser.specs.Tree.{name_of};
 ghost use Rattle.promql_parser.specs.declared.parser.ParseError as errors;
 
-use crate::parser::{ParseError, VectorSelector};
+use crate::parser::ParseError;
 
 /// No two well formed derivations spell the same tokens, so a text has one tree.
 pub fn one_tree()
@@ -26,8 +25,3 @@ pub fn equal_errors()
 {
     promql_token::laws::equal_faults();
 }
-
-/// Selectors are equal exactly if they have one name, or both none.
-pub fn equal_selectors()
-    ensures { IsSameBy name_of ⟦<VectorSelector as PartialEq>⟧.eq }
-{}

@@ -4,8 +4,6 @@
 mod grammar;
 pub mod laws;
 pub mod parser;
-mod show;
 #[cfg(test)]
 mod tests;
 mod tokens;
-mod tree;

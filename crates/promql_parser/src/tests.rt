@@ -1,7 +1,7 @@
 //! Texts with their answers, from docs/GRAMMAR.md.
 
 use crate::grammar::kind::{Kind, kind_of};
-use crate::parser::{Expr, ParseError, VectorSelector, parse};
+use crate::parser::{Expr, ParseError, parse};
 use promql_text::NumberFault;
 use promql_token::ids::*;
 use promql_token::scan::Lexer;
@@ -241,13 +241,6 @@ fn equality(rt: HostRuntime) -> Result<(), Fail> {
             assert_eq!(rt; *a != *b, i != j, "{i} and {j}");
         }
     }
-    let named = |name: &str| -> Result<VectorSelector, AllocError> {
-        Ok(VectorSelector {
-            name: Some(String::from_str(alloc, name)?),
-        })
-    };
-    assert!(rt; named("up")? == named("up")? && named("up")? != named("down")?);
-    assert!(rt; named("up")? != VectorSelector { name: None });
     Ok(())
 }
 

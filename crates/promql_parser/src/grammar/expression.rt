@@ -6,12 +6,13 @@ ghost use Rattle.promql_parser.specs.Parts.{Fails, IsGiven};
 ghost use Rattle.promql_parser.specs.Reading.{begins, first, expression};
 ghost use Rattle.promql_parser.specs.Wholes.{IsWhole};
 
+use crate::grammar::building::{binary_part, name_part, number_part, paren_part, unboxed};
 use crate::grammar::front::{LOWEST_LEVEL, level_above, next, take_operator, takes_right_paren};
 use crate::grammar::kind::Kind;
-use crate::grammar::part::{Halt, Part, binary_part, name_part, number_part, paren_part, unboxed};
+use crate::grammar::part::{Halt, Part};
 use crate::parser::MAX_DEPTH;
 use crate::tokens::Tokens;
-use crate::tree::Expr;
+use promql_ast::Expr;
 use promql_text::NumberFault;
 use std::alloc::Global;
 
@@ -55,7 +56,8 @@ pub fn read_expression(
     lowest: usize,
     tokens: &mut Tokens<'_>,
 ) -> Result<Part, Halt>
-    requires { room ≤ MAX_DEPTH }
+    requires room { room ≤ MAX_DEPTH }
+    requires lowest { 1 ≤ lowest }
     ensures gives { MatchResult result
         (λ part. IsGiven part (symbols_left tokens.new)
         (expression room lowest (symbols_left tokens.old)))

@@ -1,17 +1,14 @@
 //! What was built of a part of the tokens: its tree or first fault, and the height of its derivation.
 
-ghost use Rattle.std.specs.Prelude.{◌≡◌, ℕ, ◌+◌, ◌≤◌, max, List, IfOk};
-ghost use Rattle.promql_parser.specs.declared.grammar.kind.Kind as kinds;
-ghost use Rattle.promql_parser.specs.Grammar.{Derivation, number, name, paren, binary};
-ghost use Rattle.promql_parser.specs.Parts.{IsPart, built_of};
-ghost use Rattle.promql_parser.specs.Results.{on_result};
-ghost use Rattle.promql_parser.specs.Tree.{tree_of};
+ghost use Rattle.std.specs.Prelude.{◌≡◌, true};
+ghost use Rattle.std.specs.Result.{ForOk};
+ghost use Rattle.promql_ast.specs.Checks.{is_scalar_or_vector};
+ghost use Rattle.promql_ast.specs.Types.{type_of};
+ghost use Rattle.promql_ast.specs.View.{tree_of};
 
-use crate::parser::MAX_DEPTH;
-use crate::tree::{BinaryExpr, Expr, NumberLiteral, ParenExpr, VectorSelector};
-use promql_text::{NumberFault, parse_str_radix};
-use promql_token::{TokenId, TokenType};
-use std::alloc::{AllocError, AllocFailed, Global};
+use promql_ast::Expr;
+use promql_text::NumberFault;
+use std::alloc::{AllocError, AllocFailed};
 
 /// What was built, and how high its derivation is.
 ///
@@ -20,6 +17,8 @@ use std::alloc::{AllocError, AllocFailed, Global};
 pub struct Part {
     pub value: Result<Box<Expr>, NumberFault>,
     pub height: usize,
+    // No check of the core fails, since each of its expressions is a scalar or a vector.
+    ghost operand: { ForOk value (λ e. is_scalar_or_vector (type_of (tree_of e.value)) ≡ true) },
 }
 
 /// Why reading stops.
@@ -49,76 +48,5 @@ impl<T: Drop> From<AllocFailed<T>> for Halt {
 
     fn from(_e: AllocFailed<T>) -> Halt {
         Halt::Memory
-    }
-}
-
-pub fn number_part(alloc: Global, text: &str) -> Result<Part, AllocError>
-    ensures built { IfOk result (λ part. IsPart part (number text.now)) }
-    ensures low { IfOk result (λ part. part.height ≡ 1) }
-{
-    let value = match parse_str_radix(text) {
-        Ok(val) => Ok(Box::new(alloc, Expr::NumberLiteral(NumberLiteral { val }))?),
-        Err(fault) => Err(fault),
-    };
-    Ok(Part { value, height: 1 })
-}
-
-pub fn name_part(alloc: Global, text: &str) -> Result<Part, AllocError>
-    ensures built { IfOk result (λ part. (kind : kinds.Kind) → IsPart part (name kind text.now)) }
-    ensures low { IfOk result (λ part. part.height ≡ 1) }
-{
-    let name = Some(String::from_str(alloc, text)?);
-    let expr = Box::new(alloc, Expr::VectorSelector(VectorSelector { name }))?;
-    Ok(Part {
-        value: Ok(expr),
-        height: 1,
-    })
-}
-
-pub fn paren_part(alloc: Global, inner: Part) -> Result<Part, AllocError>
-    requires { inner.height ≤ MAX_DEPTH }
-    ensures built { IfOk result (λ part. (d : Derivation) → IsPart inner d → IsPart part (paren d)) }
-    ensures low { IfOk result (λ part. part.height ≡ inner.height + 1) }
-{
-    let Part { value, height } = inner;
-    let value = match value {
-        Ok(expr) => Ok(Box::new(alloc, Expr::Paren(ParenExpr { expr }))?),
-        Err(fault) => Err(fault),
-    };
-    Ok(Part {
-        value,
-        height: height + 1,
-    })
-}
-
-pub fn binary_part(alloc: Global, op: TokenId, left: Part, right: Part) -> Result<Part, AllocError>
-    requires low_left { left.height ≤ MAX_DEPTH }
-    requires low_right { right.height ≤ MAX_DEPTH }
-    ensures built { IfOk result (λ part. (text : List ℕ) (l r : Derivation)
-        → IsPart left l → IsPart right r → IsPart part (binary op text l r)) }
-    ensures low { IfOk result (λ part. part.height ≡ max left.height right.height + 1) }
-{
-    let height = left.height.max(right.height);
-    let value = match (left.value, right.value) {
-        (Ok(lhs), Ok(rhs)) => {
-            let op = TokenType::new(op);
-            Ok(Box::new(alloc, Expr::Binary(BinaryExpr { op, lhs, rhs }))?)
-        }
-        (Err(fault), _) => Err(fault),
-        (Ok(_), Err(fault)) => Err(fault),
-    };
-    Ok(Part {
-        value,
-        height: height + 1,
-    })
-}
-
-/// The expression or fault of a part.
-pub fn unboxed(part: Part) -> Result<Expr, NumberFault>
-    ensures { on_result tree_of result ≡ built_of part }
-{
-    match part.value {
-        Ok(expr) => Ok(Box::into_inner(expr)),
-        Err(fault) => Err(fault),
     }
 }
