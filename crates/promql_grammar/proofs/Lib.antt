@@ -1,0 +1,7 @@
+pub mod Complete
+pub mod Levels
+pub mod PiecesRead
+pub mod PiecesTaken
+pub mod Tests
+pub mod Unique
+pub mod Within
