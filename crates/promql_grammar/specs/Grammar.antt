@@ -1,0 +1,142 @@
+-- The grammar: derivations, their tokens, their heights, and which of them are well formed (docs/GRAMMAR.md, "Grammar").
+use Rattle.std.specs.Prelude.{◌≡◌, ◌⊎◌, ℕ, ◌+◌, ◌≤◌, ◌<◌, Bool, true, ◌==◌, if◌then◌else◌, min, max, Option, List, [], ◌∷◌, ◌++◌}
+use Rattle.std.specs.List.{list_any}
+use Rattle.promql_text.specs.Texts.{Text}
+use Rattle.promql_token.specs.declared.ids.TheConstants.{T_LOR, T_LAND, T_LUNLESS, T_EQLC, T_NEQ, T_LTE, T_LSS, T_GTE, T_GTR, T_ADD, T_SUB, T_POW}
+use Rattle.promql_grammar.specs.declared.kind.Kind.{Kind}
+use Rattle.promql_grammar.specs.declared.kind.Kind.TheVariants as kind
+use Rattle.promql_grammar.specs.Symbols.{Symbol, sign, word, is_sign_operator, may_be_name, may_be_called}
+use Rattle.promql_grammar.specs.Pieces.{Braces, yield_braces, yield_any_braces, IsBraces, IsAnyBraces, Clause, yield_before, yield_after, IsClause, Modifier, yield_modifier, IsModifier, Matching, no_matching, matching, Group, no_group, bare, listed, Fills, no_fill, Postfix, subquery, yield_postfix, IsPostfix}
+
+-- a derivation, with a case for each form of expression; it keeps the tokens of its form
+mutual
+  pub data Derivation : Type 0 where
+    number : Text → Derivation
+    duration : Text → Derivation
+    string : Text → Derivation
+    selector : Kind → Text → Option Braces → Derivation
+    nameless : Braces → Derivation
+    paren : Derivation → Derivation
+    call : Kind → Text → Arguments → Derivation
+    aggregate : ℕ → Text → Clause → Arguments → Derivation
+    postfixed : Derivation → Postfix → Derivation
+    unary : ℕ → Text → Derivation → Derivation
+    binary : ℕ → Text → Modifier → Derivation → Derivation → Derivation
+
+  pub data Arguments : Type 0 where
+    none : Arguments
+    more : Derivation → Arguments → Arguments
+
+-- the tokens that a derivation spells; those of arguments end with the closing parenthesis
+abbrev mutual
+  pub yield : Derivation → List Symbol
+  yield (number text) = word kind.Number text ∷ []
+  yield (duration text) = word kind.Duration text ∷ []
+  yield (string text) = word kind.Str text ∷ []
+  yield (selector k text b) = word k text ∷ yield_any_braces b
+  yield (nameless b) = yield_braces b
+  yield (paren d) = sign kind.LeftParen ∷ (yield d ++ sign kind.RightParen ∷ [])
+  yield (call k text ds) = word k text ∷ sign kind.LeftParen ∷ yield_arguments ds
+  yield (aggregate op text c ds) = word (kind.Aggregator op) text ∷ (yield_before c ++ sign kind.LeftParen ∷ (yield_arguments ds ++ yield_after c))
+  yield (postfixed d p) = yield d ++ yield_postfix p
+  yield (unary op text d) = word (kind.Operator op) text ∷ yield d
+  yield (binary op text m l r) = yield l ++ word (kind.Operator op) text ∷ (yield_modifier m ++ yield r)
+
+  pub yield_arguments : Arguments → List Symbol
+  yield_arguments none = sign kind.RightParen ∷ []
+  yield_arguments (more d ds) = yield d ++ yield_rest ds
+
+  pub yield_rest : Arguments → List Symbol
+  yield_rest none = sign kind.RightParen ∷ []
+  yield_rest (more d ds) = sign kind.Comma ∷ (yield d ++ yield_rest ds)
+
+-- the operators of one level, but for the highest two
+abbrev is_one_of : List ℕ → ℕ → Bool
+is_one_of ops op = list_any (λ k. op == k) ops
+
+-- how tightly an operator binds; `*`, `/`, `%` and `atan2` by 5
+abbrev pub level : ℕ → ℕ
+level op =
+    if op == T_POW then 6
+    else if is_one_of (T_LOR ∷ []) op then 1
+    else if is_one_of (T_LAND ∷ T_LUNLESS ∷ []) op then 2
+    else if is_one_of (T_EQLC ∷ T_NEQ ∷ T_LTE ∷ T_LSS ∷ T_GTE ∷ T_GTR ∷ []) op then 3
+    else if is_one_of (T_ADD ∷ T_SUB ∷ []) op then 4
+    else 5
+
+-- an operator of at most this level may follow the form and take all of it as its left side
+abbrev pub openness : Derivation → ℕ
+openness (unary op text d) = min 5 (openness d)
+openness (binary op text m l r) = min (level op) (openness r)
+openness d = 7
+
+-- the openness of a left side is at least the level, and for a power above it
+abbrev pub FitsLeft : ℕ → ℕ → Type 0
+FitsLeft op left = (if op == T_POW then 7 else level op) ≤ left
+
+-- a right side that is binary has a higher level, or both are powers
+abbrev pub FitsRight : ℕ → Derivation → Type 0
+FitsRight op (binary inner text m l r) = (level op < level inner) ⊎ ((op ≡ T_POW) × (inner ≡ T_POW))
+FitsRight op d = Unit {0}
+
+-- a sign before a binary form stands before a power
+abbrev pub FitsSign : Derivation → Type 0
+FitsSign (binary op text m l r) = op ≡ T_POW
+FitsSign d = Unit {0}
+
+-- a postfix follows a form without sign and operator outside
+abbrev pub IsBase : Derivation → Type 0
+IsBase (binary op text m l r) = ⊥
+IsBase (unary op text d) = ⊥
+IsBase d = Unit {0}
+
+abbrev pub OpensNoParen : List Symbol → Type 0
+OpensNoParen (sign kind.LeftParen ∷ ts) = ⊥
+OpensNoParen ts = Unit {0}
+
+-- a parenthesis directly after a grouping word opens its labels
+abbrev pub FitsGroup : Group → Fills → List Symbol → Type 0
+FitsGroup (bare k text) no_fill ts = OpensNoParen ts
+FitsGroup g f ts = Unit {0}
+
+abbrev pub FitsMatching : Matching → Fills → List Symbol → Type 0
+FitsMatching no_matching f ts = Unit {0}
+FitsMatching (matching k text ls g) f ts = FitsGroup g f ts
+
+-- the conditions hold everywhere in the derivation
+abbrev mutual
+  pub IsWellFormed : Derivation → Type 0
+  IsWellFormed (number text) = Unit {0}
+  IsWellFormed (duration text) = Unit {0}
+  IsWellFormed (string text) = Unit {0}
+  IsWellFormed (selector k text b) = (may_be_name k ≡ true) × IsAnyBraces b
+  IsWellFormed (nameless b) = IsBraces b
+  IsWellFormed (paren d) = IsWellFormed d
+  IsWellFormed (call k text ds) = (may_be_called k ≡ true) × AreWellFormed ds
+  IsWellFormed (aggregate op text c ds) = IsClause c × AreWellFormed ds
+  IsWellFormed (postfixed d p) = IsWellFormed d × IsBase d × IsPostfix p
+  IsWellFormed (unary op text d) = (is_sign_operator op ≡ true) × IsWellFormed d × FitsSign d
+  IsWellFormed (binary op text m l r) = IsWellFormed l × IsWellFormed r × IsModifier m × FitsLeft op (openness l) × FitsRight op r × FitsMatching m.matching m.fills (yield r)
+
+  pub AreWellFormed : Arguments → Type 0
+  AreWellFormed none = Unit {0}
+  AreWellFormed (more d ds) = IsWellFormed d × AreWellFormed ds
+
+-- what a postfix adds to the height of its base: a subquery is a form of its own
+abbrev pub added_height : Postfix → ℕ
+added_height (subquery t s) = 1
+added_height p = 0
+
+abbrev mutual
+  pub height : Derivation → ℕ
+  height (paren d) = 1 + height d
+  height (call k text ds) = 1 + greatest_height ds
+  height (aggregate op text c ds) = 1 + greatest_height ds
+  height (postfixed d p) = added_height p + height d
+  height (unary op text d) = 1 + height d
+  height (binary op text m l r) = 1 + max (height l) (height r)
+  height d = 1
+
+  pub greatest_height : Arguments → ℕ
+  greatest_height none = 0
+  greatest_height (more d ds) = max (height d) (greatest_height ds)

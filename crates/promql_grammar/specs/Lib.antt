@@ -1,0 +1,5 @@
+pub mod Grammar
+pub mod Pieces
+pub mod Reading
+pub mod Results
+pub mod Symbols
