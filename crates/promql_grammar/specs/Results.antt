@@ -1,5 +1,9 @@
--- A result after a result.
+-- Words on results.
 use Rattle.std.specs.Prelude.{Result, Ok, Err}
+
+abbrev pub on_result : {A B E : Type 0} → (A → B) → Result A E → Result B E
+on_result f (Ok x) = Ok (f x)
+on_result f (Err e) = Err e
 
 -- the second, where the first has no fault
 infixl 10 ◌then◌

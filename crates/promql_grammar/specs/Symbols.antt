@@ -1,5 +1,5 @@
 -- What a token is to the grammar (docs/GRAMMAR.md, "Kinds of tokens").
-use Rattle.std.specs.Prelude.{ℕ, Bool, true, false, ◌==◌, ◌||◌, if◌then◌else◌, List, [], ◌∷◌, slice_get}
+use Rattle.std.specs.Prelude.{ℕ, Bool, true, false, ◌==◌, ◌||◌, if◌then◌else◌, List, [], ◌∷◌, map, slice_get}
 use Rattle.std.specs.List.{list_any}
 use Rattle.std.specs.Option.{unwrap_or, option_map}
 use Rattle.promql_text.specs.Texts.{Text}
@@ -14,6 +14,10 @@ kind_in table id = unwrap_or (option_map (λ row. row.1) (slice_get table id)) k
 
 abbrev pub kind_of : ℕ → Kind
 kind_of = kind_in KINDS
+
+-- the ids of that table
+abbrev pub ids_of_kinds : List ℕ
+ids_of_kinds = map (λ row. row.0) KINDS
 
 -- the operators that are words, and those that are signs of a number
 abbrev pub is_word_operator : ℕ → Bool
@@ -88,6 +92,10 @@ pub data Symbol : Type 0 where
 
 abbrev pub symbol : Kind → Text → Symbol
 symbol k text = if is_sign k then sign k else word k text
+
+-- a token is its id and its text
+abbrev pub symbol_of : ℕ × Text → Symbol
+symbol_of t = symbol (kind_of t.0) t.1
 
 -- whether an expression may begin with the first token
 abbrev pub begins : List Symbol → Bool

@@ -1,7 +1,9 @@
 //! Why reading stops.
 
+use std::alloc::{AllocError, AllocFailed};
+
 /// Why reading stops before an expression is complete (docs/GRAMMAR.md, "The answer to a text").
-#[derive(Clone, Copy, PartialEq, Eq, Debug)]
+#[derive(Clone, Copy, Debug)]
 pub enum Halt {
     /// An allocation failed.
     Memory,
@@ -9,4 +11,26 @@ pub enum Halt {
     Syntax,
     /// An expression would be higher than the limit.
     TooDeep,
+}
+
+impl From<AllocError> for Halt {
+    ghost use Rattle.std.specs.Prelude.{◌≡◌};
+    ghost use Rattle.promql_grammar.specs.declared.halt.Halt.TheVariants.{Memory};
+
+    ghost from_gives = { λ _ e. e ≡ Memory };
+
+    fn from(_e: AllocError) -> Halt {
+        Halt::Memory
+    }
+}
+
+impl<T: Drop> From<AllocFailed<T>> for Halt {
+    ghost use Rattle.std.specs.Prelude.{◌≡◌};
+    ghost use Rattle.promql_grammar.specs.declared.halt.Halt.TheVariants.{Memory};
+
+    ghost from_gives = { λ _ e. e ≡ Memory };
+
+    fn from(_e: AllocFailed<T>) -> Halt {
+        Halt::Memory
+    }
 }

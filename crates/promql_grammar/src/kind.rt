@@ -7,7 +7,7 @@ use promql_token::TokenId;
 use promql_token::ids::*;
 
 /// The kind of a token (docs/GRAMMAR.md, "Kinds of tokens").
-#[derive(Clone, Copy, PartialEq, Eq, Debug)]
+#[derive(Clone, Copy, Debug)]
 pub enum Kind {
     Number,
     Duration,
@@ -161,4 +161,26 @@ pub fn kind_of(id: TokenId) -> Kind
     ensures { result ≡ spec.kind_of id }
 {
     kind_in(&KINDS, id)
+}
+
+impl Kind {
+    /// Whether a token of this kind may be a name.
+    pub fn may_be_name(self) -> bool
+        ensures { result ≡ spec.may_be_name self }
+    {
+        match self {
+            Kind::Name
+            | Kind::MetricName
+            | Kind::Aggregator(_)
+            | Kind::By
+            | Kind::Without
+            | Kind::Offset
+            | Kind::Start
+            | Kind::End
+            | Kind::Smoothed
+            | Kind::Anchored => true,
+            Kind::Operator(op) => matches!(op, T_LAND | T_LOR | T_LUNLESS | T_ATAN2),
+            _ => false,
+        }
+    }
 }

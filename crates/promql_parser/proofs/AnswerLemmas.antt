@@ -7,19 +7,19 @@ use Rattle.promql_text.specs.declared.number.Number.{Number}
 use Rattle.promql_text.specs.declared.number.NumberFault.{NumberFault}
 use Rattle.promql_text.specs.NumberText.{read_number}
 use Rattle.promql_token.specs.declared.fault.LexFault.{LexFault}
-use Rattle.promql_parser.specs.declared.grammar.kind.Kind.TheVariants as kind
-use Rattle.promql_parser.specs.declared.grammar.part.Halt.{Halt}
-use Rattle.promql_parser.specs.declared.grammar.part.Halt.TheVariants as halts
+use Rattle.promql_grammar.specs.declared.kind.Kind.TheVariants as kind
+use Rattle.promql_grammar.specs.declared.halt.Halt.{Halt}
+use Rattle.promql_grammar.specs.declared.halt.Halt.TheVariants as halts
 use Rattle.promql_parser.specs.declared.parser.ParseError.{ParseError}
 use Rattle.promql_parser.specs.declared.parser.ParseError.TheVariants as errors
 use Rattle.promql_ast.specs.declared.expr.Expr.{Expr}
-use Rattle.promql_parser.specs.Results.{on_result, ◌then◌}
+use Rattle.promql_grammar.specs.Results.{on_result, ◌then◌}
 use Rattle.promql_text.specs.Texts.{Text}
 use Rattle.promql_parser.specs.Lexing.{Token, tokens}
 use Rattle.promql_ast.specs.Tree as tree
 use Rattle.promql_ast.specs.View.{tree_of}
 use Rattle.promql_ast.specs.Height.{height as tree_height}
-use Rattle.promql_parser.specs.Symbols.{Symbol, symbol_of, sign, word}
+use Rattle.promql_grammar.specs.Symbols.{Symbol, symbol_of, sign, word}
 use Rattle.promql_parser.specs.Grammar.{Derivation, number, name, paren, binary, yield, height, IsWellFormed}
 use Rattle.promql_parser.specs.Building.{build}
 use Rattle.promql_parser.specs.Halts.{error_of}

@@ -2,14 +2,14 @@
 use Rattle.std.proofs.Common.{◌≡◌, ℕ, zero, suc, ◌+◌, ◌<◌, ◌≤◌, Bool, true, false, cond, refl, sym, ◌∙◌, ap, subst, arith, List, [], ◌∷◌, length}
 use Rattle.std.specs.Prelude.{Result, Ok, Err}
 use Rattle.std.proofs.lemmas.Bool.{cond_above, cond_below}
-use Rattle.promql_parser.specs.declared.grammar.kind.Kind.{Kind}
-use Rattle.promql_parser.specs.declared.grammar.kind.Kind.TheVariants as kind
-use Rattle.promql_parser.specs.declared.grammar.part.Halt.{Halt}
-use Rattle.promql_parser.specs.declared.grammar.part.Halt.TheVariants.{Memory, Syntax, TooDeep}
+use Rattle.promql_grammar.specs.declared.kind.Kind.{Kind}
+use Rattle.promql_grammar.specs.declared.kind.Kind.TheVariants as kind
+use Rattle.promql_grammar.specs.declared.halt.Halt.{Halt}
+use Rattle.promql_grammar.specs.declared.halt.Halt.TheVariants.{Memory, Syntax, TooDeep}
 use Rattle.promql_parser.specs.declared.grammar.part.Part.{Part}
-use Rattle.promql_parser.specs.Results.{◌then◌}
+use Rattle.promql_grammar.specs.Results.{◌then◌}
 use Rattle.promql_text.specs.Texts.{Text}
-use Rattle.promql_parser.specs.Symbols.{Symbol, may_be_name, sign, symbol, word}
+use Rattle.promql_grammar.specs.Symbols.{Symbol, may_be_name, sign, symbol, word}
 use Rattle.promql_parser.specs.Grammar.{Derivation, name, binary, level, height}
 use Rattle.promql_parser.specs.Parts.{IsPart, IsGiven, Fails}
 use Rattle.promql_parser.specs.Front.{Stops, TakesOperator}

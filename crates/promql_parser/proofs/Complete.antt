@@ -2,13 +2,13 @@
 use Rattle.std.proofs.Common.{◌≡◌, ℕ, zero, suc, ◌+◌, ◌-◌, ◌<◌, ◌≤◌, ⊎_elim, max, refl, sym, ◌∙◌, ap, arith, List, [], ◌∷◌, ◌++◌, length, append_assoc, append-nil, length-append, true, false, cond}
 use Rattle.std.specs.Prelude.{nat_lt, if◌then◌else◌, Result, Ok, Err}
 use Rattle.std.proofs.lemmas.Bool.{cases_lt, cond_below, cond_above}
-use Rattle.promql_parser.specs.declared.grammar.kind.Kind.{Kind}
-use Rattle.promql_parser.specs.declared.grammar.kind.Kind.TheVariants as kind
-use Rattle.promql_parser.specs.declared.grammar.part.Halt.{Halt}
-use Rattle.promql_parser.specs.declared.grammar.part.Halt.TheVariants.{Syntax, TooDeep}
-use Rattle.promql_parser.specs.Results.{◌then◌}
+use Rattle.promql_grammar.specs.declared.kind.Kind.{Kind}
+use Rattle.promql_grammar.specs.declared.kind.Kind.TheVariants as kind
+use Rattle.promql_grammar.specs.declared.halt.Halt.{Halt}
+use Rattle.promql_grammar.specs.declared.halt.Halt.TheVariants.{Syntax, TooDeep}
+use Rattle.promql_grammar.specs.Results.{◌then◌}
 use Rattle.promql_text.specs.Texts.{Text}
-use Rattle.promql_parser.specs.Symbols.{Symbol, may_be_name, sign, word}
+use Rattle.promql_grammar.specs.Symbols.{Symbol, may_be_name, sign, word}
 use Rattle.promql_parser.specs.Grammar.{Derivation, number, name, paren, binary, yield, level, openness, height, IsWellFormed}
 use Rattle.promql_parser.specs.Front.{Stops}
 use Rattle.promql_parser.specs.Reading.{above, Reader, closed, first, climb, expression}

@@ -8,7 +8,7 @@ use Rattle.promql_token.specs.declared.lexeme.Lexeme.{Lexeme}
 use Rattle.promql_token.specs.declared.fault.LexFault.{LexFault}
 use Rattle.promql_token.specs.Lexing.{sliced, result_sliced, text_at, collected, items, lex}
 use Rattle.promql_token.specs.Cursor.{is_before_end}
-use Rattle.promql_parser.specs.Results.{on_result}
+use Rattle.promql_grammar.specs.Results.{on_result}
 use Rattle.promql_text.specs.Texts.{Text}
 use Rattle.promql_parser.specs.Lexing.{Token, has_any, tokens}
 

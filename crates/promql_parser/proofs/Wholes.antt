@@ -5,12 +5,12 @@ use Rattle.std.proofs.lemmas.Bool.Decides.{nat_tests}
 use Rattle.std.proofs.lemmas.Bool.{cases_lt}
 use Rattle.promql_text.specs.declared.number.NumberFault.{NumberFault}
 use Rattle.promql_parser.specs.declared.grammar.part.Part.{Part}
-use Rattle.promql_parser.specs.declared.grammar.part.Halt.{Halt}
-use Rattle.promql_parser.specs.declared.grammar.part.Halt.TheVariants.{Memory, Syntax, TooDeep}
+use Rattle.promql_grammar.specs.declared.halt.Halt.{Halt}
+use Rattle.promql_grammar.specs.declared.halt.Halt.TheVariants.{Memory, Syntax, TooDeep}
 use Rattle.promql_ast.specs.declared.expr.Expr.{Expr}
-use Rattle.promql_parser.specs.Results.{on_result}
+use Rattle.promql_grammar.specs.Results.{on_result}
 use Rattle.promql_ast.specs.View.{tree_of}
-use Rattle.promql_parser.specs.Symbols.{Symbol}
+use Rattle.promql_grammar.specs.Symbols.{Symbol}
 use Rattle.promql_parser.specs.Grammar.{Derivation, yield, height, IsWellFormed}
 use Rattle.promql_parser.specs.Parts.{IsGiven, Fails, built_of}
 use Rattle.promql_parser.specs.Reading.{Read, expression}

@@ -6,13 +6,13 @@ use Rattle.promql_ast.specs.declared.expr.Expr.{Expr}
 use Rattle.promql_parser.specs.declared.parser.ParseError.{ParseError}
 use Rattle.promql_parser.specs.declared.parser.ParseError.TheVariants.{Memory, Lex, Empty, Syntax, TooDeep, Number}
 use Rattle.promql_parser.specs.declared.parser.TheConstants.{MAX_DEPTH}
-use Rattle.promql_parser.specs.Results.{on_result}
+use Rattle.promql_grammar.specs.Results.{on_result}
 use Rattle.promql_text.specs.Texts.{Text}
 use Rattle.promql_parser.specs.Lexing.{Token, tokens}
 use Rattle.promql_ast.specs.Tree.{Tree}
 use Rattle.promql_ast.specs.View.{tree_of}
 use Rattle.promql_ast.specs.Height.{height as tree_height}
-use Rattle.promql_parser.specs.Symbols.{Symbol, symbol_of}
+use Rattle.promql_grammar.specs.Symbols.{Symbol, symbol_of}
 use Rattle.promql_parser.specs.Grammar.{Derivation, yield, height, IsWellFormed}
 use Rattle.promql_parser.specs.Building.{build}
 

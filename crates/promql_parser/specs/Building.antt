@@ -2,7 +2,7 @@
 use Rattle.std.specs.Prelude.{Result, Ok, Option, Some, None, []}
 use Rattle.promql_text.specs.declared.number.NumberFault.{NumberFault}
 use Rattle.promql_text.specs.NumberText.{read_number}
-use Rattle.promql_parser.specs.Results.{◌then◌}
+use Rattle.promql_grammar.specs.Results.{◌then◌}
 use Rattle.promql_label.specs.PlainMatchers.{plain_matchers}
 use Rattle.promql_ast.specs.Selectors as selectors
 use Rattle.promql_ast.specs.Tree as tree

@@ -1,8 +1,8 @@
 -- What the first token is, or isn't. Private: nothing rests on believing it.
 use Rattle.std.specs.Prelude.{◌≡◌, ℕ, ◌≤◌, ◌<◌, List, ◌∷◌}
-use Rattle.promql_parser.specs.declared.grammar.kind.Kind.TheVariants as kind
+use Rattle.promql_grammar.specs.declared.kind.Kind.TheVariants as kind
 use Rattle.promql_text.specs.Texts.{Text}
-use Rattle.promql_parser.specs.Symbols.{Symbol, sign, word}
+use Rattle.promql_grammar.specs.Symbols.{Symbol, sign, word}
 use Rattle.promql_parser.specs.Grammar.{level}
 
 abbrev pub HasNoClosing : List Symbol → Type 0

@@ -1,10 +1,10 @@
 -- The grammar: derivations, their tokens, and which of them are well formed (docs/GRAMMAR.md, "Grammar").
 use Rattle.std.specs.Prelude.{◌≡◌, ℕ, ◌+◌, ◌≤◌, ◌<◌, true, ◌==◌, ◌||◌, if◌then◌else◌, min, max, List, [], ◌∷◌, ◌++◌}
 use Rattle.promql_token.specs.declared.ids.TheConstants.{T_ADD, T_SUB}
-use Rattle.promql_parser.specs.declared.grammar.kind.Kind.{Kind}
-use Rattle.promql_parser.specs.declared.grammar.kind.Kind.TheVariants as kind
+use Rattle.promql_grammar.specs.declared.kind.Kind.{Kind}
+use Rattle.promql_grammar.specs.declared.kind.Kind.TheVariants as kind
 use Rattle.promql_text.specs.Texts.{Text}
-use Rattle.promql_parser.specs.Symbols.{Symbol, may_be_name, sign, word}
+use Rattle.promql_grammar.specs.Symbols.{Symbol, may_be_name, sign, word}
 
 -- a derivation, with a case for each alternative of the grammar; it keeps the words of its alternative
 pub data Derivation : Type 0 where

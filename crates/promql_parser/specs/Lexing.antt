@@ -4,7 +4,7 @@ use Rattle.promql_text.specs.Texts.{Text}
 use Rattle.promql_token.specs.declared.fault.LexFault.{LexFault}
 use Rattle.promql_token.specs.Cursor.{is_before_end}
 use Rattle.promql_token.specs.Lexing as lexing
-use Rattle.promql_parser.specs.Results.{on_result}
+use Rattle.promql_grammar.specs.Results.{on_result}
 
 -- a token is its id and its text
 abbrev pub Token : Type 0

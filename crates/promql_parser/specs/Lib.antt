@@ -1,6 +1,4 @@
-pub mod Results
 pub mod Lexing
-pub mod Symbols
 pub mod Drawing
 pub mod Grammar
 pub mod Building

@@ -1,13 +1,13 @@
 -- What the parser's functions return, beside what reading gives. Private: nothing rests on believing it.
 use Rattle.std.specs.Prelude.{◌≡◌, List, Result, Ok, Err}
 use Rattle.promql_text.specs.declared.number.NumberFault.{NumberFault}
-use Rattle.promql_parser.specs.declared.grammar.part.Halt.{Halt}
-use Rattle.promql_parser.specs.declared.grammar.part.Halt.TheVariants.{Memory}
+use Rattle.promql_grammar.specs.declared.halt.Halt.{Halt}
+use Rattle.promql_grammar.specs.declared.halt.Halt.TheVariants.{Memory}
 use Rattle.promql_parser.specs.declared.grammar.part.Part.{Part}
-use Rattle.promql_parser.specs.Results.{on_result}
+use Rattle.promql_grammar.specs.Results.{on_result}
 use Rattle.promql_ast.specs.Tree.{Tree}
 use Rattle.promql_ast.specs.View.{tree_of}
-use Rattle.promql_parser.specs.Symbols.{Symbol}
+use Rattle.promql_grammar.specs.Symbols.{Symbol}
 use Rattle.promql_parser.specs.Grammar.{Derivation, height}
 use Rattle.promql_parser.specs.Building.{build}
 use Rattle.promql_parser.specs.Reading.{Read}

@@ -1,11 +1,11 @@
 -- Reading as a function on lists of tokens, to which the parser's functions are held. Private: nothing rests on
 -- believing it.
 use Rattle.std.specs.Prelude.{ℕ, zero, suc, ◌+◌, Bool, true, false, nat_lt, if◌then◌else◌, List, ◌∷◌, length, Result, Ok, Err}
-use Rattle.promql_parser.specs.declared.grammar.kind.Kind.TheVariants as kind
-use Rattle.promql_parser.specs.declared.grammar.part.Halt.{Halt}
-use Rattle.promql_parser.specs.declared.grammar.part.Halt.TheVariants.{Syntax, TooDeep}
-use Rattle.promql_parser.specs.Results.{◌then◌}
-use Rattle.promql_parser.specs.Symbols.{Symbol, may_be_name, sign, word}
+use Rattle.promql_grammar.specs.declared.kind.Kind.TheVariants as kind
+use Rattle.promql_grammar.specs.declared.halt.Halt.{Halt}
+use Rattle.promql_grammar.specs.declared.halt.Halt.TheVariants.{Syntax, TooDeep}
+use Rattle.promql_grammar.specs.Results.{◌then◌}
+use Rattle.promql_grammar.specs.Symbols.{Symbol, may_be_name, sign, word}
 use Rattle.promql_parser.specs.Grammar.{Derivation, number, name, paren, binary, level, height}
 
 -- a derivation and the tokens after it, or why there is none

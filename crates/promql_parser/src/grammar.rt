@@ -3,5 +3,4 @@
 pub mod building;
 pub mod expression;
 pub mod front;
-pub mod kind;
 pub mod part;

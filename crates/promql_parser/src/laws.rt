@@ -2,9 +2,7 @@
 
 ghost use Rattle.std.specs.Prelude.{◌≡◌, map};
 ghost use Rattle.promql_text.specs.Equalities.{IsSameBy};
-ghost use Rattle.promql_token.specs.Ids.{count_up};
 ghost use Rattle.promql_parser.specs.Grammar.{Derivation, IsWellFormed, yield};
-ghost use Rattle.promql_parser.specs.Symbols.{ids_of_kinds};
 ghost use Rattle.promql_parser.specs.declared.parser.ParseError as errors;
 
 use crate::parser::ParseError;
@@ -12,11 +10,6 @@ use crate::parser::ParseError;
 /// No two well formed derivations spell the same tokens, so a text has one tree.
 pub fn one_tree()
     ensures { (a b : Derivation) → IsWellFormed a → IsWellFormed b → yield a ≡ yield b → a ≡ b }
-{}
-
-/// The table of kinds has a row for each id, in the order of the ids.
-pub fn kinds_by_id()
-    ensures { ids_of_kinds ≡ count_up 0 86 }
 {}
 
 /// Errors are equal exactly if they are of one kind, with one fault.

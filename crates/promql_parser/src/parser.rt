@@ -3,9 +3,9 @@
 ghost use Rattle.promql_parser.specs.Answers.{IsAnswerTo, answer_of};
 
 use crate::grammar::expression::read_all;
-use crate::grammar::part::Halt;
 use crate::tokens::{Tokens, has_tokens};
 pub use promql_ast::{BinaryExpr, Expr, NumberLiteral, ParenExpr, VectorSelector};
+use promql_grammar::Halt;
 use promql_text::NumberFault;
 use promql_token::LexFault;
 use std::alloc::{AllocError, Global};

@@ -1,7 +1,7 @@
 //! Texts with their answers, from docs/GRAMMAR.md.
 
-use crate::grammar::kind::{Kind, kind_of};
 use crate::parser::{Expr, ParseError, parse};
+use promql_grammar::{Kind, kind_of};
 use promql_text::NumberFault;
 use promql_token::ids::*;
 use promql_token::scan::Lexer;

@@ -3,10 +3,10 @@
 ghost use Rattle.std.specs.Prelude.{◌≡◌, ◌==◌, List, [], ◌∷◌, length, drop, Ok, map, MatchOption};
 ghost use Rattle.promql_token.specs.Cursor.{tokens_left};
 ghost use Rattle.promql_parser.specs.Lexing.{Token, tokens, has_any};
-ghost use Rattle.promql_parser.specs.Symbols.{symbol, symbol_of};
+ghost use Rattle.promql_grammar.specs.Symbols.{symbol, symbol_of};
 ghost use Rattle.promql_parser.specs.Drawing.{symbols_left};
 
-use crate::grammar::kind::{Kind, kind_of};
+use promql_grammar::{Kind, kind_of};
 use promql_token::LexFault;
 use promql_token::cursor::Cursor;
 use promql_token::ids::T_EOF;

@@ -4,10 +4,10 @@ ghost use Rattle.std.specs.Prelude.{◌≡◌, ℕ, ◌+◌, ◌<◌, ◌≤◌,
 ghost use Rattle.promql_ast.specs.Checked as checks;
 ghost use Rattle.promql_ast.specs.Faults.{passes};
 ghost use Rattle.promql_ast.specs.View.{tree_of};
-ghost use Rattle.promql_parser.specs.declared.grammar.kind.Kind as kinds;
+ghost use Rattle.promql_grammar.specs.declared.kind.Kind as kinds;
 ghost use Rattle.promql_parser.specs.Grammar.{Derivation, number, name, paren, binary, level};
 ghost use Rattle.promql_parser.specs.Parts.{IsPart, built_of};
-ghost use Rattle.promql_parser.specs.Results.{on_result};
+ghost use Rattle.promql_grammar.specs.Results.{on_result};
 
 use crate::grammar::part::Part;
 use crate::parser::MAX_DEPTH;

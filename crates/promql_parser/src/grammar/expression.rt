@@ -8,11 +8,11 @@ ghost use Rattle.promql_parser.specs.Wholes.{IsWhole};
 
 use crate::grammar::building::{binary_part, name_part, number_part, paren_part, unboxed};
 use crate::grammar::front::{LOWEST_LEVEL, level_above, next, take_operator, takes_right_paren};
-use crate::grammar::kind::Kind;
-use crate::grammar::part::{Halt, Part};
+use crate::grammar::part::Part;
 use crate::parser::MAX_DEPTH;
 use crate::tokens::Tokens;
 use promql_ast::Expr;
+use promql_grammar::{Halt, Kind};
 use promql_text::NumberFault;
 use std::alloc::Global;
 

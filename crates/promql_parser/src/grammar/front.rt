@@ -1,15 +1,15 @@
 //! The first token, and how tightly operators bind.
 
 ghost use Rattle.std.specs.Prelude.{◌≡◌, ◌≤◌, [], ◌∷◌, IfNone, MatchBool, MatchOption};
-ghost use Rattle.promql_parser.specs.declared.grammar.kind.Kind.TheVariants as kinds;
+ghost use Rattle.promql_grammar.specs.declared.kind.Kind.TheVariants as kinds;
 ghost use Rattle.promql_parser.specs.Drawing.{symbols_left};
 ghost use Rattle.promql_parser.specs.Front.{HasNoClosing, Stops, TakesOperator};
 ghost use Rattle.promql_parser.specs.Grammar.{level};
-ghost use Rattle.promql_parser.specs.Symbols.{sign, symbol};
+ghost use Rattle.promql_grammar.specs.Symbols.{sign, symbol};
 ghost use Rattle.promql_parser.specs.Reading.{above};
 
-use crate::grammar::kind::Kind;
 use crate::tokens::Tokens;
+use promql_grammar::Kind;
 use promql_token::TokenId;
 use promql_token::ids::{T_ADD, T_SUB};
 

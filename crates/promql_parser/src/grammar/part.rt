@@ -8,7 +8,6 @@ ghost use Rattle.promql_ast.specs.View.{tree_of};
 
 use promql_ast::Expr;
 use promql_text::NumberFault;
-use std::alloc::{AllocError, AllocFailed};
 
 /// What was built, and how high its derivation is.
 ///
@@ -19,34 +18,4 @@ pub struct Part {
     pub height: usize,
     // No check of the core fails, since each of its expressions is a scalar or a vector.
     ghost operand: { ForOk value (λ e. is_scalar_or_vector (type_of (tree_of e.value)) ≡ true) },
-}
-
-/// Why reading stops.
-#[derive(Clone, Copy, Debug)]
-pub enum Halt {
-    Memory,
-    Syntax,
-    TooDeep,
-}
-
-impl From<AllocError> for Halt {
-    ghost use Rattle.std.specs.Prelude.{◌≡◌};
-    ghost use Rattle.promql_parser.specs.declared.grammar.part.Halt.TheVariants.{Memory};
-
-    ghost from_gives = { λ _ e. e ≡ Memory };
-
-    fn from(_e: AllocError) -> Halt {
-        Halt::Memory
-    }
-}
-
-impl<T: Drop> From<AllocFailed<T>> for Halt {
-    ghost use Rattle.std.specs.Prelude.{◌≡◌};
-    ghost use Rattle.promql_parser.specs.declared.grammar.part.Halt.TheVariants.{Memory};
-
-    ghost from_gives = { λ _ e. e ≡ Memory };
-
-    fn from(_e: AllocFailed<T>) -> Halt {
-        Halt::Memory
-    }
 }
