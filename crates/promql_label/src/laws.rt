@@ -30,9 +30,10 @@ pub fn common_labels_are_distinct()
     ensures { (ls others : List Text) → AllPairs (λ l k. l ≢ k) (common ls others) }
 {}
 
-/// The common labels stand in the order in which the first list has them first.
+/// The common labels come in the order in which the first list has them first.
 pub fn common_labels_keep_their_order()
-    ensures { (ls others : List Text) → AllPairs (λ l k. first_place ls l < first_place ls k) (common ls others) }
+    ensures { (ls others : List Text)
+        → AllPairs (λ l k. first_place ls l < first_place ls k) (common ls others) }
 {}
 
 /// No other list has these labels in this order.
@@ -45,10 +46,12 @@ pub fn common_labels_are_one_list()
 
 /// A label of the one list is among the others exactly if there are common labels.
 pub fn joint_lists_have_common_labels()
-    ensures { (ls others : List Text) → IsTrue (list_any (is_among others) ls) ↔ (common ls others ≢ []) }
+    ensures { (ls others : List Text)
+        → IsTrue (list_any (is_among others) ls) ↔ (common ls others ≢ []) }
 {}
 
-/// A count, as the rules have it, stands in front of a text exactly if the test of `escape_repeats` says so.
+/// A count, as the rules have it, comes before a text exactly if the test of `escape_repeats` says
+/// so.
 pub fn counts()
     ensures { (z : Text) → IsTrue (opens_count z) ↔ OpensCount z }
 {}
@@ -76,7 +79,8 @@ pub fn equal_matchers()
     ensures hashed { HashesAlike plain_matcher_of ⟦<Matcher as Hash>⟧.hash_input }
 {}
 
-/// Lists of matchers are equal exactly if they have the same matchers beside the groups, and the same groups.
+/// Lists of matchers are equal exactly if they have the same matchers beside the groups, and the
+/// same groups.
 pub fn equal_matcher_lists()
     ensures { IsSameBy plain_matchers_of ⟦<Matchers as PartialEq>⟧.eq }
 {}

@@ -1,5 +1,5 @@
-//! Labels and label matchers: lists of labels, patterns, matchers and their or-groups.
-//! The rules stand in docs/MATCHERS.md.
+//! Labels and label matchers: lists of labels, patterns, matchers and their or-groups. The rules
+//! are in docs/MATCHERS.md.
 #![tactic(auto)]
 
 pub use labels::{Label, Labels};

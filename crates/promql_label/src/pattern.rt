@@ -31,7 +31,8 @@ impl Model for Pattern {
 
     ghost view = { λ p. regex_source p.regex.value };
 
-    ghost invariant = { λ p. (regex_config p.regex.value ≡ default_config) × IsReadFromSource p.regex.value };
+    ghost invariant = { λ p. (regex_config p.regex.value ≡ default_config)
+        × IsReadFromSource p.regex.value };
 }
 
 /// Why no pattern is built.
@@ -40,7 +41,7 @@ pub enum PatternFault {
     /// Memory ran out.
     #[error("out of memory")]
     Memory,
-    /// `regex` refuses the value.
+    /// `regex` rejects the value.
     #[error("illegal regex for {0}")]
     Refused(String),
 }
@@ -56,7 +57,8 @@ impl From<AllocError> for PatternFault {
     }
 }
 
-/// What `regex` makes of a text: the compiled text, nothing where it refuses the text, or that memory ran out.
+/// What `regex` makes of a text: the compiled text, nothing where it rejects the text, or that
+/// memory ran out.
 fn compile(alloc: Global, text: &str) -> Result<Option<Regex>, AllocError>
     ensures read { IfOk result (λ o. IfSome o (IsCompiledFrom text.now)) }
     ensures refused { IfOk result (λ o. IfNone o (MayRefuse text.now)) }
@@ -99,12 +101,13 @@ fn anchored(alloc: Global, form: &str) -> Result<Option<Pattern>, AllocError>
 impl Pattern {
     /// The pattern of a value, which has to match a whole text.
     ///
-    /// Its text is the value between `^(?:` and `)$`. The value by itself has to be a pattern too. Where `regex` refuses
-    /// one of the two, both are tried once more with the value's escaped repetitions.
+    /// Its text is the value between `^(?:` and `)$`. The value by itself has to be a pattern too.
+    /// Where `regex` rejects one of the two, both are tried once more with the value's escaped
+    /// repetitions.
     ///
     /// # Errors
     ///
-    /// `Refused` with the value, where `regex` refuses both; `Memory` where memory runs out.
+    /// `Refused` with the value, where `regex` rejects both; `Memory` if an allocation fails.
     pub fn read(alloc: Global, value: &str) -> Result<Pattern, PatternFault>
         ensures built { IfOk result (λ p. Allows value.now (built p)) }
         ensures refused { IfErr result (IsRefused value.now (Allows value.now refused)) }
@@ -119,7 +122,7 @@ impl Pattern {
     ///
     /// # Errors
     ///
-    /// `Refused` with the text, where `regex` refuses it; `Memory` where memory runs out.
+    /// `Refused` with the text, where `regex` rejects it; `Memory` if an allocation fails.
     pub fn of_text(alloc: Global, text: &str) -> Result<Pattern, PatternFault>
         ensures built { IfOk result (λ p. (p ≡ text.now) × IsRead text.now) }
         ensures refused { IfErr result (IsRefused text.now (MayRefuse text.now)) }
@@ -130,7 +133,7 @@ impl Pattern {
         }
     }
 
-    /// The pattern of a value whose own form is refused.
+    /// The pattern of a value whose own form is rejected.
     fn read_escaped(alloc: Global, value: &str) -> Result<Pattern, PatternFault>
         requires { MayRefusePair value.now }
         ensures built { IfOk result (λ p. Allows value.now (built p)) }

@@ -30,7 +30,8 @@ pub fn durations_read_back()
     ensures { (n : ℕ) → 0 < n → n < 2 ^ 64 * 1_000_000_000 → duration_of (duration_text n) ≡ Ok n }
 {}
 
-/// A quoted text, which is a quote, spellings of characters and the same quote, is read as these characters.
+/// A quoted text, which is a quote, spellings of characters and the same quote, is read as these
+/// characters.
 pub fn quoted_texts_are_read()
     ensures { (s : Text) (cs : List ℕ) → IsQuotedText s cs
         → quoting.unquoted_text s ≡ Some (encode_utf8_all cs) }
@@ -62,7 +63,8 @@ pub fn equal_values_are_one()
     ensures { (v w : Exact) → IsExact v → IsExact w → SameValue v w → v ≡ w }
 {}
 
-/// A text is a numeral exactly if it is spelled as one: digits, a point or none, digits, an exponent or none.
+/// A text is a numeral exactly if it is spelled as one: digits, a point or none, digits, an
+/// exponent or none.
 pub fn numerals_are_spelled()
     ensures { NumeralsAreSpelled }
 {}

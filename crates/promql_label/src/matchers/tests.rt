@@ -17,7 +17,7 @@ fn pattern(alloc: Global, name: &str, value: &str) -> Result<Matcher, MatcherErr
     Matcher::new_matcher(alloc, T_EQL_REGEX, name, value)
 }
 
-/// How the matchers print, each behind a space, and `|` before each group.
+/// How the matchers print, each after a space, and `|` before each group.
 fn shown(alloc: Global, list: &Matchers) -> Result<String, AllocError> {
     let mut text = shown_all(alloc, &list.matchers)?;
     for group in &list.or_matchers {

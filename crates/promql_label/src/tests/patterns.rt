@@ -1,4 +1,4 @@
-//! Patterns that `regex` reads, and those that it refuses.
+//! Patterns that `regex` reads, and those that it rejects.
 
 use crate::{Pattern, PatternFault};
 use std::alloc::{AllocError, Global};
@@ -37,7 +37,7 @@ fn is_refused(fault: &PatternFault, value: &str) -> bool {
 
 #[test]
 fn what_is_no_pattern_is_refused(rt: HostRuntime) {
-    // The last is refused for the size of what it would compile to.
+    // The last is rejected for the size of what it would compile to.
     for value in ["a)|(?:b", r"b\", "(", "[", "*", r"\", r"\w{1000}"] {
         match Pattern::read(rt.alloc(), value) {
             Ok(_pattern) => assert!(rt; false, "{value} is no pattern"),
