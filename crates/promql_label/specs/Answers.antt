@@ -1,4 +1,4 @@
--- What `regex` may answer for a pattern: docs/MATCHERS.md, "Patterns".
+-- What `regex` may return for a pattern: docs/MATCHERS.md, "Patterns".
 use Rattle.std.specs.Prelude.{◌≡◌, ◌≢◌, ◌⊎◌, Bool, false, ◌++◌, Option, Some, None, is_some, option_map, unwrap_or, codes, chars}
 use Rattle.regex.specs.Failures.{IsPattern}
 use Rattle.regex.specs.Strings.{regex_source, regex_config, IsReadFromSource, IsDefaultFailure}
@@ -18,7 +18,7 @@ anchored u = codes "^(?:" ++ (u ++ codes ")$")
 abbrev pub IsRead : Text → Type 0
 IsRead = IsPattern default_config
 
--- `regex` may refuse the text for another cause than memory
+-- `regex` may reject the text for another cause than memory
 abbrev pub MayRefuse : Text → Type 0
 MayRefuse w = (e : Error) × (e ≢ OutOfMemory) × IsDefaultFailure w e
 
@@ -26,7 +26,7 @@ MayRefuse w = (e : Error) × (e ≢ OutOfMemory) × IsDefaultFailure w e
 abbrev pub IsCompiledFrom : Text → Regex → Type 0
 IsCompiledFrom w r = (regex_source r ≡ w) × (regex_config r ≡ default_config) × IsReadFromSource r
 
--- a form of a pattern is read, or refused, by itself or anchored
+-- a form of a pattern is read, or rejected, by itself or anchored
 abbrev pub IsReadPair : Text → Type 0
 IsReadPair u = IsRead u × IsRead (anchored u)
 
@@ -38,12 +38,12 @@ abbrev pub IsTried : Text → Option Text → Type 0
 IsTried u (Some w) = (w ≡ anchored u) × IsReadPair u
 IsTried u None = MayRefusePair u
 
--- what is answered for a pattern: the built text, or that it is refused
+-- what is returned for a pattern: the built text, or that it is rejected
 pub data Answer : Type 0 where
   built : Text → Answer
   refused : Answer
 
--- "Answers": `regex` allows this answer for a pattern
+-- "Answers": `regex` allows this result for a pattern
 pub data Allows : Text → Answer → Type 0 where
   as_it_is : (v : Text) → IsReadPair v → Allows v (built (anchored v))
   escaped : (v : Text) → MayRefusePair v → IsReadPair (escaped_repeats v) → Allows v (built (anchored (escaped_repeats v)))

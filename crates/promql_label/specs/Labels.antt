@@ -15,7 +15,7 @@ labels_of x = map string_bytes x.labels.items
 abbrev pub is_among : List Text → Text → Bool
 is_among ls l = list_any (bytes_eq l) ls
 
--- each text of the list once, where it stands first
+-- each text of the list once, where it comes first
 abbrev pub firsts : List Text → List Text
 firsts [] = []
 firsts (l ∷ ls) = l ∷ filter (λ k. not (bytes_eq l k)) (firsts ls)

@@ -57,7 +57,7 @@ matcher_text (plain_matcher op name value) = name_text name ++ (operator_text op
 abbrev pub every : PlainMatchers → List PlainMatcher
 every (plain_matchers plain groups) = plain ++ flat_map (λ g. g) groups
 
--- the list with c behind the last group
+-- the list with c after the last group
 abbrev pub grown : List (List PlainMatcher) → PlainMatcher → List (List PlainMatcher)
 grown [] c = []
 grown (g ∷ []) c = (g ++ c ∷ []) ∷ []

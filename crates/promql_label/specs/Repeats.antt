@@ -9,17 +9,17 @@ pub record IsNumeral (n : Text) : Type 0 where
   pub some : 0 < length n
   pub digits : list_all is_ascii_digit n ≡ true
 
--- "Repetitions": a count, which is `n}`, `n,}` or `n,m}`, stands in front of some text
+-- "Repetitions": a count, which is `n}`, `n,}` or `n,m}`, comes before some text
 pub data OpensCount : Text → Type 0 where
   exactly : (n z : Text) → IsNumeral n → OpensCount (n ++ (codes "}" ++ z))
   at_least : (n z : Text) → IsNumeral n → OpensCount (n ++ (codes ",}" ++ z))
   between : (n m z : Text) → IsNumeral n → IsNumeral m → OpensCount (n ++ (codes "," ++ (m ++ (codes "}" ++ z))))
 
--- what is left behind the digits that the text begins with
+-- what is left after the digits that the text begins with
 abbrev pub behind_digits : Text → Text
 behind_digits z = drop (prefix_len is_ascii_digit z) z
 
--- whether a count stands in front: the law `counts`
+-- whether a count comes next: the law `counts`
 abbrev pub opens_count : Text → Bool
 opens_count z =
     is_ascii_digit (slice_index z 0)
@@ -27,15 +27,15 @@ opens_count z =
     slice_index end 0 == 125
     || slice_index end 0 == 44 && slice_index (behind_digits (drop 1 end)) 0 == 125)
 
--- "Repetitions": a `{` behind which no count stands
+-- "Repetitions": a `{` after which no count comes
 abbrev pub is_loose : ℕ → Text → Bool
 is_loose b z = b == 123 && not (opens_count z)
 
--- a byte in front of z, with a backslash if it is loose
+-- a byte before z, with a backslash if it is loose
 abbrev pub marked : ℕ → Text → Text
 marked b z = if is_loose b z then 92 ∷ b ∷ [] else b ∷ []
 
--- "Repetitions": the escaped form of a pattern. A backslash stays, and so does the byte behind it.
+-- "Repetitions": the escaped form of a pattern. A backslash stays, and so does the byte after it.
 abbrev pub escaped_repeats : Text → Text
 escaped_repeats [] = []
 escaped_repeats (b ∷ []) = marked b []

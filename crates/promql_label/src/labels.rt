@@ -31,7 +31,7 @@ impl Labels {
         Ok(Labels { labels: owned })
     }
 
-    /// The list with a label behind it.
+    /// The list with a label after it.
     pub fn append(self, label: Label) -> Result<Labels, AllocError>
         ensures { IfOk result (λ x. labels_of x ≡ labels_of self ++ string_bytes label ∷ []) }
     {
@@ -57,10 +57,11 @@ impl Labels {
             .any(|label| other.contains(label.as_str()))
     }
 
-    /// The labels of this list that the other has too, each once, in the order in which this list has them first:
-    /// docs/MATCHERS.md, "Common labels".
+    /// The labels of this list that the other has too, each once, in the order in which this list
+    /// has them first: docs/MATCHERS.md, "Common labels".
     pub fn intersect(&self, alloc: Global, other: &Labels) -> Result<Labels, AllocError>
-        ensures { IfOk result (λ x. labels_of x ≡ common (labels_of self.now) (labels_of other.now)) }
+        ensures { IfOk result (λ x.
+            labels_of x ≡ common (labels_of self.now) (labels_of other.now)) }
     {
         let mut both = Labels {
             labels: Vec::new(alloc),

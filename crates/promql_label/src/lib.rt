@@ -1,5 +1,14 @@
-//! Labels and label matchers: lists of labels, patterns, matchers and their or-groups.
-//! The rules stand in docs/MATCHERS.md.
+//! Labels and label matchers: lists of labels, patterns, matchers and their or-groups. The rules
+//! are in docs/MATCHERS.md.
+//!
+//! ```text
+//! let job = Matcher::new(alloc, MatchOp::Equal, "job", "api")?;
+//! let env = MatchOp::Re(Pattern::read(alloc, "prod|staging")?);
+//! let env = Matcher::new(alloc, env, "env", "prod|staging")?;
+//! let is_prod = env.is_match(alloc, "prod")?; // true
+//! let both = Matchers::one(alloc, job)?.append(env)?;
+//! let text = both.to_string(alloc)?; // env=~"prod|staging",job="api"
+//! ```
 #![tactic(auto)]
 
 pub use labels::{Label, Labels};

@@ -82,7 +82,8 @@ pub struct Matcher {
 impl Matcher {
     /// The matcher of an operator, a name and a value.
     pub fn new(alloc: Global, op: MatchOp, name: &str, value: &str) -> Result<Matcher, AllocError>
-        ensures { IfOk result (λ m. plain_matcher_of m ≡ plain_matcher (operator_of op) name.now value.now) }
+        ensures { IfOk result (λ m.
+            plain_matcher_of m ≡ plain_matcher (operator_of op) name.now value.now) }
     {
         Ok(Matcher {
             op,
@@ -91,7 +92,8 @@ impl Matcher {
         })
     }
 
-    /// Whether the matcher matches a text. Only want of memory can come in place of the answer.
+    /// Whether the matcher matches a text. Each call on a pattern allocates what the search needs,
+    /// and frees it; the only error is that memory ran out.
     pub fn is_match(&self, alloc: Global, text: &str) -> Result<bool, AllocError>
         ensures { IfOk result (λ b. b ≡ holds (plain_matcher_of self.now) text.now) }
     {
@@ -103,20 +105,21 @@ impl Matcher {
         }
     }
 
-    /// The matcher that a token's id, a name and a value make. The name and the value are moved, so it takes memory for a
-    /// pattern alone.
+    /// The matcher that a token's id, a name and a value make. The name and the value are moved, so
+    /// it allocates for a pattern alone.
     ///
     /// # Errors
     ///
-    /// `InvalidOp` for an id that is no operator of matchers; `Pattern` with the value, where it is to be a pattern and
-    /// `regex` refuses it; `Memory` where a pattern finds no room.
+    /// `InvalidOp` for an id that is no operator of matchers; `Pattern` with the value, where it is
+    /// to be a pattern and `regex` rejects it; `Memory` if an allocation for the pattern fails.
     pub fn new_matcher(
         alloc: Global,
         id: TokenId,
         name: String,
         value: String,
     ) -> Result<Matcher, MatcherError>
-        ensures built { IfOk result (λ m. IsMatcherOf id (string_bytes name) (string_bytes value) (plain_matcher_of m)) }
+        ensures built { IfOk result (λ m.
+            IsMatcherOf id (string_bytes name) (string_bytes value) (plain_matcher_of m)) }
         ensures text { is_text_id id ≡ true → IsOk result }
         ensures invalid { IsErrOf result (MatcherError.InvalidOp id) ↔ (is_operator_id id ≡ false) }
         ensures fault { IfErr result (IsFaultOf id (string_bytes value)) }
@@ -133,7 +136,8 @@ impl Matcher {
 
     /// The matcher that the metric's name is this one.
     pub fn new_metric_name_matcher(alloc: Global, name: String) -> Result<Matcher, AllocError>
-        ensures { IfOk result (λ m. plain_matcher_of m ≡ plain_matcher equal (codes "__name__") (string_bytes name)) }
+        ensures { IfOk result (λ m.
+            plain_matcher_of m ≡ plain_matcher equal (codes "__name__") (string_bytes name)) }
     {
         Ok(Matcher {
             op: MatchOp::Equal,
@@ -179,7 +183,7 @@ pub enum MatcherError {
     /// No operator of matchers has this id.
     #[error("invalid match op {}", TokenType::new(*.0))]
     InvalidOp(TokenId),
-    /// `regex` refuses the value.
+    /// `regex` rejects the value.
     #[error("illegal regex for {0}")]
     Pattern(String),
 }

@@ -35,7 +35,8 @@ impl Matchers {
 
     /// One matcher, and no groups.
     pub fn one(alloc: Global, matcher: Matcher) -> Result<Matchers, AllocError>
-        ensures { IfOk result (λ m. plain_matchers_of m ≡ plain_matchers (plain_matcher_of matcher ∷ []) []) }
+        ensures { IfOk result (λ m.
+            plain_matchers_of m ≡ plain_matchers (plain_matcher_of matcher ∷ []) []) }
     {
         let mut matchers = Vec::new(alloc);
         matchers.push(matcher)?;
@@ -44,7 +45,8 @@ impl Matchers {
 
     /// These matchers, and no groups.
     pub fn new(alloc: Global, matchers: Vec<Matcher>) -> Matchers
-        ensures { plain_matchers_of result ≡ plain_matchers (map plain_matcher_of matchers.items) [] }
+        ensures { plain_matchers_of result
+            ≡ plain_matchers (map plain_matcher_of matchers.items) [] }
     {
         Matchers {
             matchers,
@@ -54,7 +56,8 @@ impl Matchers {
 
     /// The same matchers, with these groups.
     pub fn with_or_matchers(self, or_matchers: Vec<Vec<Matcher>>) -> Matchers
-        ensures { plain_matchers_of result ≡ plain_matchers (map plain_matcher_of self.matchers.items)
+        ensures { plain_matchers_of result
+            ≡ plain_matchers (map plain_matcher_of self.matchers.items)
             (map (λ g. map plain_matcher_of g.items) or_matchers.items) }
     {
         Matchers {
@@ -65,7 +68,8 @@ impl Matchers {
 
     /// The list with one more matcher: in the last group if there is one, else beside the groups.
     pub fn append(mut self, matcher: Matcher) -> Result<Matchers, AllocError>
-        ensures { IfOk result (λ m. plain_matchers_of m ≡ appended (plain_matchers_of self) (plain_matcher_of matcher)) }
+        ensures { IfOk result (λ m.
+            plain_matchers_of m ≡ appended (plain_matchers_of self) (plain_matcher_of matcher)) }
     {
         match self.or_matchers.last_mut() {
             Some(group) => group.push(matcher)?,
@@ -74,11 +78,12 @@ impl Matchers {
         Ok(self)
     }
 
-    /// The list with one more group, which has this matcher alone. Matchers beside the groups become a group before it.
-    pub fn append_or(mut self, matcher: Matcher) -> Result<Matchers, AllocError>
-        ensures { IfOk result (λ m. plain_matchers_of m ≡ appended_or (plain_matchers_of self) (plain_matcher_of matcher)) }
+    /// The list with one more group, which has this matcher alone. Matchers beside the groups
+    /// become a group before it.
+    pub fn append_or(mut self, alloc: Global, matcher: Matcher) -> Result<Matchers, AllocError>
+        ensures { IfOk result (λ m. plain_matchers_of m
+            ≡ appended_or (plain_matchers_of self) (plain_matcher_of matcher)) }
     {
-        let alloc = *self.or_matchers.allocator();
         let mut group = Vec::new(alloc);
         group.push(matcher)?;
         if !self.matchers.is_empty() {
@@ -89,7 +94,7 @@ impl Matchers {
         Ok(self)
     }
 
-    /// Whether every matcher matches the empty text. Only want of memory can come in place of the answer.
+    /// Whether every matcher matches the empty text. The only error is that memory ran out.
     pub fn is_empty_matchers(&self, alloc: Global) -> Result<bool, AllocError>
         ensures { IfOk result (λ b. b ≡ all_match_empty (plain_matchers_of self.now)) }
     {
@@ -107,7 +112,8 @@ impl Matchers {
     /// The value of the first matcher of this name.
     #[tactic(auto, using(crate::proofs::Found::searching))]
     pub fn find_matcher_value(&self, name: &str) -> Option<&str>
-        ensures { option_map (λ v. v.now) result ≡ found_value (plain_matchers_of self.now) name.now }
+        ensures { option_map (λ v. v.now) result
+            ≡ found_value (plain_matchers_of self.now) name.now }
     {
         if let Some(value) = named_value(&self.matchers, name) {
             return Some(value);
@@ -120,9 +126,11 @@ impl Matchers {
         None
     }
 
-    /// Copies of all matchers of this name: those beside the groups, then those in the groups, in order.
+    /// Copies of all matchers of this name: those beside the groups, then those in the groups, in
+    /// order.
     pub fn find_matchers(&self, alloc: Global, name: &str) -> Result<Vec<Matcher>, AllocError>
-        ensures { IfOk result (λ v. map plain_matcher_of v.items ≡ found (plain_matchers_of self.now) name.now) }
+        ensures { IfOk result (λ v.
+            map plain_matcher_of v.items ≡ found (plain_matchers_of self.now) name.now) }
     {
         let mut matchers = Vec::new(alloc);
         copy_named(alloc, &self.matchers, name, &mut matchers)?;
@@ -165,7 +173,8 @@ impl fmt::Display for Matchers {
 
 fn write_groups<W: fmt::Write>(groups: &[Vec<Matcher>], f: &mut fmt::Formatter<W>) -> fmt::Result
     ensures { WritesOnOk W.write_str_gives f.old result
-        (joined_text (codes " or ") (map (λ g. group_text (map plain_matcher_of g.items)) groups.now))
+        (joined_text (codes " or ")
+        (map (λ g. group_text (map plain_matcher_of g.items)) groups.now))
         f.new }
 {
     for (i, group) in groups.iter().enumerate() {
@@ -177,7 +186,8 @@ fn write_groups<W: fmt::Write>(groups: &[Vec<Matcher>], f: &mut fmt::Formatter<W
 
 /// Whether each matches the empty text.
 fn match_empty(alloc: Global, matchers: &[Matcher]) -> Result<bool, AllocError>
-    ensures { IfOk result (λ b. b ≡ list_all (λ c. holds c []) (map plain_matcher_of matchers.now)) }
+    ensures { IfOk result (λ b.
+        b ≡ list_all (λ c. holds c []) (map plain_matcher_of matchers.now)) }
 {
     for matcher in matchers {
         if !matcher.is_match(alloc, "")? {
@@ -208,7 +218,8 @@ fn copy_named(
     copies: &mut Vec<Matcher>,
 ) -> Result<(), AllocError>
     ensures { OnOk result (map plain_matcher_of copies.new.items
-        ≡ map plain_matcher_of copies.old.items ++ filter (is_of name.now) (map plain_matcher_of matchers.now)) }
+        ≡ map plain_matcher_of copies.old.items
+        ++ filter (is_of name.now) (map plain_matcher_of matchers.now)) }
 {
     for matcher in matchers {
         if matcher.name.as_str() == name {

@@ -1,6 +1,6 @@
 //! Patterns: docs/MATCHERS.md, "Patterns".
 
-ghost use Rattle.std.specs.Prelude.{◌≡◌, IfOk, IfErr, IfSome, IfNone};
+ghost use Rattle.std.specs.Prelude.{◌≡◌, true, false, IfOk, IfErr, IfSome, IfNone};
 ghost use Rattle.regex.specs.Patterns.{default_config};
 ghost use Rattle.regex.specs.Strings.{regex_config, regex_source, IsReadFromSource};
 ghost use Rattle.promql_label.specs.Refusals.{IsRefused};
@@ -8,6 +8,7 @@ ghost use Rattle.promql_label.specs.Answers.{Allows, built, finds, IsCompiledFro
 
 use crate::repeats::escape_repeats;
 use regex::Regex;
+use regex_syntax::{Config, ErrorKind};
 use std::alloc::{AllocError, Global};
 use std::fmt;
 use std::hash::{Hash, Hasher};
@@ -30,7 +31,8 @@ impl Model for Pattern {
 
     ghost view = { λ p. regex_source p.regex.value };
 
-    ghost invariant = { λ p. (regex_config p.regex.value ≡ default_config) × IsReadFromSource p.regex.value };
+    ghost invariant = { λ p. (regex_config p.regex.value ≡ default_config)
+        × IsReadFromSource p.regex.value };
 }
 
 /// Why no pattern is built.
@@ -39,7 +41,7 @@ pub enum PatternFault {
     /// Memory ran out.
     #[error("out of memory")]
     Memory,
-    /// `regex` refuses the value.
+    /// `regex` rejects the value.
     #[error("illegal regex for {0}")]
     Refused(String),
 }
@@ -55,7 +57,8 @@ impl From<AllocError> for PatternFault {
     }
 }
 
-/// What `regex` makes of a text: the compiled text, nothing where it refuses the text, or that memory ran out.
+/// What `regex` makes of a text: the compiled text, nothing where it rejects the text, or that
+/// memory ran out.
 fn compile(alloc: Global, text: &str) -> Result<Option<Regex>, AllocError>
     ensures read { IfOk result (λ o. IfSome o (IsCompiledFrom text.now)) }
     ensures refused { IfOk result (λ o. IfNone o (MayRefuse text.now)) }
@@ -67,13 +70,27 @@ fn compile(alloc: Global, text: &str) -> Result<Option<Regex>, AllocError>
     }
 }
 
+/// Whether the grammar of `regex` reads a text.
+fn is_read(alloc: Global, text: &str) -> Result<bool, AllocError>
+    ensures read { IfOk result (λ is_read. is_read ≡ true → IsRead text.now) }
+    ensures refused { IfOk result (λ is_read. is_read ≡ false → MayRefuse text.now) }
+{
+    match regex_syntax::parse(alloc, text, &Config::default()) {
+        Ok(_parsed) => Ok(true),
+        Err(error) => match error.kind {
+            ErrorKind::OutOfMemory => Err(AllocError),
+            _ => Ok(false),
+        },
+    }
+}
+
 /// The pattern of a form of a value, if `regex` reads that form by itself and anchored.
 fn anchored(alloc: Global, form: &str) -> Result<Option<Pattern>, AllocError>
     ensures { IfOk result (IsTried form.now) }
 {
-    let Some(_) = compile(alloc, form)? else {
+    if !is_read(alloc, form)? {
         return Ok(None);
-    };
+    }
     let text = format!(in alloc; "^(?:{form})$")?;
     match compile(alloc, text.as_str())? {
         Some(regex) => Ok(Some(Pattern::new(alloc, regex)?)),
@@ -84,12 +101,13 @@ fn anchored(alloc: Global, form: &str) -> Result<Option<Pattern>, AllocError>
 impl Pattern {
     /// The pattern of a value, which has to match a whole text.
     ///
-    /// Its text is the value between `^(?:` and `)$`. The value by itself has to be a pattern too. Where `regex` refuses
-    /// one of the two, both are tried once more with the value's escaped repetitions.
+    /// Its text is the value between `^(?:` and `)$`. The value by itself has to be a pattern too.
+    /// Where `regex` rejects one of the two, both are tried once more with the value's escaped
+    /// repetitions.
     ///
     /// # Errors
     ///
-    /// `Refused` with the value, where `regex` refuses both; `Memory` where memory runs out.
+    /// `Refused` with the value, where `regex` rejects both; `Memory` if an allocation fails.
     pub fn read(alloc: Global, value: &str) -> Result<Pattern, PatternFault>
         ensures built { IfOk result (λ p. Allows value.now (built p)) }
         ensures refused { IfErr result (IsRefused value.now (Allows value.now refused)) }
@@ -104,7 +122,7 @@ impl Pattern {
     ///
     /// # Errors
     ///
-    /// `Refused` with the text, where `regex` refuses it; `Memory` where memory runs out.
+    /// `Refused` with the text, where `regex` rejects it; `Memory` if an allocation fails.
     pub fn of_text(alloc: Global, text: &str) -> Result<Pattern, PatternFault>
         ensures built { IfOk result (λ p. (p ≡ text.now) × IsRead text.now) }
         ensures refused { IfErr result (IsRefused text.now (MayRefuse text.now)) }
@@ -115,7 +133,7 @@ impl Pattern {
         }
     }
 
-    /// The pattern of a value whose own form is refused.
+    /// The pattern of a value whose own form is rejected.
     fn read_escaped(alloc: Global, value: &str) -> Result<Pattern, PatternFault>
         requires { MayRefusePair value.now }
         ensures built { IfOk result (λ p. Allows value.now (built p)) }
@@ -145,7 +163,7 @@ impl Pattern {
         self.regex.as_str()
     }
 
-    /// Whether the pattern matches a text. Only want of memory can come in place of the answer.
+    /// Whether the pattern matches a text. Each call allocates what the search needs.
     pub(crate) fn is_match(&self, alloc: Global, text: &str) -> Result<bool, AllocError>
         ensures { IfOk result (λ found. found ≡ finds self.now text.now) }
     {

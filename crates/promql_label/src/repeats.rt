@@ -6,8 +6,8 @@ ghost use Rattle.promql_label.specs.Repeats.{behind_digits, escaped_repeats, is_
 
 use std::alloc::{AllocError, Global};
 
-/// A pattern with a backslash before each `{` that doesn't open `{n}`, `{n,}` or `{n,m}`, as the `regex` crate wants it.
-/// A backslash stays, and so does the character behind it.
+/// A pattern with a backslash before each `{` that doesn't open `{n}`, `{n,}` or `{n,m}`, as the
+/// `regex` crate wants it. A backslash stays, and so does the character after it.
 pub fn escape_repeats(alloc: Global, pattern: &str) -> Result<String, AllocError>
     ensures { IfOk result (λ escaped. string_bytes escaped ≡ escaped_repeats pattern.now) }
 {
@@ -24,14 +24,14 @@ pub fn escape_repeats(alloc: Global, pattern: &str) -> Result<String, AllocError
     Ok(escaped)
 }
 
-/// Whether a character is a `{` that opens no count, in front of the rest of the pattern.
+/// Whether a character is a `{` that opens no count, before the rest of the pattern.
 fn is_loose(c: char, rest: &str) -> bool
     ensures { result ≡ is_loose c rest.now }
 {
     c == '{' && !opens_count(rest.as_bytes())
 }
 
-/// Whether a count and its closing brace stand at the front: `n}`, `n,}` or `n,m}`.
+/// Whether a count and its closing brace are at the start: `n}`, `n,}` or `n,m}`.
 fn opens_count(text: &[u8]) -> bool
     ensures { result ≡ opens_count text.now }
 {
@@ -46,14 +46,14 @@ fn opens_count(text: &[u8]) -> bool
     }
 }
 
-/// What is left behind the digits at the front.
+/// What is left after the digits at the start.
 fn behind_digits(text: &[u8]) -> &[u8]
     ensures { result.now ≡ behind_digits text.now }
 {
     &text[digit_count(text)..]
 }
 
-/// How many digits stand at the front.
+/// How many digits are at the start.
 fn digit_count(text: &[u8]) -> usize
     ensures { result ≡ length (take_while is_ascii_digit text.now) }
 {

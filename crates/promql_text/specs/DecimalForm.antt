@@ -10,21 +10,21 @@ use Rattle.promql_text.specs.Texts.{Text}
 abbrev pub front : Text → ℕ
 front s = slice_index s 0
 
--- the longest run of digits at the front, and what stands behind it
+-- the longest run of digits at the start, and what comes after it
 abbrev pub digit_run : Text → Text
 digit_run s = take (prefix_len is_ascii_digit s) s
 
 abbrev pub past_run : Text → Text
 past_run s = drop (prefix_len is_ascii_digit s) s
 
--- `+` or `-` at the front, and the text without it
+-- `+` or `-` at the start, and the text without it
 abbrev pub is_minus : Text → Bool
 is_minus s = front s == 45
 
 abbrev pub unsigned : Text → Text
 unsigned s = if front s == 43 || front s == 45 then drop 1 s else s
 
--- the text without a point at its front
+-- the text without a point at its start
 abbrev pub past_point : Text → Text
 past_point s = if front s == 46 then drop 1 s else s
 
@@ -32,14 +32,14 @@ past_point s = if front s == 46 then drop 1 s else s
 abbrev pub is_word : Text → Text → Bool
 is_word s word = bytes_eq (str_to_ascii_lowercase s) word
 
--- the digits before the point, those behind it, and the exponent's sign and digits
+-- the digits before the point, those after it, and the exponent's sign and digits
 pub record Numeral : Type 0 where
   pub whole : Text
   pub fraction : Text
   pub is_down : Bool
   pub exponent : Text
 
--- what stands behind the digits of a numeral: nothing, or `e`, a sign or none, and one or more digits
+-- what comes after the digits of a numeral: nothing, or `e`, a sign or none, and one or more digits
 abbrev pub is_exponent : Text → Bool
 is_exponent s =
     let digits = unsigned (drop 1 s) in
@@ -77,7 +77,7 @@ pub record Signed : Type 0 where
 unfoldable pub decimal_form : Text → Option Signed
 decimal_form s = option_map (λ r. record { is_negative = is_minus s; reading = r }) (reading (unsigned s))
 
--- The meaning of a numeral: the whole number of all its digits, how many of them stand behind the point,
+-- The meaning of a numeral: the whole number of all its digits, how many of them come after the point,
 -- and the size of its exponent. Its value is `digits` times 10 to the exponent, divided by 10 to `places`.
 abbrev pub digits_number : Numeral → ℕ
 digits_number n = digits_value 10 (n.whole ++ n.fraction)

@@ -25,7 +25,7 @@ whole_text n =
     else (if n % nanos_of Week == 0 then count_text (n / nanos_of Week) Week
     else counts_text short_units n)
 
--- r as k digits behind a point, without zeros at the end
+-- r as k digits after a point, without zeros at the end
 unfoldable pub fraction_text : ℕ → ℕ → Text
 fraction_text zero r = []
 fraction_text (suc k) r = if r == 0 then [] else (48 + r / 10 ^ k) ∷ fraction_text k (r % 10 ^ k)

@@ -38,7 +38,7 @@ word_of Milli = codes "ms"
 unfoldable pub units : List Unit
 units = Year ∷ Week ∷ Day ∷ Hour ∷ Minute ∷ Second ∷ Milli ∷ []
 
--- what stands up to the next digit, and what stands from there on
+-- what comes before the next digit, and what comes from there on
 abbrev pub is_no_digit : ℕ → Bool
 is_no_digit b = not (is_ascii_digit b)
 
@@ -96,7 +96,7 @@ of_form None s = of_parts (parts_nanos units s)
 unfoldable pub duration_of : Text → Result ℕ DurationFault
 duration_of s = if length s == 0 then Err fault.Empty else of_form (decimal_form s) s
 
--- the answer is what was said: a duration of that many nanoseconds, or that fault
+-- the result is what was said: a duration of that many nanoseconds, or that fault
 abbrev pub GivesDuration : Result Duration DurationFault → Result ℕ DurationFault → Type 0
 GivesDuration (Ok d) said = said ≡ Ok (as_nanos d)
 GivesDuration (Err f) said = said ≡ Err f
@@ -110,7 +110,7 @@ abbrev pub ReadsCount : Text → Option (ℕ × Bor Text) → Type 0
 ReadsCount s None = is_ascii_digit (front s) ≡ false
 ReadsCount s (Some r) = (is_ascii_digit (front s) ≡ true) × (r.0 ≡ capped (digits_value 10 (digit_run s))) × (r.1.now ≡ past_run s)
 
--- the first of the units with a word, and the units behind it
+-- the first of the units with a word, and the units after it
 abbrev pub seek : List Unit → Text → Option (Unit × List Unit)
 seek [] w = None
 seek (u ∷ us) w = if bytes_eq w (word_of u) then Some (u, us) else seek us w
@@ -119,7 +119,7 @@ abbrev pub FindsUnit : List Unit → Text → Option (Unit × Bor (List Unit)) �
 FindsUnit us w None = seek us w ≡ None
 FindsUnit us w (Some r) = seek us w ≡ Some (r.0, r.1.now)
 
--- a reader of a part in one of the units: its nanoseconds, capped, the units behind its own, and the rest
+-- a reader of a part in one of the units: its nanoseconds, capped, the units after its own, and the rest
 abbrev pub TakesPart : List Unit → Text → Option (ℕ × Bor (List Unit) × Bor Text) → Type 0
 TakesPart us s None = parts_nanos us s ≡ None
 TakesPart us s (Some r) =

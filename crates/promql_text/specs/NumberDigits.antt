@@ -4,7 +4,7 @@ use Rattle.std.specs.Fmt.{decimal}
 use Rattle.promql_text.specs.Texts.{Text}
 use Rattle.promql_text.specs.Numbers.{Exact}
 
--- the digits of n, with zeros in front of them up to this length
+-- the digits of n, with zeros before them up to this length
 abbrev pub padded : ℕ → ℕ → Text
 padded len n = replicate (len - length (decimal n)) 48 ++ decimal n
 

@@ -43,13 +43,13 @@ hexadecimal s =
 abbrev pub is_past_octal : ℕ → Bool
 is_past_octal c = c == 46 || (c == 56 || c == 57)
 
--- an octal text begins with `0` behind a sign or none, is no zero alone, and holds no point and no digit past 7
+-- an octal text begins with `0` after a sign or none, is no zero alone, and holds no point and no digit past 7
 abbrev pub is_octal : Text → Bool
 is_octal s = front (unsigned s) == 48 && (not (length (drop 1 (unsigned s)) == 0) && not (list_any is_past_octal s))
 
 -- ---- decimal texts
 
--- c and z zeros behind it at the place that the numeral's point and exponent give
+-- c and z zeros after it at the place that the numeral's point and exponent give
 abbrev pub at_place : Bool → ℕ → ℕ → Numeral → Option Exact
 at_place is_negative c z n =
     if n.is_down then placed is_negative c z (places n + exponent_size n)

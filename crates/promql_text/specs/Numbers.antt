@@ -13,8 +13,8 @@ pub record Exact : Type 0 where
 abbrev pub digit_count : ℕ → ℕ
 digit_count n = length (decimal n)
 
--- Each number has one such form: its digits end in no zero, it has zeros behind its digits or places behind the point
--- and not both, and there is one zero. It has at most 38 digits, and the first of them stands at a place from 10^-324 to 10^308.
+-- Each number has one such form: its digits end in no zero, it has zeros after its digits or places after the point
+-- and not both, and there is one zero. It has at most 38 digits, and the first of them is at a place from 10^-324 to 10^308.
 pub record IsExact (d : Exact) : Type 0 where
   pub short : d.digits < 10 ^ 38
   pub ends : d.digits % 10 ≡ 0 → d.digits ≡ 0
@@ -33,7 +33,7 @@ abbrev pub tens : ℕ → ℕ → ℕ
 tens zero n = 0
 tens (suc most) n = if n % 10 == 0 then suc (tens most (n / 10)) else 0
 
--- the first digit of c, times 10 to `up`, divided by 10 to `down`, stands at a place from 10^-324 to 10^308
+-- the first digit of c, times 10 to `up`, divided by 10 to `down`, is at a place from 10^-324 to 10^308
 abbrev pub is_in_range : ℕ → ℕ → ℕ → Bool
 is_in_range c up down = nat_le (digit_count c + up) (309 + down) && nat_le down (digit_count c + up + 323)
 

@@ -25,11 +25,11 @@ escaped_text (b ∷ s) = escaped_byte b ++ escaped_text s
 abbrev pub quoted_text : Text → Text
 quoted_text s = 34 ∷ (escaped_text s ++ 34 ∷ [])
 
--- "Quotes": the three bytes that may stand round a text
+-- "Quotes": the three bytes that may enclose a text
 abbrev pub is_quote : ℕ → Bool
 is_quote b = (b == 34 || b == 39) || b == 96
 
--- "Letter escapes": the character that one letter, or a backslash, stands for behind a backslash
+-- "Letter escapes": the character that one letter, or a backslash, stands for after a backslash
 abbrev pub letter : ℕ → Option ℕ
 letter b =
     if b == 97 then Some 7
@@ -42,7 +42,7 @@ letter b =
     else (if b == 92 then Some 92
     else None)))))))
 
--- the number that n more digits write in a base, behind those that wrote `start`
+-- the number that n more digits write in a base, after those that wrote `start`
 abbrev pub number : ℕ → ℕ → ℕ → Text → Option ℕ
 number base zero start z = Some start
 number base (suc n) start [] = None
@@ -90,7 +90,7 @@ unfoldable pub unquoted_text : Text → Option Text
 unquoted_text [] = None
 unquoted_text (b ∷ z) = if is_quote b then inside b 0 z else None
 
--- the answer is what was said: its value, or the refusal where there is none. Want of memory may come in place of either.
+-- the result is what was said: its value, or the refusal where there is none. Running out of memory may come in place of either.
 abbrev pub Unquotes : {X : Type 0} → (X → Text) → Result X QuoteError → Option Text → Type 0
 Unquotes view (Ok x) said = said ≡ Some (view x)
 Unquotes view (Err errors.Memory) said = Unit {0}

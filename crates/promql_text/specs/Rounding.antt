@@ -1,4 +1,4 @@
--- Digits that are read one by one and rounded at a point among or behind them.
+-- Digits that are read one by one and rounded at a point among or after them.
 use Rattle.std.specs.Prelude.{◌≡◌, ℕ, ◌+◌, ◌-◌, ◌*◌, ◌^◌, ◌<◌, if◌then◌else◌, nat_le, length, take, drop, true, false, Option, Some, None}
 use Rattle.std.specs.Str.Parse.{digits_value}
 use Rattle.promql_text.specs.Texts.{Text}
@@ -8,7 +8,7 @@ use Rattle.promql_text.specs.declared.seconds.Digits.{Digits}
 use Rattle.promql_text.specs.declared.seconds.Tail.{Tail}
 use Rattle.promql_text.specs.declared.seconds.Tail.TheVariants.{Empty, Below, Half, Above}
 
--- the number of the digits, with the point behind the first n of them, rounded
+-- the number of the digits, with the point after the first n of them, rounded
 unfoldable pub at_point : ℕ → Text → ℕ
 at_point n ds =
     if nat_le (length ds) n then digits_value 10 ds * 10 ^ (n - length ds)
@@ -21,7 +21,7 @@ Compares Below a b = a < b
 Compares Half a b = a ≡ b
 Compares Above a b = b < a
 
--- how the digits behind the point compare with a half
+-- how the digits after the point compare with a half
 abbrev pub IsTail : Tail → Text → Type 0
 IsTail t ds = (0 < length ds) × Compares t (digits_value 10 ds) (5 * 10 ^ (length ds - 1))
 
@@ -31,13 +31,13 @@ ComparesHalf Below ds = IsTail Below ds
 ComparesHalf Half ds = IsTail Half ds
 ComparesHalf Above ds = IsTail Above ds
 
--- what has been kept of the digits that were read, with the point behind the first n of them
+-- what has been kept of the digits that were read, with the point after the first n of them
 pub record HasRead (n : ℕ) (ds : Text) (d : Digits) : Type 0 where
   pub to_point : d.to_point ≡ n - length ds
   pub whole : d.whole ≡ capped (digits_value 10 (take n ds))
   pub tail : ComparesHalf d.tail (drop n ds)
 
--- behind how many of a numeral's digits the point of its nanoseconds stands
+-- after how many of a numeral's digits the point of its nanoseconds stands
 abbrev pub PlacesPoint : Numeral → Option ℕ → Type 0
 PlacesPoint n None = (n.is_down ≡ true) × (length n.whole + 9 < exponent_size n)
 PlacesPoint n (Some p) =

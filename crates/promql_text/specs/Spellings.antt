@@ -5,7 +5,7 @@ use Rattle.std.specs.Str.Parse.{AllDigits, digits_value}
 use Rattle.promql_text.specs.Texts.{Text}
 use Rattle.promql_text.specs.Quoting.{is_quote, letter}
 
--- a character that stands for itself, or an escape: the own quote, a letter, three octal digits, or hexadecimal digits behind a letter
+-- a character that stands for itself, or an escape: the own quote, a letter, three octal digits, or hexadecimal digits after a letter
 pub data Spelling : Type 0 where
   Itself : ℕ → Spelling
   OwnQuote : Spelling
@@ -20,7 +20,7 @@ text_of quote (Letter b) = 92 ∷ b ∷ []
 text_of quote (Octal x y z) = 92 ∷ x ∷ y ∷ z ∷ []
 text_of quote (Hexadecimal b ds) = 92 ∷ b ∷ ds
 
--- how many hexadecimal digits stand behind `x`, `u` and `U`
+-- how many hexadecimal digits come after `x`, `u` and `U`
 abbrev pub digits_behind : ℕ → Option ℕ
 digits_behind b = if b == 120 then Some 2 else (if b == 117 then Some 4 else (if b == 85 then Some 8 else None))
 

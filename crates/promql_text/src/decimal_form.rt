@@ -1,15 +1,15 @@
-//! The decimal form of a text, read once from its front (docs/TEXTS.md, "The decimal form").
+//! The decimal form of a text, read once from its start (docs/TEXTS.md, "The decimal form").
 
 ghost use Rattle.std.specs.Prelude.{◌≡◌, ◌∷◌, ℕ, List, [], drop, length, ◌<◌, ◌^◌, true, false, ◌==◌, Option, Some, None, MatchOption};
 ghost use Rattle.std.specs.Char.{is_ascii_digit};
 ghost use Rattle.promql_text.specs.DecimalForm as spec;
 ghost use Rattle.promql_text.specs.DecimalParts as parts;
 
-/// A text that is read from its front, one character after another.
+/// A text that is read from its start, one character after another.
 pub trait Source: Copy + Drop {
     ghost left: { Self → List ℕ };
 
-    /// The first character, and the text behind it.
+    /// The first character, and the text after it.
     fn first(self) -> Option<(char, Self)>
         ensures value { MatchOption result (left self ≡ []) (λ p. left self ≡ p.0 ∷ left p.1) }
         ensures small { length (left self) < 2 ^ 64 };
@@ -27,12 +27,13 @@ impl<'a> Source for &'a [u8] {
     }
 }
 
-/// A number in decimal digits. Each text goes on behind its digits, which are the longest run at its front.
+/// A number in decimal digits. Each text goes on after its digits, which are the longest run at its
+/// start.
 #[derive(Clone, Copy)]
 pub struct Numeral<S> {
     /// The digits before the point.
     pub whole: S,
-    /// The digits behind the point.
+    /// The digits after the point.
     pub fraction: S,
     pub exponent_is_negative: bool,
     /// The digits of the exponent.
@@ -54,7 +55,7 @@ pub struct DecimalForm<S> {
     pub reading: Reading<S>,
 }
 
-/// The text behind the longest run of digits at the front.
+/// The text after the longest run of digits at the start.
 #[tactic(auto, using(crate::proofs::Runs::past_run_digit, crate::proofs::Runs::past_run_other))]
 pub(crate) fn past_run<S: Source>(text: S) -> S
     ensures { S.left result ≡ spec.past_run (S.left text) }
@@ -80,7 +81,7 @@ pub(crate) fn front<S: Source>(text: S) -> char
 }
 
 /// The text without its first character.
-pub(crate) fn behind<S: Source>(text: S) -> S
+pub(crate) fn after_first<S: Source>(text: S) -> S
     ensures { S.left result ≡ drop 1 (S.left text) }
 {
     match text.first() {
@@ -95,22 +96,22 @@ pub(crate) fn is_empty<S: Source>(text: S) -> bool
     text.first().is_none()
 }
 
-/// The text without a sign at its front.
+/// The text without a sign at its start.
 pub(crate) fn unsigned<S: Source>(text: S) -> S
     ensures { S.left result ≡ spec.unsigned (S.left text) }
 {
     match front(text) {
-        '+' | '-' => behind(text),
+        '+' | '-' => after_first(text),
         _ => text,
     }
 }
 
-/// The text without a point at its front.
+/// The text without a point at its start.
 fn past_point<S: Source>(text: S) -> S
     ensures { S.left result ≡ spec.past_point (S.left text) }
 {
     if front(text) == '.' {
-        behind(text)
+        after_first(text)
     } else {
         text
     }
@@ -136,13 +137,14 @@ fn is_word<S: Source>(text: S, word: &[u8]) -> bool
 fn is_exponent<S: Source>(text: S) -> bool
     ensures { result ≡ spec.is_exponent (S.left text) }
 {
-    let digits = unsigned(behind(text));
+    let digits = unsigned(after_first(text));
     matches!(front(text), 'e' | 'E') && front(digits).is_ascii_digit() && is_empty(past_run(digits))
 }
 
 #[tactic(auto, unfolding(crate::specs::DecimalForm::numeral))]
 fn read_numeral<S: Source>(text: S) -> Option<Numeral<S>>
-    ensures { MatchOption result (spec.numeral (S.left text) ≡ None) (λ n. spec.numeral (S.left text) ≡ Some (parts.numeral_of S.left n)) }
+    ensures { let said = spec.numeral (S.left text) in
+        MatchOption result (said ≡ None) (λ n. said ≡ Some (parts.numeral_of S.left n)) }
 {
     let fraction = past_point(past_run(text));
     let end = past_run(fraction);
@@ -150,7 +152,7 @@ fn read_numeral<S: Source>(text: S) -> Option<Numeral<S>>
     if !has_digits || !(is_empty(end) || is_exponent(end)) {
         return None;
     }
-    let exponent = behind(end);
+    let exponent = after_first(end);
     Some(Numeral {
         whole: text,
         fraction,
@@ -161,7 +163,8 @@ fn read_numeral<S: Source>(text: S) -> Option<Numeral<S>>
 
 #[tactic(auto, unfolding(crate::specs::DecimalForm::reading))]
 fn read_unsigned<S: Source>(text: S) -> Option<Reading<S>>
-    ensures { MatchOption result (spec.reading (S.left text) ≡ None) (λ r. spec.reading (S.left text) ≡ Some (parts.reading_of S.left r)) }
+    ensures { let said = spec.reading (S.left text) in
+        MatchOption result (said ≡ None) (λ r. said ≡ Some (parts.reading_of S.left r)) }
 {
     if is_word(text, b"inf") || is_word(text, b"infinity") {
         Some(Reading::Inf)
@@ -175,7 +178,8 @@ fn read_unsigned<S: Source>(text: S) -> Option<Reading<S>>
 /// What the text is in the decimal form; None where it is not of that form.
 #[tactic(auto, unfolding(crate::specs::DecimalForm::decimal_form))]
 pub fn decimal_form<S: Source>(text: S) -> Option<DecimalForm<S>>
-    ensures { MatchOption result (spec.decimal_form (S.left text) ≡ None) (λ f. spec.decimal_form (S.left text) ≡ Some (parts.form_of S.left f)) }
+    ensures { let said = spec.decimal_form (S.left text) in
+        MatchOption result (said ≡ None) (λ f. said ≡ Some (parts.form_of S.left f)) }
 {
     let reading = read_unsigned(unsigned(text))?;
     Some(DecimalForm {

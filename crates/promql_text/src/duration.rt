@@ -84,7 +84,8 @@ impl Unit {
     }
 }
 
-/// The whole number of the digits at the front of a text, or `u128::MAX` where it is greater, and what follows them.
+/// The whole number of the digits at the start of a text, or `u128::MAX` where it is greater, and
+/// what follows them.
 fn count(text: &[u8]) -> Option<(u128, &[u8])>
     ensures { spec.ReadsCount text.now result }
 {
@@ -95,7 +96,7 @@ fn count(text: &[u8]) -> Option<(u128, &[u8])>
     }
 }
 
-/// How many bytes stand before the first digit.
+/// How many bytes are before the first digit.
 fn word_len(text: &[u8]) -> usize
     ensures value { result ≡ prefix_len spec.is_no_digit text.now }
     ensures within { result ≤ length text.now }
@@ -108,7 +109,7 @@ fn word_len(text: &[u8]) -> usize
     text.len()
 }
 
-/// The first of the units that has this word, and the units behind it.
+/// The first of the units that has this word, and the units after it.
 fn find<'a>(units: &'a [Unit], word: &[u8]) -> Option<(Unit, &'a [Unit])>
     ensures { spec.FindsUnit units.now word.now result }
 {
@@ -122,20 +123,16 @@ fn find<'a>(units: &'a [Unit], word: &[u8]) -> Option<(Unit, &'a [Unit])>
     None
 }
 
-/// The part at the front of a text: its nanoseconds, or `u128::MAX` where there are more, the units behind its own,
-/// and what follows it.
+/// The part at the start of a text: its nanoseconds, or `u128::MAX` where there are more, the units
+/// after its own, and what follows it.
 fn part<'a, 'b>(units: &'a [Unit], text: &'b [u8]) -> Option<(u128, &'a [Unit], &'b [u8])>
     requires { 0 < length text.now }
     ensures { spec.TakesPart units.now text.now result }
 {
-    let (count, behind) = count(text)?;
-    let (word, behind) = behind.split_at(word_len(behind));
+    let (count, more) = count(text)?;
+    let (word, more) = more.split_at(word_len(more));
     let (unit, later) = find(units, word)?;
-    Some((
-        count.saturating_mul(u128::from(unit.nanos())),
-        later,
-        behind,
-    ))
+    Some((count.saturating_mul(u128::from(unit.nanos())), later, more))
 }
 
 /// The nanoseconds of a text of parts, or `u128::MAX` where there are more.
@@ -146,10 +143,10 @@ fn parts(text: &[u8]) -> Option<u128>
     let mut rest = text;
     let mut total: u128 = 0;
     while !rest.is_empty() {
-        let (nanos, later, behind) = part(units, rest)?;
+        let (nanos, later, more) = part(units, rest)?;
         total = total.saturating_add(nanos);
         units = later;
-        rest = behind;
+        rest = more;
     }
     Some(total)
 }
@@ -169,7 +166,8 @@ fn in_range(nanos: u128) -> Result<Duration, DurationFault>
 
 /// The duration of a number of seconds.
 fn of_seconds(form: DecimalForm<&[u8]>) -> Result<Duration, DurationFault>
-    ensures { spec.GivesDuration result (spec.of_seconds form.entry.is_negative (reading_of (λ s. s.now) form.entry.reading)) }
+    ensures { spec.GivesDuration result
+        (spec.of_seconds form.entry.is_negative (reading_of (λ s. s.now) form.entry.reading)) }
 {
     match form.reading {
         Reading::NaN => Err(DurationFault::Invalid),
@@ -189,13 +187,14 @@ fn of_parts(text: &[u8]) -> Result<Duration, DurationFault>
     }
 }
 
-/// The duration of a text: a number of seconds in decimal digits, rounded to the nearest nanosecond, or parts with the
-/// units `y w d h m s ms` in this order, each at most once.
+/// The duration of a text: a number of seconds in decimal digits, rounded to the nearest
+/// nanosecond, or parts with the units `y w d h m s ms` in this order, each at most once.
 ///
 /// # Errors
 ///
-/// `Empty` for the empty text; `NotPositive` where the text means zero, rounds to it, or is a number with a minus sign;
-/// `Overflow` where it means more than `Duration::MAX`; `Invalid` for `nan` and for every other text.
+/// `Empty` for the empty text; `NotPositive` where the text means zero, rounds to it, or is a
+/// number with a minus sign; `Overflow` where it means more than `Duration::MAX`; `Invalid` for
+/// `nan` and for every other text.
 pub fn parse_duration(ds: &str) -> Result<Duration, DurationFault>
     ensures { spec.GivesDuration result (spec.duration_of ds.now) }
 {

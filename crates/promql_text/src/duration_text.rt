@@ -32,7 +32,7 @@ impl fmt::Display for Count {
     }
 }
 
-/// Nanoseconds behind a point, below a second, without zeros at the end.
+/// Nanoseconds after a point, below a second, without zeros at the end.
 #[derive(Clone, Copy)]
 struct Fraction {
     nanos: u32,

@@ -4,8 +4,8 @@
 //! A printer of a type whose values hold no others of that type calls `write_joined`, and cites its
 //! clause with the text of an item: `c.write_joined.ensures text_of (λ item. refl)`.
 //!
-//! A recursive printer writes the loop itself, since a call through a type parameter has no proof in
-//! a cycle of calls:
+//! A recursive printer writes the loop itself, since a call through a type parameter has no proof
+//! in a cycle of calls:
 //!
 //! ```text
 //! for (i, item) in items.iter().enumerate() {
@@ -14,8 +14,9 @@
 //! }
 //! ```
 //!
-//! The loop's invariant says that `join_by text separator (take i items)` has been written. The lemmas
-//! of `proofs/Joins` carry it: `join_next` for one more item, `join_end` and `join_end_of` at the end.
+//! The loop's invariant says that `join_by text separator (take i items)` has been written. The
+//! lemmas of `proofs/Joins` carry it: `join_next` for one more item, `join_end` and `join_end_of`
+//! at the end.
 
 ghost use Rattle.std.specs.Prelude.{◌≡◌, ◌==◌, if◌then◌else◌, [], Some, map};
 ghost use Rattle.std.specs.Fmt.{WritesOnOk};
@@ -24,7 +25,8 @@ ghost use Rattle.promql_text.specs.Texts.{Text, joined_text};
 use std::fmt;
 use std::fmt::Display;
 
-/// Writes what comes before the item at the index `at`: the separator, or nothing before the first item.
+/// Writes what comes before the item at the index `at`: the separator, or nothing before the first
+/// item.
 pub fn write_separator<W: fmt::Write>(
     separator: &str,
     at: usize,
@@ -47,7 +49,8 @@ pub fn write_joined<T: Display, W: fmt::Write>(
     f: &mut fmt::Formatter<W>,
 ) -> fmt::Result
     ensures { (text : T → Text) → ((item : T) → T.output item ≡ Some (text item))
-        → WritesOnOk W.write_str_gives f.old result (joined_text separator.now (map text items.now)) f.new }
+        → WritesOnOk W.write_str_gives f.old result
+        (joined_text separator.now (map text items.now)) f.new }
 {
     for (i, item) in items.iter().enumerate() {
         write_separator(separator, i, f)?;

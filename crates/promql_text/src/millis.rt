@@ -30,7 +30,8 @@ fn rounded(digits: u128, places: u16) -> u128
 
 /// The milliseconds of a number of seconds without its sign; None where they are far past 2^63.
 fn magnitude(seconds: &Decimal) -> Option<u128>
-    ensures { MatchOption result (2 ^ 63 < spec.millis seconds.now) (λ n. n ≡ spec.millis seconds.now) }
+    ensures { MatchOption result (2 ^ 63 < spec.millis seconds.now)
+        (λ n. n ≡ spec.millis seconds.now) }
 {
     if seconds.places > 3 {
         Some(rounded(seconds.digits, seconds.places - 3))
@@ -43,8 +44,8 @@ fn magnitude(seconds: &Decimal) -> Option<u128>
 }
 
 impl Number {
-    /// Seconds as whole milliseconds, a half rounded away from zero; None for an infinite number, NaN, and what
-    /// 64 bits don't hold.
+    /// Seconds as whole milliseconds, a half rounded away from zero; None for an infinite number,
+    /// NaN, and what 64 bits don't hold.
     pub fn to_millis(&self) -> Option<i64>
         ensures { result ≡ spec.to_millis self.now }
     {

@@ -6,12 +6,12 @@ ghost use Rattle.std.specs.Str.Parse.{digits_value};
 ghost use Rattle.promql_text.specs.DecimalForm.{digits_number, digit_run, exponent_size, is_minus, places};
 ghost use Rattle.promql_text.specs.DecimalParts as parts;
 ghost use Rattle.promql_text.specs.NumberText as spec;
-ghost use Rattle.promql_text.specs.Numbers.{placed};
+ghost use Rattle.promql_text.specs.Numbers.{placed, whole};
 ghost use Rattle.promql_text.specs.Significands.{IsLong};
 
 use crate::decimal::Decimal;
 use crate::decimal_form::{
-    self, DecimalForm, Numeral, Reading, Source, behind, front, is_empty, unsigned,
+    self, DecimalForm, Numeral, Reading, Source, after_first, front, is_empty, unsigned,
 };
 use crate::number::{Number, NumberFault};
 use crate::significand::{self, Significand};
@@ -29,9 +29,10 @@ impl<'a> Source for Kept<'a> {
     }
 }
 
-/// The first character that is no white space, and the text behind it.
+/// The first character that is no white space, and the text after it.
 fn first_kept(text: &str) -> Option<(char, &str)>
-    ensures value { MatchOption result (spec.kept text.now ≡ []) (λ p. spec.kept text.now ≡ p.0 ∷ spec.kept p.1.now) }
+    ensures value { MatchOption result (spec.kept text.now ≡ [])
+        (λ p. spec.kept text.now ≡ p.0 ∷ spec.kept p.1.now) }
     ensures small { length (spec.kept text.now) < 2 ^ 64 }
 {
     let mut chars = text.chars();
@@ -80,7 +81,7 @@ fn is_octal<S: Source>(text: S) -> bool
     ensures { result ≡ spec.is_octal (S.left text) }
 {
     let body = unsigned(text);
-    front(body) == '0' && !is_empty(behind(body)) && !is_past_octal(text)
+    front(body) == '0' && !is_empty(after_first(body)) && !is_past_octal(text)
 }
 
 fn all_digits<S: Source>(text: S, radix: u32) -> bool
@@ -102,7 +103,7 @@ fn all_digits<S: Source>(text: S, radix: u32) -> bool
 fn magnitude<S: Source>(text: S, radix: u32) -> Option<u64>
     requires radix { (2 ≤ radix) × (radix ≤ 36) }
     requires digits { list_all (spec.is_digit_below radix) (S.left text) ≡ true }
-    ensures { SomeIff result (digits_value radix (S.left text) < 2 ^ 63) (digits_value radix (S.left text)) }
+    ensures { let n = digits_value radix (S.left text) in SomeIff result (n < 2 ^ 63) n }
 {
     let mut number: u128 = 0;
     let mut rest = text;
@@ -137,16 +138,17 @@ fn hexadecimal<S: Source>(text: S) -> Result<Number, NumberFault>
     ensures { result ≡ spec.hexadecimal (S.left text) }
 {
     let body = unsigned(text);
-    let prefix = behind(body);
+    let prefix = after_first(body);
     if front(body) != '0' || !is_x(front(prefix)) {
         return Err(NumberFault::NotANumber);
     }
-    radix_number(behind(prefix), 16, front(text) == '-')
+    radix_number(after_first(prefix), 16, front(text) == '-')
 }
 
 /// All digits of a numeral; None where there are more than 38.
 fn significand_of<S: Source>(numeral: Numeral<S>) -> Option<Significand>
-    ensures value { let n = digits_number (parts.numeral_of S.left numeral) in MatchOption result (IsLong n) (λ s. s.digits * 10 ^ s.zeros ≡ n) }
+    ensures value { let n = digits_number (parts.numeral_of S.left numeral) in
+        MatchOption result (IsLong n) (λ s. s.digits * 10 ^ s.zeros ≡ n) }
     ensures room { IfSome result (λ s. s.zeros < 2 ^ 66) }
 {
     let whole = significand::gather(Significand::new(), numeral.whole)?;
@@ -156,7 +158,8 @@ fn significand_of<S: Source>(numeral: Numeral<S>) -> Option<Significand>
 /// The digits at their place; None where the place is out of range.
 fn at_place<S: Source>(is_negative: bool, read: Significand, numeral: Numeral<S>) -> Option<Decimal>
     requires { read.zeros < 2 ^ 66 }
-    ensures { result ≡ spec.at_place is_negative read.digits read.zeros (parts.numeral_of S.left numeral) }
+    ensures { result
+        ≡ spec.at_place is_negative read.digits read.zeros (parts.numeral_of S.left numeral) }
 {
     let places = significand::run_len(numeral.fraction);
     let exponent = significand::number(numeral.exponent).min(significand::FAR);
@@ -205,7 +208,7 @@ fn number_of<S: Source>(text: S) -> Result<Number, NumberFault>
         return hexadecimal(text);
     }
     if is_octal(text) {
-        return radix_number(behind(unsigned(text)), 8, front(text) == '-');
+        return radix_number(after_first(unsigned(text)), 8, front(text) == '-');
     }
     match decimal_form::decimal_form(text) {
         Some(form) => of_form(form),
@@ -213,16 +216,30 @@ fn number_of<S: Source>(text: S) -> Result<Number, NumberFault>
     }
 }
 
-/// The number of a text, in which white space counts for nothing: decimal with a point and an exponent, `inf`,
-/// `infinity` or `nan` in any case, hexadecimal behind `0x`, or octal behind `0`.
+/// The number of a text of digits that doesn't begin with 0, if 64 bits hold it. Such a text needs
+/// none of the other rules.
+fn short_whole(text: &str) -> Option<u64>
+    ensures { IfSome result (λ n. spec.read_number text.now ≡ Ok (Number.Finite (whole false n))) }
+{
+    match text.as_bytes() {
+        [first, ..] if *first > b'0' => text.parse().ok(),
+        _ => None,
+    }
+}
+
+/// The number of a text, in which white space counts for nothing: decimal with a point and an
+/// exponent, `inf`, `infinity` or `nan` in any case, hexadecimal after `0x`, or octal after `0`.
 ///
 /// # Errors
 ///
-/// `NotANumber` where the text is none; `TooManyDigits` for more than 38 digits between the first and the last
-/// that is no zero; else `OutOfRange`, for a decimal whose first digit stands at no place from 10^-324 to 10^308,
-/// and for a hexadecimal or octal number past 2^63 - 1.
+/// `NotANumber` where the text is none; `TooManyDigits` for more than 38 digits between the first
+/// and the last that is no zero; else `OutOfRange`, for a decimal whose first digit is at no place
+/// from 10^-324 to 10^308, and for a hexadecimal or octal number past 2^63 - 1.
 pub fn parse_str_radix(text: &str) -> Result<Number, NumberFault>
     ensures { result ≡ spec.read_number text.now }
 {
-    number_of(Kept(text))
+    match short_whole(text) {
+        Some(n) => Ok(Number::Finite(Decimal::whole(false, n))),
+        None => number_of(Kept(text)),
+    }
 }

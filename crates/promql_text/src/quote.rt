@@ -32,8 +32,8 @@ impl From<AllocError> for QuoteError {
     }
 }
 
-/// The text with a backslash before backslash and `"`, and `\n`, `\r`, `\t` for line feed, carriage return and tab.
-/// Between two `"` it stands for the text.
+/// The text with a backslash before backslash and `"`, and `\n`, `\r`, `\t` for line feed, carriage
+/// return and tab. Between two `"` it stands for the text.
 pub fn escape_string(alloc: Global, s: &str) -> Result<String, AllocError>
     ensures { IfOk result (λ t. string_bytes t ≡ escaped_text s.now) }
 {
@@ -66,8 +66,8 @@ pub(crate) fn escape_of(c: char) -> Option<&'static str>
 ///
 /// # Errors
 ///
-/// `InvalidSyntax` for every text that isn't a quote, spellings of characters and the same quote; `Memory` where the
-/// answer finds no room.
+/// `InvalidSyntax` for every text that isn't a quote, spellings of characters and the same quote;
+/// `Memory` if an allocation fails.
 pub fn unquote_string(alloc: Global, s: &str) -> Result<String, QuoteError>
     ensures { Unquotes string_bytes result (unquoted_text s.now) }
 {
@@ -86,7 +86,7 @@ pub fn unquote_string(alloc: Global, s: &str) -> Result<String, QuoteError>
     Err(QuoteError::InvalidSyntax)
 }
 
-/// The quote at the front.
+/// The quote at the start.
 fn opening(rest: &mut Chars<'_>) -> Option<char>
     ensures { ReadsQuote (chars_rest rest.old) result (chars_rest rest.new) }
 {
@@ -100,11 +100,13 @@ fn is_quote(c: char) -> bool
     c == '"' || c == '\'' || c == '`'
 }
 
-/// The character that the spelling beginning with `first` stands for, with the rest of the spelling taken from `rest`.
+/// The character that the spelling beginning with `first` stands for, with the rest of the spelling
+/// taken from `rest`.
 fn spelled(quote: char, first: char, rest: &mut Chars<'_>) -> Option<char>
     requires quote { is_quote quote ≡ true }
     requires inner { first ≢ quote }
-    ensures value { ReadsSpelling quote (encode_utf8 first ++ chars_rest rest.old) result (chars_rest rest.new) }
+    ensures value { ReadsSpelling quote (encode_utf8 first ++ chars_rest rest.old) result
+        (chars_rest rest.new) }
     ensures onward { length (chars_rest rest.new) ≤ length (chars_rest rest.old) }
 {
     if quote == '`' {
@@ -117,7 +119,7 @@ fn spelled(quote: char, first: char, rest: &mut Chars<'_>) -> Option<char>
     }
 }
 
-/// The character that an escape stands for, behind its backslash.
+/// The character that an escape stands for, after its backslash.
 fn escape(quote: char, rest: &mut Chars<'_>) -> Option<char>
     requires { is_quote quote ≡ true }
     ensures value { ReadsEscape quote (chars_rest rest.old) result (chars_rest rest.new) }
@@ -139,7 +141,8 @@ fn escape(quote: char, rest: &mut Chars<'_>) -> Option<char>
 /// The character that `count` hexadecimal digits number.
 fn hexadecimal(count: usize, rest: &mut Chars<'_>) -> Option<char>
     requires { 16 ^ count ≤ 2 ^ 32 }
-    ensures value { ReadsDigits (hexadecimal count (chars_rest rest.old)) count (chars_rest rest.old) result (chars_rest rest.new) }
+    ensures value { let z = chars_rest rest.old in
+        ReadsDigits (hexadecimal count z) count z result (chars_rest rest.new) }
     ensures onward { length (chars_rest rest.new) ≤ length (chars_rest rest.old) }
 {
     char::from_u32(number(16, count, 0, rest)?)
@@ -149,7 +152,8 @@ fn hexadecimal(count: usize, rest: &mut Chars<'_>) -> Option<char>
 fn octal(first: char, rest: &mut Chars<'_>) -> Option<char>
     requires low { 48 ≤ first }
     requires high { first ≤ 55 }
-    ensures value { ReadsDigits (octal first (chars_rest rest.old)) 2 (chars_rest rest.old) result (chars_rest rest.new) }
+    ensures value { let z = chars_rest rest.old in
+        ReadsDigits (octal first z) 2 z result (chars_rest rest.new) }
     ensures onward { length (chars_rest rest.new) ≤ length (chars_rest rest.old) }
 {
     let code = number(8, 2, first as u32 - '0' as u32, rest)?;
@@ -160,12 +164,13 @@ fn octal(first: char, rest: &mut Chars<'_>) -> Option<char>
     }
 }
 
-/// The number that `count` more digits write, behind those that wrote `start`.
+/// The number that `count` more digits write, after those that wrote `start`.
 fn number(base: u32, count: usize, start: u32, rest: &mut Chars<'_>) -> Option<u32>
     requires binary { 2 ≤ base }
     requires digits { base ≤ 16 }
     requires fits { (start + 1) * base ^ count ≤ 2 ^ 32 }
-    ensures value { ReadsNumber base count start (chars_rest rest.old) result (chars_rest rest.new) }
+    ensures value { ReadsNumber base count start (chars_rest rest.old) result
+        (chars_rest rest.new) }
     ensures onward { length (chars_rest rest.new) ≤ length (chars_rest rest.old) }
 {
     let mut value = start;
@@ -175,7 +180,7 @@ fn number(base: u32, count: usize, start: u32, rest: &mut Chars<'_>) -> Option<u
     Some(value)
 }
 
-/// The character that a letter or a backslash stands for behind a backslash.
+/// The character that a letter or a backslash stands for after a backslash.
 fn letter(c: char) -> Option<char>
     ensures { result ≡ letter c }
 {

@@ -13,7 +13,7 @@ ghost use Rattle.promql_text.specs.Rounding.{at_point, Compares, ComparesHalf, H
 use crate::decimal_form::Numeral;
 use crate::significand::{number, run_len};
 
-/// How the digits behind the point compare with a half.
+/// How the digits after the point compare with a half.
 #[derive(Clone, Copy)]
 pub enum Tail {
     /// There is no such digit.
@@ -23,10 +23,10 @@ pub enum Tail {
     Above,
 }
 
-/// What is kept of digits with a point among or behind them.
+/// What is kept of digits with a point among or after them.
 #[derive(Clone, Copy)]
 pub struct Digits {
-    /// How many of the digits to come stand before the point.
+    /// How many of the digits to come are before the point.
     to_point: u128,
     /// The number of the digits before the point, or `u128::MAX` where it is greater.
     whole: u128,
@@ -34,7 +34,7 @@ pub struct Digits {
 }
 
 impl Digits {
-    /// No digit, with the point to come behind so many of them.
+    /// No digit, with the point to come after so many of them.
     fn new(to_point: u128) -> Digits
         ensures { HasRead to_point [] result }
     {
@@ -65,16 +65,19 @@ impl Digits {
     /// Reads more digits.
     fn read(&mut self, digits: &[u8])
         requires { AllDigits 10 digits.now }
-        ensures { (n : ℕ) (ds : Text) → HasRead n ds self.old → HasRead n (ds ++ digits.now) self.new }
+        ensures { (n : ℕ) (ds : Text) → HasRead n ds self.old
+            → HasRead n (ds ++ digits.now) self.new }
     {
         for b in digits {
             self.push(*b - b'0');
         }
     }
 
-    /// The number, rounded to the nearest whole one, a tie to the even one; `u128::MAX` where it is greater.
+    /// The number, rounded to the nearest whole one, a tie to the even one; `u128::MAX` where it is
+    /// greater.
     fn rounded(self) -> u128
-        ensures { (n : ℕ) (ds : Text) → AllDigits 10 ds → HasRead n ds self → result ≡ capped (at_point n ds) }
+        ensures { (n : ℕ) (ds : Text) → AllDigits 10 ds → HasRead n ds self
+            → result ≡ capped (at_point n ds) }
     {
         match self.tail {
             Tail::Empty => with_zeros(self.whole, self.to_point),
@@ -85,7 +88,7 @@ impl Digits {
     }
 }
 
-/// How digits behind the point compare with a half, with one more digit behind them.
+/// How digits after the point compare with a half, with one more digit after them.
 fn compared(tail: Tail, digit: u8) -> Tail
     requires { digit < 10 }
     ensures { (ds : Text) (c : ℕ) → digit_value c ≡ digit → ComparesHalf tail ds
@@ -99,7 +102,7 @@ fn compared(tail: Tail, digit: u8) -> Tail
     }
 }
 
-/// How one digit behind the point compares with a half.
+/// How one digit after the point compares with a half.
 fn first_digit(digit: u8) -> Tail
     ensures { Compares result digit 5 }
 {
@@ -112,14 +115,14 @@ fn first_digit(digit: u8) -> Tail
     }
 }
 
-/// The number with so many zeros behind its digits; `u128::MAX` where that is greater.
+/// The number with so many zeros after its digits; `u128::MAX` where that is greater.
 fn with_zeros(n: u128, zeros: u128) -> u128
     ensures { result ≡ capped (n * 10 ^ zeros) }
 {
     n.saturating_mul(10u128.saturating_pow(zeros.min(39) as u32))
 }
 
-/// The digits at the front of a text.
+/// The digits at the start of a text.
 fn run(text: &[u8]) -> &[u8]
     ensures value { result.now ≡ digit_run text.now }
     ensures digits { AllDigits 10 result.now }
@@ -128,8 +131,8 @@ fn run(text: &[u8]) -> &[u8]
     &text[..run_len(text) as usize]
 }
 
-/// Behind how many of a numeral's digits the point of its nanoseconds stands, or `u128::MAX` where those are more;
-/// none where it stands before them, with a zero between.
+/// After how many of a numeral's digits the point of its nanoseconds is, or `u128::MAX` where those
+/// are more; none where it is before them, with a zero between.
 fn point(numeral: Numeral<&[u8]>) -> Option<u128>
     ensures { PlacesPoint (numeral_of (λ s. s.now) numeral.entry) result }
 {

@@ -14,7 +14,7 @@ pub const TOO_LONG: u128 = 100_000_000_000_000_000_000_000_000_000_000_000_000;
 /// An exponent of this size is past the range of any number, however many digits its text has.
 pub const FAR: u128 = 1_000_000_000_000_000_000_000_000_000_000;
 
-/// A whole number of at most 38 digits that ends in no zero, and the zeros behind it.
+/// A whole number of at most 38 digits that ends in no zero, and the zeros after it.
 #[derive(Clone, Copy)]
 pub struct Significand {
     pub digits: u128,
@@ -35,7 +35,7 @@ pub fn decimal_digit(c: char) -> Option<u128>
     }
 }
 
-/// The number with so many zeros behind its digits, if it has at most 38 then.
+/// The number with so many zeros after its digits, if it has at most 38 then.
 pub fn shifted(digits: u128, zeros: u128) -> Option<u128>
     requires { digits < 10 ^ 38 }
     ensures { SomeIff result (digits * 10 ^ zeros < 10 ^ 38) (digits * 10 ^ zeros) }
@@ -65,7 +65,8 @@ impl Significand {
     pub fn push(self, digit: u128) -> Option<Significand>
         requires below_ten { digit < 10 }
         requires room { self.zeros < 2 ^ 100 }
-        ensures value { let n = self.digits * 10 ^ self.zeros * 10 + digit in MatchOption result (IsLong n) (λ s. s.digits * 10 ^ s.zeros ≡ n) }
+        ensures value { let n = self.digits * 10 ^ self.zeros * 10 + digit in
+            MatchOption result (IsLong n) (λ s. s.digits * 10 ^ s.zeros ≡ n) }
         ensures room { IfSome result (λ s. s.zeros ≤ self.zeros + 1) }
     {
         if digit != 0 {
@@ -83,11 +84,14 @@ impl Significand {
     }
 }
 
-/// The significand of the digits before, and behind them those at the front of the text; None past 38 digits.
+/// The significand of the digits before, and after them those at the start of the text; None past
+/// 38 digits.
 #[tactic(auto, using(crate::proofs::Runs::digit_run_digit, crate::proofs::Runs::digit_run_other, crate::proofs::Tens::long_run))]
 pub fn gather<S: Source>(before: Significand, text: S) -> Option<Significand>
     requires { before.zeros ≤ 2 ^ 64 }
-    ensures value { let n = digits_value_after 10 (before.digits * 10 ^ before.zeros) (digit_run (S.left text)) in MatchOption result (IsLong n) (λ s. s.digits * 10 ^ s.zeros ≡ n) }
+    ensures value { let n = digits_value_after 10 (before.digits * 10 ^ before.zeros)
+        (digit_run (S.left text)) in
+        MatchOption result (IsLong n) (λ s. s.digits * 10 ^ s.zeros ≡ n) }
     ensures room { IfSome result (λ s. s.zeros ≤ before.zeros + 2 ^ 64) }
 {
     let mut read = before;
@@ -102,7 +106,7 @@ pub fn gather<S: Source>(before: Significand, text: S) -> Option<Significand>
     Some(read)
 }
 
-/// How many digits stand at the front of the text.
+/// How many digits are at the start of the text.
 #[tactic(auto, using(crate::proofs::Runs::digit_run_digit, crate::proofs::Runs::digit_run_other))]
 pub fn run_len<S: Source>(text: S) -> u128
     ensures value { result ≡ length (digit_run (S.left text)) }
@@ -120,7 +124,7 @@ pub fn run_len<S: Source>(text: S) -> u128
     count
 }
 
-/// The number of the digits at the front of the text; `u128::MAX` where it is greater.
+/// The number of the digits at the start of the text; `u128::MAX` where it is greater.
 #[tactic(auto, using(crate::proofs::Runs::digit_run_other, crate::proofs::Parts::count_more, crate::proofs::Parts::capped_small))]
 pub fn number<S: Source>(text: S) -> u128
     ensures { result ≡ capped (digits_value 10 (digit_run (S.left text))) }

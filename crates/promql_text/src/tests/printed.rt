@@ -1,5 +1,5 @@
 use crate::joined::write_joined;
-use crate::quoted::{QuotedBytes, Quoted};
+use crate::quoted::{Quoted, QuotedBytes};
 use std::fmt;
 use std::test::Fail;
 
@@ -12,7 +12,8 @@ impl fmt::Display for Barred<'_> {
     ghost use Rattle.promql_text.specs.Quoting.{quoted_text};
     ghost use Rattle.promql_text.specs.Texts.{joined_text};
 
-    ghost output = { λ texts. Some (joined_text (codes " | ") (map (λ t. quoted_text t.0.now) texts.0.now)) };
+    ghost output = { λ texts. Some (joined_text (codes " | ")
+        (map (λ t. quoted_text t.0.now) texts.0.now)) };
 
     fn fmt<W: fmt::Write>(&self, f: &mut fmt::Formatter<W>) -> fmt::Result {
         write_joined(self.0, " | ", f)

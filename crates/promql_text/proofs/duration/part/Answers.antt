@@ -19,7 +19,7 @@ rest_is behind rest s len at is n = is ∙ ap (λ k. drop k behind) n ∙ ap pas
 
 pub returns-in_err-unit : goal.returns-in_err-unit
 returns-in_err-unit c =
-    let word = word_is c.in_ok-count.behind.now c.split_at.result.0.now c.args.text.now c.word_len.result c.in_ok-count.ensures.2 c.split_at.ensures.front c.word_len.ensures.value in
+    let word = word_is c.in_ok-count.more.now c.split_at.result.0.now c.args.text.now c.word_len.result c.in_ok-count.ensures.2 c.split_at.ensures.front c.word_len.ensures.value in
     rw c.from_residual-in_err-unit.ensures (parts-no_unit c.args.units.now c.args.text.now c.requires c.in_ok-count.ensures.0 (ap (seek c.args.units.now) (sym word) ∙ c.in_err-unit.ensures))
 
 pub returns : goal.returns
@@ -27,8 +27,8 @@ returns c =
     let s = c.args.text.now in
     let us = c.args.units.now in
     let later = c.in_ok-unit.later.now in
-    let word = word_is c.in_ok-count.behind.now c.split_at.result.0.now s c.word_len.result c.in_ok-count.ensures.2 c.split_at.ensures.front c.word_len.ensures.value in
-    let rest = rest_is c.in_ok-count.behind.now c.split_at.result.1.now s c.word_len.result c.in_ok-count.ensures.2 c.split_at.ensures.back c.word_len.ensures.value in
+    let word = word_is c.in_ok-count.more.now c.split_at.result.0.now s c.word_len.result c.in_ok-count.ensures.2 c.split_at.ensures.front c.word_len.ensures.value in
+    let rest = rest_is c.in_ok-count.more.now c.split_at.result.1.now s c.word_len.result c.in_ok-count.ensures.2 c.split_at.ensures.back c.word_len.ensures.value in
     let unit : c.from.result ≡ nanos_of c.in_ok-unit.unit = c.from.ensures ∙ c.nanos.ensures in
     let nanos : c.saturating_mul.result ≡ capped (c.in_ok-count.count * nanos_of c.in_ok-unit.unit) = c.saturating_mul.ensures ∙ ap (λ u. capped (c.in_ok-count.count * u)) unit in (
       λ total.

@@ -10,7 +10,7 @@ loop-units-init c = (nothing_yet (parts_nanos units c.args.text.now), lit< tt)
 
 pub loop-units-preserved : goal.loop-units-preserved
 loop-units-preserved c =
-    let o : Option ℕ = parts_nanos c.in_ok-nanos.later.now c.in_ok-nanos.behind.now in (
+    let o : Option ℕ = parts_nanos c.in_ok-nanos.later.now c.in_ok-nanos.more.now in (
       total_one c.saturating_add-total.result c.loop-units.total c.in_ok-nanos.nanos o c.saturating_add-total.ensures
           ∙ c.in_ok-nanos.ensures.0 c.loop-units.total
           ∙ c.loop-units.invariant.0,
