@@ -12,7 +12,8 @@ use Rattle.promql_token.specs.declared.state.Mode.{Mode}
 use Rattle.promql_token.specs.declared.state.Mode.TheVariants as mode
 use Rattle.promql_text.specs.Texts.{Text}
 use Rattle.promql_token.specs.Classes.{is_letter, past}
-use Rattle.promql_token.specs.Ids.{lookup, keywords, keyword_in_any_case}
+use Rattle.promql_token.specs.Ids.{lookup, keywords, keyword_in_any_case, same_word}
+use Rattle.promql_token.specs.declared.ids.Case.TheVariants as case
 use Rattle.promql_token.specs.Pieces.{Piece, is_fill, opens, name_id, word_id, word, braces_id, word_in_braces, number_end, units, numeral, is_quote, is_escape, string_from, string, equal_sign, bang_sign, single, sign, begins_numeral, outside, bang_in_braces, in_braces, colon_in, in_brackets, begun, after}
 use Rattle.promql_token.proofs.Ends.{and_left, and_right}
 
@@ -29,7 +30,7 @@ lookup_all p same (k ∷ ks) w d all h =
 
 keyword_plain : (w : Text) (d : ℕ) → is_plain d ≡ true → is_plain (unwrap_or (keyword_in_any_case w) d) ≡ true
 unfolding keyword_in_any_case
-keyword_plain w d h = lookup_all is_plain str_eq_ignore_ascii_case keywords w d refl h
+keyword_plain w d h = lookup_all is_plain (same_word case.Any) keywords w d refl h
 
 name_plain : (w : Text) → is_plain (name_id w) ≡ true
 name_plain w = cond_both (list_any (λ b. b == 58) w) 14 8 (λ id. is_plain id ≡ true) (λ _. refl) (λ _. refl)

@@ -15,3 +15,4 @@ pub mod Steps
 pub mod Told
 pub mod Boundaries
 pub mod SameTokens
+pub mod Keywords
