@@ -16,3 +16,4 @@ pub mod Told
 pub mod Boundaries
 pub mod SameTokens
 pub mod Keywords
+pub mod NameBytes
