@@ -1,17 +1,24 @@
 #!/bin/sh
 # `bench/run.sh FOLDER` runs the benchmark of that folder as a crate of its own over a copy of the repository, with the
-# crates that it uses. Nothing of it is kept.
+# crates that it uses, on the folder's file `stdin` if there is one. The copy and its proofs are kept in
+# ${XDG_CACHE_HOME:-~/.cache}/promql-bench, so that a second run proves only what changed.
 set -e
 top=$(cd "$(dirname "$0")/.." && pwd)
-main=$(echo "$top/bench/$1"/*.rt.txt)
+folder=$top/bench/$1
+main=$(echo "$folder"/*.rt.txt)
 name=$(basename "$main" .rt.txt)
-copy=$(mktemp -d)
-trap 'rm -rf "$copy"' EXIT
-cp -r "$top/crates" "$copy/crates"
-cp "$top/HANDLES" "$copy/HANDLES"
-mkdir -p "$copy/crates/$name/src"
-cp "$main" "$copy/crates/$name/src/main.rt"
+work=${BENCH_WORK:-${XDG_CACHE_HOME:-$HOME/.cache}/promql-bench}
+mkdir -p "$work/crates/$name/src"
+find "$work/crates" -mindepth 2 -maxdepth 2 ! -name out -exec rm -rf {} +
+(cd "$top/crates" && tar cf - --exclude=./*/out .) | (cd "$work/crates" && tar xf -)
+cp "$top/HANDLES" "$work/HANDLES"
+mkdir -p "$work/crates/$name/src"
+cp "$main" "$work/crates/$name/src/main.rt"
 used=$(sed -n 's/^use \(promql_[a-z_]*\)::.*/\1/p' "$main" | sort -u | tr '\n' ' ')
-{ cat "$top/crates.txt"; echo "$name: $used"; } > "$copy/crates.txt"
-cd "$copy/crates/$name"
-rt run
+{ cat "$top/crates.txt"; echo "$name: $used"; } > "$work/crates.txt"
+cd "$work/crates/$name"
+rt run < /dev/null > run.log 2>&1 || { cat run.log >&2; exit 1; }
+if [ -f "$folder/stdin" ]; then
+    exec "out/$name" < "$folder/stdin"
+fi
+exec "out/$name"

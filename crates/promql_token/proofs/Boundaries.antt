@@ -8,7 +8,7 @@ use Rattle.promql_token.specs.declared.state.State.{State}
 use Rattle.promql_text.specs.Texts.{Text}
 use Rattle.promql_token.specs.Laws.{ArePlaced, Places}
 use Rattle.promql_token.specs.Lexing.{What, Found, what, cut, found, goes_on, behind, len_of, start, lex, collected, placed, item}
-use Rattle.promql_token.specs.Pieces.{Piece, piece, gap_len, behind_gap}
+use Rattle.promql_token.specs.Pieces.{Piece, piece, gap_len, after_gap}
 use Rattle.promql_token.proofs.Ends.{PieceEnds, piece_ends}
 use Rattle.promql_token.proofs.Places.{Ends, boundary, front, gap_len_ends}
 use Rattle.promql_token.proofs.Spans.{front_ok}
@@ -32,10 +32,10 @@ unfolding found
 stands_at s at state utf8 here =
     let z = drop at s in
     let n = gap_len state.mode z in
-    let p = piece (behind_gap n state) (drop n z) in
+    let p = piece (after_gap n state) (drop n z) in
     let begins : IsCharBoundary s (at + n) = rest_boundary s at n utf8 here (gap_len_ends state.mode z) in
     let ends : Ends (drop (at + n) s) (len_of (what p (drop n z))) =
-    subst (λ l. Ends l (len_of (what p (drop n z)))) (drop-drop n at s) (what_ends p (drop n z) (piece_ends (behind_gap n state) (drop n z))) in
+    subst (λ l. Ends l (len_of (what p (drop n z)))) (drop-drop n at s) (what_ends p (drop n z) (piece_ends (after_gap n state) (drop n z))) in
     record { start = begins; end = rest_boundary s (at + n) (len_of (what p (drop n z))) utf8 begins ends }
 
 nothing : (s : Text) (at : ℕ) (fs : List Found) (ys : List Lexeme) → fs ≡ [] → collected (placed at fs) ≡ Ok ys → ArePlaced s ys

@@ -7,7 +7,7 @@ use Rattle.promql_token.specs.declared.state.Mode.TheVariants as mode
 use Rattle.promql_token.specs.declared.state.State.{State}
 use Rattle.promql_text.specs.Texts.{Text}
 use Rattle.promql_token.specs.Lexing.{found, cut, cut_from, len_of, goes_on, behind, what}
-use Rattle.promql_token.specs.Pieces.{end_in, gap_len, piece, behind_gap}
+use Rattle.promql_token.specs.Pieces.{end_in, gap_len, piece, after_gap}
 
 pub cut_from-drop : (left : ℕ) (state : State) (z : Text) → left ≤ length z → cut_from left state z ≡ cut state (drop left z)
 unfolding cut
@@ -22,20 +22,16 @@ drop_one_more (suc n) b z h = let e : suc n - 1 ≡ n = omega arith in ap (λ k.
 end_stops : (m : Mode) (depth : ℕ) → goes_on (what (end_in m depth) []) ≡ false
 end_stops mode.Outside depth = cond_both (depth == 0) _ _ (λ p. goes_on (what p []) ≡ false) (λ _. refl) (λ _. refl)
 end_stops mode.Braces depth = refl
-end_stops mode.Opened depth = refl
-end_stops mode.Brackets depth = refl
-end_stops mode.PastColon depth = refl
+end_stops (mode.Brackets inside) depth = refl
 
 no_gap : (m : Mode) → gap_len m [] ≡ 0
 unfolding gap_len
 no_gap mode.Outside = refl
 no_gap mode.Braces = refl
-no_gap mode.Opened = refl
-no_gap mode.Brackets = refl
-no_gap mode.PastColon = refl
+no_gap (mode.Brackets inside) = refl
 
 nothing_after : (state : State) → goes_on (found state []).what ≡ false
-unfolding found piece behind_gap
+unfolding found piece after_gap
 nothing_after state = rw (no_gap state.mode) (end_stops state.mode state.depth)
 
 -- a token, and the text behind it

@@ -8,12 +8,14 @@ use Rattle.std.proofs.lemmas.List.{drop-drop, get_or_past}
 use Rattle.std.proofs.str.Laws.{order}
 use Rattle.promql_token.specs.declared.class.Class.{Class}
 use Rattle.promql_token.specs.declared.class.Class.TheVariants as class
+use Rattle.promql_token.specs.declared.state.Bracket.{Bracket}
+use Rattle.promql_token.specs.declared.state.Bracket.TheVariants as bracket
 use Rattle.promql_token.specs.declared.state.Mode.{Mode}
 use Rattle.promql_token.specs.declared.state.Mode.TheVariants as mode
 use Rattle.promql_token.specs.declared.state.State.{State}
 use Rattle.promql_text.specs.Texts.{Text}
 use Rattle.promql_token.specs.Classes.{is_in, is_letter, past}
-use Rattle.promql_token.specs.Pieces.{Piece, word, word_in_braces, is_hex, digits, past_whole, past_point, past_sign, past_exponent, number_end, units, numeral, is_quote, is_escape, string_from, string, equal_sign, or_equal, bang_sign, dot_sign, single, sign, begins_numeral, outside, bang_in_braces, in_braces, colon_in, in_brackets, end_in, begun, piece}
+use Rattle.promql_token.specs.Pieces.{Piece, word, word_in_braces, is_hex, digits, past_whole, past_point, past_sign, past_exponent, number_end, units, numeral, is_quote, is_escape, string_from, string, equal_sign, or_equal, bang_sign, dot_sign, single, sign, begins_numeral, outside, bang_in_braces, in_braces, colon_sign, in_brackets, end_in, begun, piece}
 use Rattle.promql_token.proofs.Places.{Ends, front, behind_low, low_eq, IsAsciiRun, run_ends, no_run, past_run, one_more, past_moves}
 
 abbrev pub PieceEnds : Text → Piece → Type 0
@@ -255,19 +257,17 @@ in_braces_ends z h =
     cond_both (is_letter b) _ _ (PieceEnds z) (λ w. (class_ends class.Name z, λ _. past_moves class.Name z h (name_first b w))) (λ _.
     cond_both (is_quote b) _ _ (PieceEnds z) (λ q. string_ends z q) (λ _. front z)))))))
 
-colon_ends : (m : Mode) (z : Text) → FirstIs z 58 → PieceEnds z (colon_in m)
-colon_ends mode.Outside z f = one_piece z 58 _ f
-colon_ends mode.Braces z f = one_piece z 58 _ f
-colon_ends mode.Opened z f = front z
-colon_ends mode.Brackets z f = one_piece z 58 _ f
-colon_ends mode.PastColon z f = front z
+colon_ends : (inside : Bracket) (z : Text) → FirstIs z 58 → PieceEnds z (colon_sign inside)
+colon_ends bracket.Nothing z f = front z
+colon_ends bracket.Something z f = one_piece z 58 _ f
+colon_ends bracket.Colon z f = front z
 
-in_brackets_ends : (m : Mode) (z : Text) → 0 < length z → PieceEnds z (in_brackets m z)
+in_brackets_ends : (inside : Bracket) (z : Text) → 0 < length z → PieceEnds z (in_brackets inside z)
 unfolding in_brackets
-in_brackets_ends m z h =
+in_brackets_ends inside z h =
     let b = get_or z 0 0 in
     let this : (n : ℕ) → n < 128 → (b == n) ≡ true → FirstIs z n = λ n low is. record { some = h; is = is; low = low } in
-    cond_both (b == 58) _ _ (PieceEnds z) (λ e. colon_ends m z (this 58 (lit< tt) e)) (λ _.
+    cond_both (b == 58) _ _ (PieceEnds z) (λ e. colon_ends inside z (this 58 (lit< tt) e)) (λ _.
     cond_both (b == 93) _ _ (PieceEnds z) (λ e. one_piece z 93 _ (this 93 (lit< tt) e)) (λ _.
     cond_both (b == 91) _ _ (PieceEnds z) (λ _. front z) (λ _.
     cond_both (is_ascii_digit b) _ _ (PieceEnds z) (λ d. numeral_ends z h (digit_begins z d)) (λ _. front z))))
@@ -275,16 +275,12 @@ in_brackets_ends m z h =
 end_ends : (m : Mode) (depth : ℕ) → PieceEnds [] (end_in m depth)
 end_ends mode.Outside depth = cond_both (depth == 0) _ _ (PieceEnds []) (λ _. (front [], λ ne. absurd (ne refl))) (λ _. front [])
 end_ends mode.Braces depth = front []
-end_ends mode.Opened depth = front []
-end_ends mode.Brackets depth = front []
-end_ends mode.PastColon depth = front []
+end_ends (mode.Brackets inside) depth = front []
 
 begun_ends : (m : Mode) (depth : ℕ) (z : Text) → 0 < length z → PieceEnds z (begun m depth z)
 begun_ends mode.Outside depth z h = outside_ends depth z h
 begun_ends mode.Braces depth z h = in_braces_ends z h
-begun_ends mode.Opened depth z h = in_brackets_ends mode.Opened z h
-begun_ends mode.Brackets depth z h = in_brackets_ends mode.Brackets z h
-begun_ends mode.PastColon depth z h = in_brackets_ends mode.PastColon z h
+begun_ends (mode.Brackets inside) depth z h = in_brackets_ends inside z h
 
 pub piece_ends : (state : State) (z : Text) → PieceEnds z (piece state z)
 unfolding piece

@@ -8,12 +8,15 @@ use Rattle.std.specs.Str.{str_eq_ignore_ascii_case}
 use Rattle.std.proofs.lemmas.Bool.{cond_both}
 use Rattle.std.proofs.lemmas.Grind.{common_steps}
 use Rattle.promql_token.specs.declared.class.Class.TheVariants as class
+use Rattle.promql_token.specs.declared.state.Bracket.{Bracket}
+use Rattle.promql_token.specs.declared.state.Bracket.TheVariants as bracket
 use Rattle.promql_token.specs.declared.state.Mode.{Mode}
 use Rattle.promql_token.specs.declared.state.Mode.TheVariants as mode
 use Rattle.promql_text.specs.Texts.{Text}
 use Rattle.promql_token.specs.Classes.{is_letter, past}
-use Rattle.promql_token.specs.Ids.{lookup, keywords, keyword_in_any_case}
-use Rattle.promql_token.specs.Pieces.{Piece, is_fill, opens, name_id, word_id, word, braces_id, word_in_braces, number_end, units, numeral, is_quote, is_escape, string_from, string, equal_sign, bang_sign, single, sign, begins_numeral, outside, bang_in_braces, in_braces, colon_in, in_brackets, begun, after}
+use Rattle.promql_token.specs.Ids.{lookup, keywords, keyword_in_any_case, same_word}
+use Rattle.promql_token.specs.declared.ids.Case.TheVariants as case
+use Rattle.promql_token.specs.Pieces.{Piece, is_fill, opens, name_id, word_id, word, braces_id, word_in_braces, number_end, units, numeral, is_quote, is_escape, string_from, string, equal_sign, bang_sign, single, sign, begins_numeral, outside, bang_in_braces, in_braces, colon_sign, in_brackets, begun, after}
 use Rattle.promql_token.proofs.Ends.{and_left, and_right}
 
 -- ---- ids that open, close and end nothing
@@ -29,7 +32,7 @@ lookup_all p same (k ∷ ks) w d all h =
 
 keyword_plain : (w : Text) (d : ℕ) → is_plain d ≡ true → is_plain (unwrap_or (keyword_in_any_case w) d) ≡ true
 unfolding keyword_in_any_case
-keyword_plain w d h = lookup_all is_plain str_eq_ignore_ascii_case keywords w d refl h
+keyword_plain w d h = lookup_all is_plain (same_word case.Any) keywords w d refl h
 
 name_plain : (w : Text) → is_plain (name_id w) ≡ true
 name_plain w = cond_both (list_any (λ b. b == 58) w) 14 8 (λ id. is_plain id ≡ true) (λ _. refl) (λ _. refl)
@@ -152,18 +155,16 @@ in_braces_inner depth z =
     cond_both (is_letter b) _ _ (Inner depth) (λ _. let n = past class.Name z 0 in plain_inner depth _ (braces_plain (take n z) (drop n z))) (λ _.
     cond_both (is_quote b) _ _ (Inner depth) (λ _. string_inner depth z) (λ _. tt)))))))
 
-colon_inner : (depth : ℕ) (m : Mode) → Inner depth (colon_in m)
-colon_inner depth mode.Outside = (refl, λ (no : false ≡ true). absurd (cc))
-colon_inner depth mode.Braces = (refl, λ (no : false ≡ true). absurd (cc))
-colon_inner depth mode.Opened = tt
-colon_inner depth mode.Brackets = (refl, λ (no : false ≡ true). absurd (cc))
-colon_inner depth mode.PastColon = tt
+colon_inner : (depth : ℕ) (inside : Bracket) → Inner depth (colon_sign inside)
+colon_inner depth bracket.Nothing = tt
+colon_inner depth bracket.Something = (refl, λ (no : false ≡ true). absurd (cc))
+colon_inner depth bracket.Colon = tt
 
-in_brackets_inner : (depth : ℕ) (m : Mode) (z : Text) → Inner depth (in_brackets m z)
+in_brackets_inner : (depth : ℕ) (inside : Bracket) (z : Text) → Inner depth (in_brackets inside z)
 unfolding in_brackets
-in_brackets_inner depth m z =
+in_brackets_inner depth inside z =
     let b = get_or z 0 0 in
-    cond_both (b == 58) _ _ (Inner depth) (λ _. colon_inner depth m) (λ _.
+    cond_both (b == 58) _ _ (Inner depth) (λ _. colon_inner depth inside) (λ _.
     cond_both (b == 93) _ _ (Inner depth) (λ _. (refl, λ (no : false ≡ true). absurd (cc))) (λ _.
     cond_both (b == 91) _ _ (Inner depth) (λ _. tt) (λ _.
     cond_both (is_ascii_digit b) _ _ (Inner depth) (λ _. numeral_inner depth z) (λ _. tt))))
@@ -171,9 +172,7 @@ in_brackets_inner depth m z =
 pub begun_inner : (m : Mode) (depth : ℕ) (z : Text) → Inner depth (begun m depth z)
 begun_inner mode.Outside depth z = outside_inner depth z
 begun_inner mode.Braces depth z = in_braces_inner depth z
-begun_inner mode.Opened depth z = in_brackets_inner depth mode.Opened z
-begun_inner mode.Brackets depth z = in_brackets_inner depth mode.Brackets z
-begun_inner mode.PastColon depth z = in_brackets_inner depth mode.PastColon z
+begun_inner (mode.Brackets inside) depth z = in_brackets_inner depth inside z
 
 -- ---- states
 

@@ -11,7 +11,7 @@ use Rattle.promql_token.specs.declared.lexeme.Lexeme.{Lexeme}
 use Rattle.promql_token.specs.declared.state.State.{State}
 use Rattle.promql_text.specs.Texts.{Text}
 use Rattle.promql_token.specs.Lexing.{found, first, shown, what, item, placed, What, len_of, goes_on, behind, cut}
-use Rattle.promql_token.specs.Pieces.{Piece, gap_len, piece, behind_gap, after}
+use Rattle.promql_token.specs.Pieces.{Piece, gap_len, piece, after_gap, after}
 use Rattle.promql_token.proofs.Cuts.{cut_goes, cut_stops}
 use Rattle.promql_token.proofs.Ends.{PieceEnds, piece_ends}
 use Rattle.promql_token.proofs.Places.{Ends, boundary, gap_len_ends}
@@ -24,11 +24,11 @@ pub record Here (text : Text) (at : ℕ) (state : State) (g : ℕ) (p : Piece) :
   pub utf8 : IsUtf8 text
   pub place : IsCharBoundary text at
   pub gap_is : g ≡ gap_len state.mode (drop at text)
-  pub piece_is : p ≡ piece (behind_gap g state) (drop (at + g) text)
+  pub piece_is : p ≡ piece (after_gap g state) (drop (at + g) text)
 
 -- as the code has it
 pub here : (text bytes : Text) (at : ℕ) (state state2 : State) (g : ℕ) (p : Piece) → IsUtf8 text → IsCharBoundary text at → bytes ≡ text
-    → g ≡ gap_len state.mode (take (length bytes - at) (drop at bytes)) → state2 ≡ behind_gap g state → p ≡ piece state2 (take (length bytes - (at + g)) (drop (at + g) bytes)) → Here text at state g p
+    → g ≡ gap_len state.mode (take (length bytes - at) (drop at bytes)) → state2 ≡ after_gap g state → p ≡ piece state2 (take (length bytes - (at + g)) (drop (at + g) bytes)) → Here text at state g p
 here text bytes at state state2 g p u b same gap_is state_is piece_is = record {
   utf8 = u;
   place = b;
@@ -41,15 +41,15 @@ module _ {text : Text} {at : ℕ} {state : State} {g : ℕ} {p : Piece} (h : Her
   behind_here = ends_at text at g h.utf8 h.place (subst (Ends (drop at text)) (sym h.gap_is) (gap_len_ends state.mode (drop at text)))
 
   ends : PieceEnds (drop (at + g) text) p
-  ends = subst (PieceEnds (drop (at + g) text)) (sym h.piece_is) (piece_ends (behind_gap g state) (drop (at + g) text))
+  ends = subst (PieceEnds (drop (at + g) text)) (sym h.piece_is) (piece_ends (after_gap g state) (drop (at + g) text))
 
   found_is : found state (drop at text) ≡ record { gap = g; what = what p (drop (at + g) text) }
   unfolding found
   found_is =
       let gap = sym h.gap_is in
       let rest : drop (gap_len state.mode (drop at text)) (drop at text) ≡ drop (at + g) text = ap (λ n. drop n (drop at text)) gap ∙ drop-drop g at text in
-      let is : piece (behind_gap (gap_len state.mode (drop at text)) state) (drop (gap_len state.mode (drop at text)) (drop at text)) ≡ p =
-      ap (λ n. piece (behind_gap n state) (drop n (drop at text))) gap ∙ ap (piece (behind_gap g state)) (drop-drop g at text) ∙ sym h.piece_is in
+      let is : piece (after_gap (gap_len state.mode (drop at text)) state) (drop (gap_len state.mode (drop at text)) (drop at text)) ≡ p =
+      ap (λ n. piece (after_gap n state) (drop n (drop at text))) gap ∙ ap (piece (after_gap g state)) (drop-drop g at text) ∙ sym h.piece_is in
       λ i. record { gap = gap i; what = what (is i) (rest i) }
 
   pub token_ends : (id len : ℕ) → p ≡ Ok (id, len) → Ends (drop (at + g) text) len × (id ≢ 6 → 0 < len)

@@ -8,6 +8,7 @@ use Rattle.std.proofs.Math.Seq.{take-length, drop-length}
 use Rattle.promql_token.specs.declared.class.Class.TheVariants as class
 use Rattle.promql_token.specs.declared.fault.LexFaultKind.TheVariants.{AfterBang, AfterBangInBraces, AfterEqual}
 use Rattle.promql_token.specs.declared.ids.TheConstants.{T_EQL, T_EQLC, T_EQL_REGEX, T_NEQ, T_NEQ_REGEX}
+use Rattle.promql_token.specs.declared.state.Bracket.{Bracket}
 use Rattle.promql_token.specs.declared.state.Mode.{Mode}
 use Rattle.promql_token.specs.declared.state.Mode.TheVariants as mode
 use Rattle.promql_token.specs.declared.state.State.{State}
@@ -60,7 +61,7 @@ hash_in_braces : (depth : ℕ) → IsNoToken mode.Braces depth 35
 unfolding in_braces
 hash_in_braces depth w t is = cc
 
-white_in_brackets : (m : Mode) (b : ℕ) → is_ascii_whitespace b ≡ true → (w : Text) (t : ℕ × ℕ) → in_brackets m (b ∷ w) ≡ Ok t → ⊥
+white_in_brackets : (m : Bracket) (b : ℕ) → is_ascii_whitespace b ≡ true → (w : Text) (t : ℕ × ℕ) → in_brackets m (b ∷ w) ≡ Ok t → ⊥
 unfolding in_brackets
 white_in_brackets m =
     white_cases (λ b. (w : Text) (t : ℕ × ℕ) → in_brackets m (b ∷ w) ≡ Ok t → ⊥) (λ w t is. cc) (λ w t is. cc) (λ w t is. cc) (λ w t is. cc) (λ w t is. cc)
@@ -80,9 +81,7 @@ gapless mode.Outside depth b w z t is =
     no_comment_gap b z (λ e. subst (IsNoToken mode.Outside depth) (sym (eqb-true b 35 e)) (hash_outside depth) w t is) (λ e. white_outside depth b e w t is)
 gapless mode.Braces depth b w z t is =
     no_comment_gap b z (λ e. subst (IsNoToken mode.Braces depth) (sym (eqb-true b 35 e)) (hash_in_braces depth) w t is) (λ e. white_in_braces depth b e w t is)
-gapless mode.Opened depth b w z t is = no_white_gap b z (λ e. white_in_brackets mode.Opened b e w t is)
-gapless mode.Brackets depth b w z t is = no_white_gap b z (λ e. white_in_brackets mode.Brackets b e w t is)
-gapless mode.PastColon depth b w z t is = no_white_gap b z (λ e. white_in_brackets mode.PastColon b e w t is)
+gapless (mode.Brackets inside) depth b w z t is = no_white_gap b z (λ e. white_in_brackets inside b e w t is)
 
 -- ---- tokens that nothing goes on
 
@@ -245,7 +244,7 @@ in_braces_keeps b w r id apart =
     (λ letter is. name_keeps (b ∷ w) r id (arm_true (is_letter b) _ _ letter apart) is) (λ _.
     keeps (is_quote b) _ _ _ _ t (λ _ is. string_keeps b w r t is) (λ _ is. is)))))))
 
-in_brackets_keeps : (m : Mode) (b : ℕ) (w r : Text) (t : ℕ × ℕ) → parts_in_brackets (b ∷ w) r ≡ true → in_brackets m (b ∷ w) ≡ Ok t → in_brackets m ((b ∷ w) ++ r) ≡ Ok t
+in_brackets_keeps : (m : Bracket) (b : ℕ) (w r : Text) (t : ℕ × ℕ) → parts_in_brackets (b ∷ w) r ≡ true → in_brackets m (b ∷ w) ≡ Ok t → in_brackets m ((b ∷ w) ++ r) ≡ Ok t
 unfolding in_brackets
 in_brackets_keeps m b w r t apart =
     keeps (b == 58) _ _ _ _ t (λ _ is. is) (λ _.
@@ -256,9 +255,7 @@ in_brackets_keeps m b w r t apart =
 begun_keeps : (m : Mode) (depth b : ℕ) (w r : Text) (id : ℕ) → parts m (b ∷ w) r ≡ true → begun m depth (b ∷ w) ≡ Ok (id, suc (length w)) → begun m depth ((b ∷ w) ++ r) ≡ Ok (id, suc (length w))
 begun_keeps mode.Outside depth b w r id apart is = outside_keeps depth b w r id apart is
 begun_keeps mode.Braces depth b w r id apart is = in_braces_keeps b w r id apart is
-begun_keeps mode.Opened depth b w r id apart is = in_brackets_keeps mode.Opened b w r _ apart is
-begun_keeps mode.Brackets depth b w r id apart is = in_brackets_keeps mode.Brackets b w r _ apart is
-begun_keeps mode.PastColon depth b w r id apart is = in_brackets_keeps mode.PastColon b w r _ apart is
+begun_keeps (mode.Brackets inside) depth b w r id apart is = in_brackets_keeps inside b w r _ apart is
 
 -- ---- the laws
 

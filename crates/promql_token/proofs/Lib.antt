@@ -15,3 +15,5 @@ pub mod Steps
 pub mod Told
 pub mod Boundaries
 pub mod SameTokens
+pub mod Keywords
+pub mod NameBytes

@@ -123,9 +123,7 @@ past_moves c (b ∷ z) h passes = subst (λ t. 0 < 0 + cond t (1 + prefix_len (i
 gap_ends : (m : Mode) (z : Text) → Ends z (gap_in m z)
 gap_ends mode.Outside z = gap_from_ends false z
 gap_ends mode.Braces z = gap_from_ends false z
-gap_ends mode.Opened z = run_ends z _ (past_run class.White z 0 (no_run z))
-gap_ends mode.Brackets z = run_ends z _ (past_run class.White z 0 (no_run z))
-gap_ends mode.PastColon z = run_ends z _ (past_run class.White z 0 (no_run z))
+gap_ends (mode.Brackets inside) z = run_ends z _ (past_run class.White z 0 (no_run z))
 
 pub gap_len_ends : (m : Mode) (z : Text) → Ends z (gap_len m z)
 unfolding gap_len

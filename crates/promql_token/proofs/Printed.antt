@@ -103,16 +103,12 @@ unfolding piece outside in_braces
 string_piece mode.Outside depth quote w t holds is_q is = rw (quote_outside quote (get_or w 0 0) is_q, quote_no_word quote is_q, is_q) is
 string_piece mode.Braces depth quote w t holds is_q is =
     rw (quote_apart quote 44 is_q refl, quote_apart quote 61 is_q refl, quote_apart quote 33 is_q refl, quote_apart quote 123 is_q refl, quote_apart quote 125 is_q refl, quote_no_letter quote is_q, is_q) is
-string_piece mode.Opened depth quote w t holds is_q is = absurd (cc)
-string_piece mode.Brackets depth quote w t holds is_q is = absurd (cc)
-string_piece mode.PastColon depth quote w t holds is_q is = absurd (cc)
+string_piece (mode.Brackets inside) depth quote w t holds is_q is = absurd (cc)
 
 string_parts : (m : Mode) (quote : ℕ) (w r : Text) → holds_strings m ≡ true → is_quote quote ≡ true → parts m (quote ∷ w) r ≡ true
 string_parts mode.Outside quote w r holds is_q = rw (quote_outside quote (get_or w 0 0) is_q, quote_no_word quote is_q, is_q) refl
 string_parts mode.Braces quote w r holds is_q = rw (quote_no_letter quote is_q, is_q) refl
-string_parts mode.Opened quote w r holds is_q = absurd (cc)
-string_parts mode.Brackets quote w r holds is_q = absurd (cc)
-string_parts mode.PastColon quote w r holds is_q = absurd (cc)
+string_parts (mode.Brackets inside) quote w r holds is_q = absurd (cc)
 
 pub joins_string : JoinsString
 joins_string state quote ps r holds is_q raw h =
@@ -241,16 +237,12 @@ digit_at : (m : Mode) (depth b : ℕ) (w : Text) (t : ℕ × ℕ) → holds_nume
 unfolding piece outside in_brackets
 digit_at mode.Outside depth b w t holds digit is = rw digit is
 digit_at mode.Braces depth b w t holds digit is = absurd (cc)
-digit_at mode.Opened depth b w t holds digit is = rw (digit_apart b 58 digit refl, digit_apart b 93 digit refl, digit_apart b 91 digit refl, digit) is
-digit_at mode.Brackets depth b w t holds digit is = rw (digit_apart b 58 digit refl, digit_apart b 93 digit refl, digit_apart b 91 digit refl, digit) is
-digit_at mode.PastColon depth b w t holds digit is = rw (digit_apart b 58 digit refl, digit_apart b 93 digit refl, digit_apart b 91 digit refl, digit) is
+digit_at (mode.Brackets inside) depth b w t holds digit is = rw (digit_apart b 58 digit refl, digit_apart b 93 digit refl, digit_apart b 91 digit refl, digit) is
 
 digit_parts : (m : Mode) (b : ℕ) (w r : Text) → holds_numerals m ≡ true → is_ascii_digit b ≡ true → stops_numeral (b ∷ w) r ≡ true → parts m (b ∷ w) r ≡ true
 digit_parts mode.Outside b w r holds digit stop = rw digit stop
 digit_parts mode.Braces b w r holds digit stop = absurd (cc)
-digit_parts mode.Opened b w r holds digit stop = rw digit stop
-digit_parts mode.Brackets b w r holds digit stop = rw digit stop
-digit_parts mode.PastColon b w r holds digit stop = rw digit stop
+digit_parts (mode.Brackets inside) b w r holds digit stop = rw digit stop
 
 -- a numeral that begins with a digit
 pub joins_numeral : (state : State) (w r : Text) (id : ℕ) → holds_numerals state.mode ≡ true → 0 < length w → is_ascii_digit (get_or w 0 0) ≡ true → numeral w ≡ Ok (id, length w) → stops_numeral w r ≡ true

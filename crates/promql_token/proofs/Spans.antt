@@ -14,7 +14,7 @@ use Rattle.promql_token.specs.declared.state.State.{State}
 use Rattle.promql_text.specs.Texts.{Text}
 use Rattle.promql_token.specs.Laws.{IsGap, InOrder, Spans, Lexes}
 use Rattle.promql_token.specs.Lexing.{What, Found, what, cut, found, goes_on, behind, len_of, start, lex, result_sliced, collected, placed, item, with_front, sliced}
-use Rattle.promql_token.specs.Pieces.{Piece, piece, gap_len, gap_from, is_line_end, behind_gap}
+use Rattle.promql_token.specs.Pieces.{Piece, piece, gap_len, gap_from, is_line_end, after_gap}
 use Rattle.promql_token.proofs.Ends.{PieceEnds, piece_ends}
 use Rattle.promql_token.proofs.Steps.{cut_is, found_fits}
 
@@ -59,9 +59,7 @@ whole_gap : (m : Mode) (z : Text) → gap_len m z ≤ length z → IsGap (take (
 unfolding gap_len
 whole_gap mode.Outside z fits = gap_is_gap z fits
 whole_gap mode.Braces z fits = gap_is_gap z fits
-whole_gap mode.Opened z fits = white_is_gap z fits
-whole_gap mode.Brackets z fits = white_is_gap z fits
-whole_gap mode.PastColon z fits = white_is_gap z fits
+whole_gap (mode.Brackets inside) z fits = white_is_gap z fits
 
 -- ---- tokens
 
@@ -96,7 +94,7 @@ stands s at state =
     let fits = (found_fits state z).0 in
     record {
       gap = whole_gap state.mode z (omega (arith, fits));
-      text = λ id t is. what_text (piece (behind_gap n state) (drop n z)) (drop n z) id t (piece_ends (behind_gap n state) (drop n z)) is;
+      text = λ id t is. what_text (piece (after_gap n state) (drop n z)) (drop n z) id t (piece_ends (after_gap n state) (drop n z)) is;
       fits = fits;
     }
 

@@ -11,7 +11,7 @@ use Rattle.promql_token.specs.declared.state.Mode.TheVariants as mode
 use Rattle.promql_token.specs.declared.state.State.{State}
 use Rattle.promql_text.specs.Texts.{Text}
 use Rattle.promql_token.specs.Lexing.{whats, cut, found, goes_on, behind, len_of, what, start}
-use Rattle.promql_token.specs.Pieces.{Piece, gap_len, gap_from, piece, behind_gap, after, moved}
+use Rattle.promql_token.specs.Pieces.{Piece, gap_len, gap_from, piece, after_gap, after, mode_after_something}
 use Rattle.promql_token.proofs.Cuts.{cut_goes, cut_stops}
 use Rattle.promql_token.proofs.Ends.{PieceEnds, piece_ends}
 use Rattle.promql_token.proofs.Places.{gap_len_ends}
@@ -33,7 +33,7 @@ found_fits state z =
     let gap = gap_len_ends state.mode z in
     let within = gap.within in
     let g = gap_len state.mode z in
-    let fits = what_fits (drop g z) _ (piece_ends (behind_gap g state) (drop g z)) in
+    let fits = what_fits (drop g z) _ (piece_ends (after_gap g state) (drop g z)) in
     (omega (arith, fits.0, length-drop g z), λ goes. omega (arith, fits.1 goes))
 
 pub cut_is : (state : State) (z : Text) → let f = found state z in cut state z ≡ f ∷ cond (goes_on f.what) (cut (behind state f.what) (drop (f.gap + len_of f.what) z)) []
@@ -55,8 +55,8 @@ pub whats_is : (state : State) (z : Text) → let f = found state z in whats sta
 whats_is state z = let f = found state z in ap (map (λ f. f.what)) (cut_is state z) ∙ ap (λ ws. f.what ∷ ws) (map_cond (goes_on f.what) (behind state f.what) (drop (f.gap + len_of f.what) z))
 
 -- no gap leaves the state as it is
-pub no_gap_state : (state : State) → behind_gap 0 state ≡ state
-unfolding behind_gap
+pub no_gap_state : (state : State) → after_gap 0 state ≡ state
+unfolding after_gap
 no_gap_state state = refl
 
 -- a piece with no gap before it
@@ -65,7 +65,7 @@ unfolding found
 whats_piece state w r id gap is more =
     let z = w ++ r in
     let what_is : (found state z).what ≡ Ok (id, w) =
-    ap (λ n. what (piece (behind_gap n state) (drop n z)) (drop n z)) gap ∙ ap (λ s. what (piece s z) z) (no_gap_state state) ∙ ap (λ p. what p z) is ∙ ap (λ t. Ok (id, t)) (take-append_seam w r) in
+    ap (λ n. what (piece (after_gap n state) (drop n z)) (drop n z)) gap ∙ ap (λ s. what (piece s z) z) (no_gap_state state) ∙ ap (λ p. what p z) is ∙ ap (λ t. Ok (id, t)) (take-append_seam w r) in
     let goes : goes_on (Ok (id, w)) ≡ true = ap not more in
     whats_is state z
     ∙ (λ i. what_is i ∷ cond (goes_on (what_is i)) (whats (behind state (what_is i)) (drop (gap i + len_of (what_is i)) z)) [])
@@ -74,7 +74,7 @@ whats_piece state w r id gap is more =
     ∙ ap (λ q. Ok (id, w) ∷ whats (after state id) q) (drop-append_seam w r)
 
 pub whats_end : whats start [] ≡ Ok (6, []) ∷ []
-unfolding found gap_len piece behind_gap cut
+unfolding found gap_len piece after_gap cut
 whats_end = refl
 
 -- ---- white space
@@ -90,16 +90,14 @@ white_gap : (m : Mode) (b : ℕ) (r : Text) → is_ascii_whitespace b ≡ true �
 unfolding gap_len
 white_gap mode.Outside b r white = from_white b r white
 white_gap mode.Braces b r white = from_white b r white
-white_gap mode.Opened b r white = rw white (omega arith)
-white_gap mode.Brackets b r white = rw white (omega arith)
-white_gap mode.PastColon b r white = rw white (omega arith)
+white_gap (mode.Brackets inside) b r white = rw white (omega arith)
 
 -- a gap changes no state but that directly behind a bracket
-pub same_state : (n : ℕ) (state : State) → moved state.mode ≡ state.mode → behind_gap n state ≡ state
-unfolding behind_gap
+pub same_state : (n : ℕ) (state : State) → mode_after_something state.mode ≡ state.mode → after_gap n state ≡ state
+unfolding after_gap
 same_state n state same = cond_both (n == 0) _ _ (λ s. s ≡ state) (λ _. refl) (λ _ i. record { depth = state.depth; mode = same i })
 
-whats_white : (state : State) (b : ℕ) (r : Text) → moved state.mode ≡ state.mode → is_ascii_whitespace b ≡ true → whats state (b ∷ r) ≡ whats state r
+whats_white : (state : State) (b : ℕ) (r : Text) → mode_after_something state.mode ≡ state.mode → is_ascii_whitespace b ≡ true → whats state (b ∷ r) ≡ whats state r
 unfolding found
 whats_white state b r same white =
     let w = (found state r).what in
@@ -107,12 +105,12 @@ whats_white state b r same white =
     let n = gap_len state.mode r in
     let gap = white_gap state.mode b r white in
     let states = same_state (suc n) state same ∙ sym (same_state n state same) in
-    let what_is : (found state z).what ≡ w = ap (λ n. what (piece (behind_gap n state) (drop n z)) (drop n z)) gap ∙ ap (λ s. what (piece s (drop n r)) (drop n r)) states in
+    let what_is : (found state z).what ≡ w = ap (λ n. what (piece (after_gap n state) (drop n z)) (drop n z)) gap ∙ ap (λ s. what (piece s (drop n r)) (drop n r)) states in
     let one_more : suc n + len_of w ≡ suc (n + len_of w) = omega arith in
     whats_is state z
     ∙ (λ i. what_is i ∷ cond (goes_on (what_is i)) (whats (behind state (what_is i)) (drop (gap i + len_of (what_is i)) z)) [])
     ∙ ap (λ n. w ∷ cond (goes_on w) (whats (behind state w) (drop n z)) []) one_more ∙ sym (whats_is state r)
 
-pub whats_run : (state : State) (g r : Text) → moved state.mode ≡ state.mode → list_all is_ascii_whitespace g ≡ true → whats state (g ++ r) ≡ whats state r
+pub whats_run : (state : State) (g r : Text) → mode_after_something state.mode ≡ state.mode → list_all is_ascii_whitespace g ≡ true → whats state (g ++ r) ≡ whats state r
 whats_run state [] r same white = refl
 whats_run state (b ∷ g) r same white = whats_white state b (g ++ r) same (grind (arith, common_steps, white)) ∙ whats_run state g r same (grind (arith, common_steps, white))

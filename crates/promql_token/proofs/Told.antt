@@ -7,13 +7,14 @@ use Rattle.std.proofs.lemmas.Grind.{common_steps}
 use Rattle.std.proofs.lemmas.List.{drop-drop}
 use Rattle.promql_token.specs.declared.fault.LexFaultKind.TheVariants.{UnclosedParen}
 use Rattle.promql_token.specs.declared.lexeme.Lexeme.{Lexeme}
+use Rattle.promql_token.specs.declared.state.Bracket.TheVariants as bracket
 use Rattle.promql_token.specs.declared.state.Mode.{Mode}
 use Rattle.promql_token.specs.declared.state.Mode.TheVariants as mode
 use Rattle.promql_token.specs.declared.state.State.{State}
 use Rattle.promql_text.specs.Texts.{Text}
 use Rattle.promql_token.specs.Cut.{count_of, is_bound, mode_by, mode_at, state_at, ids_behind, IsCut, CutOnce, EndsOnce}
 use Rattle.promql_token.specs.Lexing.{What, Found, found, what, len_of, goes_on, behind, cut, whats, start, lex, placed, collected, item}
-use Rattle.promql_token.specs.Pieces.{Piece, begun, end_in, piece, behind_gap, after, depth_behind, mode_behind, moved, past_colon, gap_len}
+use Rattle.promql_token.specs.Pieces.{Piece, begun, end_in, piece, after_gap, after, depth_after, mode_after, mode_after_something, mode_after_colon, gap_len}
 use Rattle.promql_token.proofs.Inner.{Inner, begun_inner}
 use Rattle.promql_token.proofs.Spans.{front_ok}
 use Rattle.promql_token.proofs.Steps.{cut_is, whats_is, found_fits}
@@ -34,39 +35,39 @@ one_more : (n : ℕ) → (suc n == 0) ≡ false
 one_more n = grind (arith, common_steps)
 
 -- a token that is no brace, no bracket and no colon
-moved_tests : (brace bracket any none more : Bool) → more ≡ false
-    → moved (cond brace mode.Braces (cond bracket (cond any mode.PastColon (cond none mode.Opened mode.Brackets)) mode.Outside))
-    ≡ cond brace mode.Braces (cond bracket (cond any mode.PastColon (cond more mode.Opened mode.Brackets)) mode.Outside)
-moved_tests true bracket any none more apart = refl
+moved_tests : (brace bracket_id any none more : Bool) → more ≡ false
+    → mode_after_something (cond brace mode.Braces (cond bracket_id (mode.Brackets (cond any bracket.Colon (cond none bracket.Nothing bracket.Something))) mode.Outside))
+    ≡ cond brace mode.Braces (cond bracket_id (mode.Brackets (cond any bracket.Colon (cond more bracket.Nothing bracket.Something))) mode.Outside)
+moved_tests true bracket_id any none more apart = refl
 moved_tests false false any none more apart = refl
 moved_tests false true true none more apart = refl
 moved_tests false true false true more apart = rw apart refl
 moved_tests false true false false more apart = rw apart refl
 
-moved_by : (o : Option ℕ) (id : ℕ) (since : List ℕ) → (id == 2) ≡ false → moved (mode_by o since) ≡ mode_by o (id ∷ since)
+moved_by : (o : Option ℕ) (id : ℕ) (since : List ℕ) → (id == 2) ≡ false → mode_after_something (mode_by o since) ≡ mode_by o (id ∷ since)
 moved_by None id since apart = refl
 moved_by (Some k) id since apart =
     moved_tests (k == 9) (k == 10) (list_any (λ k. k == 2) since) (length since == 0) (suc (length since) == 0) (one_more (length since))
-    ∙ ap (λ c. cond (k == 9) mode.Braces (cond (k == 10) (cond (c || list_any (λ k. k == 2) since) mode.PastColon (cond (suc (length since) == 0) mode.Opened mode.Brackets)) mode.Outside)) (sym apart)
+    ∙ ap (λ c. cond (k == 9) mode.Braces (cond (k == 10) (mode.Brackets (cond (c || list_any (λ k. k == 2) since) bracket.Colon (cond (suc (length since) == 0) bracket.Nothing bracket.Something))) mode.Outside)) (sym apart)
 
 -- a colon
-colon_tests : (brace bracket any none : Bool) (x : Mode)
-    → past_colon (cond brace mode.Braces (cond bracket (cond any mode.PastColon (cond none mode.Opened mode.Brackets)) mode.Outside)) ≡ cond brace mode.Braces (cond bracket mode.PastColon mode.Outside)
-colon_tests true bracket any none x = refl
+colon_tests : (brace bracket_id any none : Bool) (x : Mode)
+    → mode_after_colon (cond brace mode.Braces (cond bracket_id (mode.Brackets (cond any bracket.Colon (cond none bracket.Nothing bracket.Something))) mode.Outside)) ≡ cond brace mode.Braces (cond bracket_id (mode.Brackets bracket.Colon) mode.Outside)
+colon_tests true bracket_id any none x = refl
 colon_tests false false any none x = refl
 colon_tests false true true none x = refl
 colon_tests false true false true x = refl
 colon_tests false true false false x = refl
 
-colon_by : (o : Option ℕ) (id : ℕ) (since : List ℕ) → (id == 2) ≡ true → past_colon (mode_by o since) ≡ mode_by o (id ∷ since)
+colon_by : (o : Option ℕ) (id : ℕ) (since : List ℕ) → (id == 2) ≡ true → mode_after_colon (mode_by o since) ≡ mode_by o (id ∷ since)
 colon_by None id since is = refl
 colon_by (Some k) id since is =
     colon_tests (k == 9) (k == 10) (list_any (λ k. k == 2) since) (length since == 0) mode.Outside
-    ∙ ap (λ c. cond (k == 9) mode.Braces (cond (k == 10) (cond (c || list_any (λ k. k == 2) since) mode.PastColon (cond (suc (length since) == 0) mode.Opened mode.Brackets)) mode.Outside)) (sym is)
+    ∙ ap (λ c. cond (k == 9) mode.Braces (cond (k == 10) (mode.Brackets (cond (c || list_any (λ k. k == 2) since) bracket.Colon (cond (suc (length since) == 0) bracket.Nothing bracket.Something))) mode.Outside)) (sym is)
 
 -- a brace or bracket
 bound_tests : (left_brace right_brace left_bracket right_bracket : Bool) (x : Mode) → (((left_brace || right_brace) || left_bracket) || right_bracket) ≡ true
-    → cond left_brace mode.Braces (cond left_bracket mode.Opened (cond (right_brace || right_bracket) mode.Outside x)) ≡ cond left_brace mode.Braces (cond left_bracket mode.Opened mode.Outside)
+    → cond left_brace mode.Braces (cond left_bracket (mode.Brackets bracket.Nothing) (cond (right_brace || right_bracket) mode.Outside x)) ≡ cond left_brace mode.Braces (cond left_bracket (mode.Brackets bracket.Nothing) mode.Outside)
 bound_tests true b c d x h = refl
 bound_tests false b true d x h = refl
 bound_tests false true false d x h = refl
@@ -74,7 +75,7 @@ bound_tests false false false true x h = refl
 bound_tests false false false false x h = absurd (cc)
 
 plain_tests : (left_brace right_brace left_bracket right_bracket : Bool) (x : Mode) → (((left_brace || right_brace) || left_bracket) || right_bracket) ≡ false
-    → cond left_brace mode.Braces (cond left_bracket mode.Opened (cond (right_brace || right_bracket) mode.Outside x)) ≡ x
+    → cond left_brace mode.Braces (cond left_bracket (mode.Brackets bracket.Nothing) (cond (right_brace || right_bracket) mode.Outside x)) ≡ x
 plain_tests true b c d x h = absurd (cc)
 plain_tests false true c d x h = absurd (cc)
 plain_tests false false true d x h = absurd (cc)
@@ -85,20 +86,20 @@ split : (c : Bool) {X : Type 0} → (c ≡ true → X) → (c ≡ false → X) �
 split true f g = f refl
 split false f g = g refl
 
-mode_step : (before : List ℕ) (id : ℕ) → mode_behind (mode_at before) id ≡ mode_at (id ∷ before)
+mode_step : (before : List ℕ) (id : ℕ) → mode_after (mode_at before) id ≡ mode_at (id ∷ before)
 mode_step before id =
     let o = find is_bound before in
     let n = prefix_len (λ id. not (is_bound id)) before in
     let since : List ℕ = take n before in
     let m = mode_at before in
-    let other : Mode = cond (id == 2) (past_colon m) (moved m) in
+    let other : Mode = cond (id == 2) (mode_after_colon m) (mode_after_something m) in
     let at : Bool → Mode = λ c. mode_by (cond c (Some id) o) (take (cond (not c) (1 + n) 0) (id ∷ before)) in
     split (is_bound id)
     (λ is. bound_tests (id == 9) (id == 16) (id == 10) (id == 17) other is ∙ sym (ap at is))
     (λ apart.
     let front : take (1 + n) (id ∷ before) ≡ id ∷ since = let e : 1 + n ≡ suc n = omega arith in ap (λ k. take k (id ∷ before)) e in
     plain_tests (id == 9) (id == 16) (id == 10) (id == 17) other apart
-    ∙ split (id == 2) (λ is. ap (λ c. cond c (past_colon m) (moved m)) is ∙ colon_by o id since is) (λ not_colon. ap (λ c. cond c (past_colon m) (moved m)) not_colon ∙ moved_by o id since not_colon)
+    ∙ split (id == 2) (λ is. ap (λ c. cond c (mode_after_colon m) (mode_after_something m)) is ∙ colon_by o id since is) (λ not_colon. ap (λ c. cond c (mode_after_colon m) (mode_after_something m)) not_colon ∙ moved_by o id since not_colon)
     ∙ ap (mode_by o) (sym front) ∙ sym (ap at apart))
 
 depth_tests : (left right : Bool) (depth lefts rights : ℕ) → (left ≡ true → right ≡ false) → depth + rights ≡ lefts → (right ≡ true → 0 < depth)
@@ -109,7 +110,7 @@ depth_tests false true depth lefts rights apart h some = omega (arith, some refl
 depth_tests false false depth lefts rights apart h some = omega arith
 
 depth_step : (before : List ℕ) (id depth : ℕ) → depth + count_of 18 before ≡ count_of 11 before → ((id == 18) ≡ true → 0 < depth)
-    → depth_behind depth id + count_of 18 (id ∷ before) ≡ count_of 11 (id ∷ before)
+    → depth_after depth id + count_of 18 (id ∷ before) ≡ count_of 11 (id ∷ before)
 depth_step before id depth h some = depth_tests (id == 11) (id == 18) depth (count_of 11 before) (count_of 18 before) (λ e. ap (λ n. n == 18) (eqb-true id 11 e)) h some
 
 -- ---- the cut
@@ -128,9 +129,7 @@ end_what mode.Outside depth id t = λ is.
     (λ _ is. let pair : ◌≡◌ {A = ℕ × Text} (6, []) (id, t) = cc in (ap (λ (p : ℕ × Text). p.0 == 6) (sym pair), ap (λ (p : ℕ × Text). p.1) (sym pair)))
     (λ _ is. cc) is
 end_what mode.Braces depth id t = λ is. cc
-end_what mode.Opened depth id t = λ is. cc
-end_what mode.Brackets depth id t = λ is. cc
-end_what mode.PastColon depth id t = λ is. cc
+end_what (mode.Brackets inside) depth id t = λ is. cc
 
 -- a token with no gap before it is the end, or none of those
 abbrev IsEnd : Text → ℕ → Text → Type 0
@@ -141,8 +140,8 @@ unfolding piece
 front_inner state [] id t is = let e = end_what state.mode state.depth id t is in inl (refl, e.0, e.1)
 front_inner state (b ∷ z) id t is = inr (what_inner state.depth (begun state.mode state.depth (b ∷ z)) (b ∷ z) id t (begun_inner state.mode state.depth (b ∷ z)) is)
 
-gap_depth : (n : ℕ) (state : State) → (behind_gap n state).depth ≡ state.depth
-unfolding behind_gap
+gap_depth : (n : ℕ) (state : State) → (after_gap n state).depth ≡ state.depth
+unfolding after_gap
 gap_depth n state = cond_both (n == 0) _ _ (λ (s : State). s.depth ≡ state.depth) (λ _. refl) (λ _. refl)
 
 not_true : (b : Bool) → not b ≡ true → b ≡ false
@@ -155,13 +154,13 @@ closes_open state z id t is close =
     let n = gap_len state.mode z in
     ⊎_elim (λ e. let six = eqb-true id 6 e.1 in let eighteen = eqb-true id 18 close in absurd (omega arith))
     (λ inner. subst (λ d. 0 < d) (gap_depth n state) (inner.1 close))
-    (front_inner (behind_gap n state) (drop n z) id t is)
+    (front_inner (after_gap n state) (drop n z) id t is)
 
 next_at : (before : List ℕ) (state : State) (z : Text) (w : What) → IsAt before state → (found state z).what ≡ w → IsAt (ids_behind before w) (behind state w)
 unfolding after
 next_at before state z (Ok t) h is = record {
   depth = depth_step before t.0 state.depth h.depth (closes_open state z t.0 t.1 is);
-  mode = ap (λ m. mode_behind m t.0) h.mode ∙ mode_step before t.0;
+  mode = ap (λ m. mode_after m t.0) h.mode ∙ mode_step before t.0;
 }
 next_at before state z (Err f) h is = record { depth = h.depth; mode = h.mode }
 
@@ -235,7 +234,7 @@ end_place state z id t is end =
     let fits = (found_fits state z).0 in
     ⊎_elim (λ e. let none = ap length e.0 in (omega (arith, fits, length-drop n z), e.2))
     (λ inner. let never = inner.0 in absurd (cc))
-    (front_inner (behind_gap n state) (drop n z) id t is)
+    (front_inner (after_gap n state) (drop n z) id t is)
 
 last : (s : Text) (at g : ℕ) (w : What) (fs : List Found) (xs : List Lexeme)
     → ((id : ℕ) (t : Text) → w ≡ Ok (id, t) → (id == 6) ≡ true → (at + g ≡ length s) × (t ≡ []))

@@ -22,7 +22,7 @@ up_to_fault (Err f ∷ ws) = []
 abbrev pub tokens_left : code.Cursor → List (ℕ × Text)
 tokens_left c = filter is_before_end (up_to_fault (whats c.state (drop c.at c.text.now)))
 
--- a cursor moved past a token, and stays before the end
+-- a cursor mode_after_something past a token, and stays before the end
 pub record IsPast (x : Lexeme) (old new : code.Cursor) : Type 0 where
   pub text : new.text ≡ old.text
   pub at : x.id ≢ T_EOF → new.at ≡ x.start + x.len

@@ -4,6 +4,7 @@ use Rattle.std.specs.Prelude.{◌≡◌, ℕ, suc, ◌+◌, ◌-◌, Bool, true,
 use Rattle.std.specs.List.{find, list_all, list_any, take_while}
 use Rattle.promql_token.specs.declared.ids.TheConstants.{T_COLON, T_EOF, T_LEFT_BRACE, T_LEFT_BRACKET, T_LEFT_PAREN, T_RIGHT_BRACE, T_RIGHT_BRACKET, T_RIGHT_PAREN}
 use Rattle.promql_token.specs.declared.lexeme.Lexeme.{Lexeme}
+use Rattle.promql_token.specs.declared.state.Bracket.TheVariants as bracket
 use Rattle.promql_token.specs.declared.state.Mode.{Mode}
 use Rattle.promql_token.specs.declared.state.Mode.TheVariants as mode
 use Rattle.promql_token.specs.declared.state.State.{State}
@@ -23,7 +24,7 @@ abbrev pub mode_by : Option ℕ → List ℕ → Mode
 mode_by None since = mode.Outside
 mode_by (Some id) since =
     if id == T_LEFT_BRACE then mode.Braces
-    else (if id == T_LEFT_BRACKET then (if list_any (λ k. k == T_COLON) since then mode.PastColon else (if length since == 0 then mode.Opened else mode.Brackets))
+    else (if id == T_LEFT_BRACKET then mode.Brackets (if list_any (λ k. k == T_COLON) since then bracket.Colon else (if length since == 0 then bracket.Nothing else bracket.Something))
     else mode.Outside)
 
 abbrev pub mode_at : List ℕ → Mode

@@ -1,158 +1,41 @@
 -- Ids of tokens: their texts, the keywords and the classes (docs/TOKENS.md, "Ids").
-use Rattle.std.specs.Prelude.{ℕ, zero, suc, ◌+◌, Bool, ◌&&◌, ◌==◌, nat_le, if◌then◌else◌, List, [], ◌∷◌, codes, slice_get, Option, Some, None}
+use Rattle.std.specs.Prelude.{ℕ, zero, suc, ◌+◌, Bool, ◌&&◌, ◌==◌, nat_le, if◌then◌else◌, List, [], ◌∷◌, codes, map, slice_get, Option, Some, None}
 use Rattle.std.specs.List.{list_any}
 use Rattle.std.specs.Option.{unwrap_or}
 use Rattle.std.specs.Str.{bytes_eq, str_eq_ignore_ascii_case}
-use Rattle.promql_token.specs.declared.ids.TheConstants.{T_EQL, T_BLANK, T_COLON, T_COMMA, T_COMMENT, T_DURATION, T_EOF, T_ERROR, T_IDENTIFIER, T_LEFT_BRACE, T_LEFT_BRACKET, T_LEFT_PAREN, T_OPEN_HIST, T_CLOSE_HIST, T_METRIC_IDENTIFIER, T_NUMBER, T_RIGHT_BRACE, T_RIGHT_BRACKET, T_RIGHT_PAREN, T_SEMICOLON, T_SPACE, T_STRING, T_TIMES, T_OPERATORS_START, T_ADD, T_DIV, T_EQLC, T_EQL_REGEX, T_GTE, T_GTR, T_LAND, T_LOR, T_LSS, T_LTE, T_LUNLESS, T_MOD, T_MUL, T_NEQ, T_NEQ_REGEX, T_POW, T_SUB, T_AT, T_ATAN2, T_OPERATORS_END, T_AGGREGATORS_START, T_AVG, T_BOTTOMK, T_COUNT, T_COUNT_VALUES, T_GROUP, T_MAX, T_MIN, T_QUANTILE, T_STDDEV, T_STDVAR, T_SUM, T_TOPK, T_LIMITK, T_LIMIT_RATIO, T_AGGREGATORS_END, T_KEYWORDS_START, T_BOOL, T_BY, T_GROUP_LEFT, T_GROUP_RIGHT, T_IGNORING, T_OFFSET, T_SMOOTHED, T_ANCHORED, T_ON, T_WITHOUT, T_FILL, T_FILL_LEFT, T_FILL_RIGHT, T_KEYWORDS_END, T_PREPROCESSOR_START, T_START, T_END, T_STEP, T_PREPROCESSOR_END, T_STARTSYMBOLS_START, T_START_METRIC, T_START_SERIES_DESCRIPTION, T_START_EXPRESSION, T_START_METRIC_SELECTOR, T_STARTSYMBOLS_END}
+use Rattle.promql_token.specs.declared.ids.TheConstants.{TEXTS, KEYWORDS, T_EQL, T_BLANK, T_COLON, T_COMMA, T_COMMENT, T_DURATION, T_EOF, T_ERROR, T_IDENTIFIER, T_LEFT_BRACE, T_LEFT_BRACKET, T_LEFT_PAREN, T_OPEN_HIST, T_CLOSE_HIST, T_METRIC_IDENTIFIER, T_NUMBER, T_RIGHT_BRACE, T_RIGHT_BRACKET, T_RIGHT_PAREN, T_SEMICOLON, T_SPACE, T_STRING, T_TIMES, T_OPERATORS_START, T_ADD, T_DIV, T_EQLC, T_EQL_REGEX, T_GTE, T_GTR, T_LAND, T_LOR, T_LSS, T_LTE, T_LUNLESS, T_MOD, T_MUL, T_NEQ, T_NEQ_REGEX, T_POW, T_SUB, T_AT, T_ATAN2, T_OPERATORS_END, T_AGGREGATORS_START, T_AVG, T_BOTTOMK, T_COUNT, T_COUNT_VALUES, T_GROUP, T_MAX, T_MIN, T_QUANTILE, T_STDDEV, T_STDVAR, T_SUM, T_TOPK, T_LIMITK, T_LIMIT_RATIO, T_AGGREGATORS_END, T_KEYWORDS_START, T_BOOL, T_BY, T_GROUP_LEFT, T_GROUP_RIGHT, T_IGNORING, T_OFFSET, T_SMOOTHED, T_ANCHORED, T_ON, T_WITHOUT, T_FILL, T_FILL_LEFT, T_FILL_RIGHT, T_KEYWORDS_END, T_PREPROCESSOR_START, T_START, T_END, T_STEP, T_PREPROCESSOR_END, T_STARTSYMBOLS_START, T_START_METRIC, T_START_SERIES_DESCRIPTION, T_START_EXPRESSION, T_START_METRIC_SELECTOR, T_STARTSYMBOLS_END}
 use Rattle.promql_text.specs.Texts.{Text}
+use Rattle.promql_token.specs.declared.ids.Case.{Case}
+use Rattle.promql_token.specs.declared.ids.Case.TheVariants as case
 
--- the texts of the ids from 0 on
-abbrev pub texts : List Text
-texts =
-    codes "=" ∷
-    codes "_" ∷
-    codes ":" ∷
-    codes "," ∷
-    codes "#" ∷
-    codes "[du]" ∷
-    codes "<eof>" ∷
-    codes "{Err}" ∷
-    codes "{ID}" ∷
-    codes "{" ∷
-    codes "[" ∷
-    codes "(" ∷
-    codes "{{" ∷
-    codes "}}" ∷
-    codes "{Metric_ID}" ∷
-    codes "{Num}" ∷
-    codes "}" ∷
-    codes "]" ∷
-    codes ")" ∷
-    codes "," ∷
-    codes "<space>" ∷
-    codes "{Str}" ∷
-    codes "x" ∷
-    codes "operators_start" ∷
-    codes "+" ∷
-    codes "/" ∷
-    codes "==" ∷
-    codes "=~" ∷
-    codes ">=" ∷
-    codes ">" ∷
-    codes "and" ∷
-    codes "or" ∷
-    codes "<" ∷
-    codes "<=" ∷
-    codes "unless" ∷
-    codes "%" ∷
-    codes "*" ∷
-    codes "!=" ∷
-    codes "!~" ∷
-    codes "^" ∷
-    codes "-" ∷
-    codes "@" ∷
-    codes "atan2" ∷
-    codes "operators_end" ∷
-    codes "aggregators_start" ∷
-    codes "avg" ∷
-    codes "bottomk" ∷
-    codes "count" ∷
-    codes "count_values" ∷
-    codes "group" ∷
-    codes "max" ∷
-    codes "min" ∷
-    codes "quantile" ∷
-    codes "stddev" ∷
-    codes "stdvar" ∷
-    codes "sum" ∷
-    codes "topk" ∷
-    codes "limitk" ∷
-    codes "limit_ratio" ∷
-    codes "aggregators_end" ∷
-    codes "keywords_start" ∷
-    codes "bool" ∷
-    codes "by" ∷
-    codes "group_left" ∷
-    codes "group_right" ∷
-    codes "ignoring" ∷
-    codes "offset" ∷
-    codes "smoothed" ∷
-    codes "anchored" ∷
-    codes "on" ∷
-    codes "without" ∷
-    codes "fill" ∷
-    codes "fill_left" ∷
-    codes "fill_right" ∷
-    codes "keywords_end" ∷
-    codes "preprocessor_start" ∷
-    codes "start" ∷
-    codes "end" ∷
-    codes "step" ∷
-    codes "preprocessors_end" ∷
-    codes "not used" ∷
-    codes "not used" ∷
-    codes "not used" ∷
-    codes "not used" ∷
-    codes "not used" ∷
-    codes "not used" ∷
-    []
+-- the text of an id, in a table of texts from id 0 on
+abbrev pub text_in : List Text → ℕ → Text
+text_in texts id = unwrap_or (slice_get texts id) (codes "unknown token")
 
 -- the text that an id prints as
 abbrev pub text_of : ℕ → Text
-text_of id = unwrap_or (slice_get texts id) (codes "unknown token")
+text_of = text_in (map (λ row. row.1.now) TEXTS)
 
 -- the words that are keywords, and their ids
 abbrev pub keywords : List (Text × ℕ)
-keywords =
-    (codes "and", T_LAND) ∷
-    (codes "or", T_LOR) ∷
-    (codes "unless", T_LUNLESS) ∷
-    (codes "atan2", T_ATAN2) ∷
-    (codes "avg", T_AVG) ∷
-    (codes "bottomk", T_BOTTOMK) ∷
-    (codes "count", T_COUNT) ∷
-    (codes "count_values", T_COUNT_VALUES) ∷
-    (codes "group", T_GROUP) ∷
-    (codes "max", T_MAX) ∷
-    (codes "min", T_MIN) ∷
-    (codes "quantile", T_QUANTILE) ∷
-    (codes "stddev", T_STDDEV) ∷
-    (codes "stdvar", T_STDVAR) ∷
-    (codes "sum", T_SUM) ∷
-    (codes "topk", T_TOPK) ∷
-    (codes "limitk", T_LIMITK) ∷
-    (codes "limit_ratio", T_LIMIT_RATIO) ∷
-    (codes "offset", T_OFFSET) ∷
-    (codes "by", T_BY) ∷
-    (codes "without", T_WITHOUT) ∷
-    (codes "on", T_ON) ∷
-    (codes "ignoring", T_IGNORING) ∷
-    (codes "group_left", T_GROUP_LEFT) ∷
-    (codes "group_right", T_GROUP_RIGHT) ∷
-    (codes "bool", T_BOOL) ∷
-    (codes "smoothed", T_SMOOTHED) ∷
-    (codes "anchored", T_ANCHORED) ∷
-    (codes "fill", T_FILL) ∷
-    (codes "fill_left", T_FILL_LEFT) ∷
-    (codes "fill_right", T_FILL_RIGHT) ∷
-    (codes "start", T_START) ∷
-    (codes "end", T_END) ∷
-    (codes "inf", T_NUMBER) ∷
-    (codes "nan", T_NUMBER) ∷
-    []
+keywords = map (λ k. (k.0.now, k.1)) KEYWORDS
 
 -- the id beside the first word of the table that is the same
 abbrev pub lookup : (Text → Text → Bool) → List (Text × ℕ) → Text → Option ℕ
 lookup same [] word = None
 lookup same (k ∷ ks) word = if same k.0 word then Some k.1 else lookup same ks word
 
+abbrev pub same_word : Case → Text → Text → Bool
+same_word case.Lower = bytes_eq
+same_word case.Any = str_eq_ignore_ascii_case
+
 -- the keyword that a word is, in lower case
 unfoldable pub keyword : Text → Option ℕ
-keyword = lookup bytes_eq keywords
+keyword = lookup (same_word case.Lower) keywords
 
 -- the keyword that a word is in any case of its letters
 unfoldable pub keyword_in_any_case : Text → Option ℕ
-keyword_in_any_case = lookup str_eq_ignore_ascii_case keywords
+keyword_in_any_case = lookup (same_word case.Any) keywords
 
 -- ---- classes
 

@@ -13,7 +13,7 @@ use Rattle.promql_text.specs.Bytes.{plus, minus, point, colon, less, equal, grea
 use Rattle.promql_text.specs.Texts.{Text}
 use Rattle.promql_token.specs.Classes.{is_in, is_label, is_letter, past}
 use Rattle.promql_token.specs.Lexing.{found, len_of, goes_on, behind, cut, whats, start, lex, tokens, sliced}
-use Rattle.promql_token.specs.Pieces.{gap_from, begins_numeral, is_quote, word_id, braces_id, piece, after, moved}
+use Rattle.promql_token.specs.Pieces.{gap_from, begins_numeral, is_quote, word_id, braces_id, piece, after, mode_after_something}
 
 -- ---- the cut
 
@@ -94,9 +94,7 @@ parts_in_brackets w r = if is_ascii_digit (slice_index w 0) then stops_numeral w
 abbrev pub parts : Mode → Text → Text → Bool
 parts mode.Outside w r = parts_outside w r
 parts mode.Braces w r = parts_in_braces w r
-parts mode.Opened w r = parts_in_brackets w r
-parts mode.Brackets w r = parts_in_brackets w r
-parts mode.PastColon w r = parts_in_brackets w r
+parts (mode.Brackets inside) w r = parts_in_brackets w r
 
 -- what is one token alone is that token in front of a text that doesn't go on with it
 abbrev pub Joins : Type 0
@@ -119,7 +117,7 @@ JoinsName = (depth : ℕ) (w r : Text) → is_label w ≡ true → is_in class.N
 
 -- white space before a token changes nothing, but directly behind `[`
 abbrev pub SkipsWhite : Type 0
-SkipsWhite = (state : State) (g r : Text) → moved state.mode ≡ state.mode → list_all is_ascii_whitespace g ≡ true → whats state (g ++ r) ≡ whats state r
+SkipsWhite = (state : State) (g r : Text) → mode_after_something state.mode ≡ state.mode → list_all is_ascii_whitespace g ≡ true → whats state (g ++ r) ≡ whats state r
 
 -- the end outside, with no parenthesis open
 abbrev pub Ends : Type 0

@@ -11,7 +11,7 @@ use Rattle.promql_token.specs.declared.state.Mode.TheVariants as mode
 use Rattle.promql_token.specs.declared.state.State.{State}
 use Rattle.promql_text.specs.Texts.{Text}
 use Rattle.promql_token.specs.Faults.{shows}
-use Rattle.promql_token.specs.Pieces.{Piece, gap_len, piece, behind_gap, after}
+use Rattle.promql_token.specs.Pieces.{Piece, gap_len, piece, after_gap, after}
 
 -- a token's id and text; or a fault, how far it is from the piece's front, and the character there, for the kinds that show it
 abbrev pub What : Type 0
@@ -35,7 +35,7 @@ unfoldable pub found : State → Text → Found
 found state z =
     let gap = gap_len state.mode z in
     let rest = drop gap z in
-    record { gap = gap; what = what (piece (behind_gap gap state) rest) rest }
+    record { gap = gap; what = what (piece (after_gap gap state) rest) rest }
 
 -- how many bytes it takes, whether the text goes on behind it, and the state there
 abbrev pub len_of : What → ℕ

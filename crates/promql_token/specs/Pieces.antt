@@ -9,6 +9,8 @@ use Rattle.promql_token.specs.declared.class.Class.TheVariants as class
 use Rattle.promql_token.specs.declared.ids.TheConstants.{T_ADD, T_AT, T_COLON, T_COMMA, T_DIV, T_DURATION, T_EOF, T_EQL, T_EQLC, T_EQL_REGEX, T_FILL, T_FILL_LEFT, T_FILL_RIGHT, T_GTE, T_GTR, T_IDENTIFIER, T_LEFT_BRACE, T_LEFT_BRACKET, T_LEFT_PAREN, T_LOR, T_LSS, T_LTE, T_METRIC_IDENTIFIER, T_MOD, T_MUL, T_NEQ, T_NEQ_REGEX, T_NUMBER, T_POW, T_RIGHT_BRACE, T_RIGHT_BRACKET, T_RIGHT_PAREN, T_STRING, T_SUB}
 use Rattle.promql_token.specs.declared.fault.LexFaultKind.{LexFaultKind}
 use Rattle.promql_token.specs.declared.fault.LexFaultKind.TheVariants.{UnclosedParen, AfterEqual, AfterBang, BangAtEnd, AfterDot, DotAtEnd, RightParen, RightBrace, RightBracket, Character, Numeral, Escape, EscapeAtEnd, OpenString, AfterBangInBraces, BraceInBraces, InBraces, EndInBraces, SecondColon, FirstColon, BracketInBrackets, InBrackets, EndInBrackets}
+use Rattle.promql_token.specs.declared.state.Bracket.{Bracket}
+use Rattle.promql_token.specs.declared.state.Bracket.TheVariants as bracket
 use Rattle.promql_token.specs.declared.state.Mode.{Mode}
 use Rattle.promql_token.specs.declared.state.Mode.TheVariants as mode
 use Rattle.promql_token.specs.declared.state.State.{State}
@@ -32,9 +34,7 @@ gap_from false (b ∷ z) = if b == hash then suc (gap_from true z) else (if is_a
 abbrev pub gap_in : Mode → Text → ℕ
 gap_in mode.Outside z = gap_from false z
 gap_in mode.Braces z = gap_from false z
-gap_in mode.Opened z = past class.White z 0
-gap_in mode.Brackets z = past class.White z 0
-gap_in mode.PastColon z = past class.White z 0
+gap_in (mode.Brackets inside) z = past class.White z 0
 
 unfoldable pub gap_len : Mode → Text → ℕ
 gap_len = gap_in
@@ -228,17 +228,15 @@ in_braces z =
 -- ---- in brackets
 
 -- one colon, and none directly behind the bracket
-abbrev pub colon_in : Mode → Piece
-colon_in mode.Outside = Ok (T_COLON, 1)
-colon_in mode.Braces = Ok (T_COLON, 1)
-colon_in mode.Opened = Err (FirstColon, 0)
-colon_in mode.Brackets = Ok (T_COLON, 1)
-colon_in mode.PastColon = Err (SecondColon, 0)
+abbrev pub colon_sign : Bracket → Piece
+colon_sign bracket.Nothing = Err (FirstColon, 0)
+colon_sign bracket.Something = Ok (T_COLON, 1)
+colon_sign bracket.Colon = Err (SecondColon, 0)
 
-unfoldable pub in_brackets : Mode → Text → Piece
-in_brackets m z =
+unfoldable pub in_brackets : Bracket → Text → Piece
+in_brackets inside z =
     let b = slice_index z 0 in
-    if b == colon then colon_in m
+    if b == colon then colon_sign inside
     else (if b == right_bracket then Ok (T_RIGHT_BRACKET, 1)
     else (if b == left_bracket then Err (BracketInBrackets, 0)
     else (if is_ascii_digit b then numeral z else Err (InBrackets, 0))))
@@ -249,16 +247,12 @@ in_brackets m z =
 abbrev pub end_in : Mode → ℕ → Piece
 end_in mode.Outside depth = if depth == 0 then Ok (T_EOF, 0) else Err (UnclosedParen, 0)
 end_in mode.Braces depth = Err (EndInBraces, 0)
-end_in mode.Opened depth = Err (EndInBrackets, 0)
-end_in mode.Brackets depth = Err (EndInBrackets, 0)
-end_in mode.PastColon depth = Err (EndInBrackets, 0)
+end_in (mode.Brackets inside) depth = Err (EndInBrackets, 0)
 
 abbrev pub begun : Mode → ℕ → Text → Piece
 begun mode.Outside depth z = outside depth z
 begun mode.Braces depth z = in_braces z
-begun mode.Opened depth z = in_brackets mode.Opened z
-begun mode.Brackets depth z = in_brackets mode.Brackets z
-begun mode.PastColon depth z = in_brackets mode.PastColon z
+begun (mode.Brackets inside) depth z = in_brackets inside z
 
 unfoldable pub piece : State → Text → Piece
 piece state [] = end_in state.mode state.depth
@@ -266,37 +260,31 @@ piece state (b ∷ z) = begun state.mode state.depth (b ∷ z)
 
 -- ---- how a place's state follows from what is before it
 
--- behind a gap, or any token that sets no mode, a place isn't directly behind a bracket
-abbrev pub moved : Mode → Mode
-moved mode.Outside = mode.Outside
-moved mode.Braces = mode.Braces
-moved mode.Opened = mode.Brackets
-moved mode.Brackets = mode.Brackets
-moved mode.PastColon = mode.PastColon
+-- after a gap, or any token that sets no mode, something is after a bracket
+abbrev pub mode_after_something : Mode → Mode
+mode_after_something (mode.Brackets bracket.Nothing) = mode.Brackets bracket.Something
+mode_after_something m = m
 
-unfoldable pub behind_gap : ℕ → State → State
-behind_gap gap state = if gap == 0 then state else record state { mode = moved state.mode }
+unfoldable pub after_gap : ℕ → State → State
+after_gap gap state = if gap == 0 then state else record state { mode = mode_after_something state.mode }
 
--- behind a colon
-abbrev pub past_colon : Mode → Mode
-past_colon mode.Outside = mode.Outside
-past_colon mode.Braces = mode.Braces
-past_colon mode.Opened = mode.PastColon
-past_colon mode.Brackets = mode.PastColon
-past_colon mode.PastColon = mode.PastColon
+-- after a colon
+abbrev pub mode_after_colon : Mode → Mode
+mode_after_colon (mode.Brackets inside) = mode.Brackets bracket.Colon
+mode_after_colon m = m
 
 -- the mode behind a token
-abbrev pub mode_behind : Mode → ℕ → Mode
-mode_behind m id =
+abbrev pub mode_after : Mode → ℕ → Mode
+mode_after m id =
     if id == T_LEFT_BRACE then mode.Braces
-    else (if id == T_LEFT_BRACKET then mode.Opened
+    else (if id == T_LEFT_BRACKET then mode.Brackets bracket.Nothing
     else (if id == T_RIGHT_BRACE || id == T_RIGHT_BRACKET then mode.Outside
-    else (if id == T_COLON then past_colon m
-    else moved m)))
+    else (if id == T_COLON then mode_after_colon m
+    else mode_after_something m)))
 
-abbrev pub depth_behind : ℕ → ℕ → ℕ
-depth_behind depth id = if id == T_LEFT_PAREN then depth + 1 else (if id == T_RIGHT_PAREN then depth - 1 else depth)
+abbrev pub depth_after : ℕ → ℕ → ℕ
+depth_after depth id = if id == T_LEFT_PAREN then depth + 1 else (if id == T_RIGHT_PAREN then depth - 1 else depth)
 
 -- the state behind a token
 unfoldable pub after : State → ℕ → State
-after state id = record { depth = depth_behind state.depth id; mode = mode_behind state.mode id }
+after state id = record { depth = depth_after state.depth id; mode = mode_after state.mode id }

@@ -18,9 +18,7 @@ use Rattle.promql_token.specs.Pieces.{is_escape, is_quote, is_unit, after}
 abbrev pub holds_strings : Mode → Bool
 holds_strings mode.Outside = true
 holds_strings mode.Braces = true
-holds_strings mode.Opened = false
-holds_strings mode.Brackets = false
-holds_strings mode.PastColon = false
+holds_strings (mode.Brackets inside) = false
 
 -- between these quotes: bytes that are neither the quote nor a backslash, or an escape's first two
 abbrev pub is_spelling : ℕ → Text → Bool
@@ -45,9 +43,7 @@ JoinsString = (state : State) (quote : ℕ) (ps : List Text) (r : Text) → hold
 abbrev pub holds_numerals : Mode → Bool
 holds_numerals mode.Outside = true
 holds_numerals mode.Braces = false
-holds_numerals mode.Opened = true
-holds_numerals mode.Brackets = true
-holds_numerals mode.PastColon = true
+holds_numerals (mode.Brackets inside) = true
 
 abbrev pub are_digits : Text → Bool
 are_digits w = list_all is_ascii_digit w

@@ -1,6 +1,7 @@
 //! Classes of bytes, and runs of one class.
 
 ghost use Rattle.std.specs.Prelude.{◌≡◌, ◌≢◌, ◌<◌, ◌≤◌, length, slice_index};
+ghost use Rattle.std.specs.Prelude.{false, get_or};
 ghost use Rattle.promql_token.specs.Classes as spec;
 
 /// Bytes that go together.
@@ -16,7 +17,8 @@ pub enum Class {
     Word,
 }
 
-/// The byte at a place, and 0 past the end.
+/// The byte at a place, and 0 past the end: no class and no sign has it, and with an `Option` each
+/// byte that is looked at would cost a test more.
 pub fn byte(z: &[u8], at: usize) -> u8
     ensures value { result ≡ slice_index z.now at }
     ensures within { result ≢ 0 → at < length z.now }
@@ -31,10 +33,40 @@ pub fn is_letter(b: u8) -> bool
     b.is_ascii_alphabetic() || b == b'_'
 }
 
+/// Whether each byte is a letter, a digit or `_`.
+const NAME_BYTES: [bool; 256] = [
+    false, false, false, false, false, false, false, false, false, false, false, false, false,
+    false, false, false, false, false, false, false, false, false, false, false, false, false,
+    false, false, false, false, false, false, false, false, false, false, false, false, false,
+    false, false, false, false, false, false, false, false, false, true, true, true, true, true,
+    true, true, true, true, true, false, false, false, false, false, false, false, true, true,
+    true, true, true, true, true, true, true, true, true, true, true, true, true, true, true, true,
+    true, true, true, true, true, true, true, true, false, false, false, false, true, false, true,
+    true, true, true, true, true, true, true, true, true, true, true, true, true, true, true, true,
+    true, true, true, true, true, true, true, true, true, false, false, false, false, false, false,
+    false, false, false, false, false, false, false, false, false, false, false, false, false,
+    false, false, false, false, false, false, false, false, false, false, false, false, false,
+    false, false, false, false, false, false, false, false, false, false, false, false, false,
+    false, false, false, false, false, false, false, false, false, false, false, false, false,
+    false, false, false, false, false, false, false, false, false, false, false, false, false,
+    false, false, false, false, false, false, false, false, false, false, false, false, false,
+    false, false, false, false, false, false, false, false, false, false, false, false, false,
+    false, false, false, false, false, false, false, false, false, false, false, false, false,
+    false, false, false, false, false, false, false, false, false, false, false, false, false,
+    false, false, false, false, false, false, false, false, false, false,
+];
+
+fn is_marked(table: &[bool], b: u8) -> bool
+    requires { length table.now ≡ 256 }
+    ensures { result ≡ get_or table.now b false }
+{
+    table[b as usize]
+}
+
 fn is_name_byte(b: u8) -> bool
     ensures { result ≡ spec.is_name_byte b }
 {
-    b.is_ascii_alphanumeric() || b == b'_'
+    is_marked(&NAME_BYTES, b)
 }
 
 /// Whether it is of the class.

@@ -10,7 +10,7 @@ use crate::gap::gap_len;
 use crate::ids::{T_EOF, TokenId};
 use crate::lexeme::Lexeme;
 use crate::piece::piece;
-use crate::state::{Mode, State, after, behind_gap};
+use crate::state::{Mode, State, after, after_gap};
 
 /// A place of a text between two tokens. It may be copied, and it allocates nothing.
 #[derive(Clone, Copy)]
@@ -46,7 +46,7 @@ fn item_at(text: &str, at: usize, state: State) -> Result<Lexeme, LexFault>
     let bytes = text.as_bytes();
     let gap = gap_len(state.mode, &bytes[at..]);
     let start = at + gap;
-    match piece(behind_gap(gap, state), &bytes[start..]) {
+    match piece(after_gap(gap, state), &bytes[start..]) {
         Ok((id, len)) => Ok(Lexeme { id, start, len }),
         Err((kind, offset)) => {
             let at = start + offset;

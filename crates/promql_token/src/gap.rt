@@ -31,6 +31,6 @@ pub fn gap_len(mode: Mode, z: &[u8]) -> usize
 {
     match mode {
         Mode::Outside | Mode::Braces => with_comments(z),
-        Mode::Opened | Mode::Brackets | Mode::PastColon => past(Class::White, z, 0),
+        Mode::Brackets(_) => past(Class::White, z, 0),
     }
 }

@@ -87,7 +87,7 @@ fn is_unit(first: bool, b: u8) -> bool
     matches!(b, b's' | b'm' | b'h' | b'd' | b'w') || (first && b == b'y')
 }
 
-// The length of a unit and of the `s` that may follow it, or 0.
+// The length of a unit and of the `s` that may follow it, or 0, which no unit has.
 fn unit_len(first: bool, z: &[u8]) -> usize
     ensures value { result ≡ spec.unit_len first z.now }
     ensures within { result ≤ length z.now }
@@ -101,7 +101,7 @@ fn unit_len(first: bool, z: &[u8]) -> usize
     }
 }
 
-// The length of digits and a unit, or 0.
+// The length of digits and a unit, or 0, which no such part has.
 fn part_len(z: &[u8]) -> usize
     ensures value { result ≡ spec.part_len z.now }
     ensures within { result ≤ length z.now }

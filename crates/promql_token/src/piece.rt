@@ -8,7 +8,7 @@ use crate::fault::LexFaultKind;
 use crate::ids::*;
 use crate::lexeme::Piece;
 use crate::numeral::numeral;
-use crate::state::{Mode, State};
+use crate::state::{Bracket, Mode, State};
 use crate::string::{is_quote, string};
 use crate::word::{word, word_in_braces};
 
@@ -140,24 +140,24 @@ fn in_braces(z: &[u8]) -> Piece
     }
 }
 
-// One colon may stand in brackets, and not directly behind the bracket.
-fn colon_in(mode: Mode) -> Piece
-    ensures { result ≡ spec.colon_in mode }
+// One colon may be in brackets, and not directly after the bracket.
+fn colon(bracket: Bracket) -> Piece
+    ensures { result ≡ spec.colon_sign bracket }
 {
-    match mode {
-        Mode::PastColon => Err((LexFaultKind::SecondColon, 0)),
-        Mode::Opened => Err((LexFaultKind::FirstColon, 0)),
-        Mode::Outside | Mode::Braces | Mode::Brackets => Ok((T_COLON, 1)),
+    match bracket {
+        Bracket::Nothing => Err((LexFaultKind::FirstColon, 0)),
+        Bracket::Something => Ok((T_COLON, 1)),
+        Bracket::Colon => Err((LexFaultKind::SecondColon, 0)),
     }
 }
 
 #[tactic(auto, unfolding(crate::specs::Pieces::in_brackets))]
-fn in_brackets(mode: Mode, z: &[u8]) -> Piece
+fn in_brackets(bracket: Bracket, z: &[u8]) -> Piece
     requires { 0 < length z.now }
-    ensures { result ≡ spec.in_brackets mode z.now }
+    ensures { result ≡ spec.in_brackets bracket z.now }
 {
     match byte(z, 0) {
-        b':' => colon_in(mode),
+        b':' => colon(bracket),
         b']' => Ok((T_RIGHT_BRACKET, 1)),
         b'[' => Err((LexFaultKind::BracketInBrackets, 0)),
         b'0'..=b'9' => numeral(z),
@@ -172,7 +172,7 @@ fn end_in(mode: Mode, depth: usize) -> Piece
         Mode::Outside if depth == 0 => Ok((T_EOF, 0)),
         Mode::Outside => Err((LexFaultKind::UnclosedParen, 0)),
         Mode::Braces => Err((LexFaultKind::EndInBraces, 0)),
-        Mode::Opened | Mode::Brackets | Mode::PastColon => Err((LexFaultKind::EndInBrackets, 0)),
+        Mode::Brackets(_) => Err((LexFaultKind::EndInBrackets, 0)),
     }
 }
 
@@ -187,6 +187,6 @@ pub fn piece(state: State, z: &[u8]) -> Piece
     match state.mode {
         Mode::Outside => outside(state.depth, z),
         Mode::Braces => in_braces(z),
-        Mode::Opened | Mode::Brackets | Mode::PastColon => in_brackets(state.mode, z),
+        Mode::Brackets(bracket) => in_brackets(bracket, z),
     }
 }

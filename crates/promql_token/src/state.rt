@@ -9,14 +9,20 @@ use crate::ids::*;
 #[derive(Clone, Copy, Debug)]
 pub enum Mode {
     Outside,
-    /// Behind `{`, until `}`.
+    /// After `{`, until `}`.
     Braces,
-    /// Directly behind `[`.
-    Opened,
-    /// Behind `[` and something more, until `]`.
-    Brackets,
-    /// The same behind a `:`.
-    PastColon,
+    /// After `[`, until `]`.
+    Brackets(Bracket),
+}
+
+/// What is between a `[` and a place.
+#[derive(Clone, Copy, Debug)]
+pub enum Bracket {
+    Nothing,
+    /// A gap or a token, but no `:`.
+    Something,
+    /// A `:`, and maybe more.
+    Colon,
 }
 
 /// The state of a place.
@@ -27,57 +33,54 @@ pub struct State {
     pub mode: Mode,
 }
 
-fn moved(mode: Mode) -> Mode
-    ensures { result ≡ spec.moved mode }
+// After a gap, or a token that sets no mode.
+fn mode_after_something(mode: Mode) -> Mode
+    ensures { result ≡ spec.mode_after_something mode }
 {
     match mode {
-        Mode::Opened => Mode::Brackets,
-        Mode::Outside => Mode::Outside,
-        Mode::Braces => Mode::Braces,
-        Mode::Brackets => Mode::Brackets,
-        Mode::PastColon => Mode::PastColon,
+        Mode::Brackets(Bracket::Nothing) => Mode::Brackets(Bracket::Something),
+        _ => mode,
     }
 }
 
-fn past_colon(mode: Mode) -> Mode
-    ensures { result ≡ spec.past_colon mode }
+fn mode_after_colon(mode: Mode) -> Mode
+    ensures { result ≡ spec.mode_after_colon mode }
 {
     match mode {
-        Mode::Outside => Mode::Outside,
-        Mode::Braces => Mode::Braces,
-        Mode::Opened | Mode::Brackets | Mode::PastColon => Mode::PastColon,
+        Mode::Brackets(_) => Mode::Brackets(Bracket::Colon),
+        _ => mode,
     }
 }
 
-/// The state behind a gap.
-#[tactic(auto, unfolding(crate::specs::Pieces::behind_gap))]
-pub fn behind_gap(gap: usize, state: State) -> State
-    ensures { result ≡ spec.behind_gap gap state }
+/// The state after a gap.
+#[tactic(auto, unfolding(crate::specs::Pieces::after_gap))]
+pub fn after_gap(gap: usize, state: State) -> State
+    ensures { result ≡ spec.after_gap gap state }
 {
     if gap == 0 {
         return state;
     }
     State {
         depth: state.depth,
-        mode: moved(state.mode),
+        mode: mode_after_something(state.mode),
     }
 }
 
-fn mode_behind(mode: Mode, id: TokenId) -> Mode
-    ensures { result ≡ spec.mode_behind mode id }
+fn mode_after(mode: Mode, id: TokenId) -> Mode
+    ensures { result ≡ spec.mode_after mode id }
 {
     match id {
         T_LEFT_BRACE => Mode::Braces,
-        T_LEFT_BRACKET => Mode::Opened,
+        T_LEFT_BRACKET => Mode::Brackets(Bracket::Nothing),
         T_RIGHT_BRACE | T_RIGHT_BRACKET => Mode::Outside,
-        T_COLON => past_colon(mode),
-        _ => moved(mode),
+        T_COLON => mode_after_colon(mode),
+        _ => mode_after_something(mode),
     }
 }
 
-fn depth_behind(depth: usize, id: TokenId) -> usize
+fn depth_after(depth: usize, id: TokenId) -> usize
     requires { depth < 2 ^ 63 }
-    ensures { result ≡ spec.depth_behind depth id }
+    ensures { result ≡ spec.depth_after depth id }
 {
     match id {
         T_LEFT_PAREN => depth + 1,
@@ -86,7 +89,7 @@ fn depth_behind(depth: usize, id: TokenId) -> usize
     }
 }
 
-/// The state behind a token.
+/// The state after a token.
 #[tactic(auto, unfolding(crate::specs::Pieces::after))]
 pub fn after(state: State, id: TokenId) -> State
     requires { state.depth < 2 ^ 63 }
@@ -95,7 +98,7 @@ pub fn after(state: State, id: TokenId) -> State
     ensures stays { id ≡ T_EOF → result.depth ≡ state.depth }
 {
     State {
-        depth: depth_behind(state.depth, id),
-        mode: mode_behind(state.mode, id),
+        depth: depth_after(state.depth, id),
+        mode: mode_after(state.mode, id),
     }
 }

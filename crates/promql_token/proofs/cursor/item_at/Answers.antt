@@ -4,7 +4,7 @@ use Rattle.promql_token.proofs.cursor.item_at.Goals as goal
 use Rattle.promql_token.proofs.cursor.item_at.Goals.{After-piece}
 
 facts : (c : After-piece) → Here c.args.text.now c.args.at c.args.state c.gap_len-gap.result c.piece.result
-facts c = here _ _ _ _ _ _ _ c.utf8.text c.requires c.as_bytes-bytes.ensures.value c.gap_len-gap.ensures.value c.behind_gap.ensures c.piece.ensures
+facts c = here _ _ _ _ _ _ _ c.utf8.text c.requires c.as_bytes-bytes.ensures.value c.gap_len-gap.ensures.value c.after_gap.ensures c.piece.ensures
 
 pub overflow_add-at : goal.overflow_add-at
 overflow_add-at c = let at = (fault_place (facts (goal.at.overflow_add-at c).After-piece) _ _ c.in-Err.is).0 in search rules
