@@ -74,23 +74,14 @@ fn args(
 fn function(alloc: Global, name: &str) -> Result<Function, CheckError> {
     match get_function(alloc, name)? {
         Some(function) => Ok(function),
-        None => Ok(Function::new(
-            "unknown",
-            Vec::new(alloc),
-            0,
-            ValueType::Scalar,
-            false,
-        )),
+        None => Ok(Function::new("unknown", Vec::new(alloc), 0, ValueType::Scalar, false)),
     }
 }
 
 /// The call of a function with one argument.
 fn call(alloc: Global, name: &str, arg: Expr) -> Result<Expr, CheckError> {
     let function = function(alloc, name)?;
-    Ok(Expr::new_call(
-        function,
-        FunctionArgs::new_args(alloc, arg)?,
-    ))
+    Ok(Expr::new_call(function, FunctionArgs::new_args(alloc, arg)?))
 }
 
 /// The expression of two sides.
@@ -108,9 +99,11 @@ fn binary(
 fn grouped(alloc: Global, l: &str, k: &str) -> Result<BinModifier, CheckError> {
     let on = LabelModifier::include(alloc, [l].to_vec(alloc)?)?;
     let card = VectorMatchCardinality::many_to_one(alloc, [k].to_vec(alloc)?)?;
-    Ok(BinModifier::default()
-        .with_card(card)
-        .with_matching(Some(on)))
+    Ok(
+        BinModifier::default()
+            .with_card(card)
+            .with_matching(Some(on)),
+    )
 }
 
 /// An expression of each kind of node, by its number; a selector past the last.

@@ -29,14 +29,31 @@ fn builders_reject_what_they_do_not_take(rt: HostRuntime) -> Result<(), Fail> {
     let minute = minute_duration();
     let a = || name(alloc, "a");
     let text = Expr::new_unary_expr(alloc, Expr::of_str(alloc, "a")?);
-    assert_eq!(rt; message(alloc, text)?.as_str(), "unary expression only allowed on expressions of type scalar or vector, got: string");
+    assert_eq!(rt;
+        message(alloc, text)?.as_str(),
+        "unary expression only allowed on expressions of type scalar or vector, got: string"
+    );
     let range = Expr::new_unary_expr(alloc, five_minutes(a()?)?);
-    assert_eq!(rt; message(alloc, range)?.as_str(), "unary expression only allowed on expressions of type scalar or vector, got: matrix");
-    let both = a()?.at_expr(AtModifier::Start)?.offset_expr(Offset::Pos(minute))?;
-    assert_eq!(rt; message(alloc, five_minutes(both))?.as_str(), "no offset modifiers allowed before range");
+    assert_eq!(rt;
+        message(alloc, range)?.as_str(),
+        "unary expression only allowed on expressions of type scalar or vector, got: matrix"
+    );
+    let both = a()?
+        .at_expr(AtModifier::Start)?
+        .offset_expr(Offset::Pos(minute))?;
+    assert_eq!(rt;
+        message(alloc, five_minutes(both))?.as_str(),
+        "no offset modifiers allowed before range"
+    );
     let at = a()?.at_expr(AtModifier::Start)?;
-    assert_eq!(rt; message(alloc, five_minutes(at))?.as_str(), "no @ modifiers allowed before range");
-    assert_eq!(rt; message(alloc, five_minutes(number(1)))?.as_str(), "ranges only allowed for vector selectors");
+    assert_eq!(rt;
+        message(alloc, five_minutes(at))?.as_str(),
+        "no @ modifiers allowed before range"
+    );
+    assert_eq!(rt;
+        message(alloc, five_minutes(number(1)))?.as_str(),
+        "ranges only allowed for vector selectors"
+    );
     Ok(())
 }
 
@@ -50,7 +67,10 @@ fn modifiers_are_set_once(rt: HostRuntime) -> Result<(), Fail> {
         let has_time = i == 4 || i == 7;
         let at = message(alloc, kind(alloc, i)?.at_expr(AtModifier::End))?;
         if !is_base {
-            assert_eq!(rt; at.as_str(), "@ modifier must be preceded by an vector selector or matrix selector or a subquery");
+            assert_eq!(rt;
+                at.as_str(),
+                "@ modifier must be preceded by an vector selector or matrix selector or a subquery"
+            );
         } else if has_time {
             assert_eq!(rt; at.as_str(), "@ <timestamp> may not be set multiple times");
         } else {
@@ -58,7 +78,10 @@ fn modifiers_are_set_once(rt: HostRuntime) -> Result<(), Fail> {
         }
         let offset = message(alloc, kind(alloc, i)?.offset_expr(Offset::Pos(minute * 3)))?;
         if !is_base {
-            assert_eq!(rt; offset.as_str(), "offset modifier must be preceded by an vector selector or matrix selector or a subquery");
+            assert_eq!(rt;
+                offset.as_str(),
+                "offset modifier must be preceded by an vector selector or matrix selector or a subquery"
+            );
         } else if is_shifted {
             assert_eq!(rt; offset.as_str(), "offset may not be set multiple times");
         } else {
@@ -68,7 +91,10 @@ fn modifiers_are_set_once(rt: HostRuntime) -> Result<(), Fail> {
         if i == 8 {
             assert_eq!(rt; mode.as_str(), "range mode may not be set multiple times");
         } else {
-            assert_eq!(rt; mode.as_str(), "range mode must be preceded by a matrix selector");
+            assert_eq!(rt;
+                mode.as_str(),
+                "range mode must be preceded by a matrix selector"
+            );
         }
     }
     Ok(())
@@ -78,16 +104,33 @@ fn modifiers_are_set_once(rt: HostRuntime) -> Result<(), Fail> {
 fn aggregations_count_their_arguments(rt: HostRuntime) -> Result<(), Fail> {
     let alloc = rt.alloc();
     let none = Expr::new_aggregate_expr(T_SUM, None, FunctionArgs::empty_args(alloc));
-    assert_eq!(rt; message(alloc, none)?.as_str(), "no arguments for aggregate expression 'sum' provided");
+    assert_eq!(rt;
+        message(alloc, none)?.as_str(),
+        "no arguments for aggregate expression 'sum' provided"
+    );
     let one = args(alloc, Some(name(alloc, "a")?), None, None)?;
     let missing = Expr::new_aggregate_expr(T_TOPK, None, one);
-    assert_eq!(rt; message(alloc, missing)?.as_str(), "wrong number of arguments for aggregate expression provided, expected 2, got 1");
+    assert_eq!(rt;
+        message(alloc, missing)?.as_str(),
+        "wrong number of arguments for aggregate expression provided, expected 2, got 1"
+    );
     let two = args(alloc, Some(number(1)), Some(name(alloc, "a")?), None)?;
     let more = Expr::new_aggregate_expr(T_SUM, None, two);
-    assert_eq!(rt; message(alloc, more)?.as_str(), "wrong number of arguments for aggregate expression provided, expected 1, got 2");
-    let three = args(alloc, Some(number(1)), Some(name(alloc, "a")?), Some(number(2)))?;
+    assert_eq!(rt;
+        message(alloc, more)?.as_str(),
+        "wrong number of arguments for aggregate expression provided, expected 1, got 2"
+    );
+    let three = args(
+        alloc,
+        Some(number(1)),
+        Some(name(alloc, "a")?),
+        Some(number(2)),
+    )?;
     let more = Expr::new_aggregate_expr(T_TOPK, None, three);
-    assert_eq!(rt; message(alloc, more)?.as_str(), "wrong number of arguments for aggregate expression provided, expected 2, got 3");
+    assert_eq!(rt;
+        message(alloc, more)?.as_str(),
+        "wrong number of arguments for aggregate expression provided, expected 2, got 3"
+    );
     Ok(())
 }
 
@@ -118,7 +161,10 @@ fn times_are_rounded_away_from_zero(rt: HostRuntime) -> Result<(), Fail> {
         ("-1.0005", "@ -1.001"),
         ("9223372036854775.807", "@ 9223372036854775.807"),
         ("-9223372036854775.8084", "@ -9223372036854775.808"),
-        ("9223372036854775.8075", "timestamp out of bounds for @ modifier: 9223372036854775.8075"),
+        (
+            "9223372036854775.8075",
+            "timestamp out of bounds for @ modifier: 9223372036854775.8075",
+        ),
         ("inf", "timestamp out of bounds for @ modifier: Inf"),
         ("nan", "timestamp out of bounds for @ modifier: NaN"),
     ] {
@@ -151,9 +197,15 @@ fn only_start_and_end_are_times(rt: HostRuntime) -> Result<(), Fail> {
     let token = Token::new(T_END, String::from_str(alloc, "end")?);
     assert!(rt; AtModifier::try_from(token) == Ok(AtModifier::End));
     let fault = AtFault::NotPreprocessor(T_STEP).to_string(alloc)?;
-    assert_eq!(rt; fault.as_str(), "invalid @ modifier preprocessor 'step', START or END is valid.");
+    assert_eq!(rt;
+        fault.as_str(),
+        "invalid @ modifier preprocessor 'step', START or END is valid."
+    );
     let unary = Expr::new_unary_expr(alloc, name(alloc, "a")?)?;
     assert!(rt; AtModifier::try_from(unary) == Err(AtFault::NotANumber));
-    assert_eq!(rt; AtFault::NotANumber.to_string(alloc)?.as_str(), "invalid float value after @ modifier");
+    assert_eq!(rt;
+        AtFault::NotANumber.to_string(alloc)?.as_str(),
+        "invalid float value after @ modifier"
+    );
     Ok(())
 }

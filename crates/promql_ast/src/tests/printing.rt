@@ -98,7 +98,10 @@ fn times_print_with_three_digits(rt: HostRuntime) -> Result<(), Fail> {
     let selector = name(alloc, "foo")?
         .offset_expr(Offset::Neg(minute_duration() * 5))?
         .at_expr(AtModifier::At(1000))?;
-    assert_eq!(rt; selector.to_string(alloc)?.as_str(), "foo @ 1.000 offset -5m");
+    assert_eq!(rt;
+        selector.to_string(alloc)?.as_str(),
+        "foo @ 1.000 offset -5m"
+    );
     Ok(())
 }
 
@@ -108,11 +111,17 @@ fn ranges_print_their_mode_first(rt: HostRuntime) -> Result<(), Fail> {
     let smoothed = five_minutes(name(alloc, "foo")?)?
         .offset_expr(Offset::Pos(minute_duration()))?
         .mode_expr(RangeMode::Smoothed)?;
-    assert_eq!(rt; smoothed.to_string(alloc)?.as_str(), "foo[5m] smoothed offset 1m");
+    assert_eq!(rt;
+        smoothed.to_string(alloc)?.as_str(),
+        "foo[5m] smoothed offset 1m"
+    );
     let smoothed = five_minutes(name(alloc, "foo")?)?
         .mode_expr(RangeMode::Smoothed)?
         .at_expr(AtModifier::At(1000))?;
-    assert_eq!(rt; smoothed.to_string(alloc)?.as_str(), "foo[5m] smoothed @ 1.000");
+    assert_eq!(rt;
+        smoothed.to_string(alloc)?.as_str(),
+        "foo[5m] smoothed @ 1.000"
+    );
     let anchored = five_minutes(name(alloc, "foo")?)?.mode_expr(RangeMode::Anchored)?;
     assert_eq!(rt; anchored.to_string(alloc)?.as_str(), "foo[5m] anchored");
     Ok(())
@@ -137,7 +146,13 @@ fn braces_hold_what_the_matchers_print(rt: HostRuntime) -> Result<(), Fail> {
 #[test]
 fn negated_numbers_have_no_negative_zero(rt: HostRuntime) -> Result<(), Fail> {
     let alloc = rt.alloc();
-    for (text, negated) in [("5", "-5"), ("-5", "5"), ("0", "0"), ("inf", "-Inf"), ("nan", "NaN")] {
+    for (text, negated) in [
+        ("5", "-5"),
+        ("-5", "5"),
+        ("0", "0"),
+        ("inf", "-Inf"),
+        ("nan", "NaN"),
+    ] {
         let expr = Expr::new_unary_expr(alloc, decimal(text))?;
         assert_eq!(rt; expr.to_string(alloc)?.as_str(), negated);
         assert!(rt; expr == decimal(negated));
