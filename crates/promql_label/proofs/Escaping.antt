@@ -51,7 +51,7 @@ high_from taken [] z some high = absurd (omega arith)
 high_from false (b ∷ w) z some high = high_stay (b ∷ w) z high
 high_from true (b ∷ w) z some high = ap (λ t. b ∷ t) (high_stay w z (λ k lt. high (suc k) (omega arith)))
 
-low_char : (taken : Bool) (c : ℕ) (z : Text) → escaped_from taken (c ∷ z) ≡ mark taken c z ++ (c ∷ escaped_from (not taken && c == 92) z)
+pub low_char : (taken : Bool) (c : ℕ) (z : Text) → escaped_from taken (c ∷ z) ≡ mark taken c z ++ (c ∷ escaped_from (not taken && c == 92) z)
 low_char true c z = refl
 low_char false c z =
     cond_both (is_loose c z) _ _ (λ e. e ++ escaped_from (c == 92) z ≡ mark false c z ++ (c ∷ escaped_from (c == 92) z))

@@ -9,4 +9,5 @@ pub mod OneOrder
 pub mod PrintedMatchers
 pub mod PrintedTexts
 pub mod Reading
+pub mod RepeatPlaces
 pub mod SameMatchers

@@ -1,6 +1,11 @@
 -- What the forms of a value that were tried say of its answer.
-use Rattle.std.proofs.Common.{◌≡◌, Option, Some, None, subst, sym}
-use Rattle.promql_label.specs.Answers.{Allows, as_it_is, built, escaped, IsTried, MayRefusePair, neither, refused}
+use Rattle.std.proofs.Common.{◌≡◌, ◌≢◌, ◌≤◌, Option, Some, None, subst, sym}
+use Rattle.std.specs.Prelude.{IsCharBoundary}
+use Rattle.regex.specs.Patterns.{default_config, Refuses}
+use Rattle.regex.specs.declared.error.Error.TheVariants.{Syntax}
+use Rattle.regex_syntax.specs.declared.error.Error as parser
+use Rattle.regex_syntax.specs.declared.error.ErrorKind.TheVariants as kind
+use Rattle.promql_label.specs.Answers.{Allows, as_it_is, built, escaped, IsTried, MayRefuse, MayRefusePair, neither, refused}
 use Rattle.promql_label.specs.Repeats.{escaped_repeats}
 use Rattle.promql_text.specs.Texts.{Text}
 
@@ -19,3 +24,12 @@ read_escaped v u w o refuses form is tried =
 
 pub refused_twice : (v u : Text) (o : Option Text) → MayRefusePair v → u ≡ escaped_repeats v → o ≡ None → IsTried u o → Allows v refused
 refused_twice v u o refuses form is tried = neither v refuses (tried_as u (escaped_repeats v) o None is form tried)
+
+-- an error of the grammar but for memory is one that `regex` may give
+pub refused_by_grammar : (w : Text) (given : parser.Error) → given.kind ≢ kind.OutOfMemory → Refuses default_config w given.kind
+    → (given.span.start ≤ given.span.end) × IsCharBoundary w given.span.start × IsCharBoundary w given.span.end → MayRefuse w
+refused_by_grammar w given known refuses span =
+    (Syntax given, (λ e. cc), ((λ e is. subst (λ (x : parser.Error). Refuses default_config w x.kind) (same is) refuses), known, (λ e is. subst (λ (x : parser.Error). (x.span.start ≤ x.span.end) × IsCharBoundary w x.span.start × IsCharBoundary w x.span.end) (same is) span)))
+  where
+    same : {x y : parser.Error} → Syntax x ≡ Syntax y → x ≡ y
+    same e = cc

@@ -7,6 +7,7 @@ pub mod NextText
 pub mod Operators
 pub mod PlainMatchers
 pub mod Refusals
+pub mod RepeatPlaces
 pub mod Repeats
 pub mod SortedTexts
 pub mod Views

@@ -18,3 +18,14 @@ abbrev pub IsFaultOf : ℕ → Text → MatcherError → Type 0
 IsFaultOf id value errors.Memory = is_pattern_id id ≡ true
 IsFaultOf id value (errors.InvalidOp k) = (is_operator_id id ≡ false) × (k ≡ id)
 IsFaultOf id value (errors.Pattern s) = (is_pattern_id id ≡ true) × Allows value refused × (string_bytes s ≡ value)
+
+-- an error as plain data
+pub data PlainError : Type 0 where
+  memory : PlainError
+  invalid_op : ℕ → PlainError
+  refused_pattern : Text → PlainError
+
+abbrev pub plain_error_of : MatcherError → PlainError
+plain_error_of errors.Memory = memory
+plain_error_of (errors.InvalidOp id) = invalid_op id
+plain_error_of (errors.Pattern s) = refused_pattern (string_bytes s)

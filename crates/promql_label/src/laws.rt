@@ -1,17 +1,22 @@
 //! Laws on the definitions alone. Each is the contract of a function that does nothing.
 
-ghost use Rattle.std.specs.Prelude.{◌≡◌, ◌≢◌, ◌↔◌, ◌<◌, [], List, IsTrue};
+ghost use Rattle.std.specs.Prelude.{◌≡◌, ◌≢◌, ◌↔◌, ◌<◌, [], List, IsTrue, codes, length};
 ghost use Rattle.std.specs.List.{list_any, AllPairs, Contains};
 ghost use Rattle.promql_text.specs.Texts.{Text};
 ghost use Rattle.promql_label.specs.Labels.{common, is_among, labels_of};
 ghost use Rattle.promql_label.specs.LabelLaws.{first_place};
-ghost use Rattle.promql_label.specs.Repeats.{opens_count, OpensCount};
+ghost use Rattle.promql_label.specs.Repeats.{escaped_repeats, opens_count, OpensCount};
+ghost use Rattle.promql_label.specs.RepeatPlaces.{bytes_from};
 ghost use Rattle.promql_text.specs.Equalities.{HashesAlike, IsSameBy};
+ghost use Rattle.promql_label.specs.MatcherErrors.{plain_error_of};
+ghost use Rattle.promql_label.specs.Refusals.{refused_value};
 ghost use Rattle.promql_label.specs.Views.{plain_matcher_of, plain_matchers_of, operator_of};
 
 use crate::labels::Labels;
-use crate::matcher::{MatchOp, Matcher};
+use crate::matcher::{MatchOp, Matcher, MatcherError};
 use crate::matchers::Matchers;
+use crate::pattern::{Pattern, PatternFault};
+use crate::{ALERT_NAME, BUCKET_LABEL, INSTANCE_NAME, METRIC_NAME};
 use std::hash::Hash;
 
 /// The common labels of two lists are those that both have.
@@ -48,6 +53,12 @@ pub fn counts()
     ensures { (z : Text) → IsTrue (opens_count z) ↔ OpensCount z }
 {}
 
+/// The escaped form of a pattern is its bytes in order, with a backslash before each `{` that no
+/// backslash takes and after which no count comes.
+pub fn places_of_backslashes()
+    ensures { (z : Text) → escaped_repeats z ≡ bytes_from z 0 (length z) }
+{}
+
 /// Lists of labels are equal exactly if they have the same texts in the same order.
 pub fn equal_label_lists()
     ensures { IsSameBy labels_of ⟦<Labels as PartialEq>⟧.eq }
@@ -68,4 +79,28 @@ pub fn equal_matchers()
 /// Lists of matchers are equal exactly if they have the same matchers beside the groups, and the same groups.
 pub fn equal_matcher_lists()
     ensures { IsSameBy plain_matchers_of ⟦<Matchers as PartialEq>⟧.eq }
+{}
+
+/// Patterns are equal exactly if their built texts are, and then they are hashed alike.
+pub fn equal_patterns()
+    ensures same { IsSameBy (λ (p : Text). p) ⟦<Pattern as PartialEq>⟧.eq }
+    ensures hashed { HashesAlike (λ (p : Text). p) ⟦<Pattern as Hash>⟧.hash_input }
+{}
+
+/// Faults of patterns are equal exactly if they are of one kind and have one value.
+pub fn equal_pattern_faults()
+    ensures { IsSameBy refused_value ⟦<PatternFault as PartialEq>⟧.eq }
+{}
+
+/// Errors of matchers are equal exactly if they are of one kind and have one id or value.
+pub fn equal_matcher_errors()
+    ensures { IsSameBy plain_error_of ⟦<MatcherError as PartialEq>⟧.eq }
+{}
+
+/// The labels with a meaning of their own have these texts.
+pub fn label_names()
+    ensures metric_name { METRIC_NAME.now ≡ codes "__name__" }
+    ensures alert_name { ALERT_NAME.now ≡ codes "alertname" }
+    ensures bucket_label { BUCKET_LABEL.now ≡ codes "le" }
+    ensures instance_name { INSTANCE_NAME.now ≡ codes "instance" }
 {}

@@ -91,7 +91,8 @@ impl Matcher {
         })
     }
 
-    /// Whether the matcher matches a text. Only want of memory can come in place of the answer.
+    /// Whether the matcher matches a text. Each call on a pattern allocates what the search needs, and
+    /// frees it; the only error is that memory ran out.
     pub fn is_match(&self, alloc: Global, text: &str) -> Result<bool, AllocError>
         ensures { IfOk result (λ b. b ≡ holds (plain_matcher_of self.now) text.now) }
     {

@@ -75,10 +75,9 @@ impl Matchers {
     }
 
     /// The list with one more group, which has this matcher alone. Matchers beside the groups become a group before it.
-    pub fn append_or(mut self, matcher: Matcher) -> Result<Matchers, AllocError>
+    pub fn append_or(mut self, alloc: Global, matcher: Matcher) -> Result<Matchers, AllocError>
         ensures { IfOk result (λ m. plain_matchers_of m ≡ appended_or (plain_matchers_of self) (plain_matcher_of matcher)) }
     {
-        let alloc = *self.or_matchers.allocator();
         let mut group = Vec::new(alloc);
         group.push(matcher)?;
         if !self.matchers.is_empty() {

@@ -1,6 +1,6 @@
 //! Patterns: docs/MATCHERS.md, "Patterns".
 
-ghost use Rattle.std.specs.Prelude.{◌≡◌, IfOk, IfErr, IfSome, IfNone};
+ghost use Rattle.std.specs.Prelude.{◌≡◌, true, false, IfOk, IfErr, IfSome, IfNone};
 ghost use Rattle.regex.specs.Patterns.{default_config};
 ghost use Rattle.regex.specs.Strings.{regex_config, regex_source, IsReadFromSource};
 ghost use Rattle.promql_label.specs.Refusals.{IsRefused};
@@ -8,6 +8,7 @@ ghost use Rattle.promql_label.specs.Answers.{Allows, built, finds, IsCompiledFro
 
 use crate::repeats::escape_repeats;
 use regex::Regex;
+use regex_syntax::{Config, ErrorKind};
 use std::alloc::{AllocError, Global};
 use std::fmt;
 use std::hash::{Hash, Hasher};
@@ -67,13 +68,27 @@ fn compile(alloc: Global, text: &str) -> Result<Option<Regex>, AllocError>
     }
 }
 
+/// Whether the grammar of `regex` reads a text.
+fn is_read(alloc: Global, text: &str) -> Result<bool, AllocError>
+    ensures read { IfOk result (λ is_read. is_read ≡ true → IsRead text.now) }
+    ensures refused { IfOk result (λ is_read. is_read ≡ false → MayRefuse text.now) }
+{
+    match regex_syntax::parse(alloc, text, &Config::default()) {
+        Ok(_parsed) => Ok(true),
+        Err(error) => match error.kind {
+            ErrorKind::OutOfMemory => Err(AllocError),
+            _ => Ok(false),
+        },
+    }
+}
+
 /// The pattern of a form of a value, if `regex` reads that form by itself and anchored.
 fn anchored(alloc: Global, form: &str) -> Result<Option<Pattern>, AllocError>
     ensures { IfOk result (IsTried form.now) }
 {
-    let Some(_) = compile(alloc, form)? else {
+    if !is_read(alloc, form)? {
         return Ok(None);
-    };
+    }
     let text = format!(in alloc; "^(?:{form})$")?;
     match compile(alloc, text.as_str())? {
         Some(regex) => Ok(Some(Pattern::new(alloc, regex)?)),
@@ -145,7 +160,7 @@ impl Pattern {
         self.regex.as_str()
     }
 
-    /// Whether the pattern matches a text. Only want of memory can come in place of the answer.
+    /// Whether the pattern matches a text. Each call allocates what the search needs.
     pub(crate) fn is_match(&self, alloc: Global, text: &str) -> Result<bool, AllocError>
         ensures { IfOk result (λ found. found ≡ finds self.now text.now) }
     {

@@ -21,6 +21,7 @@ pub mod ReadsBack
 pub mod ReadsDuration
 pub mod Rounding
 pub mod Runs
+pub mod ShortNumbers
 pub mod Spelled
 pub mod Spellings
 pub mod Tens

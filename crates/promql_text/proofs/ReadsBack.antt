@@ -130,7 +130,7 @@ front_append : (xs ys : Text) → 0 < length xs → front (xs ++ ys) ≡ front x
 front_append [] ys some = absurd (omega arith)
 front_append (x ∷ xs) ys some = refl
 
-not_octal : (b : Bool) (t : Text) → is_ascii_digit (front t) ≡ true → 48 < front t → is_octal (with_sign b t) ≡ false
+pub not_octal : (b : Bool) (t : Text) → is_ascii_digit (front t) ≡ true → 48 < front t → is_octal (with_sign b t) ≡ false
 not_octal b t digit leads =
     ap (λ u. (front u == 48) && (not (length (drop 1 u) == 0) && not (list_any is_past_octal (with_sign b t)))) (unsigned_is b t digit)
     ∙ ap (λ x. x && (not (length (drop 1 t) == 0) && not (list_any is_past_octal (with_sign b t)))) (ne_eqb (front t) 48 (omega arith))

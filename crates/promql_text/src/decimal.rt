@@ -9,13 +9,14 @@ use std::marker::Model;
 /// from 10^-324 to 10^308. There is one zero.
 #[derive(Clone, Copy, Debug, PartialEq, Eq, Hash, Drop)]
 pub struct Decimal {
-    pub(crate) is_negative: bool,
+    // The widest field comes first, so that the struct takes 32 bytes and not 48.
     /// The digits as a whole number.
     pub(crate) digits: u128,
     /// How many zeros follow the digits before the point.
     pub(crate) zeros: u16,
-    /// How many of the digits, and of zeros in front of them, stand behind the point.
+    /// How many of the digits, and of the zeros before them, come after the point.
     pub(crate) places: u16,
+    pub(crate) is_negative: bool,
 }
 
 impl Model for Decimal {

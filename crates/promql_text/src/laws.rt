@@ -11,7 +11,14 @@ ghost use Rattle.promql_text.specs.Texts.{Text};
 ghost use Rattle.promql_text.specs.Numbers.{Exact, IsExact};
 ghost use Rattle.promql_text.specs.Spelling.{NumeralsAreSpelled};
 ghost use Rattle.promql_text.specs.Values.{IsNumber, SameValue, neg};
+ghost use Rattle.promql_text.specs.Equalities.{HashesAlike, IsSameBy};
 ghost use Rattle.promql_text.specs.declared.number.Number.{Number};
+
+use crate::decimal::Decimal;
+use crate::duration::{DurationFault, Unit};
+use crate::number::{Number, NumberFault};
+use crate::quote::QuoteError;
+use std::hash::Hash;
 
 /// Unquoting the quoted escape of a text gives the text, for every text.
 pub fn unquoting_undoes_escaping()
@@ -58,4 +65,28 @@ pub fn equal_values_are_one()
 /// A text is a numeral exactly if it is spelled as one: digits, a point or none, digits, an exponent or none.
 pub fn numerals_are_spelled()
     ensures { NumeralsAreSpelled }
+{}
+
+/// Decimals are equal exactly if they are one number, and then they are hashed alike.
+pub fn equal_decimals()
+    ensures same { IsSameBy (λ (d : Exact). d) ⟦<Decimal as PartialEq>⟧.eq }
+    ensures hashed { HashesAlike (λ (d : Exact). d) ⟦<Decimal as Hash>⟧.hash_input }
+{}
+
+/// Numbers are equal exactly if they are one number, and then they are hashed alike.
+pub fn equal_numbers()
+    ensures same { IsSameBy (λ (n : Number). n) ⟦<Number as PartialEq>⟧.eq }
+    ensures hashed { HashesAlike (λ (n : Number). n) ⟦<Number as Hash>⟧.hash_input }
+{}
+
+/// Each kind of fault is equal to itself alone.
+pub fn equal_faults()
+    ensures numbers { IsSameBy (λ (f : NumberFault). f) ⟦<NumberFault as PartialEq>⟧.eq }
+    ensures durations { IsSameBy (λ (f : DurationFault). f) ⟦<DurationFault as PartialEq>⟧.eq }
+    ensures quotes { IsSameBy (λ (f : QuoteError). f) ⟦<QuoteError as PartialEq>⟧.eq }
+{}
+
+/// Each unit is equal to itself alone.
+pub fn equal_units()
+    ensures { IsSameBy (λ (u : Unit). u) ⟦<Unit as PartialEq>⟧.eq }
 {}

@@ -6,7 +6,7 @@ ghost use Rattle.std.specs.Str.Parse.{digits_value};
 ghost use Rattle.promql_text.specs.DecimalForm.{digits_number, digit_run, exponent_size, is_minus, places};
 ghost use Rattle.promql_text.specs.DecimalParts as parts;
 ghost use Rattle.promql_text.specs.NumberText as spec;
-ghost use Rattle.promql_text.specs.Numbers.{placed};
+ghost use Rattle.promql_text.specs.Numbers.{placed, whole};
 ghost use Rattle.promql_text.specs.Significands.{IsLong};
 
 use crate::decimal::Decimal;
@@ -213,6 +213,17 @@ fn number_of<S: Source>(text: S) -> Result<Number, NumberFault>
     }
 }
 
+/// The number of a text of digits that doesn't begin with 0, if 64 bits hold it. Such a text needs none
+/// of the other rules.
+fn short_whole(text: &str) -> Option<u64>
+    ensures { IfSome result (λ n. spec.read_number text.now ≡ Ok (Number.Finite (whole false n))) }
+{
+    match text.as_bytes() {
+        [first, ..] if *first > b'0' => text.parse().ok(),
+        _ => None,
+    }
+}
+
 /// The number of a text, in which white space counts for nothing: decimal with a point and an exponent, `inf`,
 /// `infinity` or `nan` in any case, hexadecimal behind `0x`, or octal behind `0`.
 ///
@@ -224,5 +235,8 @@ fn number_of<S: Source>(text: S) -> Result<Number, NumberFault>
 pub fn parse_str_radix(text: &str) -> Result<Number, NumberFault>
     ensures { result ≡ spec.read_number text.now }
 {
-    number_of(Kept(text))
+    match short_whole(text) {
+        Some(n) => Ok(Number::Finite(Decimal::whole(false, n))),
+        None => number_of(Kept(text)),
+    }
 }

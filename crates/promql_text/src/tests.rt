@@ -2,6 +2,7 @@
 
 mod duration;
 mod duration_text;
+mod equality;
 mod numbers;
 mod printed;
 mod quote;

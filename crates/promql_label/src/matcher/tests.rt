@@ -137,3 +137,40 @@ fn equal_matchers_hash_alike(rt: HostRuntime) -> Result<(), Fail> {
     assert!(rt; made(rt.alloc(), T_NEQ_REGEX, "a", "b")? != matching);
     Ok(())
 }
+
+#[test]
+fn operators_print(rt: HostRuntime) -> Result<(), Fail> {
+    for (id, want) in [
+        (T_EQL, "="),
+        (T_NEQ, "!="),
+        (T_EQL_REGEX, "=~"),
+        (T_NEQ_REGEX, "!~"),
+    ] {
+        let matcher = made(rt.alloc(), id, "a", "b")?;
+        assert_eq!(rt; matcher.op.to_string(rt.alloc())?.as_str(), want);
+    }
+    Ok(())
+}
+
+fn refused(alloc: Global, value: &str) -> Result<MatcherError, AllocError> {
+    Ok(MatcherError::Pattern(String::from_str(alloc, value)?))
+}
+
+#[test]
+fn errors_compare(rt: HostRuntime) -> Result<(), Fail> {
+    let alloc = rt.alloc();
+    assert!(rt; MatcherError::InvalidOp(1) != MatcherError::InvalidOp(2));
+    assert!(rt; MatcherError::InvalidOp(1) != MatcherError::Memory);
+    assert!(rt; refused(alloc, "(")? == refused(alloc, "(")?);
+    assert!(rt; refused(alloc, "(")? != refused(alloc, ")")?);
+    assert!(rt; refused(alloc, "(")? != MatcherError::Memory);
+    Ok(())
+}
+
+#[test]
+fn names_with_a_meaning(rt: HostRuntime) {
+    assert_eq!(rt; crate::METRIC_NAME, "__name__");
+    assert_eq!(rt; crate::ALERT_NAME, "alertname");
+    assert_eq!(rt; crate::BUCKET_LABEL, "le");
+    assert_eq!(rt; crate::INSTANCE_NAME, "instance");
+}

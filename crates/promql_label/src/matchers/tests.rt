@@ -40,13 +40,13 @@ fn shown_all(alloc: Global, matchers: &[Matcher]) -> Result<String, AllocError> 
 fn or_begins_groups(rt: HostRuntime) -> Result<(), Fail> {
     let alloc = rt.alloc();
     let list = Matchers::one(alloc, equal(alloc, "a", "1")?)?
-        .append_or(equal(alloc, "b", "2")?)?
+        .append_or(alloc, equal(alloc, "b", "2")?)?
         .append(equal(alloc, "c", "3")?)?;
     assert_eq!(rt;
         shown(alloc, &list)?.as_str(),
         " | a=\"1\" | b=\"2\" c=\"3\""
     );
-    let longer = list.append_or(equal(alloc, "d", "4")?)?;
+    let longer = list.append_or(alloc, equal(alloc, "d", "4")?)?;
     assert_eq!(rt;
         shown(alloc, &longer)?.as_str(),
         " | a=\"1\" | b=\"2\" c=\"3\" | d=\"4\""
@@ -68,7 +68,7 @@ fn groups_beside_plain_ones_grow(rt: HostRuntime) -> Result<(), Fail> {
     );
     let empty = Matchers::empty(alloc).append(equal(alloc, "a", "1")?)?;
     assert_eq!(rt; shown(alloc, &empty)?.as_str(), " a=\"1\"");
-    let lone = Matchers::empty(alloc).append_or(equal(alloc, "a", "1")?)?;
+    let lone = Matchers::empty(alloc).append_or(alloc, equal(alloc, "a", "1")?)?;
     assert_eq!(rt; shown(alloc, &lone)?.as_str(), " | a=\"1\"");
     Ok(())
 }
@@ -97,7 +97,7 @@ fn empty_matchers(rt: HostRuntime) -> Result<(), Fail> {
     assert!(rt; !Matchers::one(alloc, equal(alloc, "a", "1")?)?.is_empty_matchers(alloc)?);
     let any = Matchers::one(alloc, pattern(alloc, "a", ".*")?)?;
     assert!(rt; any.is_empty_matchers(alloc)?);
-    let some = any.append_or(equal(alloc, "b", "1")?)?;
+    let some = any.append_or(alloc, equal(alloc, "b", "1")?)?;
     assert!(rt; !some.is_empty_matchers(alloc)?);
     Ok(())
 }
@@ -106,7 +106,7 @@ fn empty_matchers(rt: HostRuntime) -> Result<(), Fail> {
 fn copies_are_equal(rt: HostRuntime) -> Result<(), Fail> {
     let alloc = rt.alloc();
     let list = Matchers::one(alloc, equal(alloc, "a", "1")?)?
-        .append_or(pattern(alloc, "b", "2|3")?)?
+        .append_or(alloc, pattern(alloc, "b", "2|3")?)?
         .append(equal(alloc, "c", "3")?)?;
     let copy = list.try_clone(alloc)?;
     assert!(rt; copy == list);
@@ -163,7 +163,7 @@ fn prints_operators_in_byte_order(rt: HostRuntime) -> Result<(), Fail> {
 fn prints_groups_alone(rt: HostRuntime) -> Result<(), Fail> {
     let alloc = rt.alloc();
     let list = Matchers::one(alloc, equal(alloc, "b", "1")?)?
-        .append_or(equal(alloc, "c", "2")?)?
+        .append_or(alloc, equal(alloc, "c", "2")?)?
         .append(equal(alloc, "a b", "3")?)?;
     let text = list.to_string(alloc)?;
     assert_eq!(rt; text.as_str(), r#"b="1" or c="2", "a b"="3""#);

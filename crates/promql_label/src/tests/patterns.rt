@@ -1,6 +1,8 @@
 //! Patterns that `regex` reads, and those that it refuses.
 
 use crate::{Pattern, PatternFault};
+use std::alloc::{AllocError, Global};
+use std::process::Abort;
 use std::test::Fail;
 
 #[test]
@@ -15,6 +17,9 @@ fn what_is_built_of_a_pattern(rt: HostRuntime) -> Result<(), Fail> {
         (r"\x{4a}", r"^(?:\x{4a})$"),
         (r"\p{Greek}{2,3}", r"^(?:\p{Greek}{2,3})$"),
         ("é", "^(?:é)$"),
+        ("[{]", "^(?:[{])$"),
+        (r"\b{start}x", r"^(?:\b{start}x)$"),
+        (r"\w{2}{", r"^(?:\w{2}\{)$"),
     ];
     for (value, want) in rows {
         let pattern = Pattern::read(rt.alloc(), value)?;
@@ -32,7 +37,8 @@ fn is_refused(fault: &PatternFault, value: &str) -> bool {
 
 #[test]
 fn what_is_no_pattern_is_refused(rt: HostRuntime) {
-    for value in ["a)|(?:b", r"b\", "(", "[", "*", r"\"] {
+    // The last is refused for the size of what it would compile to.
+    for value in ["a)|(?:b", r"b\", "(", "[", "*", r"\", r"\w{1000}"] {
         match Pattern::read(rt.alloc(), value) {
             Ok(_pattern) => assert!(rt; false, "{value} is no pattern"),
             Err(fault) => assert!(rt; is_refused(&fault, value), "{value}"),
@@ -40,13 +46,28 @@ fn what_is_no_pattern_is_refused(rt: HostRuntime) {
     }
 }
 
-// By hand, with each allocation failing in turn: `rt try --test --fail-alloc N`.
-#[test]
-fn one_answer_for_failing_allocations(rt: HostRuntime) {
-    match Pattern::read(rt.alloc(), r"x\d{b}") {
-        Ok(pattern) => assert_eq!(rt; pattern.as_str(), r"^(?:x\d\{b})$"),
-        Err(fault) => assert!(rt; fault == PatternFault::Memory),
+// The three reads below are also run by hand with each of their allocations failing in turn:
+// `rt try --test --fail-alloc N`, N from 1 to 210.
+
+fn is_built_as(rt: &impl Abort, alloc: Global, value: &str, want: &str) {
+    match Pattern::read(alloc, value) {
+        Ok(pattern) => assert_eq!(rt; pattern.as_str(), want),
+        Err(fault) => assert!(rt; fault == PatternFault::Memory, "{value}"),
     }
+}
+
+#[test]
+fn a_plain_pattern_or_out_of_memory(rt: HostRuntime) {
+    is_built_as(&rt, rt.alloc(), "[{]", "^(?:[{])$");
+}
+
+#[test]
+fn an_escaped_pattern_or_out_of_memory(rt: HostRuntime) {
+    is_built_as(&rt, rt.alloc(), r"x\d{b}", r"^(?:x\d\{b})$");
+}
+
+#[test]
+fn a_refused_pattern_or_out_of_memory(rt: HostRuntime) {
     match Pattern::read(rt.alloc(), "a)|(?:b") {
         Ok(_pattern) => assert!(rt; false, "it is no pattern"),
         Err(fault) => {
@@ -97,5 +118,21 @@ fn patterns_are_equal_by_their_texts(rt: HostRuntime) -> Result<(), Fail> {
     let built = Pattern::of_text(rt.alloc(), "^(?:a)$")?;
     let other = Pattern::read(rt.alloc(), "b")?;
     assert!(rt; pattern == copy && pattern == built && pattern != other);
+    Ok(())
+}
+
+fn refused(alloc: Global, value: &str) -> Result<PatternFault, AllocError> {
+    Ok(PatternFault::Refused(String::from_str(alloc, value)?))
+}
+
+#[test]
+fn faults_print_and_compare(rt: HostRuntime) -> Result<(), Fail> {
+    let alloc = rt.alloc();
+    let fault = refused(alloc, "(")?;
+    assert!(rt; fault == refused(alloc, "(")? && fault != refused(alloc, ")")?);
+    assert!(rt; fault != PatternFault::Memory && PatternFault::Memory == PatternFault::Memory);
+    assert_eq!(rt; fault.to_string(alloc)?.as_str(), "illegal regex for (");
+    let memory = PatternFault::Memory.to_string(alloc)?;
+    assert_eq!(rt; memory.as_str(), "out of memory");
     Ok(())
 }

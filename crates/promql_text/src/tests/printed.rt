@@ -1,5 +1,5 @@
 use crate::joined::write_joined;
-use crate::quoted::{QuotedBytes, Quoted};
+use crate::quoted::{Quoted, QuotedBytes};
 use std::fmt;
 use std::test::Fail;
 

@@ -1,0 +1,5 @@
+use Rattle.promql_label.proofs.RepeatPlaces.{by_places}
+use Rattle.promql_label.proofs.laws.places_of_backslashes.Goals as goal
+
+pub returns : goal.returns
+returns c = by_places
