@@ -1,6 +1,8 @@
 //! Range modes: docs/TREE.md, "Range modes".
 
+ghost use Rattle.std.specs.Prelude.{◌≡◌};
 ghost use Rattle.std.specs.Fmt.{WritesOnOk};
+ghost use Rattle.promql_ast.specs.Same.{mode_eq};
 ghost use Rattle.promql_ast.specs.node.Matrix.{mode_text};
 
 use std::fmt;
@@ -36,4 +38,10 @@ pub(crate) fn write_mode<W: fmt::Write>(mode: RangeMode, f: &mut fmt::Formatter<
         RangeMode::Smoothed => f.write_str(" smoothed"),
         RangeMode::Anchored => f.write_str(" anchored"),
     }
+}
+
+pub(crate) fn is_same_mode(a: RangeMode, b: RangeMode) -> bool
+    ensures { result ≡ mode_eq a b }
+{
+    a == b
 }

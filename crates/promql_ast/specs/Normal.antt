@@ -1,0 +1,68 @@
+-- The normal form of a tree (docs/PRINTING.md, "Normal form").
+use Rattle.std.specs.Prelude.{ℕ, Bool, true, false, if◌then◌else◌, List, [], ◌∷◌, Option, Some, None}
+use Rattle.std.specs.Ordering.{is_gt}
+use Rattle.promql_label.specs.PlainMatchers.{PlainMatcher, PlainMatchers, plain_matchers, matcher_text}
+use Rattle.promql_label.specs.SortedTexts.{text_order}
+use Rattle.promql_kind.specs.Modifiers.{Clause, including, excluding, Cardinality, one_to_one, many_to_one, one_to_many, many_to_many, Fills, fills, Matching, matching, is_grouping}
+use Rattle.promql_ast.specs.Selectors.{Selector, selector}
+use Rattle.promql_ast.specs.Tree.{Tree, aggregate, unary, binary, paren, subquery, number, string, vector, matrix, call, extension, MaybeTree, absent, present, Trees, no_trees, first_tree}
+
+-- matchers in byte order of their texts
+abbrev pub insert_matcher : PlainMatcher → List PlainMatcher → List PlainMatcher
+insert_matcher c [] = c ∷ []
+insert_matcher c (d ∷ ds) =
+    if is_gt (text_order (matcher_text c) (matcher_text d)) then d ∷ insert_matcher c ds else c ∷ d ∷ ds
+
+abbrev pub sorted_matchers : List PlainMatcher → List PlainMatcher
+sorted_matchers [] = []
+sorted_matchers (c ∷ cs) = insert_matcher c (sorted_matchers cs)
+
+abbrev pub normal_matchers : PlainMatchers → PlainMatchers
+normal_matchers (plain_matchers plain groups) = plain_matchers (sorted_matchers plain) groups
+
+abbrev pub normal_selector : Selector → Selector
+normal_selector (selector name matchers offset at) = selector name (normal_matchers matchers) offset at
+
+-- an aggregation's empty list after `by` is left out
+abbrev pub normal_clause : Option Clause → Option Clause
+normal_clause None = None
+normal_clause (Some (including [])) = None
+normal_clause (Some (including (l ∷ ls))) = Some (including (l ∷ ls))
+normal_clause (Some (excluding ls)) = Some (excluding ls)
+
+-- an empty list after `ignoring` is left out where no grouping follows
+abbrev pub normal_matched : Bool → Option Clause → Option Clause
+normal_matched false (Some (excluding [])) = None
+normal_matched _ m = m
+
+-- then a modifier that says nothing is left out
+abbrev pub unless_default : Matching → Option Matching
+unless_default (matching one_to_one None false (fills None None)) = None
+unless_default m = Some m
+
+abbrev pub normal_matching : Option Matching → Option Matching
+normal_matching None = None
+normal_matching (Some (matching card clause return_bool values)) =
+    unless_default (matching card (normal_matched (is_grouping card) clause) return_bool values)
+
+abbrev mutual
+  pub normal : Tree → Tree
+  normal (aggregate op e p m) = aggregate op (normal e) (maybe_normal p) (normal_clause m)
+  normal (unary e) = unary (normal e)
+  normal (binary op l r m) = binary op (normal l) (normal r) (normal_matching m)
+  normal (paren e) = paren (normal e)
+  normal (subquery e offset at range step) = subquery (normal e) offset at range step
+  normal (number n) = number n
+  normal (string s) = string s
+  normal (vector s) = vector (normal_selector s)
+  normal (matrix s range mode) = matrix (normal_selector s) range mode
+  normal (call f args) = call f (all_normal args)
+  normal (extension name gives es) = extension name gives (all_normal es)
+
+  pub maybe_normal : MaybeTree → MaybeTree
+  maybe_normal absent = absent
+  maybe_normal (present e) = present (normal e)
+
+  pub all_normal : Trees → Trees
+  all_normal no_trees = no_trees
+  all_normal (first_tree e es) = first_tree (normal e) (all_normal es)

@@ -1,0 +1,41 @@
+//! Allocations that fail: with `rt try --test --fail-alloc N` each in turn.
+
+use super::{binary, call, equal, five_minutes, grouped};
+use crate::call::FunctionArgs;
+use crate::expr::Expr;
+use crate::fault::CheckError;
+use promql_kind::LabelModifier;
+use promql_label::Matchers;
+use promql_token::ids::{T_ADD, T_SUM};
+use std::alloc::Global;
+use std::test::Fail;
+
+const TEXT: &str = r#"foo{a="1"} + on (a) group_left (b) sum by (c) (rate(x[5m]))"#;
+
+/// The expression of `TEXT`.
+fn built(alloc: Global) -> Result<Expr, CheckError> {
+    let matchers = Matchers::one(alloc, equal(alloc, "a", "1")?)?;
+    let foo = Expr::new_vector_selector(Some(String::from_str(alloc, "foo")?), matchers);
+    let x = five_minutes(super::name(alloc, "x")?)?;
+    let rate = call(alloc, "rate", x)?;
+    let by = LabelModifier::include(alloc, ["c"].to_vec(alloc)?)?;
+    let sum = Expr::new_aggregate_expr(T_SUM, Some(by), FunctionArgs::new_args(alloc, rate)?)?;
+    let modifier = grouped(alloc, "a", "b")?;
+    Expr::checked(alloc, binary(alloc, foo, T_ADD, Some(modifier), sum)?)
+}
+
+#[test]
+fn building_runs_out_of_memory_or_gives_the_tree(rt: HostRuntime) -> Result<(), Fail> {
+    let alloc = rt.alloc();
+    match built(alloc) {
+        Ok(expr) => {
+            assert_eq!(rt; expr.to_string(alloc)?.as_str(), TEXT);
+            if let Ok(copy) = expr.try_clone(alloc) {
+                assert!(rt; copy == expr);
+            }
+            assert_eq!(rt; expr.to_string(alloc)?.as_str(), TEXT);
+        }
+        Err(error) => assert!(rt; error == CheckError::Memory),
+    }
+    Ok(())
+}
