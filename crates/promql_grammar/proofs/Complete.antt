@@ -12,7 +12,7 @@ use Rattle.promql_grammar.specs.Symbols.{Symbol, sign, word, begins, may_begin, 
 use Rattle.promql_grammar.specs.Pieces.{Labels, Grouping, by, without, Clause, no_clause, before, after, Group, bare, listed, no_group, Matching, no_matching, matching, Fills, no_fill, both, left, right, left_right, right_left, Modifier, Braces, no_item, items, Postfix, range, subquery, at_number, at_bound, offset, mode, yield_labels, yield_grouping, yield_modifier, yield_braces, yield_any_braces, yield_postfix, IsLabels, IsGrouping, IsClause, IsBraces, IsAnyBraces, IsPostfix, is_mode_word}
 use Rattle.promql_grammar.specs.Grammar.{Derivation, number, duration, string, selector, nameless, paren, call, aggregate, postfixed, unary, binary, Arguments, none, more, yield, yield_arguments, yield_rest, level, openness, height, greatest_height, added_height, IsWellFormed, AreWellFormed, IsBase, OpensNoParen, FitsMatching}
 use Rattle.promql_grammar.specs.Reading.{Read, Reader, right_level, labels_at, clause_at, modifier_at, braces_at, braces_in, postfix_at, with_postfix, postfixes, closing, rest_at, arguments_at, named, called, grouped, aggregated, first, climb, expression}
-use Rattle.promql_grammar.proofs.Tests.{if_true, if_false}
+use Rattle.promql_grammar.proofs.Choices.{if_true, if_false}
 use Rattle.promql_grammar.proofs.Within.{within, within_low, within_high, within_then, within_suc, within_both, within_three}
 use Rattle.promql_grammar.proofs.Levels.{Root, Stops, Follows, follows_right, follows_sign, root_left, root_right, root_sign, root_zero}
 use Rattle.promql_grammar.proofs.PiecesRead.{EndsWord, labels_reads, modifier_reads, in_braces, braces_in_reads, any_braces_reads, postfix_reads}

@@ -1,7 +1,10 @@
 //! Laws of the grammar.
 
-ghost use Rattle.std.specs.Prelude.{◌≡◌};
-ghost use Rattle.promql_grammar.specs.Grammar.{Derivation, IsWellFormed, yield};
+ghost use Rattle.std.specs.Prelude.{◌≡◌, ℕ, ◌≤◌, ◌++◌, [], List, Ok, Err, nat_lt, if◌then◌else◌, length};
+ghost use Rattle.promql_grammar.specs.declared.halt.Halt.TheVariants.{TooDeep};
+ghost use Rattle.promql_grammar.specs.Grammar.{Derivation, IsWellFormed, height, yield};
+ghost use Rattle.promql_grammar.specs.Reading.{expression};
+ghost use Rattle.promql_grammar.specs.Symbols.{Symbol};
 ghost use Rattle.promql_grammar.specs.Symbols.{ids_of_kinds};
 ghost use Rattle.promql_token.specs.Ids.{count_up};
 
@@ -13,4 +16,22 @@ pub fn one_tree()
 /// The table of kinds has a row for each id, in the order of the ids.
 pub fn kinds_by_id()
     ensures { ids_of_kinds ≡ count_up 0 86 }
+{}
+
+/// No derivation is higher than its tokens are many.
+pub fn heights()
+    ensures { (d : Derivation) → height d ≤ length (yield d) }
+{}
+
+/// Reading within a height gives each well formed derivation of that height from its tokens, and no other; a higher one
+/// is too deep, which a list without enough tokens never is.
+pub fn reading()
+    ensures complete { (n : ℕ) (d : Derivation) → IsWellFormed d
+        → expression n 0 (yield d) ≡ (if nat_lt n (height d) then Err TooDeep else Ok (d, [])) }
+    ensures formed { (n : ℕ) (ts rest : List Symbol) (d : Derivation) → expression n 0 ts ≡ Ok (d, rest)
+        → IsWellFormed d }
+    ensures low { (n : ℕ) (ts rest : List Symbol) (d : Derivation) → expression n 0 ts ≡ Ok (d, rest) → height d ≤ n }
+    ensures spells { (n : ℕ) (ts rest : List Symbol) (d : Derivation) → expression n 0 ts ≡ Ok (d, rest)
+        → ts ≡ yield d ++ rest }
+    ensures too_deep { (n : ℕ) (ts : List Symbol) → expression n 0 ts ≡ Err TooDeep → n ≤ length ts }
 {}

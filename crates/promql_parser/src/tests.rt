@@ -1,11 +1,9 @@
 //! Texts with their answers, from docs/GRAMMAR.md.
 
 use crate::parser::{Expr, ParseError, parse};
-use promql_grammar::{Kind, kind_of};
 use promql_text::NumberFault;
-use promql_token::ids::*;
 use promql_token::scan::Lexer;
-use promql_token::{LexFault, LexFaultKind, TokenType};
+use promql_token::{LexFault, LexFaultKind};
 use std::alloc::{AllocError, Global};
 use std::test::Fail;
 
@@ -244,58 +242,6 @@ fn equality(rt: HostRuntime) -> Result<(), Fail> {
     Ok(())
 }
 
-// Each kind with its ids, from docs/GRAMMAR.md.
-#[test]
-fn kinds_of_tokens(rt: HostRuntime) -> Result<(), Fail> {
-    let alloc = rt.alloc();
-    let signs = [
-        (T_NUMBER, Kind::Number),
-        (T_DURATION, Kind::Duration),
-        (T_STRING, Kind::Str),
-        (T_IDENTIFIER, Kind::Name),
-        (T_METRIC_IDENTIFIER, Kind::Name),
-        (T_BY, Kind::By),
-        (T_WITHOUT, Kind::Without),
-        (T_ON, Kind::On),
-        (T_IGNORING, Kind::Ignoring),
-        (T_GROUP_LEFT, Kind::GroupLeft),
-        (T_GROUP_RIGHT, Kind::GroupRight),
-        (T_BOOL, Kind::Bool),
-        (T_OFFSET, Kind::Offset),
-        (T_START, Kind::Start),
-        (T_END, Kind::End),
-        (T_SMOOTHED, Kind::Smoothed),
-        (T_ANCHORED, Kind::Anchored),
-        (T_FILL, Kind::Fill),
-        (T_FILL_LEFT, Kind::FillLeft),
-        (T_FILL_RIGHT, Kind::FillRight),
-        (T_LEFT_PAREN, Kind::LeftParen),
-        (T_RIGHT_PAREN, Kind::RightParen),
-        (T_LEFT_BRACE, Kind::LeftBrace),
-        (T_RIGHT_BRACE, Kind::RightBrace),
-        (T_LEFT_BRACKET, Kind::LeftBracket),
-        (T_RIGHT_BRACKET, Kind::RightBracket),
-        (T_COMMA, Kind::Comma),
-        (T_COLON, Kind::Colon),
-        (T_EQL, Kind::Equal),
-        (T_EQL_REGEX, Kind::EqualRegex),
-        (T_NEQ_REGEX, Kind::NotEqualRegex),
-        (T_AT, Kind::At),
-    ];
-    for id in 0..100u16 {
-        let token = TokenType::new(id);
-        let wanted = match signs.iter().find(|row| row.0 == id) {
-            Some(row) => row.1,
-            None if token.is_aggregator() => Kind::Aggregator(id),
-            None if token.is_operator() => Kind::Operator(id),
-            None => Kind::Other,
-        };
-        let found = format!(in alloc; "{:?}", kind_of(id))?;
-        assert!(rt; found == format!(in alloc; "{wanted:?}")?, "{id}: {found}");
-    }
-    Ok(())
-}
-
 #[test]
 fn messages(rt: HostRuntime) -> Result<(), Fail> {
     let alloc = rt.alloc();
@@ -316,5 +262,20 @@ fn messages(rt: HostRuntime) -> Result<(), Fail> {
         let found = format!(in alloc; "{error}")?;
         assert_eq!(rt; found.as_str(), *want);
     }
+    Ok(())
+}
+
+// The example of the README.
+fn canonical(alloc: Global, query: &str) -> Result<String, ParseError> {
+    let expr: Expr = parse(alloc, query)?;
+    Ok(format!(in alloc; "{expr}")?)
+}
+
+#[test]
+fn the_example_of_the_readme(rt: HostRuntime) -> Result<(), Fail> {
+    let alloc = rt.alloc();
+    let line = canonical(alloc, "1+(foo-2)")?;
+    assert_eq!(rt; line.as_str(), "1 + (foo - 2)");
+    assert!(rt; canonical(alloc, "1 +") == Err(ParseError::Syntax));
     Ok(())
 }

@@ -1,5 +1,4 @@
 use Rattle.promql_grammar.proofs.Unique.{one_derivation}
-use Rattle.promql_grammar.proofs.Sound.{expression_sound}
 use Rattle.promql_grammar.proofs.laws.one_tree.Goals as goal
 
 pub returns : goal.returns
