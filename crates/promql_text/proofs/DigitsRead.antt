@@ -9,7 +9,8 @@ use Rattle.std.proofs.lemmas.Int.Digits.{digits_value_push, digits_value-lt}
 use Rattle.std.proofs.lemmas.List.{take_all, take-append-le, take-append-drop, drop-append-le, drop_all}
 use Rattle.std.proofs.Math.Nat.{pow-suc}
 use Rattle.promql_text.specs.Texts.{Text}
-use Rattle.promql_text.specs.Durations.{capped, rounded, nearest}
+use Rattle.promql_text.specs.Durations.{rounded, nearest}
+use Rattle.promql_text.specs.DurationReaders.{capped}
 use Rattle.promql_text.specs.Rounding.{at_point, Compares, IsTail, ComparesHalf, HasRead}
 use Rattle.promql_text.specs.declared.seconds.Digits.{Digits}
 use Rattle.promql_text.specs.declared.seconds.Tail.{Tail}

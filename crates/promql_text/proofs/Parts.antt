@@ -9,7 +9,8 @@ use Rattle.std.proofs.lemmas.Bool.{cond-true, cond-false, cases_lt, cases_Bool, 
 use Rattle.std.proofs.lemmas.Nat.{mul-le}
 use Rattle.promql_text.specs.Texts.{Text}
 use Rattle.promql_text.specs.DecimalForm.{front, digit_run, past_run, Signed, decimal_form}
-use Rattle.promql_text.specs.Durations.{capped, is_no_digit, word_run, past_word, word_of, nanos_of, begins_part, parts_nanos, seek, in_range, of_parts, of_form, duration_of}
+use Rattle.promql_text.specs.Durations.{is_no_digit, word_run, past_word, word_of, nanos_of, begins_part, parts_nanos, in_range, of_parts, of_form, duration_of}
+use Rattle.promql_text.specs.DurationReaders.{capped, seek}
 use Rattle.promql_text.specs.declared.duration.Unit.{Unit}
 use Rattle.promql_text.specs.declared.duration.Unit.TheVariants.{Year, Week, Day, Hour, Minute, Second, Milli}
 use Rattle.promql_text.specs.declared.duration.DurationFault.TheVariants.{Empty, Invalid, Overflow}

@@ -7,7 +7,8 @@ use Rattle.std.proofs.lemmas.Int.Digits.{digits_value-lt}
 use Rattle.std.proofs.lemmas.Nat.{mul-le, pow-add}
 use Rattle.promql_text.specs.Texts.{Text}
 use Rattle.promql_text.specs.DecimalForm.{Numeral, digits_number, places, exponent_size}
-use Rattle.promql_text.specs.Durations.{capped, second_nanos}
+use Rattle.promql_text.specs.Durations.{second_nanos}
+use Rattle.promql_text.specs.DurationReaders.{capped}
 use Rattle.promql_text.specs.Rounding.{at_point, PlacesPoint}
 use Rattle.promql_text.proofs.Rounding.{nearest_none, nearest-at_point, ten_positive, ten_split, capped_zeros}
 

@@ -7,7 +7,8 @@ use Rattle.std.proofs.lemmas.Bool.{cond-true, cond-false, cases_lt, cases_order,
 use Rattle.std.proofs.lemmas.Nat.{mul-le, div-mul-add, mod-mul-add, pow-add}
 use Rattle.std.proofs.Math.Nat.{pow-suc, one-le-pow, div-add-mod}
 use Rattle.promql_text.specs.Texts.{Text}
-use Rattle.promql_text.specs.Durations.{capped, rounded, nearest}
+use Rattle.promql_text.specs.Durations.{rounded, nearest}
+use Rattle.promql_text.specs.DurationReaders.{capped}
 use Rattle.promql_text.specs.Rounding.{at_point}
 
 -- ---- three ways to round

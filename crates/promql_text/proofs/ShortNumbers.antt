@@ -1,5 +1,5 @@
--- The number of a text of digits that doesn't begin with 0.
-use Rattle.std.proofs.Common.{◌≡◌, ◌≢◌, ℕ, zero, suc, ◌+◌, ◌*◌, ◌/◌, ◌%◌, ◌^◌, ◌<◌, ◌≤◌, true, false, [], ◌∷◌, length, refl, sym, ap, ◌∙◌, subst, Result, Ok, Err, Option, ⊎_elim, arith, append-nil}
+-- The number of a text of digits that doesn't begin with 0, and the seconds of a duration.
+use Rattle.std.proofs.Common.{◌≡◌, ◌≢◌, ℕ, zero, suc, ◌+◌, ◌-◌, ◌*◌, ◌/◌, ◌%◌, ◌^◌, ◌<◌, ◌≤◌, true, false, [], ◌∷◌, length, refl, sym, ap, ◌∙◌, subst, Result, Ok, Err, Option, ⊎_elim, arith, append-nil}
 use Rattle.std.specs.Prelude.{IfSome}
 use Rattle.std.specs.Result.{result_ok}
 use Rattle.std.specs.Char.{digit_value, is_ascii_digit}
@@ -11,13 +11,13 @@ use Rattle.std.proofs.lemmas.Bool.{cases_lt}
 use Rattle.promql_text.specs.Texts.{Text}
 use Rattle.promql_text.specs.DecimalForm.{front}
 use Rattle.promql_text.specs.NumberText.{read_number}
-use Rattle.promql_text.specs.Numbers.{Exact, IsExact, whole}
+use Rattle.promql_text.specs.Numbers.{Exact, IsExact, seconds_of, whole}
 use Rattle.promql_text.specs.declared.number.Number.TheVariants as number
-use Rattle.promql_text.proofs.Exacts.{whole_is, whole_value}
+use Rattle.promql_text.proofs.Exacts.{seconds_value, whole_is, whole_value}
 use Rattle.promql_text.proofs.Plain.{plain_digits}
 use Rattle.promql_text.proofs.ReadsBack.{finite_is, not_octal, number_signed}
 use Rattle.promql_text.proofs.Runs.{front_digit}
-use Rattle.promql_text.proofs.Tens.{times_one, times_ten, value_after_ge}
+use Rattle.promql_text.proofs.Tens.{times_both, times_one, times_ten, value_after_ge}
 use Rattle.promql_text.proofs.TextForms.{plain_numeral, reading_digits}
 
 -- a number above zero is a number that doesn't end in 0, with zeros after it
@@ -83,3 +83,25 @@ parsed_some {E = E} t u r o same leads parses is = subst (λ (x : Option ℕ). I
     by_result : (x : Result ℕ E) → ParsesUnsigned 64 10 t x → IfSome (result_ok x) (λ n. read_number t ≡ Ok (number.Finite (whole false n)))
     by_result (Ok n) read = parsed_number {E = E} t (Ok n) n (subst (λ w. 48 < front w) same leads) read refl
     by_result (Err e) read = tt
+
+-- the seconds of so many nanoseconds have their value
+pub seconds_exact : (n : ℕ) → n < 2 ^ 64 * 1_000_000_000 → (seconds_of n).digits * 10 ^ ((seconds_of n).zeros + 9) ≡ n * 10 ^ (seconds_of n).places
+seconds_exact zero less = refl
+seconds_exact (suc k) less =
+    let n : ℕ = suc k in
+    let parts = zeroless 29 n (omega arith) (omega arith) in
+    let a : ℕ = parts.digits in
+    let z : ℕ = parts.zeros in
+    let above : 0 < a = (let ends = parts.ends in omega (arith, ends)) in
+    let P : Exact → Type 0 = λ d. d.digits * 10 ^ (d.zeros + 9) ≡ n * 10 ^ d.places in
+    let exact : a * 10 ^ ((z - 9) + 9) ≡ n * 10 ^ (9 - z) =
+    ⊎_elim
+    (λ (many : 9 < z).
+    let up : (z - 9) + 9 ≡ z = omega arith in
+    let down : 9 - z ≡ 0 = omega arith in
+    ap (λ k. a * 10 ^ k) up ∙ parts.is ∙ sym (ap (λ k. n * 10 ^ k) down ∙ times_one n))
+    (λ (few : z ≤ 9).
+    let up : (z - 9) + 9 ≡ z + (9 - z) = omega arith in
+    ap (λ k. a * 10 ^ k) up ∙ times_both a z (9 - z) ∙ ap (λ m. m * 10 ^ (9 - z)) parts.is)
+    (cases_lt 9 z) in
+    subst P (seconds_value a z n parts.is above parts.ends less) exact

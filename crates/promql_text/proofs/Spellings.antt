@@ -7,7 +7,8 @@ use Rattle.std.proofs.lemmas.Grind.{common_steps}
 use Rattle.std.proofs.lemmas.Str.{encode_ascii}
 use Rattle.std.proofs.str.Laws.{order}
 use Rattle.promql_text.specs.Texts.{Text}
-use Rattle.promql_text.specs.Quoting.{is_quote, letter, escape, spelling, inside, ReadsDigits, ReadsEscape, ReadsSpelling}
+use Rattle.promql_text.specs.Quoting.{is_quote, letter, escape, spelling, inside}
+use Rattle.promql_text.specs.QuoteReaders.{ReadsDigits, ReadsEscape, ReadsSpelling}
 use Rattle.promql_text.proofs.Quotes.{bytes_high, escape-letter, escape-other, quote_low}
 
 -- ---- escapes

@@ -1,10 +1,9 @@
 -- The duration of a text, as a whole number of nanoseconds: docs/TEXTS.md, "Durations".
-use Rattle.std.specs.Prelude.{◌≡◌, ℕ, ◌+◌, ◌-◌, ◌*◌, ◌/◌, ◌%◌, ◌^◌, ◌<◌, min, Bool, true, false, not, if◌then◌else◌, ◌==◌, ◌&&◌, nat_lt, List, [], ◌∷◌, length, take, drop, codes, Option, Some, None, option_map, Result, Ok, Err}
+use Rattle.std.specs.Prelude.{◌≡◌, ℕ, ◌+◌, ◌*◌, ◌/◌, ◌%◌, ◌^◌, Bool, not, if◌then◌else◌, ◌==◌, ◌&&◌, nat_lt, List, [], ◌∷◌, length, take, drop, codes, Option, Some, None, option_map, Result, Ok, Err}
 use Rattle.std.specs.Char.{is_ascii_digit}
 use Rattle.std.specs.List.{prefix_len}
 use Rattle.std.specs.Str.{bytes_eq}
 use Rattle.std.specs.Str.Parse.{digits_value}
-use Rattle.std.proofs.Common.{Bor}
 use Rattle.std.specs.Duration.{as_nanos}
 use Rattle.std.specs.declared.time.Duration.{Duration}
 use Rattle.promql_text.specs.Texts.{Text}
@@ -100,28 +99,3 @@ duration_of s = if length s == 0 then Err fault.Empty else of_form (decimal_form
 abbrev pub GivesDuration : Result Duration DurationFault → Result ℕ DurationFault → Type 0
 GivesDuration (Ok d) said = said ≡ Ok (as_nanos d)
 GivesDuration (Err f) said = said ≡ Err f
-
--- what saturating arithmetic leaves of a number
-abbrev pub capped : ℕ → ℕ
-capped n = min n (2 ^ 128 - 1)
-
--- a reader of digits, which gives their number, capped, with the rest
-abbrev pub ReadsCount : Text → Option (ℕ × Bor Text) → Type 0
-ReadsCount s None = is_ascii_digit (front s) ≡ false
-ReadsCount s (Some r) = (is_ascii_digit (front s) ≡ true) × (r.0 ≡ capped (digits_value 10 (digit_run s))) × (r.1.now ≡ past_run s)
-
--- the first of the units with a word, and the units after it
-abbrev pub seek : List Unit → Text → Option (Unit × List Unit)
-seek [] w = None
-seek (u ∷ us) w = if bytes_eq w (word_of u) then Some (u, us) else seek us w
-
-abbrev pub FindsUnit : List Unit → Text → Option (Unit × Bor (List Unit)) → Type 0
-FindsUnit us w None = seek us w ≡ None
-FindsUnit us w (Some r) = seek us w ≡ Some (r.0, r.1.now)
-
--- a reader of a part in one of the units: its nanoseconds, capped, the units after its own, and the rest
-abbrev pub TakesPart : List Unit → Text → Option (ℕ × Bor (List Unit) × Bor Text) → Type 0
-TakesPart us s None = parts_nanos us s ≡ None
-TakesPart us s (Some r) =
-    ((total : ℕ) → option_map (λ n. capped (capped (total + r.0) + n)) (parts_nanos r.1.now r.2.now) ≡ option_map (λ n. capped (total + n)) (parts_nanos us s))
-    × (length r.2.now < length s)

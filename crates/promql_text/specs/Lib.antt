@@ -1,6 +1,7 @@
 pub mod Bytes
 pub mod DecimalForm
 pub mod DecimalParts
+pub mod DurationReaders
 pub mod DurationText
 pub mod Durations
 pub mod Equalities
@@ -8,6 +9,7 @@ pub mod Millis
 pub mod NumberDigits
 pub mod NumberText
 pub mod Numbers
+pub mod QuoteReaders
 pub mod QuotedBytes
 pub mod Quoting
 pub mod Rounding

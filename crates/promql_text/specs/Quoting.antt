@@ -1,5 +1,5 @@
 -- Quoted texts, in bytes of UTF-8: docs/TEXTS.md, "Strings".
-use Rattle.std.specs.Prelude.{◌≡◌, ℕ, zero, suc, true, ◌+◌, ◌-◌, ◌*◌, Bool, if◌then◌else◌, ◌==◌, ◌||◌, nat_lt, nat_le, [], ◌∷◌, ◌++◌, length, drop, Option, Some, None, option_and_then, option_map, Result, Ok, Err}
+use Rattle.std.specs.Prelude.{◌≡◌, ℕ, zero, suc, ◌+◌, ◌-◌, ◌*◌, Bool, if◌then◌else◌, ◌==◌, ◌||◌, nat_lt, nat_le, [], ◌∷◌, ◌++◌, length, Option, Some, None, option_and_then, option_map, Result, Ok, Err}
 use Rattle.std.specs.Char.{encode_utf8, digit_value}
 use lib.Utf8.{scalar}
 use Rattle.promql_text.specs.Texts.{Text}
@@ -95,27 +95,3 @@ abbrev pub Unquotes : {X : Type 0} → (X → Text) → Result X QuoteError → 
 Unquotes view (Ok x) said = said ≡ Some (view x)
 Unquotes view (Err errors.Memory) said = Unit {0}
 Unquotes view (Err errors.InvalidSyntax) said = said ≡ None
-
--- a reader of digits, of an escape and of a spelling, which moves from the text `old` on to `new`
-
-abbrev pub ReadsNumber : ℕ → ℕ → ℕ → Text → Option ℕ → Text → Type 0
-ReadsNumber base n start old None new = number base n start old ≡ None
-ReadsNumber base n start old (Some c) new = (number base n start old ≡ Some c) × (new ≡ drop n old)
-
--- a reader of the n digits by which the escape `said` ends
-abbrev pub ReadsDigits : Option (ℕ × ℕ) → ℕ → Text → Option ℕ → Text → Type 0
-ReadsDigits said n old None new = said ≡ None
-ReadsDigits said n old (Some c) new = (said ≡ Some (c, n + 1)) × (new ≡ drop n old)
-
-abbrev pub ReadsEscape : ℕ → Text → Option ℕ → Text → Type 0
-ReadsEscape quote old None new = escape quote old ≡ None
-ReadsEscape quote old (Some c) new = (len : ℕ) × (escape quote old ≡ Some (c, len)) × (new ≡ drop len old)
-
-abbrev pub ReadsSpelling : ℕ → Text → Option ℕ → Text → Type 0
-ReadsSpelling quote old None new = inside quote 0 old ≡ None
-ReadsSpelling quote old (Some c) new = inside quote 0 old ≡ option_map (λ more. encode_utf8 c ++ more) (inside quote 0 new)
-
--- a reader of the quote that a quoted text begins with
-abbrev pub ReadsQuote : Text → Option ℕ → Text → Type 0
-ReadsQuote old None new = unquoted_text old ≡ None
-ReadsQuote old (Some quote) new = (is_quote quote ≡ true) × (unquoted_text old ≡ inside quote 0 new)

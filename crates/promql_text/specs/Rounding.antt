@@ -1,9 +1,11 @@
--- Digits that are read one by one and rounded at a point among or after them.
+-- Digits that are read one by one and rounded at a point among or after them
+-- (private: nothing rests on believing it).
 use Rattle.std.specs.Prelude.{◌≡◌, ℕ, ◌+◌, ◌-◌, ◌*◌, ◌^◌, ◌<◌, if◌then◌else◌, nat_le, length, take, drop, true, false, Option, Some, None}
 use Rattle.std.specs.Str.Parse.{digits_value}
 use Rattle.promql_text.specs.Texts.{Text}
 use Rattle.promql_text.specs.DecimalForm.{Numeral, exponent_size}
-use Rattle.promql_text.specs.Durations.{capped, nearest}
+use Rattle.promql_text.specs.Durations.{nearest}
+use Rattle.promql_text.specs.DurationReaders.{capped}
 use Rattle.promql_text.specs.declared.seconds.Digits.{Digits}
 use Rattle.promql_text.specs.declared.seconds.Tail.{Tail}
 use Rattle.promql_text.specs.declared.seconds.Tail.TheVariants.{Empty, Below, Half, Above}

@@ -1,4 +1,5 @@
--- The digits of a number from the first one on, as far as they were read (docs/TEXTS.md, "Numbers").
+-- The digits of a number from the first one on, as far as they were read
+-- (private: nothing rests on believing it).
 use Rattle.std.specs.Prelude.{◌≡◌, ◌≢◌, ℕ, ◌*◌, ◌^◌, ◌%◌, ◌≤◌, ◌<◌, true, false, Option, MatchOption}
 use Rattle.std.specs.Char.{digit_value, is_ascii_digit}
 

@@ -4,6 +4,7 @@ ghost use Rattle.std.specs.Prelude.{◌≡◌, ◌<◌, ◌≤◌, length, optio
 ghost use Rattle.std.specs.Duration.{as_nanos};
 ghost use Rattle.std.specs.List.{prefix_len};
 ghost use Rattle.promql_text.specs.DecimalParts.{reading_of};
+ghost use Rattle.promql_text.specs.DurationReaders as readers;
 ghost use Rattle.promql_text.specs.Durations as spec;
 
 use crate::decimal_form::{DecimalForm, Reading, decimal_form, front, past_run};
@@ -87,7 +88,7 @@ impl Unit {
 /// The whole number of the digits at the start of a text, or `u128::MAX` where it is greater, and
 /// what follows them.
 fn count(text: &[u8]) -> Option<(u128, &[u8])>
-    ensures { spec.ReadsCount text.now result }
+    ensures { readers.ReadsCount text.now result }
 {
     if front(text).is_ascii_digit() {
         Some((number(text), past_run(text)))
@@ -111,7 +112,7 @@ fn word_len(text: &[u8]) -> usize
 
 /// The first of the units that has this word, and the units after it.
 fn find<'a>(units: &'a [Unit], word: &[u8]) -> Option<(Unit, &'a [Unit])>
-    ensures { spec.FindsUnit units.now word.now result }
+    ensures { readers.FindsUnit units.now word.now result }
 {
     let mut rest = units;
     while let [unit, later @ ..] = rest {
@@ -127,7 +128,7 @@ fn find<'a>(units: &'a [Unit], word: &[u8]) -> Option<(Unit, &'a [Unit])>
 /// after its own, and what follows it.
 fn part<'a, 'b>(units: &'a [Unit], text: &'b [u8]) -> Option<(u128, &'a [Unit], &'b [u8])>
     requires { 0 < length text.now }
-    ensures { spec.TakesPart units.now text.now result }
+    ensures { readers.TakesPart units.now text.now result }
 {
     let (count, more) = count(text)?;
     let (word, more) = more.split_at(word_len(more));
@@ -137,7 +138,7 @@ fn part<'a, 'b>(units: &'a [Unit], text: &'b [u8]) -> Option<(u128, &'a [Unit], 
 
 /// The nanoseconds of a text of parts, or `u128::MAX` where there are more.
 fn parts(text: &[u8]) -> Option<u128>
-    ensures { result ≡ option_map spec.capped (spec.parts_nanos spec.units text.now) }
+    ensures { result ≡ option_map readers.capped (spec.parts_nanos spec.units text.now) }
 {
     let mut units: &[Unit] = &UNITS;
     let mut rest = text;

@@ -1,6 +1,6 @@
 //! Laws on the definitions alone. Each is the contract of a function that does nothing.
 
-ghost use Rattle.std.specs.Prelude.{◌≡◌, ℕ, ◌*◌, ◌^◌, ◌<◌, List, Ok, Some, encode_utf8_all};
+ghost use Rattle.std.specs.Prelude.{◌≡◌, ℕ, ◌+◌, ◌*◌, ◌^◌, ◌<◌, List, Ok, Some, encode_utf8_all};
 ghost use Rattle.std.specs.Str.{IsUtf8};
 ghost use Rattle.promql_text.specs.Durations.{duration_of};
 ghost use Rattle.promql_text.specs.DurationText.{duration_text};
@@ -8,7 +8,7 @@ ghost use Rattle.promql_text.specs.Quoting as quoting;
 ghost use Rattle.promql_text.specs.Spellings.{IsQuotedText};
 ghost use Rattle.promql_text.specs.NumberText.{read_number, number_text};
 ghost use Rattle.promql_text.specs.Texts.{Text};
-ghost use Rattle.promql_text.specs.Numbers.{Exact, IsExact};
+ghost use Rattle.promql_text.specs.Numbers.{Exact, IsExact, seconds_of};
 ghost use Rattle.promql_text.specs.Spelling.{NumeralsAreSpelled};
 ghost use Rattle.promql_text.specs.Values.{IsNumber, SameValue, neg};
 ghost use Rattle.promql_text.specs.Equalities.{HashesAlike, IsSameBy};
@@ -61,6 +61,13 @@ pub fn negated_numbers_are_numbers()
 /// Finite numbers of one value are one number.
 pub fn equal_values_are_one()
     ensures { (v w : Exact) → IsExact v → IsExact w → SameValue v w → v ≡ w }
+{}
+
+/// The seconds of so many nanoseconds are exact: 10^9 times their value is that number.
+pub fn seconds_are_exact()
+    ensures { (n : ℕ) → n < 2 ^ 64 * 1_000_000_000
+        → (seconds_of n).digits * 10 ^ ((seconds_of n).zeros + 9)
+        ≡ n * 10 ^ (seconds_of n).places }
 {}
 
 /// A text is a numeral exactly if it is spelled as one: digits, a point or none, digits, an

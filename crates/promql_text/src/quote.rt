@@ -4,7 +4,8 @@ ghost use Rattle.std.specs.Prelude.{◌≡◌, ◌≢◌, ◌∷◌, [], ◌++�
 ghost use Rattle.std.specs.Char.{encode_utf8};
 ghost use Rattle.std.specs.String.{string_bytes};
 ghost use Rattle.std.specs.Str.Iter.{chars_rest};
-ghost use Rattle.promql_text.specs.Quoting.{escaped_text, escaped_byte, hexadecimal, is_quote, letter, octal, ReadsDigits, ReadsEscape, ReadsNumber, ReadsQuote, ReadsSpelling, unquoted_text, Unquotes};
+ghost use Rattle.promql_text.specs.Quoting.{escaped_text, escaped_byte, hexadecimal, is_quote, letter, octal, unquoted_text, Unquotes};
+ghost use Rattle.promql_text.specs.QuoteReaders.{ReadsDigits, ReadsEscape, ReadsNumber, ReadsQuote, ReadsSpelling};
 
 use std::alloc::{AllocError, Global};
 use std::str::Chars;

@@ -7,7 +7,8 @@ ghost use Rattle.std.specs.Str.Parse.{AllDigits, digits_value};
 ghost use Rattle.promql_text.specs.Texts.{Text};
 ghost use Rattle.promql_text.specs.DecimalForm.{digit_run};
 ghost use Rattle.promql_text.specs.DecimalParts.{numeral_of};
-ghost use Rattle.promql_text.specs.Durations.{capped, second_nanos};
+ghost use Rattle.promql_text.specs.Durations.{second_nanos};
+ghost use Rattle.promql_text.specs.DurationReaders.{capped};
 ghost use Rattle.promql_text.specs.Rounding.{at_point, Compares, ComparesHalf, HasRead, PlacesPoint};
 
 use crate::decimal_form::Numeral;

@@ -3,7 +3,7 @@
 ghost use Rattle.std.specs.Prelude.{◌≡◌, ℕ, ◌+◌, ◌*◌, ◌^◌, ◌%◌, ◌<◌, ◌≤◌, true, false, length, Option, Some, None, MatchOption, IfSome, SomeIff};
 ghost use Rattle.std.specs.Str.Parse.{digits_value, digits_value_after};
 ghost use Rattle.promql_text.specs.DecimalForm.{digit_run};
-ghost use Rattle.promql_text.specs.Durations.{capped};
+ghost use Rattle.promql_text.specs.DurationReaders.{capped};
 ghost use Rattle.promql_text.specs.Significands.{IsLong, ReadsDigit};
 
 use crate::decimal_form::Source;

@@ -47,7 +47,7 @@ fn what_is_no_pattern_is_refused(rt: HostRuntime) {
 }
 
 // The three reads below are also run by hand with each of their allocations failing in turn:
-// `rt try --test --fail-alloc N`, N from 1 to 210.
+// `rt try --test --fail-alloc N`, N from 1 to 140.
 
 fn is_built_as(rt: &impl Abort, alloc: Global, value: &str, want: &str) {
     match Pattern::read(alloc, value) {

@@ -1,5 +1,5 @@
 use Rattle.std.proofs.Common.{◌≡◌, length}
-use Rattle.promql_text.specs.Durations.{seek}
+use Rattle.promql_text.specs.DurationReaders.{seek}
 use Rattle.promql_text.proofs.duration.find.Given as goal
 
 abbrev pub invariant-loop-rest : goal.invariant-loop-rest

@@ -3,7 +3,8 @@ use Rattle.std.specs.Prelude.{option_map}
 use Rattle.std.specs.List.{prefix_len}
 use Rattle.promql_text.specs.Texts.{Text}
 use Rattle.promql_text.specs.DecimalForm.{past_run}
-use Rattle.promql_text.specs.Durations.{capped, is_no_digit, nanos_of, parts_nanos, seek, word_run, past_word}
+use Rattle.promql_text.specs.Durations.{is_no_digit, nanos_of, parts_nanos, word_run, past_word}
+use Rattle.promql_text.specs.DurationReaders.{capped, seek}
 use Rattle.promql_text.proofs.Parts.{parts-no_digit, parts-no_unit, takes_part, part_shorter}
 use Rattle.promql_text.proofs.duration.part.Goals as goal
 

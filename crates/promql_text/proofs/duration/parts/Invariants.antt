@@ -1,6 +1,7 @@
 use Rattle.std.proofs.Common.{◌≡◌, ◌+◌, ◌^◌, ◌<◌, length}
 use Rattle.std.specs.Prelude.{option_map}
-use Rattle.promql_text.specs.Durations.{capped, parts_nanos, units}
+use Rattle.promql_text.specs.Durations.{parts_nanos, units}
+use Rattle.promql_text.specs.DurationReaders.{capped}
 use Rattle.promql_text.proofs.duration.parts.Given as goal
 
 -- the total so far, and the nanoseconds of the rest

@@ -3,7 +3,8 @@ use Rattle.std.specs.Char.{encode_utf8}
 use Rattle.std.specs.Str.Iter.{chars_rest}
 use Rattle.std.proofs.lemmas.Str.{encode_ascii}
 use Rattle.promql_text.specs.Texts.{Text}
-use Rattle.promql_text.specs.Quoting.{escape, hexadecimal, octal, ReadsEscape}
+use Rattle.promql_text.specs.Quoting.{escape, hexadecimal, octal}
+use Rattle.promql_text.specs.QuoteReaders.{ReadsEscape}
 use Rattle.promql_text.proofs.Quotes.{escape-none, escape-own, escape-x, escape-u, escape-U, escape-octal, quote_low}
 use Rattle.promql_text.proofs.Spellings.{reads_digits, reads_letter}
 use Rattle.promql_text.proofs.quote.escape.Goals as goal

@@ -1,5 +1,5 @@
 use Rattle.std.proofs.Common.{◌*◌, ◌^◌, ◌∙◌, ap}
-use Rattle.promql_text.specs.Durations.{capped}
+use Rattle.promql_text.specs.DurationReaders.{capped}
 use Rattle.promql_text.proofs.Rounding.{capped_zeros}
 use Rattle.promql_text.proofs.seconds.with_zeros.Goals as goal
 

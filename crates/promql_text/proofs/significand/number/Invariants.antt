@@ -1,7 +1,7 @@
 use Rattle.std.proofs.Common.{◌≡◌, ◌<◌, ◌^◌, length}
 use Rattle.std.specs.Str.Parse.{digits_value_after, digits_value}
 use Rattle.promql_text.specs.DecimalForm.{digit_run}
-use Rattle.promql_text.specs.Durations.{capped}
+use Rattle.promql_text.specs.DurationReaders.{capped}
 use Rattle.promql_text.proofs.significand.number.Given as goal
 
 abbrev pub invariant-loop-c : goal.invariant-loop-c

@@ -1,5 +1,5 @@
 use Rattle.std.proofs.Common.{◌≡◌, ◌+◌, ◌-◌, ◌*◌, refl, arith}
-use Rattle.promql_text.specs.Durations.{capped}
+use Rattle.promql_text.specs.DurationReaders.{capped}
 use Rattle.promql_text.proofs.DigitsRead.{push_before}
 use Rattle.promql_text.proofs.seconds.Digits.push.Goals as goal
 

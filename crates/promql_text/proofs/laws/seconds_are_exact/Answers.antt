@@ -1,0 +1,5 @@
+use Rattle.promql_text.proofs.ShortNumbers.{seconds_exact}
+use Rattle.promql_text.proofs.laws.seconds_are_exact.Goals as goal
+
+pub returns : goal.returns
+returns c = seconds_exact
