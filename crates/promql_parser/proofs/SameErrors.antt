@@ -1,4 +1,4 @@
--- Errors and selectors are equal exactly if their plain data are.
+-- Errors, literals and selectors are equal exactly if their plain data are.
 use Rattle.std.proofs.Common.{◌≡◌, Option, Some, None, String, Global, refl, ap, rules, option_map, string_bytes}
 use Rattle.std.specs.Bool.{Decides}
 use Rattle.std.specs.Option.{option_eq}
@@ -9,10 +9,13 @@ use denote.Enum.Bare.{sameb, same_true, true_same}
 use Rattle.promql_text.specs.Equalities.{IsSameBy}
 use Rattle.promql_text.specs.declared.number.NumberFault.{NumberFault}
 use Rattle.promql_text.specs.contracts.number.NumberFault.{the_type}
+use Rattle.promql_text.specs.contracts.number.NumberPartialEq.TheImpl as numbers
 use Rattle.promql_token.specs.contracts.fault.LexFaultPartialEq.TheImpl as lex_faults
 use Rattle.promql_parser.specs.Tree.{name_of}
 use Rattle.promql_parser.specs.declared.parser.ParseError.TheVariants.{Memory, Lex, Empty, Syntax, TooDeep, Number}
 use Rattle.promql_parser.specs.contracts.parser.ParseErrorPartialEq.TheImpl as errors
+use Rattle.promql_parser.specs.declared.tree.NumberLiteral.{NumberLiteral}
+use Rattle.promql_parser.specs.contracts.tree.NumberLiteralPartialEq.TheImpl as literals
 use Rattle.promql_parser.specs.contracts.tree.VectorSelectorPartialEq.TheImpl as selectors
 
 number_fault_Decides : (a b : NumberFault) → Decides (sameb the_type a b) (a ≡ b)
@@ -34,3 +37,6 @@ names_Decides _ _ = ((λ h. cc), (λ h. cc))
 
 pub selector_Decides : IsSameBy name_of selectors.ghosts.eq
 selector_Decides a b = names_Decides a.name b.name
+
+pub literal_Decides : IsSameBy (λ n. n) numbers.ghosts.eq → IsSameBy (λ e. e) literals.ghosts.eq
+literal_Decides number a b = Decides-like _ (λ same i. record { val = same i }) (λ same. ap (λ (e : NumberLiteral). e.val) same) (number a.val b.val)

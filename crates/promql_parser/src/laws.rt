@@ -7,8 +7,9 @@ ghost use Rattle.promql_parser.specs.Grammar.{Derivation, IsWellFormed, yield};
 ghost use Rattle.promql_parser.specs.Symbols.{ids_of_kinds};
 ghost use Rattle.promql_parser.specs.Tree.{name_of};
 ghost use Rattle.promql_parser.specs.declared.parser.ParseError as errors;
+ghost use Rattle.promql_parser.specs.declared.tree.NumberLiteral as literals;
 
-use crate::parser::{ParseError, VectorSelector};
+use crate::parser::{NumberLiteral, ParseError, VectorSelector};
 
 /// No two well formed derivations spell the same tokens, so a text has one tree.
 pub fn one_tree()
@@ -25,6 +26,13 @@ pub fn equal_errors()
     ensures { IsSameBy (λ (e : errors.ParseError). e) ⟦<ParseError as PartialEq>⟧.eq }
 {
     promql_token::laws::equal_faults();
+}
+
+/// Number literals are equal exactly if they have one number.
+pub fn equal_literals()
+    ensures { IsSameBy (λ (e : literals.NumberLiteral). e) ⟦<NumberLiteral as PartialEq>⟧.eq }
+{
+    promql_text::laws::equal_numbers();
 }
 
 /// Selectors are equal exactly if they have one name, or both none.

@@ -1,8 +1,8 @@
 //! Texts with their answers, from docs/GRAMMAR.md.
 
 use crate::grammar::kind::{Kind, kind_of};
-use crate::parser::{Expr, ParseError, VectorSelector, parse};
-use promql_text::NumberFault;
+use crate::parser::{Expr, NumberLiteral, ParseError, VectorSelector, parse};
+use promql_text::{Number, NumberFault};
 use promql_token::ids::*;
 use promql_token::scan::Lexer;
 use promql_token::{LexFault, LexFaultKind, TokenType};
@@ -241,6 +241,19 @@ fn equality(rt: HostRuntime) -> Result<(), Fail> {
             assert_eq!(rt; *a != *b, i != j, "{i} and {j}");
         }
     }
+    let one = NumberLiteral {
+        val: Number::from_i64(1),
+    };
+    assert!(rt;
+        one == NumberLiteral {
+            val: Number::from_i64(1)
+        }
+    );
+    assert!(rt;
+        one != NumberLiteral {
+            val: Number::from_i64(-1)
+        }
+    );
     let named = |name: &str| -> Result<VectorSelector, AllocError> {
         Ok(VectorSelector {
             name: Some(String::from_str(alloc, name)?),
