@@ -16,7 +16,7 @@ ghost use Rattle.promql_token.specs.declared.lexeme.Lexeme.{Lexeme};
 use crate::token::{Token, TokenType};
 use crate::{fault, lexeme};
 
-/// The cut of a text is what stands at its front, and the cut of what is behind it.
+/// The cut of a text is what it begins with, and the cut of the rest.
 #[tactic(auto, using(crate::proofs::Steps::cut_is))]
 pub fn cuts()
     ensures { spec.Cuts }
@@ -35,7 +35,7 @@ pub fn printed()
     ensures duration { printed.JoinsDuration }
 {}
 
-/// White space before a token changes nothing, but directly behind `[`.
+/// White space before a token changes nothing, but directly after `[`.
 pub fn skips_white()
     ensures white { spec.SkipsWhite }
     ensures end { spec.Ends }
@@ -74,9 +74,11 @@ pub fn equal_faults()
     ensures errors { IsSameBy (λ (e : LexError). e) ⟦<fault::LexError as PartialEq>⟧.eq }
 {}
 
-/// The constants, in the order in which docs/TOKENS.md lists them, are the numbers from 0 on.
+/// The constants, in the order in which docs/TOKENS.md lists them, are the numbers from 0 on, and so
+/// are the ids of the rows of texts.
 pub fn ids_count_up()
-    ensures { ids.constants ≡ ids.count_up 0 86 }
+    ensures constants { ids.constants ≡ ids.count_up 0 86 }
+    ensures texts { ids.ids_of_texts ≡ ids.count_up 0 86 }
 {}
 
 /// What the definition gives for worked texts.
