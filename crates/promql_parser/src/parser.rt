@@ -29,10 +29,11 @@ pub enum ParseError {
     /// The tokens are no expression.
     #[error("invalid promql query")]
     Syntax,
-    /// The tokens are more than `MAX_DEPTH`, their end counted, and no expression that is low enough.
+    /// The tokens are more than `MAX_DEPTH`, their end counted, and no low enough expression.
     #[error("expression nested too deeply")]
     TooDeep,
-    /// A number token is no number that can be held; the first one, where the tokens are an expression.
+    /// A number token has no value that can be held; the first one, where the tokens are an
+    /// expression.
     #[error("{0}")]
     Number(NumberFault),
 }

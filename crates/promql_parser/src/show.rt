@@ -42,7 +42,8 @@ impl fmt::Display for ParenExpr {
 }
 
 impl fmt::Display for BinaryExpr {
-    ghost output = { λ e. Some (line (tree_of e.lhs.value) ++ (codes " " ++ (text_of e.op ++ (codes " " ++ line (tree_of e.rhs.value))))) };
+    ghost output = { λ e. Some (line (tree_of e.lhs.value)
+        ++ (codes " " ++ (text_of e.op ++ (codes " " ++ line (tree_of e.rhs.value))))) };
 
     #[cycle(show)]
     fn fmt<W: fmt::Write>(&self, f: &mut fmt::Formatter<W>) -> fmt::Result {

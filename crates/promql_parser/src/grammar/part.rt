@@ -1,4 +1,4 @@
-//! What was built of a part of the tokens: its tree or first fault, and the height of its derivation.
+//! What was built of a part of the tokens: its tree or first fault, and its derivation's height.
 
 ghost use Rattle.std.specs.Prelude.{◌≡◌, ℕ, ◌+◌, ◌≤◌, max, List, IfOk};
 ghost use Rattle.promql_parser.specs.declared.grammar.kind.Kind as kinds;
@@ -77,7 +77,8 @@ pub fn name_part(alloc: Global, text: &str) -> Result<Part, AllocError>
 
 pub fn paren_part(alloc: Global, inner: Part) -> Result<Part, AllocError>
     requires { inner.height ≤ MAX_DEPTH }
-    ensures built { IfOk result (λ part. (d : Derivation) → IsPart inner d → IsPart part (paren d)) }
+    ensures built { IfOk result (λ part. (d : Derivation)
+        → IsPart inner d → IsPart part (paren d)) }
     ensures low { IfOk result (λ part. part.height ≡ inner.height + 1) }
 {
     let Part { value, height } = inner;
