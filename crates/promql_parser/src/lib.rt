@@ -1,4 +1,9 @@
-// Reads PromQL into a tree, and prints the tree again.
+//! Reads PromQL into a tree, and prints the tree again. docs/GRAMMAR.md has the rules.
+//!
+//! ```
+//! let expr = promql_parser::parser::parse(rt.alloc(), "1-(foo-2)")?;
+//! assert_eq!(rt; format!(in rt.alloc(); "{expr}")?.as_str(), "1 - (foo - 2)");
+//! ```
 #![tactic(auto)]
 
 mod grammar;

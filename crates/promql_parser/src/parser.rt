@@ -17,7 +17,7 @@ pub const MAX_DEPTH: usize = 512;
 /// Why a text has no tree (docs/GRAMMAR.md, "The answer to a text").
 #[derive(Clone, Copy, PartialEq, Eq, Debug, Error)]
 pub enum ParseError {
-    /// A growth was refused.
+    /// An allocation failed.
     #[error("out of memory")]
     Memory,
     /// The text has a lexical fault.
@@ -29,10 +29,11 @@ pub enum ParseError {
     /// The tokens are no expression.
     #[error("invalid promql query")]
     Syntax,
-    /// The tokens are more than 512, their end counted, and no expression of height at most 512.
+    /// The tokens are more than `MAX_DEPTH`, their end counted, and no low enough expression.
     #[error("expression nested too deeply")]
     TooDeep,
-    /// A number token is no number that can be held; the first one, where the tokens are an expression.
+    /// A number token has no value that can be held; the first one, where the tokens are an
+    /// expression.
     #[error("{0}")]
     Number(NumberFault),
 }

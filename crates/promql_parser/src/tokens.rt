@@ -71,7 +71,8 @@ impl<'a> Tokens<'a> {
 /// The next token's kind and text.
 fn draw<'a>(rest: &mut Cursor<'a>) -> Option<(Kind, &'a str)>
     ensures { MatchOption result (tokens_left rest.old ≡ [])
-        (λ x. map symbol_of (tokens_left rest.old) ≡ symbol x.0 x.1.now ∷ map symbol_of (tokens_left rest.new)) }
+        (λ x. map symbol_of (tokens_left rest.old)
+        ≡ symbol x.0 x.1.now ∷ map symbol_of (tokens_left rest.new)) }
 {
     let (id, text) = rest.next()?;
     Some((kind_of(id), text))

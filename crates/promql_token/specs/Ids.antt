@@ -79,3 +79,7 @@ constants =
     T_WITHOUT ∷ T_FILL ∷ T_FILL_LEFT ∷ T_FILL_RIGHT ∷ T_KEYWORDS_END ∷ T_PREPROCESSOR_START ∷ T_START ∷ T_END ∷
     T_STEP ∷ T_PREPROCESSOR_END ∷ T_STARTSYMBOLS_START ∷ T_START_METRIC ∷ T_START_SERIES_DESCRIPTION ∷
     T_START_EXPRESSION ∷ T_START_METRIC_SELECTOR ∷ T_STARTSYMBOLS_END ∷ []
+
+-- the ids of the rows of texts
+abbrev pub ids_of_texts : List ℕ
+ids_of_texts = map (λ row. row.0) TEXTS

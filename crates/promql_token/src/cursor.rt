@@ -82,7 +82,8 @@ impl<'a> Cursor<'a> {
         }
     }
 
-    /// The next token or the fault there. It moves past a token, and stays before the end and a fault.
+    /// The next token, or the fault there. It moves past a token, and stays before the end and
+    /// before a fault.
     pub(crate) fn advance(&mut self) -> Result<Lexeme, LexFault>
         ensures value { result ≡ spec.first self.old.at
             (spec.found self.old.state (drop self.old.at self.old.text.now)) }

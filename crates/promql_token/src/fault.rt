@@ -12,13 +12,13 @@ use std::fmt;
 pub enum LexFaultKind {
     /// A left parenthesis is open at the end.
     UnclosedParen,
-    /// A `~` behind `=`, outside braces.
+    /// A `~` after `=`, outside braces.
     AfterEqual,
-    /// No `=` behind `!`, outside braces.
+    /// No `=` after `!`, outside braces.
     AfterBang,
     /// A `!` is the last character.
     BangAtEnd,
-    /// No digit behind `.`.
+    /// No digit after `.`.
     AfterDot,
     /// A `.` is the last character.
     DotAtEnd,
@@ -38,7 +38,7 @@ pub enum LexFaultKind {
     EscapeAtEnd,
     /// The string's quote doesn't come again.
     OpenString,
-    /// Neither `=` nor `~` behind `!`.
+    /// Neither `=` nor `~` after `!`.
     AfterBangInBraces,
     /// A `{` in braces.
     BraceInBraces,
@@ -48,7 +48,7 @@ pub enum LexFaultKind {
     EndInBraces,
     /// A second `:` in brackets.
     SecondColon,
-    /// A `:` directly behind `[`.
+    /// A `:` directly after `[`.
     FirstColon,
     /// A `[` in brackets.
     BracketInBrackets,
@@ -59,7 +59,7 @@ pub enum LexFaultKind {
 }
 
 impl LexFaultKind {
-    /// What stands before the character in a message, or the whole message.
+    /// What comes before the character in a message, or the whole message.
     fn words(self) -> &'static str
         ensures { result.now ≡ spec.words self }
     {
@@ -90,7 +90,7 @@ impl LexFaultKind {
         }
     }
 
-    /// What stands behind the character.
+    /// What comes after the character.
     fn closing(self) -> &'static str
         ensures { result.now ≡ spec.closing self }
     {
@@ -168,7 +168,7 @@ impl Error for LexFault {}
 /// Why there is no token list.
 #[derive(Debug, Drop, PartialEq, Eq, thiserror::Error)]
 pub enum LexError {
-    /// A growth was refused.
+    /// An allocation failed.
     #[error("out of memory")]
     Memory,
     /// The text's first fault.

@@ -16,26 +16,28 @@ ghost use Rattle.promql_token.specs.declared.lexeme.Lexeme.{Lexeme};
 use crate::token::{Token, TokenType};
 use crate::{fault, lexeme};
 
-/// The cut of a text is what stands at its front, and the cut of what is behind it.
+/// The cut of a text is what it begins with, and the cut of the rest.
 #[tactic(auto, using(crate::proofs::Steps::cut_is))]
 pub fn cuts()
     ensures { spec.Cuts }
 {}
 
-/// A text is cut in one way, told by the tokens before each place, and T_EOF is its last token alone.
+/// A text is cut in one way, told by the tokens before each place, and T_EOF is its last token
+/// alone.
 pub fn told()
     ensures cut { cuts.CutOnce }
     ensures end { cuts.EndsOnce }
 {}
 
-/// Strings, decimal numbers and durations are tokens in front of a text that doesn't go on with them.
+/// Strings, decimal numbers and durations are tokens in front of a text that doesn't go on with
+/// them.
 pub fn printed()
     ensures string { printed.JoinsString }
     ensures number { printed.JoinsNumber }
     ensures duration { printed.JoinsDuration }
 {}
 
-/// White space before a token changes nothing, but directly behind `[`.
+/// White space before a token changes nothing, but directly after `[`.
 pub fn skips_white()
     ensures white { spec.SkipsWhite }
     ensures end { spec.Ends }
@@ -56,7 +58,8 @@ pub fn joins()
     ensures name { spec.JoinsName }
 {}
 
-/// Kinds of tokens are equal exactly if they have one id, and tokens exactly if they have one id and one text.
+/// Kinds of tokens are equal exactly if they have one id, and tokens exactly if they have one id and
+/// one text.
 pub fn equal_tokens()
     ensures kinds { IsSameBy (λ (id : ℕ). id) ⟦<TokenType as PartialEq>⟧.eq }
     ensures tokens { IsSameBy id_and_text ⟦<Token as PartialEq>⟧.eq }
@@ -74,9 +77,11 @@ pub fn equal_faults()
     ensures errors { IsSameBy (λ (e : LexError). e) ⟦<fault::LexError as PartialEq>⟧.eq }
 {}
 
-/// The constants, in the order in which docs/TOKENS.md lists them, are the numbers from 0 on.
+/// The constants, in the order in which docs/TOKENS.md lists them, are the numbers from 0 on, and
+/// so are the ids of the rows of texts.
 pub fn ids_count_up()
-    ensures { ids.constants ≡ ids.count_up 0 86 }
+    ensures constants { ids.constants ≡ ids.count_up 0 86 }
+    ensures texts { ids.ids_of_texts ≡ ids.count_up 0 86 }
 {}
 
 /// What the definition gives for worked texts.

@@ -3,7 +3,7 @@
 use crate::fault::LexFaultKind;
 use crate::ids::TokenId;
 
-/// A token: its id, and where its text stands.
+/// A token: its id, and where its text is.
 #[derive(Clone, Copy, Debug, PartialEq, Eq)]
 pub struct Lexeme {
     pub id: TokenId,

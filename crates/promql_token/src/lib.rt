@@ -1,5 +1,10 @@
 //! The tokens of PromQL: their ids, the tokens that a text is made of, and its lexical faults.
-//! The rules stand in docs/TOKENS.md.
+//! docs/TOKENS.md has the rules.
+//!
+//! ```
+//! let lexemes = promql_token::lexer(rt.alloc(), "sum(up)")?;
+//! assert_eq!(rt; lexemes.len(), 5); // SUM, LEFT_PAREN, IDENTIFIER, RIGHT_PAREN, EOF
+//! ```
 #![tactic(auto)]
 
 ghost use Rattle.promql_token.specs.Lexing as spec;
@@ -27,8 +32,10 @@ mod tests;
 pub mod token;
 mod word;
 
-/// The tokens of a text in order, T_EOF last, or the text's fault. Only want of memory can come in
-/// place of either.
+/// The tokens of a text in order, T_EOF last.
+///
+/// Returns `Fault` where the text has a lexical fault, with its first one, and `Memory` where an
+/// allocation failed (docs/TOKENS.md, "The token list of a text").
 #[tactic(auto, unfolding(crate::specs::Lexing::lex))]
 pub fn lexer(alloc: Global, s: &str) -> Result<Vec<Lexeme>, LexError>
     ensures { spec.Gives (λ v. v.items) result (spec.lex s.now) }

@@ -22,7 +22,7 @@ fn equal(next: u8) -> Piece
     }
 }
 
-// `short` alone, or `long` with an equal sign behind it.
+// `short` alone, or `long` with an equal sign after it.
 fn or_equal(next: u8, long: TokenId, short: TokenId) -> Piece
     ensures { result ≡ spec.or_equal next long short }
 {

@@ -8,7 +8,7 @@ use crate::fault::LexFaultKind;
 use crate::ids::T_STRING;
 use crate::lexeme::Piece;
 
-/// Whether it may stand round a string.
+/// Whether it is a quote of strings.
 pub fn is_quote(b: u8) -> bool
     ensures { result ≡ spec.is_quote b }
 {

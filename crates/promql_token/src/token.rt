@@ -75,7 +75,7 @@ impl TokenType {
         matches!(self.0, T_LAND | T_LOR | T_LUNLESS)
     }
 
-    /// Whether it stands between two expressions.
+    /// Whether it is an operator between two expressions.
     pub fn is_operator(&self) -> bool
         ensures { result ≡ spec.is_operator self.now }
     {

@@ -48,7 +48,8 @@ fn read_first(alloc: Global, room: usize, tokens: &mut Tokens<'_>) -> Result<Par
     }
 }
 
-/// An expression of height at most `room`, whose operators outside are of at least the lowest level.
+/// An expression of height at most `room`, whose operators outside are of at least the lowest
+/// level.
 #[cycle(parser)]
 pub fn read_expression(
     alloc: Global,

@@ -1,4 +1,4 @@
-//! What was built of a part of the tokens: its tree or first fault, and the height of its derivation.
+//! What was built of a part of the tokens: its tree or first fault, and its derivation's height.
 
 ghost use Rattle.std.specs.Prelude.{◌≡◌, true};
 ghost use Rattle.std.specs.Result.{ForOk};
