@@ -43,11 +43,11 @@ cardinality_eq-Decides _ _ = ((λ h. cc), (λ h. cc))
 exact_eq-Decides : (a b : Exact) → Decides (exact_eq a b) (a ≡ b)
 exact_eq-Decides a b =
     Decides-like _
-    (λ same i. record { is_negative = same.0 i; digits = same.1.0 i; zeros = same.1.1.0 i; places = same.1.1.1 i })
-    (λ same. (ap (λ d. d.is_negative) same, (ap (λ d. d.digits) same, (ap (λ d. d.zeros) same, ap (λ d. d.places) same))))
-    (Decides-and _ _ (booleans_Decides a.is_negative b.is_negative)
+    (λ same i. record { is_negative = same.1.1.1 i; digits = same.0 i; zeros = same.1.0 i; places = same.1.1.0 i })
+    (λ same. (ap (λ d. d.digits) same, (ap (λ d. d.zeros) same, (ap (λ d. d.places) same, ap (λ d. d.is_negative) same))))
     (Decides-and _ _ (Decides-eqb a.digits b.digits)
-    (Decides-and _ _ (Decides-eqb a.zeros b.zeros) (Decides-eqb a.places b.places))))
+    (Decides-and _ _ (Decides-eqb a.zeros b.zeros)
+    (Decides-and _ _ (Decides-eqb a.places b.places) (booleans_Decides a.is_negative b.is_negative))))
 
 pub number_eq-Decides : (a b : Number) → Decides (number_eq a b) (a ≡ b)
 number_eq-Decides (Finite a) (Finite b) = Decides-like _ (λ e. ap Finite e) (λ e. cc) (exact_eq-Decides a b)

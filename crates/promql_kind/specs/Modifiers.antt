@@ -89,7 +89,7 @@ has_matching_labels (matching card clause return_bool values) = has_labels claus
 
 abbrev pub exact_eq : Exact → Exact → Bool
 exact_eq a b =
-    beq a.is_negative b.is_negative && (a.digits == b.digits && (a.zeros == b.zeros && a.places == b.places))
+    a.digits == b.digits && (a.zeros == b.zeros && (a.places == b.places && beq a.is_negative b.is_negative))
 
 -- whether two numbers are one; NaN is one with itself
 abbrev pub number_eq : Number → Number → Bool
