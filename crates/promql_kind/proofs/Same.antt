@@ -43,7 +43,7 @@ cardinality_eq-Decides _ _ = ((λ h. cc), (λ h. cc))
 exact_eq-Decides : (a b : Exact) → Decides (exact_eq a b) (a ≡ b)
 exact_eq-Decides a b =
     Decides-like _
-    (λ same i. record { digits = same.0 i; zeros = same.1.0 i; places = same.1.1.0 i; is_negative = same.1.1.1 i })
+    (λ same i. record { is_negative = same.1.1.1 i; digits = same.0 i; zeros = same.1.0 i; places = same.1.1.0 i })
     (λ same. (ap (λ d. d.digits) same, (ap (λ d. d.zeros) same, (ap (λ d. d.places) same, ap (λ d. d.is_negative) same))))
     (Decides-and _ _ (Decides-eqb a.digits b.digits)
     (Decides-and _ _ (Decides-eqb a.zeros b.zeros)
