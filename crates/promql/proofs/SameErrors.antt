@@ -1,16 +1,15 @@
 -- Modes and errors are equal exactly if they are one.
-use Rattle.std.proofs.Common.{◌≡◌, refl, ap, rules}
+use Rattle.std.proofs.Common.{◌≡◌, refl, ap}
 use Rattle.std.proofs.lemmas.Bool.Decides.{Decides-like}
-use denote.Enum.Bare.{same_true, true_same}
 use Rattle.promql_text.specs.Equalities.{IsSameBy}
 use Rattle.promql_parser.specs.contracts.parser.ParseErrorPartialEq.TheImpl as parse_errors
-use Rattle.promql.specs.contracts.run.Mode.{the_type}
 use Rattle.promql.specs.contracts.run.ModePartialEq.TheImpl as modes
 use Rattle.promql.specs.contracts.run.RunErrorPartialEq.TheImpl as errors
+use Rattle.promql.specs.declared.run.Mode.TheVariants.{Line}
 use Rattle.promql.specs.declared.run.RunError.TheVariants.{Memory, Read, NotUtf8, Parse, Write}
 
 pub mode_Decides : IsSameBy (λ m. m) modes.ghosts.eq
-mode_Decides a b = (same_true the_type (search rules) a b, true_same the_type a b)
+mode_Decides Line Line = ((λ _. refl), (λ _. refl))
 
 pub error_Decides : IsSameBy (λ e. e) parse_errors.ghosts.eq → IsSameBy (λ e. e) errors.ghosts.eq
 error_Decides parse Memory Memory = ((λ _. refl), (λ _. refl))
