@@ -1,11 +1,10 @@
 -- Levels, openness, and what may follow a derivation.
-use Rattle.std.proofs.Common.{◌≡◌, ℕ, ◌<◌, ◌≤◌, min, arith, List, [], ◌∷◌}
+use Rattle.std.proofs.Common.{ℕ, ◌≤◌, min, arith, List, ◌∷◌}
 use Rattle.std.specs.Prelude.{◌==◌, ◌||◌}
 use Rattle.std.proofs.lemmas.Bool.{cond_both}
 use Rattle.promql_grammar.specs.declared.kind.Kind.TheVariants as kind
-use Rattle.promql_text.specs.Texts.{Text}
-use Rattle.promql_grammar.specs.Symbols.{Symbol, sign, word}
-use Rattle.promql_parser.specs.Grammar.{Derivation, number, name, paren, binary, level, openness, FitsLeft, FitsRight, IsWellFormed}
+use Rattle.promql_grammar.specs.Symbols.{Symbol, word}
+use Rattle.promql_parser.specs.Grammar.{Derivation, binary, level, FitsLeft, FitsRight, IsWellFormed}
 use Rattle.promql_parser.specs.Front.{Stops}
 use Rattle.promql_parser.specs.Reading.{above}
 

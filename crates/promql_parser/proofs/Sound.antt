@@ -1,5 +1,5 @@
 -- What is read is a well formed derivation of the tokens.
-use Rattle.std.proofs.Common.{◌≡◌, ℕ, zero, suc, ◌+◌, ◌<◌, ◌≤◌, ⊎_elim, Bool, true, false, cond, refl, sym, ◌∙◌, ap, subst, arith, List, [], ◌∷◌, ◌++◌, length, append_assoc, length-append}
+use Rattle.std.proofs.Common.{◌≡◌, ℕ, zero, suc, ◌<◌, ◌≤◌, ⊎_elim, Bool, true, false, cond, refl, sym, ◌∙◌, ap, subst, arith, List, [], ◌∷◌, ◌++◌, length, append_assoc, length-append}
 use Rattle.std.specs.Prelude.{Ok, Err}
 use Rattle.std.proofs.lemmas.Bool.{cases_lt, cond_below, cond_above}
 use Rattle.promql_grammar.specs.declared.kind.Kind.{Kind}
@@ -8,7 +8,7 @@ use Rattle.promql_grammar.specs.declared.halt.Halt.TheVariants.{Syntax, TooDeep}
 use Rattle.promql_grammar.specs.Results.{◌then◌}
 use Rattle.promql_text.specs.Texts.{Text}
 use Rattle.promql_grammar.specs.Symbols.{Symbol, may_be_name, sign, word}
-use Rattle.promql_parser.specs.Grammar.{Derivation, number, name, paren, binary, yield, level, openness, height, IsWellFormed, FitsLeft}
+use Rattle.promql_parser.specs.Grammar.{Derivation, name, paren, binary, yield, level, openness, height, IsWellFormed, FitsLeft}
 use Rattle.promql_parser.specs.Front.{Stops}
 use Rattle.promql_parser.specs.Reading.{above, Read, Reader, closed, first, climb, expression}
 use Rattle.promql_parser.proofs.Levels.{IsAbove, Follows, right_follows, right_above, follows_closed}

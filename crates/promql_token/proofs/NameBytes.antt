@@ -1,5 +1,5 @@
 -- The table of name bytes has the test at each byte.
-use Rattle.std.proofs.Common.{◌≡◌, ℕ, zero, suc, ◌+◌, ◌<◌, Bool, false, List, map, get_or, refl, sym, ap, ◌∙◌, arith}
+use Rattle.std.proofs.Common.{◌≡◌, ℕ, zero, suc, ◌+◌, ◌<◌, Bool, false, map, get_or, refl, ap, ◌∙◌, arith}
 use Rattle.promql_token.specs.declared.class.TheConstants.{NAME_BYTES}
 use Rattle.promql_token.specs.Classes.{is_name_byte}
 use Rattle.promql_token.specs.Ids.{count_up}

@@ -1,7 +1,7 @@
 use Rattle.std.proofs.Common.{◌∙◌, ap}
 use Rattle.std.specs.Prelude.{Ok, Err}
 use Rattle.std.proofs.lemmas.Result.{err_from_is_err_and}
-use Rattle.promql_parser.proofs.AnswerLemmas.{empty_answer, fault_answer, halt_answer, tree_answer, number_answer}
+use Rattle.promql_parser.proofs.AnswerLemmas.{empty_answer, halt_answer, tree_answer, number_answer}
 use Rattle.promql_parser.proofs.Listing.{none_listed, some_list}
 use Rattle.promql_parser.proofs.parser.parse.Goals as goal
 
