@@ -64,7 +64,7 @@ same_option view test both some left right none each (Some a) (Some b) =
     let e = some a b in let d = each a b in
     ((λ h. let same = d.0 (sym e ∙ h) in cc), (λ h. let same = d.1 (cc) in e ∙ same))
 
-number_Decides : IsSameBy (λ n. n) numbers.ghosts.eq
+pub number_Decides : IsSameBy (λ n. n) numbers.ghosts.eq
 number_Decides (Finite a) (Finite b) = number_eq-Decides (Finite a) (Finite b)
 number_Decides Inf Inf = ((λ _. refl), (λ _. refl))
 number_Decides NegInf NegInf = ((λ _. refl), (λ _. refl))

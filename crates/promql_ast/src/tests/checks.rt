@@ -254,9 +254,10 @@ fn operands_are_checked(rt: HostRuntime) -> Result<(), Fail> {
 #[test]
 fn selectors_are_checked(rt: HostRuntime) -> Result<(), Fail> {
     let alloc = rt.alloc();
-    let named = Matchers::one(alloc, equal(alloc, "a", "1")?)?.append_or(equal(
-        alloc, "__name__", "b",
-    )?)?;
+    let named = Matchers::one(alloc, equal(alloc, "a", "1")?)?.append_or(
+        alloc,
+        equal(alloc, "__name__", "b")?,
+    )?;
     let twice = Expr::new_vector_selector(Some(String::from_str(alloc, "foo")?), named);
     assert_eq!(rt;
         checked(alloc, twice)?.as_str(),
