@@ -62,6 +62,11 @@ fault_of (fault.NameTwice name value) = name_twice (string_bytes name) (string_b
 fault_of fault.EmptySelector = empty_selector
 fault_of (fault.Node f) = node f
 
+-- the fault of an error, if memory did not run out
+abbrev pub error_fault : CheckError → Option Fault
+error_fault error.Memory = None
+error_fault (error.Check f) = Some (fault_of f)
+
 -- what a builder or the checks give: a tree, or the first fault
 pub data Verdict : Type 0 where
   passes : Tree → Verdict

@@ -100,7 +100,7 @@ const ROWS: [(&str, &[ValueType], i32, ValueType, bool); 22] = [
 #[test]
 fn each_name_has_its_row(rt: HostRuntime) -> Result<(), Fail> {
     let alloc = rt.alloc();
-    let mut names = 0;
+    let mut names = 0usize;
     for (row, arg_types, variadic, return_type, experimental) in ROWS {
         for name in row.split(' ') {
             let function = get_function(alloc, name)?.expect(&rt, "a function has this name");
@@ -110,7 +110,7 @@ fn each_name_has_its_row(rt: HostRuntime) -> Result<(), Fail> {
             assert!(rt; function.return_type == return_type);
             assert_eq!(rt; function.experimental, experimental);
             assert!(rt; function.try_clone(alloc)? == function);
-            names += 1;
+            names = names.saturating_add(1);
         }
     }
     assert_eq!(rt; names, 89);
