@@ -1,7 +1,7 @@
 -- Levels, openness, and what may follow a derivation.
 use Rattle.std.proofs.Common.{ℕ, ◌≤◌, min, arith, List, ◌∷◌}
 use Rattle.std.specs.Prelude.{◌==◌, ◌||◌}
-use Rattle.std.proofs.lemmas.Bool.{cond_both}
+use Rattle.std.proofs.lemmas.Bool.Decides.{nat_tests}
 use Rattle.promql_grammar.specs.declared.kind.Kind.TheVariants as kind
 use Rattle.promql_grammar.specs.Symbols.{Symbol, word}
 use Rattle.promql_parser.specs.Grammar.{Derivation, binary, level, FitsLeft, FitsRight, IsWellFormed}
@@ -10,7 +10,7 @@ use Rattle.promql_parser.specs.Reading.{above}
 
 -- no level reaches the openness of a closed form
 pub level_low : (op : ℕ) → level op ≤ 6
-level_low op = cond_both (op == 24 || op == 40) _ _ (λ n. n ≤ 6) (λ _. omega arith) (λ _. omega arith)
+level_low op = grind (arith, nat_tests)
 
 -- no operator is outside
 abbrev pub IsBase : Derivation → Type 0
