@@ -4,17 +4,17 @@ use Rattle.std.specs.Prelude.{◌≢◌, Option, Err}
 use Rattle.std.specs.Str.{IsUtf8}
 use Rattle.promql_parser.specs.declared.parser.ParseError.{ParseError}
 use Rattle.promql_parser.specs.declared.parser.ParseError.TheVariants as parse_errors
-use Rattle.promql_parser.specs.Answers.{IsAnswerTo}
+use Rattle.promql_parser.specs.Answers.{IsAnswerTo, refusal_of}
 use Rattle.promql.specs.declared.run.RunError.{RunError}
 use Rattle.promql.specs.declared.run.RunError.TheVariants.{Memory, Parse}
 use Rattle.promql.specs.Running.{HasRead, IsRaised, IsRejected}
 
-pub rejected_of : (e : ParseError) (left left_after : Option (List ℕ)) (input text : List ℕ) → HasRead left left_after input → text ≡ input → IsUtf8 input → IsAnswerTo text (Err e) × (e ≢ parse_errors.Memory) → IsRejected e left left_after
+pub rejected_of : (e : ParseError) (left left_after : Option (List ℕ)) (input text : List ℕ) → HasRead left left_after input → text ≡ input → IsUtf8 input → IsAnswerTo text (Err (refusal_of e)) × (e ≢ parse_errors.Memory) → IsRejected e left left_after
 rejected_of e left left_after input text read same utf8 rejection = record {
   input = input;
   read = read;
   utf8 = utf8;
-  rejected = subst (λ t. IsAnswerTo t (Err e)) same rejection.0;
+  rejected = subst (λ t. IsAnswerTo t (Err (refusal_of e))) same rejection.0;
   own = rejection.1;
 }
 

@@ -7,7 +7,7 @@ use Rattle.promql_parser.specs.declared.parser.ParseError.TheVariants as parse_e
 use Rattle.promql_text.specs.Texts.{Text}
 use Rattle.promql_ast.specs.Text as one_line
 use Rattle.promql_ast.specs.Tree.{Tree}
-use Rattle.promql_parser.specs.Answers.{IsAnswerTo}
+use Rattle.promql_parser.specs.Answers.{IsAnswerTo, Refusal, refusal_of}
 use Rattle.promql.specs.Ended.{AppendsBeginning}
 use Rattle.promql.specs.declared.run.Mode.{Mode}
 use Rattle.promql.specs.declared.run.Mode.TheVariants.{Line}
@@ -70,7 +70,7 @@ pub record IsRejected (e : ParseError) (left left_after : Option (List ℕ)) : T
   pub input : List ℕ
   pub read : HasRead left left_after input
   pub utf8 : IsUtf8 input
-  pub rejected : IsAnswerTo input (Err e)
+  pub rejected : IsAnswerTo input (Err (refusal_of e))
   pub own : e ≢ parse_errors.Memory
 
 -- a write failed: all of the input was read, and a beginning of its line with a line feed was written
@@ -81,6 +81,21 @@ pub record BeginsToPrint (left left_after held held_after : Option (List ℕ)) :
   pub utf8 : IsUtf8 input
   pub is : IsPrinted input printed
   pub begun : AppendsBeginning held held_after printed
+
+-- an error, as plain data
+pub data Failure : Type 0 where
+  memory : Failure
+  read : Failure
+  not_utf8 : Failure
+  parse : Refusal → Failure
+  write : Failure
+
+abbrev pub failure_of : RunError → Failure
+failure_of Memory = memory
+failure_of Read = read
+failure_of NotUtf8 = not_utf8
+failure_of (Parse e) = parse (refusal_of e)
+failure_of Write = write
 
 -- the fact, for each error but a failed read
 abbrev pub UnlessRead : RunError → Type 0 → Type 0

@@ -2,7 +2,7 @@
 
 ghost use Rattle.promql_text.specs.Equalities.{IsSameBy};
 ghost use Rattle.promql.specs.declared.run.Mode as modes;
-ghost use Rattle.promql.specs.declared.run.RunError as errors;
+ghost use Rattle.promql.specs.Running.{failure_of};
 
 use crate::run::{Mode, RunError};
 
@@ -11,9 +11,9 @@ pub fn equal_modes()
     ensures { IsSameBy (λ (m : modes.Mode). m) ⟦<Mode as PartialEq>⟧.eq }
 {}
 
-/// Errors are equal exactly if they are of one kind, with one error of the parser.
+/// Errors are equal exactly if they are of one kind, with the same data.
 pub fn equal_errors()
-    ensures { IsSameBy (λ (e : errors.RunError). e) ⟦<RunError as PartialEq>⟧.eq }
+    ensures { IsSameBy failure_of ⟦<RunError as PartialEq>⟧.eq }
 {
     promql_parser::laws::equal_errors();
 }

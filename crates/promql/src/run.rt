@@ -3,7 +3,7 @@
 ghost use Rattle.std.specs.Prelude.{◌≡◌, ◌≢◌, true, false, Ok, Err, OnOk, IfOk, IfErr, OnErr, IsErrOf, MatchResult, string_bytes};
 ghost use Rattle.std.specs.Io.KnownBytes.{Appends};
 ghost use Rattle.promql_parser.specs.declared.parser.ParseError.{ParseError};
-ghost use Rattle.promql_parser.specs.Answers.{IsAnswerTo};
+ghost use Rattle.promql_parser.specs.Answers.{IsAnswerTo, refusal_of};
 ghost use Rattle.promql.specs.Ended.{AppendsBeginning};
 ghost use Rattle.promql.specs.Running.{HasRead, IsPrinted, Prints, BeginsToPrint, IsNotUtf8, IsRejected, UnlessRead, UnlessWrite, mode_named, error_number, IsReadError, IsAnswerError};
 
@@ -33,7 +33,7 @@ impl Mode {
 }
 
 /// Why a run ended without its answer (docs/PROGRAM.md, "Statuses and messages").
-#[derive(Clone, Copy, PartialEq, Eq, Debug, Error)]
+#[derive(PartialEq, Eq, Debug, Drop, Error)]
 pub enum RunError {
     /// An allocation failed.
     #[error("out of memory")]
@@ -86,7 +86,7 @@ impl From<ParseError> for RunError {
     fn from(error: ParseError) -> RunError {
         match error {
             ParseError::Memory => RunError::Memory,
-            _ => RunError::Parse(error),
+            own => RunError::Parse(own),
         }
     }
 }
@@ -115,7 +115,7 @@ fn read_input<R: Read>(alloc: Global, reader: &mut Ended<R>) -> Result<Vec<u8>, 
 /// The whole answer to a text, with a line feed after it.
 fn answer_text(alloc: Global, mode: Mode, text: &str) -> Result<String, RunError>
     ensures ok { IfOk result (λ answer. IsPrinted text.now (string_bytes answer)) }
-    ensures parse { (e : ParseError) → IsErrOf result (RunError.Parse e) → IsAnswerTo text.now (Err e) × (e ≢ ParseError.Memory) }
+    ensures parse { (e : ParseError) → IsErrOf result (RunError.Parse e) → IsAnswerTo text.now (Err (refusal_of e)) × (e ≢ ParseError.Memory) }
     ensures errors { IfErr result IsAnswerError }
 {
     let expr = parse(alloc, text)?;

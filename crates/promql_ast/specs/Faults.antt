@@ -83,3 +83,9 @@ abbrev pub GivesOrMemory : Result Expr CheckError → Verdict → Type 0
 GivesOrMemory (Ok e) verdict = verdict ≡ passes (tree_of e)
 GivesOrMemory (Err error.Memory) verdict = Unit {0}
 GivesOrMemory (Err (error.Check f)) verdict = verdict ≡ rejected (fault_of f)
+
+-- the result is the verdict, or an allocation failed; a tree that passes is this one
+abbrev pub Settles : {X : Type 0} → Result X CheckError → Verdict → Tree → Type 0
+Settles (Ok x) verdict t = verdict ≡ passes t
+Settles (Err error.Memory) verdict t = Unit {0}
+Settles (Err (error.Check f)) verdict t = verdict ≡ rejected (fault_of f)

@@ -2,6 +2,7 @@
 
 mod builders;
 mod checks;
+mod layout;
 mod memory;
 mod printing;
 

@@ -183,4 +183,20 @@ impl Kind {
             _ => false,
         }
     }
+
+    /// Whether a token of this kind may be a label.
+    pub fn may_be_label(self) -> bool
+        ensures { result ≡ spec.may_be_label self }
+    {
+        match self {
+            Kind::MetricName => false,
+            Kind::Str
+            | Kind::Bool
+            | Kind::On
+            | Kind::Ignoring
+            | Kind::GroupLeft
+            | Kind::GroupRight => true,
+            _ => self.may_be_name(),
+        }
+    }
 }

@@ -90,3 +90,40 @@ fn names(rt: HostRuntime) -> Result<(), Fail> {
     }
     Ok(())
 }
+
+// Which kinds may be labels.
+#[test]
+fn labels(rt: HostRuntime) -> Result<(), Fail> {
+    for id in [
+        T_STRING,
+        T_IDENTIFIER,
+        T_SUM,
+        T_LAND,
+        T_BY,
+        T_OFFSET,
+        T_START,
+        T_SMOOTHED,
+        T_BOOL,
+        T_ON,
+        T_IGNORING,
+        T_GROUP_LEFT,
+        T_GROUP_RIGHT,
+    ] {
+        assert!(rt; kind_of(id).may_be_label(), "{id}");
+    }
+    for id in [
+        T_METRIC_IDENTIFIER,
+        T_NUMBER,
+        T_DURATION,
+        T_ADD,
+        T_AT,
+        T_FILL,
+        T_FILL_LEFT,
+        T_FILL_RIGHT,
+        T_LEFT_PAREN,
+        T_EOF,
+    ] {
+        assert!(rt; !kind_of(id).may_be_label(), "{id}");
+    }
+    Ok(())
+}

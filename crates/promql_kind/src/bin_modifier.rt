@@ -229,7 +229,8 @@ fn write_grouping<W: fmt::Write>(
     card: &VectorMatchCardinality,
     f: &mut fmt::Formatter<W>,
 ) -> fmt::Result
-    ensures { WritesOnOk W.write_str_gives f.old result (grouping_text (cardinality_of card.now)) f.new }
+    ensures { WritesOnOk W.write_str_gives f.old result
+        (grouping_text (cardinality_of card.now)) f.new }
 {
     match card {
         VectorMatchCardinality::OneToOne => Ok(()),
@@ -258,7 +259,8 @@ fn write_fills<W: fmt::Write>(
     rhs: &Option<Number>,
     f: &mut fmt::Formatter<W>,
 ) -> fmt::Result
-    ensures { WritesOnOk W.write_str_gives f.old result (fills_text (spec.fills rhs.now lhs.now)) f.new }
+    ensures { WritesOnOk W.write_str_gives f.old result
+        (fills_text (spec.fills rhs.now lhs.now)) f.new }
 {
     match lhs {
         None => match rhs {
@@ -284,14 +286,15 @@ fn write_fill<W: fmt::Write>(
     number: &Number,
     f: &mut fmt::Formatter<W>,
 ) -> fmt::Result
-    ensures { WritesOnOk W.write_str_gives f.old result (before.now ++ (number_text number.now ++ codes ")")) f.new }
+    ensures { WritesOnOk W.write_str_gives f.old result
+        (before.now ++ (number_text number.now ++ codes ")")) f.new }
 {
     f.write_str(before)?;
     number.fmt(f)?;
     f.write_str(")")
 }
 
-fn is_same_number(a: &Number, b: &Number) -> bool
+pub(crate) fn is_same_number(a: &Number, b: &Number) -> bool
     ensures { result ≡ spec.number_eq a.now b.now }
 {
     *a == *b

@@ -24,7 +24,8 @@ pub enum VectorMatchCardinality {
 impl VectorMatchCardinality {
     /// The labels after `group_left` or `group_right`; None without a grouping.
     pub fn labels(&self) -> Option<&Labels>
-        ensures { option_map (λ labels. labels_of labels.now) result ≡ grouping (cardinality_of self.now) }
+        ensures { option_map (λ labels. labels_of labels.now) result
+            ≡ grouping (cardinality_of self.now) }
     {
         match self {
             VectorMatchCardinality::OneToOne => None,

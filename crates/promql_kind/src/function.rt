@@ -32,7 +32,8 @@ impl Function {
         return_type: ValueType,
         experimental: bool,
     ) -> Function
-        ensures { signature_of result ≡ signature name.now arg_types.items variadic return_type experimental }
+        ensures { signature_of result
+            ≡ signature name.now arg_types.items variadic return_type experimental }
     {
         Function {
             name,
@@ -84,7 +85,8 @@ pub fn get_function(alloc: Global, name: &str) -> Result<Option<Function>, Alloc
 /// The first row of this name.
 fn row_named(rows: &[Row<'static>], name: &str) -> Option<Row<'static>>
     ensures { option_map (λ row. signature row.0.now row.1.now row.2 row.3 row.4) result
-        ≡ find (is_named name.now) (map (λ row. signature row.0.now row.1.now row.2 row.3 row.4) rows.now) }
+        ≡ find (is_named name.now)
+        (map (λ row. signature row.0.now row.1.now row.2 row.3 row.4) rows.now) }
 {
     for row in rows {
         if row.0 == name {

@@ -41,7 +41,8 @@ impl LabelModifier {
     ///
     /// `AllocError` where an allocation failed.
     pub fn include(alloc: Global, labels: Vec<&str>) -> Result<LabelModifier, AllocError>
-        ensures { IfOk result (λ m. clause_of m ≡ including (map (λ label. label.now) labels.entry.items)) }
+        ensures { IfOk result
+            (λ m. clause_of m ≡ including (map (λ label. label.now) labels.entry.items)) }
     {
         Ok(LabelModifier::Include(Labels::new(alloc, labels)?))
     }
@@ -52,7 +53,8 @@ impl LabelModifier {
     ///
     /// `AllocError` where an allocation failed.
     pub fn exclude(alloc: Global, labels: Vec<&str>) -> Result<LabelModifier, AllocError>
-        ensures { IfOk result (λ m. clause_of m ≡ excluding (map (λ label. label.now) labels.entry.items)) }
+        ensures { IfOk result
+            (λ m. clause_of m ≡ excluding (map (λ label. label.now) labels.entry.items)) }
     {
         Ok(LabelModifier::Exclude(Labels::new(alloc, labels)?))
     }

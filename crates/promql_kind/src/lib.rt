@@ -19,3 +19,4 @@ pub mod laws;
 #[cfg(test)]
 mod tests;
 pub mod value;
+mod width;

@@ -11,3 +11,4 @@ pub mod PrintedTexts
 pub mod Reading
 pub mod RepeatPlaces
 pub mod SameMatchers
+pub mod Widths

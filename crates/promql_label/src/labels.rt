@@ -1,6 +1,7 @@
 //! Lists of labels: docs/MATCHERS.md, "Labels".
 
-ghost use Rattle.std.specs.Prelude.{◌≡◌, ◌≢◌, ◌↔◌, ◌++◌, ◌∷◌, [], IfOk, IsTrue, map, string_bytes};
+ghost use Rattle.std.specs.Prelude.{◌≡◌, ◌≢◌, ◌↔◌, ◌++◌, ◌∷◌, ◌&&◌, [], not, IfOk, IsTrue, map, string_bytes};
+ghost use Rattle.promql_token.specs.Classes.{is_label};
 ghost use Rattle.std.specs.List.{list_any};
 ghost use Rattle.promql_label.specs.Labels.{common, is_among, is_number_word, labels_of};
 
@@ -119,12 +120,19 @@ impl fmt::Display for LabelText<'_> {
     ghost output = { λ label. Some (label_text label.0.now) };
 
     fn fmt<W: fmt::Write>(&self, f: &mut fmt::Formatter<W>) -> fmt::Result {
-        if is_label(self.0) && !is_number_word(self.0) {
+        if is_bare(self.0) {
             f.write_str(self.0)
         } else {
             Quoted(self.0).fmt(f)
         }
     }
+}
+
+/// Whether the label prints as it is.
+pub(crate) fn is_bare(label: &str) -> bool
+    ensures { result ≡ (is_label label.now && not (is_number_word label.now)) }
+{
+    is_label(label) && !is_number_word(label)
 }
 
 /// Whether it would be read as a number: `inf` or `nan`, in any case.

@@ -26,6 +26,7 @@ pub mod repeats;
 mod sorted;
 #[cfg(test)]
 mod tests;
+mod width;
 
 /// The label that holds a metric's name.
 pub const METRIC_NAME: &str = "__name__";

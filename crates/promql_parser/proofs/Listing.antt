@@ -77,3 +77,8 @@ some_list (Err e) some = cc
 pub whole_list : (r : Result (List Token) LexFault) (list : List Token) → on_result (filter is_before_end) r ≡ Ok list → (ts : List Token) × (r ≡ Ok ts) × (filter is_before_end ts ≡ list)
 whole_list (Ok ts) list is = (ts, refl, cc)
 whole_list (Err e) list is = cc
+
+-- a text with a lexical fault has none
+pub fault_listed : (r : Result (List Token) LexFault) (f : LexFault) → has_any r ≡ Err f → r ≡ Err f
+fault_listed (Ok ts) f is = cc
+fault_listed (Err e) f is = cc

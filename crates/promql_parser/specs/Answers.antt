@@ -1,20 +1,52 @@
 -- The answer to a text (docs/GRAMMAR.md, "The answer to a text").
-use Rattle.std.specs.Prelude.{◌≡◌, ◌≢◌, ◌↔◌, ◌+◌, ◌<◌, ◌≤◌, List, [], ◌∷◌, length, map, Result, Ok, Err}
-use Rattle.promql_text.specs.declared.number.NumberFault.{NumberFault}
-use Rattle.promql_token.specs.declared.fault.LexFault.{LexFault}
-use Rattle.promql_ast.specs.declared.expr.Expr.{Expr}
-use Rattle.promql_parser.specs.declared.parser.ParseError.{ParseError}
-use Rattle.promql_parser.specs.declared.parser.ParseError.TheVariants.{Memory, Lex, Empty, Syntax, TooDeep, Number}
-use Rattle.promql_parser.specs.declared.parser.TheConstants.{MAX_DEPTH}
-use Rattle.promql_grammar.specs.Results.{on_result}
+use Rattle.std.specs.Prelude.{◌≡◌, ◌≢◌, ◌↔◌, ◌+◌, ◌<◌, ◌≤◌, List, [], ◌∷◌, length, map, Result, Ok, Err, string_bytes}
 use Rattle.promql_text.specs.Texts.{Text}
-use Rattle.promql_parser.specs.Lexing.{Token, tokens}
-use Rattle.promql_ast.specs.Tree.{Tree}
-use Rattle.promql_ast.specs.View.{tree_of}
+use Rattle.promql_token.specs.declared.fault.LexFault.{LexFault}
+use Rattle.promql_label.specs.Answers as regex
+use Rattle.promql_ast.specs.Faults as trees
 use Rattle.promql_ast.specs.Height.{height as tree_height}
+use Rattle.promql_ast.specs.Tree.{Tree}
+use Rattle.promql_ast.specs.Typed.{Typed}
+use Rattle.promql_ast.specs.View.{tree_of}
+use Rattle.promql_ast.specs.declared.expr.Expr.{Expr}
+use Rattle.promql_grammar.specs.Grammar.{Derivation, yield, height, IsWellFormed}
+use Rattle.promql_grammar.specs.Results.{on_result}
 use Rattle.promql_grammar.specs.Symbols.{Symbol, symbol_of}
-use Rattle.promql_parser.specs.Grammar.{Derivation, yield, height, IsWellFormed}
+use Rattle.promql_parser.specs.declared.parser.ParseError.{ParseError}
+use Rattle.promql_parser.specs.declared.parser.ParseError.TheVariants as errors
+use Rattle.promql_parser.specs.declared.parser.TheConstants.{MAX_DEPTH}
+use Rattle.promql_parser.specs.Asking.{Asked, AreAllowed, AreAnswersOf, Ends, under}
 use Rattle.promql_parser.specs.Building.{build}
+use Rattle.promql_parser.specs.Faults.{Fault, number, quoted, duration, at, pattern, unknown_function, check}
+use Rattle.promql_parser.specs.Lexing.{Token, tokens}
+
+-- why a text has no tree, as plain data
+pub data Refusal : Type 0 where
+  memory : Refusal
+  lexical : LexFault → Refusal
+  empty : Refusal
+  syntax : Refusal
+  too_deep : Refusal
+  fault : Fault → Refusal
+
+abbrev pub refusal_of : ParseError → Refusal
+refusal_of errors.Memory = memory
+refusal_of (errors.Lex f) = lexical f
+refusal_of errors.Empty = empty
+refusal_of errors.Syntax = syntax
+refusal_of errors.TooDeep = too_deep
+refusal_of (errors.Number f) = fault (number f)
+refusal_of errors.Quoted = fault quoted
+refusal_of (errors.Duration f) = fault (duration f)
+refusal_of (errors.At f) = fault (at f)
+refusal_of (errors.Pattern value) = fault (pattern (string_bytes value))
+refusal_of (errors.UnknownFunction name) = fault (unknown_function (string_bytes name))
+refusal_of (errors.Check f) = fault (check (trees.fault_of f))
+
+-- the answer of the code, as plain data
+abbrev pub answer_of : Result Expr ParseError → Result Tree Refusal
+answer_of (Ok e) = Ok (tree_of e)
+answer_of (Err e) = Err (refusal_of e)
 
 -- the derivation is well formed, and spells the tokens of the text before its end
 pub record Derives (text : Text) (d : Derivation) : Type 0 where
@@ -35,32 +67,39 @@ pub record BeginsNone (text : Text) : Type 0 where
   pub none : (d : Derivation) (others : List Symbol) → IsWellFormed d → yield d ≢ symbol_of token ∷ others
 
 -- what was built, as an answer
-abbrev pub built_answer : Result Tree NumberFault → Result Tree ParseError
+abbrev pub built_answer : Result Tree Fault → Result Tree Refusal
 built_answer (Ok t) = Ok t
-built_answer (Err fault) = Err (Number fault)
+built_answer (Err f) = Err (fault f)
 
--- a derivation of the text that is low enough builds the answer
-pub record IsBuilt (text : Text) (answer : Result Tree ParseError) : Type 0 where
+-- a derivation of the text that is low enough ends in the result, with these answers of `regex`
+pub record IsBuilt (text : Text) (answers : List Asked) (result : Result Tree Fault) : Type 0 where
   pub derivation : Derivation
   pub derives : Derives text derivation
   pub low : height derivation ≤ MAX_DEPTH
-  pub is : answer ≡ built_answer (build derivation)
+  pub ends : Ends (build derivation) answers result
 
--- what `parse` promises of its answer to a text; only memory running out may come in place of what is built, of
--- Syntax and of TooDeep
-pub record IsAnswerTo (text : Text) (answer : Result Tree ParseError) : Type 0 where
-  -- the answer is right
-  pub tree : (t : Tree) → answer ≡ Ok t → IsBuilt text answer
-  pub number : (fault : NumberFault) → answer ≡ Err (Number fault) → IsBuilt text answer
-  pub syntax : answer ≡ Err Syntax → (d : Derivation) → ¬ (Derives text d)
-  pub too_deep : answer ≡ Err TooDeep → IsLong text × ((d : Derivation) → Derives text d → MAX_DEPTH < height d)
-  -- what is right is answered
-  pub only : (d : Derivation) → Derives text d → height d ≤ MAX_DEPTH → answer ≢ Err Memory → answer ≡ built_answer (build d)
-  pub empty : (answer ≡ Err Empty) ↔ (tokens text ≡ Ok [])
-  pub lexical : (fault : LexFault) → (answer ≡ Err (Lex fault)) ↔ (tokens text ≡ Err fault)
-  pub early : BeginsNone text → answer ≢ Err Memory
+-- what building the derivation ends in, with these answers of `regex`, is the answer
+pub record Builds (d : Derivation) (answers : List Asked) (answer : Result Tree Refusal) : Type 0 where
+  pub result : Result Tree Fault
+  pub ends : Ends (build d) answers result
+  pub is : answer ≡ built_answer result
+
+-- `regex` allows these answers, and with them the answer is what is built: where it is a tree or a fault of building, it
+-- is, and where there is a derivation, nothing else is; as well if each pattern has one answer
+pub record IsServed (text : Text) (answers : List Asked) (answer : Result Tree Refusal) : Type 0 where
+  pub allowed : AreAllowed answers
+  pub built : (result : Result Tree Fault) → answer ≡ built_answer result → IsBuilt text answers result
+  pub only : (d : Derivation) → Derives text d → height d ≤ MAX_DEPTH → Builds d answers answer
+  pub single : (g : Text → regex.Answer) → AreAnswersOf g answers → (d : Derivation) → Derives text d → height d ≤ MAX_DEPTH → answer ≡ built_answer (under g (build d))
+
+-- what `parse` promises of its answer to a text; only memory running out may come in place of what is built, of Syntax
+-- and of TooDeep
+pub record IsAnswerTo (text : Text) (answer : Result Tree Refusal) : Type 0 where
+  pub served : answer ≢ Err memory → (answers : List Asked) × IsServed text answers answer
+  pub syntax : answer ≡ Err syntax → (d : Derivation) → ¬ (Derives text d)
+  pub too_deep : answer ≡ Err too_deep → IsLong text × ((d : Derivation) → Derives text d → MAX_DEPTH < height d)
+  pub empty : (answer ≡ Err empty) ↔ (tokens text ≡ Ok [])
+  pub lexical : (f : LexFault) → (answer ≡ Err (lexical f)) ↔ (tokens text ≡ Err f)
+  pub early : BeginsNone text → answer ≢ Err memory
+  pub typed : (t : Tree) → answer ≡ Ok t → Typed t
   pub low : (t : Tree) → answer ≡ Ok t → tree_height t ≤ MAX_DEPTH
-
--- the answer of the code, with its tree as plain data
-abbrev pub answer_of : Result Expr ParseError → Result Tree ParseError
-answer_of result = on_result tree_of result

@@ -1,8 +1,15 @@
 pub mod Lexing
 pub mod Drawing
-pub mod Grammar
+pub mod Faults
+pub mod Asking
+pub mod PieceBuilding
 pub mod Building
-pub mod Reading
+pub mod IsPiece
+pub mod Pieces
+pub mod Items
+pub mod ModifierParts
+pub mod Postfixes
+pub mod Words
 pub mod Front
 pub mod Parts
 pub mod Wholes

@@ -1,18 +1,30 @@
 -- What reading a whole list of tokens gives. Private: nothing rests on believing it.
 use Rattle.std.specs.Prelude.{◌≡◌, ℕ, ◌+◌, ◌<◌, ◌≤◌, List, length, Result, Ok, Err}
-use Rattle.promql_text.specs.declared.number.NumberFault.{NumberFault}
+use Rattle.promql_ast.specs.Tree.{Tree}
+use Rattle.promql_ast.specs.View.{tree_of}
 use Rattle.promql_ast.specs.declared.expr.Expr.{Expr}
 use Rattle.promql_grammar.specs.declared.halt.Halt.{Halt}
 use Rattle.promql_grammar.specs.declared.halt.Halt.TheVariants.{Memory, Syntax, TooDeep}
-use Rattle.promql_grammar.specs.Results.{on_result}
-use Rattle.promql_ast.specs.View.{tree_of}
+use Rattle.promql_grammar.specs.Grammar.{Derivation, yield, height, IsWellFormed}
 use Rattle.promql_grammar.specs.Symbols.{Symbol}
-use Rattle.promql_parser.specs.Grammar.{Derivation, yield, height, IsWellFormed}
+use Rattle.promql_parser.specs.declared.grammar.fault.Fault as code
 use Rattle.promql_parser.specs.Building.{build}
+use Rattle.promql_parser.specs.Asking.{Asked, AreAllowed, Ends}
+use Rattle.promql_parser.specs.Faults.{Fault, viewed}
+
+-- a derivation of all the tokens, within the height, builds the value
+pub record IsWholeValue (n : ℕ) (ts : List Symbol) (value : Result Tree Fault) : Type 0 where
+  pub derivation : Derivation
+  pub formed : IsWellFormed derivation
+  pub low : height derivation ≤ n
+  pub spells : yield derivation ≡ ts
+  pub answers : List Asked
+  pub allowed : AreAllowed answers
+  pub is : Ends (build derivation) answers value
 
 -- a value was built of a derivation of the tokens within the height, or there is none
-abbrev pub IsWhole : ℕ → List Symbol → Result (Result Expr NumberFault) Halt → Type 0
-IsWhole n ts (Ok value) = (d : Derivation) × IsWellFormed d × (height d ≤ n) × (yield d ≡ ts) × (on_result tree_of value ≡ build d)
+abbrev pub IsWhole : ℕ → List Symbol → Result (Result Expr code.Fault) Halt → Type 0
+IsWhole n ts (Ok value) = IsWholeValue n ts (viewed tree_of value)
 IsWhole n ts (Err Memory) = Unit {0}
 IsWhole n ts (Err Syntax) = (d : Derivation) → IsWellFormed d → ¬ (yield d ≡ ts)
 IsWhole n ts (Err TooDeep) = (n < length ts + 1) × ((d : Derivation) → IsWellFormed d → height d ≤ n → ¬ (yield d ≡ ts))

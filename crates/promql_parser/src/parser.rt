@@ -3,10 +3,15 @@
 ghost use Rattle.promql_parser.specs.Answers.{IsAnswerTo, answer_of};
 
 use crate::grammar::expression::read_all;
+use crate::grammar::fault::Fault;
 use crate::tokens::{Tokens, has_tokens};
-pub use promql_ast::{BinaryExpr, Expr, NumberLiteral, ParenExpr, VectorSelector};
+pub use promql_ast::{
+    AggregateExpr, AtFault, AtModifier, BinaryExpr, Call, CheckFault, Expr, FunctionArgs,
+    MatrixSelector, NodeFault, NumberLiteral, Offset, ParenExpr, RangeMode, StringLiteral,
+    SubqueryExpr, UnaryExpr, VectorSelector,
+};
 use promql_grammar::Halt;
-use promql_text::NumberFault;
+use promql_text::{DurationFault, NumberFault};
 use promql_token::LexFault;
 use std::alloc::{AllocError, Global};
 use thiserror::Error;
@@ -15,7 +20,7 @@ use thiserror::Error;
 pub const MAX_DEPTH: usize = 512;
 
 /// Why a text has no tree (docs/GRAMMAR.md, "The answer to a text").
-#[derive(Clone, Copy, PartialEq, Eq, Debug, Error)]
+#[derive(PartialEq, Eq, Debug, Drop, Error)]
 pub enum ParseError {
     /// An allocation failed.
     #[error("out of memory")]
@@ -32,10 +37,28 @@ pub enum ParseError {
     /// The tokens are more than `MAX_DEPTH`, their end counted, and no low enough expression.
     #[error("expression nested too deeply")]
     TooDeep,
-    /// A number token has no value that can be held; the first one, where the tokens are an
-    /// expression.
+    /// A number has no value that can be held. This fault and those after it come only where the
+    /// tokens are an expression; the first one counts.
     #[error("{0}")]
     Number(NumberFault),
+    /// A string has a raw line feed, or an escape of no character.
+    #[error("invalid syntax")]
+    Quoted,
+    /// A text is no duration.
+    #[error("{0}")]
+    Duration(DurationFault),
+    /// A number after `@` is no moment.
+    #[error("{0}")]
+    At(AtFault),
+    /// `regex` rejects this pattern.
+    #[error("illegal regex for {0}")]
+    Pattern(String),
+    /// There is no function of this name.
+    #[error("unknown function with name '{0}'")]
+    UnknownFunction(String),
+    /// A builder or a check rejects a node.
+    #[error("{0}")]
+    Check(CheckFault),
 }
 
 impl From<AllocError> for ParseError {
@@ -75,6 +98,25 @@ impl From<Halt> for ParseError {
     }
 }
 
+impl From<Fault> for ParseError {
+    ghost use Rattle.std.specs.Prelude.{◌≡◌};
+    ghost use Rattle.promql_parser.specs.Halts.{fault_error};
+
+    ghost from_gives = { λ fault e. e ≡ fault_error fault };
+
+    fn from(fault: Fault) -> ParseError {
+        match fault {
+            Fault::Number(fault) => ParseError::Number(fault),
+            Fault::Quoted => ParseError::Quoted,
+            Fault::Duration(fault) => ParseError::Duration(fault),
+            Fault::At(fault) => ParseError::At(fault),
+            Fault::Pattern(value) => ParseError::Pattern(value),
+            Fault::UnknownFunction(name) => ParseError::UnknownFunction(name),
+            Fault::Check(fault) => ParseError::Check(fault),
+        }
+    }
+}
+
 /// The tree of a text (docs/GRAMMAR.md, "The answer to a text").
 ///
 /// `Empty` and `Lex` come before any other error, and reading for them allocates nothing.
@@ -84,8 +126,9 @@ pub fn parse(alloc: Global, text: &str) -> Result<Expr, ParseError>
     if !has_tokens(text)? {
         return Err(ParseError::Empty);
     }
+    promql_ast::laws::checked_trees_are_typed();
     match read_all(alloc, MAX_DEPTH, Tokens::new(text))? {
         Ok(expr) => Ok(expr),
-        Err(fault) => Err(ParseError::Number(fault)),
+        Err(fault) => Err(ParseError::from(fault)),
     }
 }

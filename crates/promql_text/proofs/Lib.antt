@@ -27,4 +27,5 @@ pub mod Spellings
 pub mod Tens
 pub mod TextForms
 pub mod TextsRead
+pub mod Widths
 pub mod Writing

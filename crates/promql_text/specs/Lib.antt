@@ -18,3 +18,4 @@ pub mod Spelling
 pub mod Spellings
 pub mod Texts
 pub mod Values
+pub mod Widths

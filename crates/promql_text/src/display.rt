@@ -24,7 +24,7 @@ impl fmt::Display for Zeros {
 }
 
 /// The digits before the point, and those after it.
-fn split_at_point(digits: u128, places: u16) -> (u128, u128)
+pub(crate) fn split_at_point(digits: u128, places: u16) -> (u128, u128)
     requires { digits < 10 ^ 38 }
     ensures { (result.0 ≡ digits / 10 ^ places) × (result.1 ≡ digits % 10 ^ places) }
 {

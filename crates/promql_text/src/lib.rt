@@ -24,6 +24,7 @@ pub mod quote;
 pub mod quoted;
 mod seconds;
 mod significand;
+pub mod width;
 
 pub use decimal::Decimal;
 pub use duration::{
@@ -36,6 +37,7 @@ pub use number::{Number, NumberFault};
 pub use number_text::parse_str_radix;
 pub use quote::{QuoteError, escape_string, unquote_string};
 pub use quoted::{Quoted, QuotedBytes};
+pub use width::{duration_width, number_width, quoted_width, separator_width};
 
 #[cfg(test)]
 mod tests;

@@ -32,7 +32,7 @@ fn bytes_in_and_out(rt: HostRuntime) -> Result<(), Fail> {
                 assert!(rt; writer.inner().as_slice() == *bytes, "at {input:?}");
             }
             Err(error) => {
-                assert_eq!(rt; answer, Err(*error), "at {input:?}");
+                assert!(rt; answer.as_ref().err() == Some(error), "at {input:?}");
                 assert!(rt; writer.inner().is_empty(), "at {input:?}");
             }
         }

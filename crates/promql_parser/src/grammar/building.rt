@@ -1,105 +1,485 @@
-//! What the forms of the grammar build.
+//! What each form of expression builds of its parts: their first fault, else a node that is checked.
 
-ghost use Rattle.std.specs.Prelude.{◌≡◌, ℕ, ◌+◌, ◌<◌, ◌≤◌, max, List, IfOk};
-ghost use Rattle.promql_ast.specs.Checked as checks;
-ghost use Rattle.promql_ast.specs.Faults.{passes};
+ghost use Rattle.std.specs.Prelude.{◌≡◌, ℕ, ◌+◌, ◌≤◌, max, List, Option, Ok, Err, IfOk, option_map};
+ghost use Rattle.promql_ast.specs.Checked.{checked};
+ghost use Rattle.promql_ast.specs.Faults.{Gives, GivesOrMemory, Verdict};
 ghost use Rattle.promql_ast.specs.View.{tree_of};
+ghost use Rattle.promql_grammar.specs.Grammar as grammar;
+ghost use Rattle.promql_grammar.specs.Pieces as pieces;
+ghost use Rattle.promql_grammar.specs.Results.{◌then◌};
 ghost use Rattle.promql_grammar.specs.declared.kind.Kind as kinds;
-ghost use Rattle.promql_parser.specs.Grammar.{Derivation, number, name, paren, binary, level};
-ghost use Rattle.promql_parser.specs.Parts.{IsPart, built_of};
-ghost use Rattle.promql_grammar.specs.Results.{on_result};
+ghost use Rattle.promql_label.specs.Views.{plain_matchers_of};
+ghost use Rattle.promql_parser.specs.Faults.{fault_of, viewed};
+ghost use Rattle.promql_parser.specs.IsPiece.{IsBuiltBy};
+ghost use Rattle.promql_parser.specs.Parts.{AreArguments, EndsIn, IsPart, built_of, clause_in, followed, modifier_of, outcome};
+ghost use Rattle.promql_parser.specs.PieceBuilding.{any_braces_value, braces_value, clause_value, modifier_value};
+ghost use Rattle.promql_kind.specs.Views.{clause_of, matching_of};
+ghost use Rattle.promql_parser.specs.Asking.{◌giving◌, known};
+ghost use Rattle.promql_parser.specs.Postfixes.{IsHeld, change_of, changed};
 
-use crate::grammar::part::Part;
+use crate::grammar::fault::Fault;
+use crate::grammar::part::{Arguments, Part};
+use crate::grammar::postfix::{HeldPostfix, Postfix};
+use crate::grammar::string::unquoted;
+use crate::grammar::time::{duration_of, number_of};
 use crate::parser::MAX_DEPTH;
-use promql_ast::{Expr, VectorSelector};
-use promql_text::{NumberFault, parse_str_radix};
-use promql_token::TokenId;
+use promql_ast::{BinaryExpr, CheckError, Expr, FunctionArgs, ParenExpr, SubqueryExpr};
+use promql_kind::{BinModifier, LabelModifier, get_function};
+use promql_label::Matchers;
+use promql_text::Number;
+use promql_token::ids::T_SUB;
+use promql_token::{TokenId, TokenType};
 use std::alloc::{AllocError, Global};
 
-pub fn number_part(alloc: Global, text: &str) -> Result<Part, AllocError>
-    ensures built { IfOk result (λ part. IsPart part (number text.now)) }
-    ensures low { IfOk result (λ part. part.height ≡ 1) }
+/// The part of a node.
+fn node_part(alloc: Global, expr: Expr, height: usize) -> Result<Part, AllocError>
+    ensures value { IfOk result (λ part. built_of part ≡ Ok (tree_of expr)) }
+    ensures tall { IfOk result (λ part. part.height ≡ height) }
 {
-    let value = match parse_str_radix(text) {
-        Ok(number) => Ok(Box::new(alloc, Expr::from(number))?),
-        Err(fault) => Err(fault),
-    };
-    Ok(Part { value, height: 1 })
-}
-
-pub fn name_part(alloc: Global, text: &str) -> Result<Part, AllocError>
-    ensures built { IfOk result (λ part. (kind : kinds.Kind) → IsPart part (name kind text.now)) }
-    ensures low { IfOk result (λ part. part.height ≡ 1) }
-{
-    let selector = Expr::from(VectorSelector::of_str(alloc, text)?);
-    let selector = checked(alloc, selector)?;
+    let expr = Box::new(alloc, expr)?;
     Ok(Part {
-        value: Ok(Box::new(alloc, selector)?),
-        height: 1,
+        value: Ok(expr),
+        height,
     })
 }
 
+/// The part of a fault.
+fn fault_part(alloc: Global, fault: Fault, height: usize) -> Result<Part, AllocError>
+    ensures value { IfOk result (λ part. built_of part ≡ Err (fault_of fault)) }
+    ensures tall { IfOk result (λ part. part.height ≡ height) }
+{
+    let fault = Box::new(alloc, fault)?;
+    Ok(Part {
+        value: Err(fault),
+        height,
+    })
+}
+
+/// The part of a builder's result.
+fn built_part(
+    alloc: Global,
+    built: Result<Expr, CheckError>,
+    height: usize,
+) -> Result<Part, AllocError>
+    ensures value { IfOk result (λ part. (verdict : Verdict) → GivesOrMemory built verdict
+        → built_of part ≡ outcome verdict) }
+    ensures tall { IfOk result (λ part. part.height ≡ height) }
+{
+    match built {
+        Ok(expr) => node_part(alloc, expr, height),
+        Err(CheckError::Memory) => Err(AllocError),
+        Err(CheckError::Check(fault)) => fault_part(alloc, Fault::Check(fault), height),
+    }
+}
+
+/// The part of the result of a builder that allocates nothing.
+fn plain_part(
+    alloc: Global,
+    built: Result<Expr, CheckError>,
+    height: usize,
+) -> Result<Part, AllocError>
+    ensures value { IfOk result (λ part. (verdict : Verdict) → Gives built verdict
+        → built_of part ≡ outcome verdict) }
+    ensures tall { IfOk result (λ part. part.height ≡ height) }
+{
+    built_part(alloc, built, height)
+}
+
+/// The part of a builder's result, if no check fails.
+fn checked_part(
+    alloc: Global,
+    built: Result<Expr, CheckError>,
+    height: usize,
+) -> Result<Part, AllocError>
+    ensures value { IfOk result (λ part. (verdict : Verdict) → GivesOrMemory built verdict
+        → built_of part ≡ (outcome verdict then λ t. outcome (checked t))) }
+    ensures tall { IfOk result (λ part. part.height ≡ height) }
+{
+    match built {
+        Ok(expr) => built_part(alloc, Expr::checked(alloc, expr), height),
+        Err(CheckError::Memory) => Err(AllocError),
+        Err(CheckError::Check(fault)) => fault_part(alloc, Fault::Check(fault), height),
+    }
+}
+
+pub fn number_part(alloc: Global, text: &str) -> Result<Part, AllocError>
+    ensures built { IfOk result (λ part. IsPart part (grammar.number text.now)) }
+    ensures low { IfOk result (λ part. part.height ≡ 1) }
+{
+    match number_of(text) {
+        Ok(number) => node_part(alloc, Expr::from(number), 1),
+        Err(fault) => fault_part(alloc, fault, 1),
+    }
+}
+
+pub fn duration_part(alloc: Global, text: &str) -> Result<Part, AllocError>
+    ensures built { IfOk result (λ part. IsPart part (grammar.duration text.now)) }
+    ensures low { IfOk result (λ part. part.height ≡ 1) }
+{
+    match duration_of(text) {
+        Ok(duration) => node_part(alloc, Expr::from(Number::of_duration(&duration)), 1),
+        Err(fault) => fault_part(alloc, fault, 1),
+    }
+}
+
+pub fn string_part(alloc: Global, text: &str) -> Result<Part, AllocError>
+    ensures built { IfOk result (λ part. IsPart part (grammar.string text.now)) }
+    ensures low { IfOk result (λ part. part.height ≡ 1) }
+{
+    match unquoted(alloc, text)? {
+        Ok(val) => node_part(alloc, Expr::from(val), 1),
+        Err(fault) => fault_part(alloc, fault, 1),
+    }
+}
+
+/// The part of a selector with a name. Its matchers are those of its braces, or none.
+pub fn selector_part(
+    alloc: Global,
+    name: &str,
+    matchers: Result<Matchers, Fault>,
+) -> Result<Part, AllocError>
+    ensures built { IfOk result (λ part. (kind : kinds.Kind) (braces : Option pieces.Braces)
+        → IsBuiltBy plain_matchers_of matchers (any_braces_value braces)
+        → IsPart part (grammar.selector kind name.now braces)) }
+    ensures low { IfOk result (λ part. part.height ≡ 1) }
+{
+    match matchers {
+        Ok(matchers) => {
+            let name = String::from_str(alloc, name)?;
+            let expr = Expr::new_vector_selector(Some(name), matchers);
+            built_part(alloc, Expr::checked(alloc, expr), 1)
+        }
+        Err(fault) => fault_part(alloc, fault, 1),
+    }
+}
+
+/// The part of a selector without a name.
+pub fn nameless_part(alloc: Global, matchers: Result<Matchers, Fault>) -> Result<Part, AllocError>
+    ensures built { IfOk result (λ part. (braces : pieces.Braces)
+        → IsBuiltBy plain_matchers_of matchers (braces_value braces)
+        → IsPart part (grammar.nameless braces)) }
+    ensures low { IfOk result (λ part. part.height ≡ 1) }
+{
+    match matchers {
+        Ok(matchers) => {
+            let expr = Expr::new_vector_selector(None, matchers);
+            built_part(alloc, Expr::checked(alloc, expr), 1)
+        }
+        Err(fault) => fault_part(alloc, fault, 1),
+    }
+}
+
+#[inline(never)]
 pub fn paren_part(alloc: Global, inner: Part) -> Result<Part, AllocError>
     requires { inner.height ≤ MAX_DEPTH }
-    ensures built { IfOk result (λ part. (d : Derivation) → IsPart inner d → IsPart part (paren d)) }
+    ensures built { IfOk result (λ part. (d : grammar.Derivation)
+        → IsPart inner d → IsPart part (grammar.paren d)) }
     ensures low { IfOk result (λ part. part.height ≡ inner.height + 1) }
 {
     let Part { value, height } = inner;
-    let value = match value {
-        Ok(expr) => {
-            let expr = Expr::new_paren_expr(alloc, Box::into_inner(expr))?;
-            Ok(Box::new(alloc, expr)?)
-        }
-        Err(fault) => Err(fault),
-    };
-    Ok(Part {
-        value,
-        height: height + 1,
-    })
+    let height = height + 1;
+    match value {
+        Ok(expr) => node_part(alloc, Expr::Paren(ParenExpr { expr }), height),
+        Err(fault) => Ok(Part {
+            value: Err(fault),
+            height,
+        }),
+    }
 }
 
-pub fn binary_part(alloc: Global, op: TokenId, left: Part, right: Part) -> Result<Part, AllocError>
+/// The part of a form after a sign. A plus leaves no node.
+#[inline(never)]
+pub fn unary_part(alloc: Global, op: TokenId, operand: Part) -> Result<Part, AllocError>
+    requires { operand.height ≤ MAX_DEPTH }
+    ensures built { IfOk result (λ part. (text : List ℕ) (d : grammar.Derivation)
+        → IsPart operand d → IsPart part (grammar.unary op text d)) }
+    ensures low { IfOk result (λ part. part.height ≡ operand.height + 1) }
+{
+    let Part { value, height } = operand;
+    let height = height + 1;
+    match value {
+        Ok(expr) => {
+            if op != T_SUB {
+                return Ok(Part {
+                    value: Ok(expr),
+                    height,
+                });
+            }
+            let expr = Box::into_inner(expr);
+            checked_part(alloc, Expr::new_unary_expr(alloc, expr), height)
+        }
+        Err(fault) => Ok(Part {
+            value: Err(fault),
+            height,
+        }),
+    }
+}
+
+#[inline(never)]
+pub fn binary_part(
+    alloc: Global,
+    op: TokenId,
+    left: Part,
+    modifier: Option<Box<Result<BinModifier, Fault>>>,
+    right: Part,
+) -> Result<Part, AllocError>
     requires low_left { left.height ≤ MAX_DEPTH }
     requires low_right { right.height ≤ MAX_DEPTH }
-    requires known { 0 < level op }
-    ensures built { IfOk result (λ part. (text : List ℕ) (l r : Derivation)
-        → IsPart left l → IsPart right r → IsPart part (binary op text l r)) }
+    ensures built { IfOk result (λ part. (text : List ℕ) (m : pieces.Modifier)
+        (l r : grammar.Derivation)
+        → modifier_of modifier ≡ modifier_value m → IsPart left l
+        → IsPart right r → IsPart part (grammar.binary op text m l r)) }
     ensures low { IfOk result (λ part. part.height ≡ max left.height right.height + 1) }
 {
-    let height = left.height.max(right.height);
-    let value = match (left.value, right.value) {
-        (Ok(lhs), Ok(rhs)) => {
-            let (lhs, rhs) = (Box::into_inner(lhs), Box::into_inner(rhs));
-            let expr = checked(alloc, Expr::new_binary_expr(alloc, lhs, op, None, rhs)?)?;
-            Ok(Box::new(alloc, expr)?)
+    let Part {
+        value: left,
+        height: left_height,
+    } = left;
+    let Part {
+        value: right,
+        height: right_height,
+    } = right;
+    let height = left_height.max(right_height) + 1;
+    let lhs = match left {
+        Ok(expr) => expr,
+        Err(fault) => {
+            return Ok(Part {
+                value: Err(fault),
+                height,
+            });
         }
-        (Err(fault), _) => Err(fault),
-        (Ok(_), Err(fault)) => Err(fault),
     };
-    Ok(Part {
-        value,
-        height: height + 1,
-    })
+    let rhs = match right {
+        Ok(expr) => expr,
+        Err(fault) => {
+            return Ok(Part {
+                value: Err(fault),
+                height,
+            });
+        }
+    };
+    match modified(modifier) {
+        Ok(modifier) => {
+            let op = TokenType::new(op);
+            let expr = Expr::Binary(BinaryExpr {
+                op,
+                lhs,
+                rhs,
+                modifier,
+            });
+            built_part(alloc, Expr::checked(alloc, expr), height)
+        }
+        Err(fault) => fault_part(alloc, fault, height),
+    }
 }
 
-/// The expression, of which no check fails.
-fn checked(alloc: Global, expr: Expr) -> Result<Expr, AllocError>
-    requires { checks.checked (tree_of expr) ≡ passes (tree_of expr) }
-    ensures { IfOk result (λ e. tree_of e ≡ tree_of expr) }
+/// The modifier out of its box.
+fn modified(modifier: Option<Box<Result<BinModifier, Fault>>>) -> Result<Option<BinModifier>, Fault>
+    ensures { viewed (option_map matching_of) result ≡ modifier_of modifier }
 {
-    match Expr::checked(alloc, expr) {
-        Ok(expr) => Ok(expr),
-        Err(_) => Err(AllocError),
+    match modifier {
+        None => Ok(None),
+        Some(modifier) => match Box::into_inner(modifier) {
+            Ok(modifier) => Ok(Some(modifier)),
+            Err(fault) => Err(fault),
+        },
+    }
+}
+
+/// The part of a call. Its name is looked up after its arguments.
+#[inline(never)]
+pub fn call_part(alloc: Global, name: &str, args: Arguments) -> Result<Part, AllocError>
+    requires { args.height ≤ MAX_DEPTH }
+    ensures built { IfOk result (λ part. (kind : kinds.Kind) (ds : grammar.Arguments)
+        → AreArguments args ds → IsPart part (grammar.call kind name.now ds)) }
+    ensures low { IfOk result (λ part. part.height ≡ args.height + 1) }
+{
+    let Arguments { value, height } = args;
+    let height = height + 1;
+    let args = match value {
+        Ok(args) => args,
+        Err(fault) => {
+            return Ok(Part {
+                value: Err(fault),
+                height,
+            });
+        }
+    };
+    match get_function(alloc, name)? {
+        Some(func) => {
+            let expr = Expr::new_call(func, args);
+            built_part(alloc, Expr::checked(alloc, expr), height)
+        }
+        None => {
+            let name = String::from_str(alloc, name)?;
+            fault_part(alloc, Fault::UnknownFunction(name), height)
+        }
+    }
+}
+
+/// The part of an aggregation. Its clause is built after its arguments.
+#[inline(never)]
+pub fn aggregate_part(
+    alloc: Global,
+    op: TokenId,
+    clause: Option<Box<Result<LabelModifier, Fault>>>,
+    args: Arguments,
+) -> Result<Part, AllocError>
+    requires { args.height ≤ MAX_DEPTH }
+    ensures built { IfOk result (λ part. (text : List ℕ) (c : pieces.Clause)
+        (ds : grammar.Arguments)
+        → clause_in clause ≡ clause_value c → AreArguments args ds
+        → IsPart part (grammar.aggregate op text c ds)) }
+    ensures low { IfOk result (λ part. part.height ≡ args.height + 1) }
+{
+    let Arguments { value, height } = args;
+    let height = height + 1;
+    let args = match value {
+        Ok(args) => args,
+        Err(fault) => {
+            return Ok(Part {
+                value: Err(fault),
+                height,
+            });
+        }
+    };
+    match grouped(clause) {
+        Ok(clause) => {
+            let built = Expr::new_aggregate_expr(op, clause, args);
+            checked_part(alloc, built, height)
+        }
+        Err(fault) => fault_part(alloc, fault, height),
+    }
+}
+
+/// The clause out of its box.
+fn grouped(
+    clause: Option<Box<Result<LabelModifier, Fault>>>,
+) -> Result<Option<LabelModifier>, Fault>
+    ensures { viewed (option_map clause_of) result ≡ clause_in clause }
+{
+    match clause {
+        None => Ok(None),
+        Some(clause) => match Box::into_inner(clause) {
+            Ok(clause) => Ok(Some(clause)),
+            Err(fault) => Err(fault),
+        },
+    }
+}
+
+/// No arguments.
+pub fn no_arguments(alloc: Global) -> Arguments
+    ensures built { AreArguments result grammar.none }
+    ensures low { result.height ≡ 0 }
+{
+    Arguments {
+        value: Ok(FunctionArgs::empty_args(alloc)),
+        height: 0,
+    }
+}
+
+/// The arguments with one more after them.
+#[inline(never)]
+pub fn more_arguments(args: Arguments, part: Part) -> Result<Arguments, AllocError>
+    ensures built { IfOk result (λ more. (ds : grammar.Arguments) (d : grammar.Derivation)
+        → AreArguments args ds → IsPart part d → AreArguments more (followed ds d)) }
+    ensures low { IfOk result (λ more. more.height ≡ max args.height part.height) }
+{
+    let Arguments { value, height } = args;
+    let Part {
+        value: last,
+        height: last_height,
+    } = part;
+    let height = height.max(last_height);
+    let mut args = match value {
+        Ok(args) => args,
+        Err(fault) => {
+            return Ok(Arguments {
+                value: Err(fault),
+                height,
+            });
+        }
+    };
+    match last {
+        Ok(arg) => {
+            args.args.push(arg)?;
+            Ok(Arguments {
+                value: Ok(args),
+                height,
+            })
+        }
+        Err(fault) => Ok(Arguments {
+            value: Err(fault),
+            height,
+        }),
+    }
+}
+
+/// The part of a base and its postfix.
+pub fn postfixed_part(alloc: Global, base: Part, postfix: HeldPostfix) -> Result<Part, AllocError>
+    requires low_base { base.height ≤ MAX_DEPTH + 1 }
+    requires low_postfix { postfix.added_height ≤ 1 }
+    ensures built { IfOk result (λ part. (d : grammar.Derivation) (p : pieces.Postfix)
+        → IsPart base d → IsHeld postfix p → IsPart part (grammar.postfixed d p)) }
+    ensures low { IfOk result (λ part. part.height ≡ base.height + postfix.added_height) }
+{
+    let Part { value, height } = base;
+    let HeldPostfix {
+        value: postfix,
+        added_height,
+    } = postfix;
+    let height = height + added_height;
+    match value {
+        Ok(expr) => changed_part(alloc, expr, postfix, height),
+        Err(fault) => Ok(Part {
+            value: Err(fault),
+            height,
+        }),
+    }
+}
+
+/// The part of an expression and its postfix.
+fn changed_part(
+    alloc: Global,
+    expr: Box<Expr>,
+    postfix: Result<Postfix, Fault>,
+    height: usize,
+) -> Result<Part, AllocError>
+    ensures built { IfOk result (λ part. EndsIn (known (viewed change_of postfix) giving
+        λ c. changed (tree_of expr.value) c) (built_of part)) }
+    ensures tall { IfOk result (λ part. part.height ≡ height) }
+{
+    match postfix {
+        Ok(Postfix::Range(range)) => {
+            let expr = Box::into_inner(expr);
+            plain_part(alloc, Expr::new_matrix_selector(expr, range), height)
+        }
+        Ok(Postfix::Subquery { range, step }) => {
+            let expr = Expr::Subquery(SubqueryExpr {
+                expr,
+                offset: None,
+                at: None,
+                range,
+                step,
+            });
+            built_part(alloc, Expr::checked(alloc, expr), height)
+        }
+        Ok(Postfix::At(at)) => plain_part(alloc, Box::into_inner(expr).at_expr(at), height),
+        Ok(Postfix::Offset(offset)) => {
+            plain_part(alloc, Box::into_inner(expr).offset_expr(offset), height)
+        }
+        Ok(Postfix::Mode(mode)) => plain_part(alloc, Box::into_inner(expr).mode_expr(mode), height),
+        Err(fault) => fault_part(alloc, fault, height),
     }
 }
 
 /// The expression or fault of a part.
-pub fn unboxed(part: Part) -> Result<Expr, NumberFault>
-    ensures { on_result tree_of result ≡ built_of part }
+pub fn unboxed(part: Part) -> Result<Expr, Fault>
+    ensures { viewed tree_of result ≡ built_of part }
 {
     let Part { value, height: _ } = part;
     match value {
         Ok(expr) => Ok(Box::into_inner(expr)),
-        Err(fault) => Err(fault),
+        Err(fault) => Err(Box::into_inner(fault)),
     }
 }

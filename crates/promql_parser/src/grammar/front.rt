@@ -1,20 +1,25 @@
 //! The first token, and how tightly operators bind.
 
 ghost use Rattle.std.specs.Prelude.{◌≡◌, ◌≤◌, [], ◌∷◌, IfNone, MatchBool, MatchOption};
-ghost use Rattle.promql_grammar.specs.declared.kind.Kind.TheVariants as kinds;
+ghost use Rattle.promql_grammar.specs.Grammar as grammar;
+ghost use Rattle.promql_grammar.specs.Reading as reading;
+ghost use Rattle.promql_grammar.specs.Symbols.{symbol};
 ghost use Rattle.promql_parser.specs.Drawing.{symbols_left};
-ghost use Rattle.promql_parser.specs.Front.{HasNoClosing, Stops, TakesOperator};
-ghost use Rattle.promql_parser.specs.Grammar.{level};
-ghost use Rattle.promql_grammar.specs.Symbols.{sign, symbol};
-ghost use Rattle.promql_parser.specs.Reading.{above};
+ghost use Rattle.promql_parser.specs.Front.{BeginsClause, HasNoClause, HasNoSign, Stops, TakesOperator, TakesSign};
 
 use crate::tokens::Tokens;
 use promql_grammar::Kind;
 use promql_token::TokenId;
-use promql_token::ids::{T_ADD, T_SUB};
+use promql_token::ids::{
+    T_ADD, T_ATAN2, T_DIV, T_EQLC, T_GTE, T_GTR, T_LAND, T_LOR, T_LSS, T_LTE, T_LUNLESS, T_MOD,
+    T_MUL, T_NEQ, T_POW, T_SUB,
+};
 
-/// The lowest level of an operator.
-pub const LOWEST_LEVEL: usize = 1;
+/// The lowest level of an expression's operators.
+pub const LOWEST_LEVEL: usize = 0;
+
+/// The lowest level of an operator outside the operand of a sign.
+pub const SIGN_LEVEL: usize = 6;
 
 /// Takes the first token: its kind and text.
 pub fn next<'a>(tokens: &mut Tokens<'a>) -> Option<(Kind, &'a str)>
@@ -26,19 +31,27 @@ pub fn next<'a>(tokens: &mut Tokens<'a>) -> Option<(Kind, &'a str)>
     front
 }
 
-/// Takes a right parenthesis, if it is the first token.
-pub fn takes_right_paren(tokens: &mut Tokens<'_>) -> bool
-    ensures { MatchBool result
-        (symbols_left tokens.old ≡ sign kinds.RightParen ∷ symbols_left tokens.new)
-        (HasNoClosing (symbols_left tokens.old)) }
+/// Takes a plus or minus, if it is the first token.
+pub fn take_sign(tokens: &mut Tokens<'_>) -> Option<TokenId>
+    ensures front { MatchOption result (HasNoSign (symbols_left tokens.old))
+        (λ op. TakesSign op (symbols_left tokens.old) (symbols_left tokens.new)) }
+    ensures stays { IfNone result (symbols_left tokens.new ≡ symbols_left tokens.old) }
 {
     match tokens.front() {
-        Some((Kind::RightParen, _)) => {
+        Some((Kind::Operator(op), _)) if matches!(op, T_ADD | T_SUB) => {
             tokens.pass();
-            true
+            Some(op)
         }
-        _ => false,
+        _ => None,
     }
+}
+
+/// Whether the first token is `by` or `without`.
+pub fn begins_clause(tokens: &Tokens<'_>) -> bool
+    ensures { MatchBool result (BeginsClause (symbols_left tokens.now))
+        (HasNoClause (symbols_left tokens.now)) }
+{
+    matches!(tokens.front(), Some((Kind::By | Kind::Without, _)))
 }
 
 /// Takes an operator of at least the lowest level, if it is the first token.
@@ -56,20 +69,25 @@ pub fn take_operator(tokens: &mut Tokens<'_>, lowest: usize) -> Option<TokenId>
     }
 }
 
-/// How tightly the operator binds; 0 for one that the grammar doesn't have.
-pub fn level_of(op: TokenId) -> usize
-    ensures value { result ≡ level op }
+/// How tightly the operator binds.
+fn level_of(op: TokenId) -> usize
+    ensures value { result ≡ grammar.level op }
     ensures low { result ≤ 6 }
 {
     match op {
+        T_POW => 6,
+        T_LOR => 1,
+        T_LAND | T_LUNLESS => 2,
+        T_EQLC | T_NEQ | T_LTE | T_LSS | T_GTE | T_GTR => 3,
         T_ADD | T_SUB => 4,
-        _ => 0,
+        _ => 5,
     }
 }
 
-/// The lowest level on the right of the operator.
-pub fn level_above(op: TokenId) -> usize
-    ensures { result ≡ above op }
+/// The lowest level of an operator outside the right side of this one; powers are read from the
+/// right.
+pub fn right_level(op: TokenId) -> usize
+    ensures { result ≡ reading.right_level op }
 {
-    level_of(op) + 1
+    if op == T_POW { 6 } else { level_of(op) + 1 }
 }

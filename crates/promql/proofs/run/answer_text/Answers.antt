@@ -2,7 +2,7 @@ use Rattle.std.proofs.Common.{◌≡◌, sym, ◌∙◌, subst}
 use Rattle.std.specs.Prelude.{Err}
 use Rattle.std.proofs.lemmas.Result.{err_from_is_err_and}
 use Rattle.promql.specs.declared.run.RunError.TheVariants.{Parse}
-use Rattle.promql_parser.specs.Answers.{IsAnswerTo}
+use Rattle.promql_parser.specs.Answers.{IsAnswerTo, refusal_of}
 use Rattle.promql.proofs.Refusals.{raised_own}
 use Rattle.promql.proofs.run.answer_text.Goals as goal
 
@@ -13,4 +13,4 @@ returns-in_err-expr-clause-parse c = λ e is.
     let raised : Err same.0 ≡ Err (Parse e) = sym same.1 ∙ is in
     let own : same.0 ≡ Parse e = cc in
     let parsed = raised_own c.in_err-expr.field-0.0 same.0 same.2 e own in
-    (subst (λ f. IsAnswerTo c.args.text.now (Err f)) parsed.0 refusal, parsed.1)
+    (subst (λ f. IsAnswerTo c.args.text.now (Err (refusal_of f))) parsed.0 refusal, parsed.1)

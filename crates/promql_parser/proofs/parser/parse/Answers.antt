@@ -1,8 +1,8 @@
 use Rattle.std.proofs.Common.{◌∙◌, ap}
 use Rattle.std.specs.Prelude.{Ok, Err}
 use Rattle.std.proofs.lemmas.Result.{err_from_is_err_and}
-use Rattle.promql_parser.proofs.AnswerLemmas.{empty_answer, halt_answer, tree_answer, number_answer}
-use Rattle.promql_parser.proofs.Listing.{none_listed, some_list}
+use Rattle.promql_parser.proofs.AnswerLemmas.{empty_answer, fault_answer, fault_error_answer, halt_answer, tree_answer}
+use Rattle.promql_parser.proofs.Listing.{fault_listed, none_listed, some_list}
 use Rattle.promql_parser.proofs.parser.parse.Goals as goal
 
 pub returns-then-not-branch : goal.returns-then-not-branch
@@ -18,9 +18,14 @@ returns-in_err-expr c =
 pub returns-in-Ok : goal.returns-in-Ok
 returns-in-Ok c =
     let listed = some_list _ (c.in_ok-has_tokens.ensures ∙ ap Ok c.if-not-branch.false) in
-    tree_answer c.args.text.now listed.list listed.is listed.some _ (c.new.ensures _ listed.is) c.in-Ok.expr (rw c.in-Ok.is at c.in_ok-expr.ensures.whole)
+    tree_answer c.args.text.now listed.list listed.is listed.some _ (c.new.ensures _ listed.is) c.checked_trees_are_typed.ensures _ (rw c.in-Ok.is at c.in_ok-expr.ensures.whole)
 
 pub returns-in-Err : goal.returns-in-Err
 returns-in-Err c =
     let listed = some_list _ (c.in_ok-has_tokens.ensures ∙ ap Ok c.if-not-branch.false) in
-    number_answer c.args.text.now listed.list listed.is listed.some _ (c.new.ensures _ listed.is) c.in-Err.fault (rw c.in-Err.is at c.in_ok-expr.ensures.whole)
+    rw c.from.ensures (fault_error_answer c.args.text.now listed.list listed.is listed.some _ (c.new.ensures _ listed.is) c.in-Err.fault (rw c.in-Err.is at c.in_ok-expr.ensures.whole))
+
+pub returns-in_err-has_tokens : goal.returns-in_err-has_tokens
+returns-in_err-has_tokens c =
+    let same = err_from_is_err_and c.from_residual.result c.from_residual.ensures.1 in
+    rw (same.1, same.2) (fault_answer c.args.text.now _ (fault_listed _ _ c.in_err-has_tokens.ensures))

@@ -1,0 +1,124 @@
+-- A tree laid out over lines (docs/LAYOUT.md, "Nodes").
+use Rattle.std.specs.Prelude.{ℕ, ◌+◌, ◌==◌, max, if◌then◌else◌, List, [], ◌∷◌, ◌++◌, Option, Some, None, codes}
+use Rattle.promql_text.specs.Bytes.{space}
+use Rattle.promql_text.specs.NumberText.{number_text}
+use Rattle.promql_text.specs.Quoting.{quoted_text}
+use Rattle.promql_text.specs.Texts.{Text, joined_text}
+use Rattle.promql_token.specs.Ids.{text_of}
+use Rattle.promql_kind.specs.Functions.{name_of}
+use Rattle.promql_kind.specs.Modifiers.{Clause, Matching}
+use Rattle.promql_ast.specs.Lines.{indent, is_longer}
+use Rattle.promql_ast.specs.Shifts.{Shift, Moment, at_text, offset_text}
+use Rattle.promql_ast.specs.Text.{text}
+use Rattle.promql_ast.specs.Tree.{Tree, aggregate, unary, binary, paren, subquery, number, string, vector, matrix, call, extension, MaybeTree, absent, present, Trees, no_trees, first_tree}
+use Rattle.promql_ast.specs.node.Aggregate.{head_text}
+use Rattle.promql_ast.specs.node.Binary.{matching_text}
+use Rattle.promql_ast.specs.node.Matrix.{matrix_text}
+use Rattle.promql_ast.specs.node.Subquery.{range_text}
+use Rattle.promql_ast.specs.node.Vector.{vector_text}
+
+-- the one line if it fits, else the lines
+abbrev pub chosen : Text → Text → ℕ → ℕ → Text
+chosen line lines level most = if is_longer most line then lines else indent level ++ line
+
+-- without the spaces in front
+abbrev pub trimmed : Text → Text
+trimmed [] = []
+trimmed (b ∷ t) = if b == space then trimmed t else b ∷ t
+
+-- ---- a node's lines from its parts' layouts
+
+abbrev pub param_lines : Option Text → Text
+param_lines None = []
+param_lines (Some t) = t ++ codes ",\n"
+
+abbrev pub aggregate_lines : ℕ → Option Clause → Option Text → Text → ℕ → Text
+aggregate_lines op m p e level =
+    indent level ++ (head_text op m ++ (codes "(\n" ++ (param_lines p ++ (e ++ (codes "\n" ++ (indent level ++ codes ")"))))))
+
+abbrev pub unary_line : Text → ℕ → Text
+unary_line e level = indent level ++ (codes "-" ++ trimmed e)
+
+abbrev pub binary_lines : ℕ → Option Matching → Text → Text → ℕ → Text
+binary_lines op m l r level = l ++ (codes "\n" ++ (indent level ++ (text_of op ++ (matching_text m ++ (codes "\n" ++ r)))))
+
+abbrev pub paren_lines : Text → ℕ → Text
+paren_lines e level = indent level ++ (codes "(\n" ++ (e ++ (codes "\n" ++ (indent level ++ codes ")"))))
+
+abbrev pub subquery_lines : Text → Option Shift → Option Moment → ℕ → Option ℕ → Text
+subquery_lines e offset at range step = e ++ (range_text range step ++ (at_text at ++ offset_text offset))
+
+abbrev pub call_lines : Text → Text → ℕ → Text
+call_lines name args level = indent level ++ (name ++ (codes "(\n" ++ (args ++ (codes "\n" ++ (indent level ++ codes ")")))))
+
+-- ---- the layout of a tree at a level, where a line has at most so many bytes
+
+abbrev mutual
+  pub laid : Tree → ℕ → ℕ → Text
+  laid (aggregate op e p m) level most =
+      chosen (text (aggregate op e p m)) (aggregate_lines op m (maybe_laid p (level + 1) most) (laid e (level + 1) most) level) level most
+  laid (unary e) level most = unary_line (laid e level most) level
+  laid (binary op l r m) level most =
+      chosen (text (binary op l r m)) (binary_lines op m (laid l (level + 1) most) (laid r (level + 1) most) level) level most
+  laid (paren e) level most = chosen (text (paren e)) (paren_lines (laid e (level + 1) most) level) level most
+  laid (subquery e offset at range step) level most = subquery_lines (laid e level most) offset at range step
+  laid (number n) level most = indent level ++ number_text n
+  laid (string s) level most = indent level ++ quoted_text s
+  laid (vector s) level most = indent level ++ vector_text s
+  laid (matrix s range mode) level most = indent level ++ matrix_text s range mode
+  laid (call f args) level most =
+      chosen (text (call f args)) (call_lines (name_of f) (joined_text (codes ",\n") (laids args (level + 1) most)) level) level most
+  laid (extension name gives es) level most = text (extension name gives es)
+
+  pub maybe_laid : MaybeTree → ℕ → ℕ → Option Text
+  maybe_laid absent level most = None
+  maybe_laid (present e) level most = Some (laid e level most)
+
+  pub laids : Trees → ℕ → ℕ → List Text
+  laids no_trees level most = []
+  laids (first_tree e es) level most = laid e level most ∷ laids es level most
+
+-- arguments, one after the other
+abbrev pub args_laid : Trees → ℕ → ℕ → Text
+args_laid args level most = joined_text (codes ",\n") (laids args level most)
+
+-- a node over several lines, where it has such a form
+abbrev pub lines : Tree → ℕ → ℕ → Text
+lines (aggregate op e p m) level most = aggregate_lines op m (maybe_laid p (level + 1) most) (laid e (level + 1) most) level
+lines (binary op l r m) level most = binary_lines op m (laid l (level + 1) most) (laid r (level + 1) most) level
+lines (paren e) level most = paren_lines (laid e (level + 1) most) level
+lines (call f args) level most = call_lines (name_of f) (args_laid args (level + 1) most) level
+lines t level most = indent level ++ text t
+
+-- ---- the deepest level that a layout indents to
+
+abbrev mutual
+  pub deepest : Tree → ℕ → ℕ → ℕ
+  deepest (aggregate op e p m) level most =
+      if is_longer most (text (aggregate op e p m)) then max level (max (maybe_deepest p (level + 1) most) (deepest e (level + 1) most)) else level
+  deepest (unary e) level most = max level (deepest e level most)
+  deepest (binary op l r m) level most =
+      if is_longer most (text (binary op l r m)) then max level (max (deepest l (level + 1) most) (deepest r (level + 1) most)) else level
+  deepest (paren e) level most = if is_longer most (text (paren e)) then max level (deepest e (level + 1) most) else level
+  deepest (subquery e offset at range step) level most = deepest e level most
+  deepest (number n) level most = level
+  deepest (string s) level most = level
+  deepest (vector s) level most = level
+  deepest (matrix s range mode) level most = level
+  deepest (call f args) level most = if is_longer most (text (call f args)) then max level (deepests args (level + 1) most) else level
+  deepest (extension name gives es) level most = 0
+
+  pub maybe_deepest : MaybeTree → ℕ → ℕ → ℕ
+  maybe_deepest absent level most = 0
+  maybe_deepest (present e) level most = deepest e level most
+
+  pub deepests : Trees → ℕ → ℕ → ℕ
+  deepests no_trees level most = 0
+  deepests (first_tree e es) level most = max (deepest e level most) (deepests es level most)
+
+abbrev pub lines_deepest : Tree → ℕ → ℕ → ℕ
+lines_deepest (aggregate op e p m) level most = max level (max (maybe_deepest p (level + 1) most) (deepest e (level + 1) most))
+lines_deepest (binary op l r m) level most = max level (max (deepest l (level + 1) most) (deepest r (level + 1) most))
+lines_deepest (paren e) level most = max level (deepest e (level + 1) most)
+lines_deepest (call f args) level most = max level (deepests args (level + 1) most)
+lines_deepest t level most = level

@@ -1,0 +1,27 @@
+-- Lines, and what a layout keeps of one (docs/LAYOUT.md, "Lines").
+use Rattle.std.specs.Prelude.{◌≡◌, ℕ, zero, suc, ◌==◌, nat_lt, not, ◌&&◌, Bool, [], ◌∷◌, Option, Result, IfSome, IfOk, String, string_bytes}
+use Rattle.std.specs.List.{filter}
+use Rattle.std.specs.declared.alloc.Global.{Global}
+use Rattle.promql_text.specs.Bytes.{line_feed, space}
+use Rattle.promql_text.specs.Texts.{Text}
+use Rattle.promql_text.specs.Widths.{width}
+
+-- the line has more bytes than `most`
+abbrev pub is_longer : ℕ → Text → Bool
+is_longer most line = nat_lt most (width line)
+
+-- two spaces a level
+abbrev pub indent : ℕ → Text
+indent zero = []
+indent (suc n) = space ∷ space ∷ indent n
+
+abbrev pub is_shown : ℕ → Bool
+is_shown b = not (b == space) && not (b == line_feed)
+
+-- the text without spaces and line feeds
+abbrev pub squeeze : Text → Text
+squeeze t = filter is_shown t
+
+-- the layout of the line changes nothing else
+abbrev pub Keeps : {E : Type 0} → Option Text → Result (String Global) E → Type 0
+Keeps line result = IfSome line (λ t. IfOk result (λ s. squeeze (string_bytes s) ≡ squeeze t))

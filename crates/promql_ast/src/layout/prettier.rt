@@ -1,0 +1,87 @@
+//! The layout of any value that displays: docs/LAYOUT.md, "The trait".
+
+ghost use Rattle.std.specs.Prelude.{◌≡◌, ◌⊎◌, ℕ, Bool, IfOk, IfSome, IsSome, IsTrue};
+ghost use Rattle.promql_ast.specs.Lines.{is_longer, Keeps};
+ghost use Rattle.promql_text.specs.Widths.{width};
+
+use crate::layout::indent::indented;
+use crate::layout::widths::is_too_long;
+use std::alloc::{AllocError, Global};
+use std::fmt::Display;
+use thiserror::Error;
+
+/// Why a value is not laid out.
+#[derive(Clone, Copy, Debug, PartialEq, Eq, Error)]
+pub enum PrettyError {
+    /// An allocation failed.
+    #[error("out of memory")]
+    Memory,
+    /// An indentation has more bytes than a `usize` counts.
+    #[error("indentation too wide")]
+    IndentTooWide,
+}
+
+impl From<AllocError> for PrettyError {
+    ghost use Rattle.std.specs.Prelude.{◌≡◌};
+    ghost use Rattle.promql_ast.specs.declared.layout.prettier.PrettyError.TheVariants.{Memory};
+
+    ghost from_gives = { λ _ e. e ≡ Memory };
+
+    fn from(_error: AllocError) -> PrettyError {
+        PrettyError::Memory
+    }
+}
+
+/// Values that are laid out over several lines where one line is too long. Layout changes nothing but spaces and line
+/// feeds: that is proved of each implementation, and an implementation may rest on the three bodies here.
+///
+/// `level` counts indentations of two spaces; `max` is the most bytes that a line has, its indentation not counted.
+pub trait Prettier: Display {
+    /// What an implementation of its own answers as `needs_split`.
+    ghost own_split: { Self → ℕ → Bool → Type 0 } = { λ _ _ _. ⊥ };
+
+    /// The value, laid out.
+    ///
+    /// # Errors
+    ///
+    /// `IndentTooWide` where an indentation would have more bytes than a `usize` counts; `Memory` where an allocation
+    /// failed.
+    fn pretty(&self, alloc: Global, level: usize, max: usize) -> Result<String, PrettyError>
+    where
+        Self: Sized,
+        ensures { Keeps (Self.output self.now) result }
+    {
+        if self.needs_split(max) {
+            self.format(alloc, level, max)
+        } else {
+            indented(self, alloc, level)
+        }
+    }
+
+    /// The value over several lines, if it has such a form, else its one line, indented.
+    ///
+    /// # Errors
+    ///
+    /// Those of `pretty`.
+    fn format(&self, alloc: Global, level: usize, max: usize) -> Result<String, PrettyError>
+    where
+        Self: Sized,
+        ensures { Keeps (Self.output self.now) result }
+    {
+        let _ = max;
+        indented(self, alloc, level)
+    }
+
+    /// Whether the one line has more than `max` bytes. Bytes past the greatest `usize` are not counted.
+    fn needs_split(&self, max: usize) -> bool
+    where
+        Self: Sized,
+        ensures { IfSome (Self.output self.now) (λ t.
+            (IsTrue result → IsTrue (is_longer max t)) ⊎ own_split self.now max result) }
+    {
+        is_too_long(self, max)
+    }
+
+    /// An implementation's `Display` states its bytes.
+    ghost states: { (x : Self) → IsSome (Self.output x) };
+}

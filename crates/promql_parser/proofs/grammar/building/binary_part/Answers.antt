@@ -1,0 +1,55 @@
+use Rattle.std.proofs.Common.{◌≡◌, ◌+◌, max, refl, sym, ◌∙◌, ap, subst, arith, Option, Some, None, option_map, true, false, List, ℕ}
+use Rattle.std.specs.Prelude.{Ok, Err, cond, ◌==◌}
+use Rattle.promql_token.specs.declared.ids.TheConstants.{T_SUB}
+use Rattle.promql_ast.specs.Builds.{minus, aggregated}
+use Rattle.promql_ast.specs.Checked.{checked}
+use Rattle.promql_ast.specs.Selectors.{selector}
+use Rattle.promql_ast.specs.Tree as tree
+use Rattle.promql_ast.specs.View.{tree_of, trees_of}
+use Rattle.promql_grammar.specs.Grammar as grammar
+use Rattle.promql_grammar.specs.Pieces as pieces
+use Rattle.promql_grammar.specs.declared.kind.Kind.{Kind}
+use Rattle.promql_ast.specs.Faults.{Verdict, Gives}
+use Rattle.promql_parser.specs.IsPiece.{IsBuiltBy}
+use Rattle.promql_parser.specs.Parts.{IsPart, AreArguments, built_of, clause_in, modifier_of, outcome}
+use Rattle.promql_parser.specs.Postfixes.{IsHeld}
+use Rattle.promql_kind.specs.Functions.{function_named}
+use Rattle.promql_kind.specs.Views.{clause_of, matching_of}
+use Rattle.promql_label.specs.Views.{plain_matchers_of}
+use Rattle.promql_parser.specs.Asking.{gives, known, ◌giving◌}
+use Rattle.promql_parser.specs.Building.{build, build_all, called, passing, passing_checks, selector_tree, with_postfix, with_sign}
+use Rattle.promql_parser.specs.Faults.{fault_of}
+use Rattle.promql_parser.specs.PieceBuilding.{any_braces_value, braces_value, clause_value, modifier_value}
+use Rattle.promql_parser.specs.Postfixes.{changed, change_value}
+use Rattle.promql_parser.proofs.Ending.{ends_known, ends_held, then_value, then_fault}
+use Rattle.promql_parser.proofs.Forms.{if_ok_both, part_of, with_tree, with_fault, with_trees, with_no_trees, ends_given, ends_same, ends_passing, ends_checked, postfix_changes, gives_or_memory, selector_ends, call_ends, unknown_ends, plus_ends, minus_ends, postfix_ends, aggregate_ends, clause_fails, binary_ends, modifier_fails}
+use Rattle.promql_parser.proofs.MoreArguments.{more_ends}
+use Rattle.std.proofs.lemmas.Bool.Decides.{nat_tests}
+use Rattle.promql_parser.proofs.grammar.building.binary_part.Goals as goal
+
+pub returns-in-Err-clause-built : goal.returns-in-Err-clause-built
+returns-in-Err-clause-built c = λ text m l r modifier left right.
+    part_of _ (grammar.binary c.args.op text m l r) _ _ refl refl (let one = left.tall in let other = right.tall in let high = c.max-height.ensures in omega arith)
+    (then_fault (build l) (λ x. build r giving λ y. known (modifier_value m) giving λ z. passing (checked (tree.binary c.args.op x y z))) _ (with_fault c.args.left (build l) c.in-Err.fault c.in-Err.is left.built))
+
+pub returns-in-Err-right-clause-built : goal.returns-in-Err-right-clause-built
+returns-in-Err-right-clause-built c = λ text m l r modifier left right.
+    part_of _ (grammar.binary c.args.op text m l r) _ _ refl refl (let one = left.tall in let other = right.tall in let high = c.max-height.ensures in omega arith)
+    (then_value (build l) (λ x. build r giving λ y. known (modifier_value m) giving λ z. passing (checked (tree.binary c.args.op x y z))) (tree_of c.in-Ok.expr.value) _ (with_tree c.args.left (build l) c.in-Ok.expr c.in-Ok.is left.built)
+    (then_fault (build r) (λ y. known (modifier_value m) giving λ z. passing (checked (tree.binary c.args.op (tree_of c.in-Ok.expr.value) y z))) _ (with_fault c.args.right (build r) c.in-Err-right.fault c.in-Err-right.is right.built)))
+
+pub returns-in-Ok-modified-clause-built : goal.returns-in-Ok-modified-clause-built
+returns-in-Ok-modified-clause-built c =
+    if_ok_both {R = λ part. (text : List ℕ) (m : pieces.Modifier) (l r : grammar.Derivation) → modifier_of c.args.modifier ≡ modifier_value m → IsPart c.args.left l → IsPart c.args.right r → IsPart part (grammar.binary c.args.op text m l r)} _ c.built_part.ensures.value c.built_part.ensures.tall (λ part value tall. λ text m l r modifier left right.
+    part_of part (grammar.binary c.args.op text m l r) _ _ (value _ c.checked.ensures) tall (let one = left.tall in let other = right.tall in let high = c.max-height.ensures in omega arith)
+    (then_value (build l) (λ x. build r giving λ y. known (modifier_value m) giving λ z. passing (checked (tree.binary c.args.op x y z))) (tree_of c.in-Ok.expr.value) _ (with_tree c.args.left (build l) c.in-Ok.expr c.in-Ok.is left.built)
+    (then_value (build r) (λ y. known (modifier_value m) giving λ z. passing (checked (tree.binary c.args.op (tree_of c.in-Ok.expr.value) y z))) (tree_of c.in-Ok-right.expr.value) _ (with_tree c.args.right (build r) c.in-Ok-right.expr c.in-Ok-right.is right.built)
+    (binary_ends c.args.op m (option_map matching_of c.in-Ok-modified.modifier) (tree_of c.in-Ok.expr.value) (tree_of c.in-Ok-right.expr.value) _ (c.in-Ok-modified.ensures ∙ modifier) (ap (λ o. tree.binary o (tree_of c.in-Ok.expr.value) (tree_of c.in-Ok-right.expr.value) (option_map matching_of c.in-Ok-modified.modifier)) c.new-op.ensures)))))
+
+pub returns-in-Err-modified-clause-built : goal.returns-in-Err-modified-clause-built
+returns-in-Err-modified-clause-built c =
+    if_ok_both {R = λ part. (text : List ℕ) (m : pieces.Modifier) (l r : grammar.Derivation) → modifier_of c.args.modifier ≡ modifier_value m → IsPart c.args.left l → IsPart c.args.right r → IsPart part (grammar.binary c.args.op text m l r)} _ c.fault_part.ensures.value c.fault_part.ensures.tall (λ part value tall. λ text m l r modifier left right.
+    part_of part (grammar.binary c.args.op text m l r) _ _ value tall (let one = left.tall in let other = right.tall in let high = c.max-height.ensures in omega arith)
+    (then_value (build l) (λ x. build r giving λ y. known (modifier_value m) giving λ z. passing (checked (tree.binary c.args.op x y z))) (tree_of c.in-Ok.expr.value) _ (with_tree c.args.left (build l) c.in-Ok.expr c.in-Ok.is left.built)
+    (then_value (build r) (λ y. known (modifier_value m) giving λ z. passing (checked (tree.binary c.args.op (tree_of c.in-Ok.expr.value) y z))) (tree_of c.in-Ok-right.expr.value) _ (with_tree c.args.right (build r) c.in-Ok-right.expr c.in-Ok-right.is right.built)
+    (modifier_fails c.args.op m _ (tree_of c.in-Ok.expr.value) (tree_of c.in-Ok-right.expr.value) (c.in-Err-modified.ensures ∙ modifier)))))

@@ -1,5 +1,0 @@
-use Rattle.promql_parser.proofs.Unique.{one_derivation}
-use Rattle.promql_parser.proofs.laws.one_tree.Goals as goal
-
-pub returns : goal.returns
-returns c = one_derivation

@@ -1,0 +1,93 @@
+-- Walks along two lists of events, one after the other.
+use Rattle.std.proofs.Common.{◌≡◌, ◌∙◌, ◌<◌, ℕ, zero, suc, ◌+◌, length, get_or, drop, arith, Bool, true, false, List, [], ◌∷◌, ◌++◌, Result, Ok, Err, refl, subst, sym, ap, Box, Global}
+use Rattle.promql_ast.specs.Tree.{Tree}
+use Rattle.promql_ast.specs.View.{tree_of, trees_of, children_of}
+use Rattle.promql_ast.specs.declared.expr.Expr.{Expr}
+use Rattle.promql_walk.specs.Events.{Event, before, after, events, inner_events, all_events}
+use Rattle.promql_walk.specs.Walked.{IfGoesOn, Visit, Walked}
+
+-- z is a result that ends a walk
+abbrev pub IsEnd : {E : Type 0} → Result Bool E → Type 0
+IsEnd z = IfGoesOn z ⊥ (Unit {0})
+
+module _ {X S E : Type 0} (step : X → S → Result Bool E → S → Type 0) where
+  pub walked_one : (x : X) (s : S) (r : Result Bool E) (t : S) → step x s r t → Walked step (x ∷ []) s r t
+  walked_one x s (Ok true) t h = (Ok true, (t, (h, (refl, refl))))
+  walked_one x s (Ok false) t h = (Ok false, (t, (h, (refl, refl))))
+  walked_one x s (Err e) t h = (Err e, (t, (h, (refl, refl))))
+
+  join : (xs ys : List X) (s : S) (a : Result Bool E) (u : S) (r : Result Bool E) (t : S) → a ≡ Ok true → u ≡ s → IfGoesOn a (Walked step ys u r t) ((r ≡ a) × (t ≡ u)) → Walked step ys s r t
+  join xs ys s (Ok true) u r t e f h = subst (λ w. Walked step ys w r t) f h
+  join xs ys s (Ok false) u r t e f h = cc
+  join xs ys s (Err x) u r t e f h = cc
+
+  stopped : (a : Result Bool E) (u : S) (r : Result Bool E) (t : S) (b : Result Bool E) (P : Type 0) → IsEnd b → a ≡ b → IfGoesOn a P ((r ≡ a) × (t ≡ u)) → (r ≡ a) × (t ≡ u)
+  stopped (Ok false) u r t b P ends e k = k
+  stopped (Err x) u r t b P ends e k = k
+  stopped (Ok true) u r t (Ok true) P ends e k = absurd ends
+  stopped (Ok true) u r t (Ok false) P ends e k = cc
+  stopped (Ok true) u r t (Err x) P ends e k = cc
+
+  pub walked_append : (xs ys : List X) (s : S) (a : Result Bool E) (u : S) (r : Result Bool E) (t : S) → Walked step xs s a u → IfGoesOn a (Walked step ys u r t) ((r ≡ a) × (t ≡ u)) → Walked step (xs ++ ys) s r t
+  walked_append [] ys s a u r t h k = join [] ys s a u r t h.0 h.1 k
+  walked_append (x ∷ xs) ys s a u r t (Ok true, (v, (st, more))) k = (Ok true, (v, (st, walked_append xs ys v a u r t more k)))
+  walked_append (x ∷ xs) ys s a u r t (Ok false, (v, (st, more))) k = let end = stopped a u r t (Ok false) _ tt more.0 k in (Ok false, (v, (st, (end.0 ∙ more.0, end.1 ∙ more.1))))
+  walked_append (x ∷ xs) ys s a u r t (Err e, (v, (st, more))) k = let end = stopped a u r t (Err e) _ tt more.0 k in (Err e, (v, (st, (end.0 ∙ more.0, end.1 ∙ more.1))))
+
+  pub walked_both : (xs ys : List X) (s : S) (a : Result Bool E) (u : S) (r : Result Bool E) (t : S) → a ≡ Ok true → Walked step xs s a u → Walked step ys u r t → Walked step (xs ++ ys) s r t
+  walked_both xs ys s a u r t is h k = walked_append xs ys s (Ok true) u r t (subst (λ b. Walked step xs s b u) is h) k
+
+  pub walked_stops : (xs ys : List X) (s : S) (a : Result Bool E) (u : S) (b : Result Bool E) → IsEnd b → a ≡ b → Walked step xs s a u → Walked step (xs ++ ys) s b u
+  walked_stops xs ys s a u (Ok false) ends is h = walked_append xs ys s (Ok false) u (Ok false) u (subst (λ b. Walked step xs s b u) is h) (refl, refl)
+  walked_stops xs ys s a u (Err e) ends is h = walked_append xs ys s (Err e) u (Err e) u (subst (λ b. Walked step xs s b u) is h) (refl, refl)
+  walked_stops xs ys s a u (Ok true) ends is h = absurd ends
+
+module _ {S E : Type 0} (pre post : S → Tree → Result Bool E → S → Type 0) where
+  abbrev W : List Event → S → Result Bool E → S → Type 0
+  W = Walked (Visit pre post)
+
+  -- all of a node: before it, its children, after it
+  pub whole : (e : Tree) (s u v : S) (a b r : Result Bool E) (t : S) → pre s e a u → a ≡ Ok true → W (inner_events e) u b v → b ≡ Ok true → post v e r t → W (events e) s r t
+  whole e s u v a b r t p pe i ie q =
+      walked_both (Visit pre post) (before e ∷ []) (inner_events e ++ after e ∷ []) s a u r t pe (walked_one (Visit pre post) (before e) s a u p)
+      (walked_both (Visit pre post) (inner_events e) (after e ∷ []) u b v r t ie i (walked_one (Visit pre post) (after e) v r t q))
+
+  pub ends_inside : (e : Tree) (s u v : S) (a b z : Result Bool E) → pre s e a u → a ≡ Ok true → W (inner_events e) u b v → IsEnd z → b ≡ z → W (events e) s z v
+  ends_inside e s u v a b z p pe i ends is =
+      walked_both (Visit pre post) (before e ∷ []) (inner_events e ++ after e ∷ []) s a u z v pe (walked_one (Visit pre post) (before e) s a u p)
+      (walked_stops (Visit pre post) (inner_events e) (after e ∷ []) u b v z ends is i)
+
+  pub ends_before : (e : Tree) (s u : S) (a z : Result Bool E) → pre s e a u → IsEnd z → a ≡ z → W (events e) s z u
+  ends_before e s u a z p ends is =
+      walked_stops (Visit pre post) (before e ∷ []) (inner_events e ++ after e ∷ []) s a u z ends is (walked_one (Visit pre post) (before e) s a u p)
+
+  -- the same walk of an expression that was reached by another way
+  pub walked_as : (d e : Expr) (s : S) (r : Result Bool E) (t : S) → d ≡ e → W (events (tree_of d)) s r t → W (events (tree_of e)) s r t
+  walked_as d e s r t is = subst (λ x. W (events (tree_of x)) s r t) is
+
+  -- the same walk of the children of an expression, by the tree that the expression is
+  pub walked_below : (e : Expr) (x : Tree) (s : S) (r : Result Bool E) (t : S) → tree_of e ≡ x → W (inner_events x) s r t → W (inner_events (tree_of e)) s r t
+  walked_below e x s r t is = subst (λ y. W (inner_events y) s r t) (sym is)
+
+  -- one more of a list of trees
+  pub next_goes : {X : Type 0} (f : X → Tree) (all : List X → List Event) → ((x : X) (xs : List X) → all (x ∷ xs) ≡ events (f x) ++ all xs)
+      → (xs : List X) (x : X) (rest : List X) (s : S) (a : Result Bool E) (u : S) (r : Result Bool E) (t : S) → xs ≡ x ∷ rest → a ≡ Ok true → W (events (f x)) s a u → W (all rest) u r t → W (all xs) s r t
+  next_goes f all more xs x rest s a u r t is go h k =
+      subst (λ es. W es s r t) (sym (ap all is ∙ more x rest)) (walked_both (Visit pre post) (events (f x)) (all rest) s a u r t go h k)
+
+  pub next_ends : {X : Type 0} (f : X → Tree) (all : List X → List Event) → ((x : X) (xs : List X) → all (x ∷ xs) ≡ events (f x) ++ all xs)
+      → (xs : List X) (x : X) (rest : List X) (s : S) (a : Result Bool E) (u : S) (z : Result Bool E) → xs ≡ x ∷ rest → IsEnd z → a ≡ z → W (events (f x)) s a u → W (all xs) s z u
+  next_ends f all more xs x rest s a u z is ends end h =
+      subst (λ es. W es s z u) (sym (ap all is ∙ more x rest)) (walked_stops (Visit pre post) (events (f x)) (all rest) s a u z ends end h)
+
+-- the events of arguments, and of an extension's children
+abbrev pub args_events : List (Box Expr Global) → List Event
+args_events bs = all_events (trees_of bs)
+
+abbrev pub nodes_events : List Expr → List Event
+nodes_events es = all_events (children_of es)
+
+pub dropped : {X : Type 0} (xs : List X) (i : ℕ) (y : X) → i < length xs → y ≡ get_or xs i y → drop i xs ≡ y ∷ drop (i + 1) xs
+dropped [] i y h is = absurd (omega arith)
+dropped (x ∷ xs) zero y h is = ap (λ z. z ∷ xs) (sym is)
+dropped (x ∷ xs) (suc i) y h is = let step : suc (i + 1) ≡ suc i + 1 = omega arith in dropped xs i y (omega arith) is ∙ ap (λ n. y ∷ drop n (x ∷ xs)) step

@@ -1,0 +1,5 @@
+use Rattle.promql_walk.proofs.Forms.{own}
+use Rattle.promql_walk.proofs.laws.own_children.Goals as goal
+
+pub returns : goal.returns
+returns c = own

@@ -1,0 +1,7 @@
+pub mod Changes
+pub mod Children
+pub mod Events
+pub mod Json
+pub mod JsonFaults
+pub mod JsonParts
+pub mod Walked

@@ -1,0 +1,311 @@
+//! The JSON form of nodes: docs/JSON.md, "Nodes".
+
+ghost use Rattle.std.specs.Prelude.{◌≡◌, ◌≢◌, None, Some, IfErr, IfOk, codes, string_bytes};
+ghost use Rattle.serde_json.specs.Data.{object, put as with_member, string as text};
+ghost use Rattle.serde_json.specs.View.{items_view, members_view, view};
+ghost use Rattle.promql_ast.specs.Tree.{number, string};
+ghost use Rattle.promql_ast.specs.View.{aggregate_tree, binary_tree, call_tree, matrix_tree, option_tree, paren_tree, selector_of, subquery_tree, tree_of, trees_of, unary_tree};
+ghost use Rattle.promql_walk.specs.Json.{args_items, args_members as args_parts, json_value, node_members, param_json as param_value, selector_fault, selector_members as selector_parts};
+ghost use Rattle.promql_walk.specs.JsonFaults.{args_fault, json_fault, param_fault};
+ghost use Rattle.promql_walk.specs.declared.json_error.JsonError.TheVariants.{Memory};
+
+use crate::json_error::JsonError;
+use crate::json_parts::{
+    function_json, group_json, is_without, length_json, millis, modifier_json, name_json,
+    number_json, optional_labels_json, put_groups, put_mode, start_or_end_json, step_json,
+    timestamp_json, token_type_json, whole_json,
+};
+use promql_ast::{
+    AggregateExpr, BinaryExpr, Call, Expr, FunctionArgs, MatrixSelector, NumberLiteral, ParenExpr,
+    StringLiteral, SubqueryExpr, UnaryExpr, VectorSelector,
+};
+use serde_json::{Map, Value, put};
+use std::alloc::{AllocError, Global};
+
+// Each function gives the members of a node's object, without `type`.
+
+pub(crate) fn number_members(
+    alloc: Global,
+    node: &NumberLiteral,
+) -> Result<Map<String, Value>, AllocError>
+    ensures { IfOk result (λ m. members_view m.entries ≡ node_members (number node.now.val)) }
+{
+    let mut members = Map::new(alloc);
+    put(&mut members, alloc, "val", number_json(alloc, &node.val)?)?;
+    Ok(members)
+}
+
+pub(crate) fn string_members(
+    alloc: Global,
+    node: &StringLiteral,
+) -> Result<Map<String, Value>, AllocError>
+    ensures { IfOk result
+        (λ m. members_view m.entries ≡ node_members (string (string_bytes node.now.val))) }
+{
+    let mut members = Map::new(alloc);
+    put(
+        &mut members,
+        alloc,
+        "val",
+        Value::try_from_str(alloc, node.val.as_str())?,
+    )?;
+    Ok(members)
+}
+
+pub(crate) fn selector_members(
+    alloc: Global,
+    node: &VectorSelector,
+) -> Result<Map<String, Value>, JsonError>
+    ensures ok { IfOk result (λ m. members_view m.entries ≡ selector_parts (selector_of node.now)) }
+    ensures fits { IfOk result (λ _. selector_fault (selector_of node.now) ≡ None) }
+    ensures err { IfErr result (λ e. e ≢ Memory → selector_fault (selector_of node.now) ≡ Some e) }
+{
+    let offset = whole_json(millis(node.offset))?;
+    let mut members = Map::new(alloc);
+    put(&mut members, alloc, "name", name_json(alloc, &node.name)?)?;
+    put(
+        &mut members,
+        alloc,
+        "matchers",
+        group_json(alloc, &node.matchers.matchers)?,
+    )?;
+    put(&mut members, alloc, "offset", offset)?;
+    put(
+        &mut members,
+        alloc,
+        "startOrEnd",
+        start_or_end_json(alloc, node.at)?,
+    )?;
+    put(&mut members, alloc, "timestamp", timestamp_json(node.at))?;
+    put_groups(&mut members, alloc, &node.matchers.or_matchers)?;
+    Ok(members)
+}
+
+pub(crate) fn matrix_members(
+    alloc: Global,
+    node: &MatrixSelector,
+) -> Result<Map<String, Value>, JsonError>
+    ensures ok { IfOk result (λ m. members_view m.entries ≡ node_members (matrix_tree node.now)) }
+    ensures fits { IfOk result (λ _. json_fault (matrix_tree node.now) ≡ None) }
+    ensures err { IfErr result (λ e. e ≢ Memory → json_fault (matrix_tree node.now) ≡ Some e) }
+{
+    let mut members = selector_members(alloc, &node.vs)?;
+    put(&mut members, alloc, "range", length_json(node.range)?)?;
+    put_mode(&mut members, alloc, node.mode)?;
+    Ok(members)
+}
+
+#[cycle(json)]
+pub(crate) fn aggregate_members(
+    alloc: Global,
+    node: &AggregateExpr,
+) -> Result<Map<String, Value>, JsonError>
+    ensures ok { IfOk result (λ m. members_view m.entries ≡ node_members (aggregate_tree node.now)) }
+    ensures fits { IfOk result (λ _. json_fault (aggregate_tree node.now) ≡ None) }
+    ensures err { IfErr result (λ e. e ≢ Memory → json_fault (aggregate_tree node.now) ≡ Some e) }
+{
+    let param = param_json(alloc, &node.param)?;
+    let expr = expr_json(alloc, &node.expr)?;
+    let mut members = Map::new(alloc);
+    put(&mut members, alloc, "op", token_type_json(alloc, node.op)?)?;
+    put(&mut members, alloc, "expr", expr)?;
+    put(&mut members, alloc, "param", param)?;
+    put(
+        &mut members,
+        alloc,
+        "grouping",
+        optional_labels_json(alloc, &node.modifier)?,
+    )?;
+    put(
+        &mut members,
+        alloc,
+        "without",
+        Value::Bool(is_without(&node.modifier)),
+    )?;
+    Ok(members)
+}
+
+#[cycle(json)]
+fn param_json(alloc: Global, param: &Option<Box<Expr>>) -> Result<Value, JsonError>
+    ensures ok { IfOk result (λ v. view v ≡ param_value (option_tree param.now)) }
+    ensures fits { IfOk result (λ _. param_fault (option_tree param.now) ≡ None) }
+    ensures err { IfErr result (λ e. e ≢ Memory → param_fault (option_tree param.now) ≡ Some e) }
+{
+    match param {
+        Some(param) => expr_json(alloc, param),
+        None => Ok(Value::Null),
+    }
+}
+
+#[cycle(json)]
+pub(crate) fn unary_members(
+    alloc: Global,
+    node: &UnaryExpr,
+) -> Result<Map<String, Value>, JsonError>
+    ensures ok { IfOk result (λ m. members_view m.entries ≡ node_members (unary_tree node.now)) }
+    ensures fits { IfOk result (λ _. json_fault (unary_tree node.now) ≡ None) }
+    ensures err { IfErr result (λ e. e ≢ Memory → json_fault (unary_tree node.now) ≡ Some e) }
+{
+    let expr = expr_json(alloc, &node.expr)?;
+    let mut members = Map::new(alloc);
+    put(&mut members, alloc, "op", Value::try_from_str(alloc, "-")?)?;
+    put(&mut members, alloc, "expr", expr)?;
+    Ok(members)
+}
+
+#[cycle(json)]
+pub(crate) fn binary_members(
+    alloc: Global,
+    node: &BinaryExpr,
+) -> Result<Map<String, Value>, JsonError>
+    ensures ok { IfOk result (λ m. members_view m.entries ≡ node_members (binary_tree node.now)) }
+    ensures fits { IfOk result (λ _. json_fault (binary_tree node.now) ≡ None) }
+    ensures err { IfErr result (λ e. e ≢ Memory → json_fault (binary_tree node.now) ≡ Some e) }
+{
+    let lhs = expr_json(alloc, &node.lhs)?;
+    let rhs = expr_json(alloc, &node.rhs)?;
+    let mut members = Map::new(alloc);
+    put(&mut members, alloc, "op", token_type_json(alloc, node.op)?)?;
+    put(&mut members, alloc, "lhs", lhs)?;
+    put(&mut members, alloc, "rhs", rhs)?;
+    put(&mut members, alloc, "bool", Value::Bool(node.return_bool()))?;
+    put(
+        &mut members,
+        alloc,
+        "matching",
+        modifier_json(alloc, &node.modifier)?,
+    )?;
+    Ok(members)
+}
+
+#[cycle(json)]
+pub(crate) fn paren_members(
+    alloc: Global,
+    node: &ParenExpr,
+) -> Result<Map<String, Value>, JsonError>
+    ensures ok { IfOk result (λ m. members_view m.entries ≡ node_members (paren_tree node.now)) }
+    ensures fits { IfOk result (λ _. json_fault (paren_tree node.now) ≡ None) }
+    ensures err { IfErr result (λ e. e ≢ Memory → json_fault (paren_tree node.now) ≡ Some e) }
+{
+    let expr = expr_json(alloc, &node.expr)?;
+    let mut members = Map::new(alloc);
+    put(&mut members, alloc, "expr", expr)?;
+    Ok(members)
+}
+
+#[cycle(json)]
+pub(crate) fn subquery_members(
+    alloc: Global,
+    node: &SubqueryExpr,
+) -> Result<Map<String, Value>, JsonError>
+    ensures ok { IfOk result (λ m. members_view m.entries ≡ node_members (subquery_tree node.now)) }
+    ensures fits { IfOk result (λ _. json_fault (subquery_tree node.now) ≡ None) }
+    ensures err { IfErr result (λ e. e ≢ Memory → json_fault (subquery_tree node.now) ≡ Some e) }
+{
+    let offset = whole_json(millis(node.offset))?;
+    let range = length_json(node.range)?;
+    let step = step_json(node.step)?;
+    let expr = expr_json(alloc, &node.expr)?;
+    let mut members = Map::new(alloc);
+    put(&mut members, alloc, "expr", expr)?;
+    put(&mut members, alloc, "offset", offset)?;
+    put(
+        &mut members,
+        alloc,
+        "startOrEnd",
+        start_or_end_json(alloc, node.at)?,
+    )?;
+    put(&mut members, alloc, "timestamp", timestamp_json(node.at))?;
+    put(&mut members, alloc, "range", range)?;
+    put(&mut members, alloc, "step", step)?;
+    Ok(members)
+}
+
+#[cycle(json)]
+pub(crate) fn call_members(alloc: Global, node: &Call) -> Result<Map<String, Value>, JsonError>
+    ensures ok { IfOk result (λ m. members_view m.entries ≡ node_members (call_tree node.now)) }
+    ensures fits { IfOk result (λ _. json_fault (call_tree node.now) ≡ None) }
+    ensures err { IfErr result (λ e. e ≢ Memory → json_fault (call_tree node.now) ≡ Some e) }
+{
+    let args = args_json(alloc, node.args.args.as_slice())?;
+    let mut members = Map::new(alloc);
+    put(
+        &mut members,
+        alloc,
+        "func",
+        function_json(alloc, &node.func)?,
+    )?;
+    put(&mut members, alloc, "args", Value::Array(args))?;
+    Ok(members)
+}
+
+#[cycle(json)]
+fn args_json(alloc: Global, args: &[Box<Expr>]) -> Result<Vec<Value>, JsonError>
+    ensures ok { IfOk result (λ v. items_view v.items ≡ args_items (trees_of args.now)) }
+    ensures fits { IfOk result (λ _. args_fault (trees_of args.now) ≡ None) }
+    ensures err { IfErr result (λ e. e ≢ Memory → args_fault (trees_of args.now) ≡ Some e) }
+{
+    let mut list = Vec::with_capacity(alloc, args.len())?;
+    for arg in args {
+        list.push(expr_json(alloc, arg)?)?;
+    }
+    Ok(list)
+}
+
+/// The members of the object of arguments by themselves.
+pub(crate) fn args_members(
+    alloc: Global,
+    args: &FunctionArgs,
+) -> Result<Map<String, Value>, JsonError>
+    ensures ok { IfOk result
+        (λ m. members_view m.entries ≡ args_parts (trees_of args.now.args.items)) }
+    ensures fits { IfOk result (λ _. args_fault (trees_of args.now.args.items) ≡ None) }
+    ensures err { IfErr result (λ e. e ≢ Memory → args_fault (trees_of args.now.args.items) ≡ Some e) }
+{
+    let args = args_json(alloc, args.args.as_slice())?;
+    let mut members = Map::new(alloc);
+    put(&mut members, alloc, "args", Value::Array(args))?;
+    Ok(members)
+}
+
+/// A node's object: its members, and its `type`.
+fn typed(alloc: Global, type_name: &str, members: Map<String, Value>) -> Result<Value, AllocError>
+    ensures { IfOk result (λ v. view v
+        ≡ object (with_member (codes "type") (text type_name.now) (members_view members.entries))) }
+{
+    let mut members = members;
+    put(
+        &mut members,
+        alloc,
+        "type",
+        Value::try_from_str(alloc, type_name)?,
+    )?;
+    Ok(Value::Object(members))
+}
+
+/// The object of an expression.
+#[cycle(json)]
+#[tactic(auto, using(promql_ast::proofs::Views::tree_of_call, promql_ast::proofs::Views::tree_of_extension, promql_ast::proofs::Views::tree_of_aggregate))]
+pub(crate) fn expr_json(alloc: Global, expr: &Expr) -> Result<Value, JsonError>
+    ensures ok { IfOk result (λ v. view v ≡ json_value (tree_of expr.now)) }
+    ensures fits { IfOk result (λ _. json_fault (tree_of expr.now) ≡ None) }
+    ensures err { IfErr result (λ e. e ≢ Memory → json_fault (tree_of expr.now) ≡ Some e) }
+{
+    match expr {
+        Expr::Aggregate(e) => Ok(typed(alloc, "aggregation", aggregate_members(alloc, e)?)?),
+        Expr::Unary(e) => Ok(typed(alloc, "unaryExpr", unary_members(alloc, e)?)?),
+        Expr::Binary(e) => Ok(typed(alloc, "binaryExpr", binary_members(alloc, e)?)?),
+        Expr::Paren(e) => Ok(typed(alloc, "parenExpr", paren_members(alloc, e)?)?),
+        Expr::Subquery(e) => Ok(typed(alloc, "subquery", subquery_members(alloc, e)?)?),
+        Expr::NumberLiteral(e) => Ok(typed(alloc, "numberLiteral", number_members(alloc, e)?)?),
+        Expr::StringLiteral(e) => Ok(typed(alloc, "stringLiteral", string_members(alloc, e)?)?),
+        Expr::VectorSelector(e) => {
+            Ok(typed(alloc, "vectorSelector", selector_members(alloc, e)?)?)
+        }
+        Expr::MatrixSelector(e) => {
+            Ok(typed(alloc, "matrixSelector", matrix_members(alloc, e)?)?)
+        }
+        Expr::Call(e) => Ok(typed(alloc, "call", call_members(alloc, e)?)?),
+        Expr::Extension(_) => Err(JsonError::Extension),
+    }
+}

@@ -1,0 +1,19 @@
+//! Walks over a query's tree, and its form in JSON.
+//! The rules are in docs/WALKS.md and docs/JSON.md.
+#![tactic(auto)]
+
+pub use json_error::JsonError;
+pub use json_parts::{labels_json, match_op_json, matcher_json, matchers_json, token_type_json};
+pub use to_json::ToJson;
+pub use visitor::{ExprVisitor, walk_expr};
+pub use visitor_mut::{ExprVisitorMut, walk_expr_mut};
+
+pub mod json_error;
+mod json_nodes;
+mod json_parts;
+pub mod laws;
+#[cfg(test)]
+mod tests;
+mod to_json;
+pub mod visitor;
+pub mod visitor_mut;
