@@ -282,11 +282,11 @@ refused_answer text e listed = by_tokens (tokens text) refl
 pub drawn_answer : CheckedTyped → (text : Text) (ts : List Symbol) → ((list : List Token) → tokens text ≡ Ok list → ts ≡ map symbol_of list)
     → ((f : LexFault) → tokens text ≡ Err f → (before : List Symbol) × (ts ≡ before ++ fault_mark ∷ []))
     → (t : Tree) → IsWholeValue 512 ts (Ok t) → IsAnswerTo text (Ok t)
-drawn_answer law text ts whole fault t value = by_tokens (tokens text) refl
+drawn_answer law text ts whole faulty t value = by_tokens (tokens text) refl
   where
     by_tokens : (r : Result (List Token) LexFault) → tokens text ≡ r → IsAnswerTo text (Ok t)
     by_tokens (Ok []) is =
         let none : yield value.derivation ≡ [] = value.spells ∙ whole [] is in
         absurd (omega (arith, ap length none, some_height value.derivation, height_yield value.derivation))
     by_tokens (Ok (u ∷ us)) is = tree_answer text (u ∷ us) is (omega arith) ts (whole (u ∷ us) is) law t value
-    by_tokens (Err f) is = let mark = fault f is in absurd (last_is_known value.derivation mark.0 [] value.formed (value.spells ∙ mark.1))
+    by_tokens (Err f) is = let mark = faulty f is in absurd (last_is_known value.derivation mark.0 [] value.formed (value.spells ∙ mark.1))

@@ -138,7 +138,7 @@ pub fn parse(alloc: Global, text: &str) -> Result<Expr, ParseError>
 /// Why a text has no tree: its lexical fault, or that it has no token, comes before what reading
 /// found.
 fn first_refusal(text: &str, found: ParseError) -> ParseError
-    ensures { result ≡ first_of (has_any (tokens text.now)) found.entry }
+    ensures { result ≡ first_of (has_any (tokens text.now)) found }
 {
     match has_tokens(text) {
         Ok(true) => found,
