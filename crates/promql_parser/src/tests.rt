@@ -1,5 +1,6 @@
 mod faults;
 mod forms;
+mod layout;
 mod limits;
 mod pieces;
 mod queries;

@@ -62,12 +62,7 @@ fn begins_modifier(kind: Kind) -> bool
 {
     matches!(
         kind,
-        Kind::Bool
-            | Kind::On
-            | Kind::Ignoring
-            | Kind::Fill
-            | Kind::FillLeft
-            | Kind::FillRight
+        Kind::Bool | Kind::On | Kind::Ignoring | Kind::Fill | Kind::FillLeft | Kind::FillRight
     )
 }
 
