@@ -6,14 +6,8 @@ use Rattle.promql_ast.specs.Shifts.{time_text}
 use Rattle.promql_ast.specs.Text.{text}
 use Rattle.promql_ast.specs.Tree.{Tree}
 
--- the first and the last time, in milliseconds since the epoch
-abbrev pub times_text : ℤ → ℤ → Text
-times_text start end = time_text start ++ (codes ", " ++ time_text end)
-
--- the time between two evaluations and how far each looks back, in nanoseconds
-abbrev pub steps_text : ℕ → ℕ → Text
-steps_text interval lookback = duration_text interval ++ (codes ", " ++ duration_text lookback)
-
+-- times in milliseconds since the epoch, durations in nanoseconds
 abbrev pub statement_text : Tree → ℤ → ℤ → ℕ → ℕ → Text
 statement_text t start end interval lookback =
-    codes "[" ++ (text t ++ (codes "] @ [" ++ (times_text start end ++ (codes ", " ++ (steps_text interval lookback ++ codes "]")))))
+    codes "[" ++ (text t ++ (codes "] @ [" ++ (time_text start ++ (codes ", " ++ (time_text end ++ (codes ", "
+    ++ (duration_text interval ++ (codes ", " ++ (duration_text lookback ++ codes "]")))))))))

@@ -1,14 +1,13 @@
 //! A query and the times at which it is evaluated: docs/TREE.md, "Statements".
 
-ghost use Rattle.std.specs.Prelude.{◌≡◌, ◌++◌, Some, IfOk, codes};
+ghost use Rattle.std.specs.Prelude.{◌≡◌, Some, IfOk};
 ghost use Rattle.std.specs.Duration.{as_nanos};
-ghost use Rattle.std.specs.Fmt.{WritesOnOk};
-ghost use Rattle.promql_ast.specs.Statement.{statement_text, steps_text, times_text};
+ghost use Rattle.promql_ast.specs.Statement.{statement_text};
 ghost use Rattle.promql_ast.specs.View.{tree_of};
 
 use crate::at_modifier::Seconds;
 use crate::expr::Expr;
-use promql_text::duration_text::DurationText;
+use promql_text::DurationText;
 use std::alloc::{AllocError, Global};
 use std::fmt;
 use std::fmt::Display;
@@ -52,38 +51,16 @@ impl EvalStmt {
     }
 }
 
-fn write_times<W: fmt::Write>(start: i64, end: i64, f: &mut fmt::Formatter<W>) -> fmt::Result
-    ensures { WritesOnOk W.write_str_gives f.old result (times_text start end) f.new }
-{
-    Seconds(start).fmt(f)?;
-    f.write_str(", ")?;
-    Seconds(end).fmt(f)
-}
-
-fn write_steps<W: fmt::Write>(
-    interval: &Duration,
-    lookback: &Duration,
-    f: &mut fmt::Formatter<W>,
-) -> fmt::Result
-    ensures { WritesOnOk W.write_str_gives f.old result
-        (steps_text (as_nanos interval.now) (as_nanos lookback.now)) f.new }
-{
-    DurationText(interval).fmt(f)?;
-    f.write_str(", ")?;
-    DurationText(lookback).fmt(f)
-}
-
 impl fmt::Display for EvalStmt {
     ghost output = { λ s. Some (statement_text (tree_of s.expr) s.start s.end
         (as_nanos s.interval) (as_nanos s.lookback_delta)) };
 
     fn fmt<W: fmt::Write>(&self, f: &mut fmt::Formatter<W>) -> fmt::Result {
-        f.write_str("[")?;
-        self.expr.fmt(f)?;
-        f.write_str("] @ [")?;
-        write_times(self.start, self.end, f)?;
-        f.write_str(", ")?;
-        write_steps(&self.interval, &self.lookback_delta, f)?;
-        f.write_str("]")
+        let expr = &self.expr;
+        let start = Seconds(self.start);
+        let end = Seconds(self.end);
+        let interval = DurationText(&self.interval);
+        let lookback = DurationText(&self.lookback_delta);
+        write!(f, "[{expr}] @ [{start}, {end}, {interval}, {lookback}]")
     }
 }
