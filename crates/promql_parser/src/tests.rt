@@ -1,6 +1,5 @@
 mod faults;
 mod forms;
-mod layout;
 mod limits;
 mod pieces;
 mod queries;

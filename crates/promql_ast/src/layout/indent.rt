@@ -22,6 +22,7 @@ pub fn deeper(level: usize) -> Result<usize, PrettyError>
 }
 
 /// Appends the indentation of a level.
+#[tactic(auto, using(crate::proofs::Indents::indent_more_after))]
 pub fn push_indent(out: &mut String, level: usize) -> Result<(), PrettyError>
     ensures ok { OnOk result (string_bytes out.new ≡ string_bytes out.old ++ indent level) }
     ensures wide { result ≡ Err PrettyError.IndentTooWide → greatest < 2 * level }

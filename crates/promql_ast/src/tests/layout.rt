@@ -64,7 +64,7 @@ fn a_call_without_arguments_is_split(rt: HostRuntime) -> Result<(), Fail> {
 
 /// A value at level 1, at a width where its line or a part of it is too long and at one where it is not; then the value
 /// over several lines, and the least width that its line fits.
-#[derive(Drop)]
+#[derive(Clone, Copy)]
 struct Row {
     max: usize,
     split: &'static str,
