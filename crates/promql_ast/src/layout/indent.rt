@@ -1,8 +1,8 @@
 //! Indentation of two spaces a level.
 
-ghost use Rattle.std.specs.Prelude.{◌≡◌, ◌++◌, ◌+◌, ◌<◌, ◌*◌, ◌==◌, if◌then◌else◌, [], Err, IfOk, OnOk, IfSome, string_bytes, codes};
+ghost use Rattle.std.specs.Prelude.{◌≡◌, ◌++◌, ◌+◌, ◌<◌, ◌≤◌, ◌*◌, ◌==◌, if◌then◌else◌, [], Err, IfOk, OnOk, IfSome, string_bytes, codes};
 ghost use Rattle.promql_ast.specs.Layout.{trimmed};
-ghost use Rattle.promql_ast.specs.Lines.{indent};
+ghost use Rattle.promql_ast.specs.Lines.{indent, Keeps};
 ghost use Rattle.promql_text.specs.Widths.{greatest};
 
 use crate::layout::prettier::PrettyError;
@@ -13,6 +13,7 @@ use std::fmt::Display;
 pub fn deeper(level: usize) -> Result<usize, PrettyError>
     ensures ok { IfOk result (λ n. n ≡ level + 1) }
     ensures wide { result ≡ Err PrettyError.IndentTooWide → greatest < 2 * level }
+    ensures fits { IfOk result (λ n. 2 * level ≤ greatest) }
 {
     if level > usize::MAX / 2 {
         return Err(PrettyError::IndentTooWide);
@@ -21,9 +22,11 @@ pub fn deeper(level: usize) -> Result<usize, PrettyError>
 }
 
 /// Appends the indentation of a level.
+#[tactic(auto, using(crate::proofs::Indents::indent_more_after))]
 pub fn push_indent(out: &mut String, level: usize) -> Result<(), PrettyError>
     ensures ok { OnOk result (string_bytes out.new ≡ string_bytes out.old ++ indent level) }
     ensures wide { result ≡ Err PrettyError.IndentTooWide → greatest < 2 * level }
+    ensures fits { OnOk result (2 * level ≤ greatest) }
 {
     if level > usize::MAX / 2 {
         return Err(PrettyError::IndentTooWide);
@@ -38,7 +41,9 @@ pub fn push_indent(out: &mut String, level: usize) -> Result<(), PrettyError>
 pub fn indented<T: Display>(value: &T, alloc: Global, level: usize) -> Result<String, PrettyError>
     ensures ok { IfSome (T.output value.now) (λ t. IfOk result
         (λ s. string_bytes s ≡ indent level ++ t)) }
+    ensures keeps { Keeps (T.output value.now) result }
     ensures wide { result ≡ Err PrettyError.IndentTooWide → greatest < 2 * level }
+    ensures fits { IfOk result (λ s. 2 * level ≤ greatest) }
 {
     let mut out = String::new(alloc);
     push_indent(&mut out, level)?;
@@ -62,6 +67,7 @@ pub fn push_line<T: Display>(value: &T, level: usize, out: &mut String) -> Resul
     ensures ok { IfSome (T.output value.now) (λ t. OnOk result
         (string_bytes out.new ≡ string_bytes out.old ++ (indent level ++ t))) }
     ensures wide { result ≡ Err PrettyError.IndentTooWide → greatest < 2 * level }
+    ensures fits { OnOk result (2 * level ≤ greatest) }
 {
     push_indent(out, level)?;
     out.write(value)?;
@@ -94,6 +100,7 @@ pub fn push_below(out: &mut String, level: usize, text: &str) -> Result<(), Pret
     ensures ok { OnOk result (string_bytes out.new
         ≡ string_bytes out.old ++ (codes "\n" ++ (indent level ++ text.now))) }
     ensures wide { result ≡ Err PrettyError.IndentTooWide → greatest < 2 * level }
+    ensures fits { OnOk result (2 * level ≤ greatest) }
 {
     out.push_str("\n")?;
     push_indent(out, level)?;

@@ -1,6 +1,6 @@
 //! Places each node by its decision: docs/LAYOUT.md, "Nodes".
 
-ghost use Rattle.std.specs.Prelude.{◌≡◌, ◌++◌, ◌∷◌, ◌+◌, ◌*◌, ◌<◌, true, codes, Err, OnOk, string_bytes};
+ghost use Rattle.std.specs.Prelude.{◌≡◌, ◌++◌, ◌∷◌, ◌+◌, ◌*◌, ◌<◌, ◌≤◌, true, codes, Err, OnOk, string_bytes};
 ghost use Rattle.std.specs.Slice.Iter.{iter_rest};
 ghost use Rattle.promql_ast.specs.Layout.{param_lines};
 ghost use Rattle.promql_ast.specs.Splits.{all_rest, all_told, all_told_deepest, maybe_rest, maybe_told, maybe_told_deepest, rest, told, told_deepest};
@@ -40,6 +40,8 @@ impl Expr {
         ensures rest { OnOk result (iter_rest splits.new ≡ rest (tree_of self.now) (iter_rest splits.old)) }
         ensures wide { result ≡ Err PrettyError.IndentTooWide
             → greatest < 2 * told_deepest (tree_of self.now) level (iter_rest splits.old) }
+        ensures fits { OnOk result
+            (2 * told_deepest (tree_of self.now) level (iter_rest splits.old) ≤ greatest) }
     {
         match self {
             Expr::Aggregate(e) => e.place(alloc, level, splits, out),
@@ -71,6 +73,8 @@ fn place_args(
         (iter_rest splits.new ≡ all_rest (trees_of args.now) (iter_rest splits.old)) }
     ensures wide { result ≡ Err PrettyError.IndentTooWide
         → greatest < 2 * all_told_deepest (trees_of args.now) level (iter_rest splits.old) }
+    ensures fits { OnOk result
+        (2 * all_told_deepest (trees_of args.now) level (iter_rest splits.old) ≤ greatest) }
 {
     for (i, arg) in args.iter().enumerate() {
         push_comma(i, out)?;
@@ -93,6 +97,8 @@ fn place_param(
         (iter_rest splits.new ≡ maybe_rest (option_tree param.now) (iter_rest splits.old)) }
     ensures wide { result ≡ Err PrettyError.IndentTooWide
         → greatest < 2 * maybe_told_deepest (option_tree param.now) level (iter_rest splits.old) }
+    ensures fits { OnOk result
+        (2 * maybe_told_deepest (option_tree param.now) level (iter_rest splits.old) ≤ greatest) }
 {
     match param {
         Some(param) => {
@@ -119,6 +125,8 @@ impl AggregateExpr {
         ensures rest { OnOk result (iter_rest splits.new ≡ rest (aggregate_tree self.now) (true ∷ iter_rest splits.old)) }
         ensures wide { result ≡ Err PrettyError.IndentTooWide
             → greatest < 2 * told_deepest (aggregate_tree self.now) level (true ∷ iter_rest splits.old) }
+        ensures fits { OnOk result
+            (2 * told_deepest (aggregate_tree self.now) level (true ∷ iter_rest splits.old) ≤ greatest) }
     {
         let inner = deeper(level)?;
         push_indent(out, level)?;
@@ -146,6 +154,8 @@ impl AggregateExpr {
         ensures rest { OnOk result (iter_rest splits.new ≡ rest (aggregate_tree self.now) (iter_rest splits.old)) }
         ensures wide { result ≡ Err PrettyError.IndentTooWide
             → greatest < 2 * told_deepest (aggregate_tree self.now) level (iter_rest splits.old) }
+        ensures fits { OnOk result
+            (2 * told_deepest (aggregate_tree self.now) level (iter_rest splits.old) ≤ greatest) }
     {
         if next_split(splits) {
             self.place_lines(alloc, level, splits, out)
@@ -170,6 +180,8 @@ impl BinaryExpr {
         ensures rest { OnOk result (iter_rest splits.new ≡ rest (binary_tree self.now) (true ∷ iter_rest splits.old)) }
         ensures wide { result ≡ Err PrettyError.IndentTooWide
             → greatest < 2 * told_deepest (binary_tree self.now) level (true ∷ iter_rest splits.old) }
+        ensures fits { OnOk result
+            (2 * told_deepest (binary_tree self.now) level (true ∷ iter_rest splits.old) ≤ greatest) }
     {
         let inner = deeper(level)?;
         (*self.lhs).place(alloc, inner, splits, out)?;
@@ -192,6 +204,8 @@ impl BinaryExpr {
         ensures rest { OnOk result (iter_rest splits.new ≡ rest (binary_tree self.now) (iter_rest splits.old)) }
         ensures wide { result ≡ Err PrettyError.IndentTooWide
             → greatest < 2 * told_deepest (binary_tree self.now) level (iter_rest splits.old) }
+        ensures fits { OnOk result
+            (2 * told_deepest (binary_tree self.now) level (iter_rest splits.old) ≤ greatest) }
     {
         if next_split(splits) {
             self.place_lines(alloc, level, splits, out)
@@ -216,6 +230,8 @@ impl ParenExpr {
         ensures rest { OnOk result (iter_rest splits.new ≡ rest (paren_tree self.now) (true ∷ iter_rest splits.old)) }
         ensures wide { result ≡ Err PrettyError.IndentTooWide
             → greatest < 2 * told_deepest (paren_tree self.now) level (true ∷ iter_rest splits.old) }
+        ensures fits { OnOk result
+            (2 * told_deepest (paren_tree self.now) level (true ∷ iter_rest splits.old) ≤ greatest) }
     {
         let inner = deeper(level)?;
         push_indent(out, level)?;
@@ -237,6 +253,8 @@ impl ParenExpr {
         ensures rest { OnOk result (iter_rest splits.new ≡ rest (paren_tree self.now) (iter_rest splits.old)) }
         ensures wide { result ≡ Err PrettyError.IndentTooWide
             → greatest < 2 * told_deepest (paren_tree self.now) level (iter_rest splits.old) }
+        ensures fits { OnOk result
+            (2 * told_deepest (paren_tree self.now) level (iter_rest splits.old) ≤ greatest) }
     {
         if next_split(splits) {
             self.place_lines(alloc, level, splits, out)
@@ -261,6 +279,8 @@ impl Call {
         ensures rest { OnOk result (iter_rest splits.new ≡ rest (call_tree self.now) (true ∷ iter_rest splits.old)) }
         ensures wide { result ≡ Err PrettyError.IndentTooWide
             → greatest < 2 * told_deepest (call_tree self.now) level (true ∷ iter_rest splits.old) }
+        ensures fits { OnOk result
+            (2 * told_deepest (call_tree self.now) level (true ∷ iter_rest splits.old) ≤ greatest) }
     {
         let inner = deeper(level)?;
         push_indent(out, level)?;
@@ -283,6 +303,8 @@ impl Call {
         ensures rest { OnOk result (iter_rest splits.new ≡ rest (call_tree self.now) (iter_rest splits.old)) }
         ensures wide { result ≡ Err PrettyError.IndentTooWide
             → greatest < 2 * told_deepest (call_tree self.now) level (iter_rest splits.old) }
+        ensures fits { OnOk result
+            (2 * told_deepest (call_tree self.now) level (iter_rest splits.old) ≤ greatest) }
     {
         if next_split(splits) {
             self.place_lines(alloc, level, splits, out)
@@ -306,6 +328,8 @@ impl UnaryExpr {
         ensures rest { OnOk result (iter_rest splits.new ≡ rest (unary_tree self.now) (iter_rest splits.old)) }
         ensures wide { result ≡ Err PrettyError.IndentTooWide
             → greatest < 2 * told_deepest (unary_tree self.now) level (iter_rest splits.old) }
+        ensures fits { OnOk result
+            (2 * told_deepest (unary_tree self.now) level (iter_rest splits.old) ≤ greatest) }
     {
         push_indent(out, level)?;
         out.push_str("-")?;
@@ -330,6 +354,8 @@ impl SubqueryExpr {
         ensures rest { OnOk result (iter_rest splits.new ≡ rest (subquery_tree self.now) (iter_rest splits.old)) }
         ensures wide { result ≡ Err PrettyError.IndentTooWide
             → greatest < 2 * told_deepest (subquery_tree self.now) level (iter_rest splits.old) }
+        ensures fits { OnOk result
+            (2 * told_deepest (subquery_tree self.now) level (iter_rest splits.old) ≤ greatest) }
     {
         (*self.expr).place(alloc, level, splits, out)?;
         let suffix = Suffix {
@@ -355,6 +381,8 @@ impl FunctionArgs {
             (all_told (trees_of self.now.args.items) level (iter_rest splits.old))) }
         ensures wide { result ≡ Err PrettyError.IndentTooWide → greatest
             < 2 * all_told_deepest (trees_of self.now.args.items) level (iter_rest splits.old) }
+        ensures fits { OnOk result
+            (2 * all_told_deepest (trees_of self.now.args.items) level (iter_rest splits.old) ≤ greatest) }
     {
         place_args(self.args.as_slice(), alloc, level, splits, out)
     }

@@ -1,15 +1,15 @@
-//! Each node lays itself out: docs/LAYOUT.md, "Nodes".
+//! Expressions lay themselves out: docs/LAYOUT.md, "Nodes".
 
-ghost use Rattle.std.specs.Prelude.{◌≡◌, ◌≤◌, ◌+◌, ◌++◌, ◌⊎◌, ◌<◌, ◌*◌, ℕ, codes, false, Err, Some, IfOk, OnOk, IfSome, IsTrue, string_bytes};
-ghost use Rattle.promql_ast.specs.Layout.{args_laid, deepest, deepests, laid, lines, lines_deepest};
+ghost use Rattle.std.specs.Prelude.{◌≡◌, ◌≤◌, ◌+◌, ◌++◌, ◌⊎◌, ◌<◌, ◌*◌, Err, Some, IfOk, OnOk, IfSome, IsTrue, string_bytes};
+ghost use Rattle.promql_ast.specs.Layout.{deepest, laid};
 ghost use Rattle.promql_ast.specs.Lines.{indent, is_longer, Keeps};
 ghost use Rattle.promql_ast.specs.Nodes.{nodes};
-ghost use Rattle.promql_ast.specs.Text.{text, texts};
-ghost use Rattle.promql_ast.specs.View.{aggregate_tree, binary_tree, call_tree, matrix_tree, paren_tree, subquery_tree, tree_of, trees_of, unary_tree, vector_tree};
-ghost use Rattle.promql_text.specs.Texts.{joined_text};
+ghost use Rattle.promql_ast.specs.Text.{text};
+ghost use Rattle.promql_ast.specs.View.{tree_of};
 ghost use Rattle.promql_text.specs.Widths.{greatest, stopped};
 
 use crate::expr::Expr;
+use crate::layout::indent::indented;
 use crate::layout::prettier::{Prettier, PrettyError};
 use crate::layout::tally::Tally;
 use std::alloc::Global;
@@ -32,6 +32,8 @@ impl Expr {
         ensures text { IfOk result (λ s. string_bytes s ≡ laid (tree_of self.now) level max) }
         ensures wide { result ≡ Err PrettyError.IndentTooWide
             → greatest < 2 * deepest (tree_of self.now) level max }
+        ensures fits { IfOk result
+            (λ s. 2 * deepest (tree_of self.now) level max ≤ greatest) }
         ensures counted { OnOk result
             (tally.new.widths ≡ stopped (tally.old.widths + nodes (tree_of self.now))) }
         ensures between { (tally.old.widths ≤ tally.new.widths)
@@ -54,6 +56,8 @@ impl Expr {
         ensures text { IfOk result (λ s. string_bytes s ≡ laid (tree_of self.now) 0 100) }
         ensures wide { result ≡ Err PrettyError.IndentTooWide
             → greatest < 2 * deepest (tree_of self.now) 0 100 }
+        ensures fits { IfOk result
+            (λ s. 2 * deepest (tree_of self.now) 0 100 ≤ greatest) }
     {
         self.pretty(alloc, 0, 100)
     }
@@ -70,9 +74,22 @@ impl Prettier for Expr {
         ensures text { IfOk result (λ s. string_bytes s ≡ laid (tree_of self.now) level max) }
         ensures wide { result ≡ Err PrettyError.IndentTooWide
             → greatest < 2 * deepest (tree_of self.now) level max }
+        ensures fits { IfOk result
+            (λ s. 2 * deepest (tree_of self.now) level max ≤ greatest) }
     {
         let mut tally = Tally::default();
         self.pretty_counted(alloc, level, max, &mut tally)
+    }
+
+    fn format(&self, alloc: Global, level: usize, max: usize) -> Result<String, PrettyError>
+        ensures keeps { Keeps (Some (text (tree_of self.now))) result }
+        ensures text { IfOk result
+            (λ s. string_bytes s ≡ indent level ++ text (tree_of self.now)) }
+        ensures wide { result ≡ Err PrettyError.IndentTooWide → greatest < 2 * level }
+        ensures fits { IfOk result (λ s. 2 * level ≤ greatest) }
+    {
+        let _ = max;
+        indented(self, alloc, level)
     }
 
     fn needs_split(&self, max: usize) -> bool
