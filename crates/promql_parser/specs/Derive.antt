@@ -90,13 +90,13 @@ abbrev pub IsUnsigned : Result Number NumberFault → Type 0
 IsUnsigned (Ok n) = is_below_zero n ≡ false
 IsUnsigned (Err f) = Unit {0}
 
--- numbers have no sign, and a metric's name is of the kind that its text has
+-- numbers have no sign, and the names of metrics and functions are of the kinds that their texts have
 abbrev mutual
   pub HasWords : Derivation → Type 0
   HasWords (grammar.number text) = IsUnsigned (read_number text)
   HasWords (grammar.selector k text b) = k ≡ word_kind text
   HasWords (grammar.paren d) = HasWords d
-  HasWords (grammar.call k text ds) = AllHaveWords ds
+  HasWords (grammar.call k text ds) = (k ≡ word_kind text) × AllHaveWords ds
   HasWords (grammar.aggregate op text c ds) = AllHaveWords ds
   HasWords (grammar.postfixed d p) = HasWords d
   HasWords (grammar.unary op text d) = HasWords d
