@@ -66,12 +66,12 @@ level_low op = go (band op)
     go (inl h) = omega arith
     go (inr h) = omega arith
 
-open_most : (d : Derivation) → openness d ≤ 7
+pub open_most : (d : Derivation) → openness d ≤ 7
 open_most (grammar.unary op text d) = omega arith
 open_most (grammar.binary op text m l r) = omega (arith, level_low op)
 open_most d = omega arith
 
-open_base : (d : Derivation) → IsBase d → openness d ≡ 7
+pub open_base : (d : Derivation) → IsBase d → openness d ≡ 7
 open_base (grammar.binary op text m l r) h = absurd h
 open_base (grammar.unary op text d) h = absurd h
 open_base d h = refl
@@ -223,7 +223,7 @@ module _ (g : Text → Answer) where
   mode_again Smoothed d name cs range e = giving_leads g (build d) _ _ _ e refl
   mode_again Anchored d name cs range e = giving_leads g (build d) _ _ _ e refl
 
-  base_is : (name : Option Text) (b : Option piece.Braces) → IsBase (derive_base name b)
+  pub base_is : (name : Option Text) (b : Option piece.Braces) → IsBase (derive_base name b)
   base_is (Some name) b = tt
   base_is None (Some b) = tt
   base_is None None = tt
