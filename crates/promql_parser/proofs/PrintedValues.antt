@@ -168,13 +168,13 @@ step_again None is = refl
 step_again (Some n) is = then_leads (time_value (time n)) _ n (Ok (Some n)) (time_again n is) refl
 
 -- a number above zero is a number that doesn't end in 0, with zeros after it
-record Zeroless (n : ℕ) : Type 0 where
-  digits : ℕ
-  zeros : ℕ
-  is : digits * 10 ^ zeros ≡ n
-  ends : digits % 10 ≢ 0
+pub record Zeroless (n : ℕ) : Type 0 where
+  pub digits : ℕ
+  pub zeros : ℕ
+  pub is : digits * 10 ^ zeros ≡ n
+  pub ends : digits % 10 ≢ 0
 
-zeroless : (most n : ℕ) → 0 < n → n < 10 ^ most → Zeroless n
+pub zeroless : (most n : ℕ) → 0 < n → n < 10 ^ most → Zeroless n
 zeroless zero n some less = absurd (omega arith)
 zeroless (suc most) n some less =
     ⊎_elim
@@ -185,7 +185,7 @@ zeroless (suc most) n some less =
     record {
       digits = front.digits;
       zeros = front.zeros + 1;
-      is = times_ten front.digits front.zeros ∙ (let e : front.digits * 10 ^ front.zeros * 10 ≡ n = omega (arith, front.is) in e);
+      is = (let e : front.digits * 10 ^ front.zeros * 10 ≡ n = omega (arith, front.is) in let up = times_ten front.digits front.zeros in omega (arith, e, up));
       ends = front.ends;
     })
     (cases_lt 0 (n % 10))
