@@ -1,6 +1,10 @@
 pub mod AnswerLemmas
 pub mod Asked
 pub mod Bases
+pub mod Canonical
+pub mod CanonicalNodes
+pub mod CanonicalTrees
+pub mod CheckedAgain
 pub mod Climbing
 pub mod Collecting
 pub mod Ending
@@ -17,6 +21,14 @@ pub mod ModifierReading
 pub mod MoreArguments
 pub mod PieceSteps
 pub mod Postfixing
+pub mod Printable
+pub mod PrintedMatchers
+pub mod PrintedModifiers
+pub mod PrintedTimes
+pub mod PrintedValues
+pub mod PrintedWords
+pub mod ReadBack
 pub mod SameErrors
+pub mod SingleAnswers
 pub mod Wholes
 pub mod Words

@@ -4,6 +4,8 @@ pub mod Faults
 pub mod Asking
 pub mod PieceBuilding
 pub mod Building
+pub mod PrintedPieces
+pub mod Derive
 pub mod IsPiece
 pub mod Pieces
 pub mod Items
