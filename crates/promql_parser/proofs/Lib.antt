@@ -22,9 +22,11 @@ pub mod MoreArguments
 pub mod PieceSteps
 pub mod Postfixing
 pub mod Printable
+pub mod PrintedBytes
 pub mod PrintedMatchers
 pub mod PrintedModifiers
 pub mod PrintedTimes
+pub mod PrintedTokens
 pub mod PrintedValues
 pub mod PrintedWords
 pub mod ReadBack

@@ -6,6 +6,7 @@ pub mod PieceBuilding
 pub mod Building
 pub mod PrintedPieces
 pub mod Derive
+pub mod PrintedItems
 pub mod IsPiece
 pub mod Pieces
 pub mod Items
