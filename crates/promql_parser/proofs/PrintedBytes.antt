@@ -75,7 +75,7 @@ clause_bytes (Some (excluding ls)) = ap (λ t. codes " without " ++ t) (spaced_b
 
 -- ---- numbers and times
 
-number_split : (n : Number) (rest : Text) → render (signed_line (printed.sign (is_below_zero n))) ++ (number_text (magnitude n) ++ rest) ≡ number_text n ++ rest
+pub number_split : (n : Number) (rest : Text) → render (signed_line (printed.sign (is_below_zero n))) ++ (number_text (magnitude n) ++ rest) ≡ number_text n ++ rest
 number_split (Finite d) rest = go d.is_negative refl
   where
     go : (b : Bool) → d.is_negative ≡ b → render (signed_line (printed.sign b)) ++ (number_text (cond b (Finite (negated d)) (Finite d)) ++ rest) ≡ number_text (Finite d) ++ rest
