@@ -1,12 +1,13 @@
 -- The items of a printed line, without white space, are the tokens of its derivation.
-use Rattle.std.proofs.Common.{◌≡◌, refl, sym, ◌∙◌, ap, Option, Some, None, List, [], ◌∷◌, ◌++◌, append-nil}
+use Rattle.std.proofs.Common.{◌≡◌, ℕ, zero, suc, ◌+◌, refl, sym, ◌∙◌, ap, Bool, true, false, cond, Option, Some, None, List, [], ◌∷◌, ◌++◌, append-nil, append_assoc}
 use Rattle.promql_text.specs.Texts.{Text}
+use Rattle.promql_ast.specs.Lines.{is_longer}
 use Rattle.promql_grammar.specs.declared.kind.Kind.TheVariants as kind
 use Rattle.promql_grammar.specs.Grammar as grammar
 use Rattle.promql_grammar.specs.Grammar.{Derivation, Arguments, yield, yield_arguments, yield_rest}
 use Rattle.promql_grammar.specs.Pieces as piece
 use Rattle.promql_grammar.specs.Symbols.{Symbol, sign, word}
-use Rattle.promql_parser.specs.PrintedItems.{Item, token, blank, newline, strip, Spacing, close, wide, spacing, after_line, any_braces_line, arguments_line, before_line, braces_line, fills_line, flag_line, group_line, grouping_line, item_line, items_line, labels_line, line, matching_line, modifier_line, names_line, postfix_line, rest_line, separator_line, signed_line, step_line, time_line, value_line}
+use Rattle.promql_parser.specs.PrintedItems.{Item, token, blank, newline, strip, Spacing, close, wide, spacing, after_line, any_braces_line, arguments_line, before_line, braces_line, fills_line, flag_line, group_line, grouping_line, item_line, items_line, labels_line, line, matching_line, modifier_line, names_line, postfix_line, rest_line, separator_line, signed_line, step_line, time_line, value_line, arguments_lines, chosen, closing_line, indented, lines, render, rest_lines, trimmed}
 
 pub strip_append : (is js : List Item) → strip (is ++ js) ≡ strip is ++ strip js
 strip_append [] js = refl
@@ -146,3 +147,70 @@ mutual
   rest_tokens : (ds : Arguments) → strip (rest_line ds) ≡ yield_rest ds
   rest_tokens grammar.none = refl
   rest_tokens (grammar.more d ds) = ap (λ ts. sign kind.Comma ∷ ts) (both (line d) (rest_line ds) _ _ (line_tokens d) (rest_tokens ds))
+
+-- ---- over several lines
+
+indented_tokens : (n : ℕ) (is : List Item) → strip (indented n is) ≡ strip is
+indented_tokens zero is = refl
+indented_tokens (suc n) is = indented_tokens n is
+
+trimmed_tokens : (is : List Item) → strip (trimmed is) ≡ strip is
+trimmed_tokens [] = refl
+trimmed_tokens (blank ∷ is) = trimmed_tokens is
+trimmed_tokens (token s ∷ is) = refl
+trimmed_tokens (newline ∷ is) = refl
+
+chosen_tokens : (one many : List Item) (level most : ℕ) (ts : List Symbol) → strip one ≡ ts → strip many ≡ ts → strip (chosen one many level most) ≡ ts
+chosen_tokens one many level most ts e f = go (is_longer most (render one))
+  where
+    go : (b : Bool) → strip (cond b many (indented level one)) ≡ ts
+    go true = f
+    go false = indented_tokens level one ∙ e
+
+closing_tokens : (level : ℕ) (after : List Item) (us : List Symbol) → strip after ≡ us → strip (closing_line level after) ≡ sign kind.RightParen ∷ us
+closing_tokens level after us e = indented_tokens level (token (sign kind.RightParen) ∷ after) ∙ ap (λ ts. sign kind.RightParen ∷ ts) e
+
+mutual
+  pub lines_tokens : (d : Derivation) (level most : ℕ) → strip (lines d level most) ≡ yield d
+  lines_tokens (grammar.number text) level most = indented_tokens level (line (grammar.number text)) ∙ line_tokens (grammar.number text)
+  lines_tokens (grammar.duration text) level most = indented_tokens level (line (grammar.duration text)) ∙ line_tokens (grammar.duration text)
+  lines_tokens (grammar.string text) level most = indented_tokens level (line (grammar.string text)) ∙ line_tokens (grammar.string text)
+  lines_tokens (grammar.selector k text b) level most = indented_tokens level (line (grammar.selector k text b)) ∙ line_tokens (grammar.selector k text b)
+  lines_tokens (grammar.nameless b) level most = indented_tokens level (line (grammar.nameless b)) ∙ line_tokens (grammar.nameless b)
+  lines_tokens (grammar.paren d) level most =
+      let many = token (sign kind.LeftParen) ∷ newline ∷ (lines d (level + 1) most ++ closing_line level []) in
+      chosen_tokens (line (grammar.paren d)) (indented level many) level most _ (line_tokens (grammar.paren d))
+      (indented_tokens level many ∙ ap (λ ts. sign kind.LeftParen ∷ ts) (both (lines d (level + 1) most) (closing_line level []) _ _ (lines_tokens d (level + 1) most) (closing_tokens level [] [] refl)))
+  lines_tokens (grammar.call k text ds) level most =
+      let many = token (word k text) ∷ token (sign kind.LeftParen) ∷ newline ∷ arguments_lines ds (level + 1) most (closing_line level []) in
+      chosen_tokens (line (grammar.call k text ds)) (indented level many) level most _ (line_tokens (grammar.call k text ds))
+      (indented_tokens level many ∙ ap (λ ts. word k text ∷ sign kind.LeftParen ∷ ts) (arguments_lines_tokens ds (level + 1) most (closing_line level []) [] (closing_tokens level [] [] refl) ∙ append-nil (yield_arguments ds)))
+  lines_tokens (grammar.aggregate op text c ds) level most =
+      let rest = token (sign kind.LeftParen) ∷ newline ∷ arguments_lines ds (level + 1) most (closing_line level (after_line c)) in
+      let many = token (word (kind.Aggregator op) text) ∷ (before_line c ++ rest) in
+      chosen_tokens (line (grammar.aggregate op text c ds)) (indented level many) level most _ (line_tokens (grammar.aggregate op text c ds))
+      (indented_tokens level many ∙ ap (λ ts. word (kind.Aggregator op) text ∷ ts) (both (before_line c) rest _ _ (before_tokens c)
+      (ap (λ ts. sign kind.LeftParen ∷ ts) (arguments_lines_tokens ds (level + 1) most (closing_line level (after_line c)) (piece.yield_after c) (closing_tokens level (after_line c) (piece.yield_after c) (after_tokens c))))))
+  lines_tokens (grammar.postfixed d p) level most = both (lines d level most) (postfix_line p) _ _ (lines_tokens d level most) (postfix_tokens p)
+  lines_tokens (grammar.unary op text d) level most =
+      indented_tokens level (token (word (kind.Operator op) text) ∷ trimmed (lines d level most))
+      ∙ ap (λ ts. word (kind.Operator op) text ∷ ts) (trimmed_tokens (lines d level most) ∙ lines_tokens d level most)
+  lines_tokens (grammar.binary op text m l r) level most =
+      let right = modifier_line m ++ newline ∷ lines r (level + 1) most in
+      chosen_tokens (line (grammar.binary op text m l r)) (lines l (level + 1) most ++ newline ∷ indented level (token (word (kind.Operator op) text) ∷ right)) level most _ (line_tokens (grammar.binary op text m l r))
+      (both (lines l (level + 1) most) (newline ∷ indented level (token (word (kind.Operator op) text) ∷ right)) _ _ (lines_tokens l (level + 1) most)
+      (indented_tokens level (token (word (kind.Operator op) text) ∷ right)
+      ∙ ap (λ ts. word (kind.Operator op) text ∷ ts) (both (modifier_line m) (newline ∷ lines r (level + 1) most) _ _ (modifier_tokens m) (lines_tokens r (level + 1) most))))
+
+  arguments_lines_tokens : (ds : Arguments) (level most : ℕ) (after : List Item) (us : List Symbol) → strip after ≡ sign kind.RightParen ∷ us → strip (arguments_lines ds level most after) ≡ yield_arguments ds ++ us
+  arguments_lines_tokens grammar.none level most after us e = e
+  arguments_lines_tokens (grammar.more d ds) level most after us e =
+      both (lines d level most) (rest_lines ds level most after) _ _ (lines_tokens d level most) (rest_lines_tokens ds level most after us e)
+      ∙ sym (append_assoc (yield d) (yield_rest ds) us)
+
+  rest_lines_tokens : (ds : Arguments) (level most : ℕ) (after : List Item) (us : List Symbol) → strip after ≡ sign kind.RightParen ∷ us → strip (rest_lines ds level most after) ≡ yield_rest ds ++ us
+  rest_lines_tokens grammar.none level most after us e = e
+  rest_lines_tokens (grammar.more d ds) level most after us e =
+      ap (λ ts. sign kind.Comma ∷ ts)
+      (both (lines d level most) (rest_lines ds level most after) _ _ (lines_tokens d level most) (rest_lines_tokens ds level most after us e)
+      ∙ sym (append_assoc (yield d) (yield_rest ds) us))

@@ -13,31 +13,46 @@ use Rattle.promql_label.specs.PlainMatchers.{PlainMatcher, PlainMatchers, plain_
 use Rattle.promql_kind.specs.Modifiers.{Clause, including, excluding, Cardinality, one_to_one, many_to_one, one_to_many, many_to_many, Fills, fills, Matching, matching, is_grouping}
 use Rattle.promql_ast.specs.Normal.{all_normal, maybe_normal, normal, normal_clause, normal_matched, normal_matchers, normal_matching, sorted_matchers, unless_default}
 use Rattle.promql_ast.specs.Selectors.{Selector, selector}
+use Rattle.promql_ast.specs.Text.{text}
 use Rattle.promql_ast.specs.Tree.{Tree, aggregate, unary, binary, paren, subquery, number, string, vector, matrix, call, extension, MaybeTree, absent, present, Trees, no_trees, first_tree}
 use Rattle.promql_ast.specs.declared.range_mode.RangeMode.{RangeMode}
 use Rattle.promql_ast.proofs.NormalForms.{normal_twice}
 use Rattle.promql_parser.specs.Asking.{under}
 use Rattle.promql_parser.specs.Building.{build}
 use Rattle.promql_parser.specs.Derive.{HasWords, ReadsBack, derive, derive_after, derive_all, derive_base, derive_matrix, derive_selector, with_mode, with_suffix}
+use Rattle.promql_parser.specs.PrintedItems.{line, lines, render, strip}
 use Rattle.promql_parser.specs.PrintedPieces.{any_items, braces, clause, fill_words, flag, group, matched, modifier, time, word_kind}
 use Rattle.promql_grammar.specs.Pieces as piece
+use Rattle.promql_grammar.specs.Symbols.{Symbol}
 use Rattle.promql_parser.proofs.Canonical.{Keeps}
 use Rattle.promql_parser.proofs.CanonicalTrees.{keeps}
+use Rattle.promql_parser.proofs.PrintedLines.{line_bytes}
+use Rattle.promql_parser.proofs.PrintedTokens.{line_tokens, lines_tokens}
 use Rattle.promql_parser.proofs.SingleAnswers.{same_ok}
 
-pub read_back : (g : Text → Answer) (d : Derivation) (t : Tree) → IsWellFormed d → HasWords d → under g (build d) ≡ Ok t → ReadsBack g d (yield (derive t)) (normal t)
-read_back g d t h w e =
-    let k = keeps g d t h w e in
-    record { derivation = derive t; formed = k.formed; low = k.low; spells = refl; builds = k.again }
+module _ (g : Text → Answer) (d : Derivation) (t : Tree) (h : IsWellFormed d) (w : HasWords d) (e : under g (build d) ≡ Ok t) where
+  tokens_back : (ts : List Symbol) → ts ≡ yield (derive t) → ReadsBack g d ts (normal t)
+  tokens_back ts same =
+      let k = keeps g d t h w e in
+      record { derivation = derive t; formed = k.formed; low = k.low; spells = sym same; builds = k.again }
+
+  pub line_back : ReadsBack g d (strip (line (derive t))) (normal t)
+  line_back = tokens_back (strip (line (derive t))) (line_tokens (derive t))
+
+  pub lines_back : (level most : ℕ) → ReadsBack g d (strip (lines (derive t) level most)) (normal t)
+  lines_back level most = tokens_back (strip (lines (derive t) level most)) (lines_tokens (derive t) level most)
+
+  pub line_is : render (line (derive t)) ≡ text t
+  line_is = line_bytes g t (keeps g d t h w e).printable
 
 -- ---- trees whose texts have the same tokens
 
 pub same_normal : (g : Text → Answer) (c d : Derivation) (s t : Tree) → IsWellFormed c → HasWords c → under g (build c) ≡ Ok s → IsWellFormed d → HasWords d → under g (build d) ≡ Ok t
-    → yield (derive s) ≡ yield (derive t) → normal s ≡ normal t
+    → strip (line (derive s)) ≡ strip (line (derive t)) → normal s ≡ normal t
 same_normal g c d s t hc wc ec hd wd ed same =
     let k = keeps g c s hc wc ec in
     let l = keeps g d t hd wd ed in
-    let one = one_derivation (derive s) (derive t) k.formed l.formed same in
+    let one = one_derivation (derive s) (derive t) k.formed l.formed (sym (line_tokens (derive s)) ∙ same ∙ line_tokens (derive t)) in
     same_ok (normal s) (normal t) _ _ k.again l.again (ap (λ x. under g (build x)) one)
 
 plain_of : Tree → List PlainMatcher
@@ -104,5 +119,5 @@ mutual
   all_derive_normal (first_tree t ts) = λ i. grammar.more (derive_normal t i) (all_derive_normal ts i)
 
 -- trees of one normal form print the same tokens
-pub same_tokens : (s t : Tree) → normal s ≡ normal t → yield (derive s) ≡ yield (derive t)
-same_tokens s t e = ap yield (sym (derive_normal s) ∙ ap derive e ∙ derive_normal t)
+pub same_tokens : (s t : Tree) → normal s ≡ normal t → strip (line (derive s)) ≡ strip (line (derive t))
+same_tokens s t e = ap (λ d. strip (line d)) (sym (derive_normal s) ∙ ap derive e ∙ derive_normal t)

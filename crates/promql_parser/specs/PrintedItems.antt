@@ -1,7 +1,8 @@
 -- A printed tree as pieces with the white space between them (docs/PRINTING.md, "Nodes"), from the derivation of its text.
-use Rattle.std.specs.Prelude.{ℕ, Option, Some, None, List, [], ◌∷◌, ◌++◌, codes}
+use Rattle.std.specs.Prelude.{ℕ, zero, suc, ◌+◌, if◌then◌else◌, Option, Some, None, List, [], ◌∷◌, ◌++◌, codes}
 use Rattle.promql_text.specs.Bytes.{line_feed, space}
 use Rattle.promql_text.specs.Texts.{Text}
+use Rattle.promql_ast.specs.Lines.{is_longer}
 use Rattle.promql_grammar.specs.declared.kind.Kind.{Kind}
 use Rattle.promql_grammar.specs.declared.kind.Kind.TheVariants as kind
 use Rattle.promql_grammar.specs.Grammar as grammar
@@ -174,3 +175,50 @@ abbrev mutual
   pub rest_line : Arguments → List Item
   rest_line grammar.none = token (sign kind.RightParen) ∷ []
   rest_line (grammar.more d ds) = token (sign kind.Comma) ∷ blank ∷ (line d ++ rest_line ds)
+
+-- ---- over several lines (docs/LAYOUT.md, "Nodes")
+
+abbrev pub indented : ℕ → List Item → List Item
+indented zero is = is
+indented (suc n) is = blank ∷ blank ∷ indented n is
+
+-- without the spaces in front
+abbrev pub trimmed : List Item → List Item
+trimmed [] = []
+trimmed (blank ∷ is) = trimmed is
+trimmed (token s ∷ is) = token s ∷ is
+trimmed (newline ∷ is) = newline ∷ is
+
+-- the one line if it fits, else the lines
+abbrev pub chosen : List Item → List Item → ℕ → ℕ → List Item
+chosen one lines level most = if is_longer most (render one) then lines else indented level one
+
+-- a closing parenthesis on a line of its own
+abbrev pub closing_line : ℕ → List Item → List Item
+closing_line level after = newline ∷ indented level (token (sign kind.RightParen) ∷ after)
+
+abbrev mutual
+  pub lines : Derivation → ℕ → ℕ → List Item
+  lines (grammar.paren d) level most =
+      chosen (line (grammar.paren d)) (indented level (token (sign kind.LeftParen) ∷ newline ∷ (lines d (level + 1) most ++ closing_line level []))) level most
+  lines (grammar.call k text ds) level most =
+      chosen (line (grammar.call k text ds))
+      (indented level (token (word k text) ∷ token (sign kind.LeftParen) ∷ newline ∷ arguments_lines ds (level + 1) most (closing_line level []))) level most
+  lines (grammar.aggregate op text c ds) level most =
+      chosen (line (grammar.aggregate op text c ds))
+      (indented level (token (word (kind.Aggregator op) text) ∷ (before_line c ++ token (sign kind.LeftParen) ∷ newline ∷ arguments_lines ds (level + 1) most (closing_line level (after_line c))))) level most
+  lines (grammar.postfixed d p) level most = lines d level most ++ postfix_line p
+  lines (grammar.unary op text d) level most = indented level (token (word (kind.Operator op) text) ∷ trimmed (lines d level most))
+  lines (grammar.binary op text m l r) level most =
+      chosen (line (grammar.binary op text m l r))
+      (lines l (level + 1) most ++ newline ∷ indented level (token (word (kind.Operator op) text) ∷ (modifier_line m ++ newline ∷ lines r (level + 1) most))) level most
+  lines d level most = indented level (line d)
+
+  -- arguments, and what follows them
+  pub arguments_lines : Arguments → ℕ → ℕ → List Item → List Item
+  arguments_lines grammar.none level most after = after
+  arguments_lines (grammar.more d ds) level most after = lines d level most ++ rest_lines ds level most after
+
+  pub rest_lines : Arguments → ℕ → ℕ → List Item → List Item
+  rest_lines grammar.none level most after = after
+  rest_lines (grammar.more d ds) level most after = token (sign kind.Comma) ∷ newline ∷ (lines d level most ++ rest_lines ds level most after)
