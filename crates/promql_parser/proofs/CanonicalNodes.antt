@@ -10,7 +10,8 @@ use Rattle.promql_text.specs.declared.number.Number.{Number}
 use Rattle.promql_text.specs.declared.number.Number.TheVariants.{Finite}
 use Rattle.promql_text.proofs.OneForm.{negated_in_form}
 use Rattle.promql_text.proofs.ReadsBack.{reads_back}
-use Rattle.promql_token.specs.Ids.{is_set_operator, text_of}
+use Rattle.promql_token.specs.Ids.{is_aggregator, is_set_operator, text_of}
+use Rattle.promql_token.specs.Laws.{is_word}
 use Rattle.promql_token.specs.declared.ids.TheConstants.{T_SUB}
 use Rattle.promql_grammar.specs.declared.kind.Kind.{Kind}
 use Rattle.promql_grammar.specs.declared.kind.Kind.TheVariants as kind
@@ -39,7 +40,7 @@ use Rattle.promql_ast.specs.check.Vector.{name_fault}
 use Rattle.promql_ast.specs.declared.range_mode.RangeMode.TheVariants.{Plain}
 use Rattle.promql_parser.specs.Asking.{Asking, gives, fails, ◌giving◌, known, under}
 use Rattle.promql_parser.specs.Building.{build, build_all, called, passing, passing_checks, selector_tree, with_sign}
-use Rattle.promql_parser.specs.Derive.{derive, derive_after, derive_all, derive_base, derive_number, HasWords, AllHaveWords, IsUnsigned}
+use Rattle.promql_parser.specs.Derive.{derive, derive_after, derive_all, derive_base, derive_number, HasWords, AllHaveWords, IsName, IsUnsigned}
 use Rattle.promql_parser.specs.Faults.{Fault}
 use Rattle.promql_parser.specs.PieceBuilding.{any_braces_value, braces_value, clause_value, modifier_value, number_value, string_value, step_value, time_value}
 use Rattle.promql_parser.specs.PrintedPieces.{braces, clause, modifier, time, word_kind}
@@ -130,9 +131,8 @@ module _ (g : Text → Answer) where
   named_selects (plain_matchers [] (i ∷ j ∷ gs)) h e = h
   named_selects (plain_matchers (c ∷ cs) (j ∷ gs)) h e = absurd h
 
-  pub selects : (name : Option Text) (cs : PlainMatchers) → AreAnyMatchers g cs → name_fault name cs ≡ None → IsSelecting g name cs
-  selects (Some name) cs h e = h
-  selects None cs h e = named_selects cs h e
+  pub selects : (cs : PlainMatchers) → AreAnyMatchers g cs → name_fault None cs ≡ None → IsSelecting g None cs
+  selects cs h e = named_selects cs h e
 
   unless_passes : (f : Option faults.Fault) (v : Verdict) (u : Tree) → unless f v ≡ passes u → (f ≡ None) × (v ≡ passes u)
   unless_passes (Some f) v u e = cc
@@ -146,15 +146,15 @@ module _ (g : Text → Answer) where
   selector_again : (name : Option Text) (cs : PlainMatchers) → name_fault name cs ≡ None → under g (selector_tree name (normal_matchers cs)) ≡ Ok (vector (selector name (normal_matchers cs) None None))
   selector_again name cs e = passes_passing g (checked (vector (selector name (normal_matchers cs) None None))) _ (ap (λ f. unless f (passes (vector (selector name (normal_matchers cs) None None)))) (named_again name cs e))
 
-  pub keeps_named : (d : Derivation) (name : Text) (cs : PlainMatchers) → may_be_name (word_kind name) ≡ true → AreAnyMatchers g cs → name_fault (Some name) cs ≡ None → Keeps g d (vector (selector (Some name) cs None None))
-  keeps_named d name cs may h e = record {
+  pub keeps_named : (d : Derivation) (name : Text) (cs : PlainMatchers) → is_word name ≡ true → may_be_name (word_kind name) ≡ true → AreAnyMatchers g cs → name_fault (Some name) cs ≡ None → Keeps g d (vector (selector (Some name) cs None None))
+  keeps_named d name cs letters may h e = record {
     formed = (may, braces_formed cs);
     wide = omega (arith, open_most d);
     low = omega (arith, some_height d);
     root = λ m e h. tt;
     base = λ h. tt;
-    words = refl;
-    printable = (h, tt, tt);
+    words = record { letters = letters; kind = refl };
+    printable = ((letters, h), tt, tt);
     again = giving_leads g (any_braces_value (braces cs)) _ (normal_matchers cs) _ (braces_again g cs h) (selector_again (Some name) cs e);
   }
 
@@ -278,49 +278,49 @@ module _ (g : Text → Answer) where
 
   -- ---- calls and aggregations
 
-  pub keeps_call : (k : Kind) (text : Text) (ds : Arguments) (f : Signature) (ts : Trees) → AllKept g ds ts → may_be_called k ≡ true → k ≡ word_kind text → function_named text ≡ Some f
+  pub keeps_call : (k : Kind) (text : Text) (ds : Arguments) (f : Signature) (ts : Trees) → AllKept g ds ts → may_be_called k ≡ true → IsName k text → function_named text ≡ Some f
       → checked (call f (all_normal ts)) ≡ passes (call f (all_normal ts)) → Keeps g (grammar.call k text ds) (call f ts)
   keeps_call k text ds f ts c may is e h =
       let name = named_so text f e in
       record {
-        formed = (subst (λ x. may_be_called (word_kind x) ≡ true) (sym name) (subst (λ x. may_be_called x ≡ true) is may), c.formed);
+        formed = (subst (λ x. may_be_called (word_kind x) ≡ true) (sym name) (subst (λ x. may_be_called x ≡ true) is.kind may), c.formed);
         wide = omega arith;
         low = omega (arith, c.low);
         root = λ m e h. tt;
         base = λ h. tt;
-        words = (refl, c.words);
-        printable = c.printable;
+        words = (record { letters = subst (λ x. is_word x ≡ true) (sym name) is.letters; kind = refl }, c.words);
+        printable = (subst (λ x. is_word x ≡ true) (sym name) is.letters, c.printable);
         again =
             giving_leads g (build_all (derive_all ts)) _ (all_normal ts) _ c.again
             (ap (λ o. under g (called (name_of f) o (all_normal ts))) (ap function_named name ∙ e)
             ∙ passes_passing g (checked (call f (all_normal ts))) _ h);
       }
 
-  pub keeps_aggregate : (op : ℕ) (text : Text) (k : piece.Clause) (ds : Arguments) (m : Option Clause) (e : Tree) (p : MaybeTree) → AllKept g ds (arguments p e)
+  pub keeps_aggregate : (op : ℕ) (text : Text) (k : piece.Clause) (ds : Arguments) (m : Option Clause) (e : Tree) (p : MaybeTree) → is_aggregator op ≡ true → AllKept g ds (arguments p e)
       → ((n : Option Clause) → aggregated op n (all_normal (arguments p e)) ≡ passes (aggregate op (normal e) (maybe_normal p) n))
       → checked (aggregate op (normal e) (maybe_normal p) (normal_clause m)) ≡ passes (aggregate op (normal e) (maybe_normal p) (normal_clause m))
       → Keeps g (grammar.aggregate op text k ds) (aggregate op e p m)
-  keeps_aggregate op text k ds m e absent c made h = record {
+  keeps_aggregate op text k ds m e absent is c made h = record {
     formed = (clause_formed m, c.formed);
     wide = omega arith;
     low = omega (arith, c.low);
     root = λ m e h. tt;
     base = λ h. tt;
     words = c.words;
-    printable = (c.printable.0, tt);
+    printable = (is, c.printable.0, tt);
     again =
         giving_leads g (build_all (derive_all (arguments absent e))) _ (all_normal (arguments absent e)) _ c.again
         (known_leads g (clause_value (clause m)) _ (normal_clause m) _ (clause_again m)
         (pass_checks g (aggregated op (normal_clause m) (all_normal (arguments absent e))) _ _ (made (normal_clause m)) h));
   }
-  keeps_aggregate op text k ds m e (present p) c made h = record {
+  keeps_aggregate op text k ds m e (present p) is c made h = record {
     formed = (clause_formed m, c.formed);
     wide = omega arith;
     low = omega (arith, c.low);
     root = λ m e h. tt;
     base = λ h. tt;
     words = c.words;
-    printable = (c.printable.1.0, c.printable.0);
+    printable = (is, c.printable.1.0, c.printable.0);
     again =
         giving_leads g (build_all (derive_all (arguments (present p) e))) _ (all_normal (arguments (present p) e)) _ c.again
         (known_leads g (clause_value (clause m)) _ (normal_clause m) _ (clause_again m)

@@ -25,12 +25,12 @@ use Rattle.promql_ast.specs.Tree.{Tree, aggregate, unary, binary, paren, subquer
 use Rattle.promql_ast.specs.check.Binary.{checked_binary, settled}
 use Rattle.promql_parser.specs.Asking.{Asking, gives, fails, ◌giving◌, known, under}
 use Rattle.promql_parser.specs.Building.{bound, build, build_all, called, passing, passing_checks, range_mode, selector_tree, with_postfix, with_sign}
-use Rattle.promql_parser.specs.Derive.{AllHaveWords, HasWords, IsUnsigned}
+use Rattle.promql_parser.specs.Derive.{AllHaveWords, HasWords, IsName, IsUnsigned}
 use Rattle.promql_parser.specs.PieceBuilding.{any_braces_value, braces_value, clause_value, duration_value, modifier_value, moment_value, number_value, shift_value, step_value, string_value, time_value}
 use Rattle.promql_parser.specs.PrintedPieces.{word_kind}
 use Rattle.promql_parser.proofs.Canonical.{AllKept, Canon, Keeps, canon_at, canon_mode, canon_offset, core, some_height, whole}
 use Rattle.promql_parser.proofs.CanonicalNodes.{all_more, all_none, keeps_aggregate, keeps_binary, keeps_call, keeps_minus, keeps_named, keeps_nameless, keeps_number, keeps_paren, keeps_plus, keeps_range, keeps_string, keeps_subquery, nanos_above, selector_passes, selects}
-use Rattle.promql_parser.proofs.CheckedAgain.{Aggregates, aggregate_again, aggregates, arguments, call_again, same_tree, subquery_again, unary_again}
+use Rattle.promql_parser.proofs.CheckedAgain.{Aggregates, aggregate_again, aggregates, arguments, call_again, is_aggregated, same_tree, subquery_again, unary_again}
 use Rattle.promql_parser.proofs.PrintedMatchers.{any_braces_are, braces_are}
 use Rattle.promql_parser.proofs.PrintedModifiers.{binary_checked, modifier_is}
 use Rattle.promql_parser.proofs.PrintedTimes.{bound_is, moment_is, shift_is}
@@ -97,7 +97,7 @@ module _ (g : Text → Answer) where
 
   -- ---- calls and aggregations
 
-  canon_called : (k : Kind) (text : Text) (ds : Arguments) (ts : Trees) (t : Tree) (o : Option Signature) → AllKept g ds ts → may_be_called k ≡ true → k ≡ word_kind text → function_named text ≡ o → under g (called text o ts) ≡ Ok t → Canon g (grammar.call k text ds) t
+  canon_called : (k : Kind) (text : Text) (ds : Arguments) (ts : Trees) (t : Tree) (o : Option Signature) → AllKept g ds ts → may_be_called k ≡ true → IsName k text → function_named text ≡ o → under g (called text o ts) ≡ Ok t → Canon g (grammar.call k text ds) t
   canon_called k text ds ts t None c may is found e = cc
   canon_called k text ds ts t (Some f) c may is found e =
       let again = call_again f ts t (passing_passes g (checked (call f ts)) t e) in
@@ -107,7 +107,7 @@ module _ (g : Text → Answer) where
   canon_aggregated op text k ds m ts u t c a h =
       let again = aggregate_again op a.tree a.param m (normal_clause m) t (ap checked (sym a.is) ∙ h) in
       let made = λ (n : Option Clause). subst (λ xs. aggregated op n (Rattle.promql_ast.specs.Normal.all_normal xs) ≡ passes (aggregate op (normal a.tree) (maybe_normal a.param) n)) a.all (a.again n) in
-      subst (Canon g (grammar.aggregate op text k ds)) again.is (record { kept = keeps_aggregate g op text k ds m a.tree a.param (subst (AllKept g ds) a.all c) made again.again; suffixes = tt })
+      subst (Canon g (grammar.aggregate op text k ds)) again.is (record { kept = keeps_aggregate g op text k ds m a.tree a.param (is_aggregated op a.tree a.param m t (ap checked (sym a.is) ∙ h)) (subst (AllKept g ds) a.all c) made again.again; suffixes = tt })
 
   -- ---- any derivation
 
@@ -133,12 +133,12 @@ module _ (g : Text → Answer) where
         let cs = giving_steps g (any_braces_value b) (λ cs. selector_tree (Some text) cs) t e in
         let passed = selector_passes g (Some text) cs.value t (passing_passes g _ t cs.leads) in
         selected (grammar.selector k text b) (Some text) cs.value t
-        (keeps_named g (grammar.selector k text b) text cs.value (subst (λ x. may_be_name x ≡ true) w h.0) (any_braces_are g b cs.value cs.is) passed.0) passed.1
+        (keeps_named g (grammar.selector k text b) text cs.value w.letters (subst (λ x. may_be_name x ≡ true) w.kind h.0) (any_braces_are g b cs.value cs.is) passed.0) passed.1
     canon (grammar.nameless b) t h w e =
         let cs = giving_steps g (braces_value b) (λ cs. selector_tree None cs) t e in
         let passed = selector_passes g None cs.value t (passing_passes g _ t cs.leads) in
         selected (grammar.nameless b) None cs.value t
-        (keeps_nameless g (grammar.nameless b) cs.value (selects g None cs.value (braces_are g b cs.value cs.is) passed.0) passed.0) passed.1
+        (keeps_nameless g (grammar.nameless b) cs.value (selects g cs.value (braces_are g b cs.value cs.is) passed.0) passed.0) passed.1
     canon (grammar.paren d) t h w e =
         let s = giving_steps g (build d) (λ s. gives (paren s)) t e in
         subst (Canon g (grammar.paren d)) (same_ok _ _ _ _ refl refl s.leads) (record { kept = keeps_paren g d s.value (whole g d s.value (canon d s.value h w s.is)); suffixes = tt })

@@ -11,14 +11,14 @@ use Rattle.promql_kind.specs.declared.value.ValueType.TheVariants as kind
 use Rattle.promql_ast.specs.Arguments.{count}
 use Rattle.promql_ast.specs.Builds.{aggregated, aggregated_alone, aggregated_with, minus, scalar_value}
 use Rattle.promql_ast.specs.Checked.{checked}
-use Rattle.promql_ast.specs.Checks.{is_scalar_or_vector, is_vector, unless, when}
+use Rattle.promql_ast.specs.Checks.{first_fault, is_scalar_or_vector, is_vector, mistyped, unless, when}
 use Rattle.promql_ast.specs.Faults as faults
 use Rattle.promql_ast.specs.Faults.{Fault, Verdict, passes, rejected, type_expected, in_call}
 use Rattle.promql_ast.specs.Normal.{normal, maybe_normal, all_normal, normal_clause}
 use Rattle.promql_ast.specs.Shifts.{Shift, Moment}
 use Rattle.promql_ast.specs.Tree.{Tree, aggregate, unary, binary, paren, subquery, number, string, vector, matrix, call, extension, MaybeTree, absent, present, Trees, no_trees, first_tree}
 use Rattle.promql_ast.specs.Types.{type_of}
-use Rattle.promql_ast.specs.check.Aggregate.{aggregate_fault, checked_aggregate, maybe_type}
+use Rattle.promql_ast.specs.check.Aggregate.{aggregate_fault, checked_aggregate, maybe_type, param_fault, param_type}
 use Rattle.promql_ast.specs.check.Call.{arity_fault, checked_call, first_scalar, is_exempt, is_exempt_number, types_fault, typing_fault}
 use Rattle.promql_ast.specs.node.Binary.{binary_type}
 
@@ -121,6 +121,15 @@ call_again (signature name types variadic gives experimental) ts u h =
 maybe_type_normal : (p : MaybeTree) → maybe_type (maybe_normal p) ≡ maybe_type p
 maybe_type_normal absent = refl
 maybe_type_normal (present e) = ap Some (type_normal e)
+
+aggregator_of : (b : Bool) (f : Fault) (fs : List (Option Fault)) → first_fault (when (not b) f ∷ fs) ≡ None → b ≡ true
+aggregator_of true f fs e = refl
+aggregator_of false f fs e = cc
+
+pub is_aggregated : (op : ℕ) (e : Tree) (p : MaybeTree) (m : Option Clause) (u : Tree) → checked (aggregate op e p m) ≡ passes u → is_aggregator op ≡ true
+is_aggregated op e p m u h =
+    let both = unless_passes (aggregate_fault op (type_of e) (maybe_type p)) (passes (aggregate op e p m)) u h in
+    aggregator_of (is_aggregator op) (faults.aggregator_expected op) (mistyped kind.Vector faults.in_aggregation (Some (type_of e)) ∷ param_fault (param_type op) (maybe_type p) ∷ []) both.0
 
 pub aggregate_again : (op : ℕ) (e : Tree) (p : MaybeTree) (m n : Option Clause) (u : Tree) → checked (aggregate op e p m) ≡ passes u
     → PassesAgain (aggregate op e p m) u (checked (aggregate op (normal e) (maybe_normal p) n)) (aggregate op (normal e) (maybe_normal p) n)

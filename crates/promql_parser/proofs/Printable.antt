@@ -1,11 +1,14 @@
 -- What is known of the values in a tree that is built: each is one that its printed text gives.
-use Rattle.std.proofs.Common.{◌≡◌, ℕ, Option, Some, None}
+use Rattle.std.proofs.Common.{◌≡◌, ℕ, true, Option, Some, None}
 use Rattle.std.specs.Prelude.{Ok}
 use Rattle.std.specs.Int.{is_negative}
 use Rattle.promql_text.specs.Texts.{Text}
 use Rattle.promql_text.specs.Values.{IsNumber}
+use Rattle.promql_token.specs.Ids.{is_aggregator}
+use Rattle.promql_token.specs.Laws.{is_word}
 use Rattle.promql_label.specs.Answers.{Answer}
 use Rattle.promql_label.specs.PlainMatchers.{PlainMatchers}
+use Rattle.promql_kind.specs.Functions.{name_of}
 use Rattle.promql_ast.specs.Selectors.{Selector, selector}
 use Rattle.promql_ast.specs.Shifts.{Shift, back, ahead, Moment, at_start, at_end, at_time}
 use Rattle.promql_ast.specs.Tree.{Tree, aggregate, unary, binary, paren, subquery, number, string, vector, matrix, call, extension, MaybeTree, absent, present, Trees, no_trees, first_tree}
@@ -32,7 +35,7 @@ IsAnyMoment (Some m) = IsMoment m
 module _ (g : Text → Answer) where
   -- there is a name, or a matcher
   abbrev pub IsSelecting : Option Text → PlainMatchers → Type 0
-  IsSelecting (Some name) cs = AreAnyMatchers g cs
+  IsSelecting (Some name) cs = (is_word name ≡ true) × AreAnyMatchers g cs
   IsSelecting None cs = AreMatchers g cs
 
   abbrev pub PrintableSelector : Selector → Type 0
@@ -40,7 +43,7 @@ module _ (g : Text → Answer) where
 
   abbrev mutual
     pub Printable : Tree → Type 0
-    Printable (aggregate op e p m) = Printable e × MaybePrintable p
+    Printable (aggregate op e p m) = (is_aggregator op ≡ true) × Printable e × MaybePrintable p
     Printable (unary e) = Printable e
     Printable (binary op l r m) = IsMatched m × Printable l × Printable r
     Printable (paren e) = Printable e
@@ -49,8 +52,8 @@ module _ (g : Text → Answer) where
     Printable (string s) = Unit {0}
     Printable (vector s) = PrintableSelector s
     Printable (matrix s range mode) = PrintableSelector s × IsTime range
-    Printable (call f ts) = AllPrintable ts
-    Printable (extension name gives ts) = AllPrintable ts
+    Printable (call f ts) = (is_word (name_of f) ≡ true) × AllPrintable ts
+    Printable (extension name gives ts) = ⊥
 
     pub MaybePrintable : MaybeTree → Type 0
     MaybePrintable absent = Unit {0}

@@ -217,7 +217,7 @@ module _ (g : Text → Answer) where
   nameless_bytes (Some b) t e h = e
 
   base_bytes : (name : Option Text) (cs : PlainMatchers) → IsSelecting g name cs → render (line (derive_base name (braces cs))) ≡ selected_name_text name ++ braced (matchers_text cs)
-  base_bytes (Some name) cs h = ap (λ t. name ++ t) (braces_bytes cs h)
+  base_bytes (Some name) cs h = ap (λ t. name ++ t) (braces_bytes cs h.1)
   base_bytes None cs h = nameless_bytes (braces cs) _ (braces_bytes cs (any_matchers g cs h)) (matchers_byte cs h)
 
   matrix_bytes : (s : Selector) (range : ℕ) (mode : RangeMode) → PrintableSelector g s → render (line (derive (matrix s range mode))) ≡ text (matrix s range mode)
@@ -241,7 +241,7 @@ module _ (g : Text → Answer) where
     line_bytes (aggregate op e p m) h =
         ap (λ t. text_of op ++ t)
         (glued (before_line (clause m)) _ (clause_text m) _ (clause_bytes m)
-        (ap (λ t. codes "(" ++ t) (after_arguments m (arguments_line (derive_after p (grammar.more (derive e) grammar.none))) (param_text (maybe_text p) ++ (text e ++ codes ")")) (param_bytes p e h.1 (line_bytes e h.0)))))
+        (ap (λ t. codes "(" ++ t) (after_arguments m (arguments_line (derive_after p (grammar.more (derive e) grammar.none))) (param_text (maybe_text p) ++ (text e ++ codes ")")) (param_bytes p e h.2 (line_bytes e h.1)))))
         ∙ sym (append_assoc (text_of op) (clause_text m) (codes "(" ++ (param_text (maybe_text p) ++ (text e ++ codes ")"))))
     line_bytes (unary e) h = ap (λ t. codes "-" ++ t) (line_bytes e h)
     line_bytes (binary op l r m) h =
@@ -257,8 +257,8 @@ module _ (g : Text → Answer) where
     line_bytes (string s) h = append-nil (quoted_text s)
     line_bytes (vector s) h = vector_bytes s h
     line_bytes (matrix s range mode) h = matrix_bytes s range mode h.0
-    line_bytes (call f ts) h = ap (λ t. name_of f ++ (codes "(" ++ t)) (arguments_bytes ts h)
-    line_bytes (extension name gives ts) h = ap (λ t. name ++ (codes "(" ++ t)) (arguments_bytes ts h)
+    line_bytes (call f ts) h = ap (λ t. name_of f ++ (codes "(" ++ t)) (arguments_bytes ts h.1)
+    line_bytes (extension name gives ts) h = absurd h
 
     param_bytes : (p : MaybeTree) (e : Tree) → MaybePrintable g p → render (line (derive e)) ≡ text e → render (arguments_line (derive_after p (grammar.more (derive e) grammar.none))) ≡ param_text (maybe_text p) ++ (text e ++ codes ")")
     param_bytes absent e k h = glued (line (derive e)) (token (sign kind.RightParen) ∷ []) (text e) (codes ")") h refl

@@ -1,5 +1,5 @@
 -- The derivation of a tree's text (docs/PRINTING.md, "Nodes"): what the grammar reads the printed tree as.
-use Rattle.std.specs.Prelude.{◌≡◌, ℕ, ◌≤◌, Bool, false, if◌then◌else◌, Option, Some, None, option_map, List, Result, Ok, Err, codes}
+use Rattle.std.specs.Prelude.{◌≡◌, ℕ, ◌≤◌, Bool, true, false, if◌then◌else◌, Option, Some, None, option_map, List, Result, Ok, Err, codes}
 use Rattle.promql_text.specs.NumberText.{number_text, read_number}
 use Rattle.promql_text.specs.Quoting.{quoted_text}
 use Rattle.promql_text.specs.Texts.{Text}
@@ -7,7 +7,9 @@ use Rattle.promql_text.specs.Values.{is_below_zero, neg}
 use Rattle.promql_text.specs.declared.number.Number.{Number}
 use Rattle.promql_text.specs.declared.number.NumberFault.{NumberFault}
 use Rattle.promql_token.specs.Ids.{text_of}
+use Rattle.promql_token.specs.Laws.{is_word}
 use Rattle.promql_token.specs.declared.ids.TheConstants.{T_SUB}
+use Rattle.promql_grammar.specs.declared.kind.Kind.{Kind}
 use Rattle.promql_grammar.specs.declared.kind.Kind.TheVariants as kind
 use Rattle.promql_grammar.specs.Grammar as grammar
 use Rattle.promql_grammar.specs.Grammar.{Derivation, Arguments}
@@ -90,13 +92,18 @@ abbrev pub IsUnsigned : Result Number NumberFault → Type 0
 IsUnsigned (Ok n) = is_below_zero n ≡ false
 IsUnsigned (Err f) = Unit {0}
 
--- numbers have no sign, and the names of metrics and functions are of the kinds that their texts have
+-- a word, of the kind that its text has
+pub record IsName (k : Kind) (text : Text) : Type 0 where
+  pub letters : is_word text ≡ true
+  pub kind : k ≡ word_kind text
+
+-- numbers have no sign, and the names of metrics and functions are words of their kinds
 abbrev mutual
   pub HasWords : Derivation → Type 0
   HasWords (grammar.number text) = IsUnsigned (read_number text)
-  HasWords (grammar.selector k text b) = k ≡ word_kind text
+  HasWords (grammar.selector k text b) = IsName k text
   HasWords (grammar.paren d) = HasWords d
-  HasWords (grammar.call k text ds) = (k ≡ word_kind text) × AllHaveWords ds
+  HasWords (grammar.call k text ds) = IsName k text × AllHaveWords ds
   HasWords (grammar.aggregate op text c ds) = AllHaveWords ds
   HasWords (grammar.postfixed d p) = HasWords d
   HasWords (grammar.unary op text d) = HasWords d
