@@ -100,7 +100,7 @@ time_bytes n = go (n % nanos_of Milli == 0)
     go true = append-nil (duration_text n)
     go false = append-nil (duration_text n)
 
-moment_bytes : (m : Moment) → render (postfix_line (moment m)) ≡ codes " " ++ moment_text m
+pub moment_bytes : (m : Moment) → render (postfix_line (moment m)) ≡ codes " " ++ moment_text m
 unfolding seconds_text time_text
 moment_bytes at_start = refl
 moment_bytes at_end = refl
@@ -111,7 +111,7 @@ moment_bytes (at_time t) =
     go true = refl
     go false = refl
 
-shift_bytes : (s : Shift) → render (postfix_line (shift s)) ≡ codes " offset " ++ shift_text s
+pub shift_bytes : (s : Shift) → render (postfix_line (shift s)) ≡ codes " offset " ++ shift_text s
 shift_bytes (back n) = ap (λ t. codes " offset " ++ t) (time_bytes n)
 shift_bytes (ahead n) = ap (λ t. codes " offset -" ++ t) (time_bytes n)
 

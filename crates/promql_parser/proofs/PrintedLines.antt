@@ -153,16 +153,16 @@ inserted_byte c (d ∷ ds) = go (is_gt (text_order (matcher_text c) (matcher_tex
     go true = joined_byte (codes ",") d (insert_matcher c ds)
     go false = joined_byte (codes ",") c (d ∷ ds)
 
-nothing_after : (m : Option Clause) → after_line (clause m) ≡ []
+pub nothing_after : (m : Option Clause) → after_line (clause m) ≡ []
 nothing_after None = refl
 nothing_after (Some (including [])) = refl
 nothing_after (Some (including (l ∷ ls))) = refl
 nothing_after (Some (excluding ls)) = refl
 
-after_arguments : (m : Option Clause) (is : List Item) (t : Text) → render is ≡ t → render (is ++ after_line (clause m)) ≡ t
+pub after_arguments : (m : Option Clause) (is : List Item) (t : Text) → render is ≡ t → render (is ++ after_line (clause m)) ≡ t
 after_arguments m is t e = ap (λ js. render (is ++ js)) (nothing_after m) ∙ ap render (append-nil is) ∙ e
 
-range_bytes : (n : ℕ) (s : Option ℕ) → render (postfix_line (piece.subquery (time n) (option_map time s))) ≡ range_text n s
+pub range_bytes : (n : ℕ) (s : Option ℕ) → render (postfix_line (piece.subquery (time n) (option_map time s))) ≡ range_text n s
 range_bytes n s =
     ap (λ t. codes "[" ++ t) (glued (time_line (time n)) (token (sign kind.Colon) ∷ (step_line (option_map time s) ++ token (sign kind.RightBracket) ∷ [])) (duration_text n) _ (time_bytes n)
     (ap (λ t. codes ":" ++ t) (glued (step_line (option_map time s)) (token (sign kind.RightBracket) ∷ []) (step_text s) (codes "]") (step s) refl)))
@@ -216,7 +216,7 @@ module _ (g : Text → Answer) where
   nameless_bytes None t e h = absurd (subst HasByte (sym e) h)
   nameless_bytes (Some b) t e h = e
 
-  base_bytes : (name : Option Text) (cs : PlainMatchers) → IsSelecting g name cs → render (line (derive_base name (braces cs))) ≡ selected_name_text name ++ braced (matchers_text cs)
+  pub base_bytes : (name : Option Text) (cs : PlainMatchers) → IsSelecting g name cs → render (line (derive_base name (braces cs))) ≡ selected_name_text name ++ braced (matchers_text cs)
   base_bytes (Some name) cs h = ap (λ t. name ++ t) (braces_bytes cs h.1)
   base_bytes None cs h = nameless_bytes (braces cs) _ (braces_bytes cs (any_matchers g cs h)) (matchers_byte cs h)
 
