@@ -23,6 +23,7 @@ pub mod PieceSteps
 pub mod Postfixing
 pub mod Printable
 pub mod PrintedBytes
+pub mod PrintedLayouts
 pub mod PrintedLines
 pub mod PrintedMatchers
 pub mod PrintedModifiers

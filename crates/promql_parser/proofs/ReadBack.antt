@@ -11,6 +11,7 @@ use Rattle.promql_grammar.proofs.Unique.{one_derivation}
 use Rattle.promql_label.specs.Answers.{Answer}
 use Rattle.promql_label.specs.PlainMatchers.{PlainMatcher, PlainMatchers, plain_matchers}
 use Rattle.promql_kind.specs.Modifiers.{Clause, including, excluding, Cardinality, one_to_one, many_to_one, one_to_many, many_to_many, Fills, fills, Matching, matching, is_grouping}
+use Rattle.promql_ast.specs.Layout.{laid}
 use Rattle.promql_ast.specs.Normal.{all_normal, maybe_normal, normal, normal_clause, normal_matched, normal_matchers, normal_matching, sorted_matchers, unless_default}
 use Rattle.promql_ast.specs.Selectors.{Selector, selector}
 use Rattle.promql_ast.specs.Text.{text}
@@ -26,6 +27,7 @@ use Rattle.promql_grammar.specs.Pieces as piece
 use Rattle.promql_grammar.specs.Symbols.{Symbol}
 use Rattle.promql_parser.proofs.Canonical.{Keeps}
 use Rattle.promql_parser.proofs.CanonicalTrees.{keeps}
+use Rattle.promql_parser.proofs.PrintedLayouts.{lines_bytes}
 use Rattle.promql_parser.proofs.PrintedLines.{line_bytes}
 use Rattle.promql_parser.proofs.PrintedTokens.{line_tokens, lines_tokens}
 use Rattle.promql_parser.proofs.SingleAnswers.{same_ok}
@@ -44,6 +46,9 @@ module _ (g : Text → Answer) (d : Derivation) (t : Tree) (h : IsWellFormed d) 
 
   pub line_is : render (line (derive t)) ≡ text t
   line_is = line_bytes g t (keeps g d t h w e).printable
+
+  pub lines_are : (level most : ℕ) → render (lines (derive t) level most) ≡ laid t level most
+  lines_are level most = lines_bytes g t level most (keeps g d t h w e).printable
 
 -- ---- trees whose texts have the same tokens
 

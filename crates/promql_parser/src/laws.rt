@@ -5,6 +5,7 @@ ghost use Rattle.promql_text.specs.Equalities.{IsSameBy};
 ghost use Rattle.promql_grammar.specs.Grammar.{Derivation, IsWellFormed, yield};
 ghost use Rattle.promql_text.specs.Texts.{Text};
 ghost use Rattle.promql_label.specs.Answers.{Answer};
+ghost use Rattle.promql_ast.specs.Layout.{laid};
 ghost use Rattle.promql_ast.specs.Normal.{normal};
 ghost use Rattle.promql_ast.specs.Text.{text};
 ghost use Rattle.promql_ast.specs.Tree.{Tree};
@@ -40,10 +41,13 @@ pub fn printed_tokens_read_back()
         → ReadsBack g d (strip (lines (derive t) level most)) (normal t) }
 {}
 
-/// With one answer for each pattern, the items that are printed of a built tree on one line are its text.
-pub fn printed_lines_are_texts()
-    ensures { (g : Text → Answer) (d : Derivation) (t : Tree) → IsWellFormed d → HasWords d
+/// With one answer for each pattern, the items that are printed of a built tree are its text on one line, and its layout at
+/// any level and width.
+pub fn printed_items_are_texts()
+    ensures line { (g : Text → Answer) (d : Derivation) (t : Tree) → IsWellFormed d → HasWords d
         → under g (build d) ≡ Ok t → render (line (derive t)) ≡ text t }
+    ensures lines { (g : Text → Answer) (d : Derivation) (t : Tree) → IsWellFormed d → HasWords d
+        → under g (build d) ≡ Ok t → (level most : ℕ) → render (lines (derive t) level most) ≡ laid t level most }
 {}
 
 /// With one answer for each pattern, two built trees print the same tokens exactly if their normal forms are equal.
