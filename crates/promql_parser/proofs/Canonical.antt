@@ -1,49 +1,32 @@
 -- What a derivation and the derivation of its tree's text have in common, node by node.
-use Rattle.std.proofs.Common.{◌≡◌, ◌⊎◌, inl, inr, ℕ, ◌+◌, ◌<◌, ◌≤◌, min, max, refl, sym, ◌∙◌, ap, subst, arith, Bool, true, false, cond, not, ◌&&◌, ◌||◌, Option, Some, None, List, [], ◌∷◌, codes}
-use Rattle.std.specs.Prelude.{Result, Ok, Err, ◌==◌, option_map}
+use Rattle.std.proofs.Common.{◌≡◌, inl, inr, ℕ, ◌<◌, ◌≤◌, refl, subst, arith, Bool, true, false, cond, Option, Some, None}
+use Rattle.std.specs.Prelude.{Ok, option_map}
 use Rattle.std.specs.Int.{is_negative}
-use Rattle.promql_text.specs.NumberText.{number_text}
-use Rattle.promql_text.specs.Numbers.{exact_zero, scaled, tens}
-use Rattle.promql_text.specs.Quoting.{quoted_text}
 use Rattle.promql_text.specs.Texts.{Text}
-use Rattle.promql_text.specs.Values.{IsNumber, from_nanos, is_below_zero, neg}
-use Rattle.promql_text.specs.declared.number.Number.{Number}
-use Rattle.promql_text.proofs.OneForm.{negated_in_form}
-use Rattle.promql_token.specs.Ids.{is_set_operator, text_of}
-use Rattle.promql_token.specs.declared.ids.TheConstants.{T_SUB}
-use Rattle.promql_grammar.specs.declared.kind.Kind.{Kind}
-use Rattle.promql_grammar.specs.declared.kind.Kind.TheVariants as kind
 use Rattle.promql_grammar.specs.Grammar as grammar
 use Rattle.promql_grammar.specs.Grammar.{Derivation, Arguments, IsWellFormed, AreWellFormed, IsBase, FitsSign, height, greatest_height, openness, added_height, level}
 use Rattle.promql_grammar.specs.Pieces as piece
 use Rattle.promql_grammar.specs.Reading.{right_level}
-use Rattle.promql_grammar.specs.Symbols.{is_sign_operator, may_be_called, may_be_name}
-use Rattle.promql_grammar.proofs.Levels.{Root, band, Band, root_base, root_right, root_sign, right_root, sign_root}
+use Rattle.promql_grammar.proofs.Levels.{Root, band, Band, root_base}
 use Rattle.promql_label.specs.Answers.{Answer}
-use Rattle.promql_label.specs.PlainMatchers.{PlainMatchers, plain_matchers}
-use Rattle.promql_kind.specs.Functions.{Signature, function_named, name_of}
-use Rattle.promql_kind.specs.Modifiers.{Clause, Matching}
-use Rattle.promql_ast.specs.Builds.{aggregated, at_given, minus, mode_given, negated, offset_given, ranged}
-use Rattle.promql_ast.specs.Checked.{checked}
-use Rattle.promql_ast.specs.Checks.{unless}
-use Rattle.promql_ast.specs.Faults.{Verdict, passes, rejected}
-use Rattle.promql_ast.specs.Normal.{normal, all_normal, normal_clause, normal_matchers}
-use Rattle.promql_ast.specs.Selectors.{Selector, selector}
+use Rattle.promql_label.specs.PlainMatchers.{PlainMatchers}
+use Rattle.promql_ast.specs.Builds.{at_given, mode_given, offset_given}
+use Rattle.promql_ast.specs.Faults.{passes}
+use Rattle.promql_ast.specs.Normal.{normal, all_normal, normal_matchers}
+use Rattle.promql_ast.specs.Selectors.{selector}
 use Rattle.promql_ast.specs.Shifts.{Shift, back, ahead, Moment, at_start, at_end, at_time}
-use Rattle.promql_ast.specs.Tree.{Tree, aggregate, unary, binary, paren, subquery, number, string, vector, matrix, call, extension, MaybeTree, absent, present, Trees, no_trees, first_tree}
-use Rattle.promql_ast.specs.check.Vector.{name_fault}
+use Rattle.promql_ast.specs.Tree.{Tree, subquery, vector, matrix, Trees}
 use Rattle.promql_ast.specs.declared.range_mode.RangeMode.{RangeMode}
 use Rattle.promql_ast.specs.declared.range_mode.RangeMode.TheVariants.{Plain, Smoothed, Anchored}
-use Rattle.promql_parser.specs.Asking.{Asking, gives, fails, ◌giving◌, known, under}
-use Rattle.promql_parser.specs.Building.{bound, build, build_all, passing, passing_checks, range_mode, selector_tree, with_postfix, with_sign}
-use Rattle.promql_parser.specs.Derive.{derive, derive_all, derive_base, derive_number, with_at, with_mode, with_offset, with_suffix, HasWords, AllHaveWords}
-use Rattle.promql_parser.specs.PieceBuilding.{any_braces_value, braces_value, moment_value, shift_value, string_value, time_value}
-use Rattle.promql_parser.specs.PrintedPieces.{braces, moment, seconds_text, shift, sign, time, word_kind}
+use Rattle.promql_parser.specs.Asking.{under}
+use Rattle.promql_parser.specs.Building.{build, build_all, passing}
+use Rattle.promql_parser.specs.Derive.{derive, derive_all, derive_base, with_at, with_mode, with_suffix, HasWords, AllHaveWords}
+use Rattle.promql_parser.specs.PieceBuilding.{moment_value, shift_value, time_value}
+use Rattle.promql_parser.specs.PrintedPieces.{braces, moment, seconds_text, shift, sign, time}
 use Rattle.promql_parser.proofs.CheckedAgain.{same_tree}
-use Rattle.promql_parser.proofs.PrintedMatchers.{AreAnyMatchers, AreMatchers, braces_again, braces_formed}
-use Rattle.promql_parser.proofs.PrintedValues.{IsStep, IsTime, below_zero, number_again, step_again, string_again, time_again}
-use Rattle.promql_parser.proofs.Printable.{IsAnyMoment, IsMoment, IsSelecting, IsShift, Printable, AllPrintable}
-use Rattle.promql_parser.proofs.SingleAnswers.{Steps, giving_leads, giving_steps, known_leads, known_steps, pass_checks, passes_passing, passing_passes, same_ok, then_leads, then_steps}
+use Rattle.promql_parser.proofs.PrintedValues.{IsTime, time_again}
+use Rattle.promql_parser.proofs.Printable.{IsAnyMoment, IsMoment, IsShift, Printable, AllPrintable}
+use Rattle.promql_parser.proofs.SingleAnswers.{giving_leads, known_leads, passes_passing, then_leads}
 
 -- ---- levels
 

@@ -1,8 +1,8 @@
 -- Each node of a tree that is built is kept by the derivation of its text.
-use Rattle.std.proofs.Common.{◌≡◌, ◌⊎◌, ⊎_elim, ℕ, ◌+◌, ◌<◌, ◌≤◌, min, max, refl, sym, ◌∙◌, ap, subst, arith, Bool, true, false, cond, not, ◌&&◌, ◌||◌, ◌/◌, ◌^◌, Option, Some, None, List, [], ◌∷◌, codes}
-use Rattle.std.specs.Prelude.{Result, Ok, Err, ◌==◌, option_map}
-use Rattle.promql_text.specs.NumberText.{number_text, read_number}
-use Rattle.promql_text.specs.Numbers.{exact_zero, scaled, seconds_of, tens}
+use Rattle.std.proofs.Common.{◌≡◌, ℕ, ◌≤◌, refl, sym, ◌∙◌, ap, subst, arith, Bool, true, false, cond, ◌/◌, ◌^◌, Option, Some, None, [], ◌∷◌, codes}
+use Rattle.std.specs.Prelude.{Ok, ◌==◌, option_map}
+use Rattle.promql_text.specs.NumberText.{number_text}
+use Rattle.promql_text.specs.Numbers.{exact_zero, scaled, tens}
 use Rattle.promql_text.specs.Quoting.{quoted_text}
 use Rattle.promql_text.specs.Texts.{Text}
 use Rattle.promql_text.specs.Values.{IsNumber, from_nanos, is_below_zero, neg}
@@ -10,46 +10,43 @@ use Rattle.promql_text.specs.declared.number.Number.{Number}
 use Rattle.promql_text.specs.declared.number.Number.TheVariants.{Finite}
 use Rattle.promql_text.proofs.OneForm.{negated_in_form}
 use Rattle.promql_text.proofs.ReadsBack.{reads_back}
-use Rattle.promql_token.specs.Ids.{is_aggregator, is_set_operator, text_of}
+use Rattle.promql_token.specs.Ids.{is_aggregator}
 use Rattle.promql_token.specs.Laws.{is_word}
 use Rattle.promql_token.specs.declared.ids.TheConstants.{T_SUB}
 use Rattle.promql_grammar.specs.declared.kind.Kind.{Kind}
-use Rattle.promql_grammar.specs.declared.kind.Kind.TheVariants as kind
 use Rattle.promql_grammar.specs.Grammar as grammar
 use Rattle.promql_grammar.specs.Grammar.{Derivation, Arguments, IsWellFormed, AreWellFormed, IsBase, FitsSign, height, greatest_height, openness, level, yield}
 use Rattle.promql_grammar.specs.Pieces as piece
 use Rattle.promql_grammar.specs.Reading.{right_level}
-use Rattle.promql_grammar.specs.Symbols.{is_sign_operator, may_be_called, may_be_name}
+use Rattle.promql_grammar.specs.Symbols.{may_be_called, may_be_name}
 use Rattle.promql_grammar.proofs.Levels.{Root, root_base, root_right, root_sign, right_root, sign_root}
 use Rattle.promql_label.specs.Answers.{Answer}
 use Rattle.promql_label.specs.PlainMatchers.{PlainMatchers, plain_matchers}
 use Rattle.promql_kind.specs.Functions.{Signature, function_named, name_of}
 use Rattle.promql_kind.proofs.NamedFunctions.{named_so}
 use Rattle.promql_kind.specs.Modifiers.{Clause, Matching}
-use Rattle.promql_ast.specs.Builds.{aggregated, minus, negated, ranged}
+use Rattle.promql_ast.specs.Builds.{aggregated, minus}
 use Rattle.promql_ast.specs.Checked.{checked}
 use Rattle.promql_ast.specs.Checks.{unless}
 use Rattle.promql_ast.specs.Faults as faults
 use Rattle.promql_ast.specs.Faults.{Verdict, passes, rejected}
-use Rattle.promql_ast.specs.Normal.{normal, all_normal, maybe_normal, normal_clause, normal_matchers, normal_matching}
-use Rattle.promql_ast.specs.Selectors.{Selector, selector}
-use Rattle.promql_ast.specs.Tree.{Tree, aggregate, unary, binary, paren, subquery, number, string, vector, matrix, call, extension, MaybeTree, absent, present, Trees, no_trees, first_tree}
-use Rattle.promql_ast.specs.Types.{type_of}
+use Rattle.promql_ast.specs.Normal.{normal, all_normal, maybe_normal, normal_clause, normal_matchers}
+use Rattle.promql_ast.specs.Selectors.{selector}
+use Rattle.promql_ast.specs.Tree.{Tree, aggregate, unary, binary, paren, subquery, number, string, vector, matrix, call, MaybeTree, absent, present, Trees, no_trees, first_tree}
 use Rattle.promql_ast.specs.check.Binary.{checked_binary, settled}
 use Rattle.promql_ast.specs.check.Vector.{name_fault}
 use Rattle.promql_ast.specs.declared.range_mode.RangeMode.TheVariants.{Plain}
-use Rattle.promql_parser.specs.Asking.{Asking, gives, fails, ◌giving◌, known, under}
-use Rattle.promql_parser.specs.Building.{build, build_all, called, passing, passing_checks, selector_tree, with_sign}
-use Rattle.promql_parser.specs.Derive.{derive, derive_after, derive_all, derive_base, derive_number, HasWords, AllHaveWords, IsName, IsUnsigned}
-use Rattle.promql_parser.specs.Faults.{Fault}
+use Rattle.promql_parser.specs.Asking.{under}
+use Rattle.promql_parser.specs.Building.{build, build_all, called, selector_tree}
+use Rattle.promql_parser.specs.Derive.{derive, derive_all, derive_base, HasWords, IsName, IsUnsigned}
 use Rattle.promql_parser.specs.PieceBuilding.{any_braces_value, braces_value, clause_value, modifier_value, number_value, string_value, step_value, time_value}
 use Rattle.promql_parser.specs.PrintedPieces.{braces, clause, modifier, time, word_kind}
-use Rattle.promql_parser.proofs.Canonical.{Keeps, AllKept, Canon, base_is, core, open_base, open_most, right_low, root_weaker, some_height, whole}
-use Rattle.promql_parser.proofs.CheckedAgain.{Aggregates, PassesAgain, aggregate_again, arguments, call_again, minus_normal, same_tree, subquery_again, type_normal, unary_again}
-use Rattle.promql_parser.proofs.Printable.{IsSelecting, Printable, AllPrintable, MaybePrintable}
+use Rattle.promql_parser.proofs.Canonical.{Keeps, AllKept, base_is, open_base, open_most, right_low, root_weaker, some_height}
+use Rattle.promql_parser.proofs.CheckedAgain.{arguments, minus_normal, same_tree, type_normal}
+use Rattle.promql_parser.proofs.Printable.{IsSelecting}
 use Rattle.promql_parser.proofs.PrintedMatchers.{AreAnyMatchers, AreMatchers, any_matchers, braces_again, braces_formed, named_again}
-use Rattle.promql_parser.proofs.PrintedModifiers.{Alike, Checked, IsMatched, IsWritten, checked_again, fits_printed, modifier_again, modifier_formed, read_alike, reread, settled_matched, settles, ungrouped}
-use Rattle.promql_parser.proofs.PrintedValues.{IsStep, IsTime, below_zero, nanos_number, number_again, step_again, string_again, time_again}
+use Rattle.promql_parser.proofs.PrintedModifiers.{Checked, IsMatched, IsWritten, checked_again, fits_printed, modifier_again, modifier_formed, read_alike, reread, settled_matched, settles, ungrouped}
+use Rattle.promql_parser.proofs.PrintedValues.{IsStep, IsTime, below_zero, number_again, step_again, string_again, time_again}
 use Rattle.promql_parser.proofs.PrintedWords.{clause_again, clause_formed}
 use Rattle.promql_parser.proofs.SingleAnswers.{giving_leads, known_leads, pass_checks, passes_passing}
 

@@ -1,10 +1,8 @@
 -- What builds a tree is kept by the derivation of the tree's text.
-use Rattle.std.proofs.Common.{◌≡◌, ℕ, ◌+◌, ◌≤◌, refl, sym, ◌∙◌, ap, subst, arith, Bool, true, false, cond, Option, Some, None, List, [], ◌∷◌}
-use Rattle.std.specs.Prelude.{Result, Ok, Err, ◌==◌}
-use Rattle.promql_text.specs.NumberText.{read_number}
+use Rattle.std.proofs.Common.{◌≡◌, ℕ, refl, sym, ◌∙◌, ap, subst, arith, Bool, true, false, cond, Option, Some, None}
+use Rattle.std.specs.Prelude.{Ok, ◌==◌}
 use Rattle.promql_text.specs.Texts.{Text}
-use Rattle.promql_text.specs.Values.{IsNumber, from_nanos, is_below_zero, neg}
-use Rattle.promql_text.specs.declared.number.Number.{Number}
+use Rattle.promql_text.specs.Values.{from_nanos, is_below_zero, neg}
 use Rattle.promql_text.proofs.OneForm.{negated_in_form}
 use Rattle.promql_token.specs.declared.ids.TheConstants.{T_SUB}
 use Rattle.promql_grammar.specs.declared.kind.Kind.{Kind}
@@ -14,28 +12,26 @@ use Rattle.promql_grammar.specs.Pieces as piece
 use Rattle.promql_grammar.specs.Symbols.{may_be_called, may_be_name}
 use Rattle.promql_label.specs.Answers.{Answer}
 use Rattle.promql_kind.specs.Functions.{Signature, function_named}
-use Rattle.promql_kind.specs.Modifiers.{Clause, Matching}
+use Rattle.promql_kind.specs.Modifiers.{Clause}
 use Rattle.promql_ast.specs.Builds.{aggregated, at_given, minus, mode_given, offset_given, ranged}
 use Rattle.promql_ast.specs.Checked.{checked}
-use Rattle.promql_ast.specs.Faults.{Verdict, passes, rejected}
+use Rattle.promql_ast.specs.Faults.{passes}
 use Rattle.promql_ast.specs.Normal.{normal, maybe_normal, normal_clause}
-use Rattle.promql_ast.specs.Selectors.{Selector, selector}
-use Rattle.promql_ast.specs.Shifts.{Shift, Moment}
-use Rattle.promql_ast.specs.Tree.{Tree, aggregate, unary, binary, paren, subquery, number, string, vector, matrix, call, extension, MaybeTree, absent, present, Trees, no_trees, first_tree}
-use Rattle.promql_ast.specs.check.Binary.{checked_binary, settled}
-use Rattle.promql_parser.specs.Asking.{Asking, gives, fails, ◌giving◌, known, under}
+use Rattle.promql_ast.specs.Selectors.{selector}
+use Rattle.promql_ast.specs.Tree.{Tree, aggregate, unary, binary, paren, subquery, number, string, vector, matrix, call, Trees, first_tree}
+use Rattle.promql_ast.specs.check.Binary.{checked_binary}
+use Rattle.promql_parser.specs.Asking.{gives, ◌giving◌, known, under}
 use Rattle.promql_parser.specs.Building.{bound, build, build_all, called, passing, passing_checks, range_mode, selector_tree, with_postfix, with_sign}
 use Rattle.promql_parser.specs.Derive.{AllHaveWords, HasWords, IsName, IsUnsigned}
 use Rattle.promql_parser.specs.PieceBuilding.{any_braces_value, braces_value, clause_value, duration_value, modifier_value, moment_value, number_value, shift_value, step_value, string_value, time_value}
-use Rattle.promql_parser.specs.PrintedPieces.{word_kind}
 use Rattle.promql_parser.proofs.Canonical.{AllKept, Canon, Keeps, canon_at, canon_mode, canon_offset, core, some_height, whole}
 use Rattle.promql_parser.proofs.CanonicalNodes.{all_more, all_none, keeps_aggregate, keeps_binary, keeps_call, keeps_minus, keeps_named, keeps_nameless, keeps_number, keeps_paren, keeps_plus, keeps_range, keeps_string, keeps_subquery, nanos_above, selector_passes, selects}
-use Rattle.promql_parser.proofs.CheckedAgain.{Aggregates, aggregate_again, aggregates, arguments, call_again, is_aggregated, same_tree, subquery_again, unary_again}
+use Rattle.promql_parser.proofs.CheckedAgain.{Aggregates, aggregate_again, aggregates, call_again, is_aggregated, same_tree, subquery_again, unary_again}
 use Rattle.promql_parser.proofs.PrintedMatchers.{any_braces_are, braces_are}
 use Rattle.promql_parser.proofs.PrintedModifiers.{binary_checked, modifier_is}
 use Rattle.promql_parser.proofs.PrintedTimes.{bound_is, moment_is, shift_is}
 use Rattle.promql_parser.proofs.PrintedValues.{nanos_number, number_is, step_is, time_is}
-use Rattle.promql_parser.proofs.SingleAnswers.{Steps, checks_pass, giving_steps, known_steps, passing_passes, same_ok}
+use Rattle.promql_parser.proofs.SingleAnswers.{checks_pass, giving_steps, known_steps, passing_passes, same_ok}
 
 module _ (g : Text → Answer) where
   -- ---- postfixes

@@ -1,7 +1,6 @@
 -- The normal form passes the checks that a tree passes.
-use Rattle.std.proofs.Common.{◌≡◌, ℕ, ℤ, ◌+◌, ◌-◌, refl, sym, ◌∙◌, ap, subst, Bool, true, false, cond, not, ◌&&◌, ◌||◌, Option, Some, None, List, [], ◌∷◌, length}
+use Rattle.std.proofs.Common.{◌≡◌, ℕ, ◌+◌, refl, sym, ◌∙◌, ap, Bool, true, false, cond, not, Option, Some, None, List, [], ◌∷◌, length}
 use Rattle.promql_text.specs.Texts.{Text}
-use Rattle.promql_text.specs.declared.number.Number.{Number}
 use Rattle.promql_token.specs.Ids.{is_aggregator, is_aggregator_with_param}
 use Rattle.promql_kind.specs.Functions.{Signature, signature}
 use Rattle.promql_kind.specs.Modifiers.{Clause}
@@ -14,12 +13,11 @@ use Rattle.promql_ast.specs.Checked.{checked}
 use Rattle.promql_ast.specs.Checks.{first_fault, is_scalar_or_vector, is_vector, mistyped, unless, when}
 use Rattle.promql_ast.specs.Faults as faults
 use Rattle.promql_ast.specs.Faults.{Fault, Verdict, passes, rejected, type_expected, in_call}
-use Rattle.promql_ast.specs.Normal.{normal, maybe_normal, all_normal, normal_clause}
-use Rattle.promql_ast.specs.Shifts.{Shift, Moment}
+use Rattle.promql_ast.specs.Normal.{normal, maybe_normal, all_normal}
 use Rattle.promql_ast.specs.Tree.{Tree, aggregate, unary, binary, paren, subquery, number, string, vector, matrix, call, extension, MaybeTree, absent, present, Trees, no_trees, first_tree}
 use Rattle.promql_ast.specs.Types.{type_of}
-use Rattle.promql_ast.specs.check.Aggregate.{aggregate_fault, checked_aggregate, maybe_type, param_fault, param_type}
-use Rattle.promql_ast.specs.check.Call.{arity_fault, checked_call, first_scalar, is_exempt, is_exempt_number, types_fault, typing_fault}
+use Rattle.promql_ast.specs.check.Aggregate.{aggregate_fault, maybe_type, param_fault, param_type}
+use Rattle.promql_ast.specs.check.Call.{arity_fault, first_scalar, is_exempt_number, types_fault, typing_fault}
 use Rattle.promql_ast.specs.node.Binary.{binary_type}
 
 -- ---- types

@@ -1,5 +1,5 @@
 -- What is known of the values in a tree that is built: each is one that its printed text gives.
-use Rattle.std.proofs.Common.{◌≡◌, ℕ, true, Option, Some, None}
+use Rattle.std.proofs.Common.{◌≡◌, true, Option, Some, None}
 use Rattle.std.specs.Prelude.{Ok}
 use Rattle.std.specs.Int.{is_negative}
 use Rattle.promql_text.specs.Texts.{Text}

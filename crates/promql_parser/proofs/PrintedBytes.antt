@@ -1,6 +1,6 @@
 -- The bytes of the items of a printed line: its pieces.
-use Rattle.std.proofs.Common.{◌≡◌, ℕ, ℤ, ◌%◌, refl, sym, ◌∙◌, ap, subst, Bool, true, false, cond, not, ◌&&◌, Option, Some, None, List, [], ◌∷◌, ◌++◌, append-nil, append_assoc, map, codes, is_gt}
-use Rattle.std.specs.Prelude.{◌==◌, option_map}
+use Rattle.std.proofs.Common.{◌≡◌, ℕ, ◌%◌, refl, sym, ◌∙◌, ap, Bool, true, false, cond, not, ◌&&◌, Option, Some, None, List, [], ◌∷◌, ◌++◌, append-nil, append_assoc, map, codes}
+use Rattle.std.specs.Prelude.{◌==◌}
 use Rattle.std.specs.Int.{is_negative}
 use Rattle.std.specs.List.{flat_map}
 use Rattle.promql_text.specs.DurationText.{duration_text}
@@ -8,34 +8,30 @@ use Rattle.promql_text.specs.Durations.{nanos_of}
 use Rattle.promql_text.specs.NumberDigits.{magnitude_text}
 use Rattle.promql_text.specs.NumberText.{number_text}
 use Rattle.promql_text.specs.Numbers.{negated}
-use Rattle.promql_text.specs.Quoting.{quoted_text}
-use Rattle.promql_text.specs.Texts.{Text, joined_text}
+use Rattle.promql_text.specs.Texts.{Text}
 use Rattle.promql_text.specs.Values.{is_below_zero}
 use Rattle.promql_text.specs.declared.duration.Unit.TheVariants.{Milli}
 use Rattle.promql_text.specs.declared.number.Number.{Number}
 use Rattle.promql_text.specs.declared.number.Number.TheVariants.{Finite, Inf, NegInf, NaN}
 use Rattle.promql_grammar.specs.declared.kind.Kind.TheVariants as kind
-use Rattle.promql_grammar.specs.Grammar as grammar
 use Rattle.promql_grammar.specs.Grammar.{Derivation}
 use Rattle.promql_grammar.specs.Pieces as piece
 use Rattle.promql_grammar.specs.Symbols.{sign, word}
 use Rattle.promql_label.specs.Labels.{label_text, labels_text}
-use Rattle.promql_label.specs.PlainMatchers.{Operator, equal, not_equal, matches, matches_not, PlainMatcher, plain_matcher, PlainMatchers, plain_matchers, group_text, matcher_text, matchers_text, name_text, operator_text}
-use Rattle.promql_label.specs.SortedTexts.{insert_text, sorted_texts, text_order}
-use Rattle.promql_kind.specs.ModifierText.{bool_text, fill_text, fills_text, grouping_text, matched_text, modifier_text}
+use Rattle.promql_kind.specs.ModifierText.{bool_text, fill_text, fills_text, grouping_text, matched_text}
 use Rattle.promql_kind.specs.Modifiers.{Clause, including, excluding, Cardinality, one_to_one, many_to_one, one_to_many, many_to_many, Fills, fills, Matching, matching, is_grouping, number_eq}
-use Rattle.promql_ast.specs.Normal.{insert_matcher, normal_matched, sorted_matchers}
+use Rattle.promql_ast.specs.Normal.{normal_matched}
 use Rattle.promql_ast.specs.Shifts.{Shift, back, ahead, Moment, at_start, at_end, at_time, at_text, moment_text, offset_text, shift_text, time_text}
 use Rattle.promql_ast.specs.declared.range_mode.RangeMode.{RangeMode}
 use Rattle.promql_ast.specs.declared.range_mode.RangeMode.TheVariants.{Plain, Smoothed, Anchored}
 use Rattle.promql_ast.specs.node.Aggregate.{clause_text}
 use Rattle.promql_ast.specs.node.Binary.{matching_text}
 use Rattle.promql_ast.specs.node.Matrix.{mode_text}
-use Rattle.promql_parser.specs.Derive.{with_at, with_mode, with_offset, with_suffix}
-use Rattle.promql_parser.specs.PrintedItems.{Item, token, blank, newline, render, spell, Spacing, close, wide, spacing, any_braces_line, before_line, braces_line, fills_line, flag_line, group_line, item_line, items_line, labels_line, line, matching_line, modifier_line, names_line, postfix_line, separator_line, signed_line, time_line, value_line}
+use Rattle.promql_parser.specs.Derive.{with_at, with_mode, with_suffix}
+use Rattle.promql_parser.specs.PrintedItems.{Item, token, blank, newline, render, spell, before_line, fills_line, flag_line, group_line, labels_line, line, matching_line, modifier_line, names_line, postfix_line, signed_line, time_line, value_line}
 use Rattle.promql_parser.specs.PrintedPieces.{any_items, braces, clause, fill_words, flag, followed, group, group_items, item, labels, magnitude, match_sign, matched, modifier, moment, names, or_items, seconds_text, shift, time, value}
 use Rattle.promql_parser.specs.PrintedPieces as printed
-use Rattle.promql_parser.proofs.PrintedModifiers.{IsGroupedAfter, IsMatched, IsUngrouped}
+use Rattle.promql_parser.proofs.PrintedModifiers.{IsGroupedAfter, IsMatched}
 
 pub render_append : (is js : List Item) → render (is ++ js) ≡ render is ++ render js
 render_append [] js = refl

@@ -1,11 +1,10 @@
 -- The bytes of a laid-out tree's items are its layout.
-use Rattle.std.proofs.Common.{◌≡◌, ⊎_elim, ℕ, zero, suc, ◌+◌, ◌-◌, ◌<◌, ◌≤◌, refl, sym, ◌∙◌, ap, subst, arith, Bool, true, false, cond, not, ◌&&◌, ◌||◌, Option, Some, None, List, [], ◌∷◌, ◌++◌, append-nil, append_assoc, codes, length, replicate}
-use Rattle.std.specs.Prelude.{◌==◌, ◌/◌, ◌%◌, ◌^◌, option_map, slice_index}
+use Rattle.std.proofs.Common.{◌≡◌, ℕ, zero, suc, ◌+◌, ◌-◌, ◌<◌, ◌≤◌, refl, sym, ◌∙◌, ap, subst, arith, Bool, true, false, cond, Option, Some, None, List, [], ◌∷◌, ◌++◌, append-nil, append_assoc, codes, replicate}
+use Rattle.std.specs.Prelude.{◌==◌, ◌/◌, ◌%◌, ◌^◌, option_map}
 use Rattle.std.proofs.Math.Nat.{div-le_self}
 use Rattle.std.specs.Char.{is_ascii_digit}
 use Rattle.std.specs.Fmt.{decimal}
 use Rattle.std.specs.List.{flat_map}
-use Rattle.std.specs.Str.Parse.{AllDigits}
 use Rattle.std.proofs.lemmas.Bool.Decides.{nat_tests}
 use Rattle.std.proofs.lemmas.Fmt.{decimal_is_IsNumeral_wide}
 use Rattle.promql_text.specs.DecimalForm.{front}
@@ -30,7 +29,6 @@ use Rattle.promql_grammar.specs.Symbols.{Symbol, sign, word}
 use Rattle.promql_label.specs.Answers.{Answer}
 use Rattle.promql_label.specs.PlainMatchers.{PlainMatchers, matchers_text}
 use Rattle.promql_kind.specs.Functions.{name_of}
-use Rattle.promql_kind.specs.Modifiers.{Clause}
 use Rattle.promql_ast.specs.Layout as layout
 use Rattle.promql_ast.specs.Layout.{laid, laids, maybe_laid}
 use Rattle.promql_ast.specs.Lines.{indent, is_longer}
@@ -46,7 +44,7 @@ use Rattle.promql_ast.specs.node.Matrix.{mode_text}
 use Rattle.promql_ast.specs.node.Subquery.{range_text}
 use Rattle.promql_ast.specs.node.Vector.{braced, selected_name_text}
 use Rattle.promql_parser.specs.Derive.{derive, derive_after, derive_all, derive_base, derive_number, with_at, with_mode, with_suffix}
-use Rattle.promql_parser.specs.PrintedItems.{Item, token, blank, newline, render, spell, after_line, arguments_lines, before_line, braces_line, chosen, closing_line, indented, line, lines, modifier_line, postfix_line, rest_lines, signed_line, time_line, trimmed}
+use Rattle.promql_parser.specs.PrintedItems.{Item, token, blank, newline, render, spell, after_line, arguments_lines, before_line, chosen, closing_line, indented, line, lines, modifier_line, postfix_line, rest_lines, signed_line, time_line, trimmed}
 use Rattle.promql_parser.specs.PrintedPieces.{braces, clause, modifier, moment, shift, time, word_kind}
 use Rattle.promql_parser.specs.PrintedPieces as printed
 use Rattle.promql_parser.proofs.Printable.{AllPrintable, IsSelecting, MaybePrintable, Printable, PrintableSelector}

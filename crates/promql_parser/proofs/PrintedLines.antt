@@ -14,7 +14,7 @@ use Rattle.promql_grammar.specs.declared.kind.Kind.TheVariants as kind
 use Rattle.promql_grammar.specs.Grammar as grammar
 use Rattle.promql_grammar.specs.Grammar.{Arguments, Derivation}
 use Rattle.promql_grammar.specs.Pieces as piece
-use Rattle.promql_grammar.specs.Symbols.{sign, word}
+use Rattle.promql_grammar.specs.Symbols.{sign}
 use Rattle.promql_label.specs.Answers.{Answer}
 use Rattle.promql_label.specs.PlainMatchers.{Operator, equal, not_equal, matches, matches_not, PlainMatcher, plain_matcher, PlainMatchers, plain_matchers, group_text, matcher_text, matchers_text, name_text, operator_text}
 use Rattle.promql_label.specs.SortedTexts.{insert_text, sorted_texts, text_order}
@@ -22,7 +22,7 @@ use Rattle.promql_kind.specs.Functions.{name_of}
 use Rattle.promql_kind.specs.Modifiers.{Clause, including, excluding}
 use Rattle.promql_ast.specs.Normal.{insert_matcher, sorted_matchers}
 use Rattle.promql_ast.specs.Selectors.{Selector, selector}
-use Rattle.promql_ast.specs.Shifts.{Shift, Moment, at_text, offset_text}
+use Rattle.promql_ast.specs.Shifts.{at_text, offset_text}
 use Rattle.promql_ast.specs.Text.{maybe_text, text, texts}
 use Rattle.promql_ast.specs.Tree.{Tree, aggregate, unary, binary, paren, subquery, number, string, vector, matrix, call, extension, MaybeTree, absent, present, Trees, no_trees, first_tree}
 use Rattle.promql_ast.specs.declared.range_mode.RangeMode.{RangeMode}
@@ -30,14 +30,14 @@ use Rattle.promql_ast.specs.node.Aggregate.{clause_text, param_text}
 use Rattle.promql_ast.specs.node.Binary.{matching_text}
 use Rattle.promql_ast.specs.node.Matrix.{mode_text}
 use Rattle.promql_ast.specs.node.Subquery.{range_text, step_text}
-use Rattle.promql_ast.specs.node.Vector.{base_text, braced, selected_name_text}
+use Rattle.promql_ast.specs.node.Vector.{braced, selected_name_text}
 use Rattle.promql_parser.specs.Derive.{derive, derive_after, derive_all, derive_base, derive_number, with_mode}
-use Rattle.promql_parser.specs.PrintedItems.{Item, token, blank, newline, render, spell, Spacing, close, wide, spacing, after_line, any_braces_line, arguments_line, before_line, item_line, items_line, line, modifier_line, postfix_line, rest_line, separator_line, signed_line, step_line, time_line}
+use Rattle.promql_parser.specs.PrintedItems.{Item, token, blank, render, close, wide, spacing, after_line, any_braces_line, arguments_line, before_line, item_line, items_line, line, modifier_line, postfix_line, rest_line, separator_line, signed_line, step_line, time_line}
 use Rattle.promql_parser.specs.PrintedPieces.{any_items, braces, clause, followed, group_items, item, modifier, or_items, time}
 use Rattle.promql_parser.specs.PrintedPieces as printed
 use Rattle.promql_parser.proofs.Printable.{AllPrintable, IsSelecting, MaybePrintable, Printable, PrintableSelector}
 use Rattle.promql_parser.proofs.PrintedBytes.{clause_bytes, glued, mode_bytes, modifier_bytes, number_split, suffix_bytes, time_bytes}
-use Rattle.promql_parser.proofs.PrintedMatchers.{AllStand, AreAnyMatchers, AreMatchers, GroupsStand, any_matchers}
+use Rattle.promql_parser.proofs.PrintedMatchers.{AreAnyMatchers, AreMatchers, GroupsStand, any_matchers}
 
 -- ---- matchers
 

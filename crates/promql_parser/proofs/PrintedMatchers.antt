@@ -1,6 +1,6 @@
 -- Printed matchers read back in the order of their texts, or in their groups.
-use Rattle.std.proofs.Common.{◌≡◌, ◌⊎◌, inl, inr, ⊎_elim, ℕ, refl, sym, ◌∙◌, ap, subst, Bool, true, false, cond, not, ◌&&◌, ◌||◌, Option, Some, None, List, [], ◌∷◌, ◌++◌, append-nil, append_assoc, codes, is_gt}
-use Rattle.std.specs.Prelude.{Result, Ok, Err, find, option_map}
+use Rattle.std.proofs.Common.{◌≡◌, refl, sym, ◌∙◌, ap, subst, Bool, true, false, cond, ◌&&◌, ◌||◌, Option, Some, None, List, [], ◌∷◌, ◌++◌, append-nil, append_assoc, codes, is_gt}
+use Rattle.std.specs.Prelude.{Result, Ok, find, option_map}
 use Rattle.std.specs.List.{flat_map, list_all, list_any}
 use Rattle.promql_text.specs.Quoting.{quoted_text}
 use Rattle.promql_text.specs.Texts.{Text}
@@ -8,19 +8,19 @@ use Rattle.promql_token.specs.Classes.{is_label}
 use Rattle.promql_grammar.specs.declared.kind.Kind.TheVariants as kind
 use Rattle.promql_grammar.specs.Pieces as piece
 use Rattle.promql_label.specs.Answers.{Answer, built, refused}
-use Rattle.promql_label.specs.PlainMatchers.{Operator, equal, not_equal, matches, matches_not, PlainMatcher, plain_matcher, PlainMatchers, plain_matchers, name_text, matcher_text, every, is_of, value_of, holds, found_value, all_match_empty, appended, appended_or, grown}
+use Rattle.promql_label.specs.PlainMatchers.{Operator, equal, matches, matches_not, PlainMatcher, plain_matcher, PlainMatchers, plain_matchers, name_text, matcher_text, is_of, value_of, holds, appended, appended_or, grown}
 use Rattle.promql_label.specs.SortedTexts.{text_order}
-use Rattle.promql_ast.specs.Checks.{when, unless}
+use Rattle.promql_ast.specs.Checks.{when}
 use Rattle.promql_ast.specs.Faults as faults
 use Rattle.promql_ast.specs.Faults.{passes}
 use Rattle.promql_ast.specs.Normal.{insert_matcher, sorted_matchers, normal_matchers}
 use Rattle.promql_ast.specs.check.Vector.{name_fault, second_name}
-use Rattle.promql_parser.specs.Asking.{Asking, gives, fails, asks, ◌giving◌, known, under}
+use Rattle.promql_parser.specs.Asking.{gives, ◌giving◌, known, under}
 use Rattle.promql_parser.specs.Faults.{Fault}
 use Rattle.promql_parser.specs.PieceBuilding.{any_braces_value, braces_value, item_value, items_value, joined, label_value, operator_value, pattern_operator, string_value}
 use Rattle.promql_parser.specs.PrintedPieces.{any_items, braces, followed, group_items, item, match_sign, matcher_kind, or_items}
 use Rattle.promql_parser.proofs.PrintedValues.{string_again}
-use Rattle.promql_parser.proofs.SingleAnswers.{Steps, giving_steps, giving_leads, known_steps, known_leads, same_ok}
+use Rattle.promql_parser.proofs.SingleAnswers.{giving_steps, giving_leads, known_steps, known_leads, same_ok}
 
 module _ (g : Text → Answer) where
   -- ---- one matcher

@@ -1,6 +1,6 @@
 -- Printed modifiers of binary expressions read back, after every operator, and pass the same checks.
 use Rattle.std.proofs.Common.{◌≡◌, ◌⊎◌, inl, inr, ⊎_elim, ℕ, refl, sym, ◌∙◌, ap, subst, Bool, true, false, cond, not, ◌&&◌, ◌||◌, Option, Some, None, is_some, List, [], ◌∷◌, codes}
-use Rattle.std.specs.Prelude.{Result, Ok, Err}
+use Rattle.std.specs.Prelude.{Result, Ok}
 use Rattle.promql_text.specs.Texts.{Text}
 use Rattle.promql_text.specs.Values.{IsNumber}
 use Rattle.promql_text.specs.declared.number.Number.{Number}
@@ -12,7 +12,6 @@ use Rattle.promql_grammar.specs.Pieces as piece
 use Rattle.promql_grammar.specs.Grammar.{FitsMatching}
 use Rattle.promql_grammar.specs.Symbols.{Symbol}
 use Rattle.promql_kind.specs.Modifiers.{Clause, including, excluding, Cardinality, one_to_one, many_to_one, one_to_many, many_to_many, Fills, fills, Matching, matching, is_grouping, number_eq}
-use Rattle.promql_kind.specs.declared.value.ValueType.{ValueType}
 use Rattle.promql_kind.proofs.Same.{number_eq-Decides}
 use Rattle.promql_ast.specs.Checks.{when, first_fault, unless, is_scalar, is_vector, is_scalar_or_vector}
 use Rattle.promql_ast.specs.Faults as faults
@@ -21,13 +20,13 @@ use Rattle.promql_ast.specs.Normal.{normal_matched, normal_matching, unless_defa
 use Rattle.promql_ast.specs.OptionalModifiers.{has_matching_labels, is_grouped, is_on, joint_labels, returns_bool}
 use Rattle.promql_ast.specs.Tree.{Tree, binary}
 use Rattle.promql_ast.specs.Types.{type_of}
-use Rattle.promql_ast.specs.check.Binary.{checked_binary, first_twice, label_fault, operator_fault, set_fault, settled, settled_card, settled_set, side_fault}
+use Rattle.promql_ast.specs.check.Binary.{checked_binary, first_twice, label_fault, operator_fault, set_fault, settled, settled_set, side_fault}
 use Rattle.promql_parser.specs.Faults.{Fault}
 use Rattle.promql_parser.specs.PieceBuilding.{cardinality, fill_value, fills_value, group_value, is_blank, label_values, matching_clause, matching_value, modifier_value}
 use Rattle.promql_parser.specs.PrintedPieces.{fill_words, flag, group, labels, matched, modifier, value}
 use Rattle.promql_parser.proofs.PrintedValues.{signed_again, signed_is}
 use Rattle.promql_parser.proofs.PrintedWords.{labels_again, labels_formed}
-use Rattle.promql_parser.proofs.SingleAnswers.{Steps, then_steps, then_leads, same_ok}
+use Rattle.promql_parser.proofs.SingleAnswers.{then_steps, then_leads, same_ok}
 
 -- ---- what is built of written modifiers
 

@@ -1,16 +1,14 @@
 -- Printed times after `@` and `offset` read back.
-use Rattle.std.proofs.Common.{◌≡◌, ◌≢◌, ⊎_elim, ℕ, zero, suc, ℤ, ◌+◌, ◌-◌, ◌*◌, ◌/◌, ◌%◌, ◌^◌, ◌<◌, ◌≤◌, refl, sym, ◌∙◌, ap, subst, arith, Bool, true, false, cond, not, ◌&&◌, Option, Some, None, List, [], ◌∷◌, ◌++◌, length, length-append}
-use Rattle.std.specs.Prelude.{Result, Ok, Err, ◌==◌, drop, nat_le, nat_lt, option_map, unsigned_abs, pos, neg_ℤ}
-use Rattle.std.specs.Char.{is_ascii_digit}
+use Rattle.std.proofs.Common.{◌≡◌, ℕ, zero, suc, ℤ, ◌+◌, ◌-◌, ◌*◌, ◌/◌, ◌%◌, ◌^◌, ◌<◌, ◌≤◌, refl, sym, ◌∙◌, ap, subst, arith, Bool, true, false, cond, not, ◌&&◌, Option, Some, None, ◌∷◌, ◌++◌, length, length-append}
+use Rattle.std.specs.Prelude.{Result, Ok, ◌==◌, drop, nat_le, nat_lt, option_map, pos, neg_ℤ}
 use Rattle.std.specs.Fmt.{decimal}
 use Rattle.std.specs.Int.{is_negative}
 use Rattle.std.specs.Option.{ok_or}
 use Rattle.std.specs.Str.Parse.{AllDigits, digits_value, digits_value_after}
-use Rattle.std.proofs.lemmas.Bool.{cases_lt, ne_eqb}
+use Rattle.std.proofs.lemmas.Bool.{ne_eqb}
 use Rattle.std.proofs.lemmas.Bool.Decides.{nat_tests}
 use Rattle.std.proofs.lemmas.Fmt.{decimal_digit, decimal_is_IsNumeral_wide}
 use Rattle.promql_text.specs.DecimalForm.{front, unsigned}
-use Rattle.promql_text.specs.DecimalForm as form
 use Rattle.promql_text.specs.Millis.{millis, to_millis, within_i64}
 use Rattle.promql_text.specs.NumberText.{finite, is_octal, read_number}
 use Rattle.promql_text.specs.Numbers.{Exact, digit_count, exact_zero, is_in_range, negated, placed, scaled}
@@ -21,7 +19,7 @@ use Rattle.promql_text.specs.declared.number.Number.TheVariants.{Finite, Inf, Ne
 use Rattle.promql_text.specs.declared.number.NumberFault.TheVariants as fault
 use Rattle.promql_text.proofs.Counts.{count_within}
 use Rattle.promql_text.proofs.Finites.{all_digits_append, finite_short}
-use Rattle.promql_text.proofs.Plain.{AllPlain, plain_append, plain_digits, point_signed}
+use Rattle.promql_text.proofs.Plain.{plain_append, plain_digits, point_signed}
 use Rattle.promql_text.proofs.Radix.{value_append}
 use Rattle.promql_text.proofs.ReadsBack.{number_signed, value_split}
 use Rattle.promql_text.proofs.Runs.{front_digit}
@@ -31,13 +29,13 @@ use Rattle.promql_grammar.specs.declared.kind.Kind.{Kind}
 use Rattle.promql_grammar.specs.declared.kind.Kind.TheVariants as kind
 use Rattle.promql_grammar.specs.Pieces as piece
 use Rattle.promql_ast.specs.AtTimes.{at_of_millis, at_of_number}
-use Rattle.promql_ast.specs.Shifts.{Shift, back, ahead, Moment, at_start, at_end, at_time}
+use Rattle.promql_ast.specs.Shifts.{Shift, back, ahead, Moment, at_time}
 use Rattle.promql_parser.specs.Building.{bound}
 use Rattle.promql_parser.specs.Faults.{Fault}
 use Rattle.promql_parser.specs.PieceBuilding.{at_fault, is_minus, moment_value, number_fault, number_value, shift, shift_value, signed_number, time_value}
 use Rattle.promql_parser.specs.PrintedPieces.{seconds_text, sign}
 use Rattle.promql_parser.proofs.Printable.{IsMoment, IsShift}
-use Rattle.promql_parser.proofs.PrintedValues.{IsTime, Zeroless, time_is, zeroless}
+use Rattle.promql_parser.proofs.PrintedValues.{IsTime, time_is, zeroless}
 use Rattle.promql_parser.proofs.SingleAnswers.{same_ok, then_leads, then_steps}
 
 pub shift_is : (s : piece.Signed) (t : piece.Time) (x : Shift) → shift_value s t ≡ Ok x → IsShift (Some x)
@@ -68,8 +66,14 @@ fraction k = decimal (k / 100 % 10) ++ (decimal (k / 10 % 10) ++ decimal (k % 10
 
 fraction_length : (k : ℕ) → length (fraction k) ≡ 3
 fraction_length k =
-    omega (arith, length-append (decimal (k / 100 % 10)) (decimal (k / 10 % 10) ++ decimal (k % 10)), length-append (decimal (k / 10 % 10)) (decimal (k % 10)),
-    digit_length (k / 100 % 10) (omega arith), digit_length (k / 10 % 10) (omega arith), digit_length (k % 10) (omega arith))
+    omega (
+      arith,
+      length-append (decimal (k / 100 % 10)) (decimal (k / 10 % 10) ++ decimal (k % 10)),
+      length-append (decimal (k / 10 % 10)) (decimal (k % 10)),
+      digit_length (k / 100 % 10) (omega arith),
+      digit_length (k / 10 % 10) (omega arith),
+      digit_length (k % 10) (omega arith),
+    )
 
 fraction_digits : (k : ℕ) → AllDigits 10 (fraction k)
 fraction_digits k =

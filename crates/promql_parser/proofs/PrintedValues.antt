@@ -1,13 +1,13 @@
 -- Printed numbers, times, labels and clauses read back.
-use Rattle.std.proofs.Common.{◌≡◌, ◌≢◌, ◌⊎◌, inl, inr, ⊎_elim, ℕ, zero, suc, ℤ, ◌+◌, ◌*◌, ◌/◌, ◌%◌, ◌^◌, ◌<◌, ◌≤◌, refl, sym, ◌∙◌, ap, subst, arith, Bool, true, false, cond, not, ◌&&◌, ◌||◌, Option, Some, None, List, [], ◌∷◌, length, codes}
+use Rattle.std.proofs.Common.{◌≡◌, ◌≢◌, ⊎_elim, ℕ, zero, suc, ◌+◌, ◌*◌, ◌/◌, ◌%◌, ◌^◌, ◌<◌, ◌≤◌, refl, sym, ◌∙◌, ap, subst, arith, Bool, true, false, cond, not, ◌&&◌, Option, Some, None, length}
 use Rattle.std.specs.Prelude.{Result, Ok, Err, ◌==◌, nat_lt, if◌then◌else◌, option_map}
 use Rattle.std.proofs.lemmas.Bool.Decides.{nat_tests}
 use Rattle.promql_text.specs.Durations.{duration_of, in_range, of_form, of_parts, of_seconds, nanos_of, second_nanos, parts_nanos, units}
 use Rattle.promql_text.specs.DecimalForm as form
 use Rattle.promql_text.specs.DurationText.{duration_text}
 use Rattle.promql_text.specs.NumberText.{number_text, read_number}
-use Rattle.promql_text.specs.Numbers.{Exact, IsExact, negated}
-use Rattle.promql_text.specs.Quoting.{quoted_text, unquoted_text}
+use Rattle.promql_text.specs.Numbers.{Exact, IsExact}
+use Rattle.promql_text.specs.Quoting.{quoted_text}
 use Rattle.promql_text.specs.Texts.{Text}
 use Rattle.promql_text.specs.Values.{IsNumber, is_below_zero, neg, from_nanos}
 use Rattle.promql_text.specs.declared.duration.DurationFault.{DurationFault}
@@ -25,13 +25,12 @@ use Rattle.promql_text.proofs.OneForm.{negated_in_form}
 use Rattle.promql_text.proofs.Quotes.{unquoted_text-quoted}
 use Rattle.promql_text.proofs.ReadsBack.{reads_back}
 use Rattle.promql_text.proofs.ReadsDuration.{duration_reads}
-use Rattle.promql_token.specs.declared.ids.TheConstants.{T_SUB}
 use Rattle.promql_grammar.specs.Results.{◌then◌}
 use Rattle.promql_grammar.specs.Pieces as piece
 use Rattle.promql_parser.specs.Faults.{Fault}
-use Rattle.promql_parser.specs.PieceBuilding.{string_value, number_value, number_fault, signed_number, is_minus, duration_value, duration_fault, time_value, step_value, fill_value}
-use Rattle.promql_parser.specs.PrintedPieces.{sign, magnitude, value, time}
-use Rattle.promql_parser.proofs.SingleAnswers.{Steps, then_steps, then_leads, same_ok}
+use Rattle.promql_parser.specs.PieceBuilding.{string_value, number_value, number_fault, signed_number, is_minus, duration_value, duration_fault, time_value, step_value}
+use Rattle.promql_parser.specs.PrintedPieces.{sign, magnitude, time}
+use Rattle.promql_parser.proofs.SingleAnswers.{then_steps, then_leads, same_ok}
 
 -- ---- strings
 
@@ -57,10 +56,11 @@ not_zero d is minus = decided (d.digits == 0) refl
 -- a number below zero is the opposite of its opposite, which is not below zero
 pub below_zero : (n : Number) → IsNumber n → is_below_zero n ≡ true → (neg (neg n) ≡ n) × (is_below_zero (neg n) ≡ false)
 below_zero (Finite d) is minus =
-    let some = not_zero d is minus in
-    ((λ i. Finite (record d { is_negative = not (not (minus i) && not (some i)) && not (some i) }))
-    ∙ (λ i. Finite (record d { is_negative = sym minus i })),
-    λ i. not (minus i) && not (some i))
+    let some = not_zero d is minus in (
+      (λ i. Finite (record d { is_negative = not (not (minus i) && not (some i)) && not (some i) }))
+          ∙ (λ i. Finite (record d { is_negative = sym minus i })),
+      λ i. not (minus i) && not (some i),
+    )
 below_zero Inf is minus = cc
 below_zero NegInf is minus = (refl, refl)
 below_zero NaN is minus = cc

@@ -1,6 +1,6 @@
 -- Printed labels and names of functions are words of their kinds, and labels and clauses read back.
-use Rattle.std.proofs.Common.{◌≡◌, ◌⊎◌, inl, inr, ⊎_elim, ℕ, suc, ◌+◌, refl, sym, ◌∙◌, ap, subst, arith, Bool, true, false, cond, not, ◌&&◌, ◌||◌, Option, Some, None, List, [], ◌∷◌, length, map, codes}
-use Rattle.std.specs.Prelude.{Result, Ok, Err, ◌==◌, slice_index}
+use Rattle.std.proofs.Common.{◌≡◌, ◌⊎◌, inl, inr, ⊎_elim, ℕ, suc, ◌+◌, refl, sym, ◌∙◌, ap, subst, arith, Bool, true, false, cond, not, ◌&&◌, ◌||◌, Option, Some, None, List, [], ◌∷◌, length, codes}
+use Rattle.std.specs.Prelude.{Ok, ◌==◌, slice_index}
 use Rattle.std.specs.List.{list_all, list_any, prefix_len}
 use Rattle.std.specs.Option.{unwrap_or}
 use Rattle.std.specs.Str.{bytes_eq, str_eq_ignore_ascii_case, str_to_ascii_lowercase}
@@ -11,19 +11,17 @@ use Rattle.promql_text.specs.Quoting.{quoted_text}
 use Rattle.promql_text.specs.Texts.{Text}
 use Rattle.promql_token.specs.Classes.{is_in, is_label, is_letter, is_name_byte, past}
 use Rattle.promql_token.specs.Ids.{keyword_in_any_case, keywords, lookup, same_word}
-use Rattle.promql_token.specs.Pieces.{is_fill, name_id, word_id}
+use Rattle.promql_token.specs.Pieces.{is_fill, name_id}
 use Rattle.promql_token.specs.declared.class.Class.TheVariants as class
 use Rattle.promql_token.specs.declared.ids.Case.TheVariants as case
 use Rattle.promql_token.specs.declared.ids.TheConstants.{T_IDENTIFIER, T_METRIC_IDENTIFIER}
 use Rattle.promql_grammar.specs.declared.kind.Kind.{Kind}
 use Rattle.promql_grammar.specs.declared.kind.Kind.TheVariants as kind
 use Rattle.promql_grammar.specs.Pieces as piece
-use Rattle.promql_grammar.specs.Results.{◌then◌}
 use Rattle.promql_grammar.specs.Symbols.{kind_of, may_be_label}
 use Rattle.promql_label.specs.Labels.{is_number_word, label_text}
 use Rattle.promql_kind.specs.Modifiers.{Clause, including, excluding}
 use Rattle.promql_ast.specs.Normal.{normal_clause}
-use Rattle.promql_parser.specs.Faults.{Fault}
 use Rattle.promql_parser.specs.PieceBuilding.{label_value, name_values, label_values, grouping_value, clause_value}
 use Rattle.promql_parser.specs.PrintedPieces.{word_kind, label_kind, names, labels, clause}
 use Rattle.promql_parser.proofs.PrintedValues.{string_again}

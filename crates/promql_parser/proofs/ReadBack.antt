@@ -1,6 +1,6 @@
 -- The tokens of a built tree's text build its normal form, and are one with those of another tree exactly if the normal forms are.
 use Rattle.std.proofs.Common.{◌≡◌, ℕ, refl, sym, ◌∙◌, ap, Bool, true, false, Option, Some, None, List, [], ◌∷◌, codes}
-use Rattle.std.specs.Prelude.{Result, Ok, Err, option_map}
+use Rattle.std.specs.Prelude.{Ok, option_map}
 use Rattle.promql_text.specs.Texts.{Text}
 use Rattle.promql_token.specs.Ids.{text_of}
 use Rattle.promql_token.specs.declared.ids.TheConstants.{T_SUB}
@@ -10,7 +10,7 @@ use Rattle.promql_grammar.specs.Grammar.{Derivation, Arguments, IsWellFormed, yi
 use Rattle.promql_grammar.proofs.Unique.{one_derivation}
 use Rattle.promql_label.specs.Answers.{Answer}
 use Rattle.promql_label.specs.PlainMatchers.{PlainMatcher, PlainMatchers, plain_matchers}
-use Rattle.promql_kind.specs.Modifiers.{Clause, including, excluding, Cardinality, one_to_one, many_to_one, one_to_many, many_to_many, Fills, fills, Matching, matching, is_grouping}
+use Rattle.promql_kind.specs.Modifiers.{Clause, including, excluding, one_to_one, fills, Matching, matching, is_grouping}
 use Rattle.promql_ast.specs.Layout.{laid}
 use Rattle.promql_ast.specs.Normal.{all_normal, maybe_normal, normal, normal_clause, normal_matched, normal_matchers, normal_matching, sorted_matchers, unless_default}
 use Rattle.promql_ast.specs.Selectors.{Selector, selector}
@@ -20,12 +20,11 @@ use Rattle.promql_ast.specs.declared.range_mode.RangeMode.{RangeMode}
 use Rattle.promql_ast.proofs.NormalForms.{normal_twice}
 use Rattle.promql_parser.specs.Asking.{under}
 use Rattle.promql_parser.specs.Building.{build}
-use Rattle.promql_parser.specs.Derive.{HasWords, ReadsBack, derive, derive_after, derive_all, derive_base, derive_matrix, derive_selector, with_mode, with_suffix}
+use Rattle.promql_parser.specs.Derive.{HasWords, ReadsBack, derive, derive_after, derive_all, derive_base, with_mode, with_suffix}
 use Rattle.promql_parser.specs.PrintedItems.{line, lines, render, strip}
 use Rattle.promql_parser.specs.PrintedPieces.{any_items, braces, clause, fill_words, flag, group, matched, modifier, time, word_kind}
 use Rattle.promql_grammar.specs.Pieces as piece
 use Rattle.promql_grammar.specs.Symbols.{Symbol}
-use Rattle.promql_parser.proofs.Canonical.{Keeps}
 use Rattle.promql_parser.proofs.CanonicalTrees.{keeps}
 use Rattle.promql_parser.proofs.PrintedLayouts.{lines_bytes}
 use Rattle.promql_parser.proofs.PrintedLines.{line_bytes}

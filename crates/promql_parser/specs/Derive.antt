@@ -1,5 +1,5 @@
 -- The derivation of a tree's text (docs/PRINTING.md, "Nodes"): what the grammar reads the printed tree as.
-use Rattle.std.specs.Prelude.{◌≡◌, ℕ, ◌≤◌, Bool, true, false, if◌then◌else◌, Option, Some, None, option_map, List, Result, Ok, Err, codes}
+use Rattle.std.specs.Prelude.{◌≡◌, ℕ, ◌≤◌, true, false, if◌then◌else◌, Option, Some, None, option_map, List, Result, Ok, Err, codes}
 use Rattle.promql_text.specs.NumberText.{number_text, read_number}
 use Rattle.promql_text.specs.Quoting.{quoted_text}
 use Rattle.promql_text.specs.Texts.{Text}

@@ -23,8 +23,6 @@ use Rattle.promql_label.specs.PlainMatchers.{Operator, equal, not_equal, matches
 use Rattle.promql_kind.specs.Modifiers.{Clause, including, excluding, Cardinality, one_to_one, many_to_one, one_to_many, many_to_many, Fills, fills, Matching, matching, is_grouping, number_eq}
 use Rattle.promql_ast.specs.Normal.{sorted_matchers, normal_matched}
 use Rattle.promql_ast.specs.Shifts.{Shift, back, ahead, Moment, at_start, at_end, at_time}
-use Rattle.promql_ast.specs.declared.range_mode.RangeMode.{RangeMode}
-use Rattle.promql_ast.specs.declared.range_mode.RangeMode.TheVariants.{Plain, Smoothed, Anchored}
 
 -- the kind of a word outside braces, where no parenthesis follows
 unfoldable pub word_kind : Text → Kind

@@ -47,13 +47,16 @@ pub fn printed_items_are_texts()
     ensures line { (g : Text → Answer) (d : Derivation) (t : Tree) → IsWellFormed d → HasWords d
         → under g (build d) ≡ Ok t → render (line (derive t)) ≡ text t }
     ensures lines { (g : Text → Answer) (d : Derivation) (t : Tree) → IsWellFormed d → HasWords d
-        → under g (build d) ≡ Ok t → (level most : ℕ) → render (lines (derive t) level most) ≡ laid t level most }
+        → under g (build d) ≡ Ok t → (level most : ℕ)
+        → render (lines (derive t) level most) ≡ laid t level most }
 {}
 
 /// With one answer for each pattern, two built trees print the same tokens exactly if their normal forms are equal.
 pub fn tokens_print_alike()
-    ensures normal { (g : Text → Answer) (c d : Derivation) (s t : Tree) → IsWellFormed c → HasWords c
-        → under g (build c) ≡ Ok s → IsWellFormed d → HasWords d → under g (build d) ≡ Ok t
-        → strip (line (derive s)) ≡ strip (line (derive t)) → normal s ≡ normal t }
-    ensures tokens { (s t : Tree) → normal s ≡ normal t → strip (line (derive s)) ≡ strip (line (derive t)) }
+    ensures normal { (g : Text → Answer) (c d : Derivation) (s t : Tree) → IsWellFormed c
+        → HasWords c → under g (build c) ≡ Ok s → IsWellFormed d → HasWords d
+        → under g (build d) ≡ Ok t → strip (line (derive s)) ≡ strip (line (derive t))
+        → normal s ≡ normal t }
+    ensures tokens { (s t : Tree) → normal s ≡ normal t
+        → strip (line (derive s)) ≡ strip (line (derive t)) }
 {}
