@@ -105,9 +105,6 @@ pub record Reads (k : ℕ) : Type 0 where
   pub millis : millis number ≡ k
   pub some : 0 < k → (number.digits == 0) ≡ false
 
-at_three : (k c z : ℕ) → Option Exact
-at_three k c z = placed false c (z + 0) 3
-
 finite_three : (k c z : ℕ) → k < 2 ^ 64 → c * 10 ^ z ≡ k → c < 10 ^ 38 → (c % 10 ≡ 0 → c ≡ 0)
     → finite false (plain_numeral (decimal (k / 1000)) (fraction k)) ≡ ok_or (option_map Finite (placed false c (z + 0) 3)) fault.OutOfRange
 finite_three k c z low is short ends =

@@ -43,9 +43,6 @@ string_again s = ap string_said (unquoted_text-quoted s)
 
 -- ---- numbers
 
-abbrev pub minus_again : (n : Number) → Type 0
-minus_again n = neg (neg n) ≡ n
-
 not_zero : (d : Exact) → IsExact d → d.is_negative ≡ true → (d.digits == 0) ≡ false
 not_zero d is minus = decided (d.digits == 0) refl
   where
