@@ -1,9 +1,19 @@
 //! Laws: the contracts of functions that do nothing.
 
-ghost use Rattle.std.specs.Prelude.{◌≡◌, map};
+ghost use Rattle.std.specs.Prelude.{◌≡◌, ℕ, map, Ok};
 ghost use Rattle.promql_text.specs.Equalities.{IsSameBy};
 ghost use Rattle.promql_grammar.specs.Grammar.{Derivation, IsWellFormed, yield};
+ghost use Rattle.promql_text.specs.Texts.{Text};
+ghost use Rattle.promql_label.specs.Answers.{Answer};
+ghost use Rattle.promql_ast.specs.Layout.{laid};
+ghost use Rattle.promql_ast.specs.Normal.{normal};
+ghost use Rattle.promql_ast.specs.Text.{text};
+ghost use Rattle.promql_ast.specs.Tree.{Tree};
 ghost use Rattle.promql_parser.specs.Answers.{refusal_of};
+ghost use Rattle.promql_parser.specs.Asking.{under};
+ghost use Rattle.promql_parser.specs.Building.{build};
+ghost use Rattle.promql_parser.specs.Derive.{HasWords, ReadsBack, derive};
+ghost use Rattle.promql_parser.specs.PrintedItems.{line, lines, render, strip};
 
 use crate::parser::ParseError;
 
@@ -20,3 +30,33 @@ pub fn equal_errors()
 {
     promql_token::laws::equal_faults();
 }
+
+/// With one answer for each pattern, the tokens that are printed of a built tree, on one line or laid out, are those of a
+/// well formed derivation, which is no higher and builds the tree's normal form.
+pub fn printed_tokens_read_back()
+    ensures line { (g : Text → Answer) (d : Derivation) (t : Tree) → IsWellFormed d → HasWords d
+        → under g (build d) ≡ Ok t → ReadsBack g d (strip (line (derive t))) (normal t) }
+    ensures lines { (g : Text → Answer) (d : Derivation) (t : Tree) → IsWellFormed d → HasWords d
+        → under g (build d) ≡ Ok t → (level most : ℕ)
+        → ReadsBack g d (strip (lines (derive t) level most)) (normal t) }
+{}
+
+/// With one answer for each pattern, the items that are printed of a built tree are its text on one line, and its layout at
+/// any level and width.
+pub fn printed_items_are_texts()
+    ensures line { (g : Text → Answer) (d : Derivation) (t : Tree) → IsWellFormed d → HasWords d
+        → under g (build d) ≡ Ok t → render (line (derive t)) ≡ text t }
+    ensures lines { (g : Text → Answer) (d : Derivation) (t : Tree) → IsWellFormed d → HasWords d
+        → under g (build d) ≡ Ok t → (level most : ℕ)
+        → render (lines (derive t) level most) ≡ laid t level most }
+{}
+
+/// With one answer for each pattern, two built trees print the same tokens exactly if their normal forms are equal.
+pub fn tokens_print_alike()
+    ensures normal { (g : Text → Answer) (c d : Derivation) (s t : Tree) → IsWellFormed c
+        → HasWords c → under g (build c) ≡ Ok s → IsWellFormed d → HasWords d
+        → under g (build d) ≡ Ok t → strip (line (derive s)) ≡ strip (line (derive t))
+        → normal s ≡ normal t }
+    ensures tokens { (s t : Tree) → normal s ≡ normal t
+        → strip (line (derive s)) ≡ strip (line (derive t)) }
+{}
