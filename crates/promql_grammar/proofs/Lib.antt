@@ -1,5 +1,6 @@
 pub mod Choices
 pub mod Complete
+pub mod Known
 pub mod Levels
 pub mod PiecesRead
 pub mod PiecesTaken

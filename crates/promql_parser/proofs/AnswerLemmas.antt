@@ -1,6 +1,6 @@
 -- From what a token list gives to the answer to its text.
-use Rattle.std.proofs.Common.{◌≡◌, ◌≢◌, ℕ, ◌+◌, ◌<◌, ◌≤◌, ⊎_elim, max, true, false, Bool, List, [], ◌∷◌, length, map, Option, None, length-append, refl, sym, ap, ◌∙◌, subst, arith}
-use Rattle.std.specs.Prelude.{Result, Ok, Err}
+use Rattle.std.proofs.Common.{◌≡◌, ◌≢◌, ℕ, ◌+◌, ◌<◌, ◌≤◌, ⊎_elim, max, true, false, Bool, List, [], ◌∷◌, ◌++◌, length, map, Option, None, length-append, refl, sym, ap, ◌∙◌, subst, arith}
+use Rattle.std.specs.Prelude.{Result, Ok, Err, not, ◌==◌}
 use Rattle.std.proofs.lemmas.Bool.{cases_lt}
 use Rattle.std.proofs.lemmas.List.{length-map}
 use Rattle.promql_text.specs.Texts.{Text}
@@ -13,6 +13,7 @@ use Rattle.promql_grammar.specs.Results.{on_result}
 use Rattle.promql_grammar.specs.Symbols.{Symbol, symbol, symbol_of, kind_of, sign, word, begins, may_begin, may_be_name, is_sign_operator, is_word_operator}
 use Rattle.promql_grammar.specs.Pieces.{no_item}
 use Rattle.promql_grammar.specs.Grammar.{Derivation, number, duration, string, selector, nameless, paren, postfixed, unary, yield, height, IsWellFormed}
+use Rattle.promql_grammar.proofs.Known.{last_is_known}
 use Rattle.promql_grammar.proofs.Unique.{one_derivation}
 use Rattle.promql_grammar.proofs.Sound.{height_yield}
 use Rattle.promql_ast.specs.Height.{height as tree_height}
@@ -22,13 +23,16 @@ use Rattle.promql_parser.specs.Answers.{Refusal, memory, lexical, empty, syntax,
 use Rattle.promql_parser.specs.Asking.{Ends}
 use Rattle.promql_parser.specs.Building.{build}
 use Rattle.promql_parser.specs.Faults.{Fault, fault_of}
-use Rattle.promql_parser.specs.Halts.{error_of, fault_error}
+use Rattle.promql_parser.specs.Drawing.{fault_mark}
+use Rattle.promql_parser.specs.Halts.{error_of, fault_error, first_of}
+use Rattle.promql_parser.specs.declared.parser.ParseError.{ParseError}
 use Rattle.promql_parser.specs.declared.grammar.fault.Fault as code
 use Rattle.promql_parser.specs.declared.grammar.fault.Fault.TheVariants as variant
-use Rattle.promql_parser.specs.Lexing.{Token, tokens}
+use Rattle.promql_parser.specs.Lexing.{Token, tokens, has_any}
 use Rattle.promql_parser.specs.Wholes.{IsWhole, IsWholeValue}
 use Rattle.promql_parser.proofs.Ending.{ends_under}
 use Rattle.promql_parser.proofs.Good.{CheckedTyped, IsGood, all_ends, build_good}
+use Rattle.promql_parser.proofs.Listing.{some_zero}
 
 -- a text with a lexical fault derives nothing, nor does one with no token
 abbrev IsFault : {A : Type 0} → Result A LexFault → Type 0
@@ -261,3 +265,28 @@ module _ (text : Text) (list : List Token) (is : tokens text ≡ Ok list) (some 
     typed = λ t same. cc;
     low = λ t same. cc;
   }
+
+-- ---- answers to any text
+
+-- a fault of reading, where the text has tokens and no lexical fault
+pub refused_answer : (text : Text) (e : ParseError) → ((list : List Token) → tokens text ≡ Ok list → 0 < length list → IsAnswerTo text (Err (refusal_of e)))
+    → IsAnswerTo text (Err (refusal_of (first_of (has_any (tokens text)) e)))
+refused_answer text e listed = by_tokens (tokens text) refl
+  where
+    by_tokens : (r : Result (List Token) LexFault) → tokens text ≡ r → IsAnswerTo text (Err (refusal_of (first_of (has_any r) e)))
+    by_tokens (Ok []) is = empty_answer text is
+    by_tokens (Ok (t ∷ ts)) is = subst (λ b. IsAnswerTo text (Err (refusal_of (first_of (Ok b) e)))) (sym (ap not (some_zero (length ts)))) (listed (t ∷ ts) is (omega arith))
+    by_tokens (Err f) is = fault_answer text f is
+
+-- a tree of all that is drawn, which is no lexical fault then
+pub drawn_answer : CheckedTyped → (text : Text) (ts : List Symbol) → ((list : List Token) → tokens text ≡ Ok list → ts ≡ map symbol_of list)
+    → ((f : LexFault) → tokens text ≡ Err f → (before : List Symbol) × (ts ≡ before ++ fault_mark ∷ []))
+    → (t : Tree) → IsWholeValue 512 ts (Ok t) → IsAnswerTo text (Ok t)
+drawn_answer law text ts whole faulty t value = by_tokens (tokens text) refl
+  where
+    by_tokens : (r : Result (List Token) LexFault) → tokens text ≡ r → IsAnswerTo text (Ok t)
+    by_tokens (Ok []) is =
+        let none : yield value.derivation ≡ [] = value.spells ∙ whole [] is in
+        absurd (omega (arith, ap length none, some_height value.derivation, height_yield value.derivation))
+    by_tokens (Ok (u ∷ us)) is = tree_answer text (u ∷ us) is (omega arith) ts (whole (u ∷ us) is) law t value
+    by_tokens (Err f) is = let mark = faulty f is in absurd (last_is_known value.derivation mark.0 [] value.formed (value.spells ∙ mark.1))

@@ -33,7 +33,7 @@ listed-token s x xs token = cond-true (is_token x) _ _ token
 listed-end : (s : Text) (x : Lexeme) (xs : List Lexeme) → is_token x ≡ false → listed s (x ∷ xs) ≡ listed s xs
 listed-end s x xs end = cond-false (is_token x) _ _ end
 
-some_zero : (n : ℕ) → (suc n == 0) ≡ false
+pub some_zero : (n : ℕ) → (suc n == 0) ≡ false
 some_zero n = grind (arith, nat_tests)
 
 -- there is a token in the list where a lexeme is one

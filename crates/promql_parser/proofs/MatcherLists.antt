@@ -39,6 +39,11 @@ after_step r i (sign kind.Comma ∷ ts) = refl
 after_step r i (word (kind.Operator op) t ∷ ts) = choice_then (op == 31) (joins (or t), ts) (ended r i)
 after_step r i ts = refl
 
+-- a comma that no closing brace follows joins the next matcher
+pub comma_joins : (ts us : List Symbol) → HasNoRightBrace ts → us ≡ ts → EndsItem (Some false) us (item_end_at (sign kind.Comma ∷ ts))
+comma_joins (sign kind.RightBrace ∷ ts) us none same = absurd none
+comma_joins ts us none same = record { end = joins comma; is = ap (λ us. Ok (joins comma, us)) (sym same); same = refl }
+
 some_items : (ts : List Symbol) → HasNoRightBrace ts → braces_in ts ≡ (items_at (length ts) ts then λ y. Ok (items y.0, y.1))
 some_items (sign kind.RightBrace ∷ ts) none = absurd none
 some_items ts none = refl

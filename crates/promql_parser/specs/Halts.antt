@@ -1,10 +1,12 @@
 -- Why reading stops, as an error. Private: nothing rests on believing it.
+use Rattle.std.specs.Prelude.{Bool, true, false, Result, Ok, Err}
+use Rattle.promql_token.specs.declared.fault.LexFault.{LexFault}
 use Rattle.promql_grammar.specs.declared.halt.Halt.{Halt}
 use Rattle.promql_grammar.specs.declared.halt.Halt.TheVariants as halts
 use Rattle.promql_parser.specs.declared.grammar.fault.Fault.{Fault}
 use Rattle.promql_parser.specs.declared.grammar.fault.Fault.TheVariants as faults
 use Rattle.promql_parser.specs.declared.parser.ParseError.{ParseError}
-use Rattle.promql_parser.specs.declared.parser.ParseError.TheVariants.{Memory, Syntax, TooDeep, Number, Quoted, Duration, At, Pattern, UnknownFunction, Check}
+use Rattle.promql_parser.specs.declared.parser.ParseError.TheVariants.{Memory, Lex, Empty, Syntax, TooDeep, Number, Quoted, Duration, At, Pattern, UnknownFunction, Check}
 
 abbrev pub error_of : Halt → ParseError
 error_of halts.Memory = Memory
@@ -20,3 +22,9 @@ fault_error (faults.At f) = At f
 fault_error (faults.Pattern value) = Pattern value
 fault_error (faults.UnknownFunction name) = UnknownFunction name
 fault_error (faults.Check f) = Check f
+
+-- a lexical fault, or that there is no token, before what was found
+abbrev pub first_of : Result Bool LexFault → ParseError → ParseError
+first_of (Ok true) found = found
+first_of (Ok false) found = Empty
+first_of (Err f) found = Lex f

@@ -1,6 +1,9 @@
 //! From a text to its tree.
 
+ghost use Rattle.std.specs.Prelude.{◌≡◌};
 ghost use Rattle.promql_parser.specs.Answers.{IsAnswerTo, answer_of};
+ghost use Rattle.promql_parser.specs.Halts.{first_of};
+ghost use Rattle.promql_parser.specs.Lexing.{tokens, has_any};
 
 use crate::grammar::expression::read_all;
 use crate::grammar::fault::Fault;
@@ -129,16 +132,27 @@ impl From<Fault> for ParseError {
 
 /// The tree of a text (docs/GRAMMAR.md, "The answer to a text").
 ///
-/// `Empty` and `Lex` come before any other error, and reading for them allocates nothing.
+/// `Empty` and `Lex` come before any other error, want of memory included: a text that is refused
+/// is looked through for them, without an allocation. A text that is accepted is read once.
 pub fn parse(alloc: Global, text: &str) -> Result<Expr, ParseError>
     ensures { IsAnswerTo text.now (answer_of result) }
 {
-    if !has_tokens(text)? {
-        return Err(ParseError::Empty);
-    }
     promql_ast::laws::checked_trees_are_typed();
-    match read_all(alloc, MAX_DEPTH, Tokens::new(text))? {
-        Ok(expr) => Ok(expr),
-        Err(fault) => Err(ParseError::from(fault)),
+    match read_all(alloc, MAX_DEPTH, Tokens::new(text)) {
+        Ok(Ok(expr)) => Ok(expr),
+        Ok(Err(fault)) => Err(first_refusal(text, ParseError::from(fault))),
+        Err(halt) => Err(first_refusal(text, ParseError::from(halt))),
+    }
+}
+
+/// Why a text has no tree: its lexical fault, or that it has no token, comes before what reading
+/// found.
+fn first_refusal(text: &str, found: ParseError) -> ParseError
+    ensures { result ≡ first_of (has_any (tokens text.now)) found }
+{
+    match has_tokens(text) {
+        Ok(true) => found,
+        Ok(false) => ParseError::Empty,
+        Err(fault) => ParseError::Lex(fault),
     }
 }

@@ -1,6 +1,7 @@
 mod faults;
 mod forms;
 mod limits;
+mod memory;
 mod pieces;
 mod queries;
 mod texts;

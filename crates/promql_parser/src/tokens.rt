@@ -1,10 +1,9 @@
-//! The tokens of a text before its end.
+//! The tokens of a text before its end, or its lexical fault.
 
-ghost use Rattle.std.specs.Prelude.{◌≡◌, ◌==◌, List, [], ◌∷◌, length, drop, Ok, map, MatchOption};
-ghost use Rattle.promql_token.specs.Cursor.{tokens_left};
+ghost use Rattle.std.specs.Prelude.{◌≡◌, ◌==◌, List, [], ◌∷◌, ◌++◌, length, drop, Ok, Err, map, MatchOption};
 ghost use Rattle.promql_parser.specs.Lexing.{Token, tokens, has_any};
-ghost use Rattle.promql_grammar.specs.Symbols.{symbol, symbol_of};
-ghost use Rattle.promql_parser.specs.Drawing.{symbols_left};
+ghost use Rattle.promql_grammar.specs.Symbols.{Symbol, symbol, symbol_of};
+ghost use Rattle.promql_parser.specs.Drawing.{symbols_left, symbols_from, drawn, fault_mark};
 
 use promql_grammar::{Kind, kind_of};
 use promql_token::LexFault;
@@ -25,19 +24,32 @@ pub fn has_tokens(text: &str) -> Result<bool, LexFault>
     Ok(some)
 }
 
-/// What is left of a text's tokens before its end. The first one is read and classified; those
-/// after it are drawn from the text when they are asked for.
+/// What comes first of a text's tokens.
+#[derive(Clone, Copy)]
+pub enum Front<'a> {
+    /// A token's kind and text.
+    Token(Kind, &'a str),
+    /// The text's lexical fault.
+    Fault,
+    End,
+}
+
+/// What is left of a text's tokens before its end or its lexical fault. The first one is read and
+/// classified; those after it are drawn from the text when they are asked for. A lexical fault
+/// comes last, as a token of a kind that no expression has.
 #[derive(Clone, Copy)]
 pub struct Tokens<'a> {
-    front: Option<(Kind, &'a str)>,
+    front: Front<'a>,
     rest: Cursor<'a>,
 }
 
 impl<'a> Tokens<'a> {
-    /// The tokens of a text without a lexical fault.
+    /// The tokens of a text.
     pub fn new(text: &'a str) -> Tokens<'a>
-        ensures { (list : List Token) → tokens text.now ≡ Ok list
+        ensures whole { (list : List Token) → tokens text.now ≡ Ok list
             → symbols_left result ≡ map symbol_of list }
+        ensures fault { (f : LexFault) → tokens text.now ≡ Err f
+            → (before : List Symbol) × (symbols_left result ≡ before ++ fault_mark ∷ []) }
     {
         let mut rest = Cursor::new(text);
         let front = draw(&mut rest);
@@ -47,7 +59,7 @@ impl<'a> Tokens<'a> {
     pub fn is_empty(&self) -> bool
         ensures { result ≡ (length (symbols_left self.now) == 0) }
     {
-        self.front.is_none()
+        matches!(self.front, Front::End)
     }
 
     /// The first token's kind and text.
@@ -55,25 +67,31 @@ impl<'a> Tokens<'a> {
         ensures { MatchOption result (symbols_left self.now ≡ [])
             (λ x. symbols_left self.now ≡ symbol x.0 x.1.now ∷ drop 1 (symbols_left self.now)) }
     {
-        self.front
+        match self.front {
+            Front::Token(kind, text) => Some((kind, text)),
+            Front::Fault => Some((Kind::Other, "")),
+            Front::End => None,
+        }
     }
 
     /// Passes the first token, if there is one.
     pub fn pass(&mut self)
         ensures { symbols_left self.new ≡ drop 1 (symbols_left self.old) }
     {
-        if self.front.is_some() {
-            self.front = draw(&mut self.rest);
-        }
+        self.front = match self.front {
+            Front::Token(..) => draw(&mut self.rest),
+            Front::Fault | Front::End => Front::End,
+        };
     }
 }
 
-/// The next token's kind and text.
-fn draw<'a>(rest: &mut Cursor<'a>) -> Option<(Kind, &'a str)>
-    ensures { MatchOption result (tokens_left rest.old ≡ [])
-        (λ x. map symbol_of (tokens_left rest.old)
-        ≡ symbol x.0 x.1.now ∷ map symbol_of (tokens_left rest.new)) }
+/// What comes next; it is passed.
+fn draw<'a>(rest: &mut Cursor<'a>) -> Front<'a>
+    ensures { symbols_from result rest.new ≡ drawn rest.old }
 {
-    let (id, text) = rest.next()?;
-    Some((kind_of(id), text))
+    match rest.next() {
+        Some((id, text)) => Front::Token(kind_of(id), text),
+        None if rest.is_at_fault() => Front::Fault,
+        None => Front::End,
+    }
 }

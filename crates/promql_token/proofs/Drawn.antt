@@ -1,7 +1,8 @@
 -- The next token of a cursor, and what is left after it.
-use Rattle.std.proofs.Common.{◌≡◌, ◌≢◌, ℕ, ◌+◌, true, false, cond, List, [], ◌∷◌, length, take, drop, map, Result, Ok, Err, refl, sym, ap, ◌∙◌, arith}
+use Rattle.std.proofs.Common.{◌≡◌, ◌≢◌, ℕ, ◌+◌, Bool, true, false, cond, List, [], ◌∷◌, length, take, drop, map, Result, Ok, Err, refl, sym, ap, ◌∙◌, arith}
 use denote.Bor.{Bor}
 use Rattle.std.specs.Prelude.{◌==◌, not, filter}
+use Rattle.std.specs.Result.{is_err}
 use Rattle.std.proofs.lemmas.Bool.{eqb-false, ne_eqb}
 use Rattle.std.proofs.lemmas.List.{drop-drop}
 use Rattle.promql_token.specs.declared.fault.LexFault.{LexFault}
@@ -9,8 +10,8 @@ use Rattle.promql_token.specs.declared.lexeme.Lexeme.{Lexeme}
 use Rattle.promql_token.specs.declared.state.State.{State}
 use Rattle.promql_text.specs.Texts.{Text}
 use Rattle.promql_token.specs.declared.cursor.Cursor as code
-use Rattle.promql_token.specs.Cursor.{is_before_end, up_to_fault, tokens_left, IsPast}
-use Rattle.promql_token.specs.Lexing.{What, whats, found, first, item, goes_on, len_of, start, lex, tokens, cut, placed, sliced, result_sliced, text_at}
+use Rattle.promql_token.specs.Cursor.{is_before_end, up_to_fault, tokens_left, has_fault, ends_in_fault, IsPast}
+use Rattle.promql_token.specs.Lexing.{What, Found, whats, found, first, item, items, collected, with_front, goes_on, behind, len_of, start, lex, tokens, cut, placed, sliced, result_sliced, text_at}
 use Rattle.promql_token.specs.Pieces.{after}
 use Rattle.promql_token.proofs.Items.{is_token}
 use Rattle.promql_token.proofs.Items.{left_token as left_item}
@@ -31,6 +32,44 @@ listed s (Err f) ts lexed is = cc
 pub new_left : (s : Text) (c : code.Cursor) → c.text.now ≡ s → c.at ≡ 0 → c.state ≡ start → (ts : List (ℕ × Text)) → tokens s ≡ Ok ts → tokens_left c ≡ filter is_before_end ts
 new_left s c text at state ts is =
     (λ i. filter is_before_end (up_to_fault (whats (state i) (drop (at i) (text i))))) ∙ ap (filter is_before_end) (listed s (lex s) ts refl is)
+
+-- ---- a fault at the end
+
+no_fault : (ts : List (ℕ × Text)) → has_fault (map (λ t. Ok t) ts) ≡ false
+no_fault [] = refl
+no_fault (t ∷ ts) = no_fault ts
+
+whole_list : (s : Text) (r : Result (List Lexeme) LexFault) (ts : List (ℕ × Text)) → lex s ≡ r → result_sliced s r ≡ Ok ts → has_fault (whats start s) ≡ false
+whole_list s (Ok xs) ts lexed is = ap has_fault (spans s xs lexed).1 ∙ no_fault (sliced s xs)
+whole_list s (Err f) ts lexed is = cc
+
+with_front_fault : (xs : List Lexeme) (r : Result (List Lexeme) LexFault) (f : LexFault) → with_front xs r ≡ Err f → r ≡ Err f
+with_front_fault xs (Ok ys) f is = cc
+with_front_fault xs (Err e) f is = cc
+
+-- a fault comes first, or later
+first_or_later : (at : ℕ) (w : What) (rs : List (Result Lexeme LexFault)) (ws : List What) (f : LexFault) → (collected rs ≡ Err f → has_fault ws ≡ true) → collected (item at w ∷ rs) ≡ Err f → has_fault (w ∷ ws) ≡ true
+first_or_later at (Ok t) rs ws f later is = later (with_front_fault (record { id = t.0; start = at; len = length t.1 } ∷ []) _ f is)
+first_or_later at (Err e) rs ws f later is = refl
+
+collected_fault : (at : ℕ) (fs : List Found) (f : LexFault) → collected (placed at fs) ≡ Err f → has_fault (map (λ (g : Found). g.what) fs) ≡ true
+collected_fault at [] f is = cc
+collected_fault at (g ∷ gs) f is = first_or_later (at + g.gap) g.what _ _ f (collected_fault (at + g.gap + len_of g.what) gs f) is
+
+sliced_fault : (s : Text) (r : Result (List Lexeme) LexFault) (f : LexFault) → result_sliced s r ≡ Err f → r ≡ Err f
+sliced_fault s (Ok xs) f is = cc
+sliced_fault s (Err e) f is = cc
+
+whole_fault : (s : Text) (f : LexFault) → tokens s ≡ Err f → has_fault (whats start s) ≡ true
+unfolding lex
+whole_fault s f is = collected_fault 0 (cut start s) f (sliced_fault s (lex s) f is)
+
+-- what is to come of a whole text ends in a fault where the text has one
+pub new_whole : (s : Text) (c : code.Cursor) → c.text.now ≡ s → c.at ≡ 0 → c.state ≡ start → (ts : List (ℕ × Text)) → tokens s ≡ Ok ts → ends_in_fault c ≡ false
+new_whole s c text at state ts is = (λ i. has_fault (whats (state i) (drop (at i) (text i)))) ∙ whole_list s (lex s) ts refl is
+
+pub new_fault : (s : Text) (c : code.Cursor) → c.text.now ≡ s → c.at ≡ 0 → c.state ≡ start → (f : LexFault) → tokens s ≡ Err f → ends_in_fault c ≡ true
+new_fault s c text at state f is = (λ i. has_fault (whats (state i) (drop (at i) (text i)))) ∙ whole_fault s f is
 
 abbrev left : What → List What → List (ℕ × Text)
 left w ws = filter is_before_end (up_to_fault (w ∷ cond (goes_on w) ws []))
@@ -99,6 +138,63 @@ some_token x old new is past more =
     let state = past.state more in
     token_left old.text.now old.at old.state x is more
     ∙ (λ i. (x.id, text_at old.text.now x) ∷ filter is_before_end (up_to_fault (whats ((sym state) i) (drop ((sym at) i) ((sym text) i)))))
+
+-- ---- what ends in a fault
+
+-- what comes first, and whether a fault comes then
+has_front_token : (t : ℕ × Text) (ws : List What) → (t.0 == 6) ≡ false → has_fault (Ok t ∷ cond (goes_on (Ok t)) ws []) ≡ has_fault ws
+has_front_token t ws more = ap (λ b. has_fault (cond (not b) ws [])) more
+
+has_front_end : (t : ℕ × Text) (ws : List What) → (t.0 == 6) ≡ true → has_fault (Ok t ∷ cond (goes_on (Ok t)) ws []) ≡ false
+has_front_end t ws end = ap (λ b. has_fault (cond (not b) ws [])) end
+
+-- past a token as before it
+pub past_token : (x : Lexeme) (old new : code.Cursor) → Ok x ≡ first old.at (found old.state (drop old.at old.text.now)) → IsPast x old new → x.id ≢ 6 → ends_in_fault new ≡ ends_in_fault old
+past_token x old new is past more =
+    let z = drop old.at old.text.now in
+    let f = found old.state z in
+    let text = ap (λ (t : Bor Text). t.now) past.text in
+    let t = is_token (old.at + f.gap) f.what x (sym is) in
+    let len = t.len in
+    let start = t.start in
+    let place : old.at + (f.gap + len_of f.what) ≡ x.start + x.len = omega (arith, start, len) in
+    let rest : drop (f.gap + len_of f.what) z ≡ drop (x.start + x.len) old.text.now = drop-drop (f.gap + len_of f.what) old.at old.text.now ∙ ap (λ n. drop n old.text.now) place in
+    (λ i. has_fault (whats ((past.state more) i) (drop ((past.at more) i) (text i))))
+    ∙ sym (ap has_fault (whats_is old.state z) ∙ front_of f.what (old.at + f.gap) _ (sym is) ∙ (λ i. has_fault (whats (t.state old.state i) (rest i))))
+  where
+    front_of : (w : What) (at : ℕ) (ws : List What) → item at w ≡ Ok x → has_fault (w ∷ cond (goes_on w) ws []) ≡ has_fault ws
+    front_of (Ok t) at ws here =
+        let id : t.0 ≡ x.id = ap (λ (x : Lexeme). x.id) (ok_is _ _ (item at (Ok t)) refl here) in
+        has_front_token t ws (ap (λ id. id == 6) id ∙ ne_eqb x.id 6 more)
+    front_of (Err f) at ws here = cc
+
+-- where no token comes, a fault is all that comes, or the end
+at_fault : (c : code.Cursor) (f : LexFault) → Err f ≡ first c.at (found c.state (drop c.at c.text.now)) → true ≡ ends_in_fault c
+at_fault c f is =
+    let z = drop c.at c.text.now in
+    sym (ap has_fault (whats_is c.state z) ∙ front_of (found c.state z).what _ _ (sym is))
+  where
+    front_of : (w : What) (at : ℕ) (ws : List What) → item at w ≡ Err f → has_fault (w ∷ cond (goes_on w) ws []) ≡ true
+    front_of (Ok t) at ws here = cc
+    front_of (Err e) at ws here = refl
+
+at_end : (c : code.Cursor) (x : Lexeme) → Ok x ≡ first c.at (found c.state (drop c.at c.text.now)) → tokens_left c ≡ [] → false ≡ ends_in_fault c
+at_end c x is none =
+    let z = drop c.at c.text.now in
+    sym (ap has_fault (whats_is c.state z) ∙ front_of (found c.state z).what _ _ (sym is) (sym (ap (λ ws. filter is_before_end (up_to_fault ws)) (whats_is c.state z)) ∙ none))
+  where
+    by_test : (t : ℕ × Text) (ws : List What) (b : Bool) → (t.0 == 6) ≡ b → left (Ok t) ws ≡ [] → has_fault (Ok t ∷ cond (goes_on (Ok t)) ws []) ≡ false
+    by_test t ws true end none = has_front_end t ws end
+    by_test t ws false more none =
+        let some : [] ≡ t ∷ filter is_before_end (up_to_fault ws) = sym none ∙ ap (λ b. cond (not b) (t ∷ filter is_before_end (up_to_fault (cond (not b) ws []))) (filter is_before_end (up_to_fault (cond (not b) ws [])))) more in
+        cc
+    front_of : (w : What) (at : ℕ) (ws : List What) → item at w ≡ Ok x → left w ws ≡ [] → has_fault (w ∷ cond (goes_on w) ws []) ≡ false
+    front_of (Ok t) at ws here none = by_test t ws (t.0 == 6) refl none
+    front_of (Err e) at ws here none = cc
+
+pub at_fault_or_end : (c : code.Cursor) (r : Result Lexeme LexFault) → r ≡ first c.at (found c.state (drop c.at c.text.now)) → tokens_left c ≡ [] → is_err r ≡ ends_in_fault c
+at_fault_or_end c (Ok x) is none = at_end c x is none
+at_fault_or_end c (Err f) is none = at_fault c f is
 
 -- the same with places
 pub left_past : (x : Lexeme) (old new : code.Cursor) → Ok x ≡ first old.at (found old.state (drop old.at old.text.now)) → IsPast x old new

@@ -1,5 +1,5 @@
 -- What is still to be drawn from a cursor.
-use Rattle.std.specs.Prelude.{◌≡◌, ◌≢◌, ℕ, ◌+◌, ◌<◌, ◌≤◌, Bool, not, ◌==◌, List, [], ◌∷◌, drop, filter, Ok, Err}
+use Rattle.std.specs.Prelude.{◌≡◌, ◌≢◌, ℕ, ◌+◌, ◌<◌, ◌≤◌, Bool, true, false, not, ◌==◌, List, [], ◌∷◌, drop, filter, Ok, Err}
 use Rattle.promql_token.specs.declared.ids.TheConstants.{T_EOF}
 use Rattle.promql_token.specs.declared.cursor.Cursor as code
 use Rattle.promql_token.specs.declared.lexeme.Lexeme.{Lexeme}
@@ -22,7 +22,17 @@ up_to_fault (Err f ∷ ws) = []
 abbrev pub tokens_left : code.Cursor → List (ℕ × Text)
 tokens_left c = filter is_before_end (up_to_fault (whats c.state (drop c.at c.text.now)))
 
--- a cursor mode_after_something past a token, and stays before the end
+-- whether there is a fault
+abbrev pub has_fault : List What → Bool
+has_fault [] = false
+has_fault (Ok t ∷ ws) = has_fault ws
+has_fault (Err f ∷ ws) = true
+
+-- whether what is to come ends in a fault
+abbrev pub ends_in_fault : code.Cursor → Bool
+ends_in_fault c = has_fault (whats c.state (drop c.at c.text.now))
+
+-- a cursor moves past a token, and stays before the end
 pub record IsPast (x : Lexeme) (old new : code.Cursor) : Type 0 where
   pub text : new.text ≡ old.text
   pub at : x.id ≢ T_EOF → new.at ≡ x.start + x.len

@@ -1,6 +1,6 @@
 //! A place of a text between two tokens, from which the tokens are drawn one by one.
 
-ghost use Rattle.std.specs.Prelude.{◌≡◌, ◌≢◌, ◌<◌, ◌≤◌, ◌+◌, [], ◌∷◌, List, ℕ, drop, filter, Ok, IfOk, OnErr, MatchOption};
+ghost use Rattle.std.specs.Prelude.{◌≡◌, ◌≢◌, ◌<◌, ◌≤◌, ◌+◌, [], ◌∷◌, List, ℕ, true, false, drop, filter, Ok, Err, IfOk, OnErr, MatchOption};
 ghost use Rattle.std.specs.Str.{IsCharBoundary};
 ghost use Rattle.promql_token.specs.Lexing as spec;
 ghost use Rattle.promql_token.specs.Pieces as pieces;
@@ -57,12 +57,16 @@ fn item_at(text: &str, at: usize, state: State) -> Result<Lexeme, LexFault>
 }
 
 impl<'a> Cursor<'a> {
-    ghost use Rattle.promql_token.specs.Cursor.{tokens_left, is_before_end, IsPast};
+    ghost use Rattle.promql_token.specs.Cursor.{tokens_left, is_before_end, ends_in_fault, IsPast};
 
     /// The cursor before a text's first token.
     pub fn new(text: &'a str) -> Cursor<'a>
-        ensures { (ts : List (ℕ × List ℕ)) → spec.tokens text.now ≡ Ok ts
+        ensures tokens { (ts : List (ℕ × List ℕ)) → spec.tokens text.now ≡ Ok ts
             → tokens_left result ≡ filter is_before_end ts }
+        ensures whole { (ts : List (ℕ × List ℕ)) → spec.tokens text.now ≡ Ok ts
+            → ends_in_fault result ≡ false }
+        ensures fault { (f : LexFault) → spec.tokens text.now ≡ Err f
+            → ends_in_fault result ≡ true }
     {
         Cursor::front(text)
     }
@@ -103,9 +107,10 @@ impl<'a> Cursor<'a> {
 
     /// The next token's id and text, if a token comes before the end or a fault. It moves past it.
     pub fn next(&mut self) -> Option<(TokenId, &'a str)>
-        ensures { MatchOption result
+        ensures tokens { MatchOption result
             ((tokens_left self.old ≡ []) × (tokens_left self.new ≡ []))
             (λ x. tokens_left self.old ≡ (x.0, x.1.now) ∷ tokens_left self.new) }
+        ensures fault { ends_in_fault self.new ≡ ends_in_fault self.old }
     {
         let text = self.text;
         let Ok(token) = self.advance() else {
@@ -115,5 +120,12 @@ impl<'a> Cursor<'a> {
             return None;
         }
         Some((token.id, &text[token.start..token.start + token.len]))
+    }
+
+    /// Whether a fault comes next, where no token does.
+    pub fn is_at_fault(&self) -> bool
+        ensures { tokens_left self.now ≡ [] → result ≡ ends_in_fault self.now }
+    {
+        item_at(self.text, self.at, self.state).is_err()
     }
 }

@@ -20,7 +20,7 @@ ghost use Rattle.promql_parser.specs.Postfixes.{IsHeld, change_of, changed};
 use crate::grammar::fault::Fault;
 use crate::grammar::part::{Arguments, Part};
 use crate::grammar::postfix::{HeldPostfix, Postfix};
-use crate::grammar::string::unquoted;
+use crate::grammar::string::string_of;
 use crate::grammar::time::{duration_of, number_of};
 use crate::parser::MAX_DEPTH;
 use promql_ast::{BinaryExpr, CheckError, Expr, FunctionArgs, ParenExpr, SubqueryExpr};
@@ -126,7 +126,7 @@ pub fn string_part(alloc: Global, text: &str) -> Result<Part, AllocError>
     ensures built { IfOk result (λ part. IsPart part (grammar.string text.now)) }
     ensures low { IfOk result (λ part. part.height ≡ 1) }
 {
-    match unquoted(alloc, text)? {
+    match string_of(alloc, text)? {
         Ok(val) => node_part(alloc, Expr::from(val), 1),
         Err(fault) => fault_part(alloc, fault, 1),
     }
@@ -258,7 +258,7 @@ pub fn binary_part(
             });
         }
     };
-    match modified(modifier) {
+    match held_modifier(modifier) {
         Ok(modifier) => {
             let op = TokenType::new(op);
             let expr = Expr::Binary(BinaryExpr {
@@ -274,16 +274,12 @@ pub fn binary_part(
 }
 
 /// The modifier out of its box.
-fn modified(modifier: Option<Box<Result<BinModifier, Fault>>>) -> Result<Option<BinModifier>, Fault>
+fn held_modifier(
+    modifier: Option<Box<Result<BinModifier, Fault>>>,
+) -> Result<Option<BinModifier>, Fault>
     ensures { viewed (option_map matching_of) result ≡ modifier_of modifier }
 {
-    match modifier {
-        None => Ok(None),
-        Some(modifier) => match Box::into_inner(modifier) {
-            Ok(modifier) => Ok(Some(modifier)),
-            Err(fault) => Err(fault),
-        },
-    }
+    modifier.map(Box::into_inner).transpose()
 }
 
 /// The part of a call. Its name is looked up after its arguments.
@@ -343,7 +339,7 @@ pub fn aggregate_part(
             });
         }
     };
-    match grouped(clause) {
+    match held_clause(clause) {
         Ok(clause) => {
             let built = Expr::new_aggregate_expr(op, clause, args);
             checked_part(alloc, built, height)
@@ -353,18 +349,12 @@ pub fn aggregate_part(
 }
 
 /// The clause out of its box.
-fn grouped(
+fn held_clause(
     clause: Option<Box<Result<LabelModifier, Fault>>>,
 ) -> Result<Option<LabelModifier>, Fault>
     ensures { viewed (option_map clause_of) result ≡ clause_in clause }
 {
-    match clause {
-        None => Ok(None),
-        Some(clause) => match Box::into_inner(clause) {
-            Ok(clause) => Ok(Some(clause)),
-            Err(fault) => Err(fault),
-        },
-    }
+    clause.map(Box::into_inner).transpose()
 }
 
 /// No arguments.
@@ -474,7 +464,7 @@ fn changed_part(
 }
 
 /// The expression or fault of a part.
-pub fn unboxed(part: Part) -> Result<Expr, Fault>
+pub fn result_of(part: Part) -> Result<Expr, Fault>
     ensures { viewed tree_of result ≡ built_of part }
 {
     let Part { value, height: _ } = part;

@@ -54,10 +54,7 @@ fn including(labels: Result<Labels, Fault>) -> Result<Option<LabelModifier>, Fau
     ensures { viewed (option_map clause_of) result
         ≡ viewed (λ ls. Some (including (labels_of ls))) labels }
 {
-    match labels {
-        Ok(labels) => Ok(Some(LabelModifier::Include(labels))),
-        Err(fault) => Err(fault),
-    }
+    Ok(Some(LabelModifier::Include(labels?)))
 }
 
 /// The clause that drops these labels.
@@ -65,8 +62,5 @@ fn excluding(labels: Result<Labels, Fault>) -> Result<Option<LabelModifier>, Fau
     ensures { viewed (option_map clause_of) result
         ≡ viewed (λ ls. Some (excluding (labels_of ls))) labels }
 {
-    match labels {
-        Ok(labels) => Ok(Some(LabelModifier::Exclude(labels))),
-        Err(fault) => Err(fault),
-    }
+    Ok(Some(LabelModifier::Exclude(labels?)))
 }

@@ -11,7 +11,7 @@ ghost use Rattle.promql_parser.specs.Parts.{Fails, FailsBase, IsBase, IsGiven, I
 ghost use Rattle.promql_parser.specs.Wholes.{IsWhole};
 
 use crate::grammar::aggregate::read_aggregate;
-use crate::grammar::building::{binary_part, paren_part, postfixed_part, unary_part, unboxed};
+use crate::grammar::building::{binary_part, paren_part, postfixed_part, result_of, unary_part};
 use crate::grammar::call::{may_be_called, read_call};
 use crate::grammar::fault::Fault;
 use crate::grammar::front::{
@@ -178,5 +178,5 @@ pub fn read_all(alloc: Global, room: usize, tokens: Tokens<'_>) -> Result<Result
     if !rest.is_empty() {
         return Err(Halt::Syntax);
     }
-    Ok(unboxed(part))
+    Ok(result_of(part))
 }

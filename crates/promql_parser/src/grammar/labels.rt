@@ -13,7 +13,7 @@ ghost use Rattle.promql_parser.specs.Pieces.{BeginsNoLabel, EndsLabel, TakesLabe
 
 use crate::grammar::fault::Fault;
 use crate::grammar::signs::{takes_comma, takes_left_paren, takes_right_paren};
-use crate::grammar::string::unquoted;
+use crate::grammar::string::string_of;
 use crate::tokens::Tokens;
 use promql_grammar::{Halt, Kind};
 use promql_label::Labels;
@@ -121,7 +121,7 @@ pub fn label_text(
     ensures { IfOk result (λ value. viewed string_bytes value ≡ label_value kind text.now) }
 {
     match kind {
-        Kind::Str => unquoted(alloc, text),
+        Kind::Str => string_of(alloc, text),
         _ => Ok(Ok(String::from_str(alloc, text)?)),
     }
 }

@@ -62,12 +62,7 @@ fn begins_modifier(kind: Kind) -> bool
 {
     matches!(
         kind,
-        Kind::Bool
-            | Kind::On
-            | Kind::Ignoring
-            | Kind::Fill
-            | Kind::FillLeft
-            | Kind::FillRight
+        Kind::Bool | Kind::On | Kind::Ignoring | Kind::Fill | Kind::FillLeft | Kind::FillRight
     )
 }
 
@@ -150,14 +145,11 @@ fn on(
     ensures { viewed matching_parts result ≡ (viewed labels_of labels then
         λ ls. viewed cardinality_of card then λ c. Ok (c, Some (spec.including ls))) }
 {
-    match (labels, card) {
-        (Ok(labels), Ok(card)) => Ok(Matching {
-            card,
-            labels: Some(LabelModifier::Include(labels)),
-        }),
-        (Err(fault), _) => Err(fault),
-        (Ok(_), Err(fault)) => Err(fault),
-    }
+    let labels = Some(LabelModifier::Include(labels?));
+    Ok(Matching {
+        card: card?,
+        labels,
+    })
 }
 
 fn ignoring(
@@ -167,14 +159,11 @@ fn ignoring(
     ensures { viewed matching_parts result ≡ (viewed labels_of labels then
         λ ls. viewed cardinality_of card then λ c. Ok (c, Some (spec.excluding ls))) }
 {
-    match (labels, card) {
-        (Ok(labels), Ok(card)) => Ok(Matching {
-            card,
-            labels: Some(LabelModifier::Exclude(labels)),
-        }),
-        (Err(fault), _) => Err(fault),
-        (Ok(_), Err(fault)) => Err(fault),
-    }
+    let labels = Some(LabelModifier::Exclude(labels?));
+    Ok(Matching {
+        card: card?,
+        labels,
+    })
 }
 
 /// Takes `group_left` or `group_right`, if there is one, with its labels, if it has them.
@@ -211,20 +200,14 @@ fn many_to_one(labels: Result<Labels, Fault>) -> Result<VectorMatchCardinality, 
     ensures { viewed cardinality_of result
         ≡ (viewed labels_of labels then λ ls. Ok (spec.many_to_one ls)) }
 {
-    match labels {
-        Ok(labels) => Ok(VectorMatchCardinality::ManyToOne(labels)),
-        Err(fault) => Err(fault),
-    }
+    labels.map(VectorMatchCardinality::ManyToOne)
 }
 
 fn one_to_many(labels: Result<Labels, Fault>) -> Result<VectorMatchCardinality, Fault>
     ensures { viewed cardinality_of result
         ≡ (viewed labels_of labels then λ ls. Ok (spec.one_to_many ls)) }
 {
-    match labels {
-        Ok(labels) => Ok(VectorMatchCardinality::OneToMany(labels)),
-        Err(fault) => Err(fault),
-    }
+    labels.map(VectorMatchCardinality::OneToMany)
 }
 
 /// Takes labels in parentheses, if there are any.
@@ -369,10 +352,7 @@ fn on_both_sides(value: Result<Number, Fault>) -> Result<VectorMatchFillValues, 
     ensures { viewed fills_of result
         ≡ (viewed (λ (n : numbers.Number). n) value then λ n. Ok (spec.fills (Some n) (Some n))) }
 {
-    match value {
-        Ok(value) => Ok(same_values(&value)),
-        Err(fault) => Err(fault),
-    }
+    Ok(same_values(&value?))
 }
 
 /// The same value for both sides.
@@ -386,20 +366,14 @@ fn on_left_side(left: Result<Number, Fault>) -> Result<VectorMatchFillValues, Fa
     ensures { viewed fills_of result
         ≡ (viewed (λ (n : numbers.Number). n) left then λ n. Ok (spec.fills None (Some n))) }
 {
-    match left {
-        Ok(left) => Ok(VectorMatchFillValues::default().with_lhs(left)),
-        Err(fault) => Err(fault),
-    }
+    Ok(VectorMatchFillValues::default().with_lhs(left?))
 }
 
 fn on_right_side(right: Result<Number, Fault>) -> Result<VectorMatchFillValues, Fault>
     ensures { viewed fills_of result
         ≡ (viewed (λ (n : numbers.Number). n) right then λ n. Ok (spec.fills (Some n) None)) }
 {
-    match right {
-        Ok(right) => Ok(VectorMatchFillValues::default().with_rhs(right)),
-        Err(fault) => Err(fault),
-    }
+    Ok(VectorMatchFillValues::default().with_rhs(right?))
 }
 
 /// Both values; the left one's fault comes first.
@@ -410,11 +384,8 @@ fn on_left_and_right(
     ensures { viewed fills_of result ≡ (viewed (λ (n : numbers.Number). n) left then
         λ n. viewed (λ (n : numbers.Number). n) right then λ m. Ok (spec.fills (Some m) (Some n))) }
 {
-    match (left, right) {
-        (Ok(left), Ok(right)) => Ok(VectorMatchFillValues::new(left, right)),
-        (Err(fault), _) => Err(fault),
-        (Ok(_), Err(fault)) => Err(fault),
-    }
+    let left = left?;
+    Ok(VectorMatchFillValues::new(left, right?))
 }
 
 /// Both values; the right one's fault comes first.
@@ -425,11 +396,8 @@ fn on_right_and_left(
     ensures { viewed fills_of result ≡ (viewed (λ (n : numbers.Number). n) right then
         λ n. viewed (λ (n : numbers.Number). n) left then λ m. Ok (spec.fills (Some n) (Some m))) }
 {
-    match (right, left) {
-        (Ok(right), Ok(left)) => Ok(VectorMatchFillValues::new(left, right)),
-        (Err(fault), _) => Err(fault),
-        (Ok(_), Err(fault)) => Err(fault),
-    }
+    let right = right?;
+    Ok(VectorMatchFillValues::new(left?, right))
 }
 
 /// The modifier of these parts, or none where all of them are missing.
@@ -441,11 +409,8 @@ fn modifier(
     ensures { viewed (option_map matching_of) result ≡ (viewed matching_parts matching then
         λ m. viewed fills_of fills then λ f. Ok (modifier_of return_bool m f)) }
 {
-    match (matching, fills) {
-        (Ok(matching), Ok(fill_values)) => Ok(some_modifier(return_bool, matching, fill_values)),
-        (Err(fault), _) => Err(fault),
-        (Ok(_), Err(fault)) => Err(fault),
-    }
+    let matching = matching?;
+    Ok(some_modifier(return_bool, matching, fills?))
 }
 
 fn some_modifier(

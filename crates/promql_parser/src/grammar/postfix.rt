@@ -78,7 +78,7 @@ pub fn postfix_at(tokens: &mut Tokens<'_>) -> Result<Option<HeldPostfix>, Halt>
         Kind::Offset => {
             tokens.pass();
             let offset = shift_at(tokens)?;
-            Ok(Some(plain(moved(offset))))
+            Ok(Some(plain(offset_postfix(offset))))
         }
         Kind::Smoothed => {
             tokens.pass();
@@ -107,7 +107,7 @@ fn range_at(tokens: &mut Tokens<'_>) -> Result<HeldPostfix, Halt>
         return Err(Halt::Syntax);
     };
     match kind {
-        Kind::RightBracket => Ok(plain(ranged(range))),
+        Kind::RightBracket => Ok(plain(range_postfix(range))),
         Kind::Colon => step_at(tokens, range),
         _ => Err(Halt::Syntax),
     }
@@ -190,22 +190,16 @@ fn plain(value: Result<Postfix, Fault>) -> HeldPostfix
     }
 }
 
-fn ranged(range: Result<Duration, Fault>) -> Result<Postfix, Fault>
+fn range_postfix(range: Result<Duration, Fault>) -> Result<Postfix, Fault>
     ensures { viewed change_of result ≡ (viewed as_nanos range then λ n. Ok (to_range n)) }
 {
-    match range {
-        Ok(range) => Ok(Postfix::Range(range)),
-        Err(fault) => Err(fault),
-    }
+    range.map(Postfix::Range)
 }
 
-fn moved(offset: Result<Offset, Fault>) -> Result<Postfix, Fault>
+fn offset_postfix(offset: Result<Offset, Fault>) -> Result<Postfix, Fault>
     ensures { viewed change_of result ≡ (viewed shift_of offset then λ x. Ok (by_shift x)) }
 {
-    match offset {
-        Ok(offset) => Ok(Postfix::Offset(offset)),
-        Err(fault) => Err(fault),
-    }
+    offset.map(Postfix::Offset)
 }
 
 /// The moment of a number of seconds.
@@ -213,11 +207,7 @@ fn at_seconds(seconds: Result<Number, Fault>) -> Result<Postfix, Fault>
     ensures { viewed change_of result ≡ (viewed (λ (n : numbers.Number). n) seconds then
         λ n. at_fault (at_of_number n) then λ m. Ok (to_moment m)) }
 {
-    let seconds = match seconds {
-        Ok(seconds) => seconds,
-        Err(fault) => return Err(fault),
-    };
-    match AtModifier::try_from(seconds) {
+    match AtModifier::try_from(seconds?) {
         Ok(at) => Ok(Postfix::At(at)),
         Err(fault) => Err(Fault::At(fault)),
     }
@@ -241,16 +231,8 @@ fn subquery_of(
     ensures { viewed change_of result ≡ subquery_change (viewed as_nanos range)
         (option_map (λ s. viewed as_nanos s) step) }
 {
-    let range = match range {
-        Ok(range) => range,
-        Err(fault) => return Err(fault),
-    };
-    match step {
-        None => Ok(Postfix::Subquery { range, step: None }),
-        Some(Ok(step)) => Ok(Postfix::Subquery {
-            range,
-            step: Some(step),
-        }),
-        Some(Err(fault)) => Err(fault),
-    }
+    Ok(Postfix::Subquery {
+        range: range?,
+        step: step.transpose()?,
+    })
 }

@@ -15,7 +15,7 @@ use crate::grammar::fault::Fault;
 use crate::grammar::front::next;
 use crate::grammar::labels::label_text;
 use crate::grammar::signs::{takes_left_brace, takes_right_brace};
-use crate::grammar::string::unquoted;
+use crate::grammar::string::string_of;
 use crate::tokens::Tokens;
 use promql_grammar::{Halt, Kind};
 use promql_label::{Matcher, MatcherError, Matchers};
@@ -159,6 +159,7 @@ fn match_sign(kind: Kind) -> Option<TokenId>
 }
 
 /// Takes what follows a matcher: whether the next one begins a group; none after the last.
+#[tactic(auto, using(crate::proofs::MatcherLists::comma_joins))]
 fn after_item(tokens: &mut Tokens<'_>) -> Result<Option<bool>, Halt>
     ensures gives { MatchResult result
         (λ next. EndsItem next (symbols_left tokens.new) (item_end_at (symbols_left tokens.old)))
@@ -220,7 +221,7 @@ fn matcher_of(alloc: Global, item: Item<'_>) -> Result<Result<Matcher, Fault>, A
     let Some((id, value)) = item.value else {
         return Ok(Ok(Matcher::new_metric_name_matcher(alloc, name)?));
     };
-    let value = match unquoted(alloc, value)? {
+    let value = match string_of(alloc, value)? {
         Ok(value) => value,
         Err(fault) => return Ok(Err(fault)),
     };

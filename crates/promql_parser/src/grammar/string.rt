@@ -9,7 +9,7 @@ use promql_text::{QuoteError, unquote_string};
 use std::alloc::{AllocError, Global};
 
 /// What a string's text means.
-pub fn unquoted(alloc: Global, text: &str) -> Result<Result<String, Fault>, AllocError>
+pub fn string_of(alloc: Global, text: &str) -> Result<Result<String, Fault>, AllocError>
     ensures { IfOk result (λ value. viewed string_bytes value ≡ string_value text.now) }
 {
     match unquote_string(alloc, text) {

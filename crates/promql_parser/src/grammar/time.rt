@@ -111,27 +111,21 @@ pub fn shift_at(tokens: &mut Tokens<'_>) -> Result<Result<Offset, Fault>, Halt>
 {
     let is_minus = signed_at(tokens);
     let duration = time_at(tokens)?;
-    Ok(shifted(is_minus, duration))
+    Ok(offset_of(is_minus, duration))
 }
 
 /// The value of a number's text.
 pub fn number_of(text: &str) -> Result<Number, Fault>
     ensures { viewed (λ (n : numbers.Number). n) result ≡ number_value text.now }
 {
-    match parse_str_radix(text) {
-        Ok(number) => Ok(number),
-        Err(fault) => Err(Fault::Number(fault)),
-    }
+    parse_str_radix(text).map_err(Fault::Number)
 }
 
 /// The value of a duration's text.
 pub fn duration_of(text: &str) -> Result<Duration, Fault>
     ensures { viewed as_nanos result ≡ duration_value text.now }
 {
-    match parse_duration(text) {
-        Ok(duration) => Ok(duration),
-        Err(fault) => Err(Fault::Duration(fault)),
-    }
+    parse_duration(text).map_err(Fault::Duration)
 }
 
 /// The number under its sign.
@@ -139,27 +133,18 @@ fn with_sign(is_minus: bool, number: Result<Number, Fault>) -> Result<Number, Fa
     ensures { viewed (λ (n : numbers.Number). n) result
         ≡ viewed (λ n. if is_minus then neg n else n) number }
 {
-    let number = match number {
-        Ok(number) => number,
-        Err(fault) => return Err(fault),
-    };
-    if is_minus {
-        return Ok(number.neg());
-    }
-    Ok(number)
+    let number = number?;
+    Ok(if is_minus { number.neg() } else { number })
 }
 
 /// How far a time under its sign moves.
-fn shifted(is_minus: bool, duration: Result<Duration, Fault>) -> Result<Offset, Fault>
+fn offset_of(is_minus: bool, duration: Result<Duration, Fault>) -> Result<Offset, Fault>
     ensures { viewed shift_of result
         ≡ viewed (λ d. if is_minus then ahead (as_nanos d) else back (as_nanos d)) duration }
 {
-    let duration = match duration {
-        Ok(duration) => duration,
-        Err(fault) => return Err(fault),
-    };
     if is_minus {
-        return Ok(Offset::Neg(duration));
+        duration.map(Offset::Neg)
+    } else {
+        duration.map(Offset::Pos)
     }
-    Ok(Offset::Pos(duration))
 }

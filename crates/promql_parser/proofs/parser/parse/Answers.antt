@@ -1,31 +1,18 @@
-use Rattle.std.proofs.Common.{◌∙◌, ap}
+use Rattle.std.proofs.Common.{ap, ◌∙◌}
 use Rattle.std.specs.Prelude.{Ok, Err}
-use Rattle.std.proofs.lemmas.Result.{err_from_is_err_and}
-use Rattle.promql_parser.proofs.AnswerLemmas.{empty_answer, fault_answer, fault_error_answer, halt_answer, tree_answer}
-use Rattle.promql_parser.proofs.Listing.{fault_listed, none_listed, some_list}
+use Rattle.promql_parser.proofs.AnswerLemmas.{drawn_answer, fault_error_answer, halt_answer, refused_answer}
 use Rattle.promql_parser.proofs.parser.parse.Goals as goal
 
-pub returns-then-not-branch : goal.returns-then-not-branch
-returns-then-not-branch c = empty_answer c.args.text.now (none_listed _ (c.in_ok-has_tokens.ensures ∙ ap Ok c.if-not-branch.true))
+pub returns-in-Ok-Ok : goal.returns-in-Ok-Ok
+returns-in-Ok-Ok c =
+    drawn_answer c.checked_trees_are_typed.ensures c.args.text.now _ c.new.ensures.whole c.new.ensures.fault _ (rw c.in-Ok-Ok.field-0-is at rw c.in-Ok-Ok.is at c.read_all.ensures.whole)
 
-pub returns-in_err-expr : goal.returns-in_err-expr
-returns-in_err-expr c =
-    let listed = some_list _ (c.in_ok-has_tokens.ensures ∙ ap Ok c.if-not-branch.false) in
-    let same = err_from_is_err_and c.from_residual-in_err-expr.result c.from_residual-in_err-expr.ensures.1 in
-    let kinds = c.new.ensures _ listed.is in
-    rw (same.1, same.2) (halt_answer c.args.text.now listed.list listed.is listed.some _ kinds _ c.in_err-expr.ensures.whole (λ is. c.in_err-expr.ensures.memory (ap Err is)))
-
-pub returns-in-Ok : goal.returns-in-Ok
-returns-in-Ok c =
-    let listed = some_list _ (c.in_ok-has_tokens.ensures ∙ ap Ok c.if-not-branch.false) in
-    tree_answer c.args.text.now listed.list listed.is listed.some _ (c.new.ensures _ listed.is) c.checked_trees_are_typed.ensures _ (rw c.in-Ok.is at c.in_ok-expr.ensures.whole)
+pub returns-in-Ok-Err : goal.returns-in-Ok-Err
+returns-in-Ok-Err c =
+    rw (c.first_refusal.ensures, c.from.ensures) (refused_answer c.args.text.now _ (λ list is some.
+    fault_error_answer c.args.text.now list is some _ (c.new.ensures.whole list is) c.in-Ok-Err.fault (rw c.in-Ok-Err.field-0-is at rw c.in-Ok-Err.is at c.read_all.ensures.whole)))
 
 pub returns-in-Err : goal.returns-in-Err
 returns-in-Err c =
-    let listed = some_list _ (c.in_ok-has_tokens.ensures ∙ ap Ok c.if-not-branch.false) in
-    rw c.from.ensures (fault_error_answer c.args.text.now listed.list listed.is listed.some _ (c.new.ensures _ listed.is) c.in-Err.fault (rw c.in-Err.is at c.in_ok-expr.ensures.whole))
-
-pub returns-in_err-has_tokens : goal.returns-in_err-has_tokens
-returns-in_err-has_tokens c =
-    let same = err_from_is_err_and c.from_residual.result c.from_residual.ensures.1 in
-    rw (same.1, same.2) (fault_answer c.args.text.now _ (fault_listed _ _ c.in_err-has_tokens.ensures))
+    rw (c.first_refusal-in-Err.ensures, c.from-in-Err.ensures) (refused_answer c.args.text.now _ (λ list is some.
+    halt_answer c.args.text.now list is some _ (c.new.ensures.whole list is) c.in-Err.halt (rw c.in-Err.is at c.read_all.ensures.whole) (λ none. c.read_all.ensures.memory (c.in-Err.is ∙ ap Err none))))

@@ -32,16 +32,16 @@ returns-in-Err-clause-built c = λ text cl ds clause args.
     part_of _ (grammar.aggregate c.args.op text cl ds) _ _ refl refl (let same = args.tall in omega arith)
     (then_fault (build_all ds) (λ ts. known (clause_value cl) giving λ m. passing_checks (aggregated c.args.op m ts)) _ (with_no_trees c.args.args (build_all ds) c.in-Err.fault c.in-Err.is args.built))
 
-pub returns-in-Ok-grouped-clause-built : goal.returns-in-Ok-grouped-clause-built
-returns-in-Ok-grouped-clause-built c =
+pub returns-in-Ok-held_clause-clause-built : goal.returns-in-Ok-held_clause-clause-built
+returns-in-Ok-held_clause-clause-built c =
     if_ok_both {R = λ part. (text : List ℕ) (cl : pieces.Clause) (ds : grammar.Arguments) → clause_in c.args.clause ≡ clause_value cl → AreArguments c.args.args ds → IsPart part (grammar.aggregate c.args.op text cl ds)} _ c.checked_part.ensures.value c.checked_part.ensures.tall (λ part value tall. λ text cl ds clause args.
     part_of part (grammar.aggregate c.args.op text cl ds) _ _ (value _ (gives_or_memory _ _ c.new_aggregate_expr-built.ensures)) tall (let same = args.tall in omega arith)
     (then_value (build_all ds) (λ ts. known (clause_value cl) giving λ m. passing_checks (aggregated c.args.op m ts)) (trees_of c.in-Ok.args.args.items) _ (with_trees c.args.args (build_all ds) c.in-Ok.args c.in-Ok.is args.built)
-    (aggregate_ends c.args.op cl _ _ (c.in-Ok-grouped.ensures ∙ clause))))
+    (aggregate_ends c.args.op cl _ _ (c.in-Ok-held_clause.ensures ∙ clause))))
 
-pub returns-in-Err-grouped-clause-built : goal.returns-in-Err-grouped-clause-built
-returns-in-Err-grouped-clause-built c =
+pub returns-in-Err-held_clause-clause-built : goal.returns-in-Err-held_clause-clause-built
+returns-in-Err-held_clause-clause-built c =
     if_ok_both {R = λ part. (text : List ℕ) (cl : pieces.Clause) (ds : grammar.Arguments) → clause_in c.args.clause ≡ clause_value cl → AreArguments c.args.args ds → IsPart part (grammar.aggregate c.args.op text cl ds)} _ c.fault_part.ensures.value c.fault_part.ensures.tall (λ part value tall. λ text cl ds clause args.
     part_of part (grammar.aggregate c.args.op text cl ds) _ _ value tall (let same = args.tall in omega arith)
     (then_value (build_all ds) (λ ts. known (clause_value cl) giving λ m. passing_checks (aggregated c.args.op m ts)) (trees_of c.in-Ok.args.args.items) _ (with_trees c.args.args (build_all ds) c.in-Ok.args c.in-Ok.is args.built)
-    (clause_fails c.args.op cl _ _ (c.in-Err-grouped.ensures ∙ clause))))
+    (clause_fails c.args.op cl _ _ (c.in-Err-held_clause.ensures ∙ clause))))

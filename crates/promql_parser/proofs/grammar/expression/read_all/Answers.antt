@@ -12,4 +12,4 @@ returns-then-not-is_empty-clause-whole c = left_none _ _ _ _ c.in_ok-part.ensure
 
 pub returns-clause-whole : goal.returns-clause-whole
 returns-clause-whole c =
-    whole_given _ _ _ _ _ c.unboxed.ensures c.in_ok-part.ensures.gives (none_left _ c.if-not-is_empty.ensures)
+    whole_given _ _ _ _ _ c.result_of.ensures c.in_ok-part.ensures.gives (none_left _ c.if-not-is_empty.ensures)
