@@ -1,3 +1,6 @@
+pub mod Extensions
+pub mod Forms
+pub mod Indentations
 pub mod KnownBytes
 pub mod Refusals
 pub mod SameErrors

@@ -7,11 +7,14 @@ use Rattle.promql.specs.contracts.run.ModePartialEq.TheImpl as modes
 use Rattle.promql.specs.contracts.run.RunErrorPartialEq.TheImpl as errors
 use Rattle.promql_parser.specs.Answers.{refusal_of}
 use Rattle.promql.specs.Running.{failure_of, parse}
-use Rattle.promql.specs.declared.run.Mode.TheVariants.{Line}
-use Rattle.promql.specs.declared.run.RunError.TheVariants.{Memory, Read, NotUtf8, Parse, Write}
+use Rattle.promql.specs.declared.run.Mode.TheVariants as mode
+use Rattle.promql.specs.declared.run.RunError.TheVariants.{Memory, Read, NotUtf8, Parse, Write, Json}
 
 pub mode_Decides : IsSameBy (λ m. m) modes.ghosts.eq
-mode_Decides Line Line = ((λ _. refl), (λ _. refl))
+mode_Decides mode.Pretty mode.Pretty = ((λ _. refl), (λ _. refl))
+mode_Decides mode.Line mode.Line = ((λ _. refl), (λ _. refl))
+mode_Decides mode.Json mode.Json = ((λ _. refl), (λ _. refl))
+mode_Decides _ _ = ((λ h. cc), (λ h. cc))
 
 pub error_Decides : IsSameBy refusal_of parse_errors.ghosts.eq → IsSameBy failure_of errors.ghosts.eq
 error_Decides same Memory Memory = ((λ _. refl), (λ _. refl))
@@ -19,4 +22,5 @@ error_Decides same Read Read = ((λ _. refl), (λ _. refl))
 error_Decides same NotUtf8 NotUtf8 = ((λ _. refl), (λ _. refl))
 error_Decides same (Parse a) (Parse b) = Decides-like _ (λ e. ap parse e) (λ e. cc) (same a b)
 error_Decides same Write Write = ((λ _. refl), (λ _. refl))
+error_Decides same Json Json = ((λ _. refl), (λ _. refl))
 error_Decides same _ _ = ((λ h. cc), (λ h. cc))

@@ -1,3 +1,5 @@
 pub mod Ended
+pub mod Extensions
 pub mod Running
+pub mod StepErrors
 pub mod Arguments

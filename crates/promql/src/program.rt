@@ -1,10 +1,10 @@
 //! The program as a function of its arguments, its input and its two outputs.
 
-ghost use Rattle.std.specs.Prelude.{◌≡◌, ◌≢◌, ◌≤◌, ◌↔◌, false, true, Some, None, map, string_bytes};
+ghost use Rattle.std.specs.Prelude.{◌≡◌, ◌≢◌, ◌≤◌, ◌↔◌, false, true, Some, None, IfSome, map, string_bytes};
 ghost use Rattle.std.specs.Io.KnownBytes.{Appends};
 ghost use Rattle.promql_parser.specs.declared.parser.ParseError.{ParseError};
 ghost use Rattle.promql.specs.Arguments.{asked_mode};
-ghost use Rattle.promql.specs.Running.{Prints, BeginsToPrint, IsNotUtf8, IsRejected};
+ghost use Rattle.promql.specs.Running.{Prints, BeginsToPrint, IsNotUtf8, IsRejected, IsTooWide};
 
 use crate::ended::Ended;
 use crate::run::{Mode, run, write_text};
@@ -44,10 +44,11 @@ pub fn program<R: Read, W: Write, E: Write>(
     ensures usage_writes_nothing { result ≡ USAGE_STATUS → writer.new ≡ writer.old }
     ensures usage_line { result ≡ USAGE_STATUS → errors.new.failed ≡ false →
         Appends (E.contents errors.old.inner) (E.contents errors.new.inner) USAGE.now }
-    ensures known { result ≢ USAGE_STATUS → result ≤ 5 }
+    ensures known { result ≢ USAGE_STATUS → result ≤ 6 }
     // A run that succeeds prints the expression, and nothing to `errors`.
-    ensures ok { result ≡ 0 → Prints (R.remaining reader.old.inner) (R.remaining reader.new.inner)
-        (W.contents writer.old.inner) (W.contents writer.new.inner) }
+    ensures ok { IfSome (asked_mode (map string_bytes args.now)) (λ mode. result ≡ 0 →
+        Prints mode (R.remaining reader.old.inner) (R.remaining reader.new.inner)
+        (W.contents writer.old.inner) (W.contents writer.new.inner)) }
     ensures flushed { result ≡ 0 → writer.new.pending ≡ false }
     ensures silent { result ≡ 0 → errors.new ≡ errors.old }
     // Each other status is that of an error, under the conditions of `run`.
@@ -56,8 +57,11 @@ pub fn program<R: Read, W: Write, E: Write>(
     ensures parse { result ≡ 4 → (e : ParseError) ×
         IsRejected e (R.remaining reader.old.inner) (R.remaining reader.new.inner) }
     ensures write { result ≡ 5 → writer.new.failed ≡ true }
-    ensures begun { result ≡ 5 → BeginsToPrint (R.remaining reader.old.inner) (R.remaining reader.new.inner)
-        (W.contents writer.old.inner) (W.contents writer.new.inner) }
+    ensures begun { IfSome (asked_mode (map string_bytes args.now)) (λ mode. result ≡ 5 →
+        BeginsToPrint mode (R.remaining reader.old.inner) (R.remaining reader.new.inner)
+        (W.contents writer.old.inner) (W.contents writer.new.inner)) }
+    ensures json { IfSome (asked_mode (map string_bytes args.now)) (λ mode. result ≡ 6 →
+        IsTooWide mode (R.remaining reader.old.inner) (R.remaining reader.new.inner)) }
     ensures unwritten { result ≢ 0 → result ≢ 5 → writer.new ≡ writer.old }
 {
     let Some(mode) = mode_of(args) else {

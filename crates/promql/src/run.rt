@@ -5,9 +5,11 @@ ghost use Rattle.std.specs.Io.KnownBytes.{Appends};
 ghost use Rattle.promql_parser.specs.declared.parser.ParseError.{ParseError};
 ghost use Rattle.promql_parser.specs.Answers.{IsAnswerTo, refusal_of};
 ghost use Rattle.promql.specs.Ended.{AppendsBeginning};
-ghost use Rattle.promql.specs.Running.{HasRead, IsPrinted, Prints, BeginsToPrint, IsNotUtf8, IsRejected, UnlessRead, UnlessWrite, mode_named, error_number, IsReadError, IsAnswerError};
+ghost use Rattle.promql.specs.Running.{HasRead, IsPrinted, HasNoForm, Prints, BeginsToPrint, IsNotUtf8, IsRejected, IsTooWide, UnlessRead, UnlessWrite, mode_named, error_number};
+ghost use Rattle.promql.specs.StepErrors.{IsReadError, IsAnswerError};
 
 use crate::ended::Ended;
+use crate::shown::shown_in;
 use promql_parser::parser::{ParseError, parse};
 use std::alloc::{AllocError, Global};
 use std::io::{Read, Write};
@@ -16,8 +18,12 @@ use thiserror::Error;
 /// What the program does with the expression.
 #[derive(Clone, Copy, PartialEq, Eq, Debug)]
 pub enum Mode {
+    /// It prints the expression laid out in lines of at most 100 bytes.
+    Pretty,
     /// It prints the expression on one line.
     Line,
+    /// It prints the JSON form of the expression, without a space.
+    Json,
 }
 
 impl Mode {
@@ -26,7 +32,9 @@ impl Mode {
         ensures { result ≡ mode_named name.now }
     {
         match name {
+            "pretty" => Some(Mode::Pretty),
             "line" => Some(Mode::Line),
+            "json" => Some(Mode::Json),
             _ => None,
         }
     }
@@ -50,6 +58,9 @@ pub enum RunError {
     /// A write failed, or took nothing. A beginning of the answer may have been written.
     #[error("write failed")]
     Write,
+    /// The expression has no JSON form: a number of milliseconds is too wide.
+    #[error("number too wide for JSON")]
+    Json,
 }
 
 impl RunError {
@@ -63,6 +74,7 @@ impl RunError {
             RunError::NotUtf8 => 3,
             RunError::Parse(_) => 4,
             RunError::Write => 5,
+            RunError::Json => 6,
         }
     }
 }
@@ -114,14 +126,15 @@ fn read_input<R: Read>(alloc: Global, reader: &mut Ended<R>) -> Result<Vec<u8>, 
 
 /// The whole answer to a text, with a line feed after it.
 fn answer_text(alloc: Global, mode: Mode, text: &str) -> Result<String, RunError>
-    ensures ok { IfOk result (λ answer. IsPrinted text.now (string_bytes answer)) }
+    ensures ok { IfOk result (λ answer. IsPrinted mode text.now (string_bytes answer)) }
+    ensures json { IsErrOf result RunError.Json → HasNoForm mode text.now }
     ensures parse { (e : ParseError) → IsErrOf result (RunError.Parse e) → IsAnswerTo text.now (Err (refusal_of e)) × (e ≢ ParseError.Memory) }
     ensures errors { IfErr result IsAnswerError }
 {
     let expr = parse(alloc, text)?;
-    match mode {
-        Mode::Line => Ok(format!(in alloc; "{expr}\n")?),
-    }
+    let mut answer = shown_in(alloc, mode, &expr)?;
+    answer.push_str("\n")?;
+    Ok(answer)
 }
 
 /// Writes the whole text, and flushes. No call that failed is made again.
@@ -159,7 +172,7 @@ pub fn run<R: Read, W: Write>(
     writer: &mut Ended<W>,
 ) -> Result<(), RunError>
     // All of the input was read, and what was written is the answer's text and a line feed, flushed.
-    ensures ok { OnOk result (Prints (R.remaining reader.old.inner) (R.remaining reader.new.inner)
+    ensures ok { OnOk result (Prints mode (R.remaining reader.old.inner) (R.remaining reader.new.inner)
         (W.contents writer.old.inner) (W.contents writer.new.inner)) }
     ensures flushed { OnOk result (writer.new.pending ≡ false) }
     // No read failed but for `Read`, and no write but for `Write`.
@@ -172,9 +185,11 @@ pub fn run<R: Read, W: Write>(
     ensures not_utf8 { IsErrOf result RunError.NotUtf8 → IsNotUtf8 (R.remaining reader.old.inner) (R.remaining reader.new.inner) }
     ensures parse { (e : ParseError) → IsErrOf result (RunError.Parse e) →
         IsRejected e (R.remaining reader.old.inner) (R.remaining reader.new.inner) }
+    ensures json { IsErrOf result RunError.Json →
+        IsTooWide mode (R.remaining reader.old.inner) (R.remaining reader.new.inner) }
     // Nothing was written before the whole answer was made, and nothing but a beginning of it where a write failed.
     ensures unwritten { IfErr result (λ e. UnlessWrite e (writer.new ≡ writer.old)) }
-    ensures begun { IsErrOf result RunError.Write → BeginsToPrint (R.remaining reader.old.inner)
+    ensures begun { IsErrOf result RunError.Write → BeginsToPrint mode (R.remaining reader.old.inner)
         (R.remaining reader.new.inner) (W.contents writer.old.inner) (W.contents writer.new.inner) }
 {
     let input = read_input(alloc, reader)?;

@@ -8,16 +8,26 @@ ghost use Rattle.promql_parser.specs.Lexing.{tokens, has_any};
 use crate::grammar::expression::read_all;
 use crate::grammar::fault::Fault;
 use crate::tokens::{Tokens, has_tokens};
-pub use promql_ast::{
-    AggregateExpr, AtFault, AtModifier, BinaryExpr, Call, CheckFault, Expr, FunctionArgs,
-    MatrixSelector, NodeFault, NumberLiteral, Offset, ParenExpr, RangeMode, StringLiteral,
-    SubqueryExpr, UnaryExpr, VectorSelector,
+pub use ast::{
+    AggregateExpr, AtFault, AtModifier, BinModifier, BinaryExpr, Call, CheckError, CheckFault,
+    Expr, Extension, LabelModifier, MatrixSelector, NodeFault, NumberLiteral, Offset, ParenExpr,
+    RangeMode, StringLiteral, SubqueryExpr, TypedPlace, UnaryExpr, VectorMatchCardinality,
+    VectorMatchFillValues, VectorSelector,
 };
+pub use function::{Function, FunctionArgs};
+pub use lex::lexer;
+pub use promql_ast::{Prettier, PrettyError, Tally};
 use promql_grammar::Halt;
 use promql_text::{DurationFault, NumberFault};
 use promql_token::LexFault;
 use std::alloc::{AllocError, Global};
 use thiserror::Error;
+
+pub mod ast;
+pub mod function;
+pub mod lex;
+pub mod token;
+pub mod value;
 
 /// The greatest height of an expression.
 pub const MAX_DEPTH: usize = 512;

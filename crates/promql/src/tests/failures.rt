@@ -74,22 +74,27 @@ fn a_writer_that_takes_nothing(rt: HostRuntime) -> Result<(), Fail> {
 #[test]
 fn one_row_for_failing_allocations(rt: HostRuntime) -> Result<(), Fail> {
     let alloc = rt.alloc();
-    for (input, want) in [
-        ("1 + (foo - 2)", "1 + (foo - 2)\n"),
-        ("1-2-3", "1 - 2 - 3\n"),
+    for (mode, input, want) in [
+        (Mode::Pretty, "1 + (foo - 2)", "1 + (foo - 2)\n"),
+        (Mode::Line, "1-2-3", "1 - 2 - 3\n"),
+        (
+            Mode::Json,
+            "-(1)",
+            "{\"expr\":{\"expr\":{\"type\":\"numberLiteral\",\"val\":\"1\"},\"type\":\"parenExpr\"},\"op\":\"-\",\"type\":\"unaryExpr\"}\n",
+        ),
     ] {
-        let mut held = [0u8; 32];
+        let mut held = [0u8; 128];
         let mut left: &mut [u8] = &mut held;
         let mut reader = Ended::new(input.as_bytes());
         let answer = {
             let mut writer = Ended::new(left);
-            run(alloc, Mode::Line, &mut reader, &mut writer)
+            run(alloc, mode, &mut reader, &mut writer)
         };
         match answer {
             Ok(()) => assert!(rt; held.starts_with(want.as_bytes())),
             Err(error) => {
                 assert_eq!(rt; error, RunError::Memory);
-                assert_eq!(rt; held, [0u8; 32]);
+                assert_eq!(rt; held, [0u8; 128]);
             }
         }
     }

@@ -20,7 +20,7 @@ fn texts(alloc: Global, words: &[&str]) -> Result<Vec<String>, AllocError> {
 fn statuses_and_messages(rt: HostRuntime) -> Result<(), Fail> {
     let alloc = rt.alloc();
     // arguments, input, status, standard output, standard error
-    let rows: [(&[&str], &[u8], u8, &str, &str); 13] = [
+    let rows: [(&[&str], &[u8], u8, &str, &str); 18] = [
         (
             &["promql", "line"],
             b"1 + (foo - 2)",
@@ -29,6 +29,29 @@ fn statuses_and_messages(rt: HostRuntime) -> Result<(), Fail> {
             "",
         ),
         (&["", "line"], b"007\n", 0, "7\n", ""),
+        (&["promql", "pretty"], b"(((a)))", 0, "(((a)))\n", ""),
+        (
+            &["promql", "json"],
+            b"\"a\\n\"",
+            0,
+            "{\"type\":\"stringLiteral\",\"val\":\"a\\n\"}\n",
+            "",
+        ),
+        (
+            &["promql", "json"],
+            b"a[18446744073709551616ms]",
+            6,
+            "",
+            "number too wide for JSON\n",
+        ),
+        (
+            &["promql", "pretty"],
+            b"a[18446744073709551616ms]",
+            0,
+            "a[213503982334d14h25m51s616ms]\n",
+            "",
+        ),
+        (&["promql", "json"], b"a b", 4, "", "invalid promql query\n"),
         (
             &["promql", "line"],
             b"",

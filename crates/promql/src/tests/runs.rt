@@ -7,12 +7,34 @@ use promql_text::NumberFault;
 use std::alloc::{AllocError, Global};
 use std::test::Fail;
 
+const HTTP: &str =
+    "http_requests_total{\nenvironment=~\"staging|testing|development\",\nmethod!=\"GET\"\n} offset 5m";
+
+const HTTP_LINE: &str =
+    "http_requests_total{environment=~\"staging|testing|development\",method!=\"GET\"} offset 5m\n";
+
+// One millisecond more than 2^63.
+const WIDE: &str = "foo offset -9223372036854775809ms";
+
+const SUM: &str =
+    "sum by (code, job) (rate(http_requests_total{code=~\"5..\"}[5m])) / sum by (job) (rate(http_requests_total[5m]))";
+
+const SUM_LINES: &str = "  sum by (code, job) (rate(http_requests_total{code=~\"5..\"}[5m]))
+/
+  sum by (job) (rate(http_requests_total[5m]))
+";
+
 #[test]
 fn bytes_in_and_out(rt: HostRuntime) -> Result<(), Fail> {
     let alloc = rt.alloc();
-    let rows: [(&[u8], Result<&[u8], RunError>); 7] = [
+    let rows: [(&[u8], Result<&[u8], RunError>); 9] = [
         (b"1 + (foo - 2)", Ok(b"1 + (foo - 2)\n")),
         (b"1-2-3\n", Ok(b"1 - 2 - 3\n")),
+        (HTTP.as_bytes(), Ok(HTTP_LINE.as_bytes())),
+        (
+            WIDE.as_bytes(),
+            Ok(b"foo offset -106751991167d7h12m55s809ms\n"),
+        ),
         (b"", Err(RunError::Parse(ParseError::Empty))),
         (b"a b", Err(RunError::Parse(ParseError::Syntax))),
         (
@@ -54,29 +76,85 @@ fn errors(rt: HostRuntime) -> Result<(), Fail> {
             "invalid promql query",
         ),
         (RunError::Write, 5, "write failed"),
+        (RunError::Json, 6, "number too wide for JSON"),
     ];
     for (error, number, message) in &rows {
         assert_eq!(rt; error.number(), *number);
         let found = format!(in alloc; "{error}")?;
         assert_eq!(rt; found.as_str(), *message);
     }
-    assert_eq!(rt; Mode::named("line"), Some(Mode::Line));
-    assert_eq!(rt; Mode::named("pretty"), None);
-    assert_eq!(rt; Mode::named("Line"), None);
     Ok(())
 }
 
-// What a run prints of the text.
-fn printed(alloc: Global, text: &str) -> Result<Vec<u8>, RunError> {
+#[test]
+fn modes(rt: HostRuntime) {
+    assert_eq!(rt; Mode::named("pretty"), Some(Mode::Pretty));
+    assert_eq!(rt; Mode::named("line"), Some(Mode::Line));
+    assert_eq!(rt; Mode::named("json"), Some(Mode::Json));
+    assert_eq!(rt; Mode::named("Line"), None);
+    assert_eq!(rt; Mode::named(""), None);
+}
+
+// What a run in the mode prints of the text.
+fn answer(alloc: Global, mode: Mode, text: &str) -> Result<Vec<u8>, RunError> {
     let mut reader = Ended::new(text.as_bytes());
     let mut written = Vec::new(alloc);
-    run(
-        alloc,
-        Mode::Line,
-        &mut reader,
-        &mut Ended::new(&mut written),
-    )?;
+    run(alloc, mode, &mut reader, &mut Ended::new(&mut written))?;
     Ok(written)
+}
+
+fn printed(alloc: Global, text: &str) -> Result<Vec<u8>, RunError> {
+    answer(alloc, Mode::Line, text)
+}
+
+#[test]
+fn laid_out(rt: HostRuntime) -> Result<(), Fail> {
+    let alloc = rt.alloc();
+    for (text, want) in [
+        (HTTP, HTTP_LINE),
+        (SUM, SUM_LINES),
+        (" a+b", "a + b\n"),
+        (WIDE, "foo offset -106751991167d7h12m55s809ms\n"),
+    ] {
+        let found = answer(alloc, Mode::Pretty, text)?;
+        assert!(rt; found.as_slice() == want.as_bytes(), "{text}");
+    }
+    assert_eq!(rt;
+        answer(alloc, Mode::Pretty, "a b"),
+        Err(RunError::Parse(ParseError::Syntax))
+    );
+    Ok(())
+}
+
+#[test]
+fn as_json(rt: HostRuntime) -> Result<(), Fail> {
+    let alloc = rt.alloc();
+    for (text, want) in [
+        (
+            "foo @ -1 offset -5m",
+            "{\"matchers\":[],\"name\":\"foo\",\"offset\":-300000,\"startOrEnd\":null,\"timestamp\":-1000,\"type\":\"vectorSelector\"}\n",
+        ),
+        (
+            "foo offset -9223372036854775808ms",
+            "{\"matchers\":[],\"name\":\"foo\",\"offset\":-9223372036854775808,\"startOrEnd\":null,\"timestamp\":null,\"type\":\"vectorSelector\"}\n",
+        ),
+        ("-1e3", "{\"type\":\"numberLiteral\",\"val\":\"-1000\"}\n"),
+    ] {
+        let found = answer(alloc, Mode::Json, text)?;
+        assert!(rt; found.as_slice() == want.as_bytes(), "{text}");
+    }
+    for text in [
+        WIDE,
+        "rate(foo[18446744073709551616ms:])",
+        "rate(foo[1s:300000000000000000000ms])",
+    ] {
+        assert_eq!(rt; answer(alloc, Mode::Json, text), Err(RunError::Json));
+    }
+    assert_eq!(rt;
+        answer(alloc, Mode::Json, ""),
+        Err(RunError::Parse(ParseError::Empty))
+    );
+    Ok(())
 }
 
 // The text with so many copies of `x` between `front` and `back`.

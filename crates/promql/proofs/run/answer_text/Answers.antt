@@ -1,8 +1,11 @@
-use Rattle.std.proofs.Common.{◌≡◌, sym, ◌∙◌, subst}
+use Rattle.std.proofs.Common.{◌≡◌, sym, ◌∙◌, ap, subst}
 use Rattle.std.specs.Prelude.{Err}
 use Rattle.std.proofs.lemmas.Result.{err_from_is_err_and}
-use Rattle.promql.specs.declared.run.RunError.TheVariants.{Parse}
+use Rattle.promql.specs.declared.run.RunError.TheVariants.{Parse, Json}
 use Rattle.promql_parser.specs.Answers.{IsAnswerTo, refusal_of}
+use Rattle.promql_ast.specs.View.{tree_of}
+use Rattle.promql.specs.StepErrors.{IsShowError}
+use Rattle.promql.proofs.Extensions.{answers_are_plain}
 use Rattle.promql.proofs.Refusals.{raised_own}
 use Rattle.promql.proofs.run.answer_text.Goals as goal
 
@@ -14,3 +17,24 @@ returns-in_err-expr-clause-parse c = λ e is.
     let own : same.0 ≡ Parse e = cc in
     let parsed = raised_own c.in_err-expr.field-0.0 same.0 same.2 e own in
     (subst (λ f. IsAnswerTo c.args.text.now (Err (refusal_of f))) parsed.0 refusal, parsed.1)
+
+pub shown_in-requires-clause-plain : goal.shown_in-requires-clause-plain
+shown_in-requires-clause-plain c = answers_are_plain c.args.text.now (tree_of c.in_ok-expr.expr) c.in_ok-expr.ensures
+
+pub returns-in_err-answer-clause-json : goal.returns-in_err-answer-clause-json
+returns-in_err-answer-clause-json c = λ is.
+    let same = err_from_is_err_and c.from_residual-in_err-answer.result c.from_residual-in_err-answer.ensures.1 in
+    let raised : Err same.0 ≡ Err Json = sym same.1 ∙ is in
+    let own : same.0 ≡ Json = cc in
+    record {
+      tree = tree_of c.in_ok-expr.expr;
+      parsed = c.in_ok-expr.ensures;
+      wide = c.in_err-answer.ensures.json (ap Err (sym same.2 ∙ own));
+    }
+
+pub returns-in_err-answer-clause-parse : goal.returns-in_err-answer-clause-parse
+returns-in_err-answer-clause-parse c = λ e is.
+    let same = err_from_is_err_and c.from_residual-in_err-answer.result c.from_residual-in_err-answer.ensures.1 in
+    let raised : Err same.0 ≡ Err (Parse e) = sym same.1 ∙ is in
+    let own : same.0 ≡ Parse e = cc in
+    absurd (subst IsShowError (sym same.2 ∙ own) c.in_err-answer.ensures.errors)

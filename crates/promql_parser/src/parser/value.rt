@@ -1,0 +1,3 @@
+//! The types of values.
+
+pub use promql_kind::{Value, ValueType};

@@ -1,0 +1,58 @@
+//! Texts laid out, and a user's own type that is.
+
+use promql_parser::parser::{Prettier, parse};
+use std::fmt;
+use std::fmt::{Display, Write};
+use std::test::Fail;
+
+#[test]
+fn lines_of_ten_bytes(rt: HostRuntime) -> Result<(), Fail> {
+    let alloc = rt.alloc();
+    let time = parse(alloc, "time()")?;
+    assert_eq!(rt; time.pretty(alloc, 0, 3)?.as_str(), "time(\n\n)");
+    let share = parse(alloc, "sum by (b) (a) / c")?;
+    assert!(rt; share.needs_split(17) && !share.needs_split(18));
+    assert_eq!(rt;
+        share.pretty(alloc, 0, 10)?.as_str(),
+        "  sum by (b) (\n    a\n  )\n/\n  c"
+    );
+    Ok(())
+}
+
+/// A rule that records what a query gives.
+#[derive(Drop)]
+struct Rule<'a> {
+    record: &'a str,
+    query: &'a str,
+}
+
+impl Display for Rule<'_> {
+    ghost use Rattle.std.specs.Prelude.{Some, ◌++◌, codes};
+
+    ghost output = { λ rule. Some (rule.record.now ++ (codes " = " ++ rule.query.now)) };
+
+    fn fmt<W: Write>(&self, f: &mut fmt::Formatter<W>) -> fmt::Result {
+        write!(f, "{} = {}", self.record, self.query)
+    }
+}
+
+impl Prettier for Rule<'_> {
+    ghost use Rattle.std.proofs.Common.{rules};
+
+    ghost states = { λ rule. Prim.search rules };
+}
+
+#[test]
+fn a_type_of_a_user(rt: HostRuntime) -> Result<(), Fail> {
+    let alloc = rt.alloc();
+    let rule = Rule {
+        record: "job:up",
+        query: "sum(up)",
+    };
+    assert!(rt; rule.needs_split(15) && !rule.needs_split(16));
+    for most in [0, 100] {
+        assert_eq!(rt; rule.pretty(alloc, 1, most)?.as_str(), "  job:up = sum(up)");
+        assert_eq!(rt; rule.format(alloc, 0, most)?.as_str(), "job:up = sum(up)");
+    }
+    Ok(())
+}

@@ -1,0 +1,24 @@
+//! The example of the README.
+
+use promql_parser::parser::{Expr, ParseError, parse};
+use std::alloc::Global;
+use std::test::Fail;
+
+/// The query on one line, as it is printed.
+fn canonical(alloc: Global, query: &str) -> Result<String, ParseError> {
+    let expr: Expr = parse(alloc, query)?;
+    Ok(format!(in alloc; "{expr}")?)
+}
+
+#[test]
+fn the_example(rt: HostRuntime) -> Result<(), Fail> {
+    let alloc = rt.alloc();
+    assert_eq!(rt; canonical(alloc, "1+(foo-2)")?.as_str(), "1 + (foo - 2)");
+    let error = canonical(alloc, "1 +");
+    assert!(rt; error == Err(ParseError::Syntax));
+    assert_eq!(rt;
+        ParseError::Syntax.to_string(alloc)?.as_str(),
+        "invalid promql query"
+    );
+    Ok(())
+}
