@@ -2,7 +2,6 @@
 
 mod changes;
 mod json;
-mod layout;
 mod walks;
 
 use promql_ast::{CheckError, Expr, Extension, FunctionArgs, VectorSelector};
