@@ -2,6 +2,7 @@
 
 mod changes;
 mod json;
+mod layout;
 mod walks;
 
 use promql_ast::{CheckError, Expr, Extension, FunctionArgs, VectorSelector};

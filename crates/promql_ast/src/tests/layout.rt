@@ -6,8 +6,10 @@ use crate::fault::CheckError;
 use crate::layout::prettier::{Prettier, PrettyError};
 use crate::layout::tally::Tally;
 use promql_kind::LabelModifier;
+use promql_text::minute_duration;
 use promql_token::ids::{T_ADD, T_DIV, T_SUM};
 use std::alloc::Global;
+use std::process::Abort;
 use std::test::Fail;
 
 /// `sum by (b) (a) / c`
@@ -57,6 +59,132 @@ fn a_call_without_arguments_is_split(rt: HostRuntime) -> Result<(), Fail> {
     Ok(())
 }
 
+/// A value at level 1, at a width where its line or a part of it is too long and at one where it is not; then the value
+/// over several lines, and the least width that its line fits.
+#[derive(Clone, Copy)]
+struct Row {
+    max: usize,
+    split: &'static str,
+    line: &'static str,
+    format: &'static str,
+    fits: usize,
+}
+
+fn check<T: Prettier>(rt: &impl Abort, alloc: Global, value: &T, row: Row) -> Result<(), Fail> {
+    assert_eq!(rt; value.pretty(alloc, 1, row.max)?.as_str(), row.split);
+    assert_eq!(rt; value.pretty(alloc, 1, 100)?.as_str(), row.line);
+    assert_eq!(rt; value.format(alloc, 1, 100)?.as_str(), row.format);
+    assert!(rt; !value.needs_split(row.fits));
+    assert!(rt; row.fits == 0 || value.needs_split(row.fits - 1));
+    Ok(())
+}
+
+/// A node that never splits.
+fn check_leaf<T: Prettier>(
+    rt: &impl Abort,
+    alloc: Global,
+    value: &T,
+    line: &'static str,
+) -> Result<(), Fail> {
+    let row = Row {
+        max: 0,
+        split: line,
+        line,
+        format: line,
+        fits: 0,
+    };
+    check(rt, alloc, value, row)
+}
+
+/// `(a)`
+fn in_parens(alloc: Global) -> Result<Expr, CheckError> {
+    Ok(Expr::new_paren_expr(alloc, name(alloc, "a")?)?)
+}
+
+/// Each node, as a value of its own.
+fn check_node(rt: &impl Abort, alloc: Global, expr: &Expr) -> Result<(), Fail> {
+    match expr {
+        Expr::Aggregate(e) => {
+            let row = Row {
+                max: 17,
+                split: "  topk by (l) (\n    5,\n    a\n  )",
+                line: "  topk by (l) (5, a)",
+                format: "  topk by (l) (\n    5,\n    a\n  )",
+                fits: 18,
+            };
+            check(rt, alloc, e, row)
+        }
+        Expr::Unary(e) => {
+            let row = Row {
+                max: 2,
+                split: "  -(\n    a\n  )",
+                line: "  -(a)",
+                format: "  -(a)",
+                fits: 4,
+            };
+            check(rt, alloc, e, row)
+        }
+        Expr::Binary(e) => {
+            let row = Row {
+                max: 26,
+                split: "    a\n  + on (l) group_left (k)\n    1",
+                line: "  a + on (l) group_left (k) 1",
+                format: "    a\n  + on (l) group_left (k)\n    1",
+                fits: 27,
+            };
+            check(rt, alloc, e, row)
+        }
+        Expr::Paren(e) => {
+            let row = Row {
+                max: 2,
+                split: "  (\n    a\n  )",
+                line: "  (a)",
+                format: "  (\n    a\n  )",
+                fits: 3,
+            };
+            check(rt, alloc, e, row)
+        }
+        Expr::Subquery(e) => {
+            let row = Row {
+                max: 2,
+                split: "  (\n    a\n  )[5m:1m]",
+                line: "  (a)[5m:1m]",
+                format: "  (a)[5m:1m]",
+                fits: 10,
+            };
+            check(rt, alloc, e, row)
+        }
+        Expr::NumberLiteral(e) => check_leaf(rt, alloc, e, "  1.5"),
+        Expr::StringLiteral(e) => check_leaf(rt, alloc, e, "  \"a\\\"b\""),
+        Expr::VectorSelector(e) => check_leaf(rt, alloc, e, "  a{b=\"1\"} @ 1.000 offset 1m"),
+        Expr::MatrixSelector(e) => check_leaf(rt, alloc, e, "  a[5m] anchored offset 1m"),
+        Expr::Call(e) => {
+            let row = Row {
+                max: 10,
+                split: "  rate(\n    a[5m]\n  )",
+                line: "  rate(a[5m])",
+                format: "  rate(\n    a[5m]\n  )",
+                fits: 11,
+            };
+            check(rt, alloc, e, row)
+        }
+        Expr::Extension(_) => Ok(()),
+    }
+}
+
+#[test]
+fn each_node_by_itself(rt: HostRuntime) -> Result<(), Fail> {
+    let alloc = rt.alloc();
+    for i in [0, 2, 3, 5, 6, 7, 8, 9] {
+        check_node(&rt, alloc, &kind(alloc, i)?)?;
+    }
+    let minus = Expr::new_unary_expr(alloc, in_parens(alloc)?)?;
+    check_node(&rt, alloc, &minus)?;
+    let step = Some(minute_duration());
+    let window = Expr::new_subquery_expr(alloc, in_parens(alloc)?, minute_duration() * 5, step)?;
+    check_node(&rt, alloc, &window)
+}
+
 #[test]
 fn each_kind_of_node(rt: HostRuntime) -> Result<(), Fail> {
     let alloc = rt.alloc();
@@ -93,10 +221,16 @@ fn each_node_has_one_width(rt: HostRuntime) -> Result<(), Fail> {
 fn too_wide_indentations_are_rejected(rt: HostRuntime) -> Result<(), Fail> {
     let alloc = rt.alloc();
     match share(alloc)?.pretty(alloc, usize::MAX, 0) {
-        Err(PrettyError::IndentTooWide) => Ok(()),
-        _ => {
-            assert!(rt; false, "the indentation is wider than a usize counts");
-            Ok(())
-        }
+        Err(PrettyError::IndentTooWide) => {}
+        _ => assert!(rt; false, "the indentation is wider than a usize counts"),
     }
+    match number(1).pretty(alloc, usize::MAX, 0) {
+        Err(PrettyError::IndentTooWide) => {}
+        _ => assert!(rt; false, "a number is indented"),
+    }
+    match kind(alloc, 10)?.pretty(alloc, usize::MAX, 0) {
+        Ok(text) => assert_eq!(rt; text.as_str(), "ext(a, 2)"),
+        Err(_) => assert!(rt; false, "an extension is not indented"),
+    }
+    Ok(())
 }
