@@ -1,14 +1,16 @@
 //! Expressions over several lines.
 
-use super::{args, binary, function, kind, name, number};
+use super::{KINDS, args, binary, function, kind, name, number};
+use crate::eval_stmt::EvalStmt;
 use crate::expr::Expr;
 use crate::fault::CheckError;
 use crate::layout::prettier::{Prettier, PrettyError};
 use crate::layout::tally::Tally;
 use promql_kind::LabelModifier;
-use promql_text::minute_duration;
+use promql_text::{minute_duration, second_duration};
 use promql_token::ids::{T_ADD, T_DIV, T_SUM};
 use std::alloc::Global;
+use std::fmt::Display;
 use std::process::Abort;
 use std::test::Fail;
 
@@ -183,6 +185,34 @@ fn each_node_by_itself(rt: HostRuntime) -> Result<(), Fail> {
     let step = Some(minute_duration());
     let window = Expr::new_subquery_expr(alloc, in_parens(alloc)?, minute_duration() * 5, step)?;
     check_node(&rt, alloc, &window)
+}
+
+#[test]
+fn a_line_that_fits_is_kept(rt: HostRuntime) -> Result<(), Fail> {
+    let alloc = rt.alloc();
+    for (i, line) in KINDS.iter().enumerate() {
+        let expr = kind(alloc, i)?;
+        assert_eq!(rt; expr.pretty(alloc, 0, line.len())?.as_str(), *line);
+        assert_eq!(rt; expr.format(alloc, 0, 0)?.as_str(), *line);
+    }
+    Ok(())
+}
+
+#[test]
+fn statements_print_their_times(rt: HostRuntime) -> Result<(), Fail> {
+    let alloc = rt.alloc();
+    let statement = EvalStmt {
+        expr: name(alloc, "a")?,
+        start: 0,
+        end: 1500,
+        interval: second_duration() * 15,
+        lookback_delta: minute_duration() * 5,
+    };
+    let text = "[a] @ [0.000, 1.500, 15s, 5m]";
+    assert_eq!(rt; statement.to_string(alloc)?.as_str(), text);
+    let copy = statement.try_clone(alloc)?;
+    assert_eq!(rt; copy.to_string(alloc)?.as_str(), text);
+    Ok(())
 }
 
 #[test]
