@@ -1,6 +1,7 @@
 //! Expressions over several lines.
 
 use super::{KINDS, args, binary, function, kind, name, number};
+use crate::call::FunctionArgs;
 use crate::eval_stmt::EvalStmt;
 use crate::expr::Expr;
 use crate::fault::CheckError;
@@ -185,6 +186,29 @@ fn each_node_by_itself(rt: HostRuntime) -> Result<(), Fail> {
     let step = Some(minute_duration());
     let window = Expr::new_subquery_expr(alloc, in_parens(alloc)?, minute_duration() * 5, step)?;
     check_node(&rt, alloc, &window)
+}
+
+#[test]
+fn arguments_have_a_line_each(rt: HostRuntime) -> Result<(), Fail> {
+    let alloc = rt.alloc();
+    let three = args(
+        alloc,
+        Some(number(1)),
+        Some(in_parens(alloc)?),
+        Some(number(2)),
+    )?;
+    let row = Row {
+        max: 2,
+        split: "  1,\n  (\n    a\n  ),\n  2",
+        line: "  1,\n  (a),\n  2",
+        format: "  1, (a), 2",
+        fits: 9,
+    };
+    check(&rt, alloc, &three, row)?;
+    let none = FunctionArgs::empty_args(alloc);
+    assert_eq!(rt; none.pretty(alloc, 1, 0)?.as_str(), "");
+    assert_eq!(rt; none.format(alloc, 1, 0)?.as_str(), "  ");
+    Ok(())
 }
 
 #[test]
