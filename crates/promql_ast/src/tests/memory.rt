@@ -4,11 +4,9 @@ use super::{binary, call, equal, five_minutes, grouped};
 use crate::call::FunctionArgs;
 use crate::expr::Expr;
 use crate::fault::CheckError;
-use crate::layout::prettier::{Prettier, PrettyError};
-use crate::layout::tally::Tally;
 use promql_kind::LabelModifier;
 use promql_label::Matchers;
-use promql_token::ids::{T_ADD, T_DIV, T_SUM};
+use promql_token::ids::{T_ADD, T_SUM};
 use std::alloc::Global;
 use std::test::Fail;
 
@@ -38,38 +36,6 @@ fn building_runs_out_of_memory_or_gives_the_tree(rt: HostRuntime) -> Result<(), 
             assert_eq!(rt; expr.to_string(alloc)?.as_str(), TEXT);
         }
         Err(error) => assert!(rt; error == CheckError::Memory),
-    }
-    Ok(())
-}
-
-/// `sum by (b) (a) / c`
-fn share(alloc: Global) -> Result<Expr, CheckError> {
-    let by = LabelModifier::include(alloc, ["b"].to_vec(alloc)?)?;
-    let args = FunctionArgs::new_args(alloc, super::name(alloc, "a")?)?;
-    let sum = Expr::new_aggregate_expr(T_SUM, Some(by), args)?;
-    binary(alloc, sum, T_DIV, None, super::name(alloc, "c")?)
-}
-
-#[test]
-fn layout_runs_out_of_memory_or_gives_the_lines(rt: HostRuntime) -> Result<(), Fail> {
-    let alloc = rt.alloc();
-    let Ok(expr) = share(alloc) else {
-        return Ok(());
-    };
-    let mut tally = Tally::default();
-    match expr.pretty_counted(alloc, 0, 10, &mut tally) {
-        Ok(text) => {
-            assert_eq!(rt; text.as_str(), "  sum by (b) (\n    a\n  )\n/\n  c");
-            assert_eq!(rt; tally.widths(), 4);
-        }
-        Err(error) => {
-            assert!(rt; error == PrettyError::Memory);
-            assert!(rt; tally.widths() <= 4);
-        }
-    }
-    match expr.pretty(alloc, 0, 18) {
-        Ok(text) => assert_eq!(rt; text.as_str(), "sum by (b) (a) / c"),
-        Err(error) => assert!(rt; error == PrettyError::Memory),
     }
     Ok(())
 }
