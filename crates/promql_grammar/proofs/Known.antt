@@ -139,10 +139,11 @@ mutual
   known_yield (nameless b) h = known_braces b h
   known_yield (paren d) h = known_append (yield d) (sign kind.RightParen ∷ []) (known_yield d h) tt
   known_yield (call k text ds) h = (known_if may_be_called k refl h.0, known_arguments ds h.1)
-  known_yield (aggregate op text c ds) h =
-      (refl,
-      known_append (yield_before c) (sign kind.LeftParen ∷ (yield_arguments ds ++ yield_after c)) (known_before c h.0)
-      (known_append (yield_arguments ds) (yield_after c) (known_arguments ds h.1) (known_after c h.0)))
+  known_yield (aggregate op text c ds) h = (
+    refl,
+    known_append (yield_before c) (sign kind.LeftParen ∷ (yield_arguments ds ++ yield_after c)) (known_before c h.0)
+        (known_append (yield_arguments ds) (yield_after c) (known_arguments ds h.1) (known_after c h.0)),
+  )
   known_yield (postfixed d p) h = known_append (yield d) (yield_postfix p) (known_yield d h.0) (known_postfix p h.2)
   known_yield (unary op text d) h = (refl, known_yield d h.1)
   known_yield (binary op text m a b) h =

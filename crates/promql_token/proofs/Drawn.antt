@@ -188,6 +188,7 @@ at_end c x is none =
     by_test t ws false more none =
         let some : [] ≡ t ∷ filter is_before_end (up_to_fault ws) = sym none ∙ ap (λ b. cond (not b) (t ∷ filter is_before_end (up_to_fault (cond (not b) ws []))) (filter is_before_end (up_to_fault (cond (not b) ws [])))) more in
         cc
+
     front_of : (w : What) (at : ℕ) (ws : List What) → item at w ≡ Ok x → left w ws ≡ [] → has_fault (w ∷ cond (goes_on w) ws []) ≡ false
     front_of (Ok t) at ws here none = by_test t ws (t.0 == 6) refl none
     front_of (Err e) at ws here none = cc
