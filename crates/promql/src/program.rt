@@ -1,9 +1,10 @@
 //! The program as a function of its arguments, its input and its two outputs.
 
-ghost use Rattle.std.specs.Prelude.{◌≡◌, ◌≢◌, ◌≤◌, ◌↔◌, false, true, Some, None, IfSome, map, string_bytes};
+ghost use Rattle.std.specs.Prelude.{◌≡◌, ◌≢◌, ◌≤◌, ◌↔◌, false, true, Some, None, map, string_bytes};
 ghost use Rattle.std.specs.Io.KnownBytes.{Appends};
 ghost use Rattle.promql_parser.specs.declared.parser.ParseError.{ParseError};
 ghost use Rattle.promql.specs.Arguments.{asked_mode};
+ghost use Rattle.promql.specs.declared.run.Mode as modes;
 ghost use Rattle.promql.specs.Running.{Prints, BeginsToPrint, IsNotUtf8, IsRejected, IsTooWide};
 
 use crate::ended::Ended;
@@ -46,9 +47,9 @@ pub fn program<R: Read, W: Write, E: Write>(
         Appends (E.contents errors.old.inner) (E.contents errors.new.inner) USAGE.now }
     ensures known { result ≢ USAGE_STATUS → result ≤ 6 }
     // A run that succeeds prints the expression, and nothing to `errors`.
-    ensures ok { IfSome (asked_mode (map string_bytes args.now)) (λ mode. result ≡ 0 →
-        Prints mode (R.remaining reader.old.inner) (R.remaining reader.new.inner)
-        (W.contents writer.old.inner) (W.contents writer.new.inner)) }
+    ensures ok { (mode : modes.Mode) → asked_mode (map string_bytes args.now) ≡ Some mode →
+        result ≡ 0 → Prints mode (R.remaining reader.old.inner) (R.remaining reader.new.inner)
+        (W.contents writer.old.inner) (W.contents writer.new.inner) }
     ensures flushed { result ≡ 0 → writer.new.pending ≡ false }
     ensures silent { result ≡ 0 → errors.new ≡ errors.old }
     // Each other status is that of an error, under the conditions of `run`.
@@ -57,11 +58,13 @@ pub fn program<R: Read, W: Write, E: Write>(
     ensures parse { result ≡ 4 → (e : ParseError) ×
         IsRejected e (R.remaining reader.old.inner) (R.remaining reader.new.inner) }
     ensures write { result ≡ 5 → writer.new.failed ≡ true }
-    ensures begun { IfSome (asked_mode (map string_bytes args.now)) (λ mode. result ≡ 5 →
-        BeginsToPrint mode (R.remaining reader.old.inner) (R.remaining reader.new.inner)
-        (W.contents writer.old.inner) (W.contents writer.new.inner)) }
-    ensures json { IfSome (asked_mode (map string_bytes args.now)) (λ mode. result ≡ 6 →
-        IsTooWide mode (R.remaining reader.old.inner) (R.remaining reader.new.inner)) }
+    ensures begun { (mode : modes.Mode) → asked_mode (map string_bytes args.now) ≡ Some mode →
+        result ≡ 5 → BeginsToPrint mode (R.remaining reader.old.inner)
+        (R.remaining reader.new.inner) (W.contents writer.old.inner)
+        (W.contents writer.new.inner) }
+    ensures json { (mode : modes.Mode) → asked_mode (map string_bytes args.now) ≡ Some mode →
+        result ≡ 6 → IsTooWide mode (R.remaining reader.old.inner)
+        (R.remaining reader.new.inner) }
     ensures unwritten { result ≢ 0 → result ≢ 5 → writer.new ≡ writer.old }
 {
     let Some(mode) = mode_of(args) else {
