@@ -11,6 +11,7 @@ pub mod Places
 pub mod Printed
 pub mod Rows
 pub mod Spans
+pub mod Spelled
 pub mod Steps
 pub mod Told
 pub mod Boundaries

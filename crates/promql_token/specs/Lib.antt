@@ -9,4 +9,5 @@ pub mod Pieces
 pub mod Printed
 pub mod Rows
 pub mod Scan
+pub mod Spelling
 pub mod Tokens

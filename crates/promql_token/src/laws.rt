@@ -7,6 +7,7 @@ ghost use Rattle.promql_token.specs.Ids as ids;
 ghost use Rattle.promql_token.specs.Laws as spec;
 ghost use Rattle.promql_token.specs.Printed as printed;
 ghost use Rattle.promql_token.specs.Rows as rows;
+ghost use Rattle.promql_token.specs.Spelling as spelling;
 ghost use Rattle.promql_token.specs.Tokens.{id_and_text};
 ghost use Rattle.promql_token.specs.declared.fault.LexError.{LexError};
 ghost use Rattle.promql_token.specs.declared.fault.LexFault.{LexFault};
@@ -56,6 +57,12 @@ pub fn joins()
     ensures token { spec.Joins }
     ensures word { spec.JoinsWord }
     ensures name { spec.JoinsName }
+{}
+
+/// Outside braces each token is a word with its id, or has the id of no word, and no number begins
+/// with a sign.
+pub fn spelled()
+    ensures { spelling.Spelled }
 {}
 
 /// Kinds of tokens are equal exactly if they have one id, and tokens exactly if they have one id and
