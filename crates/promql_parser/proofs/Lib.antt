@@ -34,5 +34,7 @@ pub mod PrintedWords
 pub mod ReadBack
 pub mod SameErrors
 pub mod SingleAnswers
+pub mod SpelledWords
+pub mod UnsignedNumbers
 pub mod Wholes
 pub mod Words

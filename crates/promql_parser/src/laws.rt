@@ -1,6 +1,6 @@
 //! Laws: the contracts of functions that do nothing.
 
-ghost use Rattle.std.specs.Prelude.{◌≡◌, ℕ, map, Ok};
+ghost use Rattle.std.specs.Prelude.{◌≡◌, ◌↔◌, ℕ, map, Ok};
 ghost use Rattle.promql_text.specs.Equalities.{IsSameBy};
 ghost use Rattle.promql_grammar.specs.Grammar.{Derivation, IsWellFormed, yield};
 ghost use Rattle.promql_text.specs.Texts.{Text};
@@ -9,7 +9,7 @@ ghost use Rattle.promql_ast.specs.Layout.{laid};
 ghost use Rattle.promql_ast.specs.Normal.{normal};
 ghost use Rattle.promql_ast.specs.Text.{text};
 ghost use Rattle.promql_ast.specs.Tree.{Tree};
-ghost use Rattle.promql_parser.specs.Answers.{refusal_of};
+ghost use Rattle.promql_parser.specs.Answers.{Derives, refusal_of};
 ghost use Rattle.promql_parser.specs.Asking.{under};
 ghost use Rattle.promql_parser.specs.Building.{build};
 ghost use Rattle.promql_parser.specs.Derive.{HasWords, ReadsBack, derive};
@@ -59,4 +59,41 @@ pub fn tokens_print_alike()
         → normal s ≡ normal t }
     ensures tokens { (s t : Tree) → normal s ≡ normal t
         → strip (line (derive s)) ≡ strip (line (derive t)) }
+{}
+
+/// In the derivation of a text, numbers have no sign, and the names of metrics and functions are
+/// words of their kinds.
+pub fn texts_have_words()
+    ensures { (text : Text) (d : Derivation) → Derives text d → HasWords d }
+{}
+
+/// With one answer for each pattern, the tokens that are printed of a text's tree, on one line or
+/// laid out, are those of a well formed derivation, which is no higher and builds the tree's
+/// normal form.
+pub fn text_tokens_read_back()
+    ensures line { (g : Text → Answer) (source : Text) (d : Derivation) (t : Tree)
+        → Derives source d → under g (build d) ≡ Ok t
+        → ReadsBack g d (strip (line (derive t))) (normal t) }
+    ensures lines { (g : Text → Answer) (source : Text) (d : Derivation) (t : Tree)
+        → Derives source d → under g (build d) ≡ Ok t → (level most : ℕ)
+        → ReadsBack g d (strip (lines (derive t) level most)) (normal t) }
+{}
+
+/// With one answer for each pattern, the items that are printed of a text's tree are its text on
+/// one line, and its layout at any level and width.
+pub fn text_items_are_texts()
+    ensures line { (g : Text → Answer) (source : Text) (d : Derivation) (t : Tree)
+        → Derives source d → under g (build d) ≡ Ok t → render (line (derive t)) ≡ text t }
+    ensures lines { (g : Text → Answer) (source : Text) (d : Derivation) (t : Tree)
+        → Derives source d → under g (build d) ≡ Ok t → (level most : ℕ)
+        → render (lines (derive t) level most) ≡ laid t level most }
+{}
+
+/// With one answer for each pattern, the trees of two texts print the same tokens exactly if
+/// their normal forms are equal.
+pub fn text_tokens_print_alike()
+    ensures { (g : Text → Answer) (first second : Text) (c d : Derivation) (s t : Tree)
+        → Derives first c → under g (build c) ≡ Ok s
+        → Derives second d → under g (build d) ≡ Ok t
+        → (strip (line (derive s)) ≡ strip (line (derive t))) ↔ (normal s ≡ normal t) }
 {}
