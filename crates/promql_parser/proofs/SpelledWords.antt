@@ -10,7 +10,7 @@ use Rattle.promql_token.specs.Cursor.{is_before_end}
 use Rattle.promql_token.specs.Ids.{keyword_in_any_case}
 use Rattle.promql_token.specs.Lexing as lexing
 use Rattle.promql_token.specs.Pieces.{is_fill, name_id, opens, word_id}
-use Rattle.promql_token.specs.Spelling.{AreSpelled, IsSpelled, IsWordToken, in_braces_after, is_no_word}
+use Rattle.promql_token.specs.Spelling.{AreSpelled, IsSpelled, IsWordToken, in_braces_after, is_no_word, no_words}
 use Rattle.promql_token.specs.declared.fault.LexFault.{LexFault}
 use Rattle.promql_token.specs.declared.ids.TheConstants.{T_IDENTIFIER}
 use Rattle.promql_token.proofs.Spelled.{spelled}
@@ -131,7 +131,7 @@ name_of_token t (inl h) may =
     let id = h.1.1 in
     let named : may_be_name (kind_of (word_id t.1 h.1.0)) ≡ true = subst (λ n. may_be_name (kind_of n) ≡ true) id may in
     record { letters = h.0; kind = ap kind_of (id ∙ same_word t.1 h.1.0 named) }
-name_of_token t (inr h) may = absurd (no_name (0 ∷ 2 ∷ 3 ∷ 5 ∷ 6 ∷ 9 ∷ 10 ∷ 11 ∷ 15 ∷ 17 ∷ 18 ∷ 21 ∷ 24 ∷ 25 ∷ 26 ∷ 28 ∷ 29 ∷ 32 ∷ 33 ∷ 35 ∷ 36 ∷ 37 ∷ 39 ∷ 40 ∷ 41 ∷ []) t.0 refl h may)
+name_of_token t (inr h) may = absurd (no_name no_words t.0 refl h may)
 
 token_fits : (t : Token) → IsSpelled t → Fits (kind_of t.0) t.1
 token_fits t s = record { name = λ may. name_of_token t s.word may; number = λ is. read_unsigned t.1 (s.number (number_id t.0 is)) }

@@ -9,6 +9,7 @@ pub mod Joins
 pub mod Parts
 pub mod Places
 pub mod Printed
+pub mod PrintedValues
 pub mod Rows
 pub mod Spans
 pub mod Spelled

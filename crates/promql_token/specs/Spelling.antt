@@ -10,12 +10,14 @@ use Rattle.promql_token.specs.Laws.{is_word}
 use Rattle.promql_token.specs.Lexing.{tokens}
 use Rattle.promql_token.specs.Pieces.{word_id}
 
--- signs, numerals, strings and the end
+-- the ids of signs, numerals, strings and the end
+abbrev pub no_words : List ℕ
+no_words =
+    T_EQL ∷ T_COLON ∷ T_COMMA ∷ T_DURATION ∷ T_EOF ∷ T_LEFT_BRACE ∷ T_LEFT_BRACKET ∷ T_LEFT_PAREN ∷ T_NUMBER ∷ T_RIGHT_BRACKET ∷ T_RIGHT_PAREN ∷ T_STRING
+    ∷ T_ADD ∷ T_DIV ∷ T_EQLC ∷ T_GTE ∷ T_GTR ∷ T_LSS ∷ T_LTE ∷ T_MOD ∷ T_MUL ∷ T_NEQ ∷ T_POW ∷ T_SUB ∷ T_AT ∷ []
+
 abbrev pub is_no_word : ℕ → Bool
-is_no_word id =
-    list_any (λ k. id == k)
-    (T_EQL ∷ T_COLON ∷ T_COMMA ∷ T_DURATION ∷ T_EOF ∷ T_LEFT_BRACE ∷ T_LEFT_BRACKET ∷ T_LEFT_PAREN ∷ T_NUMBER ∷ T_RIGHT_BRACKET ∷ T_RIGHT_PAREN ∷ T_STRING
-    ∷ T_ADD ∷ T_DIV ∷ T_EQLC ∷ T_GTE ∷ T_GTR ∷ T_LSS ∷ T_LTE ∷ T_MOD ∷ T_MUL ∷ T_NEQ ∷ T_POW ∷ T_SUB ∷ T_AT ∷ [])
+is_no_word id = list_any (λ k. id == k) no_words
 
 -- a word, with its id before some text
 abbrev pub IsWordToken : ℕ × Text → Type 0

@@ -6,6 +6,7 @@ ghost use Rattle.promql_token.specs.Cut as cuts;
 ghost use Rattle.promql_token.specs.Ids as ids;
 ghost use Rattle.promql_token.specs.Laws as spec;
 ghost use Rattle.promql_token.specs.Printed as printed;
+ghost use Rattle.promql_token.specs.PrintedValues as values;
 ghost use Rattle.promql_token.specs.Rows as rows;
 ghost use Rattle.promql_token.specs.Spelling as spelling;
 ghost use Rattle.promql_token.specs.Tokens.{id_and_text};
@@ -36,6 +37,14 @@ pub fn printed()
     ensures string { printed.JoinsString }
     ensures number { printed.JoinsNumber }
     ensures duration { printed.JoinsDuration }
+{}
+
+/// The text of a string is a token before any text, and the texts of numbers that are not below
+/// zero and of durations above zero are tokens in front of a text that doesn't go on with them.
+pub fn printed_values()
+    ensures string { values.JoinsQuoted }
+    ensures number { values.JoinsNumberText }
+    ensures time { values.JoinsTime }
 {}
 
 /// White space before a token changes nothing, but directly after `[`.
