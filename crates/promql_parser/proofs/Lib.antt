@@ -14,6 +14,8 @@ pub mod Forms
 pub mod Good
 pub mod LabelLists
 pub mod Leaves
+pub mod LexedLabels
+pub mod LexedSigns
 pub mod Listing
 pub mod MatcherBuilding
 pub mod MatcherLists
