@@ -27,61 +27,12 @@ use Rattle.promql_parser.specs.Lexes.{Lexes, at_depth}
 use Rattle.promql_parser.specs.Lexing.{Token}
 use Rattle.promql_parser.specs.PrintedItems.{Item, token, blank, before_line, group_line, labels_line, matching_line, names_line, render, spell, strip}
 use Rattle.promql_parser.specs.PrintedPieces.{clause, group, label_kind, labels, matched, names, word_kind}
-use Rattle.promql_parser.proofs.LexedSigns.{close_lex, comma_lex, open_lex}
+use Rattle.promql_parser.proofs.LexedItems.{Reads, append_lex, blank_then, close_reads, comma_reads, known_reads, nothing, open_reads, token_then}
 use Rattle.promql_parser.proofs.PrintedBytes.{render_append}
 use Rattle.promql_parser.proofs.PrintedTokens.{strip_append}
 use Rattle.promql_parser.proofs.PrintedWords.{is_bare, word_bare}
 
--- ---- items one after the other
-
--- a token in front of a text
-record Reads (before after : State) (s : Symbol) (r : Text) : Type 0 where
-  id : ℕ
-  is : symbol_of (id, spell s) ≡ s
-  reads : whats before (spell s ++ r) ≡ Ok (id, spell s) ∷ whats after r
-
-nothing : (a : State) → Lexes a a []
-nothing a r = ([], refl, refl)
-
-token_then : (a b c : State) (s : Symbol) (is : List Item) → ((r : Text) → Reads a b s (render is ++ r)) → Lexes b c is → Lexes a c (token s ∷ is)
-token_then a b c s is front more r =
-    let f = front r in
-    let m = more r in (
-      (f.id, spell s) ∷ m.0,
-      λ i. f.is i ∷ m.1 i,
-      ap (whats a) (append_assoc (spell s) (render is) r) ∙ f.reads ∙ ap (λ ws. Ok (f.id, spell s) ∷ ws) m.2,
-    )
-
-blank_then : (depth : ℕ) (c : State) (is : List Item) → Lexes (at_depth depth) c is → Lexes (at_depth depth) c (blank ∷ is)
-blank_then depth c is more r = let m = more r in (m.0, m.1, whats_run (at_depth depth) (32 ∷ []) (render is ++ r) refl refl ∙ m.2)
-
-append_lex : (a b c : State) (is js : List Item) → Lexes a b is → Lexes b c js → Lexes a c (is ++ js)
-append_lex a b c is js first second r =
-    let f = first (render js ++ r) in
-    let s = second r in (
-      f.0 ++ s.0,
-      map-append symbol_of f.0 s.0 ∙ (λ i. f.1 i ++ s.1 i) ∙ sym (strip_append is js),
-      ap (λ z. whats a (z ++ r)) (render_append is js) ∙ ap (whats a) (append_assoc (render is) (render js) r) ∙ f.2
-      ∙ ap (λ ws. map (λ t. Ok t) f.0 ++ ws) s.2 ∙ sym (append_assoc {A = What} (map (λ t. Ok t) f.0) (map (λ t. Ok t) s.0) (whats c r))
-      ∙ ap (λ ws. ws ++ whats c r) (sym (map-append {B = What} (λ t. Ok t) f.0 s.0)),
-    )
-
--- ---- signs
-
-open_reads : (depth : ℕ) (r : Text) → Reads (at_depth depth) (at_depth (suc depth)) (sign kind.LeftParen) r
-open_reads depth r = record { id = 11; is = refl; reads = open_lex depth r }
-
-comma_reads : (depth : ℕ) (r : Text) → Reads (at_depth depth) (at_depth depth) (sign kind.Comma) r
-comma_reads depth r = record { id = 3; is = refl; reads = comma_lex depth r }
-
-close_reads : (depth : ℕ) (r : Text) → Reads (at_depth (suc depth)) (at_depth depth) (sign kind.RightParen) r
-close_reads depth r = record { id = 18; is = refl; reads = close_lex depth r }
-
 -- ---- words
-
-known_reads : (depth : ℕ) (w r : Text) (id : ℕ) (k : Kind) → is_word w ≡ true → word_id w r ≡ id → symbol_of (id, w) ≡ word k w → is_in class.Word (slice_index r 0) ≡ false
-    → Reads (at_depth depth) (at_depth depth) (word k w) r
-known_reads depth w r id k is known symbol stop = record { id = id; is = symbol; reads = joins_word depth w r is stop ∙ ap (λ n. Ok (n, w) ∷ whats (at_depth depth) r) known }
 
 bare_no_sign : (k : Kind) → is_bare k ≡ true → is_sign k ≡ false
 bare_no_sign kind.LeftParen e = cc

@@ -1,4 +1,4 @@
--- The lexer reads parentheses and commas outside braces as tokens.
+-- The lexer reads parentheses, commas and minus signs outside braces as tokens.
 use Rattle.std.proofs.Common.{◌≡◌, ℕ, suc, ◌+◌, ◌-◌, false, ◌∷◌, [], Ok, refl, sym, ◌∙◌, ap, arith}
 use Rattle.std.specs.Prelude.{◌==◌}
 use Rattle.std.proofs.lemmas.Grind.{common_steps}
@@ -20,6 +20,10 @@ open_lex depth r =
 pub comma_lex : (depth : ℕ) (r : Text) → whats (at_depth depth) (44 ∷ r) ≡ Ok (3, 44 ∷ []) ∷ whats (at_depth depth) r
 unfolding piece outside sign after
 comma_lex depth r = joins (at_depth depth) (44 ∷ []) r 3 (omega arith) refl refl
+
+pub minus_lex : (depth : ℕ) (r : Text) → whats (at_depth depth) (45 ∷ r) ≡ Ok (40, 45 ∷ []) ∷ whats (at_depth depth) r
+unfolding piece outside sign after
+minus_lex depth r = joins (at_depth depth) (45 ∷ []) r 40 (omega arith) refl refl
 
 pub close_lex : (depth : ℕ) (r : Text) → whats (at_depth (suc depth)) (41 ∷ r) ≡ Ok (18, 41 ∷ []) ∷ whats (at_depth depth) r
 unfolding piece outside sign after

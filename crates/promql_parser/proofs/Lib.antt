@@ -14,8 +14,10 @@ pub mod Forms
 pub mod Good
 pub mod LabelLists
 pub mod Leaves
+pub mod LexedItems
 pub mod LexedLabels
 pub mod LexedSigns
+pub mod LexedValues
 pub mod Listing
 pub mod MatcherBuilding
 pub mod MatcherLists
