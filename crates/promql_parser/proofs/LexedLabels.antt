@@ -1,35 +1,27 @@
 -- The lexer reads printed labels, clauses and matchings as their tokens.
-use Rattle.std.proofs.Common.{◌≡◌, ℕ, suc, ◌+◌, refl, sym, ◌∙◌, ap, subst, arith, Bool, true, false, cond, not, ◌&&◌, ◌||◌, Option, Some, None, List, [], ◌∷◌, ◌++◌, length, map, Ok, codes, eqb-true, append_assoc}
+use Rattle.std.proofs.Common.{◌≡◌, ℕ, suc, ◌+◌, refl, ap, arith, Bool, true, false, cond, not, ◌&&◌, ◌||◌, Option, Some, None, List, [], ◌∷◌, ◌++◌, length, codes, eqb-true}
 use Rattle.std.specs.Prelude.{◌==◌, slice_index}
 use Rattle.std.specs.List.{prefix_len}
 use Rattle.std.specs.Option.{unwrap_or}
 use Rattle.std.proofs.lemmas.Bool.{eq-eqb}
-use Rattle.std.proofs.lemmas.List.{map-append}
 use Rattle.promql_text.specs.Quoting.{quoted_text}
 use Rattle.promql_text.specs.Texts.{Text}
 use Rattle.promql_token.specs.Classes.{is_in, is_label, is_letter, is_name_byte, past}
 use Rattle.promql_token.specs.Ids.{keyword_in_any_case}
 use Rattle.promql_token.specs.Laws.{is_word}
-use Rattle.promql_token.specs.Lexing.{What, whats}
 use Rattle.promql_token.specs.Pieces.{after, is_fill, name_id, opens, word_id}
 use Rattle.promql_token.specs.declared.class.Class.TheVariants as class
 use Rattle.promql_token.specs.declared.ids.TheConstants.{T_IDENTIFIER, T_STRING}
-use Rattle.promql_token.specs.declared.state.State.{State}
-use Rattle.promql_token.proofs.Joins.{joins_word}
 use Rattle.promql_token.proofs.PrintedValues.{joins_quoted}
-use Rattle.promql_token.proofs.Steps.{whats_run}
 use Rattle.promql_grammar.specs.declared.kind.Kind.{Kind}
 use Rattle.promql_grammar.specs.declared.kind.Kind.TheVariants as kind
-use Rattle.promql_grammar.specs.Symbols.{Symbol, is_sign, kind_of, sign, symbol, symbol_of, word}
+use Rattle.promql_grammar.specs.Symbols.{is_sign, sign, symbol, symbol_of, word}
 use Rattle.promql_label.specs.Labels.{is_number_word, label_text}
 use Rattle.promql_kind.specs.Modifiers.{Clause, including, excluding, Cardinality, one_to_one, many_to_one, one_to_many, many_to_many}
 use Rattle.promql_parser.specs.Lexes.{Lexes, at_depth}
-use Rattle.promql_parser.specs.Lexing.{Token}
-use Rattle.promql_parser.specs.PrintedItems.{Item, token, blank, before_line, group_line, labels_line, matching_line, names_line, render, spell, strip}
+use Rattle.promql_parser.specs.PrintedItems.{Item, token, blank, before_line, group_line, labels_line, matching_line, names_line, render}
 use Rattle.promql_parser.specs.PrintedPieces.{clause, group, label_kind, labels, matched, names, word_kind}
 use Rattle.promql_parser.proofs.LexedItems.{Reads, append_lex, blank_then, close_reads, comma_reads, known_reads, nothing, open_reads, token_then}
-use Rattle.promql_parser.proofs.PrintedBytes.{render_append}
-use Rattle.promql_parser.proofs.PrintedTokens.{strip_append}
 use Rattle.promql_parser.proofs.PrintedWords.{is_bare, word_bare}
 
 -- ---- words

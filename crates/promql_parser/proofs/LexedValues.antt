@@ -1,6 +1,6 @@
 -- The lexer reads printed fill values as their tokens.
-use Rattle.std.proofs.Common.{◌≡◌, ℕ, suc, refl, sym, ap, Bool, true, false, cond, not, ◌&&◌, Option, Some, None, List, [], ◌∷◌, ◌++◌, codes}
-use Rattle.std.specs.Prelude.{◌==◌, IfSome, slice_index}
+use Rattle.std.proofs.Common.{◌≡◌, ℕ, suc, refl, ap, Bool, true, false, not, ◌&&◌, Option, Some, None, List, [], ◌∷◌, ◌++◌, codes}
+use Rattle.std.specs.Prelude.{◌==◌, IfSome}
 use Rattle.std.proofs.lemmas.Bool.{cond_both}
 use Rattle.promql_text.specs.NumberText.{number_text}
 use Rattle.promql_text.specs.Texts.{Text}
@@ -9,7 +9,7 @@ use Rattle.promql_text.specs.declared.number.Number.{Number}
 use Rattle.promql_text.specs.declared.number.Number.TheVariants as number
 use Rattle.promql_text.proofs.OneForm.{negated_in_form}
 use Rattle.promql_token.specs.Ids.{keyword_in_any_case}
-use Rattle.promql_token.specs.Laws.{is_word, stops_numeral}
+use Rattle.promql_token.specs.Laws.{is_word}
 use Rattle.promql_token.specs.Pieces.{word_id}
 use Rattle.promql_token.specs.declared.ids.TheConstants.{T_SUB}
 use Rattle.promql_token.proofs.PrintedValues.{joins_number_text}

@@ -21,7 +21,7 @@ use Rattle.promql_grammar.specs.Grammar as grammar
 use Rattle.promql_grammar.specs.Grammar.{Derivation, Arguments, yield, yield_arguments, yield_rest, IsWellFormed, AreWellFormed}
 use Rattle.promql_grammar.specs.Pieces as piece
 use Rattle.promql_grammar.specs.Results.{on_result}
-use Rattle.promql_grammar.specs.Symbols.{Symbol, is_sign, kind_in, kind_of, may_be_called, may_be_name, sign, symbol, symbol_of, word}
+use Rattle.promql_grammar.specs.Symbols.{Symbol, is_sign, kind_in, kind_of, may_be_called, may_be_name, sign, symbol_of, word}
 use Rattle.promql_parser.specs.Answers.{Derives}
 use Rattle.promql_parser.specs.Derive.{AllHaveWords, HasWords, IsName, IsUnsigned}
 use Rattle.promql_parser.specs.Lexing.{Token, tokens}

@@ -1,6 +1,6 @@
 -- The number of a text that begins with no sign is not below zero.
-use Rattle.std.proofs.Common.{◌≡◌, ℕ, zero, suc, ◌+◌, ◌<◌, refl, sym, ◌∙◌, ap, subst, arith, Bool, true, false, cond, not, ◌&&◌, ◌||◌, Option, Some, None, Result, Ok, Err, List, [], ◌∷◌, ◌++◌, length, drop}
-use Rattle.std.specs.Prelude.{◌==◌, ◌/◌, ◌^◌, slice_index, option_map, nat_le, nat_lt}
+use Rattle.std.proofs.Common.{◌≡◌, ℕ, zero, suc, ◌+◌, ◌<◌, refl, sym, ◌∙◌, ap, subst, arith, true, false, cond, not, ◌&&◌, ◌||◌, Option, Some, None, Ok, [], ◌∷◌, ◌++◌, length, drop}
+use Rattle.std.specs.Prelude.{◌==◌, ◌/◌, ◌^◌, option_map, nat_le, nat_lt}
 use Rattle.std.specs.Char.{is_not_whitespace}
 use Rattle.std.specs.List.{filter, list_all, list_any}
 use Rattle.std.specs.Option.{ok_or}
@@ -14,9 +14,7 @@ use Rattle.promql_text.specs.DecimalForm as form
 use Rattle.promql_text.specs.NumberText.{at_place, finite, hexadecimal, is_digit_below, is_octal, is_x, kept, number_of, of_form, radix_number, read_number, signed, zeros_of}
 use Rattle.promql_text.specs.Numbers.{Exact, exact_zero, is_in_range, placed, scaled, tens, whole}
 use Rattle.promql_text.specs.Texts.{Text}
-use Rattle.promql_text.specs.declared.number.Number.{Number}
 use Rattle.promql_text.specs.declared.number.Number.TheVariants as number
-use Rattle.promql_text.specs.declared.number.NumberFault.{NumberFault}
 use Rattle.promql_text.specs.declared.number.NumberFault.TheVariants as fault
 use Rattle.promql_token.specs.Classes.{is_in}
 use Rattle.promql_token.specs.Spelling.{begins_unsigned}

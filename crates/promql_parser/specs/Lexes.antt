@@ -1,5 +1,5 @@
 -- Printed items that the lexer reads as their tokens (docs/PRINTING.md, "Nodes").
-use Rattle.std.specs.Prelude.{◌≡◌, ℕ, Bool, true, List, ◌++◌, map, Ok}
+use Rattle.std.specs.Prelude.{◌≡◌, ℕ, List, ◌++◌, map, Ok}
 use Rattle.promql_text.specs.Texts.{Text}
 use Rattle.promql_token.specs.Lexing.{whats}
 use Rattle.promql_token.specs.declared.state.Mode.TheVariants as mode
