@@ -50,8 +50,8 @@ append_lex a b c is js first second r =
       f.0 ++ s.0,
       map-append symbol_of f.0 s.0 ∙ (λ i. f.1 i ++ s.1 i) ∙ sym (strip_append is js),
       ap (λ z. whats a (z ++ r)) (render_append is js) ∙ ap (whats a) (append_assoc (render is) (render js) r) ∙ f.2
-      ∙ ap (λ ws. map (λ t. Ok t) f.0 ++ ws) s.2 ∙ sym (append_assoc {A = What} (map (λ t. Ok t) f.0) (map (λ t. Ok t) s.0) (whats c r))
-      ∙ ap (λ ws. ws ++ whats c r) (sym (map-append {B = What} (λ t. Ok t) f.0 s.0)),
+          ∙ ap (λ ws. map (λ t. Ok t) f.0 ++ ws) s.2 ∙ sym (append_assoc {A = What} (map (λ t. Ok t) f.0) (map (λ t. Ok t) s.0) (whats c r))
+          ∙ ap (λ ws. ws ++ whats c r) (sym (map-append {B = What} (λ t. Ok t) f.0 s.0)),
     )
 
 -- ---- signs
