@@ -14,6 +14,10 @@ pub mod Forms
 pub mod Good
 pub mod LabelLists
 pub mod Leaves
+pub mod LexedItems
+pub mod LexedLabels
+pub mod LexedSigns
+pub mod LexedValues
 pub mod Listing
 pub mod MatcherBuilding
 pub mod MatcherLists
@@ -34,5 +38,7 @@ pub mod PrintedWords
 pub mod ReadBack
 pub mod SameErrors
 pub mod SingleAnswers
+pub mod SpelledWords
+pub mod UnsignedNumbers
 pub mod Wholes
 pub mod Words

@@ -7,6 +7,7 @@ pub mod Building
 pub mod PrintedPieces
 pub mod Derive
 pub mod PrintedItems
+pub mod Lexes
 pub mod IsPiece
 pub mod Pieces
 pub mod Items

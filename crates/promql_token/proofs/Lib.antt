@@ -9,8 +9,10 @@ pub mod Joins
 pub mod Parts
 pub mod Places
 pub mod Printed
+pub mod PrintedValues
 pub mod Rows
 pub mod Spans
+pub mod Spelled
 pub mod Steps
 pub mod Told
 pub mod Boundaries

@@ -7,6 +7,8 @@ pub mod Laws
 pub mod Lexing
 pub mod Pieces
 pub mod Printed
+pub mod PrintedValues
 pub mod Rows
 pub mod Scan
+pub mod Spelling
 pub mod Tokens

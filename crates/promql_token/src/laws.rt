@@ -6,7 +6,9 @@ ghost use Rattle.promql_token.specs.Cut as cuts;
 ghost use Rattle.promql_token.specs.Ids as ids;
 ghost use Rattle.promql_token.specs.Laws as spec;
 ghost use Rattle.promql_token.specs.Printed as printed;
+ghost use Rattle.promql_token.specs.PrintedValues as values;
 ghost use Rattle.promql_token.specs.Rows as rows;
+ghost use Rattle.promql_token.specs.Spelling as spelling;
 ghost use Rattle.promql_token.specs.Tokens.{id_and_text};
 ghost use Rattle.promql_token.specs.declared.fault.LexError.{LexError};
 ghost use Rattle.promql_token.specs.declared.fault.LexFault.{LexFault};
@@ -37,6 +39,14 @@ pub fn printed()
     ensures duration { printed.JoinsDuration }
 {}
 
+/// The text of a string is a token before any text, and the texts of numbers that are not below
+/// zero and of durations above zero are tokens in front of a text that doesn't go on with them.
+pub fn printed_values()
+    ensures string { values.JoinsQuoted }
+    ensures number { values.JoinsNumberText }
+    ensures time { values.JoinsTime }
+{}
+
 /// White space before a token changes nothing, but directly after `[`.
 pub fn skips_white()
     ensures white { spec.SkipsWhite }
@@ -56,6 +66,12 @@ pub fn joins()
     ensures token { spec.Joins }
     ensures word { spec.JoinsWord }
     ensures name { spec.JoinsName }
+{}
+
+/// Outside braces each token is a word with its id, or has the id of no word, and no number begins
+/// with a sign.
+pub fn spelled()
+    ensures { spelling.Spelled }
 {}
 
 /// Kinds of tokens are equal exactly if they have one id, and tokens exactly if they have one id and

@@ -1,0 +1,72 @@
+-- The lexer reads printed items one after the other.
+use Rattle.std.proofs.Common.{◌≡◌, ℕ, suc, refl, sym, ◌∙◌, ap, true, false, List, [], ◌∷◌, ◌++◌, map, Ok, append_assoc}
+use Rattle.std.specs.Prelude.{slice_index}
+use Rattle.std.proofs.lemmas.List.{map-append}
+use Rattle.promql_text.specs.Texts.{Text}
+use Rattle.promql_token.specs.Classes.{is_in}
+use Rattle.promql_token.specs.Laws.{is_word}
+use Rattle.promql_token.specs.Lexing.{What, whats}
+use Rattle.promql_token.specs.Pieces.{word_id}
+use Rattle.promql_token.specs.declared.class.Class.TheVariants as class
+use Rattle.promql_token.specs.declared.state.State.{State}
+use Rattle.promql_token.proofs.Joins.{joins_word}
+use Rattle.promql_token.proofs.Steps.{whats_run}
+use Rattle.promql_grammar.specs.declared.kind.Kind.{Kind}
+use Rattle.promql_grammar.specs.declared.kind.Kind.TheVariants as kind
+use Rattle.promql_grammar.specs.Symbols.{Symbol, sign, symbol, symbol_of, word}
+use Rattle.promql_parser.specs.Lexes.{Lexes, at_depth}
+use Rattle.promql_parser.specs.PrintedItems.{Item, token, blank, render, spell}
+use Rattle.promql_parser.proofs.LexedSigns.{close_lex, comma_lex, open_lex}
+use Rattle.promql_parser.proofs.PrintedBytes.{render_append}
+use Rattle.promql_parser.proofs.PrintedTokens.{strip_append}
+
+-- ---- items one after the other
+
+-- a token in front of a text
+pub record Reads (before after : State) (s : Symbol) (r : Text) : Type 0 where
+  pub id : ℕ
+  pub is : symbol_of (id, spell s) ≡ s
+  pub reads : whats before (spell s ++ r) ≡ Ok (id, spell s) ∷ whats after r
+
+pub nothing : (a : State) → Lexes a a []
+nothing a r = ([], refl, refl)
+
+pub token_then : (a b c : State) (s : Symbol) (is : List Item) → ((r : Text) → Reads a b s (render is ++ r)) → Lexes b c is → Lexes a c (token s ∷ is)
+token_then a b c s is front more r =
+    let f = front r in
+    let m = more r in (
+      (f.id, spell s) ∷ m.0,
+      λ i. f.is i ∷ m.1 i,
+      ap (whats a) (append_assoc (spell s) (render is) r) ∙ f.reads ∙ ap (λ ws. Ok (f.id, spell s) ∷ ws) m.2,
+    )
+
+pub blank_then : (depth : ℕ) (c : State) (is : List Item) → Lexes (at_depth depth) c is → Lexes (at_depth depth) c (blank ∷ is)
+blank_then depth c is more r = let m = more r in (m.0, m.1, whats_run (at_depth depth) (32 ∷ []) (render is ++ r) refl refl ∙ m.2)
+
+pub append_lex : (a b c : State) (is js : List Item) → Lexes a b is → Lexes b c js → Lexes a c (is ++ js)
+append_lex a b c is js first second r =
+    let f = first (render js ++ r) in
+    let s = second r in (
+      f.0 ++ s.0,
+      map-append symbol_of f.0 s.0 ∙ (λ i. f.1 i ++ s.1 i) ∙ sym (strip_append is js),
+      ap (λ z. whats a (z ++ r)) (render_append is js) ∙ ap (whats a) (append_assoc (render is) (render js) r) ∙ f.2
+          ∙ ap (λ ws. map (λ t. Ok t) f.0 ++ ws) s.2 ∙ sym (append_assoc {A = What} (map (λ t. Ok t) f.0) (map (λ t. Ok t) s.0) (whats c r))
+          ∙ ap (λ ws. ws ++ whats c r) (sym (map-append {B = What} (λ t. Ok t) f.0 s.0)),
+    )
+
+-- ---- signs
+
+pub open_reads : (depth : ℕ) (r : Text) → Reads (at_depth depth) (at_depth (suc depth)) (sign kind.LeftParen) r
+open_reads depth r = record { id = 11; is = refl; reads = open_lex depth r }
+
+pub comma_reads : (depth : ℕ) (r : Text) → Reads (at_depth depth) (at_depth depth) (sign kind.Comma) r
+comma_reads depth r = record { id = 3; is = refl; reads = comma_lex depth r }
+
+pub close_reads : (depth : ℕ) (r : Text) → Reads (at_depth (suc depth)) (at_depth depth) (sign kind.RightParen) r
+close_reads depth r = record { id = 18; is = refl; reads = close_lex depth r }
+
+-- ---- words
+
+pub known_reads : (depth : ℕ) (w r : Text) (id : ℕ) (k : Kind) → is_word w ≡ true → word_id w r ≡ id → symbol_of (id, w) ≡ word k w → is_in class.Word (slice_index r 0) ≡ false
+    → Reads (at_depth depth) (at_depth depth) (word k w) r
+known_reads depth w r id k is known symbol stop = record { id = id; is = symbol; reads = joins_word depth w r is stop ∙ ap (λ n. Ok (n, w) ∷ whats (at_depth depth) r) known }
