@@ -1,6 +1,7 @@
 //! Each text with its answer, printed, laid out, as JSON and walked; what a user of the crates writes.
 
 mod calls;
+mod canonical;
 mod layouts;
 mod memory;
 mod queries;
