@@ -16,7 +16,7 @@ use std::process::Abort;
 use std::test::Fail;
 
 /// `sum by (b) (a) / c`
-fn share(alloc: Global) -> Result<Expr, CheckError> {
+pub fn share(alloc: Global) -> Result<Expr, CheckError> {
     let by = LabelModifier::include(alloc, ["b"].to_vec(alloc)?)?;
     let sum = Expr::new_aggregate_expr(
         T_SUM,

@@ -1,13 +1,16 @@
 //! Allocations that fail: with `rt try --test --fail-alloc N` each in turn.
 
-use super::{binary, call, equal, five_minutes, grouped};
+use super::layout::share;
+use super::{args, binary, call, equal, five_minutes, function, grouped};
 use crate::call::FunctionArgs;
 use crate::expr::Expr;
 use crate::fault::CheckError;
+use crate::layout::prettier::{Prettier, PrettyError};
 use promql_kind::LabelModifier;
 use promql_label::Matchers;
 use promql_token::ids::{T_ADD, T_SUM};
 use std::alloc::Global;
+use std::process::Abort;
 use std::test::Fail;
 
 const TEXT: &str = r#"foo{a="1"} + on (a) group_left (b) sum by (c) (rate(x[5m]))"#;
@@ -38,4 +41,34 @@ fn building_runs_out_of_memory_or_gives_the_tree(rt: HostRuntime) -> Result<(), 
         Err(error) => assert!(rt; error == CheckError::Memory),
     }
     Ok(())
+}
+
+/// The expression over lines of so many bytes is the text, or an allocation failed.
+fn check_layout(
+    rt: &impl Abort,
+    alloc: Global,
+    built: Result<Expr, CheckError>,
+    most: usize,
+    text: &str,
+) {
+    match built {
+        Ok(expr) => match expr.pretty(alloc, 0, most) {
+            Ok(found) => assert_eq!(rt; found.as_str(), text),
+            Err(error) => assert!(rt; error == PrettyError::Memory),
+        },
+        Err(error) => assert!(rt; error == CheckError::Memory),
+    }
+}
+
+/// `time()`
+fn time(alloc: Global) -> Result<Expr, CheckError> {
+    Ok(Expr::new_call(function(alloc, "time")?, args(alloc, None, None, None)?))
+}
+
+#[test]
+fn layouts_run_out_of_memory_or_are_whole(rt: HostRuntime) {
+    let alloc = rt.alloc();
+    check_layout(&rt, alloc, time(alloc), 3, "time(\n\n)");
+    let lines = "  sum by (b) (\n    a\n  )\n/\n  c";
+    check_layout(&rt, alloc, share(alloc), 10, lines);
 }

@@ -55,13 +55,13 @@ fn fault_part(alloc: Global, fault: Fault, height: usize) -> Result<Part, AllocE
     })
 }
 
-/// The part of a builder's result.
+/// The part of the result of a builder that allocates nothing.
 fn built_part(
     alloc: Global,
     built: Result<Expr, CheckError>,
     height: usize,
 ) -> Result<Part, AllocError>
-    ensures value { IfOk result (λ part. (verdict : Verdict) → GivesOrMemory built verdict
+    ensures value { IfOk result (λ part. (verdict : Verdict) → Gives built verdict
         → built_of part ≡ outcome verdict) }
     ensures tall { IfOk result (λ part. part.height ≡ height) }
 {
@@ -72,21 +72,24 @@ fn built_part(
     }
 }
 
-/// The part of the result of a builder that allocates nothing.
-fn plain_part(
-    alloc: Global,
-    built: Result<Expr, CheckError>,
-    height: usize,
-) -> Result<Part, AllocError>
-    ensures value { IfOk result (λ part. (verdict : Verdict) → Gives built verdict
-        → built_of part ≡ outcome verdict) }
+/// The part of a node, if no check of its root fails. It is checked in its box.
+fn checked_part(alloc: Global, expr: Expr, height: usize) -> Result<Part, AllocError>
+    ensures value { IfOk result (λ part. built_of part ≡ outcome (checked (tree_of expr))) }
     ensures tall { IfOk result (λ part. part.height ≡ height) }
 {
-    built_part(alloc, built, height)
+    let mut expr = Box::new(alloc, expr)?;
+    match expr.check(alloc) {
+        Ok(()) => Ok(Part {
+            value: Ok(expr),
+            height,
+        }),
+        Err(CheckError::Memory) => Err(AllocError),
+        Err(CheckError::Check(fault)) => fault_part(alloc, Fault::Check(fault), height),
+    }
 }
 
 /// The part of a builder's result, if no check fails.
-fn checked_part(
+fn checked_result(
     alloc: Global,
     built: Result<Expr, CheckError>,
     height: usize,
@@ -96,7 +99,7 @@ fn checked_part(
     ensures tall { IfOk result (λ part. part.height ≡ height) }
 {
     match built {
-        Ok(expr) => built_part(alloc, Expr::checked(alloc, expr), height),
+        Ok(expr) => checked_part(alloc, expr, height),
         Err(CheckError::Memory) => Err(AllocError),
         Err(CheckError::Check(fault)) => fault_part(alloc, Fault::Check(fault), height),
     }
@@ -147,7 +150,7 @@ pub fn selector_part(
         Ok(matchers) => {
             let name = String::from_str(alloc, name)?;
             let expr = Expr::new_vector_selector(Some(name), matchers);
-            built_part(alloc, Expr::checked(alloc, expr), 1)
+            checked_part(alloc, expr, 1)
         }
         Err(fault) => fault_part(alloc, fault, 1),
     }
@@ -163,7 +166,7 @@ pub fn nameless_part(alloc: Global, matchers: Result<Matchers, Fault>) -> Result
     match matchers {
         Ok(matchers) => {
             let expr = Expr::new_vector_selector(None, matchers);
-            built_part(alloc, Expr::checked(alloc, expr), 1)
+            checked_part(alloc, expr, 1)
         }
         Err(fault) => fault_part(alloc, fault, 1),
     }
@@ -206,7 +209,7 @@ pub fn unary_part(alloc: Global, op: TokenId, operand: Part) -> Result<Part, All
                 });
             }
             let expr = Box::into_inner(expr);
-            checked_part(alloc, Expr::new_unary_expr(alloc, expr), height)
+            checked_result(alloc, Expr::new_unary_expr(alloc, expr), height)
         }
         Err(fault) => Ok(Part {
             value: Err(fault),
@@ -267,7 +270,7 @@ pub fn binary_part(
                 rhs,
                 modifier,
             });
-            built_part(alloc, Expr::checked(alloc, expr), height)
+            checked_part(alloc, expr, height)
         }
         Err(fault) => fault_part(alloc, fault, height),
     }
@@ -304,7 +307,7 @@ pub fn call_part(alloc: Global, name: &str, args: Arguments) -> Result<Part, All
     match get_function(alloc, name)? {
         Some(func) => {
             let expr = Expr::new_call(func, args);
-            built_part(alloc, Expr::checked(alloc, expr), height)
+            checked_part(alloc, expr, height)
         }
         None => {
             let name = String::from_str(alloc, name)?;
@@ -342,7 +345,7 @@ pub fn aggregate_part(
     match held_clause(clause) {
         Ok(clause) => {
             let built = Expr::new_aggregate_expr(op, clause, args);
-            checked_part(alloc, built, height)
+            checked_result(alloc, built, height)
         }
         Err(fault) => fault_part(alloc, fault, height),
     }
@@ -442,7 +445,7 @@ fn changed_part(
     match postfix {
         Ok(Postfix::Range(range)) => {
             let expr = Box::into_inner(expr);
-            plain_part(alloc, Expr::new_matrix_selector(expr, range), height)
+            built_part(alloc, Expr::new_matrix_selector(expr, range), height)
         }
         Ok(Postfix::Subquery { range, step }) => {
             let expr = Expr::Subquery(SubqueryExpr {
@@ -452,13 +455,13 @@ fn changed_part(
                 range,
                 step,
             });
-            built_part(alloc, Expr::checked(alloc, expr), height)
+            checked_part(alloc, expr, height)
         }
-        Ok(Postfix::At(at)) => plain_part(alloc, Box::into_inner(expr).at_expr(at), height),
+        Ok(Postfix::At(at)) => built_part(alloc, Box::into_inner(expr).at_expr(at), height),
         Ok(Postfix::Offset(offset)) => {
-            plain_part(alloc, Box::into_inner(expr).offset_expr(offset), height)
+            built_part(alloc, Box::into_inner(expr).offset_expr(offset), height)
         }
-        Ok(Postfix::Mode(mode)) => plain_part(alloc, Box::into_inner(expr).mode_expr(mode), height),
+        Ok(Postfix::Mode(mode)) => built_part(alloc, Box::into_inner(expr).mode_expr(mode), height),
         Err(fault) => fault_part(alloc, fault, height),
     }
 }

@@ -34,7 +34,7 @@ returns-in-Err-clause-built c = λ text cl ds clause args.
 
 pub returns-in-Ok-held_clause-clause-built : goal.returns-in-Ok-held_clause-clause-built
 returns-in-Ok-held_clause-clause-built c =
-    if_ok_both {R = λ part. (text : List ℕ) (cl : pieces.Clause) (ds : grammar.Arguments) → clause_in c.args.clause ≡ clause_value cl → AreArguments c.args.args ds → IsPart part (grammar.aggregate c.args.op text cl ds)} _ c.checked_part.ensures.value c.checked_part.ensures.tall (λ part value tall. λ text cl ds clause args.
+    if_ok_both {R = λ part. (text : List ℕ) (cl : pieces.Clause) (ds : grammar.Arguments) → clause_in c.args.clause ≡ clause_value cl → AreArguments c.args.args ds → IsPart part (grammar.aggregate c.args.op text cl ds)} _ c.checked_result.ensures.value c.checked_result.ensures.tall (λ part value tall. λ text cl ds clause args.
     part_of part (grammar.aggregate c.args.op text cl ds) _ _ (value _ (gives_or_memory _ _ c.new_aggregate_expr-built.ensures)) tall (let same = args.tall in omega arith)
     (then_value (build_all ds) (λ ts. known (clause_value cl) giving λ m. passing_checks (aggregated c.args.op m ts)) (trees_of c.in-Ok.args.args.items) _ (with_trees c.args.args (build_all ds) c.in-Ok.args c.in-Ok.is args.built)
     (aggregate_ends c.args.op cl _ _ (c.in-Ok-held_clause.ensures ∙ clause))))

@@ -34,8 +34,8 @@ returns-in-Err-clause-built c = λ kind ds args.
 
 pub returns-in-Some-clause-built : goal.returns-in-Some-clause-built
 returns-in-Some-clause-built c =
-    if_ok_both {R = λ part. (kind : Kind) (ds : grammar.Arguments) → AreArguments c.args.args ds → IsPart part (grammar.call kind c.args.name.now ds)} _ c.built_part.ensures.value c.built_part.ensures.tall (λ part value tall. λ kind ds args.
-    part_of part (grammar.call kind c.args.name.now ds) _ _ (value _ c.checked.ensures) tall (let same = args.tall in omega arith)
+    if_ok_both {R = λ part. (kind : Kind) (ds : grammar.Arguments) → AreArguments c.args.args ds → IsPart part (grammar.call kind c.args.name.now ds)} _ c.checked_part.ensures.value c.checked_part.ensures.tall (λ part value tall. λ kind ds args.
+    part_of part (grammar.call kind c.args.name.now ds) _ _ value tall (let same = args.tall in omega arith)
     (then_value (build_all ds) (λ ts. called c.args.name.now (function_named c.args.name.now) ts) (trees_of c.in-Ok.args.args.items) _ (with_trees c.args.args (build_all ds) c.in-Ok.args c.in-Ok.is args.built)
     (call_ends c.args.name.now (function_named c.args.name.now) _ _ _ (rw c.in-Some.is at c.in_ok-func.ensures) c.new_call-expr.ensures)))
 

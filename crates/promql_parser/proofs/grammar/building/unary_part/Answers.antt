@@ -36,7 +36,7 @@ returns-then-op-ne-T_SUB-clause-built c = λ text d operand.
 pub returns-else-op-ne-T_SUB-clause-built : goal.returns-else-op-ne-T_SUB-clause-built
 returns-else-op-ne-T_SUB-clause-built c =
     let minus : (c.args.op == T_SUB) ≡ true = grind (arith, nat_tests) in
-    if_ok_both {R = λ part. (text : List ℕ) (d : grammar.Derivation) → IsPart c.args.operand d → IsPart part (grammar.unary c.args.op text d)} _ c.checked_part.ensures.value c.checked_part.ensures.tall (λ part value tall. λ text d operand.
+    if_ok_both {R = λ part. (text : List ℕ) (d : grammar.Derivation) → IsPart c.args.operand d → IsPart part (grammar.unary c.args.op text d)} _ c.checked_result.ensures.value c.checked_result.ensures.tall (λ part value tall. λ text d operand.
     part_of part (grammar.unary c.args.op text d) _ _ (rw c.into_inner-expr.ensures at (value _ c.new_unary_expr.ensures)) tall (let same = operand.tall in omega arith)
     (then_value (build d) (λ t. with_sign c.args.op t) (tree_of c.in-Ok.expr.value) _ (with_tree c.args.operand (build d) c.in-Ok.expr c.in-Ok.is operand.built) (minus_ends c.args.op (tree_of c.in-Ok.expr.value) minus)))
 
