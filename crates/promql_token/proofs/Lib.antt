@@ -3,6 +3,7 @@ pub mod Cuts
 pub mod Drawn
 pub mod Durations
 pub mod Ends
+pub mod Gaps
 pub mod Inner
 pub mod Items
 pub mod Joins
@@ -12,6 +13,7 @@ pub mod Printed
 pub mod PrintedValues
 pub mod Rows
 pub mod Spans
+pub mod SpansToFault
 pub mod Spelled
 pub mod Steps
 pub mod Told

@@ -2,6 +2,7 @@ pub mod Classes
 pub mod Cursor
 pub mod Cut
 pub mod Faults
+pub mod Gaps
 pub mod Ids
 pub mod Laws
 pub mod Lexing

@@ -3,6 +3,7 @@
 ghost use Rattle.std.specs.Prelude.{◌≡◌, ℕ};
 ghost use Rattle.promql_text.specs.Equalities.{IsSameBy};
 ghost use Rattle.promql_token.specs.Cut as cuts;
+ghost use Rattle.promql_token.specs.Gaps as gaps;
 ghost use Rattle.promql_token.specs.Ids as ids;
 ghost use Rattle.promql_token.specs.Laws as spec;
 ghost use Rattle.promql_token.specs.Printed as printed;
@@ -59,6 +60,12 @@ pub fn spans()
     ensures spans { spec.Spans }
     ensures lexes { spec.Lexes }
     ensures places { spec.Places }
+{}
+
+/// Tokens, also those before a fault, have spans in order and between characters, and only white
+/// space and comments lie between them, in brackets only white space.
+pub fn spans_to_fault()
+    ensures { gaps.SpansToFault }
 {}
 
 /// What is one token alone is that token in front of a text that doesn't go on with it.
