@@ -13,9 +13,11 @@ pub mod Printed
 pub mod PrintedValues
 pub mod Rows
 pub mod Spans
+pub mod SignRows
 pub mod SpansToFault
 pub mod Spelled
 pub mod Steps
+pub mod Strings
 pub mod Told
 pub mod Boundaries
 pub mod SameTokens

@@ -1,6 +1,8 @@
+pub mod Begins
 pub mod Classes
 pub mod Cursor
 pub mod Cut
+pub mod FaultPlaces
 pub mod Faults
 pub mod Gaps
 pub mod Ids

@@ -2,7 +2,9 @@
 
 ghost use Rattle.std.specs.Prelude.{◌≡◌, ℕ};
 ghost use Rattle.promql_text.specs.Equalities.{IsSameBy};
+ghost use Rattle.promql_token.specs.Begins as begin;
 ghost use Rattle.promql_token.specs.Cut as cuts;
+ghost use Rattle.promql_token.specs.FaultPlaces as places;
 ghost use Rattle.promql_token.specs.Gaps as gaps;
 ghost use Rattle.promql_token.specs.Ids as ids;
 ghost use Rattle.promql_token.specs.Laws as spec;
@@ -66,6 +68,12 @@ pub fn spans()
 /// space and comments lie between them, in brackets only white space.
 pub fn spans_to_fault()
     ensures { gaps.SpansToFault }
+{}
+
+/// What a text begins with in a state is a token, or a fault, exactly if that may begin there.
+pub fn begins()
+    ensures token { begin.Begins }
+    ensures fault { places.Faults }
 {}
 
 /// What is one token alone is that token in front of a text that doesn't go on with it.
