@@ -7,6 +7,8 @@ pub mod Gaps
 pub mod Inner
 pub mod Items
 pub mod Joins
+pub mod Numbers
+pub mod Numerals
 pub mod Parts
 pub mod Places
 pub mod Printed
