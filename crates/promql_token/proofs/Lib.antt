@@ -13,8 +13,10 @@ pub mod Parts
 pub mod Places
 pub mod Printed
 pub mod PrintedValues
+pub mod Read
 pub mod Rows
 pub mod Spans
+pub mod Said
 pub mod SignRows
 pub mod SpansToFault
 pub mod Spelled
