@@ -1,8 +1,10 @@
+pub mod Begun
 pub mod Beside
 pub mod Cuts
 pub mod Drawn
 pub mod Durations
 pub mod Ends
+pub mod FaultsRead
 pub mod Gaps
 pub mod Inner
 pub mod Items
