@@ -24,6 +24,7 @@ pub mod SpansToFault
 pub mod Spelled
 pub mod Steps
 pub mod Strings
+pub mod TokenLists
 pub mod Told
 pub mod Boundaries
 pub mod SameTokens

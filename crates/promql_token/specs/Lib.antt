@@ -14,4 +14,5 @@ pub mod PrintedValues
 pub mod Rows
 pub mod Scan
 pub mod Spelling
+pub mod TokenLists
 pub mod Tokens

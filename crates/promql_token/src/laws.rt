@@ -12,6 +12,7 @@ ghost use Rattle.promql_token.specs.Printed as printed;
 ghost use Rattle.promql_token.specs.PrintedValues as values;
 ghost use Rattle.promql_token.specs.Rows as rows;
 ghost use Rattle.promql_token.specs.Spelling as spelling;
+ghost use Rattle.promql_token.specs.TokenLists as lists;
 ghost use Rattle.promql_token.specs.Tokens.{id_and_text};
 ghost use Rattle.promql_token.specs.declared.fault.LexError.{LexError};
 ghost use Rattle.promql_token.specs.declared.fault.LexFault.{LexFault};
@@ -68,6 +69,14 @@ pub fn spans()
 /// space and comments lie between them, in brackets only white space.
 pub fn spans_to_fault()
     ensures { gaps.SpansToFault }
+{}
+
+/// A text has a token list, or a fault, exactly if it is gaps and tokens to its end, or to this
+/// fault, each of them what may begin there.
+pub fn only_tokens()
+    ensures tokens { lists.OnlyTokens }
+    ensures fault { lists.OnlyFault }
+    ensures items { lists.OnlyItems }
 {}
 
 /// What a text begins with in a state is a token, or a fault, exactly if that may begin there.
