@@ -23,11 +23,11 @@ what_ends (Ok t) z ends = let within = ends.0.within in subst (Ends z) (sym (len
 what_ends (Err f) z ends = front z
 
 -- where a gap ends, and the token behind it
-record StandsAt (s : Text) (at : ℕ) (f : Found) : Type 0 where
-  start : IsCharBoundary s (at + f.gap)
-  end : IsCharBoundary s (at + f.gap + len_of f.what)
+pub record StandsAt (s : Text) (at : ℕ) (f : Found) : Type 0 where
+  pub start : IsCharBoundary s (at + f.gap)
+  pub end : IsCharBoundary s (at + f.gap + len_of f.what)
 
-stands_at : (s : Text) (at : ℕ) (state : State) → IsUtf8 s → IsCharBoundary s at → StandsAt s at (found state (drop at s))
+pub stands_at : (s : Text) (at : ℕ) (state : State) → IsUtf8 s → IsCharBoundary s at → StandsAt s at (found state (drop at s))
 unfolding found
 stands_at s at state utf8 here =
     let z = drop at s in

@@ -19,16 +19,16 @@ use Rattle.promql_token.proofs.Parts.{parts_go}
 use Rattle.promql_token.proofs.Printed.{number_whole, whole_is, at_seam, prefix_whole, digits_first, joins_numeral, digit_name, past_front}
 
 -- a unit with its `s`, before a text that begins with no `s`
-record IsUnitText (first : Bool) (u rest : Text) : Type 0 where
-  len : unit_len first (u ++ rest) ≡ length u
-  some : 0 < length u
-  names : list_all (is_in class.Name) u ≡ true
+pub record IsUnitText (first : Bool) (u rest : Text) : Type 0 where
+  pub len : unit_len first (u ++ rest) ≡ length u
+  pub some : 0 < length u
+  pub names : list_all (is_in class.Name) u ≡ true
 
 unit_name : (first : Bool) (b : ℕ) → is_unit first b ≡ true → is_in class.Name b ≡ true
 unit_name true b h = grind (arith, common_steps)
 unit_name false b h = grind (arith, common_steps)
 
-unit_text : (first : Bool) (u rest : Text) → is_unit first (get_or u 0 0) ≡ true → ((length u == 1) || ((length u == 2) && (get_or u 1 0 == 115))) ≡ true → (get_or rest 0 0 == 115) ≡ false → IsUnitText first u rest
+pub unit_text : (first : Bool) (u rest : Text) → is_unit first (get_or u 0 0) ≡ true → ((length u == 1) || ((length u == 2) && (get_or u 1 0 == 115))) ≡ true → (get_or rest 0 0 == 115) ≡ false → IsUnitText first u rest
 unit_text first [] rest is len no_s = absurd (cc)
 unit_text first (b ∷ []) rest is len no_s = record {
   len = ap (λ c. cond c (cond (get_or rest 0 0 == 115) 2 1) 0) is ∙ ap (λ c. cond c 2 1) no_s;
@@ -82,7 +82,7 @@ no_s_digit : (b : ℕ) → is_ascii_digit b ≡ true → (b == 115) ≡ false
 no_s_digit b h = grind (arith, common_steps)
 
 -- parts begin with no `s`
-parts_no_s : (ps : List (Text × Text)) → list_all (is_part false) ps ≡ true → (get_or (parts_text ps) 0 0 == 115) ≡ false
+pub parts_no_s : (ps : List (Text × Text)) → list_all (is_part false) ps ≡ true → (get_or (parts_text ps) 0 0 == 115) ≡ false
 parts_no_s [] h = refl
 parts_no_s (p ∷ ps) h =
     let part = and_left (is_part false p) (list_all (is_part false) ps) h in
@@ -97,10 +97,10 @@ digits_names : (w : Text) → are_digits w ≡ true → list_all (is_in class.Na
 digits_names [] h = refl
 digits_names (b ∷ w) h = λ i. digit_name b (and_left (is_ascii_digit b) (list_all is_ascii_digit w) h) i && digits_names w (and_right (is_ascii_digit b) (list_all is_ascii_digit w) h) i
 
-joined_names : (x y : Text) → list_all (is_in class.Name) x ≡ true → list_all (is_in class.Name) y ≡ true → list_all (is_in class.Name) (x ++ y) ≡ true
+pub joined_names : (x y : Text) → list_all (is_in class.Name) x ≡ true → list_all (is_in class.Name) y ≡ true → list_all (is_in class.Name) (x ++ y) ≡ true
 joined_names x y h h2 = list_all-append (is_in class.Name) x y ∙ (λ i. h i && h2 i)
 
-parts_names : (ps : List (Text × Text)) → list_all (is_part false) ps ≡ true → list_all (is_in class.Name) (parts_text ps) ≡ true
+pub parts_names : (ps : List (Text × Text)) → list_all (is_part false) ps ≡ true → list_all (is_in class.Name) (parts_text ps) ≡ true
 parts_names [] h = refl
 parts_names (p ∷ ps) h =
     let rest = and_right (is_part false p) (list_all (is_part false) ps) h in
@@ -108,17 +108,17 @@ parts_names (p ∷ ps) h =
     joined_names p.0 (p.1 ++ parts_text ps) (digits_names p.0 part.digits) (joined_names p.1 (parts_text ps) part.text.names (parts_names ps rest))
 
 -- a unit's first byte is no digit, no `x`, no point and no `e`
-record IsUnitByte (b : ℕ) : Type 0 where
-  digit : is_ascii_digit b ≡ false
-  hex : ((b == 120) || (b == 88)) ≡ false
-  point : (b == 46) ≡ false
-  exponent : ((b == 101) || (b == 69)) ≡ false
+pub record IsUnitByte (b : ℕ) : Type 0 where
+  pub digit : is_ascii_digit b ≡ false
+  pub hex : ((b == 120) || (b == 88)) ≡ false
+  pub point : (b == 46) ≡ false
+  pub exponent : ((b == 101) || (b == 69)) ≡ false
 
-unit_byte : (first : Bool) (b : ℕ) → is_unit first b ≡ true → IsUnitByte b
+pub unit_byte : (first : Bool) (b : ℕ) → is_unit first b ≡ true → IsUnitByte b
 unit_byte true b h = record { digit = grind (arith, common_steps); hex = grind (arith, common_steps); point = grind (arith, common_steps); exponent = grind (arith, common_steps) }
 unit_byte false b h = record { digit = grind (arith, common_steps); hex = grind (arith, common_steps); point = grind (arith, common_steps); exponent = grind (arith, common_steps) }
 
-front_byte : (u rest : Text) → 0 < length u → get_or (u ++ rest) 0 0 ≡ get_or u 0 0
+pub front_byte : (u rest : Text) → 0 < length u → get_or (u ++ rest) 0 0 ≡ get_or u 0 0
 front_byte [] rest some = absurd (omega arith)
 front_byte (b ∷ u) rest some = refl
 
@@ -142,7 +142,7 @@ part_front d u rest p =
     no_zero : (n : ℕ) → 0 < n → (n == 0) ≡ false
     no_zero n h = grind (arith, common_steps)
 
-parts_all : (ps : List (Text × Text)) → list_all (is_part false) ps ≡ true → parts_from 0 (parts_text ps) ≡ true
+pub parts_all : (ps : List (Text × Text)) → list_all (is_part false) ps ≡ true → parts_from 0 (parts_text ps) ≡ true
 parts_all [] h = refl
 parts_all (p ∷ ps) h =
     let rest = and_right (is_part false p) (list_all (is_part false) ps) h in
@@ -154,7 +154,7 @@ parts_all (p ∷ ps) h =
 
 -- ---- the whole
 
-units_all : (u rest : Text) → IsUnitText true u rest → parts_from 0 rest ≡ true → units (u ++ rest) ≡ true
+pub units_all : (u rest : Text) → IsUnitText true u rest → parts_from 0 rest ≡ true → units (u ++ rest) ≡ true
 unfolding units
 units_all u rest t more =
     let some = t.some in

@@ -123,7 +123,7 @@ numeral_ends z some begins =
     cond_both ((run == end) && not (get_or z end 0 == 46)) _ _ (PieceEnds z) (λ _. (run_ends z end r, λ _. moves)) (λ _.
     cond_both (units (take (run - end) (drop end z))) _ _ (PieceEnds z) (λ _. (run_ends z run (past_run class.Name z end r), λ _. omega arith)) (λ _. front z))
 
-digit_begins : (z : Text) → is_ascii_digit (get_or z 0 0) ≡ true → begins_numeral z ≡ true
+pub digit_begins : (z : Text) → is_ascii_digit (get_or z 0 0) ≡ true → begins_numeral z ≡ true
 digit_begins z digit = ap (λ b. b || ((get_or z 0 0 == 46) && is_ascii_digit (get_or z 1 0))) digit
 
 -- ---- strings
@@ -277,7 +277,7 @@ end_ends mode.Outside depth = cond_both (depth == 0) _ _ (PieceEnds []) (λ _. (
 end_ends mode.Braces depth = front []
 end_ends (mode.Brackets inside) depth = front []
 
-begun_ends : (m : Mode) (depth : ℕ) (z : Text) → 0 < length z → PieceEnds z (begun m depth z)
+pub begun_ends : (m : Mode) (depth : ℕ) (z : Text) → 0 < length z → PieceEnds z (begun m depth z)
 begun_ends mode.Outside depth z h = outside_ends depth z h
 begun_ends mode.Braces depth z h = in_braces_ends z h
 begun_ends (mode.Brackets inside) depth z h = in_brackets_ends inside z h

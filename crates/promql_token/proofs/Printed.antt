@@ -128,7 +128,7 @@ prefix_all p (b ∷ w) r h stop =
     ap (λ c. cond c (1 + prefix_len p (w ++ r)) 0) (and_left (p b) (list_all p w) h) ∙ ap (λ n. 1 + n) e ∙ same
 
 -- a run behind a front
-past_behind : (c : Class) (u w r : Text) → list_all (is_in c) w ≡ true → is_in c (get_or r 0 0) ≡ false → past c (u ++ (w ++ r)) (length u) ≡ length u + length w
+pub past_behind : (c : Class) (u w r : Text) → list_all (is_in c) w ≡ true → is_in c (get_or r 0 0) ≡ false → past c (u ++ (w ++ r)) (length u) ≡ length u + length w
 past_behind c u w r h stop = ap (λ z. length u + prefix_len (is_in c) z) (drop-append_seam u (w ++ r)) ∙ ap (λ n. length u + n) (prefix_all (is_in c) w r h stop)
 
 pub past_front : (c : Class) (w r : Text) → list_all (is_in c) w ≡ true → is_in c (get_or r 0 0) ≡ false → past c (w ++ r) 0 ≡ length w
@@ -146,7 +146,7 @@ pub digit_name : (b : ℕ) → is_ascii_digit b ≡ true → is_in class.Name b 
 digit_name b h = grind (arith, common_steps)
 
 -- digits before a byte that is no `x` do not begin a hexadecimal number
-no_hex : (w r : Text) → 0 < length w → are_digits w ≡ true → ((get_or r 0 0 == 120) || (get_or r 0 0 == 88)) ≡ false → is_hex (w ++ r) ≡ false
+pub no_hex : (w r : Text) → 0 < length w → are_digits w ≡ true → ((get_or r 0 0 == 120) || (get_or r 0 0 == 88)) ≡ false → is_hex (w ++ r) ≡ false
 no_hex [] r some h stop = absurd (omega arith)
 no_hex (b ∷ []) r some h stop = ap (λ x. (b == 48) && x) stop ∙ never (b == 48)
   where

@@ -31,7 +31,7 @@ SpelledPiece z (Err f) = Unit {0}
 no_word : (id : ℕ) (w : Text) → is_no_word id ≡ true → (id == 15) ≡ false → IsSpelled (id, w)
 no_word id w is other = record { word = inr is; number = λ same. let no : (15 == 15) ≡ false = subst (λ k. (k == 15) ≡ false) same other in absurd (cc) }
 
-first_byte : (n : ℕ) (z : Text) → 0 < n → get_or (take n z) 0 0 ≡ get_or z 0 0
+pub first_byte : (n : ℕ) (z : Text) → 0 < n → get_or (take n z) 0 0 ≡ get_or z 0 0
 first_byte zero z some = absurd (omega arith)
 first_byte (suc n) [] some = refl
 first_byte (suc n) (b ∷ z) some = refl
@@ -42,7 +42,7 @@ and_both false b e h = e
 
 -- ---- words
 
-prefix_whole : (p : ℕ → Bool) (z : Text) → prefix_len p (take (prefix_len p z) z) ≡ length (take (prefix_len p z) z)
+pub prefix_whole : (p : ℕ → Bool) (z : Text) → prefix_len p (take (prefix_len p z) z) ≡ length (take (prefix_len p z) z)
 prefix_whole p [] = refl
 prefix_whole p (b ∷ z) =
     cond_both (p b) _ _ (λ n. prefix_len p (take n (b ∷ z)) ≡ length (take n (b ∷ z)))

@@ -156,7 +156,7 @@ closes_open state z id t is close =
     (λ inner. subst (λ d. 0 < d) (gap_depth n state) (inner.1 close))
     (front_inner (after_gap n state) (drop n z) id t is)
 
-next_at : (before : List ℕ) (state : State) (z : Text) (w : What) → IsAt before state → (found state z).what ≡ w → IsAt (ids_behind before w) (behind state w)
+pub next_at : (before : List ℕ) (state : State) (z : Text) (w : What) → IsAt before state → (found state z).what ≡ w → IsAt (ids_behind before w) (behind state w)
 unfolding after
 next_at before state z (Ok t) h is = record {
   depth = depth_step before t.0 state.depth h.depth (closes_open state z t.0 t.1 is);
@@ -210,7 +210,7 @@ only_cut (w ∷ ws) before state z h c =
     (λ i. first i ∷ (rest ∙ (λ j. cond (goes_on (first j)) (whats (behind state (first j)) (drop ((found (sym same j) z).gap + len_of (first j)) z)) [])) i)
     ∙ sym (whats_is state z)
 
-at_start : IsAt [] start
+pub at_start : IsAt [] start
 at_start = record { depth = refl; mode = refl }
 
 pub cut_once : CutOnce

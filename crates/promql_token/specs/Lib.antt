@@ -1,7 +1,10 @@
+pub mod Begins
 pub mod Classes
 pub mod Cursor
 pub mod Cut
+pub mod FaultPlaces
 pub mod Faults
+pub mod Gaps
 pub mod Ids
 pub mod Laws
 pub mod Lexing
@@ -11,4 +14,5 @@ pub mod PrintedValues
 pub mod Rows
 pub mod Scan
 pub mod Spelling
+pub mod TokenLists
 pub mod Tokens

@@ -2,13 +2,17 @@
 
 ghost use Rattle.std.specs.Prelude.{◌≡◌, ℕ};
 ghost use Rattle.promql_text.specs.Equalities.{IsSameBy};
+ghost use Rattle.promql_token.specs.Begins as begin;
 ghost use Rattle.promql_token.specs.Cut as cuts;
+ghost use Rattle.promql_token.specs.FaultPlaces as places;
+ghost use Rattle.promql_token.specs.Gaps as gaps;
 ghost use Rattle.promql_token.specs.Ids as ids;
 ghost use Rattle.promql_token.specs.Laws as spec;
 ghost use Rattle.promql_token.specs.Printed as printed;
 ghost use Rattle.promql_token.specs.PrintedValues as values;
 ghost use Rattle.promql_token.specs.Rows as rows;
 ghost use Rattle.promql_token.specs.Spelling as spelling;
+ghost use Rattle.promql_token.specs.TokenLists as lists;
 ghost use Rattle.promql_token.specs.Tokens.{id_and_text};
 ghost use Rattle.promql_token.specs.declared.fault.LexError.{LexError};
 ghost use Rattle.promql_token.specs.declared.fault.LexFault.{LexFault};
@@ -59,6 +63,26 @@ pub fn spans()
     ensures spans { spec.Spans }
     ensures lexes { spec.Lexes }
     ensures places { spec.Places }
+{}
+
+/// Tokens, also those before a fault, have spans in order and between characters, and only white
+/// space and comments lie between them, in brackets only white space.
+pub fn spans_to_fault()
+    ensures { gaps.SpansToFault }
+{}
+
+/// A text has a token list, or a fault, exactly if it is gaps and tokens to its end, or to this
+/// fault, each of them what may begin there.
+pub fn only_tokens()
+    ensures tokens { lists.OnlyTokens }
+    ensures fault { lists.OnlyFault }
+    ensures items { lists.OnlyItems }
+{}
+
+/// What a text begins with in a state is a token, or a fault, exactly if that may begin there.
+pub fn begins()
+    ensures token { begin.Begins }
+    ensures fault { places.Faults }
 {}
 
 /// What is one token alone is that token in front of a text that doesn't go on with it.

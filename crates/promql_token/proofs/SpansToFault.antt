@@ -1,0 +1,63 @@
+-- Where the tokens of a text stand, also of one with a fault.
+use Rattle.std.proofs.Common.{◌≡◌, ℕ, suc, ◌+◌, ◌-◌, ◌≤◌, Bool, true, false, cond, List, [], ◌∷◌, length, take, drop, IsUtf8, Result, Ok, Err, refl, sym, ap, ◌∙◌, subst, arith, length-drop}
+use Rattle.std.specs.Str.{IsCharBoundary}
+use Rattle.std.proofs.lemmas.List.{drop-drop}
+use Rattle.std.proofs.lemmas.Str.{IsCharBoundary-start}
+use Rattle.promql_token.specs.declared.lexeme.Lexeme.{Lexeme}
+use Rattle.promql_token.specs.declared.state.State.{State}
+use Rattle.promql_text.specs.Texts.{Text}
+use Rattle.promql_token.specs.Cut.{mode_at, ids_behind}
+use Rattle.promql_token.specs.Gaps.{IsGapIn, AreSpans, SpansToFault, lexemes}
+use Rattle.promql_token.specs.Lexing.{What, Found, cut, found, goes_on, behind, len_of, start, placed, item}
+use Rattle.promql_token.specs.Pieces.{gap_len}
+use Rattle.promql_token.proofs.Boundaries.{StandsAt, stands_at}
+use Rattle.promql_token.proofs.Gaps.{is_gap}
+use Rattle.promql_token.proofs.Steps.{cut_is, found_fits}
+use Rattle.promql_token.proofs.Told.{IsAt, at_start, next_at}
+
+-- what is known of a gap, and of what stands behind it
+record Stands (s : Text) (before : List ℕ) (at : ℕ) (f : Found) : Type 0 where
+  gap : IsGapIn (mode_at before) (take f.gap (drop at s)) (drop f.gap (drop at s))
+  fits : f.gap + len_of f.what ≤ length (drop at s)
+  place : StandsAt s at f
+
+stands : (s : Text) (before : List ℕ) (at : ℕ) (state : State) → IsAt before state → IsUtf8 s → IsCharBoundary s at → Stands s before at (found state (drop at s))
+unfolding found
+stands s before at state h utf8 here = record {
+  gap = subst (λ m. IsGapIn m (take (gap_len state.mode (drop at s)) (drop at s)) (drop (gap_len state.mode (drop at s)) (drop at s))) h.mode (is_gap state.mode (drop at s));
+  fits = (found_fits state (drop at s)).0;
+  place = stands_at s at state utf8 here;
+}
+
+token_stands : (s : Text) (before : List ℕ) (at g : ℕ) (w : What) (fs : List Found) → at ≤ length s → Stands s before at (record { gap = g; what = w })
+    → AreSpans s (ids_behind before w) (at + g + len_of w) (lexemes (placed (at + g + len_of w) fs))
+    → AreSpans s before at (lexemes (item (at + g) w ∷ placed (at + g + len_of w) fs))
+token_stands s before at g (Err e) fs within st more = tt
+token_stands s before at g (Ok t) fs within st more =
+    let fits = st.fits in
+    let back : g ≡ at + g - at = omega arith in
+    (omega arith, subst (λ n. IsGapIn (mode_at before) (take n (drop at s)) (drop (at + g) s)) back (subst (IsGapIn (mode_at before) (take g (drop at s))) (drop-drop g at s) st.gap), omega (arith, length-drop at s), (st.place.start, st.place.end), more)
+
+all_stand : (s : Text) (fs : List Found) (before : List ℕ) (state : State) (at : ℕ) → IsAt before state → IsUtf8 s → IsCharBoundary s at → at ≤ length s → cut state (drop at s) ≡ fs → AreSpans s before at (lexemes (placed at fs))
+all_stand s [] before state at h utf8 here within is = tt
+all_stand s (f ∷ fs) before state at h utf8 here within is =
+    let z = drop at s in
+    let f0 = found state z in
+    let head = sym is ∙ cut_is state z in
+    let first : f ≡ f0 = cc in
+    let rest : fs ≡ cond (goes_on f0.what) (cut (behind state f0.what) (drop (f0.gap + len_of f0.what) z)) [] = cc in
+    let st = subst (λ f. Stands s before at f) (sym first) (stands s before at state h utf8 here) in
+    let fits = st.fits in
+    let there : ℕ = at + f.gap + len_of f.what in
+    let at_rest : drop there s ≡ drop (f0.gap + len_of f0.what) z =
+    let e : at + f0.gap + len_of f0.what ≡ at + (f0.gap + len_of f0.what) = omega arith in
+    ap (λ h. drop (at + h.gap + len_of h.what) s) first ∙ ap (λ n. drop n s) e ∙ sym (drop-drop (f0.gap + len_of f0.what) at s) in
+    let ids : IsAt (ids_behind before f.what) (behind state f0.what) = subst (λ w. IsAt (ids_behind before w) (behind state f0.what)) (sym (ap (λ f. f.what) first)) (next_at before state z f0.what h refl) in
+    token_stands s before at f.gap f.what fs within st
+    (elim (goes_on f0.what) as (λ b. fs ≡ cond b (cut (behind state f0.what) (drop (f0.gap + len_of f0.what) z)) [] → AreSpans s (ids_behind before f.what) there (lexemes (placed there fs))) [
+      | true ↦ λ e. all_stand s fs (ids_behind before f.what) (behind state f0.what) there ids utf8 st.place.end (omega (arith, length-drop at s)) (ap (cut (behind state f0.what)) at_rest ∙ sym e)
+      | false ↦ λ e. subst (λ fs. AreSpans s (ids_behind before f.what) there (lexemes (placed there fs))) (sym e) tt
+    ] rest)
+
+pub spans_to_fault : SpansToFault
+spans_to_fault s utf8 = all_stand s (cut start s) [] start 0 at_start utf8 (IsCharBoundary-start s utf8) (omega arith) refl

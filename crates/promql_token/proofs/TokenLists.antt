@@ -1,0 +1,334 @@
+-- The items of a text are the one way to read it.
+use Rattle.std.proofs.Common.{◌≡◌, ℕ, zero, suc, ◌+◌, ◌-◌, ◌<◌, ◌≤◌, Bool, true, false, cond, List, [], ◌∷◌, ◌++◌, length, take, drop, map, Result, Ok, Err, refl, sym, ap, ◌∙◌, subst, inl, inr, ◌⊎◌, ⊎_elim, arith, length-drop, length-append, length-take-le, eqb-true, add-zero, zero-add}
+use Rattle.std.specs.Prelude.{◌==◌, not}
+use Rattle.std.proofs.Math.Seq.{take-append_seam, drop-append_seam, take-length}
+use Rattle.std.proofs.lemmas.Bool.{cond_both}
+use Rattle.std.proofs.lemmas.List.{drop-drop, take-append-drop}
+use Rattle.promql_token.specs.declared.fault.LexFault.{LexFault}
+use Rattle.promql_token.specs.declared.fault.LexFaultKind.{LexFaultKind}
+use Rattle.promql_token.specs.declared.lexeme.Lexeme.{Lexeme}
+use Rattle.promql_token.specs.declared.state.Bracket.TheVariants as bracket
+use Rattle.promql_token.specs.declared.state.Mode.{Mode}
+use Rattle.promql_token.specs.declared.state.Mode.TheVariants as mode
+use Rattle.promql_token.specs.declared.state.State.{State}
+use Rattle.promql_text.specs.Texts.{Text}
+use Rattle.promql_token.specs.Begins.{MayBegin}
+use Rattle.promql_token.specs.Cut.{mode_at, state_at, ids_behind}
+use Rattle.promql_token.specs.FaultPlaces.{IsFault}
+use Rattle.promql_token.specs.Gaps.{IsGapIn}
+use Rattle.promql_token.specs.Lexing.{What, Found, what, found, len_of, goes_on, behind, cut, start, lex, items, item, placed, collected, with_front, shown}
+use Rattle.promql_token.specs.Pieces.{Piece, piece, after_gap, after, begun, end_in, gap_len}
+use Rattle.promql_token.specs.TokenLists.{Step, state_after, IsRead, IsEnd, EndsIn, places, to_end, OnlyTokens, OnlyFault, OnlyItems}
+use Rattle.promql_token.proofs.Begun.{begins_piece, faults, piece_begins}
+use Rattle.promql_token.proofs.Ends.{PieceEnds, piece_ends}
+use Rattle.promql_token.proofs.Gaps.{gap_passed, is_gap, split}
+use Rattle.promql_token.proofs.Inner.{Inner, begun_inner}
+use Rattle.promql_token.proofs.Places.{Ends, gap_len_ends}
+use Rattle.promql_token.proofs.Steps.{cut_is}
+use Rattle.promql_token.proofs.Told.{IsAt, at_start, is_state, next_at}
+
+-- ---- what is read
+
+-- a text read from `at` on, in a state: to its end, or to a fault
+abbrev IsTold : List ℕ → ℕ → Text → List (Result Lexeme LexFault) → Type 0
+IsTold before at z rs =
+    ((ts : List Step) × IsRead IsEnd before z ts × (rs ≡ map (λ x. Ok x) (places at ts ++ record { id = 6; start = at + length z; len = 0 } ∷ [])))
+    ⊎ ((f : LexFault) × (ts : List Step) × IsRead (EndsIn f (at + length z)) before z ts × (rs ≡ map (λ x. Ok x) (places at ts) ++ Err f ∷ []))
+
+-- the state with a gap, told by the tokens before it
+gap_state : (before : List ℕ) (state : State) (g : Text) (n : ℕ) → IsAt before state → n ≡ length g → after_gap n state ≡ state_after before g
+gap_state before state g n h len = (λ i. after_gap (len i) (is_state before state h i))
+
+-- only outside, with nothing open, there is an end
+end_state : (m : Mode) (depth : ℕ) (t : ℕ × ℕ) → end_in m depth ≡ Ok t → (m ≡ mode.Outside) × (depth ≡ 0)
+end_state mode.Outside zero t is = (refl, refl)
+end_state mode.Outside (suc depth) t is = cond_both (suc depth == 0) _ _ (λ p. p ≡ Ok t → (mode.Outside ≡ mode.Outside) × (suc depth ≡ 0)) (λ e is. (refl, eqb-true (suc depth) 0 e)) (λ _ is. cc) is
+end_state mode.Braces depth t is = cc
+end_state (mode.Brackets inside) depth t is = cc
+
+record AtEnd (state : State) (z : Text) (t : ℕ × ℕ) : Type 0 where
+  none : z ≡ []
+  mode : state.mode ≡ mode.Outside
+  depth : state.depth ≡ 0
+
+at_end : (state : State) (z : Text) (t : ℕ × ℕ) → piece state z ≡ Ok t → (t.0 == 6) ≡ true → AtEnd state z t
+unfolding piece
+at_end state [] t is six = let e = end_state state.mode state.depth t is in record { none = refl; mode = e.0; depth = e.1 }
+at_end state (b ∷ y) t is six = let no = (subst (Inner state.depth) is (begun_inner state.mode state.depth (b ∷ y))).0 in absurd (cc)
+
+-- a gap makes nothing outside of brackets
+outside_before : (n depth : ℕ) (m : Mode) → (after_gap n (record { depth = depth; mode = m })).mode ≡ mode.Outside → m ≡ mode.Outside
+unfolding after_gap
+outside_before n depth mode.Outside = λ is. refl
+outside_before n depth mode.Braces = cond_both (n == 0) _ _ (λ (s : State). s.mode ≡ mode.Outside → mode.Braces ≡ mode.Outside) (λ _ is. is) (λ _ is. is)
+outside_before n depth (mode.Brackets bracket.Nothing) =
+    cond_both (n == 0) _ _ (λ (s : State). s.mode ≡ mode.Outside → mode.Brackets bracket.Nothing ≡ mode.Outside) (λ _ is. is) (λ _ is. cc)
+outside_before n depth (mode.Brackets bracket.Something) =
+    cond_both (n == 0) _ _ (λ (s : State). s.mode ≡ mode.Outside → mode.Brackets bracket.Something ≡ mode.Outside) (λ _ is. is) (λ _ is. is)
+outside_before n depth (mode.Brackets bracket.Colon) =
+    cond_both (n == 0) _ _ (λ (s : State). s.mode ≡ mode.Outside → mode.Brackets bracket.Colon ≡ mode.Outside) (λ _ is. is) (λ _ is. is)
+
+gap_depth : (n : ℕ) (state : State) → (after_gap n state).depth ≡ state.depth
+unfolding after_gap
+gap_depth n state = cond_both (n == 0) _ _ (λ (s : State). s.depth ≡ state.depth) (λ _. refl) (λ _. refl)
+
+-- what is behind a gap of n bytes, and the gap
+record Behind (before : List ℕ) (state : State) (z : Text) (n : ℕ) : Type 0 where
+  at : IsAt before state
+  fits : n ≤ length z
+  gap : IsGapIn (mode_at before) (take n z) (drop n z)
+
+behind_gap : (before : List ℕ) (state : State) (z : Text) → IsAt before state → Behind before state z (gap_len state.mode z)
+behind_gap before state z h = record {
+  at = h;
+  fits = (gap_len_ends state.mode z).within;
+  gap = subst (λ m. IsGapIn m (take (gap_len state.mode z) z) (drop (gap_len state.mode z) z)) h.mode (is_gap state.mode z);
+}
+
+-- the end
+told_end : (before : List ℕ) (state : State) (at : ℕ) (z : Text) (n : ℕ) (t : ℕ × ℕ) → Behind before state z n → piece (after_gap n state) (drop n z) ≡ Ok t → (t.0 == 6) ≡ true
+    → IsTold before at z (Ok (record { id = t.0; start = at + n; len = length (take t.1 (drop n z)) }) ∷ [])
+told_end before state at z n t k is six =
+    let e = at_end (after_gap n state) (drop n z) t is six in
+    let fits = k.fits in
+    let none = ap length e.none in
+    let all : n ≡ length z = omega (arith, length-drop n z) in
+    let whole : take n z ≡ z = ap (λ n. take n z) all ∙ take-length z in
+    let m : mode_at before ≡ mode.Outside = sym k.at.mode ∙ outside_before n state.depth state.mode e.mode in
+    let d : (state_at before).depth ≡ 0 = ap (λ s. s.depth) (sym (is_state before state k.at)) ∙ sym (gap_depth n state) ∙ e.depth in
+    let gap : IsGapIn (mode_at before) z [] = subst (λ g. IsGapIn (mode_at before) g []) whole (subst (λ r. IsGapIn (mode_at before) (take n z) r) e.none k.gap) in
+    let empty : length (take t.1 (drop n z)) ≡ 0 = ap (λ r. length (take t.1 r)) e.none ∙ nil t.1 in
+    inl ([], (gap, m, d), λ i. Ok (record { id = eqb-true t.0 6 six i; start = at + all i; len = empty i }) ∷ [])
+  where
+    none_of : Text
+    none_of = []
+
+    nil : (k : ℕ) → length (take k none_of) ≡ 0
+    nil zero = refl
+    nil (suc k) = refl
+
+-- a fault
+told_fault : (before : List ℕ) (state : State) (at : ℕ) (z : Text) (n : ℕ) (f : LexFaultKind × ℕ) → Behind before state z n → piece (after_gap n state) (drop n z) ≡ Err f
+    → IsTold before at z (Err (record { kind = f.0; at = at + n + f.1; ch = shown f.0 (drop f.1 (drop n z)) }) ∷ [])
+told_fault before state at z n f k is =
+    let rest = drop n z in
+    let u = take f.1 rest in
+    let v = drop f.1 rest in
+    let ends = subst (PieceEnds rest) is (piece_ends (after_gap n state) rest) in
+    let within : f.1 ≤ length rest = ends.within in
+    let fits = k.fits in
+    let len : f.1 ≡ length u = sym (length-take-le f.1 rest within) in
+    let seam : rest ≡ u ++ v = sym (take-append-drop f.1 rest) in
+    let s = after_gap n state in
+    let reads : piece s (u ++ v) ≡ Err (f.0, length u) = ap (piece s) (sym seam) ∙ is ∙ ap (λ n. Err (f.0, n)) len in
+    let here = (faults s f.0 u v).0 reads in
+    let g = take n z in
+    let same : s ≡ state_after before g = gap_state before state g n k.at (sym (length-take-le n z fits)) in
+    let place : at + n + f.1 + length v ≡ at + length z = omega (arith, length-drop f.1 rest, length-drop n z) in
+    let e : LexFault = record { kind = f.0; at = at + n + f.1; ch = shown f.0 v } in
+    inr (e, [],
+      (g, u, v, sym (take-append-drop n z) ∙ ap (λ r. g ++ r) seam, subst (IsGapIn (mode_at before) g) seam k.gap, subst (λ (s : State). IsFault f.0 s.mode s.depth u v) same here, place, refl),
+      refl)
+
+-- a token, and what is read behind it
+told_token : (before : List ℕ) (state : State) (at : ℕ) (z : Text) (n : ℕ) (t : ℕ × ℕ) (rs : List (Result Lexeme LexFault)) → Behind before state z n → piece (after_gap n state) (drop n z) ≡ Ok t → (t.0 == 6) ≡ false
+    → let w = take t.1 (drop n z) in IsTold (t.0 ∷ before) (at + n + length w) (drop (n + length w) z) rs
+    → IsTold before at z (Ok (record { id = t.0; start = at + n; len = length w }) ∷ rs)
+told_token before state at z n t rs k is more rest_told =
+    let rest = drop n z in
+    let w = take t.1 rest in
+    let r = drop t.1 rest in
+    let ends = subst (PieceEnds rest) is (piece_ends (after_gap n state) rest) in
+    let within : t.1 ≤ length rest = ends.0.within in
+    let fits = k.fits in
+    let len : t.1 ≡ length w = sym (length-take-le t.1 rest within) in
+    let seam : rest ≡ w ++ r = sym (take-append-drop t.1 rest) in
+    let s = after_gap n state in
+    let reads : piece s (w ++ r) ≡ Ok (t.0, length w) = ap (piece s) (sym seam) ∙ is ∙ ap (λ n. Ok (t.0, n)) len in
+    let g = take n z in
+    let g_len : length g ≡ n = length-take-le n z fits in
+    let same : s ≡ state_after before g = gap_state before state g n k.at (sym g_len) in
+    let begins = subst (λ (s : State). MayBegin s.mode s.depth t.0 w r) same (piece_begins s t.0 w r reads more) in
+    let behind_it : drop (n + length w) z ≡ r = sym (drop-drop (length w) n z) ∙ ap (λ n. drop n rest) (sym len) in
+    let total : at + n + length w + length r ≡ at + length z = omega (arith, length-drop t.1 rest, length-drop n z) in
+    let whole : z ≡ g ++ (w ++ r) = sym (take-append-drop n z) ∙ ap (λ r. g ++ r) seam in
+    let gap : IsGapIn (mode_at before) g (w ++ r) = subst (IsGapIn (mode_at before) g) seam k.gap in
+    let step : Step = (g, t.0, w) in
+    let from : at + length g + length w ≡ at + n + length w = ap (λ k. at + k + length w) g_len in
+    ⊎_elim
+    (λ e. inl (step ∷ e.0, (r, whole, gap, begins, e.1),
+      ap (λ rs. Ok (record { id = t.0; start = at + n; len = length w }) ∷ rs) e.2
+      ∙ (λ i. Ok (record { id = t.0; start = at + sym g_len i; len = length w }) ∷ map (λ x. Ok x) (places (sym from i) e.0 ++ record { id = 6; start = total i; len = 0 } ∷ []))))
+    (λ e. inr (e.0, step ∷ e.1, (r, whole, gap, begins, subst (λ n. IsRead (EndsIn e.0 n) (t.0 ∷ before) r e.1) total e.2),
+      ap (λ rs. Ok (record { id = t.0; start = at + n; len = length w }) ∷ rs) e.3
+      ∙ (λ i. Ok (record { id = t.0; start = at + sym g_len i; len = length w }) ∷ (map (λ x. Ok x) (places (sym from i) e.1) ++ Err e.0 ∷ []))))
+    (subst (λ r. IsTold (t.0 ∷ before) (at + n + length w) r rs) behind_it rest_told)
+
+told_piece : (before : List ℕ) (state : State) (at : ℕ) (z : Text) (n : ℕ) (p : Piece) (fs : List Found) → Behind before state z n → piece (after_gap n state) (drop n z) ≡ p
+    → (goes_on (what p (drop n z)) ≡ false → fs ≡ [])
+    → (goes_on (what p (drop n z)) ≡ true → IsTold (ids_behind before (what p (drop n z))) (at + n + len_of (what p (drop n z))) (drop (n + len_of (what p (drop n z))) z) (placed (at + n + len_of (what p (drop n z))) fs))
+    → IsTold before at z (placed at (record { gap = n; what = what p (drop n z) } ∷ fs))
+told_piece before state at z n (Ok t) fs k is stops goes =
+    let w = take t.1 (drop n z) in
+    split (t.0 == 6)
+    (λ six. subst (λ fs. IsTold before at z (placed at (record { gap = n; what = Ok (t.0, w) } ∷ fs))) (sym (stops (ap not six))) (told_end before state at z n t k is six))
+    (λ more. told_token before state at z n t (placed (at + n + length w) fs) k is more (goes (ap not more)))
+told_piece before state at z n (Err f) fs k is stops goes =
+    subst (λ fs. IsTold before at z (placed at (record { gap = n; what = Err (f.0, f.1, shown f.0 (drop f.1 (drop n z))) } ∷ fs))) (sym (stops refl)) (told_fault before state at z n f k is)
+
+told : (fs : List Found) (before : List ℕ) (state : State) (at : ℕ) (z : Text) → IsAt before state → cut state z ≡ fs → IsTold before at z (placed at fs)
+unfolding found
+told [] before state at z h is = let head = cut_is state z in absurd (cc)
+told (f ∷ fs) before state at z h is =
+    let n = gap_len state.mode z in
+    let p = piece (after_gap n state) (drop n z) in
+    let w = what p (drop n z) in
+    let head = sym is ∙ cut_is state z in
+    let first : f ≡ record { gap = n; what = w } = cc in
+    let rest : fs ≡ cond (goes_on w) (cut (behind state w) (drop (n + len_of w) z)) [] = cc in
+    let next = next_at before state z w h refl in
+    subst (λ f. IsTold before at z (placed at (f ∷ fs))) (sym first)
+    (told_piece before state at z n p fs (behind_gap before state z h) refl
+    (λ stops. rest ∙ ap (λ b. cond b (cut (behind state w) (drop (n + len_of w) z)) []) stops)
+    (λ goes. told fs (ids_behind before w) (behind state w) (at + n + len_of w) (drop (n + len_of w) z) next (sym (rest ∙ ap (λ b. cond b (cut (behind state w) (drop (n + len_of w) z)) []) goes))))
+
+-- ---- and nothing else
+
+-- what is found, where the gap and what is behind it are known
+found_is : (before : List ℕ) (state : State) (g r : Text) → IsAt before state → IsGapIn (mode_at before) g r → found state (g ++ r) ≡ record { gap = length g; what = what (piece (state_after before g) r) r }
+unfolding found
+found_is before state g r h gap =
+    let len : gap_len state.mode (g ++ r) ≡ length g = ap (λ m. gap_len m (g ++ r)) h.mode ∙ gap_passed (mode_at before) g r gap in
+    let rest : drop (gap_len state.mode (g ++ r)) (g ++ r) ≡ r = ap (λ n. drop n (g ++ r)) len ∙ drop-append_seam g r in
+    let same : after_gap (gap_len state.mode (g ++ r)) state ≡ state_after before g = gap_state before state g (gap_len state.mode (g ++ r)) h len in
+    λ i. record { gap = len i; what = what (piece (same i) (rest i)) (rest i) }
+
+-- after steps, what is placed of the rest
+steps_placed : (Rest : List ℕ → Text → Type 0) (tail : List (Result Lexeme LexFault)) (total : ℕ) (ts : List Step) (before : List ℕ) (state : State) (at : ℕ) (z : Text)
+    → ((before : List ℕ) (state : State) (at : ℕ) (z : Text) → IsAt before state → at + length z ≡ total → Rest before z → placed at (cut state z) ≡ tail)
+    → IsAt before state → at + length z ≡ total → IsRead Rest before z ts → placed at (cut state z) ≡ map (λ x. Ok x) (places at ts) ++ tail
+steps_placed Rest tail total [] before state at z last h len read = last before state at z h len read
+steps_placed Rest tail total (t ∷ ts) before state at z last h len read =
+    let g = t.0 in
+    let id = t.1 in
+    let w = t.2 in
+    let r = read.0 in
+    let s = state_after before g in
+    let begins = begins_piece s id w r read.3 in
+    let what_is : what (piece s (w ++ r)) (w ++ r) ≡ Ok (id, w) = ap (λ p. what p (w ++ r)) begins.0 ∙ ap (λ w. Ok (id, w)) (take-append_seam w r) in
+    let f : found state z ≡ record { gap = length g; what = Ok (id, w) } = ap (found state) read.1 ∙ found_is before state g (w ++ r) h read.2 ∙ ap (λ w. record { gap = length g; what = w }) what_is in
+    let behind_it : drop (length g + length w) z ≡ r =
+    ap (drop (length g + length w)) read.1 ∙ sym (drop-drop (length w) (length g) (g ++ (w ++ r))) ∙ ap (drop (length w)) (drop-append_seam g (w ++ r)) ∙ drop-append_seam w r in
+    let goes : goes_on (Ok (id, w)) ≡ true = ap not begins.1 in
+    let next : IsAt (id ∷ before) (after state id) = next_at before state z (Ok (id, w)) h (ap (λ f. f.what) f) in
+    let here : ℕ = at + length g + length w in
+    let whole : length z ≡ length g + (length w + length r) = ap length read.1 ∙ length-append g (w ++ r) ∙ ap (λ n. length g + n) (length-append w r) in
+    let more = steps_placed Rest tail total ts (id ∷ before) (after state id) here r last next (omega arith) read.4 in
+    ap (placed at) (cut_is state z)
+    ∙ ap (λ f. placed at (f ∷ cond (goes_on f.what) (cut (behind state f.what) (drop (f.gap + len_of f.what) z)) [])) f
+    ∙ ap (λ b. placed at (record { gap = length g; what = Ok (id, w) } ∷ cond b (cut (after state id) (drop (length g + length w) z)) [])) goes
+    ∙ ap (λ r. Ok (record { id = id; start = at + length g; len = length w }) ∷ placed here (cut (after state id) r)) behind_it
+    ∙ ap (λ rs. Ok (record { id = id; start = at + length g; len = length w }) ∷ rs) more
+
+outside_end : (n : ℕ) (s : State) → s.mode ≡ mode.Outside → s.depth ≡ 0 → after_gap n s ≡ record { depth = 0; mode = mode.Outside }
+unfolding after_gap
+outside_end n s m d = ap (after_gap n) (λ i. record { depth = d i; mode = m i }) ∙ cond_both (n == 0) _ _ (λ (s : State). s ≡ record { depth = 0; mode = mode.Outside }) (λ _. refl) (λ _. refl)
+
+empty : what (piece (record { depth = 0; mode = mode.Outside }) []) [] ≡ Ok (6, [])
+unfolding piece
+empty = refl
+
+-- the end, in a text of this length
+end_placed : (total : ℕ) (before : List ℕ) (state : State) (at : ℕ) (z : Text) → IsAt before state → at + length z ≡ total → IsEnd before z
+    → placed at (cut state z) ≡ Ok (record { id = 6; start = total; len = 0 }) ∷ []
+end_placed total before state at z h len e =
+    let nil : z ++ [] ≡ z = append_nil z in
+    let at_rest : state_after before z ≡ record { depth = 0; mode = mode.Outside } = outside_end (length z) (state_at before) e.1 e.2 in
+    let what_is : what (piece (state_after before z) []) [] ≡ Ok (6, []) = ap (λ s. what (piece s []) []) at_rest ∙ empty in
+    let f : found state z ≡ record { gap = length z; what = Ok (6, []) } = ap (found state) (sym nil) ∙ found_is before state z [] h e.0 ∙ ap (λ w. record { gap = length z; what = w }) what_is in
+    ap (placed at) (cut_is state z) ∙ ap (λ f. placed at (f ∷ cond (goes_on f.what) (cut (behind state f.what) (drop (f.gap + len_of f.what) z)) [])) f
+    ∙ ap (λ n. Ok (record { id = 6; start = n; len = 0 }) ∷ []) len
+  where
+    append_nil : (t : Text) → t ++ [] ≡ t
+    append_nil [] = refl
+    append_nil (b ∷ t) = ap (λ t. b ∷ t) (append_nil t)
+
+-- the fault
+fault_placed : (f : LexFault) (total : ℕ) (before : List ℕ) (state : State) (at : ℕ) (z : Text) → IsAt before state → at + length z ≡ total → EndsIn f total before z → placed at (cut state z) ≡ Err f ∷ []
+fault_placed f total before state at z h len e =
+    let g = e.0 in
+    let u = e.1 in
+    let v = e.2 in
+    let s = state_after before g in
+    let reads : piece s (u ++ v) ≡ Err (f.kind, length u) = (faults s f.kind u v).1 e.5 in
+    let what_is : what (piece s (u ++ v)) (u ++ v) ≡ Err (f.kind, length u, f.ch) =
+    ap (λ p. what p (u ++ v)) reads ∙ ap (λ v. Err (f.kind, length u, shown f.kind v)) (drop-append_seam u v) ∙ ap (λ c. Err (f.kind, length u, c)) (sym e.7) in
+    let found_it : found state z ≡ record { gap = length g; what = Err (f.kind, length u, f.ch) } =
+    ap (found state) e.3 ∙ found_is before state g (u ++ v) h e.4 ∙ ap (λ w. record { gap = length g; what = w }) what_is in
+    let whole : length z ≡ length g + (length u + length v) = ap length e.3 ∙ length-append g (u ++ v) ∙ ap (λ n. length g + n) (length-append u v) in
+    let place_is = e.6 in
+    let place : at + length g + length u ≡ f.at = omega arith in
+    ap (placed at) (cut_is state z) ∙ ap (λ f. placed at (f ∷ cond (goes_on f.what) (cut (behind state f.what) (drop (f.gap + len_of f.what) z)) [])) found_it
+    ∙ ap (λ n. Err (record { kind = f.kind; at = n; ch = f.ch }) ∷ []) place
+
+-- ---- the laws
+
+map_end : (ys : List Lexeme) (x : Lexeme) → ◌≡◌ {A = List (Result Lexeme LexFault)} (map (λ x. Ok x) ys ++ Ok x ∷ []) (map (λ x. Ok x) (ys ++ x ∷ []))
+map_end [] x = refl
+map_end (y ∷ ys) x = ap (λ rs. Ok y ∷ rs) (map_end ys x)
+
+pub items_to_end : (s : Text) (ts : List Step) → IsRead IsEnd [] s ts → items s ≡ map (λ x. Ok x) (to_end s ts)
+items_to_end s ts read =
+    steps_placed IsEnd (Ok (record { id = 6; start = length s; len = 0 }) ∷ []) (length s) ts [] start 0 s (end_placed (length s)) at_start (zero-add (length s)) read
+    ∙ map_end (places 0 ts) (record { id = 6; start = length s; len = 0 })
+
+pub items_to_fault : (s : Text) (f : LexFault) (ts : List Step) → IsRead (EndsIn f (length s)) [] s ts → items s ≡ map (λ x. Ok x) (places 0 ts) ++ Err f ∷ []
+items_to_fault s f ts read = steps_placed (EndsIn f (length s)) (Err f ∷ []) (length s) ts [] start 0 s (fault_placed f (length s)) at_start (zero-add (length s)) read
+
+-- how the items of a text are read
+abbrev pub IsItems : Text → List (Result Lexeme LexFault) → Type 0
+IsItems s rs =
+    ((ts : List Step) × IsRead IsEnd [] s ts × (rs ≡ map (λ x. Ok x) (to_end s ts)))
+    ⊎ ((f : LexFault) × (ts : List Step) × IsRead (EndsIn f (length s)) [] s ts × (rs ≡ map (λ x. Ok x) (places 0 ts) ++ Err f ∷ []))
+
+pub items_told : (s : Text) → IsItems s (items s)
+items_told s =
+    let n = zero-add (length s) in
+    ⊎_elim
+    (λ e. inl (e.0, e.1, e.2 ∙ ap (λ n. map (λ x. Ok x) (places 0 e.0 ++ record { id = 6; start = n; len = 0 } ∷ [])) n))
+    (λ e. inr (e.0, e.1, subst (λ n. IsRead (EndsIn e.0 n) [] s e.1) n e.2, e.3))
+    (told (cut start s) [] start 0 s at_start refl)
+
+pub only_items : OnlyItems
+only_items s rs = (
+  λ is. subst (IsItems s) is (items_told s),
+  λ h. ⊎_elim (λ e. items_to_end s e.0 e.1 ∙ sym e.2) (λ e. items_to_fault s e.0 e.1 e.2 ∙ sym e.3) h,
+)
+
+all_tokens : (xs : List Lexeme) → collected (map (λ x. Ok x) xs) ≡ Ok xs
+all_tokens [] = refl
+all_tokens (x ∷ xs) = ap (with_front (x ∷ [])) (all_tokens xs)
+
+one_fault : (xs : List Lexeme) (f : LexFault) → collected (map (λ x. Ok x) xs ++ Err f ∷ []) ≡ Err f
+one_fault [] f = refl
+one_fault (x ∷ xs) f = ap (with_front (x ∷ [])) (one_fault xs f)
+
+pub only_tokens : OnlyTokens
+unfolding lex
+only_tokens s xs = (
+  λ is. ⊎_elim
+  (λ e. let same : to_end s e.0 ≡ xs = let r = sym (ap collected e.2 ∙ all_tokens (to_end s e.0)) ∙ is in cc in (e.0, e.1, sym same))
+  (λ e. let r = sym (ap collected e.3 ∙ one_fault (places 0 e.1) e.0) ∙ is in absurd (cc))
+  (items_told s),
+  λ e. ap collected (items_to_end s e.0 e.1) ∙ all_tokens (to_end s e.0) ∙ ap (λ xs. Ok xs) (sym e.2),
+)
+
+pub only_fault : OnlyFault
+unfolding lex
+only_fault s f = (
+  λ is. ⊎_elim
+  (λ e. let r = sym (ap collected e.2 ∙ all_tokens (to_end s e.0)) ∙ is in absurd (cc))
+  (λ e. let same : e.0 ≡ f = let r = sym (ap collected e.3 ∙ one_fault (places 0 e.1) e.0) ∙ is in cc in (e.1, subst (λ f. IsRead (EndsIn f (length s)) [] s e.1) same e.2))
+  (items_told s),
+  λ e. ap collected (items_to_fault s f e.0 e.1) ∙ one_fault (places 0 e.0) f,
+)

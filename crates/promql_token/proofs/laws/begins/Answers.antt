@@ -1,0 +1,5 @@
+use Rattle.promql_token.proofs.Begun.{begins, faults}
+use Rattle.promql_token.proofs.laws.begins.Goals as goal
+
+pub returns : goal.returns
+returns c = record { token = begins; fault = faults }

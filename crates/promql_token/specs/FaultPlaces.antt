@@ -1,0 +1,68 @@
+-- Which fault a text has: u is what is passed of the token at fault, v what begins at the fault's place (docs/TOKENS.md, "Faults").
+use Rattle.std.specs.Prelude.{◌≡◌, ◌⊎◌, ◌↔◌, ℕ, zero, suc, ◌<◌, Bool, true, false, not, ◌&&◌, ◌||◌, ◌==◌, List, [], ◌∷◌, ◌++◌, length, codes, Err}
+use Rattle.std.specs.Char.{is_ascii_digit}
+use Rattle.std.specs.List.{list_all, list_any}
+use Rattle.promql_token.specs.declared.class.Class.TheVariants as class
+use Rattle.promql_token.specs.declared.fault.LexFaultKind.{LexFaultKind}
+use Rattle.promql_token.specs.declared.fault.LexFaultKind.TheVariants.{UnclosedParen, AfterEqual, AfterBang, BangAtEnd, AfterDot, DotAtEnd, RightParen, RightBrace, RightBracket, Character, Numeral, Escape, EscapeAtEnd, OpenString, AfterBangInBraces, BraceInBraces, InBraces, EndInBraces, SecondColon, FirstColon, BracketInBrackets, InBrackets, EndInBrackets}
+use Rattle.promql_token.specs.declared.state.Bracket.TheVariants as bracket
+use Rattle.promql_token.specs.declared.state.Mode.{Mode}
+use Rattle.promql_token.specs.declared.state.Mode.TheVariants as mode
+use Rattle.promql_token.specs.declared.state.State.{State}
+use Rattle.promql_text.specs.Bytes.{backslash, colon, equal, left_brace, left_bracket, right_brace, right_bracket, right_paren, tilde}
+use Rattle.promql_text.specs.Texts.{Text}
+use Rattle.promql_token.specs.Begins.{IsBody, IsNumeral, has_escapes}
+use Rattle.promql_token.specs.Classes.{is_in, is_letter}
+use Rattle.promql_token.specs.Gaps.{next}
+use Rattle.promql_token.specs.Pieces.{begins_numeral, is_escape, is_quote, piece}
+use Rattle.promql_token.specs.Printed.{holds_strings, is_spelling, joined}
+
+-- u is passed, and v begins with this byte
+abbrev pub Meets : Text → ℕ → Text → Text → Type 0
+Meets w b u v = (u ≡ w) × ((next v == b) ≡ true)
+
+-- u is passed, and v begins with a byte of which this is false
+abbrev pub Misses : Text → (ℕ → Bool) → Text → Text → Type 0
+Misses w p u v = (u ≡ w) × (0 < length v) × (p (next v) ≡ false)
+
+abbrev pub begins_inside : Text → ℕ → Bool
+begins_inside signs b = list_any (λ k. b == k) signs
+
+-- no numeral is at the front
+abbrev pub NoNumeral : Text → Text → Type 0
+NoNumeral u v = (u ≡ []) × ((id : ℕ) (w r : Text) → v ≡ w ++ r → IsNumeral id w r → ⊥)
+
+-- a string up to a backslash
+abbrev pub IsEscaping : ℕ → Text → Type 0
+IsEscaping quote u = (has_escapes quote ≡ true) × (ps : List Text) × (list_all (is_spelling quote) ps ≡ true) × (u ≡ quote ∷ (joined ps ++ backslash ∷ []))
+
+abbrev pub IsFault : LexFaultKind → Mode → ℕ → Text → Text → Type 0
+IsFault UnclosedParen mode.Outside (suc depth) u v = (u ≡ []) × (v ≡ [])
+IsFault AfterEqual mode.Outside depth u v = Meets (codes "=") tilde u v
+IsFault AfterBang mode.Outside depth u v = Misses (codes "!") (λ b. b == equal) u v
+IsFault BangAtEnd m depth u v = (holds_strings m ≡ true) × (u ≡ codes "!") × (v ≡ [])
+IsFault AfterDot mode.Outside depth u v = Misses (codes ".") is_ascii_digit u v
+IsFault DotAtEnd mode.Outside depth u v = (u ≡ []) × (v ≡ codes ".")
+IsFault RightParen mode.Outside zero u v = Meets [] right_paren u v
+IsFault RightBrace mode.Outside depth u v = Meets [] right_brace u v
+IsFault RightBracket mode.Outside depth u v = Meets [] right_bracket u v
+IsFault Character mode.Outside depth u v = Misses [] (λ b. is_in class.Word b || (is_quote b || begins_inside (codes ".@,*/%+-^{[()}]=!<>") b)) u v
+IsFault Numeral mode.Outside depth u v = (begins_numeral v ≡ true) × NoNumeral u v
+IsFault Numeral (mode.Brackets inside) depth u v = (is_ascii_digit (next v) ≡ true) × NoNumeral u v
+IsFault Escape m depth u v = (holds_strings m ≡ true) × (quote : ℕ) × IsEscaping quote u × (0 < length v) × (is_escape quote (next v) ≡ false)
+IsFault EscapeAtEnd m depth u v = (holds_strings m ≡ true) × (quote : ℕ) × IsEscaping quote u × (v ≡ [])
+IsFault OpenString m depth u v = (holds_strings m ≡ true) × (u ≡ []) × (quote : ℕ) × (body : Text) × IsBody quote body × (v ≡ quote ∷ body)
+IsFault AfterBangInBraces mode.Braces depth u v = Misses (codes "!") (λ b. b == equal || b == tilde) u v
+IsFault BraceInBraces mode.Braces depth u v = Meets [] left_brace u v
+IsFault InBraces mode.Braces depth u v = Misses [] (λ b. is_letter b || (is_quote b || begins_inside (codes ",=!{}") b)) u v
+IsFault EndInBraces mode.Braces depth u v = (u ≡ []) × (v ≡ [])
+IsFault SecondColon (mode.Brackets bracket.Colon) depth u v = Meets [] colon u v
+IsFault FirstColon (mode.Brackets bracket.Nothing) depth u v = Meets [] colon u v
+IsFault BracketInBrackets (mode.Brackets inside) depth u v = Meets [] left_bracket u v
+IsFault InBrackets (mode.Brackets inside) depth u v = Misses [] (λ b. is_ascii_digit b || begins_inside (codes ":[]") b) u v
+IsFault EndInBrackets (mode.Brackets inside) depth u v = (u ≡ []) × (v ≡ [])
+IsFault kind m depth u v = ⊥
+
+-- what a text begins with in a state is a fault exactly if it has this fault there
+abbrev pub Faults : Type 0
+Faults = (state : State) (kind : LexFaultKind) (u v : Text) → (piece state (u ++ v) ≡ Err (kind, length u)) ↔ IsFault kind state.mode state.depth u v

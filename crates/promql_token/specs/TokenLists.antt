@@ -1,0 +1,63 @@
+-- The one way in which a text is gaps and tokens, to its end or to a fault (docs/TOKENS.md, "The token list of a text").
+use Rattle.std.specs.Prelude.{◌≡◌, ◌⊎◌, ◌↔◌, ℕ, ◌+◌, List, [], ◌∷◌, ◌++◌, length, map, Result, Ok, Err}
+use Rattle.promql_token.specs.declared.fault.LexFault.{LexFault}
+use Rattle.promql_token.specs.declared.ids.TheConstants.{T_EOF}
+use Rattle.promql_token.specs.declared.lexeme.Lexeme.{Lexeme}
+use Rattle.promql_token.specs.declared.state.Mode.TheVariants as mode
+use Rattle.promql_token.specs.declared.state.State.{State}
+use Rattle.promql_text.specs.Texts.{Text}
+use Rattle.promql_token.specs.Begins.{MayBegin}
+use Rattle.promql_token.specs.Cut.{mode_at, state_at}
+use Rattle.promql_token.specs.FaultPlaces.{IsFault}
+use Rattle.promql_token.specs.Gaps.{IsGapIn}
+use Rattle.promql_token.specs.Lexing.{items, lex, shown}
+use Rattle.promql_token.specs.Pieces.{after_gap}
+
+-- a gap, and the id and the text of the token after it
+abbrev pub Step : Type 0
+Step = Text × ℕ × Text
+
+-- the state after tokens with the ids `before` and this gap
+abbrev pub state_after : List ℕ → Text → State
+state_after before g = after_gap (length g) (state_at before)
+
+-- after tokens with the ids `before`, z is these gaps and tokens and then a rest
+abbrev pub IsRead : (List ℕ → Text → Type 0) → List ℕ → Text → List Step → Type 0
+IsRead Rest before z [] = Rest before z
+IsRead Rest before z (t ∷ ts) =
+    (r : Text) × (z ≡ t.0 ++ (t.2 ++ r)) × IsGapIn (mode_at before) t.0 (t.2 ++ r) × MayBegin (state_after before t.0).mode (state_after before t.0).depth t.1 t.2 r
+    × IsRead Rest (t.1 ∷ before) r ts
+
+-- the rest is a gap to the end, where nothing is open
+abbrev pub IsEnd : List ℕ → Text → Type 0
+IsEnd before z = IsGapIn (mode_at before) z [] × (mode_at before ≡ mode.Outside) × ((state_at before).depth ≡ 0)
+
+-- the rest is a gap and this fault, in a text of this length
+abbrev pub EndsIn : LexFault → ℕ → List ℕ → Text → Type 0
+EndsIn f len before z =
+    (g : Text) × (u : Text) × (v : Text) × (z ≡ g ++ (u ++ v)) × IsGapIn (mode_at before) g (u ++ v) × IsFault f.kind (state_after before g).mode (state_after before g).depth u v
+    × (f.at + length v ≡ len) × (f.ch ≡ shown f.kind v)
+
+-- the places of tokens from `at` on
+abbrev pub places : ℕ → List Step → List Lexeme
+places at [] = []
+places at (t ∷ ts) = record { id = t.1; start = at + length t.0; len = length t.2 } ∷ places (at + length t.0 + length t.2) ts
+
+-- with T_EOF at the text's end
+abbrev pub to_end : Text → List Step → List Lexeme
+to_end s ts = places 0 ts ++ record { id = T_EOF; start = length s; len = 0 } ∷ []
+
+-- a text has a token list exactly if it is read so
+abbrev pub OnlyTokens : Type 0
+OnlyTokens = (s : Text) (xs : List Lexeme) → (lex s ≡ Ok xs) ↔ ((ts : List Step) × IsRead IsEnd [] s ts × (xs ≡ to_end s ts))
+
+-- and a fault exactly if it is read so up to this fault
+abbrev pub OnlyFault : Type 0
+OnlyFault = (s : Text) (f : LexFault) → (lex s ≡ Err f) ↔ ((ts : List Step) × IsRead (EndsIn f (length s)) [] s ts)
+
+-- a lexer yields the tokens, and then the fault
+abbrev pub OnlyItems : Type 0
+OnlyItems =
+    (s : Text) (rs : List (Result Lexeme LexFault)) → (items s ≡ rs)
+    ↔ (((ts : List Step) × IsRead IsEnd [] s ts × (rs ≡ map (λ x. Ok x) (to_end s ts)))
+    ⊎ ((f : LexFault) × (ts : List Step) × IsRead (EndsIn f (length s)) [] s ts × (rs ≡ map (λ x. Ok x) (places 0 ts) ++ Err f ∷ [])))
