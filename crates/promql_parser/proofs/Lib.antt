@@ -16,8 +16,10 @@ pub mod LabelLists
 pub mod Leaves
 pub mod LexedItems
 pub mod LexedLabels
+pub mod LexedModifiers
 pub mod LexedSigns
 pub mod LexedValues
+pub mod LexedWords
 pub mod Listing
 pub mod MatcherBuilding
 pub mod MatcherLists

@@ -1,7 +1,7 @@
 -- Printed items that the lexer reads as their tokens (docs/PRINTING.md, "Nodes").
-use Rattle.std.specs.Prelude.{◌≡◌, ℕ, Bool, true, not, ◌&&◌, ◌==◌, List, [], ◌∷◌, ◌++◌, codes, map, slice_index, Ok}
+use Rattle.std.specs.Prelude.{◌≡◌, ℕ, Bool, true, not, ◌&&◌, ◌||◌, ◌==◌, List, [], ◌∷◌, ◌++◌, codes, map, slice_index, Ok}
 use Rattle.std.specs.List.{list_any}
-use Rattle.promql_text.specs.Bytes.{line_feed}
+use Rattle.promql_text.specs.Bytes.{line_feed, equal, tilde}
 use Rattle.promql_text.specs.Texts.{Text}
 use Rattle.promql_token.specs.Classes.{is_in}
 use Rattle.promql_token.specs.Lexing.{whats}
@@ -36,6 +36,10 @@ is_clear (b ∷ r) = is_break b && not (opens (b ∷ r))
 -- what may follow a keyword
 abbrev pub ends_word : Text → Bool
 ends_word r = not (is_in class.Word (slice_index r 0))
+
+-- what may follow an operator
+abbrev pub ends_operator : Text → Bool
+ends_operator r = let b = slice_index r 0 in ends_word r && not (b == equal || b == tilde)
 
 -- in front of any text that passes the test, the bytes of the items are read as their tokens, from the first state to the second
 abbrev pub LexesBefore : (Text → Bool) → State → State → List Item → Type 0
