@@ -159,7 +159,7 @@ module _ (g : Text → Answer) where
         let c = binary_checked op x.value y.value z.value t (passing_passes g (checked_binary op x.value y.value z.value) t z.leads) in
         let is = modifier_is m z.value z.is in
         subst (Canon g (grammar.binary op text m l r)) c.is (record {
-          kept = keeps_binary g op text m l r x.value y.value z.value t (whole g l x.value (canon l x.value h.0 w.0 x.is)) (whole g r y.value (canon r y.value h.1 w.1 y.is)) h is.0 is.1 c;
+          kept = keeps_binary g op text m l r x.value y.value z.value t (whole g l x.value (canon l x.value h.0 w.0 x.is)) (whole g r y.value (canon r y.value h.1 w.1 y.is)) h w.2 is.0 is.1 c;
           suffixes = tt;
         })
 

@@ -3,6 +3,7 @@ pub mod Asked
 pub mod Bases
 pub mod Canonical
 pub mod CanonicalNodes
+pub mod CanonicalTexts
 pub mod CanonicalTrees
 pub mod CheckedAgain
 pub mod Climbing
@@ -12,12 +13,16 @@ pub mod Failing
 pub mod Fails
 pub mod Forms
 pub mod Good
+pub mod KindRows
 pub mod LabelLists
 pub mod Leaves
+pub mod LexedFronts
 pub mod LexedItems
 pub mod LexedLabels
 pub mod LexedModifiers
 pub mod LexedSigns
+pub mod LexedTexts
+pub mod LexedTrees
 pub mod LexedValues
 pub mod LexedWords
 pub mod Listing

@@ -14,7 +14,7 @@ use Rattle.promql_grammar.specs.declared.kind.Kind.TheVariants as kind
 use Rattle.promql_grammar.specs.Grammar as grammar
 use Rattle.promql_grammar.specs.Grammar.{Derivation, Arguments}
 use Rattle.promql_grammar.specs.Pieces as piece
-use Rattle.promql_grammar.specs.Symbols.{Symbol}
+use Rattle.promql_grammar.specs.Symbols.{Symbol, kind_of}
 use Rattle.promql_label.specs.Answers.{Answer}
 use Rattle.promql_kind.specs.Functions.{name_of}
 use Rattle.promql_ast.specs.Selectors.{Selector, selector}
@@ -97,7 +97,7 @@ pub record IsName (k : Kind) (text : Text) : Type 0 where
   pub letters : is_word text ≡ true
   pub kind : k ≡ word_kind text
 
--- numbers have no sign, and the names of metrics and functions are words of their kinds
+-- numbers have no sign, the names of metrics and functions are words of their kinds, and operators have their ids
 abbrev mutual
   pub HasWords : Derivation → Type 0
   HasWords (grammar.number text) = IsUnsigned (read_number text)
@@ -107,7 +107,7 @@ abbrev mutual
   HasWords (grammar.aggregate op text c ds) = AllHaveWords ds
   HasWords (grammar.postfixed d p) = HasWords d
   HasWords (grammar.unary op text d) = HasWords d
-  HasWords (grammar.binary op text m l r) = HasWords l × HasWords r
+  HasWords (grammar.binary op text m l r) = HasWords l × HasWords r × (kind_of op ≡ kind.Operator op)
   HasWords d = Unit {0}
 
   pub AllHaveWords : Arguments → Type 0
