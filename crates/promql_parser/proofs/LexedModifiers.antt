@@ -17,7 +17,7 @@ use Rattle.promql_parser.specs.PrintedPieces.{fill_words, flag, group, matched, 
 use Rattle.promql_parser.proofs.LexedItems.{append_before, append_lex, before_any, blank_before, known_reads, last_before, nothing}
 use Rattle.promql_parser.proofs.LexedLabels.{matching_lex}
 use Rattle.promql_parser.proofs.LexedValues.{fills_lex}
-use Rattle.promql_parser.proofs.LexedWords.{not_true}
+use Rattle.promql_parser.proofs.LexedEnds.{not_true}
 use Rattle.promql_parser.proofs.PrintedBytes.{render_append}
 use Rattle.promql_parser.proofs.PrintedModifiers.{AreFills, IsMatched}
 

@@ -25,7 +25,7 @@ use Rattle.promql_parser.specs.PrintedPieces as printed
 use Rattle.promql_parser.proofs.LexedItems.{Reads, append_lex, blank_then, close_reads, known_reads, nothing, open_reads, token_then}
 use Rattle.promql_parser.proofs.LexedSigns.{minus_lex}
 
-minus_reads : (depth : ℕ) (r : Text) → Reads (at_depth depth) (at_depth depth) (word (kind.Operator T_SUB) (codes "-")) r
+pub minus_reads : (depth : ℕ) (r : Text) → Reads (at_depth depth) (at_depth depth) (word (kind.Operator T_SUB) (codes "-")) r
 minus_reads depth r = record { id = 40; is = refl; reads = minus_lex depth r }
 
 -- the number of a value, and the parenthesis after it

@@ -22,30 +22,10 @@ use Rattle.promql_grammar.specs.declared.kind.TheConstants.{KINDS}
 use Rattle.promql_grammar.specs.Symbols.{is_sign, kind_in, kind_of, sign, symbol, word}
 use Rattle.promql_parser.specs.Lexes.{at_depth, ends_operator, ends_word}
 use Rattle.promql_parser.specs.PrintedPieces.{word_kind}
+use Rattle.promql_parser.proofs.LexedEnds.{All, among, and_cases, not_true, or_cases}
 use Rattle.promql_parser.proofs.LexedItems.{Reads, known_reads}
 
-and_cases : (a b : Bool) → (a && b) ≡ true → (a ≡ true) × (b ≡ true)
-and_cases true b e = (refl, e)
-and_cases false b e = cc
-
-or_cases : (a b : Bool) → (a || b) ≡ true → (a ≡ true) ⊎ (b ≡ true)
-or_cases true b e = inl refl
-or_cases false b e = inr e
-
-pub not_true : (b : Bool) → not b ≡ true → b ≡ false
-not_true true e = cc
-not_true false e = refl
-
 -- ---- ids
-
--- what holds of each id of a list holds of one that is among them
-abbrev All : (ℕ → Type 0) → List ℕ → Type 0
-All P [] = Unit {0}
-All P (id ∷ ids) = P id × All P ids
-
-among : (P : ℕ → Type 0) (ids : List ℕ) (id : ℕ) → All P ids → list_any (λ k. id == k) ids ≡ true → P id
-among P [] id all is = cc
-among P (k ∷ ids) id all is = ⊎_elim (λ h. subst P (sym (eqb-true id k h)) all.0) (λ h. among P ids id all.1 h) (or_cases (id == k) (list_any (λ k. id == k) ids) is)
 
 -- a test of ids and their kinds, by the table
 abbrev every : (ℕ → Kind → Bool) → List (ℕ × Kind) → Bool

@@ -14,9 +14,11 @@ pub mod Forms
 pub mod Good
 pub mod LabelLists
 pub mod Leaves
+pub mod LexedEnds
 pub mod LexedItems
 pub mod LexedLabels
 pub mod LexedModifiers
+pub mod LexedPostfixes
 pub mod LexedSigns
 pub mod LexedValues
 pub mod LexedWords

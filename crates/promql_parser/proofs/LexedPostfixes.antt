@@ -1,0 +1,264 @@
+-- The lexer reads printed numbers, ranges, subqueries, times, offsets and range modes as their tokens.
+use Rattle.std.proofs.Common.{◌≡◌, ℕ, suc, ℤ, ◌+◌, ◌*◌, ◌/◌, ◌%◌, ◌^◌, ◌<◌, refl, sym, ◌∙◌, ap, subst, arith, Bool, true, false, cond, ◌&&◌, Option, Some, None, List, [], ◌∷◌, ◌++◌, length, length-append, codes, Ok, append_assoc}
+use Rattle.std.specs.Prelude.{◌==◌, option_map, unsigned_abs}
+use Rattle.std.specs.Char.{digit_value, is_ascii_digit}
+use Rattle.std.specs.Fmt.{decimal}
+use Rattle.std.specs.Int.{is_negative}
+use Rattle.std.specs.List.{list_all}
+use Rattle.std.specs.Str.Parse.{AllDigits}
+use Rattle.std.proofs.lemmas.Bool.{cond_both}
+use Rattle.std.proofs.lemmas.Bool.Decides.{nat_tests}
+use Rattle.std.proofs.lemmas.Fmt.{decimal_is_IsNumeral_wide}
+use Rattle.std.proofs.lemmas.List.Folds.{list_all-append}
+use Rattle.std.proofs.lemmas.Str.Parse.{digit_from_value}
+use Rattle.promql_text.specs.DurationText.{duration_text}
+use Rattle.promql_text.specs.Durations.{nanos_of}
+use Rattle.promql_text.specs.NumberText.{number_text}
+use Rattle.promql_text.specs.Texts.{Text}
+use Rattle.promql_text.specs.Values.{IsNumber, is_below_zero}
+use Rattle.promql_text.specs.declared.duration.Unit.TheVariants.{Milli}
+use Rattle.promql_text.specs.declared.number.Number.{Number}
+use Rattle.promql_token.specs.Ids.{keyword_in_any_case}
+use Rattle.promql_token.specs.Laws.{is_word, stops_numeral}
+use Rattle.promql_token.specs.Lexing.{whats}
+use Rattle.promql_token.specs.Pieces as pieces
+use Rattle.promql_token.specs.Pieces.{after, in_brackets, mode_after_something, outside, word_id}
+use Rattle.promql_token.specs.Printed as spelled
+use Rattle.promql_token.specs.Printed.{are_digits, holds_numerals}
+use Rattle.promql_token.specs.PrintedValues.{time_id}
+use Rattle.promql_token.specs.declared.ids.TheConstants.{T_DURATION, T_NUMBER, T_SUB}
+use Rattle.promql_token.specs.declared.state.Bracket.{Bracket}
+use Rattle.promql_token.specs.declared.state.Bracket.TheVariants as bracket
+use Rattle.promql_token.specs.declared.state.Mode.{Mode}
+use Rattle.promql_token.specs.declared.state.Mode.TheVariants as mode
+use Rattle.promql_token.specs.declared.state.State.{State}
+use Rattle.promql_token.proofs.Joins.{joins}
+use Rattle.promql_token.proofs.Printed.{joins_number}
+use Rattle.promql_token.proofs.PrintedValues.{joins_number_text, joins_time}
+use Rattle.promql_grammar.specs.declared.kind.Kind.{Kind}
+use Rattle.promql_grammar.specs.declared.kind.Kind.TheVariants as kind
+use Rattle.promql_grammar.specs.Pieces as piece
+use Rattle.promql_grammar.specs.Symbols.{sign, symbol_of, word}
+use Rattle.promql_ast.specs.Shifts.{Shift, back, ahead}
+use Rattle.promql_parser.specs.Lexes.{Lexes, LexesBefore, at_depth, ends_word, is_clear}
+use Rattle.promql_parser.specs.PrintedItems.{Item, token, blank, postfix_line, render, signed_line, spell, step_line, time_line}
+use Rattle.promql_parser.specs.PrintedPieces.{seconds_text, shift, time}
+use Rattle.promql_parser.specs.PrintedPieces as printed
+use Rattle.promql_parser.proofs.LexedEnds.{clear_colon, clear_ends, clear_stops, not_true}
+use Rattle.promql_parser.proofs.LexedItems.{Reads, append_before, before_any, before_fewer, blank_before, close_reads, known_reads, last_before, nothing, open_reads, token_before, token_then}
+use Rattle.promql_parser.proofs.LexedValues.{minus_reads}
+use Rattle.promql_parser.proofs.PrintedValues.{IsStep, IsTime}
+
+-- ---- numbers
+
+pub number_lex : (depth : ℕ) (v : Number) → IsNumber v → is_below_zero v ≡ false → LexesBefore is_clear (at_depth depth) (at_depth depth) (token (word kind.Number (number_text v)) ∷ [])
+number_lex depth v is above =
+    last_before is_clear (at_depth depth) (at_depth depth) (word kind.Number (number_text v))
+    (λ r clear. record { id = T_NUMBER; is = refl; reads = joins_number_text depth v r is above (clear_stops (number_text v) r clear) (clear_colon r clear) })
+
+-- ---- times
+
+abbrev in_bracket : ℕ → Bracket → State
+in_bracket depth inside = record { depth = depth; mode = mode.Brackets inside }
+
+after_time : (m : Mode) (depth n : ℕ) → after (record { depth = depth; mode = m }) (time_id n) ≡ record { depth = depth; mode = mode_after_something m }
+unfolding after
+after_time m depth n =
+    let s : State = record { depth = depth; mode = m } in
+    cond_both (n % nanos_of Milli == 0) T_DURATION T_NUMBER (λ id. after s id ≡ record { depth = depth; mode = mode_after_something m }) (λ _. refl) (λ _. refl)
+
+time_lex : (m : Mode) (depth n : ℕ) → holds_numerals m ≡ true → IsTime n
+    → LexesBefore (stops_numeral (duration_text n)) (record { depth = depth; mode = m }) (record { depth = depth; mode = mode_after_something m }) (time_line (time n))
+time_lex m depth n holds is =
+    let a : State = record { depth = depth; mode = m } in
+    let b : State = record { depth = depth; mode = mode_after_something m } in
+    let test = stops_numeral (duration_text n) in
+    let reads : (r : Text) → test r ≡ true → whats a (duration_text n ++ r) ≡ Ok (time_id n, duration_text n) ∷ whats b r =
+    (λ r stop. joins_time a n r holds is.some is.less stop ∙ ap (λ s. Ok (time_id n, duration_text n) ∷ whats s r) (after_time m depth n)) in
+    go a b test (n % nanos_of Milli == 0) reads
+  where
+    go : (a b : State) (test : Text → Bool) (x : Bool) → ((r : Text) → test r ≡ true → whats a (duration_text n ++ r) ≡ Ok (cond x T_DURATION T_NUMBER, duration_text n) ∷ whats b r)
+        → LexesBefore test a b (time_line (cond x (piece.duration (duration_text n)) (piece.seconds (duration_text n))))
+    go a b test true reads = last_before test a b (word kind.Duration (duration_text n)) (λ r stop. record { id = T_DURATION; is = refl; reads = reads r stop })
+    go a b test false reads = last_before test a b (word kind.Number (duration_text n)) (λ r stop. record { id = T_NUMBER; is = refl; reads = reads r stop })
+
+-- ---- ranges and subqueries
+
+bracket_reads : (depth : ℕ) (r : Text) → Reads (at_depth depth) (in_bracket depth bracket.Nothing) (sign kind.LeftBracket) r
+unfolding pieces.piece outside pieces.sign after
+bracket_reads depth r = record { id = 10; is = refl; reads = joins (at_depth depth) (91 ∷ []) r 10 (omega arith) refl refl }
+
+unbracket_reads : (depth : ℕ) (inside : Bracket) (r : Text) → Reads (in_bracket depth inside) (at_depth depth) (sign kind.RightBracket) r
+unfolding pieces.piece in_brackets after
+unbracket_reads depth inside r = record { id = 17; is = refl; reads = joins (in_bracket depth inside) (93 ∷ []) r 17 (omega arith) refl refl }
+
+colon_reads : (depth : ℕ) (r : Text) → Reads (in_bracket depth bracket.Something) (in_bracket depth bracket.Colon) (sign kind.Colon) r
+unfolding pieces.piece in_brackets after
+colon_reads depth r = record { id = 2; is = refl; reads = joins (in_bracket depth bracket.Something) (58 ∷ []) r 2 (omega arith) refl refl }
+
+abbrev any : Text → Bool
+any r = true
+
+-- a closing bracket, which ends a time
+closed_lex : (depth : ℕ) (inside : Bracket) → Lexes (in_bracket depth inside) (at_depth depth) (token (sign kind.RightBracket) ∷ [])
+closed_lex depth inside = token_then (in_bracket depth inside) (at_depth depth) (at_depth depth) (sign kind.RightBracket) [] (λ r. unbracket_reads depth inside r) (nothing (at_depth depth))
+
+-- a time, and a sign that ends it
+time_then : (depth n : ℕ) (inside : Bracket) (c : State) (is : List Item) → IsTime n → ((r : Text) → stops_numeral (duration_text n) (render is ++ r) ≡ true)
+    → let b : State = record { depth = depth; mode = mode_after_something (mode.Brackets inside) } in Lexes b c is → Lexes (in_bracket depth inside) c (time_line (time n) ++ is)
+time_then depth n inside c is time_is stop more r =
+    let b : State = record { depth = depth; mode = mode_after_something (mode.Brackets inside) } in
+    append_before (stops_numeral (duration_text n)) any (in_bracket depth inside) b c (time_line (time n)) is (λ r passes. stop r) (time_lex (mode.Brackets inside) depth n refl time_is) (before_any any b c is more) r refl
+
+pub range_lex : (depth n : ℕ) → IsTime n → Lexes (at_depth depth) (at_depth depth) (postfix_line (piece.range (time n)))
+range_lex depth n is =
+    let o = at_depth depth in
+    let rest = time_line (time n) ++ token (sign kind.RightBracket) ∷ [] in
+    token_then o (in_bracket depth bracket.Nothing) o (sign kind.LeftBracket) rest (λ r. bracket_reads depth (render rest ++ r))
+    (time_then depth n bracket.Nothing o (token (sign kind.RightBracket) ∷ []) is (λ r. refl) (closed_lex depth bracket.Something))
+
+step_lex : (depth : ℕ) (s : Option ℕ) → IsStep s → Lexes (in_bracket depth bracket.Colon) (at_depth depth) (step_line (option_map time s) ++ token (sign kind.RightBracket) ∷ [])
+step_lex depth None is = closed_lex depth bracket.Colon
+step_lex depth (Some n) is = time_then depth n bracket.Colon (at_depth depth) (token (sign kind.RightBracket) ∷ []) is (λ r. refl) (closed_lex depth bracket.Colon)
+
+pub subquery_lex : (depth n : ℕ) (s : Option ℕ) → IsTime n → IsStep s → Lexes (at_depth depth) (at_depth depth) (postfix_line (piece.subquery (time n) (option_map time s)))
+subquery_lex depth n s is step_is =
+    let o = at_depth depth in
+    let late = step_line (option_map time s) ++ token (sign kind.RightBracket) ∷ [] in
+    let rest = time_line (time n) ++ token (sign kind.Colon) ∷ late in
+    token_then o (in_bracket depth bracket.Nothing) o (sign kind.LeftBracket) rest (λ r. bracket_reads depth (render rest ++ r))
+    (time_then depth n bracket.Nothing o (token (sign kind.Colon) ∷ late) is (λ r. refl)
+    (token_then (in_bracket depth bracket.Something) (in_bracket depth bracket.Colon) o (sign kind.Colon) late (λ r. colon_reads depth (render late ++ r)) (step_lex depth s step_is)))
+
+-- ---- words before what they change
+
+at_reads : (depth : ℕ) (r : Text) → Reads (at_depth depth) (at_depth depth) (sign kind.At) r
+unfolding pieces.piece outside pieces.sign after
+at_reads depth r = record { id = 41; is = refl; reads = joins (at_depth depth) (64 ∷ []) r 41 (omega arith) refl refl }
+
+-- a sign, or none
+signed_before : (test : Text → Bool) (depth : ℕ) (b : Bool) (is : List Item) → LexesBefore test (at_depth depth) (at_depth depth) is → LexesBefore test (at_depth depth) (at_depth depth) (signed_line (printed.sign b) ++ is)
+signed_before test depth false is more = more
+signed_before test depth true is more = token_before test (at_depth depth) (at_depth depth) (at_depth depth) (word (kind.Operator T_SUB) (codes "-")) is (λ r passes. minus_reads depth (render is ++ r)) more
+
+offset_id : (r : Text) → word_id (codes "offset") r ≡ 66
+unfolding keyword_in_any_case
+offset_id r = refl
+
+after_offset : (depth n : ℕ) (b : Bool) → IsTime n
+    → LexesBefore is_clear (at_depth depth) (at_depth depth) (blank ∷ token (word kind.Offset (codes "offset")) ∷ blank ∷ (signed_line (printed.sign b) ++ time_line (time n)))
+after_offset depth n b is =
+    let o = at_depth depth in
+    let late = signed_line (printed.sign b) ++ time_line (time n) in
+    blank_before is_clear depth o (token (word kind.Offset (codes "offset")) ∷ blank ∷ late)
+    (token_before is_clear o o o (word kind.Offset (codes "offset")) (blank ∷ late) (λ r clear. known_reads depth (codes "offset") (32 ∷ (render late ++ r)) 66 kind.Offset refl (offset_id (32 ∷ (render late ++ r))) refl refl)
+    (blank_before is_clear depth o late
+    (signed_before is_clear depth b (time_line (time n)) (before_fewer (stops_numeral (duration_text n)) is_clear o o (time_line (time n)) (clear_stops (duration_text n)) (time_lex mode.Outside depth n refl is)))))
+
+pub back_lex : (depth n : ℕ) → IsTime n → LexesBefore is_clear (at_depth depth) (at_depth depth) (postfix_line (shift (back n)))
+back_lex depth n is = after_offset depth n false is
+
+pub ahead_lex : (depth n : ℕ) → IsTime n → LexesBefore is_clear (at_depth depth) (at_depth depth) (postfix_line (shift (ahead n)))
+ahead_lex depth n is = after_offset depth n true is
+
+smoothed_id : (r : Text) → word_id (codes "smoothed") r ≡ 67
+unfolding keyword_in_any_case
+smoothed_id r = refl
+
+anchored_id : (r : Text) → word_id (codes "anchored") r ≡ 68
+unfolding keyword_in_any_case
+anchored_id r = refl
+
+-- a word after a space
+last_word : (depth id : ℕ) (k : Kind) (w : Text) → is_word w ≡ true → ((r : Text) → word_id w r ≡ id) → symbol_of (id, w) ≡ word k w → LexesBefore is_clear (at_depth depth) (at_depth depth) (blank ∷ token (word k w) ∷ [])
+last_word depth id k w letters known symbol =
+    let o = at_depth depth in
+    blank_before is_clear depth o (token (word k w) ∷ []) (last_before is_clear o o (word k w) (λ r clear. known_reads depth w r id k letters (known r) symbol (not_true _ (clear_ends r clear))))
+
+pub smoothed_lex : (depth : ℕ) → LexesBefore is_clear (at_depth depth) (at_depth depth) (postfix_line (piece.mode kind.Smoothed (codes "smoothed")))
+smoothed_lex depth = last_word depth 67 kind.Smoothed (codes "smoothed") refl smoothed_id refl
+
+pub anchored_lex : (depth : ℕ) → LexesBefore is_clear (at_depth depth) (at_depth depth) (postfix_line (piece.mode kind.Anchored (codes "anchored")))
+anchored_lex depth = last_word depth 68 kind.Anchored (codes "anchored") refl anchored_id refl
+
+-- ---- times after `@`
+
+start_id : (r : Text) → word_id (codes "start") r ≡ 76
+unfolding keyword_in_any_case
+start_id r = refl
+
+end_id : (r : Text) → word_id (codes "end") r ≡ 77
+unfolding keyword_in_any_case
+end_id r = refl
+
+at_then : (test : Text → Bool) (depth : ℕ) (is : List Item) → LexesBefore test (at_depth depth) (at_depth depth) is → LexesBefore test (at_depth depth) (at_depth depth) (blank ∷ token (sign kind.At) ∷ blank ∷ is)
+at_then test depth is more =
+    let o = at_depth depth in
+    blank_before test depth o (token (sign kind.At) ∷ blank ∷ is)
+    (token_before test o o o (sign kind.At) (blank ∷ is) (λ r passes. at_reads depth (32 ∷ (render is ++ r))) (blank_before test depth o is more))
+
+pub bound_lex : (depth id : ℕ) (k : Kind) (w : Text) → is_word w ≡ true → ((r : Text) → word_id w r ≡ id) → symbol_of (id, w) ≡ word k w
+    → LexesBefore is_clear (at_depth depth) (at_depth depth) (postfix_line (piece.at_bound k w))
+bound_lex depth id k w letters known symbol =
+    let o = at_depth depth in
+    let shut = token (sign kind.RightParen) ∷ [] in
+    let empty = token (sign kind.LeftParen) ∷ shut in
+    at_then is_clear depth (token (word k w) ∷ empty)
+    (before_any is_clear o o (token (word k w) ∷ empty)
+    (token_then o o o (word k w) empty (λ r. known_reads depth w (40 ∷ 41 ∷ r) id k letters (known (40 ∷ 41 ∷ r)) symbol refl)
+    (token_then o (at_depth (suc depth)) o (sign kind.LeftParen) shut (λ r. open_reads depth (41 ∷ r))
+    (token_then (at_depth (suc depth)) o o (sign kind.RightParen) [] (λ r. close_reads depth r) (nothing o)))))
+
+pub start_lex : (depth : ℕ) → LexesBefore is_clear (at_depth depth) (at_depth depth) (postfix_line (piece.at_bound kind.Start (codes "start")))
+start_lex depth = bound_lex depth 76 kind.Start (codes "start") refl start_id refl
+
+pub end_lex : (depth : ℕ) → LexesBefore is_clear (at_depth depth) (at_depth depth) (postfix_line (piece.at_bound kind.End (codes "end")))
+end_lex depth = bound_lex depth 77 kind.End (codes "end") refl end_id refl
+
+one_digit : (c : ℕ) → digit_value c < 10 → is_ascii_digit c ≡ true
+one_digit c below = let h = digit_from_value c below in grind (arith, nat_tests)
+
+and_both : (a b : Bool) → a ≡ true → b ≡ true → (a && b) ≡ true
+and_both true b e h = h
+and_both false b e h = e
+
+all_digits : (ds : Text) → AllDigits 10 ds → are_digits ds ≡ true
+all_digits [] h = refl
+all_digits (c ∷ cs) h = and_both _ _ (one_digit c h.0) (all_digits cs h.1)
+
+record IsDigits (ds : Text) : Type 0 where
+  some : 0 < length ds
+  digits : are_digits ds ≡ true
+
+decimal_is : (n : ℕ) → n < 10 ^ 64 → IsDigits (decimal n)
+decimal_is n low = let is = decimal_is_IsNumeral_wide n low in record { some = is.0.0; digits = all_digits (decimal n) is.0.1 }
+
+digits_then : (xs ys : Text) → IsDigits xs → IsDigits ys → IsDigits (xs ++ ys)
+digits_then xs ys a b = record {
+  some = (let h = a.some in omega (arith, h, length-append xs ys));
+  digits = list_all-append is_ascii_digit xs ys ∙ and_both _ _ a.digits b.digits;
+}
+
+point_joins : (depth : ℕ) (whole fraction r : Text) → IsDigits whole → IsDigits fraction → stops_numeral (whole ++ (46 ∷ fraction)) r ≡ true
+    → whats (at_depth depth) ((whole ++ (46 ∷ fraction)) ++ r) ≡ Ok (T_NUMBER, whole ++ (46 ∷ fraction)) ∷ whats (at_depth depth) r
+unfolding after
+point_joins depth whole [] r w f stop = let none = f.some in absurd (omega arith)
+point_joins depth whole (b ∷ fraction) r w f stop = joins_number (at_depth depth) whole (b ∷ fraction) r refl w.some w.digits f.digits stop
+
+seconds_joins : (depth size : ℕ) (r : Text) → size < 2 ^ 64
+    → let text = decimal (size / 1000) ++ (46 ∷ (decimal (size / 100 % 10) ++ (decimal (size / 10 % 10) ++ decimal (size % 10)))) in stops_numeral text r ≡ true
+    → whats (at_depth depth) (text ++ r) ≡ Ok (T_NUMBER, text) ∷ whats (at_depth depth) r
+seconds_joins depth size r low =
+    point_joins depth (decimal (size / 1000)) (decimal (size / 100 % 10) ++ (decimal (size / 10 % 10) ++ decimal (size % 10))) r (decimal_is (size / 1000) (omega arith))
+    (digits_then (decimal (size / 100 % 10)) (decimal (size / 10 % 10) ++ decimal (size % 10)) (decimal_is (size / 100 % 10) (omega arith))
+    (digits_then (decimal (size / 10 % 10)) (decimal (size % 10)) (decimal_is (size / 10 % 10) (omega arith)) (decimal_is (size % 10) (omega arith))))
+
+-- milliseconds of no more than 64 bits
+pub at_time_lex : (depth : ℕ) (t : ℤ) → unsigned_abs t < 2 ^ 64 → LexesBefore is_clear (at_depth depth) (at_depth depth) (postfix_line (piece.at_number (printed.sign (is_negative t)) (seconds_text t)))
+unfolding seconds_text
+at_time_lex depth t low =
+    let o = at_depth depth in
+    let number = token (word kind.Number (seconds_text t)) ∷ [] in
+    at_then is_clear depth (signed_line (printed.sign (is_negative t)) ++ number)
+    (signed_before is_clear depth (is_negative t) number
+    (last_before is_clear o o (word kind.Number (seconds_text t)) (λ r clear. record { id = T_NUMBER; is = refl; reads = seconds_joins depth (unsigned_abs t) r low (clear_stops (seconds_text t) r clear) })))
