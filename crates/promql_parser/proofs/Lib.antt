@@ -14,6 +14,7 @@ pub mod Forms
 pub mod Good
 pub mod LabelLists
 pub mod Leaves
+pub mod LexedBraces
 pub mod LexedEnds
 pub mod LexedItems
 pub mod LexedLabels
