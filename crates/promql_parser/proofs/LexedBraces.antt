@@ -17,7 +17,7 @@ use Rattle.promql_token.proofs.PrintedValues.{joins_quoted}
 use Rattle.promql_token.proofs.Steps.{whats_run}
 use Rattle.promql_grammar.specs.declared.kind.Kind.TheVariants as kind
 use Rattle.promql_grammar.specs.Pieces as piece
-use Rattle.promql_grammar.specs.Symbols.{Symbol, sign, word}
+use Rattle.promql_grammar.specs.Symbols.{sign, word}
 use Rattle.promql_label.specs.PlainMatchers.{Operator, equal, not_equal, matches, matches_not, PlainMatcher, plain_matcher, PlainMatchers, plain_matchers, name_text}
 use Rattle.promql_ast.specs.Normal.{sorted_matchers}
 use Rattle.promql_parser.specs.Lexes.{Lexes, at_depth}

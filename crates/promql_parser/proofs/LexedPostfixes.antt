@@ -1,10 +1,9 @@
 -- The lexer reads printed numbers, ranges, subqueries, times, offsets and range modes as their tokens.
-use Rattle.std.proofs.Common.{◌≡◌, ℕ, suc, ℤ, ◌+◌, ◌*◌, ◌/◌, ◌%◌, ◌^◌, ◌<◌, refl, sym, ◌∙◌, ap, subst, arith, Bool, true, false, cond, ◌&&◌, Option, Some, None, List, [], ◌∷◌, ◌++◌, length, length-append, codes, Ok, append_assoc}
+use Rattle.std.proofs.Common.{◌≡◌, ℕ, suc, ℤ, ◌/◌, ◌%◌, ◌^◌, ◌<◌, refl, ◌∙◌, ap, arith, Bool, true, false, cond, ◌&&◌, Option, Some, None, List, [], ◌∷◌, ◌++◌, length, length-append, codes, Ok}
 use Rattle.std.specs.Prelude.{◌==◌, option_map, unsigned_abs}
 use Rattle.std.specs.Char.{digit_value, is_ascii_digit}
 use Rattle.std.specs.Fmt.{decimal}
 use Rattle.std.specs.Int.{is_negative}
-use Rattle.std.specs.List.{list_all}
 use Rattle.std.specs.Str.Parse.{AllDigits}
 use Rattle.std.proofs.lemmas.Bool.{cond_both}
 use Rattle.std.proofs.lemmas.Bool.Decides.{nat_tests}
@@ -23,7 +22,6 @@ use Rattle.promql_token.specs.Laws.{is_word, stops_numeral}
 use Rattle.promql_token.specs.Lexing.{whats}
 use Rattle.promql_token.specs.Pieces as pieces
 use Rattle.promql_token.specs.Pieces.{after, in_brackets, mode_after_something, outside, word_id}
-use Rattle.promql_token.specs.Printed as spelled
 use Rattle.promql_token.specs.Printed.{are_digits, holds_numerals}
 use Rattle.promql_token.specs.PrintedValues.{time_id}
 use Rattle.promql_token.specs.declared.ids.TheConstants.{T_DURATION, T_NUMBER, T_SUB}
@@ -39,10 +37,9 @@ use Rattle.promql_grammar.specs.declared.kind.Kind.{Kind}
 use Rattle.promql_grammar.specs.declared.kind.Kind.TheVariants as kind
 use Rattle.promql_grammar.specs.Pieces as piece
 use Rattle.promql_grammar.specs.Symbols.{sign, symbol_of, word}
-use Rattle.promql_ast.specs.Shifts.{Shift, back, ahead}
-use Rattle.promql_parser.specs.Lexes.{Lexes, LexesBefore, at_depth, ends_word, is_clear}
-use Rattle.promql_parser.specs.PrintedItems.{Item, token, blank, postfix_line, render, signed_line, spell, step_line, time_line}
-use Rattle.promql_parser.specs.PrintedPieces.{seconds_text, shift, time}
+use Rattle.promql_parser.specs.Lexes.{Lexes, LexesBefore, at_depth, is_clear}
+use Rattle.promql_parser.specs.PrintedItems.{Item, token, blank, postfix_line, render, signed_line, step_line, time_line}
+use Rattle.promql_parser.specs.PrintedPieces.{seconds_text, time}
 use Rattle.promql_parser.specs.PrintedPieces as printed
 use Rattle.promql_parser.proofs.LexedEnds.{clear_colon, clear_ends, clear_stops, not_true}
 use Rattle.promql_parser.proofs.LexedItems.{Reads, append_before, before_any, before_fewer, blank_before, close_reads, known_reads, last_before, nothing, open_reads, token_before, token_then}
@@ -145,21 +142,16 @@ offset_id : (r : Text) → word_id (codes "offset") r ≡ 66
 unfolding keyword_in_any_case
 offset_id r = refl
 
-after_offset : (depth n : ℕ) (b : Bool) → IsTime n
+-- `offset` with a time, before or ahead
+pub offset_lex : (depth n : ℕ) (b : Bool) → IsTime n
     → LexesBefore is_clear (at_depth depth) (at_depth depth) (blank ∷ token (word kind.Offset (codes "offset")) ∷ blank ∷ (signed_line (printed.sign b) ++ time_line (time n)))
-after_offset depth n b is =
+offset_lex depth n b is =
     let o = at_depth depth in
     let late = signed_line (printed.sign b) ++ time_line (time n) in
     blank_before is_clear depth o (token (word kind.Offset (codes "offset")) ∷ blank ∷ late)
     (token_before is_clear o o o (word kind.Offset (codes "offset")) (blank ∷ late) (λ r clear. known_reads depth (codes "offset") (32 ∷ (render late ++ r)) 66 kind.Offset refl (offset_id (32 ∷ (render late ++ r))) refl refl)
     (blank_before is_clear depth o late
     (signed_before is_clear depth b (time_line (time n)) (before_fewer (stops_numeral (duration_text n)) is_clear o o (time_line (time n)) (clear_stops (duration_text n)) (time_lex mode.Outside depth n refl is)))))
-
-pub back_lex : (depth n : ℕ) → IsTime n → LexesBefore is_clear (at_depth depth) (at_depth depth) (postfix_line (shift (back n)))
-back_lex depth n is = after_offset depth n false is
-
-pub ahead_lex : (depth n : ℕ) → IsTime n → LexesBefore is_clear (at_depth depth) (at_depth depth) (postfix_line (shift (ahead n)))
-ahead_lex depth n is = after_offset depth n true is
 
 smoothed_id : (r : Text) → word_id (codes "smoothed") r ≡ 67
 unfolding keyword_in_any_case
@@ -183,11 +175,11 @@ anchored_lex depth = last_word depth 68 kind.Anchored (codes "anchored") refl an
 
 -- ---- times after `@`
 
-start_id : (r : Text) → word_id (codes "start") r ≡ 76
+pub start_id : (r : Text) → word_id (codes "start") r ≡ 76
 unfolding keyword_in_any_case
 start_id r = refl
 
-end_id : (r : Text) → word_id (codes "end") r ≡ 77
+pub end_id : (r : Text) → word_id (codes "end") r ≡ 77
 unfolding keyword_in_any_case
 end_id r = refl
 
@@ -208,12 +200,6 @@ bound_lex depth id k w letters known symbol =
     (token_then o o o (word k w) empty (λ r. known_reads depth w (40 ∷ 41 ∷ r) id k letters (known (40 ∷ 41 ∷ r)) symbol refl)
     (token_then o (at_depth (suc depth)) o (sign kind.LeftParen) shut (λ r. open_reads depth (41 ∷ r))
     (token_then (at_depth (suc depth)) o o (sign kind.RightParen) [] (λ r. close_reads depth r) (nothing o)))))
-
-pub start_lex : (depth : ℕ) → LexesBefore is_clear (at_depth depth) (at_depth depth) (postfix_line (piece.at_bound kind.Start (codes "start")))
-start_lex depth = bound_lex depth 76 kind.Start (codes "start") refl start_id refl
-
-pub end_lex : (depth : ℕ) → LexesBefore is_clear (at_depth depth) (at_depth depth) (postfix_line (piece.at_bound kind.End (codes "end")))
-end_lex depth = bound_lex depth 77 kind.End (codes "end") refl end_id refl
 
 one_digit : (c : ℕ) → digit_value c < 10 → is_ascii_digit c ≡ true
 one_digit c below = let h = digit_from_value c below in grind (arith, nat_tests)

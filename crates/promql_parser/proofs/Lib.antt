@@ -19,6 +19,7 @@ pub mod LexedEnds
 pub mod LexedItems
 pub mod LexedLabels
 pub mod LexedModifiers
+pub mod LexedMoments
 pub mod LexedPostfixes
 pub mod LexedSigns
 pub mod LexedValues
