@@ -2,7 +2,9 @@
 use Rattle.std.proofs.Common.{◌≡◌, ◌↔◌, ℕ, ◌≤◌, refl, sym, ◌∙◌, ap, subst, arith, List}
 use Rattle.std.specs.Prelude.{Ok, Err, Result}
 use Rattle.promql_text.specs.Texts.{Text}
+use Rattle.promql_token.specs.declared.fault.LexFault.{LexFault}
 use Rattle.promql_grammar.specs.Grammar.{Derivation, yield, height}
+use Rattle.promql_grammar.specs.Symbols.{Symbol}
 use Rattle.promql_grammar.proofs.Unique.{one_derivation}
 use Rattle.promql_label.specs.Answers.{Answer}
 use Rattle.promql_ast.specs.Layout.{laid}
@@ -19,7 +21,7 @@ use Rattle.promql_parser.specs.PrintedItems.{line, lines}
 use Rattle.promql_parser.proofs.Canonical.{Keeps}
 use Rattle.promql_parser.proofs.CanonicalTrees.{keeps}
 use Rattle.promql_parser.proofs.LexedTexts.{items_derive}
-use Rattle.promql_parser.proofs.LexedTrees.{PartsLex, tree_lexed}
+use Rattle.promql_parser.proofs.LexedTrees.{tree_lexed}
 use Rattle.promql_parser.proofs.PrintedLayouts.{lines_bytes}
 use Rattle.promql_parser.proofs.PrintedLines.{line_bytes}
 use Rattle.promql_parser.proofs.PrintedTokens.{line_tokens, lines_tokens}
@@ -29,7 +31,9 @@ use Rattle.promql_parser.proofs.SpelledWords.{has_words}
 -- ---- a text has one tree
 
 same_yield : (z : Text) (c d : Derivation) → Derives z c → Derives z d → yield c ≡ yield d
-same_yield z c d first second = same_ok _ _ _ _ refl refl (sym first.spells ∙ second.spells)
+same_yield z c d first second =
+    let both : ◌≡◌ {A = Result (List Symbol) LexFault} (Ok (yield c)) (Ok (yield d)) = sym first.spells ∙ second.spells in
+    cc
 
 pub one_tree : (g : Text → Answer) (z : Text) (s t : Tree) → HasTree g z s → HasTree g z t → s ≡ t
 one_tree g z s t first second =
@@ -54,7 +58,7 @@ answer_has g source answers t s single =
 pub has_answer : (g : Text → Answer) (source : Text) (answers : List Asked) (answer : Result Tree Refusal) (t : Tree) → IsServed source answers answer → AreAnswersOf g answers → HasTree g source t → answer ≡ Ok t
 has_answer g source answers answer t s single h = s.single g single h.derivation h.derives h.low ∙ ap built_answer h.builds
 
-module _ (g : Text → Answer) (parts : PartsLex g) where
+module _ (g : Text → Answer) where
   kept : (source : Text) (t : Tree) → (h : HasTree g source t) → Keeps g h.derivation t
   kept source t h = let s = h.derives in keeps g h.derivation t s.formed (has_words source h.derivation s) h.builds
 
@@ -69,7 +73,7 @@ module _ (g : Text → Answer) (parts : PartsLex g) where
   text_reads_back source t h =
       let k = kept source t h in
       printed source t (text t) h
-      (subst (λ z. Derives z (derive t)) (line_bytes g t k.printable) (items_derive (line (derive t)) (derive t) ((tree_lexed g parts t k.printable).one 0) (line_tokens (derive t)) k.formed))
+      (subst (λ z. Derives z (derive t)) (line_bytes g t k.printable) (items_derive (line (derive t)) (derive t) ((tree_lexed g t k.printable).one 0) (line_tokens (derive t)) k.formed))
 
   -- ---- over several lines
 
@@ -78,7 +82,7 @@ module _ (g : Text → Answer) (parts : PartsLex g) where
       let k = kept source t h in
       printed source t (laid t level most) h
       (subst (λ z. Derives z (derive t)) (lines_bytes g t level most k.printable)
-      (items_derive (lines (derive t) level most) (derive t) ((tree_lexed g parts t k.printable).many 0 level most) (lines_tokens (derive t) level most) k.formed))
+      (items_derive (lines (derive t) level most) (derive t) ((tree_lexed g t k.printable).many 0 level most) (lines_tokens (derive t) level most) k.formed))
 
   -- ---- two trees
 

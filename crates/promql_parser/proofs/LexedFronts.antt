@@ -3,7 +3,6 @@ use Rattle.std.proofs.Common.{◌≡◌, ℕ, zero, suc, ◌+◌, refl, sym, ◌
 use Rattle.std.specs.Prelude.{◌==◌, slice_index}
 use Rattle.std.specs.Char.{is_ascii_whitespace}
 use Rattle.std.specs.List.{prefix_len}
-use Rattle.std.proofs.lemmas.Grind.{common_steps}
 use Rattle.promql_text.specs.Texts.{Text}
 use Rattle.promql_token.specs.Classes.{is_in}
 use Rattle.promql_token.specs.Ids.{text_of}
@@ -16,18 +15,11 @@ use Rattle.promql_grammar.specs.Pieces as piece
 use Rattle.promql_grammar.specs.Symbols.{Symbol, kind_of, sign, word}
 use Rattle.promql_kind.specs.Modifiers.{Clause, including, excluding}
 use Rattle.promql_ast.specs.Shifts.{Shift, back, ahead, Moment, at_start, at_end, at_time}
-use Rattle.promql_parser.specs.Lexes.{ends_word, is_break, is_clear}
+use Rattle.promql_parser.specs.Lexes.{ends_word, is_clear}
 use Rattle.promql_parser.specs.PrintedItems.{Item, token, blank, newline, any_braces_line, arguments_line, before_line, closing_line, indented, line, postfix_line, render, rest_line, rest_lines, spell}
 use Rattle.promql_parser.specs.PrintedPieces.{clause, moment, shift}
 use Rattle.promql_parser.proofs.KindRows.{operators_pass}
-
-and_cases : (a b : Bool) → (a && b) ≡ true → (a ≡ true) × (b ≡ true)
-and_cases true b e = (refl, e)
-and_cases false b e = cc
-
-not_true : (b : Bool) → not b ≡ true → b ≡ false
-not_true true e = sym e
-not_true false e = refl
+use Rattle.promql_parser.proofs.LexedEnds.{and_cases, clear_ends, clear_shut, not_true}
 
 -- ---- where no parenthesis opens
 
@@ -111,17 +103,6 @@ shift_clear (back n) r = refl
 shift_clear (ahead n) r = refl
 
 -- ---- what follows a name
-
-break_ends : (b : ℕ) → is_break b ≡ true → not (is_in class.Word b) ≡ true
-break_ends b is = grind (arith, common_steps)
-
-clear_ends : (r : Text) → is_clear r ≡ true → ends_word r ≡ true
-clear_ends [] clear = refl
-clear_ends (b ∷ r) clear = break_ends b (and_cases (is_break b) _ clear).0
-
-clear_shut : (r : Text) → is_clear r ≡ true → opens r ≡ false
-clear_shut [] clear = refl
-clear_shut (b ∷ r) clear = not_true _ (and_cases (is_break b) _ clear).1
 
 -- braces, or what may follow an expression
 pub braces_end : (b : Option piece.Braces) (r : Text) → is_clear r ≡ true → (ends_word (render (any_braces_line b) ++ r) ≡ true) × (opens (render (any_braces_line b) ++ r) ≡ false)

@@ -83,7 +83,7 @@ bare_reads : (depth : ℕ) (l r : Text) → is_label l ≡ true → is_number_wo
 unfolding word_kind
 bare_reads depth l r is other stop shut = known_reads depth l r (word_id l []) (word_kind l) (label_is_word l is) (closed_id l r shut) (plain_symbol (word_kind l) l (bare_no_sign (word_kind l) (word_bare l is other))) stop
 
-string_reads : (depth : ℕ) (s r : Text) → Reads (at_depth depth) (at_depth depth) (word kind.Str (quoted_text s)) r
+pub string_reads : (depth : ℕ) (s r : Text) → Reads (at_depth depth) (at_depth depth) (word kind.Str (quoted_text s)) r
 unfolding after
 string_reads depth s r = record { id = T_STRING; is = refl; reads = joins_quoted (at_depth depth) s r refl }
 

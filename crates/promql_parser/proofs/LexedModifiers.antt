@@ -1,9 +1,7 @@
 -- The lexer reads printed modifiers as their tokens, in front of what ends a word.
-use Rattle.std.proofs.Common.{◌≡◌, ℕ, suc, refl, sym, ◌∙◌, ap, Bool, true, false, cond, Option, Some, None, List, [], ◌∷◌, ◌++◌, append_assoc, codes}
+use Rattle.std.proofs.Common.{◌≡◌, ℕ, refl, ◌∙◌, ap, Bool, true, false, Option, Some, None, List, [], ◌∷◌, ◌++◌, append_assoc, codes}
 use Rattle.std.proofs.lemmas.Bool.{cond_both}
 use Rattle.promql_text.specs.Texts.{Text}
-use Rattle.promql_text.specs.declared.number.Number.{Number}
-use Rattle.promql_token.specs.Classes.{is_in}
 use Rattle.promql_token.specs.Ids.{keyword_in_any_case}
 use Rattle.promql_token.specs.Pieces.{word_id}
 use Rattle.promql_grammar.specs.declared.kind.Kind.TheVariants as kind
@@ -12,12 +10,12 @@ use Rattle.promql_grammar.specs.Symbols.{word}
 use Rattle.promql_kind.specs.Modifiers.{Clause, including, excluding, Cardinality, Fills, fills, Matching, matching, is_grouping, number_eq}
 use Rattle.promql_ast.specs.Normal.{normal_matched}
 use Rattle.promql_parser.specs.Lexes.{Lexes, LexesBefore, at_depth, ends_operator, ends_word}
-use Rattle.promql_parser.specs.PrintedItems.{Item, token, blank, fills_line, flag_line, matching_line, modifier_line, render}
+use Rattle.promql_parser.specs.PrintedItems.{Item, token, fills_line, flag_line, matching_line, modifier_line, render}
 use Rattle.promql_parser.specs.PrintedPieces.{fill_words, flag, group, matched, modifier, value}
 use Rattle.promql_parser.proofs.LexedItems.{append_before, append_lex, before_any, blank_before, known_reads, last_before, nothing}
 use Rattle.promql_parser.proofs.LexedLabels.{matching_lex}
 use Rattle.promql_parser.proofs.LexedValues.{fills_lex}
-use Rattle.promql_parser.proofs.LexedWords.{not_true}
+use Rattle.promql_parser.proofs.LexedEnds.{not_true}
 use Rattle.promql_parser.proofs.PrintedBytes.{render_append}
 use Rattle.promql_parser.proofs.PrintedModifiers.{AreFills, IsMatched}
 

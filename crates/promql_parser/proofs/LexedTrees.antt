@@ -32,16 +32,18 @@ use Rattle.promql_parser.specs.Derive.{derive, derive_after, derive_all, derive_
 use Rattle.promql_parser.specs.Lexes.{Lexes, LexesBefore, at_depth, ends_word, is_clear}
 use Rattle.promql_parser.specs.PrintedItems.{Item, token, blank, newline, after_line, any_braces_line, arguments_line, arguments_lines, before_line, braces_line, chosen, closing_line, indented, line, lines, modifier_line, postfix_line, render, rest_line, rest_lines, trimmed}
 use Rattle.promql_parser.specs.PrintedPieces.{braces, clause, modifier, moment, shift, time, word_kind}
+use Rattle.promql_parser.proofs.LexedBraces.{braces_lex, no_item_lex}
 use Rattle.promql_parser.proofs.LexedFronts.{IsClear, braces_end, clause_ends, closing_clear, moment_clear, operator_clear, operator_line_clear, rest_clear, rest_lines_clear, shift_clear}
 use Rattle.promql_parser.proofs.LexedItems.{Reads, append_before, append_lex, before_any, blank_before, blank_then, close_reads, comma_reads, newline_before, newline_then, nothing, open_reads, token_before, token_then}
-use Rattle.promql_parser.proofs.LexedLabels.{clause_lex}
+use Rattle.promql_parser.proofs.LexedLabels.{clause_lex, string_reads}
 use Rattle.promql_parser.proofs.LexedModifiers.{after_operator, modifier_lex}
-use Rattle.promql_parser.proofs.LexedSigns.{minus_lex}
+use Rattle.promql_parser.proofs.LexedMoments.{moment_lex, shift_lex}
+use Rattle.promql_parser.proofs.LexedPostfixes.{anchored_lex, number_lex, range_lex, smoothed_lex, subquery_lex}
+use Rattle.promql_parser.proofs.LexedValues.{minus_reads, negated_above}
 use Rattle.promql_parser.proofs.LexedWords.{aggregator_reads, called_reads, name_reads, operator_reads}
-use Rattle.promql_parser.proofs.Printable.{AllPrintable, IsAnyMoment, IsMoment, IsSelecting, IsShift, MaybePrintable, Printable}
-use Rattle.promql_parser.proofs.PrintedMatchers.{AreAnyMatchers, any_matchers}
+use Rattle.promql_parser.proofs.Printable.{AllPrintable, IsAnyMoment, IsSelecting, IsShift, MaybePrintable, Printable}
 use Rattle.promql_parser.proofs.PrintedModifiers.{IsMatched}
-use Rattle.promql_parser.proofs.PrintedValues.{IsStep, IsTime}
+use Rattle.promql_parser.proofs.PrintedValues.{IsTime}
 
 -- ---- an expression, and arguments with the parenthesis after them
 
@@ -223,7 +225,7 @@ minus_lexed d h =
     let minus = word (kind.Operator T_SUB) (codes "-") in
     let signed = λ (depth : ℕ) (is : List Item) (more : Expression depth is).
     let o = at_depth depth in
-    token_before is_clear o o o minus is (λ r passes. record { id = 40; is = refl; reads = minus_lex depth (render is ++ r) }) more in
+    token_before is_clear o o o minus is (λ r passes. minus_reads depth (render is ++ r)) more in
     record {
       one = λ depth. signed depth (line d) (h.one depth);
       many = λ depth level most.
@@ -260,23 +262,7 @@ binary_lexed op m l r known matched hl hr =
 
 -- ---- trees
 
--- what the lexer reads of the pieces of a tree
-pub record PartsLex (g : Text → Answer) : Type 0 where
-  pub braces_lex : (depth : ℕ) (cs : PlainMatchers) → AreAnyMatchers g cs → Lexes (at_depth depth) (at_depth depth) (any_braces_line (braces cs))
-  pub none_lex : (depth : ℕ) → Lexes (at_depth depth) (at_depth depth) (braces_line piece.no_item)
-  pub range_lex : (depth n : ℕ) → IsTime n → Lexes (at_depth depth) (at_depth depth) (postfix_line (piece.range (time n)))
-  pub subquery_lex : (depth n : ℕ) (s : Option ℕ) → IsTime n → IsStep s → Lexes (at_depth depth) (at_depth depth) (postfix_line (piece.subquery (time n) (option_map time s)))
-  pub moment_lex : (depth : ℕ) (m : Moment) → IsMoment m → LexesBefore is_clear (at_depth depth) (at_depth depth) (postfix_line (moment m))
-  pub shift_lex : (depth : ℕ) (s : Shift) → IsShift (Some s) → LexesBefore is_clear (at_depth depth) (at_depth depth) (postfix_line (shift s))
-  pub smoothed_lex : (depth : ℕ) → LexesBefore is_clear (at_depth depth) (at_depth depth) (postfix_line (piece.mode kind.Smoothed (codes "smoothed")))
-  pub anchored_lex : (depth : ℕ) → LexesBefore is_clear (at_depth depth) (at_depth depth) (postfix_line (piece.mode kind.Anchored (codes "anchored")))
-  pub number_lex : (depth : ℕ) (v : Number) → IsNumber v → is_below_zero v ≡ false → LexesBefore is_clear (at_depth depth) (at_depth depth) (token (word kind.Number (number_text v)) ∷ [])
-  pub string_lex : (depth : ℕ) (s : Text) → Lexes (at_depth depth) (at_depth depth) (token (word kind.Str (quoted_text s)) ∷ [])
-  pub negated_above : (v : Number) → is_below_zero v ≡ true → is_below_zero (neg v) ≡ false
-
-module _ (g : Text → Answer) (parts : PartsLex g) where
-  open parts use {braces_lex, none_lex, range_lex, subquery_lex, moment_lex, shift_lex, smoothed_lex, anchored_lex, number_lex, string_lex, negated_above}
-
+module _ (g : Text → Answer) where
   unsigned_lexed : (v : Number) → IsNumber v → is_below_zero v ≡ false → Lexed (grammar.number (number_text v))
   unsigned_lexed v is above = leaf_lexed (grammar.number (number_text v)) (λ level most. refl) (λ depth. number_lex depth v is above)
 
@@ -294,15 +280,15 @@ module _ (g : Text → Answer) (parts : PartsLex g) where
       let o = at_depth depth in
       let items = any_braces_line (braces cs) in
       token_before is_clear o o o (word (word_kind name) name) items
-      (λ r passes. let after = braces_end (braces cs) r passes in name_reads depth name (render items ++ r) h.0 after.0 after.1) (of_any depth items (braces_lex depth cs h.1)))
+      (λ r passes. let after = braces_end (braces cs) r passes in name_reads depth name (render items ++ r) h.0 after.0 after.1) (of_any depth items (braces_lex depth cs)))
 
   nameless_lexed : (b : Option piece.Braces) → ((depth : ℕ) → Lexes (at_depth depth) (at_depth depth) (any_braces_line b)) → Lexed (derive_base None b)
-  nameless_lexed None more = leaf_lexed (grammar.nameless piece.no_item) (λ level most. refl) (λ depth. of_any depth (braces_line piece.no_item) (none_lex depth))
+  nameless_lexed None more = leaf_lexed (grammar.nameless piece.no_item) (λ level most. refl) (λ depth. of_any depth (braces_line piece.no_item) (no_item_lex depth))
   nameless_lexed (Some b) more = leaf_lexed (grammar.nameless b) (λ level most. refl) (λ depth. of_any depth (braces_line b) (more depth))
 
   base_lexed : (name : Option Text) (cs : PlainMatchers) → IsSelecting g name cs → Lexed (derive_base name (braces cs))
   base_lexed (Some name) cs h = named_lexed name cs h
-  base_lexed None cs h = nameless_lexed (braces cs) (λ depth. braces_lex depth cs (any_matchers g cs h))
+  base_lexed None cs h = nameless_lexed (braces cs) (λ depth. braces_lex depth cs)
 
   mode_lexed : (mode : RangeMode) (d : Derivation) → Lexed d → Lexed (with_mode mode d)
   mode_lexed Plain d h = h
@@ -333,7 +319,7 @@ module _ (g : Text → Answer) (parts : PartsLex g) where
         let p = piece.subquery (time range) (option_map time step) in
         suffix_lexed o a (grammar.postfixed (derive e) p) h.3 h.4 (postfixed_lexed (derive e) p (λ r. refl) (λ depth. of_any depth (postfix_line p) (subquery_lex depth range step h.1 h.2)) (tree_lexed e h.0))
     tree_lexed (number n) h = number_lexed n h
-    tree_lexed (string s) h = leaf_lexed (grammar.string (quoted_text s)) (λ level most. refl) (λ depth. of_any depth (line (grammar.string (quoted_text s))) (string_lex depth s))
+    tree_lexed (string s) h = leaf_lexed (grammar.string (quoted_text s)) (λ level most. refl) (λ depth. of_any depth (line (grammar.string (quoted_text s))) (token_then (at_depth depth) (at_depth depth) (at_depth depth) (word kind.Str (quoted_text s)) [] (λ r. string_reads depth s r) (nothing (at_depth depth))))
     tree_lexed (vector (selector name cs o a)) h = suffix_lexed o a (derive_base name (braces cs)) h.1 h.2 (base_lexed name cs h.0)
     tree_lexed (matrix (selector name cs o a) range mode) h =
         let base = derive_base name (braces cs) in

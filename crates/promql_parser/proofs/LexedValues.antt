@@ -25,7 +25,7 @@ use Rattle.promql_parser.specs.PrintedPieces as printed
 use Rattle.promql_parser.proofs.LexedItems.{Reads, append_lex, blank_then, close_reads, known_reads, nothing, open_reads, token_then}
 use Rattle.promql_parser.proofs.LexedSigns.{minus_lex}
 
-minus_reads : (depth : ℕ) (r : Text) → Reads (at_depth depth) (at_depth depth) (word (kind.Operator T_SUB) (codes "-")) r
+pub minus_reads : (depth : ℕ) (r : Text) → Reads (at_depth depth) (at_depth depth) (word (kind.Operator T_SUB) (codes "-")) r
 minus_reads depth r = record { id = 40; is = refl; reads = minus_lex depth r }
 
 -- the number of a value, and the parenthesis after it
@@ -46,7 +46,7 @@ signed_lex depth true v is above =
     let rest = token (word kind.Number (number_text v)) ∷ token (sign kind.RightParen) ∷ [] in
     token_then inner inner (at_depth depth) (word (kind.Operator T_SUB) (codes "-")) rest (λ r. minus_reads (suc depth) (render rest ++ r)) (number_lex depth v is above)
 
-negated_above : (v : Number) → is_below_zero v ≡ true → is_below_zero (neg v) ≡ false
+pub negated_above : (v : Number) → is_below_zero v ≡ true → is_below_zero (neg v) ≡ false
 negated_above (number.Finite d) below = ap (λ b. not b && not (d.digits == 0)) below
 negated_above number.Inf below = cc
 negated_above number.NegInf below = refl

@@ -1,20 +1,20 @@
 -- The lexer reads printed operators, aggregators and names as tokens outside braces.
-use Rattle.std.proofs.Common.{◌≡◌, ◌≢◌, ⊎_elim, ℕ, zero, suc, ◌+◌, ◌<◌, ◌≤◌, refl, sym, ◌∙◌, ap, subst, arith, inl, inr, ◌⊎◌, Bool, true, false, cond, not, ◌&&◌, ◌||◌, Option, Some, None, List, [], ◌∷◌, ◌++◌, codes, eqb-true}
-use Rattle.std.specs.Prelude.{◌==◌, slice_index}
+use Rattle.std.proofs.Common.{◌≡◌, ◌≢◌, ⊎_elim, ℕ, zero, suc, ◌+◌, ◌<◌, ◌≤◌, refl, sym, ◌∙◌, ap, subst, arith, Bool, true, false, cond, not, ◌&&◌, ◌||◌, Option, Some, None, List, [], ◌∷◌, eqb-true, length, Ok, Err}
+use Rattle.std.specs.Prelude.{◌==◌}
 use Rattle.std.specs.List.{list_all, list_any}
 use Rattle.std.specs.Option.{unwrap_or}
 use Rattle.std.proofs.lemmas.Bool.{cond_both}
 use Rattle.std.proofs.lemmas.Bool.Decides.{nat_tests}
 use Rattle.promql_text.specs.Texts.{Text}
-use Rattle.promql_token.specs.Classes.{is_in}
 use Rattle.promql_token.specs.Ids.{count_up, is_aggregator, keyword_in_any_case, keywords, lookup, same_word, text_of}
 use Rattle.promql_token.specs.Laws.{is_word, parts}
 use Rattle.promql_token.specs.Lexing.{whats}
-use Rattle.promql_token.specs.Pieces.{after, is_fill, name_id, opens, outside, piece, word_id}
+use Rattle.promql_token.specs.Pieces.{Piece, after, is_fill, name_id, opens, outside, piece, word_id}
 use Rattle.promql_token.specs.Pieces as pieces
-use Rattle.promql_token.specs.declared.class.Class.TheVariants as class
 use Rattle.promql_token.specs.declared.ids.Case.TheVariants as case
+use Rattle.promql_token.specs.declared.state.Mode.TheVariants as mode
 use Rattle.promql_token.specs.declared.ids.TheConstants.{T_IDENTIFIER, T_METRIC_IDENTIFIER}
+use Rattle.promql_token.proofs.Inner.{after_outside, is_plain}
 use Rattle.promql_token.proofs.Joins.{joins}
 use Rattle.promql_grammar.specs.declared.kind.Kind.{Kind}
 use Rattle.promql_grammar.specs.declared.kind.Kind.TheVariants as kind
@@ -22,30 +22,10 @@ use Rattle.promql_grammar.specs.declared.kind.TheConstants.{KINDS}
 use Rattle.promql_grammar.specs.Symbols.{is_sign, kind_in, kind_of, sign, symbol, word}
 use Rattle.promql_parser.specs.Lexes.{at_depth, ends_operator, ends_word}
 use Rattle.promql_parser.specs.PrintedPieces.{word_kind}
+use Rattle.promql_parser.proofs.LexedEnds.{among, and_cases, not_true, or_cases}
 use Rattle.promql_parser.proofs.LexedItems.{Reads, known_reads}
 
-and_cases : (a b : Bool) → (a && b) ≡ true → (a ≡ true) × (b ≡ true)
-and_cases true b e = (refl, e)
-and_cases false b e = cc
-
-or_cases : (a b : Bool) → (a || b) ≡ true → (a ≡ true) ⊎ (b ≡ true)
-or_cases true b e = inl refl
-or_cases false b e = inr e
-
-pub not_true : (b : Bool) → not b ≡ true → b ≡ false
-not_true true e = cc
-not_true false e = refl
-
 -- ---- ids
-
--- what holds of each id of a list holds of one that is among them
-abbrev All : (ℕ → Type 0) → List ℕ → Type 0
-All P [] = Unit {0}
-All P (id ∷ ids) = P id × All P ids
-
-among : (P : ℕ → Type 0) (ids : List ℕ) (id : ℕ) → All P ids → list_any (λ k. id == k) ids ≡ true → P id
-among P [] id all is = cc
-among P (k ∷ ids) id all is = ⊎_elim (λ h. subst P (sym (eqb-true id k h)) all.0) (λ h. among P ids id all.1 h) (or_cases (id == k) (list_any (λ k. id == k) ids) is)
 
 -- a test of ids and their kinds, by the table
 abbrev every : (ℕ → Kind → Bool) → List (ℕ × Kind) → Bool
@@ -56,6 +36,13 @@ by_table : (p : ℕ → Kind → Bool) (rows : List (ℕ × Kind)) → ((id : �
 by_table p [] other all id = other id
 by_table p (row ∷ rows) other all zero = (and_cases (p 0 row.1) _ all).0
 by_table p (row ∷ rows) other all (suc id) = by_table (λ id k. p (suc id) k) rows (λ id. other (suc id)) (and_cases (p 0 row.1) _ all).1 id
+
+-- a test that all of a list pass
+test_of : (test : ℕ → Bool) (ids : List ℕ) (id : ℕ) → list_all test ids ≡ true → list_any (λ k. id == k) ids ≡ true → test id ≡ true
+test_of test [] id all is = cc
+test_of test (k ∷ ids) id all is =
+    let both = and_cases (test k) (list_all test ids) all in
+    ⊎_elim (λ h. subst (λ n. test n ≡ true) (sym (eqb-true id k h)) both.0) (λ h. test_of test ids id both.1 h) (or_cases (id == k) (list_any (λ k. id == k) ids) is)
 
 -- ---- operators
 
@@ -81,74 +68,84 @@ is_known id k = not (is_operator_kind k) || (is_one_of plain_operators id || (is
 operator_id : (op : ℕ) → kind_of op ≡ kind.Operator op → (is_one_of plain_operators op || (is_one_of order_operators op || is_one_of word_operators op)) ≡ true
 operator_id op is = ap (λ k. is_known op k) (sym is) ∙ by_table is_known KINDS (λ id. refl) refl op
 
-abbrev OperatorReads : ℕ → Text → ℕ → Type 0
-OperatorReads depth r op = Reads (at_depth depth) (at_depth depth) (word (kind.Operator op) (text_of op)) r
+-- the text of the id is one token of it outside
+abbrev is_piece : ℕ → ℕ → Piece → Bool
+is_piece id len (Ok t) = t.0 == id && t.1 == len
+is_piece id len (Err f) = false
 
--- signs that no byte after them makes longer
-sign_reads : (depth : ℕ) (r : Text) → All (OperatorReads depth r) plain_operators
-unfolding piece outside pieces.sign after
-sign_reads depth r =
-    (record { id = 24; is = refl; reads = joins (at_depth depth) (text_of 24) r 24 (omega arith) refl refl },
-    (record { id = 25; is = refl; reads = joins (at_depth depth) (text_of 25) r 25 (omega arith) refl refl },
-    (record { id = 26; is = refl; reads = joins (at_depth depth) (text_of 26) r 26 (omega arith) refl refl },
-    (record { id = 28; is = refl; reads = joins (at_depth depth) (text_of 28) r 28 (omega arith) refl refl },
-    (record { id = 33; is = refl; reads = joins (at_depth depth) (text_of 33) r 33 (omega arith) refl refl },
-    (record { id = 35; is = refl; reads = joins (at_depth depth) (text_of 35) r 35 (omega arith) refl refl },
-    (record { id = 36; is = refl; reads = joins (at_depth depth) (text_of 36) r 36 (omega arith) refl refl },
-    (record { id = 37; is = refl; reads = joins (at_depth depth) (text_of 37) r 37 (omega arith) refl refl },
-    (record { id = 39; is = refl; reads = joins (at_depth depth) (text_of 39) r 39 (omega arith) refl refl },
-    (record { id = 40; is = refl; reads = joins (at_depth depth) (text_of 40) r 40 (omega arith) refl refl },
-    tt))))))))))
+abbrev is_sign_token : ℕ → ℕ → Bool
+is_sign_token depth id = is_piece id (length (text_of id)) (piece (at_depth depth) (text_of id)) && (is_plain id && not (length (text_of id) == 0))
 
--- signs that `=` makes longer
-order_reads : (depth : ℕ) (r : Text) → not (slice_index r 0 == 61 || slice_index r 0 == 126) ≡ true → All (OperatorReads depth r) order_operators
-unfolding piece outside pieces.sign after
-order_reads depth r stop =
-    (record { id = 29; is = refl; reads = joins (at_depth depth) (text_of 29) r 29 (omega arith) refl stop },
-    (record { id = 32; is = refl; reads = joins (at_depth depth) (text_of 32) r 32 (omega arith) refl stop },
-    tt))
+piece_is : (id len : ℕ) (p : Piece) → is_piece id len p ≡ true → p ≡ Ok (id, len)
+piece_is id len (Ok t) e = let both = and_cases (t.0 == id) (t.1 == len) e in (λ i. Ok (eqb-true t.0 id both.0 i, eqb-true t.1 len both.1 i))
+piece_is id len (Err f) e = cc
 
-word_reads : (depth : ℕ) (r : Text) → is_in class.Word (slice_index r 0) ≡ false → All (OperatorReads depth r) word_operators
+plain_sign : (depth op : ℕ) → is_one_of plain_operators op ≡ true → is_sign_token depth op ≡ true
+unfolding piece outside pieces.sign
+plain_sign depth op is = test_of (is_sign_token depth) plain_operators op refl is
+
+order_sign : (depth op : ℕ) → is_one_of order_operators op ≡ true → is_sign_token depth op ≡ true
+unfolding piece outside pieces.sign
+order_sign depth op is = test_of (is_sign_token depth) order_operators op refl is
+
+sign_reads : (depth op : ℕ) (r : Text) → kind_of op ≡ kind.Operator op → is_sign_token depth op ≡ true → parts mode.Outside (text_of op) r ≡ true → Reads (at_depth depth) (at_depth depth) (word (kind.Operator op) (text_of op)) r
+sign_reads depth op r is token parts =
+    let w = text_of op in
+    let both = and_cases (is_piece op (length w) (piece (at_depth depth) w)) _ token in
+    let more = and_cases (is_plain op) _ both.1 in
+    let some : 0 < length w = (let none : (length w == 0) ≡ false = not_true _ more.1 in grind (arith, nat_tests)) in
+    record {
+      id = op;
+      is = ap (λ k. symbol k w) is;
+      reads = joins (at_depth depth) w r op some (piece_is op (length w) (piece (at_depth depth) w) both.0) parts ∙ ap (λ s. Ok (op, w) ∷ whats s r) (after_outside depth op more.0);
+    }
+
+-- the text of the id is a word that is this keyword, and no fill word
+abbrev is_keyword : ℕ → Option ℕ → Bool
+is_keyword id (Some k) = k == id
+is_keyword id None = false
+
+abbrev is_word_token : ℕ → Bool
+is_word_token id = is_word (text_of id) && (is_keyword id (keyword_in_any_case (text_of id)) && not (is_fill id))
+
+word_operator : (op : ℕ) → is_one_of word_operators op ≡ true → is_word_token op ≡ true
 unfolding keyword_in_any_case
-word_reads depth r stop =
-    (known_reads depth (text_of 30) r 30 (kind.Operator 30) refl refl refl stop,
-    (known_reads depth (text_of 31) r 31 (kind.Operator 31) refl refl refl stop,
-    (known_reads depth (text_of 34) r 34 (kind.Operator 34) refl refl refl stop,
-    (known_reads depth (text_of 42) r 42 (kind.Operator 42) refl refl refl stop,
-    tt))))
+word_operator op is = test_of is_word_token word_operators op refl is
+
+keyword_reads : (depth id : ℕ) (k : Kind) (r : Text) → kind_of id ≡ k → is_sign k ≡ false → is_word_token id ≡ true → ends_word r ≡ true → Reads (at_depth depth) (at_depth depth) (word k (text_of id)) r
+keyword_reads depth id k r kind plain token ends =
+    let w = text_of id in
+    let both = and_cases (is_word w) _ token in
+    let more = and_cases (is_keyword id (keyword_in_any_case w)) _ both.1 in
+    known_reads depth w r id k both.0 (known (keyword_in_any_case w) (name_id w) (opens r) more.0 (not_true _ more.1)) (ap (λ k. symbol k w) kind ∙ ap (λ b. cond b (sign k) (word k w)) plain) (not_true _ ends)
+  where
+    known : (o : Option ℕ) (d : ℕ) (b : Bool) → is_keyword id o ≡ true → is_fill id ≡ false → (let n = unwrap_or o d in cond (is_fill n && not b) T_IDENTIFIER n) ≡ id
+    known None d b e fill = cc
+    known (Some k) d b e fill = let same = eqb-true k id e in ap (λ n. cond (is_fill n && not b) T_IDENTIFIER n) same ∙ ap (λ x. cond (x && not b) T_IDENTIFIER id) fill
 
 -- an operator that the lexer gives
 pub operator_reads : (depth op : ℕ) (r : Text) → kind_of op ≡ kind.Operator op → ends_operator r ≡ true → Reads (at_depth depth) (at_depth depth) (word (kind.Operator op) (text_of op)) r
 operator_reads depth op r is ends =
     let both = and_cases (ends_word r) _ ends in
-    let P = OperatorReads depth r in
-    ⊎_elim (λ h. among P plain_operators op (sign_reads depth r) h)
-    (λ h. ⊎_elim (λ h. among P order_operators op (order_reads depth r both.1) h) (λ h. among P word_operators op (word_reads depth r (not_true _ both.0)) h) (or_cases _ _ h))
+    ⊎_elim (λ h. sign_reads depth op r is (plain_sign depth op h) (test_of (λ id. parts mode.Outside (text_of id) r) plain_operators op refl h))
+    (λ h. ⊎_elim
+    (λ h. sign_reads depth op r is (order_sign depth op h) (among (λ id. parts mode.Outside (text_of id) r ≡ true) order_operators op (both.1, (both.1, tt)) h))
+    (λ h. keyword_reads depth op (kind.Operator op) r is refl (word_operator op h) both.0) (or_cases _ _ h))
     (or_cases _ _ (operator_id op is))
 
 -- ---- aggregators
 
-abbrev AggregatorReads : ℕ → Text → ℕ → Type 0
-AggregatorReads depth r op = Reads (at_depth depth) (at_depth depth) (word (kind.Aggregator op) (text_of op)) r
+abbrev aggregates : ℕ → Kind → Bool
+aggregates id (kind.Aggregator op) = op == id
+aggregates id k = false
 
-each_reads : (depth : ℕ) (r : Text) → is_in class.Word (slice_index r 0) ≡ false → All (AggregatorReads depth r) (count_up 45 14)
+aggregator_kind : (id : ℕ) (k : Kind) → aggregates id k ≡ true → k ≡ kind.Aggregator id
+aggregator_kind id (kind.Aggregator op) e = ap kind.Aggregator (eqb-true op id e)
+aggregator_kind id k e = cc
+
+aggregator_word : (op : ℕ) → is_one_of (count_up 45 14) op ≡ true → is_word_token op ≡ true
 unfolding keyword_in_any_case
-each_reads depth r stop =
-    (known_reads depth (text_of 45) r 45 (kind.Aggregator 45) refl refl refl stop,
-    (known_reads depth (text_of 46) r 46 (kind.Aggregator 46) refl refl refl stop,
-    (known_reads depth (text_of 47) r 47 (kind.Aggregator 47) refl refl refl stop,
-    (known_reads depth (text_of 48) r 48 (kind.Aggregator 48) refl refl refl stop,
-    (known_reads depth (text_of 49) r 49 (kind.Aggregator 49) refl refl refl stop,
-    (known_reads depth (text_of 50) r 50 (kind.Aggregator 50) refl refl refl stop,
-    (known_reads depth (text_of 51) r 51 (kind.Aggregator 51) refl refl refl stop,
-    (known_reads depth (text_of 52) r 52 (kind.Aggregator 52) refl refl refl stop,
-    (known_reads depth (text_of 53) r 53 (kind.Aggregator 53) refl refl refl stop,
-    (known_reads depth (text_of 54) r 54 (kind.Aggregator 54) refl refl refl stop,
-    (known_reads depth (text_of 55) r 55 (kind.Aggregator 55) refl refl refl stop,
-    (known_reads depth (text_of 56) r 56 (kind.Aggregator 56) refl refl refl stop,
-    (known_reads depth (text_of 57) r 57 (kind.Aggregator 57) refl refl refl stop,
-    (known_reads depth (text_of 58) r 58 (kind.Aggregator 58) refl refl refl stop,
-    tt))))))))))))))
+aggregator_word op is = test_of is_word_token (count_up 45 14) op refl is
 
 counted : (low n id : ℕ) → low ≤ id → id < low + n → list_any (λ k. id == k) (count_up low n) ≡ true
 counted low zero id above below = absurd (omega arith)
@@ -162,7 +159,8 @@ pub aggregator_reads : (depth op : ℕ) (r : Text) → is_aggregator op ≡ true
 aggregator_reads depth op r is ends =
     let low : 45 ≤ op = grind (arith, nat_tests) in
     let high : op ≤ 58 = grind (arith, nat_tests) in
-    among (AggregatorReads depth r) (count_up 45 14) op (each_reads depth r (not_true _ ends)) (counted 45 14 op low (omega arith))
+    let here = counted 45 14 op low (omega arith) in
+    keyword_reads depth op (kind.Aggregator op) r (aggregator_kind op (kind_of op) (test_of (λ id. aggregates id (kind_of id)) (count_up 45 14) op refl here)) refl (aggregator_word op here) ends
 
 -- ---- names
 

@@ -16,10 +16,14 @@ pub mod Good
 pub mod KindRows
 pub mod LabelLists
 pub mod Leaves
+pub mod LexedBraces
+pub mod LexedEnds
 pub mod LexedFronts
 pub mod LexedItems
 pub mod LexedLabels
 pub mod LexedModifiers
+pub mod LexedMoments
+pub mod LexedPostfixes
 pub mod LexedSigns
 pub mod LexedTexts
 pub mod LexedTrees
