@@ -1,5 +1,5 @@
 -- The lexer reads printed times after `@`, and printed offsets, as their tokens.
-use Rattle.std.proofs.Common.{◌≡◌, ℕ, zero, suc, ℤ, ◌-◌, ◌/◌, ◌%◌, ◌^◌, ◌<◌, ◌≤◌, refl, sym, ◌∙◌, ap, subst, arith, Bool, true, false, cond, ◌&&◌, Option, Some, None, List, [], ◌∷◌, ◌++◌, length, length-append, codes, Ok}
+use Rattle.std.proofs.Common.{◌≡◌, ℕ, zero, suc, ℤ, ◌-◌, ◌/◌, ◌%◌, ◌^◌, ◌<◌, ◌≤◌, refl, sym, ◌∙◌, subst, arith, Bool, true, false, cond, ◌&&◌, Option, Some, None, List, [], ◌∷◌, ◌++◌, length, length-append, codes, Ok}
 use Rattle.std.specs.Prelude.{nat_le, neg_ℤ, pos, unsigned_abs}
 use Rattle.std.specs.Char.{digit_value, is_ascii_digit}
 use Rattle.std.specs.Fmt.{decimal}
@@ -29,7 +29,7 @@ use Rattle.promql_grammar.specs.Symbols.{sign, symbol_of, word}
 use Rattle.promql_ast.specs.AtTimes.{at_of_millis, at_of_number}
 use Rattle.promql_ast.specs.Shifts.{Shift, back, ahead, Moment, at_start, at_end, at_time}
 use Rattle.promql_parser.specs.Lexes.{LexesBefore, at_depth, is_clear}
-use Rattle.promql_parser.specs.PieceBuilding.{at_fault, moment_value, signed_number}
+use Rattle.promql_parser.specs.PieceBuilding.{at_fault, signed_number}
 use Rattle.promql_parser.specs.PrintedItems.{Item, token, blank, postfix_line, render, signed_line}
 use Rattle.promql_parser.specs.PrintedPieces.{moment, seconds_text, shift}
 use Rattle.promql_parser.specs.PrintedPieces as printed
