@@ -39,9 +39,9 @@ use Rattle.promql_ast.specs.check.Vector.{name_fault}
 use Rattle.promql_ast.specs.declared.range_mode.RangeMode.TheVariants.{Plain}
 use Rattle.promql_parser.specs.Asking.{under}
 use Rattle.promql_parser.specs.Building.{build, build_all, called, selector_tree}
-use Rattle.promql_parser.specs.Derive.{derive, derive_all, derive_base, HasWords, IsName, IsUnsigned}
+use Rattle.promql_parser.proofs.Derive.{derive, derive_all, derive_base, HasWords, IsName, IsUnsigned}
 use Rattle.promql_parser.specs.PieceBuilding.{any_braces_value, braces_value, clause_value, modifier_value, number_value, string_value, step_value, time_value}
-use Rattle.promql_parser.specs.PrintedPieces.{braces, clause, modifier, time, word_kind}
+use Rattle.promql_parser.proofs.PrintedPieces.{braces, clause, modifier, time, word_kind}
 use Rattle.promql_parser.proofs.Canonical.{Keeps, AllKept, base_is, open_base, open_most, right_low, root_weaker, some_height}
 use Rattle.promql_parser.proofs.CheckedAgain.{arguments, minus_normal, same_tree, type_normal}
 use Rattle.promql_parser.proofs.LexedWords.{is_fill_word}

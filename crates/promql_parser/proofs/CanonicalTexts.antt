@@ -15,9 +15,9 @@ use Rattle.promql_ast.proofs.NormalForms.{text_alike}
 use Rattle.promql_parser.specs.Answers.{Derives, HasTree, IsServed, Refusal, built_answer}
 use Rattle.promql_parser.specs.Asking.{AreAnswersOf, Asked, under}
 use Rattle.promql_parser.specs.Building.{build}
-use Rattle.promql_parser.specs.Derive.{derive}
+use Rattle.promql_parser.proofs.Derive.{derive}
 use Rattle.promql_parser.specs.Faults.{Fault}
-use Rattle.promql_parser.specs.PrintedItems.{line, lines}
+use Rattle.promql_parser.proofs.PrintedItems.{line, lines}
 use Rattle.promql_parser.proofs.Canonical.{Keeps}
 use Rattle.promql_parser.proofs.CanonicalTrees.{keeps}
 use Rattle.promql_parser.proofs.LexedTexts.{items_derive}

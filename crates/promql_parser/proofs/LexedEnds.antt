@@ -5,7 +5,7 @@ use Rattle.std.specs.List.{list_any}
 use Rattle.promql_text.specs.Texts.{Text}
 use Rattle.promql_token.specs.Laws.{stops_numeral}
 use Rattle.promql_token.specs.Pieces.{opens}
-use Rattle.promql_parser.specs.Lexes.{ends_operator, ends_word, is_break, is_clear}
+use Rattle.promql_parser.proofs.Lexes.{ends_operator, ends_word, is_break, is_clear}
 
 pub and_cases : (a b : Bool) → (a && b) ≡ true → (a ≡ true) × (b ≡ true)
 and_cases true b e = (refl, e)

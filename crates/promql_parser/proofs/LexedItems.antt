@@ -14,8 +14,8 @@ use Rattle.promql_token.proofs.Steps.{whats_run}
 use Rattle.promql_grammar.specs.declared.kind.Kind.{Kind}
 use Rattle.promql_grammar.specs.declared.kind.Kind.TheVariants as kind
 use Rattle.promql_grammar.specs.Symbols.{Symbol, sign, symbol, symbol_of, word}
-use Rattle.promql_parser.specs.Lexes.{Lexes, LexesBefore, at_depth}
-use Rattle.promql_parser.specs.PrintedItems.{Item, token, blank, newline, render, spell}
+use Rattle.promql_parser.proofs.Lexes.{Lexes, LexesBefore, at_depth}
+use Rattle.promql_parser.proofs.PrintedItems.{Item, token, blank, newline, render, spell}
 use Rattle.promql_parser.proofs.LexedSigns.{close_lex, comma_lex, open_lex}
 use Rattle.promql_parser.proofs.PrintedBytes.{render_append}
 use Rattle.promql_parser.proofs.PrintedTokens.{strip_append}

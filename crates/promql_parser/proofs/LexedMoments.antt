@@ -28,11 +28,11 @@ use Rattle.promql_grammar.specs.Pieces as piece
 use Rattle.promql_grammar.specs.Symbols.{sign, symbol_of, word}
 use Rattle.promql_ast.specs.AtTimes.{at_of_millis, at_of_number}
 use Rattle.promql_ast.specs.Shifts.{Shift, back, ahead, Moment, at_start, at_end, at_time}
-use Rattle.promql_parser.specs.Lexes.{LexesBefore, at_depth, is_clear}
+use Rattle.promql_parser.proofs.Lexes.{LexesBefore, at_depth, is_clear}
 use Rattle.promql_parser.specs.PieceBuilding.{at_fault, signed_number}
-use Rattle.promql_parser.specs.PrintedItems.{Item, token, blank, postfix_line, render, signed_line}
-use Rattle.promql_parser.specs.PrintedPieces.{moment, seconds_text, shift}
-use Rattle.promql_parser.specs.PrintedPieces as printed
+use Rattle.promql_parser.proofs.PrintedItems.{Item, token, blank, postfix_line, render, signed_line}
+use Rattle.promql_parser.proofs.PrintedPieces.{moment, seconds_text, shift}
+use Rattle.promql_parser.proofs.PrintedPieces as printed
 use Rattle.promql_parser.proofs.LexedEnds.{clear_stops}
 use Rattle.promql_parser.proofs.LexedItems.{Reads, before_any, blank_before, close_reads, known_reads, last_before, nothing, open_reads, token_before, token_then}
 use Rattle.promql_parser.proofs.LexedPostfixes.{offset_lex, signed_before}

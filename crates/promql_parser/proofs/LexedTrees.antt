@@ -28,10 +28,10 @@ use Rattle.promql_ast.specs.Shifts.{Shift, Moment}
 use Rattle.promql_ast.specs.Tree.{Tree, aggregate, unary, binary, paren, subquery, number, string, vector, matrix, call, extension, MaybeTree, absent, present, Trees, no_trees, first_tree}
 use Rattle.promql_ast.specs.declared.range_mode.RangeMode.{RangeMode}
 use Rattle.promql_ast.specs.declared.range_mode.RangeMode.TheVariants.{Plain, Smoothed, Anchored}
-use Rattle.promql_parser.specs.Derive.{derive, derive_after, derive_all, derive_base, with_at, with_mode, with_offset, with_suffix}
-use Rattle.promql_parser.specs.Lexes.{Lexes, LexesBefore, at_depth, ends_word, is_clear}
-use Rattle.promql_parser.specs.PrintedItems.{Item, token, blank, newline, after_line, any_braces_line, arguments_line, arguments_lines, before_line, braces_line, chosen, closing_line, indented, line, lines, modifier_line, postfix_line, render, rest_line, rest_lines, trimmed}
-use Rattle.promql_parser.specs.PrintedPieces.{braces, clause, modifier, moment, shift, time, word_kind}
+use Rattle.promql_parser.proofs.Derive.{derive, derive_after, derive_all, derive_base, with_at, with_mode, with_offset, with_suffix}
+use Rattle.promql_parser.proofs.Lexes.{Lexes, LexesBefore, at_depth, ends_word, is_clear}
+use Rattle.promql_parser.proofs.PrintedItems.{Item, token, blank, newline, after_line, any_braces_line, arguments_line, arguments_lines, before_line, braces_line, chosen, closing_line, indented, line, lines, modifier_line, postfix_line, render, rest_line, rest_lines, trimmed}
+use Rattle.promql_parser.proofs.PrintedPieces.{braces, clause, modifier, moment, shift, time, word_kind}
 use Rattle.promql_parser.proofs.LexedBraces.{braces_lex, no_item_lex}
 use Rattle.promql_parser.proofs.LexedFronts.{IsClear, braces_end, clause_ends, closing_clear, moment_clear, operator_clear, operator_line_clear, rest_clear, rest_lines_clear, shift_clear}
 use Rattle.promql_parser.proofs.LexedItems.{Reads, append_before, append_lex, before_any, blank_before, blank_then, close_reads, comma_reads, newline_before, newline_then, nothing, open_reads, token_before, token_then}

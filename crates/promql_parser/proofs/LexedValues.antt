@@ -18,10 +18,10 @@ use Rattle.promql_grammar.specs.declared.kind.Kind.TheVariants as kind
 use Rattle.promql_grammar.specs.Pieces as piece
 use Rattle.promql_grammar.specs.Symbols.{sign, symbol_of, word}
 use Rattle.promql_kind.specs.Modifiers.{fills, number_eq}
-use Rattle.promql_parser.specs.Lexes.{Lexes, at_depth}
-use Rattle.promql_parser.specs.PrintedItems.{Item, token, blank, fills_line, render, signed_line, value_line}
-use Rattle.promql_parser.specs.PrintedPieces.{fill_words, magnitude, value}
-use Rattle.promql_parser.specs.PrintedPieces as printed
+use Rattle.promql_parser.proofs.Lexes.{Lexes, at_depth}
+use Rattle.promql_parser.proofs.PrintedItems.{Item, token, blank, fills_line, render, signed_line, value_line}
+use Rattle.promql_parser.proofs.PrintedPieces.{fill_words, magnitude, value}
+use Rattle.promql_parser.proofs.PrintedPieces as printed
 use Rattle.promql_parser.proofs.LexedItems.{Reads, append_lex, blank_then, close_reads, known_reads, nothing, open_reads, token_then}
 use Rattle.promql_parser.proofs.LexedSigns.{minus_lex}
 

@@ -8,6 +8,7 @@ pub mod CanonicalTrees
 pub mod CheckedAgain
 pub mod Climbing
 pub mod Collecting
+pub mod Derive
 pub mod Ending
 pub mod Failing
 pub mod Fails
@@ -29,6 +30,7 @@ pub mod LexedTexts
 pub mod LexedTrees
 pub mod LexedValues
 pub mod LexedWords
+pub mod Lexes
 pub mod Listing
 pub mod MatcherBuilding
 pub mod MatcherLists
@@ -38,15 +40,16 @@ pub mod PieceSteps
 pub mod Postfixing
 pub mod Printable
 pub mod PrintedBytes
+pub mod PrintedItems
 pub mod PrintedLayouts
 pub mod PrintedLines
 pub mod PrintedMatchers
 pub mod PrintedModifiers
+pub mod PrintedPieces
 pub mod PrintedTimes
 pub mod PrintedTokens
 pub mod PrintedValues
 pub mod PrintedWords
-pub mod ReadBack
 pub mod SameErrors
 pub mod SingleAnswers
 pub mod SpelledWords

@@ -15,7 +15,7 @@ use Rattle.promql_ast.specs.Selectors.{Selector, selector}
 use Rattle.promql_ast.specs.Shifts.{Shift, back, ahead, Moment, at_start, at_end, at_time}
 use Rattle.promql_ast.specs.Tree.{Tree, aggregate, unary, binary, paren, subquery, number, string, vector, matrix, call, extension, MaybeTree, absent, present, Trees, no_trees, first_tree}
 use Rattle.promql_parser.specs.PieceBuilding.{moment_value}
-use Rattle.promql_parser.specs.PrintedPieces.{seconds_text, sign}
+use Rattle.promql_parser.proofs.PrintedPieces.{seconds_text, sign}
 use Rattle.promql_parser.proofs.LexedWords.{is_fill_word}
 use Rattle.promql_parser.proofs.PrintedMatchers.{AreAnyMatchers, AreMatchers}
 use Rattle.promql_parser.proofs.PrintedModifiers.{IsMatched}

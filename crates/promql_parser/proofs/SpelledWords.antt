@@ -23,9 +23,9 @@ use Rattle.promql_grammar.specs.Pieces as piece
 use Rattle.promql_grammar.specs.Results.{on_result}
 use Rattle.promql_grammar.specs.Symbols.{Symbol, is_sign, kind_in, kind_of, may_be_called, may_be_name, sign, symbol_of, word}
 use Rattle.promql_parser.specs.Answers.{Derives}
-use Rattle.promql_parser.specs.Derive.{AllHaveWords, HasWords, IsName, IsUnsigned}
+use Rattle.promql_parser.proofs.Derive.{AllHaveWords, HasWords, IsName, IsUnsigned}
 use Rattle.promql_parser.specs.Lexing.{Token, tokens}
-use Rattle.promql_parser.specs.PrintedPieces.{word_kind}
+use Rattle.promql_parser.proofs.PrintedPieces.{word_kind}
 use Rattle.promql_parser.proofs.KindRows.{by_table, same_operator}
 use Rattle.promql_parser.proofs.UnsignedNumbers.{read_unsigned}
 

@@ -1,22 +1,16 @@
 //! Laws: the contracts of functions that do nothing.
 
-ghost use Rattle.std.specs.Prelude.{◌≡◌, ◌↔◌, ℕ, IfSome, List, Option, Result, Ok};
+ghost use Rattle.std.specs.Prelude.{◌≡◌, ◌↔◌, ℕ, List, Result, Ok};
 ghost use Rattle.promql_text.specs.Equalities.{IsSameBy};
 ghost use Rattle.promql_grammar.specs.Grammar.{Derivation, IsWellFormed, yield};
 ghost use Rattle.promql_text.specs.Texts.{Text};
-ghost use Rattle.promql_text.specs.Values.{IsNumber};
-ghost use Rattle.promql_text.specs.declared.number.Number.{Number};
 ghost use Rattle.promql_label.specs.Answers.{Answer};
-ghost use Rattle.promql_kind.specs.Modifiers.{Cardinality, Clause, fills};
 ghost use Rattle.promql_ast.specs.Layout.{laid};
 ghost use Rattle.promql_ast.specs.Normal.{normal};
 ghost use Rattle.promql_ast.specs.Text.{text};
 ghost use Rattle.promql_ast.specs.Tree.{Tree};
 ghost use Rattle.promql_parser.specs.Answers.{HasTree, IsServed, Refusal, refusal_of};
 ghost use Rattle.promql_parser.specs.Asking.{AreAnswersOf, Asked};
-ghost use Rattle.promql_parser.specs.Lexes.{Lexes, at_depth};
-ghost use Rattle.promql_parser.specs.PrintedItems.{before_line, fills_line, labels_line, matching_line};
-ghost use Rattle.promql_parser.specs.PrintedPieces.{clause, fill_words, group, labels, matched};
 
 use crate::parser::ParseError;
 
@@ -57,18 +51,4 @@ pub fn laid_reads_back()
 pub fn prints_alike()
     ensures { (g : Text → Answer) (first second : Text) (s t : Tree)
         → HasTree g first s → HasTree g second t → (text s ≡ text t) ↔ (normal s ≡ normal t) }
-{}
-
-/// The lexer reads printed labels, the clauses of aggregations, and the matchings of operators with
-/// their groups and fill values as their tokens, in front of any text.
-pub fn printed_parts_lex()
-    ensures labels { (depth : ℕ) (ls : List Text)
-        → Lexes (at_depth depth) (at_depth depth) (labels_line (labels ls)) }
-    ensures clauses { (depth : ℕ) (c : Option Clause)
-        → Lexes (at_depth depth) (at_depth depth) (before_line (clause c)) }
-    ensures matchings { (depth : ℕ) (c : Option Clause) (card : Cardinality)
-        → Lexes (at_depth depth) (at_depth depth) (matching_line (matched c (group card))) }
-    ensures fills { (depth : ℕ) (right left : Option Number)
-        → IfSome right IsNumber → IfSome left IsNumber
-        → Lexes (at_depth depth) (at_depth depth) (fills_line (fill_words (fills right left))) }
 {}

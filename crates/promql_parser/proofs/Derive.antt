@@ -24,7 +24,7 @@ use Rattle.promql_ast.specs.declared.range_mode.RangeMode.{RangeMode}
 use Rattle.promql_ast.specs.declared.range_mode.RangeMode.TheVariants.{Plain, Smoothed, Anchored}
 use Rattle.promql_parser.specs.Asking.{under}
 use Rattle.promql_parser.specs.Building.{build}
-use Rattle.promql_parser.specs.PrintedPieces.{word_kind, time, moment, shift, clause, modifier, braces}
+use Rattle.promql_parser.proofs.PrintedPieces.{word_kind, time, moment, shift, clause, modifier, braces}
 
 -- a number below zero is a minus and a number
 abbrev pub derive_number : Number → Derivation
@@ -113,11 +113,3 @@ abbrev mutual
   pub AllHaveWords : Arguments → Type 0
   AllHaveWords grammar.none = Unit {0}
   AllHaveWords (grammar.more d ds) = HasWords d × AllHaveWords ds
-
--- some well formed derivation is no higher, has these tokens and builds this tree, with one answer for each pattern
-pub record ReadsBack (g : Text → Answer) (d : Derivation) (ts : List Symbol) (t : Tree) : Type 0 where
-  pub derivation : Derivation
-  pub formed : grammar.IsWellFormed derivation
-  pub low : grammar.height derivation ≤ grammar.height d
-  pub spells : grammar.yield derivation ≡ ts
-  pub builds : under g (build derivation) ≡ Ok t

@@ -11,7 +11,7 @@ use Rattle.promql_token.specs.declared.state.Mode.TheVariants as mode
 use Rattle.promql_token.specs.declared.state.State.{State}
 use Rattle.promql_grammar.specs.Symbols.{symbol_of}
 use Rattle.promql_parser.specs.Lexing.{Token}
-use Rattle.promql_parser.specs.PrintedItems.{Item, render, strip}
+use Rattle.promql_parser.proofs.PrintedItems.{Item, render, strip}
 
 -- outside braces and brackets, with so many open parentheses
 abbrev pub at_depth : ℕ → State
