@@ -1,9 +1,9 @@
 -- The printed text of a text's tree has the tree's normal form.
-use Rattle.std.proofs.Common.{◌≡◌, ◌↔◌, ℕ, ◌≤◌, refl, sym, ◌∙◌, ap, subst, arith, List}
+use Rattle.std.proofs.Common.{◌≡◌, ◌↔◌, ℕ, refl, sym, ◌∙◌, ap, subst, arith, List}
 use Rattle.std.specs.Prelude.{Ok, Err, Result}
 use Rattle.promql_text.specs.Texts.{Text}
 use Rattle.promql_token.specs.declared.fault.LexFault.{LexFault}
-use Rattle.promql_grammar.specs.Grammar.{Derivation, yield, height}
+use Rattle.promql_grammar.specs.Grammar.{Derivation, yield}
 use Rattle.promql_grammar.specs.Symbols.{Symbol}
 use Rattle.promql_grammar.proofs.Unique.{one_derivation}
 use Rattle.promql_label.specs.Answers.{Answer}
@@ -59,28 +59,28 @@ pub has_answer : (g : Text → Answer) (source : Text) (answers : List Asked) (a
 has_answer g source answers answer t s single h = s.single g single h.derivation h.derives h.low ∙ ap built_answer h.builds
 
 module _ (g : Text → Answer) where
-  kept : (source : Text) (t : Tree) → (h : HasTree g source t) → Keeps g h.derivation t
-  kept source t h = let s = h.derives in keeps g h.derivation t s.formed (has_words source h.derivation s) h.builds
+  keeps_of : (source : Text) (t : Tree) → (h : HasTree g source t) → Keeps g h.derivation t
+  keeps_of source t h = let s = h.derives in keeps g h.derivation t s.formed (has_words source h.derivation s) h.builds
 
-  printed : (source : Text) (t : Tree) (z : Text) → HasTree g source t → Derives z (derive t) → HasTree g z (normal t)
-  printed source t z h derives =
-      let k = kept source t h in
+  has_normal : (source : Text) (t : Tree) (z : Text) → HasTree g source t → Derives z (derive t) → HasTree g z (normal t)
+  has_normal source t z h derives =
+      let k = keeps_of source t h in
       record { derivation = derive t; derives = derives; low = omega (arith, k.low, h.low); builds = k.again }
 
   -- ---- one line
 
   pub text_reads_back : (source : Text) (t : Tree) → HasTree g source t → HasTree g (text t) (normal t)
   text_reads_back source t h =
-      let k = kept source t h in
-      printed source t (text t) h
+      let k = keeps_of source t h in
+      has_normal source t (text t) h
       (subst (λ z. Derives z (derive t)) (line_bytes g t k.printable) (items_derive (line (derive t)) (derive t) ((tree_lexed g t k.printable).one 0) (line_tokens (derive t)) k.formed))
 
   -- ---- over several lines
 
   pub laid_reads_back : (source : Text) (t : Tree) → HasTree g source t → (level most : ℕ) → HasTree g (laid t level most) (normal t)
   laid_reads_back source t h level most =
-      let k = kept source t h in
-      printed source t (laid t level most) h
+      let k = keeps_of source t h in
+      has_normal source t (laid t level most) h
       (subst (λ z. Derives z (derive t)) (lines_bytes g t level most k.printable)
       (items_derive (lines (derive t) level most) (derive t) ((tree_lexed g t k.printable).many 0 level most) (lines_tokens (derive t) level most) k.formed))
 

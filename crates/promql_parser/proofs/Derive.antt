@@ -1,5 +1,5 @@
 -- The derivation of a tree's text (docs/PRINTING.md, "Nodes"): what the grammar reads the printed tree as.
-use Rattle.std.specs.Prelude.{◌≡◌, ℕ, ◌≤◌, true, false, if◌then◌else◌, Option, Some, None, option_map, List, Result, Ok, Err, codes}
+use Rattle.std.specs.Prelude.{◌≡◌, ℕ, true, false, if◌then◌else◌, Option, Some, None, option_map, Result, Ok, Err, codes}
 use Rattle.promql_text.specs.NumberText.{number_text, read_number}
 use Rattle.promql_text.specs.Quoting.{quoted_text}
 use Rattle.promql_text.specs.Texts.{Text}
@@ -14,16 +14,13 @@ use Rattle.promql_grammar.specs.declared.kind.Kind.TheVariants as kind
 use Rattle.promql_grammar.specs.Grammar as grammar
 use Rattle.promql_grammar.specs.Grammar.{Derivation, Arguments}
 use Rattle.promql_grammar.specs.Pieces as piece
-use Rattle.promql_grammar.specs.Symbols.{Symbol, kind_of}
-use Rattle.promql_label.specs.Answers.{Answer}
+use Rattle.promql_grammar.specs.Symbols.{kind_of}
 use Rattle.promql_kind.specs.Functions.{name_of}
 use Rattle.promql_ast.specs.Selectors.{Selector, selector}
 use Rattle.promql_ast.specs.Shifts.{Shift, Moment}
 use Rattle.promql_ast.specs.Tree.{Tree, aggregate, unary, binary, paren, subquery, number, string, vector, matrix, call, extension, MaybeTree, absent, present, Trees, no_trees, first_tree}
 use Rattle.promql_ast.specs.declared.range_mode.RangeMode.{RangeMode}
 use Rattle.promql_ast.specs.declared.range_mode.RangeMode.TheVariants.{Plain, Smoothed, Anchored}
-use Rattle.promql_parser.specs.Asking.{under}
-use Rattle.promql_parser.specs.Building.{build}
 use Rattle.promql_parser.proofs.PrintedPieces.{word_kind, time, moment, shift, clause, modifier, braces}
 
 -- a number below zero is a minus and a number

@@ -1,5 +1,5 @@
 -- What a printed tree has after an expression: no parenthesis opens there.
-use Rattle.std.proofs.Common.{◌≡◌, ℕ, zero, suc, ◌+◌, refl, sym, ◌∙◌, ap, arith, Bool, true, false, cond, not, ◌&&◌, Option, Some, None, List, [], ◌∷◌, ◌++◌, append_assoc, codes}
+use Rattle.std.proofs.Common.{◌≡◌, ℕ, zero, suc, ◌+◌, refl, ◌∙◌, ap, arith, Bool, true, false, cond, not, ◌&&◌, Option, Some, None, List, [], ◌∷◌, ◌++◌, append_assoc}
 use Rattle.std.specs.Prelude.{◌==◌, slice_index}
 use Rattle.std.specs.Char.{is_ascii_whitespace}
 use Rattle.std.specs.List.{prefix_len}
@@ -16,7 +16,7 @@ use Rattle.promql_grammar.specs.Symbols.{Symbol, kind_of, sign, word}
 use Rattle.promql_kind.specs.Modifiers.{Clause, including, excluding}
 use Rattle.promql_ast.specs.Shifts.{Shift, back, ahead, Moment, at_start, at_end, at_time}
 use Rattle.promql_parser.proofs.Lexes.{ends_word, is_clear}
-use Rattle.promql_parser.proofs.PrintedItems.{Item, token, blank, newline, any_braces_line, arguments_line, before_line, closing_line, indented, line, postfix_line, render, rest_line, rest_lines, spell}
+use Rattle.promql_parser.proofs.PrintedItems.{Item, token, blank, newline, any_braces_line, before_line, closing_line, indented, postfix_line, render, rest_line, rest_lines, spell}
 use Rattle.promql_parser.proofs.PrintedPieces.{clause, moment, shift}
 use Rattle.promql_parser.proofs.KindRows.{operators_pass}
 use Rattle.promql_parser.proofs.LexedEnds.{and_cases, clear_ends, clear_shut, not_true}

@@ -1,5 +1,5 @@
 -- A printed tree has the tokens of its derivation.
-use Rattle.std.proofs.Common.{◌≡◌, ℕ, ◌+◌, refl, sym, ◌∙◌, ap, Bool, true, false, cond, ◌&&◌, List, [], ◌∷◌, ◌++◌, append-nil, map, Ok, Err}
+use Rattle.std.proofs.Common.{◌≡◌, ◌+◌, refl, sym, ◌∙◌, ap, Bool, true, false, cond, ◌&&◌, List, [], ◌∷◌, ◌++◌, append-nil, map, Ok}
 use Rattle.std.specs.Prelude.{drop, filter}
 use Rattle.std.specs.List.{list_all}
 use Rattle.std.proofs.lemmas.List.{map-append}
@@ -13,8 +13,9 @@ use Rattle.promql_token.proofs.Spans.{lexes}
 use Rattle.promql_token.proofs.Steps.{whats_end, whats_is}
 use Rattle.promql_grammar.specs.Grammar.{Derivation, IsWellFormed, yield}
 use Rattle.promql_grammar.specs.Results.{on_result}
-use Rattle.promql_grammar.specs.Symbols.{Symbol, symbol_of}
+use Rattle.promql_grammar.specs.Symbols.{symbol_of}
 use Rattle.promql_parser.specs.Answers.{Derives}
+use Rattle.promql_parser.proofs.LexedEnds.{and_cases}
 use Rattle.promql_parser.proofs.Lexes.{LexesBefore, at_depth, is_clear}
 use Rattle.promql_parser.specs.Lexing.{Token, tokens}
 use Rattle.promql_parser.proofs.PrintedItems.{Item, render, strip}
@@ -45,10 +46,6 @@ before_end (t ∷ ts) w state z e = go (goes_on (found state z).what) refl (sym 
         ap (λ b. b && list_all is_before_end ts) here ∙ later rest
     go false goes e later = let rest : ◌≡◌ {A = List What} [] (read_all ts ++ (w ∷ [])) = cc in absurd (some ts rest)
 
-and_cases : (a b : Bool) → (a && b) ≡ true → (a ≡ true) × (b ≡ true)
-and_cases true b e = (refl, e)
-and_cases false b e = cc
-
 abbrev the_end : List Token
 the_end = (T_EOF, []) ∷ []
 
@@ -62,8 +59,8 @@ without_end (t ∷ ts) all =
 -- ---- texts
 
 -- what is read to the end outside is the token list
-listed : (z : Text) (ts : List Token) → whats start z ≡ read_all ts ++ whats start [] → tokens z ≡ Ok ts
-listed z ts is =
+token_list : (z : Text) (ts : List Token) → whats start z ≡ read_all ts ++ whats start [] → tokens z ≡ Ok ts
+token_list z ts is =
     let whole : whats start z ≡ read_all ts ++ (Ok (T_EOF, []) ∷ []) = is ∙ ap (λ ws. read_all ts ++ ws) whats_end in
     let all : lexing.tokens z ≡ Ok (ts ++ the_end) = lexes z (ts ++ the_end) (whole ∙ sym (map-append {B = What} (λ t. Ok t) ts the_end)) in
     ap (on_result (filter is_before_end)) all ∙ ap (λ us. Ok us) (without_end ts (before_end ts (Ok (T_EOF, [])) start z whole))
@@ -73,4 +70,4 @@ pub items_derive : (is : List Item) (d : Derivation) → LexesBefore is_clear (a
 items_derive is d reads same formed =
     let front = reads [] refl in
     let whole : whats start (render is) ≡ read_all front.0 ++ whats start [] = ap (whats start) (sym (append-nil (render is))) ∙ front.2 in
-    record { formed = formed; spells = ap (on_result (map symbol_of)) (listed (render is) front.0 whole) ∙ ap (λ ts. Ok ts) (front.1 ∙ same) }
+    record { formed = formed; spells = ap (on_result (map symbol_of)) (token_list (render is) front.0 whole) ∙ ap (λ ts. Ok ts) (front.1 ∙ same) }

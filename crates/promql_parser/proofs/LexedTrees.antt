@@ -1,6 +1,5 @@
 -- The lexer reads a printed tree as its tokens, on one line and laid out.
-use Rattle.std.proofs.Common.{◌≡◌, ℕ, zero, suc, ◌+◌, refl, sym, ◌∙◌, subst, true, false, cond, Bool, Option, Some, None, option_map, List, [], ◌∷◌, ◌++◌, append-nil, codes}
-use Rattle.std.specs.Prelude.{◌==◌}
+use Rattle.std.proofs.Common.{◌≡◌, ℕ, zero, suc, ◌+◌, refl, sym, ◌∙◌, subst, true, false, Bool, Option, Some, None, option_map, List, [], ◌∷◌, ◌++◌, codes}
 use Rattle.std.proofs.lemmas.Bool.{cond_both}
 use Rattle.promql_text.specs.NumberText.{number_text}
 use Rattle.promql_text.specs.Quoting.{quoted_text}
@@ -17,18 +16,18 @@ use Rattle.promql_grammar.specs.declared.kind.Kind.TheVariants as kind
 use Rattle.promql_grammar.specs.Grammar as grammar
 use Rattle.promql_grammar.specs.Grammar.{Arguments, Derivation}
 use Rattle.promql_grammar.specs.Pieces as piece
-use Rattle.promql_grammar.specs.Symbols.{Symbol, kind_of, sign, word}
+use Rattle.promql_grammar.specs.Symbols.{kind_of, sign, word}
 use Rattle.promql_label.specs.Answers.{Answer}
 use Rattle.promql_label.specs.PlainMatchers.{PlainMatchers}
 use Rattle.promql_kind.specs.Functions.{name_of}
 use Rattle.promql_kind.specs.Modifiers.{Clause, including, excluding, Matching}
 use Rattle.promql_ast.specs.Lines.{is_longer}
-use Rattle.promql_ast.specs.Selectors.{Selector, selector}
+use Rattle.promql_ast.specs.Selectors.{selector}
 use Rattle.promql_ast.specs.Shifts.{Shift, Moment}
 use Rattle.promql_ast.specs.Tree.{Tree, aggregate, unary, binary, paren, subquery, number, string, vector, matrix, call, extension, MaybeTree, absent, present, Trees, no_trees, first_tree}
 use Rattle.promql_ast.specs.declared.range_mode.RangeMode.{RangeMode}
 use Rattle.promql_ast.specs.declared.range_mode.RangeMode.TheVariants.{Plain, Smoothed, Anchored}
-use Rattle.promql_parser.proofs.Derive.{derive, derive_after, derive_all, derive_base, with_at, with_mode, with_offset, with_suffix}
+use Rattle.promql_parser.proofs.Derive.{derive, derive_after, derive_all, derive_base, with_at, with_mode, with_suffix}
 use Rattle.promql_parser.proofs.Lexes.{Lexes, LexesBefore, at_depth, ends_word, is_clear}
 use Rattle.promql_parser.proofs.PrintedItems.{Item, token, blank, newline, after_line, any_braces_line, arguments_line, arguments_lines, before_line, braces_line, chosen, closing_line, indented, line, lines, modifier_line, postfix_line, render, rest_line, rest_lines, trimmed}
 use Rattle.promql_parser.proofs.PrintedPieces.{braces, clause, modifier, moment, shift, time, word_kind}
@@ -47,33 +46,33 @@ use Rattle.promql_parser.proofs.PrintedValues.{IsTime}
 
 -- ---- an expression, and arguments with the parenthesis after them
 
-abbrev Expression : ℕ → List Item → Type 0
-Expression depth is = LexesBefore is_clear (at_depth depth) (at_depth depth) is
+abbrev LexesExpression : ℕ → List Item → Type 0
+LexesExpression depth is = LexesBefore is_clear (at_depth depth) (at_depth depth) is
 
 -- what closes a parenthesis
-abbrev Closing : ℕ → List Item → Type 0
-Closing depth is = Lexes (at_depth (suc depth)) (at_depth depth) is
+abbrev LexesClosing : ℕ → List Item → Type 0
+LexesClosing depth is = Lexes (at_depth (suc depth)) (at_depth depth) is
 
 pub record Lexed (d : Derivation) : Type 0 where
-  pub one : (depth : ℕ) → Expression depth (line d)
-  pub many : (depth level most : ℕ) → Expression depth (lines d level most)
+  pub one : (depth : ℕ) → LexesExpression depth (line d)
+  pub many : (depth level most : ℕ) → LexesExpression depth (lines d level most)
 
 -- as the first ones, and as what follows an argument
 record AllLexed (ds : Arguments) : Type 0 where
-  one_first : (depth : ℕ) → Closing depth (arguments_line ds)
-  one_rest : (depth : ℕ) → Closing depth (rest_line ds)
-  many_first : (depth level most : ℕ) (after : List Item) → IsClear after → Closing depth after → Closing depth (arguments_lines ds level most after)
-  many_rest : (depth level most : ℕ) (after : List Item) → IsClear after → Closing depth after → Closing depth (rest_lines ds level most after)
+  one_first : (depth : ℕ) → LexesClosing depth (arguments_line ds)
+  one_rest : (depth : ℕ) → LexesClosing depth (rest_line ds)
+  many_first : (depth level most : ℕ) (after : List Item) → IsClear after → LexesClosing depth after → LexesClosing depth (arguments_lines ds level most after)
+  many_rest : (depth level most : ℕ) (after : List Item) → IsClear after → LexesClosing depth after → LexesClosing depth (rest_lines ds level most after)
 
 -- ---- what follows an expression
 
-then_before : (late : Text → Bool) (depth : ℕ) (c : State) (is js : List Item) → IsClear js → Expression depth is → LexesBefore late (at_depth depth) c js → LexesBefore late (at_depth depth) c (is ++ js)
+then_before : (late : Text → Bool) (depth : ℕ) (c : State) (is js : List Item) → IsClear js → LexesExpression depth is → LexesBefore late (at_depth depth) c js → LexesBefore late (at_depth depth) c (is ++ js)
 then_before late depth c is js clear first more = append_before is_clear late (at_depth depth) (at_depth depth) c is js (λ r passes. clear r) first more
 
-then_any : (depth : ℕ) (c : State) (is js : List Item) → IsClear js → Expression depth is → Lexes (at_depth depth) c js → Lexes (at_depth depth) c (is ++ js)
+then_any : (depth : ℕ) (c : State) (is js : List Item) → IsClear js → LexesExpression depth is → Lexes (at_depth depth) c js → Lexes (at_depth depth) c (is ++ js)
 then_any depth c is js clear first more r = then_before (λ r. true) depth c is js clear first (before_any (λ r. true) (at_depth depth) c js more) r refl
 
-of_any : (depth : ℕ) (is : List Item) → Lexes (at_depth depth) (at_depth depth) is → Expression depth is
+of_any : (depth : ℕ) (is : List Item) → Lexes (at_depth depth) (at_depth depth) is → LexesExpression depth is
 of_any depth is more = before_any is_clear (at_depth depth) (at_depth depth) is more
 
 -- ---- white space
@@ -95,26 +94,26 @@ trimmed_before depth c (blank ∷ is) more = trimmed_before depth c is (without_
 trimmed_before depth c (token s ∷ is) more = more
 trimmed_before depth c (newline ∷ is) more = more
 
-chosen_before : (depth level most : ℕ) (one many : List Item) → Expression depth one → Expression depth many → Expression depth (chosen one many level most)
+chosen_before : (depth level most : ℕ) (one many : List Item) → LexesExpression depth one → LexesExpression depth many → LexesExpression depth (chosen one many level most)
 chosen_before depth level most one many first second =
-    cond_both (is_longer most (render one)) many (indented level one) (Expression depth) (λ _. second) (λ _. indented_before depth level (at_depth depth) one first)
+    cond_both (is_longer most (render one)) many (indented level one) (LexesExpression depth) (λ _. second) (λ _. indented_before depth level (at_depth depth) one first)
 
 -- ---- arguments
 
 abbrev close_items : List Item
 close_items = token (sign kind.RightParen) ∷ []
 
-close_then : (depth : ℕ) (is : List Item) → Lexes (at_depth depth) (at_depth depth) is → Closing depth (token (sign kind.RightParen) ∷ is)
+close_then : (depth : ℕ) (is : List Item) → Lexes (at_depth depth) (at_depth depth) is → LexesClosing depth (token (sign kind.RightParen) ∷ is)
 close_then depth is more = token_then (at_depth (suc depth)) (at_depth depth) (at_depth depth) (sign kind.RightParen) is (λ r. close_reads depth (render is ++ r)) more
 
-open_then : (depth : ℕ) (is : List Item) → Closing depth is → Lexes (at_depth depth) (at_depth depth) (token (sign kind.LeftParen) ∷ is)
+open_then : (depth : ℕ) (is : List Item) → LexesClosing depth is → Lexes (at_depth depth) (at_depth depth) (token (sign kind.LeftParen) ∷ is)
 open_then depth is more = token_then (at_depth depth) (at_depth (suc depth)) (at_depth depth) (sign kind.LeftParen) is (λ r. open_reads depth (render is ++ r)) more
 
-comma_then : (depth : ℕ) (is : List Item) → Closing depth is → Closing depth (token (sign kind.Comma) ∷ is)
+comma_then : (depth : ℕ) (is : List Item) → LexesClosing depth is → LexesClosing depth (token (sign kind.Comma) ∷ is)
 comma_then depth is more = token_then (at_depth (suc depth)) (at_depth (suc depth)) (at_depth depth) (sign kind.Comma) is (λ r. comma_reads (suc depth) (render is ++ r)) more
 
 -- on a line of its own
-closing_then : (depth level : ℕ) (after : List Item) → Lexes (at_depth depth) (at_depth depth) after → Closing depth (closing_line level after)
+closing_then : (depth level : ℕ) (after : List Item) → Lexes (at_depth depth) (at_depth depth) after → LexesClosing depth (closing_line level after)
 closing_then depth level after more =
     let items = token (sign kind.RightParen) ∷ after in
     newline_then (suc depth) (at_depth depth) (indented level items) (indented_then (suc depth) level (at_depth depth) items (close_then depth after more))
@@ -130,7 +129,7 @@ none_lexed = record {
 more_lexed : (d : Derivation) (ds : Arguments) → Lexed d → AllLexed ds → AllLexed (grammar.more d ds)
 more_lexed d ds h hs =
     let one = λ (depth : ℕ). then_any (suc depth) (at_depth depth) (line d) (rest_line ds) (rest_clear ds) (h.one (suc depth)) (hs.one_rest depth) in
-    let many = λ (depth level most : ℕ) (after : List Item) (clear : IsClear after) (more : Closing depth after).
+    let many = λ (depth level most : ℕ) (after : List Item) (clear : IsClear after) (more : LexesClosing depth after).
     then_any (suc depth) (at_depth depth) (lines d level most) (rest_lines ds level most after) (rest_lines_clear ds level most after clear) (h.many (suc depth) level most)
     (hs.many_rest depth level most after clear more) in
     record {
@@ -145,10 +144,10 @@ more_lexed d ds h hs =
 -- ---- nodes
 
 -- without expressions in it, it is not broken into lines
-leaf_lexed : (d : Derivation) → ((level most : ℕ) → lines d level most ≡ indented level (line d)) → ((depth : ℕ) → Expression depth (line d)) → Lexed d
+leaf_lexed : (d : Derivation) → ((level most : ℕ) → lines d level most ≡ indented level (line d)) → ((depth : ℕ) → LexesExpression depth (line d)) → Lexed d
 leaf_lexed d laid one = record {
   one = one;
-  many = λ depth level most. subst (Expression depth) (sym (laid level most)) (indented_before depth level (at_depth depth) (line d) (one depth));
+  many = λ depth level most. subst (LexesExpression depth) (sym (laid level most)) (indented_before depth level (at_depth depth) (line d) (one depth));
 }
 
 paren_lexed : (d : Derivation) → Lexed d → Lexed (grammar.paren d)
@@ -168,9 +167,9 @@ paren_lexed d h =
 
 call_lexed : (k : Kind) (name : Text) (ds : Arguments) → ((depth : ℕ) (r : Text) → Reads (at_depth depth) (at_depth depth) (word k name) (40 ∷ r)) → AllLexed ds → Lexed (grammar.call k name ds)
 call_lexed k name ds reads hs =
-    let named = λ (depth : ℕ) (is : List Item) (more : Closing depth is).
+    let name_then = λ (depth : ℕ) (is : List Item) (more : LexesClosing depth is).
     token_then (at_depth depth) (at_depth depth) (at_depth depth) (word k name) (token (sign kind.LeftParen) ∷ is) (λ r. reads depth (render is ++ r)) (open_then depth is more) in
-    let one = λ (depth : ℕ). of_any depth (line (grammar.call k name ds)) (named depth (arguments_line ds) (hs.one_first depth)) in
+    let one = λ (depth : ℕ). of_any depth (line (grammar.call k name ds)) (name_then depth (arguments_line ds) (hs.one_first depth)) in
     record {
       one = one;
       many = λ depth level most.
@@ -178,7 +177,7 @@ call_lexed k name ds reads hs =
           let inside = arguments_lines ds (level + 1) most (closing_line level []) in
           let many = token (word k name) ∷ token (sign kind.LeftParen) ∷ newline ∷ inside in
           chosen_before depth level most (line (grammar.call k name ds)) (indented level many) (one depth)
-          (of_any depth (indented level many) (indented_then depth level o many (named depth (newline ∷ inside) (newline_then (suc depth) o inside
+          (of_any depth (indented level many) (indented_then depth level o many (name_then depth (newline ∷ inside) (newline_then (suc depth) o inside
           (hs.many_first depth (level + 1) most (closing_line level []) (closing_clear level []) (closing_then depth level [] (nothing o)))))));
     }
 
@@ -194,14 +193,14 @@ aggregate_lexed op m ds is hs =
     let c = clause m in
     let d = grammar.aggregate op (text_of op) c ds in
     let w = word (kind.Aggregator op) (text_of op) in
-    let named = λ (depth : ℕ) (items : List Item) (more : Lexes (at_depth (suc depth)) (at_depth depth) items).
+    let name_then = λ (depth : ℕ) (items : List Item) (more : Lexes (at_depth (suc depth)) (at_depth depth) items).
     let o = at_depth depth in
     let rest = token (sign kind.LeftParen) ∷ items in
     token_then o o o w (before_line c ++ rest) (λ r. aggregator_reads depth op (render (before_line c ++ rest) ++ r) is (clause_ends m items r))
     (append_lex o o o (before_line c) rest (clause_lex depth m) (open_then depth items more)) in
     let one = λ (depth : ℕ).
     let o = at_depth depth in
-    of_any depth (line d) (named depth (arguments_line ds ++ after_line c) (append_lex (at_depth (suc depth)) o o (arguments_line ds) (after_line c) (hs.one_first depth) (after_clause depth m))) in
+    of_any depth (line d) (name_then depth (arguments_line ds ++ after_line c) (append_lex (at_depth (suc depth)) o o (arguments_line ds) (after_line c) (hs.one_first depth) (after_clause depth m))) in
     record {
       one = one;
       many = λ depth level most.
@@ -210,11 +209,11 @@ aggregate_lexed op m ds is hs =
           let inside = arguments_lines ds (level + 1) most after in
           let many = token w ∷ (before_line c ++ token (sign kind.LeftParen) ∷ newline ∷ inside) in
           chosen_before depth level most (line d) (indented level many) (one depth)
-          (of_any depth (indented level many) (indented_then depth level o many (named depth (newline ∷ inside) (newline_then (suc depth) o inside
+          (of_any depth (indented level many) (indented_then depth level o many (name_then depth (newline ∷ inside) (newline_then (suc depth) o inside
           (hs.many_first depth (level + 1) most after (closing_clear level (after_line c)) (closing_then depth level (after_line c) (after_clause depth m)))))));
     }
 
-postfixed_lexed : (d : Derivation) (p : piece.Postfix) → IsClear (postfix_line p) → ((depth : ℕ) → Expression depth (postfix_line p)) → Lexed d → Lexed (grammar.postfixed d p)
+postfixed_lexed : (d : Derivation) (p : piece.Postfix) → IsClear (postfix_line p) → ((depth : ℕ) → LexesExpression depth (postfix_line p)) → Lexed d → Lexed (grammar.postfixed d p)
 postfixed_lexed d p clear last h = record {
   one = λ depth. then_before is_clear depth (at_depth depth) (line d) (postfix_line p) clear (h.one depth) (last depth);
   many = λ depth level most. then_before is_clear depth (at_depth depth) (lines d level most) (postfix_line p) clear (h.many depth level most) (last depth);
@@ -223,14 +222,14 @@ postfixed_lexed d p clear last h = record {
 minus_lexed : (d : Derivation) → Lexed d → Lexed (grammar.unary T_SUB (codes "-") d)
 minus_lexed d h =
     let minus = word (kind.Operator T_SUB) (codes "-") in
-    let signed = λ (depth : ℕ) (is : List Item) (more : Expression depth is).
+    let sign_then = λ (depth : ℕ) (is : List Item) (more : LexesExpression depth is).
     let o = at_depth depth in
     token_before is_clear o o o minus is (λ r passes. minus_reads depth (render is ++ r)) more in
     record {
-      one = λ depth. signed depth (line d) (h.one depth);
+      one = λ depth. sign_then depth (line d) (h.one depth);
       many = λ depth level most.
           let rest = trimmed (lines d level most) in
-          indented_before depth level (at_depth depth) (token minus ∷ rest) (signed depth rest (trimmed_before depth (at_depth depth) (lines d level most) (h.many depth level most)));
+          indented_before depth level (at_depth depth) (token minus ∷ rest) (sign_then depth rest (trimmed_before depth (at_depth depth) (lines d level most) (h.many depth level most)));
     }
 
 binary_lexed : (op : ℕ) (m : Option Matching) (l r : Derivation) → kind_of op ≡ kind.Operator op → IsMatched m → Lexed l → Lexed r → Lexed (grammar.binary op (text_of op) (modifier m) l r)

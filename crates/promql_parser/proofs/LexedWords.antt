@@ -19,23 +19,14 @@ use Rattle.promql_token.proofs.Joins.{joins}
 use Rattle.promql_grammar.specs.declared.kind.Kind.{Kind}
 use Rattle.promql_grammar.specs.declared.kind.Kind.TheVariants as kind
 use Rattle.promql_grammar.specs.declared.kind.TheConstants.{KINDS}
-use Rattle.promql_grammar.specs.Symbols.{is_sign, kind_in, kind_of, sign, symbol, word}
+use Rattle.promql_grammar.specs.Symbols.{is_sign, kind_of, sign, symbol, word}
 use Rattle.promql_parser.proofs.Lexes.{at_depth, ends_operator, ends_word}
 use Rattle.promql_parser.proofs.PrintedPieces.{word_kind}
+use Rattle.promql_parser.proofs.KindRows.{by_table}
 use Rattle.promql_parser.proofs.LexedEnds.{among, and_cases, not_true, or_cases}
 use Rattle.promql_parser.proofs.LexedItems.{Reads, known_reads}
 
 -- ---- ids
-
--- a test of ids and their kinds, by the table
-abbrev every : (ℕ → Kind → Bool) → List (ℕ × Kind) → Bool
-every p [] = true
-every p (row ∷ rows) = p 0 row.1 && every (λ id k. p (suc id) k) rows
-
-by_table : (p : ℕ → Kind → Bool) (rows : List (ℕ × Kind)) → ((id : ℕ) → p id kind.Other ≡ true) → every p rows ≡ true → (id : ℕ) → p id (kind_in rows id) ≡ true
-by_table p [] other all id = other id
-by_table p (row ∷ rows) other all zero = (and_cases (p 0 row.1) _ all).0
-by_table p (row ∷ rows) other all (suc id) = by_table (λ id k. p (suc id) k) rows (λ id. other (suc id)) (and_cases (p 0 row.1) _ all).1 id
 
 -- a test that all of a list pass
 test_of : (test : ℕ → Bool) (ids : List ℕ) (id : ℕ) → list_all test ids ≡ true → list_any (λ k. id == k) ids ≡ true → test id ≡ true

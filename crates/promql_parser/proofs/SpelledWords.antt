@@ -1,5 +1,5 @@
 -- The words of a text's derivation are words of their kinds, and its numbers have no sign.
-use Rattle.std.proofs.Common.{◌≡◌, ◌⊎◌, inl, inr, ⊎_elim, ℕ, zero, suc, refl, sym, ◌∙◌, ap, subst, Bool, true, false, cond, not, ◌&&◌, ◌||◌, Option, Some, None, Result, Ok, Err, List, [], ◌∷◌, ◌++◌, map, eqb-true}
+use Rattle.std.proofs.Common.{◌≡◌, ◌⊎◌, inl, inr, ⊎_elim, ℕ, refl, sym, ◌∙◌, ap, subst, Bool, true, false, cond, not, ◌&&◌, ◌||◌, Option, Some, None, Result, Ok, Err, List, [], ◌∷◌, ◌++◌, map, eqb-true}
 use Rattle.std.specs.Prelude.{◌==◌, filter}
 use Rattle.std.specs.List.{list_all, list_any}
 use Rattle.std.specs.Option.{unwrap_or}
@@ -21,7 +21,7 @@ use Rattle.promql_grammar.specs.Grammar as grammar
 use Rattle.promql_grammar.specs.Grammar.{Derivation, Arguments, yield, yield_arguments, yield_rest, IsWellFormed, AreWellFormed}
 use Rattle.promql_grammar.specs.Pieces as piece
 use Rattle.promql_grammar.specs.Results.{on_result}
-use Rattle.promql_grammar.specs.Symbols.{Symbol, is_sign, kind_in, kind_of, may_be_called, may_be_name, sign, symbol_of, word}
+use Rattle.promql_grammar.specs.Symbols.{Symbol, is_sign, kind_of, may_be_called, may_be_name, sign, symbol_of, word}
 use Rattle.promql_parser.specs.Answers.{Derives}
 use Rattle.promql_parser.proofs.Derive.{AllHaveWords, HasWords, IsName, IsUnsigned}
 use Rattle.promql_parser.specs.Lexing.{Token, tokens}
