@@ -30,6 +30,7 @@ use Rattle.promql_parser.specs.declared.grammar.fault.Fault as code
 use Rattle.promql_parser.specs.declared.grammar.fault.Fault.TheVariants as variant
 use Rattle.promql_parser.specs.Lexing.{Token, tokens, has_any}
 use Rattle.promql_parser.specs.Wholes.{IsWhole, IsWholeValue}
+use Rattle.promql_parser.proofs.CanonicalTexts.{text_reads_back}
 use Rattle.promql_parser.proofs.Ending.{ends_under}
 use Rattle.promql_parser.proofs.Good.{CheckedTyped, IsGood, all_ends, build_good}
 use Rattle.promql_parser.proofs.Listing.{some_zero}
@@ -66,6 +67,7 @@ none_answer text e none faults no_syntax no_deep no_memory is_empty is_lexical =
       built = none_built faults;
       only = λ d derives low. absurd (none d derives);
       single = λ g single d derives low. absurd (none d derives);
+      reads_back = λ g single t same. cc;
     },
   );
   syntax = λ is d derives. none d derives;
@@ -174,6 +176,12 @@ module _ (text : Text) (list : List Token) (is : tokens text ≡ Ok list) (some 
     single = λ g single d derives low.
         ap built_answer (ends_under g (build d) whole.answers r
         (subst (λ e. Ends (build e) whole.answers r) (one_derivation whole.derivation d whole.formed derives.formed (whole.spells ∙ sym (spelled d derives))) whole.is) single);
+    reads_back = λ g single t same. text_reads_back g text t (record {
+      derivation = whole.derivation;
+      derives = derives_of whole.derivation whole.formed whole.spells;
+      low = whole.low;
+      builds = sym (ends_under g (build whole.derivation) whole.answers r whole.is single) ∙ same_result r (Ok t) same;
+    });
   }
 
   whole_good : CheckedTyped → (t : Tree) (whole : IsWholeValue 512 ts (Ok t)) → IsGood (height whole.derivation) t
@@ -225,6 +233,7 @@ module _ (text : Text) (list : List Token) (is : tokens text ≡ Ok list) (some 
     built = none_built e faults;
     only = λ d derives low. absurd (none d derives.formed low (spelled d derives));
     single = λ g single d derives low. absurd (none d derives.formed low (spelled d derives));
+    reads_back = λ g single t same. cc;
   }
     where
       none_built : (e : Refusal) → ((f : Fault) → e ≢ fault f) → (result : Result Tree Fault) → Err e ≡ built_answer result → IsBuilt text [] result

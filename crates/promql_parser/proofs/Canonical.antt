@@ -20,9 +20,9 @@ use Rattle.promql_ast.specs.declared.range_mode.RangeMode.{RangeMode}
 use Rattle.promql_ast.specs.declared.range_mode.RangeMode.TheVariants.{Plain, Smoothed, Anchored}
 use Rattle.promql_parser.specs.Asking.{under}
 use Rattle.promql_parser.specs.Building.{build, build_all, passing}
-use Rattle.promql_parser.specs.Derive.{derive, derive_all, derive_base, with_at, with_mode, with_suffix, HasWords, AllHaveWords}
+use Rattle.promql_parser.proofs.Derive.{derive, derive_all, derive_base, with_at, with_mode, with_suffix, HasWords, AllHaveWords}
 use Rattle.promql_parser.specs.PieceBuilding.{moment_value, shift_value, time_value}
-use Rattle.promql_parser.specs.PrintedPieces.{braces, moment, seconds_text, shift, sign, time}
+use Rattle.promql_parser.proofs.PrintedPieces.{braces, moment, seconds_text, shift, sign, time}
 use Rattle.promql_parser.proofs.CheckedAgain.{same_tree}
 use Rattle.promql_parser.proofs.PrintedValues.{IsTime, time_again}
 use Rattle.promql_parser.proofs.Printable.{IsAnyMoment, IsMoment, IsShift, Printable, AllPrintable}

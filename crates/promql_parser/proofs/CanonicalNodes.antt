@@ -1,5 +1,5 @@
 -- Each node of a tree that is built is kept by the derivation of its text.
-use Rattle.std.proofs.Common.{◌≡◌, ℕ, ◌≤◌, refl, sym, ◌∙◌, ap, subst, arith, Bool, true, false, cond, ◌/◌, ◌^◌, Option, Some, None, [], ◌∷◌, codes}
+use Rattle.std.proofs.Common.{◌≡◌, ℕ, ◌≤◌, refl, sym, ◌∙◌, ap, subst, arith, Bool, true, false, cond, not, ◌/◌, ◌^◌, Option, Some, None, [], ◌∷◌, codes}
 use Rattle.std.specs.Prelude.{Ok, ◌==◌, option_map}
 use Rattle.promql_text.specs.NumberText.{number_text}
 use Rattle.promql_text.specs.Numbers.{exact_zero, scaled, tens}
@@ -10,20 +10,21 @@ use Rattle.promql_text.specs.declared.number.Number.{Number}
 use Rattle.promql_text.specs.declared.number.Number.TheVariants.{Finite}
 use Rattle.promql_text.proofs.OneForm.{negated_in_form}
 use Rattle.promql_text.proofs.ReadsBack.{reads_back}
-use Rattle.promql_token.specs.Ids.{is_aggregator}
+use Rattle.promql_token.specs.Ids.{is_aggregator, keyword_in_any_case}
 use Rattle.promql_token.specs.Laws.{is_word}
 use Rattle.promql_token.specs.declared.ids.TheConstants.{T_SUB}
 use Rattle.promql_grammar.specs.declared.kind.Kind.{Kind}
+use Rattle.promql_grammar.specs.declared.kind.Kind.TheVariants as kind
 use Rattle.promql_grammar.specs.Grammar as grammar
 use Rattle.promql_grammar.specs.Grammar.{Derivation, Arguments, IsWellFormed, AreWellFormed, IsBase, FitsSign, height, greatest_height, openness, level, yield}
 use Rattle.promql_grammar.specs.Pieces as piece
 use Rattle.promql_grammar.specs.Reading.{right_level}
-use Rattle.promql_grammar.specs.Symbols.{may_be_called, may_be_name}
+use Rattle.promql_grammar.specs.Symbols.{kind_of, may_be_called, may_be_name}
 use Rattle.promql_grammar.proofs.Levels.{Root, root_base, root_right, root_sign, right_root, sign_root}
 use Rattle.promql_label.specs.Answers.{Answer}
 use Rattle.promql_label.specs.PlainMatchers.{PlainMatchers, plain_matchers}
 use Rattle.promql_kind.specs.Functions.{Signature, function_named, name_of}
-use Rattle.promql_kind.proofs.NamedFunctions.{named_so}
+use Rattle.promql_kind.proofs.NamedFunctions.{each_named, named_so}
 use Rattle.promql_kind.specs.Modifiers.{Clause, Matching}
 use Rattle.promql_ast.specs.Builds.{aggregated, minus}
 use Rattle.promql_ast.specs.Checked.{checked}
@@ -38,11 +39,13 @@ use Rattle.promql_ast.specs.check.Vector.{name_fault}
 use Rattle.promql_ast.specs.declared.range_mode.RangeMode.TheVariants.{Plain}
 use Rattle.promql_parser.specs.Asking.{under}
 use Rattle.promql_parser.specs.Building.{build, build_all, called, selector_tree}
-use Rattle.promql_parser.specs.Derive.{derive, derive_all, derive_base, HasWords, IsName, IsUnsigned}
+use Rattle.promql_parser.proofs.Derive.{derive, derive_all, derive_base, HasWords, IsName, IsUnsigned}
 use Rattle.promql_parser.specs.PieceBuilding.{any_braces_value, braces_value, clause_value, modifier_value, number_value, string_value, step_value, time_value}
-use Rattle.promql_parser.specs.PrintedPieces.{braces, clause, modifier, time, word_kind}
+use Rattle.promql_parser.proofs.PrintedPieces.{braces, clause, modifier, time, word_kind}
 use Rattle.promql_parser.proofs.Canonical.{Keeps, AllKept, base_is, open_base, open_most, right_low, root_weaker, some_height}
 use Rattle.promql_parser.proofs.CheckedAgain.{arguments, minus_normal, same_tree, type_normal}
+use Rattle.promql_parser.proofs.LexedEnds.{not_true}
+use Rattle.promql_parser.proofs.LexedWords.{is_fill_word}
 use Rattle.promql_parser.proofs.Printable.{IsSelecting}
 use Rattle.promql_parser.proofs.PrintedMatchers.{AreAnyMatchers, AreMatchers, any_matchers, braces_again, braces_formed, named_again}
 use Rattle.promql_parser.proofs.PrintedModifiers.{Checked, IsMatched, IsWritten, checked_again, fits_printed, modifier_again, modifier_formed, read_alike, reread, settled_matched, settles, ungrouped}
@@ -58,6 +61,13 @@ nanos_above n = go (n == 0) (tens 29 n)
     go : (b : Bool) (z : ℕ) → is_below_zero (Finite (cond b exact_zero (scaled false (n / 10 ^ z) z 9))) ≡ false
     go true z = refl
     go false z = refl
+
+-- ---- functions
+
+-- no function of the table is named by a fill word
+no_fill : (name : Text) (f : Signature) → function_named name ≡ Some f → is_fill_word (name_of f) ≡ false
+unfolding keyword_in_any_case
+no_fill name f e = not_true _ (each_named (λ f. not (is_fill_word (name_of f))) refl name f e)
 
 module _ (g : Text → Answer) where
   -- a number below zero is the tree of a sign alone
@@ -224,15 +234,15 @@ module _ (g : Text → Answer) where
   -- ---- binary expressions
 
   pub keeps_binary : (op : ℕ) (text : Text) (w : piece.Modifier) (a b : Derivation) (l r : Tree) (m : Option Matching) (t : Tree)
-      → Keeps g a l → Keeps g b r → IsWellFormed (grammar.binary op text w a b) → IsMatched m → IsWritten m → Checked op l r m t → Keeps g (grammar.binary op text w a b) (binary op l r (settled op m))
-  keeps_binary op text w a b l r m t ca cb h matched written c = record {
+      → Keeps g a l → Keeps g b r → IsWellFormed (grammar.binary op text w a b) → kind_of op ≡ kind.Operator op → IsMatched m → IsWritten m → Checked op l r m t → Keeps g (grammar.binary op text w a b) (binary op l r (settled op m))
+  keeps_binary op text w a b l r m t ca cb h known matched written c = record {
     formed = (ca.formed, cb.formed, modifier_formed (settled op m), omega (arith, h.3, ca.wide), right_root op (derive r) (cb.root (right_level op) (right_low op) (root_right op b h.4)), fits_printed (settled op m) (yield (derive r)));
     wide = omega (arith, cb.wide);
     low = omega (arith, ca.low, cb.low);
     root = λ m e h. h;
     base = λ h. h;
-    words = (ca.words, cb.words);
-    printable = (settled_matched op m matched, ca.printable, cb.printable);
+    words = (ca.words, cb.words, known);
+    printable = (settled_matched op m matched, ca.printable, cb.printable, known);
     again =
         giving_leads g (build (derive l)) _ (normal l) _ ca.again
         (giving_leads g (build (derive r)) _ (normal r) _ cb.again
@@ -286,7 +296,7 @@ module _ (g : Text → Answer) where
         root = λ m e h. tt;
         base = λ h. tt;
         words = (record { letters = subst (λ x. is_word x ≡ true) (sym name) is.letters; kind = refl }, c.words);
-        printable = (subst (λ x. is_word x ≡ true) (sym name) is.letters, c.printable);
+        printable = (subst (λ x. is_word x ≡ true) (sym name) is.letters, c.printable, no_fill text f e);
         again =
             giving_leads g (build_all (derive_all ts)) _ (all_normal ts) _ c.again
             (ap (λ o. under g (called (name_of f) o (all_normal ts))) (ap function_named name ∙ e)

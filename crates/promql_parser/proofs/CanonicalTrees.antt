@@ -22,7 +22,7 @@ use Rattle.promql_ast.specs.Tree.{Tree, aggregate, unary, binary, paren, subquer
 use Rattle.promql_ast.specs.check.Binary.{checked_binary}
 use Rattle.promql_parser.specs.Asking.{gives, ◌giving◌, known, under}
 use Rattle.promql_parser.specs.Building.{bound, build, build_all, called, passing, passing_checks, range_mode, selector_tree, with_postfix, with_sign}
-use Rattle.promql_parser.specs.Derive.{AllHaveWords, HasWords, IsName, IsUnsigned}
+use Rattle.promql_parser.proofs.Derive.{AllHaveWords, HasWords, IsName, IsUnsigned}
 use Rattle.promql_parser.specs.PieceBuilding.{any_braces_value, braces_value, clause_value, duration_value, modifier_value, moment_value, number_value, shift_value, step_value, string_value, time_value}
 use Rattle.promql_parser.proofs.Canonical.{AllKept, Canon, Keeps, canon_at, canon_mode, canon_offset, core, some_height, whole}
 use Rattle.promql_parser.proofs.CanonicalNodes.{all_more, all_none, keeps_aggregate, keeps_binary, keeps_call, keeps_minus, keeps_named, keeps_nameless, keeps_number, keeps_paren, keeps_plus, keeps_range, keeps_string, keeps_subquery, nanos_above, selector_passes, selects}
@@ -159,7 +159,7 @@ module _ (g : Text → Answer) where
         let c = binary_checked op x.value y.value z.value t (passing_passes g (checked_binary op x.value y.value z.value) t z.leads) in
         let is = modifier_is m z.value z.is in
         subst (Canon g (grammar.binary op text m l r)) c.is (record {
-          kept = keeps_binary g op text m l r x.value y.value z.value t (whole g l x.value (canon l x.value h.0 w.0 x.is)) (whole g r y.value (canon r y.value h.1 w.1 y.is)) h is.0 is.1 c;
+          kept = keeps_binary g op text m l r x.value y.value z.value t (whole g l x.value (canon l x.value h.0 w.0 x.is)) (whole g r y.value (canon r y.value h.1 w.1 y.is)) h w.2 is.0 is.1 c;
           suffixes = tt;
         })
 

@@ -18,9 +18,9 @@ use Rattle.promql_grammar.specs.declared.kind.Kind.TheVariants as kind
 use Rattle.promql_grammar.specs.Symbols.{is_sign, sign, symbol, symbol_of, word}
 use Rattle.promql_label.specs.Labels.{is_number_word, label_text}
 use Rattle.promql_kind.specs.Modifiers.{Clause, including, excluding, Cardinality, one_to_one, many_to_one, one_to_many, many_to_many}
-use Rattle.promql_parser.specs.Lexes.{Lexes, at_depth}
-use Rattle.promql_parser.specs.PrintedItems.{Item, token, blank, before_line, group_line, labels_line, matching_line, names_line, render}
-use Rattle.promql_parser.specs.PrintedPieces.{clause, group, label_kind, labels, matched, names, word_kind}
+use Rattle.promql_parser.proofs.Lexes.{Lexes, at_depth}
+use Rattle.promql_parser.proofs.PrintedItems.{Item, token, blank, before_line, group_line, labels_line, matching_line, names_line, render}
+use Rattle.promql_parser.proofs.PrintedPieces.{clause, group, label_kind, labels, matched, names, word_kind}
 use Rattle.promql_parser.proofs.LexedItems.{Reads, append_lex, blank_then, close_reads, comma_reads, known_reads, nothing, open_reads, token_then}
 use Rattle.promql_parser.proofs.PrintedWords.{is_bare, word_bare}
 
@@ -83,7 +83,7 @@ bare_reads : (depth : ℕ) (l r : Text) → is_label l ≡ true → is_number_wo
 unfolding word_kind
 bare_reads depth l r is other stop shut = known_reads depth l r (word_id l []) (word_kind l) (label_is_word l is) (closed_id l r shut) (plain_symbol (word_kind l) l (bare_no_sign (word_kind l) (word_bare l is other))) stop
 
-string_reads : (depth : ℕ) (s r : Text) → Reads (at_depth depth) (at_depth depth) (word kind.Str (quoted_text s)) r
+pub string_reads : (depth : ℕ) (s r : Text) → Reads (at_depth depth) (at_depth depth) (word kind.Str (quoted_text s)) r
 unfolding after
 string_reads depth s r = record { id = T_STRING; is = refl; reads = joins_quoted (at_depth depth) s r refl }
 

@@ -6,7 +6,7 @@ use Rattle.promql_text.specs.Texts.{Text}
 use Rattle.promql_token.specs.Lexing.{whats}
 use Rattle.promql_token.specs.Pieces.{after, outside, piece, sign}
 use Rattle.promql_token.proofs.Joins.{joins}
-use Rattle.promql_parser.specs.Lexes.{at_depth}
+use Rattle.promql_parser.proofs.Lexes.{at_depth}
 
 above_zero : (n : ℕ) → (suc n == 0) ≡ false
 above_zero n = grind (arith, common_steps)

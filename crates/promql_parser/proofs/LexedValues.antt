@@ -18,14 +18,14 @@ use Rattle.promql_grammar.specs.declared.kind.Kind.TheVariants as kind
 use Rattle.promql_grammar.specs.Pieces as piece
 use Rattle.promql_grammar.specs.Symbols.{sign, symbol_of, word}
 use Rattle.promql_kind.specs.Modifiers.{fills, number_eq}
-use Rattle.promql_parser.specs.Lexes.{Lexes, at_depth}
-use Rattle.promql_parser.specs.PrintedItems.{Item, token, blank, fills_line, render, signed_line, value_line}
-use Rattle.promql_parser.specs.PrintedPieces.{fill_words, magnitude, value}
-use Rattle.promql_parser.specs.PrintedPieces as printed
+use Rattle.promql_parser.proofs.Lexes.{Lexes, at_depth}
+use Rattle.promql_parser.proofs.PrintedItems.{Item, token, blank, fills_line, render, signed_line, value_line}
+use Rattle.promql_parser.proofs.PrintedPieces.{fill_words, magnitude, value}
+use Rattle.promql_parser.proofs.PrintedPieces as printed
 use Rattle.promql_parser.proofs.LexedItems.{Reads, append_lex, blank_then, close_reads, known_reads, nothing, open_reads, token_then}
 use Rattle.promql_parser.proofs.LexedSigns.{minus_lex}
 
-minus_reads : (depth : ℕ) (r : Text) → Reads (at_depth depth) (at_depth depth) (word (kind.Operator T_SUB) (codes "-")) r
+pub minus_reads : (depth : ℕ) (r : Text) → Reads (at_depth depth) (at_depth depth) (word (kind.Operator T_SUB) (codes "-")) r
 minus_reads depth r = record { id = 40; is = refl; reads = minus_lex depth r }
 
 -- the number of a value, and the parenthesis after it
@@ -46,7 +46,7 @@ signed_lex depth true v is above =
     let rest = token (word kind.Number (number_text v)) ∷ token (sign kind.RightParen) ∷ [] in
     token_then inner inner (at_depth depth) (word (kind.Operator T_SUB) (codes "-")) rest (λ r. minus_reads (suc depth) (render rest ++ r)) (number_lex depth v is above)
 
-negated_above : (v : Number) → is_below_zero v ≡ true → is_below_zero (neg v) ≡ false
+pub negated_above : (v : Number) → is_below_zero v ≡ true → is_below_zero (neg v) ≡ false
 negated_above (number.Finite d) below = ap (λ b. not b && not (d.digits == 0)) below
 negated_above number.Inf below = cc
 negated_above number.NegInf below = refl

@@ -1,11 +1,13 @@
--- What is known of the values in a tree that is built: each is one that its printed text gives.
-use Rattle.std.proofs.Common.{◌≡◌, true, Option, Some, None}
+-- What is known of the values in a tree that is built: each is one that its printed text gives, operators are operators, and no function is a fill word.
+use Rattle.std.proofs.Common.{◌≡◌, true, false, Option, Some, None}
 use Rattle.std.specs.Prelude.{Ok}
 use Rattle.std.specs.Int.{is_negative}
 use Rattle.promql_text.specs.Texts.{Text}
 use Rattle.promql_text.specs.Values.{IsNumber}
 use Rattle.promql_token.specs.Ids.{is_aggregator}
 use Rattle.promql_token.specs.Laws.{is_word}
+use Rattle.promql_grammar.specs.declared.kind.Kind.TheVariants as kind
+use Rattle.promql_grammar.specs.Symbols.{kind_of}
 use Rattle.promql_label.specs.Answers.{Answer}
 use Rattle.promql_label.specs.PlainMatchers.{PlainMatchers}
 use Rattle.promql_kind.specs.Functions.{name_of}
@@ -13,7 +15,8 @@ use Rattle.promql_ast.specs.Selectors.{Selector, selector}
 use Rattle.promql_ast.specs.Shifts.{Shift, back, ahead, Moment, at_start, at_end, at_time}
 use Rattle.promql_ast.specs.Tree.{Tree, aggregate, unary, binary, paren, subquery, number, string, vector, matrix, call, extension, MaybeTree, absent, present, Trees, no_trees, first_tree}
 use Rattle.promql_parser.specs.PieceBuilding.{moment_value}
-use Rattle.promql_parser.specs.PrintedPieces.{seconds_text, sign}
+use Rattle.promql_parser.proofs.PrintedPieces.{seconds_text, sign}
+use Rattle.promql_parser.proofs.LexedWords.{is_fill_word}
 use Rattle.promql_parser.proofs.PrintedMatchers.{AreAnyMatchers, AreMatchers}
 use Rattle.promql_parser.proofs.PrintedModifiers.{IsMatched}
 use Rattle.promql_parser.proofs.PrintedValues.{IsStep, IsTime}
@@ -45,14 +48,14 @@ module _ (g : Text → Answer) where
     pub Printable : Tree → Type 0
     Printable (aggregate op e p m) = (is_aggregator op ≡ true) × Printable e × MaybePrintable p
     Printable (unary e) = Printable e
-    Printable (binary op l r m) = IsMatched m × Printable l × Printable r
+    Printable (binary op l r m) = IsMatched m × Printable l × Printable r × (kind_of op ≡ kind.Operator op)
     Printable (paren e) = Printable e
     Printable (subquery e offset at range step) = Printable e × IsTime range × IsStep step × IsShift offset × IsAnyMoment at
     Printable (number n) = IsNumber n
     Printable (string s) = Unit {0}
     Printable (vector s) = PrintableSelector s
     Printable (matrix s range mode) = PrintableSelector s × IsTime range
-    Printable (call f ts) = (is_word (name_of f) ≡ true) × AllPrintable ts
+    Printable (call f ts) = (is_word (name_of f) ≡ true) × AllPrintable ts × (is_fill_word (name_of f) ≡ false)
     Printable (extension name gives ts) = ⊥
 
     pub MaybePrintable : MaybeTree → Type 0

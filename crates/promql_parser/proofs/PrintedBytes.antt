@@ -27,10 +27,10 @@ use Rattle.promql_ast.specs.declared.range_mode.RangeMode.TheVariants.{Plain, Sm
 use Rattle.promql_ast.specs.node.Aggregate.{clause_text}
 use Rattle.promql_ast.specs.node.Binary.{matching_text}
 use Rattle.promql_ast.specs.node.Matrix.{mode_text}
-use Rattle.promql_parser.specs.Derive.{with_at, with_mode, with_suffix}
-use Rattle.promql_parser.specs.PrintedItems.{Item, token, blank, newline, render, spell, before_line, fills_line, flag_line, group_line, labels_line, line, matching_line, modifier_line, names_line, postfix_line, signed_line, time_line, value_line}
-use Rattle.promql_parser.specs.PrintedPieces.{any_items, braces, clause, fill_words, flag, followed, group, group_items, item, labels, magnitude, match_sign, matched, modifier, moment, names, or_items, seconds_text, shift, time, value}
-use Rattle.promql_parser.specs.PrintedPieces as printed
+use Rattle.promql_parser.proofs.Derive.{with_at, with_mode, with_suffix}
+use Rattle.promql_parser.proofs.PrintedItems.{Item, token, blank, newline, render, spell, before_line, fills_line, flag_line, group_line, labels_line, line, matching_line, modifier_line, names_line, postfix_line, signed_line, time_line, value_line}
+use Rattle.promql_parser.proofs.PrintedPieces.{any_items, braces, clause, fill_words, flag, followed, group, group_items, item, labels, magnitude, match_sign, matched, modifier, moment, names, or_items, seconds_text, shift, time, value}
+use Rattle.promql_parser.proofs.PrintedPieces as printed
 use Rattle.promql_parser.proofs.PrintedModifiers.{IsGroupedAfter, IsMatched}
 
 pub render_append : (is js : List Item) → render (is ++ js) ≡ render is ++ render js

@@ -43,10 +43,10 @@ use Rattle.promql_ast.specs.node.Binary.{matching_text}
 use Rattle.promql_ast.specs.node.Matrix.{mode_text}
 use Rattle.promql_ast.specs.node.Subquery.{range_text}
 use Rattle.promql_ast.specs.node.Vector.{braced, selected_name_text}
-use Rattle.promql_parser.specs.Derive.{derive, derive_after, derive_all, derive_base, derive_number, with_at, with_mode, with_suffix}
-use Rattle.promql_parser.specs.PrintedItems.{Item, token, blank, newline, render, spell, after_line, arguments_lines, before_line, chosen, closing_line, indented, line, lines, modifier_line, postfix_line, rest_lines, signed_line, time_line, trimmed}
-use Rattle.promql_parser.specs.PrintedPieces.{braces, clause, modifier, moment, shift, time, word_kind}
-use Rattle.promql_parser.specs.PrintedPieces as printed
+use Rattle.promql_parser.proofs.Derive.{derive, derive_after, derive_all, derive_base, derive_number, with_at, with_mode, with_suffix}
+use Rattle.promql_parser.proofs.PrintedItems.{Item, token, blank, newline, render, spell, after_line, arguments_lines, before_line, chosen, closing_line, indented, line, lines, modifier_line, postfix_line, rest_lines, signed_line, time_line, trimmed}
+use Rattle.promql_parser.proofs.PrintedPieces.{braces, clause, modifier, moment, shift, time, word_kind}
+use Rattle.promql_parser.proofs.PrintedPieces as printed
 use Rattle.promql_parser.proofs.Printable.{AllPrintable, IsSelecting, MaybePrintable, Printable, PrintableSelector}
 use Rattle.promql_parser.proofs.PrintedBytes.{clause_bytes, glued, modifier_bytes, moment_bytes, number_split, shift_bytes, time_bytes}
 use Rattle.promql_parser.proofs.PrintedLines.{base_bytes, line_bytes, nothing_after, range_bytes}

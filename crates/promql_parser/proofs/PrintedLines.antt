@@ -31,10 +31,10 @@ use Rattle.promql_ast.specs.node.Binary.{matching_text}
 use Rattle.promql_ast.specs.node.Matrix.{mode_text}
 use Rattle.promql_ast.specs.node.Subquery.{range_text, step_text}
 use Rattle.promql_ast.specs.node.Vector.{braced, selected_name_text}
-use Rattle.promql_parser.specs.Derive.{derive, derive_after, derive_all, derive_base, derive_number, with_mode}
-use Rattle.promql_parser.specs.PrintedItems.{Item, token, blank, render, close, wide, spacing, after_line, any_braces_line, arguments_line, before_line, item_line, items_line, line, modifier_line, postfix_line, rest_line, separator_line, signed_line, step_line, time_line}
-use Rattle.promql_parser.specs.PrintedPieces.{any_items, braces, clause, followed, group_items, item, modifier, or_items, time}
-use Rattle.promql_parser.specs.PrintedPieces as printed
+use Rattle.promql_parser.proofs.Derive.{derive, derive_after, derive_all, derive_base, derive_number, with_mode}
+use Rattle.promql_parser.proofs.PrintedItems.{Item, token, blank, render, close, wide, spacing, after_line, any_braces_line, arguments_line, before_line, item_line, items_line, line, modifier_line, postfix_line, rest_line, separator_line, signed_line, step_line, time_line}
+use Rattle.promql_parser.proofs.PrintedPieces.{any_items, braces, clause, followed, group_items, item, modifier, or_items, time}
+use Rattle.promql_parser.proofs.PrintedPieces as printed
 use Rattle.promql_parser.proofs.Printable.{AllPrintable, IsSelecting, MaybePrintable, Printable, PrintableSelector}
 use Rattle.promql_parser.proofs.PrintedBytes.{clause_bytes, glued, mode_bytes, modifier_bytes, number_split, suffix_bytes, time_bytes}
 use Rattle.promql_parser.proofs.PrintedMatchers.{AreAnyMatchers, AreMatchers, GroupsStand, any_matchers}

@@ -18,7 +18,7 @@ use Rattle.promql_ast.specs.check.Vector.{name_fault, second_name}
 use Rattle.promql_parser.specs.Asking.{gives, ◌giving◌, known, under}
 use Rattle.promql_parser.specs.Faults.{Fault}
 use Rattle.promql_parser.specs.PieceBuilding.{any_braces_value, braces_value, item_value, items_value, joined, label_value, operator_value, pattern_operator, string_value}
-use Rattle.promql_parser.specs.PrintedPieces.{any_items, braces, followed, group_items, item, match_sign, matcher_kind, or_items}
+use Rattle.promql_parser.proofs.PrintedPieces.{any_items, braces, followed, group_items, item, match_sign, matcher_kind, or_items}
 use Rattle.promql_parser.proofs.PrintedValues.{string_again}
 use Rattle.promql_parser.proofs.SingleAnswers.{giving_steps, giving_leads, known_steps, known_leads, same_ok}
 

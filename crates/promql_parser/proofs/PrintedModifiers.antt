@@ -23,7 +23,7 @@ use Rattle.promql_ast.specs.Types.{type_of}
 use Rattle.promql_ast.specs.check.Binary.{checked_binary, first_twice, label_fault, operator_fault, set_fault, settled, settled_set, side_fault}
 use Rattle.promql_parser.specs.Faults.{Fault}
 use Rattle.promql_parser.specs.PieceBuilding.{cardinality, fill_value, fills_value, group_value, is_blank, label_values, matching_clause, matching_value, modifier_value}
-use Rattle.promql_parser.specs.PrintedPieces.{fill_words, flag, group, labels, matched, modifier, value}
+use Rattle.promql_parser.proofs.PrintedPieces.{fill_words, flag, group, labels, matched, modifier, value}
 use Rattle.promql_parser.proofs.PrintedValues.{signed_again, signed_is}
 use Rattle.promql_parser.proofs.PrintedWords.{labels_again, labels_formed}
 use Rattle.promql_parser.proofs.SingleAnswers.{then_steps, then_leads, same_ok}
@@ -438,7 +438,7 @@ matched_formed None card = tt
 matched_formed (Some (including ls)) card = (refl, labels_formed ls, group_formed card)
 matched_formed (Some (excluding ls)) card = (refl, labels_formed ls, group_formed card)
 
-signed_formed : (b : Bool) → piece.IsSigned (Rattle.promql_parser.specs.PrintedPieces.sign b)
+signed_formed : (b : Bool) → piece.IsSigned (Rattle.promql_parser.proofs.PrintedPieces.sign b)
 signed_formed true = refl
 signed_formed false = tt
 

@@ -33,7 +33,7 @@ use Rattle.promql_ast.specs.Shifts.{Shift, back, ahead, Moment, at_time}
 use Rattle.promql_parser.specs.Building.{bound}
 use Rattle.promql_parser.specs.Faults.{Fault}
 use Rattle.promql_parser.specs.PieceBuilding.{at_fault, is_minus, moment_value, number_fault, number_value, shift, shift_value, signed_number, time_value}
-use Rattle.promql_parser.specs.PrintedPieces.{seconds_text, sign}
+use Rattle.promql_parser.proofs.PrintedPieces.{seconds_text, sign}
 use Rattle.promql_parser.proofs.Printable.{IsMoment, IsShift}
 use Rattle.promql_parser.proofs.PrintedValues.{IsTime, time_is, zeroless}
 use Rattle.promql_parser.proofs.SingleAnswers.{same_ok, then_leads, then_steps}

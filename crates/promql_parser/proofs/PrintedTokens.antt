@@ -7,7 +7,7 @@ use Rattle.promql_grammar.specs.Grammar as grammar
 use Rattle.promql_grammar.specs.Grammar.{Derivation, Arguments, yield, yield_arguments, yield_rest}
 use Rattle.promql_grammar.specs.Pieces as piece
 use Rattle.promql_grammar.specs.Symbols.{Symbol, sign, word}
-use Rattle.promql_parser.specs.PrintedItems.{Item, token, blank, newline, strip, Spacing, close, wide, spacing, after_line, any_braces_line, arguments_line, before_line, braces_line, fills_line, flag_line, group_line, grouping_line, item_line, items_line, labels_line, line, matching_line, modifier_line, names_line, postfix_line, rest_line, separator_line, signed_line, step_line, time_line, value_line, arguments_lines, chosen, closing_line, indented, lines, render, rest_lines, trimmed}
+use Rattle.promql_parser.proofs.PrintedItems.{Item, token, blank, newline, strip, Spacing, close, wide, spacing, after_line, any_braces_line, arguments_line, before_line, braces_line, fills_line, flag_line, group_line, grouping_line, item_line, items_line, labels_line, line, matching_line, modifier_line, names_line, postfix_line, rest_line, separator_line, signed_line, step_line, time_line, value_line, arguments_lines, chosen, closing_line, indented, lines, render, rest_lines, trimmed}
 
 pub strip_append : (is js : List Item) → strip (is ++ js) ≡ strip is ++ strip js
 strip_append [] js = refl

@@ -29,7 +29,7 @@ use Rattle.promql_grammar.specs.Results.{◌then◌}
 use Rattle.promql_grammar.specs.Pieces as piece
 use Rattle.promql_parser.specs.Faults.{Fault}
 use Rattle.promql_parser.specs.PieceBuilding.{string_value, number_value, number_fault, signed_number, is_minus, duration_value, duration_fault, time_value, step_value}
-use Rattle.promql_parser.specs.PrintedPieces.{sign, magnitude, time}
+use Rattle.promql_parser.proofs.PrintedPieces.{sign, magnitude, time}
 use Rattle.promql_parser.proofs.SingleAnswers.{then_steps, then_leads, same_ok}
 
 -- ---- strings

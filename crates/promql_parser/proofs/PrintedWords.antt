@@ -23,7 +23,7 @@ use Rattle.promql_label.specs.Labels.{is_number_word, label_text}
 use Rattle.promql_kind.specs.Modifiers.{Clause, including, excluding}
 use Rattle.promql_ast.specs.Normal.{normal_clause}
 use Rattle.promql_parser.specs.PieceBuilding.{label_value, name_values, label_values, grouping_value, clause_value}
-use Rattle.promql_parser.specs.PrintedPieces.{word_kind, label_kind, names, labels, clause}
+use Rattle.promql_parser.proofs.PrintedPieces.{word_kind, label_kind, names, labels, clause}
 use Rattle.promql_parser.proofs.PrintedValues.{string_again}
 use Rattle.promql_parser.proofs.SingleAnswers.{then_leads}
 

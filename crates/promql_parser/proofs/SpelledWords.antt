@@ -1,5 +1,5 @@
 -- The words of a text's derivation are words of their kinds, and its numbers have no sign.
-use Rattle.std.proofs.Common.{◌≡◌, ◌⊎◌, inl, inr, ⊎_elim, ℕ, zero, suc, refl, sym, ◌∙◌, ap, subst, Bool, true, false, cond, not, ◌&&◌, ◌||◌, Option, Some, None, Result, Ok, Err, List, [], ◌∷◌, ◌++◌, map, eqb-true}
+use Rattle.std.proofs.Common.{◌≡◌, ◌⊎◌, inl, inr, ⊎_elim, ℕ, refl, sym, ◌∙◌, ap, subst, Bool, true, false, cond, not, ◌&&◌, ◌||◌, Option, Some, None, Result, Ok, Err, List, [], ◌∷◌, ◌++◌, map, eqb-true}
 use Rattle.std.specs.Prelude.{◌==◌, filter}
 use Rattle.std.specs.List.{list_all, list_any}
 use Rattle.std.specs.Option.{unwrap_or}
@@ -21,11 +21,12 @@ use Rattle.promql_grammar.specs.Grammar as grammar
 use Rattle.promql_grammar.specs.Grammar.{Derivation, Arguments, yield, yield_arguments, yield_rest, IsWellFormed, AreWellFormed}
 use Rattle.promql_grammar.specs.Pieces as piece
 use Rattle.promql_grammar.specs.Results.{on_result}
-use Rattle.promql_grammar.specs.Symbols.{Symbol, is_sign, kind_in, kind_of, may_be_called, may_be_name, sign, symbol_of, word}
+use Rattle.promql_grammar.specs.Symbols.{Symbol, is_sign, kind_of, may_be_called, may_be_name, sign, symbol_of, word}
 use Rattle.promql_parser.specs.Answers.{Derives}
-use Rattle.promql_parser.specs.Derive.{AllHaveWords, HasWords, IsName, IsUnsigned}
+use Rattle.promql_parser.proofs.Derive.{AllHaveWords, HasWords, IsName, IsUnsigned}
 use Rattle.promql_parser.specs.Lexing.{Token, tokens}
-use Rattle.promql_parser.specs.PrintedPieces.{word_kind}
+use Rattle.promql_parser.proofs.PrintedPieces.{word_kind}
+use Rattle.promql_parser.proofs.KindRows.{by_table, same_operator}
 use Rattle.promql_parser.proofs.UnsignedNumbers.{read_unsigned}
 
 or_cases : (a b : Bool) → (a || b) ≡ true → (a ≡ true) ⊎ (b ≡ true)
@@ -37,15 +38,6 @@ and_cases true b e = (refl, e)
 and_cases false b e = cc
 
 -- ---- tests of ids and their kinds, by the table
-
-abbrev every : (ℕ → Kind → Bool) → List (ℕ × Kind) → Bool
-every p [] = true
-every p (row ∷ rows) = p 0 row.1 && every (λ id k. p (suc id) k) rows
-
-by_table : (p : ℕ → Kind → Bool) (rows : List (ℕ × Kind)) → ((id : ℕ) → p id kind.Other ≡ true) → every p rows ≡ true → (id : ℕ) → p id (kind_in rows id) ≡ true
-by_table p [] other all id = other id
-by_table p (row ∷ rows) other all zero = (and_cases (p 0 row.1) _ all).0
-by_table p (row ∷ rows) other all (suc id) = by_table (λ id k. p (suc id) k) rows (λ id. other (suc id)) (and_cases (p 0 row.1) _ all).1 id
 
 abbrev is_number : Kind → Bool
 is_number kind.Number = true
@@ -92,8 +84,9 @@ word_stays inside k plain = refl
 record Fits (k : Kind) (text : Text) : Type 0 where
   name : may_be_name k ≡ true → IsName k text
   number : k ≡ kind.Number → IsUnsigned (read_number text)
+  operator : (op : ℕ) → k ≡ kind.Operator op → kind_of op ≡ kind.Operator op
 
--- outside braces, names are words of their kinds and numbers have no sign
+-- outside braces, names are words of their kinds, numbers have no sign and operators have their ids
 abbrev AllFit : Bool → List Symbol → Type 0
 AllFit inside [] = Unit {0}
 AllFit inside (sign k ∷ ts) = AllFit (in_after inside k) ts
@@ -134,7 +127,7 @@ name_of_token t (inl h) may =
 name_of_token t (inr h) may = absurd (no_name no_words t.0 refl h may)
 
 token_fits : (t : Token) → IsSpelled t → Fits (kind_of t.0) t.1
-token_fits t s = record { name = λ may. name_of_token t s.word may; number = λ is. read_unsigned t.1 (s.number (number_id t.0 is)) }
+token_fits t s = record { name = λ may. name_of_token t s.word may; number = λ is. read_unsigned t.1 (s.number (number_id t.0 is)); operator = λ op is. same_operator t.0 op is }
 
 -- ---- the tokens of a text
 
@@ -347,6 +340,7 @@ mutual
       let rest = past_fits (yield l) (word (kind.Operator op) text ∷ (piece.yield_modifier m ++ yield r)) (all_out l) f in (
         words_fit l h.0 (left_fits false (yield l) (word (kind.Operator op) text ∷ (piece.yield_modifier m ++ yield r)) f),
         words_fit r h.1 (past_fits (piece.yield_modifier m) (yield r) (modifier_out m) rest.1),
+        (rest.0 refl).operator op refl,
       )
 
   arguments_fit : (ds : Arguments) → AreWellFormed ds → AllFit false (yield_arguments ds) → AllHaveWords ds

@@ -19,7 +19,7 @@ use Rattle.promql_text.specs.declared.number.NumberFault.TheVariants as fault
 use Rattle.promql_token.specs.Classes.{is_in}
 use Rattle.promql_token.specs.Spelling.{begins_unsigned}
 use Rattle.promql_token.specs.declared.class.Class.TheVariants as class
-use Rattle.promql_parser.specs.Derive.{IsUnsigned}
+use Rattle.promql_parser.proofs.Derive.{IsUnsigned}
 
 -- ---- the first character
 

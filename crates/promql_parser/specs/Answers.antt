@@ -5,6 +5,8 @@ use Rattle.promql_token.specs.declared.fault.LexFault.{LexFault}
 use Rattle.promql_label.specs.Answers as regex
 use Rattle.promql_ast.specs.Faults as trees
 use Rattle.promql_ast.specs.Height.{height as tree_height}
+use Rattle.promql_ast.specs.Normal.{normal}
+use Rattle.promql_ast.specs.Text.{text as line_text}
 use Rattle.promql_ast.specs.Tree.{Tree}
 use Rattle.promql_ast.specs.Typed.{Typed}
 use Rattle.promql_ast.specs.View.{tree_of}
@@ -53,6 +55,13 @@ pub record Derives (text : Text) (d : Derivation) : Type 0 where
   pub formed : IsWellFormed d
   pub spells : on_result (map symbol_of) (tokens text) ≡ Ok (yield d)
 
+-- a derivation of the text that is low enough builds the tree, with one answer for each pattern
+pub record HasTree (g : Text → regex.Answer) (text : Text) (t : Tree) : Type 0 where
+  pub derivation : Derivation
+  pub derives : Derives text derivation
+  pub low : height derivation ≤ MAX_DEPTH
+  pub builds : under g (build derivation) ≡ Ok t
+
 -- the text has more than MAX_DEPTH tokens, its end counted
 pub record IsLong (text : Text) : Type 0 where
   pub list : List Token
@@ -85,12 +94,14 @@ pub record Builds (d : Derivation) (answers : List Asked) (answer : Result Tree 
   pub is : answer ≡ built_answer result
 
 -- `regex` allows these answers, and with them the answer is what is built: where it is a tree or a fault of building, it
--- is, and where there is a derivation, nothing else is; as well if each pattern has one answer
+-- is, and where there is a derivation, nothing else is; as well if each pattern has one answer, and then the one-line text of
+-- a tree has the tree's normal form
 pub record IsServed (text : Text) (answers : List Asked) (answer : Result Tree Refusal) : Type 0 where
   pub allowed : AreAllowed answers
   pub built : (result : Result Tree Fault) → answer ≡ built_answer result → IsBuilt text answers result
   pub only : (d : Derivation) → Derives text d → height d ≤ MAX_DEPTH → Builds d answers answer
   pub single : (g : Text → regex.Answer) → AreAnswersOf g answers → (d : Derivation) → Derives text d → height d ≤ MAX_DEPTH → answer ≡ built_answer (under g (build d))
+  pub reads_back : (g : Text → regex.Answer) → AreAnswersOf g answers → (t : Tree) → answer ≡ Ok t → HasTree g (line_text t) (normal t)
 
 -- what `parse` promises of its answer to a text; only memory running out may come in place of what is built, of Syntax
 -- and of TooDeep

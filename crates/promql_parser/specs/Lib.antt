@@ -4,10 +4,6 @@ pub mod Faults
 pub mod Asking
 pub mod PieceBuilding
 pub mod Building
-pub mod PrintedPieces
-pub mod Derive
-pub mod PrintedItems
-pub mod Lexes
 pub mod IsPiece
 pub mod Pieces
 pub mod Items

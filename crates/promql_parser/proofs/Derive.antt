@@ -1,5 +1,5 @@
 -- The derivation of a tree's text (docs/PRINTING.md, "Nodes"): what the grammar reads the printed tree as.
-use Rattle.std.specs.Prelude.{◌≡◌, ℕ, ◌≤◌, true, false, if◌then◌else◌, Option, Some, None, option_map, List, Result, Ok, Err, codes}
+use Rattle.std.specs.Prelude.{◌≡◌, ℕ, true, false, if◌then◌else◌, Option, Some, None, option_map, Result, Ok, Err, codes}
 use Rattle.promql_text.specs.NumberText.{number_text, read_number}
 use Rattle.promql_text.specs.Quoting.{quoted_text}
 use Rattle.promql_text.specs.Texts.{Text}
@@ -14,17 +14,14 @@ use Rattle.promql_grammar.specs.declared.kind.Kind.TheVariants as kind
 use Rattle.promql_grammar.specs.Grammar as grammar
 use Rattle.promql_grammar.specs.Grammar.{Derivation, Arguments}
 use Rattle.promql_grammar.specs.Pieces as piece
-use Rattle.promql_grammar.specs.Symbols.{Symbol}
-use Rattle.promql_label.specs.Answers.{Answer}
+use Rattle.promql_grammar.specs.Symbols.{kind_of}
 use Rattle.promql_kind.specs.Functions.{name_of}
 use Rattle.promql_ast.specs.Selectors.{Selector, selector}
 use Rattle.promql_ast.specs.Shifts.{Shift, Moment}
 use Rattle.promql_ast.specs.Tree.{Tree, aggregate, unary, binary, paren, subquery, number, string, vector, matrix, call, extension, MaybeTree, absent, present, Trees, no_trees, first_tree}
 use Rattle.promql_ast.specs.declared.range_mode.RangeMode.{RangeMode}
 use Rattle.promql_ast.specs.declared.range_mode.RangeMode.TheVariants.{Plain, Smoothed, Anchored}
-use Rattle.promql_parser.specs.Asking.{under}
-use Rattle.promql_parser.specs.Building.{build}
-use Rattle.promql_parser.specs.PrintedPieces.{word_kind, time, moment, shift, clause, modifier, braces}
+use Rattle.promql_parser.proofs.PrintedPieces.{word_kind, time, moment, shift, clause, modifier, braces}
 
 -- a number below zero is a minus and a number
 abbrev pub derive_number : Number → Derivation
@@ -97,7 +94,7 @@ pub record IsName (k : Kind) (text : Text) : Type 0 where
   pub letters : is_word text ≡ true
   pub kind : k ≡ word_kind text
 
--- numbers have no sign, and the names of metrics and functions are words of their kinds
+-- numbers have no sign, the names of metrics and functions are words of their kinds, and operators have their ids
 abbrev mutual
   pub HasWords : Derivation → Type 0
   HasWords (grammar.number text) = IsUnsigned (read_number text)
@@ -107,17 +104,9 @@ abbrev mutual
   HasWords (grammar.aggregate op text c ds) = AllHaveWords ds
   HasWords (grammar.postfixed d p) = HasWords d
   HasWords (grammar.unary op text d) = HasWords d
-  HasWords (grammar.binary op text m l r) = HasWords l × HasWords r
+  HasWords (grammar.binary op text m l r) = HasWords l × HasWords r × (kind_of op ≡ kind.Operator op)
   HasWords d = Unit {0}
 
   pub AllHaveWords : Arguments → Type 0
   AllHaveWords grammar.none = Unit {0}
   AllHaveWords (grammar.more d ds) = HasWords d × AllHaveWords ds
-
--- some well formed derivation is no higher, has these tokens and builds this tree, with one answer for each pattern
-pub record ReadsBack (g : Text → Answer) (d : Derivation) (ts : List Symbol) (t : Tree) : Type 0 where
-  pub derivation : Derivation
-  pub formed : grammar.IsWellFormed derivation
-  pub low : grammar.height derivation ≤ grammar.height d
-  pub spells : grammar.yield derivation ≡ ts
-  pub builds : under g (build derivation) ≡ Ok t
