@@ -44,7 +44,7 @@ use Rattle.promql_parser.specs.PieceBuilding.{any_braces_value, braces_value, cl
 use Rattle.promql_parser.proofs.PrintedPieces.{braces, clause, modifier, time, word_kind}
 use Rattle.promql_parser.proofs.Canonical.{Keeps, AllKept, base_is, open_base, open_most, right_low, root_weaker, some_height}
 use Rattle.promql_parser.proofs.CheckedAgain.{arguments, minus_normal, same_tree, type_normal}
-use Rattle.promql_parser.proofs.LexedEnds.{not_true}
+use Rattle.promql_parser.proofs.Booleans.{not_true}
 use Rattle.promql_parser.proofs.LexedWords.{is_fill_word}
 use Rattle.promql_parser.proofs.Printable.{IsSelecting}
 use Rattle.promql_parser.proofs.PrintedMatchers.{AreAnyMatchers, AreMatchers, any_matchers, braces_again, braces_formed, named_again}

@@ -1,18 +1,15 @@
 -- What holds of all rows of the table of kinds holds of each id.
-use Rattle.std.proofs.Common.{◌≡◌, ℕ, zero, suc, refl, sym, ◌∙◌, ap, Bool, true, false, ◌&&◌, List, [], ◌∷◌, eqb-true}
+use Rattle.std.proofs.Common.{◌≡◌, ℕ, zero, suc, refl, sym, ◌∙◌, ap, Bool, true, ◌&&◌, List, [], ◌∷◌, eqb-true}
 use Rattle.std.specs.Prelude.{◌==◌}
 use Rattle.promql_grammar.specs.declared.kind.Kind.{Kind}
 use Rattle.promql_grammar.specs.declared.kind.Kind.TheVariants as kind
 use Rattle.promql_grammar.specs.declared.kind.TheConstants.{KINDS}
 use Rattle.promql_grammar.specs.Symbols.{kind_in, kind_of}
+use Rattle.promql_parser.proofs.Booleans.{and_cases}
 
 abbrev pub every : (ℕ → Kind → Bool) → List (ℕ × Kind) → Bool
 every p [] = true
 every p (row ∷ rows) = p 0 row.1 && every (λ id k. p (suc id) k) rows
-
-and_cases : (a b : Bool) → (a && b) ≡ true → (a ≡ true) × (b ≡ true)
-and_cases true b e = (refl, e)
-and_cases false b e = cc
 
 pub by_table : (p : ℕ → Kind → Bool) (rows : List (ℕ × Kind)) → ((id : ℕ) → p id kind.Other ≡ true) → every p rows ≡ true → (id : ℕ) → p id (kind_in rows id) ≡ true
 by_table p [] other all id = other id

@@ -1,23 +1,12 @@
 -- What may follow an expression ends words, numbers and operators.
-use Rattle.std.proofs.Common.{◌≡◌, ⊎_elim, ℕ, refl, sym, subst, inl, inr, ◌⊎◌, Bool, true, false, not, ◌&&◌, ◌||◌, List, [], ◌∷◌, eqb-true}
+use Rattle.std.proofs.Common.{◌≡◌, ⊎_elim, ℕ, refl, sym, subst, Bool, true, false, not, List, [], ◌∷◌, eqb-true}
 use Rattle.std.specs.Prelude.{◌==◌, slice_index}
 use Rattle.std.specs.List.{list_any}
 use Rattle.promql_text.specs.Texts.{Text}
 use Rattle.promql_token.specs.Laws.{stops_numeral}
 use Rattle.promql_token.specs.Pieces.{opens}
-use Rattle.promql_parser.proofs.Lexes.{ends_operator, ends_word, is_break, is_clear}
-
-pub and_cases : (a b : Bool) → (a && b) ≡ true → (a ≡ true) × (b ≡ true)
-and_cases true b e = (refl, e)
-and_cases false b e = cc
-
-pub or_cases : (a b : Bool) → (a || b) ≡ true → (a ≡ true) ⊎ (b ≡ true)
-or_cases true b e = inl refl
-or_cases false b e = inr e
-
-pub not_true : (b : Bool) → not b ≡ true → b ≡ false
-not_true true e = cc
-not_true false e = refl
+use Rattle.promql_parser.proofs.Booleans.{and_cases, not_true, or_cases}
+use Rattle.promql_parser.proofs.Lexes.{ends_word, is_break, is_clear}
 
 -- what holds of each number of a list
 abbrev pub All : (ℕ → Type 0) → List ℕ → Type 0
@@ -40,9 +29,6 @@ clear_stops w = clear_passes (stops_numeral w) refl (λ z. (refl, (refl, (refl, 
 
 pub clear_ends : (r : Text) → is_clear r ≡ true → ends_word r ≡ true
 clear_ends = clear_passes ends_word refl (λ z. (refl, (refl, (refl, (refl, (refl, tt))))))
-
-pub clear_operator : (r : Text) → is_clear r ≡ true → ends_operator r ≡ true
-clear_operator = clear_passes ends_operator refl (λ z. (refl, (refl, (refl, (refl, (refl, tt))))))
 
 pub clear_colon : (r : Text) → is_clear r ≡ true → (slice_index r 0 == 58) ≡ false
 clear_colon r clear = not_true _ (clear_passes (λ r. not (slice_index r 0 == 58)) refl (λ z. (refl, (refl, (refl, (refl, (refl, tt)))))) r clear)

@@ -15,11 +15,12 @@ use Rattle.promql_grammar.specs.Pieces as piece
 use Rattle.promql_grammar.specs.Symbols.{Symbol, kind_of, sign, word}
 use Rattle.promql_kind.specs.Modifiers.{Clause, including, excluding}
 use Rattle.promql_ast.specs.Shifts.{Shift, back, ahead, Moment, at_start, at_end, at_time}
+use Rattle.promql_parser.proofs.Booleans.{and_cases, not_true}
 use Rattle.promql_parser.proofs.Lexes.{ends_word, is_clear}
 use Rattle.promql_parser.proofs.PrintedItems.{Item, token, blank, newline, any_braces_line, before_line, closing_line, indented, postfix_line, render, rest_line, rest_lines, spell}
 use Rattle.promql_parser.proofs.PrintedPieces.{clause, moment, shift}
 use Rattle.promql_parser.proofs.KindRows.{operators_pass}
-use Rattle.promql_parser.proofs.LexedEnds.{and_cases, clear_ends, clear_shut, not_true}
+use Rattle.promql_parser.proofs.LexedEnds.{clear_ends, clear_shut}
 
 -- ---- where no parenthesis opens
 

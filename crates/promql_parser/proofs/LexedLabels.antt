@@ -2,44 +2,29 @@
 use Rattle.std.proofs.Common.{◌≡◌, ℕ, suc, ◌+◌, refl, ap, arith, Bool, true, false, cond, not, ◌&&◌, ◌||◌, Option, Some, None, List, [], ◌∷◌, ◌++◌, length, codes, eqb-true}
 use Rattle.std.specs.Prelude.{◌==◌, slice_index}
 use Rattle.std.specs.List.{prefix_len}
-use Rattle.std.specs.Option.{unwrap_or}
 use Rattle.std.proofs.lemmas.Bool.{eq-eqb}
 use Rattle.promql_text.specs.Quoting.{quoted_text}
 use Rattle.promql_text.specs.Texts.{Text}
 use Rattle.promql_token.specs.Classes.{is_in, is_label, is_letter, is_name_byte, past}
 use Rattle.promql_token.specs.Ids.{keyword_in_any_case}
 use Rattle.promql_token.specs.Laws.{is_word}
-use Rattle.promql_token.specs.Pieces.{after, is_fill, name_id, opens, word_id}
+use Rattle.promql_token.specs.Pieces.{after, opens, word_id}
 use Rattle.promql_token.specs.declared.class.Class.TheVariants as class
-use Rattle.promql_token.specs.declared.ids.TheConstants.{T_IDENTIFIER, T_STRING}
+use Rattle.promql_token.specs.declared.ids.TheConstants.{T_STRING}
 use Rattle.promql_token.proofs.PrintedValues.{joins_quoted}
 use Rattle.promql_grammar.specs.declared.kind.Kind.{Kind}
 use Rattle.promql_grammar.specs.declared.kind.Kind.TheVariants as kind
-use Rattle.promql_grammar.specs.Symbols.{is_sign, sign, symbol, symbol_of, word}
+use Rattle.promql_grammar.specs.Symbols.{sign, symbol, symbol_of, word}
 use Rattle.promql_label.specs.Labels.{is_number_word, label_text}
 use Rattle.promql_kind.specs.Modifiers.{Clause, including, excluding, Cardinality, one_to_one, many_to_one, one_to_many, many_to_many}
-use Rattle.promql_parser.proofs.Lexes.{Lexes, at_depth}
+use Rattle.promql_parser.proofs.Booleans.{and_both, and_cases}
+use Rattle.promql_parser.proofs.Lexes.{Lexes, at_depth, ends_word}
 use Rattle.promql_parser.proofs.PrintedItems.{Item, token, blank, before_line, group_line, labels_line, matching_line, names_line, render}
 use Rattle.promql_parser.proofs.PrintedPieces.{clause, group, label_kind, labels, matched, names, word_kind}
 use Rattle.promql_parser.proofs.LexedItems.{Reads, append_lex, blank_then, close_reads, comma_reads, known_reads, nothing, open_reads, token_then}
-use Rattle.promql_parser.proofs.PrintedWords.{is_bare, word_bare}
+use Rattle.promql_parser.proofs.LexedWords.{name_reads}
 
 -- ---- words
-
-bare_no_sign : (k : Kind) → is_bare k ≡ true → is_sign k ≡ false
-bare_no_sign kind.LeftParen e = cc
-bare_no_sign kind.RightParen e = cc
-bare_no_sign kind.LeftBrace e = cc
-bare_no_sign kind.RightBrace e = cc
-bare_no_sign kind.LeftBracket e = cc
-bare_no_sign kind.RightBracket e = cc
-bare_no_sign kind.Comma e = cc
-bare_no_sign kind.Colon e = cc
-bare_no_sign kind.Equal e = cc
-bare_no_sign kind.EqualRegex e = cc
-bare_no_sign kind.NotEqualRegex e = cc
-bare_no_sign kind.At e = cc
-bare_no_sign k e = refl
 
 in_name : (n p : Bool) (b c : ℕ) → cond n (1 + b) 0 ≡ suc c → cond (n || p) (1 + b) 0 ≡ suc c
 in_name true p b c e = e
@@ -55,14 +40,6 @@ all_word (b ∷ z) e =
     in_name (is_name_byte b) (b == 58) (prefix_len (is_in class.Word) z) (length z)
     (later_word (is_name_byte b) (prefix_len (is_in class.Name) z) (prefix_len (is_in class.Word) z) (length z) e (λ h. all_word z h))
 
-and_cases : (a b : Bool) → (a && b) ≡ true → (a ≡ true) × (b ≡ true)
-and_cases true b e = (refl, e)
-and_cases false b e = cc
-
-and_both : (a b : Bool) → a ≡ true → b ≡ true → (a && b) ≡ true
-and_both true b e h = h
-and_both false b e h = e
-
 label_is_word : (l : Text) → is_label l ≡ true → is_word l ≡ true
 label_is_word l is =
     let h = and_cases (is_letter (slice_index l 0)) (past class.Name l 0 == length l) is in
@@ -72,30 +49,19 @@ label_is_word l is =
     let whole : past class.Word l 0 ≡ length l = omega (arith, word) in
     and_both _ _ (ap (λ b. b || (slice_index l 0 == 58)) h.0) (eq-eqb _ _ whole)
 
--- where no parenthesis follows, a word has its own kind
-closed_id : (w r : Text) → opens r ≡ false → word_id w r ≡ word_id w []
-closed_id w r shut = ap (λ b. let id = unwrap_or (keyword_in_any_case w) (name_id w) in cond (is_fill id && not b) T_IDENTIFIER id) shut
-
-plain_symbol : (k : Kind) (w : Text) → is_sign k ≡ false → symbol k w ≡ word k w
-plain_symbol k w none = ap (λ b. cond b (sign k) (word k w)) none
-
-bare_reads : (depth : ℕ) (l r : Text) → is_label l ≡ true → is_number_word l ≡ false → is_in class.Word (slice_index r 0) ≡ false → opens r ≡ false → Reads (at_depth depth) (at_depth depth) (word (word_kind l) l) r
-unfolding word_kind
-bare_reads depth l r is other stop shut = known_reads depth l r (word_id l []) (word_kind l) (label_is_word l is) (closed_id l r shut) (plain_symbol (word_kind l) l (bare_no_sign (word_kind l) (word_bare l is other))) stop
-
 pub string_reads : (depth : ℕ) (s r : Text) → Reads (at_depth depth) (at_depth depth) (word kind.Str (quoted_text s)) r
 unfolding after
 string_reads depth s r = record { id = T_STRING; is = refl; reads = joins_quoted (at_depth depth) s r refl }
 
 -- ---- labels
 
-label_reads : (depth : ℕ) (l r : Text) → is_in class.Word (slice_index r 0) ≡ false → opens r ≡ false → Reads (at_depth depth) (at_depth depth) (word (label_kind l) (label_text l)) r
-label_reads depth l r stop shut = go (is_label l) (is_number_word l) refl refl
+label_reads : (depth : ℕ) (l r : Text) → ends_word r ≡ true → opens r ≡ false → Reads (at_depth depth) (at_depth depth) (word (label_kind l) (label_text l)) r
+label_reads depth l r ends shut = go (is_label l) (is_number_word l) refl
   where
-    go : (a b : Bool) → is_label l ≡ a → is_number_word l ≡ b → Reads (at_depth depth) (at_depth depth) (word (cond (a && not b) (word_kind l) kind.Str) (cond (a && not b) l (quoted_text l))) r
-    go true false is other = bare_reads depth l r is other stop shut
-    go true true is other = string_reads depth l r
-    go false b is other = string_reads depth l r
+    go : (a b : Bool) → is_label l ≡ a → Reads (at_depth depth) (at_depth depth) (word (cond (a && not b) (word_kind l) kind.Str) (cond (a && not b) l (quoted_text l))) r
+    go true false is = name_reads depth l r (label_is_word l is) ends shut
+    go true true is = string_reads depth l r
+    go false b is = string_reads depth l r
 
 names_lex : (depth : ℕ) (l : Text) (ls : List Text) → Lexes (at_depth (suc depth)) (at_depth depth) (names_line (names l ls))
 names_lex depth l [] =

@@ -9,13 +9,13 @@ use Rattle.promql_grammar.specs.Pieces as piece
 use Rattle.promql_grammar.specs.Symbols.{word}
 use Rattle.promql_kind.specs.Modifiers.{Clause, including, excluding, Cardinality, Fills, fills, Matching, matching, is_grouping, number_eq}
 use Rattle.promql_ast.specs.Normal.{normal_matched}
+use Rattle.promql_parser.proofs.Booleans.{not_true}
 use Rattle.promql_parser.proofs.Lexes.{Lexes, LexesBefore, at_depth, ends_operator, ends_word}
 use Rattle.promql_parser.proofs.PrintedItems.{Item, token, fills_line, flag_line, matching_line, modifier_line, render}
 use Rattle.promql_parser.proofs.PrintedPieces.{fill_words, flag, group, matched, modifier, value}
 use Rattle.promql_parser.proofs.LexedItems.{append_before, append_lex, before_any, blank_before, known_reads, last_before, nothing}
 use Rattle.promql_parser.proofs.LexedLabels.{matching_lex}
 use Rattle.promql_parser.proofs.LexedValues.{fills_lex}
-use Rattle.promql_parser.proofs.LexedEnds.{not_true}
 use Rattle.promql_parser.proofs.PrintedBytes.{render_append}
 use Rattle.promql_parser.proofs.PrintedModifiers.{AreFills, IsMatched}
 

@@ -1,5 +1,5 @@
 -- The lexer reads printed times after `@`, and printed offsets, as their tokens.
-use Rattle.std.proofs.Common.{◌≡◌, ℕ, zero, suc, ℤ, ◌-◌, ◌/◌, ◌%◌, ◌^◌, ◌<◌, ◌≤◌, refl, sym, ◌∙◌, subst, arith, Bool, true, false, cond, ◌&&◌, Option, Some, None, List, [], ◌∷◌, ◌++◌, length, length-append, codes, Ok}
+use Rattle.std.proofs.Common.{◌≡◌, ℕ, zero, suc, ℤ, ◌-◌, ◌/◌, ◌%◌, ◌^◌, ◌<◌, ◌≤◌, refl, sym, ◌∙◌, subst, arith, Bool, true, false, cond, Option, Some, None, List, [], ◌∷◌, ◌++◌, length, length-append, codes, Ok}
 use Rattle.std.specs.Prelude.{nat_le, neg_ℤ, pos, unsigned_abs}
 use Rattle.std.specs.Char.{digit_value, is_ascii_digit}
 use Rattle.std.specs.Fmt.{decimal}
@@ -28,6 +28,7 @@ use Rattle.promql_grammar.specs.Pieces as piece
 use Rattle.promql_grammar.specs.Symbols.{sign, symbol_of, word}
 use Rattle.promql_ast.specs.AtTimes.{at_of_millis, at_of_number}
 use Rattle.promql_ast.specs.Shifts.{Shift, back, ahead, Moment, at_start, at_end, at_time}
+use Rattle.promql_parser.proofs.Booleans.{and_both}
 use Rattle.promql_parser.proofs.Lexes.{LexesBefore, at_depth, is_clear}
 use Rattle.promql_parser.specs.PieceBuilding.{at_fault, signed_number}
 use Rattle.promql_parser.proofs.PrintedItems.{Item, token, blank, postfix_line, render, signed_line}
@@ -75,10 +76,6 @@ bound_lex depth id k w letters known symbol =
 
 one_digit : (c : ℕ) → digit_value c < 10 → is_ascii_digit c ≡ true
 one_digit c below = let h = digit_from_value c below in grind (arith, nat_tests)
-
-and_both : (a b : Bool) → a ≡ true → b ≡ true → (a && b) ≡ true
-and_both true b e h = h
-and_both false b e h = e
 
 all_digits : (ds : Text) → AllDigits 10 ds → are_digits ds ≡ true
 all_digits [] h = refl

@@ -28,11 +28,12 @@ use Rattle.promql_grammar.specs.declared.kind.Kind.{Kind}
 use Rattle.promql_grammar.specs.declared.kind.Kind.TheVariants as kind
 use Rattle.promql_grammar.specs.Pieces as piece
 use Rattle.promql_grammar.specs.Symbols.{sign, symbol_of, word}
+use Rattle.promql_parser.proofs.Booleans.{not_true}
 use Rattle.promql_parser.proofs.Lexes.{Lexes, LexesBefore, at_depth, is_clear}
 use Rattle.promql_parser.proofs.PrintedItems.{Item, token, blank, postfix_line, render, signed_line, step_line, time_line}
 use Rattle.promql_parser.proofs.PrintedPieces.{seconds_text, time}
 use Rattle.promql_parser.proofs.PrintedPieces as printed
-use Rattle.promql_parser.proofs.LexedEnds.{clear_colon, clear_ends, clear_stops, not_true}
+use Rattle.promql_parser.proofs.LexedEnds.{clear_colon, clear_ends, clear_stops}
 use Rattle.promql_parser.proofs.LexedItems.{Reads, append_before, before_any, before_fewer, blank_before, known_reads, last_before, nothing, token_before, token_then}
 use Rattle.promql_parser.proofs.LexedValues.{minus_reads}
 use Rattle.promql_parser.proofs.PrintedValues.{IsStep, IsTime}

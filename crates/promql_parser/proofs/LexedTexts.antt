@@ -15,7 +15,7 @@ use Rattle.promql_grammar.specs.Grammar.{Derivation, IsWellFormed, yield}
 use Rattle.promql_grammar.specs.Results.{on_result}
 use Rattle.promql_grammar.specs.Symbols.{symbol_of}
 use Rattle.promql_parser.specs.Answers.{Derives}
-use Rattle.promql_parser.proofs.LexedEnds.{and_cases}
+use Rattle.promql_parser.proofs.Booleans.{and_cases}
 use Rattle.promql_parser.proofs.Lexes.{LexesBefore, at_depth, is_clear}
 use Rattle.promql_parser.specs.Lexing.{Token, tokens}
 use Rattle.promql_parser.proofs.PrintedItems.{Item, render, strip}

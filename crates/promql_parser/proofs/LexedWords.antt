@@ -20,10 +20,11 @@ use Rattle.promql_grammar.specs.declared.kind.Kind.{Kind}
 use Rattle.promql_grammar.specs.declared.kind.Kind.TheVariants as kind
 use Rattle.promql_grammar.specs.declared.kind.TheConstants.{KINDS}
 use Rattle.promql_grammar.specs.Symbols.{is_sign, kind_of, sign, symbol, word}
+use Rattle.promql_parser.proofs.Booleans.{and_cases, not_true, or_cases}
 use Rattle.promql_parser.proofs.Lexes.{at_depth, ends_operator, ends_word}
 use Rattle.promql_parser.proofs.PrintedPieces.{word_kind}
 use Rattle.promql_parser.proofs.KindRows.{by_table}
-use Rattle.promql_parser.proofs.LexedEnds.{among, and_cases, not_true, or_cases}
+use Rattle.promql_parser.proofs.LexedEnds.{among}
 use Rattle.promql_parser.proofs.LexedItems.{Reads, known_reads}
 
 -- ---- ids

@@ -1,6 +1,7 @@
 pub mod AnswerLemmas
 pub mod Asked
 pub mod Bases
+pub mod Booleans
 pub mod Canonical
 pub mod CanonicalNodes
 pub mod CanonicalTexts

@@ -1,6 +1,6 @@
 -- Printed times after `@` and `offset` read back.
 use Rattle.std.proofs.Common.{◌≡◌, ℕ, zero, suc, ℤ, ◌+◌, ◌-◌, ◌*◌, ◌/◌, ◌%◌, ◌^◌, ◌<◌, ◌≤◌, refl, sym, ◌∙◌, ap, subst, arith, Bool, true, false, cond, not, ◌&&◌, Option, Some, None, ◌∷◌, ◌++◌, length, length-append}
-use Rattle.std.specs.Prelude.{Result, Ok, ◌==◌, drop, nat_le, nat_lt, option_map, pos, neg_ℤ}
+use Rattle.std.specs.Prelude.{Ok, ◌==◌, drop, nat_le, nat_lt, option_map, pos, neg_ℤ}
 use Rattle.std.specs.Fmt.{decimal}
 use Rattle.std.specs.Int.{is_negative}
 use Rattle.std.specs.Option.{ok_or}
@@ -31,7 +31,6 @@ use Rattle.promql_grammar.specs.Pieces as piece
 use Rattle.promql_ast.specs.AtTimes.{at_of_millis, at_of_number}
 use Rattle.promql_ast.specs.Shifts.{Shift, back, ahead, Moment, at_time}
 use Rattle.promql_parser.specs.Building.{bound}
-use Rattle.promql_parser.specs.Faults.{Fault}
 use Rattle.promql_parser.specs.PieceBuilding.{at_fault, is_minus, moment_value, number_fault, number_value, shift, shift_value, signed_number, time_value}
 use Rattle.promql_parser.proofs.PrintedPieces.{seconds_text, sign}
 use Rattle.promql_parser.proofs.Printable.{IsMoment, IsShift}
@@ -175,10 +174,6 @@ text_reads k low r =
     (not_octal_point w (fraction k)) (reading_point w (fraction k) own.0 own.1 (fraction_digits k)) ∙ r.is
 
 -- ---- times after `@`
-
--- what a number of milliseconds is after `@`
-after_at : Exact → Result Moment Fault
-after_at d = at_fault (at_of_millis (Finite d) (within_i64 d.is_negative (millis d)))
 
 at_within : (n : Number) (b : Bool) (k : ℕ) → nat_le k (cond b (2 ^ 63) (2 ^ 63 - 1)) ≡ true → at_fault (at_of_millis n (within_i64 b k)) ≡ Ok (at_time (cond b (neg_ℤ (pos k)) (pos k)))
 at_within n b k fits = ap (λ x. at_fault (at_of_millis n (cond x (Some (cond b (neg_ℤ (pos k)) (pos k))) None))) fits

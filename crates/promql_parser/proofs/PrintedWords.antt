@@ -1,5 +1,5 @@
 -- Printed labels and names of functions are words of their kinds, and labels and clauses read back.
-use Rattle.std.proofs.Common.{◌≡◌, ◌⊎◌, inl, inr, ⊎_elim, ℕ, suc, ◌+◌, refl, sym, ◌∙◌, ap, subst, arith, Bool, true, false, cond, not, ◌&&◌, ◌||◌, Option, Some, None, List, [], ◌∷◌, length, codes}
+use Rattle.std.proofs.Common.{◌≡◌, ⊎_elim, ℕ, suc, ◌+◌, refl, sym, ◌∙◌, ap, subst, arith, Bool, true, false, cond, not, ◌&&◌, ◌||◌, Option, Some, None, List, [], ◌∷◌, length, codes}
 use Rattle.std.specs.Prelude.{Ok, ◌==◌, slice_index}
 use Rattle.std.specs.List.{list_all, list_any, prefix_len}
 use Rattle.std.specs.Option.{unwrap_or}
@@ -23,22 +23,15 @@ use Rattle.promql_label.specs.Labels.{is_number_word, label_text}
 use Rattle.promql_kind.specs.Modifiers.{Clause, including, excluding}
 use Rattle.promql_ast.specs.Normal.{normal_clause}
 use Rattle.promql_parser.specs.PieceBuilding.{label_value, name_values, label_values, grouping_value, clause_value}
+use Rattle.promql_parser.proofs.Booleans.{and_cases, or_cases}
 use Rattle.promql_parser.proofs.PrintedPieces.{word_kind, label_kind, names, labels, clause}
 use Rattle.promql_parser.proofs.PrintedValues.{string_again}
 use Rattle.promql_parser.proofs.SingleAnswers.{then_leads}
 
-or_cases : (a b : Bool) → (a || b) ≡ true → (a ≡ true) ⊎ (b ≡ true)
-or_cases true b e = inl refl
-or_cases false b e = inr e
-
-and_cases : (a b : Bool) → (a && b) ≡ true → (a ≡ true) × (b ≡ true)
-and_cases true b e = (refl, e)
-and_cases false b e = cc
-
 -- ---- words that may be labels
 
 -- a label that is a word and no string
-abbrev pub is_bare : Kind → Bool
+abbrev is_bare : Kind → Bool
 is_bare kind.Str = false
 is_bare k = may_be_label k
 
@@ -94,7 +87,7 @@ label_id w is =
     let all : prefix_len (is_in class.Name) w ≡ length w = (let h = (and_cases (is_letter (slice_index w 0)) (past class.Name w 0 == length w) is).1 in grind (arith, nat_tests)) in
     ap (λ b. cond b T_METRIC_IDENTIFIER T_IDENTIFIER) (no_colon_in w all)
 
-pub word_bare : (w : Text) → is_label w ≡ true → is_number_word w ≡ false → is_bare (word_kind w) ≡ true
+word_bare : (w : Text) → is_label w ≡ true → is_number_word w ≡ false → is_bare (word_kind w) ≡ true
 unfolding word_kind
 word_bare w is other = go (keyword_in_any_case w) (keyword_fits w other)
   where

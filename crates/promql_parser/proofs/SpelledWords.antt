@@ -23,19 +23,12 @@ use Rattle.promql_grammar.specs.Pieces as piece
 use Rattle.promql_grammar.specs.Results.{on_result}
 use Rattle.promql_grammar.specs.Symbols.{Symbol, is_sign, kind_of, may_be_called, may_be_name, sign, symbol_of, word}
 use Rattle.promql_parser.specs.Answers.{Derives}
+use Rattle.promql_parser.proofs.Booleans.{and_cases, or_cases}
 use Rattle.promql_parser.proofs.Derive.{AllHaveWords, HasWords, IsName, IsUnsigned}
 use Rattle.promql_parser.specs.Lexing.{Token, tokens}
 use Rattle.promql_parser.proofs.PrintedPieces.{word_kind}
 use Rattle.promql_parser.proofs.KindRows.{by_table, same_operator}
 use Rattle.promql_parser.proofs.UnsignedNumbers.{read_unsigned}
-
-or_cases : (a b : Bool) → (a || b) ≡ true → (a ≡ true) ⊎ (b ≡ true)
-or_cases true b e = inl refl
-or_cases false b e = inr e
-
-and_cases : (a b : Bool) → (a && b) ≡ true → (a ≡ true) × (b ≡ true)
-and_cases true b e = (refl, e)
-and_cases false b e = cc
 
 -- ---- tests of ids and their kinds, by the table
 
