@@ -1,8 +1,8 @@
 -- A fault that is told by what stands there is what is read there.
-use Rattle.std.proofs.Common.{◌≡◌, ℕ, zero, suc, ◌+◌, ◌-◌, ◌<◌, ◌≤◌, Bool, true, false, cond, List, [], ◌∷◌, ◌++◌, length, get_or, take, drop, Option, Some, None, Ok, Err, refl, sym, ap, ◌∙◌, subst, inl, inr, ◌⊎◌, ⊎_elim, arith, eqb-true}
-use Rattle.std.specs.Prelude.{◌==◌, not, ◌&&◌, ◌||◌, codes, slice_get}
+use Rattle.std.proofs.Common.{◌≡◌, ℕ, zero, suc, ◌<◌, Bool, true, false, cond, [], ◌∷◌, ◌++◌, length, take, drop, Some, Ok, Err, refl, sym, ap, ◌∙◌, subst, arith, eqb-true}
+use Rattle.std.specs.Prelude.{◌==◌, ◌&&◌, ◌||◌, codes, slice_get}
 use Rattle.std.specs.Char.{is_ascii_digit}
-use Rattle.std.specs.List.{list_all, list_any}
+use Rattle.std.specs.List.{list_any}
 use Rattle.std.proofs.lemmas.Grind.{common_steps}
 use Rattle.std.proofs.lemmas.List.{take-append-drop}
 use Rattle.promql_token.specs.declared.class.Class.TheVariants as class
@@ -17,13 +17,11 @@ use Rattle.promql_text.specs.Texts.{Text}
 use Rattle.promql_token.specs.Begins.{IsNumeral}
 use Rattle.promql_token.specs.Classes.{is_in, is_letter}
 use Rattle.promql_token.specs.FaultPlaces.{IsEscaping, IsFault, Meets, Misses, NoNumeral, begins_inside}
-use Rattle.promql_token.specs.Gaps.{next}
-use Rattle.promql_token.specs.Pieces.{Piece, begins_numeral, begun, end_in, in_braces, in_brackets, is_escape, is_quote, numeral, outside, piece, sign, string, word}
+use Rattle.promql_token.specs.Vocabulary.{next}
+use Rattle.promql_token.specs.Pieces.{Piece, begins_numeral, in_braces, in_brackets, is_quote, numeral, outside, piece, sign, string, word}
 use Rattle.promql_token.specs.Printed.{holds_strings, joined}
-use Rattle.promql_token.proofs.Ends.{and_left, and_right}
-use Rattle.promql_token.proofs.Gaps.{split}
 use Rattle.promql_token.proofs.Numerals.{NumeralSays, numeral_says}
-use Rattle.promql_token.proofs.Read.{begins_some, digit_first, string_first}
+use Rattle.promql_token.proofs.Read.{digit_first, string_first}
 use Rattle.promql_token.proofs.Said.{or_false}
 use Rattle.promql_token.proofs.Strings.{body_quote, escaping_quote, string_at_end, string_unclosed, string_unknown}
 

@@ -1,5 +1,5 @@
 -- The items of a text are the one way to read it.
-use Rattle.std.proofs.Common.{◌≡◌, ℕ, zero, suc, ◌+◌, ◌-◌, ◌<◌, ◌≤◌, Bool, true, false, cond, List, [], ◌∷◌, ◌++◌, length, take, drop, map, Result, Ok, Err, refl, sym, ap, ◌∙◌, subst, inl, inr, ◌⊎◌, ⊎_elim, arith, length-drop, length-append, length-take-le, eqb-true, add-zero, zero-add}
+use Rattle.std.proofs.Common.{◌≡◌, ℕ, zero, suc, ◌+◌, ◌≤◌, true, false, cond, List, [], ◌∷◌, ◌++◌, length, take, drop, map, Result, Ok, Err, refl, sym, ap, ◌∙◌, subst, inl, inr, ◌⊎◌, ⊎_elim, arith, length-drop, length-append, length-take-le, eqb-true, zero-add}
 use Rattle.std.specs.Prelude.{◌==◌, not}
 use Rattle.std.proofs.Math.Seq.{take-append_seam, drop-append_seam, take-length}
 use Rattle.std.proofs.lemmas.Bool.{cond_both}
@@ -16,14 +16,14 @@ use Rattle.promql_token.specs.Begins.{MayBegin}
 use Rattle.promql_token.specs.Cut.{mode_at, state_at, ids_behind}
 use Rattle.promql_token.specs.FaultPlaces.{IsFault}
 use Rattle.promql_token.specs.Gaps.{IsGapIn}
-use Rattle.promql_token.specs.Lexing.{What, Found, what, found, len_of, goes_on, behind, cut, start, lex, items, item, placed, collected, with_front, shown}
-use Rattle.promql_token.specs.Pieces.{Piece, piece, after_gap, after, begun, end_in, gap_len}
+use Rattle.promql_token.specs.Lexing.{Found, what, found, len_of, goes_on, behind, cut, start, lex, items, placed, collected, with_front, shown}
+use Rattle.promql_token.specs.Pieces.{Piece, piece, after_gap, after, end_in, gap_len}
 use Rattle.promql_token.specs.TokenLists.{Step, state_after, IsRead, IsEnd, EndsIn, places, to_end, OnlyTokens, OnlyFault, OnlyItems}
 use Rattle.promql_token.proofs.Begun.{begins_piece, faults, piece_begins}
 use Rattle.promql_token.proofs.Ends.{PieceEnds, piece_ends}
 use Rattle.promql_token.proofs.Gaps.{gap_passed, is_gap, split}
 use Rattle.promql_token.proofs.Inner.{Inner, begun_inner}
-use Rattle.promql_token.proofs.Places.{Ends, gap_len_ends}
+use Rattle.promql_token.proofs.Places.{gap_len_ends}
 use Rattle.promql_token.proofs.Steps.{cut_is}
 use Rattle.promql_token.proofs.Told.{IsAt, at_start, is_state, next_at}
 
@@ -126,9 +126,12 @@ told_fault before state at z n f k is =
     let same : s ≡ state_after before g = gap_state before state g n k.at (sym (length-take-le n z fits)) in
     let place : at + n + f.1 + length v ≡ at + length z = omega (arith, length-drop f.1 rest, length-drop n z) in
     let e : LexFault = record { kind = f.0; at = at + n + f.1; ch = shown f.0 v } in
-    inr (e, [],
+    inr (
+      e,
+      [],
       (g, u, v, sym (take-append-drop n z) ∙ ap (λ r. g ++ r) seam, subst (IsGapIn (mode_at before) g) seam k.gap, subst (λ (s : State). IsFault f.0 s.mode s.depth u v) same here, place, refl),
-      refl)
+      refl,
+    )
 
 -- a token, and what is read behind it
 told_token : (before : List ℕ) (state : State) (at : ℕ) (z : Text) (n : ℕ) (t : ℕ × ℕ) (rs : List (Result Lexeme LexFault)) → Behind before state z n → piece (after_gap n state) (drop n z) ≡ Ok t → (t.0 == 6) ≡ false
@@ -156,12 +159,19 @@ told_token before state at z n t rs k is more rest_told =
     let step : Step = (g, t.0, w) in
     let from : at + length g + length w ≡ at + n + length w = ap (λ k. at + k + length w) g_len in
     ⊎_elim
-    (λ e. inl (step ∷ e.0, (r, whole, gap, begins, e.1),
+    (λ e. inl (
+      step ∷ e.0,
+      (r, whole, gap, begins, e.1),
       ap (λ rs. Ok (record { id = t.0; start = at + n; len = length w }) ∷ rs) e.2
-      ∙ (λ i. Ok (record { id = t.0; start = at + sym g_len i; len = length w }) ∷ map (λ x. Ok x) (places (sym from i) e.0 ++ record { id = 6; start = total i; len = 0 } ∷ []))))
-    (λ e. inr (e.0, step ∷ e.1, (r, whole, gap, begins, subst (λ n. IsRead (EndsIn e.0 n) (t.0 ∷ before) r e.1) total e.2),
+          ∙ (λ i. Ok (record { id = t.0; start = at + sym g_len i; len = length w }) ∷ map (λ x. Ok x) (places (sym from i) e.0 ++ record { id = 6; start = total i; len = 0 } ∷ [])),
+    ))
+    (λ e. inr (
+      e.0,
+      step ∷ e.1,
+      (r, whole, gap, begins, subst (λ n. IsRead (EndsIn e.0 n) (t.0 ∷ before) r e.1) total e.2),
       ap (λ rs. Ok (record { id = t.0; start = at + n; len = length w }) ∷ rs) e.3
-      ∙ (λ i. Ok (record { id = t.0; start = at + sym g_len i; len = length w }) ∷ (map (λ x. Ok x) (places (sym from i) e.1) ++ Err e.0 ∷ []))))
+          ∙ (λ i. Ok (record { id = t.0; start = at + sym g_len i; len = length w }) ∷ (map (λ x. Ok x) (places (sym from i) e.1) ++ Err e.0 ∷ [])),
+    ))
     (subst (λ r. IsTold (t.0 ∷ before) (at + n + length w) r rs) behind_it rest_told)
 
 told_piece : (before : List ℕ) (state : State) (at : ℕ) (z : Text) (n : ℕ) (p : Piece) (fs : List Found) → Behind before state z n → piece (after_gap n state) (drop n z) ≡ p
@@ -317,9 +327,9 @@ pub only_tokens : OnlyTokens
 unfolding lex
 only_tokens s xs = (
   λ is. ⊎_elim
-  (λ e. let same : to_end s e.0 ≡ xs = let r = sym (ap collected e.2 ∙ all_tokens (to_end s e.0)) ∙ is in cc in (e.0, e.1, sym same))
-  (λ e. let r = sym (ap collected e.3 ∙ one_fault (places 0 e.1) e.0) ∙ is in absurd (cc))
-  (items_told s),
+      (λ e. let same : to_end s e.0 ≡ xs = let r = sym (ap collected e.2 ∙ all_tokens (to_end s e.0)) ∙ is in cc in (e.0, e.1, sym same))
+      (λ e. let r = sym (ap collected e.3 ∙ one_fault (places 0 e.1) e.0) ∙ is in absurd (cc))
+      (items_told s),
   λ e. ap collected (items_to_end s e.0 e.1) ∙ all_tokens (to_end s e.0) ∙ ap (λ xs. Ok xs) (sym e.2),
 )
 
@@ -327,8 +337,8 @@ pub only_fault : OnlyFault
 unfolding lex
 only_fault s f = (
   λ is. ⊎_elim
-  (λ e. let r = sym (ap collected e.2 ∙ all_tokens (to_end s e.0)) ∙ is in absurd (cc))
-  (λ e. let same : e.0 ≡ f = let r = sym (ap collected e.3 ∙ one_fault (places 0 e.1) e.0) ∙ is in cc in (e.1, subst (λ f. IsRead (EndsIn f (length s)) [] s e.1) same e.2))
-  (items_told s),
+      (λ e. let r = sym (ap collected e.2 ∙ all_tokens (to_end s e.0)) ∙ is in absurd (cc))
+      (λ e. let same : e.0 ≡ f = let r = sym (ap collected e.3 ∙ one_fault (places 0 e.1) e.0) ∙ is in cc in (e.1, subst (λ f. IsRead (EndsIn f (length s)) [] s e.1) same e.2))
+      (items_told s),
   λ e. ap collected (items_to_fault s f e.0 e.1) ∙ one_fault (places 0 e.0) f,
 )

@@ -12,10 +12,8 @@ use Rattle.promql_token.specs.declared.state.State.{State}
 use Rattle.promql_text.specs.Bytes.{backtick, digit_zero, double_quote, point, single_quote}
 use Rattle.promql_text.specs.Texts.{Text}
 use Rattle.promql_token.specs.Classes.{is_in, is_label}
-use Rattle.promql_token.specs.Gaps.{next}
-use Rattle.promql_token.specs.Laws.{is_exponent, is_sign, is_word}
-use Rattle.promql_token.specs.Pieces.{braces_id, is_unit, piece, word_id}
-use Rattle.promql_token.specs.Printed.{are_digits, is_part, is_spelling, joined, parts_text}
+use Rattle.promql_token.specs.Pieces.{piece}
+use Rattle.promql_token.specs.Vocabulary.{are_digits, braces_id, is_exponent, is_part, is_sign, is_spelling, is_unit, is_word, joined, next, parts_text, word_id}
 
 -- ---- signs
 

@@ -1,5 +1,5 @@
 -- Which fault a text has: u is what is passed of the token at fault, v what begins at the fault's place (docs/TOKENS.md, "Faults").
-use Rattle.std.specs.Prelude.{◌≡◌, ◌⊎◌, ◌↔◌, ℕ, zero, suc, ◌<◌, Bool, true, false, not, ◌&&◌, ◌||◌, ◌==◌, List, [], ◌∷◌, ◌++◌, length, codes, Err}
+use Rattle.std.specs.Prelude.{◌≡◌, ◌↔◌, ℕ, zero, suc, ◌<◌, Bool, true, false, ◌||◌, ◌==◌, List, [], ◌∷◌, ◌++◌, length, codes, Err}
 use Rattle.std.specs.Char.{is_ascii_digit}
 use Rattle.std.specs.List.{list_all, list_any}
 use Rattle.promql_token.specs.declared.class.Class.TheVariants as class
@@ -13,9 +13,8 @@ use Rattle.promql_text.specs.Bytes.{backslash, colon, equal, left_brace, left_br
 use Rattle.promql_text.specs.Texts.{Text}
 use Rattle.promql_token.specs.Begins.{IsBody, IsNumeral, has_escapes}
 use Rattle.promql_token.specs.Classes.{is_in, is_letter}
-use Rattle.promql_token.specs.Gaps.{next}
-use Rattle.promql_token.specs.Pieces.{begins_numeral, is_escape, is_quote, piece}
-use Rattle.promql_token.specs.Printed.{holds_strings, is_spelling, joined}
+use Rattle.promql_token.specs.Pieces.{piece}
+use Rattle.promql_token.specs.Vocabulary.{begins_numeral, holds_strings, is_escape, is_quote, is_spelling, joined, next}
 
 -- u is passed, and v begins with this byte
 abbrev pub Meets : Text → ℕ → Text → Text → Type 0

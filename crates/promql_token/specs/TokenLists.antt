@@ -7,11 +7,10 @@ use Rattle.promql_token.specs.declared.state.Mode.TheVariants as mode
 use Rattle.promql_token.specs.declared.state.State.{State}
 use Rattle.promql_text.specs.Texts.{Text}
 use Rattle.promql_token.specs.Begins.{MayBegin}
-use Rattle.promql_token.specs.Cut.{mode_at, state_at}
 use Rattle.promql_token.specs.FaultPlaces.{IsFault}
 use Rattle.promql_token.specs.Gaps.{IsGapIn}
 use Rattle.promql_token.specs.Lexing.{items, lex, shown}
-use Rattle.promql_token.specs.Pieces.{after_gap}
+use Rattle.promql_token.specs.States.{after_gap, mode_at, state_at}
 
 -- a gap, and the id and the text of the token after it
 abbrev pub Step : Type 0
