@@ -16,9 +16,9 @@ use Rattle.promql_token.specs.Begins.{MayBegin}
 use Rattle.promql_token.specs.Cut.{mode_at, state_at, ids_behind}
 use Rattle.promql_token.specs.FaultPlaces.{IsFault}
 use Rattle.promql_token.specs.Gaps.{IsGapIn}
-use Rattle.promql_token.specs.Lexing.{Found, what, found, len_of, goes_on, behind, cut, start, lex, items, placed, collected, with_front, shown}
+use Rattle.promql_token.specs.Lexing.{Found, what, found, len_of, goes_on, behind, cut, start, lex, items, placed, collected, with_front, shown, result_sliced, sliced, text_at}
 use Rattle.promql_token.specs.Pieces.{Piece, piece, after_gap, after, end_in, gap_len}
-use Rattle.promql_token.specs.TokenLists.{Step, state_after, IsRead, IsEnd, EndsIn, places, to_end, OnlyTokens, OnlyFault, OnlyItems}
+use Rattle.promql_token.specs.TokenLists.{Step, state_after, IsRead, IsEnd, EndsIn, places, to_end, OnlyTokens, OnlyFault, OnlyTexts, OnlyItems}
 use Rattle.promql_token.proofs.Begun.{begins_piece, faults, piece_begins}
 use Rattle.promql_token.proofs.Ends.{PieceEnds, piece_ends}
 use Rattle.promql_token.proofs.Gaps.{gap_passed, is_gap, split}
@@ -341,4 +341,48 @@ only_fault s f = (
       (λ e. let same : e.0 ≡ f = let r = sym (ap collected e.3 ∙ one_fault (places 0 e.1) e.0) ∙ is in cc in (e.1, subst (λ f. IsRead (EndsIn f (length s)) [] s e.1) same e.2))
       (items_told s),
   λ e. ap collected (items_to_fault s f e.0 e.1) ∙ one_fault (places 0 e.0) f,
+)
+
+-- ---- ids and texts
+
+sliced_steps : (Rest : List ℕ → Text → Type 0) (s : Text) (ts : List Step) (before : List ℕ) (at : ℕ) (z : Text) → drop at s ≡ z → IsRead Rest before z ts → sliced s (places at ts) ≡ map (λ t. (t.1, t.2)) ts
+sliced_steps Rest s [] before at z is read = refl
+sliced_steps Rest s (t ∷ ts) before at z is read =
+    let g = t.0 in
+    let w = t.2 in
+    let r = read.0 in
+    let here : drop (at + length g) s ≡ w ++ r = sym (drop-drop (length g) at s) ∙ ap (drop (length g)) (is ∙ read.1) ∙ drop-append_seam g (w ++ r) in
+    let behind_it : drop (at + length g + length w) s ≡ r = sym (drop-drop (length w) (at + length g) s) ∙ ap (drop (length w)) here ∙ drop-append_seam w r in
+    let text : take (length w) (drop (at + length g) s) ≡ w = ap (take (length w)) here ∙ take-append_seam w r in
+    λ i. (t.1, text i) ∷ sliced_steps Rest s ts (t.1 ∷ before) (at + length g + length w) r behind_it read.4 i
+
+sliced_end : (s : Text) (xs : List Lexeme) (n : ℕ) → sliced s (xs ++ record { id = 6; start = n; len = 0 } ∷ []) ≡ sliced s xs ++ (6, []) ∷ []
+sliced_end s [] n = refl
+sliced_end s (x ∷ xs) n = ap (λ us. (x.id, text_at s x) ∷ us) (sliced_end s xs n)
+
+sliced_is : (s : Text) (ts : List Step) → IsRead IsEnd [] s ts → sliced s (to_end s ts) ≡ map (λ t. (t.1, t.2)) ts ++ (6, []) ∷ []
+sliced_is s ts read = sliced_end s (places 0 ts) (length s) ∙ ap (λ us. us ++ (6, []) ∷ []) (sliced_steps IsEnd s ts [] 0 s refl read)
+
+-- what a list of tokens by texts came from
+texts_from : (s : Text) (r : Result (List Lexeme) LexFault) (us : List (ℕ × Text)) → result_sliced s r ≡ Ok us → (xs : List Lexeme) × (r ≡ Ok xs) × (sliced s xs ≡ us)
+texts_from s (Ok xs) us is = (xs, refl, cc)
+texts_from s (Err e) us is = absurd (cc)
+
+fault_from : (s : Text) (r : Result (List Lexeme) LexFault) (f : LexFault) → result_sliced s r ≡ Err f → r ≡ Err f
+fault_from s (Ok xs) f is = absurd (cc)
+fault_from s (Err e) f is = let same : e ≡ f = cc in ap (λ e. Err e) same
+
+pub only_texts : OnlyTexts
+only_texts s = (
+  λ us. (
+    λ is.
+        let x = texts_from s (lex s) us is in
+        let e = (only_tokens s x.0).0 x.1 in
+        (e.0, e.1, sym x.2 ∙ ap (sliced s) e.2 ∙ sliced_is s e.0 e.1),
+    λ e. ap (result_sliced s) ((only_tokens s (to_end s e.0)).1 (e.0, e.1, refl)) ∙ ap (λ us. Ok us) (sliced_is s e.0 e.1 ∙ sym e.2),
+  ),
+  λ f. (
+    λ is. (only_fault s f).0 (fault_from s (lex s) f is),
+    λ e. ap (result_sliced s) ((only_fault s f).1 e),
+  ),
 )

@@ -1,4 +1,4 @@
--- Gaps, and where the tokens stand between them (docs/TOKENS.md, "The token list of a text").
+-- Gaps, and the places of the tokens between them (docs/TOKENS.md, "The token list of a text").
 use Rattle.std.specs.Prelude.{◌≡◌, ◌⊎◌, ℕ, ◌+◌, ◌-◌, ◌≤◌, Bool, true, false, not, ◌==◌, List, [], ◌∷◌, ◌++◌, length, take, drop, Result, Ok}
 use Rattle.std.specs.Char.{is_ascii_whitespace}
 use Rattle.std.specs.List.{list_all}
@@ -46,6 +46,6 @@ AreSpans s before at [] = Unit {0}
 AreSpans s before at (x ∷ xs) =
     (at ≤ x.start) × IsGapIn (mode_at before) (take (x.start - at) (drop at s)) (drop x.start s) × (x.start + x.len ≤ length s) × IsPlaced s x × AreSpans s (x.id ∷ before) (x.start + x.len) xs
 
--- so it is with the tokens of each text, also with those before a fault
+-- so it is with the tokens of each text, and with those before a fault
 abbrev pub SpansToFault : Type 0
 SpansToFault = (s : Text) → IsUtf8 s → AreSpans s [] 0 (lexemes (items s))

@@ -13,6 +13,7 @@ abbrev pub count_of : ℕ → List ℕ → ℕ
 count_of id [] = 0
 count_of id (k ∷ before) = if k == id then suc (count_of id before) else count_of id before
 
+-- braces and brackets set a mode
 abbrev pub is_bound : ℕ → Bool
 is_bound id = id == T_LEFT_BRACE || id == T_RIGHT_BRACE || id == T_LEFT_BRACKET || id == T_RIGHT_BRACKET
 
@@ -31,10 +32,11 @@ mode_at before = mode_by (find is_bound before) (take_while (λ id. not (is_boun
 abbrev pub state_at : List ℕ → State
 state_at before = record { depth = count_of T_LEFT_PAREN before - count_of T_RIGHT_PAREN before; mode = mode_at before }
 
--- after a gap, or any token that sets no mode, something is after a bracket
+-- something follows a bracket
 abbrev pub mode_after_something : Mode → Mode
 mode_after_something (mode.Brackets bracket.Nothing) = mode.Brackets bracket.Something
 mode_after_something m = m
 
+-- after a gap of this length
 unfoldable pub after_gap : ℕ → State → State
 after_gap gap state = if gap == 0 then state else record state { mode = mode_after_something state.mode }

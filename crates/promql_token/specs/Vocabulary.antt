@@ -37,7 +37,7 @@ opens z = slice_index z (past class.White z 0) == left_paren
 abbrev pub name_id : Text → ℕ
 name_id w = if list_any (λ b. b == colon) w then T_METRIC_IDENTIFIER else T_IDENTIFIER
 
--- of a word and the text behind it; the fill words are keywords only before a parenthesis
+-- of a word and the text after it; the fill words are keywords only before a parenthesis
 abbrev pub word_id : Text → Text → ℕ
 word_id w rest = let id = unwrap_or (keyword_in_any_case w) (name_id w) in if is_fill id && not (opens rest) then T_IDENTIFIER else id
 
@@ -74,7 +74,7 @@ parts_text (p ∷ ps) = p.0 ++ (p.1 ++ parts_text ps)
 
 -- ---- strings
 
--- strings stand outside and in braces
+-- strings may begin outside and in braces
 abbrev pub holds_strings : Mode → Bool
 holds_strings mode.Outside = true
 holds_strings mode.Braces = true
@@ -83,7 +83,7 @@ holds_strings (mode.Brackets inside) = false
 abbrev pub is_quote : ℕ → Bool
 is_quote b = b == double_quote || b == single_quote || b == backtick
 
--- what may stand behind a backslash between these quotes
+-- what may follow a backslash between these quotes
 abbrev pub is_escape : ℕ → ℕ → Bool
 is_escape quote b = b == quote || b == backslash || list_any (λ k. b == k) (codes "abfnrtv01234567xuU")
 

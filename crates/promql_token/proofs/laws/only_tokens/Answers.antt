@@ -1,5 +1,5 @@
-use Rattle.promql_token.proofs.TokenLists.{only_fault, only_items, only_tokens}
+use Rattle.promql_token.proofs.TokenLists.{only_fault, only_items, only_texts, only_tokens}
 use Rattle.promql_token.proofs.laws.only_tokens.Goals as goal
 
 pub returns : goal.returns
-returns c = record { tokens = only_tokens; fault = only_fault; items = only_items }
+returns c = record { tokens = only_tokens; fault = only_fault; texts = only_texts; items = only_items }
