@@ -1,10 +1,9 @@
 -- What a text begins with in a state, in both directions.
-use Rattle.std.proofs.Common.{◌≡◌, ℕ, zero, suc, ◌<◌, Bool, true, false, List, [], ◌∷◌, ◌++◌, length, take, drop, Ok, Err, refl, sym, ap, ◌∙◌, subst, arith}
+use Rattle.std.proofs.Common.{◌≡◌, ℕ, zero, suc, ◌<◌, false, [], ◌∷◌, ◌++◌, length, take, drop, Ok, Err, refl, subst, arith}
 use Rattle.std.specs.Prelude.{◌==◌}
 use Rattle.std.proofs.Math.Seq.{take-append_seam, drop-append_seam}
 use Rattle.std.proofs.lemmas.Bool.{cond_both}
 use Rattle.std.proofs.lemmas.Grind.{common_steps}
-use Rattle.promql_token.specs.declared.fault.LexFaultKind.{LexFaultKind}
 use Rattle.promql_token.specs.declared.state.Mode.{Mode}
 use Rattle.promql_token.specs.declared.state.Mode.TheVariants as mode
 use Rattle.promql_token.specs.declared.state.State.{State}
@@ -61,8 +60,8 @@ begins state id w r = (λ h. piece_begins state id w r h.0 h.1, λ h. let read =
 pub faults : Faults
 faults state kind u v = (
   λ is.
-  let m = state.mode in
-  let said = subst (PieceSays m state.depth (u ++ v)) is (piece_said state (u ++ v)) in
-  subst (λ u2. IsFault kind m state.depth u2 v) (take-append_seam u v) (subst (IsFault kind m state.depth (take (length u) (u ++ v))) (drop-append_seam u v) said),
+      let m = state.mode in
+      let said = subst (PieceSays m state.depth (u ++ v)) is (piece_said state (u ++ v)) in
+      subst (λ u2. IsFault kind m state.depth u2 v) (take-append_seam u v) (subst (IsFault kind m state.depth (take (length u) (u ++ v))) (drop-append_seam u v) said),
   λ h. fault_read kind state.mode state.depth u v h,
 )

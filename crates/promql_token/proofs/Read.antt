@@ -1,8 +1,8 @@
 -- What may begin at a place is read there.
-use Rattle.std.proofs.Common.{◌≡◌, ℕ, zero, suc, ◌+◌, ◌-◌, ◌<◌, ◌≤◌, Bool, true, false, cond, List, [], ◌∷◌, ◌++◌, length, get_or, take, drop, Ok, Err, refl, sym, ap, ◌∙◌, subst, inl, inr, ◌⊎◌, ⊎_elim, arith, eqb-true, length-append}
-use Rattle.std.specs.Prelude.{◌==◌, not, ◌&&◌, ◌||◌}
+use Rattle.std.proofs.Common.{◌≡◌, ℕ, zero, suc, ◌<◌, true, false, cond, List, [], ◌∷◌, ◌++◌, length, get_or, Ok, refl, sym, ap, ◌∙◌, subst, inl, inr, ⊎_elim, arith, eqb-true}
+use Rattle.std.specs.Prelude.{◌==◌, ◌&&◌, ◌||◌}
 use Rattle.std.specs.Char.{is_ascii_digit}
-use Rattle.std.specs.List.{list_all, list_any}
+use Rattle.std.specs.List.{list_any}
 use Rattle.std.proofs.lemmas.Grind.{common_steps}
 use Rattle.promql_token.specs.declared.class.Class.TheVariants as class
 use Rattle.promql_token.specs.declared.state.Bracket.{Bracket}
@@ -11,9 +11,9 @@ use Rattle.promql_token.specs.declared.state.Mode.{Mode}
 use Rattle.promql_token.specs.declared.state.Mode.TheVariants as mode
 use Rattle.promql_text.specs.Texts.{Text}
 use Rattle.promql_token.specs.Begins.{IsName, IsNumeral, IsOneOf, IsString, IsWord, MayBegin, Sign, signs, signs_outside}
-use Rattle.promql_token.specs.Classes.{is_in, is_letter, past}
-use Rattle.promql_token.specs.Gaps.{next}
-use Rattle.promql_token.specs.Pieces.{Piece, begins_numeral, begun, braces_id, in_braces, in_brackets, is_quote, numeral, outside, sign, string, word, word_id, word_in_braces}
+use Rattle.promql_token.specs.Classes.{is_letter, past}
+use Rattle.promql_token.specs.Vocabulary.{next}
+use Rattle.promql_token.specs.Pieces.{Piece, begins_numeral, begun, in_braces, in_brackets, is_quote, numeral, outside, sign, string, word}
 use Rattle.promql_token.specs.Printed.{holds_strings}
 use Rattle.promql_token.proofs.Beside.{word_beside, word_in_braces_beside}
 use Rattle.promql_token.proofs.Ends.{PieceEnds, and_left, and_right, numeral_ends}
@@ -42,11 +42,55 @@ not_zero n = grind (arith, common_steps)
 
 outside_rows : (depth : ℕ) → AreRead (outside depth) signs_outside
 unfolding outside sign
-outside_rows depth = (λ r h. refl, (λ r h. refl, (λ r h. refl, (λ r h. refl, (λ r h. refl, (λ r h. refl, (λ r h. refl, (λ r h. refl, (λ r h. refl, (λ r h. refl, (λ r h. refl,
-    (λ r h. let no = or_false (next r == 61) ((next r == 126) || false) h in let no2 = or_false (next r == 126) false no.1 in rw (no.0, no2.0) refl,
-    (λ r h. refl, (λ r h. rw (not_one (length r)) refl,
-    (λ r h. let no = or_false (next r == 61) false h in rw no.0 refl, (λ r h. refl,
-    (λ r h. let no = or_false (next r == 61) false h in rw no.0 refl, (λ r h. refl, tt))))))))))))))))))
+outside_rows depth = (
+  λ r h. refl,
+  (
+    λ r h. refl,
+    (
+      λ r h. refl,
+      (
+        λ r h. refl,
+        (
+          λ r h. refl,
+          (
+            λ r h. refl,
+            (
+              λ r h. refl,
+              (
+                λ r h. refl,
+                (
+                  λ r h. refl,
+                  (
+                    λ r h. refl,
+                    (
+                      λ r h. refl,
+                      (
+                        λ r h. let no = or_false (next r == 61) ((next r == 126) || false) h in let no2 = or_false (next r == 126) false no.1 in rw (no.0, no2.0) refl,
+                        (
+                          λ r h. refl,
+                          (
+                            λ r h. rw (not_one (length r)) refl,
+                            (
+                              λ r h. let no = or_false (next r == 61) false h in rw no.0 refl,
+                              (
+                                λ r h. refl,
+                                (λ r h. let no = or_false (next r == 61) false h in rw no.0 refl, (λ r h. refl, tt)),
+                              ),
+                            ),
+                          ),
+                        ),
+                      ),
+                    ),
+                  ),
+                ),
+              ),
+            ),
+          ),
+        ),
+      ),
+    ),
+  ),
+)
 
 all_outside_rows : (depth : ℕ) → AreRead (outside depth) (signs mode.Outside depth)
 unfolding outside sign
@@ -101,9 +145,11 @@ word_read depth id [] r h = let no = h.0 in absurd (cc)
 word_read depth id (b ∷ w) r h =
     let z : Text = b ∷ (w ++ r) in
     let first = and_left (is_letter b || (b == 58)) (past class.Word (b ∷ w) 0 == suc (length w)) h.0 in
-    let all = eqb-true (past class.Word (b ∷ w) 0) (suc (length w)) (and_right (is_letter b || (b == 58)) _ h.0) in
-    (ap (λ x. cond x (numeral z) (cond (is_letter b || (b == 58)) (word z) (cond (is_quote b) (string z) (sign depth z)))) (no_numeral b (next (w ++ r)) first)
-    ∙ ap (λ x. cond x (word z) (cond (is_quote b) (string z) (sign depth z))) first ∙ word_beside (b ∷ w) r all h.1 ∙ ap (λ id. Ok (id, suc (length w))) (sym h.2), omega arith)
+    let all = eqb-true (past class.Word (b ∷ w) 0) (suc (length w)) (and_right (is_letter b || (b == 58)) _ h.0) in (
+      ap (λ x. cond x (numeral z) (cond (is_letter b || (b == 58)) (word z) (cond (is_quote b) (string z) (sign depth z)))) (no_numeral b (next (w ++ r)) first)
+          ∙ ap (λ x. cond x (word z) (cond (is_quote b) (string z) (sign depth z))) first ∙ word_beside (b ∷ w) r all h.1 ∙ ap (λ id. Ok (id, suc (length w))) (sym h.2),
+      omega arith,
+    )
 
 letter_apart : (b n : ℕ) → is_letter b ≡ true → is_letter n ≡ false → (b == n) ≡ false
 letter_apart b n letter other = split (b == n) (λ e. let same = ap is_letter (eqb-true b n e) in absurd (cc)) (λ no. no)
@@ -113,9 +159,11 @@ unfolding in_braces
 name_read id [] r h = let no = h.0 in absurd (cc)
 name_read id (b ∷ w) r h =
     let letter = and_left (is_letter b) (past class.Name (b ∷ w) 0 == suc (length w)) h.0 in
-    let all = eqb-true (past class.Name (b ∷ w) 0) (suc (length w)) (and_right (is_letter b) _ h.0) in
-    (rw (letter_apart b 44 letter refl, letter_apart b 61 letter refl, letter_apart b 33 letter refl, letter_apart b 123 letter refl, letter_apart b 125 letter refl, letter)
-    (word_in_braces_beside (b ∷ w) r all h.1 ∙ ap (λ id. Ok (id, suc (length w))) (sym h.2)), omega arith)
+    let all = eqb-true (past class.Name (b ∷ w) 0) (suc (length w)) (and_right (is_letter b) _ h.0) in (
+      rw (letter_apart b 44 letter refl, letter_apart b 61 letter refl, letter_apart b 33 letter refl, letter_apart b 123 letter refl, letter_apart b 125 letter refl, letter)
+          (word_in_braces_beside (b ∷ w) r all h.1 ∙ ap (λ id. Ok (id, suc (length w))) (sym h.2)),
+      omega arith,
+    )
 
 -- ---- strings
 
@@ -143,10 +191,11 @@ string_read : (m : Mode) (depth id : ℕ) (w r : Text) → holds_strings m ≡ t
 string_read m depth id w r holds h =
     let quote = h.1 in
     let body = h.2 in
-    let t : Text = quote ∷ (body ++ quote ∷ []) in
-    (subst (λ w. begun m depth (w ++ r) ≡ Ok (id, length w)) (sym h.4)
-    (string_first m depth quote ((body ++ quote ∷ []) ++ r) holds (body_quote quote body h.3) ∙ string_closed quote body r h.3 ∙ ap (λ id. Ok (id, length t)) (sym h.0)),
-    subst (λ w. 0 < length w) (sym h.4) (omega arith))
+    let t : Text = quote ∷ (body ++ quote ∷ []) in (
+      subst (λ w. begun m depth (w ++ r) ≡ Ok (id, length w)) (sym h.4)
+          (string_first m depth quote ((body ++ quote ∷ []) ++ r) holds (body_quote quote body h.3) ∙ string_closed quote body r h.3 ∙ ap (λ id. Ok (id, length t)) (sym h.0)),
+      subst (λ w. 0 < length w) (sym h.4) (omega arith),
+    )
 
 -- ---- numerals
 

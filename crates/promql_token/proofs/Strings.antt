@@ -1,5 +1,5 @@
 -- What is read behind a quote: a string by its spellings, or a fault.
-use Rattle.std.proofs.Common.{◌≡◌, ℕ, zero, suc, ◌+◌, ◌-◌, ◌<◌, ◌≤◌, Bool, true, false, cond, List, [], ◌∷◌, ◌++◌, length, get_or, take, drop, Ok, Err, refl, sym, ap, ◌∙◌, subst, inl, inr, ◌⊎◌, ⊎_elim, arith, append_assoc, length-append, zero-add}
+use Rattle.std.proofs.Common.{◌≡◌, ℕ, suc, ◌+◌, ◌<◌, Bool, true, false, cond, List, [], ◌∷◌, ◌++◌, length, get_or, take, drop, Ok, Err, refl, sym, ap, ◌∙◌, subst, inl, inr, ◌⊎◌, ⊎_elim, arith, append_assoc, length-append}
 use Rattle.std.specs.Prelude.{◌==◌, not, ◌&&◌, ◌||◌}
 use Rattle.std.specs.List.{list_all}
 use Rattle.std.proofs.Math.Seq.{take-append_seam, drop-append_seam}
@@ -10,7 +10,7 @@ use Rattle.promql_token.specs.declared.ids.TheConstants.{T_STRING}
 use Rattle.promql_text.specs.Texts.{Text}
 use Rattle.promql_token.specs.Begins.{IsBody, IsString, has_escapes}
 use Rattle.promql_token.specs.FaultPlaces.{IsEscaping}
-use Rattle.promql_token.specs.Gaps.{next}
+use Rattle.promql_token.specs.Vocabulary.{next}
 use Rattle.promql_token.specs.Pieces.{Piece, is_escape, is_quote, string, string_from}
 use Rattle.promql_token.specs.Printed.{is_spelling, joined}
 use Rattle.promql_token.proofs.Ends.{and_left, and_right, or_cases}
@@ -119,8 +119,8 @@ both quote [] at h = (
 both quote (b ∷ z) at h = (
   plain_step quote at b z h (λ n. both quote z n h),
   λ esc. cond_both (is_escape quote b) _ _ (Reads quote at (92 ∷ b ∷ z))
-  (λ e. longer quote at (at + 1 + 1) (92 ∷ b ∷ []) z _ (inr (esc, pair_front quote b esc e)) (omega arith) (both quote z (at + 1 + 1) h).0)
-  (λ other. let same : at + 1 ≡ at + 0 + 1 = omega arith in unknown [] (b ∷ z) (esc, refl) refl (omega arith) other (ap (λ n. Err (Escape, n)) same)),
+      (λ e. longer quote at (at + 1 + 1) (92 ∷ b ∷ []) z _ (inr (esc, pair_front quote b esc e)) (omega arith) (both quote z (at + 1 + 1) h).0)
+      (λ other. let same : at + 1 ≡ at + 0 + 1 = omega arith in unknown [] (b ∷ z) (esc, refl) refl (omega arith) other (ap (λ n. Err (Escape, n)) same)),
 )
 
 -- ---- what it says
