@@ -23,6 +23,7 @@ pub mod Rounding
 pub mod Runs
 pub mod ShortNumbers
 pub mod Spelled
+pub mod SpelledForms
 pub mod Spellings
 pub mod Tens
 pub mod TextForms

@@ -1,6 +1,7 @@
 pub mod Bytes
 pub mod DecimalForm
 pub mod DecimalParts
+pub mod DurationForms
 pub mod DurationReaders
 pub mod DurationText
 pub mod Durations

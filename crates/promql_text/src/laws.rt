@@ -9,7 +9,7 @@ ghost use Rattle.promql_text.specs.Spellings.{IsQuotedText};
 ghost use Rattle.promql_text.specs.NumberText.{read_number, number_text};
 ghost use Rattle.promql_text.specs.Texts.{Text};
 ghost use Rattle.promql_text.specs.Numbers.{Exact, IsExact, seconds_of};
-ghost use Rattle.promql_text.specs.Spelling.{NumeralsAreSpelled};
+ghost use Rattle.promql_text.specs.Spelling.{FormsAreSpelled, NumeralsAreSpelled};
 ghost use Rattle.promql_text.specs.Values.{IsNumber, SameValue, neg};
 ghost use Rattle.promql_text.specs.Equalities.{HashesAlike, IsSameBy};
 ghost use Rattle.promql_text.specs.declared.number.Number.{Number};
@@ -74,6 +74,12 @@ pub fn seconds_are_exact()
 /// exponent or none.
 pub fn numerals_are_spelled()
     ensures { NumeralsAreSpelled }
+{}
+
+/// A text is of the decimal form exactly if it is spelled so: a sign or none, and `nan`, `inf` or
+/// `infinity` in any case, or a numeral.
+pub fn decimal_forms_are_spelled()
+    ensures { FormsAreSpelled }
 {}
 
 /// Decimals are equal exactly if they are one number, and then they are hashed alike.
