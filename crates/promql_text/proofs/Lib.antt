@@ -1,5 +1,7 @@
 pub mod Counts
 pub mod DigitsRead
+pub mod DurationForms
+pub mod DurationParts
 pub mod Escapes
 pub mod Exacts
 pub mod Examples
@@ -8,6 +10,7 @@ pub mod Fractions
 pub mod InForm
 pub mod Joins
 pub mod Kept
+pub mod Nearest
 pub mod OneForm
 pub mod Parts
 pub mod Plain

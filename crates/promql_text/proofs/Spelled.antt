@@ -145,7 +145,7 @@ past_ends : (t : Text) → is_ascii_digit (front (past_run t)) ≡ false
 past_ends [] = refl
 past_ends (c ∷ z) = past_ends_at c z (is_ascii_digit c) refl (past_ends z)
 
-run_some : (t : Text) → is_ascii_digit (front t) ≡ true → 0 < length (digit_run t)
+pub run_some : (t : Text) → is_ascii_digit (front t) ≡ true → 0 < length (digit_run t)
 run_some [] digit = cc
 run_some (c ∷ z) digit = rw (digit_run_digit c z digit) (omega arith)
 
@@ -182,7 +182,7 @@ pub either : (x y : Bool) → (x || y) ≡ true → (x ≡ true) ⊎ (y ≡ true
 either true y h = inl refl
 either false y h = inr h
 
-nothing_left : (t : Text) → (length t == 0) ≡ true → t ≡ []
+pub nothing_left : (t : Text) → (length t == 0) ≡ true → t ≡ []
 nothing_left [] h = refl
 nothing_left (c ∷ t) h = absurd (let e = eqb-true (length (c ∷ t)) 0 h in omega (arith, e))
 

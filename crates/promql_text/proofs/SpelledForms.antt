@@ -134,7 +134,7 @@ pub sign_found : (t : Text) → SignCut t
 sign_found [] = record { sign = []; is = refl; has = inl refl }
 sign_found (c ∷ t) = sign_at c t (c == 43) (c == 45) refl refl
 
-form_spelled : (t : Text) (f : Signed) → decimal_form t ≡ Some f → IsDecimalForm f t
+pub form_spelled : (t : Text) (f : Signed) → decimal_form t ≡ Some f → IsDecimalForm f t
 unfolding decimal_form
 form_spelled t f is = of_reading (reading (unsigned t)) refl is
   where

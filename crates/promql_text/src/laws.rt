@@ -3,6 +3,7 @@
 ghost use Rattle.std.specs.Prelude.{◌≡◌, ℕ, ◌+◌, ◌*◌, ◌^◌, ◌<◌, List, Ok, Some, encode_utf8_all};
 ghost use Rattle.std.specs.Str.{IsUtf8};
 ghost use Rattle.promql_text.specs.Durations.{duration_of};
+ghost use Rattle.promql_text.specs.DurationForms.{DurationsAreTold};
 ghost use Rattle.promql_text.specs.DurationText.{duration_text};
 ghost use Rattle.promql_text.specs.Quoting as quoting;
 ghost use Rattle.promql_text.specs.Spellings.{IsQuotedText};
@@ -80,6 +81,13 @@ pub fn numerals_are_spelled()
 /// `infinity` in any case, or a numeral.
 pub fn decimal_forms_are_spelled()
     ensures { FormsAreSpelled }
+{}
+
+/// A text is a duration of so many nanoseconds exactly if it is parts in the order of the units,
+/// each unit at most once, that are so many together, or a numeral of so many seconds, rounded;
+/// and it has a fault exactly if that fault's own rule fits.
+pub fn durations_are_told()
+    ensures { DurationsAreTold }
 {}
 
 /// Decimals are equal exactly if they are one number, and then they are hashed alike.
