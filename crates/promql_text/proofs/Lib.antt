@@ -30,6 +30,7 @@ pub mod SpelledForms
 pub mod Spellings
 pub mod Tens
 pub mod TextForms
+pub mod TextRows
 pub mod TextsRead
 pub mod Widths
 pub mod Writing

@@ -17,6 +17,7 @@ pub mod Rounding
 pub mod Significands
 pub mod Spelling
 pub mod Spellings
+pub mod TextRows
 pub mod Texts
 pub mod Values
 pub mod Widths

@@ -11,6 +11,7 @@ ghost use Rattle.promql_text.specs.NumberText.{read_number, number_text};
 ghost use Rattle.promql_text.specs.Texts.{Text};
 ghost use Rattle.promql_text.specs.Numbers.{Exact, IsExact, seconds_of};
 ghost use Rattle.promql_text.specs.Spelling.{FormsAreSpelled, NumeralsAreSpelled};
+ghost use Rattle.promql_text.specs.TextRows.{WorkedDurations};
 ghost use Rattle.promql_text.specs.Values.{IsNumber, SameValue, neg};
 ghost use Rattle.promql_text.specs.Equalities.{HashesAlike, IsSameBy};
 ghost use Rattle.promql_text.specs.declared.number.Number.{Number};
@@ -88,6 +89,11 @@ pub fn decimal_forms_are_spelled()
 /// and it has a fault exactly if that fault's own rule fits.
 pub fn durations_are_told()
     ensures { DurationsAreTold }
+{}
+
+/// What the relation says of worked texts.
+pub fn worked_durations()
+    ensures { WorkedDurations }
 {}
 
 /// Decimals are equal exactly if they are one number, and then they are hashed alike.
