@@ -11,6 +11,9 @@ pub mod InForm
 pub mod Joins
 pub mod Kept
 pub mod Nearest
+pub mod NumberForms
+pub mod NumberTexts
+pub mod NumberValues
 pub mod OneForm
 pub mod Parts
 pub mod Plain

@@ -8,6 +8,7 @@ pub mod Durations
 pub mod Equalities
 pub mod Millis
 pub mod NumberDigits
+pub mod NumberForms
 pub mod NumberText
 pub mod Numbers
 pub mod QuoteReaders

@@ -7,6 +7,7 @@ ghost use Rattle.promql_text.specs.DurationForms.{DurationsAreTold};
 ghost use Rattle.promql_text.specs.DurationText.{duration_text};
 ghost use Rattle.promql_text.specs.Quoting as quoting;
 ghost use Rattle.promql_text.specs.Spellings.{IsQuotedText};
+ghost use Rattle.promql_text.specs.NumberForms.{NumbersAreTold};
 ghost use Rattle.promql_text.specs.NumberText.{read_number, number_text};
 ghost use Rattle.promql_text.specs.Texts.{Text};
 ghost use Rattle.promql_text.specs.Numbers.{Exact, IsExact, seconds_of};
@@ -89,6 +90,12 @@ pub fn decimal_forms_are_spelled()
 /// and it has a fault exactly if that fault's own rule fits.
 pub fn durations_are_told()
     ensures { DurationsAreTold }
+{}
+
+/// A text gives a number exactly if it is, but for white space, a hexadecimal, an octal or a
+/// decimal text of that number's value; and it has a fault exactly if that fault's own rule fits.
+pub fn numbers_are_told()
+    ensures { NumbersAreTold }
 {}
 
 /// What the relation says of worked texts.
