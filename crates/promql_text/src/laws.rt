@@ -12,7 +12,7 @@ ghost use Rattle.promql_text.specs.NumberText.{read_number, number_text};
 ghost use Rattle.promql_text.specs.Texts.{Text};
 ghost use Rattle.promql_text.specs.Numbers.{Exact, IsExact, seconds_of};
 ghost use Rattle.promql_text.specs.Spelling.{FormsAreSpelled, NumeralsAreSpelled};
-ghost use Rattle.promql_text.specs.TextRows.{WorkedDurations};
+ghost use Rattle.promql_text.specs.TextRows.{WorkedDurations, WorkedNumbers};
 ghost use Rattle.promql_text.specs.Values.{IsNumber, SameValue, neg};
 ghost use Rattle.promql_text.specs.Equalities.{HashesAlike, IsSameBy};
 ghost use Rattle.promql_text.specs.declared.number.Number.{Number};
@@ -98,9 +98,10 @@ pub fn numbers_are_told()
     ensures { NumbersAreTold }
 {}
 
-/// What the relation says of worked texts.
-pub fn worked_durations()
-    ensures { WorkedDurations }
+/// What the relations say of worked texts.
+pub fn worked_texts()
+    ensures durations { WorkedDurations }
+    ensures numbers { WorkedNumbers }
 {}
 
 /// Decimals are equal exactly if they are one number, and then they are hashed alike.
