@@ -120,11 +120,12 @@ part_found u us s n None rest begins is = absurd (none_some n is)
 part_found u us s n (Some m) rest begins is =
     let h = both (is_ascii_digit (front s)) (bytes_eq (word_run (past_run s)) (word_of u)) begins in
     let r : Found us (behind s) m = rest m refl in
-    let sum : n ≡ digits_value 10 (digit_run s) * nanos_of u + m = sym (same (digits_value 10 (digit_run s) * nanos_of u + m) n is) in
-    (record { count = digit_run s; unit = u } ∷ r.0,
-    inl (refl, (run_some s h.0, run_digits s), r.1),
-    word_cut u s h.1 ∙ ap (λ t. digit_run s ++ (word_of u ++ t)) r.2,
-    sum ∙ ap (λ k. digits_value 10 (digit_run s) * nanos_of u + k) r.3)
+    let sum : n ≡ digits_value 10 (digit_run s) * nanos_of u + m = sym (same (digits_value 10 (digit_run s) * nanos_of u + m) n is) in (
+      record { count = digit_run s; unit = u } ∷ r.0,
+      inl (refl, (run_some s h.0, run_digits s), r.1),
+      word_cut u s h.1 ∙ ap (λ t. digit_run s ++ (word_of u ++ t)) r.2,
+      sum ∙ ap (λ k. digits_value 10 (digit_run s) * nanos_of u + k) r.3,
+    )
 
 -- with no part in the first unit
 skip_found : (u : Unit) (us : List Unit) (s : Text) (n : ℕ) → Found us s n → Found (u ∷ us) s n

@@ -196,27 +196,41 @@ few_outcome b n c z whole fraction is ends short =
     finite_short b n c z whole fraction is short (λ e. absurd (ends e))
     ∙ ap (λ o. ok_or (option_map number.Finite o) fault.OutOfRange) (place_is b c z n ∙ cond-false (c == 0) (Some exact_zero) _ some)
     in
-    inr ((λ long. let many = long c z is in omega (arith, many)),
-    split (is_in_range c u (down n))
-    (λ range. inl (scaled b c u (down n), scaled_value b c z (digits_number n) (up n) (down n) is (scaled_exact b c u (down n) short ends range),
-    to_place ∙ ap (λ t. ok_or (option_map number.Finite (cond t (Some (scaled b c u (down n))) None)) fault.OutOfRange) range))
-    (λ out. inr ((λ d h. apart (sym (value_range b (digits_number n) (up n) (down n) d c z h is ends) ∙ out)),
-    to_place ∙ ap (λ t. ok_or (option_map number.Finite (cond t (Some (scaled b c u (down n))) None)) fault.OutOfRange) out)))
+    inr (
+      (λ long. let many = long c z is in omega (arith, many)),
+      split (is_in_range c u (down n))
+          (λ range. inl (
+            scaled b c u (down n),
+            scaled_value b c z (digits_number n) (up n) (down n) is (scaled_exact b c u (down n) short ends range),
+            to_place ∙ ap (λ t. ok_or (option_map number.Finite (cond t (Some (scaled b c u (down n))) None)) fault.OutOfRange) range,
+          ))
+          (λ out. inr (
+            (λ d h. apart (sym (value_range b (digits_number n) (up n) (down n) d c z h is ends) ∙ out)),
+            to_place ∙ ap (λ t. ok_or (option_map number.Finite (cond t (Some (scaled b c u (down n))) None)) fault.OutOfRange) out,
+          )),
+    )
   where
     apart : true ≡ false → ⊥
     apart e = cc
 
 many_outcome : (b : Bool) (n : Numeral) (c z : ℕ) → AllDigits 10 n.whole → AllDigits 10 n.fraction → c * 10 ^ z ≡ digits_number n → c % 10 ≢ 0 → 10 ^ 38 ≤ c → Outcome b n
 many_outcome b n c z whole fraction is ends long =
-    inl ((λ x y other. long_always c z (digits_number n) x y is ends long other),
-    finite_long b n whole fraction (record { front = c; zeros = z; splits = sym is; long = long; ends = ends }))
+    inl (
+      (λ x y other. long_always c z (digits_number n) x y is ends long other),
+      finite_long b n whole fraction (record { front = c; zeros = z; splits = sym is; long = long; ends = ends }),
+    )
 
 zero_outcome : (b : Bool) (n : Numeral) → AllDigits 10 n.whole → AllDigits 10 n.fraction → digits_number n ≡ 0 → Outcome b n
 zero_outcome b n whole fraction none =
     let is : 0 * 10 ^ 0 ≡ digits_number n = sym none in
-    inr ((λ long. let many = long 0 0 is in omega (arith, many)),
-    inl (exact_zero, zero_value b (digits_number n) (up n) (down n) none,
-    finite_short b n 0 0 whole fraction is (omega arith) (λ _. refl) ∙ ap (λ o. ok_or (option_map number.Finite o) fault.OutOfRange) (place_is b 0 0 n)))
+    inr (
+      (λ long. let many = long 0 0 is in omega (arith, many)),
+      inl (
+        exact_zero,
+        zero_value b (digits_number n) (up n) (down n) none,
+        finite_short b n 0 0 whole fraction is (omega arith) (λ _. refl) ∙ ap (λ o. ok_or (option_map number.Finite o) fault.OutOfRange) (place_is b 0 0 n),
+      ),
+    )
 
 outcome : (b : Bool) (n : Numeral) → AllDigits 10 n.whole → AllDigits 10 n.fraction → Outcome b n
 outcome b n whole fraction =

@@ -1,6 +1,7 @@
 -- Which texts are numbers, and which numbers: a relation (docs/TEXTS.md, "The number of a text").
 -- White space is left out of these texts.
-use Rattle.std.specs.Prelude.{◌≡◌, ◌⊎◌, ◌↔◌, ℕ, ◌+◌, ◌*◌, ◌^◌, ◌<◌, ◌≤◌, Bool, true, false, if◌then◌else◌, ◌∷◌, ◌++◌, length, Result, Ok, Err}
+use Rattle.std.specs.Prelude.{◌≡◌, ◌⊎◌, ◌↔◌, ℕ, ◌+◌, ◌*◌, ◌^◌, ◌<◌, ◌≤◌, Bool, true, false, if◌then◌else◌, [], ◌∷◌, ◌++◌, length, Result, Ok, Err}
+use Rattle.std.specs.Char.{digit_value}
 use Rattle.std.specs.List.{list_any}
 use Rattle.std.specs.Str.Parse.{AllDigits, digits_value}
 use Rattle.promql_text.specs.Texts.{Text}
@@ -14,6 +15,16 @@ use Rattle.promql_text.specs.declared.number.Number.{Number}
 use Rattle.promql_text.specs.declared.number.Number.TheVariants as number
 use Rattle.promql_text.specs.declared.number.NumberFault.{NumberFault}
 use Rattle.promql_text.specs.declared.number.NumberFault.TheVariants as fault
+
+-- ---- digits
+
+-- each digit times its power of the radix, together
+abbrev pub sum_of_digits : ℕ → Text → ℕ
+sum_of_digits radix [] = 0
+sum_of_digits radix (c ∷ ds) = digit_value c * radix ^ length ds + sum_of_digits radix ds
+
+abbrev pub DigitsAreSummed : Type 0
+DigitsAreSummed = (radix : ℕ) (ds : Text) → digits_value radix ds ≡ sum_of_digits radix ds
 
 -- ---- texts
 

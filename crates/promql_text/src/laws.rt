@@ -7,7 +7,7 @@ ghost use Rattle.promql_text.specs.DurationForms.{DurationsAreTold};
 ghost use Rattle.promql_text.specs.DurationText.{duration_text};
 ghost use Rattle.promql_text.specs.Quoting as quoting;
 ghost use Rattle.promql_text.specs.Spellings.{IsQuotedText};
-ghost use Rattle.promql_text.specs.NumberForms.{NumbersAreTold};
+ghost use Rattle.promql_text.specs.NumberForms.{DigitsAreSummed, NumbersAreTold};
 ghost use Rattle.promql_text.specs.NumberText.{read_number, number_text};
 ghost use Rattle.promql_text.specs.Texts.{Text};
 ghost use Rattle.promql_text.specs.Numbers.{Exact, IsExact, seconds_of};
@@ -96,6 +96,11 @@ pub fn durations_are_told()
 /// decimal text of that number's value; and it has a fault exactly if that fault's own rule fits.
 pub fn numbers_are_told()
     ensures { NumbersAreTold }
+{}
+
+/// The value of digits is the sum of each digit times its power of the radix.
+pub fn digits_are_summed()
+    ensures { DigitsAreSummed }
 {}
 
 /// What the relations say of worked texts.
