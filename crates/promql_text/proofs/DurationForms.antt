@@ -1,13 +1,13 @@
 -- The duration of a text is what its parts or its seconds say.
 use Rattle.std.proofs.Common.{◌≡◌, ◌≢◌, ◌⊎◌, ⊎_elim, inl, inr, ℕ, ◌*◌, ◌^◌, ◌<◌, ◌≤◌, Bool, true, false, cond, List, [], ◌∷◌, length, Option, Some, None, Result, Ok, Err, refl, sym, ap, ◌∙◌, subst, arith}
 use Rattle.std.specs.Prelude.{◌==◌, nat_lt}
-use Rattle.std.proofs.lemmas.Bool.{cond_both, cond-false, eqb-true, eqb-false, ne_eqb, le-ltb}
+use Rattle.std.proofs.lemmas.Bool.{cond_both, cond-false, eqb-true, ne_eqb, le-ltb}
 use Rattle.std.proofs.lemmas.Bool.Decides.{nat_tests}
 use Rattle.promql_text.specs.Texts.{Text}
 use Rattle.promql_text.specs.DecimalForm.{numeral, Numeral, reading, Reading, NotANumber, Signed, decimal_form}
 use Rattle.promql_text.specs.DecimalForm as form
 use Rattle.promql_text.specs.Durations.{units, parts_nanos, second_nanos, in_range, of_seconds, of_parts, duration_of}
-use Rattle.promql_text.specs.DurationForms.{Part, IsParts, IsSeconds, Meaning, Nanos, Negative, Infinite, Means, IsDuration, DurationsAreTold, parts_text}
+use Rattle.promql_text.specs.DurationForms.{Part, IsParts, Meaning, Nanos, Negative, Infinite, Means, IsDuration, DurationsAreTold, parts_text}
 use Rattle.promql_text.specs.Spelling.{IsDecimalForm}
 use Rattle.promql_text.specs.declared.duration.DurationFault.{DurationFault}
 use Rattle.promql_text.specs.declared.duration.DurationFault.TheVariants.{Empty, NotPositive, Invalid, Overflow}

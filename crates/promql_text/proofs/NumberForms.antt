@@ -1,5 +1,5 @@
 -- The number of a text is what the text means.
-use Rattle.std.proofs.Common.{◌≡◌, ⊎_elim, inl, inr, ℕ, Bool, true, false, Result, Ok, Err, refl, sym, ap, ◌∙◌, subst}
+use Rattle.std.proofs.Common.{◌≡◌, ⊎_elim, inl, inr, Bool, Result, Err, refl, sym, ◌∙◌, subst}
 use Rattle.promql_text.specs.Texts.{Text}
 use Rattle.promql_text.specs.DecimalForm.{Reading, NotANumber, Infinite, Signed}
 use Rattle.promql_text.specs.DecimalForm as form

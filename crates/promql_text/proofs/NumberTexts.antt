@@ -1,5 +1,5 @@
 -- Which texts are read as numbers, and as what.
-use Rattle.std.proofs.Common.{◌≡◌, ◌⊎◌, ⊎_elim, inl, inr, ℕ, ◌+◌, ◌^◌, ◌<◌, Bool, true, false, not, cond, ◌&&◌, ◌||◌, [], ◌∷◌, ◌++◌, length, drop, Option, Some, None, Result, Ok, Err, refl, sym, ap, ◌∙◌, arith}
+use Rattle.std.proofs.Common.{◌≡◌, ◌⊎◌, ⊎_elim, inl, inr, ℕ, ◌^◌, ◌<◌, Bool, true, false, not, cond, ◌&&◌, ◌||◌, [], ◌∷◌, ◌++◌, length, drop, Option, Some, None, Result, Ok, Err, refl, sym, ap, ◌∙◌, arith}
 use Rattle.std.specs.Prelude.{codes, nat_lt, ◌==◌}
 use Rattle.std.specs.Char.{digit_value, to_ascii_lowercase}
 use Rattle.std.specs.List.{list_all, list_any}
@@ -15,7 +15,7 @@ use Rattle.promql_text.specs.DecimalForm as form
 use Rattle.promql_text.specs.NumberText.{hexadecimal, is_digit_below, is_octal, is_past_octal, is_x, number_of, of_form, radix_number, signed}
 use Rattle.promql_text.specs.NumberForms.{IsHexadecimal, IsOctal, BeginsOctal, Meaning, Whole, Decimal, Means}
 use Rattle.promql_text.specs.Numbers.{whole}
-use Rattle.promql_text.specs.Spelling.{IsSign, IsPoint, HasNoExponent, HasExponent, Spells, IsReading, IsDecimalForm}
+use Rattle.promql_text.specs.Spelling.{IsSign, IsPoint, HasNoExponent, HasExponent, IsReading, IsDecimalForm}
 use Rattle.promql_text.specs.declared.number.Number.{Number}
 use Rattle.promql_text.specs.declared.number.Number.TheVariants as number
 use Rattle.promql_text.specs.declared.number.NumberFault.{NumberFault}

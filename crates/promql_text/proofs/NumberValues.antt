@@ -1,5 +1,5 @@
 -- The number of a numeral has the numeral's value, and is the only one.
-use Rattle.std.proofs.Common.{◌≡◌, ◌≢◌, ◌⊎◌, ⊎_elim, inl, inr, ℕ, zero, suc, ◌+◌, ◌-◌, ◌*◌, ◌/◌, ◌%◌, ◌^◌, ◌<◌, ◌≤◌, Bool, true, false, cond, length, Option, Some, None, Result, Ok, Err, refl, sym, ap, ◌∙◌, subst, arith}
+use Rattle.std.proofs.Common.{◌≡◌, ◌≢◌, ◌⊎◌, ⊎_elim, inl, inr, ℕ, ◌+◌, ◌-◌, ◌*◌, ◌/◌, ◌%◌, ◌^◌, ◌<◌, ◌≤◌, Bool, true, false, cond, length, Some, None, Result, Ok, Err, refl, sym, ap, ◌∙◌, subst, arith}
 use Rattle.std.specs.Prelude.{◌==◌, ◌&&◌, nat_le, nat_lt, option_map}
 use Rattle.std.specs.Option.{ok_or}
 use Rattle.std.specs.Str.Parse.{AllDigits}
@@ -11,8 +11,6 @@ use Rattle.promql_text.specs.DurationForms.{up, down}
 use Rattle.promql_text.specs.NumberForms.{HasValue, IsTooLong, GivesWhole, GivesNumeral}
 use Rattle.promql_text.specs.NumberText.{at_place, finite, zeros_of}
 use Rattle.promql_text.specs.Numbers.{Exact, IsExact, digit_count, exact_zero, is_in_range, placed, scaled, tens, whole}
-use Rattle.promql_text.specs.Significands.{IsLong}
-use Rattle.promql_text.specs.Values.{SameValue}
 use Rattle.promql_text.specs.declared.number.Number.TheVariants as number
 use Rattle.promql_text.specs.declared.number.NumberFault.{NumberFault}
 use Rattle.promql_text.specs.declared.number.NumberFault.TheVariants as fault

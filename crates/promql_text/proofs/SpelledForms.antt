@@ -3,14 +3,14 @@ use Rattle.std.proofs.Common.{◌≡◌, ◌⊎◌, ⊎_elim, inl, inr, ℕ, ◌
 use Rattle.std.specs.Prelude.{codes, option_map, ◌==◌}
 use Rattle.std.specs.Char.{is_ascii_digit, to_ascii_lowercase}
 use Rattle.std.specs.Str.{bytes_eq, str_to_ascii_lowercase}
-use Rattle.std.proofs.lemmas.Bool.{cond_both, cases_Bool}
+use Rattle.std.proofs.lemmas.Bool.{cond_both}
 use Rattle.std.proofs.lemmas.Bool.Decides.{nat_tests}
 use Rattle.std.proofs.lemmas.Slice.Eq.{bytes_eq-Decides}
 use Rattle.promql_text.specs.Texts.{Text}
 use Rattle.promql_text.specs.DecimalForm.{front, past_run, past_point, unsigned, is_minus, is_word, ends_well, Numeral, numeral, Reading, NotANumber, Infinite, Finite, reading, Signed, decimal_form}
-use Rattle.promql_text.specs.Spelling.{IsSign, IsReading, IsDecimalForm, FormsAreSpelled, Spells}
+use Rattle.promql_text.specs.Spelling.{IsSign, IsReading, IsDecimalForm, FormsAreSpelled}
 use Rattle.promql_text.proofs.Runs.{past_stops}
-use Rattle.promql_text.proofs.Spelled.{Signs, signs_at, SignCut, sign_at, both, either, given, made, assembled, numeral_is, spelled_reads, reads_spelled}
+use Rattle.promql_text.proofs.Spelled.{Signs, signs_at, SignCut, sign_at, both, either, given, numeral_is, spelled_reads, reads_spelled}
 use Rattle.promql_text.proofs.TextForms.{signed_of, form_at}
 
 -- ---- what a numeral begins with

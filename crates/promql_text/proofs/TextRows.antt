@@ -28,6 +28,11 @@ unfolding duration_of decimal_form reading numeral second_nanos nearest units
 worked_durations = record {
   parts = row (codes "373d1h1m1s1ms") (Ok 32230861001000000) refl;
   year = row (codes "1y") (Ok 31536000000000000) refl;
+  week = row (codes "1w") (Ok 604800000000000) refl;
+  days = row (codes "8d") (Ok 691200000000000) refl;
+  seconds = row (codes "0.0001") (Ok 100000) refl;
+  greatest = row (codes "18446744073709551615.999999999") (Ok 18446744073709551615999999999) refl;
+  zero_seconds = row (codes "0s") (Err NotPositive) refl;
   rounded_up = row (codes "0.00000000050000000001") (Ok 1) refl;
   rounded_down = row (codes "0.0000000005") (Err NotPositive) refl;
   tiny = row (codes "1e-400") (Err NotPositive) refl;

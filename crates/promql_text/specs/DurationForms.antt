@@ -20,7 +20,7 @@ pub record Part : Type 0 where
 abbrev pub IsCount : Text → Type 0
 IsCount ds = (0 < length ds) × AllDigits 10 ds
 
--- the parts' units are among these, in this order, each at most once
+-- each part has digits, and one of these units, in this order and each at most once
 abbrev pub AreParts : List Unit → List Part → Type 0
 AreParts us [] = ⊤
 AreParts [] (p ∷ ps) = ⊥

@@ -12,6 +12,11 @@ use Rattle.promql_text.specs.declared.duration.DurationFault.TheVariants.{Empty,
 pub record WorkedDurations : Type 0 where
   pub parts : IsDuration (codes "373d1h1m1s1ms") (Ok 32_230_861_001_000_000)
   pub year : IsDuration (codes "1y") (Ok 31_536_000_000_000_000)
+  pub week : IsDuration (codes "1w") (Ok 604_800_000_000_000)
+  pub days : IsDuration (codes "8d") (Ok 691_200_000_000_000)
+  pub seconds : IsDuration (codes "0.0001") (Ok 100_000)
+  pub greatest : IsDuration (codes "18446744073709551615.999999999") (Ok 18_446_744_073_709_551_615_999_999_999)
+  pub zero_seconds : IsDuration (codes "0s") (Err NotPositive)
   pub rounded_up : IsDuration (codes "0.00000000050000000001") (Ok 1)
   pub rounded_down : IsDuration (codes "0.0000000005") (Err NotPositive)
   pub tiny : IsDuration (codes "1e-400") (Err NotPositive)
