@@ -18,10 +18,10 @@ use Rattle.promql_text.proofs.ReadsDuration.{in_range_is}
 use Rattle.promql_text.proofs.SpelledForms.{form_spelled, spelled_form}
 use Rattle.promql_text.proofs.TextForms.{signed_of}
 
-abbrev said : Meaning → Result ℕ DurationFault
-said (Nanos n) = in_range n
-said Negative = Err NotPositive
-said Infinite = Err Overflow
+abbrev result_of : Meaning → Result ℕ DurationFault
+result_of (Nanos n) = in_range n
+result_of Negative = Err NotPositive
+result_of Infinite = Err Overflow
 
 -- ---- what a text means is read
 
@@ -58,7 +58,7 @@ below_zero NotANumber other = absurd (other refl)
 below_zero form.Infinite other = refl
 below_zero (form.Finite n) other = refl
 
-means_said : (s : Text) (m : Meaning) → Means s m → duration_of s ≡ said m
+means_said : (s : Text) (m : Meaning) → Means s m → duration_of s ≡ result_of m
 means_said s (Nanos n) h =
     ⊎_elim (λ parts. parts_give s n parts) (λ seconds. form_gives s (signed_of false (form.Finite seconds.numeral)) seconds.text ∙ ap in_range (seconds_one seconds.numeral n seconds.nanos)) h
 means_said s Negative h = form_gives s (signed_of true h.0) h.2 ∙ below_zero h.0 h.1
@@ -112,12 +112,12 @@ range_cases n P none fits past =
     big : (n : ℕ) → nat_lt n (2 ^ 64 * 1_000_000_000) ≡ false → 2 ^ 64 * 1_000_000_000 ≤ n
     big n more = grind (arith, nat_tests)
 
-meaning_valid : (m : Meaning) → said m ≡ Err Invalid → ⊥
+meaning_valid : (m : Meaning) → result_of m ≡ Err Invalid → ⊥
 meaning_valid (Nanos n) is = range_cases n (λ r. r ≡ Err Invalid → ⊥) (λ _ e. cc) (λ _ _ e. cc) (λ _ e. cc) is
 meaning_valid Negative is = cc
 meaning_valid Infinite is = cc
 
-meaning_told : (s : Text) (m : Meaning) → Means s m → IsDuration s (said m)
+meaning_told : (s : Text) (m : Meaning) → Means s m → IsDuration s (result_of m)
 meaning_told s (Nanos n) h =
     range_cases n (IsDuration s)
     (λ none. let P : ℕ → Type 0 = λ k. Means s (Nanos k) in inl (subst P none h))
@@ -128,9 +128,9 @@ meaning_told s Infinite h = inl h
 
 -- ---- both directions
 
-told : (s : Text) → IsDuration s (duration_of s)
-told [] = let P : Result ℕ DurationFault → Type 0 = λ r. IsDuration [] r in subst P (sym (duration-empty [] refl)) refl
-told (c ∷ t) =
+duration_told : (s : Text) → IsDuration s (duration_of s)
+duration_told [] = let P : Result ℕ DurationFault → Type 0 = λ r. IsDuration [] r in subst P (sym (duration-empty [] refl)) refl
+duration_told (c ∷ t) =
     let s : Text = c ∷ t in
     let some : s ≢ [] = λ e. cc in
     let P : Result ℕ DurationFault → Type 0 = λ r. IsDuration s r in
@@ -139,12 +139,12 @@ told (c ∷ t) =
     (λ invalid. subst P (sym invalid) (some, λ m h. meaning_valid m (sym (means_said s m h) ∙ invalid)))
     (text_meant s (decimal_form s) some refl)
 
-told_is : (s : Text) (r : Result ℕ DurationFault) → IsDuration s r → duration_of s ≡ r
-told_is s (Ok n) h = means_said s (Nanos n) h.0 ∙ in_range_is n h.1 h.2
-told_is s (Err Empty) h = ap duration_of h ∙ duration-empty [] refl
-told_is s (Err NotPositive) h = ⊎_elim (λ none. means_said s (Nanos 0) none) (λ negative. means_said s Negative negative) h
-told_is s (Err Overflow) h = ⊎_elim (λ infinite. means_said s Infinite infinite) (λ past. means_said s (Nanos past.0) past.1 ∙ in_range_past past.0 past.2) h
-told_is s (Err Invalid) h = ⊎_elim (λ meant. absurd (h.1 meant.0 meant.1)) (λ invalid. invalid) (text_meant s (decimal_form s) h.0 refl)
+duration_is : (s : Text) (r : Result ℕ DurationFault) → IsDuration s r → duration_of s ≡ r
+duration_is s (Ok n) h = means_said s (Nanos n) h.0 ∙ in_range_is n h.1 h.2
+duration_is s (Err Empty) h = ap duration_of h ∙ duration-empty [] refl
+duration_is s (Err NotPositive) h = ⊎_elim (λ none. means_said s (Nanos 0) none) (λ negative. means_said s Negative negative) h
+duration_is s (Err Overflow) h = ⊎_elim (λ infinite. means_said s Infinite infinite) (λ past. means_said s (Nanos past.0) past.1 ∙ in_range_past past.0 past.2) h
+duration_is s (Err Invalid) h = ⊎_elim (λ meant. absurd (h.1 meant.0 meant.1)) (λ invalid. invalid) (text_meant s (decimal_form s) h.0 refl)
 
 pub durations_told : DurationsAreTold
-durations_told s r = ((λ is. let P : Result ℕ DurationFault → Type 0 = λ q. IsDuration s q in subst P is (told s)), (λ h. told_is s r h))
+durations_told s r = ((λ is. let P : Result ℕ DurationFault → Type 0 = λ q. IsDuration s q in subst P is (duration_told s)), (λ h. duration_is s r h))

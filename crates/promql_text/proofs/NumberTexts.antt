@@ -24,9 +24,9 @@ use Rattle.promql_text.proofs.Spelled.{Signs, SignCut, both}
 use Rattle.promql_text.proofs.SpelledForms.{form_spelled, spelled_form, sign_found, signs_plain}
 
 -- what the definition gives for a meaning
-abbrev pub said : Meaning → Result Number NumberFault
-said (Whole b n) = cond (nat_lt n (2 ^ 63)) (Ok (number.Finite (whole b n))) (Err fault.OutOfRange)
-said (Decimal f) = signed f.is_negative f.reading
+abbrev pub result_of : Meaning → Result Number NumberFault
+result_of (Whole b n) = cond (nat_lt n (2 ^ 63)) (Ok (number.Finite (whole b n))) (Err fault.OutOfRange)
+result_of (Decimal f) = signed f.is_negative f.reading
 
 -- ---- characters that a text has not
 
@@ -56,7 +56,7 @@ digits_pass : (radix : ℕ) (ds : Text) → AllDigits radix ds → list_all (is_
 digits_pass radix [] all = refl
 digits_pass radix (c ∷ ds) all = ap (λ b. b && list_all (is_digit_below radix) ds) (lt-ltb (digit_value c) radix all.0) ∙ digits_pass radix ds all.1
 
-below : (a b : ℕ) → nat_lt a b ≡ true → a < b
+pub below : (a b : ℕ) → nat_lt a b ≡ true → a < b
 below a b is = grind (arith, nat_tests)
 
 pass_digits : (radix : ℕ) (ds : Text) → list_all (is_digit_below radix) ds ≡ true → AllDigits radix ds
@@ -68,18 +68,18 @@ pass_digits radix (c ∷ ds) pass =
 abbrev are_digits : ℕ → Text → Bool
 are_digits radix ds = not (length ds == 0) && list_all (is_digit_below radix) ds
 
-radix_is : (radix : ℕ) (b : Bool) (ds : Text) → radix_number radix b ds ≡ cond (are_digits radix ds) (said (Whole b (digits_value radix ds))) (Err fault.NotANumber)
+radix_is : (radix : ℕ) (b : Bool) (ds : Text) → radix_number radix b ds ≡ cond (are_digits radix ds) (result_of (Whole b (digits_value radix ds))) (Err fault.NotANumber)
 unfolding radix_number
 radix_is radix b ds = refl
 
-radix_said : (radix : ℕ) (b : Bool) (ds : Text) → 0 < length ds → AllDigits radix ds → radix_number radix b ds ≡ said (Whole b (digits_value radix ds))
+radix_said : (radix : ℕ) (b : Bool) (ds : Text) → 0 < length ds → AllDigits radix ds → radix_number radix b ds ≡ result_of (Whole b (digits_value radix ds))
 radix_said radix b ds some all =
     radix_is radix b ds
-    ∙ ap (λ e. cond (not e && list_all (is_digit_below radix) ds) (said (Whole b (digits_value radix ds))) (Err fault.NotANumber)) (ne_eqb (length ds) 0 (λ e. absurd (omega arith)))
-    ∙ ap (λ e. cond e (said (Whole b (digits_value radix ds))) (Err fault.NotANumber)) (digits_pass radix ds all)
+    ∙ ap (λ e. cond (not e && list_all (is_digit_below radix) ds) (result_of (Whole b (digits_value radix ds))) (Err fault.NotANumber)) (ne_eqb (length ds) 0 (λ e. absurd (omega arith)))
+    ∙ ap (λ e. cond e (result_of (Whole b (digits_value radix ds))) (Err fault.NotANumber)) (digits_pass radix ds all)
 
 radix_none : (radix : ℕ) (b : Bool) (ds : Text) → are_digits radix ds ≡ false → radix_number radix b ds ≡ Err fault.NotANumber
-radix_none radix b ds none = radix_is radix b ds ∙ ap (λ e. cond e (said (Whole b (digits_value radix ds))) (Err fault.NotANumber)) none
+radix_none radix b ds none = radix_is radix b ds ∙ ap (λ e. cond e (result_of (Whole b (digits_value radix ds))) (Err fault.NotANumber)) none
 
 record Digits (radix : ℕ) (ds : Text) : Type 0 where
   some : 0 < length ds
@@ -122,7 +122,7 @@ hexadecimal_is : (t : Text) → hexadecimal t ≡ of_body (is_minus t) (unsigned
 unfolding hexadecimal
 hexadecimal_is t = refl
 
-hexadecimal_said : (t : Text) (b : Bool) (n : ℕ) → IsHexadecimal t b n → number_of t ≡ said (Whole b n)
+hexadecimal_said : (t : Text) (b : Bool) (n : ℕ) → IsHexadecimal t b n → number_of t ≡ result_of (Whole b n)
 hexadecimal_said t b n h =
     let u : Text = 48 ∷ h.x ∷ h.digits in
     let s : Text = h.sign ++ u in
@@ -131,7 +131,7 @@ hexadecimal_said t b n h =
     ap number_of h.text ∙ number_hexadecimal s has ∙ hexadecimal_is s
     ∙ ap (λ m. of_body m (unsigned s)) g.minus ∙ ap (of_body b) g.rest
     ∙ ap (λ e. cond e (radix_number 16 b h.digits) (Err fault.NotANumber)) h.is_x
-    ∙ radix_said 16 b h.digits h.some h.all ∙ ap (λ k. said (Whole b k)) (sym h.value)
+    ∙ radix_said 16 b h.digits h.some h.all ∙ ap (λ k. result_of (Whole b k)) (sym h.value)
 
 x_cut : (body : Text) → begins_x body ≡ true → (x : ℕ) × (body ≡ 48 ∷ x ∷ drop 2 body) × (is_x x ≡ true)
 x_cut [] is = absurd (cc)
@@ -141,7 +141,7 @@ x_cut (c ∷ x ∷ ds) is = let h = both (c == 48) (is_x x) is in (x, ap (λ k. 
 abbrev pub Found : Text → Type 0
 Found t = ((m : Meaning) × Means t m) ⊎ (number_of t ≡ Err fault.NotANumber)
 
-split : {A : Type 0} (b : Bool) → (b ≡ true → A) → (b ≡ false → A) → A
+pub split : {A : Type 0} (b : Bool) → (b ≡ true → A) → (b ≡ false → A) → A
 split b one other = ⊎_elim one other (cases_Bool b)
 
 hexadecimal_found : (t : Text) → list_any is_x t ≡ true → Found t
@@ -206,7 +206,7 @@ octal_begins t is =
       none = sym (ap (list_any is_past_octal) text ∙ sign_none is_past_octal (is_minus t) s.sign (48 ∷ rest) refl refl s.has) ∙ not_true (list_any is_past_octal t) k.1;
     }
 
-octal_said : (t : Text) (b : Bool) (n : ℕ) → IsOctal t b n → number_of t ≡ said (Whole b n)
+octal_said : (t : Text) (b : Bool) (n : ℕ) → IsOctal t b n → number_of t ≡ result_of (Whole b n)
 octal_said t b n h =
     let u : Text = 48 ∷ h.digits in
     let s : Text = h.sign ++ u in
@@ -217,7 +217,7 @@ octal_said t b n h =
     in
     ap number_of h.text ∙ number_octal s none begins
     ∙ ap (λ m. radix_number 8 m (drop 1 (unsigned s))) g.minus ∙ ap (λ body. radix_number 8 b (drop 1 body)) g.rest
-    ∙ radix_said 8 b h.digits h.some h.all ∙ ap (λ k. said (Whole b k)) (sym h.value)
+    ∙ radix_said 8 b h.digits h.some h.all ∙ ap (λ k. result_of (Whole b k)) (sym h.value)
 
 octal_found : (t : Text) → list_any is_x t ≡ false → is_octal t ≡ true → Found t
 octal_found t none is =
@@ -271,7 +271,7 @@ reading_no_x (form.Finite n) s is =
 decimal_no_x : (f : Signed) (t : Text) → IsDecimalForm f t → list_any is_x t ≡ false
 decimal_no_x f t h = ap (list_any is_x) h.is ∙ sign_none is_x f.is_negative h.sign h.body refl refl h.is_sign ∙ reading_no_x f.reading h.body h.is_body
 
-decimal_said : (t : Text) (f : Signed) → IsDecimalForm f t → (BeginsOctal t → ⊥) → number_of t ≡ said (Decimal f)
+decimal_said : (t : Text) (f : Signed) → IsDecimalForm f t → (BeginsOctal t → ⊥) → number_of t ≡ result_of (Decimal f)
 decimal_said t f h other =
     number_decimal t (decimal_no_x f t h) (split (is_octal t) (λ is. absurd (other (octal_begins t is))) (λ is. is))
     ∙ ap of_form (spelled_form t f h)
@@ -285,7 +285,7 @@ decimal_found t (Some f) none other is = inl (Decimal f, (form_spelled t f is, �
 
 -- ---- any text
 
-pub means_said : (t : Text) (m : Meaning) → Means t m → number_of t ≡ said m
+pub means_said : (t : Text) (m : Meaning) → Means t m → number_of t ≡ result_of m
 means_said t (Whole b n) h = ⊎_elim (hexadecimal_said t b n) (octal_said t b n) h
 means_said t (Decimal f) h = decimal_said t f h.0 h.1
 

@@ -3,12 +3,12 @@ use Rattle.std.proofs.Common.{◌≡◌, ◌≢◌, ◌⊎◌, ⊎_elim, inl, in
 use Rattle.std.specs.Prelude.{◌==◌, ◌&&◌, nat_le, nat_lt, option_map}
 use Rattle.std.specs.Option.{ok_or}
 use Rattle.std.specs.Str.Parse.{AllDigits}
-use Rattle.std.proofs.lemmas.Bool.{cases_Bool, cases_lt, cond_both, cond-false, cond-true, le-ltb, lt-ltb, ne_eqb}
+use Rattle.std.proofs.lemmas.Bool.{cases_lt, cond_both, cond-false, cond-true, le-ltb, lt-ltb, ne_eqb}
 use Rattle.std.proofs.lemmas.Bool.Decides.{nat_tests}
 use Rattle.std.proofs.Math.Nat.{mul-div_left, zero-mul}
 use Rattle.promql_text.specs.DecimalForm.{Numeral, digits_number, exponent_size, places}
 use Rattle.promql_text.specs.DurationForms.{up, down}
-use Rattle.promql_text.specs.NumberForms.{HasValue, IsTooLong, GivesWhole, GivesNumeral}
+use Rattle.promql_text.specs.NumberForms.{Whole, HasValue, IsTooLong, GivesWhole, GivesNumeral}
 use Rattle.promql_text.specs.NumberText.{at_place, finite, zeros_of}
 use Rattle.promql_text.specs.Numbers.{Exact, IsExact, digit_count, exact_zero, is_in_range, placed, scaled, tens, whole}
 use Rattle.promql_text.specs.declared.number.Number.TheVariants as number
@@ -17,8 +17,7 @@ use Rattle.promql_text.specs.declared.number.NumberFault.TheVariants as fault
 use Rattle.promql_text.proofs.Exacts.{exact_zero_is}
 use Rattle.promql_text.proofs.Finites.{finite_long, finite_short, number_below}
 use Rattle.promql_text.proofs.InForm.{Parts, scaled_exact, tens_parts, whole_exact}
-use Rattle.promql_text.proofs.NumberTexts.{said}
-use Rattle.promql_text.specs.NumberForms.{Whole}
+use Rattle.promql_text.proofs.NumberTexts.{below, result_of, split}
 use Rattle.promql_text.proofs.OneForm.{one_form, same_digits, same_zeros}
 use Rattle.promql_text.proofs.Tens.{below_product, ends_zero, ten_pos, times_both, times_ten}
 
@@ -34,8 +33,8 @@ zero_digits b m u v d h none =
     omega (arith, size, low)
 
 -- two products that are one number, with the point of either moved by the other's places
-crossed : (x i p y j q m u v : ℕ) → x * 10 ^ (i + v) ≡ m * 10 ^ (u + p) → y * 10 ^ (j + v) ≡ m * 10 ^ (u + q) → x * 10 ^ (i + q) ≡ y * 10 ^ (j + p)
-crossed x i p y j q m u v left right =
+cross_sizes : (x i p y j q m u v : ℕ) → x * 10 ^ (i + v) ≡ m * 10 ^ (u + p) → y * 10 ^ (j + v) ≡ m * 10 ^ (u + q) → x * 10 ^ (i + q) ≡ y * 10 ^ (j + p)
+cross_sizes x i p y j q m u v left right =
     let a : i + q + v ≡ i + v + q = omega arith in
     let b : j + v + p ≡ j + p + v = omega arith in
     let c : u + p + q ≡ u + q + p = omega arith in
@@ -52,7 +51,7 @@ value_one b m u v d e h k =
     (λ low. let none : m ≡ 0 = omega arith in h.exact.unsigned (zero_digits b m u v d h none) ∙ sym (k.exact.unsigned (zero_digits b m u v e k none)))
     (cases_lt 0 m)
     in
-    one_form d e h.exact k.exact (record { sign = sign; size = crossed d.digits d.zeros d.places e.digits e.zeros e.places m u v h.size k.size })
+    one_form d e h.exact k.exact (record { sign = sign; size = cross_sizes d.digits d.zeros d.places e.digits e.zeros e.places m u v h.size k.size })
 
 -- the digits of a number of this value, where it is c and z zeros
 value_digits : (b : Bool) (m u v : ℕ) (d : Exact) (c z : ℕ) → HasValue b m u v d → c * 10 ^ z ≡ m → c % 10 ≢ 0 → (d.digits ≡ c) × (d.zeros + v ≡ z + (u + d.places))
@@ -102,19 +101,16 @@ whole_value b n less =
     subst R (sym none) (zero_value b n 0 0 none))
     (cases_lt 0 n)
 
-below : (a b : ℕ) → nat_lt a b ≡ true → a < b
-below a b is = grind (arith, nat_tests)
-
 not_below : (a b : ℕ) → nat_lt a b ≡ false → b ≤ a
 not_below a b is = grind (arith, nat_tests)
 
-pub whole_gives : (b : Bool) (n : ℕ) → GivesWhole b n (said (Whole b n))
+pub whole_gives : (b : Bool) (n : ℕ) → GivesWhole b n (result_of (Whole b n))
 whole_gives b n =
     cond_both (nat_lt n (2 ^ 63)) (Ok (number.Finite (whole b n))) (Err fault.OutOfRange) (GivesWhole b n)
     (λ less. let small = below n (2 ^ 63) less in (small, whole_value b n small))
     (λ more. not_below n (2 ^ 63) more)
 
-pub whole_is : (b : Bool) (n : ℕ) (r : Result _ NumberFault) → GivesWhole b n r → said (Whole b n) ≡ r
+pub whole_is : (b : Bool) (n : ℕ) (r : Result _ NumberFault) → GivesWhole b n r → result_of (Whole b n) ≡ r
 whole_is b n (Ok (number.Finite d)) h =
     cond-true (nat_lt n (2 ^ 63)) _ _ (lt-ltb n (2 ^ 63) h.0) ∙ ap (λ e. Ok (number.Finite e)) (value_one b n 0 0 (whole b n) d (whole_value b n h.0) h.1)
 whole_is b n (Ok number.Inf) h = absurd h
@@ -182,9 +178,6 @@ abbrev Outcome : Bool → Numeral → Type 0
 Outcome b n =
     (IsTooLong (digits_number n) × (finite b n ≡ Err fault.TooManyDigits))
     ⊎ ((IsTooLong (digits_number n) → ⊥) × (((d : Exact) × Value b n d × (finite b n ≡ Ok (number.Finite d))) ⊎ (((d : Exact) → Value b n d → ⊥) × (finite b n ≡ Err fault.OutOfRange))))
-
-split : {A : Type 0} (b : Bool) → (b ≡ true → A) → (b ≡ false → A) → A
-split b one other = ⊎_elim one other (cases_Bool b)
 
 few_outcome : (b : Bool) (n : Numeral) (c z : ℕ) → AllDigits 10 n.whole → AllDigits 10 n.fraction → c * 10 ^ z ≡ digits_number n → c % 10 ≢ 0 → c < 10 ^ 38 → Outcome b n
 few_outcome b n c z whole fraction is ends short =
