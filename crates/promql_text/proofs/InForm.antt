@@ -25,9 +25,9 @@ use Rattle.promql_text.proofs.Tens.{tens_goes, tens_stops}
 
 -- ---- a number without the zeros at its end, and these zeros
 
-record Parts (n t : ℕ) : Type 0 where
-  is : n / 10 ^ t * 10 ^ t ≡ n
-  ends : n / 10 ^ t % 10 ≢ 0
+pub record Parts (n t : ℕ) : Type 0 where
+  pub is : n / 10 ^ t * 10 ^ t ≡ n
+  pub ends : n / 10 ^ t % 10 ≢ 0
 
 parts_at : (n t u : ℕ) → t ≡ u → Parts n u → Parts n t
 parts_at n t u e p = let P : ℕ → Type 0 = λ k. Parts n k in subst P (sym e) p
@@ -45,7 +45,7 @@ one_more m t some p =
       ends = rw down p.ends;
     }
 
-tens_parts : (most n : ℕ) → 0 < n → n < 10 ^ most → Parts n (tens most n)
+pub tens_parts : (most n : ℕ) → 0 < n → n < 10 ^ most → Parts n (tens most n)
 tens_parts zero n some less = absurd (omega arith)
 tens_parts (suc most) n some less =
     ⊎_elim
@@ -81,7 +81,7 @@ range_below c up down range = grind (arith, nat_tests)
 range_above : (c up down : ℕ) → is_in_range c up down ≡ true → down ≤ digit_count c + up + 323
 range_above c up down range = grind (arith, nat_tests)
 
-scaled_exact : (neg : Bool) (c up down : ℕ) → c < 10 ^ 38 → c % 10 ≢ 0 → is_in_range c up down ≡ true → IsExact (scaled neg c up down)
+pub scaled_exact : (neg : Bool) (c up down : ℕ) → c < 10 ^ 38 → c % 10 ≢ 0 → is_in_range c up down ≡ true → IsExact (scaled neg c up down)
 scaled_exact neg c up down short ends range =
     let low = range_below c up down range in
     let high = range_above c up down range in

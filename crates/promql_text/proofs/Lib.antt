@@ -1,5 +1,7 @@
 pub mod Counts
 pub mod DigitsRead
+pub mod DurationForms
+pub mod DurationParts
 pub mod Escapes
 pub mod Exacts
 pub mod Examples
@@ -8,6 +10,10 @@ pub mod Fractions
 pub mod InForm
 pub mod Joins
 pub mod Kept
+pub mod Nearest
+pub mod NumberForms
+pub mod NumberTexts
+pub mod NumberValues
 pub mod OneForm
 pub mod Parts
 pub mod Plain
@@ -23,9 +29,11 @@ pub mod Rounding
 pub mod Runs
 pub mod ShortNumbers
 pub mod Spelled
+pub mod SpelledForms
 pub mod Spellings
 pub mod Tens
 pub mod TextForms
+pub mod TextRows
 pub mod TextsRead
 pub mod Widths
 pub mod Writing

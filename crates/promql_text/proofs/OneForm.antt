@@ -36,11 +36,11 @@ negated_in_form NaN is = tt
 
 -- ---- one value
 
-same_zeros : (a b y z : ℕ) → a % 10 ≢ 0 → b % 10 ≢ 0 → a * 10 ^ y ≡ b * 10 ^ z → y ≡ z
+pub same_zeros : (a b y z : ℕ) → a % 10 ≢ 0 → b % 10 ≢ 0 → a * 10 ^ y ≡ b * 10 ^ z → y ≡ z
 same_zeros a b y z last end is =
     sym (tens_is (y + z) a y last (omega arith)) ∙ ap (tens (y + z)) is ∙ tens_is (y + z) b z end (omega arith)
 
-same_digits : (a b y z : ℕ) → y ≡ z → a * 10 ^ y ≡ b * 10 ^ z → a ≡ b
+pub same_digits : (a b y z : ℕ) → y ≡ z → a * 10 ^ y ≡ b * 10 ^ z → a ≡ b
 same_digits a b y z e is =
     let one : a * 10 ^ y ≡ b * 10 ^ y = is ∙ ap (λ k. b * 10 ^ k) (sym e) in
     sym (mul-div_left a (ten_pos y)) ∙ ap (λ n. n / 10 ^ y) one ∙ mul-div_left b (ten_pos y)

@@ -33,7 +33,7 @@ word_len_is Minute r h = omega arith
 word_len_is Second r h = omega arith
 word_len_is Milli r h = omega arith
 
-word_letter : (u : Unit) (r : Text) → is_ascii_digit (front (word_of u ++ r)) ≡ false
+pub word_letter : (u : Unit) (r : Text) → is_ascii_digit (front (word_of u ++ r)) ≡ false
 word_letter Year r = refl
 word_letter Week r = refl
 word_letter Day r = refl
@@ -42,7 +42,7 @@ word_letter Minute r = refl
 word_letter Second r = refl
 word_letter Milli r = refl
 
-word_no_point : (u : Unit) (r : Text) → past_point (word_of u ++ r) ≡ word_of u ++ r
+pub word_no_point : (u : Unit) (r : Text) → past_point (word_of u ++ r) ≡ word_of u ++ r
 word_no_point Year r = refl
 word_no_point Week r = refl
 word_no_point Day r = refl
@@ -54,7 +54,7 @@ word_no_point Milli r = refl
 never_zero : (n : ℕ) → (suc n == 0) ≡ false
 never_zero n = ne_eqb (suc n) 0 (λ e. absurd (omega arith))
 
-word_no_end : (u : Unit) (r : Text) → ends_well (word_of u ++ r) ≡ false
+pub word_no_end : (u : Unit) (r : Text) → ends_well (word_of u ++ r) ≡ false
 word_no_end Year r = ap (λ b. b || false) (never_zero (length r))
 word_no_end Week r = ap (λ b. b || false) (never_zero (length r))
 word_no_end Day r = ap (λ b. b || false) (never_zero (length r))
@@ -63,10 +63,10 @@ word_no_end Minute r = ap (λ b. b || false) (never_zero (length r))
 word_no_end Second r = ap (λ b. b || false) (never_zero (length r))
 word_no_end Milli r = ap (λ b. b || false) (never_zero (suc (length r)))
 
-word_runs : (u : Unit) (r : Text) → prefix_len is_no_digit r ≡ 0 → word_run (word_of u ++ r) ≡ word_of u
+pub word_runs : (u : Unit) (r : Text) → prefix_len is_no_digit r ≡ 0 → word_run (word_of u ++ r) ≡ word_of u
 word_runs u r h = ap (λ n. take n (word_of u ++ r)) (word_len_is u r h) ∙ take-append_seam (word_of u) r
 
-word_passed : (u : Unit) (r : Text) → prefix_len is_no_digit r ≡ 0 → past_word (word_of u ++ r) ≡ r
+pub word_passed : (u : Unit) (r : Text) → prefix_len is_no_digit r ≡ 0 → past_word (word_of u ++ r) ≡ r
 word_passed u r h = ap (λ n. drop n (word_of u ++ r)) (word_len_is u r h) ∙ drop-append_seam (word_of u) r
 
 -- the text of one part, with a count above zero
@@ -87,7 +87,7 @@ part_begins n u v r is h =
     ∙ ap (λ w. bytes_eq (word_run w) (word_of v)) (past_append (decimal n) (word_of u ++ r) is.digits (word_letter u r))
     ∙ ap (λ w. bytes_eq w (word_of v)) (word_runs u r h)
 
-same_word : (u : Unit) → bytes_eq (word_of u) (word_of u) ≡ true
+pub same_word : (u : Unit) → bytes_eq (word_of u) (word_of u) ≡ true
 same_word Year = refl
 same_word Week = refl
 same_word Day = refl
@@ -134,12 +134,12 @@ counts_follow (u ∷ us) n h =
     no_run (b ∷ t) digit = ap (λ d. cond (not d) (1 + prefix_len is_no_digit t) 0) digit
 
 -- no unit of the list has this word
-abbrev NoWord : Unit → List Unit → Type 0
+abbrev pub NoWord : Unit → List Unit → Type 0
 NoWord v [] = ⊤
 NoWord v (u ∷ us) = (bytes_eq (word_of u) (word_of v) ≡ false) × NoWord v us
 
 -- each unit's word stands once
-abbrev Apart : List Unit → Type 0
+abbrev pub Apart : List Unit → Type 0
 Apart [] = ⊤
 Apart (u ∷ us) = NoWord u us × Apart us
 
@@ -194,7 +194,7 @@ part_form t has =
     let is = has.3 in
     ap decimal_form has.4 ∙ word_form (decimal n) (word_of u ++ r) is.some is.digits (word_letter u r) (word_no_point u r) (word_no_end u r)
 
-in_range_is : (n : ℕ) → 0 < n → n < 2 ^ 64 * 1_000_000_000 → in_range n ≡ Ok n
+pub in_range_is : (n : ℕ) → 0 < n → n < 2 ^ 64 * 1_000_000_000 → in_range n ≡ Ok n
 in_range_is n some fits = cond-false (n == 0) _ _ (ne_eqb n 0 (λ e. absurd (omega arith))) ∙ cond-true (nat_lt n (2 ^ 64 * 1_000_000_000)) _ _ (lt-ltb n (2 ^ 64 * 1_000_000_000) fits)
 
 not_empty : (t : Text) (n : ℕ) → 0 < n → parts_nanos units t ≡ Some n → (length t == 0) ≡ false
@@ -230,7 +230,7 @@ counts_duration t n some fits head is =
 skips : (u : Unit) (us : List Unit) (t : Text) (o : Option ℕ) → begins_part u t ≡ false → parts_nanos us t ≡ o → parts_nanos (u ∷ us) t ≡ o
 skips u us t o other is = cond-false (begins_part u t) _ _ other ∙ is
 
-short_apart : Apart short_units
+pub short_apart : Apart short_units
 short_apart = ((refl, (refl, (refl, (refl, tt)))), ((refl, (refl, (refl, tt))), ((refl, (refl, tt)), ((refl, tt), (tt, tt)))))
 
 -- a text of parts that is read as n

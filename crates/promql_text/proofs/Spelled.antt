@@ -17,14 +17,14 @@ first_digit : (ds : Text) → 0 < length ds → AllDigits 10 ds → is_ascii_dig
 first_digit ds some digits = ap (λ s. is_ascii_digit (front s)) (sym (append-nil ds)) ∙ front_digit ds [] some digits
 
 -- a sign in front of digits
-record Signs (b : Bool) (t x : Text) : Type 0 where
-  rest : unsigned t ≡ x
-  minus : is_minus t ≡ b
+pub record Signs (b : Bool) (t x : Text) : Type 0 where
+  pub rest : unsigned t ≡ x
+  pub minus : is_minus t ≡ b
 
 no_sign : (x : Text) → is_ascii_digit (front x) ≡ true → Signs false x x
 no_sign x digit = record { rest = ap (λ b. cond b (drop 1 x) x) (digit_no_sign x digit); minus = digit_no_minus x digit }
 
-signs_at : (b : Bool) (s t x : Text) → s ≡ t → Signs b (t ++ x) x → Signs b (s ++ x) x
+pub signs_at : (b : Bool) (s t x : Text) → s ≡ t → Signs b (t ++ x) x → Signs b (s ++ x) x
 signs_at b s t x e h = let P : Text → Type 0 = λ z. Signs b (z ++ x) x in subst P (sym e) h
 
 signs : (b : Bool) (s x : Text) → IsSign b s → is_ascii_digit (front x) ≡ true → Signs b (s ++ x) x
@@ -98,14 +98,14 @@ behind p f e is stops no_point =
     behind_at p [] (f ++ e) none.0 (subst P (sym none.1) (record { stops = stops; past = no_point })))
     is
 
-abbrev made : Text → Text → Bool → Text → Numeral
+abbrev pub made : Text → Text → Bool → Text → Numeral
 made w f d x = record { whole = w; fraction = f; is_down = d; exponent = x }
 
-abbrev assembled : Text → Text → Text → Option Numeral
+abbrev pub assembled : Text → Text → Text → Option Numeral
 assembled t b e =
     cond ((is_ascii_digit (front t) || is_ascii_digit (front b)) && ends_well e) (Some (made (digit_run t) (digit_run b) (is_minus (drop 1 e)) (digit_run (unsigned (drop 1 e))))) None
 
-numeral_is : (t : Text) → numeral t ≡ assembled t (past_point (past_run t)) (past_run (past_point (past_run t)))
+pub numeral_is : (t : Text) → numeral t ≡ assembled t (past_point (past_run t)) (past_run (past_point (past_run t)))
 unfolding numeral
 numeral_is t = refl
 
@@ -134,7 +134,7 @@ spelled_reads t n s =
 
 -- ---- what is read so is spelled so
 
-cut : (t : Text) → t ≡ digit_run t ++ past_run t
+pub cut : (t : Text) → t ≡ digit_run t ++ past_run t
 cut t = sym (take-append-drop (prefix_len is_ascii_digit t) t)
 
 past_ends_at : (c : ℕ) (z : Text) (b : Bool) → is_ascii_digit c ≡ b → is_ascii_digit (front (past_run z)) ≡ false → is_ascii_digit (front (past_run (c ∷ z))) ≡ false
@@ -145,7 +145,7 @@ past_ends : (t : Text) → is_ascii_digit (front (past_run t)) ≡ false
 past_ends [] = refl
 past_ends (c ∷ z) = past_ends_at c z (is_ascii_digit c) refl (past_ends z)
 
-run_some : (t : Text) → is_ascii_digit (front t) ≡ true → 0 < length (digit_run t)
+pub run_some : (t : Text) → is_ascii_digit (front t) ≡ true → 0 < length (digit_run t)
 run_some [] digit = cc
 run_some (c ∷ z) digit = rw (digit_run_digit c z digit) (omega arith)
 
@@ -174,27 +174,27 @@ pointed : (t : Text) → is_ascii_digit (front t) ≡ false → Pointed t
 pointed [] stops = record { point = []; is = refl; has = inr (refl, refl) }
 pointed (c ∷ z) stops = pointed_at c z (c == 46) refl stops
 
-both : (x y : Bool) → (x && y) ≡ true → (x ≡ true) × (y ≡ true)
+pub both : (x y : Bool) → (x && y) ≡ true → (x ≡ true) × (y ≡ true)
 both true y h = (refl, h)
 both false y h = absurd cc
 
-either : (x y : Bool) → (x || y) ≡ true → (x ≡ true) ⊎ (y ≡ true)
+pub either : (x y : Bool) → (x || y) ≡ true → (x ≡ true) ⊎ (y ≡ true)
 either true y h = inl refl
 either false y h = inr h
 
-nothing_left : (t : Text) → (length t == 0) ≡ true → t ≡ []
+pub nothing_left : (t : Text) → (length t == 0) ≡ true → t ≡ []
 nothing_left [] h = refl
 nothing_left (c ∷ t) h = absurd (let e = eqb-true (length (c ∷ t)) 0 h in omega (arith, e))
 
-record SignCut (z : Text) : Type 0 where
-  sign : Text
-  is : z ≡ sign ++ unsigned z
-  has : IsSign (is_minus z) sign
+pub record SignCut (z : Text) : Type 0 where
+  pub sign : Text
+  pub is : z ≡ sign ++ unsigned z
+  pub has : IsSign (is_minus z) sign
 
 sign_has : (b d : Bool) (s : Text) → b ≡ d → IsSign d s → IsSign b s
 sign_has b d s e h = let P : Bool → Type 0 = λ x. IsSign x s in subst P (sym e) h
 
-sign_at : (d : ℕ) (z : Text) (plus minus : Bool) → (d == 43) ≡ plus → (d == 45) ≡ minus → SignCut (d ∷ z)
+pub sign_at : (d : ℕ) (z : Text) (plus minus : Bool) → (d == 43) ≡ plus → (d == 45) ≡ minus → SignCut (d ∷ z)
 sign_at d z true true p m = absurd (let e = eqb-true d 43 p in let f = eqb-true d 45 m in omega (arith, e, f))
 sign_at d z true false p m = record {
   sign = 43 ∷ [];
@@ -248,7 +248,7 @@ some_run t b h =
     ⊎_elim (λ left. let k = run_some t left in omega (arith, k)) (λ right. let k = run_some b right in omega (arith, k))
     (either (is_ascii_digit (front t)) (is_ascii_digit (front b)) h)
 
-given : (x : Bool) (r n : Numeral) → cond x (Some r) None ≡ Some n → (x ≡ true) × (r ≡ n)
+pub given : (x : Bool) (r n : Numeral) → cond x (Some r) None ≡ Some n → (x ≡ true) × (r ≡ n)
 given true r n is = (refl, cc)
 given false r n is = absurd cc
 

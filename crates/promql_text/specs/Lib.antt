@@ -1,12 +1,14 @@
 pub mod Bytes
 pub mod DecimalForm
 pub mod DecimalParts
+pub mod DurationForms
 pub mod DurationReaders
 pub mod DurationText
 pub mod Durations
 pub mod Equalities
 pub mod Millis
 pub mod NumberDigits
+pub mod NumberForms
 pub mod NumberText
 pub mod Numbers
 pub mod QuoteReaders
@@ -16,6 +18,7 @@ pub mod Rounding
 pub mod Significands
 pub mod Spelling
 pub mod Spellings
+pub mod TextRows
 pub mod Texts
 pub mod Values
 pub mod Widths

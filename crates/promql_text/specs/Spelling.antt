@@ -1,8 +1,9 @@
 -- How the decimal form is spelled: a relation between texts and what they are (docs/TEXTS.md, "The decimal form").
-use Rattle.std.specs.Prelude.{◌≡◌, ◌⊎◌, ◌↔◌, ℕ, ◌+◌, ◌<◌, Bool, true, false, [], ◌∷◌, ◌++◌, length, Some}
+use Rattle.std.specs.Prelude.{◌≡◌, ◌⊎◌, ◌↔◌, ℕ, ◌+◌, ◌<◌, Bool, true, false, [], ◌∷◌, ◌++◌, length, codes, Some}
+use Rattle.std.specs.Str.{str_to_ascii_lowercase}
 use Rattle.std.specs.Str.Parse.{AllDigits}
 use Rattle.promql_text.specs.Texts.{Text}
-use Rattle.promql_text.specs.DecimalForm.{Numeral, numeral}
+use Rattle.promql_text.specs.DecimalForm.{Numeral, numeral, Reading, NotANumber, Infinite, Finite, Signed, decimal_form}
 
 -- `-`, or `+` or nothing
 abbrev pub IsSign : Bool → Text → Type 0
@@ -42,3 +43,20 @@ pub record Spells (n : Numeral) (t : Text) : Type 0 where
 
 abbrev pub NumeralsAreSpelled : Type 0
 NumeralsAreSpelled = (t : Text) (n : Numeral) → (numeral t ≡ Some n) ↔ Spells n t
+
+-- `nan`, `inf` or `infinity` in any case, or a numeral
+abbrev pub IsReading : Reading → Text → Type 0
+IsReading NotANumber t = str_to_ascii_lowercase t ≡ codes "nan"
+IsReading Infinite t = (str_to_ascii_lowercase t ≡ codes "inf") ⊎ (str_to_ascii_lowercase t ≡ codes "infinity")
+IsReading (Finite n) t = Spells n t
+
+-- a sign or none, and one of these
+pub record IsDecimalForm (f : Signed) (t : Text) : Type 0 where
+  pub sign : Text
+  pub body : Text
+  pub is : t ≡ sign ++ body
+  pub is_sign : IsSign f.is_negative sign
+  pub is_body : IsReading f.reading body
+
+abbrev pub FormsAreSpelled : Type 0
+FormsAreSpelled = (t : Text) (f : Signed) → (decimal_form t ≡ Some f) ↔ IsDecimalForm f t

@@ -3,13 +3,16 @@
 ghost use Rattle.std.specs.Prelude.{◌≡◌, ℕ, ◌+◌, ◌*◌, ◌^◌, ◌<◌, List, Ok, Some, encode_utf8_all};
 ghost use Rattle.std.specs.Str.{IsUtf8};
 ghost use Rattle.promql_text.specs.Durations.{duration_of};
+ghost use Rattle.promql_text.specs.DurationForms.{DurationsAreTold};
 ghost use Rattle.promql_text.specs.DurationText.{duration_text};
 ghost use Rattle.promql_text.specs.Quoting as quoting;
 ghost use Rattle.promql_text.specs.Spellings.{IsQuotedText};
+ghost use Rattle.promql_text.specs.NumberForms.{DigitsAreSummed, NumbersAreTold};
 ghost use Rattle.promql_text.specs.NumberText.{read_number, number_text};
 ghost use Rattle.promql_text.specs.Texts.{Text};
 ghost use Rattle.promql_text.specs.Numbers.{Exact, IsExact, seconds_of};
-ghost use Rattle.promql_text.specs.Spelling.{NumeralsAreSpelled};
+ghost use Rattle.promql_text.specs.Spelling.{FormsAreSpelled, NumeralsAreSpelled};
+ghost use Rattle.promql_text.specs.TextRows.{WorkedDurations, WorkedNumbers};
 ghost use Rattle.promql_text.specs.Values.{IsNumber, SameValue, neg};
 ghost use Rattle.promql_text.specs.Equalities.{HashesAlike, IsSameBy};
 ghost use Rattle.promql_text.specs.declared.number.Number.{Number};
@@ -74,6 +77,36 @@ pub fn seconds_are_exact()
 /// exponent or none.
 pub fn numerals_are_spelled()
     ensures { NumeralsAreSpelled }
+{}
+
+/// A text is of the decimal form exactly if it is spelled so: a sign or none, and `nan`, `inf` or
+/// `infinity` in any case, or a numeral.
+pub fn decimal_forms_are_spelled()
+    ensures { FormsAreSpelled }
+{}
+
+/// A text is a duration of so many nanoseconds exactly if it is parts in the order of the units,
+/// each unit at most once, that are so many together, or a numeral of so many seconds, rounded;
+/// and it has a fault exactly if that fault's own rule fits.
+pub fn durations_are_told()
+    ensures { DurationsAreTold }
+{}
+
+/// A text gives a number exactly if it is, but for white space, a hexadecimal, an octal or a
+/// decimal text of that number's value; and it has a fault exactly if that fault's own rule fits.
+pub fn numbers_are_told()
+    ensures { NumbersAreTold }
+{}
+
+/// The value of digits is the sum of each digit times its power of the radix.
+pub fn digits_are_summed()
+    ensures { DigitsAreSummed }
+{}
+
+/// What the relations say of worked texts.
+pub fn worked_texts()
+    ensures durations { WorkedDurations }
+    ensures numbers { WorkedNumbers }
 {}
 
 /// Decimals are equal exactly if they are one number, and then they are hashed alike.

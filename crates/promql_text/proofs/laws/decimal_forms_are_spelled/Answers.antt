@@ -1,0 +1,5 @@
+use Rattle.promql_text.proofs.SpelledForms.{forms_spelled}
+use Rattle.promql_text.proofs.laws.decimal_forms_are_spelled.Goals as goal
+
+pub returns : goal.returns
+returns c = forms_spelled
