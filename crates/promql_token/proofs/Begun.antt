@@ -1,10 +1,8 @@
 -- What a text begins with in a state, in both directions.
-use Rattle.std.proofs.Common.{◌≡◌, ℕ, zero, suc, ◌<◌, Bool, true, false, List, [], ◌∷◌, ◌++◌, length, take, drop, Ok, Err, refl, sym, ap, ◌∙◌, subst, arith}
+use Rattle.std.proofs.Common.{◌≡◌, ℕ, zero, suc, ◌<◌, false, [], ◌∷◌, ◌++◌, length, take, drop, Ok, Err, refl, subst, arith}
 use Rattle.std.specs.Prelude.{◌==◌}
 use Rattle.std.proofs.Math.Seq.{take-append_seam, drop-append_seam}
 use Rattle.std.proofs.lemmas.Bool.{cond_both}
-use Rattle.std.proofs.lemmas.Grind.{common_steps}
-use Rattle.promql_token.specs.declared.fault.LexFaultKind.{LexFaultKind}
 use Rattle.promql_token.specs.declared.state.Mode.{Mode}
 use Rattle.promql_token.specs.declared.state.Mode.TheVariants as mode
 use Rattle.promql_token.specs.declared.state.State.{State}
@@ -12,6 +10,7 @@ use Rattle.promql_text.specs.Texts.{Text}
 use Rattle.promql_token.specs.Begins.{Begins, MayBegin}
 use Rattle.promql_token.specs.FaultPlaces.{Faults, IsFault}
 use Rattle.promql_token.specs.Pieces.{Piece, begun, end_in, piece}
+use Rattle.promql_token.proofs.Choices.{not_zero}
 use Rattle.promql_token.proofs.FaultsRead.{fault_read}
 use Rattle.promql_token.proofs.Inner.{Inner, begun_inner}
 use Rattle.promql_token.proofs.Read.{begun_read}
@@ -22,9 +21,6 @@ use Rattle.promql_token.proofs.SignRows.{Says}
 abbrev PieceSays : Mode → ℕ → Text → Piece → Type 0
 PieceSays m depth z (Ok t) = (t.0 == 6) ≡ false → MayBegin m depth t.0 (take t.1 z) (drop t.1 z)
 PieceSays m depth z (Err f) = IsFault f.0 m depth (take f.1 z) (drop f.1 z)
-
-not_zero : (n : ℕ) → (suc n == 0) ≡ false
-not_zero n = grind (arith, common_steps)
 
 end_said : (m : Mode) (depth : ℕ) → PieceSays m depth [] (end_in m depth)
 end_said mode.Outside zero = λ no. absurd (cc)
@@ -61,8 +57,8 @@ begins state id w r = (λ h. piece_begins state id w r h.0 h.1, λ h. let read =
 pub faults : Faults
 faults state kind u v = (
   λ is.
-  let m = state.mode in
-  let said = subst (PieceSays m state.depth (u ++ v)) is (piece_said state (u ++ v)) in
-  subst (λ u2. IsFault kind m state.depth u2 v) (take-append_seam u v) (subst (IsFault kind m state.depth (take (length u) (u ++ v))) (drop-append_seam u v) said),
+      let m = state.mode in
+      let said = subst (PieceSays m state.depth (u ++ v)) is (piece_said state (u ++ v)) in
+      subst (λ u2. IsFault kind m state.depth u2 v) (take-append_seam u v) (subst (IsFault kind m state.depth (take (length u) (u ++ v))) (drop-append_seam u v) said),
   λ h. fault_read kind state.mode state.depth u v h,
 )

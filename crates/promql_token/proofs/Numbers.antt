@@ -1,21 +1,20 @@
 -- The number that a text begins with, by its parts.
-use Rattle.std.proofs.Common.{◌≡◌, ℕ, zero, suc, ◌+◌, ◌-◌, ◌<◌, ◌≤◌, Bool, true, false, cond, List, [], ◌∷◌, ◌++◌, length, get_or, take, drop, refl, sym, ap, ◌∙◌, subst, inl, inr, ◌⊎◌, ⊎_elim, arith, append_assoc, length-append, zero-add, eqb-true}
-use Rattle.std.specs.Prelude.{◌==◌, not, ◌&&◌, ◌||◌}
+use Rattle.std.proofs.Common.{◌≡◌, ℕ, suc, ◌+◌, ◌<◌, Bool, true, false, cond, [], ◌∷◌, ◌++◌, length, get_or, refl, sym, ap, ◌∙◌, subst, inl, inr, ◌⊎◌, ⊎_elim, arith, append_assoc, length-append, eqb-true}
+use Rattle.std.specs.Prelude.{◌==◌, ◌&&◌, ◌||◌}
 use Rattle.std.specs.Char.{is_ascii_digit}
-use Rattle.std.specs.List.{list_all, prefix_len}
-use Rattle.std.proofs.lemmas.Bool.{cond_both}
+use Rattle.std.specs.List.{list_all}
 use Rattle.std.proofs.lemmas.Grind.{common_steps}
 use Rattle.promql_token.specs.declared.class.Class.{Class}
 use Rattle.promql_token.specs.declared.class.Class.TheVariants as class
 use Rattle.promql_text.specs.Texts.{Text}
-use Rattle.promql_token.specs.Begins.{IsDecimal, IsHex, IsNumber, is_fraction, is_power}
+use Rattle.promql_token.specs.Begins.{IsNumber, is_fraction, is_power}
 use Rattle.promql_token.specs.Classes.{is_in, past}
-use Rattle.promql_token.specs.Gaps.{next}
+use Rattle.promql_token.specs.Vocabulary.{next}
 use Rattle.promql_token.specs.Laws.{is_exponent, is_sign}
 use Rattle.promql_token.specs.Pieces.{begins_numeral, digits, is_hex, number_end, past_exponent, past_point, past_sign, past_whole}
 use Rattle.promql_token.specs.Printed.{are_digits}
+use Rattle.promql_token.proofs.Choices.{not_one, split}
 use Rattle.promql_token.proofs.Ends.{and_left, and_right, or_cases}
-use Rattle.promql_token.proofs.Gaps.{split}
 use Rattle.promql_token.proofs.Printed.{at_seam, no_hex, past_behind, past_front}
 
 -- ---- runs
@@ -213,9 +212,6 @@ record PowerOf (t : Text) : Type 0 where
   no_power : power ≡ [] → is_exponent (next rest) ≡ false
   stop : is_ascii_digit (next rest) ≡ false
   no_sign : (length power == 1 && is_sign (next rest)) ≡ false
-
-not_one : (n : ℕ) → (suc (suc n) == 1) ≡ false
-not_one n = grind (arith, common_steps)
 
 long_power : (e b : ℕ) (t : Text) → is_exponent e ≡ true → (is_sign b || is_ascii_digit b) ≡ true → PowerOf (e ∷ b ∷ t)
 long_power e b t exp first =

@@ -1,6 +1,6 @@
 -- Signs by their table, and the faults at them.
-use Rattle.std.proofs.Common.{◌≡◌, ℕ, zero, suc, ◌+◌, ◌-◌, ◌<◌, ◌≤◌, Bool, true, false, cond, List, [], ◌∷◌, ◌++◌, length, get_or, take, drop, Option, Some, None, Ok, Err, refl, sym, ap, ◌∙◌, subst, inl, inr, ◌⊎◌, ⊎_elim, arith, eqb-true}
-use Rattle.std.specs.Prelude.{◌==◌, not, ◌&&◌, ◌||◌, codes, slice_get}
+use Rattle.std.proofs.Common.{◌≡◌, ℕ, zero, suc, ◌<◌, true, false, cond, List, [], ◌∷◌, length, take, drop, Some, Ok, Err, refl, ap, subst, inl, inr, arith, eqb-true}
+use Rattle.std.specs.Prelude.{◌==◌, ◌||◌, slice_get}
 use Rattle.std.specs.Char.{is_ascii_digit}
 use Rattle.std.specs.List.{list_any}
 use Rattle.std.proofs.lemmas.Bool.{cond_both}
@@ -14,9 +14,10 @@ use Rattle.promql_token.specs.declared.state.Mode.TheVariants as mode
 use Rattle.promql_text.specs.Texts.{Text}
 use Rattle.promql_token.specs.Begins.{Sign, signs, signs_outside, IsOneOf, MayBegin}
 use Rattle.promql_token.specs.Classes.{is_in}
-use Rattle.promql_token.specs.FaultPlaces.{IsFault, begins_inside}
-use Rattle.promql_token.specs.Gaps.{next}
-use Rattle.promql_token.specs.Pieces.{Piece, is_quote, bang_in_braces, bang_sign, colon_sign, dot_sign, equal_sign, or_equal, sign, single}
+use Rattle.promql_token.specs.FaultPlaces.{IsFault}
+use Rattle.promql_token.specs.Vocabulary.{next}
+use Rattle.promql_token.specs.Pieces.{Piece, is_quote, bang_in_braces, bang_sign, colon_sign, dot_sign, equal_sign, or_equal, sign}
+use Rattle.promql_token.proofs.Choices.{not_one}
 
 -- what a piece says of its text
 abbrev pub Says : Mode → ℕ → Text → Piece → Type 0
@@ -47,9 +48,6 @@ second n (c ∷ y) e some = (y, ap (λ c. c ∷ y) (eqb-true c n e))
 
 two_bytes : (b n m : ℕ) (y : Text) → (b == n) ≡ true → (next y == m) ≡ true → 0 < m → take 2 (b ∷ y) ≡ n ∷ m ∷ []
 two_bytes b n m y e f some = let s = second m y f some in (λ i. take 2 (eqb-true b n e i ∷ s.1 i))
-
-not_one : (n : ℕ) → (suc (suc n) == 1) ≡ false
-not_one n = grind (arith, common_steps)
 
 -- ---- outside
 
@@ -112,9 +110,11 @@ sign_says depth b y no_word no_quote no_digit =
     cond_both (b == 40) _ _ P (row 10 40 _ refl) (λ n40.
     cond_both (b == 41) _ _ P (λ e. right_says depth b y e) (λ n41.
     cond_both (b == 125) _ _ P (λ e. (refl, e)) (λ n125.
-    cond_both (b == 93) _ _ P (λ e. (refl, e)) (λ n93.
-    (refl, omega arith,
-     (λ i. no_word i || (no_quote i || (n46 i || (n64 i || (n44 i || (n42 i || (n47 i || (n37 i || (n43 i || (n45 i || (n94 i || (n123 i || (n91 i || (n40 i || (n41 i || (n125 i || (n93 i || (n61 i || (n33 i || (n60 i || (n62 i || false))))))))))))))))))))))
+    cond_both (b == 93) _ _ P (λ e. (refl, e)) (λ n93. (
+      refl,
+      omega arith,
+      (λ i. no_word i || (no_quote i || (n46 i || (n64 i || (n44 i || (n42 i || (n47 i || (n37 i || (n43 i || (n45 i || (n94 i || (n123 i || (n91 i || (n40 i || (n41 i || (n125 i || (n93 i || (n61 i || (n33 i || (n60 i || (n62 i || false))))))))))))))))))))),
+    )
     )))))))))))))))))))
 
 -- ---- in braces

@@ -1,5 +1,5 @@
--- What is read behind a quote: a string by its spellings, or a fault.
-use Rattle.std.proofs.Common.{◌≡◌, ℕ, zero, suc, ◌+◌, ◌-◌, ◌<◌, ◌≤◌, Bool, true, false, cond, List, [], ◌∷◌, ◌++◌, length, get_or, take, drop, Ok, Err, refl, sym, ap, ◌∙◌, subst, inl, inr, ◌⊎◌, ⊎_elim, arith, append_assoc, length-append, zero-add}
+-- What is read after a quote: a string by its spellings, or a fault.
+use Rattle.std.proofs.Common.{◌≡◌, ℕ, suc, ◌+◌, ◌<◌, Bool, true, false, cond, List, [], ◌∷◌, ◌++◌, length, get_or, take, drop, Ok, Err, refl, sym, ap, ◌∙◌, subst, inl, inr, ◌⊎◌, ⊎_elim, arith, append_assoc, length-append}
 use Rattle.std.specs.Prelude.{◌==◌, not, ◌&&◌, ◌||◌}
 use Rattle.std.specs.List.{list_all}
 use Rattle.std.proofs.Math.Seq.{take-append_seam, drop-append_seam}
@@ -10,17 +10,17 @@ use Rattle.promql_token.specs.declared.ids.TheConstants.{T_STRING}
 use Rattle.promql_text.specs.Texts.{Text}
 use Rattle.promql_token.specs.Begins.{IsBody, IsString, has_escapes}
 use Rattle.promql_token.specs.FaultPlaces.{IsEscaping}
-use Rattle.promql_token.specs.Gaps.{next}
+use Rattle.promql_token.specs.Vocabulary.{next}
 use Rattle.promql_token.specs.Pieces.{Piece, is_escape, is_quote, string, string_from}
 use Rattle.promql_token.specs.Printed.{is_spelling, joined}
+use Rattle.promql_token.proofs.Choices.{same_number, split}
 use Rattle.promql_token.proofs.Ends.{and_left, and_right, or_cases}
-use Rattle.promql_token.proofs.Gaps.{split}
 use Rattle.promql_token.proofs.Steps.{not_true}
 
 abbrev AreSpelled : ℕ → List Text → Type 0
 AreSpelled quote ps = (has_escapes quote ≡ true) × (list_all (is_spelling quote) ps ≡ true)
 
--- what is read of a text behind a quote
+-- what is read of a text after a quote
 data Reads (quote at : ℕ) (z : Text) (p : Piece) : Type 0 where
   closed : (body r : Text) → IsBody quote body → z ≡ body ++ quote ∷ r → p ≡ Ok (T_STRING, at + length body + 1) → Reads quote at z p
   unclosed : IsBody quote z → p ≡ Err (OpenString, 0) → Reads quote at z p
@@ -119,8 +119,8 @@ both quote [] at h = (
 both quote (b ∷ z) at h = (
   plain_step quote at b z h (λ n. both quote z n h),
   λ esc. cond_both (is_escape quote b) _ _ (Reads quote at (92 ∷ b ∷ z))
-  (λ e. longer quote at (at + 1 + 1) (92 ∷ b ∷ []) z _ (inr (esc, pair_front quote b esc e)) (omega arith) (both quote z (at + 1 + 1) h).0)
-  (λ other. let same : at + 1 ≡ at + 0 + 1 = omega arith in unknown [] (b ∷ z) (esc, refl) refl (omega arith) other (ap (λ n. Err (Escape, n)) same)),
+      (λ e. longer quote at (at + 1 + 1) (92 ∷ b ∷ []) z _ (inr (esc, pair_front quote b esc e)) (omega arith) (both quote z (at + 1 + 1) h).0)
+      (λ other. let same : at + 1 ≡ at + 0 + 1 = omega arith in unknown [] (b ∷ z) (esc, refl) refl (omega arith) other (ap (λ n. Err (Escape, n)) same)),
 )
 
 -- ---- what it says
@@ -231,9 +231,6 @@ body_passed : (quote : ℕ) (body z : Text) (at : ℕ) → IsBody quote body →
 body_passed quote body z at (inl b) = raw_passed quote body z at b.0 b.1
 body_passed quote body z at (inr b) = subst (λ t. string_from quote false at (t ++ z) ≡ string_from quote false (at + length t) z) (sym b.3) (spelled_passed quote b.1 z at b.0 b.2)
 
-same_byte : (n : ℕ) → (n == n) ≡ true
-same_byte n = grind (arith, common_steps)
-
 pub body_quote : (quote : ℕ) (body : Text) → IsBody quote body → is_quote quote ≡ true
 body_quote quote body (inl b) = let h = b.0 in grind (arith, common_steps)
 body_quote quote body (inr b) = let h = b.0 in grind (arith, common_steps)
@@ -247,7 +244,7 @@ unfolding string
 string_closed quote body r b =
     let len : 1 + length body + 1 ≡ suc (length (body ++ quote ∷ [])) = omega (arith, length-append body (quote ∷ [])) in
     ap (string_from quote false 1) (append_assoc body (quote ∷ []) r) ∙ body_passed quote body (quote ∷ r) 1 b
-    ∙ ap (λ c. cond c (Ok (T_STRING, 1 + length body + 1)) (string_from quote ((quote == 92) && not (quote == 96)) (1 + length body + 1) r)) (same_byte quote)
+    ∙ ap (λ c. cond c (Ok (T_STRING, 1 + length body + 1)) (string_from quote ((quote == 92) && not (quote == 96)) (1 + length body + 1) r)) (same_number quote)
     ∙ ap (λ n. Ok (T_STRING, n)) len
 
 pub string_unclosed : (quote : ℕ) (body : Text) → IsBody quote body → string (quote ∷ body) ≡ Err (OpenString, 0)

@@ -1,5 +1,5 @@
 -- The items of a text are the one way to read it.
-use Rattle.std.proofs.Common.{◌≡◌, ℕ, zero, suc, ◌+◌, ◌-◌, ◌<◌, ◌≤◌, Bool, true, false, cond, List, [], ◌∷◌, ◌++◌, length, take, drop, map, Result, Ok, Err, refl, sym, ap, ◌∙◌, subst, inl, inr, ◌⊎◌, ⊎_elim, arith, length-drop, length-append, length-take-le, eqb-true, add-zero, zero-add}
+use Rattle.std.proofs.Common.{◌≡◌, ℕ, zero, suc, ◌+◌, ◌≤◌, true, false, cond, List, [], ◌∷◌, ◌++◌, length, take, drop, map, Result, Ok, Err, refl, sym, ap, ◌∙◌, subst, inl, inr, ◌⊎◌, ⊎_elim, arith, length-drop, length-append, length-take-le, eqb-true, zero-add}
 use Rattle.std.specs.Prelude.{◌==◌, not}
 use Rattle.std.proofs.Math.Seq.{take-append_seam, drop-append_seam, take-length}
 use Rattle.std.proofs.lemmas.Bool.{cond_both}
@@ -16,15 +16,16 @@ use Rattle.promql_token.specs.Begins.{MayBegin}
 use Rattle.promql_token.specs.Cut.{mode_at, state_at, ids_behind}
 use Rattle.promql_token.specs.FaultPlaces.{IsFault}
 use Rattle.promql_token.specs.Gaps.{IsGapIn}
-use Rattle.promql_token.specs.Lexing.{What, Found, what, found, len_of, goes_on, behind, cut, start, lex, items, item, placed, collected, with_front, shown}
-use Rattle.promql_token.specs.Pieces.{Piece, piece, after_gap, after, begun, end_in, gap_len}
-use Rattle.promql_token.specs.TokenLists.{Step, state_after, IsRead, IsEnd, EndsIn, places, to_end, OnlyTokens, OnlyFault, OnlyItems}
+use Rattle.promql_token.specs.Lexing.{Found, What, behind, collected, cut, found, goes_on, items, len_of, lex, placed, result_sliced, shown, sliced, start, text_at, what, whats, with_front}
+use Rattle.promql_token.specs.Pieces.{Piece, piece, after_gap, after, end_in, gap_len}
+use Rattle.promql_token.specs.TokenLists.{Step, state_after, IsRead, IsEnd, EndsIn, places, to_end, OnlyTokens, OnlyFault, OnlyTexts, OnlyWhats, OnlyItems}
 use Rattle.promql_token.proofs.Begun.{begins_piece, faults, piece_begins}
+use Rattle.promql_token.proofs.Choices.{split}
 use Rattle.promql_token.proofs.Ends.{PieceEnds, piece_ends}
-use Rattle.promql_token.proofs.Gaps.{gap_passed, is_gap, split}
+use Rattle.promql_token.proofs.Gaps.{gap_passed, is_gap}
 use Rattle.promql_token.proofs.Inner.{Inner, begun_inner}
-use Rattle.promql_token.proofs.Places.{Ends, gap_len_ends}
-use Rattle.promql_token.proofs.Steps.{cut_is}
+use Rattle.promql_token.proofs.Places.{gap_len_ends}
+use Rattle.promql_token.proofs.Steps.{cut_is, whats_is}
 use Rattle.promql_token.proofs.Told.{IsAt, at_start, is_state, next_at}
 
 -- ---- what is read
@@ -72,7 +73,7 @@ gap_depth : (n : ℕ) (state : State) → (after_gap n state).depth ≡ state.de
 unfolding after_gap
 gap_depth n state = cond_both (n == 0) _ _ (λ (s : State). s.depth ≡ state.depth) (λ _. refl) (λ _. refl)
 
--- what is behind a gap of n bytes, and the gap
+-- what is after a gap of n bytes, and the gap
 record Behind (before : List ℕ) (state : State) (z : Text) (n : ℕ) : Type 0 where
   at : IsAt before state
   fits : n ≤ length z
@@ -126,11 +127,14 @@ told_fault before state at z n f k is =
     let same : s ≡ state_after before g = gap_state before state g n k.at (sym (length-take-le n z fits)) in
     let place : at + n + f.1 + length v ≡ at + length z = omega (arith, length-drop f.1 rest, length-drop n z) in
     let e : LexFault = record { kind = f.0; at = at + n + f.1; ch = shown f.0 v } in
-    inr (e, [],
+    inr (
+      e,
+      [],
       (g, u, v, sym (take-append-drop n z) ∙ ap (λ r. g ++ r) seam, subst (IsGapIn (mode_at before) g) seam k.gap, subst (λ (s : State). IsFault f.0 s.mode s.depth u v) same here, place, refl),
-      refl)
+      refl,
+    )
 
--- a token, and what is read behind it
+-- a token, and what is read after it
 told_token : (before : List ℕ) (state : State) (at : ℕ) (z : Text) (n : ℕ) (t : ℕ × ℕ) (rs : List (Result Lexeme LexFault)) → Behind before state z n → piece (after_gap n state) (drop n z) ≡ Ok t → (t.0 == 6) ≡ false
     → let w = take t.1 (drop n z) in IsTold (t.0 ∷ before) (at + n + length w) (drop (n + length w) z) rs
     → IsTold before at z (Ok (record { id = t.0; start = at + n; len = length w }) ∷ rs)
@@ -156,12 +160,19 @@ told_token before state at z n t rs k is more rest_told =
     let step : Step = (g, t.0, w) in
     let from : at + length g + length w ≡ at + n + length w = ap (λ k. at + k + length w) g_len in
     ⊎_elim
-    (λ e. inl (step ∷ e.0, (r, whole, gap, begins, e.1),
+    (λ e. inl (
+      step ∷ e.0,
+      (r, whole, gap, begins, e.1),
       ap (λ rs. Ok (record { id = t.0; start = at + n; len = length w }) ∷ rs) e.2
-      ∙ (λ i. Ok (record { id = t.0; start = at + sym g_len i; len = length w }) ∷ map (λ x. Ok x) (places (sym from i) e.0 ++ record { id = 6; start = total i; len = 0 } ∷ []))))
-    (λ e. inr (e.0, step ∷ e.1, (r, whole, gap, begins, subst (λ n. IsRead (EndsIn e.0 n) (t.0 ∷ before) r e.1) total e.2),
+          ∙ (λ i. Ok (record { id = t.0; start = at + sym g_len i; len = length w }) ∷ map (λ x. Ok x) (places (sym from i) e.0 ++ record { id = 6; start = total i; len = 0 } ∷ [])),
+    ))
+    (λ e. inr (
+      e.0,
+      step ∷ e.1,
+      (r, whole, gap, begins, subst (λ n. IsRead (EndsIn e.0 n) (t.0 ∷ before) r e.1) total e.2),
       ap (λ rs. Ok (record { id = t.0; start = at + n; len = length w }) ∷ rs) e.3
-      ∙ (λ i. Ok (record { id = t.0; start = at + sym g_len i; len = length w }) ∷ (map (λ x. Ok x) (places (sym from i) e.1) ++ Err e.0 ∷ []))))
+          ∙ (λ i. Ok (record { id = t.0; start = at + sym g_len i; len = length w }) ∷ (map (λ x. Ok x) (places (sym from i) e.1) ++ Err e.0 ∷ [])),
+    ))
     (subst (λ r. IsTold (t.0 ∷ before) (at + n + length w) r rs) behind_it rest_told)
 
 told_piece : (before : List ℕ) (state : State) (at : ℕ) (z : Text) (n : ℕ) (p : Piece) (fs : List Found) → Behind before state z n → piece (after_gap n state) (drop n z) ≡ p
@@ -194,7 +205,7 @@ told (f ∷ fs) before state at z h is =
 
 -- ---- and nothing else
 
--- what is found, where the gap and what is behind it are known
+-- what is found, where the gap and what is after it are known
 found_is : (before : List ℕ) (state : State) (g r : Text) → IsAt before state → IsGapIn (mode_at before) g r → found state (g ++ r) ≡ record { gap = length g; what = what (piece (state_after before g) r) r }
 unfolding found
 found_is before state g r h gap =
@@ -202,6 +213,30 @@ found_is before state g r h gap =
     let rest : drop (gap_len state.mode (g ++ r)) (g ++ r) ≡ r = ap (λ n. drop n (g ++ r)) len ∙ drop-append_seam g r in
     let same : after_gap (gap_len state.mode (g ++ r)) state ≡ state_after before g = gap_state before state g (gap_len state.mode (g ++ r)) h len in
     λ i. record { gap = len i; what = what (piece (same i) (rest i)) (rest i) }
+
+-- what is found at a step
+record StepIs (before : List ℕ) (state : State) (z : Text) (t : Step) (r : Text) : Type 0 where
+  found : found state z ≡ record { gap = length t.0; what = Ok (t.1, t.2) }
+  goes : goes_on (Ok (t.1, t.2)) ≡ true
+  rest : drop (length t.0 + length t.2) z ≡ r
+  at : IsAt (t.1 ∷ before) (after state t.1)
+
+step_is : (before : List ℕ) (state : State) (z : Text) (t : Step) (r : Text) → IsAt before state → z ≡ t.0 ++ (t.2 ++ r) → IsGapIn (mode_at before) t.0 (t.2 ++ r)
+    → MayBegin (state_after before t.0).mode (state_after before t.0).depth t.1 t.2 r → StepIs before state z t r
+step_is before state z t r h is gap may =
+    let g = t.0 in
+    let id = t.1 in
+    let w = t.2 in
+    let s = state_after before g in
+    let begins = begins_piece s id w r may in
+    let what_is : what (piece s (w ++ r)) (w ++ r) ≡ Ok (id, w) = ap (λ p. what p (w ++ r)) begins.0 ∙ ap (λ w. Ok (id, w)) (take-append_seam w r) in
+    let f : found state z ≡ record { gap = length g; what = Ok (id, w) } = ap (found state) is ∙ found_is before state g (w ++ r) h gap ∙ ap (λ w. record { gap = length g; what = w }) what_is in
+    record {
+      found = f;
+      goes = ap not begins.1;
+      rest = ap (drop (length g + length w)) is ∙ sym (drop-drop (length w) (length g) (g ++ (w ++ r))) ∙ ap (drop (length w)) (drop-append_seam g (w ++ r)) ∙ drop-append_seam w r;
+      at = next_at before state z (Ok (id, w)) h (ap (λ f. f.what) f);
+    }
 
 -- after steps, what is placed of the rest
 steps_placed : (Rest : List ℕ → Text → Type 0) (tail : List (Result Lexeme LexFault)) (total : ℕ) (ts : List Step) (before : List ℕ) (state : State) (at : ℕ) (z : Text)
@@ -213,22 +248,35 @@ steps_placed Rest tail total (t ∷ ts) before state at z last h len read =
     let id = t.1 in
     let w = t.2 in
     let r = read.0 in
-    let s = state_after before g in
-    let begins = begins_piece s id w r read.3 in
-    let what_is : what (piece s (w ++ r)) (w ++ r) ≡ Ok (id, w) = ap (λ p. what p (w ++ r)) begins.0 ∙ ap (λ w. Ok (id, w)) (take-append_seam w r) in
-    let f : found state z ≡ record { gap = length g; what = Ok (id, w) } = ap (found state) read.1 ∙ found_is before state g (w ++ r) h read.2 ∙ ap (λ w. record { gap = length g; what = w }) what_is in
-    let behind_it : drop (length g + length w) z ≡ r =
-    ap (drop (length g + length w)) read.1 ∙ sym (drop-drop (length w) (length g) (g ++ (w ++ r))) ∙ ap (drop (length w)) (drop-append_seam g (w ++ r)) ∙ drop-append_seam w r in
-    let goes : goes_on (Ok (id, w)) ≡ true = ap not begins.1 in
-    let next : IsAt (id ∷ before) (after state id) = next_at before state z (Ok (id, w)) h (ap (λ f. f.what) f) in
+    let k = step_is before state z t r h read.1 read.2 read.3 in
     let here : ℕ = at + length g + length w in
     let whole : length z ≡ length g + (length w + length r) = ap length read.1 ∙ length-append g (w ++ r) ∙ ap (λ n. length g + n) (length-append w r) in
-    let more = steps_placed Rest tail total ts (id ∷ before) (after state id) here r last next (omega arith) read.4 in
+    let more = steps_placed Rest tail total ts (id ∷ before) (after state id) here r last k.at (omega arith) read.4 in
     ap (placed at) (cut_is state z)
-    ∙ ap (λ f. placed at (f ∷ cond (goes_on f.what) (cut (behind state f.what) (drop (f.gap + len_of f.what) z)) [])) f
-    ∙ ap (λ b. placed at (record { gap = length g; what = Ok (id, w) } ∷ cond b (cut (after state id) (drop (length g + length w) z)) [])) goes
-    ∙ ap (λ r. Ok (record { id = id; start = at + length g; len = length w }) ∷ placed here (cut (after state id) r)) behind_it
+    ∙ ap (λ f. placed at (f ∷ cond (goes_on f.what) (cut (behind state f.what) (drop (f.gap + len_of f.what) z)) [])) k.found
+    ∙ ap (λ b. placed at (record { gap = length g; what = Ok (id, w) } ∷ cond b (cut (after state id) (drop (length g + length w) z)) [])) k.goes
+    ∙ ap (λ r. Ok (record { id = id; start = at + length g; len = length w }) ∷ placed here (cut (after state id) r)) k.rest
     ∙ ap (λ rs. Ok (record { id = id; start = at + length g; len = length w }) ∷ rs) more
+
+-- the same without places, up to a rest of which P holds
+steps_whats : (Rest : List ℕ → Text → Type 0) (P : List What → Type 0) (ts : List Step) (before : List ℕ) (state : State) (z : Text)
+    → ((before : List ℕ) (state : State) (z : Text) → IsAt before state → Rest before z → (tail : List What) × P tail × (whats state z ≡ tail))
+    → IsAt before state → IsRead Rest before z ts → (tail : List What) × P tail × (whats state z ≡ map (λ t. Ok (t.1, t.2)) ts ++ tail)
+steps_whats Rest P [] before state z last h read = last before state z h read
+steps_whats Rest P (t ∷ ts) before state z last h read =
+    let id = t.1 in
+    let w = t.2 in
+    let r = read.0 in
+    let k = step_is before state z t r h read.1 read.2 read.3 in
+    let more = steps_whats Rest P ts (id ∷ before) (after state id) r last k.at read.4 in (
+      more.0,
+      more.1,
+      whats_is state z
+          ∙ ap (λ f. f.what ∷ cond (goes_on f.what) (whats (behind state f.what) (drop (f.gap + len_of f.what) z)) []) k.found
+          ∙ ap (λ b. Ok (id, w) ∷ cond b (whats (after state id) (drop (length t.0 + length w) z)) []) k.goes
+          ∙ ap (λ r. Ok (id, w) ∷ whats (after state id) r) k.rest
+          ∙ ap (λ ws. Ok (id, w) ∷ ws) more.2,
+    )
 
 outside_end : (n : ℕ) (s : State) → s.mode ≡ mode.Outside → s.depth ≡ 0 → after_gap n s ≡ record { depth = 0; mode = mode.Outside }
 unfolding after_gap
@@ -238,24 +286,18 @@ empty : what (piece (record { depth = 0; mode = mode.Outside }) []) [] ≡ Ok (6
 unfolding piece
 empty = refl
 
--- the end, in a text of this length
-end_placed : (total : ℕ) (before : List ℕ) (state : State) (at : ℕ) (z : Text) → IsAt before state → at + length z ≡ total → IsEnd before z
-    → placed at (cut state z) ≡ Ok (record { id = 6; start = total; len = 0 }) ∷ []
-end_placed total before state at z h len e =
-    let nil : z ++ [] ≡ z = append_nil z in
+append_nil : (t : Text) → t ++ [] ≡ t
+append_nil [] = refl
+append_nil (b ∷ t) = ap (λ t. b ∷ t) (append_nil t)
+
+end_found : (before : List ℕ) (state : State) (z : Text) → IsAt before state → IsEnd before z → found state z ≡ record { gap = length z; what = Ok (6, []) }
+end_found before state z h e =
     let at_rest : state_after before z ≡ record { depth = 0; mode = mode.Outside } = outside_end (length z) (state_at before) e.1 e.2 in
     let what_is : what (piece (state_after before z) []) [] ≡ Ok (6, []) = ap (λ s. what (piece s []) []) at_rest ∙ empty in
-    let f : found state z ≡ record { gap = length z; what = Ok (6, []) } = ap (found state) (sym nil) ∙ found_is before state z [] h e.0 ∙ ap (λ w. record { gap = length z; what = w }) what_is in
-    ap (placed at) (cut_is state z) ∙ ap (λ f. placed at (f ∷ cond (goes_on f.what) (cut (behind state f.what) (drop (f.gap + len_of f.what) z)) [])) f
-    ∙ ap (λ n. Ok (record { id = 6; start = n; len = 0 }) ∷ []) len
-  where
-    append_nil : (t : Text) → t ++ [] ≡ t
-    append_nil [] = refl
-    append_nil (b ∷ t) = ap (λ t. b ∷ t) (append_nil t)
+    ap (found state) (sym (append_nil z)) ∙ found_is before state z [] h e.0 ∙ ap (λ w. record { gap = length z; what = w }) what_is
 
--- the fault
-fault_placed : (f : LexFault) (total : ℕ) (before : List ℕ) (state : State) (at : ℕ) (z : Text) → IsAt before state → at + length z ≡ total → EndsIn f total before z → placed at (cut state z) ≡ Err f ∷ []
-fault_placed f total before state at z h len e =
+fault_found : (f : LexFault) (total : ℕ) (before : List ℕ) (state : State) (z : Text) → IsAt before state → (e : EndsIn f total before z) → found state z ≡ record { gap = length e.0; what = Err (f.kind, length e.1, f.ch) }
+fault_found f total before state z h e =
     let g = e.0 in
     let u = e.1 in
     let v = e.2 in
@@ -263,13 +305,34 @@ fault_placed f total before state at z h len e =
     let reads : piece s (u ++ v) ≡ Err (f.kind, length u) = (faults s f.kind u v).1 e.5 in
     let what_is : what (piece s (u ++ v)) (u ++ v) ≡ Err (f.kind, length u, f.ch) =
     ap (λ p. what p (u ++ v)) reads ∙ ap (λ v. Err (f.kind, length u, shown f.kind v)) (drop-append_seam u v) ∙ ap (λ c. Err (f.kind, length u, c)) (sym e.7) in
-    let found_it : found state z ≡ record { gap = length g; what = Err (f.kind, length u, f.ch) } =
-    ap (found state) e.3 ∙ found_is before state g (u ++ v) h e.4 ∙ ap (λ w. record { gap = length g; what = w }) what_is in
+    ap (found state) e.3 ∙ found_is before state g (u ++ v) h e.4 ∙ ap (λ w. record { gap = length g; what = w }) what_is
+
+-- the end, in a text of this length
+end_placed : (total : ℕ) (before : List ℕ) (state : State) (at : ℕ) (z : Text) → IsAt before state → at + length z ≡ total → IsEnd before z
+    → placed at (cut state z) ≡ Ok (record { id = 6; start = total; len = 0 }) ∷ []
+end_placed total before state at z h len e =
+    ap (placed at) (cut_is state z) ∙ ap (λ f. placed at (f ∷ cond (goes_on f.what) (cut (behind state f.what) (drop (f.gap + len_of f.what) z)) [])) (end_found before state z h e)
+    ∙ ap (λ n. Ok (record { id = 6; start = n; len = 0 }) ∷ []) len
+
+-- the fault
+fault_placed : (f : LexFault) (total : ℕ) (before : List ℕ) (state : State) (at : ℕ) (z : Text) → IsAt before state → at + length z ≡ total → EndsIn f total before z → placed at (cut state z) ≡ Err f ∷ []
+fault_placed f total before state at z h len e =
+    let g = e.0 in
+    let u = e.1 in
+    let v = e.2 in
     let whole : length z ≡ length g + (length u + length v) = ap length e.3 ∙ length-append g (u ++ v) ∙ ap (λ n. length g + n) (length-append u v) in
     let place_is = e.6 in
     let place : at + length g + length u ≡ f.at = omega arith in
-    ap (placed at) (cut_is state z) ∙ ap (λ f. placed at (f ∷ cond (goes_on f.what) (cut (behind state f.what) (drop (f.gap + len_of f.what) z)) [])) found_it
+    ap (placed at) (cut_is state z) ∙ ap (λ f. placed at (f ∷ cond (goes_on f.what) (cut (behind state f.what) (drop (f.gap + len_of f.what) z)) [])) (fault_found f total before state z h e)
     ∙ ap (λ n. Err (record { kind = f.kind; at = n; ch = f.ch }) ∷ []) place
+
+end_whats : (before : List ℕ) (state : State) (z : Text) → IsAt before state → IsEnd before z → whats state z ≡ Ok (6, []) ∷ []
+end_whats before state z h e =
+    whats_is state z ∙ ap (λ f. f.what ∷ cond (goes_on f.what) (whats (behind state f.what) (drop (f.gap + len_of f.what) z)) []) (end_found before state z h e)
+
+fault_whats : (f : LexFault) (total : ℕ) (before : List ℕ) (state : State) (z : Text) → IsAt before state → (e : EndsIn f total before z) → whats state z ≡ Err (f.kind, length e.1, f.ch) ∷ []
+fault_whats f total before state z h e =
+    whats_is state z ∙ ap (λ f. f.what ∷ cond (goes_on f.what) (whats (behind state f.what) (drop (f.gap + len_of f.what) z)) []) (fault_found f total before state z h e)
 
 -- ---- the laws
 
@@ -317,9 +380,9 @@ pub only_tokens : OnlyTokens
 unfolding lex
 only_tokens s xs = (
   λ is. ⊎_elim
-  (λ e. let same : to_end s e.0 ≡ xs = let r = sym (ap collected e.2 ∙ all_tokens (to_end s e.0)) ∙ is in cc in (e.0, e.1, sym same))
-  (λ e. let r = sym (ap collected e.3 ∙ one_fault (places 0 e.1) e.0) ∙ is in absurd (cc))
-  (items_told s),
+      (λ e. let same : to_end s e.0 ≡ xs = let r = sym (ap collected e.2 ∙ all_tokens (to_end s e.0)) ∙ is in cc in (e.0, e.1, sym same))
+      (λ e. let r = sym (ap collected e.3 ∙ one_fault (places 0 e.1) e.0) ∙ is in absurd (cc))
+      (items_told s),
   λ e. ap collected (items_to_end s e.0 e.1) ∙ all_tokens (to_end s e.0) ∙ ap (λ xs. Ok xs) (sym e.2),
 )
 
@@ -327,8 +390,65 @@ pub only_fault : OnlyFault
 unfolding lex
 only_fault s f = (
   λ is. ⊎_elim
-  (λ e. let r = sym (ap collected e.2 ∙ all_tokens (to_end s e.0)) ∙ is in absurd (cc))
-  (λ e. let same : e.0 ≡ f = let r = sym (ap collected e.3 ∙ one_fault (places 0 e.1) e.0) ∙ is in cc in (e.1, subst (λ f. IsRead (EndsIn f (length s)) [] s e.1) same e.2))
-  (items_told s),
+      (λ e. let r = sym (ap collected e.2 ∙ all_tokens (to_end s e.0)) ∙ is in absurd (cc))
+      (λ e. let same : e.0 ≡ f = let r = sym (ap collected e.3 ∙ one_fault (places 0 e.1) e.0) ∙ is in cc in (e.1, subst (λ f. IsRead (EndsIn f (length s)) [] s e.1) same e.2))
+      (items_told s),
   λ e. ap collected (items_to_fault s f e.0 e.1) ∙ one_fault (places 0 e.0) f,
+)
+
+-- ---- ids and texts
+
+sliced_steps : (Rest : List ℕ → Text → Type 0) (s : Text) (ts : List Step) (before : List ℕ) (at : ℕ) (z : Text) → drop at s ≡ z → IsRead Rest before z ts → sliced s (places at ts) ≡ map (λ t. (t.1, t.2)) ts
+sliced_steps Rest s [] before at z is read = refl
+sliced_steps Rest s (t ∷ ts) before at z is read =
+    let g = t.0 in
+    let w = t.2 in
+    let r = read.0 in
+    let here : drop (at + length g) s ≡ w ++ r = sym (drop-drop (length g) at s) ∙ ap (drop (length g)) (is ∙ read.1) ∙ drop-append_seam g (w ++ r) in
+    let behind_it : drop (at + length g + length w) s ≡ r = sym (drop-drop (length w) (at + length g) s) ∙ ap (drop (length w)) here ∙ drop-append_seam w r in
+    let text : take (length w) (drop (at + length g) s) ≡ w = ap (take (length w)) here ∙ take-append_seam w r in
+    λ i. (t.1, text i) ∷ sliced_steps Rest s ts (t.1 ∷ before) (at + length g + length w) r behind_it read.4 i
+
+sliced_end : (s : Text) (xs : List Lexeme) (n : ℕ) → sliced s (xs ++ record { id = 6; start = n; len = 0 } ∷ []) ≡ sliced s xs ++ (6, []) ∷ []
+sliced_end s [] n = refl
+sliced_end s (x ∷ xs) n = ap (λ us. (x.id, text_at s x) ∷ us) (sliced_end s xs n)
+
+sliced_is : (s : Text) (ts : List Step) → IsRead IsEnd [] s ts → sliced s (to_end s ts) ≡ map (λ t. (t.1, t.2)) ts ++ (6, []) ∷ []
+sliced_is s ts read = sliced_end s (places 0 ts) (length s) ∙ ap (λ us. us ++ (6, []) ∷ []) (sliced_steps IsEnd s ts [] 0 s refl read)
+
+-- what a list of tokens by texts came from
+texts_from : (s : Text) (r : Result (List Lexeme) LexFault) (us : List (ℕ × Text)) → result_sliced s r ≡ Ok us → (xs : List Lexeme) × (r ≡ Ok xs) × (sliced s xs ≡ us)
+texts_from s (Ok xs) us is = (xs, refl, cc)
+texts_from s (Err e) us is = absurd (cc)
+
+fault_from : (s : Text) (r : Result (List Lexeme) LexFault) (f : LexFault) → result_sliced s r ≡ Err f → r ≡ Err f
+fault_from s (Ok xs) f is = absurd (cc)
+fault_from s (Err e) f is = let same : e ≡ f = cc in ap (λ e. Err e) same
+
+pub only_texts : OnlyTexts
+only_texts s = (
+  λ us. (
+    λ is.
+        let x = texts_from s (lex s) us is in
+        let e = (only_tokens s x.0).0 x.1 in
+        (e.0, e.1, sym x.2 ∙ ap (sliced s) e.2 ∙ sliced_is s e.0 e.1),
+    λ e. ap (result_sliced s) ((only_tokens s (to_end s e.0)).1 (e.0, e.1, refl)) ∙ ap (λ us. Ok us) (sliced_is s e.0 e.1 ∙ sym e.2),
+  ),
+  λ f. (
+    λ is. (only_fault s f).0 (fault_from s (lex s) f is),
+    λ e. ap (result_sliced s) ((only_fault s f).1 e),
+  ),
+)
+
+-- ---- what a cursor gives
+
+pub only_whats : OnlyWhats
+only_whats s ts = (
+  λ read.
+      let k = steps_whats IsEnd (λ ws. ws ≡ Ok (6, []) ∷ []) ts [] start s (λ before state z h e. (Ok (6, []) ∷ [], refl, end_whats before state z h e)) at_start read in
+      k.2 ∙ ap (λ ws. map (λ t. Ok (t.1, t.2)) ts ++ ws) k.1,
+  λ f read.
+      let k = steps_whats (EndsIn f (length s)) (λ ws. (n : ℕ) × (ws ≡ Err (f.kind, n, f.ch) ∷ [])) ts [] start s
+      (λ before state z h e. (Err (f.kind, length e.1, f.ch) ∷ [], (length e.1, refl), fault_whats f (length s) before state z h e)) at_start read in
+      (k.1.0, k.2 ∙ ap (λ ws. map (λ t. Ok (t.1, t.2)) ts ++ ws) k.1.1),
 )

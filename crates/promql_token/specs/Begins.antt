@@ -12,10 +12,8 @@ use Rattle.promql_token.specs.declared.state.State.{State}
 use Rattle.promql_text.specs.Bytes.{backtick, digit_zero, double_quote, point, single_quote}
 use Rattle.promql_text.specs.Texts.{Text}
 use Rattle.promql_token.specs.Classes.{is_in, is_label}
-use Rattle.promql_token.specs.Gaps.{next}
-use Rattle.promql_token.specs.Laws.{is_exponent, is_sign, is_word}
-use Rattle.promql_token.specs.Pieces.{braces_id, is_unit, piece, word_id}
-use Rattle.promql_token.specs.Printed.{are_digits, is_part, is_spelling, joined, parts_text}
+use Rattle.promql_token.specs.Pieces.{piece}
+use Rattle.promql_token.specs.Vocabulary.{are_digits, braces_id, is_exponent, is_part, is_sign, is_spelling, is_unit, is_word, joined, next, parts_text, word_id}
 
 -- ---- signs
 
@@ -29,7 +27,7 @@ signs_outside =
     ∷ (codes "^", T_POW, []) ∷ (codes "{", T_LEFT_BRACE, []) ∷ (codes "[", T_LEFT_BRACKET, []) ∷ (codes "(", T_LEFT_PAREN, []) ∷ (codes "=", T_EQL, codes "=~") ∷ (codes "==", T_EQLC, [])
     ∷ (codes "!=", T_NEQ, []) ∷ (codes "<", T_LSS, codes "=") ∷ (codes "<=", T_LTE, []) ∷ (codes ">", T_GTR, codes "=") ∷ (codes ">=", T_GTE, []) ∷ []
 
--- with this many parentheses open
+-- the signs of a mode, with this many parentheses open
 abbrev pub signs : Mode → ℕ → List Sign
 signs mode.Outside zero = signs_outside
 signs mode.Outside (suc depth) = (codes ")", T_RIGHT_PAREN, []) ∷ signs_outside
@@ -63,16 +61,17 @@ is_power [] = true
 is_power (e ∷ []) = is_exponent e
 is_power (e ∷ b ∷ ds) = is_exponent e && ((is_sign b || is_ascii_digit b) && are_digits ds)
 
+-- `0x` or `0X`, digits, and a fraction
 abbrev pub IsHex : Text → Type 0
 IsHex w = (x : ℕ) × (whole : Text) × (fraction : Text) × (w ≡ digit_zero ∷ x ∷ (whole ++ fraction)) × ((x == 120 || x == 88) ≡ true) × (list_all (is_in class.HexDigit) whole ≡ true) × (is_fraction class.HexDigit fraction ≡ true)
 
--- there is a digit before the point or after it
+-- digits, a fraction and an exponent; there is a digit before the point or after it
 abbrev pub IsDecimal : Text → Text → Type 0
 IsDecimal power w =
     (whole : Text) × (fraction : Text) × (w ≡ whole ++ (fraction ++ power)) × (are_digits whole ≡ true) × (is_fraction class.Digit fraction ≡ true) × (is_power power ≡ true)
     × ((0 < length whole) ⊎ (1 < length fraction))
 
--- a number that the byte c, a unit or no byte of a name and no point, does not go on with
+-- a number that the next byte c does not go on with; c is a unit, or no byte of a name and no point
 abbrev pub IsNumber : Text → ℕ → Type 0
 IsNumber w c = (IsHex w × (is_in class.HexDigit c ≡ false)) ⊎ ((power : Text) × IsDecimal power w × ((length power == 1 && is_sign c) ≡ false))
 
@@ -85,6 +84,7 @@ abbrev pub IsDuration : Text → Type 0
 IsDuration w =
     (n : Text) × (u : Text) × (ps : List (Text × Text)) × (w ≡ n ++ (u ++ parts_text ps)) × IsNumber n (next u) × (is_unit_text true u ≡ true) × (list_all (is_part false) ps ≡ true)
 
+-- no letter, digit or `_` follows, nor a point on a number
 abbrev pub IsNumeral : ℕ → Text → Text → Type 0
 IsNumeral id w r =
     (is_in class.Name (next r) ≡ false) × (((id ≡ T_NUMBER) × IsNumber w (next r) × ((next r == point) ≡ false)) ⊎ ((id ≡ T_DURATION) × IsDuration w))

@@ -1,5 +1,5 @@
--- Which fault a text has: u is what is passed of the token at fault, v what begins at the fault's place (docs/TOKENS.md, "Faults").
-use Rattle.std.specs.Prelude.{◌≡◌, ◌⊎◌, ◌↔◌, ℕ, zero, suc, ◌<◌, Bool, true, false, not, ◌&&◌, ◌||◌, ◌==◌, List, [], ◌∷◌, ◌++◌, length, codes, Err}
+-- Which fault a text has: u is what comes before the fault's place, back to the gap, and v what begins there (docs/TOKENS.md, "Faults").
+use Rattle.std.specs.Prelude.{◌≡◌, ◌↔◌, ℕ, zero, suc, ◌<◌, Bool, true, false, ◌||◌, ◌==◌, List, [], ◌∷◌, ◌++◌, length, codes, Err}
 use Rattle.std.specs.Char.{is_ascii_digit}
 use Rattle.std.specs.List.{list_all, list_any}
 use Rattle.promql_token.specs.declared.class.Class.TheVariants as class
@@ -13,29 +13,29 @@ use Rattle.promql_text.specs.Bytes.{backslash, colon, equal, left_brace, left_br
 use Rattle.promql_text.specs.Texts.{Text}
 use Rattle.promql_token.specs.Begins.{IsBody, IsNumeral, has_escapes}
 use Rattle.promql_token.specs.Classes.{is_in, is_letter}
-use Rattle.promql_token.specs.Gaps.{next}
-use Rattle.promql_token.specs.Pieces.{begins_numeral, is_escape, is_quote, piece}
-use Rattle.promql_token.specs.Printed.{holds_strings, is_spelling, joined}
+use Rattle.promql_token.specs.Pieces.{piece}
+use Rattle.promql_token.specs.Vocabulary.{begins_numeral, holds_strings, is_escape, is_quote, is_spelling, joined, next}
 
--- u is passed, and v begins with this byte
+-- v begins with this byte, after the text w
 abbrev pub Meets : Text → ℕ → Text → Text → Type 0
 Meets w b u v = (u ≡ w) × ((next v == b) ≡ true)
 
--- u is passed, and v begins with a byte of which this is false
+-- v begins with a byte that is none of these, after the text w
 abbrev pub Misses : Text → (ℕ → Bool) → Text → Text → Type 0
 Misses w p u v = (u ≡ w) × (0 < length v) × (p (next v) ≡ false)
 
-abbrev pub begins_inside : Text → ℕ → Bool
-begins_inside signs b = list_any (λ k. b == k) signs
+abbrev pub is_among : Text → ℕ → Bool
+is_among ks b = list_any (λ k. b == k) ks
 
--- no numeral is at the front
+-- v begins with no numeral
 abbrev pub NoNumeral : Text → Text → Type 0
 NoNumeral u v = (u ≡ []) × ((id : ℕ) (w r : Text) → v ≡ w ++ r → IsNumeral id w r → ⊥)
 
--- a string up to a backslash
+-- a string through a backslash
 abbrev pub IsEscaping : ℕ → Text → Type 0
 IsEscaping quote u = (has_escapes quote ≡ true) × (ps : List Text) × (list_all (is_spelling quote) ps ≡ true) × (u ≡ quote ∷ (joined ps ++ backslash ∷ []))
 
+-- with this many parentheses open
 abbrev pub IsFault : LexFaultKind → Mode → ℕ → Text → Text → Type 0
 IsFault UnclosedParen mode.Outside (suc depth) u v = (u ≡ []) × (v ≡ [])
 IsFault AfterEqual mode.Outside depth u v = Meets (codes "=") tilde u v
@@ -46,7 +46,7 @@ IsFault DotAtEnd mode.Outside depth u v = (u ≡ []) × (v ≡ codes ".")
 IsFault RightParen mode.Outside zero u v = Meets [] right_paren u v
 IsFault RightBrace mode.Outside depth u v = Meets [] right_brace u v
 IsFault RightBracket mode.Outside depth u v = Meets [] right_bracket u v
-IsFault Character mode.Outside depth u v = Misses [] (λ b. is_in class.Word b || (is_quote b || begins_inside (codes ".@,*/%+-^{[()}]=!<>") b)) u v
+IsFault Character mode.Outside depth u v = Misses [] (λ b. is_in class.Word b || (is_quote b || is_among (codes ".@,*/%+-^{[()}]=!<>") b)) u v
 IsFault Numeral mode.Outside depth u v = (begins_numeral v ≡ true) × NoNumeral u v
 IsFault Numeral (mode.Brackets inside) depth u v = (is_ascii_digit (next v) ≡ true) × NoNumeral u v
 IsFault Escape m depth u v = (holds_strings m ≡ true) × (quote : ℕ) × IsEscaping quote u × (0 < length v) × (is_escape quote (next v) ≡ false)
@@ -54,12 +54,12 @@ IsFault EscapeAtEnd m depth u v = (holds_strings m ≡ true) × (quote : ℕ) ×
 IsFault OpenString m depth u v = (holds_strings m ≡ true) × (u ≡ []) × (quote : ℕ) × (body : Text) × IsBody quote body × (v ≡ quote ∷ body)
 IsFault AfterBangInBraces mode.Braces depth u v = Misses (codes "!") (λ b. b == equal || b == tilde) u v
 IsFault BraceInBraces mode.Braces depth u v = Meets [] left_brace u v
-IsFault InBraces mode.Braces depth u v = Misses [] (λ b. is_letter b || (is_quote b || begins_inside (codes ",=!{}") b)) u v
+IsFault InBraces mode.Braces depth u v = Misses [] (λ b. is_letter b || (is_quote b || is_among (codes ",=!{}") b)) u v
 IsFault EndInBraces mode.Braces depth u v = (u ≡ []) × (v ≡ [])
 IsFault SecondColon (mode.Brackets bracket.Colon) depth u v = Meets [] colon u v
 IsFault FirstColon (mode.Brackets bracket.Nothing) depth u v = Meets [] colon u v
 IsFault BracketInBrackets (mode.Brackets inside) depth u v = Meets [] left_bracket u v
-IsFault InBrackets (mode.Brackets inside) depth u v = Misses [] (λ b. is_ascii_digit b || begins_inside (codes ":[]") b) u v
+IsFault InBrackets (mode.Brackets inside) depth u v = Misses [] (λ b. is_ascii_digit b || is_among (codes ":[]") b) u v
 IsFault EndInBrackets (mode.Brackets inside) depth u v = (u ≡ []) × (v ≡ [])
 IsFault kind m depth u v = ⊥
 

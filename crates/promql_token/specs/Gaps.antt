@@ -1,5 +1,5 @@
--- Gaps, and where the tokens stand between them (docs/TOKENS.md, "The token list of a text").
-use Rattle.std.specs.Prelude.{◌≡◌, ◌⊎◌, ℕ, ◌+◌, ◌-◌, ◌≤◌, Bool, true, false, not, ◌&&◌, ◌==◌, List, [], ◌∷◌, ◌++◌, length, take, drop, slice_index, Result, Ok, Err}
+-- Gaps, and the places of the tokens between them (docs/TOKENS.md, "The token list of a text").
+use Rattle.std.specs.Prelude.{◌≡◌, ◌⊎◌, ℕ, ◌+◌, ◌-◌, ◌≤◌, Bool, true, false, not, ◌==◌, List, [], ◌∷◌, ◌++◌, length, take, drop, Result, Ok}
 use Rattle.std.specs.Char.{is_ascii_whitespace}
 use Rattle.std.specs.List.{list_all}
 use Rattle.std.specs.Str.{IsUtf8}
@@ -9,15 +9,10 @@ use Rattle.promql_token.specs.declared.state.Mode.{Mode}
 use Rattle.promql_token.specs.declared.state.Mode.TheVariants as mode
 use Rattle.promql_text.specs.Bytes.{hash}
 use Rattle.promql_text.specs.Texts.{Text}
-use Rattle.promql_token.specs.Cut.{mode_at}
+use Rattle.promql_token.specs.States.{mode_at}
 use Rattle.promql_token.specs.Laws.{IsPlaced}
 use Rattle.promql_token.specs.Lexing.{items}
-use Rattle.promql_token.specs.Pieces.{is_line_end}
-use Rattle.promql_token.specs.Printed.{joined}
-
--- the first byte, or NUL where there is none
-abbrev pub next : Text → ℕ
-next r = slice_index r 0
+use Rattle.promql_token.specs.Vocabulary.{is_line_end, joined, next}
 
 -- ---- gaps
 
@@ -51,6 +46,6 @@ AreSpans s before at [] = Unit {0}
 AreSpans s before at (x ∷ xs) =
     (at ≤ x.start) × IsGapIn (mode_at before) (take (x.start - at) (drop at s)) (drop x.start s) × (x.start + x.len ≤ length s) × IsPlaced s x × AreSpans s (x.id ∷ before) (x.start + x.len) xs
 
--- so it is with the tokens of each text, also with those before a fault
+-- so it is with the tokens of each text, and with those before a fault
 abbrev pub SpansToFault : Type 0
 SpansToFault = (s : Text) → IsUtf8 s → AreSpans s [] 0 (lexemes (items s))

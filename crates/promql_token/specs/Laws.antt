@@ -9,11 +9,14 @@ use Rattle.promql_token.specs.declared.lexeme.Lexeme.{Lexeme}
 use Rattle.promql_token.specs.declared.state.Mode.{Mode}
 use Rattle.promql_token.specs.declared.state.Mode.TheVariants as mode
 use Rattle.promql_token.specs.declared.state.State.{State}
-use Rattle.promql_text.specs.Bytes.{plus, minus, point, colon, less, equal, greater, tilde}
+use Rattle.promql_text.specs.Bytes.{point, colon, less, equal, greater, tilde}
 use Rattle.promql_text.specs.Texts.{Text}
-use Rattle.promql_token.specs.Classes.{is_in, is_label, is_letter, past}
+use Rattle.promql_token.specs.Classes.{is_in, is_label, is_letter}
 use Rattle.promql_token.specs.Lexing.{found, len_of, goes_on, behind, cut, whats, start, lex, tokens, sliced}
-use Rattle.promql_token.specs.Pieces.{gap_from, begins_numeral, is_quote, word_id, braces_id, piece, after, mode_after_something}
+use Rattle.promql_token.specs.Pieces.{gap_from, piece, after}
+use Rattle.promql_token.specs.States.{mode_after_something}
+use Rattle.promql_token.specs.Vocabulary.{begins_numeral, braces_id, is_quote, word_id}
+pub use Rattle.promql_token.specs.Vocabulary.{is_exponent, is_sign, is_word}
 
 -- ---- the cut
 
@@ -52,12 +55,6 @@ abbrev pub Places : Type 0
 Places = (s : Text) (xs : List Lexeme) → IsUtf8 s → lex s ≡ Ok xs → ArePlaced s xs
 
 -- ---- neighbours
-
-abbrev pub is_sign : ℕ → Bool
-is_sign b = b == plus || b == minus
-
-abbrev pub is_exponent : ℕ → Bool
-is_exponent b = b == 101 || b == 69
 
 -- the text r doesn't go on with the numeral w
 abbrev pub stops_numeral : Text → Text → Bool
@@ -100,10 +97,6 @@ parts (mode.Brackets inside) w r = parts_in_brackets w r
 abbrev pub Joins : Type 0
 Joins = (state : State) (w r : Text) (id : ℕ) → 0 < length w → piece state w ≡ Ok (id, length w) → parts state.mode w r ≡ true
     → whats state (w ++ r) ≡ Ok (id, w) ∷ whats (after state id) r
-
--- a letter, `_` or `:`, then letters, digits, `_` and `:`
-abbrev pub is_word : Text → Bool
-is_word w = (is_letter (slice_index w 0) || slice_index w 0 == colon) && past class.Word w 0 == length w
 
 -- a word outside, also a fill word
 abbrev pub JoinsWord : Type 0

@@ -14,5 +14,7 @@ pub mod PrintedValues
 pub mod Rows
 pub mod Scan
 pub mod Spelling
+pub mod States
 pub mod TokenLists
 pub mod Tokens
+pub mod Vocabulary

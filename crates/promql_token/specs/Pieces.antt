@@ -1,12 +1,9 @@
 -- What a text begins with: a gap, a token or a fault (docs/TOKENS.md, "Outside", "In braces", "In brackets").
-use Rattle.std.specs.Prelude.{ℕ, zero, suc, ◌+◌, ◌-◌, Bool, true, false, not, ◌&&◌, ◌||◌, if◌then◌else◌, ◌==◌, [], ◌∷◌, length, take, drop, slice_index, codes, Result, Ok, Err}
+use Rattle.std.specs.Prelude.{ℕ, zero, suc, ◌+◌, ◌-◌, Bool, true, false, not, ◌&&◌, ◌||◌, if◌then◌else◌, ◌==◌, [], ◌∷◌, length, take, drop, slice_index, Result, Ok, Err}
 use Rattle.std.specs.Char.{is_ascii_digit, is_ascii_whitespace}
-use Rattle.std.specs.List.{list_any}
-use Rattle.std.specs.Option.{unwrap_or}
-use Rattle.std.specs.Str.{str_eq_ignore_ascii_case}
 use Rattle.promql_token.specs.declared.class.Class.{Class}
 use Rattle.promql_token.specs.declared.class.Class.TheVariants as class
-use Rattle.promql_token.specs.declared.ids.TheConstants.{T_ADD, T_AT, T_COLON, T_COMMA, T_DIV, T_DURATION, T_EOF, T_EQL, T_EQLC, T_EQL_REGEX, T_FILL, T_FILL_LEFT, T_FILL_RIGHT, T_GTE, T_GTR, T_IDENTIFIER, T_LEFT_BRACE, T_LEFT_BRACKET, T_LEFT_PAREN, T_LOR, T_LSS, T_LTE, T_METRIC_IDENTIFIER, T_MOD, T_MUL, T_NEQ, T_NEQ_REGEX, T_NUMBER, T_POW, T_RIGHT_BRACE, T_RIGHT_BRACKET, T_RIGHT_PAREN, T_STRING, T_SUB}
+use Rattle.promql_token.specs.declared.ids.TheConstants.{T_ADD, T_AT, T_COLON, T_COMMA, T_DIV, T_DURATION, T_EOF, T_EQL, T_EQLC, T_EQL_REGEX, T_GTE, T_GTR, T_LEFT_BRACE, T_LEFT_BRACKET, T_LEFT_PAREN, T_LSS, T_LTE, T_MOD, T_MUL, T_NEQ, T_NEQ_REGEX, T_NUMBER, T_POW, T_RIGHT_BRACE, T_RIGHT_BRACKET, T_RIGHT_PAREN, T_STRING, T_SUB}
 use Rattle.promql_token.specs.declared.fault.LexFaultKind.{LexFaultKind}
 use Rattle.promql_token.specs.declared.fault.LexFaultKind.TheVariants.{UnclosedParen, AfterEqual, AfterBang, BangAtEnd, AfterDot, DotAtEnd, RightParen, RightBrace, RightBracket, Character, Numeral, Escape, EscapeAtEnd, OpenString, AfterBangInBraces, BraceInBraces, InBraces, EndInBraces, SecondColon, FirstColon, BracketInBrackets, InBrackets, EndInBrackets}
 use Rattle.promql_token.specs.declared.state.Bracket.{Bracket}
@@ -14,15 +11,13 @@ use Rattle.promql_token.specs.declared.state.Bracket.TheVariants as bracket
 use Rattle.promql_token.specs.declared.state.Mode.{Mode}
 use Rattle.promql_token.specs.declared.state.Mode.TheVariants as mode
 use Rattle.promql_token.specs.declared.state.State.{State}
-use Rattle.promql_text.specs.Bytes.{line_feed, carriage_return, space, bang, double_quote, hash, percent, single_quote, left_paren, right_paren, star, plus, comma, minus, point, slash, digit_zero, colon, less, equal, greater, at_sign, left_bracket, backslash, right_bracket, caret, backtick, left_brace, right_brace, tilde}
+use Rattle.promql_text.specs.Bytes.{bang, hash, percent, left_paren, right_paren, star, plus, comma, minus, point, slash, digit_zero, colon, less, equal, greater, at_sign, left_bracket, backslash, right_bracket, caret, backtick, left_brace, right_brace, tilde}
 use Rattle.promql_text.specs.Texts.{Text}
 use Rattle.promql_token.specs.Classes.{is_letter, past}
-use Rattle.promql_token.specs.Ids.{keyword_in_any_case}
+unfoldable pub use Rattle.promql_token.specs.States.{after_gap, mode_after_something}
+pub use Rattle.promql_token.specs.Vocabulary.{begins_numeral, braces_id, is_escape, is_fill, is_line_end, is_quote, is_unit, name_id, opens, word_id}
 
 -- ---- gaps
-
-abbrev pub is_line_end : ℕ → Bool
-is_line_end b = b == line_feed || b == carriage_return
 
 -- the length of the longest run of white space and comments; a comment goes through the first line end
 abbrev pub gap_from : Bool → Text → ℕ
@@ -46,27 +41,8 @@ Piece = Result (ℕ × ℕ) (LexFaultKind × ℕ)
 
 -- ---- words
 
-abbrev pub is_fill : ℕ → Bool
-is_fill id = id == T_FILL || id == T_FILL_LEFT || id == T_FILL_RIGHT
-
--- whether `(` is the first byte past white space
-abbrev pub opens : Text → Bool
-opens z = slice_index z (past class.White z 0) == left_paren
-
--- of a word that is no keyword
-abbrev pub name_id : Text → ℕ
-name_id w = if list_any (λ b. b == colon) w then T_METRIC_IDENTIFIER else T_IDENTIFIER
-
--- of a word and the text behind it; the fill words are keywords only before a parenthesis
-abbrev pub word_id : Text → Text → ℕ
-word_id w rest = let id = unwrap_or (keyword_in_any_case w) (name_id w) in if is_fill id && not (opens rest) then T_IDENTIFIER else id
-
 unfoldable pub word : Text → Piece
 word z = let len = past class.Word z 0 in Ok (word_id (take len z) (drop len z), len)
-
--- the same in braces: `or` before a plain space is the operator, and all other words are names
-abbrev pub braces_id : Text → Text → ℕ
-braces_id w rest = if str_eq_ignore_ascii_case w (codes "or") && slice_index rest 0 == space then T_LOR else T_IDENTIFIER
 
 unfoldable pub word_in_braces : Text → Piece
 word_in_braces z = let len = past class.Name z 0 in Ok (braces_id (take len z) (drop len z), len)
@@ -95,10 +71,6 @@ past_exponent z at = if slice_index z at == 101 || slice_index z at == 69 then p
 -- where the number that a numeral begins with ends
 unfoldable pub number_end : Text → ℕ
 number_end z = past_exponent z (past_point (digits z) z (past_whole z))
-
--- a unit; only the first may be `y`
-abbrev pub is_unit : Bool → ℕ → Bool
-is_unit first b = list_any (λ k. b == k) (codes "smhdw") || (first && b == 121)
 
 -- the length of a unit and of the `s` that may follow it, or 0
 abbrev pub unit_len : Bool → Text → ℕ
@@ -130,13 +102,6 @@ numeral z =
     else (if units (take (run - end) (drop end z)) then Ok (T_DURATION, run) else Err (Numeral, 0))
 
 -- ---- strings
-
-abbrev pub is_quote : ℕ → Bool
-is_quote b = b == double_quote || b == single_quote || b == backtick
-
--- what may stand behind a backslash between these quotes
-abbrev pub is_escape : ℕ → ℕ → Bool
-is_escape quote b = b == quote || b == backslash || list_any (λ k. b == k) (codes "abfnrtv01234567xuU")
 
 -- through the first own quote that no backslash takes; the text begins at `at` of the string
 abbrev pub string_from : ℕ → Bool → ℕ → Text → Piece
@@ -194,9 +159,6 @@ sign depth z =
     else (if b == greater then or_equal next T_GTE T_GTR
     else (if b == bang then bang_sign z
     else single depth b))))
-
-abbrev pub begins_numeral : Text → Bool
-begins_numeral z = is_ascii_digit (slice_index z 0) || (slice_index z 0 == point && is_ascii_digit (slice_index z 1))
 
 unfoldable pub outside : ℕ → Text → Piece
 outside depth z =
@@ -259,14 +221,6 @@ piece state [] = end_in state.mode state.depth
 piece state (b ∷ z) = begun state.mode state.depth (b ∷ z)
 
 -- ---- how a place's state follows from what is before it
-
--- after a gap, or any token that sets no mode, something is after a bracket
-abbrev pub mode_after_something : Mode → Mode
-mode_after_something (mode.Brackets bracket.Nothing) = mode.Brackets bracket.Something
-mode_after_something m = m
-
-unfoldable pub after_gap : ℕ → State → State
-after_gap gap state = if gap == 0 then state else record state { mode = mode_after_something state.mode }
 
 -- after a colon
 abbrev pub mode_after_colon : Mode → Mode

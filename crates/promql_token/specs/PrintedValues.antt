@@ -1,5 +1,5 @@
 -- Values that printers write, in front of what follows them (docs/TOKENS.md, "Laws").
-use Rattle.std.specs.Prelude.{◌≡◌, ℕ, ◌*◌, ◌^◌, ◌%◌, ◌<◌, Bool, true, false, ◌==◌, if◌then◌else◌, ◌∷◌, ◌++◌, slice_index, Ok}
+use Rattle.std.specs.Prelude.{◌≡◌, ℕ, ◌*◌, ◌^◌, ◌%◌, ◌<◌, true, false, ◌==◌, if◌then◌else◌, ◌∷◌, ◌++◌, slice_index, Ok}
 use Rattle.promql_text.specs.Bytes.{colon}
 use Rattle.promql_text.specs.Durations.{nanos_of}
 use Rattle.promql_text.specs.DurationText.{duration_text}

@@ -7,11 +7,10 @@ use Rattle.promql_token.specs.declared.state.Mode.TheVariants as mode
 use Rattle.promql_token.specs.declared.state.State.{State}
 use Rattle.promql_text.specs.Texts.{Text}
 use Rattle.promql_token.specs.Begins.{MayBegin}
-use Rattle.promql_token.specs.Cut.{mode_at, state_at}
 use Rattle.promql_token.specs.FaultPlaces.{IsFault}
 use Rattle.promql_token.specs.Gaps.{IsGapIn}
-use Rattle.promql_token.specs.Lexing.{items, lex, shown}
-use Rattle.promql_token.specs.Pieces.{after_gap}
+use Rattle.promql_token.specs.Lexing.{items, lex, shown, start, tokens, whats}
+use Rattle.promql_token.specs.States.{after_gap, mode_at, state_at}
 
 -- a gap, and the id and the text of the token after it
 abbrev pub Step : Type 0
@@ -54,6 +53,20 @@ OnlyTokens = (s : Text) (xs : List Lexeme) → (lex s ≡ Ok xs) ↔ ((ts : List
 -- and a fault exactly if it is read so up to this fault
 abbrev pub OnlyFault : Type 0
 OnlyFault = (s : Text) (f : LexFault) → (lex s ≡ Err f) ↔ ((ts : List Step) × IsRead (EndsIn f (length s)) [] s ts)
+
+-- the ids and texts of the tokens, or the fault
+abbrev pub OnlyTexts : Type 0
+OnlyTexts =
+    (s : Text)
+    → ((us : List (ℕ × Text)) → (tokens s ≡ Ok us) ↔ ((ts : List Step) × IsRead IsEnd [] s ts × (us ≡ map (λ t. (t.1, t.2)) ts ++ (T_EOF, []) ∷ [])))
+    × ((f : LexFault) → (tokens s ≡ Err f) ↔ ((ts : List Step) × IsRead (EndsIn f (length s)) [] s ts))
+
+-- the tokens that a cursor gives from the start on, to the end or to the fault
+abbrev pub OnlyWhats : Type 0
+OnlyWhats =
+    (s : Text) (ts : List Step)
+    → (IsRead IsEnd [] s ts → whats start s ≡ map (λ t. Ok (t.1, t.2)) ts ++ Ok (T_EOF, []) ∷ [])
+    × ((f : LexFault) → IsRead (EndsIn f (length s)) [] s ts → (n : ℕ) × (whats start s ≡ map (λ t. Ok (t.1, t.2)) ts ++ Err (f.kind, n, f.ch) ∷ []))
 
 -- a lexer yields the tokens, and then the fault
 abbrev pub OnlyItems : Type 0

@@ -76,6 +76,8 @@ pub fn spans_to_fault()
 pub fn only_tokens()
     ensures tokens { lists.OnlyTokens }
     ensures fault { lists.OnlyFault }
+    ensures texts { lists.OnlyTexts }
+    ensures whats { lists.OnlyWhats }
     ensures items { lists.OnlyItems }
 {}
 

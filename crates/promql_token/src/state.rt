@@ -53,7 +53,7 @@ fn mode_after_colon(mode: Mode) -> Mode
 }
 
 /// The state after a gap.
-#[tactic(auto, unfolding(crate::specs::Pieces::after_gap))]
+#[tactic(auto, unfolding(crate::specs::States::after_gap))]
 pub fn after_gap(gap: usize, state: State) -> State
     ensures { result ≡ spec.after_gap gap state }
 {
