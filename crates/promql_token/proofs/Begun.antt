@@ -3,7 +3,6 @@ use Rattle.std.proofs.Common.{◌≡◌, ℕ, zero, suc, ◌<◌, false, [], ◌
 use Rattle.std.specs.Prelude.{◌==◌}
 use Rattle.std.proofs.Math.Seq.{take-append_seam, drop-append_seam}
 use Rattle.std.proofs.lemmas.Bool.{cond_both}
-use Rattle.std.proofs.lemmas.Grind.{common_steps}
 use Rattle.promql_token.specs.declared.state.Mode.{Mode}
 use Rattle.promql_token.specs.declared.state.Mode.TheVariants as mode
 use Rattle.promql_token.specs.declared.state.State.{State}
@@ -11,6 +10,7 @@ use Rattle.promql_text.specs.Texts.{Text}
 use Rattle.promql_token.specs.Begins.{Begins, MayBegin}
 use Rattle.promql_token.specs.FaultPlaces.{Faults, IsFault}
 use Rattle.promql_token.specs.Pieces.{Piece, begun, end_in, piece}
+use Rattle.promql_token.proofs.Choices.{not_zero}
 use Rattle.promql_token.proofs.FaultsRead.{fault_read}
 use Rattle.promql_token.proofs.Inner.{Inner, begun_inner}
 use Rattle.promql_token.proofs.Read.{begun_read}
@@ -21,9 +21,6 @@ use Rattle.promql_token.proofs.SignRows.{Says}
 abbrev PieceSays : Mode → ℕ → Text → Piece → Type 0
 PieceSays m depth z (Ok t) = (t.0 == 6) ≡ false → MayBegin m depth t.0 (take t.1 z) (drop t.1 z)
 PieceSays m depth z (Err f) = IsFault f.0 m depth (take f.1 z) (drop f.1 z)
-
-not_zero : (n : ℕ) → (suc n == 0) ≡ false
-not_zero n = grind (arith, common_steps)
 
 end_said : (m : Mode) (depth : ℕ) → PieceSays m depth [] (end_in m depth)
 end_said mode.Outside zero = λ no. absurd (cc)

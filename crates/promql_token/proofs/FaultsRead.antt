@@ -20,23 +20,17 @@ use Rattle.promql_token.specs.FaultPlaces.{IsEscaping, IsFault, Meets, Misses, N
 use Rattle.promql_token.specs.Vocabulary.{next}
 use Rattle.promql_token.specs.Pieces.{Piece, begins_numeral, in_braces, in_brackets, is_quote, numeral, outside, piece, sign, string, word}
 use Rattle.promql_token.specs.Printed.{holds_strings, joined}
+use Rattle.promql_token.proofs.Choices.{not_one, not_zero, or_false}
 use Rattle.promql_token.proofs.Numerals.{NumeralSays, numeral_says}
 use Rattle.promql_token.proofs.Read.{digit_first, string_first}
-use Rattle.promql_token.proofs.Said.{or_false}
 use Rattle.promql_token.proofs.Strings.{body_quote, escaping_quote, string_at_end, string_unclosed, string_unknown}
 
 abbrev at_state : Mode → ℕ → State
 at_state m depth = record { depth = depth; mode = m }
 
--- a text behind which the fault is
+-- a text after which the fault is
 abbrev HasFault : LexFaultKind → Mode → ℕ → Text → Text → Type 0
 HasFault kind m depth u v = piece (at_state m depth) (u ++ v) ≡ Err (kind, length u)
-
-not_one : (n : ℕ) → (suc (suc n) == 1) ≡ false
-not_one n = grind (arith, common_steps)
-
-not_zero : (n : ℕ) → (suc n == 0) ≡ false
-not_zero n = grind (arith, common_steps)
 
 -- a byte that is there
 meets : (P : Text → Text → Type 0) (w : Text) (b : ℕ) (u v : Text) → 0 < b → ((y : Text) → P w (b ∷ y)) → Meets w b u v → P u v

@@ -1,5 +1,5 @@
 -- What is passed as a gap is white space and comments, and no more and no less.
-use Rattle.std.proofs.Common.{◌≡◌, ℕ, suc, ◌+◌, Bool, true, false, cond, List, [], ◌∷◌, ◌++◌, length, take, drop, refl, sym, ap, ◌∙◌, subst, inl, inr, ◌⊎◌, ⊎_elim, arith, append_assoc, length-append, zero-add}
+use Rattle.std.proofs.Common.{◌≡◌, ℕ, suc, ◌+◌, true, false, cond, List, [], ◌∷◌, ◌++◌, length, take, drop, refl, sym, ap, ◌∙◌, subst, inl, inr, ◌⊎◌, ⊎_elim, arith, append_assoc, length-append, zero-add}
 use Rattle.std.specs.Prelude.{◌==◌, not, ◌&&◌}
 use Rattle.std.specs.Char.{is_ascii_whitespace}
 use Rattle.std.specs.List.{list_all}
@@ -13,12 +13,9 @@ use Rattle.promql_token.specs.Gaps.{is_line, IsComment, AreBlank, IsGapIn}
 use Rattle.promql_token.specs.Vocabulary.{next}
 use Rattle.promql_token.specs.Pieces.{gap_len, gap_from, is_line_end}
 use Rattle.promql_token.specs.Printed.{joined}
+use Rattle.promql_token.proofs.Choices.{split}
 use Rattle.promql_token.proofs.Ends.{and_left, and_right}
 use Rattle.promql_token.proofs.Printed.{past_front}
-
-pub split : (c : Bool) {X : Type 0} → (c ≡ true → X) → (c ≡ false → X) → X
-split true f g = f refl
-split false f g = g refl
 
 no_hash : (b : ℕ) → is_ascii_whitespace b ≡ true → (b == 35) ≡ false
 no_hash b h = grind (arith, common_steps)

@@ -18,15 +18,12 @@ use Rattle.promql_token.specs.Laws.{Joins, JoinsWord, JoinsName, stops_numeral, 
 use Rattle.promql_token.specs.Lexing.{whats}
 use Rattle.promql_token.specs.Pieces.{Piece, gap_from, gap_len, word_id, word, braces_id, word_in_braces, numeral, is_quote, string, bang_sign, dot_sign, sign, begins_numeral, outside, bang_in_braces, in_braces, in_brackets, begun, piece, after}
 use Rattle.promql_token.proofs.Beside.{numeral_beside, stops, string_beside, word_beside, word_in_braces_beside}
+use Rattle.promql_token.proofs.Choices.{not_one, or_false, split}
 use Rattle.promql_token.proofs.Ends.{and_left, and_right}
 use Rattle.promql_token.proofs.Inner.{Inner, begun_inner, word_plain, braces_plain, after_outside, after_in_braces}
 use Rattle.promql_token.proofs.Steps.{not_true, whats_piece}
 
 -- ---- no gap stands where a token does
-
-split : (c : Bool) {X : Type 0} → (c ≡ true → X) → (c ≡ false → X) → X
-split true f g = f refl
-split false f g = g refl
 
 is_white : (b : ℕ) → (b == 9) ≡ false → (b == 10) ≡ false → (b == 12) ≡ false → (b == 13) ≡ false → (b == 32) ≡ false → is_ascii_whitespace b ≡ false
 is_white b h9 h10 h12 h13 h32 = grind (arith, common_steps)
@@ -144,10 +141,6 @@ record Alone (b : ℕ) (r : Text) : Type 0 where
   equal : (get_or r 0 0 == 61) ≡ false
   tilde : (get_or r 0 0 == 126) ≡ false
 
-or_false : (a b : Bool) → (a || b) ≡ false → (a ≡ false) × (b ≡ false)
-or_false true b h = absurd (cc)
-or_false false b h = (refl, h)
-
 alone : (b : ℕ) (r : Text) → ((b == 61) || (b == 60) || (b == 62)) ≡ true → stops_sign (b ∷ []) r ≡ true → Alone b r
 alone b r first apart =
     let c = get_or r 0 0 in
@@ -161,9 +154,6 @@ alone b r first apart =
 
 dot_never : (z : Text) (t : ℕ × ℕ) → dot_sign z ≡ Ok t → ⊥
 dot_never z t = cond_both (length z == 1) _ _ (λ p. p ≡ Ok t → ⊥) (λ _ is. cc) (λ _ is. cc)
-
-not_one : (n : ℕ) → (suc (suc n) == 1) ≡ false
-not_one n = grind (arith, common_steps)
 
 bang_two : (b c : ℕ) (w : Text) → bang_sign (b ∷ c ∷ w) ≡ cond (c == 61) (Ok (T_NEQ, 2)) (Err (AfterBang, 1))
 bang_two b c w = rw (not_one (length w)) refl
@@ -270,7 +260,7 @@ unfolding piece
 joins state [] r id some is apart = absurd (omega arith)
 joins state (b ∷ w) r id some is apart = steps state b w r id (begun_keeps state.mode state.depth b w r id apart is)
 
-no_numeral : (b c : ℕ) → (is_letter b || (b == 58)) ≡ true → (is_ascii_digit b || ((b == 46) && is_ascii_digit c)) ≡ false
+pub no_numeral : (b c : ℕ) → (is_letter b || (b == 58)) ≡ true → (is_ascii_digit b || ((b == 46) && is_ascii_digit c)) ≡ false
 no_numeral b c h = grind (arith, common_steps)
 
 pub joins_word : JoinsWord
@@ -287,7 +277,7 @@ joins_word depth (b ∷ w) r is stop =
     ∙ ap (λ x. cond x (word z) (cond (is_quote b) (string z) (sign depth z))) first ∙ word_beside (b ∷ w) r all stop in
     steps state b w r id reads ∙ ap (λ s. Ok (id, b ∷ w) ∷ whats s r) (after_outside depth id (word_plain (b ∷ w) r))
 
-letter_apart : (b n : ℕ) → is_letter b ≡ true → is_letter n ≡ false → (b == n) ≡ false
+pub letter_apart : (b n : ℕ) → is_letter b ≡ true → is_letter n ≡ false → (b == n) ≡ false
 letter_apart b n letter other = split (b == n) (λ e. let same = ap is_letter (eqb-true b n e) in absurd (cc)) (λ no. no)
 
 pub joins_name : JoinsName

@@ -1,5 +1,6 @@
 pub mod Begun
 pub mod Beside
+pub mod Choices
 pub mod Cuts
 pub mod Drawn
 pub mod Durations

@@ -13,8 +13,8 @@ use Rattle.promql_token.specs.Vocabulary.{next}
 use Rattle.promql_token.specs.Laws.{is_exponent, is_sign}
 use Rattle.promql_token.specs.Pieces.{begins_numeral, digits, is_hex, number_end, past_exponent, past_point, past_sign, past_whole}
 use Rattle.promql_token.specs.Printed.{are_digits}
+use Rattle.promql_token.proofs.Choices.{not_one, split}
 use Rattle.promql_token.proofs.Ends.{and_left, and_right, or_cases}
-use Rattle.promql_token.proofs.Gaps.{split}
 use Rattle.promql_token.proofs.Printed.{at_seam, no_hex, past_behind, past_front}
 
 -- ---- runs
@@ -212,9 +212,6 @@ record PowerOf (t : Text) : Type 0 where
   no_power : power ≡ [] → is_exponent (next rest) ≡ false
   stop : is_ascii_digit (next rest) ≡ false
   no_sign : (length power == 1 && is_sign (next rest)) ≡ false
-
-not_one : (n : ℕ) → (suc (suc n) == 1) ≡ false
-not_one n = grind (arith, common_steps)
 
 long_power : (e b : ℕ) (t : Text) → is_exponent e ≡ true → (is_sign b || is_ascii_digit b) ≡ true → PowerOf (e ∷ b ∷ t)
 long_power e b t exp first =

@@ -16,9 +16,9 @@ use Rattle.promql_token.specs.FaultPlaces.{NoNumeral}
 use Rattle.promql_token.specs.Vocabulary.{next}
 use Rattle.promql_token.specs.Pieces.{Piece, begins_numeral, is_unit, number_end, numeral, part_len, parts_from, unit_len, units}
 use Rattle.promql_token.specs.Printed.{is_part, parts_text}
+use Rattle.promql_token.proofs.Choices.{same_number, split}
 use Rattle.promql_token.proofs.Durations.{front_byte, joined_names, parts_all, parts_names, parts_no_s, unit_byte, unit_text, units_all}
 use Rattle.promql_token.proofs.Ends.{and_left, and_right}
-use Rattle.promql_token.proofs.Gaps.{split}
 use Rattle.promql_token.proofs.Numbers.{Front, IsApart, byte_at, front_of, number_is, past_at, run_of}
 use Rattle.promql_token.proofs.Parts.{parts_go}
 
@@ -124,9 +124,6 @@ units_of z h =
 
 name_apart : (c : ℕ) → is_in class.Name c ≡ false → (c == 46) ≡ false → IsApart c
 name_apart c name point = record { digit = grind (arith, common_steps); point = point; exponent = grind (arith, common_steps); hex = grind (arith, common_steps) }
-
-same_number : (n : ℕ) → (n == n) ≡ true
-same_number n = grind (arith, common_steps)
 
 -- what `numeral` is, by where the number and the run of letters and digits end
 by_ends : (z : Text) (end run : ℕ) → number_end z ≡ end → past class.Name z end ≡ run

@@ -19,6 +19,7 @@ use Rattle.promql_token.specs.Laws.{parts, stops_numeral}
 use Rattle.promql_token.specs.Lexing.{whats}
 use Rattle.promql_token.specs.Pieces.{Piece, begins_numeral, is_hex, past_whole, past_point, past_sign, past_exponent, number_end, digits, units, is_quote, is_escape, string, string_from, numeral, outside, in_braces, in_brackets, piece, after}
 use Rattle.promql_token.specs.Printed.{holds_strings, is_spelling, joined, quoted, JoinsString, holds_numerals, are_digits, decimal, JoinsNumber}
+use Rattle.promql_token.proofs.Choices.{same_number}
 use Rattle.promql_token.proofs.Ends.{and_left, and_right, or_cases}
 use Rattle.promql_token.proofs.Joins.{joins}
 use Rattle.promql_token.proofs.Steps.{not_true}
@@ -82,16 +83,16 @@ string_alone quote ps raw is_q h =
     let same : 1 + length z ≡ suc (length z) = omega arith in
     spelled quote ps raw is_q h 1 ∙ ap (λ n. Ok (T_STRING, n)) same
 
-quote_outside : (b c : ℕ) → is_quote b ≡ true → (is_ascii_digit b || ((b == 46) && is_ascii_digit c)) ≡ false
+pub quote_outside : (b c : ℕ) → is_quote b ≡ true → (is_ascii_digit b || ((b == 46) && is_ascii_digit c)) ≡ false
 quote_outside b c h = grind (arith, common_steps)
 
-quote_no_word : (b : ℕ) → is_quote b ≡ true → (is_letter b || (b == 58)) ≡ false
+pub quote_no_word : (b : ℕ) → is_quote b ≡ true → (is_letter b || (b == 58)) ≡ false
 quote_no_word b h = grind (arith, common_steps)
 
-quote_no_letter : (b : ℕ) → is_quote b ≡ true → is_letter b ≡ false
+pub quote_no_letter : (b : ℕ) → is_quote b ≡ true → is_letter b ≡ false
 quote_no_letter b h = grind (arith, common_steps)
 
-quote_apart : (b n : ℕ) → is_quote b ≡ true → is_quote n ≡ false → (b == n) ≡ false
+pub quote_apart : (b n : ℕ) → is_quote b ≡ true → is_quote n ≡ false → (b == n) ≡ false
 quote_apart b n is other = split (b == n) (λ e. let same = ap is_quote (eqb-true b n e) in absurd (cc)) (λ apart. apart)
   where
     split : (c : Bool) {X : Type 0} → (c ≡ true → X) → (c ≡ false → X) → X
@@ -133,9 +134,6 @@ past_behind c u w r h stop = ap (λ z. length u + prefix_len (is_in c) z) (drop-
 
 pub past_front : (c : Class) (w r : Text) → list_all (is_in c) w ≡ true → is_in c (get_or r 0 0) ≡ false → past c (w ++ r) 0 ≡ length w
 past_front c w r h stop = zero-add (prefix_len (is_in c) (w ++ r)) ∙ prefix_all (is_in c) w r h stop
-
-same_number : (n : ℕ) → (n == n) ≡ true
-same_number n = grind (arith, common_steps)
 
 -- ---- digits
 
@@ -226,7 +224,7 @@ decimal_end whole (b ∷ fraction) some h h2 =
 
 -- ---- numerals at a place
 
-digit_apart : (b n : ℕ) → is_ascii_digit b ≡ true → is_ascii_digit n ≡ false → (b == n) ≡ false
+pub digit_apart : (b n : ℕ) → is_ascii_digit b ≡ true → is_ascii_digit n ≡ false → (b == n) ≡ false
 digit_apart b n is other = split (b == n) (λ e. let same = ap is_ascii_digit (eqb-true b n e) in absurd (cc)) (λ apart. apart)
   where
     split : (c : Bool) {X : Type 0} → (c ≡ true → X) → (c ≡ false → X) → X

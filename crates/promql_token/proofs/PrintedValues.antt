@@ -1,6 +1,6 @@
 -- The texts of strings, numbers and durations are tokens in front of what doesn't go on with them.
-use Rattle.std.proofs.Common.{◌≡◌, ℕ, zero, suc, ◌+◌, ◌-◌, ◌*◌, ◌^◌, ◌<◌, ◌≤◌, Bool, true, false, cond, List, [], ◌∷◌, ◌++◌, length, get_or, map, Ok, refl, sym, ap, ◌∙◌, subst, inl, inr, ◌⊎◌, ⊎_elim, arith, append-nil, append_assoc, length-append}
-use Rattle.std.specs.Prelude.{⊤, ◌/◌, ◌%◌, ◌==◌, not, ◌&&◌, ◌||◌, codes, replicate}
+use Rattle.std.proofs.Common.{◌≡◌, ℕ, zero, suc, ◌-◌, ◌*◌, ◌^◌, ◌<◌, Bool, true, false, cond, List, [], ◌∷◌, ◌++◌, length, get_or, map, Ok, refl, sym, ap, ◌∙◌, subst, arith, append_assoc, length-append}
+use Rattle.std.specs.Prelude.{⊤, ◌/◌, ◌%◌, ◌==◌, ◌||◌, codes, replicate}
 use Rattle.std.specs.Char.{digit_value, is_ascii_digit}
 use Rattle.std.specs.Fmt.{decimal}
 use Rattle.std.specs.List.{list_all}
@@ -8,21 +8,17 @@ use Rattle.std.specs.Str.Parse.{AllDigits, digits_value}
 use Rattle.std.proofs.lemmas.Bool.{cond_both, eqb-false, ne_eqb}
 use Rattle.std.proofs.lemmas.Bool.Decides.{nat_tests}
 use Rattle.std.proofs.lemmas.Fmt.{decimal_is_IsNumeral_wide}
-use Rattle.std.proofs.lemmas.Grind.{common_steps}
 use Rattle.std.proofs.lemmas.List.Folds.{list_all-append}
 use Rattle.std.proofs.lemmas.Str.Parse.{digit_from_value}
 use Rattle.std.proofs.Math.Nat.{div-le_self, mod-le}
 use Rattle.promql_text.specs.Durations.{duration_of, nanos_of, word_of}
 use Rattle.promql_text.specs.DurationText.{count_text, counts_text, duration_text, fraction_text, short_units, whole_text}
 use Rattle.promql_text.specs.NumberDigits.{exact_text, magnitude_text, padded}
-use Rattle.promql_text.specs.NumberText.{number_text}
 use Rattle.promql_text.specs.Numbers.{Exact, IsExact}
 use Rattle.promql_text.specs.Quoting.{escaped_byte, escaped_text, quoted_text}
 use Rattle.promql_text.specs.Texts.{Text}
-use Rattle.promql_text.specs.Values.{IsNumber, is_below_zero}
 use Rattle.promql_text.specs.declared.duration.Unit.{Unit}
 use Rattle.promql_text.specs.declared.duration.Unit.TheVariants.{Year, Week, Day, Hour, Minute, Second, Milli}
-use Rattle.promql_text.specs.declared.number.Number.{Number}
 use Rattle.promql_text.specs.declared.number.Number.TheVariants as number
 use Rattle.promql_text.proofs.Fractions.{fraction_is}
 use Rattle.promql_text.proofs.ReadsDuration.{duration_reads}
@@ -34,19 +30,16 @@ use Rattle.promql_token.specs.Classes.{is_in}
 use Rattle.promql_token.specs.Ids.{keyword_in_any_case}
 use Rattle.promql_token.specs.Laws.{stops_numeral}
 use Rattle.promql_token.specs.Lexing.{whats}
-use Rattle.promql_token.specs.Pieces.{after, opens, word_id}
+use Rattle.promql_token.specs.Pieces.{after, word_id}
 use Rattle.promql_token.specs.Printed as printed
 use Rattle.promql_token.specs.Printed.{are_digits, holds_numerals, holds_strings, is_part, is_spelling, joined, parts_text, quoted}
 use Rattle.promql_token.specs.PrintedValues.{JoinsNumberText, JoinsQuoted, JoinsTime, time_id}
 use Rattle.promql_token.proofs.Beside.{stops}
+use Rattle.promql_token.proofs.Choices.{and_both}
 use Rattle.promql_token.proofs.Durations.{joins_duration}
 use Rattle.promql_token.proofs.Ends.{and_left, and_right}
 use Rattle.promql_token.proofs.Joins.{joins_word}
 use Rattle.promql_token.proofs.Printed.{joins_number, joins_string}
-
-and_both : (a b : Bool) → a ≡ true → b ≡ true → (a && b) ≡ true
-and_both true b e h = h
-and_both false b e h = e
 
 -- ---- strings
 

@@ -1,9 +1,8 @@
 -- What may begin at a place is read there.
 use Rattle.std.proofs.Common.{◌≡◌, ℕ, zero, suc, ◌<◌, true, false, cond, List, [], ◌∷◌, ◌++◌, length, get_or, Ok, refl, sym, ap, ◌∙◌, subst, inl, inr, ⊎_elim, arith, eqb-true}
-use Rattle.std.specs.Prelude.{◌==◌, ◌&&◌, ◌||◌}
+use Rattle.std.specs.Prelude.{◌==◌, ◌||◌}
 use Rattle.std.specs.Char.{is_ascii_digit}
 use Rattle.std.specs.List.{list_any}
-use Rattle.std.proofs.lemmas.Grind.{common_steps}
 use Rattle.promql_token.specs.declared.class.Class.TheVariants as class
 use Rattle.promql_token.specs.declared.state.Bracket.{Bracket}
 use Rattle.promql_token.specs.declared.state.Bracket.TheVariants as bracket
@@ -16,10 +15,11 @@ use Rattle.promql_token.specs.Vocabulary.{next}
 use Rattle.promql_token.specs.Pieces.{Piece, begins_numeral, begun, in_braces, in_brackets, is_quote, numeral, outside, sign, string, word}
 use Rattle.promql_token.specs.Printed.{holds_strings}
 use Rattle.promql_token.proofs.Beside.{word_beside, word_in_braces_beside}
+use Rattle.promql_token.proofs.Choices.{not_one, not_zero, or_false}
 use Rattle.promql_token.proofs.Ends.{PieceEnds, and_left, and_right, numeral_ends}
-use Rattle.promql_token.proofs.Gaps.{split}
+use Rattle.promql_token.proofs.Joins.{letter_apart, no_numeral}
 use Rattle.promql_token.proofs.Numerals.{numeral_begins, numeral_read}
-use Rattle.promql_token.proofs.Said.{or_false}
+use Rattle.promql_token.proofs.Printed.{digit_apart, quote_apart, quote_no_letter, quote_no_word, quote_outside}
 use Rattle.promql_token.proofs.Strings.{body_quote, string_closed}
 
 -- ---- signs
@@ -33,12 +33,6 @@ sign_read : (f : Text → Piece) (ss : List Sign) (id : ℕ) (w r : Text) → Ar
 sign_read f [] id w r rows h = absurd h
 sign_read f (s ∷ ss) id w r rows (inl h) = ap (λ w. f (w ++ r)) h.0 ∙ rows.0 r h.2 ∙ (λ i. Ok (sym h.1 i, length (sym h.0 i)))
 sign_read f (s ∷ ss) id w r rows (inr h) = sign_read f ss id w r rows.1 h
-
-not_one : (n : ℕ) → (suc (suc n) == 1) ≡ false
-not_one n = grind (arith, common_steps)
-
-not_zero : (n : ℕ) → (suc n == 0) ≡ false
-not_zero n = grind (arith, common_steps)
 
 outside_rows : (depth : ℕ) → AreRead (outside depth) signs_outside
 unfolding outside sign
@@ -136,9 +130,6 @@ some_signs (mode.Brackets bracket.Colon) depth = (one, tt)
 
 -- ---- words
 
-no_numeral : (b c : ℕ) → (is_letter b || (b == 58)) ≡ true → (is_ascii_digit b || ((b == 46) && is_ascii_digit c)) ≡ false
-no_numeral b c h = grind (arith, common_steps)
-
 word_read : (depth id : ℕ) (w r : Text) → IsWord id w r → (outside depth (w ++ r) ≡ Ok (id, length w)) × (0 < length w)
 unfolding outside
 word_read depth id [] r h = let no = h.0 in absurd (cc)
@@ -150,9 +141,6 @@ word_read depth id (b ∷ w) r h =
           ∙ ap (λ x. cond x (word z) (cond (is_quote b) (string z) (sign depth z))) first ∙ word_beside (b ∷ w) r all h.1 ∙ ap (λ id. Ok (id, suc (length w))) (sym h.2),
       omega arith,
     )
-
-letter_apart : (b n : ℕ) → is_letter b ≡ true → is_letter n ≡ false → (b == n) ≡ false
-letter_apart b n letter other = split (b == n) (λ e. let same = ap is_letter (eqb-true b n e) in absurd (cc)) (λ no. no)
 
 name_read : (id : ℕ) (w r : Text) → IsName id w r → (in_braces (w ++ r) ≡ Ok (id, length w)) × (0 < length w)
 unfolding in_braces
@@ -167,19 +155,7 @@ name_read id (b ∷ w) r h =
 
 -- ---- strings
 
-quote_outside : (b c : ℕ) → is_quote b ≡ true → (is_ascii_digit b || ((b == 46) && is_ascii_digit c)) ≡ false
-quote_outside b c h = grind (arith, common_steps)
-
-quote_no_word : (b : ℕ) → is_quote b ≡ true → (is_letter b || (b == 58)) ≡ false
-quote_no_word b h = grind (arith, common_steps)
-
-quote_no_letter : (b : ℕ) → is_quote b ≡ true → is_letter b ≡ false
-quote_no_letter b h = grind (arith, common_steps)
-
-quote_apart : (b n : ℕ) → is_quote b ≡ true → is_quote n ≡ false → (b == n) ≡ false
-quote_apart b n is other = split (b == n) (λ e. let same = ap is_quote (eqb-true b n e) in absurd (cc)) (λ apart. apart)
-
--- behind a quote a string is read
+-- after a quote a string is read
 pub string_first : (m : Mode) (depth b : ℕ) (y : Text) → holds_strings m ≡ true → is_quote b ≡ true → begun m depth (b ∷ y) ≡ string (b ∷ y)
 unfolding outside in_braces
 string_first mode.Outside depth b y holds quote = rw (quote_outside b (next y) quote, quote_no_word b quote, quote) refl
@@ -215,9 +191,6 @@ numeral_outside depth id w r h =
     let z : Text = w ++ r in
     let b = get_or z 0 0 in
     ap (λ x. cond x (numeral z) (cond (is_letter b || (b == 58)) (word z) (cond (is_quote b) (string z) (sign depth z)))) (numeral_begins id w r h) ∙ numeral_read id w r h
-
-digit_apart : (b n : ℕ) → is_ascii_digit b ≡ true → is_ascii_digit n ≡ false → (b == n) ≡ false
-digit_apart b n is other = split (b == n) (λ e. let same = ap is_ascii_digit (eqb-true b n e) in absurd (cc)) (λ apart. apart)
 
 -- at a digit in brackets a numeral is read
 pub digit_first : (inside : Bracket) (b : ℕ) (y : Text) → is_ascii_digit b ≡ true → in_brackets inside (b ∷ y) ≡ numeral (b ∷ y)

@@ -1,5 +1,5 @@
 -- What a text begins with is what may begin there, or has the fault that is told.
-use Rattle.std.proofs.Common.{◌≡◌, ℕ, suc, ◌+◌, Bool, true, false, cond, [], ◌∷◌, length, take, drop, Ok, Err, refl, sym, ap, ◌∙◌, subst, inl, inr, ⊎_elim, arith, zero-add}
+use Rattle.std.proofs.Common.{◌≡◌, ℕ, suc, ◌+◌, true, false, cond, [], ◌∷◌, length, take, drop, Ok, Err, refl, sym, ap, ◌∙◌, subst, inl, inr, ⊎_elim, arith, zero-add}
 use Rattle.std.specs.Prelude.{◌==◌, ◌&&◌, ◌||◌}
 use Rattle.std.specs.Char.{is_ascii_digit}
 use Rattle.std.specs.List.{prefix_len}
@@ -17,22 +17,14 @@ use Rattle.promql_token.specs.Classes.{is_in, is_letter, past}
 use Rattle.promql_token.specs.Vocabulary.{next}
 use Rattle.promql_token.specs.Pieces.{Piece, begins_numeral, begun, braces_id, in_braces, in_brackets, is_quote, numeral, outside, string, word, word_id, word_in_braces}
 use Rattle.promql_token.specs.Printed.{holds_strings}
+use Rattle.promql_token.proofs.Choices.{and_both, or_false, split}
 use Rattle.promql_token.proofs.Ends.{PieceEnds, digit_begins, numeral_ends}
-use Rattle.promql_token.proofs.Gaps.{split}
 use Rattle.promql_token.proofs.Numbers.{in_none}
 use Rattle.promql_token.proofs.Numerals.{NumeralSays, numeral_says}
 use Rattle.promql_token.proofs.Places.{past_moves}
 use Rattle.promql_token.proofs.SignRows.{Says, bang_in_braces_says, colon_says, comma_in_braces_says, equal_in_braces_says, right_brace_says, right_bracket_says, sign_says}
 use Rattle.promql_token.proofs.Spelled.{first_byte, prefix_whole}
 use Rattle.promql_token.proofs.Strings.{StringSays, string_says}
-
-pub or_false : (a b : Bool) → (a || b) ≡ false → (a ≡ false) × (b ≡ false)
-or_false true b h = absurd (cc)
-or_false false b h = (refl, h)
-
-and_both : (a b : Bool) → a ≡ true → b ≡ true → (a && b) ≡ true
-and_both true b e h = h
-and_both false b e h = e
 
 -- ---- words
 

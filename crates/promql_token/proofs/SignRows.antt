@@ -17,6 +17,7 @@ use Rattle.promql_token.specs.Classes.{is_in}
 use Rattle.promql_token.specs.FaultPlaces.{IsFault}
 use Rattle.promql_token.specs.Vocabulary.{next}
 use Rattle.promql_token.specs.Pieces.{Piece, is_quote, bang_in_braces, bang_sign, colon_sign, dot_sign, equal_sign, or_equal, sign}
+use Rattle.promql_token.proofs.Choices.{not_one}
 
 -- what a piece says of its text
 abbrev pub Says : Mode → ℕ → Text → Piece → Type 0
@@ -47,9 +48,6 @@ second n (c ∷ y) e some = (y, ap (λ c. c ∷ y) (eqb-true c n e))
 
 two_bytes : (b n m : ℕ) (y : Text) → (b == n) ≡ true → (next y == m) ≡ true → 0 < m → take 2 (b ∷ y) ≡ n ∷ m ∷ []
 two_bytes b n m y e f some = let s = second m y f some in (λ i. take 2 (eqb-true b n e i ∷ s.1 i))
-
-not_one : (n : ℕ) → (suc (suc n) == 1) ≡ false
-not_one n = grind (arith, common_steps)
 
 -- ---- outside
 

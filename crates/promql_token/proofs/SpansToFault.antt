@@ -1,9 +1,8 @@
 -- Where the tokens of a text stand, also of one with a fault.
-use Rattle.std.proofs.Common.{◌≡◌, ℕ, suc, ◌+◌, ◌-◌, ◌≤◌, Bool, true, false, cond, List, [], ◌∷◌, length, take, drop, IsUtf8, Result, Ok, Err, refl, sym, ap, ◌∙◌, subst, arith, length-drop}
+use Rattle.std.proofs.Common.{◌≡◌, ℕ, ◌+◌, ◌-◌, ◌≤◌, true, false, cond, List, [], ◌∷◌, length, take, drop, IsUtf8, Ok, Err, refl, sym, ap, ◌∙◌, subst, arith, length-drop}
 use Rattle.std.specs.Str.{IsCharBoundary}
 use Rattle.std.proofs.lemmas.List.{drop-drop}
 use Rattle.std.proofs.lemmas.Str.{IsCharBoundary-start}
-use Rattle.promql_token.specs.declared.lexeme.Lexeme.{Lexeme}
 use Rattle.promql_token.specs.declared.state.State.{State}
 use Rattle.promql_text.specs.Texts.{Text}
 use Rattle.promql_token.specs.Cut.{mode_at, ids_behind}
@@ -15,7 +14,7 @@ use Rattle.promql_token.proofs.Gaps.{is_gap}
 use Rattle.promql_token.proofs.Steps.{cut_is, found_fits}
 use Rattle.promql_token.proofs.Told.{IsAt, at_start, next_at}
 
--- what is known of a gap, and of what stands behind it
+-- what is known of a gap, and of what stands after it
 record Stands (s : Text) (before : List ℕ) (at : ℕ) (f : Found) : Type 0 where
   gap : IsGapIn (mode_at before) (take f.gap (drop at s)) (drop f.gap (drop at s))
   fits : f.gap + len_of f.what ≤ length (drop at s)

@@ -19,6 +19,7 @@ use Rattle.promql_token.specs.Laws.{is_word}
 use Rattle.promql_token.specs.Lexing.{What, found, what, goes_on, behind, len_of, whats, start, lex, result_sliced, sliced}
 use Rattle.promql_token.specs.Pieces.{Piece, word, number_end, units, numeral, is_quote, is_escape, string_from, string, sign, begins_numeral, outside, colon_sign, in_brackets, end_in, begun, piece, gap_len, after_gap, after, mode_after, mode_after_something, mode_after_colon}
 use Rattle.promql_token.specs.Spelling.{IsSpelled, AreSpelled, Spelled, begins_unsigned, in_braces_after, is_no_word}
+use Rattle.promql_token.proofs.Choices.{and_both}
 use Rattle.promql_token.proofs.Ends.{and_left, number_moves, or_cases}
 use Rattle.promql_token.proofs.Places.{past_moves}
 use Rattle.promql_token.proofs.Spans.{spans}
@@ -35,10 +36,6 @@ pub first_byte : (n : ℕ) (z : Text) → 0 < n → get_or (take n z) 0 0 ≡ ge
 first_byte zero z some = absurd (omega arith)
 first_byte (suc n) [] some = refl
 first_byte (suc n) (b ∷ z) some = refl
-
-and_both : (a b : Bool) → a ≡ true → b ≡ true → (a && b) ≡ true
-and_both true b e h = h
-and_both false b e h = e
 
 -- ---- words
 

@@ -1,4 +1,4 @@
--- What is read behind a quote: a string by its spellings, or a fault.
+-- What is read after a quote: a string by its spellings, or a fault.
 use Rattle.std.proofs.Common.{◌≡◌, ℕ, suc, ◌+◌, ◌<◌, Bool, true, false, cond, List, [], ◌∷◌, ◌++◌, length, get_or, take, drop, Ok, Err, refl, sym, ap, ◌∙◌, subst, inl, inr, ◌⊎◌, ⊎_elim, arith, append_assoc, length-append}
 use Rattle.std.specs.Prelude.{◌==◌, not, ◌&&◌, ◌||◌}
 use Rattle.std.specs.List.{list_all}
@@ -13,14 +13,14 @@ use Rattle.promql_token.specs.FaultPlaces.{IsEscaping}
 use Rattle.promql_token.specs.Vocabulary.{next}
 use Rattle.promql_token.specs.Pieces.{Piece, is_escape, is_quote, string, string_from}
 use Rattle.promql_token.specs.Printed.{is_spelling, joined}
+use Rattle.promql_token.proofs.Choices.{same_number, split}
 use Rattle.promql_token.proofs.Ends.{and_left, and_right, or_cases}
-use Rattle.promql_token.proofs.Gaps.{split}
 use Rattle.promql_token.proofs.Steps.{not_true}
 
 abbrev AreSpelled : ℕ → List Text → Type 0
 AreSpelled quote ps = (has_escapes quote ≡ true) × (list_all (is_spelling quote) ps ≡ true)
 
--- what is read of a text behind a quote
+-- what is read of a text after a quote
 data Reads (quote at : ℕ) (z : Text) (p : Piece) : Type 0 where
   closed : (body r : Text) → IsBody quote body → z ≡ body ++ quote ∷ r → p ≡ Ok (T_STRING, at + length body + 1) → Reads quote at z p
   unclosed : IsBody quote z → p ≡ Err (OpenString, 0) → Reads quote at z p
@@ -231,9 +231,6 @@ body_passed : (quote : ℕ) (body z : Text) (at : ℕ) → IsBody quote body →
 body_passed quote body z at (inl b) = raw_passed quote body z at b.0 b.1
 body_passed quote body z at (inr b) = subst (λ t. string_from quote false at (t ++ z) ≡ string_from quote false (at + length t) z) (sym b.3) (spelled_passed quote b.1 z at b.0 b.2)
 
-same_byte : (n : ℕ) → (n == n) ≡ true
-same_byte n = grind (arith, common_steps)
-
 pub body_quote : (quote : ℕ) (body : Text) → IsBody quote body → is_quote quote ≡ true
 body_quote quote body (inl b) = let h = b.0 in grind (arith, common_steps)
 body_quote quote body (inr b) = let h = b.0 in grind (arith, common_steps)
@@ -247,7 +244,7 @@ unfolding string
 string_closed quote body r b =
     let len : 1 + length body + 1 ≡ suc (length (body ++ quote ∷ [])) = omega (arith, length-append body (quote ∷ [])) in
     ap (string_from quote false 1) (append_assoc body (quote ∷ []) r) ∙ body_passed quote body (quote ∷ r) 1 b
-    ∙ ap (λ c. cond c (Ok (T_STRING, 1 + length body + 1)) (string_from quote ((quote == 92) && not (quote == 96)) (1 + length body + 1) r)) (same_byte quote)
+    ∙ ap (λ c. cond c (Ok (T_STRING, 1 + length body + 1)) (string_from quote ((quote == 92) && not (quote == 96)) (1 + length body + 1) r)) (same_number quote)
     ∙ ap (λ n. Ok (T_STRING, n)) len
 
 pub string_unclosed : (quote : ℕ) (body : Text) → IsBody quote body → string (quote ∷ body) ≡ Err (OpenString, 0)

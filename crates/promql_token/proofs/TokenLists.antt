@@ -20,8 +20,9 @@ use Rattle.promql_token.specs.Lexing.{Found, What, behind, collected, cut, found
 use Rattle.promql_token.specs.Pieces.{Piece, piece, after_gap, after, end_in, gap_len}
 use Rattle.promql_token.specs.TokenLists.{Step, state_after, IsRead, IsEnd, EndsIn, places, to_end, OnlyTokens, OnlyFault, OnlyTexts, OnlyWhats, OnlyItems}
 use Rattle.promql_token.proofs.Begun.{begins_piece, faults, piece_begins}
+use Rattle.promql_token.proofs.Choices.{split}
 use Rattle.promql_token.proofs.Ends.{PieceEnds, piece_ends}
-use Rattle.promql_token.proofs.Gaps.{gap_passed, is_gap, split}
+use Rattle.promql_token.proofs.Gaps.{gap_passed, is_gap}
 use Rattle.promql_token.proofs.Inner.{Inner, begun_inner}
 use Rattle.promql_token.proofs.Places.{gap_len_ends}
 use Rattle.promql_token.proofs.Steps.{cut_is, whats_is}
@@ -72,7 +73,7 @@ gap_depth : (n : ℕ) (state : State) → (after_gap n state).depth ≡ state.de
 unfolding after_gap
 gap_depth n state = cond_both (n == 0) _ _ (λ (s : State). s.depth ≡ state.depth) (λ _. refl) (λ _. refl)
 
--- what is behind a gap of n bytes, and the gap
+-- what is after a gap of n bytes, and the gap
 record Behind (before : List ℕ) (state : State) (z : Text) (n : ℕ) : Type 0 where
   at : IsAt before state
   fits : n ≤ length z
@@ -133,7 +134,7 @@ told_fault before state at z n f k is =
       refl,
     )
 
--- a token, and what is read behind it
+-- a token, and what is read after it
 told_token : (before : List ℕ) (state : State) (at : ℕ) (z : Text) (n : ℕ) (t : ℕ × ℕ) (rs : List (Result Lexeme LexFault)) → Behind before state z n → piece (after_gap n state) (drop n z) ≡ Ok t → (t.0 == 6) ≡ false
     → let w = take t.1 (drop n z) in IsTold (t.0 ∷ before) (at + n + length w) (drop (n + length w) z) rs
     → IsTold before at z (Ok (record { id = t.0; start = at + n; len = length w }) ∷ rs)
@@ -204,7 +205,7 @@ told (f ∷ fs) before state at z h is =
 
 -- ---- and nothing else
 
--- what is found, where the gap and what is behind it are known
+-- what is found, where the gap and what is after it are known
 found_is : (before : List ℕ) (state : State) (g r : Text) → IsAt before state → IsGapIn (mode_at before) g r → found state (g ++ r) ≡ record { gap = length g; what = what (piece (state_after before g) r) r }
 unfolding found
 found_is before state g r h gap =

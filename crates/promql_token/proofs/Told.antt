@@ -15,6 +15,7 @@ use Rattle.promql_text.specs.Texts.{Text}
 use Rattle.promql_token.specs.Cut.{count_of, is_bound, mode_by, mode_at, state_at, ids_behind, IsCut, CutOnce, EndsOnce}
 use Rattle.promql_token.specs.Lexing.{What, Found, found, what, len_of, goes_on, behind, cut, whats, start, lex, placed, collected, item}
 use Rattle.promql_token.specs.Pieces.{Piece, begun, end_in, piece, after_gap, after, depth_after, mode_after, mode_after_something, mode_after_colon, gap_len}
+use Rattle.promql_token.proofs.Choices.{split}
 use Rattle.promql_token.proofs.Inner.{Inner, begun_inner}
 use Rattle.promql_token.proofs.Spans.{front_ok}
 use Rattle.promql_token.proofs.Steps.{cut_is, whats_is, found_fits}
@@ -81,10 +82,6 @@ plain_tests false true c d x h = absurd (cc)
 plain_tests false false true d x h = absurd (cc)
 plain_tests false false false true x h = absurd (cc)
 plain_tests false false false false x h = refl
-
-split : (c : Bool) {X : Type 0} → (c ≡ true → X) → (c ≡ false → X) → X
-split true f g = f refl
-split false f g = g refl
 
 mode_step : (before : List ℕ) (id : ℕ) → mode_after (mode_at before) id ≡ mode_at (id ∷ before)
 mode_step before id =
