@@ -28,10 +28,14 @@ pub fn heights()
 pub fn reading()
     ensures complete { (n : ℕ) (d : Derivation) → IsWellFormed d
         → expression n 0 (yield d) ≡ (if nat_lt n (height d) then Err TooDeep else Ok (d, [])) }
-    ensures formed { (n : ℕ) (ts rest : List Symbol) (d : Derivation) → expression n 0 ts ≡ Ok (d, rest)
+    ensures formed { (n : ℕ) (ts rest : List Symbol) (d : Derivation)
+        → expression n 0 ts ≡ Ok (d, rest)
         → IsWellFormed d }
-    ensures low { (n : ℕ) (ts rest : List Symbol) (d : Derivation) → expression n 0 ts ≡ Ok (d, rest) → height d ≤ n }
-    ensures spells { (n : ℕ) (ts rest : List Symbol) (d : Derivation) → expression n 0 ts ≡ Ok (d, rest)
+    ensures low { (n : ℕ) (ts rest : List Symbol) (d : Derivation)
+        → expression n 0 ts ≡ Ok (d, rest) → height d ≤ n }
+    ensures spells { (n : ℕ) (ts rest : List Symbol) (d : Derivation)
+        → expression n 0 ts ≡ Ok (d, rest)
         → ts ≡ yield d ++ rest }
-    ensures too_deep { (n : ℕ) (ts : List Symbol) → expression n 0 ts ≡ Err TooDeep → n ≤ length ts }
+    ensures too_deep { (n : ℕ) (ts : List Symbol) → expression n 0 ts ≡ Err TooDeep
+        → n ≤ length ts }
 {}

@@ -58,7 +58,8 @@ impl Prettier for StringLiteral {
 
     fn pretty(&self, alloc: Global, level: usize, max: usize) -> Result<String, PrettyError>
         ensures keeps { Keeps (Some (text (string (string_bytes self.now.val)))) result }
-        ensures text { IfOk result (λ s. string_bytes s ≡ laid (string (string_bytes self.now.val)) level max) }
+        ensures text { IfOk result (λ s. string_bytes s
+            ≡ laid (string (string_bytes self.now.val)) level max) }
         ensures wide { result ≡ Err PrettyError.IndentTooWide → greatest < 2 * level }
         ensures fits { IfOk result (λ s. 2 * level ≤ greatest) }
     {
@@ -68,7 +69,8 @@ impl Prettier for StringLiteral {
 
     fn format(&self, alloc: Global, level: usize, max: usize) -> Result<String, PrettyError>
         ensures keeps { Keeps (Some (text (string (string_bytes self.now.val)))) result }
-        ensures text { IfOk result (λ s. string_bytes s ≡ lines (string (string_bytes self.now.val)) level max) }
+        ensures text { IfOk result (λ s. string_bytes s
+            ≡ lines (string (string_bytes self.now.val)) level max) }
         ensures wide { result ≡ Err PrettyError.IndentTooWide → greatest < 2 * level }
         ensures fits { IfOk result (λ s. 2 * level ≤ greatest) }
     {

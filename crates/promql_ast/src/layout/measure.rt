@@ -86,7 +86,8 @@ impl Expr {
         tally: &mut Tally,
     ) -> Result<usize, AllocError>
         ensures width { IfOk result (λ n. n ≡ width (text (tree_of self.now))) }
-        ensures splits { OnOk result (splits.new.items ≡ splits.old.items ++ decisions (tree_of self.now) max) }
+        ensures splits { OnOk result (splits.new.items
+            ≡ splits.old.items ++ decisions (tree_of self.now) max) }
         ensures counted { tally.old.widths ≤ greatest → OnOk result
             (tally.new.widths ≡ stopped (tally.old.widths + nodes (tree_of self.now))) }
         ensures between { tally.old.widths ≤ greatest → (tally.old.widths ≤ tally.new.widths)
@@ -115,8 +116,10 @@ fn measure_args(
     splits: &mut Vec<bool>,
     tally: &mut Tally,
 ) -> Result<usize, AllocError>
-    ensures width { IfOk result (λ n. n ≡ width (joined_text (codes ", ") (texts (trees_of args.now)))) }
-    ensures splits { OnOk result (splits.new.items ≡ splits.old.items ++ all_decisions (trees_of args.now) max) }
+    ensures width { IfOk result (λ n. n
+        ≡ width (joined_text (codes ", ") (texts (trees_of args.now)))) }
+    ensures splits { OnOk result (splits.new.items
+        ≡ splits.old.items ++ all_decisions (trees_of args.now) max) }
     ensures counted { tally.old.widths ≤ greatest → OnOk result
         (tally.new.widths ≡ stopped (tally.old.widths + all_nodes (trees_of args.now))) }
     ensures between { tally.old.widths ≤ greatest → (tally.old.widths ≤ tally.new.widths)
@@ -139,8 +142,10 @@ fn measure_children(
     splits: &mut Vec<bool>,
     tally: &mut Tally,
 ) -> Result<usize, AllocError>
-    ensures width { IfOk result (λ n. n ≡ width (joined_text (codes ", ") (texts (children_of children.now)))) }
-    ensures splits { OnOk result (splits.new.items ≡ splits.old.items ++ all_decisions (children_of children.now) max) }
+    ensures width { IfOk result (λ n. n
+        ≡ width (joined_text (codes ", ") (texts (children_of children.now)))) }
+    ensures splits { OnOk result (splits.new.items
+        ≡ splits.old.items ++ all_decisions (children_of children.now) max) }
     ensures counted { tally.old.widths ≤ greatest → OnOk result
         (tally.new.widths ≡ stopped (tally.old.widths + all_nodes (children_of children.now))) }
     ensures between { tally.old.widths ≤ greatest → (tally.old.widths ≤ tally.new.widths)
@@ -190,7 +195,8 @@ impl AggregateExpr {
         tally: &mut Tally,
     ) -> Result<usize, AllocError>
         ensures width { IfOk result (λ n. n ≡ width (text (aggregate_tree self.now))) }
-        ensures splits { OnOk result (splits.new.items ≡ splits.old.items ++ parts (aggregate_tree self.now) max) }
+        ensures splits { OnOk result (splits.new.items
+            ≡ splits.old.items ++ parts (aggregate_tree self.now) max) }
         ensures counted { tally.old.widths ≤ greatest → OnOk result
             (tally.new.widths ≡ stopped (tally.old.widths + nodes (aggregate_tree self.now))) }
         ensures between { tally.old.widths ≤ greatest → (tally.old.widths ≤ tally.new.widths)
@@ -210,7 +216,8 @@ impl AggregateExpr {
         tally: &mut Tally,
     ) -> Result<usize, AllocError>
         ensures width { IfOk result (λ n. n ≡ width (text (aggregate_tree self.now))) }
-        ensures splits { OnOk result (splits.new.items ≡ splits.old.items ++ decisions (aggregate_tree self.now) max) }
+        ensures splits { OnOk result (splits.new.items
+            ≡ splits.old.items ++ decisions (aggregate_tree self.now) max) }
         ensures counted { tally.old.widths ≤ greatest → OnOk result
             (tally.new.widths ≡ stopped (tally.old.widths + nodes (aggregate_tree self.now))) }
         ensures between { tally.old.widths ≤ greatest → (tally.old.widths ≤ tally.new.widths)
@@ -234,7 +241,8 @@ impl BinaryExpr {
         tally: &mut Tally,
     ) -> Result<usize, AllocError>
         ensures width { IfOk result (λ n. n ≡ width (text (binary_tree self.now))) }
-        ensures splits { OnOk result (splits.new.items ≡ splits.old.items ++ parts (binary_tree self.now) max) }
+        ensures splits { OnOk result (splits.new.items
+            ≡ splits.old.items ++ parts (binary_tree self.now) max) }
         ensures counted { tally.old.widths ≤ greatest → OnOk result
             (tally.new.widths ≡ stopped (tally.old.widths + nodes (binary_tree self.now))) }
         ensures between { tally.old.widths ≤ greatest → (tally.old.widths ≤ tally.new.widths)
@@ -254,7 +262,8 @@ impl BinaryExpr {
         tally: &mut Tally,
     ) -> Result<usize, AllocError>
         ensures width { IfOk result (λ n. n ≡ width (text (binary_tree self.now))) }
-        ensures splits { OnOk result (splits.new.items ≡ splits.old.items ++ decisions (binary_tree self.now) max) }
+        ensures splits { OnOk result (splits.new.items
+            ≡ splits.old.items ++ decisions (binary_tree self.now) max) }
         ensures counted { tally.old.widths ≤ greatest → OnOk result
             (tally.new.widths ≡ stopped (tally.old.widths + nodes (binary_tree self.now))) }
         ensures between { tally.old.widths ≤ greatest → (tally.old.widths ≤ tally.new.widths)
@@ -278,7 +287,8 @@ impl ParenExpr {
         tally: &mut Tally,
     ) -> Result<usize, AllocError>
         ensures width { IfOk result (λ n. n ≡ width (text (paren_tree self.now))) }
-        ensures splits { OnOk result (splits.new.items ≡ splits.old.items ++ parts (paren_tree self.now) max) }
+        ensures splits { OnOk result (splits.new.items
+            ≡ splits.old.items ++ parts (paren_tree self.now) max) }
         ensures counted { tally.old.widths ≤ greatest → OnOk result
             (tally.new.widths ≡ stopped (tally.old.widths + nodes (paren_tree self.now))) }
         ensures between { tally.old.widths ≤ greatest → (tally.old.widths ≤ tally.new.widths)
@@ -297,7 +307,8 @@ impl ParenExpr {
         tally: &mut Tally,
     ) -> Result<usize, AllocError>
         ensures width { IfOk result (λ n. n ≡ width (text (paren_tree self.now))) }
-        ensures splits { OnOk result (splits.new.items ≡ splits.old.items ++ decisions (paren_tree self.now) max) }
+        ensures splits { OnOk result (splits.new.items
+            ≡ splits.old.items ++ decisions (paren_tree self.now) max) }
         ensures counted { tally.old.widths ≤ greatest → OnOk result
             (tally.new.widths ≡ stopped (tally.old.widths + nodes (paren_tree self.now))) }
         ensures between { tally.old.widths ≤ greatest → (tally.old.widths ≤ tally.new.widths)
@@ -321,7 +332,8 @@ impl Call {
         tally: &mut Tally,
     ) -> Result<usize, AllocError>
         ensures width { IfOk result (λ n. n ≡ width (text (call_tree self.now))) }
-        ensures splits { OnOk result (splits.new.items ≡ splits.old.items ++ parts (call_tree self.now) max) }
+        ensures splits { OnOk result (splits.new.items
+            ≡ splits.old.items ++ parts (call_tree self.now) max) }
         ensures counted { tally.old.widths ≤ greatest → OnOk result
             (tally.new.widths ≡ stopped (tally.old.widths + nodes (call_tree self.now))) }
         ensures between { tally.old.widths ≤ greatest → (tally.old.widths ≤ tally.new.widths)
@@ -340,7 +352,8 @@ impl Call {
         tally: &mut Tally,
     ) -> Result<usize, AllocError>
         ensures width { IfOk result (λ n. n ≡ width (text (call_tree self.now))) }
-        ensures splits { OnOk result (splits.new.items ≡ splits.old.items ++ decisions (call_tree self.now) max) }
+        ensures splits { OnOk result (splits.new.items
+            ≡ splits.old.items ++ decisions (call_tree self.now) max) }
         ensures counted { tally.old.widths ≤ greatest → OnOk result
             (tally.new.widths ≡ stopped (tally.old.widths + nodes (call_tree self.now))) }
         ensures between { tally.old.widths ≤ greatest → (tally.old.widths ≤ tally.new.widths)
@@ -363,7 +376,8 @@ impl UnaryExpr {
         tally: &mut Tally,
     ) -> Result<usize, AllocError>
         ensures width { IfOk result (λ n. n ≡ width (text (unary_tree self.now))) }
-        ensures splits { OnOk result (splits.new.items ≡ splits.old.items ++ decisions (unary_tree self.now) max) }
+        ensures splits { OnOk result (splits.new.items
+            ≡ splits.old.items ++ decisions (unary_tree self.now) max) }
         ensures counted { tally.old.widths ≤ greatest → OnOk result
             (tally.new.widths ≡ stopped (tally.old.widths + nodes (unary_tree self.now))) }
         ensures between { tally.old.widths ≤ greatest → (tally.old.widths ≤ tally.new.widths)
@@ -385,7 +399,8 @@ impl SubqueryExpr {
         tally: &mut Tally,
     ) -> Result<usize, AllocError>
         ensures width { IfOk result (λ n. n ≡ width (text (subquery_tree self.now))) }
-        ensures splits { OnOk result (splits.new.items ≡ splits.old.items ++ decisions (subquery_tree self.now) max) }
+        ensures splits { OnOk result (splits.new.items
+            ≡ splits.old.items ++ decisions (subquery_tree self.now) max) }
         ensures counted { tally.old.widths ≤ greatest → OnOk result
             (tally.new.widths ≡ stopped (tally.old.widths + nodes (subquery_tree self.now))) }
         ensures between { tally.old.widths ≤ greatest → (tally.old.widths ≤ tally.new.widths)
@@ -407,7 +422,8 @@ impl Extension {
         tally: &mut Tally,
     ) -> Result<usize, AllocError>
         ensures width { IfOk result (λ n. n ≡ width (text (extension_tree self.now))) }
-        ensures splits { OnOk result (splits.new.items ≡ splits.old.items ++ decisions (extension_tree self.now) max) }
+        ensures splits { OnOk result (splits.new.items
+            ≡ splits.old.items ++ decisions (extension_tree self.now) max) }
         ensures counted { tally.old.widths ≤ greatest → OnOk result
             (tally.new.widths ≡ stopped (tally.old.widths + nodes (extension_tree self.now))) }
         ensures between { tally.old.widths ≤ greatest → (tally.old.widths ≤ tally.new.widths)

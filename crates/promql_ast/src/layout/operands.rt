@@ -64,7 +64,8 @@ impl Prettier for SubqueryExpr {
         ensures text { IfOk result (λ s. string_bytes s ≡ laid (subquery_tree self.now) level max) }
         ensures wide { result ≡ Err PrettyError.IndentTooWide
             → greatest < 2 * deepest (subquery_tree self.now) level max }
-        ensures fits { IfOk result (λ s. 2 * deepest (subquery_tree self.now) level max ≤ greatest) }
+        ensures fits { IfOk result (λ s. 2 * deepest (subquery_tree self.now) level max
+            ≤ greatest) }
     {
         let mut splits = Vec::new(alloc);
         self.measure(max, &mut splits, &mut Tally::default())?;
@@ -75,7 +76,8 @@ impl Prettier for SubqueryExpr {
 
     fn format(&self, alloc: Global, level: usize, max: usize) -> Result<String, PrettyError>
         ensures keeps { Keeps (Some (text (subquery_tree self.now))) result }
-        ensures text { IfOk result (λ s. string_bytes s ≡ lines (subquery_tree self.now) level max) }
+        ensures text { IfOk result (λ s. string_bytes s
+            ≡ lines (subquery_tree self.now) level max) }
         ensures wide { result ≡ Err PrettyError.IndentTooWide → greatest < 2 * level }
         ensures fits { IfOk result (λ s. 2 * level ≤ greatest) }
     {
@@ -98,7 +100,8 @@ impl Prettier for FunctionArgs {
     ghost states = { λ e. Prim.search rules };
 
     fn pretty(&self, alloc: Global, level: usize, max: usize) -> Result<String, PrettyError>
-        ensures keeps { Keeps (Some (joined_text (codes ", ") (texts (trees_of self.now.args.items)))) result }
+        ensures keeps { Keeps (Some (joined_text (codes ", ") (texts
+            (trees_of self.now.args.items)))) result }
         ensures text { IfOk result
             (λ s. string_bytes s ≡ args_laid (trees_of self.now.args.items) level max) }
         ensures wide { result ≡ Err PrettyError.IndentTooWide
@@ -114,7 +117,8 @@ impl Prettier for FunctionArgs {
     }
 
     fn format(&self, alloc: Global, level: usize, max: usize) -> Result<String, PrettyError>
-        ensures keeps { Keeps (Some (joined_text (codes ", ") (texts (trees_of self.now.args.items)))) result }
+        ensures keeps { Keeps (Some (joined_text (codes ", ") (texts
+            (trees_of self.now.args.items)))) result }
         ensures text { IfOk result (λ s. string_bytes s ≡ indent level
             ++ joined_text (codes ", ") (texts (trees_of self.now.args.items))) }
         ensures wide { result ≡ Err PrettyError.IndentTooWide → greatest < 2 * level }
@@ -125,7 +129,8 @@ impl Prettier for FunctionArgs {
     }
 
     fn needs_split(&self, max: usize) -> bool
-        ensures split { IfSome (Some (joined_text (codes ", ") (texts (trees_of self.now.args.items))))
+        ensures split { IfSome (Some (joined_text (codes ", ") (texts
+            (trees_of self.now.args.items))))
             (λ t. (IsTrue result → IsTrue (is_longer max t)) ⊎ ⊥) }
         ensures exact { result
             ≡ is_longer max (joined_text (codes ", ") (texts (trees_of self.now.args.items))) }

@@ -37,7 +37,8 @@ impl Expr {
     ) -> Result<(), PrettyError>
         ensures text { OnOk result (string_bytes out.new
             ≡ string_bytes out.old ++ told (tree_of self.now) level (iter_rest splits.old)) }
-        ensures rest { OnOk result (iter_rest splits.new ≡ rest (tree_of self.now) (iter_rest splits.old)) }
+        ensures rest { OnOk result (iter_rest splits.new
+            ≡ rest (tree_of self.now) (iter_rest splits.old)) }
         ensures wide { result ≡ Err PrettyError.IndentTooWide
             → greatest < 2 * told_deepest (tree_of self.now) level (iter_rest splits.old) }
         ensures fits { OnOk result
@@ -121,12 +122,16 @@ impl AggregateExpr {
         out: &mut String,
     ) -> Result<(), PrettyError>
         ensures text { OnOk result (string_bytes out.new
-            ≡ string_bytes out.old ++ told (aggregate_tree self.now) level (true ∷ iter_rest splits.old)) }
-        ensures rest { OnOk result (iter_rest splits.new ≡ rest (aggregate_tree self.now) (true ∷ iter_rest splits.old)) }
+            ≡ string_bytes out.old ++ told (aggregate_tree self.now) level (true
+            ∷ iter_rest splits.old)) }
+        ensures rest { OnOk result (iter_rest splits.new
+            ≡ rest (aggregate_tree self.now) (true ∷ iter_rest splits.old)) }
         ensures wide { result ≡ Err PrettyError.IndentTooWide
-            → greatest < 2 * told_deepest (aggregate_tree self.now) level (true ∷ iter_rest splits.old) }
+            → greatest < 2 * told_deepest (aggregate_tree self.now) level (true
+            ∷ iter_rest splits.old) }
         ensures fits { OnOk result
-            (2 * told_deepest (aggregate_tree self.now) level (true ∷ iter_rest splits.old) ≤ greatest) }
+            (2 * told_deepest (aggregate_tree self.now) level (true ∷ iter_rest splits.old)
+            ≤ greatest) }
     {
         let inner = deeper(level)?;
         push_indent(out, level)?;
@@ -151,7 +156,8 @@ impl AggregateExpr {
     ) -> Result<(), PrettyError>
         ensures text { OnOk result (string_bytes out.new
             ≡ string_bytes out.old ++ told (aggregate_tree self.now) level (iter_rest splits.old)) }
-        ensures rest { OnOk result (iter_rest splits.new ≡ rest (aggregate_tree self.now) (iter_rest splits.old)) }
+        ensures rest { OnOk result (iter_rest splits.new
+            ≡ rest (aggregate_tree self.now) (iter_rest splits.old)) }
         ensures wide { result ≡ Err PrettyError.IndentTooWide
             → greatest < 2 * told_deepest (aggregate_tree self.now) level (iter_rest splits.old) }
         ensures fits { OnOk result
@@ -176,12 +182,16 @@ impl BinaryExpr {
         out: &mut String,
     ) -> Result<(), PrettyError>
         ensures text { OnOk result (string_bytes out.new
-            ≡ string_bytes out.old ++ told (binary_tree self.now) level (true ∷ iter_rest splits.old)) }
-        ensures rest { OnOk result (iter_rest splits.new ≡ rest (binary_tree self.now) (true ∷ iter_rest splits.old)) }
+            ≡ string_bytes out.old ++ told (binary_tree self.now) level (true
+            ∷ iter_rest splits.old)) }
+        ensures rest { OnOk result (iter_rest splits.new
+            ≡ rest (binary_tree self.now) (true ∷ iter_rest splits.old)) }
         ensures wide { result ≡ Err PrettyError.IndentTooWide
-            → greatest < 2 * told_deepest (binary_tree self.now) level (true ∷ iter_rest splits.old) }
+            → greatest < 2 * told_deepest (binary_tree self.now) level (true
+            ∷ iter_rest splits.old) }
         ensures fits { OnOk result
-            (2 * told_deepest (binary_tree self.now) level (true ∷ iter_rest splits.old) ≤ greatest) }
+            (2 * told_deepest (binary_tree self.now) level (true ∷ iter_rest splits.old)
+            ≤ greatest) }
     {
         let inner = deeper(level)?;
         (*self.lhs).place(alloc, inner, splits, out)?;
@@ -201,7 +211,8 @@ impl BinaryExpr {
     ) -> Result<(), PrettyError>
         ensures text { OnOk result (string_bytes out.new
             ≡ string_bytes out.old ++ told (binary_tree self.now) level (iter_rest splits.old)) }
-        ensures rest { OnOk result (iter_rest splits.new ≡ rest (binary_tree self.now) (iter_rest splits.old)) }
+        ensures rest { OnOk result (iter_rest splits.new
+            ≡ rest (binary_tree self.now) (iter_rest splits.old)) }
         ensures wide { result ≡ Err PrettyError.IndentTooWide
             → greatest < 2 * told_deepest (binary_tree self.now) level (iter_rest splits.old) }
         ensures fits { OnOk result
@@ -226,12 +237,16 @@ impl ParenExpr {
         out: &mut String,
     ) -> Result<(), PrettyError>
         ensures text { OnOk result (string_bytes out.new
-            ≡ string_bytes out.old ++ told (paren_tree self.now) level (true ∷ iter_rest splits.old)) }
-        ensures rest { OnOk result (iter_rest splits.new ≡ rest (paren_tree self.now) (true ∷ iter_rest splits.old)) }
+            ≡ string_bytes out.old ++ told (paren_tree self.now) level (true
+            ∷ iter_rest splits.old)) }
+        ensures rest { OnOk result (iter_rest splits.new
+            ≡ rest (paren_tree self.now) (true ∷ iter_rest splits.old)) }
         ensures wide { result ≡ Err PrettyError.IndentTooWide
-            → greatest < 2 * told_deepest (paren_tree self.now) level (true ∷ iter_rest splits.old) }
+            → greatest < 2 * told_deepest (paren_tree self.now) level (true
+            ∷ iter_rest splits.old) }
         ensures fits { OnOk result
-            (2 * told_deepest (paren_tree self.now) level (true ∷ iter_rest splits.old) ≤ greatest) }
+            (2 * told_deepest (paren_tree self.now) level (true ∷ iter_rest splits.old)
+            ≤ greatest) }
     {
         let inner = deeper(level)?;
         push_indent(out, level)?;
@@ -250,7 +265,8 @@ impl ParenExpr {
     ) -> Result<(), PrettyError>
         ensures text { OnOk result (string_bytes out.new
             ≡ string_bytes out.old ++ told (paren_tree self.now) level (iter_rest splits.old)) }
-        ensures rest { OnOk result (iter_rest splits.new ≡ rest (paren_tree self.now) (iter_rest splits.old)) }
+        ensures rest { OnOk result (iter_rest splits.new
+            ≡ rest (paren_tree self.now) (iter_rest splits.old)) }
         ensures wide { result ≡ Err PrettyError.IndentTooWide
             → greatest < 2 * told_deepest (paren_tree self.now) level (iter_rest splits.old) }
         ensures fits { OnOk result
@@ -275,8 +291,10 @@ impl Call {
         out: &mut String,
     ) -> Result<(), PrettyError>
         ensures text { OnOk result (string_bytes out.new
-            ≡ string_bytes out.old ++ told (call_tree self.now) level (true ∷ iter_rest splits.old)) }
-        ensures rest { OnOk result (iter_rest splits.new ≡ rest (call_tree self.now) (true ∷ iter_rest splits.old)) }
+            ≡ string_bytes out.old ++ told (call_tree self.now) level (true
+            ∷ iter_rest splits.old)) }
+        ensures rest { OnOk result (iter_rest splits.new
+            ≡ rest (call_tree self.now) (true ∷ iter_rest splits.old)) }
         ensures wide { result ≡ Err PrettyError.IndentTooWide
             → greatest < 2 * told_deepest (call_tree self.now) level (true ∷ iter_rest splits.old) }
         ensures fits { OnOk result
@@ -300,7 +318,8 @@ impl Call {
     ) -> Result<(), PrettyError>
         ensures text { OnOk result (string_bytes out.new
             ≡ string_bytes out.old ++ told (call_tree self.now) level (iter_rest splits.old)) }
-        ensures rest { OnOk result (iter_rest splits.new ≡ rest (call_tree self.now) (iter_rest splits.old)) }
+        ensures rest { OnOk result (iter_rest splits.new
+            ≡ rest (call_tree self.now) (iter_rest splits.old)) }
         ensures wide { result ≡ Err PrettyError.IndentTooWide
             → greatest < 2 * told_deepest (call_tree self.now) level (iter_rest splits.old) }
         ensures fits { OnOk result
@@ -325,7 +344,8 @@ impl UnaryExpr {
     ) -> Result<(), PrettyError>
         ensures text { OnOk result (string_bytes out.new
             ≡ string_bytes out.old ++ told (unary_tree self.now) level (iter_rest splits.old)) }
-        ensures rest { OnOk result (iter_rest splits.new ≡ rest (unary_tree self.now) (iter_rest splits.old)) }
+        ensures rest { OnOk result (iter_rest splits.new
+            ≡ rest (unary_tree self.now) (iter_rest splits.old)) }
         ensures wide { result ≡ Err PrettyError.IndentTooWide
             → greatest < 2 * told_deepest (unary_tree self.now) level (iter_rest splits.old) }
         ensures fits { OnOk result
@@ -351,7 +371,8 @@ impl SubqueryExpr {
     ) -> Result<(), PrettyError>
         ensures text { OnOk result (string_bytes out.new
             ≡ string_bytes out.old ++ told (subquery_tree self.now) level (iter_rest splits.old)) }
-        ensures rest { OnOk result (iter_rest splits.new ≡ rest (subquery_tree self.now) (iter_rest splits.old)) }
+        ensures rest { OnOk result (iter_rest splits.new
+            ≡ rest (subquery_tree self.now) (iter_rest splits.old)) }
         ensures wide { result ≡ Err PrettyError.IndentTooWide
             → greatest < 2 * told_deepest (subquery_tree self.now) level (iter_rest splits.old) }
         ensures fits { OnOk result
@@ -382,7 +403,8 @@ impl FunctionArgs {
         ensures wide { result ≡ Err PrettyError.IndentTooWide → greatest
             < 2 * all_told_deepest (trees_of self.now.args.items) level (iter_rest splits.old) }
         ensures fits { OnOk result
-            (2 * all_told_deepest (trees_of self.now.args.items) level (iter_rest splits.old) ≤ greatest) }
+            (2 * all_told_deepest (trees_of self.now.args.items) level (iter_rest splits.old)
+            ≤ greatest) }
     {
         place_args(self.args.as_slice(), alloc, level, splits, out)
     }

@@ -22,10 +22,12 @@ impl Prettier for AggregateExpr {
 
     fn pretty(&self, alloc: Global, level: usize, max: usize) -> Result<String, PrettyError>
         ensures keeps { Keeps (Some (text (aggregate_tree self.now))) result }
-        ensures text { IfOk result (λ s. string_bytes s ≡ laid (aggregate_tree self.now) level max) }
+        ensures text { IfOk result (λ s. string_bytes s
+            ≡ laid (aggregate_tree self.now) level max) }
         ensures wide { result ≡ Err PrettyError.IndentTooWide
             → greatest < 2 * deepest (aggregate_tree self.now) level max }
-        ensures fits { IfOk result (λ s. 2 * deepest (aggregate_tree self.now) level max ≤ greatest) }
+        ensures fits { IfOk result (λ s. 2 * deepest (aggregate_tree self.now) level max
+            ≤ greatest) }
     {
         let mut splits = Vec::new(alloc);
         self.measure(max, &mut splits, &mut Tally::default())?;
@@ -36,10 +38,12 @@ impl Prettier for AggregateExpr {
 
     fn format(&self, alloc: Global, level: usize, max: usize) -> Result<String, PrettyError>
         ensures keeps { Keeps (Some (text (aggregate_tree self.now))) result }
-        ensures text { IfOk result (λ s. string_bytes s ≡ lines (aggregate_tree self.now) level max) }
+        ensures text { IfOk result (λ s. string_bytes s
+            ≡ lines (aggregate_tree self.now) level max) }
         ensures wide { result ≡ Err PrettyError.IndentTooWide
             → greatest < 2 * lines_deepest (aggregate_tree self.now) level max }
-        ensures fits { IfOk result (λ s. 2 * lines_deepest (aggregate_tree self.now) level max ≤ greatest) }
+        ensures fits { IfOk result (λ s. 2 * lines_deepest (aggregate_tree self.now) level max
+            ≤ greatest) }
     {
         let mut splits = Vec::new(alloc);
         self.measure_parts(max, &mut splits, &mut Tally::default())?;
@@ -81,7 +85,8 @@ impl Prettier for BinaryExpr {
         ensures text { IfOk result (λ s. string_bytes s ≡ lines (binary_tree self.now) level max) }
         ensures wide { result ≡ Err PrettyError.IndentTooWide
             → greatest < 2 * lines_deepest (binary_tree self.now) level max }
-        ensures fits { IfOk result (λ s. 2 * lines_deepest (binary_tree self.now) level max ≤ greatest) }
+        ensures fits { IfOk result (λ s. 2 * lines_deepest (binary_tree self.now) level max
+            ≤ greatest) }
     {
         let mut splits = Vec::new(alloc);
         self.measure_parts(max, &mut splits, &mut Tally::default())?;
@@ -123,7 +128,8 @@ impl Prettier for ParenExpr {
         ensures text { IfOk result (λ s. string_bytes s ≡ lines (paren_tree self.now) level max) }
         ensures wide { result ≡ Err PrettyError.IndentTooWide
             → greatest < 2 * lines_deepest (paren_tree self.now) level max }
-        ensures fits { IfOk result (λ s. 2 * lines_deepest (paren_tree self.now) level max ≤ greatest) }
+        ensures fits { IfOk result (λ s. 2 * lines_deepest (paren_tree self.now) level max
+            ≤ greatest) }
     {
         let mut splits = Vec::new(alloc);
         self.measure_parts(max, &mut splits, &mut Tally::default())?;
@@ -165,7 +171,8 @@ impl Prettier for Call {
         ensures text { IfOk result (λ s. string_bytes s ≡ lines (call_tree self.now) level max) }
         ensures wide { result ≡ Err PrettyError.IndentTooWide
             → greatest < 2 * lines_deepest (call_tree self.now) level max }
-        ensures fits { IfOk result (λ s. 2 * lines_deepest (call_tree self.now) level max ≤ greatest) }
+        ensures fits { IfOk result (λ s. 2 * lines_deepest (call_tree self.now) level max
+            ≤ greatest) }
     {
         let mut splits = Vec::new(alloc);
         self.measure_parts(max, &mut splits, &mut Tally::default())?;

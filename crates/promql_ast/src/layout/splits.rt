@@ -8,7 +8,8 @@ use std::slice;
 
 /// Keeps a node's decision at a place, and what follows if the node is split.
 pub fn decide(splits: &mut Vec<bool>, place: usize, longer: bool)
-    ensures { (front parts : List Bool) → place ≡ length front → splits.old.items ≡ front ++ false ∷ parts
+    ensures { (front parts : List Bool) → place ≡ length front
+        → splits.old.items ≡ front ++ false ∷ parts
         → splits.new.items ≡ front ++ decided longer parts }
 {
     if longer {

@@ -194,7 +194,9 @@ fn matrix_range_width(range: &Duration, mode: RangeMode) -> usize
 /// The bytes of a matrix selector.
 #[tactic(auto, using(promql_text::proofs::Widths::width_append))]
 pub fn matrix_width(selector: &MatrixSelector) -> usize
-    ensures { result ≡ width (matrix_text (selector_of selector.now.vs) (as_nanos selector.now.range) selector.now.mode) }
+    ensures { result
+        ≡ width (matrix_text (selector_of selector.now.vs)
+        (as_nanos selector.now.range) selector.now.mode) }
 {
     let range = matrix_range_width(&selector.range, selector.mode);
     base_width(&selector.vs).saturating_add(range.saturating_add(suffix_width(&selector.vs)))
