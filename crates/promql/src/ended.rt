@@ -59,7 +59,8 @@ impl<R: Read> Read for Ended<R> {
     /// One call of the reader within. `failed` is set exactly where that call fails.
     fn read(&mut self, buf: &mut [u8]) -> io::Result<usize>
         ensures bound { ReadsAtMost result buf.new }
-        ensures bytes { ReadConsumes (R.remaining self.old.inner) (R.remaining self.new.inner) result buf.new }
+        ensures bytes { ReadConsumes (R.remaining self.old.inner)
+            (R.remaining self.new.inner) result buf.new }
         ensures failed { self.new.failed ≡ (self.old.failed || is_err result) }
         ensures pending { self.new.pending ≡ self.old.pending }
     {
@@ -80,7 +81,8 @@ impl<W: Write> Write for Ended<W> {
     /// text that is not empty, `pending` exactly where it takes a byte.
     fn write(&mut self, buf: &[u8]) -> io::Result<usize>
         ensures bound { WritesAtMost result buf.now }
-        ensures bytes { WriteAppends (W.contents self.old.inner) (W.contents self.new.inner) result buf.now }
+        ensures bytes { WriteAppends (W.contents self.old.inner)
+            (W.contents self.new.inner) result buf.now }
         ensures failed { self.new.failed ≡ (self.old.failed || takes_nothing result buf.now) }
         ensures pending { self.new.pending ≡ (self.old.pending || takes_bytes result) }
     {

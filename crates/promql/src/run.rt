@@ -105,7 +105,8 @@ impl From<ParseError> for RunError {
 
 /// Reads all that the reader has. Each read but the last adds a byte, so an endless input ends in `Memory`.
 fn read_input<R: Read>(alloc: Global, reader: &mut Ended<R>) -> Result<Vec<u8>, RunError>
-    ensures read { IfOk result (λ bytes. HasRead (R.remaining reader.old.inner) (R.remaining reader.new.inner) bytes.items) }
+    ensures read { IfOk result (λ bytes. HasRead (R.remaining reader.old.inner)
+        (R.remaining reader.new.inner) bytes.items) }
     ensures quiet { MatchResult result (λ _. reader.new.failed ≡ reader.old.failed)
         (λ e. UnlessRead e (reader.new.failed ≡ reader.old.failed)) }
     ensures failed { IsErrOf result RunError.Read → reader.new.failed ≡ true }
@@ -128,7 +129,8 @@ fn read_input<R: Read>(alloc: Global, reader: &mut Ended<R>) -> Result<Vec<u8>, 
 fn answer_text(alloc: Global, mode: Mode, text: &str) -> Result<String, RunError>
     ensures ok { IfOk result (λ answer. IsPrinted mode text.now (string_bytes answer)) }
     ensures json { IsErrOf result RunError.Json → HasNoForm mode text.now }
-    ensures parse { (e : ParseError) → IsErrOf result (RunError.Parse e) → IsAnswerTo text.now (Err (refusal_of e)) × (e ≢ ParseError.Memory) }
+    ensures parse { (e : ParseError) → IsErrOf result (RunError.Parse e)
+        → IsAnswerTo text.now (Err (refusal_of e)) × (e ≢ ParseError.Memory) }
     ensures errors { IfErr result IsAnswerError }
 {
     let expr = parse(alloc, text)?;
@@ -141,10 +143,12 @@ fn answer_text(alloc: Global, mode: Mode, text: &str) -> Result<String, RunError
 ///
 /// `Write` is returned only where a call failed: then a beginning of the text was written, and nothing else.
 pub fn write_text<W: Write>(writer: &mut Ended<W>, text: &str) -> Result<(), RunError>
-    ensures ok { OnOk result (Appends (W.contents writer.old.inner) (W.contents writer.new.inner) text.now) }
+    ensures ok { OnOk result (Appends (W.contents writer.old.inner)
+        (W.contents writer.new.inner) text.now) }
     ensures quiet { OnOk result (writer.new.failed ≡ writer.old.failed) }
     ensures flushed { OnOk result (writer.new.pending ≡ false) }
-    ensures begun { OnErr result (AppendsBeginning (W.contents writer.old.inner) (W.contents writer.new.inner) text.now) }
+    ensures begun { OnErr result (AppendsBeginning (W.contents writer.old.inner)
+        (W.contents writer.new.inner) text.now) }
     ensures failed { OnErr result (writer.new.failed ≡ true) }
     ensures errors { IfErr result (λ e. e ≡ RunError.Write) }
 {
@@ -172,7 +176,8 @@ pub fn run<R: Read, W: Write>(
     writer: &mut Ended<W>,
 ) -> Result<(), RunError>
     // All of the input was read, and what was written is the answer's text and a line feed, flushed.
-    ensures ok { OnOk result (Prints mode (R.remaining reader.old.inner) (R.remaining reader.new.inner)
+    ensures ok { OnOk result (Prints mode (R.remaining reader.old.inner)
+        (R.remaining reader.new.inner)
         (W.contents writer.old.inner) (W.contents writer.new.inner)) }
     ensures flushed { OnOk result (writer.new.pending ≡ false) }
     // No read failed but for `Read`, and no write but for `Write`.
@@ -182,14 +187,16 @@ pub fn run<R: Read, W: Write>(
     ensures read { IsErrOf result RunError.Read → reader.new.failed ≡ true }
     ensures write { IsErrOf result RunError.Write → writer.new.failed ≡ true }
     // The input's own faults, in this order, where all of it was read.
-    ensures not_utf8 { IsErrOf result RunError.NotUtf8 → IsNotUtf8 (R.remaining reader.old.inner) (R.remaining reader.new.inner) }
+    ensures not_utf8 { IsErrOf result RunError.NotUtf8
+        → IsNotUtf8 (R.remaining reader.old.inner) (R.remaining reader.new.inner) }
     ensures parse { (e : ParseError) → IsErrOf result (RunError.Parse e) →
         IsRejected e (R.remaining reader.old.inner) (R.remaining reader.new.inner) }
     ensures json { IsErrOf result RunError.Json →
         IsTooWide mode (R.remaining reader.old.inner) (R.remaining reader.new.inner) }
     // Nothing was written before the whole answer was made, and nothing but a beginning of it where a write failed.
     ensures unwritten { IfErr result (λ e. UnlessWrite e (writer.new ≡ writer.old)) }
-    ensures begun { IsErrOf result RunError.Write → BeginsToPrint mode (R.remaining reader.old.inner)
+    ensures begun { IsErrOf result RunError.Write
+        → BeginsToPrint mode (R.remaining reader.old.inner)
         (R.remaining reader.new.inner) (W.contents writer.old.inner) (W.contents writer.new.inner) }
 {
     let input = read_input(alloc, reader)?;

@@ -100,7 +100,8 @@ pub(crate) fn aggregate_members(
     alloc: Global,
     node: &AggregateExpr,
 ) -> Result<Map<String, Value>, JsonError>
-    ensures ok { IfOk result (λ m. members_view m.entries ≡ node_members (aggregate_tree node.now)) }
+    ensures ok { IfOk result (λ m. members_view m.entries
+        ≡ node_members (aggregate_tree node.now)) }
     ensures fits { IfOk result (λ _. json_fault (aggregate_tree node.now) ≡ None) }
     ensures err { IfErr result (λ e. e ≢ Memory → json_fault (aggregate_tree node.now) ≡ Some e) }
 {
@@ -260,7 +261,8 @@ pub(crate) fn args_members(
     ensures ok { IfOk result
         (λ m. members_view m.entries ≡ args_parts (trees_of args.now.args.items)) }
     ensures fits { IfOk result (λ _. args_fault (trees_of args.now.args.items) ≡ None) }
-    ensures err { IfErr result (λ e. e ≢ Memory → args_fault (trees_of args.now.args.items) ≡ Some e) }
+    ensures err { IfErr result (λ e. e ≢ Memory
+        → args_fault (trees_of args.now.args.items) ≡ Some e) }
 {
     let args = args_json(alloc, args.args.as_slice())?;
     let mut members = Map::new(alloc);

@@ -162,7 +162,8 @@ pub(crate) fn optional_labels_json(
     modifier: &Option<LabelModifier>,
 ) -> Result<Value, AllocError>
     ensures { IfOk result
-        (λ v. view v ≡ spec.labels_json (spec.optional_labels (option_map clause_of modifier.now))) }
+        (λ v. view v ≡ spec.labels_json (spec.optional_labels
+        (option_map clause_of modifier.now))) }
 {
     match modifier {
         Some(modifier) => labels_json(alloc, modifier.labels()),
