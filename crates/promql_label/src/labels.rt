@@ -8,6 +8,7 @@ ghost use Rattle.promql_label.specs.Labels.{common, is_among, is_number_word, la
 use promql_text::{Quoted, write_separator};
 use promql_token::is_label;
 use std::alloc::{AllocError, Global};
+use std::convert::AsStr;
 use std::fmt;
 use std::fmt::Display;
 
@@ -25,11 +26,9 @@ impl Labels {
     pub fn new(alloc: Global, labels: Vec<&str>) -> Result<Labels, AllocError>
         ensures { IfOk result (λ x. labels_of x ≡ map (λ label. label.now) labels.entry.items) }
     {
-        let mut owned = Vec::with_capacity(alloc, labels.len())?;
-        for label in &labels {
-            owned.push(String::from_str(alloc, label)?)?;
-        }
-        Ok(Labels { labels: owned })
+        Ok(Labels {
+            labels: to_labels(alloc, &labels)?,
+        })
     }
 
     /// The list with a label after it.
@@ -80,11 +79,9 @@ impl Labels {
     pub fn try_clone(&self, alloc: Global) -> Result<Labels, AllocError>
         ensures { IfOk result (λ x. labels_of x ≡ labels_of self.now) }
     {
-        let mut labels = Vec::with_capacity(alloc, self.labels.len())?;
-        for label in &self.labels {
-            labels.push(String::from_str(alloc, label.as_str())?)?;
-        }
-        Ok(Labels { labels })
+        Ok(Labels {
+            labels: to_labels(alloc, &self.labels)?,
+        })
     }
 
     fn contains(&self, label: &str) -> bool
@@ -92,6 +89,17 @@ impl Labels {
     {
         self.labels.iter().any(|other| label == other.as_str())
     }
+}
+
+/// The labels of these texts, in order.
+fn to_labels<T: AsStr>(alloc: Global, texts: &[T]) -> Result<Vec<Label>, AllocError>
+    ensures { IfOk result (λ labels. map string_bytes labels.items ≡ map T.text texts.now) }
+{
+    let mut labels = Vec::with_capacity(alloc, texts.len())?;
+    for text in texts {
+        labels.push(String::from_str(alloc, text.as_str())?)?;
+    }
+    Ok(labels)
 }
 
 impl fmt::Display for Labels {

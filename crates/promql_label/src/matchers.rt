@@ -144,7 +144,7 @@ impl Matchers {
     pub fn try_clone(&self, alloc: Global) -> Result<Matchers, AllocError>
         ensures { IfOk result (λ m. plain_matchers_of m ≡ plain_matchers_of self.now) }
     {
-        let mut or_matchers = Vec::new(alloc);
+        let mut or_matchers = Vec::with_capacity(alloc, self.or_matchers.len())?;
         for group in &self.or_matchers {
             or_matchers.push(copied(alloc, group)?)?;
         }
@@ -233,7 +233,7 @@ fn copy_named(
 fn copied(alloc: Global, matchers: &[Matcher]) -> Result<Vec<Matcher>, AllocError>
     ensures { IfOk result (λ v. map plain_matcher_of v.items ≡ map plain_matcher_of matchers.now) }
 {
-    let mut copies = Vec::new(alloc);
+    let mut copies = Vec::with_capacity(alloc, matchers.len())?;
     for matcher in matchers {
         copies.push(matcher.try_clone(alloc)?)?;
     }

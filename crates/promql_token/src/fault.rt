@@ -1,6 +1,6 @@
 //! Lexical faults and their messages.
 
-ghost use Rattle.std.specs.Prelude.{◌≡◌};
+ghost use Rattle.std.specs.Prelude.{◌≡◌, map};
 ghost use Rattle.promql_token.specs.Faults as spec;
 
 use std::alloc::{AllocError, AllocFailed};
@@ -58,36 +58,70 @@ pub enum LexFaultKind {
     EndInBrackets,
 }
 
+/// What a message has before the character, or the whole message, by kind.
+const WORDS: [(LexFaultKind, &str); 23] = [
+    (LexFaultKind::UnclosedParen, "unclosed left parenthesis"),
+    (
+        LexFaultKind::AfterEqual,
+        "unexpected character after '=': '~'",
+    ),
+    (LexFaultKind::AfterBang, "unexpected character after '!': '"),
+    (LexFaultKind::BangAtEnd, "'!' can not be at the end"),
+    (LexFaultKind::AfterDot, "unexpected character after '.': '"),
+    (LexFaultKind::DotAtEnd, "unexpected character: '.'"),
+    (LexFaultKind::RightParen, "unexpected right parenthesis ')'"),
+    (LexFaultKind::RightBrace, "unexpected right brace '}'"),
+    (LexFaultKind::RightBracket, "unexpected right bracket ']'"),
+    (LexFaultKind::Character, "unexpected character: '"),
+    (LexFaultKind::Numeral, "bad number or duration syntax"),
+    (LexFaultKind::Escape, "unknown escape sequence '"),
+    (LexFaultKind::EscapeAtEnd, "escape sequence not terminated"),
+    (LexFaultKind::OpenString, "unterminated quoted string "),
+    (
+        LexFaultKind::AfterBangInBraces,
+        "unexpected character after '!' inside braces: '",
+    ),
+    (
+        LexFaultKind::BraceInBraces,
+        "unexpected left brace '{' inside braces",
+    ),
+    (
+        LexFaultKind::InBraces,
+        "unexpected character inside braces: '",
+    ),
+    (
+        LexFaultKind::EndInBraces,
+        "unexpected end of input inside braces",
+    ),
+    (
+        LexFaultKind::SecondColon,
+        "unexpected second colon(:) in brackets",
+    ),
+    (
+        LexFaultKind::FirstColon,
+        "expect duration before first colon(:) in brackets",
+    ),
+    (
+        LexFaultKind::BracketInBrackets,
+        "unexpected left brace '[' inside brackets",
+    ),
+    (
+        LexFaultKind::InBrackets,
+        "unexpected character inside brackets: '",
+    ),
+    (
+        LexFaultKind::EndInBrackets,
+        "unexpected end of input inside brackets",
+    ),
+];
+
 impl LexFaultKind {
     /// What comes before the character in a message, or the whole message.
+    #[tactic(auto, unfolding(crate::specs::Faults::words))]
     fn words(self) -> &'static str
         ensures { result.now ≡ spec.words self }
     {
-        match self {
-            LexFaultKind::UnclosedParen => "unclosed left parenthesis",
-            LexFaultKind::AfterEqual => "unexpected character after '=': '~'",
-            LexFaultKind::AfterBang => "unexpected character after '!': '",
-            LexFaultKind::BangAtEnd => "'!' can not be at the end",
-            LexFaultKind::AfterDot => "unexpected character after '.': '",
-            LexFaultKind::DotAtEnd => "unexpected character: '.'",
-            LexFaultKind::RightParen => "unexpected right parenthesis ')'",
-            LexFaultKind::RightBrace => "unexpected right brace '}'",
-            LexFaultKind::RightBracket => "unexpected right bracket ']'",
-            LexFaultKind::Character => "unexpected character: '",
-            LexFaultKind::Numeral => "bad number or duration syntax",
-            LexFaultKind::Escape => "unknown escape sequence '",
-            LexFaultKind::EscapeAtEnd => "escape sequence not terminated",
-            LexFaultKind::OpenString => "unterminated quoted string ",
-            LexFaultKind::AfterBangInBraces => "unexpected character after '!' inside braces: '",
-            LexFaultKind::BraceInBraces => "unexpected left brace '{' inside braces",
-            LexFaultKind::InBraces => "unexpected character inside braces: '",
-            LexFaultKind::EndInBraces => "unexpected end of input inside braces",
-            LexFaultKind::SecondColon => "unexpected second colon(:) in brackets",
-            LexFaultKind::FirstColon => "expect duration before first colon(:) in brackets",
-            LexFaultKind::BracketInBrackets => "unexpected left brace '[' inside brackets",
-            LexFaultKind::InBrackets => "unexpected character inside brackets: '",
-            LexFaultKind::EndInBrackets => "unexpected end of input inside brackets",
-        }
+        words_in(&WORDS, self)
     }
 
     /// What comes after the character.
@@ -95,29 +129,9 @@ impl LexFaultKind {
         ensures { result.now ≡ spec.closing self }
     {
         match self {
-            LexFaultKind::AfterBang
-            | LexFaultKind::AfterDot
-            | LexFaultKind::Character
-            | LexFaultKind::Escape
-            | LexFaultKind::AfterBangInBraces
-            | LexFaultKind::InBraces
-            | LexFaultKind::InBrackets => "'",
-            LexFaultKind::UnclosedParen
-            | LexFaultKind::AfterEqual
-            | LexFaultKind::BangAtEnd
-            | LexFaultKind::DotAtEnd
-            | LexFaultKind::RightParen
-            | LexFaultKind::RightBrace
-            | LexFaultKind::RightBracket
-            | LexFaultKind::Numeral
-            | LexFaultKind::EscapeAtEnd
-            | LexFaultKind::OpenString
-            | LexFaultKind::BraceInBraces
-            | LexFaultKind::EndInBraces
-            | LexFaultKind::SecondColon
-            | LexFaultKind::FirstColon
-            | LexFaultKind::BracketInBrackets
-            | LexFaultKind::EndInBrackets => "",
+            LexFaultKind::OpenString => "",
+            _ if self.shows() => "'",
+            _ => "",
         }
     }
 
@@ -137,6 +151,17 @@ impl LexFaultKind {
                 | LexFaultKind::InBrackets
         )
     }
+}
+
+fn words_in(table: &[(LexFaultKind, &'static str)], kind: LexFaultKind) -> &'static str
+    ensures { result.now ≡ spec.words_in (map (λ row. (row.0, row.1.now)) table.now) kind }
+{
+    for row in table {
+        if row.0 == kind {
+            return row.1;
+        }
+    }
+    ""
 }
 
 /// What is wrong, and where.
