@@ -46,13 +46,18 @@ places at (t ∷ ts) = record { id = t.1; start = at + length t.0; len = length 
 abbrev pub to_end : Text → List Step → List Lexeme
 to_end s ts = places 0 ts ++ record { id = T_EOF; start = length s; len = 0 } ∷ []
 
+-- a text is read to its end, with these tokens, or up to this fault
+abbrev pub IsLexed : Text → Result (List Lexeme) LexFault → Type 0
+IsLexed s (Ok xs) = (ts : List Step) × IsRead IsEnd [] s ts × (xs ≡ to_end s ts)
+IsLexed s (Err f) = (ts : List Step) × IsRead (EndsIn f (length s)) [] s ts
+
 -- a text has a token list exactly if it is read so
 abbrev pub OnlyTokens : Type 0
-OnlyTokens = (s : Text) (xs : List Lexeme) → (lex s ≡ Ok xs) ↔ ((ts : List Step) × IsRead IsEnd [] s ts × (xs ≡ to_end s ts))
+OnlyTokens = (s : Text) (xs : List Lexeme) → (lex s ≡ Ok xs) ↔ IsLexed s (Ok xs)
 
 -- and a fault exactly if it is read so up to this fault
 abbrev pub OnlyFault : Type 0
-OnlyFault = (s : Text) (f : LexFault) → (lex s ≡ Err f) ↔ ((ts : List Step) × IsRead (EndsIn f (length s)) [] s ts)
+OnlyFault = (s : Text) (f : LexFault) → (lex s ≡ Err f) ↔ IsLexed s (Err f)
 
 -- the ids and texts of the tokens, or the fault
 abbrev pub OnlyTexts : Type 0

@@ -8,6 +8,7 @@ ghost use Rattle.promql_token.specs.FaultPlaces as places;
 ghost use Rattle.promql_token.specs.Gaps as gaps;
 ghost use Rattle.promql_token.specs.Ids as ids;
 ghost use Rattle.promql_token.specs.Laws as spec;
+ghost use Rattle.promql_token.specs.Lexing.{lex};
 ghost use Rattle.promql_token.specs.Printed as printed;
 ghost use Rattle.promql_token.specs.PrintedValues as values;
 ghost use Rattle.promql_token.specs.Rows as rows;
@@ -126,8 +127,10 @@ pub fn ids_count_up()
     ensures texts { ids.ids_of_texts ≡ ids.count_up 0 86 }
 {}
 
-/// What the definition gives for worked texts.
+/// What the definition gives for worked texts, and that the relations say the same of them.
 pub fn worked()
-    ensures tokens { rows.WorkedTokens }
-    ensures faults { rows.WorkedFaults }
+    ensures tokens { rows.WorkedTokens (λ s r. lex s ≡ r) }
+    ensures faults { rows.WorkedFaults (λ s r. lex s ≡ r) }
+    ensures tokens_read { rows.WorkedTokens lists.IsLexed }
+    ensures faults_read { rows.WorkedFaults lists.IsLexed }
 {}
