@@ -14,7 +14,10 @@ find "$work/crates" -mindepth 2 -maxdepth 2 ! -name out -exec rm -rf {} +
 cp "$top/HANDLES" "$work/HANDLES"
 mkdir -p "$work/crates/$name/src"
 cp "$main" "$work/crates/$name/src/main.rt"
-if [ -d "$folder/proofs" ]; then cp -r "$folder/proofs" "$work/crates/$name/proofs"; fi
+if [ -d "$folder/proofs" ]; then
+    cp -r "$folder/proofs" "$work/crates/$name/proofs"
+    find "$work/crates/$name/proofs" -name '*.antt.txt' -exec sh -c 'mv "$1" "${1%.txt}"' _ {} \;
+fi
 used=$(sed -n 's/^use \(promql_[a-z_]*\)::.*/\1/p' "$main" | sort -u | tr '\n' ' ')
 { cat "$top/crates.txt"; echo "$name: $used"; } > "$work/crates.txt"
 cd "$work/crates/$name"
