@@ -8,6 +8,7 @@ pub mod NextText
 pub mod OneOrder
 pub mod PrintedMatchers
 pub mod PrintedTexts
+pub mod ReadLabels
 pub mod Reading
 pub mod RepeatPlaces
 pub mod SameMatchers

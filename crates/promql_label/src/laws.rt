@@ -1,10 +1,11 @@
 //! Laws on the definitions alone. Each is the contract of a function that does nothing.
 
-ghost use Rattle.std.specs.Prelude.{◌≡◌, ◌≢◌, ◌↔◌, ◌<◌, [], List, IsTrue, codes, length};
+ghost use Rattle.std.specs.Prelude.{◌≡◌, ◌≢◌, ◌↔◌, ◌<◌, [], List, IsTrue, Some, codes, false, length};
 ghost use Rattle.std.specs.List.{list_any, AllPairs, Contains};
 ghost use Rattle.promql_text.specs.Texts.{Text};
-ghost use Rattle.promql_label.specs.Labels.{common, is_among, labels_of};
-ghost use Rattle.promql_label.specs.LabelLaws.{first_place};
+ghost use Rattle.promql_label.specs.Labels.{common, is_among, is_number_word, label_text, labels_of};
+ghost use Rattle.promql_label.specs.LabelLaws.{first_place, label_of};
+ghost use Rattle.promql_label.specs.PlainMatchers.{name_text};
 ghost use Rattle.promql_label.specs.Repeats.{escaped_repeats, opens_count, OpensCount};
 ghost use Rattle.promql_label.specs.RepeatPlaces.{bytes_from};
 ghost use Rattle.promql_text.specs.Equalities.{HashesAlike, IsSameBy};
@@ -48,6 +49,14 @@ pub fn common_labels_are_one_list()
 pub fn joint_lists_have_common_labels()
     ensures { (ls others : List Text)
         → IsTrue (list_any (is_among others) ls) ↔ (common ls others ≢ []) }
+{}
+
+/// A printed label means the label, and is no word for a number; the printed name of a matcher means
+/// the name.
+pub fn printed_labels_read_back()
+    ensures labels { (l : Text) → label_of (label_text l) ≡ Some l }
+    ensures no_numbers { (l : Text) → is_number_word (label_text l) ≡ false }
+    ensures names { (name : Text) → label_of (name_text name) ≡ Some name }
 {}
 
 /// A count, as the rules have it, comes before a text exactly if the test of `escape_repeats` says
