@@ -1,5 +1,5 @@
 -- Printed numbers, times, labels and clauses read back.
-use Rattle.std.proofs.Common.{◌≡◌, ◌≢◌, ⊎_elim, ℕ, zero, suc, ◌+◌, ◌*◌, ◌/◌, ◌%◌, ◌^◌, ◌<◌, ◌≤◌, refl, sym, ◌∙◌, ap, subst, arith, Bool, true, false, cond, not, ◌&&◌, Option, Some, None, length}
+use Rattle.std.proofs.Common.{◌≡◌, ℕ, ◌*◌, ◌%◌, ◌^◌, ◌<◌, refl, sym, ◌∙◌, ap, subst, arith, Bool, true, false, cond, not, ◌&&◌, Option, Some, None, length}
 use Rattle.std.specs.Prelude.{Result, Ok, Err, ◌==◌, nat_lt, if◌then◌else◌, option_map}
 use Rattle.std.proofs.lemmas.Bool.Decides.{nat_tests}
 use Rattle.promql_text.specs.Durations.{duration_of, in_range, of_form, of_parts, of_seconds, nanos_of, second_nanos, parts_nanos, units}
@@ -17,14 +17,12 @@ use Rattle.promql_text.specs.declared.number.Number.{Number}
 use Rattle.promql_text.specs.declared.number.Number.TheVariants.{Finite, Inf, NegInf, NaN}
 use Rattle.promql_text.specs.declared.number.NumberFault.{NumberFault}
 use Rattle.promql_text.proofs.Exacts.{seconds_is, seconds_value}
-use Rattle.promql_text.proofs.Tens.{times_one, times_ten}
-use Rattle.std.proofs.Math.Nat.{pow-suc}
-use Rattle.std.proofs.lemmas.Bool.{cases_lt}
 use Rattle.promql_text.proofs.InForm.{read_in_form}
 use Rattle.promql_text.proofs.OneForm.{negated_in_form}
 use Rattle.promql_text.proofs.Quotes.{unquoted_text-quoted}
 use Rattle.promql_text.proofs.ReadsBack.{reads_back}
 use Rattle.promql_text.proofs.ReadsDuration.{duration_reads}
+use Rattle.promql_ast.proofs.PrintedMoments.{zeroless}
 use Rattle.promql_grammar.specs.Results.{◌then◌}
 use Rattle.promql_grammar.specs.Pieces as piece
 use Rattle.promql_parser.specs.Faults.{Fault}
@@ -163,29 +161,6 @@ step_is (Some t) m e =
 pub step_again : (m : Option ℕ) → IsStep m → step_value (option_map time m) ≡ Ok m
 step_again None is = refl
 step_again (Some n) is = then_leads (time_value (time n)) _ n (Ok (Some n)) (time_again n is) refl
-
--- a number above zero is a number that doesn't end in 0, with zeros after it
-pub record Zeroless (n : ℕ) : Type 0 where
-  pub digits : ℕ
-  pub zeros : ℕ
-  pub is : digits * 10 ^ zeros ≡ n
-  pub ends : digits % 10 ≢ 0
-
-pub zeroless : (most n : ℕ) → 0 < n → n < 10 ^ most → Zeroless n
-zeroless zero n some less = absurd (omega arith)
-zeroless (suc most) n some less =
-    ⊎_elim
-    (λ (ends : 0 < n % 10). record { digits = n; zeros = 0; is = times_one n; ends = λ e. absurd (omega arith) })
-    (λ (tens : n % 10 ≤ 0).
-    let p = pow-suc 10 most in
-    let front = zeroless most (n / 10) (omega arith) (omega (arith, p)) in
-    record {
-      digits = front.digits;
-      zeros = front.zeros + 1;
-      is = (let e : front.digits * 10 ^ front.zeros * 10 ≡ n = omega (arith, front.is) in let up = times_ten front.digits front.zeros in omega (arith, e, up));
-      ends = front.ends;
-    })
-    (cases_lt 0 (n % 10))
 
 -- the seconds of a duration are a number
 pub nanos_number : (n : ℕ) → IsTime n → IsNumber (from_nanos n)
