@@ -4,11 +4,14 @@ pub mod Escaping
 pub mod Finding
 pub mod Found
 pub mod Groups
+pub mod MatcherRows
 pub mod NextText
 pub mod OneOrder
 pub mod PrintedMatchers
 pub mod PrintedTexts
+pub mod PrintedTokens
 pub mod ReadLabels
+pub mod ReadMatchers
 pub mod Reading
 pub mod RepeatPlaces
 pub mod SameMatchers

@@ -3,9 +3,11 @@ pub mod LabelLaws
 pub mod Labels
 pub mod MatcherBytes
 pub mod MatcherErrors
+pub mod MatcherRows
 pub mod NextText
 pub mod Operators
 pub mod PlainMatchers
+pub mod ReadMatchers
 pub mod Refusals
 pub mod RepeatPlaces
 pub mod Repeats

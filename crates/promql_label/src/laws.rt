@@ -1,13 +1,18 @@
 //! Laws on the definitions alone. Each is the contract of a function that does nothing.
 
-ghost use Rattle.std.specs.Prelude.{◌≡◌, ◌≢◌, ◌↔◌, ◌<◌, [], List, IsTrue, Some, codes, false, length};
+ghost use Rattle.std.specs.Prelude.{◌≡◌, ◌≢◌, ◌↔◌, ◌<◌, ◌++◌, ℕ, [], List, IsTrue, Ok, Some, codes, false, length, map};
 ghost use Rattle.std.specs.List.{list_any, AllPairs, Contains};
 ghost use Rattle.promql_text.specs.Texts.{Text};
 ghost use Rattle.promql_label.specs.Labels.{common, is_among, is_number_word, label_text, labels_of};
 ghost use Rattle.promql_label.specs.LabelLaws.{first_place, label_of};
-ghost use Rattle.promql_label.specs.PlainMatchers.{name_text};
+ghost use Rattle.promql_label.specs.MatcherRows.{WorkedLists};
+ghost use Rattle.promql_label.specs.Operators.{IsMatcherOf};
+ghost use Rattle.promql_label.specs.PlainMatchers.{PlainMatcher, PlainMatchers, matcher_text, matchers_text, name_text};
+ghost use Rattle.promql_label.specs.ReadMatchers.{inside, matchers_tokens, parts_of, printed_groups, read_groups, sorted_matchers};
 ghost use Rattle.promql_label.specs.Repeats.{escaped_repeats, opens_count, OpensCount};
 ghost use Rattle.promql_label.specs.RepeatPlaces.{bytes_from};
+ghost use Rattle.promql_label.specs.SortedTexts.{sorted_texts};
+ghost use Rattle.promql_token.specs.Lexing.{whats};
 ghost use Rattle.promql_text.specs.Equalities.{HashesAlike, IsSameBy};
 ghost use Rattle.promql_label.specs.MatcherErrors.{plain_error_of};
 ghost use Rattle.promql_label.specs.Refusals.{refused_value};
@@ -57,6 +62,25 @@ pub fn printed_labels_read_back()
     ensures labels { (l : Text) → label_of (label_text l) ≡ Some l }
     ensures no_numbers { (l : Text) → is_number_word (label_text l) ≡ false }
     ensures names { (name : Text) → label_of (name_text name) ≡ Some name }
+{}
+
+/// A printed list of matchers is read in braces, before any text, as the tokens of its matchers.
+/// These tokens mean the sign, the name and the value of each matcher, group by group, in the order
+/// in which they print; so lists that print alike have the same.
+pub fn printed_matchers_read_back()
+    ensures tokens { (depth : ℕ) (cs : PlainMatchers) (r : Text)
+        → whats (inside depth) (matchers_text cs ++ r)
+        ≡ map (λ t. Ok t) (matchers_tokens cs) ++ whats (inside depth) r }
+    ensures meaning { (cs : PlainMatchers)
+        → read_groups (matchers_tokens cs) ≡ Some (map (map parts_of) (printed_groups cs)) }
+    ensures order { (cs : List PlainMatcher)
+        → map matcher_text (sorted_matchers cs) ≡ sorted_texts (map matcher_text cs) }
+    ensures built { (id : ℕ) (name value : Text) (c : PlainMatcher)
+        → IsMatcherOf id name value c
+        → parts_of c ≡ record { sign = id; name = name; value = value } }
+    ensures alike { (cs ds : PlainMatchers) → matchers_text cs ≡ matchers_text ds
+        → map (map parts_of) (printed_groups cs) ≡ map (map parts_of) (printed_groups ds) }
+    ensures worked { WorkedLists }
 {}
 
 /// A count, as the rules have it, comes before a text exactly if the test of `escape_repeats` says
