@@ -12,6 +12,7 @@ pub mod PrintedTexts
 pub mod PrintedTokens
 pub mod ReadLabels
 pub mod ReadMatchers
+pub mod ReadTokens
 pub mod Reading
 pub mod RepeatPlaces
 pub mod SameMatchers

@@ -13,6 +13,7 @@ worked_lists = record {
   groups_tokens = refl;
   groups_read = refl;
   bare_read = refl;
+  no_name = refl;
   no_value = refl;
   no_quotes = refl;
   only_comma = refl;

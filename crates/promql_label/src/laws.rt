@@ -8,7 +8,7 @@ ghost use Rattle.promql_label.specs.LabelLaws.{first_place, label_of};
 ghost use Rattle.promql_label.specs.MatcherRows.{WorkedLists};
 ghost use Rattle.promql_label.specs.Operators.{IsMatcherOf};
 ghost use Rattle.promql_label.specs.PlainMatchers.{PlainMatcher, PlainMatchers, matcher_text, matchers_text, name_text};
-ghost use Rattle.promql_label.specs.ReadMatchers.{inside, matchers_tokens, parts_of, printed_groups, read_groups, sorted_matchers};
+ghost use Rattle.promql_label.specs.ReadMatchers.{Parts, Token, inside, matchers_tokens, parts_of, printed_groups, read_groups, sorted_matchers};
 ghost use Rattle.promql_label.specs.Repeats.{escaped_repeats, opens_count, OpensCount};
 ghost use Rattle.promql_label.specs.RepeatPlaces.{bytes_from};
 ghost use Rattle.promql_label.specs.SortedTexts.{sorted_texts};
@@ -66,13 +66,16 @@ pub fn printed_labels_read_back()
 
 /// A printed list of matchers is read in braces, before any text, as the tokens of its matchers.
 /// These tokens mean the sign, the name and the value of each matcher, group by group, in the order
-/// in which they print; so lists that print alike have the same.
+/// in which they print; so lists that print alike have the same. Tokens mean nothing but what some
+/// list prints.
 pub fn printed_matchers_read_back()
     ensures tokens { (depth : ℕ) (cs : PlainMatchers) (r : Text)
         → whats (inside depth) (matchers_text cs ++ r)
         ≡ map (λ t. Ok t) (matchers_tokens cs) ++ whats (inside depth) r }
     ensures meaning { (cs : PlainMatchers)
         → read_groups (matchers_tokens cs) ≡ Some (map (map parts_of) (printed_groups cs)) }
+    ensures nothing_else { (ts : List Token) (ps : List (List Parts)) → read_groups ts ≡ Some ps
+        → (cs : PlainMatchers) × (map (map parts_of) (printed_groups cs) ≡ ps) }
     ensures order { (cs : List PlainMatcher)
         → map matcher_text (sorted_matchers cs) ≡ sorted_texts (map matcher_text cs) }
     ensures built { (id : ℕ) (name value : Text) (c : PlainMatcher)
