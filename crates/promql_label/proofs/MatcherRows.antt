@@ -15,6 +15,6 @@ worked_lists = record {
   bare_read = refl;
   no_name = refl;
   no_value = refl;
-  no_quotes = refl;
+  no_string = refl;
   only_comma = refl;
 }

@@ -36,5 +36,5 @@ pub record WorkedLists : Type 0 where
   pub bare_read : read_groups ((T_LOR, codes "or") ∷ []) ≡ Some ([] ∷ [] ∷ [])
   pub no_name : read_groups ((T_NUMBER, codes "1") ∷ (T_EQL, codes "=") ∷ (T_STRING, codes "\"1\"") ∷ []) ≡ None
   pub no_value : read_groups ((T_IDENTIFIER, codes "b") ∷ (T_EQL, codes "=") ∷ []) ≡ None
-  pub no_quotes : read_groups ((T_IDENTIFIER, codes "b") ∷ (T_EQL, codes "=") ∷ (T_NUMBER, codes "1") ∷ []) ≡ None
+  pub no_string : read_groups ((T_IDENTIFIER, codes "b") ∷ (T_EQL, codes "=") ∷ (T_NUMBER, codes "\"1\"") ∷ []) ≡ None
   pub only_comma : read_groups ((T_COMMA, codes ",") ∷ []) ≡ None
