@@ -1,17 +1,18 @@
 -- The next token of a cursor, and what is left after it.
 use Rattle.std.proofs.Common.{◌≡◌, ◌≢◌, ℕ, ◌+◌, Bool, true, false, cond, List, [], ◌∷◌, length, take, drop, map, Result, Ok, Err, refl, sym, ap, ◌∙◌, arith}
 use denote.Bor.{Bor}
-use Rattle.std.specs.Prelude.{◌==◌, not, filter}
+use Rattle.std.specs.Prelude.{◌==◌, not, filter, MatchResult}
 use Rattle.std.specs.Result.{is_err}
 use Rattle.std.proofs.lemmas.Bool.{eqb-false, ne_eqb}
 use Rattle.std.proofs.lemmas.List.{drop-drop}
 use Rattle.promql_token.specs.declared.fault.LexFault.{LexFault}
+use Rattle.promql_token.specs.declared.fault.LexFaultKind.{LexFaultKind}
 use Rattle.promql_token.specs.declared.lexeme.Lexeme.{Lexeme}
 use Rattle.promql_token.specs.declared.state.State.{State}
 use Rattle.promql_text.specs.Texts.{Text}
 use Rattle.promql_token.specs.declared.cursor.Cursor as code
 use Rattle.promql_token.specs.Cursor.{is_before_end, up_to_fault, tokens_left, has_fault, ends_in_fault, IsPast}
-use Rattle.promql_token.specs.Lexing.{What, Found, whats, found, first, item, items, collected, with_front, goes_on, behind, len_of, start, lex, tokens, cut, placed, sliced, result_sliced, text_at}
+use Rattle.promql_token.specs.Lexing.{What, Found, whats, found, first, fault_at, item, items, collected, with_front, goes_on, behind, len_of, start, lex, tokens, cut, placed, sliced, result_sliced, text_at}
 use Rattle.promql_token.specs.Pieces.{after}
 use Rattle.promql_token.proofs.Items.{is_token}
 use Rattle.promql_token.proofs.Items.{left_token as left_item}
@@ -107,11 +108,21 @@ none_end text at state x is end =
     let f = found state z in
     ap (λ ws. filter is_before_end (up_to_fault ws)) (whats_is state z) ∙ left_end (at + f.gap) f.what _ x (sym is) (ap (λ id. id == 6) end)
 
-pub none_fault : (text : Text) (at : ℕ) (state : State) (fault : LexFault) → Err fault ≡ first at (found state (drop at text)) → filter is_before_end (up_to_fault (whats state (drop at text))) ≡ []
+none_fault : (text : Text) (at : ℕ) (state : State) (fault : LexFault) → Err fault ≡ first at (found state (drop at text)) → filter is_before_end (up_to_fault (whats state (drop at text))) ≡ []
 none_fault text at state fault is =
     let z = drop at text in
     let f = found state z in
     ap (λ ws. filter is_before_end (up_to_fault ws)) (whats_is state z) ∙ left_fault (at + f.gap) f.what _ fault (sym is)
+
+-- the token or the fault that comes next
+abbrev pub IsFront : code.Cursor → Result Lexeme (LexFaultKind × ℕ) → Type 0
+IsFront c r =
+    let it = first c.at (found c.state (drop c.at c.text.now)) in
+    MatchResult r (λ x. Ok x ≡ it) (λ f. Err (fault_at c.text.now f.0 f.1) ≡ it)
+
+pub no_token_left : (c : code.Cursor) (r : Result Lexeme (LexFaultKind × ℕ)) (f : LexFaultKind × ℕ) → IsFront c r → r ≡ Err f → tokens_left c ≡ []
+no_token_left c (Ok x) f is e = cc
+no_token_left c (Err g) f is e = none_fault c.text.now c.at c.state (fault_at c.text.now g.0 g.1) is
 
 -- a token, and what is left after it
 token_left : (text : Text) (at : ℕ) (state : State) (x : Lexeme) → Ok x ≡ first at (found state (drop at text)) → x.id ≢ 6
@@ -193,9 +204,9 @@ at_end c x is none =
     front_of (Ok t) at ws here none = by_test t ws (t.0 == 6) refl none
     front_of (Err e) at ws here none = cc
 
-pub at_fault_or_end : (c : code.Cursor) (r : Result Lexeme LexFault) → r ≡ first c.at (found c.state (drop c.at c.text.now)) → tokens_left c ≡ [] → is_err r ≡ ends_in_fault c
+pub at_fault_or_end : (c : code.Cursor) (r : Result Lexeme (LexFaultKind × ℕ)) → IsFront c r → tokens_left c ≡ [] → is_err r ≡ ends_in_fault c
 at_fault_or_end c (Ok x) is none = at_end c x is none
-at_fault_or_end c (Err f) is none = at_fault c f is
+at_fault_or_end c (Err f) is none = at_fault c (fault_at c.text.now f.0 f.1) is
 
 -- the same with places
 pub left_past : (x : Lexeme) (old new : code.Cursor) → Ok x ≡ first old.at (found old.state (drop old.at old.text.now)) → IsPast x old new

@@ -21,6 +21,10 @@ What = Result (ℕ × Text) (LexFaultKind × ℕ × Option ℕ)
 abbrev pub shown : LexFaultKind → Text → Option ℕ
 shown kind z = if shows kind then slice_get (chars z) 0 else None
 
+-- a fault of this kind at this place of a text
+abbrev pub fault_at : Text → LexFaultKind → ℕ → LexFault
+fault_at s kind at = record { kind = kind; at = at; ch = shown kind (drop at s) }
+
 -- of a text with no gap at its front
 abbrev pub what : Piece → Text → What
 what (Ok t) z = Ok (t.0, take t.1 z)

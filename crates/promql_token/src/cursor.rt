@@ -1,6 +1,6 @@
 //! A place of a text between two tokens, from which the tokens are drawn one by one.
 
-ghost use Rattle.std.specs.Prelude.{◌≡◌, ◌≢◌, ◌<◌, ◌≤◌, ◌+◌, [], ◌∷◌, List, ℕ, true, false, drop, filter, Ok, Err, IfOk, OnErr, MatchOption};
+ghost use Rattle.std.specs.Prelude.{◌≡◌, ◌≢◌, ◌<◌, ◌≤◌, ◌+◌, [], ◌∷◌, List, ℕ, true, false, drop, filter, Ok, Err, IfOk, IfErr, OnErr, MatchOption, MatchResult};
 ghost use Rattle.std.specs.Str.{IsCharBoundary};
 ghost use Rattle.promql_token.specs.Lexing as spec;
 ghost use Rattle.promql_token.specs.Pieces as pieces;
@@ -23,36 +23,26 @@ pub struct Cursor<'a> {
     ghost depth: { state.depth ≤ at },
 }
 
-fn shown(text: &str, kind: LexFaultKind, at: usize) -> Option<char>
+// The token after the gap at a place, or the fault there: its kind, and where it is.
+#[inline(always)]
+fn token_at(text: &str, at: usize, state: State) -> Result<Lexeme, (LexFaultKind, usize)>
     requires { IsCharBoundary text.now at }
-    ensures { result ≡ spec.shown kind (drop at text.now) }
-{
-    if kind.shows() {
-        text[at..].chars().next()
-    } else {
-        None
-    }
-}
-
-// The token or fault after the gap at a place.
-fn item_at(text: &str, at: usize, state: State) -> Result<Lexeme, LexFault>
-    requires { IsCharBoundary text.now at }
-    ensures value { result ≡ spec.first at (spec.found state (drop at text.now)) }
+    ensures value { MatchResult result
+        (λ x. Ok x ≡ spec.first at (spec.found state (drop at text.now)))
+        (λ f. Err (spec.fault_at text.now f.0 f.1)
+        ≡ spec.first at (spec.found state (drop at text.now))) }
     ensures front { IfOk result (λ x. IsCharBoundary text.now x.start) }
     ensures place { IfOk result (λ x. IsCharBoundary text.now (x.start + x.len)) }
     ensures order { IfOk result (λ x. at ≤ x.start) }
     ensures moves { IfOk result (λ x. x.id ≢ T_EOF → 0 < x.len) }
+    ensures fault { IfErr result (λ f. IsCharBoundary text.now f.1) }
 {
     let bytes = text.as_bytes();
     let gap = gap_len(state.mode, &bytes[at..]);
     let start = at + gap;
     match piece(after_gap(gap, state), &bytes[start..]) {
         Ok((id, len)) => Ok(Lexeme { id, start, len }),
-        Err((kind, offset)) => {
-            let at = start + offset;
-            let ch = shown(text, kind, at);
-            Err(LexFault { kind, at, ch })
-        }
+        Err((kind, offset)) => Err((kind, start + offset)),
     }
 }
 
@@ -86,16 +76,21 @@ impl<'a> Cursor<'a> {
         }
     }
 
-    /// The next token, or the fault there. It moves past a token, and stays before the end and
-    /// before a fault.
-    pub(crate) fn advance(&mut self) -> Result<Lexeme, LexFault>
-        ensures value { result ≡ spec.first self.old.at
-            (spec.found self.old.state (drop self.old.at self.old.text.now)) }
+    /// The next token, or the fault there: its kind, and where it is. It moves past a token, and
+    /// stays before the end and before a fault.
+    #[inline(always)]
+    pub(crate) fn advance(&mut self) -> Result<Lexeme, (LexFaultKind, usize)>
+        ensures value { MatchResult result
+            (λ x. Ok x ≡ spec.first self.old.at
+            (spec.found self.old.state (drop self.old.at self.old.text.now)))
+            (λ f. Err (spec.fault_at self.old.text.now f.0 f.1) ≡ spec.first self.old.at
+            (spec.found self.old.state (drop self.old.at self.old.text.now))) }
         ensures token { IfOk result (λ x. IsPast x self.old self.new) }
         ensures stays { IfOk result (λ x. x.id ≡ T_EOF → self.new ≡ self.old) }
         ensures fault { OnErr result (self.new ≡ self.old) }
+        ensures place { IfErr result (λ f. IsCharBoundary self.old.text.now f.1) }
     {
-        let item = item_at(self.text, self.at, self.state);
+        let item = token_at(self.text, self.at, self.state);
         if let Ok(token) = item
             && token.id != T_EOF
         {
@@ -126,6 +121,6 @@ impl<'a> Cursor<'a> {
     pub fn is_at_fault(&self) -> bool
         ensures { tokens_left self.now ≡ [] → result ≡ ends_in_fault self.now }
     {
-        item_at(self.text, self.at, self.state).is_err()
+        token_at(self.text, self.at, self.state).is_err()
     }
 }

@@ -1,14 +1,26 @@
 //! The tokens of a text with their places, one by one, up to the end or the fault.
 
-ghost use Rattle.std.specs.Prelude.{◌≡◌};
+ghost use Rattle.std.specs.Prelude.{◌≡◌, drop};
 ghost use Rattle.std.specs.Iterator.{YieldsFirst, item_count};
+ghost use Rattle.std.specs.Str.{IsCharBoundary};
 ghost use Rattle.promql_token.specs.Lexing as spec;
 ghost use Rattle.promql_token.specs.Scan.{items_left};
 
 use crate::cursor::Cursor;
-use crate::fault::LexFault;
+use crate::fault::{LexFault, LexFaultKind};
 use crate::ids::T_EOF;
 use crate::lexeme::Lexeme;
+
+fn shown(text: &str, kind: LexFaultKind, at: usize) -> Option<char>
+    requires { IsCharBoundary text.now at }
+    ensures { result ≡ spec.shown kind (drop at text.now) }
+{
+    if kind.shows() {
+        text[at..].chars().next()
+    } else {
+        None
+    }
+}
 
 /// The tokens of a text, one by one, up to T_EOF or the text's fault. After either it ends for
 /// good. It allocates nothing, and reads each token where the one before it ends.
@@ -41,11 +53,16 @@ impl<'a> Iterator for Lexer<'a> {
         if self.ended {
             return None;
         }
-        let item = self.cursor.advance();
-        match item {
-            Ok(token) => self.ended = token.id == T_EOF,
-            Err(_) => self.ended = true,
+        match self.cursor.advance() {
+            Ok(token) => {
+                self.ended = token.id == T_EOF;
+                Some(Ok(token))
+            }
+            Err((kind, at)) => {
+                self.ended = true;
+                let ch = shown(self.cursor.text, kind, at);
+                Some(Err(LexFault { kind, at, ch }))
+            }
         }
-        Some(item)
     }
 }

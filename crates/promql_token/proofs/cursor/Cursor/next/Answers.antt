@@ -1,13 +1,13 @@
 use Rattle.std.proofs.Common.{◌≡◌, ◌+◌, ◌-◌, ◌∙◌, ◌∷◌, ap, sym, arith, take, drop}
 use Rattle.promql_token.specs.Cursor.{tokens_left, ends_in_fault}
 use Rattle.promql_token.specs.Lexing.{text_at}
-use Rattle.promql_token.proofs.Drawn.{none_end, none_fault, some_token, past_token}
+use Rattle.promql_token.proofs.Drawn.{no_token_left, none_end, some_token, past_token}
 use Rattle.promql_token.proofs.cursor.Cursor.next.Goals as goal
 
 pub returns-in_default : goal.returns-in_default
 returns-in_default c =
     let s = c.args.self.now in
-    let none = none_fault s.text.now s.at s.state _ (sym c.in_default.is ∙ c.advance.ensures.value) in
+    let none = no_token_left s c.advance.result _ c.advance.ensures.value c.in_default.is in
     record { tokens = (none, ap tokens_left c.in_default.ensures.fault ∙ none); fault = ap ends_in_fault c.in_default.ensures.fault }
 
 pub returns-then-token-eq-T_EOF : goal.returns-then-token-eq-T_EOF

@@ -1,4 +1,6 @@
-use Rattle.std.proofs.Common.{length, ap, rules}
+use Rattle.std.proofs.Common.{◌∙◌, length, drop, ap, refl, rules}
+use Rattle.promql_token.specs.Lexing.{shown}
+use Rattle.promql_token.specs.declared.cursor.Cursor.{Cursor}
 use Rattle.promql_token.proofs.Drawn.{left_past}
 use Rattle.promql_token.proofs.Items.{left_fault}
 use Rattle.promql_token.proofs.scan.LexerIterator.next.Goals as goal
@@ -6,7 +8,7 @@ use Rattle.promql_token.proofs.scan.LexerIterator.next.Goals as goal
 pub returns-in-Ok-clause-steps : goal.returns-in-Ok-clause-steps
 returns-in-Ok-clause-steps c =
     let e = c.in-Ok.ensures in
-    rw c.if-self.false (left_past c.in-Ok.token c.args.self.now.cursor c.advance-item.new.self e.value e.token)
+    rw c.if-self.false (left_past c.in-Ok.token c.args.self.now.cursor c.advance.new.self e.value e.token)
 
 pub returns-in-Ok-clause-goes : goal.returns-in-Ok-clause-goes
 returns-in-Ok-clause-goes c = let e = ap length (returns-in-Ok-clause-steps c) in search (rules, e)
@@ -14,7 +16,9 @@ returns-in-Ok-clause-goes c = let e = ap length (returns-in-Ok-clause-steps c) i
 pub returns-in-Err-clause-steps : goal.returns-in-Err-clause-steps
 returns-in-Err-clause-steps c =
     let s = c.args.self.now.cursor in
-    rw c.if-self.false (left_fault _ s.at s.state _ _ c.advance-item.ensures.value c.in-Err.is)
+    let e = c.in-Err.ensures in
+    let ch = c.shown-ch.ensures ∙ ap (λ (k : Cursor). shown c.in-Err.kind (drop c.in-Err.at k.text.now)) e.fault in
+    rw ch (rw c.if-self.false (left_fault _ s.at s.state _ _ e.value refl))
 
 pub returns-in-Err-clause-goes : goal.returns-in-Err-clause-goes
 returns-in-Err-clause-goes c = let e = ap length (returns-in-Err-clause-steps c) in search (rules, e)
