@@ -7,7 +7,7 @@ use Rattle.promql_grammar.specs.declared.kind.Kind.TheVariants as kind
 use Rattle.promql_grammar.specs.declared.halt.Halt.{Halt}
 use Rattle.promql_grammar.specs.declared.halt.Halt.TheVariants.{Syntax}
 use Rattle.promql_grammar.specs.Results.{◌then◌}
-use Rattle.promql_grammar.specs.Symbols.{Symbol, symbol, begins, may_be_name}
+use Rattle.promql_grammar.specs.Symbols.{Symbol, sign, symbol, begins, may_be_name}
 use Rattle.promql_grammar.specs.Grammar as grammar
 use Rattle.promql_grammar.specs.Pieces.{Braces}
 use Rattle.promql_grammar.specs.Reading.{Read, braces_at, braces_in, named, postfixes}
@@ -17,9 +17,15 @@ use Rattle.promql_parser.specs.declared.grammar.fault.Fault as code
 use Rattle.promql_parser.specs.declared.grammar.part.Part.{Part}
 use Rattle.promql_parser.specs.IsPiece.{IsAskedPiece, IsBuiltBy}
 use Rattle.promql_parser.specs.Parts.{IsPart, IsBase, Fails, FailsBase}
-use Rattle.promql_parser.specs.PieceBuilding.{any_braces_value, braces_value}
-use Rattle.promql_parser.specs.Words.{leaf_read}
+use Rattle.promql_parser.specs.PieceBuilding.{braces_value}
+use Rattle.promql_parser.specs.Pieces.{HasNoLeftBrace}
+use Rattle.promql_parser.specs.Words.{leaf_read, selected}
 use Rattle.promql_parser.proofs.Failing.{fails_first}
+use Rattle.promql_parser.proofs.Fails.{then_then}
+
+no_braces : (ts : List Symbol) → HasNoLeftBrace ts → braces_at ts ≡ Ok (None, ts)
+no_braces (sign kind.LeftBrace ∷ ts) none = absurd none
+no_braces ts none = refl
 
 module _ (w : Kind) (text : Text) (ts : List Symbol) where
   pub number_base : (part : Part) → w ≡ kind.Number → IsPart part (grammar.number text) → IsBase part ts (λ k n. leaf_read k n w text ts)
@@ -48,16 +54,30 @@ module _ (w : Kind) (text : Text) (ts : List Symbol) where
   named_read : (k n : ℕ) → may_be_name w ≡ true → named k n w text ts ≡ (braces_at ts then λ x. postfixes k n (grammar.selector w text x.0) x.1)
   named_read k n may = ap (λ b. cond b (braces_at ts then λ x. postfixes k n (grammar.selector w text x.0) x.1) (Err Syntax)) may
 
-  pub selector_fails : (e : Halt) → may_be_name w ≡ true → Fails e (braces_at ts) → FailsBase e (λ k n. named k n w text ts)
-  selector_fails e may fails = λ k n. fails_first e (braces_at ts) (λ x. postfixes k n (grammar.selector w text x.0) x.1) _ (named_read k n may) fails
+  -- a name without braces
+  pub bare_base : (part : Part) → may_be_name w ≡ true → HasNoLeftBrace ts → ((v : Kind) → IsPart part (grammar.selector v text None)) → IsBase part ts (λ k n. named k n w text ts)
+  bare_base part may none built = record {
+    derivation = grammar.selector w text None;
+    is = λ k n. named_read k n may ∙ ap (λ o. o then λ x. postfixes k n (grammar.selector w text x.0) x.1) (no_braces ts none);
+    built = built w;
+  }
 
-  pub selector_base : (matchers : Result Matchers code.Fault) (us : List Symbol) (part : Part) → may_be_name w ≡ true → IsAskedPiece plain_matchers_of any_braces_value matchers us (braces_at ts)
-      → ((v : Kind) (b : Option Braces) → IsBuiltBy plain_matchers_of matchers (any_braces_value b) → IsPart part (grammar.selector v text b)) → IsBase part us (λ k n. named k n w text ts)
-  selector_base matchers us part may read built = record {
-    derivation = grammar.selector w text read.piece;
-    is = λ k n. named_read k n may ∙ ap (λ o. o then λ x. postfixes k n (grammar.selector w text x.0) x.1) read.is;
+  pub selected_fails : (e : Halt) → Fails e (braces_in ts) → FailsBase e (λ k n. selected k n w text ts)
+  selected_fails e fails = λ k n. fails_first e (braces_in ts) (λ b. postfixes k n (grammar.selector w text (Some b.0)) b.1) _ refl fails
+
+  pub selected_base : (matchers : Result Matchers code.Fault) (us : List Symbol) (part : Part) → IsAskedPiece plain_matchers_of braces_value matchers us (braces_in ts)
+      → ((v : Kind) (b : Braces) → IsBuiltBy plain_matchers_of matchers (braces_value b) → IsPart part (grammar.selector v text (Some b))) → IsBase part us (λ k n. selected k n w text ts)
+  selected_base matchers us part read built = record {
+    derivation = grammar.selector w text (Some read.piece);
+    is = λ k n. ap (λ o. o then λ b. postfixes k n (grammar.selector w text (Some b.0)) b.1) read.is;
     built = built w read.piece read.built;
   }
+
+-- a name before an opening brace
+pub named_selected : (k n : ℕ) (w : Kind) (text : Text) (ts us : List Symbol) → may_be_name w ≡ true → ts ≡ sign kind.LeftBrace ∷ us → named k n w text ts ≡ selected k n w text us
+named_selected k n w text ts us may front =
+    named_read w text ts k n may ∙ ap (λ l. braces_at l then λ x. postfixes k n (grammar.selector w text x.0) x.1) front
+    ∙ then_then (braces_in us) (λ b. Ok (Some b.0, b.1)) (λ x. postfixes k n (grammar.selector w text x.0) x.1)
 
 pub leaf_named : (k n : ℕ) (w : Kind) (text : Text) (ts : List Symbol) → ¬ (w ≡ kind.Number) → ¬ (w ≡ kind.Duration) → ¬ (w ≡ kind.Str) → ¬ (w ≡ kind.LeftBrace) → leaf_read k n w text ts ≡ named k n w text ts
 leaf_named k n kind.Number text ts number duration str brace = absurd (number refl)

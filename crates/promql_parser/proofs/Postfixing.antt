@@ -1,18 +1,21 @@
 -- What the loop over postfixes keeps.
-use Rattle.std.proofs.Common.{◌≡◌, ℕ, zero, suc, ◌+◌, ◌<◌, ◌≤◌, refl, sym, ◌∙◌, ap, arith, List, [], ◌∷◌, length}
+use Rattle.std.proofs.Common.{◌≡◌, ℕ, zero, suc, ◌+◌, ◌<◌, ◌≤◌, false, refl, sym, ◌∙◌, ap, arith, List, [], ◌∷◌, length}
 use Rattle.std.specs.Prelude.{Option, Some, None, Result, Ok, Err}
 use Rattle.std.proofs.lemmas.Bool.{cond_above, cond_below}
+use Rattle.promql_text.specs.Texts.{Text}
+use Rattle.promql_grammar.specs.declared.kind.Kind.{Kind}
+use Rattle.promql_grammar.specs.declared.kind.Kind.TheVariants as kind
 use Rattle.promql_grammar.specs.declared.halt.Halt.{Halt}
 use Rattle.promql_grammar.specs.declared.halt.Halt.TheVariants.{Memory, Syntax, TooDeep}
 use Rattle.promql_grammar.specs.Results.{◌then◌}
-use Rattle.promql_grammar.specs.Symbols.{Symbol}
+use Rattle.promql_grammar.specs.Symbols.{Symbol, symbol}
 use Rattle.promql_grammar.specs.Pieces.{Postfix, subquery}
 use Rattle.promql_grammar.specs.Grammar.{Derivation, postfixed, height, added_height}
 use Rattle.promql_grammar.specs.Reading.{Read, postfix_at, postfixes, with_postfix}
 use Rattle.promql_parser.specs.declared.grammar.part.Part.{Part}
 use Rattle.promql_parser.specs.Parts.{IsPart, IsGiven, Fails}
 use Rattle.promql_parser.specs.declared.grammar.postfix.HeldPostfix.{HeldPostfix}
-use Rattle.promql_parser.specs.Postfixes.{IsHeld}
+use Rattle.promql_parser.specs.Postfixes.{IsHeld, begins_postfix}
 use Rattle.promql_parser.proofs.Failing.{fails_first, fails_same}
 
 -- a base and some postfixes were read, and reading goes on behind them
@@ -94,3 +97,22 @@ module _ (k n : ℕ) (d : Derivation) (all ts : List Symbol) (part : Part) (post
 pub added_low : (p : Postfix) → added_height p ≤ 1
 added_low (subquery t s) = omega arith
 added_low p = omega arith
+
+-- no postfix begins with the first token, or there is none
+other_front : (k : Kind) (t : Text) (ts : List Symbol) → begins_postfix k ≡ false → postfix_at (symbol k t ∷ ts) ≡ Ok (None, symbol k t ∷ ts)
+other_front kind.LeftBracket t ts other = cc
+other_front kind.At t ts other = cc
+other_front kind.Offset t ts other = cc
+other_front kind.Smoothed t ts other = cc
+other_front kind.Anchored t ts other = cc
+other_front k t ts other = refl
+
+pub no_postfix_at : (ts us : List Symbol) (k : Kind) (t : Text) → ts ≡ symbol k t ∷ us → begins_postfix k ≡ false → postfix_at ts ≡ Ok (None, ts)
+no_postfix_at ts us k t front other = ap postfix_at front ∙ other_front k t us other ∙ ap (λ l. Ok (None, l)) (sym front)
+
+pub no_postfix_left : (ts : List Symbol) → ts ≡ [] → postfix_at ts ≡ Ok (None, ts)
+no_postfix_left ts end = ap postfix_at end ∙ ap (λ l. Ok (None, l)) (sym end)
+
+-- a base that no postfix follows
+pub no_postfixes : (k n : ℕ) (d : Derivation) (ts : List Symbol) (part : Part) → IsPart part d → length ts ≤ k → postfix_at ts ≡ Ok (None, ts) → IsGiven part ts (postfixes k n d ts)
+no_postfixes k n d ts part built enough none = record { derivation = d; is = postfixes_none k n d ts ts enough none; built = built }

@@ -1,7 +1,9 @@
 -- Postfixes as plain data, and what each makes of its base. Private: nothing rests on believing it.
-use Rattle.std.specs.Prelude.{◌≡◌, ℕ, Option, Some, None, option_map, List, Result, Ok}
+use Rattle.std.specs.Prelude.{◌≡◌, ℕ, Bool, true, false, Option, Some, None, option_map, List, Result, Ok}
 use Rattle.std.specs.Duration.{as_nanos}
 use Rattle.promql_grammar.specs.Grammar.{added_height}
+use Rattle.promql_grammar.specs.declared.kind.Kind.{Kind}
+use Rattle.promql_grammar.specs.declared.kind.Kind.TheVariants as kind
 use Rattle.promql_grammar.specs.Pieces as piece
 use Rattle.promql_grammar.specs.Reading.{Read, time_at, range_end}
 use Rattle.promql_grammar.specs.Results.{◌then◌}
@@ -18,6 +20,15 @@ use Rattle.promql_parser.specs.Asking.{Asking}
 use Rattle.promql_parser.specs.Building.{passing, bound, range_mode}
 use Rattle.promql_parser.specs.Faults.{Fault, viewed}
 use Rattle.promql_parser.specs.PieceBuilding.{time_value, step_value, moment_value, shift_value}
+
+-- the kinds with which a postfix begins
+abbrev pub begins_postfix : Kind → Bool
+begins_postfix kind.LeftBracket = true
+begins_postfix kind.At = true
+begins_postfix kind.Offset = true
+begins_postfix kind.Smoothed = true
+begins_postfix kind.Anchored = true
+begins_postfix k = false
 
 -- what a postfix adds to its base
 pub data Change : Type 0 where

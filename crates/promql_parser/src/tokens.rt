@@ -51,9 +51,23 @@ impl<'a> Tokens<'a> {
         ensures fault { (f : LexFault) → tokens text.now ≡ Err f
             → (before : List Symbol) × (symbols_left result ≡ before ++ fault_mark ∷ []) }
     {
-        let mut rest = Cursor::new(text);
-        let front = draw(&mut rest);
-        Tokens { front, rest }
+        let mut tokens = Tokens {
+            front: Front::End,
+            rest: Cursor::new(text),
+        };
+        tokens.draw();
+        tokens
+    }
+
+    /// Draws the next token to the front.
+    fn draw(&mut self)
+        ensures { symbols_left self.new ≡ drawn self.old.rest }
+    {
+        match self.rest.next() {
+            Some((id, text)) => self.front = Front::Token(kind_of(id), text),
+            None if self.rest.is_at_fault() => self.front = Front::Fault,
+            None => self.front = Front::End,
+        }
     }
 
     pub fn is_empty(&self) -> bool
@@ -78,20 +92,9 @@ impl<'a> Tokens<'a> {
     pub fn pass(&mut self)
         ensures { symbols_left self.new ≡ drop 1 (symbols_left self.old) }
     {
-        self.front = match self.front {
-            Front::Token(..) => draw(&mut self.rest),
-            Front::Fault | Front::End => Front::End,
-        };
-    }
-}
-
-/// What comes next; it is passed.
-fn draw<'a>(rest: &mut Cursor<'a>) -> Front<'a>
-    ensures { symbols_from result rest.new ≡ drawn rest.old }
-{
-    match rest.next() {
-        Some((id, text)) => Front::Token(kind_of(id), text),
-        None if rest.is_at_fault() => Front::Fault,
-        None => Front::End,
+        match self.front {
+            Front::Token(..) => self.draw(),
+            Front::Fault | Front::End => self.front = Front::End,
+        }
     }
 }

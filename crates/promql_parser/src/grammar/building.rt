@@ -21,26 +21,25 @@ use crate::grammar::fault::Fault;
 use crate::grammar::part::{Arguments, Part};
 use crate::grammar::postfix::{HeldPostfix, Postfix};
 use crate::grammar::string::string_of;
-use crate::grammar::time::{duration_of, number_of};
+use crate::grammar::time::duration_of;
 use crate::parser::MAX_DEPTH;
 use promql_ast::{BinaryExpr, CheckError, Expr, FunctionArgs, ParenExpr, SubqueryExpr};
 use promql_kind::{BinModifier, LabelModifier, get_function};
 use promql_label::Matchers;
-use promql_text::Number;
+use promql_text::{Number, parse_str_radix};
 use promql_token::ids::T_SUB;
 use promql_token::{TokenId, TokenType};
 use std::alloc::{AllocError, Global};
 
 /// The part of a node.
-fn node_part(alloc: Global, expr: Expr, height: usize) -> Result<Part, AllocError>
-    ensures value { IfOk result (λ part. built_of part ≡ Ok (tree_of expr)) }
-    ensures tall { IfOk result (λ part. part.height ≡ height) }
+fn node_part(expr: Box<Expr>, height: usize) -> Part
+    ensures value { built_of result ≡ Ok (tree_of expr.value) }
+    ensures tall { result.height ≡ height }
 {
-    let expr = Box::new(alloc, expr)?;
-    Ok(Part {
-        value: Ok(expr),
+    Part {
         height,
-    })
+        value: Ok(expr),
+    }
 }
 
 /// The part of a fault.
@@ -50,8 +49,8 @@ fn fault_part(alloc: Global, fault: Fault, height: usize) -> Result<Part, AllocE
 {
     let fault = Box::new(alloc, fault)?;
     Ok(Part {
-        value: Err(fault),
         height,
+        value: Err(fault),
     })
 }
 
@@ -66,23 +65,23 @@ fn built_part(
     ensures tall { IfOk result (λ part. part.height ≡ height) }
 {
     match built {
-        Ok(expr) => node_part(alloc, expr, height),
+        Ok(expr) => {
+            let expr = Box::new(alloc, expr)?;
+            Ok(node_part(expr, height))
+        }
         Err(CheckError::Memory) => Err(AllocError),
         Err(CheckError::Check(fault)) => fault_part(alloc, Fault::Check(fault), height),
     }
 }
 
 /// The part of a node, if no check of its root fails. It is checked in its box.
-fn checked_part(alloc: Global, expr: Expr, height: usize) -> Result<Part, AllocError>
-    ensures value { IfOk result (λ part. built_of part ≡ outcome (checked (tree_of expr))) }
+fn checked_part(alloc: Global, expr: Box<Expr>, height: usize) -> Result<Part, AllocError>
+    ensures value { IfOk result (λ part. built_of part ≡ outcome (checked (tree_of expr.value))) }
     ensures tall { IfOk result (λ part. part.height ≡ height) }
 {
-    let mut expr = Box::new(alloc, expr)?;
+    let mut expr = expr;
     match expr.check(alloc) {
-        Ok(()) => Ok(Part {
-            value: Ok(expr),
-            height,
-        }),
+        Ok(()) => Ok(node_part(expr, height)),
         Err(CheckError::Memory) => Err(AllocError),
         Err(CheckError::Check(fault)) => fault_part(alloc, Fault::Check(fault), height),
     }
@@ -99,7 +98,10 @@ fn checked_result(
     ensures tall { IfOk result (λ part. part.height ≡ height) }
 {
     match built {
-        Ok(expr) => checked_part(alloc, expr, height),
+        Ok(expr) => {
+            let expr = Box::new(alloc, expr)?;
+            checked_part(alloc, expr, height)
+        }
         Err(CheckError::Memory) => Err(AllocError),
         Err(CheckError::Check(fault)) => fault_part(alloc, Fault::Check(fault), height),
     }
@@ -109,9 +111,12 @@ pub fn number_part(alloc: Global, text: &str) -> Result<Part, AllocError>
     ensures built { IfOk result (λ part. IsPart part (grammar.number text.now)) }
     ensures low { IfOk result (λ part. part.height ≡ 1) }
 {
-    match number_of(text) {
-        Ok(number) => node_part(alloc, Expr::from(number), 1),
-        Err(fault) => fault_part(alloc, fault, 1),
+    match parse_str_radix(text) {
+        Ok(number) => {
+            let expr = Box::new(alloc, Expr::from(number))?;
+            Ok(node_part(expr, 1))
+        }
+        Err(fault) => fault_part(alloc, Fault::Number(fault), 1),
     }
 }
 
@@ -120,7 +125,10 @@ pub fn duration_part(alloc: Global, text: &str) -> Result<Part, AllocError>
     ensures low { IfOk result (λ part. part.height ≡ 1) }
 {
     match duration_of(text) {
-        Ok(duration) => node_part(alloc, Expr::from(Number::of_duration(&duration)), 1),
+        Ok(duration) => {
+            let expr = Box::new(alloc, Expr::from(Number::of_duration(&duration)))?;
+            Ok(node_part(expr, 1))
+        }
         Err(fault) => fault_part(alloc, fault, 1),
     }
 }
@@ -130,26 +138,41 @@ pub fn string_part(alloc: Global, text: &str) -> Result<Part, AllocError>
     ensures low { IfOk result (λ part. part.height ≡ 1) }
 {
     match string_of(alloc, text)? {
-        Ok(val) => node_part(alloc, Expr::from(val), 1),
+        Ok(val) => {
+            let expr = Box::new(alloc, Expr::from(val))?;
+            Ok(node_part(expr, 1))
+        }
         Err(fault) => fault_part(alloc, fault, 1),
     }
 }
 
-/// The part of a selector with a name. Its matchers are those of its braces, or none.
+/// The part of a name without braces.
+pub fn bare_part(alloc: Global, name: &str) -> Result<Part, AllocError>
+    ensures built { IfOk result (λ part. (kind : kinds.Kind)
+        → IsPart part (grammar.selector kind name.now None)) }
+    ensures low { IfOk result (λ part. part.height ≡ 1) }
+{
+    let name = String::from_str(alloc, name)?;
+    let matchers = Matchers::empty(alloc);
+    let expr = Box::new(alloc, Expr::new_vector_selector(Some(name), matchers))?;
+    checked_part(alloc, expr, 1)
+}
+
+/// The part of a selector with a name and braces.
 pub fn selector_part(
     alloc: Global,
     name: &str,
     matchers: Result<Matchers, Fault>,
 ) -> Result<Part, AllocError>
-    ensures built { IfOk result (λ part. (kind : kinds.Kind) (braces : Option pieces.Braces)
-        → IsBuiltBy plain_matchers_of matchers (any_braces_value braces)
-        → IsPart part (grammar.selector kind name.now braces)) }
+    ensures built { IfOk result (λ part. (kind : kinds.Kind) (braces : pieces.Braces)
+        → IsBuiltBy plain_matchers_of matchers (braces_value braces)
+        → IsPart part (grammar.selector kind name.now (Some braces))) }
     ensures low { IfOk result (λ part. part.height ≡ 1) }
 {
     match matchers {
         Ok(matchers) => {
             let name = String::from_str(alloc, name)?;
-            let expr = Expr::new_vector_selector(Some(name), matchers);
+            let expr = Box::new(alloc, Expr::new_vector_selector(Some(name), matchers))?;
             checked_part(alloc, expr, 1)
         }
         Err(fault) => fault_part(alloc, fault, 1),
@@ -165,7 +188,7 @@ pub fn nameless_part(alloc: Global, matchers: Result<Matchers, Fault>) -> Result
 {
     match matchers {
         Ok(matchers) => {
-            let expr = Expr::new_vector_selector(None, matchers);
+            let expr = Box::new(alloc, Expr::new_vector_selector(None, matchers))?;
             checked_part(alloc, expr, 1)
         }
         Err(fault) => fault_part(alloc, fault, 1),
@@ -179,13 +202,16 @@ pub fn paren_part(alloc: Global, inner: Part) -> Result<Part, AllocError>
         → IsPart inner d → IsPart part (grammar.paren d)) }
     ensures low { IfOk result (λ part. part.height ≡ inner.height + 1) }
 {
-    let Part { value, height } = inner;
+    let Part { height, value } = inner;
     let height = height + 1;
     match value {
-        Ok(expr) => node_part(alloc, Expr::Paren(ParenExpr { expr }), height),
+        Ok(expr) => {
+            let expr = Box::new(alloc, Expr::Paren(ParenExpr { expr }))?;
+            Ok(node_part(expr, height))
+        }
         Err(fault) => Ok(Part {
-            value: Err(fault),
             height,
+            value: Err(fault),
         }),
     }
 }
@@ -198,22 +224,19 @@ pub fn unary_part(alloc: Global, op: TokenId, operand: Part) -> Result<Part, All
         → IsPart operand d → IsPart part (grammar.unary op text d)) }
     ensures low { IfOk result (λ part. part.height ≡ operand.height + 1) }
 {
-    let Part { value, height } = operand;
+    let Part { height, value } = operand;
     let height = height + 1;
     match value {
         Ok(expr) => {
             if op != T_SUB {
-                return Ok(Part {
-                    value: Ok(expr),
-                    height,
-                });
+                return Ok(node_part(expr, height));
             }
             let expr = Box::into_inner(expr);
             checked_result(alloc, Expr::new_unary_expr(alloc, expr), height)
         }
         Err(fault) => Ok(Part {
-            value: Err(fault),
             height,
+            value: Err(fault),
         }),
     }
 }
@@ -235,20 +258,20 @@ pub fn binary_part(
     ensures low { IfOk result (λ part. part.height ≡ max left.height right.height + 1) }
 {
     let Part {
-        value: left,
         height: left_height,
+        value: left,
     } = left;
     let Part {
-        value: right,
         height: right_height,
+        value: right,
     } = right;
     let height = left_height.max(right_height) + 1;
     let lhs = match left {
         Ok(expr) => expr,
         Err(fault) => {
             return Ok(Part {
-                value: Err(fault),
                 height,
+                value: Err(fault),
             });
         }
     };
@@ -256,20 +279,21 @@ pub fn binary_part(
         Ok(expr) => expr,
         Err(fault) => {
             return Ok(Part {
-                value: Err(fault),
                 height,
+                value: Err(fault),
             });
         }
     };
     match held_modifier(modifier) {
         Ok(modifier) => {
             let op = TokenType::new(op);
-            let expr = Expr::Binary(BinaryExpr {
+            let node = BinaryExpr {
                 op,
                 lhs,
                 rhs,
                 modifier,
-            });
+            };
+            let expr = Box::new(alloc, Expr::Binary(node))?;
             checked_part(alloc, expr, height)
         }
         Err(fault) => fault_part(alloc, fault, height),
@@ -293,20 +317,20 @@ pub fn call_part(alloc: Global, name: &str, args: Arguments) -> Result<Part, All
         → AreArguments args ds → IsPart part (grammar.call kind name.now ds)) }
     ensures low { IfOk result (λ part. part.height ≡ args.height + 1) }
 {
-    let Arguments { value, height } = args;
+    let Arguments { height, value } = args;
     let height = height + 1;
     let args = match value {
         Ok(args) => args,
         Err(fault) => {
             return Ok(Part {
-                value: Err(fault),
                 height,
+                value: Err(fault),
             });
         }
     };
     match get_function(alloc, name)? {
         Some(func) => {
-            let expr = Expr::new_call(func, args);
+            let expr = Box::new(alloc, Expr::new_call(func, args))?;
             checked_part(alloc, expr, height)
         }
         None => {
@@ -331,14 +355,14 @@ pub fn aggregate_part(
         → IsPart part (grammar.aggregate op text c ds)) }
     ensures low { IfOk result (λ part. part.height ≡ args.height + 1) }
 {
-    let Arguments { value, height } = args;
+    let Arguments { height, value } = args;
     let height = height + 1;
     let args = match value {
         Ok(args) => args,
         Err(fault) => {
             return Ok(Part {
-                value: Err(fault),
                 height,
+                value: Err(fault),
             });
         }
     };
@@ -366,8 +390,8 @@ pub fn no_arguments(alloc: Global) -> Arguments
     ensures low { result.height ≡ 0 }
 {
     Arguments {
-        value: Ok(FunctionArgs::empty_args(alloc)),
         height: 0,
+        value: Ok(FunctionArgs::empty_args(alloc)),
     }
 }
 
@@ -378,18 +402,18 @@ pub fn more_arguments(args: Arguments, part: Part) -> Result<Arguments, AllocErr
         → AreArguments args ds → IsPart part d → AreArguments more (followed ds d)) }
     ensures low { IfOk result (λ more. more.height ≡ max args.height part.height) }
 {
-    let Arguments { value, height } = args;
+    let Arguments { height, value } = args;
     let Part {
-        value: last,
         height: last_height,
+        value: last,
     } = part;
     let height = height.max(last_height);
     let mut args = match value {
         Ok(args) => args,
         Err(fault) => {
             return Ok(Arguments {
-                value: Err(fault),
                 height,
+                value: Err(fault),
             });
         }
     };
@@ -397,13 +421,13 @@ pub fn more_arguments(args: Arguments, part: Part) -> Result<Arguments, AllocErr
         Ok(arg) => {
             args.args.push(arg)?;
             Ok(Arguments {
-                value: Ok(args),
                 height,
+                value: Ok(args),
             })
         }
         Err(fault) => Ok(Arguments {
-            value: Err(fault),
             height,
+            value: Err(fault),
         }),
     }
 }
@@ -416,7 +440,7 @@ pub fn postfixed_part(alloc: Global, base: Part, postfix: HeldPostfix) -> Result
         → IsPart base d → IsHeld postfix p → IsPart part (grammar.postfixed d p)) }
     ensures low { IfOk result (λ part. part.height ≡ base.height + postfix.added_height) }
 {
-    let Part { value, height } = base;
+    let Part { height, value } = base;
     let HeldPostfix {
         value: postfix,
         added_height,
@@ -425,8 +449,8 @@ pub fn postfixed_part(alloc: Global, base: Part, postfix: HeldPostfix) -> Result
     match value {
         Ok(expr) => changed_part(alloc, expr, postfix, height),
         Err(fault) => Ok(Part {
-            value: Err(fault),
             height,
+            value: Err(fault),
         }),
     }
 }
@@ -448,13 +472,14 @@ fn changed_part(
             built_part(alloc, Expr::new_matrix_selector(expr, range), height)
         }
         Ok(Postfix::Subquery { range, step }) => {
-            let expr = Expr::Subquery(SubqueryExpr {
+            let node = SubqueryExpr {
                 expr,
                 offset: None,
                 at: None,
                 range,
                 step,
-            });
+            };
+            let expr = Box::new(alloc, Expr::Subquery(node))?;
             checked_part(alloc, expr, height)
         }
         Ok(Postfix::At(at)) => built_part(alloc, Box::into_inner(expr).at_expr(at), height),
@@ -470,7 +495,7 @@ fn changed_part(
 pub fn result_of(part: Part) -> Result<Expr, Fault>
     ensures { viewed tree_of result ≡ built_of part }
 {
-    let Part { value, height: _ } = part;
+    let Part { height: _, value } = part;
     match value {
         Ok(expr) => Ok(Box::into_inner(expr)),
         Err(fault) => Err(Box::into_inner(fault)),

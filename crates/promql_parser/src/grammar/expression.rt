@@ -18,9 +18,9 @@ use crate::grammar::front::{
     LOWEST_LEVEL, SIGN_LEVEL, next, right_level, take_operator, take_sign,
 };
 use crate::grammar::leaf::read_leaf;
-use crate::grammar::modifier::modifier_at;
+use crate::grammar::modifier::{begins_modifier, modifier_at};
 use crate::grammar::part::Part;
-use crate::grammar::postfix::postfix_at;
+use crate::grammar::postfix::{begins_postfix, postfix_at};
 use crate::grammar::signs::takes_right_paren;
 use crate::parser::MAX_DEPTH;
 use crate::tokens::Tokens;
@@ -118,9 +118,28 @@ fn read_base(alloc: Global, room: usize, tokens: &mut Tokens<'_>) -> Result<Part
     }
 }
 
-/// Takes the modifier of an operator, if there is one, into a box: it waits for the right side.
-#[inline(never)]
+/// Takes the modifier of an operator, if there is one.
 fn take_modifier(
+    alloc: Global,
+    tokens: &mut Tokens<'_>,
+) -> Result<Option<Box<Result<BinModifier, Fault>>>, Halt>
+    ensures gives { MatchResult result
+        (λ held. IsModifierRead held (symbols_left tokens.new)
+        (modifier_at (symbols_left tokens.old)))
+        (λ e. Fails e (modifier_at (symbols_left tokens.old))) }
+    ensures short { OnOk result
+        (length (symbols_left tokens.new) ≤ length (symbols_left tokens.old)) }
+{
+    match tokens.front() {
+        Some((kind, _)) if begins_modifier(kind) => boxed_modifier(alloc, tokens),
+        _ => Ok(None),
+    }
+}
+
+/// Takes a modifier into a box, where it waits for the right side. Most operators have none, so its
+/// frame is kept out of theirs.
+#[inline(never)]
+fn boxed_modifier(
     alloc: Global,
     tokens: &mut Tokens<'_>,
 ) -> Result<Option<Box<Result<BinModifier, Fault>>>, Halt>
@@ -139,8 +158,32 @@ fn take_modifier(
 }
 
 /// A base with its postfixes, of height at most `room`.
-#[inline(never)]
 fn read_postfixes(
+    alloc: Global,
+    room: usize,
+    base: Part,
+    tokens: &mut Tokens<'_>,
+) -> Result<Part, Halt>
+    requires room { room ≤ MAX_DEPTH + 1 }
+    requires low_base { base.height ≤ room }
+    ensures gives { (d : grammar.Derivation) (k : ℕ) → IsPart base d
+        → length (symbols_left tokens.old) ≤ k → MatchResult result
+        (λ part. IsGiven part (symbols_left tokens.new)
+        (postfixes k room d (symbols_left tokens.old)))
+        (λ e. Fails e (postfixes k room d (symbols_left tokens.old))) }
+    ensures low { IfOk result (λ part. part.height ≤ room) }
+    ensures short { OnOk result
+        (length (symbols_left tokens.new) ≤ length (symbols_left tokens.old)) }
+{
+    match tokens.front() {
+        Some((kind, _)) if begins_postfix(kind) => collect_postfixes(alloc, room, base, tokens),
+        _ => Ok(base),
+    }
+}
+
+/// A base with its postfixes. Most bases have none, so its frame is kept out of theirs.
+#[inline(never)]
+fn collect_postfixes(
     alloc: Global,
     room: usize,
     base: Part,

@@ -1,17 +1,18 @@
 //! Bases without expressions in them.
 
-ghost use Rattle.std.specs.Prelude.{◌≡◌, ◌∷◌, ◌≤◌, true, length, IfOk, IsErrOf, MatchResult, OnOk};
+ghost use Rattle.std.specs.Prelude.{◌≡◌, ◌∷◌, ◌<◌, ◌≤◌, true, length, IfOk, IsErrOf, MatchResult, OnOk};
 ghost use Rattle.promql_grammar.specs.Reading.{named};
 ghost use Rattle.promql_grammar.specs.Symbols.{begins, may_be_name, symbol};
 ghost use Rattle.promql_parser.specs.Drawing.{symbols_left};
 ghost use Rattle.promql_parser.specs.Parts.{FailsBase, IsBase};
-ghost use Rattle.promql_parser.specs.Words.{leaf_read};
+ghost use Rattle.promql_parser.specs.Words.{leaf_read, selected};
 
 use crate::grammar::building::{
-    duration_part, nameless_part, number_part, selector_part, string_part,
+    bare_part, duration_part, nameless_part, number_part, selector_part, string_part,
 };
 use crate::grammar::part::Part;
-use crate::grammar::selector::{braces_at, braces_in};
+use crate::grammar::selector::braces_in;
+use crate::grammar::signs::takes_left_brace;
 use crate::tokens::Tokens;
 use promql_grammar::{Halt, Kind};
 use std::alloc::Global;
@@ -66,6 +67,28 @@ pub fn read_selector(
     if !kind.may_be_name() {
         return Err(Halt::Syntax);
     }
-    let matchers = braces_at(alloc, tokens)?;
+    if takes_left_brace(tokens) {
+        return read_matchers(alloc, kind, name, tokens);
+    }
+    Ok(bare_part(alloc, name)?)
+}
+
+/// A selector, after its name and the opening brace.
+#[inline(never)]
+fn read_matchers(
+    alloc: Global,
+    kind: Kind,
+    name: &str,
+    tokens: &mut Tokens<'_>,
+) -> Result<Part, Halt>
+    ensures gives { MatchResult result
+        (λ part. IsBase part (symbols_left tokens.new)
+        (λ k n. selected k n kind name.now (symbols_left tokens.old)))
+        (λ e. FailsBase e (λ k n. selected k n kind name.now (symbols_left tokens.old))) }
+    ensures low { IfOk result (λ part. part.height ≡ 1) }
+    ensures short { OnOk result
+        (length (symbols_left tokens.new) < length (symbols_left tokens.old)) }
+{
+    let matchers = braces_in(alloc, tokens)?;
     Ok(selector_part(alloc, name, matchers)?)
 }

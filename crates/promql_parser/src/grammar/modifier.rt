@@ -34,30 +34,8 @@ pub struct Matching {
     pub labels: Option<LabelModifier>,
 }
 
-/// Takes a modifier; None where there is no token of one.
-pub fn modifier_at(
-    alloc: Global,
-    tokens: &mut Tokens<'_>,
-) -> Result<Result<Option<BinModifier>, Fault>, Halt>
-    ensures gives { MatchResult result
-        (λ value. IsPiece (option_map matching_of) modifier_value value (symbols_left tokens.new)
-        (reading.modifier_at (symbols_left tokens.old)))
-        (λ e. Fails e (reading.modifier_at (symbols_left tokens.old))) }
-    ensures short { OnOk result
-        (length (symbols_left tokens.new) ≤ length (symbols_left tokens.old)) }
-{
-    let Some((kind, _)) = tokens.front() else {
-        return Ok(Ok(None));
-    };
-    if begins_modifier(kind) {
-        words_at(alloc, tokens)
-    } else {
-        Ok(Ok(None))
-    }
-}
-
 /// Whether a modifier begins with a token of this kind.
-fn begins_modifier(kind: Kind) -> bool
+pub fn begins_modifier(kind: Kind) -> bool
     ensures { result ≡ begins_modifier kind }
 {
     matches!(
@@ -66,9 +44,8 @@ fn begins_modifier(kind: Kind) -> bool
     )
 }
 
-/// Takes a modifier. Most operators have none, so its frame is kept out of theirs.
-#[inline(never)]
-fn words_at(
+/// Takes a modifier; None where there is no token of one.
+pub fn modifier_at(
     alloc: Global,
     tokens: &mut Tokens<'_>,
 ) -> Result<Result<Option<BinModifier>, Fault>, Halt>

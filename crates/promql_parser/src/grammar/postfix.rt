@@ -15,7 +15,7 @@ ghost use Rattle.promql_parser.specs.Drawing.{symbols_left};
 ghost use Rattle.promql_parser.specs.Faults.{viewed};
 ghost use Rattle.promql_parser.specs.Parts.{Fails};
 ghost use Rattle.promql_parser.specs.PieceBuilding.{at_fault, time_value};
-ghost use Rattle.promql_parser.specs.Postfixes.{IsHeldRead, IsPostfixRead, by_shift, change_of, range_at, subquery_change, to_moment, to_range};
+ghost use Rattle.promql_parser.specs.Postfixes.{IsHeldRead, IsPostfixRead, begins_postfix, by_shift, change_of, range_at, subquery_change, to_moment, to_range};
 
 use crate::grammar::fault::Fault;
 use crate::grammar::front::next;
@@ -50,6 +50,16 @@ pub enum Postfix {
 pub struct HeldPostfix {
     pub value: Result<Postfix, Fault>,
     pub added_height: usize,
+}
+
+/// Whether a postfix begins with a token of this kind.
+pub fn begins_postfix(kind: Kind) -> bool
+    ensures { result ≡ begins_postfix kind }
+{
+    matches!(
+        kind,
+        Kind::LeftBracket | Kind::At | Kind::Offset | Kind::Smoothed | Kind::Anchored
+    )
 }
 
 /// Takes a postfix, if there is one.

@@ -9,12 +9,12 @@ ghost use Rattle.promql_parser.specs.Faults.{viewed};
 ghost use Rattle.promql_parser.specs.IsPiece.{IsAskedPiece, IsBuiltBy};
 ghost use Rattle.promql_parser.specs.Items.{AddsItem, EndsItem, IsItem, IsMatchSignRead, is_or, item_end_at, item_parts, match_sign_of, parts_of, sign_id};
 ghost use Rattle.promql_parser.specs.Parts.{Fails};
-ghost use Rattle.promql_parser.specs.PieceBuilding.{any_braces_value, braces_value, item_value};
+ghost use Rattle.promql_parser.specs.PieceBuilding.{braces_value, item_value};
 
 use crate::grammar::fault::Fault;
 use crate::grammar::front::next;
 use crate::grammar::labels::label_text;
-use crate::grammar::signs::{takes_left_brace, takes_right_brace};
+use crate::grammar::signs::takes_right_brace;
 use crate::grammar::string::string_of;
 use crate::tokens::Tokens;
 use promql_grammar::{Halt, Kind};
@@ -29,21 +29,6 @@ struct Item<'a> {
     kind: Kind,
     name: &'a str,
     value: Option<(TokenId, &'a str)>,
-}
-
-/// Takes braces with their matchers, if there are any.
-pub fn braces_at(alloc: Global, tokens: &mut Tokens<'_>) -> Result<Result<Matchers, Fault>, Halt>
-    ensures gives { MatchResult result
-        (λ value. IsAskedPiece plain_matchers_of any_braces_value value (symbols_left tokens.new)
-        (reading.braces_at (symbols_left tokens.old)))
-        (λ e. Fails e (reading.braces_at (symbols_left tokens.old))) }
-    ensures short { OnOk result
-        (length (symbols_left tokens.new) ≤ length (symbols_left tokens.old)) }
-{
-    if takes_left_brace(tokens) {
-        return braces_in(alloc, tokens);
-    }
-    Ok(Ok(Matchers::empty(alloc)))
 }
 
 /// Takes matchers after an opening brace, and the closing one.

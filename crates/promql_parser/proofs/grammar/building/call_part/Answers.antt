@@ -32,12 +32,12 @@ returns-in-Err-clause-built c = λ kind ds args.
     part_of _ (grammar.call kind c.args.name.now ds) _ _ refl refl (let same = args.tall in omega arith)
     (then_fault (build_all ds) (λ ts. called c.args.name.now (function_named c.args.name.now) ts) _ (with_no_trees c.args.args (build_all ds) c.in-Err.fault c.in-Err.is args.built))
 
-pub returns-in-Some-clause-built : goal.returns-in-Some-clause-built
-returns-in-Some-clause-built c =
+pub returns-in_ok-expr-in-Some-clause-built : goal.returns-in_ok-expr-in-Some-clause-built
+returns-in_ok-expr-in-Some-clause-built c =
     if_ok_both {R = λ part. (kind : Kind) (ds : grammar.Arguments) → AreArguments c.args.args ds → IsPart part (grammar.call kind c.args.name.now ds)} _ c.checked_part.ensures.value c.checked_part.ensures.tall (λ part value tall. λ kind ds args.
     part_of part (grammar.call kind c.args.name.now ds) _ _ value tall (let same = args.tall in omega arith)
     (then_value (build_all ds) (λ ts. called c.args.name.now (function_named c.args.name.now) ts) (trees_of c.in-Ok.args.args.items) _ (with_trees c.args.args (build_all ds) c.in-Ok.args c.in-Ok.is args.built)
-    (call_ends c.args.name.now (function_named c.args.name.now) _ _ _ (rw c.in-Some.is at c.in_ok-func.ensures) c.new_call-expr.ensures)))
+    (call_ends c.args.name.now (function_named c.args.name.now) _ _ _ (rw c.in-Some.is at c.in_ok-func.ensures) (ap tree_of c.in_ok-expr-in-Some.ensures.ok ∙ c.new_call.ensures))))
 
 pub returns-in_ok-name-in-None-clause-built : goal.returns-in_ok-name-in-None-clause-built
 returns-in_ok-name-in-None-clause-built c =

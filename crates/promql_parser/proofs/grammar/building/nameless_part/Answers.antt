@@ -27,12 +27,12 @@ use Rattle.promql_parser.proofs.MoreArguments.{more_ends}
 use Rattle.std.proofs.lemmas.Bool.Decides.{nat_tests}
 use Rattle.promql_parser.proofs.grammar.building.nameless_part.Goals as goal
 
-pub returns-in-Ok-clause-built : goal.returns-in-Ok-clause-built
-returns-in-Ok-clause-built c =
+pub returns-in_ok-expr-in-Ok-clause-built : goal.returns-in_ok-expr-in-Ok-clause-built
+returns-in_ok-expr-in-Ok-clause-built c =
     if_ok_both {R = λ part. (braces : pieces.Braces) → IsBuiltBy plain_matchers_of c.args.matchers (braces_value braces) → IsPart part (grammar.nameless braces)} _ c.checked_part.ensures.value c.checked_part.ensures.tall (λ part value tall. λ braces matchers.
     let ends = rw c.in-Ok.is at (ends_held plain_matchers_of _ (braces_value braces) matchers) in
     part_of part (grammar.nameless braces) _ _ value tall refl
-    (then_value (braces_value braces) (λ cs. selector_tree None cs) (plain_matchers_of c.in-Ok.matchers) _ ends (selector_ends _ None _ c.new_vector_selector-expr.ensures)))
+    (then_value (braces_value braces) (λ cs. selector_tree None cs) (plain_matchers_of c.in-Ok.matchers) _ ends (selector_ends _ None _ (ap tree_of c.in_ok-expr-in-Ok.ensures.ok ∙ c.new_vector_selector.ensures))))
 
 pub returns-in-Err-clause-built : goal.returns-in-Err-clause-built
 returns-in-Err-clause-built c =

@@ -27,11 +27,11 @@ use Rattle.promql_parser.proofs.MoreArguments.{more_ends}
 use Rattle.std.proofs.lemmas.Bool.Decides.{nat_tests}
 use Rattle.promql_parser.proofs.grammar.building.paren_part.Goals as goal
 
-pub returns-in-Ok-clause-built : goal.returns-in-Ok-clause-built
-returns-in-Ok-clause-built c =
-    if_ok_both {R = λ part. (d : grammar.Derivation) → IsPart c.args.inner d → IsPart part (grammar.paren d)} _ c.node_part.ensures.value c.node_part.ensures.tall (λ part value tall. λ d inner.
-    part_of part (grammar.paren d) _ _ value tall (let same = inner.tall in omega arith)
-    (then_value (build d) (λ t. gives (tree.paren t)) (tree_of c.in-Ok.expr.value) _ (with_tree c.args.inner (build d) c.in-Ok.expr c.in-Ok.is inner.built) (ends_given _ _ refl)))
+pub returns-in_ok-expr-in-Ok-clause-built : goal.returns-in_ok-expr-in-Ok-clause-built
+returns-in_ok-expr-in-Ok-clause-built c =
+    λ d inner.
+    part_of c.node_part.result (grammar.paren d) _ _ (c.node_part.ensures.value ∙ ap (λ e. Ok (tree_of e)) c.in_ok-expr-in-Ok.ensures.ok) c.node_part.ensures.tall (let same = inner.tall in omega arith)
+    (then_value (build d) (λ t. gives (tree.paren t)) (tree_of c.in-Ok.expr.value) _ (with_tree c.args.inner (build d) c.in-Ok.expr c.in-Ok.is inner.built) (ends_given _ _ refl))
 
 pub returns-in-Err-clause-built : goal.returns-in-Err-clause-built
 returns-in-Err-clause-built c = λ d inner.

@@ -27,16 +27,16 @@ use Rattle.promql_parser.proofs.MoreArguments.{more_ends}
 use Rattle.std.proofs.lemmas.Bool.Decides.{nat_tests}
 use Rattle.promql_parser.proofs.grammar.building.selector_part.Goals as goal
 
-pub returns-in_ok-name-in-Ok-clause-built : goal.returns-in_ok-name-in-Ok-clause-built
-returns-in_ok-name-in-Ok-clause-built c =
-    if_ok_both {R = λ part. (kind : Kind) (braces : Option pieces.Braces) → IsBuiltBy plain_matchers_of c.args.matchers (any_braces_value braces) → IsPart part (grammar.selector kind c.args.name.now braces)} _ c.checked_part.ensures.value c.checked_part.ensures.tall (λ part value tall. λ kind braces matchers.
-    let ends = rw c.in-Ok.is at (ends_held plain_matchers_of _ (any_braces_value braces) matchers) in
-    part_of part (grammar.selector kind c.args.name.now braces) _ _ value tall refl
-    (then_value (any_braces_value braces) (λ cs. selector_tree (Some c.args.name.now) cs) (plain_matchers_of c.in-Ok.matchers) _ ends
-    (selector_ends _ (Some c.args.name.now) _ (c.new_vector_selector-expr.ensures ∙ ap (λ n. tree.vector (selector (Some n) (plain_matchers_of c.in-Ok.matchers) None None)) c.in_ok-name-in-Ok.ensures.ok))))
+pub returns-in_ok-expr-in-Ok-clause-built : goal.returns-in_ok-expr-in-Ok-clause-built
+returns-in_ok-expr-in-Ok-clause-built c =
+    if_ok_both {R = λ part. (kind : Kind) (braces : pieces.Braces) → IsBuiltBy plain_matchers_of c.args.matchers (braces_value braces) → IsPart part (grammar.selector kind c.args.name.now (Some braces))} _ c.checked_part.ensures.value c.checked_part.ensures.tall (λ part value tall. λ kind braces matchers.
+    let ends = rw c.in-Ok.is at (ends_held plain_matchers_of _ (braces_value braces) matchers) in
+    part_of part (grammar.selector kind c.args.name.now (Some braces)) _ _ value tall refl
+    (then_value (braces_value braces) (λ cs. selector_tree (Some c.args.name.now) cs) (plain_matchers_of c.in-Ok.matchers) _ ends
+    (selector_ends _ (Some c.args.name.now) _ (ap tree_of c.in_ok-expr-in-Ok.ensures.ok ∙ c.new_vector_selector.ensures ∙ ap (λ n. tree.vector (selector (Some n) (plain_matchers_of c.in-Ok.matchers) None None)) c.in_ok-name-in-Ok.ensures.ok))))
 
 pub returns-in-Err-clause-built : goal.returns-in-Err-clause-built
 returns-in-Err-clause-built c =
-    if_ok_both {R = λ part. (kind : Kind) (braces : Option pieces.Braces) → IsBuiltBy plain_matchers_of c.args.matchers (any_braces_value braces) → IsPart part (grammar.selector kind c.args.name.now braces)} _ c.fault_part.ensures.value c.fault_part.ensures.tall (λ part value tall. λ kind braces matchers.
-    let ends = rw c.in-Err.is at (ends_held plain_matchers_of _ (any_braces_value braces) matchers) in
-    part_of part (grammar.selector kind c.args.name.now braces) _ _ value tall refl (then_fault (any_braces_value braces) (λ cs. selector_tree (Some c.args.name.now) cs) _ ends))
+    if_ok_both {R = λ part. (kind : Kind) (braces : pieces.Braces) → IsBuiltBy plain_matchers_of c.args.matchers (braces_value braces) → IsPart part (grammar.selector kind c.args.name.now (Some braces))} _ c.fault_part.ensures.value c.fault_part.ensures.tall (λ part value tall. λ kind braces matchers.
+    let ends = rw c.in-Err.is at (ends_held plain_matchers_of _ (braces_value braces) matchers) in
+    part_of part (grammar.selector kind c.args.name.now (Some braces)) _ _ value tall refl (then_fault (braces_value braces) (λ cs. selector_tree (Some c.args.name.now) cs) _ ends))

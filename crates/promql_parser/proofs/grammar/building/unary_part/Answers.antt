@@ -30,7 +30,7 @@ use Rattle.promql_parser.proofs.grammar.building.unary_part.Goals as goal
 pub returns-then-op-ne-T_SUB-clause-built : goal.returns-then-op-ne-T_SUB-clause-built
 returns-then-op-ne-T_SUB-clause-built c = λ text d operand.
     let other : (c.args.op == T_SUB) ≡ false = grind (arith, nat_tests) in
-    part_of _ (grammar.unary c.args.op text d) _ _ refl refl (let same = operand.tall in omega arith)
+    part_of _ (grammar.unary c.args.op text d) _ _ c.node_part.ensures.value c.node_part.ensures.tall (let same = operand.tall in omega arith)
     (then_value (build d) (λ t. with_sign c.args.op t) (tree_of c.in-Ok.expr.value) _ (with_tree c.args.operand (build d) c.in-Ok.expr c.in-Ok.is operand.built) (plus_ends c.args.op _ other))
 
 pub returns-else-op-ne-T_SUB-clause-built : goal.returns-else-op-ne-T_SUB-clause-built

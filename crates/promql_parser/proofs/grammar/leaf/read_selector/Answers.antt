@@ -1,8 +1,15 @@
-use Rattle.std.proofs.Common.{sym}
+use Rattle.std.proofs.Common.{refl, sym}
+use Rattle.promql_grammar.specs.Reading.{named}
 use Rattle.promql_parser.specs.Drawing.{symbols_left}
-use Rattle.promql_parser.proofs.Leaves.{selector_base}
+use Rattle.promql_parser.proofs.Bases.{bases_same}
+use Rattle.promql_parser.proofs.Leaves.{bare_base, named_selected}
 use Rattle.promql_parser.proofs.grammar.leaf.read_selector.Goals as goal
+
+pub returns-then-takes_left_brace-clause-gives : goal.returns-then-takes_left_brace-clause-gives
+returns-then-takes_left_brace-clause-gives c =
+    bases_same _ _ _ (λ k n. named k n c.args.kind c.args.name.now (symbols_left c.args.tokens.now))
+    (λ k n. named_selected k n c.args.kind c.args.name.now _ _ (sym c.if-not-may_be_name.ensures) c.if-takes_left_brace.ensures.front) c.read_matchers.ensures.gives
 
 pub returns-clause-gives : goal.returns-clause-gives
 returns-clause-gives c =
-    selector_base c.args.kind c.args.name.now (symbols_left c.args.tokens.now) _ _ _ (sym c.if-not-may_be_name.ensures) c.in_ok-matchers.ensures.gives c.in_ok-selector_part.ensures.built
+    rw (c.if-takes_left_brace.ensures.stays refl) (bare_base c.args.kind c.args.name.now _ _ (sym c.if-not-may_be_name.ensures) c.if-takes_left_brace.ensures.front c.in_ok-bare_part.ensures.built)

@@ -3,7 +3,7 @@ use Rattle.promql_grammar.specs.Grammar.{Derivation}
 use Rattle.promql_parser.specs.Drawing.{symbols_left}
 use Rattle.promql_parser.specs.Parts.{IsPart}
 use Rattle.promql_parser.proofs.Postfixing.{Postfixing}
-use Rattle.promql_parser.proofs.grammar.expression.read_postfixes.Given as goal
+use Rattle.promql_parser.proofs.grammar.expression.collect_postfixes.Given as goal
 
 abbrev pub invariant-loop-part : goal.invariant-loop-part
 invariant-loop-part l = record {
