@@ -3,8 +3,6 @@ use Rattle.std.proofs.Common.{◌≡◌, ℕ, ◌+◌, ◌<◌, ◌≤◌, ⊎_e
 use Rattle.std.specs.Prelude.{◌==◌, Result, Ok, Err}
 use Rattle.std.proofs.lemmas.Bool.Decides.{nat_tests}
 use Rattle.std.proofs.lemmas.Bool.{cases_lt}
-use Rattle.promql_ast.specs.View.{tree_of}
-use Rattle.promql_ast.specs.declared.expr.Expr.{Expr}
 use Rattle.promql_grammar.specs.declared.halt.Halt.{Halt}
 use Rattle.promql_grammar.specs.declared.halt.Halt.TheVariants.{Memory, Syntax, TooDeep}
 use Rattle.promql_grammar.specs.Symbols.{Symbol}
@@ -13,12 +11,8 @@ use Rattle.promql_grammar.specs.Reading.{Read, expression}
 use Rattle.promql_grammar.proofs.Within.{within, within_low, within_high}
 use Rattle.promql_grammar.proofs.Unique.{whole}
 use Rattle.promql_grammar.proofs.Sound.{Good, expression_sound}
-use Rattle.promql_parser.specs.declared.grammar.fault.Fault as code
 use Rattle.promql_parser.specs.declared.grammar.part.Part.{Part}
-use Rattle.promql_parser.specs.Asking.{Ends}
-use Rattle.promql_parser.specs.Building.{build}
-use Rattle.promql_parser.specs.Faults.{viewed}
-use Rattle.promql_parser.specs.Parts.{IsGiven, Fails, built_of}
+use Rattle.promql_parser.specs.Parts.{IsGiven, Fails}
 use Rattle.promql_parser.specs.Wholes.{IsWhole, IsWholeValue}
 
 -- a derivation is never misread
@@ -79,9 +73,8 @@ no_rest : (d : Derivation) (ts rest : List Symbol) → length rest ≡ 0 → ts 
 no_rest d ts [] none spells = sym (append-nil (yield d)) ∙ sym spells
 no_rest d ts (t ∷ rest) none spells = absurd (omega arith)
 
-pub whole_given : (n : ℕ) (ts rest : List Symbol) (part : Part) (value : Result Expr code.Fault) → viewed tree_of value ≡ built_of part
-    → IsGiven part rest (expression n 0 ts) → length rest ≡ 0 → IsWhole n ts (Ok value)
-whole_given n ts rest part value same given none =
+pub whole_given : (n : ℕ) (ts rest : List Symbol) (part : Part) → IsGiven part rest (expression n 0 ts) → length rest ≡ 0 → IsWhole n ts (Ok part.value)
+whole_given n ts rest part given none =
     let read = subst (Good n 0 ts) given.is ((expression_sound n).by 0 ts) in
     let part_of = given.built in
     let built = part_of.built in
@@ -92,7 +85,7 @@ whole_given n ts rest part value same given none =
       spells = no_rest given.derivation ts rest none read.spells;
       answers = built.answers;
       allowed = built.allowed;
-      is = subst (Ends (build given.derivation) built.answers) (sym same) built.ends;
+      is = built.ends;
     }
 
 -- whether tokens are left

@@ -3,6 +3,7 @@ use Rattle.std.specs.Prelude.{◌≡◌, ℕ, List, Option, Some, None, Result, 
 use Rattle.promql_ast.specs.Faults.{Verdict, passes, rejected}
 use Rattle.promql_ast.specs.Tree.{Tree, Trees}
 use Rattle.promql_ast.specs.View.{tree_of, trees_of}
+use Rattle.promql_ast.specs.declared.expr.Expr.{Expr}
 use Rattle.std.specs.declared.alloc.Global.{Global}
 use Rattle.std.specs.declared.boxed.Box.{Box}
 use Rattle.promql_kind.specs.Modifiers.{Clause, Matching}
@@ -30,9 +31,14 @@ pub record EndsIn {A : Type 0} (building : Asking A) (result : Result A Fault) :
   pub allowed : AreAllowed answers
   pub ends : Ends building answers result
 
+-- the tree or the fault in a box
+abbrev pub held : Result (Box Expr Global) (Box code.Fault Global) → Result Tree Fault
+held (Ok e) = Ok (tree_of e.value)
+held (Err f) = Err (fault_of f.value)
+
 -- the tree that a part has, or its fault
 abbrev pub built_of : Part → Result Tree Fault
-built_of part = elim part.value [ Ok e ↦ Ok (tree_of e.value) | Err f ↦ Err (fault_of f.value) ]
+built_of part = held part.value
 
 abbrev pub built_all : Arguments → Result Trees Fault
 built_all args = elim args.value [ Ok a ↦ Ok (trees_of a.args.items) | Err f ↦ Err (fault_of f.value) ]

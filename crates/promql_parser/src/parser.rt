@@ -2,7 +2,7 @@
 
 ghost use Rattle.std.specs.Prelude.{◌≡◌};
 ghost use Rattle.promql_parser.specs.Answers.{IsAnswerTo, answer_of};
-ghost use Rattle.promql_parser.specs.Halts.{first_of};
+ghost use Rattle.promql_parser.specs.Halts.{fault_error, first_of};
 ghost use Rattle.promql_parser.specs.Lexing.{tokens, has_any};
 
 use crate::grammar::expression::read_all;
@@ -139,10 +139,17 @@ pub fn parse(alloc: Global, text: &str) -> Result<Expr, ParseError>
 {
     promql_ast::laws::checked_trees_are_typed();
     match read_all(alloc, MAX_DEPTH, Tokens::new(text)) {
-        Ok(Ok(expr)) => Ok(expr),
-        Ok(Err(fault)) => Err(first_refusal(text, ParseError::from(fault))),
+        Ok(Ok(expr)) => Ok(Box::into_inner(expr)),
+        Ok(Err(fault)) => Err(first_refusal(text, refusal_of(fault))),
         Err(halt) => Err(first_refusal(text, ParseError::from(halt))),
     }
+}
+
+/// The error of a fault.
+fn refusal_of(fault: Box<Fault>) -> ParseError
+    ensures { result ≡ fault_error fault.value }
+{
+    ParseError::from(Box::into_inner(fault))
 }
 
 /// Why a text has no tree: its lexical fault, or that it has no token, comes before what reading

@@ -177,6 +177,7 @@ fn end_in(mode: Mode, depth: usize) -> Piece
 }
 
 /// What begins at the front of a text that begins with no gap.
+#[inline(always)]
 #[tactic(auto, unfolding(crate::specs::Pieces::piece))]
 pub fn piece(state: State, z: &[u8]) -> Piece
     ensures { result ≡ spec.piece state z.now }

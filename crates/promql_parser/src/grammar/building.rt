@@ -490,14 +490,3 @@ fn changed_part(
         Err(fault) => fault_part(alloc, fault, height),
     }
 }
-
-/// The expression or fault of a part.
-pub fn result_of(part: Part) -> Result<Expr, Fault>
-    ensures { viewed tree_of result ≡ built_of part }
-{
-    let Part { height: _, value } = part;
-    match value {
-        Ok(expr) => Ok(Box::into_inner(expr)),
-        Err(fault) => Err(Box::into_inner(fault)),
-    }
-}

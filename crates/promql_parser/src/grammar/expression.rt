@@ -11,7 +11,7 @@ ghost use Rattle.promql_parser.specs.Parts.{Fails, FailsBase, IsBase, IsGiven, I
 ghost use Rattle.promql_parser.specs.Wholes.{IsWhole};
 
 use crate::grammar::aggregate::read_aggregate;
-use crate::grammar::building::{binary_part, paren_part, postfixed_part, result_of, unary_part};
+use crate::grammar::building::{binary_part, paren_part, postfixed_part, unary_part};
 use crate::grammar::call::{may_be_called, read_call};
 use crate::grammar::fault::Fault;
 use crate::grammar::front::{
@@ -211,7 +211,11 @@ fn collect_postfixes(
 }
 
 /// What all the tokens build, as one expression of height at most `room`.
-pub fn read_all(alloc: Global, room: usize, tokens: Tokens<'_>) -> Result<Result<Expr, Fault>, Halt>
+pub fn read_all(
+    alloc: Global,
+    room: usize,
+    tokens: Tokens<'_>,
+) -> Result<Result<Box<Expr>, Box<Fault>>, Halt>
     requires { room ≤ MAX_DEPTH }
     ensures whole { IsWhole room (symbols_left tokens.entry) result }
     ensures memory { IsErrOf result Halt.Memory → begins (symbols_left tokens.entry) ≡ true }
@@ -221,5 +225,6 @@ pub fn read_all(alloc: Global, room: usize, tokens: Tokens<'_>) -> Result<Result
     if !rest.is_empty() {
         return Err(Halt::Syntax);
     }
-    Ok(result_of(part))
+    let Part { height: _, value } = part;
+    Ok(value)
 }

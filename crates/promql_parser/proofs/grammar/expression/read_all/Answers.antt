@@ -11,5 +11,4 @@ pub returns-then-not-is_empty-clause-whole : goal.returns-then-not-is_empty-clau
 returns-then-not-is_empty-clause-whole c = left_none _ _ _ _ c.in_ok-part.ensures.gives (some_left _ c.if-not-is_empty.ensures)
 
 pub returns-clause-whole : goal.returns-clause-whole
-returns-clause-whole c =
-    whole_given _ _ _ _ _ c.result_of.ensures c.in_ok-part.ensures.gives (none_left _ c.if-not-is_empty.ensures)
+returns-clause-whole c = whole_given _ _ _ _ c.in_ok-part.ensures.gives (none_left _ c.if-not-is_empty.ensures)
