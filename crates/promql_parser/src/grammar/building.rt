@@ -1,8 +1,9 @@
 //! What each form of expression builds of its parts: their first fault, else a node that is checked.
 
-ghost use Rattle.std.specs.Prelude.{◌≡◌, ℕ, ◌+◌, ◌≤◌, max, List, Option, Ok, Err, IfOk, option_map};
+ghost use Rattle.std.specs.Prelude.{◌≡◌, ℕ, ◌+◌, ◌≤◌, max, List, Option, None, Some, Ok, Err, IfOk, option_map};
 ghost use Rattle.promql_ast.specs.Checked.{checked};
 ghost use Rattle.promql_ast.specs.Faults.{Gives, GivesOrMemory, Verdict};
+ghost use Rattle.promql_ast.specs.Tree.{binary};
 ghost use Rattle.promql_ast.specs.View.{tree_of};
 ghost use Rattle.promql_grammar.specs.Grammar as grammar;
 ghost use Rattle.promql_grammar.specs.Pieces as pieces;
@@ -15,6 +16,7 @@ ghost use Rattle.promql_parser.specs.Parts.{AreArguments, EndsIn, IsPart, built_
 ghost use Rattle.promql_parser.specs.PieceBuilding.{any_braces_value, braces_value, clause_value, modifier_value};
 ghost use Rattle.promql_kind.specs.Views.{clause_of, matching_of};
 ghost use Rattle.promql_parser.specs.Asking.{◌giving◌, known};
+ghost use Rattle.promql_parser.specs.Building.{passing};
 ghost use Rattle.promql_parser.specs.Postfixes.{IsHeld, change_of, changed};
 
 use crate::grammar::fault::Fault;
@@ -284,29 +286,52 @@ pub fn binary_part(
             });
         }
     };
-    match held_modifier(modifier) {
-        Ok(modifier) => {
-            let op = TokenType::new(op);
+    let op = TokenType::new(op);
+    match modifier {
+        Some(modifier) => modified_part(alloc, op, lhs, rhs, modifier, height),
+        None => {
             let node = BinaryExpr {
                 op,
                 lhs,
                 rhs,
-                modifier,
+                modifier: None,
+            };
+            let expr = Box::new(alloc, Expr::Binary(node))?;
+            checked_part(alloc, expr, height)
+        }
+    }
+}
+
+/// The part of an operator that has a modifier. Most have none, so its frame is kept out of theirs.
+#[inline(never)]
+fn modified_part(
+    alloc: Global,
+    op: TokenType,
+    lhs: Box<Expr>,
+    rhs: Box<Expr>,
+    modifier: Box<Result<BinModifier, Fault>>,
+    height: usize,
+) -> Result<Part, AllocError>
+    ensures value { IfOk result (λ part. (m : pieces.Modifier)
+        → modifier_of (Some modifier) ≡ modifier_value m
+        → EndsIn (known (modifier_value m) giving
+        λ z. passing (checked (binary op (tree_of lhs.value) (tree_of rhs.value) z)))
+        (built_of part)) }
+    ensures tall { IfOk result (λ part. part.height ≡ height) }
+{
+    match Box::into_inner(modifier) {
+        Ok(modifier) => {
+            let node = BinaryExpr {
+                op,
+                lhs,
+                rhs,
+                modifier: Some(modifier),
             };
             let expr = Box::new(alloc, Expr::Binary(node))?;
             checked_part(alloc, expr, height)
         }
         Err(fault) => fault_part(alloc, fault, height),
     }
-}
-
-/// The modifier out of its box.
-fn held_modifier(
-    modifier: Option<Box<Result<BinModifier, Fault>>>,
-) -> Result<Option<BinModifier>, Fault>
-    ensures { viewed (option_map matching_of) result ≡ modifier_of modifier }
-{
-    modifier.map(Box::into_inner).transpose()
 }
 
 /// The part of a call. Its name is looked up after its arguments.

@@ -38,18 +38,18 @@ returns-in-Err-right-clause-built c = λ text m l r modifier left right.
     (then_value (build l) (λ x. build r giving λ y. known (modifier_value m) giving λ z. passing (checked (tree.binary c.args.op x y z))) (tree_of c.in-Ok.expr.value) _ (with_tree c.args.left (build l) c.in-Ok.expr c.in-Ok.is left.built)
     (then_fault (build r) (λ y. known (modifier_value m) giving λ z. passing (checked (tree.binary c.args.op (tree_of c.in-Ok.expr.value) y z))) _ (with_fault c.args.right (build r) c.in-Err-right.fault c.in-Err-right.is right.built)))
 
-pub returns-in_ok-expr-in-Ok-held_modifier-clause-built : goal.returns-in_ok-expr-in-Ok-held_modifier-clause-built
-returns-in_ok-expr-in-Ok-held_modifier-clause-built c =
+pub returns-in_ok-expr-in-None-clause-built : goal.returns-in_ok-expr-in-None-clause-built
+returns-in_ok-expr-in-None-clause-built c =
     if_ok_both {R = λ part. (text : List ℕ) (m : pieces.Modifier) (l r : grammar.Derivation) → modifier_of c.args.modifier ≡ modifier_value m → IsPart c.args.left l → IsPart c.args.right r → IsPart part (grammar.binary c.args.op text m l r)} _ c.checked_part.ensures.value c.checked_part.ensures.tall (λ part value tall. λ text m l r modifier left right.
     part_of part (grammar.binary c.args.op text m l r) _ _ value tall (let one = left.tall in let other = right.tall in let high = c.max-height.ensures in omega arith)
     (then_value (build l) (λ x. build r giving λ y. known (modifier_value m) giving λ z. passing (checked (tree.binary c.args.op x y z))) (tree_of c.in-Ok.expr.value) _ (with_tree c.args.left (build l) c.in-Ok.expr c.in-Ok.is left.built)
     (then_value (build r) (λ y. known (modifier_value m) giving λ z. passing (checked (tree.binary c.args.op (tree_of c.in-Ok.expr.value) y z))) (tree_of c.in-Ok-right.expr.value) _ (with_tree c.args.right (build r) c.in-Ok-right.expr c.in-Ok-right.is right.built)
-    (binary_ends c.args.op m (option_map matching_of c.in-Ok-held_modifier.modifier) (tree_of c.in-Ok.expr.value) (tree_of c.in-Ok-right.expr.value) _ (c.in-Ok-held_modifier.ensures ∙ modifier) (ap tree_of c.in_ok-expr-in-Ok-held_modifier.ensures.ok ∙ ap (λ o. tree.binary o (tree_of c.in-Ok.expr.value) (tree_of c.in-Ok-right.expr.value) (option_map matching_of c.in-Ok-held_modifier.modifier)) c.new-op.ensures)))))
+    (binary_ends c.args.op m None (tree_of c.in-Ok.expr.value) (tree_of c.in-Ok-right.expr.value) _ (rw c.in-None.is at modifier) (ap tree_of c.in_ok-expr-in-None.ensures.ok ∙ ap (λ o. tree.binary o (tree_of c.in-Ok.expr.value) (tree_of c.in-Ok-right.expr.value) None) c.new-op.ensures)))))
 
-pub returns-in-Err-held_modifier-clause-built : goal.returns-in-Err-held_modifier-clause-built
-returns-in-Err-held_modifier-clause-built c =
-    if_ok_both {R = λ part. (text : List ℕ) (m : pieces.Modifier) (l r : grammar.Derivation) → modifier_of c.args.modifier ≡ modifier_value m → IsPart c.args.left l → IsPart c.args.right r → IsPart part (grammar.binary c.args.op text m l r)} _ c.fault_part.ensures.value c.fault_part.ensures.tall (λ part value tall. λ text m l r modifier left right.
-    part_of part (grammar.binary c.args.op text m l r) _ _ value tall (let one = left.tall in let other = right.tall in let high = c.max-height.ensures in omega arith)
+pub returns-in-Some-clause-built : goal.returns-in-Some-clause-built
+returns-in-Some-clause-built c =
+    if_ok_both {R = λ part. (text : List ℕ) (m : pieces.Modifier) (l r : grammar.Derivation) → modifier_of c.args.modifier ≡ modifier_value m → IsPart c.args.left l → IsPart c.args.right r → IsPart part (grammar.binary c.args.op text m l r)} _ c.modified_part.ensures.value c.modified_part.ensures.tall (λ part value tall. λ text m l r modifier left right.
+    part_of part (grammar.binary c.args.op text m l r) _ _ refl tall (let one = left.tall in let other = right.tall in let high = c.max-height.ensures in omega arith)
     (then_value (build l) (λ x. build r giving λ y. known (modifier_value m) giving λ z. passing (checked (tree.binary c.args.op x y z))) (tree_of c.in-Ok.expr.value) _ (with_tree c.args.left (build l) c.in-Ok.expr c.in-Ok.is left.built)
     (then_value (build r) (λ y. known (modifier_value m) giving λ z. passing (checked (tree.binary c.args.op (tree_of c.in-Ok.expr.value) y z))) (tree_of c.in-Ok-right.expr.value) _ (with_tree c.args.right (build r) c.in-Ok-right.expr c.in-Ok-right.is right.built)
-    (modifier_fails c.args.op m _ (tree_of c.in-Ok.expr.value) (tree_of c.in-Ok-right.expr.value) (c.in-Err-held_modifier.ensures ∙ modifier)))))
+    (rw c.new-op.ensures at (value m (rw c.in-Some.is at modifier))))))
