@@ -148,7 +148,7 @@ pub fn string_part(alloc: Global, text: &str) -> Result<Part, AllocError>
     }
 }
 
-/// The part of a name without braces.
+/// The part of a name without braces, in which no check fails.
 pub fn bare_part(alloc: Global, name: &str) -> Result<Part, AllocError>
     ensures built { IfOk result (λ part. (kind : kinds.Kind)
         → IsPart part (grammar.selector kind name.now None)) }
@@ -157,7 +157,7 @@ pub fn bare_part(alloc: Global, name: &str) -> Result<Part, AllocError>
     let name = String::from_str(alloc, name)?;
     let matchers = Matchers::empty(alloc);
     let expr = Box::new(alloc, Expr::new_vector_selector(Some(name), matchers))?;
-    checked_part(alloc, expr, 1)
+    Ok(node_part(expr, 1))
 }
 
 /// The part of a selector with a name and braces.
