@@ -200,6 +200,7 @@ fn of_form<S: Source>(form: DecimalForm<S>) -> Result<Number, NumberFault>
     }
 }
 
+#[inline(never)]
 #[tactic(auto, unfolding(crate::specs::NumberText::number_of))]
 fn number_of<S: Source>(text: S) -> Result<Number, NumberFault>
     ensures { result ≡ spec.number_of (S.left text) }
@@ -235,6 +236,7 @@ fn short_whole(text: &str) -> Option<u64>
 /// `NotANumber` where the text is none; `TooManyDigits` for more than 38 digits between the first
 /// and the last that is no zero; else `OutOfRange`, for a decimal whose first digit is at no place
 /// from 10^-324 to 10^308, and for a hexadecimal or octal number past 2^63 - 1.
+#[inline(always)]
 pub fn parse_str_radix(text: &str) -> Result<Number, NumberFault>
     ensures { result ≡ spec.read_number text.now }
 {
