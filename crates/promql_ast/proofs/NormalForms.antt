@@ -6,11 +6,13 @@ use Rattle.std.proofs.lemmas.Cmp.{nat_list_cmp_total}
 use Rattle.promql_text.specs.Texts.{Text, joined_text}
 use Rattle.promql_token.specs.Ids.{text_of}
 use Rattle.promql_label.specs.PlainMatchers.{PlainMatcher, PlainMatchers, plain_matchers, matcher_text, matchers_text}
-use Rattle.promql_label.specs.SortedTexts.{insert_text, sorted_texts, text_order}
+use Rattle.promql_label.specs.ReadMatchers.{insert_matcher, sorted_matchers}
+use Rattle.promql_label.specs.SortedTexts.{sorted_texts, text_order}
+use Rattle.promql_label.proofs.PrintedTokens.{texts_sorted}
 use Rattle.promql_kind.specs.Functions.{name_of}
 use Rattle.promql_kind.specs.ModifierText.{bool_text, fills_text, grouping_text, matched_text, modifier_text}
 use Rattle.promql_kind.specs.Modifiers.{Clause, including, excluding, Cardinality, one_to_one, many_to_one, one_to_many, many_to_many, Fills, fills, Matching, matching, is_grouping}
-use Rattle.promql_ast.specs.Normal.{insert_matcher, sorted_matchers, normal_matchers, normal_selector, normal_clause, normal_matched, unless_default, normal_matching, normal, maybe_normal, all_normal}
+use Rattle.promql_ast.specs.Normal.{normal_matchers, normal_selector, normal_clause, normal_matched, unless_default, normal_matching, normal, maybe_normal, all_normal}
 use Rattle.promql_ast.specs.Selectors.{Selector, selector}
 use Rattle.promql_ast.specs.Shifts.{at_text, offset_text}
 use Rattle.promql_ast.specs.Text.{text, maybe_text, texts}
@@ -75,20 +77,6 @@ sorted_rising (c ∷ cs) h = ap (insert_matcher c) (sorted_rising cs h.1) ∙ in
 
 sorted_twice : (cs : List PlainMatcher) → sorted_matchers (sorted_matchers cs) ≡ sorted_matchers cs
 sorted_twice cs = sorted_rising (sorted_matchers cs) (rising_sorted cs)
-
-inserted_texts : (c : PlainMatcher) (ds : List PlainMatcher) → map matcher_text (insert_matcher c ds) ≡ insert_text (matcher_text c) (map matcher_text ds)
-inserted_texts c [] = refl
-inserted_texts c (d ∷ ds) = go (is_after c d) (inserted_texts c ds)
-  where
-    go : (b : Bool) → map matcher_text (insert_matcher c ds) ≡ insert_text (matcher_text c) (map matcher_text ds)
-        → map matcher_text (if b then d ∷ insert_matcher c ds else c ∷ d ∷ ds)
-        ≡ (if b then matcher_text d ∷ insert_text (matcher_text c) (map matcher_text ds) else matcher_text c ∷ matcher_text d ∷ map matcher_text ds)
-    go true e = ap (λ ts. matcher_text d ∷ ts) e
-    go false e = refl
-
-texts_sorted : (cs : List PlainMatcher) → map matcher_text (sorted_matchers cs) ≡ sorted_texts (map matcher_text cs)
-texts_sorted [] = refl
-texts_sorted (c ∷ cs) = inserted_texts c (sorted_matchers cs) ∙ ap (insert_text (matcher_text c)) (texts_sorted cs)
 
 -- sorting sorted matchers' texts again changes nothing
 texts_again : (cs : List PlainMatcher) → sorted_texts (map matcher_text (sorted_matchers cs)) ≡ sorted_texts (map matcher_text cs)
