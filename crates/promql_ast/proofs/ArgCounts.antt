@@ -1,5 +1,5 @@
 -- Aggregations with another number of arguments than their operator takes.
-use Rattle.std.proofs.Common.{◌≡◌, ◌∙◌, ℕ, ◌+◌, Bool, true, false, Option, Err, refl, sym, ap, subst, arith}
+use Rattle.std.proofs.Common.{◌≡◌, ◌∙◌, ℕ, ◌+◌, true, false, Option, Err, refl, sym, ap, arith}
 use Rattle.std.specs.Prelude.{if◌then◌else◌}
 use Rattle.promql_token.specs.Ids.{is_aggregator_with_param}
 use Rattle.promql_kind.specs.Modifiers.{Clause}

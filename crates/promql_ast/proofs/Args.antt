@@ -1,7 +1,7 @@
 -- Lists of arguments, as lists of the code and as lists of trees.
-use Rattle.std.proofs.Common.{◌≡◌, ◌∙◌, ℕ, ◌+◌, ◌-◌, suc, slice_get, Bool, true, false, List, [], ◌∷◌, ◌++◌, Option, Some, None, map, length, option_map, refl, sym, ap, arith}
-use Rattle.promql_ast.specs.Arguments.{appended, count, first_of, last_of}
-use Rattle.promql_ast.specs.Tree.{Tree, Trees, no_trees, first_tree}
+use Rattle.std.proofs.Common.{◌≡◌, ◌∙◌, ◌+◌, ◌-◌, suc, slice_get, List, [], ◌∷◌, ◌++◌, Some, map, length, refl, sym, ap, arith}
+use Rattle.promql_ast.specs.Arguments.{appended, count, last_of}
+use Rattle.promql_ast.specs.Tree.{Tree, first_tree}
 use Rattle.promql_ast.specs.View.{trees}
 
 module _ {X : Type 0} (f : X → Tree) where

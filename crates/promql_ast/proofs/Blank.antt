@@ -1,6 +1,6 @@
 -- Only a list of matchers that is blank has an empty text.
 use Rattle.std.proofs.Common.{◌≡◌, ◌∙◌, Bool, true, false, List, [], ◌∷◌, ◌++◌, map, codes, refl, sym, ap, is_gt}
-use Rattle.std.specs.Prelude.{if◌then◌else◌, ℕ}
+use Rattle.std.specs.Prelude.{if◌then◌else◌}
 use Rattle.promql_text.specs.Texts.{Text, joined_text}
 use Rattle.promql_label.specs.PlainMatchers.{PlainMatcher, plain_matcher, PlainMatchers, plain_matchers, name_text, operator_text, matcher_text, group_text, matchers_text}
 use Rattle.promql_label.specs.SortedTexts.{insert_text, sorted_texts, text_order}

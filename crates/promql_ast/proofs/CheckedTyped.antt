@@ -1,14 +1,14 @@
 -- What the checks accept, over well typed children, is well typed.
-use Rattle.std.proofs.Common.{◌≡◌, ◌≢◌, ◌∙◌, ◌⊎◌, inl, inr, ◌≤◌, ◌<◌, ◌+◌, ◌-◌, ℕ, ℤ, Bool, true, false, not, ◌&&◌, ◌||◌, List, [], ◌∷◌, length, Option, Some, None, refl, sym, ap, subst, arith, unsigned_abs}
+use Rattle.std.proofs.Common.{◌≡◌, ◌∙◌, ◌⊎◌, inl, inr, ◌≤◌, ◌+◌, ◌-◌, ℕ, ℤ, Bool, true, false, not, ◌&&◌, ◌||◌, List, [], ◌∷◌, length, Option, Some, None, refl, sym, ap, subst, unsigned_abs}
 use Rattle.std.specs.Prelude.{if◌then◌else◌, ◌==◌, nat_lt}
 use Rattle.std.specs.Int.{is_negative}
 use Rattle.std.proofs.lemmas.Bool.{ltb-false}
-use Rattle.std.proofs.lemmas.Bool.Decides.{Decides-eqb, Decides-ltb}
+use Rattle.std.proofs.lemmas.Bool.Decides.{Decides-eqb}
 use Rattle.promql_text.specs.Texts.{Text}
-use Rattle.promql_token.specs.Ids.{is_aggregator, is_comparison_operator, is_operator, is_set_operator}
-use Rattle.promql_label.specs.PlainMatchers.{PlainMatchers, all_match_empty, found_value}
-use Rattle.promql_kind.specs.Functions.{Signature, signature}
-use Rattle.promql_kind.specs.Modifiers.{Clause, Cardinality, one_to_one, many_to_one, one_to_many, many_to_many, Fills, fills, Matching, matching}
+use Rattle.promql_token.specs.Ids.{is_comparison_operator, is_operator, is_set_operator}
+use Rattle.promql_label.specs.PlainMatchers.{PlainMatchers, found_value}
+use Rattle.promql_kind.specs.Functions.{signature}
+use Rattle.promql_kind.specs.Modifiers.{one_to_one, many_to_one, one_to_many, many_to_many, Matching, matching}
 use Rattle.promql_kind.specs.ValueTypes.{type_eq}
 use Rattle.promql_kind.specs.declared.value.ValueType.{ValueType}
 use Rattle.promql_kind.specs.declared.value.ValueType.TheVariants.{Vector, Scalar, Matrix, String}
@@ -16,11 +16,11 @@ use Rattle.promql_kind.proofs.Same.{type_eq-Decides}
 use Rattle.promql_ast.specs.Arguments.{count}
 use Rattle.promql_ast.specs.Checked.{checked}
 use Rattle.promql_ast.specs.Checks.{when, first_fault, unless, is_scalar, is_vector, is_scalar_or_vector, mistyped}
-use Rattle.promql_ast.specs.Faults.{Fault, Place, in_aggregation, in_call, type_expected, binary_operator, bool_modifier, scalar_comparison, set_on_scalar, no_grouping, binary_types, vector_matching, Verdict, passes, rejected}
+use Rattle.promql_ast.specs.Faults.{Fault, Place, in_aggregation, binary_operator, bool_modifier, scalar_comparison, set_on_scalar, no_grouping, binary_types, vector_matching, Verdict, passes}
 use Rattle.promql_ast.specs.OptionalModifiers.{has_matching_labels, is_grouped, is_on, joint_labels, returns_bool}
 use Rattle.promql_ast.specs.Selectors.{Selector, selector}
-use Rattle.promql_ast.specs.Tree.{Tree, aggregate, unary, binary, paren, subquery, number, string, vector, matrix, call, extension, MaybeTree, absent, present, Trees, no_trees, first_tree}
-use Rattle.promql_ast.specs.Typed.{IsApart, IsManyToMany, TypedBinary, TypedParam, TypedAggregate, TakesCount, TypedArgs, TypedCall, Named, TypedSelector, TypedSignature, TypedRoot, Typed, TypedBelow}
+use Rattle.promql_ast.specs.Tree.{Tree, aggregate, unary, binary, paren, subquery, number, string, vector, matrix, call, extension, Trees, no_trees, first_tree}
+use Rattle.promql_ast.specs.Typed.{IsApart, IsManyToMany, TypedBinary, TypedParam, TypedAggregate, TakesCount, TypedArgs, Named, TypedSelector, Typed, TypedBelow}
 use Rattle.promql_ast.specs.Types.{type_of}
 use Rattle.promql_ast.specs.check.Aggregate.{aggregate_fault, maybe_type, param_fault, param_type}
 use Rattle.promql_ast.specs.check.Binary.{first_twice, label_fault, operator_fault, set_fault, settled, settled_set, side_fault}

@@ -1,5 +1,5 @@
 -- What a writer that counts has counted.
-use Rattle.std.proofs.Common.{◌≡◌, ℕ, ◌+◌, ◌≤◌, List, [], ◌∷◌, ◌++◌, length, ap, arith, Option, Some, None, length-append}
+use Rattle.std.proofs.Common.{◌≡◌, ◌+◌, ◌≤◌, List, [], ◌∷◌, length, ap, arith, Option, Some, None, length-append}
 use Rattle.std.specs.List.{FoldsTo, concat}
 use Rattle.std.specs.Option.{IfSome}
 use Rattle.std.specs.Fmt.{WritesInCalls}

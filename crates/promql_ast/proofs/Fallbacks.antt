@@ -1,5 +1,5 @@
 -- What builders make of expressions of the kinds that they do not take.
-use Rattle.std.proofs.Common.{◌≡◌, None, Err, refl, sym, ap, subst, ℕ}
+use Rattle.std.proofs.Common.{◌≡◌, None, Err, refl, sym, subst, ℕ}
 use Rattle.promql_ast.specs.Builds.{at_given, minus, mode_given, negated, offset_given, ranged, scalar_value}
 use Rattle.promql_ast.specs.Faults.{Gives, Verdict, passes, rejected, node}
 use Rattle.promql_ast.specs.Shifts.{Moment, Shift}

@@ -1,5 +1,5 @@
 -- A layout shows what the one line shows.
-use Rattle.std.proofs.Common.{◌≡◌, ℕ, ◌+◌, ◌==◌, if◌then◌else◌, subst, Bool, true, false, List, [], ◌∷◌, ◌++◌, Option, Some, None, Result, IfOk, String, string_bytes, codes, refl, sym, ap, ◌∙◌, append_assoc}
+use Rattle.std.proofs.Common.{◌≡◌, ℕ, ◌+◌, ◌==◌, if◌then◌else◌, subst, Bool, true, false, List, [], ◌∷◌, ◌++◌, Option, Some, Result, IfOk, String, string_bytes, codes, refl, sym, ap, ◌∙◌, append_assoc}
 use Rattle.std.specs.List.{flat_map}
 use Rattle.std.proofs.lemmas.Bool.{eqb-true}
 use Rattle.std.proofs.lemmas.List.Elements.{filter-append}
@@ -8,7 +8,7 @@ use Rattle.std.specs.declared.alloc.Global.{Global}
 use Rattle.promql_text.specs.Texts.{Text, joined_text}
 use Rattle.promql_token.specs.Ids.{text_of}
 use Rattle.promql_kind.specs.Functions.{name_of}
-use Rattle.promql_ast.specs.Layout.{trimmed, chosen, param_lines, aggregate_lines, paren_lines, unary_line, binary_lines, subquery_lines, call_lines, laid, maybe_laid, laids, args_laid, lines}
+use Rattle.promql_ast.specs.Layout.{trimmed, chosen, param_lines, aggregate_lines, paren_lines, unary_line, binary_lines, call_lines, laid, maybe_laid, laids, args_laid, lines}
 use Rattle.promql_ast.specs.Lines.{is_shown, is_longer, squeeze, indent, Keeps}
 use Rattle.promql_ast.specs.Shifts.{at_text, offset_text}
 use Rattle.promql_ast.specs.Text.{text, maybe_text, texts}
@@ -17,7 +17,7 @@ use Rattle.promql_ast.specs.node.Aggregate.{head_text, param_text, aggregate_tex
 use Rattle.promql_ast.specs.node.Binary.{matching_text, operator_text, binary_text}
 use Rattle.promql_ast.specs.node.Call.{call_text}
 use Rattle.promql_ast.specs.node.Paren.{paren_text}
-use Rattle.promql_ast.specs.node.Subquery.{range_text, subquery_text}
+use Rattle.promql_ast.specs.node.Subquery.{range_text}
 use Rattle.promql_ast.specs.node.Unary.{unary_text}
 use Rattle.promql_ast.proofs.Indents.{squeeze_indent}
 

@@ -1,5 +1,5 @@
 -- How many bytes braces and their matchers have.
-use Rattle.std.proofs.Common.{◌≡◌, ℕ, ◌+◌, ◌^◌, ◌-◌, min, true, false, ◌++◌, codes, length, ap, sym, arith, length-append}
+use Rattle.std.proofs.Common.{◌≡◌, ℕ, ◌+◌, ◌^◌, ◌-◌, min, true, false, codes, length, ap, sym, arith, length-append}
 use Rattle.promql_text.specs.Widths.{width}
 use Rattle.promql_label.specs.PlainMatchers.{PlainMatchers, matchers_text}
 use Rattle.promql_ast.specs.BlankMatchers.{is_blank}

@@ -3,24 +3,25 @@ use Rattle.std.proofs.Common.{◌≡◌, ◌∙◌, Bool, true, false, List, [],
 use Rattle.std.specs.Prelude.{if◌then◌else◌}
 use Rattle.std.specs.Ordering.{ordering_reverse}
 use Rattle.std.proofs.lemmas.Cmp.{nat_list_cmp_total}
-use Rattle.promql_text.specs.Texts.{Text, joined_text}
+use Rattle.promql_text.specs.Texts.{joined_text}
 use Rattle.promql_token.specs.Ids.{text_of}
 use Rattle.promql_label.specs.PlainMatchers.{PlainMatcher, PlainMatchers, plain_matchers, matcher_text, matchers_text}
-use Rattle.promql_label.specs.SortedTexts.{insert_text, sorted_texts, text_order}
+use Rattle.promql_label.specs.ReadMatchers.{insert_matcher, sorted_matchers}
+use Rattle.promql_label.specs.SortedTexts.{sorted_texts, text_order}
+use Rattle.promql_label.proofs.PrintedTokens.{texts_sorted}
 use Rattle.promql_kind.specs.Functions.{name_of}
 use Rattle.promql_kind.specs.ModifierText.{bool_text, fills_text, grouping_text, matched_text, modifier_text}
-use Rattle.promql_kind.specs.Modifiers.{Clause, including, excluding, Cardinality, one_to_one, many_to_one, one_to_many, many_to_many, Fills, fills, Matching, matching, is_grouping}
-use Rattle.promql_ast.specs.Normal.{insert_matcher, sorted_matchers, normal_matchers, normal_selector, normal_clause, normal_matched, unless_default, normal_matching, normal, maybe_normal, all_normal}
+use Rattle.promql_kind.specs.Modifiers.{Clause, including, excluding, one_to_one, fills, Matching, matching, is_grouping}
+use Rattle.promql_ast.specs.Normal.{normal_matchers, normal_selector, normal_clause, normal_matched, unless_default, normal_matching, normal, maybe_normal, all_normal}
 use Rattle.promql_ast.specs.Selectors.{Selector, selector}
-use Rattle.promql_ast.specs.Shifts.{at_text, offset_text}
 use Rattle.promql_ast.specs.Text.{text, maybe_text, texts}
 use Rattle.promql_ast.specs.Tree.{Tree, aggregate, unary, binary, paren, subquery, number, string, vector, matrix, call, extension, MaybeTree, absent, present, Trees, no_trees, first_tree}
 use Rattle.promql_ast.specs.node.Aggregate.{clause_text, param_text}
 use Rattle.promql_ast.specs.node.Binary.{matching_text}
 use Rattle.promql_ast.specs.node.Call.{call_text}
-use Rattle.promql_ast.specs.node.Matrix.{matrix_range_text, matrix_text}
+use Rattle.promql_ast.specs.node.Matrix.{matrix_range_text}
 use Rattle.promql_ast.specs.node.Subquery.{subquery_text}
-use Rattle.promql_ast.specs.node.Vector.{base_text, braced, selected_name_text, suffix_text, vector_text}
+use Rattle.promql_ast.specs.node.Vector.{base_text, braced, selected_name_text, suffix_text}
 
 -- ---- sorted matchers
 
@@ -75,20 +76,6 @@ sorted_rising (c ∷ cs) h = ap (insert_matcher c) (sorted_rising cs h.1) ∙ in
 
 sorted_twice : (cs : List PlainMatcher) → sorted_matchers (sorted_matchers cs) ≡ sorted_matchers cs
 sorted_twice cs = sorted_rising (sorted_matchers cs) (rising_sorted cs)
-
-inserted_texts : (c : PlainMatcher) (ds : List PlainMatcher) → map matcher_text (insert_matcher c ds) ≡ insert_text (matcher_text c) (map matcher_text ds)
-inserted_texts c [] = refl
-inserted_texts c (d ∷ ds) = go (is_after c d) (inserted_texts c ds)
-  where
-    go : (b : Bool) → map matcher_text (insert_matcher c ds) ≡ insert_text (matcher_text c) (map matcher_text ds)
-        → map matcher_text (if b then d ∷ insert_matcher c ds else c ∷ d ∷ ds)
-        ≡ (if b then matcher_text d ∷ insert_text (matcher_text c) (map matcher_text ds) else matcher_text c ∷ matcher_text d ∷ map matcher_text ds)
-    go true e = ap (λ ts. matcher_text d ∷ ts) e
-    go false e = refl
-
-texts_sorted : (cs : List PlainMatcher) → map matcher_text (sorted_matchers cs) ≡ sorted_texts (map matcher_text cs)
-texts_sorted [] = refl
-texts_sorted (c ∷ cs) = inserted_texts c (sorted_matchers cs) ∙ ap (insert_text (matcher_text c)) (texts_sorted cs)
 
 -- sorting sorted matchers' texts again changes nothing
 texts_again : (cs : List PlainMatcher) → sorted_texts (map matcher_text (sorted_matchers cs)) ≡ sorted_texts (map matcher_text cs)

@@ -1,12 +1,11 @@
 -- Printed times after `@` read back: the text of so many milliseconds is the number of these.
-use Rattle.std.proofs.Common.{◌≡◌, ◌≢◌, ⊎_elim, ℕ, zero, suc, ℤ, ◌+◌, ◌-◌, ◌*◌, ◌/◌, ◌%◌, ◌^◌, ◌<◌, ◌≤◌, refl, sym, ◌∙◌, ap, subst, arith, Bool, true, false, cond, not, ◌&&◌, Some, None, [], ◌∷◌, ◌++◌, length, length-append, codes}
+use Rattle.std.proofs.Common.{◌≡◌, ℕ, zero, suc, ℤ, ◌+◌, ◌-◌, ◌*◌, ◌/◌, ◌%◌, ◌^◌, ◌<◌, ◌≤◌, refl, sym, ◌∙◌, ap, subst, arith, Bool, true, false, cond, not, ◌&&◌, Some, None, [], ◌∷◌, ◌++◌, length, length-append, codes}
 use Rattle.std.specs.Prelude.{Ok, ◌==◌, drop, nat_le, nat_lt, option_map, pos, negsuc, neg_ℤ, unsigned_abs, FitsSigned}
 use Rattle.std.specs.Fmt.{decimal}
 use Rattle.std.specs.Int.{is_negative, w64}
 use Rattle.std.specs.Option.{ok_or}
 use Rattle.std.specs.Str.Parse.{AllDigits, digits_value, digits_value_after}
-use Rattle.std.proofs.Math.Nat.{pow-suc}
-use Rattle.std.proofs.lemmas.Bool.{cases_lt, le-leb, leb-true, ne_eqb}
+use Rattle.std.proofs.lemmas.Bool.{le-leb, leb-true, ne_eqb}
 use Rattle.std.proofs.lemmas.Bool.Decides.{nat_tests}
 use Rattle.std.proofs.lemmas.Fmt.{decimal_digit, decimal_is_IsNumeral_wide}
 use Rattle.promql_text.specs.DecimalForm.{front, unsigned}
@@ -24,7 +23,8 @@ use Rattle.promql_text.proofs.Plain.{plain_append, plain_digits, point_signed}
 use Rattle.promql_text.proofs.Radix.{value_append}
 use Rattle.promql_text.proofs.ReadsBack.{number_signed, value_split}
 use Rattle.promql_text.proofs.Runs.{front_digit}
-use Rattle.promql_text.proofs.Tens.{below_product, times_one, times_ten, zeros_below}
+use Rattle.promql_text.proofs.ShortNumbers.{zeroless}
+use Rattle.promql_text.proofs.Tens.{below_product, zeros_below}
 use Rattle.promql_text.proofs.TextForms.{plain_numeral, reading_point, with_sign}
 use Rattle.promql_ast.specs.AtTimes.{at_of_millis, at_of_number}
 use Rattle.promql_ast.specs.Shifts.{sign_text, time_text}
@@ -76,29 +76,6 @@ all_value k low =
     ∙ fraction_value (k / 1000) k ∙ (let e : k / 1000 * 1000 + k % 1000 ≡ k = omega arith in e)
 
 -- ---- the number of so many milliseconds
-
--- a number above zero is a number that doesn't end in 0, with zeros after it
-pub record Zeroless (n : ℕ) : Type 0 where
-  pub digits : ℕ
-  pub zeros : ℕ
-  pub is : digits * 10 ^ zeros ≡ n
-  pub ends : digits % 10 ≢ 0
-
-pub zeroless : (most n : ℕ) → 0 < n → n < 10 ^ most → Zeroless n
-zeroless zero n some less = absurd (omega arith)
-zeroless (suc most) n some less =
-    ⊎_elim
-    (λ (ends : 0 < n % 10). record { digits = n; zeros = 0; is = times_one n; ends = λ e. absurd (omega arith) })
-    (λ (tens : n % 10 ≤ 0).
-    let p = pow-suc 10 most in
-    let front = zeroless most (n / 10) (omega arith) (omega (arith, p)) in
-    record {
-      digits = front.digits;
-      zeros = front.zeros + 1;
-      is = (let e : front.digits * 10 ^ front.zeros * 10 ≡ n = omega (arith, front.is) in let up = times_ten front.digits front.zeros in omega (arith, e, up));
-      ends = front.ends;
-    })
-    (cases_lt 0 (n % 10))
 
 -- the number that a sign and the seconds of k milliseconds, with three digits after the point, are read as
 record Reads (b : Bool) (k : ℕ) : Type 0 where

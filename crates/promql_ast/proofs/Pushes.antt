@@ -1,7 +1,7 @@
 -- Texts that are pushed one after another.
-use Rattle.std.proofs.Common.{◌≡◌, ℕ, zero, suc, List, [], ◌∷◌, ◌++◌, Option, Some, None, IfSome, ap, sym, ◌∙◌, append_assoc, refl, ◌==◌, if◌then◌else◌, Bool, true, false, subst, arith}
+use Rattle.std.proofs.Common.{◌≡◌, ℕ, List, [], ◌∷◌, ◌++◌, Option, Some, None, IfSome, ap, sym, ◌∙◌, append_assoc, refl, ◌==◌, if◌then◌else◌, Bool, true, false, arith}
 use Rattle.std.proofs.lemmas.Bool.{eqb-true}
-use Rattle.std.specs.Str.Pattern.{IsTrimStartMatches, CutsPrefixes, IsFullyTrimmed, FindsTextPrefix}
+use Rattle.std.specs.Str.Pattern.{IsTrimStartMatches, CutsPrefixes, FindsTextPrefix}
 use Rattle.promql_text.specs.Texts.{Text}
 use Rattle.promql_ast.specs.Layout.{trimmed}
 

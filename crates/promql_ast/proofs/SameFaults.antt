@@ -6,7 +6,7 @@ use Rattle.std.proofs.lemmas.Bool.Decides.{Decides-like, Decides-and, Decides-eq
 use Rattle.std.proofs.lemmas.Slice.Eq.{bytes_eq-Decides}
 use Rattle.promql_text.specs.Equalities.{IsSameBy}
 use Rattle.promql_kind.proofs.Equal.{number_Decides, type_Decides}
-use Rattle.promql_ast.specs.Faults.{place_of, in_call, fault_of, binary_operator, label_twice, set_on_scalar, no_grouping, type_expected, aggregator_expected, arity_exact, arity_least, arity_most, unary_type, subquery_type, name_twice, node, error_fault}
+use Rattle.promql_ast.specs.Faults.{place_of, in_call, fault_of, binary_operator, label_twice, set_on_scalar, no_grouping, aggregator_expected, unary_type, subquery_type, node, error_fault}
 use Rattle.promql_ast.specs.contracts.fault.TypedPlacePartialEq.TheImpl as places
 use Rattle.promql_ast.specs.contracts.fault.NodeFaultPartialEq.TheImpl as nodes
 use Rattle.promql_ast.specs.contracts.fault.CheckFaultPartialEq.TheImpl as faults

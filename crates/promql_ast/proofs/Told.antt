@@ -1,6 +1,6 @@
 -- The layout that the decisions for a width tell is that for the width.
-use Rattle.std.proofs.Common.{◌≡◌, ℕ, ◌+◌, max, Bool, true, false, if◌then◌else◌, List, [], ◌∷◌, ◌++◌, Option, Some, None, codes, refl, sym, ap, ◌∙◌, append_assoc, append-nil}
-use Rattle.promql_text.specs.Texts.{Text, joined_text}
+use Rattle.std.proofs.Common.{◌≡◌, ℕ, ◌+◌, max, Bool, true, false, if◌then◌else◌, List, [], ◌∷◌, ◌++◌, Some, codes, refl, sym, ap, ◌∙◌, append_assoc, append-nil}
+use Rattle.promql_text.specs.Texts.{joined_text}
 use Rattle.promql_kind.specs.Functions.{name_of}
 use Rattle.promql_ast.specs.Layout.{aggregate_lines, paren_lines, unary_line, binary_lines, subquery_lines, call_lines, laid, maybe_laid, laids, lines, deepest, maybe_deepest, deepests, lines_deepest}
 use Rattle.promql_ast.specs.Lines.{is_longer, indent}

@@ -1,5 +1,5 @@
 -- Private: nothing rests on believing it. Which lists of matchers have an empty text.
-use Rattle.std.specs.Prelude.{Bool, true, false, List, [], ◌∷◌}
+use Rattle.std.specs.Prelude.{Bool, true, false, [], ◌∷◌}
 use Rattle.promql_label.specs.PlainMatchers.{PlainMatchers, plain_matchers}
 
 abbrev pub is_blank : PlainMatchers → Bool

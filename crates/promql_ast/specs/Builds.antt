@@ -7,9 +7,9 @@ use Rattle.promql_kind.specs.Modifiers.{Clause}
 use Rattle.promql_kind.specs.declared.value.ValueType.TheVariants as kind
 use Rattle.promql_ast.specs.Arguments.{count}
 use Rattle.promql_ast.specs.Faults.{Verdict, passes, rejected, node}
-use Rattle.promql_ast.specs.Selectors.{Selector, selector}
+use Rattle.promql_ast.specs.Selectors.{selector}
 use Rattle.promql_ast.specs.Shifts.{Shift, Moment}
-use Rattle.promql_ast.specs.Tree.{Tree, aggregate, unary, binary, paren, subquery, number, string, vector, matrix, call, extension, MaybeTree, absent, present, Trees, no_trees, first_tree}
+use Rattle.promql_ast.specs.Tree.{Tree, aggregate, unary, subquery, number, string, vector, matrix, absent, present, Trees, no_trees, first_tree}
 use Rattle.promql_ast.specs.declared.fault.NodeFault.TheVariants.{UnaryLiteral, OffsetBeforeRange, AtBeforeRange, RangeBase, AtTwice, AtBase, OffsetTwice, OffsetBase, NoArguments, ArgumentCount, ModeTwice, ModeBase}
 use Rattle.promql_ast.specs.declared.range_mode.RangeMode.{RangeMode}
 use Rattle.promql_ast.specs.declared.range_mode.RangeMode.TheVariants.{Plain, Smoothed, Anchored}

@@ -1,6 +1,6 @@
 -- How many nodes a tree has (docs/LAYOUT.md, "One width a node").
 use Rattle.std.specs.Prelude.{ℕ, ◌+◌}
-use Rattle.promql_ast.specs.Tree.{Tree, aggregate, unary, binary, paren, subquery, number, string, vector, matrix, call, extension, MaybeTree, absent, present, Trees, no_trees, first_tree}
+use Rattle.promql_ast.specs.Tree.{Tree, aggregate, unary, binary, paren, subquery, call, extension, MaybeTree, absent, present, Trees, no_trees, first_tree}
 
 abbrev mutual
   pub nodes : Tree → ℕ

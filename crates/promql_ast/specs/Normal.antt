@@ -1,22 +1,12 @@
 -- The normal form of a tree (docs/PRINTING.md, "Normal form").
-use Rattle.std.specs.Prelude.{ℕ, Bool, true, false, if◌then◌else◌, List, [], ◌∷◌, Option, Some, None}
-use Rattle.std.specs.Ordering.{is_gt}
-use Rattle.promql_label.specs.PlainMatchers.{PlainMatcher, PlainMatchers, plain_matchers, matcher_text}
-use Rattle.promql_label.specs.SortedTexts.{text_order}
-use Rattle.promql_kind.specs.Modifiers.{Clause, including, excluding, Cardinality, one_to_one, many_to_one, one_to_many, many_to_many, Fills, fills, Matching, matching, is_grouping}
+use Rattle.std.specs.Prelude.{Bool, false, [], ◌∷◌, Option, Some, None}
+use Rattle.promql_label.specs.PlainMatchers.{PlainMatchers, plain_matchers}
+use Rattle.promql_label.specs.ReadMatchers.{sorted_matchers}
+use Rattle.promql_kind.specs.Modifiers.{Clause, including, excluding, one_to_one, fills, Matching, matching, is_grouping}
 use Rattle.promql_ast.specs.Selectors.{Selector, selector}
 use Rattle.promql_ast.specs.Tree.{Tree, aggregate, unary, binary, paren, subquery, number, string, vector, matrix, call, extension, MaybeTree, absent, present, Trees, no_trees, first_tree}
 
 -- matchers in byte order of their texts
-abbrev pub insert_matcher : PlainMatcher → List PlainMatcher → List PlainMatcher
-insert_matcher c [] = c ∷ []
-insert_matcher c (d ∷ ds) =
-    if is_gt (text_order (matcher_text c) (matcher_text d)) then d ∷ insert_matcher c ds else c ∷ d ∷ ds
-
-abbrev pub sorted_matchers : List PlainMatcher → List PlainMatcher
-sorted_matchers [] = []
-sorted_matchers (c ∷ cs) = insert_matcher c (sorted_matchers cs)
-
 abbrev pub normal_matchers : PlainMatchers → PlainMatchers
 normal_matchers (plain_matchers plain groups) = plain_matchers (sorted_matchers plain) groups
 

@@ -1,9 +1,8 @@
 -- Proofs that the tests of trees and their parts decide `≡`, for the laws of `==`.
-use Rattle.std.proofs.Common.{◌≡◌, ℕ, Bool, true, false, List, Option, refl, ap, sym, ◌∙◌}
+use Rattle.std.proofs.Common.{◌≡◌, Bool, List, refl, ap}
 use lib.Pointwise.{pointwise}
 use Rattle.std.specs.Bool.{Decides}
 use Rattle.std.specs.Cmp.{decided, IsPartialEquivalence, partial_equiv_from_equiv}
-use Rattle.std.specs.Option.{option_eq}
 use Rattle.std.proofs.lemmas.Bool.Decides.{Decides-and, Decides-eqb, Decides-int_eq, Decides-like}
 use Rattle.std.proofs.lemmas.Slice.Eq.{bytes_eq-Decides, slice_eq-Decides}
 use Rattle.promql_label.specs.PlainMatchers.{Operator, equal, not_equal, matches, matches_not, PlainMatcher, plain_matcher, PlainMatchers, plain_matchers}

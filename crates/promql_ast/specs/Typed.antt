@@ -1,13 +1,13 @@
 -- Well typed trees (docs/TREE.md, "Well typed trees"): each condition by itself, on the finished tree.
-use Rattle.std.specs.Prelude.{◌≡◌, ◌≢◌, ◌⊎◌, ◌≤◌, ◌+◌, ◌-◌, ℕ, ℤ, Bool, true, false, List, [], ◌∷◌, length, Option, Some, None, codes, unsigned_abs}
+use Rattle.std.specs.Prelude.{◌≡◌, ◌≢◌, ◌⊎◌, ◌≤◌, ◌+◌, ◌-◌, ℕ, ℤ, true, false, List, [], ◌∷◌, length, Option, Some, None, codes, unsigned_abs}
 use Rattle.std.specs.Int.{is_negative}
 use Rattle.promql_text.specs.Texts.{Text}
 use Rattle.promql_token.specs.Ids.{is_aggregator, is_comparison_operator, is_operator, is_set_operator}
 use Rattle.promql_label.specs.PlainMatchers.{PlainMatchers, all_match_empty, found_value}
 use Rattle.promql_kind.specs.Functions.{Signature, signature}
-use Rattle.promql_kind.specs.Modifiers.{Matching, matching, Cardinality, many_to_many}
+use Rattle.promql_kind.specs.Modifiers.{Matching, matching, many_to_many}
 use Rattle.promql_kind.specs.declared.value.ValueType.{ValueType}
-use Rattle.promql_kind.specs.declared.value.ValueType.TheVariants.{Vector, Scalar, Matrix, String}
+use Rattle.promql_kind.specs.declared.value.ValueType.TheVariants.{Vector, Scalar}
 use Rattle.promql_ast.specs.Arguments.{count}
 use Rattle.promql_ast.specs.OptionalModifiers.{has_matching_labels, is_on, joint_labels, returns_bool}
 use Rattle.promql_ast.specs.Selectors.{Selector, selector}

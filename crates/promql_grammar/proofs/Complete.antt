@@ -1,21 +1,20 @@
 -- Each derivation is read from its tokens.
-use Rattle.std.proofs.Common.{◌≡◌, ℕ, zero, suc, ◌+◌, ◌-◌, ◌<◌, ◌≤◌, max, refl, sym, ◌∙◌, ap, subst, arith, List, [], ◌∷◌, ◌++◌, length, append_assoc, append-nil, length-append, Bool, true, false, Option, Some, None}
-use Rattle.std.specs.Prelude.{if◌then◌else◌, ◌||◌, Result, Ok, Err}
+use Rattle.std.proofs.Common.{◌≡◌, ℕ, zero, suc, ◌+◌, ◌-◌, ◌<◌, ◌≤◌, max, refl, sym, ◌∙◌, ap, arith, List, [], ◌∷◌, ◌++◌, length, append_assoc, append-nil, length-append, Bool, true, false, Option, Some, None}
+use Rattle.std.specs.Prelude.{if◌then◌else◌, ◌||◌, Ok}
 use Rattle.std.proofs.lemmas.Bool.{cond_below, cond_above}
 use Rattle.std.proofs.lemmas.Bool.Decides.{nat_tests}
 use Rattle.promql_text.specs.Texts.{Text}
 use Rattle.promql_grammar.specs.declared.kind.Kind.{Kind}
 use Rattle.promql_grammar.specs.declared.kind.Kind.TheVariants as kind
-use Rattle.promql_grammar.specs.declared.halt.Halt.{Halt}
 use Rattle.promql_grammar.specs.Results.{◌then◌}
 use Rattle.promql_grammar.specs.Symbols.{Symbol, sign, word, begins, may_begin, may_be_name, may_be_called, is_sign_operator, is_word_operator}
-use Rattle.promql_grammar.specs.Pieces.{Labels, Grouping, by, without, Clause, no_clause, before, after, Group, bare, listed, no_group, Matching, no_matching, matching, Fills, no_fill, both, left, right, left_right, right_left, Modifier, Braces, no_item, items, Postfix, range, subquery, at_number, at_bound, offset, mode, yield_labels, yield_grouping, yield_modifier, yield_braces, yield_any_braces, yield_postfix, IsLabels, IsGrouping, IsClause, IsBraces, IsAnyBraces, IsPostfix, is_mode_word}
-use Rattle.promql_grammar.specs.Grammar.{Derivation, number, duration, string, selector, nameless, paren, call, aggregate, postfixed, unary, binary, Arguments, none, more, yield, yield_arguments, yield_rest, level, openness, height, greatest_height, added_height, IsWellFormed, AreWellFormed, IsBase, OpensNoParen, FitsMatching}
-use Rattle.promql_grammar.specs.Reading.{Read, Reader, right_level, labels_at, clause_at, modifier_at, braces_at, braces_in, postfix_at, with_postfix, postfixes, closing, rest_at, arguments_at, named, called, grouped, aggregated, first, climb, expression}
+use Rattle.promql_grammar.specs.Pieces.{Grouping, by, without, no_clause, before, after, bare, Matching, matching, Fills, no_fill, Braces, no_item, items, Postfix, range, subquery, at_number, at_bound, offset, mode, yield_grouping, yield_modifier, yield_braces, yield_any_braces, yield_postfix, IsGrouping, IsBraces, IsAnyBraces, IsPostfix}
+use Rattle.promql_grammar.specs.Grammar.{Derivation, number, duration, string, selector, nameless, paren, call, aggregate, postfixed, unary, binary, Arguments, none, more, yield, yield_arguments, yield_rest, level, openness, height, greatest_height, IsWellFormed, AreWellFormed, IsBase, OpensNoParen, FitsMatching}
+use Rattle.promql_grammar.specs.Reading.{Read, Reader, right_level, clause_at, modifier_at, with_postfix, postfixes, closing, rest_at, arguments_at, named, called, grouped, aggregated, first, climb, expression}
 use Rattle.promql_grammar.proofs.Choices.{if_true, if_false}
 use Rattle.promql_grammar.proofs.Within.{within, within_low, within_high, within_then, within_suc, within_both, within_three}
 use Rattle.promql_grammar.proofs.Levels.{Root, Stops, Follows, follows_right, follows_sign, root_left, root_right, root_sign, root_zero}
-use Rattle.promql_grammar.proofs.PiecesRead.{EndsWord, labels_reads, modifier_reads, in_braces, braces_in_reads, any_braces_reads, postfix_reads}
+use Rattle.promql_grammar.proofs.PiecesRead.{EndsWord, labels_reads, modifier_reads, braces_in_reads, any_braces_reads, postfix_reads}
 
 -- the reader reads each derivation of height at most n, and says of a higher one that it is too deep
 pub record Reads (r : Reader) (n : ℕ) : Type 0 where

@@ -1,10 +1,10 @@
 -- The tokens of a derivation are of kinds that the lexer gives.
-use Rattle.std.proofs.Common.{◌≡◌, refl, ap, sym, subst, Bool, true, false, List, [], ◌∷◌, ◌++◌, Option, Some, None}
+use Rattle.std.proofs.Common.{◌≡◌, refl, subst, Bool, true, false, List, [], ◌∷◌, ◌++◌, Option, Some, None}
 use Rattle.promql_text.specs.Texts.{Text}
 use Rattle.promql_grammar.specs.declared.kind.Kind.{Kind}
 use Rattle.promql_grammar.specs.declared.kind.Kind.TheVariants as kind
 use Rattle.promql_grammar.specs.Symbols.{Symbol, sign, word, may_be_name, may_be_label, may_be_called}
-use Rattle.promql_grammar.specs.Pieces.{Time, seconds, duration, Signed, unsigned, signed, Names, last, last_comma, next, Labels, no_label, labels, Grouping, by, without, Clause, no_clause, before, after, Group, no_group, bare, listed, Matching, no_matching, matching, Value, Fills, no_fill, both, left, right, left_right, right_left, Modifier, MatchSign, equal, not_equal, equal_regex, not_equal_regex, Item, matcher, lone, Separator, comma, or, Items, last_item, last_item_comma, next_item, Braces, no_item, items, Postfix, range, subquery, at_number, at_bound, offset, mode, yield_time, yield_signed, yield_names, yield_labels, yield_grouping, yield_before, yield_after, yield_group, yield_matching, yield_value, yield_fills, yield_flag, yield_modifier, yield_match_sign, yield_item, yield_items, yield_separator, yield_braces, yield_any_braces, yield_postfix, yield_step, AreLabels, IsLabels, IsGrouping, IsClause, IsGroup, IsMatching, IsModifier, IsItem, AreItems, IsBraces, IsAnyBraces, IsPostfix, is_group_word, is_matching_word, is_matcher_name, is_bound_word, is_mode_word}
+use Rattle.promql_grammar.specs.Pieces.{Time, seconds, duration, Signed, unsigned, signed, Names, last, last_comma, next, Labels, no_label, labels, Grouping, by, without, Clause, before, after, Group, no_group, bare, listed, Matching, no_matching, matching, Value, Fills, no_fill, both, left, right, left_right, right_left, Modifier, MatchSign, equal, not_equal, equal_regex, not_equal_regex, Item, matcher, lone, Separator, comma, or, Items, last_item, last_item_comma, next_item, Braces, no_item, items, Postfix, range, subquery, at_number, at_bound, offset, mode, yield_time, yield_signed, yield_names, yield_labels, yield_grouping, yield_before, yield_after, yield_group, yield_matching, yield_value, yield_fills, yield_flag, yield_modifier, yield_match_sign, yield_item, yield_items, yield_separator, yield_braces, yield_any_braces, yield_postfix, yield_step, AreLabels, IsLabels, IsGrouping, IsClause, IsGroup, IsMatching, IsModifier, IsItem, AreItems, IsBraces, IsAnyBraces, IsPostfix, is_group_word, is_matching_word, is_matcher_name, is_bound_word, is_mode_word}
 use Rattle.promql_grammar.specs.Grammar as grammar
 use Rattle.promql_grammar.specs.Grammar.{Derivation, Arguments, selector, nameless, paren, call, aggregate, postfixed, unary, binary, none, more, yield, yield_arguments, yield_rest, IsWellFormed, AreWellFormed}
 

@@ -1,5 +1,5 @@
 -- Each part is read from its tokens.
-use Rattle.std.proofs.Common.{◌≡◌, ℕ, zero, suc, ◌+◌, ◌≤◌, refl, sym, ◌∙◌, ap, arith, List, [], ◌∷◌, ◌++◌, length, length-append, append_assoc, Bool, true, false, Option, Some, None}
+use Rattle.std.proofs.Common.{◌≡◌, ℕ, zero, suc, ◌≤◌, refl, ◌∙◌, ap, arith, List, [], ◌∷◌, ◌++◌, length, length-append, append_assoc, true, Option, Some, None}
 use Rattle.std.specs.Prelude.{Ok, Err, if◌then◌else◌}
 use Rattle.promql_text.specs.Texts.{Text}
 use Rattle.promql_grammar.specs.declared.kind.Kind.{Kind}
@@ -7,9 +7,9 @@ use Rattle.promql_grammar.specs.declared.kind.Kind.TheVariants as kind
 use Rattle.promql_grammar.specs.declared.halt.Halt.TheVariants.{Syntax}
 use Rattle.promql_grammar.specs.Results.{◌then◌}
 use Rattle.promql_grammar.specs.Symbols.{Symbol, sign, word, begins, may_be_label}
-use Rattle.promql_grammar.specs.Pieces.{Time, seconds, duration, Signed, unsigned, signed, Names, last, last_comma, next, Labels, no_label, labels, Grouping, by, without, Clause, no_clause, before, after, Group, no_group, bare, listed, Matching, no_matching, matching, Value, Fills, no_fill, both, left, right, left_right, right_left, Modifier, MatchSign, equal, not_equal, equal_regex, not_equal_regex, Item, matcher, lone, Separator, comma, or, Items, last_item, last_item_comma, next_item, Braces, no_item, items, Postfix, range, subquery, at_number, at_bound, offset, mode, yield_time, yield_signed, yield_names, yield_labels, yield_group, yield_matching, yield_value, yield_fills, yield_flag, yield_modifier, yield_item, yield_items, yield_separator, yield_braces, yield_any_braces, yield_postfix, IsSigned, AreLabels, IsLabels, IsGroup, IsMatching, IsFills, IsModifier, IsItem, AreItems, IsBraces, IsAnyBraces, IsPostfix}
+use Rattle.promql_grammar.specs.Pieces.{seconds, duration, Signed, unsigned, signed, Names, last, last_comma, next, Labels, no_label, labels, Group, no_group, bare, listed, Matching, no_matching, matching, Value, Fills, no_fill, both, left, right, left_right, right_left, Modifier, equal, not_equal, equal_regex, not_equal_regex, Item, matcher, lone, comma, or, Items, last_item, last_item_comma, next_item, Braces, no_item, items, Postfix, range, subquery, at_number, at_bound, offset, mode, yield_signed, yield_names, yield_labels, yield_group, yield_matching, yield_value, yield_fills, yield_flag, yield_modifier, yield_item, yield_items, yield_separator, yield_any_braces, yield_postfix, IsSigned, AreLabels, IsLabels, IsGroup, IsMatching, IsFills, IsModifier, IsItem, AreItems, IsBraces, IsAnyBraces, IsPostfix}
 use Rattle.promql_grammar.specs.Grammar.{OpensNoParen, FitsGroup, FitsMatching}
-use Rattle.promql_grammar.specs.Reading.{Read, time_at, signed_at, number_at, value_end, value_at, names_at, labels_in, labels_at, list_at, group_at, matching_after, matching_at, fills_at, right_after, left_after, flag_at, with_fills, with_matching, modifier_at, match_sign_at, after_name, after_string, item_at, after_item, items_at, braces_in, braces_at, postfix_at}
+use Rattle.promql_grammar.specs.Reading.{Read, time_at, signed_at, number_at, value_end, value_at, names_at, labels_in, labels_at, list_at, group_at, matching_after, matching_at, fills_at, right_after, left_after, flag_at, with_fills, with_matching, modifier_at, match_sign_at, after_string, item_at, after_item, items_at, braces_in, braces_at, postfix_at}
 use Rattle.promql_grammar.proofs.Choices.{if_true}
 
 signed_number : (s : Signed) (t : Text) (rest : List Symbol) → IsSigned s → signed_at (yield_signed s ++ word kind.Number t ∷ rest) ≡ Ok (s, word kind.Number t ∷ rest)

@@ -1,17 +1,16 @@
 -- What is read of a part is a part that its tokens spell.
 use Rattle.std.proofs.Common.{◌≡◌, ℕ, zero, suc, refl, sym, ◌∙◌, ap, subst, List, [], ◌∷◌, ◌++◌, length, append_assoc, Bool, true, false, Option, Some, None}
-use Rattle.std.specs.Prelude.{◌==◌, Result, Ok, Err, if◌then◌else◌}
+use Rattle.std.specs.Prelude.{◌==◌, Ok, Err, if◌then◌else◌}
 use Rattle.std.proofs.lemmas.Bool.{eqb-true}
 use Rattle.promql_text.specs.Texts.{Text}
 use Rattle.promql_token.specs.declared.ids.TheConstants.{T_NEQ, T_LOR}
 use Rattle.promql_grammar.specs.declared.kind.Kind.{Kind}
 use Rattle.promql_grammar.specs.declared.kind.Kind.TheVariants as kind
-use Rattle.promql_grammar.specs.declared.halt.Halt.{Halt}
 use Rattle.promql_grammar.specs.declared.halt.Halt.TheVariants.{Memory, Syntax, TooDeep}
 use Rattle.promql_grammar.specs.Results.{◌then◌}
 use Rattle.promql_grammar.specs.Symbols.{Symbol, sign, word, is_sign_operator, may_be_label}
-use Rattle.promql_grammar.specs.Pieces.{Time, seconds, duration, Signed, unsigned, signed, Names, last, last_comma, next, Labels, no_label, labels, Grouping, by, without, Clause, no_clause, before, after, Group, no_group, bare, listed, Matching, no_matching, matching, Value, Fills, no_fill, both, left, right, left_right, right_left, Modifier, MatchSign, equal, not_equal, equal_regex, not_equal_regex, Item, matcher, lone, comma, or, Items, last_item, last_item_comma, next_item, Braces, no_item, items, Postfix, range, subquery, at_number, at_bound, offset, mode, yield_time, yield_signed, yield_names, yield_labels, yield_grouping, yield_before, yield_after, yield_group, yield_matching, yield_value, yield_fills, yield_flag, yield_modifier, yield_match_sign, yield_item, yield_items, yield_separator, yield_braces, yield_any_braces, yield_postfix, IsSigned, AreLabels, IsLabels, IsGrouping, IsGroup, IsMatching, IsFills, IsModifier, IsItem, AreItems, IsBraces, IsAnyBraces, IsPostfix, is_group_word, is_matching_word, is_matcher_name, is_bound_word}
-use Rattle.promql_grammar.specs.Grammar.{OpensNoParen, FitsGroup, FitsMatching}
+use Rattle.promql_grammar.specs.Pieces.{Time, Signed, unsigned, signed, last, last_comma, next, labels, by, without, Clause, no_clause, before, after, Group, bare, listed, Matching, no_matching, matching, Value, Fills, no_fill, both, left_right, right_left, Modifier, MatchSign, not_equal, Item, matcher, comma, or, Items, next_item, items, Postfix, at_number, offset, yield_time, yield_signed, yield_names, yield_labels, yield_before, yield_after, yield_group, yield_matching, yield_value, yield_fills, yield_flag, yield_modifier, yield_match_sign, yield_item, yield_items, yield_braces, yield_any_braces, yield_postfix, IsSigned, AreLabels, IsLabels, IsGrouping, IsGroup, IsMatching, IsFills, IsModifier, IsItem, AreItems, IsBraces, IsAnyBraces, IsPostfix, is_group_word, is_matching_word, is_matcher_name, is_bound_word}
+use Rattle.promql_grammar.specs.Grammar.{OpensNoParen, FitsMatching}
 use Rattle.promql_grammar.specs.Reading.{Read, time_at, signed_at, number_at, string_at, value_end, value_at, names_at, labels_in, labels_at, clause_at, list_at, group_at, matching_after, matching_at, fills_at, right_after, left_after, flag_at, with_fills, with_matching, modifier_at, match_sign_at, matcher_value, after_name, after_string, item_at, after_item, items_at, braces_in, braces_at, step_end, step_at, range_end, bound_end, moment_at, offset_at, postfix_at}
 
 -- a part with these tokens stands at the front of the tokens, and this holds of it and of the tokens after it

@@ -1,6 +1,6 @@
 -- Results within a height.
 use Rattle.std.proofs.Common.{◌≡◌, ℕ, suc, ◌+◌, ◌<◌, ◌≤◌, ⊎_elim, max, refl, sym, ◌∙◌, ap, arith, true, false, cond}
-use Rattle.std.specs.Prelude.{nat_lt, if◌then◌else◌, Result, Ok, Err}
+use Rattle.std.specs.Prelude.{nat_lt, if◌then◌else◌, Result, Err}
 use Rattle.std.proofs.lemmas.Bool.{cases_lt, cond_below, cond_above}
 use Rattle.promql_grammar.specs.declared.halt.Halt.{Halt}
 use Rattle.promql_grammar.specs.declared.halt.Halt.TheVariants.{TooDeep}

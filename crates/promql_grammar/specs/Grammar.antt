@@ -6,7 +6,7 @@ use Rattle.promql_token.specs.declared.ids.TheConstants.{T_LOR, T_LAND, T_LUNLES
 use Rattle.promql_grammar.specs.declared.kind.Kind.{Kind}
 use Rattle.promql_grammar.specs.declared.kind.Kind.TheVariants as kind
 use Rattle.promql_grammar.specs.Symbols.{Symbol, sign, word, is_sign_operator, may_be_name, may_be_called}
-use Rattle.promql_grammar.specs.Pieces.{Braces, yield_braces, yield_any_braces, IsBraces, IsAnyBraces, Clause, yield_before, yield_after, IsClause, Modifier, yield_modifier, IsModifier, Matching, no_matching, matching, Group, no_group, bare, listed, Fills, no_fill, Postfix, subquery, yield_postfix, IsPostfix}
+use Rattle.promql_grammar.specs.Pieces.{Braces, yield_braces, yield_any_braces, IsBraces, IsAnyBraces, Clause, yield_before, yield_after, IsClause, Modifier, yield_modifier, IsModifier, Matching, no_matching, matching, Group, bare, Fills, no_fill, Postfix, subquery, yield_postfix, IsPostfix}
 
 -- a derivation, with a case for each form of expression; it keeps the tokens of its form
 mutual

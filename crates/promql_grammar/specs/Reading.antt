@@ -1,5 +1,5 @@
 -- Reading as a function on lists of tokens, to which a parser is held. Private: nothing rests on believing it.
-use Rattle.std.specs.Prelude.{ℕ, zero, suc, ◌+◌, Bool, nat_lt, ◌==◌, if◌then◌else◌, Option, Some, None, List, ◌∷◌, length, Result, Ok, Err}
+use Rattle.std.specs.Prelude.{ℕ, zero, suc, ◌+◌, nat_lt, ◌==◌, if◌then◌else◌, Option, Some, None, List, ◌∷◌, length, Result, Ok, Err}
 use Rattle.promql_text.specs.Texts.{Text}
 use Rattle.promql_token.specs.declared.ids.TheConstants.{T_POW, T_NEQ, T_LOR}
 use Rattle.promql_grammar.specs.declared.kind.Kind.{Kind}

@@ -2,7 +2,6 @@
 use Rattle.std.proofs.Common.{◌≡◌, ◌∙◌, Bool, true, false, Option, Some, None, refl, ap, sym, option_map, string_bytes}
 use Rattle.std.specs.Cmp.{booleans_Decides}
 use Rattle.std.specs.Cmp.Derive.Mapped.{pointwise-map}
-use Rattle.std.specs.Option.{option_eq}
 use Rattle.std.specs.Str.{bytes_eq}
 use Rattle.std.proofs.lemmas.Bool.Decides.{Decides-and, Decides-int_eq, Decides-like}
 use Rattle.std.proofs.lemmas.Slice.Eq.{bytes_eq-Decides, slice_eq-Decides}
@@ -14,7 +13,7 @@ use Rattle.promql_text.specs.contracts.number.NumberPartialEq.TheImpl as numbers
 use Rattle.std.specs.contracts.prelude.OptionPartialEq.TheImpl as options
 use Rattle.promql_text.specs.declared.number.Number.TheVariants.{Finite, Inf, NegInf, NaN}
 use Rattle.promql_kind.specs.Functions.{signature_of}
-use Rattle.promql_kind.specs.Modifiers.{including, excluding, many_to_one, one_to_many, number_eq}
+use Rattle.promql_kind.specs.Modifiers.{including, excluding, many_to_one, one_to_many}
 use Rattle.promql_kind.specs.Views.{clause_of, cardinality_of, fills_of, matching_of}
 use Rattle.promql_kind.specs.contracts.bin_modifier.BinModifierPartialEq.TheImpl as matchings
 use Rattle.promql_kind.specs.contracts.cardinality.VectorMatchCardinalityPartialEq.TheImpl as cardinalities
@@ -26,7 +25,7 @@ use Rattle.promql_kind.specs.contracts.value.ValueTypePartialEq.TheImpl as types
 use Rattle.promql_kind.specs.declared.cardinality.VectorMatchCardinality.TheVariants.{OneToOne, ManyToOne, OneToMany, ManyToMany}
 use Rattle.promql_kind.specs.declared.label_modifier.LabelModifier.TheVariants.{Include, Exclude}
 use Rattle.promql_kind.specs.declared.value.ValueType.TheVariants.{Vector, Scalar, Matrix, String}
-use Rattle.promql_kind.proofs.Same.{number_eq-Decides, option_eq-Decides}
+use Rattle.promql_kind.proofs.Same.{number_eq-Decides}
 
 pub type_Decides : IsSameBy (λ t. t) types.ghosts.eq
 type_Decides Vector Vector = ((λ _. refl), (λ _. refl))

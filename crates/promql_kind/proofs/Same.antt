@@ -1,18 +1,16 @@
 -- The tests of modifiers, numbers, value types and functions decide `≡`, and `==` is these tests.
-use Rattle.std.proofs.Common.{◌≡◌, ◌↔◌, IsTrue, Bool, true, false, List, Option, Some, None, refl, ap, sym, option_map, string_bytes}
+use Rattle.std.proofs.Common.{◌≡◌, Bool, List, Option, Some, None, refl, ap}
 use lib.Pointwise.{pointwise}
 use Rattle.std.specs.Bool.{Decides}
 use Rattle.std.specs.Cmp.{booleans_Decides}
 use Rattle.std.specs.Option.{option_eq}
-use Rattle.std.specs.Str.{bytes_eq}
 use Rattle.std.proofs.lemmas.Bool.Decides.{Decides-and, Decides-eqb, Decides-int_eq, Decides-like}
 use Rattle.std.proofs.lemmas.Slice.Eq.{bytes_eq-Decides, slice_eq-Decides}
 use Rattle.promql_text.specs.Numbers.{Exact}
 use Rattle.promql_text.specs.declared.number.Number.{Number}
 use Rattle.promql_text.specs.declared.number.Number.TheVariants.{Finite, Inf, NegInf, NaN}
-use Rattle.promql_label.specs.Labels.{labels_of}
 use Rattle.promql_text.specs.Texts.{Text}
-use Rattle.promql_kind.specs.Functions.{Signature, signature, signature_of}
+use Rattle.promql_kind.specs.Functions.{Signature, signature}
 use Rattle.promql_kind.specs.Modifiers.{Clause, including, excluding, Cardinality, one_to_one, many_to_one, one_to_many, many_to_many, Fills, fills, Matching, matching, exact_eq, number_eq}
 use Rattle.promql_kind.specs.Same.{texts_eq, clause_eq, cardinality_eq, fills_eq, matching_eq, signature_eq}
 use Rattle.promql_kind.specs.ValueTypes.{type_eq}

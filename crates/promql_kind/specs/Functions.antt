@@ -1,5 +1,5 @@
 -- Functions, as plain data, and the row that a name has in the table (docs/FUNCTIONS.md).
-use Rattle.std.specs.Prelude.{ℕ, ℤ, Bool, List, Option, find, map}
+use Rattle.std.specs.Prelude.{ℤ, Bool, List, Option, find, map}
 use Rattle.std.specs.Str.{bytes_eq}
 use Rattle.promql_text.specs.Texts.{Text}
 use Rattle.promql_kind.specs.declared.function.Function.{Function}

@@ -19,7 +19,7 @@ use Rattle.promql_grammar.specs.declared.kind.Kind.TheVariants as kind
 use Rattle.promql_grammar.specs.Pieces as piece
 use Rattle.promql_grammar.specs.Symbols.{sign, word}
 use Rattle.promql_label.specs.PlainMatchers.{Operator, equal, not_equal, matches, matches_not, PlainMatcher, plain_matcher, PlainMatchers, plain_matchers, name_text}
-use Rattle.promql_ast.specs.Normal.{sorted_matchers}
+use Rattle.promql_label.specs.ReadMatchers.{sorted_matchers}
 use Rattle.promql_parser.proofs.Lexes.{Lexes, at_depth}
 use Rattle.promql_parser.proofs.PrintedItems.{Item, token, blank, Spacing, close, wide, spacing, any_braces_line, braces_line, item_line, items_line, render, separator_line}
 use Rattle.promql_parser.proofs.PrintedPieces.{any_items, braces, followed, group_items, item, match_sign, matcher_kind, or_items}

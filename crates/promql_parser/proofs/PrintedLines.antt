@@ -17,10 +17,11 @@ use Rattle.promql_grammar.specs.Pieces as piece
 use Rattle.promql_grammar.specs.Symbols.{sign}
 use Rattle.promql_label.specs.Answers.{Answer}
 use Rattle.promql_label.specs.PlainMatchers.{Operator, equal, not_equal, matches, matches_not, PlainMatcher, plain_matcher, PlainMatchers, plain_matchers, group_text, matcher_text, matchers_text, name_text, operator_text}
-use Rattle.promql_label.specs.SortedTexts.{insert_text, sorted_texts, text_order}
+use Rattle.promql_label.specs.ReadMatchers.{insert_matcher, sorted_matchers}
+use Rattle.promql_label.specs.SortedTexts.{text_order}
+use Rattle.promql_label.proofs.PrintedTokens.{texts_sorted}
 use Rattle.promql_kind.specs.Functions.{name_of}
 use Rattle.promql_kind.specs.Modifiers.{Clause, including, excluding}
-use Rattle.promql_ast.specs.Normal.{insert_matcher, sorted_matchers}
 use Rattle.promql_ast.specs.Selectors.{Selector, selector}
 use Rattle.promql_ast.specs.Shifts.{at_text, offset_text}
 use Rattle.promql_ast.specs.Text.{maybe_text, text, texts}
@@ -131,19 +132,6 @@ any_items_bytes (c ∷ cs) =
     ap (λ s. codes "{" ++ render (items_line s (group_items c cs None))) (close_spacing c cs)
     ∙ ap (λ t. codes "{" ++ t) (plain_items c cs)
     ∙ sym (braced_some (joined_text (codes ",") (map matcher_text (c ∷ cs))) (joined_byte (codes ",") c cs))
-
-inserted_texts : (c : PlainMatcher) (ds : List PlainMatcher) → map matcher_text (insert_matcher c ds) ≡ insert_text (matcher_text c) (map matcher_text ds)
-inserted_texts c [] = refl
-inserted_texts c (d ∷ ds) = go (is_gt (text_order (matcher_text c) (matcher_text d))) (inserted_texts c ds)
-  where
-    go : (b : Bool) → map matcher_text (insert_matcher c ds) ≡ insert_text (matcher_text c) (map matcher_text ds)
-        → map matcher_text (cond b (d ∷ insert_matcher c ds) (c ∷ d ∷ ds)) ≡ cond b (matcher_text d ∷ insert_text (matcher_text c) (map matcher_text ds)) (matcher_text c ∷ matcher_text d ∷ map matcher_text ds)
-    go true e = ap (λ ts. matcher_text d ∷ ts) e
-    go false e = refl
-
-texts_sorted : (cs : List PlainMatcher) → map matcher_text (sorted_matchers cs) ≡ sorted_texts (map matcher_text cs)
-texts_sorted [] = refl
-texts_sorted (c ∷ cs) = inserted_texts c (sorted_matchers cs) ∙ ap (insert_text (matcher_text c)) (texts_sorted cs)
 
 inserted_byte : (c : PlainMatcher) (ds : List PlainMatcher) → HasByte (joined_text (codes ",") (map matcher_text (insert_matcher c ds)))
 inserted_byte c [] = joined_byte (codes ",") c []

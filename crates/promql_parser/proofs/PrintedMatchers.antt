@@ -9,11 +9,12 @@ use Rattle.promql_grammar.specs.declared.kind.Kind.TheVariants as kind
 use Rattle.promql_grammar.specs.Pieces as piece
 use Rattle.promql_label.specs.Answers.{Answer, built, refused}
 use Rattle.promql_label.specs.PlainMatchers.{Operator, equal, matches, matches_not, PlainMatcher, plain_matcher, PlainMatchers, plain_matchers, name_text, matcher_text, is_of, value_of, holds, appended, appended_or, grown}
+use Rattle.promql_label.specs.ReadMatchers.{insert_matcher, sorted_matchers}
 use Rattle.promql_label.specs.SortedTexts.{text_order}
 use Rattle.promql_ast.specs.Checks.{when}
 use Rattle.promql_ast.specs.Faults as faults
 use Rattle.promql_ast.specs.Faults.{passes}
-use Rattle.promql_ast.specs.Normal.{insert_matcher, sorted_matchers, normal_matchers}
+use Rattle.promql_ast.specs.Normal.{normal_matchers}
 use Rattle.promql_ast.specs.check.Vector.{name_fault, second_name}
 use Rattle.promql_parser.specs.Asking.{gives, ◌giving◌, known, under}
 use Rattle.promql_parser.specs.Faults.{Fault}

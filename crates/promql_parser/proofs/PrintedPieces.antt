@@ -20,8 +20,9 @@ use Rattle.promql_grammar.specs.Symbols.{kind_of}
 use Rattle.promql_grammar.specs.Pieces as piece
 use Rattle.promql_label.specs.Labels.{is_number_word, label_text}
 use Rattle.promql_label.specs.PlainMatchers.{Operator, equal, not_equal, matches, matches_not, PlainMatcher, plain_matcher, PlainMatchers, plain_matchers, name_text}
+use Rattle.promql_label.specs.ReadMatchers.{sorted_matchers}
 use Rattle.promql_kind.specs.Modifiers.{Clause, including, excluding, Cardinality, one_to_one, many_to_one, one_to_many, many_to_many, Fills, fills, Matching, matching, is_grouping, number_eq}
-use Rattle.promql_ast.specs.Normal.{sorted_matchers, normal_matched}
+use Rattle.promql_ast.specs.Normal.{normal_matched}
 use Rattle.promql_ast.specs.Shifts.{Shift, back, ahead, Moment, at_start, at_end, at_time}
 
 -- the kind of a word outside braces, where no parenthesis follows

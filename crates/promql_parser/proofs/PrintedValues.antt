@@ -22,7 +22,7 @@ use Rattle.promql_text.proofs.OneForm.{negated_in_form}
 use Rattle.promql_text.proofs.Quotes.{unquoted_text-quoted}
 use Rattle.promql_text.proofs.ReadsBack.{reads_back}
 use Rattle.promql_text.proofs.ReadsDuration.{duration_reads}
-use Rattle.promql_ast.proofs.PrintedMoments.{zeroless}
+use Rattle.promql_text.proofs.ShortNumbers.{zeroless}
 use Rattle.promql_grammar.specs.Results.{◌then◌}
 use Rattle.promql_grammar.specs.Pieces as piece
 use Rattle.promql_parser.specs.Faults.{Fault}

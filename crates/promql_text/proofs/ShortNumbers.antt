@@ -21,13 +21,13 @@ use Rattle.promql_text.proofs.Tens.{times_both, times_one, times_ten, value_afte
 use Rattle.promql_text.proofs.TextForms.{plain_numeral, reading_digits}
 
 -- a number above zero is a number that doesn't end in 0, with zeros after it
-record Zeroless (n : ℕ) : Type 0 where
-  digits : ℕ
-  zeros : ℕ
-  is : digits * 10 ^ zeros ≡ n
-  ends : digits % 10 ≢ 0
+pub record Zeroless (n : ℕ) : Type 0 where
+  pub digits : ℕ
+  pub zeros : ℕ
+  pub is : digits * 10 ^ zeros ≡ n
+  pub ends : digits % 10 ≢ 0
 
-zeroless : (most n : ℕ) → 0 < n → n < 10 ^ most → Zeroless n
+pub zeroless : (most n : ℕ) → 0 < n → n < 10 ^ most → Zeroless n
 zeroless zero n some less = absurd (omega arith)
 zeroless (suc most) n some less =
     ⊎_elim

@@ -3,7 +3,6 @@ use Rattle.std.proofs.Common.{◌≡◌, List, [], ◌∷◌, ◌++◌, Option, 
 use Rattle.serde_json.specs.Data.{Members, object}
 use Rattle.promql_ast.specs.Tree.{Tree, aggregate, unary, binary, paren, subquery, number, string, vector, matrix, call, extension, MaybeTree, absent, present, Trees, no_trees, first_tree}
 use Rattle.promql_walk.specs.declared.json_error.JsonError.{JsonError}
-use Rattle.promql_walk.specs.declared.json_error.JsonError.TheVariants.{Extension}
 use Rattle.promql_walk.specs.Events.{Event, before, after, events, inner_events, param_events, all_events}
 use Rattle.promql_walk.specs.Json.{first_of, own_fault, first_fault, unless, node_members, node_json, args_members, args_json}
 use Rattle.promql_walk.specs.JsonFaults.{json_fault, param_fault, args_fault}

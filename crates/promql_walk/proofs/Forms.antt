@@ -1,7 +1,7 @@
 -- Where there is a form, and the children of a node.
-use Rattle.std.proofs.Common.{◌≡◌, ◌↔◌, List, [], ◌∷◌, ◌++◌, Option, Some, None, Result, Ok, Err, refl, sym, ap, ◌∙◌}
+use Rattle.std.proofs.Common.{◌≡◌, ◌↔◌, List, [], ◌∷◌, ◌++◌, Option, Some, None, Ok, refl, sym, ap}
 use Rattle.serde_json.specs.Data.{Data}
-use Rattle.promql_ast.specs.Tree.{Tree, aggregate, unary, binary, paren, subquery, number, string, vector, matrix, call, extension, absent, present, Trees, no_trees, first_tree}
+use Rattle.promql_ast.specs.Tree.{Tree, aggregate, unary, binary, paren, subquery, number, string, vector, matrix, call, extension, absent, present}
 use Rattle.std.proofs.lemmas.List.{append-nil}
 use Rattle.promql_walk.specs.declared.json_error.JsonError.{JsonError}
 use Rattle.promql_walk.specs.Children.{children, with_children}

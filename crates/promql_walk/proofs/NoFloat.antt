@@ -1,5 +1,5 @@
 -- The JSON form of a tree has no float, so its text is known to the byte.
-use Rattle.std.proofs.Common.{◌≡◌, Result, Ok, Err, ap, ◌∙◌, ℕ, ℤ, pos, negsuc, Bool, true, false, List, [], ◌∷◌, map, codes, Option, Some, None, Ordering, Less, Equal, Greater, refl}
+use Rattle.std.proofs.Common.{◌≡◌, Ok, ap, ◌∙◌, ℤ, pos, negsuc, false, List, [], ◌∷◌, map, codes, Option, Some, None, Ordering, Less, Equal, Greater, refl}
 use Rattle.std.proofs.lemmas.Bool.{or_parts, or_from}
 use Rattle.std.specs.Cmp.Lexicographic.{slice_cmp}
 use Rattle.std.specs.Ordering.{nat_cmp, match_ordering}

@@ -20,18 +20,21 @@ pub trait ExprVisitorMut {
     ghost pre_gives: { Self → Tree → Result Bool Self.Error → Self → Tree → Type 0 };
 
     /// What a `post_visit` may do, beside leaving the visitor and the node as they are.
-    ghost post_gives: { Self → Tree → Result Bool Self.Error → Self → Tree → Type 0 } = { λ _ _ _ _ _. ⊥ };
+    ghost post_gives: { Self → Tree → Result Bool Self.Error
+        → Self → Tree → Type 0 } = { λ _ _ _ _ _. ⊥ };
 
     /// Is called before a node's children. `Ok(true)` goes on with the children of the node as it is then; everything else
     /// ends the walk. Where it goes on, the node must be no higher than it was, so that a walk ends.
     fn pre_visit(&mut self, expr: &mut Expr) -> Result<bool, Self::Error>
         ensures gives { pre_gives self.old (tree_of expr.old) result self.new (tree_of expr.new) }
-        ensures no_higher { (result ≡ Ok true) → height (tree_of expr.new) ≤ height (tree_of expr.old) };
+        ensures no_higher { (result ≡ Ok true)
+            → height (tree_of expr.new) ≤ height (tree_of expr.old) };
 
     /// Is called after a node's children. `Ok(true)` goes on; everything else ends the walk. By default it does nothing
     /// and goes on.
     fn post_visit(&mut self, expr: &mut Expr) -> Result<bool, Self::Error>
-        ensures { EditsOr post_gives self.old (tree_of expr.old) result self.new (tree_of expr.new) }
+        ensures { EditsOr post_gives
+            self.old (tree_of expr.old) result self.new (tree_of expr.new) }
     {
         let _ = expr;
         Ok(true)

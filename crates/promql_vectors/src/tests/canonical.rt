@@ -43,17 +43,22 @@ fn check_printed(rt: &impl Abort, alloc: Global, text: &str) -> Result<(), Fail>
     Ok(())
 }
 
-#[test]
-fn queries_of_dashboards(rt: HostRuntime) -> Result<(), Fail> {
-    for query in QUERIES {
-        check_printed(&rt, rt.alloc(), query)?;
+/// Each of the texts is checked as `check_printed` does.
+fn check_all(rt: &impl Abort, alloc: Global, texts: &[&str]) -> Result<(), Fail> {
+    for text in texts {
+        check_printed(rt, alloc, text)?;
     }
     Ok(())
 }
 
 #[test]
+fn queries_of_dashboards(rt: HostRuntime) -> Result<(), Fail> {
+    check_all(&rt, rt.alloc(), &QUERIES)
+}
+
+#[test]
 fn signs_and_operators(rt: HostRuntime) -> Result<(), Fail> {
-    for text in [
+    let texts = [
         "-5 ^ 2",
         "- -5",
         "-(5)",
@@ -66,15 +71,13 @@ fn signs_and_operators(rt: HostRuntime) -> Result<(), Fail> {
         "0x1F + 017",
         "1e308",
         "NaN - -Inf",
-    ] {
-        check_printed(&rt, rt.alloc(), text)?;
-    }
-    Ok(())
+    ];
+    check_all(&rt, rt.alloc(), &texts)
 }
 
 #[test]
 fn selectors(rt: HostRuntime) -> Result<(), Fail> {
-    for text in [
+    let texts = [
         "http_requests_total{\nenvironment=~\"staging|testing|development\",\nmethod!=\"GET\"\n} offset 5m",
         "foo{b=\"2\",a=\"1\",}",
         "foo{a=\"1\",b=\"2\"}",
@@ -85,15 +88,13 @@ fn selectors(rt: HostRuntime) -> Result<(), Fail> {
         "{b=~\"x.+\",a=~\"y.+\"}",
         "{\"a metric\"}",
         "foo{\"a b\"!=\"\\n\\\"\"}",
-    ] {
-        check_printed(&rt, rt.alloc(), text)?;
-    }
-    Ok(())
+    ];
+    check_all(&rt, rt.alloc(), &texts)
 }
 
 #[test]
 fn calls_aggregations_and_times(rt: HostRuntime) -> Result<(), Fail> {
-    for text in [
+    let texts = [
         "sum by () (a)",
         "sum by (\"inf\", fill, \"a b\") (x)",
         "sum by (b) (a) / c",
@@ -109,10 +110,8 @@ fn calls_aggregations_and_times(rt: HostRuntime) -> Result<(), Fail> {
         "foo @ -1.0005",
         "foo offset 5m @ start()",
         "foo @ -1 offset -5m",
-    ] {
-        check_printed(&rt, rt.alloc(), text)?;
-    }
-    Ok(())
+    ];
+    check_all(&rt, rt.alloc(), &texts)
 }
 
 #[test]

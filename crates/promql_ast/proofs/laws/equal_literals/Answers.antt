@@ -1,4 +1,4 @@
-use Rattle.std.proofs.Common.{refl, string_bytes}
+use Rattle.std.proofs.Common.{string_bytes}
 use Rattle.std.proofs.lemmas.Slice.Eq.{bytes_eq-Decides}
 use Rattle.promql_kind.proofs.Equal.{number_Decides}
 use Rattle.promql_ast.proofs.SameModes.{mode_Decides}

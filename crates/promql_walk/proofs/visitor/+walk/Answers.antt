@@ -1,9 +1,8 @@
-use Rattle.std.proofs.Common.{◌≡◌, true, false, Ok, Err, refl, ap, ◌∙◌, sym, subst}
+use Rattle.std.proofs.Common.{true, Ok, refl, ap, ◌∙◌, sym, subst}
 use Rattle.std.proofs.lemmas.List.{drop_all}
-use Rattle.promql_ast.specs.Tree.{aggregate}
 use Rattle.promql_ast.specs.View.{tree_of, option_tree, trees_of, children_of, aggregate_tree, call_tree, extension_tree}
 use Rattle.promql_ast.proofs.Views.{tree_of_aggregate, tree_of_call, tree_of_extension}
-use Rattle.promql_walk.specs.Events.{events, inner_events, param_events, all_events}
+use Rattle.promql_walk.specs.Events.{events, param_events, all_events}
 use Rattle.promql_walk.specs.Walked.{IdlesOr, Visit, Walked}
 use Rattle.promql_walk.proofs.Walks.{whole, ends_inside, ends_before, walked_both, walked_stops, walked_as, walked_below, next_goes, next_ends, dropped, args_events, nodes_events}
 use Rattle.promql_walk.proofs.visitor.+walk.Goals as goal

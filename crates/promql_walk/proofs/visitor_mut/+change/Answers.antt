@@ -1,12 +1,12 @@
-use Rattle.std.proofs.Common.{◌≡◌, true, false, Ok, Err, refl, sym, ap, ◌∙◌, subst, rules, option_map, string_bytes, arith, ◌+◌, ◌≤◌}
+use Rattle.std.proofs.Common.{Ok, refl, sym, ap, ◌∙◌, rules, option_map, string_bytes, arith, ◌+◌, ◌≤◌}
 use Rattle.std.proofs.lemmas.List.{drop-set-lt, with_items_is}
 use Rattle.std.proofs.lemmas.Grind.{drop_more_same}
 use Rattle.std.specs.Duration.{as_nanos}
 use Rattle.promql_kind.specs.Functions.{signature_of}
-use Rattle.promql_kind.specs.Views.{clause_of, matching_of}
+use Rattle.promql_kind.specs.Views.{clause_of}
 use Rattle.promql_ast.specs.Shifts.{shift_of, moment_of}
 use Rattle.promql_ast.specs.Height.{height, greatest_height}
-use Rattle.promql_ast.specs.Tree.{aggregate, unary, paren, binary, subquery, call, extension, first_tree, no_trees}
+use Rattle.promql_ast.specs.Tree.{aggregate, unary, paren, subquery, call, extension, first_tree, no_trees}
 use Rattle.promql_ast.specs.View.{tree_of, trees_of, children_of, option_tree, aggregate_tree, binary_tree, call_tree, extension_tree}
 use Rattle.promql_ast.proofs.Views.{tree_of_aggregate, tree_of_call, tree_of_extension}
 use Rattle.promql_walk.specs.Changes.{EditsOr}

@@ -1,4 +1,4 @@
-use Rattle.std.proofs.Common.{◌∙◌, sym, ap, arith}
+use Rattle.std.proofs.Common.{◌∙◌, sym}
 use Rattle.promql_label.specs.Views.{plain_matchers_of}
 use Rattle.promql_ast.proofs.LeafWidths.{braced_width_is}
 use Rattle.promql_ast.proofs.layout.widths.braced_width.Goals as goal
