@@ -118,6 +118,7 @@ impl<'a> Cursor<'a> {
     }
 
     /// Whether a fault comes next, where no token does.
+    #[inline(never)]
     pub fn is_at_fault(&self) -> bool
         ensures { tokens_left self.now ≡ [] → result ≡ ends_in_fault self.now }
     {
