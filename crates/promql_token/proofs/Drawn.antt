@@ -12,7 +12,7 @@ use Rattle.promql_token.specs.declared.state.State.{State}
 use Rattle.promql_text.specs.Texts.{Text}
 use Rattle.promql_token.specs.declared.cursor.Cursor as code
 use Rattle.promql_token.specs.Cursor.{is_before_end, up_to_fault, tokens_left, has_fault, ends_in_fault, IsPast}
-use Rattle.promql_token.specs.Lexing.{What, Found, whats, found, first, fault_at, item, items, collected, with_front, goes_on, behind, len_of, start, lex, tokens, cut, placed, sliced, result_sliced, text_at}
+use Rattle.promql_token.specs.Lexing.{What, Found, whats, found, first, fault_at, item, collected, with_front, goes_on, len_of, start, lex, tokens, cut, placed, sliced, result_sliced, text_at}
 use Rattle.promql_token.specs.Pieces.{after}
 use Rattle.promql_token.proofs.Items.{is_token}
 use Rattle.promql_token.proofs.Items.{left_token as left_item}

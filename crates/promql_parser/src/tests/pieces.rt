@@ -5,7 +5,8 @@ use crate::grammar::fault::Fault;
 use crate::grammar::labels::labels_at;
 use crate::grammar::modifier::modifier_at;
 use crate::grammar::postfix::{HeldPostfix, Postfix, postfix_at};
-use crate::grammar::selector::braces_at;
+use crate::grammar::selector::braces_in;
+use crate::grammar::signs::takes_left_brace;
 use crate::tokens::Tokens;
 use promql_ast::RangeMode;
 use promql_grammar::Halt;
@@ -105,7 +106,10 @@ fn read_modifier(alloc: Global, text: &str) -> Result<String, AllocError> {
 
 fn read_braces(alloc: Global, text: &str) -> Result<String, AllocError> {
     let mut tokens = Tokens::new(text);
-    match braces_at(alloc, &mut tokens) {
+    if !takes_left_brace(&mut tokens) {
+        return String::from_str(alloc, "no braces");
+    }
+    match braces_in(alloc, &mut tokens) {
         Ok(Ok(matchers)) => matchers.to_string(alloc),
         Ok(Err(fault)) => fault_text(alloc, &fault),
         Err(halt) => halt_text(alloc, halt),
@@ -219,7 +223,7 @@ fn modifiers(rt: HostRuntime) -> Result<(), Fail> {
 fn braces(rt: HostRuntime) -> Result<(), Fail> {
     let alloc = rt.alloc();
     for (text, want) in [
-        ("", ""),
+        ("", "no braces"),
         ("{}", ""),
         ("{a='1'}", "a=\"1\""),
         (
@@ -300,7 +304,8 @@ fn subqueries_add_height_with_a_fault(rt: HostRuntime) -> Result<(), Fail> {
 fn groups_or_out_of_memory(rt: HostRuntime) -> Result<(), Fail> {
     let alloc = rt.alloc();
     let mut tokens = Tokens::new("{a='1', 'b'=~'2' or c!='3', d!~'4' or 'e'}");
-    match braces_at(alloc, &mut tokens) {
+    assert!(rt; takes_left_brace(&mut tokens));
+    match braces_in(alloc, &mut tokens) {
         Ok(Ok(matchers)) => {
             assert!(rt; matchers.matchers.is_empty());
             assert_eq!(rt; matchers.or_matchers.len(), 3);
