@@ -1,6 +1,6 @@
 -- From what a token list gives to the answer to its text.
-use Rattle.std.proofs.Common.{◌≡◌, ◌≢◌, ℕ, ◌+◌, ◌<◌, ◌≤◌, ⊎_elim, max, true, false, Bool, List, [], ◌∷◌, ◌++◌, length, map, Option, None, length-append, refl, sym, ap, ◌∙◌, subst, arith}
-use Rattle.std.specs.Prelude.{Result, Ok, Err, not, ◌==◌}
+use Rattle.std.proofs.Common.{◌≡◌, ◌≢◌, ℕ, ◌<◌, ◌≤◌, ⊎_elim, true, false, Bool, List, [], ◌∷◌, ◌++◌, length, map, None, refl, sym, ap, ◌∙◌, subst, arith}
+use Rattle.std.specs.Prelude.{Result, Ok, Err, not}
 use Rattle.std.proofs.lemmas.Bool.{cases_lt}
 use Rattle.std.proofs.lemmas.List.{length-map}
 use Rattle.promql_text.specs.Texts.{Text}
@@ -10,7 +10,7 @@ use Rattle.promql_grammar.specs.declared.kind.Kind.TheVariants as kind
 use Rattle.promql_grammar.specs.declared.halt.Halt.{Halt}
 use Rattle.promql_grammar.specs.declared.halt.Halt.TheVariants as halts
 use Rattle.promql_grammar.specs.Results.{on_result}
-use Rattle.promql_grammar.specs.Symbols.{Symbol, symbol, symbol_of, kind_of, sign, word, begins, may_begin, may_be_name, is_sign_operator, is_word_operator}
+use Rattle.promql_grammar.specs.Symbols.{Symbol, symbol, symbol_of, kind_of, sign, word, begins, may_begin, is_sign_operator, is_word_operator}
 use Rattle.promql_grammar.specs.Pieces.{no_item}
 use Rattle.promql_grammar.specs.Grammar.{Derivation, number, duration, string, selector, nameless, paren, postfixed, unary, yield, height, IsWellFormed}
 use Rattle.promql_grammar.proofs.Known.{last_is_known}
@@ -19,7 +19,7 @@ use Rattle.promql_grammar.proofs.Sound.{height_yield}
 use Rattle.promql_ast.specs.Height.{height as tree_height}
 use Rattle.promql_ast.specs.Tree.{Tree}
 use Rattle.promql_ast.specs.Typed.{Typed}
-use Rattle.promql_parser.specs.Answers.{Refusal, memory, lexical, empty, syntax, too_deep, fault, refusal_of, Derives, BeginsNone, IsBuilt, Builds, IsServed, IsAnswerTo, built_answer}
+use Rattle.promql_parser.specs.Answers.{Refusal, memory, lexical, empty, syntax, too_deep, fault, refusal_of, Derives, BeginsNone, IsBuilt, IsServed, IsAnswerTo, built_answer}
 use Rattle.promql_parser.specs.Asking.{Ends}
 use Rattle.promql_parser.specs.Building.{build}
 use Rattle.promql_parser.specs.Faults.{Fault, fault_of}

@@ -1,16 +1,16 @@
 -- Bases: what is read up to their postfixes, by their first token.
-use Rattle.std.proofs.Common.{◌≡◌, ℕ, ◌+◌, ◌≤◌, true, false, Bool, cond, refl, sym, ◌∙◌, ap, subst, arith, List, [], ◌∷◌, length}
-use Rattle.std.specs.Prelude.{Result, Ok, Err, MatchResult, Option, Some, None}
+use Rattle.std.proofs.Common.{◌≡◌, ℕ, ◌≤◌, cond, refl, sym, ◌∙◌, ap, subst, List, [], ◌∷◌, length}
+use Rattle.std.specs.Prelude.{Result, Ok, Err, MatchResult}
 use Rattle.promql_text.specs.Texts.{Text}
 use Rattle.promql_grammar.specs.declared.kind.Kind.{Kind}
 use Rattle.promql_grammar.specs.declared.kind.Kind.TheVariants as kind
 use Rattle.promql_grammar.specs.declared.halt.Halt.{Halt}
 use Rattle.promql_grammar.specs.declared.halt.Halt.TheVariants.{Memory, Syntax, TooDeep}
 use Rattle.promql_grammar.specs.Results.{◌then◌}
-use Rattle.promql_grammar.specs.Symbols.{Symbol, sign, word, symbol, is_sign_operator}
+use Rattle.promql_grammar.specs.Symbols.{Symbol, sign, word, symbol}
 use Rattle.promql_grammar.specs.Grammar as grammar
 use Rattle.promql_grammar.specs.Pieces as piece
-use Rattle.promql_grammar.specs.Reading.{Read, Reader, expression, first, closing, called, named, aggregated, grouped, arguments_at, labels_at, clause_at, braces_at, postfixes}
+use Rattle.promql_grammar.specs.Reading.{Read, Reader, first, closing, called, named, aggregated, grouped, arguments_at, labels_at, clause_at, postfixes}
 use Rattle.promql_parser.specs.declared.grammar.part.Part.{Part}
 use Rattle.promql_parser.specs.declared.grammar.part.Arguments.{Arguments}
 use Rattle.promql_parser.specs.Front.{TakesSign, BeginsClause, HasNoClause}

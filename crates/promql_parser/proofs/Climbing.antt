@@ -1,20 +1,20 @@
 -- What the loop over operators keeps.
-use Rattle.std.proofs.Common.{◌≡◌, ℕ, zero, suc, ◌+◌, ◌<◌, ◌≤◌, refl, sym, ◌∙◌, ap, arith, List, [], ◌∷◌, length}
-use Rattle.std.specs.Prelude.{Result, Ok, Err}
+use Rattle.std.proofs.Common.{◌≡◌, ℕ, zero, suc, ◌+◌, ◌<◌, ◌≤◌, refl, sym, ◌∙◌, ap, arith, List, ◌∷◌, length}
+use Rattle.std.specs.Prelude.{Ok, Err}
 use Rattle.std.proofs.lemmas.Bool.{cond_above, cond_below}
 use Rattle.promql_text.specs.Texts.{Text}
 use Rattle.promql_grammar.specs.declared.kind.Kind.TheVariants as kind
 use Rattle.promql_grammar.specs.declared.halt.Halt.{Halt}
-use Rattle.promql_grammar.specs.declared.halt.Halt.TheVariants.{Memory, Syntax, TooDeep}
+use Rattle.promql_grammar.specs.declared.halt.Halt.TheVariants.{TooDeep}
 use Rattle.promql_grammar.specs.Results.{◌then◌}
 use Rattle.promql_grammar.specs.Symbols.{Symbol, word}
 use Rattle.promql_grammar.specs.Pieces.{Modifier}
 use Rattle.promql_grammar.specs.Grammar.{Derivation, binary, level, height}
-use Rattle.promql_grammar.specs.Reading.{Read, Reader, right_level, modifier_at, first, climb, expression}
+use Rattle.promql_grammar.specs.Reading.{Reader, right_level, modifier_at, first, climb, expression}
 use Rattle.promql_parser.specs.declared.grammar.part.Part.{Part}
 use Rattle.promql_parser.specs.Front.{Stops, TakesOperator}
 use Rattle.promql_parser.specs.Parts.{IsPart, IsGiven, Fails}
-use Rattle.promql_parser.proofs.Failing.{fails_bind, fails_same, fails_first}
+use Rattle.promql_parser.proofs.Failing.{fails_first}
 
 expression_suc : (n m : ℕ) (ts : List Symbol) → expression (suc n) m ts ≡ (first (expression n) (length ts) (suc n) ts then λ x. climb (expression n) (length ts) n m x.0 x.1)
 unfolding expression

@@ -1,6 +1,6 @@
 -- What the loop over arguments keeps.
-use Rattle.std.proofs.Common.{◌≡◌, ℕ, zero, suc, ◌+◌, ◌<◌, ◌≤◌, refl, sym, ◌∙◌, ap, arith, List, [], ◌∷◌, length}
-use Rattle.std.specs.Prelude.{Result, Ok, Err}
+use Rattle.std.proofs.Common.{◌≡◌, ℕ, zero, suc, ◌≤◌, refl, sym, ◌∙◌, ap, arith, List, ◌∷◌, length}
+use Rattle.std.specs.Prelude.{Ok, Err}
 use Rattle.promql_grammar.specs.declared.kind.Kind.TheVariants as kind
 use Rattle.promql_grammar.specs.declared.halt.Halt.{Halt}
 use Rattle.promql_grammar.specs.declared.halt.Halt.TheVariants.{Syntax}
@@ -12,7 +12,7 @@ use Rattle.promql_parser.specs.declared.grammar.part.Arguments.{Arguments}
 use Rattle.promql_parser.specs.declared.grammar.part.Part.{Part}
 use Rattle.promql_parser.specs.Parts.{IsPart, AreArguments, IsGiven, AreGiven, Fails, followed}
 use Rattle.promql_parser.specs.Pieces.{HasNoComma, HasNoRightParen}
-use Rattle.promql_parser.proofs.Failing.{fails_bind, fails_same, fails_first}
+use Rattle.promql_parser.proofs.Failing.{fails_bind, fails_first}
 
 -- arguments before others
 abbrev pub join : grammar.Arguments → grammar.Arguments → grammar.Arguments

@@ -1,5 +1,5 @@
 -- Building that asks: what follows a value, and what follows a fault.
-use Rattle.std.proofs.Common.{◌≡◌, refl, sym, ◌∙◌, ap, subst, List, [], ◌∷◌, ◌++◌}
+use Rattle.std.proofs.Common.{◌≡◌, refl, ◌∙◌, ap, subst, List, [], ◌∷◌, ◌++◌}
 use Rattle.std.specs.Prelude.{Result, Ok, Err}
 use Rattle.promql_label.specs.Answers.{Answer}
 use Rattle.promql_text.specs.Texts.{Text}

@@ -1,5 +1,5 @@
 -- What the parts of each form build.
-use Rattle.std.proofs.Common.{◌≡◌, ℕ, ◌+◌, ◌≤◌, max, true, false, refl, sym, ◌∙◌, ap, subst, arith, List, [], ◌∷◌, ◌++◌, Option, Some, None}
+use Rattle.std.proofs.Common.{◌≡◌, ℕ, true, false, refl, sym, ◌∙◌, ap, subst, [], Option, Some, None}
 use Rattle.std.specs.Prelude.{Result, Ok, Err, IfOk, ◌==◌, cond}
 use Rattle.std.specs.declared.alloc.Global.{Global}
 use Rattle.std.specs.declared.boxed.Box.{Box}
@@ -25,13 +25,13 @@ use Rattle.promql_grammar.specs.Pieces as piece
 use Rattle.promql_grammar.specs.Results.{◌then◌}
 use Rattle.promql_parser.specs.declared.grammar.part.Part.{Part}
 use Rattle.promql_parser.specs.declared.grammar.part.Arguments.{Arguments}
-use Rattle.promql_parser.specs.Asking.{Asking, gives, fails, ◌giving◌, known, Asked, AreAllowed, Ends}
+use Rattle.promql_parser.specs.Asking.{Asking, gives, ◌giving◌, known}
 use Rattle.promql_parser.specs.Building.{build, build_all, called, passing, passing_checks, selector_tree, with_postfix, with_sign}
 use Rattle.promql_parser.specs.Faults.{Fault, fault_of, unknown_function}
-use Rattle.promql_parser.specs.Parts.{EndsIn, IsPart, AreArguments, built_of, built_all, outcome, followed}
+use Rattle.promql_parser.specs.Parts.{EndsIn, IsPart, AreArguments, built_of, built_all, outcome}
 use Rattle.promql_parser.specs.PieceBuilding.{clause_value, modifier_value, time_value, step_value, moment_value, shift_value}
 use Rattle.promql_parser.specs.Postfixes.{Change, changed, change_value, to_subquery}
-use Rattle.promql_parser.proofs.Ending.{ends_known, then_value, then_fault}
+use Rattle.promql_parser.proofs.Ending.{ends_known}
 
 pub if_ok_both : {X E : Type 0} {P Q R : X → Type 0} (r : Result X E) → IfOk r P → IfOk r Q → ((x : X) → P x → Q x → R x) → IfOk r R
 if_ok_both (Ok x) p q both = both x p q

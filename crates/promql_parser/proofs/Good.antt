@@ -1,12 +1,12 @@
 -- Trees that are built are well typed, and no higher than their derivations.
-use Rattle.std.proofs.Common.{◌≡◌, ℕ, ◌+◌, ◌≤◌, max, true, false, Bool, cond, refl, sym, ◌∙◌, ap, subst, arith, List, [], ◌∷◌, Option, Some, None}
-use Rattle.std.specs.Prelude.{Result, Ok, Err, ◌==◌}
+use Rattle.std.proofs.Common.{◌≡◌, ℕ, ◌+◌, ◌≤◌, max, true, false, cond, refl, sym, ap, subst, arith, List, [], ◌∷◌, Option, Some, None}
+use Rattle.std.specs.Prelude.{Result, Ok, ◌==◌}
 use Rattle.promql_text.specs.Texts.{Text}
 use Rattle.promql_token.specs.declared.ids.TheConstants.{T_SUB}
-use Rattle.promql_label.specs.Answers.{Answer, built, refused}
-use Rattle.promql_label.specs.PlainMatchers.{Operator, PlainMatchers}
+use Rattle.promql_label.specs.Answers.{Answer}
+use Rattle.promql_label.specs.PlainMatchers.{PlainMatchers}
 use Rattle.promql_kind.specs.Functions.{Signature, signature, function_named}
-use Rattle.promql_kind.specs.Modifiers.{Clause, Matching}
+use Rattle.promql_kind.specs.Modifiers.{Clause}
 use Rattle.promql_ast.specs.Builds.{negated, minus, ranged, at_given, offset_given, mode_given, aggregated, aggregated_alone, aggregated_with}
 use Rattle.promql_token.specs.Ids.{is_aggregator_with_param}
 use Rattle.promql_ast.specs.Checked.{checked}
@@ -15,11 +15,11 @@ use Rattle.promql_ast.specs.check.Binary.{label_fault, operator_fault, set_fault
 use Rattle.promql_ast.specs.Types.{type_of}
 use Rattle.promql_ast.specs.Faults as faults
 use Rattle.promql_ast.specs.Faults.{Verdict, passes, rejected}
-use Rattle.promql_ast.specs.Height.{height, maybe_height, greatest_height}
-use Rattle.promql_ast.specs.Selectors.{Selector, selector}
+use Rattle.promql_ast.specs.Height.{height, greatest_height}
+use Rattle.promql_ast.specs.Selectors.{selector}
 use Rattle.promql_ast.specs.Shifts.{Shift, Moment}
-use Rattle.promql_ast.specs.Tree.{Tree, aggregate, unary, binary, paren, subquery, number, string, vector, matrix, call, extension, MaybeTree, absent, present, Trees, no_trees, first_tree}
-use Rattle.promql_ast.specs.Typed.{Typed, AllTyped, TypedBelow, MaybeTyped}
+use Rattle.promql_ast.specs.Tree.{Tree, aggregate, unary, binary, paren, subquery, number, string, vector, matrix, call, extension, absent, present, Trees, no_trees, first_tree}
+use Rattle.promql_ast.specs.Typed.{Typed, AllTyped, TypedBelow}
 use Rattle.promql_ast.specs.declared.range_mode.RangeMode.{RangeMode}
 use Rattle.promql_ast.specs.declared.range_mode.RangeMode.TheVariants.{Plain, Smoothed, Anchored}
 use Rattle.promql_grammar.specs.Grammar as grammar

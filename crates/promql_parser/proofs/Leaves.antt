@@ -1,5 +1,5 @@
 -- Bases without expressions in them.
-use Rattle.std.proofs.Common.{◌≡◌, ℕ, true, false, Bool, cond, refl, sym, ◌∙◌, ap, List, [], ◌∷◌, Option, Some, None}
+use Rattle.std.proofs.Common.{◌≡◌, ℕ, true, false, cond, refl, ◌∙◌, ap, List, ◌∷◌, Some, None}
 use Rattle.std.specs.Prelude.{Result, Ok, Err}
 use Rattle.promql_text.specs.Texts.{Text}
 use Rattle.promql_grammar.specs.declared.kind.Kind.{Kind}
@@ -7,10 +7,10 @@ use Rattle.promql_grammar.specs.declared.kind.Kind.TheVariants as kind
 use Rattle.promql_grammar.specs.declared.halt.Halt.{Halt}
 use Rattle.promql_grammar.specs.declared.halt.Halt.TheVariants.{Syntax}
 use Rattle.promql_grammar.specs.Results.{◌then◌}
-use Rattle.promql_grammar.specs.Symbols.{Symbol, sign, symbol, begins, may_be_name}
+use Rattle.promql_grammar.specs.Symbols.{Symbol, sign, may_be_name}
 use Rattle.promql_grammar.specs.Grammar as grammar
 use Rattle.promql_grammar.specs.Pieces.{Braces}
-use Rattle.promql_grammar.specs.Reading.{Read, braces_at, braces_in, named, postfixes}
+use Rattle.promql_grammar.specs.Reading.{braces_at, braces_in, named, postfixes}
 use Rattle.promql_label.specs.Views.{plain_matchers_of}
 use Rattle.promql_label.specs.declared.matchers.Matchers.{Matchers}
 use Rattle.promql_parser.specs.declared.grammar.fault.Fault as code

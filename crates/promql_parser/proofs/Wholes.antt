@@ -1,6 +1,6 @@
 -- From what reading gives to the answer.
 use Rattle.std.proofs.Common.{◌≡◌, ℕ, ◌+◌, ◌<◌, ◌≤◌, ⊎_elim, true, false, suc, refl, sym, ◌∙◌, ap, subst, arith, List, [], ◌∷◌, ◌++◌, length, append-nil}
-use Rattle.std.specs.Prelude.{◌==◌, Result, Ok, Err}
+use Rattle.std.specs.Prelude.{◌==◌, Ok, Err}
 use Rattle.std.proofs.lemmas.Bool.Decides.{nat_tests}
 use Rattle.std.proofs.lemmas.Bool.{cases_lt}
 use Rattle.promql_grammar.specs.declared.halt.Halt.{Halt}
@@ -13,7 +13,7 @@ use Rattle.promql_grammar.proofs.Unique.{whole}
 use Rattle.promql_grammar.proofs.Sound.{Good, expression_sound}
 use Rattle.promql_parser.specs.declared.grammar.part.Part.{Part}
 use Rattle.promql_parser.specs.Parts.{IsGiven, Fails}
-use Rattle.promql_parser.specs.Wholes.{IsWhole, IsWholeValue}
+use Rattle.promql_parser.specs.Wholes.{IsWhole}
 
 -- a derivation is never misread
 abbrev IsDeepOrOk : Read Derivation → Type 0

@@ -3,7 +3,7 @@
 ghost use Rattle.std.specs.Prelude.{◌≡◌, ◌==◌, List, [], ◌∷◌, ◌++◌, length, drop, Ok, Err, map, MatchOption};
 ghost use Rattle.promql_parser.specs.Lexing.{Token, tokens, has_any};
 ghost use Rattle.promql_grammar.specs.Symbols.{Symbol, symbol, symbol_of};
-ghost use Rattle.promql_parser.specs.Drawing.{symbols_left, symbols_from, drawn, fault_mark};
+ghost use Rattle.promql_parser.specs.Drawing.{symbols_left, drawn, fault_mark};
 
 use promql_grammar::{Kind, kind_of};
 use promql_token::LexFault;

@@ -3,6 +3,7 @@
 ghost use Rattle.std.specs.Prelude.{◌≡◌, ◌∷◌, ◌<◌, ◌≤◌, true, length, IfOk, IsErrOf, MatchResult, OnOk};
 ghost use Rattle.promql_grammar.specs.Reading.{named};
 ghost use Rattle.promql_grammar.specs.Symbols.{begins, may_be_name, symbol};
+ghost use Rattle.promql_grammar.specs.declared.kind.Kind as kinds;
 ghost use Rattle.promql_parser.specs.Drawing.{symbols_left};
 ghost use Rattle.promql_parser.specs.Parts.{FailsBase, IsBase};
 ghost use Rattle.promql_parser.specs.Words.{leaf_read, selected};
@@ -68,20 +69,15 @@ pub fn read_selector(
         return Err(Halt::Syntax);
     }
     if takes_left_brace(tokens) {
-        return read_matchers(alloc, kind, name, tokens);
+        return read_matchers(alloc, name, tokens);
     }
     Ok(bare_part(alloc, name)?)
 }
 
 /// A selector, after its name and the opening brace.
 #[inline(never)]
-fn read_matchers(
-    alloc: Global,
-    kind: Kind,
-    name: &str,
-    tokens: &mut Tokens<'_>,
-) -> Result<Part, Halt>
-    ensures gives { MatchResult result
+fn read_matchers(alloc: Global, name: &str, tokens: &mut Tokens<'_>) -> Result<Part, Halt>
+    ensures gives { (kind : kinds.Kind) → MatchResult result
         (λ part. IsBase part (symbols_left tokens.new)
         (λ k n. selected k n kind name.now (symbols_left tokens.old)))
         (λ e. FailsBase e (λ k n. selected k n kind name.now (symbols_left tokens.old))) }

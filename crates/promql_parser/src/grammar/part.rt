@@ -9,8 +9,8 @@ use promql_ast::{Expr, FunctionArgs};
 /// A fault is carried along, since the tokens after it may be wrong too, which comes first.
 #[derive(Drop)]
 pub struct Part {
-    // The height comes first: next to the box both would be copied as one word of 16 bytes, which waits for the two
-    // stores of 8 bytes before it.
+    // The height comes first: next to the box both would be copied as one word of 16 bytes, which
+    // waits for the two stores of 8 bytes before it.
     pub height: usize,
     pub value: Result<Box<Expr>, Box<Fault>>,
 }

@@ -1,15 +1,10 @@
-use Rattle.std.proofs.Common.{◌≡◌, ◌+◌, ◌-◌, ◌≤◌, ◌∙◌, ap, sym, refl, subst, arith, length, List, [], ◌∷◌}
-use Rattle.std.specs.Prelude.{Ok, Err}
+use Rattle.std.proofs.Common.{◌≡◌, ◌+◌, ◌-◌, ◌≤◌, ◌∙◌, ap, sym, refl, arith, length}
 use Rattle.std.proofs.lemmas.Result.{err_from_is_err_and}
 use Rattle.promql_grammar.specs.declared.kind.Kind.TheVariants as kind
-use Rattle.promql_grammar.specs.Grammar as grammar
 use Rattle.promql_grammar.specs.Reading.{expression, first, called, aggregated, named}
-use Rattle.promql_grammar.specs.Symbols.{begins, symbol}
 use Rattle.promql_parser.specs.Drawing.{symbols_left}
-use Rattle.promql_parser.specs.Words.{leaf_read}
-use Rattle.promql_parser.proofs.Failing.{fails_same, fails_first}
-use Rattle.promql_parser.proofs.Words.{called_first, called_none, called_name, leaf_first, name_begins, base_begins, given_begins}
-use Rattle.promql_parser.proofs.Bases.{bases_same, postfixed_given, sign_fails, sign_given, paren_fails, paren_open, paren_base, call_fails, call_base, aggregated_none, after_fails, after_clause_fails, after_base, before_fails, before_open, before_arguments_fail, before_base}
+use Rattle.promql_parser.proofs.Words.{called_first, called_none, leaf_first, base_begins, given_begins}
+use Rattle.promql_parser.proofs.Bases.{bases_same, postfixed_given, sign_fails, sign_given, paren_open, call_fails, call_base, aggregated_none, after_fails, after_clause_fails, after_base, before_fails, before_open, before_arguments_fail, before_base}
 use Rattle.promql_parser.proofs.Climbing.{expression_zero, expression_fails, climbing_first, climbing_stops, climbing_deep, climbing_unmodified, climbing_fails, climbing_on}
 use Rattle.promql_parser.proofs.Collecting.{arguments_fail, collecting_first, collecting_fails, collecting_on, collecting_none, collecting_ends}
 use Rattle.promql_parser.proofs.grammar.+parser.Goals as goal

@@ -1,5 +1,5 @@
 use Rattle.std.proofs.Common.{ap, ◌∙◌}
-use Rattle.std.specs.Prelude.{Ok, Err}
+use Rattle.std.specs.Prelude.{Err}
 use Rattle.promql_parser.proofs.AnswerLemmas.{drawn_answer, fault_error_answer, halt_answer, refused_answer}
 use Rattle.promql_parser.proofs.parser.parse.Goals as goal
 

@@ -1,5 +1,4 @@
 use Rattle.std.proofs.Common.{◌≡◌, ◌∙◌, ap, subst, sym, Some}
-use Rattle.std.specs.Prelude.{Ok, Err}
 use Rattle.promql_ast.specs.Checked.{checked}
 use Rattle.promql_ast.specs.Tree as tree
 use Rattle.promql_ast.specs.View.{tree_of}

@@ -1,4 +1,4 @@
-use Rattle.std.proofs.Common.{◌≡◌, ◌+◌, ◌≤◌, ap, sym, refl, arith, length}
+use Rattle.std.proofs.Common.{arith}
 use Rattle.std.proofs.lemmas.Result.{err_from_is_err_and}
 use Rattle.promql_parser.specs.Drawing.{symbols_left}
 use Rattle.promql_parser.proofs.Postfixing.{postfixing_first, postfixing_ends, postfixing_fails, postfixing_deep, postfixing_on, added_low}

@@ -1,4 +1,4 @@
-use Rattle.std.proofs.Common.{◌≡◌, ℕ, ◌≤◌, length}
+use Rattle.std.proofs.Common.{ℕ, ◌≤◌, length}
 use Rattle.promql_grammar.specs.Grammar.{Derivation}
 use Rattle.promql_parser.specs.Drawing.{symbols_left}
 use Rattle.promql_parser.specs.Parts.{IsPart}

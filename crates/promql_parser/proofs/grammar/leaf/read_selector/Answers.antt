@@ -8,7 +8,7 @@ use Rattle.promql_parser.proofs.grammar.leaf.read_selector.Goals as goal
 pub returns-then-takes_left_brace-clause-gives : goal.returns-then-takes_left_brace-clause-gives
 returns-then-takes_left_brace-clause-gives c =
     bases_same _ _ _ (λ k n. named k n c.args.kind c.args.name.now (symbols_left c.args.tokens.now))
-    (λ k n. named_selected k n c.args.kind c.args.name.now _ _ (sym c.if-not-may_be_name.ensures) c.if-takes_left_brace.ensures.front) c.read_matchers.ensures.gives
+    (λ k n. named_selected k n c.args.kind c.args.name.now _ _ (sym c.if-not-may_be_name.ensures) c.if-takes_left_brace.ensures.front) (c.read_matchers.ensures.gives c.args.kind)
 
 pub returns-clause-gives : goal.returns-clause-gives
 returns-clause-gives c =
