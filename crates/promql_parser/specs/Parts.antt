@@ -1,5 +1,5 @@
 -- What the parser's functions return, beside what reading gives. Private: nothing rests on believing it.
-use Rattle.std.specs.Prelude.{◌≡◌, ℕ, List, Option, Some, None, Result, Ok, Err}
+use Rattle.std.specs.Prelude.{◌≡◌, ◌≤◌, ℕ, length, List, Option, Some, None, Result, Ok, Err, MatchResult}
 use Rattle.promql_ast.specs.Faults.{Verdict, passes, rejected}
 use Rattle.promql_ast.specs.Tree.{Tree, Trees}
 use Rattle.promql_ast.specs.View.{tree_of, trees_of}
@@ -15,7 +15,7 @@ use Rattle.promql_grammar.specs.Pieces.{Modifier}
 use Rattle.promql_grammar.specs.declared.halt.Halt.{Halt}
 use Rattle.promql_grammar.specs.declared.halt.Halt.TheVariants.{Memory}
 use Rattle.promql_grammar.specs.Grammar as grammar
-use Rattle.promql_grammar.specs.Reading.{Read, postfixes}
+use Rattle.promql_grammar.specs.Reading.{Read, modifier_at, postfixes}
 use Rattle.promql_grammar.specs.Symbols.{Symbol}
 use Rattle.promql_parser.specs.declared.grammar.part.Arguments.{Arguments}
 use Rattle.promql_parser.specs.declared.grammar.part.Part.{Part}
@@ -87,6 +87,11 @@ Fails halt read = read ≡ Err halt
 abbrev pub FailsBase : Halt → (ℕ → ℕ → Read grammar.Derivation) → Type 0
 FailsBase halt read = (k n : ℕ) → Fails halt (read k n)
 
+-- the postfixes of a base were read, where the whole is of height at most n
+abbrev pub GivesPostfixed : ℕ → Part → List Symbol → List Symbol → Result Part Halt → Type 0
+GivesPostfixed n base ts rest result =
+    (d : grammar.Derivation) (k : ℕ) → IsPart base d → length ts ≤ k → MatchResult result (λ part. IsGiven part rest (postfixes k n d ts)) (λ e. Fails e (postfixes k n d ts))
+
 -- ---- what stands beside the parts: nothing, or a value or fault in a box
 
 abbrev pub modifier_of : Option (Box (Result BinModifier code.Fault) Global) → Result (Option Matching) Fault
@@ -102,6 +107,9 @@ pub record IsModifierRead (held : Option (Box (Result BinModifier code.Fault) Gl
   pub piece : Modifier
   pub is : read ≡ Ok (piece, rest)
   pub built : modifier_of held ≡ modifier_value piece
+
+abbrev pub GivesModifier : List Symbol → List Symbol → Result (Option (Box (Result BinModifier code.Fault) Global)) Halt → Type 0
+GivesModifier ts rest result = MatchResult result (λ held. IsModifierRead held rest (modifier_at ts)) (λ e. Fails e (modifier_at ts))
 
 -- a clause was read, or none
 pub record IsClauseRead (held : Option (Box (Result LabelModifier code.Fault) Global)) (rest : List Symbol) (read : Read pieces.Clause) : Type 0 where

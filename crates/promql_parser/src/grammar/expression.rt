@@ -4,10 +4,8 @@ ghost use Rattle.std.specs.Prelude.{◌≡◌, ℕ, ◌+◌, ◌≤◌, true, le
 ghost use Rattle.promql_grammar.specs.Reading.{expression, first};
 ghost use Rattle.promql_grammar.specs.Symbols.{begins};
 ghost use Rattle.promql_parser.specs.Drawing.{symbols_left};
-ghost use Rattle.promql_grammar.specs.Grammar as grammar;
-ghost use Rattle.promql_grammar.specs.Reading.{modifier_at, postfixes};
 ghost use Rattle.promql_parser.specs.Front.{HasNoSign};
-ghost use Rattle.promql_parser.specs.Parts.{Fails, FailsBase, IsBase, IsGiven, IsModifierRead, IsPart};
+ghost use Rattle.promql_parser.specs.Parts.{Fails, FailsBase, GivesModifier, GivesPostfixed, IsBase, IsGiven};
 ghost use Rattle.promql_parser.specs.Wholes.{IsWhole};
 
 use crate::grammar::aggregate::read_aggregate;
@@ -123,10 +121,7 @@ fn take_modifier(
     alloc: Global,
     tokens: &mut Tokens<'_>,
 ) -> Result<Option<Box<Result<BinModifier, Fault>>>, Halt>
-    ensures gives { MatchResult result
-        (λ held. IsModifierRead held (symbols_left tokens.new)
-        (modifier_at (symbols_left tokens.old)))
-        (λ e. Fails e (modifier_at (symbols_left tokens.old))) }
+    ensures gives { GivesModifier (symbols_left tokens.old) (symbols_left tokens.new) result }
     ensures short { OnOk result
         (length (symbols_left tokens.new) ≤ length (symbols_left tokens.old)) }
 {
@@ -143,10 +138,7 @@ fn boxed_modifier(
     alloc: Global,
     tokens: &mut Tokens<'_>,
 ) -> Result<Option<Box<Result<BinModifier, Fault>>>, Halt>
-    ensures gives { MatchResult result
-        (λ held. IsModifierRead held (symbols_left tokens.new)
-        (modifier_at (symbols_left tokens.old)))
-        (λ e. Fails e (modifier_at (symbols_left tokens.old))) }
+    ensures gives { GivesModifier (symbols_left tokens.old) (symbols_left tokens.new) result }
     ensures short { OnOk result
         (length (symbols_left tokens.new) ≤ length (symbols_left tokens.old)) }
 {
@@ -166,11 +158,8 @@ fn read_postfixes(
 ) -> Result<Part, Halt>
     requires room { room ≤ MAX_DEPTH + 1 }
     requires low_base { base.height ≤ room }
-    ensures gives { (d : grammar.Derivation) (k : ℕ) → IsPart base d
-        → length (symbols_left tokens.old) ≤ k → MatchResult result
-        (λ part. IsGiven part (symbols_left tokens.new)
-        (postfixes k room d (symbols_left tokens.old)))
-        (λ e. Fails e (postfixes k room d (symbols_left tokens.old))) }
+    ensures gives { GivesPostfixed room base (symbols_left tokens.old) (symbols_left tokens.new)
+        result }
     ensures low { IfOk result (λ part. part.height ≤ room) }
     ensures short { OnOk result
         (length (symbols_left tokens.new) ≤ length (symbols_left tokens.old)) }
@@ -191,11 +180,8 @@ fn collect_postfixes(
 ) -> Result<Part, Halt>
     requires room { room ≤ MAX_DEPTH + 1 }
     requires low_base { base.height ≤ room }
-    ensures gives { (d : grammar.Derivation) (k : ℕ) → IsPart base d
-        → length (symbols_left tokens.old) ≤ k → MatchResult result
-        (λ part. IsGiven part (symbols_left tokens.new)
-        (postfixes k room d (symbols_left tokens.old)))
-        (λ e. Fails e (postfixes k room d (symbols_left tokens.old))) }
+    ensures gives { GivesPostfixed room base (symbols_left tokens.old) (symbols_left tokens.new)
+        result }
     ensures low { IfOk result (λ part. part.height ≤ room) }
     ensures short { OnOk result
         (length (symbols_left tokens.new) ≤ length (symbols_left tokens.old)) }
