@@ -3,9 +3,10 @@
 ghost use Rattle.std.specs.Prelude.{◌≡◌, ◌≢◌, ◌↔◌, ◌++◌, ◌∷◌, ◌&&◌, [], not, IfOk, IsTrue, map, string_bytes};
 ghost use Rattle.promql_token.specs.Classes.{is_label};
 ghost use Rattle.std.specs.List.{list_any};
-ghost use Rattle.promql_label.specs.Labels.{common, is_among, is_number_word, labels_of};
+ghost use Rattle.std.specs.Fmt.{WritesOnOk};
+ghost use Rattle.promql_label.specs.Labels.{common, is_among, is_number_word, label_text, labels_of};
 
-use promql_text::{Quoted, write_separator};
+use promql_text::{Quoted, write_joined_by};
 use promql_token::is_label;
 use std::alloc::{AllocError, Global};
 use std::convert::AsStr;
@@ -109,30 +110,19 @@ impl fmt::Display for Labels {
     ghost output = { λ x. Some (labels_text (labels_of x)) };
 
     fn fmt<W: fmt::Write>(&self, f: &mut fmt::Formatter<W>) -> fmt::Result {
-        for (i, label) in self.labels.iter().enumerate() {
-            write_separator(", ", i, f)?;
-            LabelText(label.as_str()).fmt(f)?;
-        }
-        Ok(())
+        write_joined_by(&self.labels, ", ", f, write_label::<W>)
     }
 }
 
-/// A label as it prints: docs/MATCHERS.md, "Printed labels".
-#[derive(Clone, Copy)]
-struct LabelText<'a>(&'a str);
-
-impl fmt::Display for LabelText<'_> {
-    ghost use Rattle.std.specs.Prelude.{Some};
-    ghost use Rattle.promql_label.specs.Labels.{label_text};
-
-    ghost output = { λ label. Some (label_text label.0.now) };
-
-    fn fmt<W: fmt::Write>(&self, f: &mut fmt::Formatter<W>) -> fmt::Result {
-        if is_bare(self.0) {
-            f.write_str(self.0)
-        } else {
-            Quoted(self.0).fmt(f)
-        }
+/// Writes a label: docs/MATCHERS.md, "Printed labels".
+fn write_label<W: fmt::Write>(label: &Label, f: &mut fmt::Formatter<W>) -> fmt::Result
+    ensures { WritesOnOk W.write_str_gives f.old result (label_text (string_bytes label.now)) f.new }
+{
+    let label = label.as_str();
+    if is_bare(label) {
+        f.write_str(label)
+    } else {
+        Quoted(label).fmt(f)
     }
 }
 

@@ -9,7 +9,7 @@ ghost use Rattle.promql_text.specs.Texts.{joined_text};
 
 use crate::matcher::Matcher;
 use crate::sorted::write_sorted;
-use promql_text::{write_joined, write_separator};
+use promql_text::{write_joined, write_joined_by};
 use std::alloc::{AllocError, Global};
 use std::{fmt, mem};
 
@@ -177,11 +177,11 @@ fn write_groups<W: fmt::Write>(groups: &[Vec<Matcher>], f: &mut fmt::Formatter<W
         (map (λ g. group_text (map plain_matcher_of g.items)) groups.now))
         f.new }
 {
-    for (i, group) in groups.iter().enumerate() {
-        write_separator(" or ", i, f)?;
-        write_joined(group, ", ", f)?;
-    }
-    Ok(())
+    let write = |group: &Vec<Matcher>, f: &mut fmt::Formatter<W>| -> fmt::Result
+        ensures { WritesOnOk W.write_str_gives f.old result
+            (group_text (map plain_matcher_of group.now.items)) f.new }
+    { write_joined(group, ", ", f) };
+    write_joined_by(groups, " or ", f, write)
 }
 
 /// Whether each matches the empty text.

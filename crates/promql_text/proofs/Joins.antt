@@ -1,7 +1,8 @@
 -- A list that is written item by item, with a separator before each but the first.
-use Rattle.std.proofs.Common.{◌≡◌, ℕ, zero, suc, ◌+◌, ◌<◌, ◌≤◌, List, [], ◌∷◌, ◌++◌, length, get_or, take, map, Option, Some, Ok, refl, sym, ap, subst, ◌∙◌, append_assoc, append-nil, arith}
+use Rattle.std.proofs.Common.{◌≡◌, ℕ, zero, suc, ◌+◌, ◌<◌, ◌≤◌, List, [], ◌∷◌, ◌++◌, length, get_or, take, map, Option, Some, Result, refl, sym, ap, subst, ◌∙◌, append_assoc, append-nil, arith}
 use Rattle.std.specs.Prelude.{◌==◌, if◌then◌else◌}
-use Rattle.std.specs.Fmt.{DisplaysOnOk, HasWritten, IsPlainFormatter, WritesOnOk}
+use Rattle.std.specs.Fmt.{DisplaysOnOk, WritesOnOk}
+use Rattle.std.specs.declared.fmt.Error.{Error}
 use Rattle.std.specs.declared.fmt.Formatter.{Formatter}
 use Rattle.std.specs.List.{flat_map, join_by}
 use Rattle.std.proofs.lemmas.Bool.{ne_eqb}
@@ -35,10 +36,10 @@ join_next f sep xs i y h e = ap (λ z. (join_by f sep (take i xs) ++ (if i == 0 
 pub join_end : {X : Type 0} (f : X → Text) (sep : Text) (xs : List X) (i : ℕ) → length xs ≤ i → join_by f sep (take i xs) ≡ joined_text sep (map f xs)
 join_end f sep xs i h = ap (join_by f sep) (take_all i xs h) ∙ join_by-joined f sep xs
 
--- what a value has displayed, where its output is known
-pub displayed : {W : Type 0} (took : W → Text → W → Type 0) (f : Formatter W) (x : Unit {0}) (o : Option Text) (text : Text) (g : Formatter W) → o ≡ Some text
-    → DisplaysOnOk took f (Ok x) o g → IsPlainFormatter f → HasWritten took f text g
-displayed took f x o text g is writes plain = let written : WritesOnOk took f (Ok x) text g = subst (λ p. DisplaysOnOk took f (Ok x) p g) is writes in written plain refl
+-- what a value displays is its text, where its output is known
+pub displayed : {W : Type 0} (took : W → Text → W → Type 0) (f : Formatter W) (r : Result (Unit {0}) Error) (o : Option Text) (text : Text) (g : Formatter W) → o ≡ Some text
+    → DisplaysOnOk took f r o g → WritesOnOk took f r text g
+displayed took f r o text g is writes = subst (λ p. DisplaysOnOk took f r p g) is writes
 
 -- all items, by what contracts see of them
 pub join_end_of : {X Y : Type 0} (f : Y → Text) (h : X → Y) (sep : Text) (xs : List X) (i : ℕ) → length xs ≤ i

@@ -3,15 +3,15 @@
 ghost use Rattle.std.specs.Prelude.{◌≡◌, ◌≢◌, ◌∷◌, ℕ, ◌+◌, ◌-◌, ◌*◌, ◌^◌, ◌%◌, ◌<◌, ◌≤◌, true, false, ◌==◌, Option, Some, None};
 ghost use Rattle.promql_text.specs.Numbers.{Exact, IsExact, digit_count, exact_zero, negated, placed, seconds_of, whole};
 
+use crate::halves::Halves;
 use std::marker::Model;
 
 /// A finite decimal number: at most 38 digits without zeros at either end, the first of them at a
 /// place from 10^-324 to 10^308. There is one zero.
 #[derive(Clone, Copy, Debug, PartialEq, Eq, Hash, Drop)]
 pub struct Decimal {
-    // The widest field comes first, so that the struct takes 32 bytes and not 48.
     /// The digits as a whole number.
-    pub(crate) digits: u128,
+    pub(crate) digits: Halves,
     /// How many zeros follow the digits before the point.
     pub(crate) zeros: u16,
     /// How many of the digits, and of the zeros before them, come after the point.
@@ -94,7 +94,7 @@ impl Decimal {
         }
         Some(Decimal {
             is_negative,
-            digits,
+            digits: Halves::new(digits),
             zeros: up.saturating_sub(down) as u16,
             places: down.saturating_sub(up) as u16,
         })
@@ -110,7 +110,7 @@ impl Decimal {
         let (digits, zeros) = without_zeros(u128::from(n));
         Decimal {
             is_negative,
-            digits,
+            digits: Halves::new(digits),
             zeros,
             places: 0,
         }
@@ -127,7 +127,7 @@ impl Decimal {
         let (digits, zeros) = without_zeros(nanos);
         Decimal {
             is_negative: false,
-            digits,
+            digits: Halves::new(digits),
             zeros: zeros.saturating_sub(9),
             places: 9u16.saturating_sub(zeros),
         }
@@ -139,7 +139,7 @@ impl Decimal {
     {
         Decimal {
             is_negative: false,
-            digits: 0,
+            digits: Halves::new(0),
             zeros: 0,
             places: 0,
         }
@@ -150,7 +150,7 @@ impl Decimal {
         ensures { result ≡ negated self }
     {
         Decimal {
-            is_negative: !self.is_negative && self.digits != 0,
+            is_negative: !self.is_negative && !self.is_zero(),
             ..self
         }
     }
@@ -165,6 +165,6 @@ impl Decimal {
     pub(crate) fn is_zero(&self) -> bool
         ensures { result ≡ (self.now.digits == 0) }
     {
-        self.digits == 0
+        self.digits.get() == 0
     }
 }

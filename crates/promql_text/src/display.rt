@@ -45,11 +45,11 @@ impl fmt::Display for Magnitude<'_> {
     fn fmt<W: fmt::Write>(&self, f: &mut fmt::Formatter<W>) -> fmt::Result {
         let number = self.0;
         if number.places == 0 {
-            let digits = number.digits;
+            let digits = number.digits.get();
             let zeros = Zeros(u128::from(number.zeros));
             return write!(f, "{digits}{zeros}");
         }
-        let (whole, part) = split_at_point(number.digits, number.places);
+        let (whole, part) = split_at_point(number.digits.get(), number.places);
         let zeros = Zeros(u128::from(number.places) - digit_count(part));
         write!(f, "{whole}.{zeros}{part}")
     }

@@ -1,8 +1,10 @@
 //! Lists that print with a separator between each two items (docs/TEXTS.md, "Lists"). Nothing is
 //! allocated.
 //!
-//! A printer of a type whose values hold no others of that type calls `write_joined`, and cites its
-//! clause with the text of an item: `c.write_joined.ensures text_of (λ item. refl)`.
+//! A printer calls `write_joined` where the items print as they are to, and cites its clause with
+//! the text of an item: `c.write_joined.ensures text_of (λ item. refl)`. Else it calls
+//! `write_joined_by` with a function or a closure whose clause says what it writes of an item, and
+//! cites that clause: `c.write_joined_by.ensures text_of (λ _ _ _ _ writes. writes)`.
 //!
 //! A recursive printer writes the loop itself, since a call through a type parameter has no proof
 //! in a cycle of calls:
@@ -19,8 +21,8 @@
 //! at the end.
 
 ghost use Rattle.std.specs.Prelude.{◌≡◌, ◌==◌, if◌then◌else◌, [], Some, map};
-ghost use Rattle.std.specs.Fmt.{WritesOnOk};
-ghost use Rattle.promql_text.specs.Texts.{Text, joined_text};
+ghost use Rattle.std.specs.Fmt.{DisplaysOnOk, WritesOnOk};
+ghost use Rattle.promql_text.specs.Texts.{Text, WritesTexts, joined_text};
 
 use std::fmt;
 use std::fmt::Display;
@@ -42,7 +44,7 @@ pub fn write_separator<W: fmt::Write>(
     }
 }
 
-/// Writes the items in order, with the separator between each two.
+/// Writes the items in order, as they print, with the separator between each two.
 pub fn write_joined<T: Display, W: fmt::Write>(
     items: &[T],
     separator: &str,
@@ -52,9 +54,27 @@ pub fn write_joined<T: Display, W: fmt::Write>(
         → WritesOnOk W.write_str_gives f.old result
         (joined_text separator.now (map text items.now)) f.new }
 {
+    let write = |item: &T, f: &mut fmt::Formatter<W>| -> fmt::Result
+        ensures { DisplaysOnOk W.write_str_gives f.old result (T.output item.now) f.new }
+    { item.fmt(f) };
+    write_joined_by(items, separator, f, write)
+}
+
+/// Writes the items in order, each as `write` does, with the separator between each two.
+pub fn write_joined_by<T, W: fmt::Write, F: Fn(&T, &mut fmt::Formatter<W>) -> fmt::Result>(
+    items: &[T],
+    separator: &str,
+    f: &mut fmt::Formatter<W>,
+    write: F,
+) -> fmt::Result
+    requires { F.IsAlwaysCallable write }
+    ensures { (text : T → Text) → WritesTexts W.write_str_gives (F.post write) text
+        → WritesOnOk W.write_str_gives f.old result
+        (joined_text separator.now (map text items.now)) f.new }
+{
     for (i, item) in items.iter().enumerate() {
         write_separator(separator, i, f)?;
-        item.fmt(f)?;
+        write(item, f)?;
     }
     Ok(())
 }

@@ -15,6 +15,7 @@ mod decimal_form;
 mod display;
 pub mod duration;
 pub mod duration_text;
+mod halves;
 pub mod joined;
 pub mod laws;
 mod millis;
@@ -32,7 +33,7 @@ pub use duration::{
     second_duration, week_duration, year_duration,
 };
 pub use duration_text::{DurationText, display_duration};
-pub use joined::{write_joined, write_separator};
+pub use joined::{write_joined, write_joined_by, write_separator};
 pub use number::{Number, NumberFault};
 pub use number_text::parse_str_radix;
 pub use quote::{QuoteError, escape_string, unquote_string};

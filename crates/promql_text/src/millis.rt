@@ -34,10 +34,10 @@ fn magnitude(seconds: &Decimal) -> Option<u128>
         (λ n. n ≡ spec.millis seconds.now) }
 {
     if seconds.places > 3 {
-        Some(rounded(seconds.digits, seconds.places - 3))
+        Some(rounded(seconds.digits.get(), seconds.places - 3))
     } else {
         shifted(
-            seconds.digits,
+            seconds.digits.get(),
             u128::from(seconds.zeros + 3 - seconds.places),
         )
     }

@@ -47,9 +47,9 @@ fn magnitude_width(decimal: &Decimal) -> usize
     ensures short { result < 2 ^ 20 }
 {
     if decimal.places == 0 {
-        return digit_count(decimal.digits) as usize + usize::from(decimal.zeros);
+        return digit_count(decimal.digits.get()) as usize + usize::from(decimal.zeros);
     }
-    let (whole, _) = split_at_point(decimal.digits, decimal.places);
+    let (whole, _) = split_at_point(decimal.digits.get(), decimal.places);
     digit_count(whole) as usize + 1 + usize::from(decimal.places)
 }
 

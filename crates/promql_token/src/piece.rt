@@ -69,43 +69,23 @@ fn single(depth: usize, b: u8) -> Piece
     }
 }
 
-#[tactic(auto, unfolding(crate::specs::Pieces::sign))]
-fn sign(depth: usize, z: &[u8]) -> Piece
-    requires { 0 < length z.now }
-    ensures { result ≡ spec.sign depth z.now }
-{
-    let next = byte(z, 1);
-    match byte(z, 0) {
-        b'.' if z.len() == 1 => Err((LexFaultKind::DotAtEnd, 0)),
-        b'.' => Err((LexFaultKind::AfterDot, 1)),
-        b'=' => equal(next),
-        b'<' => or_equal(next, T_LTE, T_LSS),
-        b'>' => or_equal(next, T_GTE, T_GTR),
-        b'!' => bang(z),
-        b => single(depth, b),
-    }
-}
-
-fn begins_numeral(z: &[u8]) -> bool
-    ensures { result ≡ spec.begins_numeral z.now }
-{
-    byte(z, 0).is_ascii_digit() || (byte(z, 0) == b'.' && byte(z, 1).is_ascii_digit())
-}
-
-#[tactic(auto, unfolding(crate::specs::Pieces::outside))]
+#[tactic(auto, unfolding(crate::specs::Pieces::outside, crate::specs::Pieces::sign))]
 fn outside(depth: usize, z: &[u8]) -> Piece
     requires { 0 < length z.now }
     ensures { result ≡ spec.outside depth z.now }
 {
-    let b = byte(z, 0);
-    if begins_numeral(z) {
-        numeral(z)
-    } else if is_letter(b) || b == b':' {
-        word(z)
-    } else if is_quote(b) {
-        string(z)
-    } else {
-        sign(depth, z)
+    match byte(z, 0) {
+        b'0'..=b'9' => numeral(z),
+        b'.' if byte(z, 1).is_ascii_digit() => numeral(z),
+        b'a'..=b'z' | b'A'..=b'Z' | b'_' | b':' => word(z),
+        b'"' | b'\'' | b'`' => string(z),
+        b'.' if z.len() == 1 => Err((LexFaultKind::DotAtEnd, 0)),
+        b'.' => Err((LexFaultKind::AfterDot, 1)),
+        b'=' => equal(byte(z, 1)),
+        b'<' => or_equal(byte(z, 1), T_LTE, T_LSS),
+        b'>' => or_equal(byte(z, 1), T_GTE, T_GTR),
+        b'!' => bang(z),
+        b => single(depth, b),
     }
 }
 

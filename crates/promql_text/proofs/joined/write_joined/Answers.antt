@@ -1,16 +1,6 @@
-use Rattle.std.proofs.Common.{refl}
-use Rattle.std.proofs.Output.{has_written_append, has_written_of_eq}
-use Rattle.promql_text.proofs.Joins.{displayed, join_next, join_end}
+use Rattle.promql_text.proofs.Joins.{displayed}
 use Rattle.promql_text.proofs.joined.write_joined.Goals as goal
 
-pub loop-i-preserved : goal.loop-i-preserved
-loop-i-preserved g c = λ text is plain.
-    let so_far = c.loop-i.invariant text is plain in
-    let between = c.in_ok-write_separator.ensures so_far.plain refl in
-    let item = displayed g.W.Write.write_str_gives c.write_separator.new.f c.in_ok-fmt.field-0 _ _ c.fmt.new.f (is c.index-items-i.result) c.in_ok-fmt.ensures.writes between.plain in
-    has_written_of_eq _ _ _ _ _ (join_next text c.args.separator.now c.args.items.now c.loop-i.i c.index-items-i.result c.loop-i-test.true c.index-items-i.is)
-    (has_written_append _ _ _ _ _ _ (has_written_append _ _ _ _ _ _ so_far between) item)
-
 pub returns : goal.returns
-returns g c = λ text is plain ok.
-    has_written_of_eq _ _ _ _ _ (join_end text c.args.separator.now c.args.items.now c.loop-i.i c.loop-i-test.false) (c.loop-i.invariant text is plain)
+returns g c = λ text is. c.write_joined_by.ensures text (λ item before r after writes.
+    displayed g.W.Write.write_str_gives before.now r _ (text item.now) after.now (is item.now) writes)

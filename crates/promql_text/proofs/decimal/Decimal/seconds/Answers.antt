@@ -7,7 +7,7 @@ invariant_of-result c =
     let made = c.without_zeros-digits in
     let ends = made.ensures.ends in
     let some : 0 < made.result.0 = omega (arith, ends) in
-    rw (c.saturating_sub.ensures, c.saturating_sub-2.ensures)
+    rw (c.new.ensures, c.saturating_sub.ensures, c.saturating_sub-2.ensures)
     (seconds_is made.result.0 made.result.1 c.args.nanos made.ensures.value some ends c.requires)
 
 pub returns : goal.returns
@@ -15,5 +15,5 @@ returns c =
     let made = c.without_zeros-digits in
     let ends = made.ensures.ends in
     let some : 0 < made.result.0 = omega (arith, ends) in
-    rw (c.saturating_sub.ensures, c.saturating_sub-2.ensures)
+    rw (c.new.ensures, c.saturating_sub.ensures, c.saturating_sub-2.ensures)
     (seconds_value made.result.0 made.result.1 c.args.nanos made.ensures.value some ends c.requires)

@@ -9,7 +9,7 @@ invariant_of-result c =
     let is : digits * 10 ^ zeros ≡ c.args.n = c.without_zeros-digits.ensures.value ∙ c.from.ensures in
     let ends = c.without_zeros-digits.ensures.ends in
     let some : 0 < digits = omega (arith, ends) in
-    whole_is c.args.is_negative digits zeros c.args.n is some ends c.ranges.n.fits
+    rw c.new.ensures (whole_is c.args.is_negative digits zeros c.args.n is some ends c.ranges.n.fits)
 
 pub returns : goal.returns
 returns c =
@@ -18,4 +18,4 @@ returns c =
     let is : digits * 10 ^ zeros ≡ c.args.n = c.without_zeros-digits.ensures.value ∙ c.from.ensures in
     let ends = c.without_zeros-digits.ensures.ends in
     let some : 0 < digits = omega (arith, ends) in
-    whole_value c.args.is_negative digits zeros c.args.n is some ends c.ranges.n.fits
+    rw c.new.ensures (whole_value c.args.is_negative digits zeros c.args.n is some ends c.ranges.n.fits)
