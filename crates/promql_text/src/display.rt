@@ -60,12 +60,10 @@ impl fmt::Display for Decimal {
     ghost output = { λ d. Some (exact_text d) };
 
     fn fmt<W: fmt::Write>(&self, f: &mut fmt::Formatter<W>) -> fmt::Result {
-        let magnitude = Magnitude(self);
         if self.is_negative {
-            write!(f, "-{magnitude}")
-        } else {
-            write!(f, "{magnitude}")
+            f.write_str("-")?;
         }
+        Magnitude(self).fmt(f)
     }
 }
 
@@ -75,10 +73,10 @@ impl fmt::Display for Number {
 
     fn fmt<W: fmt::Write>(&self, f: &mut fmt::Formatter<W>) -> fmt::Result {
         match self {
-            Number::Finite(decimal) => write!(f, "{decimal}"),
-            Number::Inf => write!(f, "Inf"),
-            Number::NegInf => write!(f, "-Inf"),
-            Number::NaN => write!(f, "NaN"),
+            Number::Finite(decimal) => decimal.fmt(f),
+            Number::Inf => f.write_str("Inf"),
+            Number::NegInf => f.write_str("-Inf"),
+            Number::NaN => f.write_str("NaN"),
         }
     }
 }

@@ -30,4 +30,4 @@ pub mod Told
 pub mod Boundaries
 pub mod SameTokens
 pub mod Keywords
-pub mod NameBytes
+pub mod WordRanks

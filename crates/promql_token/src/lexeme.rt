@@ -13,5 +13,6 @@ pub struct Lexeme {
     pub len: usize,
 }
 
-/// A token's id and length, or a fault and how far from the front it is.
+/// A token's id and length, or a fault and how far from the front it is. What reads one outside braces and brackets is
+/// inlined where it is called, so that it stays in registers.
 pub type Piece = Result<(TokenId, usize), (LexFaultKind, usize)>;

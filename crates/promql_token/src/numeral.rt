@@ -140,6 +140,7 @@ fn is_units(z: &[u8]) -> bool
 }
 
 /// The number or duration at the front.
+#[inline(always)]
 #[tactic(auto, unfolding(crate::specs::Pieces::numeral))]
 pub fn numeral(z: &[u8]) -> Piece
     ensures { result ≡ spec.numeral z.now }

@@ -45,30 +45,7 @@ fn bang(z: &[u8]) -> Piece
     }
 }
 
-// A sign of one byte, which `)` is only where a parenthesis is open.
-fn single(depth: usize, b: u8) -> Piece
-    ensures { result ≡ spec.single depth b }
-{
-    match b {
-        b'@' => Ok((T_AT, 1)),
-        b',' => Ok((T_COMMA, 1)),
-        b'*' => Ok((T_MUL, 1)),
-        b'/' => Ok((T_DIV, 1)),
-        b'%' => Ok((T_MOD, 1)),
-        b'+' => Ok((T_ADD, 1)),
-        b'-' => Ok((T_SUB, 1)),
-        b'^' => Ok((T_POW, 1)),
-        b'{' => Ok((T_LEFT_BRACE, 1)),
-        b'[' => Ok((T_LEFT_BRACKET, 1)),
-        b'(' => Ok((T_LEFT_PAREN, 1)),
-        b')' if depth == 0 => Err((LexFaultKind::RightParen, 0)),
-        b')' => Ok((T_RIGHT_PAREN, 1)),
-        b'}' => Err((LexFaultKind::RightBrace, 0)),
-        b']' => Err((LexFaultKind::RightBracket, 0)),
-        _ => Err((LexFaultKind::Character, 0)),
-    }
-}
-
+#[inline(always)]
 #[tactic(auto, unfolding(crate::specs::Pieces::outside, crate::specs::Pieces::sign))]
 fn outside(depth: usize, z: &[u8]) -> Piece
     requires { 0 < length z.now }
@@ -85,7 +62,22 @@ fn outside(depth: usize, z: &[u8]) -> Piece
         b'<' => or_equal(byte(z, 1), T_LTE, T_LSS),
         b'>' => or_equal(byte(z, 1), T_GTE, T_GTR),
         b'!' => bang(z),
-        b => single(depth, b),
+        b'(' => Ok((T_LEFT_PAREN, 1)),
+        b')' if depth == 0 => Err((LexFaultKind::RightParen, 0)),
+        b')' => Ok((T_RIGHT_PAREN, 1)),
+        b'{' => Ok((T_LEFT_BRACE, 1)),
+        b'}' => Err((LexFaultKind::RightBrace, 0)),
+        b'[' => Ok((T_LEFT_BRACKET, 1)),
+        b']' => Err((LexFaultKind::RightBracket, 0)),
+        b',' => Ok((T_COMMA, 1)),
+        b'+' => Ok((T_ADD, 1)),
+        b'-' => Ok((T_SUB, 1)),
+        b'*' => Ok((T_MUL, 1)),
+        b'/' => Ok((T_DIV, 1)),
+        b'%' => Ok((T_MOD, 1)),
+        b'^' => Ok((T_POW, 1)),
+        b'@' => Ok((T_AT, 1)),
+        _ => Err((LexFaultKind::Character, 0)),
     }
 }
 

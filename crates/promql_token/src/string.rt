@@ -29,6 +29,7 @@ fn is_escape(quote: u8, b: u8) -> bool
 }
 
 /// The string whose opening quote is the first byte.
+#[inline(always)]
 #[tactic(auto, unfolding(crate::specs::Pieces::string))]
 pub fn string(z: &[u8]) -> Piece
     requires { 0 < length z.now }

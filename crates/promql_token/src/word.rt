@@ -43,6 +43,7 @@ fn word_id(word: &[u8], rest: &[u8]) -> TokenId
 }
 
 /// The word at the front, outside braces.
+#[inline(always)]
 #[tactic(auto, unfolding(crate::specs::Pieces::word))]
 pub fn word(z: &[u8]) -> Piece
     ensures { result ≡ spec.word z.now }
