@@ -90,11 +90,36 @@ impl<'a> Cursor<'a> {
         ensures fault { OnErr result (self.new ≡ self.old) }
         ensures place { IfErr result (λ f. IsCharBoundary self.old.text.now f.1) }
     {
-        let item = token_at(self.text, self.at, self.state);
+        let depth = self.state.depth;
+        // Most tokens stand outside: where the mode is known, a step takes less.
+        match self.state.mode {
+            Mode::Outside => self.step(State {
+                depth,
+                mode: Mode::Outside,
+            }),
+            mode => self.step(State { depth, mode }),
+        }
+    }
+
+    /// The next token in the state that the cursor has, or the fault there, as `advance` has it.
+    #[inline(always)]
+    fn step(&mut self, state: State) -> Result<Lexeme, (LexFaultKind, usize)>
+        requires { state ≡ self.old.state }
+        ensures value { MatchResult result
+            (λ x. Ok x ≡ spec.first self.old.at
+            (spec.found self.old.state (drop self.old.at self.old.text.now)))
+            (λ f. Err (spec.fault_at self.old.text.now f.0 f.1) ≡ spec.first self.old.at
+            (spec.found self.old.state (drop self.old.at self.old.text.now))) }
+        ensures token { IfOk result (λ x. IsPast x self.old self.new) }
+        ensures stays { IfOk result (λ x. x.id ≡ T_EOF → self.new ≡ self.old) }
+        ensures fault { OnErr result (self.new ≡ self.old) }
+        ensures place { IfErr result (λ f. IsCharBoundary self.old.text.now f.1) }
+    {
+        let item = token_at(self.text, self.at, state);
         if let Ok(token) = item
             && token.id != T_EOF
         {
-            self.state = after(self.state, token.id);
+            self.state = after(state, token.id);
             self.at = token.start + token.len;
         }
         item

@@ -122,6 +122,7 @@ pub fn number_part(alloc: Global, text: &str) -> Result<Part, AllocError>
     }
 }
 
+#[inline(never)]
 pub fn duration_part(alloc: Global, text: &str) -> Result<Part, AllocError>
     ensures built { IfOk result (λ part. IsPart part (grammar.duration text.now)) }
     ensures low { IfOk result (λ part. part.height ≡ 1) }
@@ -135,6 +136,7 @@ pub fn duration_part(alloc: Global, text: &str) -> Result<Part, AllocError>
     }
 }
 
+#[inline(never)]
 pub fn string_part(alloc: Global, text: &str) -> Result<Part, AllocError>
     ensures built { IfOk result (λ part. IsPart part (grammar.string text.now)) }
     ensures low { IfOk result (λ part. part.height ≡ 1) }
