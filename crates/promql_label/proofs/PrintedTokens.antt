@@ -6,30 +6,30 @@ use Rattle.std.proofs.lemmas.List.{map-append}
 use Rattle.promql_text.specs.Quoting.{quoted_text}
 use Rattle.promql_text.specs.Texts.{Text, joined_text}
 use Rattle.promql_token.specs.Classes.{is_in, is_label}
-use Rattle.promql_token.specs.Lexing.{What, whats}
-use Rattle.promql_token.specs.Pieces as pieces
+use Rattle.promql_token.specs.Lexing.{PieceText, pieces}
+use Rattle.promql_token.specs.Pieces as scan
 use Rattle.promql_token.specs.Pieces.{after, in_braces}
 use Rattle.promql_token.specs.declared.class.Class.TheVariants as class
 use Rattle.promql_token.specs.declared.ids.TheConstants.{T_COMMA, T_EQL, T_EQL_REGEX, T_IDENTIFIER, T_LOR, T_NEQ, T_NEQ_REGEX, T_STRING}
 use Rattle.promql_token.proofs.Joins.{joins, joins_name}
 use Rattle.promql_token.proofs.PrintedValues.{joins_quoted}
-use Rattle.promql_token.proofs.Steps.{whats_run}
+use Rattle.promql_token.proofs.Steps.{pieces_run}
 use Rattle.promql_label.specs.PlainMatchers.{Operator, equal, not_equal, matches, matches_not, PlainMatcher, plain_matcher, PlainMatchers, plain_matchers, group_text, matcher_text, matchers_text, name_text, operator_text}
 use Rattle.promql_label.specs.SortedTexts.{insert_text, sorted_texts, text_order}
 use Rattle.promql_label.specs.ReadMatchers.{Token, inside, insert_matcher, sorted_matchers, name_token, sign_id, matcher_tokens, group_tokens, matchers_tokens}
 
-abbrev read : List Token → List What
+abbrev read : List Token → List PieceText
 read ts = map (λ t. Ok t) ts
 
 -- in braces, before any text, the text is read as the tokens
 abbrev Reads : ℕ → Text → List Token → Type 0
-Reads depth s ts = (r : Text) → whats (inside depth) (s ++ r) ≡ read ts ++ whats (inside depth) r
+Reads depth s ts = (r : Text) → pieces (inside depth) (s ++ r) ≡ read ts ++ pieces (inside depth) r
 
 append_reads : (depth : ℕ) (s z : Text) (ts us : List Token) → Reads depth s ts → Reads depth z us → Reads depth (s ++ z) (ts ++ us)
 append_reads depth s z ts us first second r =
-    ap (whats (inside depth)) (append_assoc s z r) ∙ first (z ++ r) ∙ ap (λ ws. read ts ++ ws) (second r)
-    ∙ sym (append_assoc {A = What} (read ts) (read us) (whats (inside depth) r))
-    ∙ ap (λ ws. ws ++ whats (inside depth) r) (sym (map-append {B = What} (λ t. Ok t) ts us))
+    ap (pieces (inside depth)) (append_assoc s z r) ∙ first (z ++ r) ∙ ap (λ ws. read ts ++ ws) (second r)
+    ∙ sym (append_assoc {A = PieceText} (read ts) (read us) (pieces (inside depth) r))
+    ∙ ap (λ ws. ws ++ pieces (inside depth) r) (sym (map-append {B = PieceText} (λ t. Ok t) ts us))
 
 -- what is joined is read piece by piece
 separated_reads : {X : Type 0} (depth : ℕ) (f : X → Text) (g : X → List Token) (s : Text) (t : Token) → Reads depth s (t ∷ []) → ((x : X) → Reads depth (f x) (g x)) → (xs : List X)
@@ -46,9 +46,9 @@ joined_reads depth f g s t between each (x ∷ xs) r =
     append_reads depth (f x) (flat_map (λ z. s ++ z) (map f xs)) (g x) (flat_map (λ y. t ∷ g y) xs) (each x) (separated_reads depth f g s t between each xs) r
 
 -- a name before a byte that is no space is no `or`
-bare_reads : (depth : ℕ) (w r : Text) → is_label w ≡ true → is_in class.Name (slice_index r 0) ≡ false → (slice_index r 0 == 32) ≡ false → whats (inside depth) (w ++ r) ≡ Ok (T_IDENTIFIER, w) ∷ whats (inside depth) r
+bare_reads : (depth : ℕ) (w r : Text) → is_label w ≡ true → is_in class.Name (slice_index r 0) ≡ false → (slice_index r 0 == 32) ≡ false → pieces (inside depth) (w ++ r) ≡ Ok (T_IDENTIFIER, w) ∷ pieces (inside depth) r
 bare_reads depth w r label stop apart =
-    joins_name depth w r label stop ∙ ap (λ id. Ok (id, w) ∷ whats (inside depth) r) (no_or (str_eq_ignore_ascii_case w (codes "or")) (slice_index r 0 == 32) apart)
+    joins_name depth w r label stop ∙ ap (λ id. Ok (id, w) ∷ pieces (inside depth) r) (no_or (str_eq_ignore_ascii_case w (codes "or")) (slice_index r 0 == 32) apart)
   where
     no_or : (a b : Bool) → b ≡ false → cond (a && b) T_LOR T_IDENTIFIER ≡ T_IDENTIFIER
     no_or true true e = cc
@@ -59,23 +59,23 @@ string_reads : (depth : ℕ) (s : Text) → Reads depth (quoted_text s) ((T_STRI
 unfolding after
 string_reads depth s r = joins_quoted (inside depth) s r refl
 
-name_reads : (depth : ℕ) (name r : Text) → is_in class.Name (slice_index r 0) ≡ false → (slice_index r 0 == 32) ≡ false → whats (inside depth) (name_text name ++ r) ≡ Ok (name_token name) ∷ whats (inside depth) r
+name_reads : (depth : ℕ) (name r : Text) → is_in class.Name (slice_index r 0) ≡ false → (slice_index r 0 == 32) ≡ false → pieces (inside depth) (name_text name ++ r) ≡ Ok (name_token name) ∷ pieces (inside depth) r
 name_reads depth name r stop apart = go (is_label name) refl
   where
-    go : (b : Bool) → is_label name ≡ b → whats (inside depth) (cond b name (quoted_text name) ++ r) ≡ Ok (cond b T_IDENTIFIER T_STRING, cond b name (quoted_text name)) ∷ whats (inside depth) r
+    go : (b : Bool) → is_label name ≡ b → pieces (inside depth) (cond b name (quoted_text name) ++ r) ≡ Ok (cond b T_IDENTIFIER T_STRING, cond b name (quoted_text name)) ∷ pieces (inside depth) r
     go true label = bare_reads depth name r label stop apart
     go false label = string_reads depth name r
 
 -- a sign ends the name before it
-name_before : (depth : ℕ) (name : Text) (op : Operator) (r : Text) → whats (inside depth) (name_text name ++ (operator_text op ++ r)) ≡ Ok (name_token name) ∷ whats (inside depth) (operator_text op ++ r)
+name_before : (depth : ℕ) (name : Text) (op : Operator) (r : Text) → pieces (inside depth) (name_text name ++ (operator_text op ++ r)) ≡ Ok (name_token name) ∷ pieces (inside depth) (operator_text op ++ r)
 name_before depth name equal r = name_reads depth name _ refl refl
 name_before depth name not_equal r = name_reads depth name _ refl refl
 name_before depth name (matches w) r = name_reads depth name _ refl refl
 name_before depth name (matches_not w) r = name_reads depth name _ refl refl
 
 -- a sign before a quote
-sign_reads : (depth : ℕ) (op : Operator) (r : Text) → whats (inside depth) (operator_text op ++ (34 ∷ r)) ≡ Ok (sign_id op, operator_text op) ∷ whats (inside depth) (34 ∷ r)
-unfolding pieces.piece in_braces after
+sign_reads : (depth : ℕ) (op : Operator) (r : Text) → pieces (inside depth) (operator_text op ++ (34 ∷ r)) ≡ Ok (sign_id op, operator_text op) ∷ pieces (inside depth) (34 ∷ r)
+unfolding scan.piece in_braces after
 sign_reads depth equal r = joins (inside depth) (codes "=") (34 ∷ r) T_EQL (omega arith) refl refl
 sign_reads depth not_equal r = joins (inside depth) (codes "!=") (34 ∷ r) T_NEQ (omega arith) refl refl
 sign_reads depth (matches w) r = joins (inside depth) (codes "=~") (34 ∷ r) T_EQL_REGEX (omega arith) refl refl
@@ -84,16 +84,16 @@ sign_reads depth (matches_not w) r = joins (inside depth) (codes "!~") (34 ∷ r
 matcher_reads : (depth : ℕ) (c : PlainMatcher) → Reads depth (matcher_text c) (matcher_tokens c)
 matcher_reads depth (plain_matcher op name value) r =
     let v = quoted_text value in
-    ap (whats (inside depth)) (append_assoc (name_text name) (operator_text op ++ v) r ∙ ap (λ z. name_text name ++ z) (append_assoc (operator_text op) v r))
+    ap (pieces (inside depth)) (append_assoc (name_text name) (operator_text op ++ v) r ∙ ap (λ z. name_text name ++ z) (append_assoc (operator_text op) v r))
     ∙ name_before depth name op (v ++ r)
     ∙ ap (λ ws. Ok (name_token name) ∷ ws) (sign_reads depth op _ ∙ ap (λ ws. Ok (sign_id op, operator_text op) ∷ ws) (string_reads depth value r))
 
 comma_reads : (depth : ℕ) → Reads depth (codes ",") ((T_COMMA, codes ",") ∷ [])
-unfolding pieces.piece in_braces after
+unfolding scan.piece in_braces after
 comma_reads depth r = joins (inside depth) (codes ",") r T_COMMA (omega arith) refl refl
 
 blank_reads : (depth : ℕ) → Reads depth (codes " ") []
-blank_reads depth r = whats_run (inside depth) (codes " ") r refl refl
+blank_reads depth r = pieces_run (inside depth) (codes " ") r refl refl
 
 spaced_comma_reads : (depth : ℕ) → Reads depth (codes ", ") ((T_COMMA, codes ",") ∷ [])
 spaced_comma_reads depth = append_reads depth (codes ",") (codes " ") ((T_COMMA, codes ",") ∷ []) [] (comma_reads depth) (blank_reads depth)
@@ -121,8 +121,8 @@ texts_sorted (c ∷ cs) = inserted_texts c (sorted_matchers cs) ∙ ap (insert_t
 pub matchers_read : (depth : ℕ) (cs : PlainMatchers) → Reads depth (matchers_text cs) (matchers_tokens cs)
 matchers_read depth (plain_matchers plain []) r =
     let cs = sorted_matchers plain in
-    ap (λ ts. whats (inside depth) (joined_text (codes ",") ts ++ r)) (sym (texts_sorted plain))
+    ap (λ ts. pieces (inside depth) (joined_text (codes ",") ts ++ r)) (sym (texts_sorted plain))
     ∙ joined_reads depth matcher_text matcher_tokens (codes ",") (T_COMMA, codes ",") (comma_reads depth) (matcher_reads depth) cs r
-    ∙ ap (λ ts. read ts ++ whats (inside depth) r) (sym (append-nil (group_tokens cs)))
+    ∙ ap (λ ts. read ts ++ pieces (inside depth) r) (sym (append-nil (group_tokens cs)))
 matchers_read depth (plain_matchers plain (g ∷ groups)) r =
     joined_reads depth group_text group_tokens (codes " or ") (T_LOR, codes "or") (or_reads depth) (group_reads depth) (g ∷ groups) r

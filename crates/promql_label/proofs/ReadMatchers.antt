@@ -8,7 +8,7 @@ use Rattle.promql_text.specs.Quoting.{quoted_text}
 use Rattle.promql_text.specs.Texts.{Text}
 use Rattle.promql_text.proofs.Quotes.{unquoted_text-quoted}
 use Rattle.promql_token.specs.Classes.{is_label}
-use Rattle.promql_token.specs.Lexing.{What, whats}
+use Rattle.promql_token.specs.Lexing.{PieceText, pieces}
 use Rattle.promql_token.specs.declared.ids.TheConstants.{T_COMMA, T_IDENTIFIER, T_LOR, T_STRING}
 use Rattle.promql_label.specs.Operators.{IsMatcherOf}
 use Rattle.promql_label.specs.PlainMatchers.{Operator, equal, not_equal, matches, matches_not, PlainMatcher, plain_matcher, PlainMatchers, plain_matchers, matchers_text, operator_text}
@@ -113,7 +113,7 @@ parts_built id name value (plain_matcher not_equal n v) h = λ i. record { sign 
 parts_built id name value (plain_matcher (matches w) n v) h = λ i. record { sign = sym h.0.0 i; name = h.1 i; value = h.2 i }
 parts_built id name value (plain_matcher (matches_not w) n v) h = λ i. record { sign = sym h.0.0 i; name = h.1 i; value = h.2 i }
 
-abbrev tokens_of : List What → List Token
+abbrev tokens_of : List PieceText → List Token
 tokens_of [] = []
 tokens_of (Ok t ∷ ws) = t ∷ tokens_of ws
 tokens_of (Err e ∷ ws) = tokens_of ws
@@ -124,8 +124,8 @@ tokens_again (t ∷ ts) = ap (λ us. t ∷ us) (tokens_again ts)
 
 pub alike : (cs ds : PlainMatchers) → matchers_text cs ≡ matchers_text ds → map (map parts_of) (printed_groups cs) ≡ map (map parts_of) (printed_groups ds)
 alike cs ds same =
-    let end = whats (inside 0) [] in
-    let read = append_cancel_right _ _ end (sym (matchers_read 0 cs []) ∙ ap (λ s. whats (inside 0) (s ++ [])) same ∙ matchers_read 0 ds []) in
+    let end = pieces (inside 0) [] in
+    let read = append_cancel_right _ _ end (sym (matchers_read 0 cs []) ∙ ap (λ s. pieces (inside 0) (s ++ [])) same ∙ matchers_read 0 ds []) in
     let tokens : matchers_tokens cs ≡ matchers_tokens ds = sym (tokens_again (matchers_tokens cs)) ∙ ap tokens_of read ∙ tokens_again (matchers_tokens ds) in
     let again = sym (matchers_again cs) ∙ ap read_groups tokens ∙ matchers_again ds in
     cc

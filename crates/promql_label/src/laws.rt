@@ -12,7 +12,7 @@ ghost use Rattle.promql_label.specs.ReadMatchers.{Parts, Token, inside, matchers
 ghost use Rattle.promql_label.specs.Repeats.{escaped_repeats, opens_count, OpensCount};
 ghost use Rattle.promql_label.specs.RepeatPlaces.{bytes_from};
 ghost use Rattle.promql_label.specs.SortedTexts.{sorted_texts};
-ghost use Rattle.promql_token.specs.Lexing.{whats};
+ghost use Rattle.promql_token.specs.Lexing.{pieces};
 ghost use Rattle.promql_text.specs.Equalities.{HashesAlike, IsSameBy};
 ghost use Rattle.promql_label.specs.MatcherErrors.{plain_error_of};
 ghost use Rattle.promql_label.specs.Refusals.{refused_value};
@@ -70,8 +70,8 @@ pub fn printed_labels_read_back()
 /// list prints.
 pub fn printed_matchers_read_back()
     ensures tokens { (depth : ℕ) (cs : PlainMatchers) (r : Text)
-        → whats (inside depth) (matchers_text cs ++ r)
-        ≡ map (λ t. Ok t) (matchers_tokens cs) ++ whats (inside depth) r }
+        → pieces (inside depth) (matchers_text cs ++ r)
+        ≡ map (λ t. Ok t) (matchers_tokens cs) ++ pieces (inside depth) r }
     ensures meaning { (cs : PlainMatchers)
         → read_groups (matchers_tokens cs) ≡ Some (map (map parts_of) (printed_groups cs)) }
     ensures nothing_else { (ts : List Token) (ps : List (List Parts)) → read_groups ts ≡ Some ps

@@ -5,8 +5,8 @@ use Rattle.std.specs.Str.{str_eq_ignore_ascii_case}
 use Rattle.promql_text.specs.Quoting.{quoted_text}
 use Rattle.promql_text.specs.Texts.{Text}
 use Rattle.promql_token.specs.Classes.{is_in, is_label}
-use Rattle.promql_token.specs.Lexing.{whats}
-use Rattle.promql_token.specs.Pieces as pieces
+use Rattle.promql_token.specs.Lexing.{pieces}
+use Rattle.promql_token.specs.Pieces as scan
 use Rattle.promql_token.specs.Pieces.{after, braces_id, in_braces, outside}
 use Rattle.promql_token.specs.declared.class.Class.TheVariants as class
 use Rattle.promql_token.specs.declared.ids.TheConstants.{T_IDENTIFIER, T_LOR, T_STRING}
@@ -14,7 +14,7 @@ use Rattle.promql_token.specs.declared.state.Mode.TheVariants as mode
 use Rattle.promql_token.specs.declared.state.State.{State}
 use Rattle.promql_token.proofs.Joins.{joins, joins_name}
 use Rattle.promql_token.proofs.PrintedValues.{joins_quoted}
-use Rattle.promql_token.proofs.Steps.{whats_run}
+use Rattle.promql_token.proofs.Steps.{pieces_run}
 use Rattle.promql_grammar.specs.declared.kind.Kind.TheVariants as kind
 use Rattle.promql_grammar.specs.Pieces as piece
 use Rattle.promql_grammar.specs.Symbols.{sign, word}
@@ -30,25 +30,25 @@ abbrev inside : ℕ → State
 inside depth = record { depth = depth; mode = mode.Braces }
 
 blank_inside : (depth : ℕ) (c : State) (is : List Item) → Lexes (inside depth) c is → Lexes (inside depth) c (blank ∷ is)
-blank_inside depth c is more r = let m = more r in (m.0, m.1, whats_run (inside depth) (32 ∷ []) (render is ++ r) refl refl ∙ m.2)
+blank_inside depth c is more r = let m = more r in (m.0, m.1, pieces_run (inside depth) (32 ∷ []) (render is ++ r) refl refl ∙ m.2)
 
 -- ---- signs
 
 brace_reads : (depth : ℕ) (r : Text) → Reads (at_depth depth) (inside depth) (sign kind.LeftBrace) r
-unfolding pieces.piece outside pieces.sign after
+unfolding scan.piece outside scan.sign after
 brace_reads depth r = record { id = 9; is = refl; reads = joins (at_depth depth) (123 ∷ []) r 9 (omega arith) refl refl }
 
 unbrace_reads : (depth : ℕ) (r : Text) → Reads (inside depth) (at_depth depth) (sign kind.RightBrace) r
-unfolding pieces.piece in_braces after
+unfolding scan.piece in_braces after
 unbrace_reads depth r = record { id = 16; is = refl; reads = joins (inside depth) (125 ∷ []) r 16 (omega arith) refl refl }
 
 comma_inside : (depth : ℕ) (r : Text) → Reads (inside depth) (inside depth) (sign kind.Comma) r
-unfolding pieces.piece in_braces after
+unfolding scan.piece in_braces after
 comma_inside depth r = record { id = 3; is = refl; reads = joins (inside depth) (44 ∷ []) r 3 (omega arith) refl refl }
 
 -- the sign of a matcher, in front of a quote
 match_sign_reads : (depth : ℕ) (op : Operator) (r : Text) → Reads (inside depth) (inside depth) (piece.yield_match_sign (match_sign op)) (34 ∷ r)
-unfolding pieces.piece in_braces after
+unfolding scan.piece in_braces after
 match_sign_reads depth equal r = record { id = 0; is = refl; reads = joins (inside depth) (61 ∷ []) (34 ∷ r) 0 (omega arith) refl refl }
 match_sign_reads depth not_equal r = record { id = 37; is = refl; reads = joins (inside depth) (33 ∷ 61 ∷ []) (34 ∷ r) 37 (omega arith) refl refl }
 match_sign_reads depth (matches w) r = record { id = 27; is = refl; reads = joins (inside depth) (61 ∷ 126 ∷ []) (34 ∷ r) 27 (omega arith) refl refl }
@@ -65,7 +65,7 @@ name_inside : (depth : ℕ) (w r : Text) → is_label w ≡ true → is_in class
 name_inside depth w r label stop apart = record {
   id = T_IDENTIFIER;
   is = refl;
-  reads = joins_name depth w r label stop ∙ ap (λ id. Ok (id, w) ∷ whats (inside depth) r) (named (str_eq_ignore_ascii_case w (codes "or")) (slice_index r 0 == 32) apart);
+  reads = joins_name depth w r label stop ∙ ap (λ id. Ok (id, w) ∷ pieces (inside depth) r) (named (str_eq_ignore_ascii_case w (codes "or")) (slice_index r 0 == 32) apart);
 }
   where
     named : (a b : Bool) → b ≡ false → cond (a && b) T_LOR T_IDENTIFIER ≡ T_IDENTIFIER

@@ -5,12 +5,12 @@ use Rattle.std.proofs.lemmas.List.{map-append}
 use Rattle.promql_text.specs.Texts.{Text}
 use Rattle.promql_token.specs.Classes.{is_in}
 use Rattle.promql_token.specs.Laws.{is_word}
-use Rattle.promql_token.specs.Lexing.{What, whats}
+use Rattle.promql_token.specs.Lexing.{PieceText, pieces}
 use Rattle.promql_token.specs.Pieces.{word_id}
 use Rattle.promql_token.specs.declared.class.Class.TheVariants as class
 use Rattle.promql_token.specs.declared.state.State.{State}
 use Rattle.promql_token.proofs.Joins.{joins_word}
-use Rattle.promql_token.proofs.Steps.{whats_run}
+use Rattle.promql_token.proofs.Steps.{pieces_run}
 use Rattle.promql_grammar.specs.declared.kind.Kind.{Kind}
 use Rattle.promql_grammar.specs.declared.kind.Kind.TheVariants as kind
 use Rattle.promql_grammar.specs.Symbols.{Symbol, sign, symbol, symbol_of, word}
@@ -26,7 +26,7 @@ use Rattle.promql_parser.proofs.PrintedTokens.{strip_append}
 pub record Reads (before after : State) (s : Symbol) (r : Text) : Type 0 where
   pub id : ℕ
   pub is : symbol_of (id, spell s) ≡ s
-  pub reads : whats before (spell s ++ r) ≡ Ok (id, spell s) ∷ whats after r
+  pub reads : pieces before (spell s ++ r) ≡ Ok (id, spell s) ∷ pieces after r
 
 pub nothing : (a : State) → Lexes a a []
 nothing a r = ([], refl, refl)
@@ -46,7 +46,7 @@ token_before test a b c s is front more r passes =
     let m = more r passes in (
       (f.id, spell s) ∷ m.0,
       λ i. f.is i ∷ m.1 i,
-      ap (whats a) (append_assoc (spell s) (render is) r) ∙ f.reads ∙ ap (λ ws. Ok (f.id, spell s) ∷ ws) m.2,
+      ap (pieces a) (append_assoc (spell s) (render is) r) ∙ f.reads ∙ ap (λ ws. Ok (f.id, spell s) ∷ ws) m.2,
     )
 
 -- a token that ends the items
@@ -54,10 +54,10 @@ pub last_before : (test : Text → Bool) (a b : State) (s : Symbol) → ((r : Te
 last_before test a b s front = token_before test a b b s [] front (before_any test b b [] (nothing b))
 
 pub blank_before : (test : Text → Bool) (depth : ℕ) (c : State) (is : List Item) → LexesBefore test (at_depth depth) c is → LexesBefore test (at_depth depth) c (blank ∷ is)
-blank_before test depth c is more r passes = let m = more r passes in (m.0, m.1, whats_run (at_depth depth) (32 ∷ []) (render is ++ r) refl refl ∙ m.2)
+blank_before test depth c is more r passes = let m = more r passes in (m.0, m.1, pieces_run (at_depth depth) (32 ∷ []) (render is ++ r) refl refl ∙ m.2)
 
 pub newline_before : (test : Text → Bool) (depth : ℕ) (c : State) (is : List Item) → LexesBefore test (at_depth depth) c is → LexesBefore test (at_depth depth) c (newline ∷ is)
-newline_before test depth c is more r passes = let m = more r passes in (m.0, m.1, whats_run (at_depth depth) (10 ∷ []) (render is ++ r) refl refl ∙ m.2)
+newline_before test depth c is more r passes = let m = more r passes in (m.0, m.1, pieces_run (at_depth depth) (10 ∷ []) (render is ++ r) refl refl ∙ m.2)
 
 pub append_before : (early late : Text → Bool) (a b c : State) (is js : List Item) → ((r : Text) → late r ≡ true → early (render js ++ r) ≡ true) → LexesBefore early a b is → LexesBefore late b c js
     → LexesBefore late a c (is ++ js)
@@ -66,9 +66,9 @@ append_before early late a b c is js meets first second r passes =
     let s = second r passes in (
       f.0 ++ s.0,
       map-append symbol_of f.0 s.0 ∙ (λ i. f.1 i ++ s.1 i) ∙ sym (strip_append is js),
-      ap (λ z. whats a (z ++ r)) (render_append is js) ∙ ap (whats a) (append_assoc (render is) (render js) r) ∙ f.2
-          ∙ ap (λ ws. map (λ t. Ok t) f.0 ++ ws) s.2 ∙ sym (append_assoc {A = What} (map (λ t. Ok t) f.0) (map (λ t. Ok t) s.0) (whats c r))
-          ∙ ap (λ ws. ws ++ whats c r) (sym (map-append {B = What} (λ t. Ok t) f.0 s.0)),
+      ap (λ z. pieces a (z ++ r)) (render_append is js) ∙ ap (pieces a) (append_assoc (render is) (render js) r) ∙ f.2
+          ∙ ap (λ ws. map (λ t. Ok t) f.0 ++ ws) s.2 ∙ sym (append_assoc {A = PieceText} (map (λ t. Ok t) f.0) (map (λ t. Ok t) s.0) (pieces c r))
+          ∙ ap (λ ws. ws ++ pieces c r) (sym (map-append {B = PieceText} (λ t. Ok t) f.0 s.0)),
     )
 
 -- ---- in front of any text
@@ -104,4 +104,4 @@ close_reads depth r = record { id = 18; is = refl; reads = close_lex depth r }
 
 pub known_reads : (depth : ℕ) (w r : Text) (id : ℕ) (k : Kind) → is_word w ≡ true → word_id w r ≡ id → symbol_of (id, w) ≡ word k w → is_in class.Word (slice_index r 0) ≡ false
     → Reads (at_depth depth) (at_depth depth) (word k w) r
-known_reads depth w r id k is known symbol stop = record { id = id; is = symbol; reads = joins_word depth w r is stop ∙ ap (λ n. Ok (n, w) ∷ whats (at_depth depth) r) known }
+known_reads depth w r id k is known symbol stop = record { id = id; is = symbol; reads = joins_word depth w r is stop ∙ ap (λ n. Ok (n, w) ∷ pieces (at_depth depth) r) known }

@@ -5,7 +5,7 @@ use Rattle.std.specs.List.{prefix_len}
 use Rattle.std.proofs.lemmas.Bool.{eq-eqb}
 use Rattle.promql_text.specs.Quoting.{quoted_text}
 use Rattle.promql_text.specs.Texts.{Text}
-use Rattle.promql_token.specs.Classes.{is_in, is_label, is_letter, is_name_byte, past}
+use Rattle.promql_token.specs.Classes.{is_in, is_label, is_letter, is_name_byte, end_of_run}
 use Rattle.promql_token.specs.Ids.{keyword_in_any_case}
 use Rattle.promql_token.specs.Laws.{is_word}
 use Rattle.promql_token.specs.Pieces.{after, opens, word_id}
@@ -42,11 +42,11 @@ all_word (b ∷ z) e =
 
 label_is_word : (l : Text) → is_label l ≡ true → is_word l ≡ true
 label_is_word l is =
-    let h = and_cases (is_letter (slice_index l 0)) (past class.Name l 0 == length l) is in
+    let h = and_cases (is_letter (slice_index l 0)) (end_of_run class.Name l 0 == length l) is in
     let all = eqb-true _ _ h.1 in
     let names : prefix_len (is_in class.Name) l ≡ length l = omega (arith, all) in
     let word = all_word l names in
-    let whole : past class.Word l 0 ≡ length l = omega (arith, word) in
+    let whole : end_of_run class.Word l 0 ≡ length l = omega (arith, word) in
     and_both _ _ (ap (λ b. b || (slice_index l 0 == 58)) h.0) (eq-eqb _ _ whole)
 
 pub string_reads : (depth : ℕ) (s r : Text) → Reads (at_depth depth) (at_depth depth) (word kind.Str (quoted_text s)) r

@@ -15,8 +15,8 @@ use Rattle.promql_text.specs.declared.number.Number.{Number}
 use Rattle.promql_text.specs.declared.number.Number.TheVariants.{Finite, Inf, NegInf, NaN}
 use Rattle.promql_token.specs.Ids.{keyword_in_any_case}
 use Rattle.promql_token.specs.Laws.{is_word, stops_numeral}
-use Rattle.promql_token.specs.Lexing.{whats}
-use Rattle.promql_token.specs.Pieces as pieces
+use Rattle.promql_token.specs.Lexing.{pieces}
+use Rattle.promql_token.specs.Pieces as scan
 use Rattle.promql_token.specs.Pieces.{after, outside, word_id}
 use Rattle.promql_token.specs.Printed.{are_digits}
 use Rattle.promql_token.specs.declared.ids.TheConstants.{T_NUMBER}
@@ -51,7 +51,7 @@ unfolding keyword_in_any_case
 end_id r = refl
 
 at_reads : (depth : ℕ) (r : Text) → Reads (at_depth depth) (at_depth depth) (sign kind.At) r
-unfolding pieces.piece outside pieces.sign after
+unfolding scan.piece outside scan.sign after
 at_reads depth r = record { id = 41; is = refl; reads = joins (at_depth depth) (64 ∷ []) r 41 (omega arith) refl refl }
 
 at_then : (test : Text → Bool) (depth : ℕ) (is : List Item) → LexesBefore test (at_depth depth) (at_depth depth) is → LexesBefore test (at_depth depth) (at_depth depth) (blank ∷ token (sign kind.At) ∷ blank ∷ is)
@@ -95,14 +95,14 @@ digits_then xs ys a b = record {
 }
 
 point_joins : (depth : ℕ) (whole fraction r : Text) → IsDigits whole → IsDigits fraction → stops_numeral (whole ++ (46 ∷ fraction)) r ≡ true
-    → whats (at_depth depth) ((whole ++ (46 ∷ fraction)) ++ r) ≡ Ok (T_NUMBER, whole ++ (46 ∷ fraction)) ∷ whats (at_depth depth) r
+    → pieces (at_depth depth) ((whole ++ (46 ∷ fraction)) ++ r) ≡ Ok (T_NUMBER, whole ++ (46 ∷ fraction)) ∷ pieces (at_depth depth) r
 unfolding after
 point_joins depth whole [] r w f stop = let none = f.some in absurd (omega arith)
 point_joins depth whole (b ∷ fraction) r w f stop = joins_number (at_depth depth) whole (b ∷ fraction) r refl w.some w.digits f.digits stop
 
 seconds_joins : (depth size : ℕ) (r : Text) → size < 2 ^ 64
     → let text = decimal (size / 1000) ++ (46 ∷ (decimal (size / 100 % 10) ++ (decimal (size / 10 % 10) ++ decimal (size % 10)))) in stops_numeral text r ≡ true
-    → whats (at_depth depth) (text ++ r) ≡ Ok (T_NUMBER, text) ∷ whats (at_depth depth) r
+    → pieces (at_depth depth) (text ++ r) ≡ Ok (T_NUMBER, text) ∷ pieces (at_depth depth) r
 seconds_joins depth size r low =
     point_joins depth (decimal (size / 1000)) (decimal (size / 100 % 10) ++ (decimal (size / 10 % 10) ++ decimal (size % 10))) r (decimal_is (size / 1000) (omega arith))
     (digits_then (decimal (size / 100 % 10)) (decimal (size / 10 % 10) ++ decimal (size % 10)) (decimal_is (size / 100 % 10) (omega arith))

@@ -11,8 +11,8 @@ use Rattle.promql_text.specs.declared.duration.Unit.TheVariants.{Milli}
 use Rattle.promql_text.specs.declared.number.Number.{Number}
 use Rattle.promql_token.specs.Ids.{keyword_in_any_case}
 use Rattle.promql_token.specs.Laws.{is_word, stops_numeral}
-use Rattle.promql_token.specs.Lexing.{whats}
-use Rattle.promql_token.specs.Pieces as pieces
+use Rattle.promql_token.specs.Lexing.{pieces}
+use Rattle.promql_token.specs.Pieces as scan
 use Rattle.promql_token.specs.Pieces.{after, in_brackets, mode_after_something, outside, word_id}
 use Rattle.promql_token.specs.Printed.{holds_numerals}
 use Rattle.promql_token.specs.PrintedValues.{time_id}
@@ -62,11 +62,11 @@ time_lex m depth n holds is =
     let a : State = record { depth = depth; mode = m } in
     let b : State = record { depth = depth; mode = mode_after_something m } in
     let test = stops_numeral (duration_text n) in
-    let reads : (r : Text) → test r ≡ true → whats a (duration_text n ++ r) ≡ Ok (time_id n, duration_text n) ∷ whats b r =
-    (λ r stop. joins_time a n r holds is.some is.less stop ∙ ap (λ s. Ok (time_id n, duration_text n) ∷ whats s r) (after_time m depth n)) in
+    let reads : (r : Text) → test r ≡ true → pieces a (duration_text n ++ r) ≡ Ok (time_id n, duration_text n) ∷ pieces b r =
+    (λ r stop. joins_time a n r holds is.some is.less stop ∙ ap (λ s. Ok (time_id n, duration_text n) ∷ pieces s r) (after_time m depth n)) in
     go a b test (n % nanos_of Milli == 0) reads
   where
-    go : (a b : State) (test : Text → Bool) (x : Bool) → ((r : Text) → test r ≡ true → whats a (duration_text n ++ r) ≡ Ok (cond x T_DURATION T_NUMBER, duration_text n) ∷ whats b r)
+    go : (a b : State) (test : Text → Bool) (x : Bool) → ((r : Text) → test r ≡ true → pieces a (duration_text n ++ r) ≡ Ok (cond x T_DURATION T_NUMBER, duration_text n) ∷ pieces b r)
         → LexesBefore test a b (time_line (cond x (piece.duration (duration_text n)) (piece.seconds (duration_text n))))
     go a b test true reads = last_before test a b (word kind.Duration (duration_text n)) (λ r stop. record { id = T_DURATION; is = refl; reads = reads r stop })
     go a b test false reads = last_before test a b (word kind.Number (duration_text n)) (λ r stop. record { id = T_NUMBER; is = refl; reads = reads r stop })
@@ -74,15 +74,15 @@ time_lex m depth n holds is =
 -- ---- ranges and subqueries
 
 bracket_reads : (depth : ℕ) (r : Text) → Reads (at_depth depth) (in_bracket depth bracket.Nothing) (sign kind.LeftBracket) r
-unfolding pieces.piece outside pieces.sign after
+unfolding scan.piece outside scan.sign after
 bracket_reads depth r = record { id = 10; is = refl; reads = joins (at_depth depth) (91 ∷ []) r 10 (omega arith) refl refl }
 
 unbracket_reads : (depth : ℕ) (inside : Bracket) (r : Text) → Reads (in_bracket depth inside) (at_depth depth) (sign kind.RightBracket) r
-unfolding pieces.piece in_brackets after
+unfolding scan.piece in_brackets after
 unbracket_reads depth inside r = record { id = 17; is = refl; reads = joins (in_bracket depth inside) (93 ∷ []) r 17 (omega arith) refl refl }
 
 colon_reads : (depth : ℕ) (r : Text) → Reads (in_bracket depth bracket.Something) (in_bracket depth bracket.Colon) (sign kind.Colon) r
-unfolding pieces.piece in_brackets after
+unfolding scan.piece in_brackets after
 colon_reads depth r = record { id = 2; is = refl; reads = joins (in_bracket depth bracket.Something) (58 ∷ []) r 2 (omega arith) refl refl }
 
 abbrev any : Text → Bool

@@ -10,7 +10,7 @@ use Rattle.promql_text.proofs.OneForm.{negated_in_form}
 use Rattle.promql_token.specs.Ids.{is_aggregator, text_of}
 use Rattle.promql_token.specs.declared.ids.TheConstants.{T_SUB}
 use Rattle.promql_token.specs.declared.state.State.{State}
-use Rattle.promql_token.proofs.Steps.{whats_run}
+use Rattle.promql_token.proofs.Steps.{pieces_run}
 use Rattle.promql_grammar.specs.declared.kind.Kind.{Kind}
 use Rattle.promql_grammar.specs.declared.kind.Kind.TheVariants as kind
 use Rattle.promql_grammar.specs.Grammar as grammar
@@ -86,7 +86,7 @@ indented_then depth zero c is more = more
 indented_then depth (suc level) c is more = blank_then depth c (blank ∷ indented level is) (blank_then depth c (indented level is) (indented_then depth level c is more))
 
 without_blank : (depth : ℕ) (c : State) (is : List Item) → LexesBefore is_clear (at_depth depth) c (blank ∷ is) → LexesBefore is_clear (at_depth depth) c is
-without_blank depth c is more r passes = let m = more r passes in (m.0, m.1, sym (whats_run (at_depth depth) (32 ∷ []) (render is ++ r) refl refl) ∙ m.2)
+without_blank depth c is more r passes = let m = more r passes in (m.0, m.1, sym (pieces_run (at_depth depth) (32 ∷ []) (render is ++ r) refl refl) ∙ m.2)
 
 trimmed_before : (depth : ℕ) (c : State) (is : List Item) → LexesBefore is_clear (at_depth depth) c is → LexesBefore is_clear (at_depth depth) c (trimmed is)
 trimmed_before depth c [] more = more

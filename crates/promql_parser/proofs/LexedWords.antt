@@ -8,9 +8,9 @@ use Rattle.std.proofs.lemmas.Bool.Decides.{nat_tests}
 use Rattle.promql_text.specs.Texts.{Text}
 use Rattle.promql_token.specs.Ids.{count_up, is_aggregator, keyword_in_any_case, keywords, lookup, same_word, text_of}
 use Rattle.promql_token.specs.Laws.{is_word, parts}
-use Rattle.promql_token.specs.Lexing.{whats}
+use Rattle.promql_token.specs.Lexing.{pieces}
 use Rattle.promql_token.specs.Pieces.{Piece, after, is_fill, name_id, opens, outside, piece, word_id}
-use Rattle.promql_token.specs.Pieces as pieces
+use Rattle.promql_token.specs.Pieces as scan
 use Rattle.promql_token.specs.declared.ids.Case.TheVariants as case
 use Rattle.promql_token.specs.declared.state.Mode.TheVariants as mode
 use Rattle.promql_token.specs.declared.ids.TheConstants.{T_IDENTIFIER, T_METRIC_IDENTIFIER}
@@ -73,11 +73,11 @@ piece_is id len (Ok t) e = let both = and_cases (t.0 == id) (t.1 == len) e in (�
 piece_is id len (Err f) e = cc
 
 plain_sign : (depth op : ℕ) → is_one_of plain_operators op ≡ true → is_sign_token depth op ≡ true
-unfolding piece outside pieces.sign
+unfolding piece outside scan.sign
 plain_sign depth op is = test_of (is_sign_token depth) plain_operators op refl is
 
 order_sign : (depth op : ℕ) → is_one_of order_operators op ≡ true → is_sign_token depth op ≡ true
-unfolding piece outside pieces.sign
+unfolding piece outside scan.sign
 order_sign depth op is = test_of (is_sign_token depth) order_operators op refl is
 
 sign_reads : (depth op : ℕ) (r : Text) → kind_of op ≡ kind.Operator op → is_sign_token depth op ≡ true → parts mode.Outside (text_of op) r ≡ true → Reads (at_depth depth) (at_depth depth) (word (kind.Operator op) (text_of op)) r
@@ -89,7 +89,7 @@ sign_reads depth op r is token parts =
     record {
       id = op;
       is = ap (λ k. symbol k w) is;
-      reads = joins (at_depth depth) w r op some (piece_is op (length w) (piece (at_depth depth) w) both.0) parts ∙ ap (λ s. Ok (op, w) ∷ whats s r) (after_outside depth op more.0);
+      reads = joins (at_depth depth) w r op some (piece_is op (length w) (piece (at_depth depth) w) both.0) parts ∙ ap (λ s. Ok (op, w) ∷ pieces s r) (after_outside depth op more.0);
     }
 
 -- the text of the id is a word that is this keyword, and no fill word

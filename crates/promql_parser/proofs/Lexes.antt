@@ -4,7 +4,7 @@ use Rattle.std.specs.List.{list_any}
 use Rattle.promql_text.specs.Bytes.{line_feed, equal, tilde}
 use Rattle.promql_text.specs.Texts.{Text}
 use Rattle.promql_token.specs.Classes.{is_in}
-use Rattle.promql_token.specs.Lexing.{whats}
+use Rattle.promql_token.specs.Lexing.{pieces}
 use Rattle.promql_token.specs.Pieces.{opens}
 use Rattle.promql_token.specs.declared.class.Class.TheVariants as class
 use Rattle.promql_token.specs.declared.state.Mode.TheVariants as mode
@@ -20,7 +20,7 @@ at_depth depth = record { depth = depth; mode = mode.Outside }
 -- in front of any text, the bytes of the items are read as their tokens, from the first state to the second
 abbrev pub Lexes : State → State → List Item → Type 0
 Lexes before after is =
-    (r : Text) → (ts : List Token) × (map symbol_of ts ≡ strip is) × (whats before (render is ++ r) ≡ map (λ t. Ok t) ts ++ whats after r)
+    (r : Text) → (ts : List Token) × (map symbol_of ts ≡ strip is) × (pieces before (render is ++ r) ≡ map (λ t. Ok t) ts ++ pieces after r)
 
 -- ---- in front of some texts
 
@@ -44,4 +44,4 @@ ends_operator r = let b = slice_index r 0 in ends_word r && not (b == equal || b
 -- in front of any text that passes the test, the bytes of the items are read as their tokens, from the first state to the second
 abbrev pub LexesBefore : (Text → Bool) → State → State → List Item → Type 0
 LexesBefore test before after is =
-    (r : Text) → test r ≡ true → (ts : List Token) × (map symbol_of ts ≡ strip is) × (whats before (render is ++ r) ≡ map (λ t. Ok t) ts ++ whats after r)
+    (r : Text) → test r ≡ true → (ts : List Token) × (map symbol_of ts ≡ strip is) × (pieces before (render is ++ r) ≡ map (λ t. Ok t) ts ++ pieces after r)

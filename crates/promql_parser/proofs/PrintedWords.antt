@@ -9,7 +9,7 @@ use Rattle.std.proofs.lemmas.Bool.Decides.{nat_tests}
 use Rattle.std.proofs.lemmas.Slice.Eq.{bytes_eq-Decides}
 use Rattle.promql_text.specs.Quoting.{quoted_text}
 use Rattle.promql_text.specs.Texts.{Text}
-use Rattle.promql_token.specs.Classes.{is_in, is_label, is_letter, is_name_byte, past}
+use Rattle.promql_token.specs.Classes.{is_in, is_label, is_letter, is_name_byte, end_of_run}
 use Rattle.promql_token.specs.Ids.{keyword_in_any_case, keywords, lookup, same_word}
 use Rattle.promql_token.specs.Pieces.{is_fill, name_id}
 use Rattle.promql_token.specs.declared.class.Class.TheVariants as class
@@ -84,7 +84,7 @@ no_colon_in (b ∷ z) e = go (is_name_byte b) (b == 58) refl refl e (no_colon_in
 
 label_id : (w : Text) → is_label w ≡ true → name_id w ≡ T_IDENTIFIER
 label_id w is =
-    let all : prefix_len (is_in class.Name) w ≡ length w = (let h = (and_cases (is_letter (slice_index w 0)) (past class.Name w 0 == length w) is).1 in grind (arith, nat_tests)) in
+    let all : prefix_len (is_in class.Name) w ≡ length w = (let h = (and_cases (is_letter (slice_index w 0)) (end_of_run class.Name w 0 == length w) is).1 in grind (arith, nat_tests)) in
     ap (λ b. cond b T_METRIC_IDENTIFIER T_IDENTIFIER) (no_colon_in w all)
 
 word_bare : (w : Text) → is_label w ≡ true → is_number_word w ≡ false → is_bare (word_kind w) ≡ true

@@ -13,7 +13,7 @@ use Rattle.promql_token.specs.declared.class.Class.TheVariants as class
 use Rattle.promql_token.specs.declared.fault.LexFaultKind.TheVariants.{Numeral, Escape}
 use Rattle.promql_token.specs.declared.ids.TheConstants.{T_DURATION, T_NUMBER, T_STRING}
 use Rattle.promql_text.specs.Texts.{Text}
-use Rattle.promql_token.specs.Classes.{is_in, past}
+use Rattle.promql_token.specs.Classes.{is_in, end_of_run}
 use Rattle.promql_token.specs.Laws.{is_sign, is_exponent, stops_numeral}
 use Rattle.promql_token.specs.Pieces.{Piece, word_id, word, braces_id, word_in_braces, is_hex, digits, past_whole, past_point, past_sign, past_exponent, number_end, units, numeral, is_escape, string_from}
 use Rattle.promql_token.proofs.Ends.{and_left, and_right, or_cases}
@@ -33,10 +33,10 @@ look p [] r (suc at) h none stops = absurd (omega arith)
 look p (b ∷ w) r zero h none stops = refl
 look p (b ∷ w) r (suc at) h none stops = look p w r at (omega arith) none (λ e. stops (ap suc e))
 
-pub past_beside : (c : Class) (w r : Text) (at : ℕ) → at ≤ length w → is_in c (get_or r 0 0) ≡ false → past c (w ++ r) at ≡ past c w at
+pub past_beside : (c : Class) (w r : Text) (at : ℕ) → at ≤ length w → is_in c (get_or r 0 0) ≡ false → end_of_run c (w ++ r) at ≡ end_of_run c w at
 past_beside c w r at h stops = ap (λ z. at + prefix_len (is_in c) z) (drop-append-le at w r h) ∙ ap (λ n. at + n) (prefix_beside (is_in c) (drop at w) r stops)
 
-pub past_within : (c : Class) (w : Text) (at : ℕ) → at ≤ length w → past c w at ≤ length w
+pub past_within : (c : Class) (w : Text) (at : ℕ) → at ≤ length w → end_of_run c w at ≤ length w
 past_within c w at h = omega (arith, prefix_len-le-length (is_in c) (drop at w), length-drop at w)
 
 -- a place whose byte is not NUL is before the end
@@ -48,13 +48,13 @@ byte_before w at n is some = let e = eqb-true _ _ is in before_end w at (omega a
 
 -- ---- words
 
-pub word_beside : (w r : Text) → past class.Word w 0 ≡ length w → is_in class.Word (get_or r 0 0) ≡ false → word (w ++ r) ≡ Ok (word_id w r, length w)
+pub word_beside : (w r : Text) → end_of_run class.Word w 0 ≡ length w → is_in class.Word (get_or r 0 0) ≡ false → word (w ++ r) ≡ Ok (word_id w r, length w)
 unfolding word
 word_beside w r all stops =
     let len = past_beside class.Word w r 0 (omega arith) stops ∙ all in
     λ i. Ok (word_id ((ap (λ n. take n (w ++ r)) len ∙ take-append_seam w r) i) ((ap (λ n. drop n (w ++ r)) len ∙ drop-append_seam w r) i), len i)
 
-pub word_in_braces_beside : (w r : Text) → past class.Name w 0 ≡ length w → is_in class.Name (get_or r 0 0) ≡ false → word_in_braces (w ++ r) ≡ Ok (braces_id w r, length w)
+pub word_in_braces_beside : (w r : Text) → end_of_run class.Name w 0 ≡ length w → is_in class.Name (get_or r 0 0) ≡ false → word_in_braces (w ++ r) ≡ Ok (braces_id w r, length w)
 unfolding word_in_braces
 word_in_braces_beside w r all stops =
     let len = past_beside class.Name w r 0 (omega arith) stops ∙ all in
@@ -115,7 +115,7 @@ module _ {w r : Text} (some : 0 < length w) (s : Stops w r) where
       cases false plain = omega arith
 
   whole_beside : past_whole (w ++ r) ≡ past_whole w
-  whole_beside = (λ i. past (digits_beside i) (w ++ r) (cond (hex_beside i) 2 0)) ∙ past_beside (digits w) w r (cond (is_hex w) 2 0) prefix_within digits_stop
+  whole_beside = (λ i. end_of_run (digits_beside i) (w ++ r) (cond (hex_beside i) 2 0)) ∙ past_beside (digits w) w r (cond (is_hex w) 2 0) prefix_within digits_stop
 
   whole_within : past_whole w ≤ length w
   whole_within = past_within (digits w) w (cond (is_hex w) 2 0) prefix_within
@@ -125,8 +125,8 @@ module _ {w r : Text} (some : 0 < length w) (s : Stops w r) where
 
   point_beside : (at : ℕ) → at ≤ length w → past_point (digits w) (w ++ r) at ≡ past_point (digits w) w at
   point_beside at h =
-      ap (λ b. cond b (past (digits w) (w ++ r) (at + 1)) at) (look (λ b. b == 46) w r at h refl (λ _. s.point))
-      ∙ cond_both (get_or w at 0 == 46) (past (digits w) w (at + 1)) at (λ n. cond (get_or w at 0 == 46) (past (digits w) (w ++ r) (at + 1)) at ≡ n)
+      ap (λ b. cond b (end_of_run (digits w) (w ++ r) (at + 1)) at) (look (λ b. b == 46) w r at h refl (λ _. s.point))
+      ∙ cond_both (get_or w at 0 == 46) (end_of_run (digits w) w (at + 1)) at (λ n. cond (get_or w at 0 == 46) (end_of_run (digits w) (w ++ r) (at + 1)) at ≡ n)
       (λ point. rw point (past_beside (digits w) w r (at + 1) (byte_before w at 46 point (omega arith)) digits_stop))
       (λ plain. rw plain refl)
 
@@ -157,11 +157,11 @@ module _ {w r : Text} (some : 0 < length w) (s : Stops w r) where
 
   exponent_beside : (at : ℕ) → at ≤ length w → past_exponent (w ++ r) at ≡ past_exponent w at
   exponent_beside at h =
-      ap (λ b. cond b (past class.Digit (w ++ r) (past_sign (w ++ r) (at + 1))) at) (look is_exponent w r at h refl (λ _. no_e (get_or r 0 0) s.name))
-      ∙ cond_both (is_exponent (get_or w at 0)) (past class.Digit w (past_sign w (at + 1))) at (λ n. cond (is_exponent (get_or w at 0)) (past class.Digit (w ++ r) (past_sign (w ++ r) (at + 1))) at ≡ n)
-      (λ e. ap (λ b. cond b (past class.Digit (w ++ r) (past_sign (w ++ r) (at + 1))) at) e ∙ ap (past class.Digit (w ++ r)) (sign_beside at e)
+      ap (λ b. cond b (end_of_run class.Digit (w ++ r) (past_sign (w ++ r) (at + 1))) at) (look is_exponent w r at h refl (λ _. no_e (get_or r 0 0) s.name))
+      ∙ cond_both (is_exponent (get_or w at 0)) (end_of_run class.Digit w (past_sign w (at + 1))) at (λ n. cond (is_exponent (get_or w at 0)) (end_of_run class.Digit (w ++ r) (past_sign (w ++ r) (at + 1))) at ≡ n)
+      (λ e. ap (λ b. cond b (end_of_run class.Digit (w ++ r) (past_sign (w ++ r) (at + 1))) at) e ∙ ap (end_of_run class.Digit (w ++ r)) (sign_beside at e)
       ∙ past_beside class.Digit w r (past_sign w (at + 1)) (sign_within (at + 1) (e_before at e)) (no_digit (get_or r 0 0) s.name))
-      (λ plain. ap (λ b. cond b (past class.Digit (w ++ r) (past_sign (w ++ r) (at + 1))) at) plain)
+      (λ plain. ap (λ b. cond b (end_of_run class.Digit (w ++ r) (past_sign (w ++ r) (at + 1))) at) plain)
 
   end_within : number_end w ≤ length w
   unfolding number_end
@@ -179,14 +179,14 @@ module _ {w r : Text} (some : 0 < length w) (s : Stops w r) where
   unfolding numeral
   numeral_beside =
       let end = number_end w in
-      let run = past class.Name w end in
+      let run = end_of_run class.Name w end in
       let runs = past_beside class.Name w r end end_within s.name in
       let f : Text → ℕ → ℕ → Piece = λ z end run. cond ((run == end) && not (get_or z end 0 == 46)) (Ok (T_NUMBER, end)) (cond (units (take (run - end) (drop end z))) (Ok (T_DURATION, run)) (Err (Numeral, 0))) in
       let run_within = past_within class.Name w end end_within in
       let fits : run - end ≤ length (drop end w) = omega (arith, length-drop end w) in
       let tail : take (run - end) (drop end (w ++ r)) ≡ take (run - end) (drop end w) =
       ap (take (run - end)) (drop-append-le end w r end_within) ∙ take-append-le (run - end) (drop end w) r fits in
-      ap (λ e. f (w ++ r) e (past class.Name (w ++ r) e)) end_beside
+      ap (λ e. f (w ++ r) e (end_of_run class.Name (w ++ r) e)) end_beside
       ∙ ap (f (w ++ r) end) runs
       ∙ (λ i. cond ((run == end) && not (look (λ b. b == 46) w r end end_within refl (λ _. s.point) i)) (Ok (T_NUMBER, end)) (cond (units (tail i)) (Ok (T_DURATION, run)) (Err (Numeral, 0))))
 

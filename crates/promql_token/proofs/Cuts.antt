@@ -6,7 +6,7 @@ use Rattle.promql_token.specs.declared.state.Mode.{Mode}
 use Rattle.promql_token.specs.declared.state.Mode.TheVariants as mode
 use Rattle.promql_token.specs.declared.state.State.{State}
 use Rattle.promql_text.specs.Texts.{Text}
-use Rattle.promql_token.specs.Lexing.{found, cut, cut_from, len_of, goes_on, behind, what}
+use Rattle.promql_token.specs.Lexing.{found, cut, cut_from, len_of, goes_on, behind, piece_text}
 use Rattle.promql_token.specs.Pieces.{end_in, gap_len, piece, after_gap}
 
 pub cut_from-drop : (left : ℕ) (state : State) (z : Text) → left ≤ length z → cut_from left state z ≡ cut state (drop left z)
@@ -19,8 +19,8 @@ pub drop_one_more : (n b : ℕ) (z : Text) → 1 ≤ n → drop (n - 1) z ≡ dr
 drop_one_more zero b z h = absurd (omega arith)
 drop_one_more (suc n) b z h = let e : suc n - 1 ≡ n = omega arith in ap (λ k. drop k z) e
 
-end_stops : (m : Mode) (depth : ℕ) → goes_on (what (end_in m depth) []) ≡ false
-end_stops mode.Outside depth = cond_both (depth == 0) _ _ (λ p. goes_on (what p []) ≡ false) (λ _. refl) (λ _. refl)
+end_stops : (m : Mode) (depth : ℕ) → goes_on (piece_text (end_in m depth) []) ≡ false
+end_stops mode.Outside depth = cond_both (depth == 0) _ _ (λ p. goes_on (piece_text p []) ≡ false) (λ _. refl) (λ _. refl)
 end_stops mode.Braces depth = refl
 end_stops (mode.Brackets inside) depth = refl
 
@@ -30,21 +30,21 @@ no_gap mode.Outside = refl
 no_gap mode.Braces = refl
 no_gap (mode.Brackets inside) = refl
 
-nothing_after : (state : State) → goes_on (found state []).what ≡ false
+nothing_after : (state : State) → goes_on (found state []).piece_text ≡ false
 unfolding found piece after_gap
 nothing_after state = rw (no_gap state.mode) (end_stops state.mode state.depth)
 
 -- a token, and the text behind it
-pub cut_goes : (state : State) (z : Text) → let f = found state z in goes_on f.what ≡ true → 1 ≤ f.gap + len_of f.what → f.gap + len_of f.what ≤ length z
-    → cut state z ≡ f ∷ cut (behind state f.what) (drop (f.gap + len_of f.what) z)
+pub cut_goes : (state : State) (z : Text) → let f = found state z in goes_on f.piece_text ≡ true → 1 ≤ f.gap + len_of f.piece_text → f.gap + len_of f.piece_text ≤ length z
+    → cut state z ≡ f ∷ cut (behind state f.piece_text) (drop (f.gap + len_of f.piece_text) z)
 unfolding cut
 cut_goes state [] goes moves fits = let no = nothing_after state in cc
 cut_goes state (b ∷ z) goes moves fits =
     let f = found state (b ∷ z) in
-    rw goes (ap (λ rest. f ∷ rest) (cut_from-drop (f.gap + len_of f.what - 1) (behind state f.what) z (omega arith) ∙ ap (cut (behind state f.what)) (drop_one_more (f.gap + len_of f.what) b z moves)))
+    rw goes (ap (λ rest. f ∷ rest) (cut_from-drop (f.gap + len_of f.piece_text - 1) (behind state f.piece_text) z (omega arith) ∙ ap (cut (behind state f.piece_text)) (drop_one_more (f.gap + len_of f.piece_text) b z moves)))
 
 -- the end or a fault
-pub cut_stops : (state : State) (z : Text) → goes_on (found state z).what ≡ false → cut state z ≡ found state z ∷ []
+pub cut_stops : (state : State) (z : Text) → goes_on (found state z).piece_text ≡ false → cut state z ≡ found state z ∷ []
 unfolding cut
 cut_stops state [] stops = refl
 cut_stops state (b ∷ z) stops = rw stops

@@ -11,19 +11,20 @@ use Rattle.promql_token.specs.declared.lexeme.Lexeme.{Lexeme}
 use Rattle.promql_token.specs.declared.state.State.{State}
 use Rattle.promql_text.specs.Texts.{Text}
 use Rattle.promql_token.specs.declared.cursor.Cursor as code
-use Rattle.promql_token.specs.Cursor.{is_before_end, up_to_fault, tokens_left, has_fault, ends_in_fault, IsPast}
-use Rattle.promql_token.specs.Lexing.{What, Found, whats, found, first, fault_at, item, collected, with_front, goes_on, len_of, start, lex, tokens, cut, placed, sliced, result_sliced, text_at}
+use Rattle.promql_token.specs.Cursor.{is_before_end, up_to_fault, tokens_left, has_fault, ends_in_fault}
+use Rattle.promql_token.specs.IsPast.{IsPast}
+use Rattle.promql_token.specs.Lexing.{PieceText, Found, pieces, found, first, fault_at, item, collected, with_front, goes_on, len_of, start, lex, tokens, cut, placed, sliced, result_sliced, text_at}
 use Rattle.promql_token.specs.Pieces.{after}
 use Rattle.promql_token.proofs.Items.{is_token}
 use Rattle.promql_token.proofs.Items.{left_token as left_item}
 use Rattle.promql_token.proofs.Spans.{stands, spans}
-use Rattle.promql_token.proofs.Steps.{whats_is}
+use Rattle.promql_token.proofs.Steps.{pieces_are}
 
 up_to_no_fault : (ts : List (ℕ × Text)) → up_to_fault (map (λ t. Ok t) ts) ≡ ts
 up_to_no_fault [] = refl
 up_to_no_fault (t ∷ ts) = ap (λ us. t ∷ us) (up_to_no_fault ts)
 
-listed : (s : Text) (r : Result (List Lexeme) LexFault) (ts : List (ℕ × Text)) → lex s ≡ r → result_sliced s r ≡ Ok ts → up_to_fault (whats start s) ≡ ts
+listed : (s : Text) (r : Result (List Lexeme) LexFault) (ts : List (ℕ × Text)) → lex s ≡ r → result_sliced s r ≡ Ok ts → up_to_fault (pieces start s) ≡ ts
 listed s (Ok xs) ts lexed is =
     let same : sliced s xs ≡ ts = cc in
     ap up_to_fault (spans s xs lexed).1 ∙ up_to_no_fault (sliced s xs) ∙ same
@@ -32,7 +33,7 @@ listed s (Err f) ts lexed is = cc
 -- a whole text
 pub new_left : (s : Text) (c : code.Cursor) → c.text.now ≡ s → c.at ≡ 0 → c.state ≡ start → (ts : List (ℕ × Text)) → tokens s ≡ Ok ts → tokens_left c ≡ filter is_before_end ts
 new_left s c text at state ts is =
-    (λ i. filter is_before_end (up_to_fault (whats (state i) (drop (at i) (text i))))) ∙ ap (filter is_before_end) (listed s (lex s) ts refl is)
+    (λ i. filter is_before_end (up_to_fault (pieces (state i) (drop (at i) (text i))))) ∙ ap (filter is_before_end) (listed s (lex s) ts refl is)
 
 -- ---- a fault at the end
 
@@ -40,7 +41,7 @@ no_fault : (ts : List (ℕ × Text)) → has_fault (map (λ t. Ok t) ts) ≡ fal
 no_fault [] = refl
 no_fault (t ∷ ts) = no_fault ts
 
-whole_list : (s : Text) (r : Result (List Lexeme) LexFault) (ts : List (ℕ × Text)) → lex s ≡ r → result_sliced s r ≡ Ok ts → has_fault (whats start s) ≡ false
+whole_list : (s : Text) (r : Result (List Lexeme) LexFault) (ts : List (ℕ × Text)) → lex s ≡ r → result_sliced s r ≡ Ok ts → has_fault (pieces start s) ≡ false
 whole_list s (Ok xs) ts lexed is = ap has_fault (spans s xs lexed).1 ∙ no_fault (sliced s xs)
 whole_list s (Err f) ts lexed is = cc
 
@@ -49,47 +50,47 @@ with_front_fault xs (Ok ys) f is = cc
 with_front_fault xs (Err e) f is = cc
 
 -- a fault comes first, or later
-first_or_later : (at : ℕ) (w : What) (rs : List (Result Lexeme LexFault)) (ws : List What) (f : LexFault) → (collected rs ≡ Err f → has_fault ws ≡ true) → collected (item at w ∷ rs) ≡ Err f → has_fault (w ∷ ws) ≡ true
+first_or_later : (at : ℕ) (w : PieceText) (rs : List (Result Lexeme LexFault)) (ws : List PieceText) (f : LexFault) → (collected rs ≡ Err f → has_fault ws ≡ true) → collected (item at w ∷ rs) ≡ Err f → has_fault (w ∷ ws) ≡ true
 first_or_later at (Ok t) rs ws f later is = later (with_front_fault (record { id = t.0; start = at; len = length t.1 } ∷ []) _ f is)
 first_or_later at (Err e) rs ws f later is = refl
 
-collected_fault : (at : ℕ) (fs : List Found) (f : LexFault) → collected (placed at fs) ≡ Err f → has_fault (map (λ (g : Found). g.what) fs) ≡ true
+collected_fault : (at : ℕ) (fs : List Found) (f : LexFault) → collected (placed at fs) ≡ Err f → has_fault (map (λ (g : Found). g.piece_text) fs) ≡ true
 collected_fault at [] f is = cc
-collected_fault at (g ∷ gs) f is = first_or_later (at + g.gap) g.what _ _ f (collected_fault (at + g.gap + len_of g.what) gs f) is
+collected_fault at (g ∷ gs) f is = first_or_later (at + g.gap) g.piece_text _ _ f (collected_fault (at + g.gap + len_of g.piece_text) gs f) is
 
 sliced_fault : (s : Text) (r : Result (List Lexeme) LexFault) (f : LexFault) → result_sliced s r ≡ Err f → r ≡ Err f
 sliced_fault s (Ok xs) f is = cc
 sliced_fault s (Err e) f is = cc
 
-whole_fault : (s : Text) (f : LexFault) → tokens s ≡ Err f → has_fault (whats start s) ≡ true
+whole_fault : (s : Text) (f : LexFault) → tokens s ≡ Err f → has_fault (pieces start s) ≡ true
 unfolding lex
 whole_fault s f is = collected_fault 0 (cut start s) f (sliced_fault s (lex s) f is)
 
 -- what is to come of a whole text ends in a fault where the text has one
 pub new_whole : (s : Text) (c : code.Cursor) → c.text.now ≡ s → c.at ≡ 0 → c.state ≡ start → (ts : List (ℕ × Text)) → tokens s ≡ Ok ts → ends_in_fault c ≡ false
-new_whole s c text at state ts is = (λ i. has_fault (whats (state i) (drop (at i) (text i)))) ∙ whole_list s (lex s) ts refl is
+new_whole s c text at state ts is = (λ i. has_fault (pieces (state i) (drop (at i) (text i)))) ∙ whole_list s (lex s) ts refl is
 
 pub new_fault : (s : Text) (c : code.Cursor) → c.text.now ≡ s → c.at ≡ 0 → c.state ≡ start → (f : LexFault) → tokens s ≡ Err f → ends_in_fault c ≡ true
-new_fault s c text at state f is = (λ i. has_fault (whats (state i) (drop (at i) (text i)))) ∙ whole_fault s f is
+new_fault s c text at state f is = (λ i. has_fault (pieces (state i) (drop (at i) (text i)))) ∙ whole_fault s f is
 
-abbrev left : What → List What → List (ℕ × Text)
+abbrev left : PieceText → List PieceText → List (ℕ × Text)
 left w ws = filter is_before_end (up_to_fault (w ∷ cond (goes_on w) ws []))
 
 ok_is : (a b : Lexeme) (r : Result Lexeme LexFault) → r ≡ Ok a → r ≡ Ok b → a ≡ b
 ok_is a b r e f = cc
 
-left_end : (at : ℕ) (w : What) (ws : List What) (x : Lexeme) → item at w ≡ Ok x → (x.id == 6) ≡ true → left w ws ≡ []
+left_end : (at : ℕ) (w : PieceText) (ws : List PieceText) (x : Lexeme) → item at w ≡ Ok x → (x.id == 6) ≡ true → left w ws ≡ []
 left_end at (Ok t) ws x is end =
     let id : t.0 ≡ x.id = ap (λ (x : Lexeme). x.id) (ok_is _ _ (item at (Ok t)) refl is) in
     let e : (t.0 == 6) ≡ true = ap (λ id. id == 6) id ∙ end in
     ap (λ b. cond (not b) (t ∷ filter is_before_end (up_to_fault (cond (not b) ws []))) (filter is_before_end (up_to_fault (cond (not b) ws [])))) e
 left_end at (Err f) ws x is end = cc
 
-left_fault : (at : ℕ) (w : What) (ws : List What) (f : LexFault) → item at w ≡ Err f → left w ws ≡ []
+left_fault : (at : ℕ) (w : PieceText) (ws : List PieceText) (f : LexFault) → item at w ≡ Err f → left w ws ≡ []
 left_fault at (Ok t) ws f is = cc
 left_fault at (Err e) ws f is = refl
 
-left_token : (at : ℕ) (w : What) (ws : List What) (x : Lexeme) (text : Text) → item at w ≡ Ok x → (x.id == 6) ≡ false → ((id : ℕ) (t : Text) → w ≡ Ok (id, t) → t ≡ take (length t) text)
+left_token : (at : ℕ) (w : PieceText) (ws : List PieceText) (x : Lexeme) (text : Text) → item at w ≡ Ok x → (x.id == 6) ≡ false → ((id : ℕ) (t : Text) → w ≡ Ok (id, t) → t ≡ take (length t) text)
     → left w ws ≡ (x.id, take x.len text) ∷ filter is_before_end (up_to_fault ws)
 left_token at (Ok t) ws x text is more texts =
     let same = ok_is _ _ (item at (Ok t)) refl is in
@@ -102,17 +103,17 @@ left_token at (Ok t) ws x text is more texts =
 left_token at (Err f) ws x text is more texts = cc
 
 -- the end, or a fault
-pub none_end : (text : Text) (at : ℕ) (state : State) (x : Lexeme) → Ok x ≡ first at (found state (drop at text)) → x.id ≡ 6 → filter is_before_end (up_to_fault (whats state (drop at text))) ≡ []
+pub none_end : (text : Text) (at : ℕ) (state : State) (x : Lexeme) → Ok x ≡ first at (found state (drop at text)) → x.id ≡ 6 → filter is_before_end (up_to_fault (pieces state (drop at text))) ≡ []
 none_end text at state x is end =
     let z = drop at text in
     let f = found state z in
-    ap (λ ws. filter is_before_end (up_to_fault ws)) (whats_is state z) ∙ left_end (at + f.gap) f.what _ x (sym is) (ap (λ id. id == 6) end)
+    ap (λ ws. filter is_before_end (up_to_fault ws)) (pieces_are state z) ∙ left_end (at + f.gap) f.piece_text _ x (sym is) (ap (λ id. id == 6) end)
 
-none_fault : (text : Text) (at : ℕ) (state : State) (fault : LexFault) → Err fault ≡ first at (found state (drop at text)) → filter is_before_end (up_to_fault (whats state (drop at text))) ≡ []
+none_fault : (text : Text) (at : ℕ) (state : State) (fault : LexFault) → Err fault ≡ first at (found state (drop at text)) → filter is_before_end (up_to_fault (pieces state (drop at text))) ≡ []
 none_fault text at state fault is =
     let z = drop at text in
     let f = found state z in
-    ap (λ ws. filter is_before_end (up_to_fault ws)) (whats_is state z) ∙ left_fault (at + f.gap) f.what _ fault (sym is)
+    ap (λ ws. filter is_before_end (up_to_fault ws)) (pieces_are state z) ∙ left_fault (at + f.gap) f.piece_text _ fault (sym is)
 
 -- the token or the fault that comes next
 abbrev pub IsFront : code.Cursor → Result Lexeme (LexFaultKind × ℕ) → Type 0
@@ -126,54 +127,54 @@ no_token_left c (Err g) f is e = none_fault c.text.now c.at c.state (fault_at c.
 
 -- a token, and what is left after it
 token_left : (text : Text) (at : ℕ) (state : State) (x : Lexeme) → Ok x ≡ first at (found state (drop at text)) → x.id ≢ 6
-    → filter is_before_end (up_to_fault (whats state (drop at text))) ≡ (x.id, text_at text x) ∷ filter is_before_end (up_to_fault (whats (after state x.id) (drop (x.start + x.len) text)))
+    → filter is_before_end (up_to_fault (pieces state (drop at text))) ≡ (x.id, text_at text x) ∷ filter is_before_end (up_to_fault (pieces (after state x.id) (drop (x.start + x.len) text)))
 token_left text at state x is more =
     let z = drop at text in
     let f = found state z in
-    let t = is_token (at + f.gap) f.what x (sym is) in
+    let t = is_token (at + f.gap) f.piece_text x (sym is) in
     let start : x.start ≡ at + f.gap = t.start in
     let len = t.len in
     let st = stands text at state in
     let from : drop f.gap z ≡ drop x.start text = drop-drop f.gap at text ∙ ap (λ n. drop n text) (sym start) in
-    let place : at + (f.gap + len_of f.what) ≡ x.start + x.len = omega (arith, start, len) in
-    let rest : drop (f.gap + len_of f.what) z ≡ drop (x.start + x.len) text = drop-drop (f.gap + len_of f.what) at text ∙ ap (λ n. drop n text) place in
-    ap (λ ws. filter is_before_end (up_to_fault ws)) (whats_is state z)
-    ∙ left_token (at + f.gap) f.what _ x (drop x.start text) (sym is) (ne_eqb x.id 6 more) (λ id t w. st.text id t w ∙ ap (take (length t)) from)
-    ∙ (λ i. (x.id, text_at text x) ∷ filter is_before_end (up_to_fault (whats (t.state state i) (rest i))))
+    let place : at + (f.gap + len_of f.piece_text) ≡ x.start + x.len = omega (arith, start, len) in
+    let rest : drop (f.gap + len_of f.piece_text) z ≡ drop (x.start + x.len) text = drop-drop (f.gap + len_of f.piece_text) at text ∙ ap (λ n. drop n text) place in
+    ap (λ ws. filter is_before_end (up_to_fault ws)) (pieces_are state z)
+    ∙ left_token (at + f.gap) f.piece_text _ x (drop x.start text) (sym is) (ne_eqb x.id 6 more) (λ id t w. st.text id t w ∙ ap (take (length t)) from)
+    ∙ (λ i. (x.id, text_at text x) ∷ filter is_before_end (up_to_fault (pieces (t.state state i) (rest i))))
 
 pub some_token : (x : Lexeme) (old new : code.Cursor) → Ok x ≡ first old.at (found old.state (drop old.at old.text.now)) → IsPast x old new → x.id ≢ 6
     → tokens_left old ≡ (x.id, text_at old.text.now x) ∷ tokens_left new
-some_token x old new is past more =
-    let text = ap (λ (t : Bor Text). t.now) past.text in
-    let at = past.at more in
-    let state = past.state more in
+some_token x old new is end_of_run more =
+    let text = ap (λ (t : Bor Text). t.now) end_of_run.text in
+    let at = end_of_run.at more in
+    let state = end_of_run.state more in
     token_left old.text.now old.at old.state x is more
-    ∙ (λ i. (x.id, text_at old.text.now x) ∷ filter is_before_end (up_to_fault (whats ((sym state) i) (drop ((sym at) i) ((sym text) i)))))
+    ∙ (λ i. (x.id, text_at old.text.now x) ∷ filter is_before_end (up_to_fault (pieces ((sym state) i) (drop ((sym at) i) ((sym text) i)))))
 
 -- ---- what ends in a fault
 
 -- what comes first, and whether a fault comes then
-has_front_token : (t : ℕ × Text) (ws : List What) → (t.0 == 6) ≡ false → has_fault (Ok t ∷ cond (goes_on (Ok t)) ws []) ≡ has_fault ws
+has_front_token : (t : ℕ × Text) (ws : List PieceText) → (t.0 == 6) ≡ false → has_fault (Ok t ∷ cond (goes_on (Ok t)) ws []) ≡ has_fault ws
 has_front_token t ws more = ap (λ b. has_fault (cond (not b) ws [])) more
 
-has_front_end : (t : ℕ × Text) (ws : List What) → (t.0 == 6) ≡ true → has_fault (Ok t ∷ cond (goes_on (Ok t)) ws []) ≡ false
+has_front_end : (t : ℕ × Text) (ws : List PieceText) → (t.0 == 6) ≡ true → has_fault (Ok t ∷ cond (goes_on (Ok t)) ws []) ≡ false
 has_front_end t ws end = ap (λ b. has_fault (cond (not b) ws [])) end
 
 -- past a token as before it
 pub past_token : (x : Lexeme) (old new : code.Cursor) → Ok x ≡ first old.at (found old.state (drop old.at old.text.now)) → IsPast x old new → x.id ≢ 6 → ends_in_fault new ≡ ends_in_fault old
-past_token x old new is past more =
+past_token x old new is end_of_run more =
     let z = drop old.at old.text.now in
     let f = found old.state z in
-    let text = ap (λ (t : Bor Text). t.now) past.text in
-    let t = is_token (old.at + f.gap) f.what x (sym is) in
+    let text = ap (λ (t : Bor Text). t.now) end_of_run.text in
+    let t = is_token (old.at + f.gap) f.piece_text x (sym is) in
     let len = t.len in
     let start = t.start in
-    let place : old.at + (f.gap + len_of f.what) ≡ x.start + x.len = omega (arith, start, len) in
-    let rest : drop (f.gap + len_of f.what) z ≡ drop (x.start + x.len) old.text.now = drop-drop (f.gap + len_of f.what) old.at old.text.now ∙ ap (λ n. drop n old.text.now) place in
-    (λ i. has_fault (whats ((past.state more) i) (drop ((past.at more) i) (text i))))
-    ∙ sym (ap has_fault (whats_is old.state z) ∙ front_of f.what (old.at + f.gap) _ (sym is) ∙ (λ i. has_fault (whats (t.state old.state i) (rest i))))
+    let place : old.at + (f.gap + len_of f.piece_text) ≡ x.start + x.len = omega (arith, start, len) in
+    let rest : drop (f.gap + len_of f.piece_text) z ≡ drop (x.start + x.len) old.text.now = drop-drop (f.gap + len_of f.piece_text) old.at old.text.now ∙ ap (λ n. drop n old.text.now) place in
+    (λ i. has_fault (pieces ((end_of_run.state more) i) (drop ((end_of_run.at more) i) (text i))))
+    ∙ sym (ap has_fault (pieces_are old.state z) ∙ front_of f.piece_text (old.at + f.gap) _ (sym is) ∙ (λ i. has_fault (pieces (t.state old.state i) (rest i))))
   where
-    front_of : (w : What) (at : ℕ) (ws : List What) → item at w ≡ Ok x → has_fault (w ∷ cond (goes_on w) ws []) ≡ has_fault ws
+    front_of : (w : PieceText) (at : ℕ) (ws : List PieceText) → item at w ≡ Ok x → has_fault (w ∷ cond (goes_on w) ws []) ≡ has_fault ws
     front_of (Ok t) at ws here =
         let id : t.0 ≡ x.id = ap (λ (x : Lexeme). x.id) (ok_is _ _ (item at (Ok t)) refl here) in
         has_front_token t ws (ap (λ id. id == 6) id ∙ ne_eqb x.id 6 more)
@@ -183,24 +184,24 @@ past_token x old new is past more =
 at_fault : (c : code.Cursor) (f : LexFault) → Err f ≡ first c.at (found c.state (drop c.at c.text.now)) → true ≡ ends_in_fault c
 at_fault c f is =
     let z = drop c.at c.text.now in
-    sym (ap has_fault (whats_is c.state z) ∙ front_of (found c.state z).what _ _ (sym is))
+    sym (ap has_fault (pieces_are c.state z) ∙ front_of (found c.state z).piece_text _ _ (sym is))
   where
-    front_of : (w : What) (at : ℕ) (ws : List What) → item at w ≡ Err f → has_fault (w ∷ cond (goes_on w) ws []) ≡ true
+    front_of : (w : PieceText) (at : ℕ) (ws : List PieceText) → item at w ≡ Err f → has_fault (w ∷ cond (goes_on w) ws []) ≡ true
     front_of (Ok t) at ws here = cc
     front_of (Err e) at ws here = refl
 
 at_end : (c : code.Cursor) (x : Lexeme) → Ok x ≡ first c.at (found c.state (drop c.at c.text.now)) → tokens_left c ≡ [] → false ≡ ends_in_fault c
 at_end c x is none =
     let z = drop c.at c.text.now in
-    sym (ap has_fault (whats_is c.state z) ∙ front_of (found c.state z).what _ _ (sym is) (sym (ap (λ ws. filter is_before_end (up_to_fault ws)) (whats_is c.state z)) ∙ none))
+    sym (ap has_fault (pieces_are c.state z) ∙ front_of (found c.state z).piece_text _ _ (sym is) (sym (ap (λ ws. filter is_before_end (up_to_fault ws)) (pieces_are c.state z)) ∙ none))
   where
-    by_test : (t : ℕ × Text) (ws : List What) (b : Bool) → (t.0 == 6) ≡ b → left (Ok t) ws ≡ [] → has_fault (Ok t ∷ cond (goes_on (Ok t)) ws []) ≡ false
+    by_test : (t : ℕ × Text) (ws : List PieceText) (b : Bool) → (t.0 == 6) ≡ b → left (Ok t) ws ≡ [] → has_fault (Ok t ∷ cond (goes_on (Ok t)) ws []) ≡ false
     by_test t ws true end none = has_front_end t ws end
     by_test t ws false more none =
         let some : [] ≡ t ∷ filter is_before_end (up_to_fault ws) = sym none ∙ ap (λ b. cond (not b) (t ∷ filter is_before_end (up_to_fault (cond (not b) ws []))) (filter is_before_end (up_to_fault (cond (not b) ws [])))) more in
         cc
 
-    front_of : (w : What) (at : ℕ) (ws : List What) → item at w ≡ Ok x → left w ws ≡ [] → has_fault (w ∷ cond (goes_on w) ws []) ≡ false
+    front_of : (w : PieceText) (at : ℕ) (ws : List PieceText) → item at w ≡ Ok x → left w ws ≡ [] → has_fault (w ∷ cond (goes_on w) ws []) ≡ false
     front_of (Ok t) at ws here none = by_test t ws (t.0 == 6) refl none
     front_of (Err e) at ws here none = cc
 
@@ -211,13 +212,13 @@ at_fault_or_end c (Err f) is none = at_fault c (fault_at c.text.now f.0 f.1) is
 -- the same with places
 pub left_past : (x : Lexeme) (old new : code.Cursor) → Ok x ≡ first old.at (found old.state (drop old.at old.text.now)) → IsPast x old new
     → placed old.at (cut old.state (drop old.at old.text.now)) ≡ Ok x ∷ cond (x.id == 6) [] (placed new.at (cut new.state (drop new.at new.text.now)))
-left_past x old new is past =
-    let text = ap (λ (t : Bor Text). t.now) past.text in
-    let place = past.placed in
-    left_item old.text.now old.at old.state x is past.order place.1.0 past.moves
+left_past x old new is end_of_run =
+    let text = ap (λ (t : Bor Text). t.now) end_of_run.text in
+    let place = end_of_run.placed in
+    left_item old.text.now old.at old.state x is end_of_run.order place.1.0 end_of_run.moves
     ∙ ap (λ l. Ok x ∷ l) (elim (x.id == 6) as (λ b. (x.id == 6) ≡ b → cond b [] (placed (x.start + x.len) (cut (after old.state x.id) (drop (x.start + x.len) old.text.now))) ≡ cond b [] (placed new.at (cut new.state (drop new.at new.text.now)))) [
       | true ↦ λ end. refl
       | false ↦ λ goes.
           let more = eqb-false _ _ goes in
-          (λ i. placed ((sym (past.at more)) i) (cut ((sym (past.state more)) i) (drop ((sym (past.at more)) i) ((sym text) i))))
+          (λ i. placed ((sym (end_of_run.at more)) i) (cut ((sym (end_of_run.state more)) i) (drop ((sym (end_of_run.at more)) i) ((sym text) i))))
     ] refl)

@@ -11,7 +11,7 @@ use Rattle.promql_token.specs.declared.class.Class.TheVariants as class
 use Rattle.promql_token.specs.declared.fault.LexFaultKind.TheVariants.{Numeral}
 use Rattle.promql_token.specs.declared.ids.TheConstants.{T_DURATION, T_NUMBER}
 use Rattle.promql_text.specs.Texts.{Text}
-use Rattle.promql_token.specs.Classes.{is_in, past}
+use Rattle.promql_token.specs.Classes.{is_in, end_of_run}
 use Rattle.promql_token.specs.Pieces.{Piece, is_unit, unit_len, part_len, parts_from, units, numeral}
 use Rattle.promql_token.specs.Printed.{are_digits, is_part, parts_text, JoinsDuration}
 use Rattle.promql_token.proofs.Ends.{and_left, and_right}
@@ -173,11 +173,11 @@ duration_all d t some h some_t byte names all =
     let n = length d in
     let m = n + length t in
     let end = number_whole z n (whole_is d t some h byte.digit byte.hex) (ap (λ b. b == 46) (at_seam d t) ∙ byte.point) (ap (λ b. (b == 101) || (b == 69)) (at_seam d t) ∙ byte.exponent) in
-    let run : past class.Name z n ≡ m = ap (λ r. n + prefix_len (is_in class.Name) r) (drop-append_seam d t) ∙ ap (λ k. n + k) (prefix_whole (is_in class.Name) t names) in
+    let run : end_of_run class.Name z n ≡ m = ap (λ r. n + prefix_len (is_in class.Name) r) (drop-append_seam d t) ∙ ap (λ k. n + k) (prefix_whole (is_in class.Name) t names) in
     let f : ℕ → ℕ → Piece = λ end run. cond ((run == end) && not (get_or z end 0 == 46)) (Ok (T_NUMBER, end)) (cond (units (take (run - end) (drop end z))) (Ok (T_DURATION, run)) (Err (Numeral, 0))) in
     let back : m - n ≡ length t = omega arith in
     let tail : take (m - n) (drop n z) ≡ t = (λ i. take (back i) (drop-append_seam d t i)) ∙ take-length t in
-    ap (λ e. f e (past class.Name z e)) end ∙ ap (f n) run
+    ap (λ e. f e (end_of_run class.Name z e)) end ∙ ap (f n) run
     ∙ ap (λ c. cond (c && not (get_or z n 0 == 46)) (Ok (T_NUMBER, n)) (cond (units (take (m - n) (drop n z))) (Ok (T_DURATION, m)) (Err (Numeral, 0)))) (longer n (length t) some_t)
     ∙ ap (λ q. cond (units q) (Ok (T_DURATION, m)) (Err (Numeral, 0))) tail
     ∙ ap (λ c. cond c (Ok (T_DURATION, m)) (Err (Numeral, 0))) all

@@ -14,7 +14,7 @@ use Rattle.promql_token.specs.declared.state.Mode.{Mode}
 use Rattle.promql_token.specs.declared.state.Mode.TheVariants as mode
 use Rattle.promql_token.specs.declared.state.State.{State}
 use Rattle.promql_text.specs.Texts.{Text}
-use Rattle.promql_token.specs.Classes.{is_in, is_letter, past}
+use Rattle.promql_token.specs.Classes.{is_in, is_letter, end_of_run}
 use Rattle.promql_token.specs.Pieces.{Piece, word, word_in_braces, is_hex, digits, past_whole, past_point, past_sign, past_exponent, number_end, units, numeral, is_quote, is_escape, string_from, string, equal_sign, or_equal, bang_sign, dot_sign, single, sign, begins_numeral, outside, bang_in_braces, in_braces, colon_sign, in_brackets, end_in, begun, piece}
 use Rattle.promql_token.proofs.Places.{Ends, front, behind_low, low_eq, IsAsciiRun, run_ends, no_run, past_run, one_more, past_moves}
 
@@ -42,7 +42,7 @@ word_first b h = grind (arith, common_steps)
 name_first : (b : ℕ) → is_letter b ≡ true → is_in class.Name b ≡ true
 name_first b h = grind (arith, common_steps)
 
-class_ends : (c : Class) (z : Text) → Ends z (past c z 0)
+class_ends : (c : Class) (z : Text) → Ends z (end_of_run c z 0)
 class_ends c z = run_ends z _ (past_run c z 0 (no_run z))
 
 -- ---- numerals
@@ -62,7 +62,7 @@ prefix_run z hex =
 whole_run : (z : Text) → IsAsciiRun z (past_whole z)
 whole_run z = cases (is_hex z) refl
   where
-    cases : (h : Bool) → is_hex z ≡ h → IsAsciiRun z (past (cond h class.HexDigit class.Digit) z (cond h 2 0))
+    cases : (h : Bool) → is_hex z ≡ h → IsAsciiRun z (end_of_run (cond h class.HexDigit class.Digit) z (cond h 2 0))
     cases true hex = past_run class.HexDigit z 2 (prefix_run z hex)
     cases false plain = past_run class.Digit z 0 (no_run z)
 
@@ -96,12 +96,12 @@ exponent_goes z at = cond_both ((get_or z at 0 == 101) || (get_or z at 0 == 69))
 whole_moves : (z : Text) → 0 < length z → is_ascii_digit (get_or z 0 0) ≡ true → 0 < past_whole z
 whole_moves z some digit = cases (is_hex z)
   where
-    cases : (h : Bool) → 0 < past (cond h class.HexDigit class.Digit) z (cond h 2 0)
+    cases : (h : Bool) → 0 < end_of_run (cond h class.HexDigit class.Digit) z (cond h 2 0)
     cases true = omega arith
     cases false = past_moves class.Digit z some digit
 
 point_moves : (c : Class) (z : Text) (at : ℕ) → (get_or z 0 0 == 46) ≡ true → 0 < past_point c z at
-point_moves c z zero point = subst (λ b. 0 < cond b (past c z (0 + 1)) 0) (sym point) (omega arith)
+point_moves c z zero point = subst (λ b. 0 < cond b (end_of_run c z (0 + 1)) 0) (sym point) (omega arith)
 point_moves c z (suc at) point = omega (arith, point_goes c z (suc at))
 
 pub number_moves : (z : Text) → 0 < length z → begins_numeral z ≡ true → 0 < number_end z
@@ -117,7 +117,7 @@ pub numeral_ends : (z : Text) → 0 < length z → begins_numeral z ≡ true →
 unfolding numeral
 numeral_ends z some begins =
     let end = number_end z in
-    let run = past class.Name z end in
+    let run = end_of_run class.Name z end in
     let moves = number_moves z some begins in
     let r = number_run z in
     cond_both ((run == end) && not (get_or z end 0 == 46)) _ _ (PieceEnds z) (λ _. (run_ends z end r, λ _. moves)) (λ _.

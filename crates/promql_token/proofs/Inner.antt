@@ -13,7 +13,7 @@ use Rattle.promql_token.specs.declared.state.Bracket.TheVariants as bracket
 use Rattle.promql_token.specs.declared.state.Mode.{Mode}
 use Rattle.promql_token.specs.declared.state.Mode.TheVariants as mode
 use Rattle.promql_text.specs.Texts.{Text}
-use Rattle.promql_token.specs.Classes.{is_letter, past}
+use Rattle.promql_token.specs.Classes.{is_letter, end_of_run}
 use Rattle.promql_token.specs.Ids.{lookup, keywords, keyword_in_any_case, same_word}
 use Rattle.promql_token.specs.declared.ids.Case.TheVariants as case
 use Rattle.promql_token.specs.Pieces.{Piece, is_fill, opens, name_id, word_id, word, braces_id, word_in_braces, number_end, units, numeral, is_quote, is_escape, string_from, string, equal_sign, bang_sign, single, sign, begins_numeral, outside, bang_in_braces, in_braces, colon_sign, in_brackets, begun, after}
@@ -82,7 +82,7 @@ numeral_inner : (depth : ℕ) (z : Text) → Inner depth (numeral z)
 unfolding numeral
 numeral_inner depth z =
     let end = number_end z in
-    let run = past class.Name z end in
+    let run = end_of_run class.Name z end in
     cond_both ((run == end) && not (get_or z end 0 == 46)) _ _ (Inner depth) (λ _. (refl, λ (no : false ≡ true). absurd (cc))) (λ _.
     cond_both (units (take (run - end) (drop end z))) _ _ (Inner depth) (λ _. (refl, λ (no : false ≡ true). absurd (cc))) (λ _. tt))
 
@@ -134,7 +134,7 @@ unfolding outside word
 outside_inner depth z =
     let b = get_or z 0 0 in
     cond_both (begins_numeral z) _ _ (Inner depth) (λ _. numeral_inner depth z) (λ _.
-    cond_both (is_letter b || (b == 58)) _ _ (Inner depth) (λ _. let n = past class.Word z 0 in plain_inner depth _ (word_plain (take n z) (drop n z))) (λ _.
+    cond_both (is_letter b || (b == 58)) _ _ (Inner depth) (λ _. let n = end_of_run class.Word z 0 in plain_inner depth _ (word_plain (take n z) (drop n z))) (λ _.
     cond_both (is_quote b) _ _ (Inner depth) (λ _. string_inner depth z) (λ _. sign_inner depth z)))
 
 bang_in_braces_inner : (depth : ℕ) (z : Text) → Inner depth (bang_in_braces z)
@@ -152,7 +152,7 @@ in_braces_inner depth z =
     cond_both (b == 33) _ _ (Inner depth) (λ _. bang_in_braces_inner depth z) (λ _.
     cond_both (b == 123) _ _ (Inner depth) (λ _. tt) (λ _.
     cond_both (b == 125) _ _ (Inner depth) (λ _. (refl, λ (no : false ≡ true). absurd (cc))) (λ _.
-    cond_both (is_letter b) _ _ (Inner depth) (λ _. let n = past class.Name z 0 in plain_inner depth _ (braces_plain (take n z) (drop n z))) (λ _.
+    cond_both (is_letter b) _ _ (Inner depth) (λ _. let n = end_of_run class.Name z 0 in plain_inner depth _ (braces_plain (take n z) (drop n z))) (λ _.
     cond_both (is_quote b) _ _ (Inner depth) (λ _. string_inner depth z) (λ _. tt)))))))
 
 colon_inner : (depth : ℕ) (inside : Bracket) → Inner depth (colon_sign inside)

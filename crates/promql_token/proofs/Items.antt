@@ -10,7 +10,7 @@ use Rattle.promql_token.specs.declared.fault.LexFaultKind.{LexFaultKind}
 use Rattle.promql_token.specs.declared.lexeme.Lexeme.{Lexeme}
 use Rattle.promql_token.specs.declared.state.State.{State}
 use Rattle.promql_text.specs.Texts.{Text}
-use Rattle.promql_token.specs.Lexing.{found, first, shown, what, item, placed, What, len_of, goes_on, behind, cut}
+use Rattle.promql_token.specs.Lexing.{found, first, shown, piece_text, item, placed, PieceText, len_of, goes_on, behind, cut}
 use Rattle.promql_token.specs.Pieces.{Piece, gap_len, piece, after_gap, after}
 use Rattle.promql_token.proofs.Cuts.{cut_goes, cut_stops}
 use Rattle.promql_token.proofs.Ends.{PieceEnds, piece_ends}
@@ -43,14 +43,14 @@ module _ {text : Text} {at : ℕ} {state : State} {g : ℕ} {p : Piece} (h : Her
   ends : PieceEnds (drop (at + g) text) p
   ends = subst (PieceEnds (drop (at + g) text)) (sym h.piece_is) (piece_ends (after_gap g state) (drop (at + g) text))
 
-  found_is : found state (drop at text) ≡ record { gap = g; what = what p (drop (at + g) text) }
+  found_is : found state (drop at text) ≡ record { gap = g; piece_text = piece_text p (drop (at + g) text) }
   unfolding found
   found_is =
       let gap = sym h.gap_is in
       let rest : drop (gap_len state.mode (drop at text)) (drop at text) ≡ drop (at + g) text = ap (λ n. drop n (drop at text)) gap ∙ drop-drop g at text in
       let is : piece (after_gap (gap_len state.mode (drop at text)) state) (drop (gap_len state.mode (drop at text)) (drop at text)) ≡ p =
       ap (λ n. piece (after_gap n state) (drop n (drop at text))) gap ∙ ap (piece (after_gap g state)) (drop-drop g at text) ∙ sym h.piece_is in
-      λ i. record { gap = gap i; what = what (is i) (rest i) }
+      λ i. record { gap = gap i; piece_text = piece_text (is i) (rest i) }
 
   pub token_ends : (id len : ℕ) → p ≡ Ok (id, len) → Ends (drop (at + g) text) len × (id ≢ 6 → 0 < len)
   token_ends id len is = subst (PieceEnds (drop (at + g) text)) is ends
@@ -66,7 +66,7 @@ module _ {text : Text} {at : ℕ} {state : State} {g : ℕ} {p : Piece} (h : Her
       let e = (token_ends id len is).0 in
       let ok : ℕ → Result Lexeme LexFault = λ n. Ok (record { id = id; start = at + g; len = n }) in
       ap ok (sym (length-take-le len (drop (at + g) text) e.within))
-      ∙ ap (λ q. item (at + g) (what q (drop (at + g) text))) (sym is)
+      ∙ ap (λ q. item (at + g) (piece_text q (drop (at + g) text))) (sym is)
       ∙ ap (first at) (sym found_is)
 
   pub fault_value : (kind : LexFaultKind) (offset : ℕ) → p ≡ Err (kind, offset)
@@ -74,7 +74,7 @@ module _ {text : Text} {at : ℕ} {state : State} {g : ℕ} {p : Piece} (h : Her
   fault_value kind offset is =
       let err : Text → Result Lexeme LexFault = λ c. Err (record { kind = kind; at = at + g + offset; ch = shown kind c }) in
       ap err (sym (drop-drop offset (at + g) text))
-      ∙ ap (λ q. item (at + g) (what q (drop (at + g) text))) (sym is)
+      ∙ ap (λ q. item (at + g) (piece_text q (drop (at + g) text))) (sym is)
       ∙ ap (first at) (sym found_is)
 
 -- ---- what is left behind an item
@@ -82,17 +82,17 @@ module _ {text : Text} {at : ℕ} {state : State} {g : ℕ} {p : Piece} (h : Her
 ok_is : (a b : Lexeme) (r : Result Lexeme LexFault) → r ≡ Ok a → r ≡ Ok b → a ≡ b
 ok_is a b r e f = cc
 
-pub record IsToken (at : ℕ) (w : What) (x : Lexeme) : Type 0 where
+pub record IsToken (at : ℕ) (w : PieceText) (x : Lexeme) : Type 0 where
   pub start : x.start ≡ at
   pub len : len_of w ≡ x.len
   pub goes : goes_on w ≡ not (x.id == 6)
   pub state : (s : State) → behind s w ≡ after s x.id
 
-pub is_token : (at : ℕ) (w : What) (x : Lexeme) → item at w ≡ Ok x → IsToken at w x
+pub is_token : (at : ℕ) (w : PieceText) (x : Lexeme) → item at w ≡ Ok x → IsToken at w x
 is_token at (Ok t) x is = subst (IsToken at (Ok t)) (ok_is _ _ (item at (Ok t)) refl is) (record { start = refl; len = refl; goes = refl; state = λ s. refl })
 is_token at (Err f) x is = cc
 
-no_token : (at : ℕ) (w : What) (f : LexFault) → item at w ≡ Err f → goes_on w ≡ false
+no_token : (at : ℕ) (w : PieceText) (f : LexFault) → item at w ≡ Err f → goes_on w ≡ false
 no_token at (Ok t) f is = cc
 no_token at (Err e) f is = refl
 
@@ -101,17 +101,17 @@ pub left_token : (text : Text) (at : ℕ) (state : State) (x : Lexeme) → Ok x 
 left_token text at state x is order fits moves =
     let z = drop at text in
     let f = found state z in
-    let t = is_token (at + f.gap) f.what x (sym is) in
+    let t = is_token (at + f.gap) f.piece_text x (sym is) in
     let start = t.start in
     let len = t.len in
     elim (x.id == 6) as (λ b. (x.id == 6) ≡ b → placed at (cut state z) ≡ Ok x ∷ cond b [] (placed (x.start + x.len) (cut (after state x.id) (drop (x.start + x.len) text)))) [
       | true ↦ λ end. ap (placed at) (cut_stops state z (t.goes ∙ ap not end)) ∙ ap (λ i. i ∷ []) (sym is)
       | false ↦ λ more.
-          let back : f.gap + len_of f.what ≡ (x.start + x.len) - at = omega arith in
-          let there : x.start + x.len ≡ at + f.gap + len_of f.what = omega arith in
-          let place : at + (f.gap + len_of f.what) ≡ x.start + x.len = omega arith in
+          let back : f.gap + len_of f.piece_text ≡ (x.start + x.len) - at = omega arith in
+          let there : x.start + x.len ≡ at + f.gap + len_of f.piece_text = omega arith in
+          let place : at + (f.gap + len_of f.piece_text) ≡ x.start + x.len = omega arith in
           let go = cut_goes state z (t.goes ∙ ap not more) (omega (arith, moves (eqb-false _ _ more))) (omega (arith, length-drop at text)) in
-          ap (placed at) go ∙ (λ i. (sym is) i ∷ placed ((sym there) i) (cut (t.state state i) ((drop-drop (f.gap + len_of f.what) at text ∙ ap (λ n. drop n text) place) i)))
+          ap (placed at) go ∙ (λ i. (sym is) i ∷ placed ((sym there) i) (cut (t.state state i) ((drop-drop (f.gap + len_of f.piece_text) at text ∙ ap (λ n. drop n text) place) i)))
     ] refl
 
 pub left_fault : (z : Text) (at : ℕ) (state : State) (f : LexFault) (r : Result Lexeme LexFault) → r ≡ first at (found state z) → r ≡ Err f → placed at (cut state z) ≡ r ∷ []

@@ -13,15 +13,15 @@ use Rattle.promql_token.specs.declared.state.Mode.{Mode}
 use Rattle.promql_token.specs.declared.state.Mode.TheVariants as mode
 use Rattle.promql_token.specs.declared.state.State.{State}
 use Rattle.promql_text.specs.Texts.{Text}
-use Rattle.promql_token.specs.Classes.{is_in, is_letter, past}
+use Rattle.promql_token.specs.Classes.{is_in, is_letter, end_of_run}
 use Rattle.promql_token.specs.Laws.{Joins, JoinsWord, JoinsName, stops_numeral, stops_sign, parts, parts_outside, parts_in_braces, parts_in_brackets}
-use Rattle.promql_token.specs.Lexing.{whats}
+use Rattle.promql_token.specs.Lexing.{pieces}
 use Rattle.promql_token.specs.Pieces.{Piece, gap_from, gap_len, word_id, word, braces_id, word_in_braces, numeral, is_quote, string, bang_sign, dot_sign, sign, begins_numeral, outside, bang_in_braces, in_braces, in_brackets, begun, piece, after}
 use Rattle.promql_token.proofs.Beside.{numeral_beside, stops, string_beside, word_beside, word_in_braces_beside}
 use Rattle.promql_token.proofs.Choices.{not_one, or_false, split}
 use Rattle.promql_token.proofs.Ends.{and_left, and_right}
 use Rattle.promql_token.proofs.Inner.{Inner, begun_inner, word_plain, braces_plain, after_outside, after_in_braces}
-use Rattle.promql_token.proofs.Steps.{not_true, whats_piece}
+use Rattle.promql_token.proofs.Steps.{not_true, pieces_piece}
 
 -- ---- no gap stands where a token does
 
@@ -69,7 +69,7 @@ no_comment_gap b z hash white =
     split (is_ascii_whitespace b) (λ e. absurd (white e)) (λ no_white.
     ap (λ c. cond c (suc (gap_from true z)) (cond (is_ascii_whitespace b) (suc (gap_from false z)) 0)) no_hash ∙ ap (λ c. cond c (suc (gap_from false z)) 0) no_white))
 
-no_white_gap : (b : ℕ) (z : Text) → (is_ascii_whitespace b ≡ true → ⊥) → past class.White (b ∷ z) 0 ≡ 0
+no_white_gap : (b : ℕ) (z : Text) → (is_ascii_whitespace b ≡ true → ⊥) → end_of_run class.White (b ∷ z) 0 ≡ 0
 no_white_gap b z white = split (is_ascii_whitespace b) (λ e. absurd (white e)) (λ no_white. rw no_white refl)
 
 gapless : (m : Mode) (depth b : ℕ) (w z : Text) (t : ℕ × ℕ) → begun m depth (b ∷ w) ≡ Ok t → gap_len m (b ∷ z) ≡ 0
@@ -88,18 +88,18 @@ keeps true x x2 y y2 t f g is = f refl is
 keeps false x x2 y y2 t f g is = g refl is
 
 -- a word that is a token alone is all word
-word_all : (z : Text) (id : ℕ) → word z ≡ Ok (id, length z) → (past class.Word z 0 ≡ length z) × (word_id z [] ≡ id)
+word_all : (z : Text) (id : ℕ) → word z ≡ Ok (id, length z) → (end_of_run class.Word z 0 ≡ length z) × (word_id z [] ≡ id)
 unfolding word
 word_all z id is =
-    let n = past class.Word z 0 in
+    let n = end_of_run class.Word z 0 in
     let pair : ◌≡◌ {A = ℕ × ℕ} (word_id (take n z) (drop n z), n) (id, length z) = cc in
     let len : n ≡ length z = ap (λ (p : ℕ × ℕ). p.1) pair in
     (len, (λ i. word_id ((sym (take-length z) ∙ ap (λ k. take k z) (sym len)) i) ((sym (drop-length z) ∙ ap (λ k. drop k z) (sym len)) i)) ∙ ap (λ (p : ℕ × ℕ). p.0) pair)
 
-name_all : (z : Text) (id : ℕ) → word_in_braces z ≡ Ok (id, length z) → (past class.Name z 0 ≡ length z) × (braces_id z [] ≡ id)
+name_all : (z : Text) (id : ℕ) → word_in_braces z ≡ Ok (id, length z) → (end_of_run class.Name z 0 ≡ length z) × (braces_id z [] ≡ id)
 unfolding word_in_braces
 name_all z id is =
-    let n = past class.Name z 0 in
+    let n = end_of_run class.Name z 0 in
     let pair : ◌≡◌ {A = ℕ × ℕ} (braces_id (take n z) (drop n z), n) (id, length z) = cc in
     let len : n ≡ length z = ap (λ (p : ℕ × ℕ). p.1) pair in
     (len, (λ i. braces_id ((sym (take-length z) ∙ ap (λ k. take k z) (sym len)) i) ((sym (drop-length z) ∙ ap (λ k. drop k z) (sym len)) i)) ∙ ap (λ (p : ℕ × ℕ). p.0) pair)
@@ -250,10 +250,10 @@ begun_keeps (mode.Brackets inside) depth b w r id apart is = in_brackets_keeps i
 -- ---- the laws
 
 -- a token with its own text behind no gap
-steps : (state : State) (b : ℕ) (w r : Text) (id : ℕ) → begun state.mode state.depth ((b ∷ w) ++ r) ≡ Ok (id, suc (length w)) → whats state ((b ∷ w) ++ r) ≡ Ok (id, b ∷ w) ∷ whats (after state id) r
+steps : (state : State) (b : ℕ) (w r : Text) (id : ℕ) → begun state.mode state.depth ((b ∷ w) ++ r) ≡ Ok (id, suc (length w)) → pieces state ((b ∷ w) ++ r) ≡ Ok (id, b ∷ w) ∷ pieces (after state id) r
 unfolding piece
 steps state b w r id is =
-    whats_piece state (b ∷ w) r id (gapless state.mode state.depth b (w ++ r) (w ++ r) (id, suc (length w)) is) is (subst (Inner state.depth) is (begun_inner state.mode state.depth ((b ∷ w) ++ r))).0
+    pieces_piece state (b ∷ w) r id (gapless state.mode state.depth b (w ++ r) (w ++ r) (id, suc (length w)) is) is (subst (Inner state.depth) is (begun_inner state.mode state.depth ((b ∷ w) ++ r))).0
 
 pub joins : Joins
 unfolding piece
@@ -269,13 +269,13 @@ joins_word depth [] r is stop = cc
 joins_word depth (b ∷ w) r is stop =
     let state : State = record { depth = depth; mode = mode.Outside } in
     let first = and_left (is_letter b || (b == 58)) _ is in
-    let all = eqb-true (past class.Word (b ∷ w) 0) (suc (length w)) (and_right (is_letter b || (b == 58)) _ is) in
+    let all = eqb-true (end_of_run class.Word (b ∷ w) 0) (suc (length w)) (and_right (is_letter b || (b == 58)) _ is) in
     let z : Text = b ∷ (w ++ r) in
     let id = word_id (b ∷ w) r in
     let reads : outside depth z ≡ Ok (id, suc (length w)) =
     ap (λ x. cond x (numeral z) (cond (is_letter b || (b == 58)) (word z) (cond (is_quote b) (string z) (sign depth z)))) (no_numeral b (get_or (w ++ r) 0 0) first)
     ∙ ap (λ x. cond x (word z) (cond (is_quote b) (string z) (sign depth z))) first ∙ word_beside (b ∷ w) r all stop in
-    steps state b w r id reads ∙ ap (λ s. Ok (id, b ∷ w) ∷ whats s r) (after_outside depth id (word_plain (b ∷ w) r))
+    steps state b w r id reads ∙ ap (λ s. Ok (id, b ∷ w) ∷ pieces s r) (after_outside depth id (word_plain (b ∷ w) r))
 
 pub letter_apart : (b n : ℕ) → is_letter b ≡ true → is_letter n ≡ false → (b == n) ≡ false
 letter_apart b n letter other = split (b == n) (λ e. let same = ap is_letter (eqb-true b n e) in absurd (cc)) (λ no. no)
@@ -286,7 +286,7 @@ joins_name depth [] r is stop = cc
 joins_name depth (b ∷ w) r is stop =
     let state : State = record { depth = depth; mode = mode.Braces } in
     let letter = and_left (is_letter b) _ is in
-    let all = eqb-true (past class.Name (b ∷ w) 0) (suc (length w)) (and_right (is_letter b) _ is) in
+    let all = eqb-true (end_of_run class.Name (b ∷ w) 0) (suc (length w)) (and_right (is_letter b) _ is) in
     let z : Text = b ∷ (w ++ r) in
     let id = braces_id (b ∷ w) r in
     let n44 = letter_apart b 44 letter refl in
@@ -295,4 +295,4 @@ joins_name depth (b ∷ w) r is stop =
     let n123 = letter_apart b 123 letter refl in
     let n125 = letter_apart b 125 letter refl in
     let reads : in_braces z ≡ Ok (id, suc (length w)) = rw (n44, n61, n33, n123, n125, letter) (word_in_braces_beside (b ∷ w) r all stop) in
-    steps state b w r id reads ∙ ap (λ s. Ok (id, b ∷ w) ∷ whats s r) (after_in_braces depth id (braces_plain (b ∷ w) r))
+    steps state b w r id reads ∙ ap (λ s. Ok (id, b ∷ w) ∷ pieces s r) (after_in_braces depth id (braces_plain (b ∷ w) r))

@@ -8,7 +8,7 @@ use Rattle.promql_token.specs.declared.class.Class.{Class}
 use Rattle.promql_token.specs.declared.class.Class.TheVariants as class
 use Rattle.promql_text.specs.Texts.{Text}
 use Rattle.promql_token.specs.Begins.{IsNumber, is_fraction, is_power}
-use Rattle.promql_token.specs.Classes.{is_in, past}
+use Rattle.promql_token.specs.Classes.{is_in, end_of_run}
 use Rattle.promql_token.specs.Vocabulary.{next}
 use Rattle.promql_token.specs.Laws.{is_exponent, is_sign}
 use Rattle.promql_token.specs.Pieces.{begins_numeral, digits, is_hex, number_end, past_exponent, past_point, past_sign, past_whole}
@@ -39,8 +39,8 @@ in_none class.HexDigit = refl
 in_none class.Name = refl
 in_none class.Word = refl
 
-pub past_at : (c : Class) (z u w r : Text) (n : ℕ) → z ≡ u ++ (w ++ r) → n ≡ length u → list_all (is_in c) w ≡ true → is_in c (next r) ≡ false → past c z n ≡ n + length w
-past_at c z u w r n is len all stop = (λ i. past c (is i) (len i)) ∙ past_behind c u w r all stop ∙ ap (λ n. n + length w) (sym len)
+pub past_at : (c : Class) (z u w r : Text) (n : ℕ) → z ≡ u ++ (w ++ r) → n ≡ length u → list_all (is_in c) w ≡ true → is_in c (next r) ≡ false → end_of_run c z n ≡ n + length w
+past_at c z u w r n is len all stop = (λ i. end_of_run c (is i) (len i)) ∙ past_behind c u w r all stop ∙ ap (λ n. n + length w) (sym len)
 
 pub byte_at : (z u r : Text) (n : ℕ) → z ≡ u ++ r → n ≡ length u → get_or z n 0 ≡ next r
 byte_at z u r n is len = (λ i. get_or (is i) (len i) 0) ∙ at_seam u r
@@ -52,12 +52,12 @@ point_end : (c : Class) (front fraction r : Text) → is_fraction c fraction ≡
 point_end c front [] r h stop none =
     let n = length front in
     let same : n ≡ n + 0 = omega arith in
-    ap (λ b. cond (b == 46) (past c (front ++ r) (n + 1)) n) (at_seam front r) ∙ ap (λ x. cond x (past c (front ++ r) (n + 1)) n) (none refl) ∙ same
+    ap (λ b. cond (b == 46) (end_of_run c (front ++ r) (n + 1)) n) (at_seam front r) ∙ ap (λ x. cond x (end_of_run c (front ++ r) (n + 1)) n) (none refl) ∙ same
 point_end c front (b ∷ ds) r h stop none =
     let n = length front in
     let z : Text = front ++ (b ∷ (ds ++ r)) in
     let same : n + 1 + length ds ≡ n + suc (length ds) = omega arith in
-    ap (λ x. cond (x == 46) (past c z (n + 1)) n) (at_seam front (b ∷ (ds ++ r))) ∙ ap (λ x. cond x (past c z (n + 1)) n) (and_left (b == 46) (list_all (is_in c) ds) h)
+    ap (λ x. cond (x == 46) (end_of_run c z (n + 1)) n) (at_seam front (b ∷ (ds ++ r))) ∙ ap (λ x. cond x (end_of_run c z (n + 1)) n) (and_left (b == 46) (list_all (is_in c) ds) h)
     ∙ past_at c z (front ++ b ∷ []) ds r (n + 1) (sym (append_assoc front (b ∷ []) (ds ++ r))) (sym (length-append front (b ∷ []))) (and_right (b == 46) (list_all (is_in c) ds) h) stop ∙ same
 
 no_digit_sign : (b : ℕ) → is_ascii_digit b ≡ true → is_sign b ≡ false
@@ -69,7 +69,7 @@ power_end front [] r h none stop bare =
     let n = length front in
     let z : Text = front ++ r in
     let same : n ≡ n + 0 = omega arith in
-    ap (λ b. cond (is_exponent b) (past class.Digit z (past_sign z (n + 1))) n) (at_seam front r) ∙ ap (λ x. cond x (past class.Digit z (past_sign z (n + 1))) n) (none refl) ∙ same
+    ap (λ b. cond (is_exponent b) (end_of_run class.Digit z (past_sign z (n + 1))) n) (at_seam front r) ∙ ap (λ x. cond x (end_of_run class.Digit z (past_sign z (n + 1))) n) (none refl) ∙ same
 power_end front (e ∷ []) r h none stop bare =
     let n = length front in
     let z : Text = front ++ (e ∷ r) in
@@ -77,8 +77,8 @@ power_end front (e ∷ []) r h none stop bare =
     let is : z ≡ u ++ r = sym (append_assoc front (e ∷ []) r) in
     let len : n + 1 ≡ length u = sym (length-append front (e ∷ [])) in
     let same : n + 1 + 0 ≡ n + 1 = omega arith in
-    ap (λ b. cond (is_exponent b) (past class.Digit z (past_sign z (n + 1))) n) (at_seam front (e ∷ r)) ∙ ap (λ x. cond x (past class.Digit z (past_sign z (n + 1))) n) h
-    ∙ ap (λ b. past class.Digit z (cond (is_sign b) (n + 1 + 1) (n + 1))) (byte_at z u r (n + 1) is len) ∙ ap (λ x. past class.Digit z (cond x (n + 1 + 1) (n + 1))) bare
+    ap (λ b. cond (is_exponent b) (end_of_run class.Digit z (past_sign z (n + 1))) n) (at_seam front (e ∷ r)) ∙ ap (λ x. cond x (end_of_run class.Digit z (past_sign z (n + 1))) n) h
+    ∙ ap (λ b. end_of_run class.Digit z (cond (is_sign b) (n + 1 + 1) (n + 1))) (byte_at z u r (n + 1) is len) ∙ ap (λ x. end_of_run class.Digit z (cond x (n + 1 + 1) (n + 1))) bare
     ∙ past_at class.Digit z u [] r (n + 1) is len refl stop ∙ same
 power_end front (e ∷ b ∷ ds) r h none stop bare =
     let n = length front in
@@ -93,11 +93,11 @@ power_end front (e ∷ b ∷ ds) r h none stop bare =
     let ds_all = and_right (is_sign b || is_ascii_digit b) (are_digits ds) more in
     let same : n + 1 + 1 + length ds ≡ n + suc (suc (length ds)) = omega arith in
     let same2 : n + 1 + suc (length ds) ≡ n + suc (suc (length ds)) = omega arith in
-    ap (λ b. cond (is_exponent b) (past class.Digit z (past_sign z (n + 1))) n) (at_seam front (e ∷ b ∷ (ds ++ r))) ∙ ap (λ x. cond x (past class.Digit z (past_sign z (n + 1))) n) (and_left (is_exponent e) ((is_sign b || is_ascii_digit b) && are_digits ds) h)
-    ∙ ap (λ b. past class.Digit z (cond (is_sign b) (n + 1 + 1) (n + 1))) (byte_at z u (b ∷ (ds ++ r)) (n + 1) is len)
+    ap (λ b. cond (is_exponent b) (end_of_run class.Digit z (past_sign z (n + 1))) n) (at_seam front (e ∷ b ∷ (ds ++ r))) ∙ ap (λ x. cond x (end_of_run class.Digit z (past_sign z (n + 1))) n) (and_left (is_exponent e) ((is_sign b || is_ascii_digit b) && are_digits ds) h)
+    ∙ ap (λ b. end_of_run class.Digit z (cond (is_sign b) (n + 1 + 1) (n + 1))) (byte_at z u (b ∷ (ds ++ r)) (n + 1) is len)
     ∙ split (is_sign b)
-    (λ signed. ap (λ x. past class.Digit z (cond x (n + 1 + 1) (n + 1))) signed ∙ past_at class.Digit z u2 ds r (n + 1 + 1) is2 len2 ds_all stop ∙ same)
-    (λ plain. ap (λ x. past class.Digit z (cond x (n + 1 + 1) (n + 1))) plain
+    (λ signed. ap (λ x. end_of_run class.Digit z (cond x (n + 1 + 1) (n + 1))) signed ∙ past_at class.Digit z u2 ds r (n + 1 + 1) is2 len2 ds_all stop ∙ same)
+    (λ plain. ap (λ x. end_of_run class.Digit z (cond x (n + 1 + 1) (n + 1))) plain
     ∙ past_at class.Digit z u (b ∷ ds) r (n + 1) is len (λ i. digit_of plain (and_left (is_sign b || is_ascii_digit b) (are_digits ds) more) i && ds_all i) stop ∙ same2)
   where
     digit_of : {x y : Bool} → x ≡ false → (x || y) ≡ true → y ≡ true
@@ -134,7 +134,7 @@ decimal_at whole fraction power r plain ds f p whole_stop fraction_stop no_point
     let u : Text = whole ++ fraction in
     let is : z ≡ u ++ (power ++ r) = sym (append_assoc whole fraction (power ++ r)) in
     let len : n + length fraction ≡ length u = sym (length-append whole fraction) in
-    let whole_end : past_whole z ≡ n = ap (λ x. past (cond x class.HexDigit class.Digit) z (cond x 2 0)) plain ∙ past_front class.Digit whole (fraction ++ (power ++ r)) ds whole_stop in
+    let whole_end : past_whole z ≡ n = ap (λ x. end_of_run (cond x class.HexDigit class.Digit) z (cond x 2 0)) plain ∙ past_front class.Digit whole (fraction ++ (power ++ r)) ds whole_stop in
     ap (λ k. past_exponent z (past_point (digits z) z k)) whole_end
     ∙ ap (λ x. past_exponent z (past_point (cond x class.HexDigit class.Digit) z n)) plain
     ∙ ap (past_exponent z) (point_end class.Digit whole fraction (power ++ r) f fraction_stop no_point)
@@ -176,12 +176,12 @@ hex_at x whole fraction r x_is ds f whole_stop stop no_point =
     let len : m ≡ length u = sym (length-append front fraction) in
     let two : 2 + length whole ≡ n = omega arith in
     let whole_end : past_whole z ≡ n =
-    ap (λ b. past (cond b class.HexDigit class.Digit) z (cond b 2 0)) x_is ∙ past_at class.HexDigit z (48 ∷ x ∷ []) whole (fraction ++ r) 2 refl refl ds whole_stop ∙ two in
+    ap (λ b. end_of_run (cond b class.HexDigit class.Digit) z (cond b 2 0)) x_is ∙ past_at class.HexDigit z (48 ∷ x ∷ []) whole (fraction ++ r) 2 refl refl ds whole_stop ∙ two in
     ap (λ k. past_exponent z (past_point (digits z) z k)) whole_end
     ∙ ap (λ b. past_exponent z (past_point (cond b class.HexDigit class.Digit) z n)) x_is
     ∙ ap (past_exponent z) (point_end class.HexDigit front fraction r f stop no_point)
-    ∙ ap (λ b. cond (is_exponent b) (past class.Digit z (past_sign z (m + 1))) m) (byte_at z u r m is len)
-    ∙ ap (λ b. cond b (past class.Digit z (past_sign z (m + 1))) m) (no_hex_exponent (next r) stop)
+    ∙ ap (λ b. cond (is_exponent b) (end_of_run class.Digit z (past_sign z (m + 1))) m) (byte_at z u r m is len)
+    ∙ ap (λ b. cond b (end_of_run class.Digit z (past_sign z (m + 1))) m) (no_hex_exponent (next r) stop)
 
 pub hex_end : (z : Text) (h : Hex z) → number_end z ≡ suc (suc (length h.whole)) + length h.fraction
 hex_end z h = ap number_end h.is ∙ hex_at h.x h.whole h.fraction h.rest h.x_is h.digits h.fraction_is h.whole_stop h.stop h.no_point

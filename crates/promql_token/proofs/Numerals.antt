@@ -11,7 +11,7 @@ use Rattle.promql_token.specs.declared.fault.LexFaultKind.TheVariants.{Numeral}
 use Rattle.promql_token.specs.declared.ids.TheConstants.{T_DURATION, T_NUMBER}
 use Rattle.promql_text.specs.Texts.{Text}
 use Rattle.promql_token.specs.Begins.{IsDuration, IsNumber, IsNumeral, is_unit_text}
-use Rattle.promql_token.specs.Classes.{is_in, past}
+use Rattle.promql_token.specs.Classes.{is_in, end_of_run}
 use Rattle.promql_token.specs.FaultPlaces.{NoNumeral}
 use Rattle.promql_token.specs.Vocabulary.{next}
 use Rattle.promql_token.specs.Pieces.{Piece, begins_numeral, is_unit, number_end, numeral, part_len, parts_from, unit_len, units}
@@ -67,7 +67,7 @@ record PartFront (z : Text) : Type 0 where
 part_front : (z : Text) → (part_len z == 0) ≡ false → PartFront z
 part_front z some =
     let k = run_of is_ascii_digit z refl in
-    let count : past class.Digit z 0 ≡ length k.run = past_at class.Digit z [] k.run k.rest 0 k.is refl k.all k.stop ∙ zero-add (length k.run) in
+    let count : end_of_run class.Digit z 0 ≡ length k.run = past_at class.Digit z [] k.run k.rest 0 k.is refl k.all k.stop ∙ zero-add (length k.run) in
     let behind : drop (length k.run) z ≡ k.rest = ap (drop (length k.run)) k.is ∙ drop-append_seam k.run k.rest in
     let n = length k.run in
     let f : ℕ → ℕ → ℕ = λ count unit. cond ((count == 0) || (unit == 0)) 0 (count + unit) in
@@ -126,19 +126,19 @@ name_apart : (c : ℕ) → is_in class.Name c ≡ false → (c == 46) ≡ false 
 name_apart c name point = record { digit = grind (arith, common_steps); point = point; exponent = grind (arith, common_steps); hex = grind (arith, common_steps) }
 
 -- what `numeral` is, by where the number and the run of letters and digits end
-by_ends : (z : Text) (end run : ℕ) → number_end z ≡ end → past class.Name z end ≡ run
+by_ends : (z : Text) (end run : ℕ) → number_end z ≡ end → end_of_run class.Name z end ≡ run
     → numeral z ≡ cond ((run == end) && not (get_or z end 0 == 46)) (Ok (T_NUMBER, end)) (cond (units (take (run - end) (drop end z))) (Ok (T_DURATION, run)) (Err (Numeral, 0)))
 unfolding numeral
 by_ends z end run e r =
     let f : ℕ → ℕ → Piece = λ end run. cond ((run == end) && not (get_or z end 0 == 46)) (Ok (T_NUMBER, end)) (cond (units (take (run - end) (drop end z))) (Ok (T_DURATION, run)) (Err (Numeral, 0))) in
-    ap (λ e. f e (past class.Name z e)) e ∙ ap (f end) r
+    ap (λ e. f e (end_of_run class.Name z e)) e ∙ ap (f end) r
 
 number_read : (w r : Text) → is_in class.Name (next r) ≡ false → IsNumber w (next r) → (next r == 46) ≡ false → numeral (w ++ r) ≡ Ok (T_NUMBER, length w)
 number_read w r name h point =
     let z : Text = w ++ r in
     let n = length w in
     let end = (number_is w r h (name_apart (next r) name point)).0 in
-    let run : past class.Name z n ≡ n = past_at class.Name z w [] r n refl refl refl name ∙ add-zero n in
+    let run : end_of_run class.Name z n ≡ n = past_at class.Name z w [] r n refl refl refl name ∙ add-zero n in
     by_ends z n n end run
     ∙ (λ i. cond (same_number n i && not (byte_at z w r n refl refl i == 46)) (Ok (T_NUMBER, n)) (cond (units (take (n - n) (drop n z))) (Ok (T_DURATION, n)) (Err (Numeral, 0))))
     ∙ ap (λ c. cond (not c) (Ok (T_NUMBER, n)) (cond (units (take (n - n) (drop n z))) (Ok (T_DURATION, n)) (Err (Numeral, 0)))) point
@@ -162,7 +162,7 @@ duration_read w r name d =
     let m = n + length t in
     let end : number_end z ≡ n = ap number_end is ∙ (number_is number rest (subst (IsNumber number) (sym first) d.4) apart).0 in
     let names = joined_names u (parts_text ps) unit.names (parts_names ps d.6) in
-    let run : past class.Name z n ≡ m = past_at class.Name z number t r n is refl names name in
+    let run : end_of_run class.Name z n ≡ m = past_at class.Name z number t r n is refl names name in
     let back : m - n ≡ length t = omega arith in
     let tail : take (m - n) (drop n z) ≡ t = (λ i. take (back i) ((ap (drop n) is ∙ drop-append_seam number rest) i)) ∙ take-append_seam t r in
     let len : m ≡ length w = sym (length-append number t) ∙ ap length (sym d.3) in
@@ -209,7 +209,7 @@ run_stops : (p : ℕ → Bool) (r : Text) → p 0 ≡ false → prefix_len p r �
 run_stops p [] none h = none
 run_stops p (b ∷ r) none h = split (p b) (λ is. let longer : 1 + prefix_len p r ≡ 0 = sym (ap (λ c. cond c (1 + prefix_len p r) 0) is) ∙ h in absurd (omega arith)) (λ no. no)
 
-number_says : (z : Text) (f : Front z) (end run : ℕ) → end ≡ length f.number → past class.Name z end ≡ run → ((run == end) && not (get_or z end 0 == 46)) ≡ true → IsNumeral T_NUMBER (take end z) (drop end z)
+number_says : (z : Text) (f : Front z) (end run : ℕ) → end ≡ length f.number → end_of_run class.Name z end ≡ run → ((run == end) && not (get_or z end 0 == 46)) ≡ true → IsNumeral T_NUMBER (take end z) (drop end z)
 number_says z f end run len r h =
     let front : take end z ≡ f.number = (λ i. take (len i) (f.is i)) ∙ take-append_seam f.number f.rest in
     let back : drop end z ≡ f.rest = (λ i. drop (len i) (f.is i)) ∙ drop-append_seam f.number f.rest in
@@ -223,7 +223,7 @@ number_says z f end run len r h =
     not_false true h = sym h
     not_false false h = refl
 
-duration_says : (z : Text) (f : Front z) (end run : ℕ) → end ≡ length f.number → past class.Name z end ≡ run → units (take (run - end) (drop end z)) ≡ true → IsNumeral T_DURATION (take run z) (drop run z)
+duration_says : (z : Text) (f : Front z) (end run : ℕ) → end ≡ length f.number → end_of_run class.Name z end ≡ run → units (take (run - end) (drop end z)) ≡ true → IsNumeral T_DURATION (take run z) (drop run z)
 duration_says z f end run len r h =
     let k = run_of (is_in class.Name) f.rest refl in
     let whole : z ≡ f.number ++ (k.run ++ k.rest) = f.is ∙ ap (λ t. f.number ++ t) k.is in
@@ -249,7 +249,7 @@ pub numeral_says : (z : Text) → begins_numeral z ≡ true → NumeralSays z (n
 numeral_says z begins =
     let f = front_of z begins in
     let end = number_end z in
-    let run = past class.Name z end in
+    let run = end_of_run class.Name z end in
     let is = by_ends z end run refl refl in
     subst (NumeralSays z) (sym is)
     (cond_both ((run == end) && not (get_or z end 0 == 46)) _ _ (λ p. numeral z ≡ p → NumeralSays z p) (λ h _. number_says z f end run f.end refl h) (λ _.

@@ -15,7 +15,7 @@ use Rattle.promql_token.specs.declared.class.Class.TheVariants as class
 use Rattle.promql_token.specs.declared.state.Mode.{Mode}
 use Rattle.promql_token.specs.declared.state.Mode.TheVariants as mode
 use Rattle.promql_text.specs.Texts.{Text}
-use Rattle.promql_token.specs.Classes.{is_in, past}
+use Rattle.promql_token.specs.Classes.{is_in, end_of_run}
 use Rattle.promql_token.specs.Pieces.{gap_from, gap_in, gap_len, is_line_end}
 
 -- n is the front, the end, or behind an ASCII byte
@@ -99,11 +99,11 @@ low_in class.Name b h = grind (arith, common_steps)
 low_in class.Word b h = grind (arith, common_steps)
 
 -- bytes of one class go on a run
-pub past_run : (c : Class) (z : Text) (at : ℕ) → IsAsciiRun z at → IsAsciiRun z (past c z at)
+pub past_run : (c : Class) (z : Text) (at : ℕ) → IsAsciiRun z at → IsAsciiRun z (end_of_run c z at)
 past_run c z at r = record {
   within = let within = r.within in omega (arith, prefix_len-le-length (is_in c) (drop at z), length-drop at z);
   low = λ k h. ⊎_elim (r.low k)
-      (λ (past : at ≤ k). let i : k - at < prefix_len (is_in c) (drop at z) = omega arith in let is : at + (k - at) ≡ k = omega arith in
+      (λ (end_of_run : at ≤ k). let i : k - at < prefix_len (is_in c) (drop at z) = omega arith in let is : at + (k - at) ≡ k = omega arith in
       low_in c _ (subst (λ j. is_in c (get_or z j 0) ≡ true) is (ap (is_in c) (sym (get_or-drop at z (k - at) 0)) ∙ prefix_len_passes (is_in c) (drop at z) (k - at) 0 i)))
       (order k at);
 }
@@ -116,7 +116,7 @@ one_more z at r low some = record {
 }
 
 -- a byte of the class is counted
-pub past_moves : (c : Class) (z : Text) → 0 < length z → is_in c (get_or z 0 0) ≡ true → 0 < past c z 0
+pub past_moves : (c : Class) (z : Text) → 0 < length z → is_in c (get_or z 0 0) ≡ true → 0 < end_of_run c z 0
 past_moves c [] h passes = absurd (omega arith)
 past_moves c (b ∷ z) h passes = subst (λ t. 0 < 0 + cond t (1 + prefix_len (is_in c) z) 0) (sym passes) (omega arith)
 

@@ -14,9 +14,9 @@ use Rattle.promql_token.specs.declared.state.Mode.{Mode}
 use Rattle.promql_token.specs.declared.state.Mode.TheVariants as mode
 use Rattle.promql_token.specs.declared.state.State.{State}
 use Rattle.promql_text.specs.Texts.{Text}
-use Rattle.promql_token.specs.Classes.{is_in, is_letter, past}
+use Rattle.promql_token.specs.Classes.{is_in, is_letter, end_of_run}
 use Rattle.promql_token.specs.Laws.{parts, stops_numeral}
-use Rattle.promql_token.specs.Lexing.{whats}
+use Rattle.promql_token.specs.Lexing.{pieces}
 use Rattle.promql_token.specs.Pieces.{Piece, begins_numeral, is_hex, past_whole, past_point, past_sign, past_exponent, number_end, digits, units, is_quote, is_escape, string, string_from, numeral, outside, in_braces, in_brackets, piece, after}
 use Rattle.promql_token.specs.Printed.{holds_strings, is_spelling, joined, quoted, JoinsString, holds_numerals, are_digits, decimal, JoinsNumber}
 use Rattle.promql_token.proofs.Choices.{same_number}
@@ -129,10 +129,10 @@ prefix_all p (b ∷ w) r h stop =
     ap (λ c. cond c (1 + prefix_len p (w ++ r)) 0) (and_left (p b) (list_all p w) h) ∙ ap (λ n. 1 + n) e ∙ same
 
 -- a run behind a front
-pub past_behind : (c : Class) (u w r : Text) → list_all (is_in c) w ≡ true → is_in c (get_or r 0 0) ≡ false → past c (u ++ (w ++ r)) (length u) ≡ length u + length w
+pub past_behind : (c : Class) (u w r : Text) → list_all (is_in c) w ≡ true → is_in c (get_or r 0 0) ≡ false → end_of_run c (u ++ (w ++ r)) (length u) ≡ length u + length w
 past_behind c u w r h stop = ap (λ z. length u + prefix_len (is_in c) z) (drop-append_seam u (w ++ r)) ∙ ap (λ n. length u + n) (prefix_all (is_in c) w r h stop)
 
-pub past_front : (c : Class) (w r : Text) → list_all (is_in c) w ≡ true → is_in c (get_or r 0 0) ≡ false → past c (w ++ r) 0 ≡ length w
+pub past_front : (c : Class) (w r : Text) → list_all (is_in c) w ≡ true → is_in c (get_or r 0 0) ≡ false → end_of_run c (w ++ r) 0 ≡ length w
 past_front c w r h stop = zero-add (prefix_len (is_in c) (w ++ r)) ∙ prefix_all (is_in c) w r h stop
 
 -- ---- digits
@@ -160,7 +160,7 @@ no_hex (b ∷ c ∷ w) r some h stop =
 
 -- digits before a text that begins with no digit, no `x`
 pub whole_is : (w r : Text) → 0 < length w → are_digits w ≡ true → is_ascii_digit (get_or r 0 0) ≡ false → ((get_or r 0 0 == 120) || (get_or r 0 0 == 88)) ≡ false → past_whole (w ++ r) ≡ length w
-whole_is w r some h stop stop_x = ap (λ x. past (cond x class.HexDigit class.Digit) (w ++ r) (cond x 2 0)) (no_hex w r some h stop_x) ∙ past_front class.Digit w r h stop
+whole_is w r some h stop stop_x = ap (λ x. end_of_run (cond x class.HexDigit class.Digit) (w ++ r) (cond x 2 0)) (no_hex w r some h stop_x) ∙ past_front class.Digit w r h stop
 
 first_digit : (w r : Text) → 0 < length w → are_digits w ≡ true → begins_numeral (w ++ r) ≡ true
 first_digit [] r some h = absurd (omega arith)
@@ -175,18 +175,18 @@ unfolding number_end
 number_whole z n whole no_point no_e =
     let c = digits z in
     ap (λ k. past_exponent z (past_point c z k)) whole
-    ∙ ap (λ b. past_exponent z (cond b (past c z (n + 1)) n)) no_point
-    ∙ ap (λ b. cond b (past class.Digit z (past_sign z (n + 1))) n) no_e
+    ∙ ap (λ b. past_exponent z (cond b (end_of_run c z (n + 1)) n)) no_point
+    ∙ ap (λ b. cond b (end_of_run class.Digit z (past_sign z (n + 1))) n) no_e
 
 -- the same with a point there
-number_point : (z : Text) (n m : ℕ) → is_hex z ≡ false → past_whole z ≡ n → (get_or z n 0 == 46) ≡ true → past class.Digit z (n + 1) ≡ m → ((get_or z m 0 == 101) || (get_or z m 0 == 69)) ≡ false → number_end z ≡ m
+number_point : (z : Text) (n m : ℕ) → is_hex z ≡ false → past_whole z ≡ n → (get_or z n 0 == 46) ≡ true → end_of_run class.Digit z (n + 1) ≡ m → ((get_or z m 0 == 101) || (get_or z m 0 == 69)) ≡ false → number_end z ≡ m
 unfolding number_end
 number_point z n m plain whole point fraction no_e =
     ap (λ k. past_exponent z (past_point (digits z) z k)) whole
-    ∙ ap (λ b. past_exponent z (cond b (past (digits z) z (n + 1)) n)) point
-    ∙ ap (λ h. past_exponent z (past (cond h class.HexDigit class.Digit) z (n + 1))) plain
+    ∙ ap (λ b. past_exponent z (cond b (end_of_run (digits z) z (n + 1)) n)) point
+    ∙ ap (λ h. past_exponent z (end_of_run (cond h class.HexDigit class.Digit) z (n + 1))) plain
     ∙ ap (past_exponent z) fraction
-    ∙ ap (λ b. cond b (past class.Digit z (past_sign z (m + 1))) m) no_e
+    ∙ ap (λ b. cond b (end_of_run class.Digit z (past_sign z (m + 1))) m) no_e
 
 pub prefix_whole : (p : ℕ → Bool) (w : Text) → list_all p w ≡ true → prefix_len p w ≡ length w
 prefix_whole p [] h = refl
@@ -202,8 +202,8 @@ number_all z end =
     let n = length z in
     let past_end : get_or z n 0 ≡ 0 = get_or_past z n 0 (omega arith) in
     let f : ℕ → ℕ → Bool → Piece = λ end run point. cond ((run == end) && not point) (Ok (T_NUMBER, end)) (cond (units (take (run - end) (drop end z))) (Ok (T_DURATION, run)) (Err (Numeral, 0))) in
-    let run : past class.Name z n ≡ n = ap (λ r. n + prefix_len (is_in class.Name) r) (drop-length z) ∙ add-zero n in
-    ap (λ e. f e (past class.Name z e) (get_or z e 0 == 46)) end
+    let run : end_of_run class.Name z n ≡ n = ap (λ r. n + prefix_len (is_in class.Name) r) (drop-length z) ∙ add-zero n in
+    ap (λ e. f e (end_of_run class.Name z e) (get_or z e 0 == 46)) end
     ∙ (λ i. f n (run i) (past_end i == 46))
     ∙ ap (λ b. cond (b && true) (Ok (T_NUMBER, n)) (cond (units (take (n - n) (drop n z))) (Ok (T_DURATION, n)) (Err (Numeral, 0)))) (same_number n)
 
@@ -218,7 +218,7 @@ decimal_end whole (b ∷ fraction) some h h2 =
     let n = length whole in
     let behind_point : drop (n + 1) z ≡ digits2 = sym (drop-drop 1 n z) ∙ ap (drop 1) (drop-append_seam whole r) in
     let len : n + 1 + suc (length fraction) ≡ length z = omega (arith, length-append whole r) in
-    let fraction_end : past class.Digit z (n + 1) ≡ length z = ap (λ q. n + 1 + prefix_len is_ascii_digit q) behind_point ∙ ap (λ k. n + 1 + k) (prefix_whole is_ascii_digit digits2 h2) ∙ len in
+    let fraction_end : end_of_run class.Digit z (n + 1) ≡ length z = ap (λ q. n + 1 + prefix_len is_ascii_digit q) behind_point ∙ ap (λ k. n + 1 + k) (prefix_whole is_ascii_digit digits2 h2) ∙ len in
     let past_end : get_or z (length z) 0 ≡ 0 = get_or_past z (length z) 0 (omega arith) in
     number_point z n (length z) (no_hex whole r some h refl) (whole_is whole r some h refl refl) (ap (λ x. x == 46) (at_seam whole r)) fraction_end (ap (λ x. (x == 101) || (x == 69)) past_end)
 
@@ -244,7 +244,7 @@ digit_parts (mode.Brackets inside) b w r holds digit stop = rw digit stop
 
 -- a numeral that begins with a digit
 pub joins_numeral : (state : State) (w r : Text) (id : ℕ) → holds_numerals state.mode ≡ true → 0 < length w → is_ascii_digit (get_or w 0 0) ≡ true → numeral w ≡ Ok (id, length w) → stops_numeral w r ≡ true
-    → whats state (w ++ r) ≡ Ok (id, w) ∷ whats (after state id) r
+    → pieces state (w ++ r) ≡ Ok (id, w) ∷ pieces (after state id) r
 joins_numeral state [] r id holds some digit is stop = absurd (omega arith)
 joins_numeral state (b ∷ w) r id holds some digit is stop =
     joins state (b ∷ w) r id some (digit_at state.mode state.depth b w (id, suc (length w)) holds digit is) (digit_parts state.mode b w r holds digit stop)

@@ -29,7 +29,7 @@ use Rattle.promql_token.specs.declared.state.State.{State}
 use Rattle.promql_token.specs.Classes.{is_in}
 use Rattle.promql_token.specs.Ids.{keyword_in_any_case}
 use Rattle.promql_token.specs.Laws.{stops_numeral}
-use Rattle.promql_token.specs.Lexing.{whats}
+use Rattle.promql_token.specs.Lexing.{pieces}
 use Rattle.promql_token.specs.Pieces.{after, word_id}
 use Rattle.promql_token.specs.Printed as printed
 use Rattle.promql_token.specs.Printed.{are_digits, holds_numerals, holds_strings, is_part, is_spelling, joined, parts_text, quoted}
@@ -63,7 +63,7 @@ joined_escapes (b ∷ s) = ap (λ z. escaped_byte b ++ z) (joined_escapes s)
 pub joins_quoted : JoinsQuoted
 joins_quoted state s r holds =
     let same : quoted 34 (map escaped_byte s) ≡ quoted_text s = ap (λ z. 34 ∷ (z ++ 34 ∷ [])) (joined_escapes s) in
-    subst (λ q. whats state (q ++ r) ≡ Ok (T_STRING, q) ∷ whats (after state T_STRING) r) same (joins_string state 34 (map escaped_byte s) r holds refl refl (all_spelled s))
+    subst (λ q. pieces state (q ++ r) ≡ Ok (T_STRING, q) ∷ pieces (after state T_STRING) r) same (joins_string state 34 (map escaped_byte s) r holds refl refl (all_spelled s))
 
 -- ---- digits
 
@@ -95,20 +95,20 @@ with_point whole [] some = absurd (omega arith)
 with_point whole (b ∷ fraction) some = refl
 
 point_joins : (state : State) (whole fraction r : Text) → holds_numerals state.mode ≡ true → IsDigits whole → IsDigits fraction → stops_numeral (whole ++ (46 ∷ fraction)) r ≡ true
-    → whats state ((whole ++ (46 ∷ fraction)) ++ r) ≡ Ok (T_NUMBER, whole ++ (46 ∷ fraction)) ∷ whats (after state T_NUMBER) r
+    → pieces state ((whole ++ (46 ∷ fraction)) ++ r) ≡ Ok (T_NUMBER, whole ++ (46 ∷ fraction)) ∷ pieces (after state T_NUMBER) r
 point_joins state whole fraction r holds w f =
-    subst (λ t. stops_numeral t r ≡ true → whats state (t ++ r) ≡ Ok (T_NUMBER, t) ∷ whats (after state T_NUMBER) r) (with_point whole fraction f.some) (joins_number state whole fraction r holds w.some w.digits f.digits)
+    subst (λ t. stops_numeral t r ≡ true → pieces state (t ++ r) ≡ Ok (T_NUMBER, t) ∷ pieces (after state T_NUMBER) r) (with_point whole fraction f.some) (joins_number state whole fraction r holds w.some w.digits f.digits)
 
-whole_joins : (state : State) (whole r : Text) → holds_numerals state.mode ≡ true → IsDigits whole → stops_numeral whole r ≡ true → whats state (whole ++ r) ≡ Ok (T_NUMBER, whole) ∷ whats (after state T_NUMBER) r
+whole_joins : (state : State) (whole r : Text) → holds_numerals state.mode ≡ true → IsDigits whole → stops_numeral whole r ≡ true → pieces state (whole ++ r) ≡ Ok (T_NUMBER, whole) ∷ pieces (after state T_NUMBER) r
 whole_joins state whole r holds w = joins_number state whole [] r holds w.some w.digits refl
 
 div_low : (a b : ℕ) → a < 10 ^ 38 → a / b < 10 ^ 64
 div_low a b h = omega (arith, h, div-le_self a b)
 
 magnitude_joins : (state : State) (d : Exact) (r : Text) → holds_numerals state.mode ≡ true → IsExact d → stops_numeral (magnitude_text d) r ≡ true
-    → whats state (magnitude_text d ++ r) ≡ Ok (T_NUMBER, magnitude_text d) ∷ whats (after state T_NUMBER) r
+    → pieces state (magnitude_text d ++ r) ≡ Ok (T_NUMBER, magnitude_text d) ∷ pieces (after state T_NUMBER) r
 magnitude_joins state d r holds e =
-    let P : Text → Type 0 = λ t. stops_numeral t r ≡ true → whats state (t ++ r) ≡ Ok (T_NUMBER, t) ∷ whats (after state T_NUMBER) r in
+    let P : Text → Type 0 = λ t. stops_numeral t r ≡ true → pieces state (t ++ r) ≡ Ok (T_NUMBER, t) ∷ pieces (after state T_NUMBER) r in
     cond_both (d.places == 0) _ _ P
     (λ _. whole_joins state (decimal d.digits ++ replicate d.zeros 48) r holds (first_digits d.digits (omega (arith, e.short)) d.zeros))
     (λ _. point_joins state (decimal (d.digits / 10 ^ d.places)) (padded d.places (d.digits % 10 ^ d.places)) r holds
@@ -149,14 +149,14 @@ pub joins_number_text : JoinsNumberText
 joins_number_text depth (number.Finite d) r e above stop colon =
     let state : State = record { depth = depth; mode = mode.Outside } in
     let same : exact_text d ≡ magnitude_text d = ap (λ b. cond b (45 ∷ []) [] ++ magnitude_text d) above in
-    subst (λ t. stops_numeral t r ≡ true → whats state (t ++ r) ≡ Ok (T_NUMBER, t) ∷ whats state r) (sym same)
-    (λ stop. magnitude_joins state d r refl e stop ∙ ap (λ s. Ok (T_NUMBER, magnitude_text d) ∷ whats s r) (number_stays depth)) stop
+    subst (λ t. stops_numeral t r ≡ true → pieces state (t ++ r) ≡ Ok (T_NUMBER, t) ∷ pieces state r) (sym same)
+    (λ stop. magnitude_joins state d r refl e stop ∙ ap (λ s. Ok (T_NUMBER, magnitude_text d) ∷ pieces s r) (number_stays depth)) stop
 joins_number_text depth number.Inf r e above stop colon =
     let s = stops (codes "Inf") r stop in
-    joins_word depth (codes "Inf") r refl (no_word_byte (get_or r 0 0) s.name colon) ∙ ap (λ id. Ok (id, codes "Inf") ∷ whats (record { depth = depth; mode = mode.Outside }) r) (infinite_id r)
+    joins_word depth (codes "Inf") r refl (no_word_byte (get_or r 0 0) s.name colon) ∙ ap (λ id. Ok (id, codes "Inf") ∷ pieces (record { depth = depth; mode = mode.Outside }) r) (infinite_id r)
 joins_number_text depth number.NaN r e above stop colon =
     let s = stops (codes "NaN") r stop in
-    joins_word depth (codes "NaN") r refl (no_word_byte (get_or r 0 0) s.name colon) ∙ ap (λ id. Ok (id, codes "NaN") ∷ whats (record { depth = depth; mode = mode.Outside }) r) (nan_id r)
+    joins_word depth (codes "NaN") r refl (no_word_byte (get_or r 0 0) s.name colon) ∙ ap (λ id. Ok (id, codes "NaN") ∷ pieces (record { depth = depth; mode = mode.Outside }) r) (nan_id r)
 joins_number_text depth number.NegInf r e above stop colon = absurd (cc)
 
 -- ---- durations
@@ -247,7 +247,7 @@ fraction_some (c ∷ cs) r value some = omega arith
 
 module _ (state : State) (n : ℕ) (r : Text) (holds : holds_numerals state.mode ≡ true) (some : 0 < n) (fits : n < 2 ^ 64 * 1_000_000_000) where
   abbrev Stands : Text → ℕ → Type 0
-  Stands z id = stops_numeral z r ≡ true → whats state (z ++ r) ≡ Ok (id, z) ∷ whats (after state id) r
+  Stands z id = stops_numeral z r ≡ true → pieces state (z ++ r) ≡ Ok (id, z) ∷ pieces (after state id) r
 
   whole_stands : (z : Text) → (z ≡ [] → ⊥) → (list : List (Text × Text)) → Front list → parts_text list ≡ z → Stands z T_DURATION
   whole_stands z filled [] front text = absurd (filled (sym text))

@@ -10,7 +10,7 @@ use Rattle.promql_token.specs.declared.state.Mode.{Mode}
 use Rattle.promql_token.specs.declared.state.Mode.TheVariants as mode
 use Rattle.promql_text.specs.Texts.{Text}
 use Rattle.promql_token.specs.Begins.{IsName, IsNumeral, IsOneOf, IsString, IsWord, MayBegin, Sign, signs, signs_outside}
-use Rattle.promql_token.specs.Classes.{is_letter, past}
+use Rattle.promql_token.specs.Classes.{is_letter, end_of_run}
 use Rattle.promql_token.specs.Vocabulary.{next}
 use Rattle.promql_token.specs.Pieces.{Piece, begins_numeral, begun, in_braces, in_brackets, is_quote, numeral, outside, sign, string, word}
 use Rattle.promql_token.specs.Printed.{holds_strings}
@@ -135,8 +135,8 @@ unfolding outside
 word_read depth id [] r h = let no = h.0 in absurd (cc)
 word_read depth id (b ∷ w) r h =
     let z : Text = b ∷ (w ++ r) in
-    let first = and_left (is_letter b || (b == 58)) (past class.Word (b ∷ w) 0 == suc (length w)) h.0 in
-    let all = eqb-true (past class.Word (b ∷ w) 0) (suc (length w)) (and_right (is_letter b || (b == 58)) _ h.0) in (
+    let first = and_left (is_letter b || (b == 58)) (end_of_run class.Word (b ∷ w) 0 == suc (length w)) h.0 in
+    let all = eqb-true (end_of_run class.Word (b ∷ w) 0) (suc (length w)) (and_right (is_letter b || (b == 58)) _ h.0) in (
       ap (λ x. cond x (numeral z) (cond (is_letter b || (b == 58)) (word z) (cond (is_quote b) (string z) (sign depth z)))) (no_numeral b (next (w ++ r)) first)
           ∙ ap (λ x. cond x (word z) (cond (is_quote b) (string z) (sign depth z))) first ∙ word_beside (b ∷ w) r all h.1 ∙ ap (λ id. Ok (id, suc (length w))) (sym h.2),
       omega arith,
@@ -146,8 +146,8 @@ name_read : (id : ℕ) (w r : Text) → IsName id w r → (in_braces (w ++ r) �
 unfolding in_braces
 name_read id [] r h = let no = h.0 in absurd (cc)
 name_read id (b ∷ w) r h =
-    let letter = and_left (is_letter b) (past class.Name (b ∷ w) 0 == suc (length w)) h.0 in
-    let all = eqb-true (past class.Name (b ∷ w) 0) (suc (length w)) (and_right (is_letter b) _ h.0) in (
+    let letter = and_left (is_letter b) (end_of_run class.Name (b ∷ w) 0 == suc (length w)) h.0 in
+    let all = eqb-true (end_of_run class.Name (b ∷ w) 0) (suc (length w)) (and_right (is_letter b) _ h.0) in (
       rw (letter_apart b 44 letter refl, letter_apart b 61 letter refl, letter_apart b 33 letter refl, letter_apart b 123 letter refl, letter_apart b 125 letter refl, letter)
           (word_in_braces_beside (b ∷ w) r all h.1 ∙ ap (λ id. Ok (id, suc (length w))) (sym h.2)),
       omega arith,

@@ -13,7 +13,7 @@ use Rattle.promql_token.specs.declared.state.Mode.{Mode}
 use Rattle.promql_token.specs.declared.state.Mode.TheVariants as mode
 use Rattle.promql_text.specs.Texts.{Text}
 use Rattle.promql_token.specs.Begins.{IsName, IsNumeral, IsWord}
-use Rattle.promql_token.specs.Classes.{is_in, is_letter, past}
+use Rattle.promql_token.specs.Classes.{is_in, is_letter, end_of_run}
 use Rattle.promql_token.specs.Vocabulary.{next}
 use Rattle.promql_token.specs.Pieces.{Piece, begins_numeral, begun, braces_id, in_braces, in_brackets, is_quote, numeral, outside, string, word, word_id, word_in_braces}
 use Rattle.promql_token.specs.Printed.{holds_strings}
@@ -29,14 +29,14 @@ use Rattle.promql_token.proofs.Strings.{StringSays, string_says}
 -- ---- words
 
 -- the run at the front, as what is taken and what is left
-past_all : (c : Class) (z : Text) → (past c (take (past c z 0) z) 0 == length (take (past c z 0) z)) ≡ true
+past_all : (c : Class) (z : Text) → (end_of_run c (take (end_of_run c z 0) z) 0 == length (take (end_of_run c z 0) z)) ≡ true
 past_all c z =
     let p = is_in c in
-    let n = past c z 0 in
+    let n = end_of_run c z 0 in
     let e : n ≡ prefix_len p z = zero-add (prefix_len p z) in
     eq-eqb _ _ (subst (λ k. 0 + prefix_len p (take k z) ≡ length (take k z)) (sym e) (zero-add _ ∙ prefix_whole p z))
 
-past_stops : (c : Class) (z : Text) → is_in c (next (drop (past c z 0) z)) ≡ false
+past_stops : (c : Class) (z : Text) → is_in c (next (drop (end_of_run c z 0) z)) ≡ false
 past_stops c z = subst (λ n. is_in c (next (drop n z)) ≡ false) (sym (zero-add (prefix_len (is_in c) z))) (stops z)
   where
     stops : (z : Text) → is_in c (next (drop (prefix_len (is_in c) z) z)) ≡ false
@@ -53,17 +53,17 @@ in_word b h = grind (arith, common_steps)
 in_name : (b : ℕ) → is_letter b ≡ true → is_in class.Name b ≡ true
 in_name b h = grind (arith, common_steps)
 
-word_said : (b : ℕ) (y : Text) → (is_letter b || (b == 58)) ≡ true → let z = b ∷ y in let n = past class.Word z 0 in IsWord (word_id (take n z) (drop n z)) (take n z) (drop n z)
+word_said : (b : ℕ) (y : Text) → (is_letter b || (b == 58)) ≡ true → let z = b ∷ y in let n = end_of_run class.Word z 0 in IsWord (word_id (take n z) (drop n z)) (take n z) (drop n z)
 word_said b y h =
     let z : Text = b ∷ y in
-    let n = past class.Word z 0 in
+    let n = end_of_run class.Word z 0 in
     let same = first_byte n z (past_moves class.Word z (omega arith) (in_word b h)) in
     (and_both _ _ (ap (λ b. is_letter b || (b == 58)) same ∙ h) (past_all class.Word z), past_stops class.Word z, refl)
 
-name_said : (b : ℕ) (y : Text) → is_letter b ≡ true → let z = b ∷ y in let n = past class.Name z 0 in IsName (braces_id (take n z) (drop n z)) (take n z) (drop n z)
+name_said : (b : ℕ) (y : Text) → is_letter b ≡ true → let z = b ∷ y in let n = end_of_run class.Name z 0 in IsName (braces_id (take n z) (drop n z)) (take n z) (drop n z)
 name_said b y h =
     let z : Text = b ∷ y in
-    let n = past class.Name z 0 in
+    let n = end_of_run class.Name z 0 in
     let same = first_byte n z (past_moves class.Name z (omega arith) (in_name b h)) in
     (and_both _ _ (ap is_letter same ∙ h) (past_all class.Name z), past_stops class.Name z, refl)
 

@@ -7,7 +7,7 @@ use Rattle.promql_token.specs.declared.state.State.{State}
 use Rattle.promql_text.specs.Texts.{Text}
 use Rattle.promql_token.specs.Cut.{mode_at, ids_behind}
 use Rattle.promql_token.specs.Gaps.{IsGapIn, AreSpans, SpansToFault, lexemes}
-use Rattle.promql_token.specs.Lexing.{What, Found, cut, found, goes_on, behind, len_of, start, placed, item}
+use Rattle.promql_token.specs.Lexing.{PieceText, Found, cut, found, goes_on, behind, len_of, start, placed, item}
 use Rattle.promql_token.specs.Pieces.{gap_len}
 use Rattle.promql_token.proofs.Boundaries.{StandsAt, stands_at}
 use Rattle.promql_token.proofs.Gaps.{is_gap}
@@ -17,7 +17,7 @@ use Rattle.promql_token.proofs.Told.{IsAt, at_start, next_at}
 -- what is known of a gap, and of what stands after it
 record Stands (s : Text) (before : List ℕ) (at : ℕ) (f : Found) : Type 0 where
   gap : IsGapIn (mode_at before) (take f.gap (drop at s)) (drop f.gap (drop at s))
-  fits : f.gap + len_of f.what ≤ length (drop at s)
+  fits : f.gap + len_of f.piece_text ≤ length (drop at s)
   place : StandsAt s at f
 
 stands : (s : Text) (before : List ℕ) (at : ℕ) (state : State) → IsAt before state → IsUtf8 s → IsCharBoundary s at → Stands s before at (found state (drop at s))
@@ -28,7 +28,7 @@ stands s before at state h utf8 here = record {
   place = stands_at s at state utf8 here;
 }
 
-token_stands : (s : Text) (before : List ℕ) (at g : ℕ) (w : What) (fs : List Found) → at ≤ length s → Stands s before at (record { gap = g; what = w })
+token_stands : (s : Text) (before : List ℕ) (at g : ℕ) (w : PieceText) (fs : List Found) → at ≤ length s → Stands s before at (record { gap = g; piece_text = w })
     → AreSpans s (ids_behind before w) (at + g + len_of w) (lexemes (placed (at + g + len_of w) fs))
     → AreSpans s before at (lexemes (item (at + g) w ∷ placed (at + g + len_of w) fs))
 token_stands s before at g (Err e) fs within st more = tt
@@ -44,18 +44,18 @@ all_stand s (f ∷ fs) before state at h utf8 here within is =
     let f0 = found state z in
     let head = sym is ∙ cut_is state z in
     let first : f ≡ f0 = cc in
-    let rest : fs ≡ cond (goes_on f0.what) (cut (behind state f0.what) (drop (f0.gap + len_of f0.what) z)) [] = cc in
+    let rest : fs ≡ cond (goes_on f0.piece_text) (cut (behind state f0.piece_text) (drop (f0.gap + len_of f0.piece_text) z)) [] = cc in
     let st = subst (λ f. Stands s before at f) (sym first) (stands s before at state h utf8 here) in
     let fits = st.fits in
-    let there : ℕ = at + f.gap + len_of f.what in
-    let at_rest : drop there s ≡ drop (f0.gap + len_of f0.what) z =
-    let e : at + f0.gap + len_of f0.what ≡ at + (f0.gap + len_of f0.what) = omega arith in
-    ap (λ h. drop (at + h.gap + len_of h.what) s) first ∙ ap (λ n. drop n s) e ∙ sym (drop-drop (f0.gap + len_of f0.what) at s) in
-    let ids : IsAt (ids_behind before f.what) (behind state f0.what) = subst (λ w. IsAt (ids_behind before w) (behind state f0.what)) (sym (ap (λ f. f.what) first)) (next_at before state z f0.what h refl) in
-    token_stands s before at f.gap f.what fs within st
-    (elim (goes_on f0.what) as (λ b. fs ≡ cond b (cut (behind state f0.what) (drop (f0.gap + len_of f0.what) z)) [] → AreSpans s (ids_behind before f.what) there (lexemes (placed there fs))) [
-      | true ↦ λ e. all_stand s fs (ids_behind before f.what) (behind state f0.what) there ids utf8 st.place.end (omega (arith, length-drop at s)) (ap (cut (behind state f0.what)) at_rest ∙ sym e)
-      | false ↦ λ e. subst (λ fs. AreSpans s (ids_behind before f.what) there (lexemes (placed there fs))) (sym e) tt
+    let there : ℕ = at + f.gap + len_of f.piece_text in
+    let at_rest : drop there s ≡ drop (f0.gap + len_of f0.piece_text) z =
+    let e : at + f0.gap + len_of f0.piece_text ≡ at + (f0.gap + len_of f0.piece_text) = omega arith in
+    ap (λ h. drop (at + h.gap + len_of h.piece_text) s) first ∙ ap (λ n. drop n s) e ∙ sym (drop-drop (f0.gap + len_of f0.piece_text) at s) in
+    let ids : IsAt (ids_behind before f.piece_text) (behind state f0.piece_text) = subst (λ w. IsAt (ids_behind before w) (behind state f0.piece_text)) (sym (ap (λ f. f.piece_text) first)) (next_at before state z f0.piece_text h refl) in
+    token_stands s before at f.gap f.piece_text fs within st
+    (elim (goes_on f0.piece_text) as (λ b. fs ≡ cond b (cut (behind state f0.piece_text) (drop (f0.gap + len_of f0.piece_text) z)) [] → AreSpans s (ids_behind before f.piece_text) there (lexemes (placed there fs))) [
+      | true ↦ λ e. all_stand s fs (ids_behind before f.piece_text) (behind state f0.piece_text) there ids utf8 st.place.end (omega (arith, length-drop at s)) (ap (cut (behind state f0.piece_text)) at_rest ∙ sym e)
+      | false ↦ λ e. subst (λ fs. AreSpans s (ids_behind before f.piece_text) there (lexemes (placed there fs))) (sym e) tt
     ] rest)
 
 pub spans_to_fault : SpansToFault

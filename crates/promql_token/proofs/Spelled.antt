@@ -14,16 +14,16 @@ use Rattle.promql_token.specs.declared.state.Mode.{Mode}
 use Rattle.promql_token.specs.declared.state.Mode.TheVariants as mode
 use Rattle.promql_token.specs.declared.state.State.{State}
 use Rattle.promql_text.specs.Texts.{Text}
-use Rattle.promql_token.specs.Classes.{is_in, is_letter, past}
+use Rattle.promql_token.specs.Classes.{is_in, is_letter, end_of_run}
 use Rattle.promql_token.specs.Laws.{is_word}
-use Rattle.promql_token.specs.Lexing.{What, found, what, goes_on, behind, len_of, whats, start, lex, result_sliced, sliced}
+use Rattle.promql_token.specs.Lexing.{PieceText, found, piece_text, goes_on, behind, len_of, pieces, start, lex, result_sliced, sliced}
 use Rattle.promql_token.specs.Pieces.{Piece, word, number_end, units, numeral, is_quote, is_escape, string_from, string, sign, begins_numeral, outside, colon_sign, in_brackets, end_in, begun, piece, gap_len, after_gap, after, mode_after, mode_after_something, mode_after_colon}
 use Rattle.promql_token.specs.Spelling.{IsSpelled, AreSpelled, Spelled, begins_unsigned, in_braces_after, is_no_word}
 use Rattle.promql_token.proofs.Choices.{and_both}
 use Rattle.promql_token.proofs.Ends.{and_left, number_moves, or_cases}
 use Rattle.promql_token.proofs.Places.{past_moves}
 use Rattle.promql_token.proofs.Spans.{spans}
-use Rattle.promql_token.proofs.Steps.{whats_is}
+use Rattle.promql_token.proofs.Steps.{pieces_are}
 
 abbrev SpelledPiece : Text → Piece → Type 0
 SpelledPiece z (Ok t) = IsSpelled (t.0, take t.1 z)
@@ -54,17 +54,17 @@ prefix_whole p (b ∷ z) =
 in_word : (b : ℕ) → (is_letter b || (b == 58)) ≡ true → is_in class.Word b ≡ true
 in_word b h = grind (arith, common_steps)
 
-past_whole_word : (z : Text) → past class.Word (take (past class.Word z 0) z) 0 ≡ length (take (past class.Word z 0) z)
+past_whole_word : (z : Text) → end_of_run class.Word (take (end_of_run class.Word z 0) z) 0 ≡ length (take (end_of_run class.Word z 0) z)
 past_whole_word z =
     let p = is_in class.Word in
-    let n = past class.Word z 0 in
+    let n = end_of_run class.Word z 0 in
     let e : n ≡ prefix_len p z = zero-add (prefix_len p z) in
     subst (λ k. 0 + prefix_len p (take k z) ≡ length (take k z)) (sym e) (zero-add _ ∙ prefix_whole p z)
 
 word_spelled : (z : Text) → 0 < length z → (is_letter (get_or z 0 0) || (get_or z 0 0 == 58)) ≡ true → SpelledPiece z (word z)
 unfolding word
 word_spelled z some first =
-    let n = past class.Word z 0 in
+    let n = end_of_run class.Word z 0 in
     let w : Text = take n z in
     let moves = past_moves class.Word z some (in_word (get_or z 0 0) first) in
     let same = first_byte n z moves in
@@ -95,7 +95,7 @@ numeral_spelled : (z : Text) → 0 < length z → begins_numeral z ≡ true → 
 unfolding numeral
 numeral_spelled z some begins =
     let end = number_end z in
-    let run = past class.Name z end in
+    let run = end_of_run class.Name z end in
     let same = first_byte end z (number_moves z some begins) in
     cond_both ((run == end) && not (get_or z end 0 == 46)) _ _ (SpelledPiece z)
     (λ _. record { word = inr refl; number = λ _. ap (λ b. is_in class.Word b || (b == 46)) same ∙ unsigned_front z begins }) (λ _.
@@ -183,13 +183,13 @@ unfolding piece
 piece_spelled state [] out = end_spelled state.mode state.depth
 piece_spelled state (b ∷ z) out = begun_spelled state.mode state.depth b z out
 
-abbrev SpelledWhat : What → Type 0
-SpelledWhat (Ok t) = IsSpelled t
-SpelledWhat (Err f) = Unit {0}
+abbrev SpelledPieceText : PieceText → Type 0
+SpelledPieceText (Ok t) = IsSpelled t
+SpelledPieceText (Err f) = Unit {0}
 
-what_spelled : (p : Piece) (z : Text) → SpelledPiece z p → SpelledWhat (what p z)
-what_spelled (Ok t) z h = h
-what_spelled (Err f) z h = tt
+piece_text_spelled : (p : Piece) (z : Text) → SpelledPiece z p → SpelledPieceText (piece_text p z)
+piece_text_spelled (Ok t) z h = h
+piece_text_spelled (Err f) z h = tt
 
 something_inside : (m : Mode) → is_inside (mode_after_something m) ≡ is_inside m
 something_inside mode.Outside = refl
@@ -207,11 +207,11 @@ gap_inside : (n : ℕ) (state : State) → is_inside (after_gap n state).mode �
 unfolding after_gap
 gap_inside n state = cond_both (n == 0) _ _ (λ (s : State). is_inside s.mode ≡ is_inside state.mode) (λ _. refl) (λ _. something_inside state.mode)
 
-found_spelled : (state : State) (z : Text) → is_inside state.mode ≡ false → SpelledWhat (found state z).what
+found_spelled : (state : State) (z : Text) → is_inside state.mode ≡ false → SpelledPieceText (found state z).piece_text
 unfolding found
 found_spelled state z out =
     let n = gap_len state.mode z in
-    what_spelled _ (drop n z) (piece_spelled (after_gap n state) (drop n z) (gap_inside n state ∙ out))
+    piece_text_spelled _ (drop n z) (piece_spelled (after_gap n state) (drop n z) (gap_inside n state ∙ out))
 
 -- ---- lists
 
@@ -229,22 +229,22 @@ after_inside : (state : State) (id : ℕ) → is_inside (after state id).mode �
 unfolding after
 after_inside state id = mode_inside state.mode id
 
-no_more : (inside : Bool) (ts : List (ℕ × Text)) → ◌≡◌ {A = List What} [] (map (λ t. Ok t) ts) → AreSpelled inside ts
+no_more : (inside : Bool) (ts : List (ℕ × Text)) → ◌≡◌ {A = List PieceText} [] (map (λ t. Ok t) ts) → AreSpelled inside ts
 no_more inside [] is = tt
 no_more inside (t ∷ ts) is = cc
 
-all_spelled : (ts : List (ℕ × Text)) (state : State) (z : Text) → whats state z ≡ map (λ t. Ok t) ts → AreSpelled (is_inside state.mode) ts
+all_spelled : (ts : List (ℕ × Text)) (state : State) (z : Text) → pieces state z ≡ map (λ t. Ok t) ts → AreSpelled (is_inside state.mode) ts
 all_spelled [] state z is = tt
 all_spelled (t ∷ ts) state z is =
     let f = found state z in
-    let more = drop (f.gap + len_of f.what) z in
-    let head = sym (whats_is state z) ∙ is in
-    let first : f.what ≡ Ok t = cc in
-    let rest : cond (goes_on f.what) (whats (behind state f.what) more) [] ≡ map (λ t. Ok t) ts = cc in
-    let next : is_inside (behind state f.what).mode ≡ in_braces_after (is_inside state.mode) t.0 = ap (λ w. is_inside (behind state w).mode) first ∙ after_inside state t.0 in (
-      λ out. subst SpelledWhat first (found_spelled state z out),
-      elim (goes_on f.what) as (λ b. cond b (whats (behind state f.what) more) [] ≡ map (λ t. Ok t) ts → AreSpelled (in_braces_after (is_inside state.mode) t.0) ts) [
-        | true ↦ λ e. subst (λ b. AreSpelled b ts) next (all_spelled ts (behind state f.what) more e)
+    let more = drop (f.gap + len_of f.piece_text) z in
+    let head = sym (pieces_are state z) ∙ is in
+    let first : f.piece_text ≡ Ok t = cc in
+    let rest : cond (goes_on f.piece_text) (pieces (behind state f.piece_text) more) [] ≡ map (λ t. Ok t) ts = cc in
+    let next : is_inside (behind state f.piece_text).mode ≡ in_braces_after (is_inside state.mode) t.0 = ap (λ w. is_inside (behind state w).mode) first ∙ after_inside state t.0 in (
+      λ out. subst SpelledPieceText first (found_spelled state z out),
+      elim (goes_on f.piece_text) as (λ b. cond b (pieces (behind state f.piece_text) more) [] ≡ map (λ t. Ok t) ts → AreSpelled (in_braces_after (is_inside state.mode) t.0) ts) [
+        | true ↦ λ e. subst (λ b. AreSpelled b ts) next (all_spelled ts (behind state f.piece_text) more e)
         | false ↦ λ e. no_more _ ts e
       ] rest,
     )

@@ -10,7 +10,7 @@ use Rattle.promql_token.specs.declared.state.Mode.{Mode}
 use Rattle.promql_token.specs.declared.state.Mode.TheVariants as mode
 use Rattle.promql_token.specs.declared.state.State.{State}
 use Rattle.promql_text.specs.Texts.{Text}
-use Rattle.promql_token.specs.Lexing.{whats, cut, found, goes_on, behind, len_of, what, start}
+use Rattle.promql_token.specs.Lexing.{pieces, cut, found, goes_on, behind, len_of, piece_text, start}
 use Rattle.promql_token.specs.Pieces.{Piece, gap_len, gap_from, piece, after_gap, after, mode_after_something}
 use Rattle.promql_token.proofs.Cuts.{cut_goes, cut_stops}
 use Rattle.promql_token.proofs.Ends.{PieceEnds, piece_ends}
@@ -20,39 +20,39 @@ pub not_true : (b : Bool) → not b ≡ true → b ≡ false
 not_true true h = sym h
 not_true false h = refl
 
-what_fits : (z : Text) (p : Piece) → PieceEnds z p → (len_of (what p z) ≤ length z) × (goes_on (what p z) ≡ true → 0 < len_of (what p z))
-what_fits z (Ok t) e =
+piece_text_fits : (z : Text) (p : Piece) → PieceEnds z p → (len_of (piece_text p z) ≤ length z) × (goes_on (piece_text p z) ≡ true → 0 < len_of (piece_text p z))
+piece_text_fits z (Ok t) e =
     let within = e.0.within in
     let len = length-take-le t.1 z within in
     (omega arith, λ goes. let moves = e.1 (eqb-false _ _ (not_true _ goes)) in omega arith)
-what_fits z (Err f) e = (omega arith, λ (no : false ≡ true). cc)
+piece_text_fits z (Err f) e = (omega arith, λ (no : false ≡ true). cc)
 
-pub found_fits : (state : State) (z : Text) → let f = found state z in (f.gap + len_of f.what ≤ length z) × (goes_on f.what ≡ true → 1 ≤ f.gap + len_of f.what)
+pub found_fits : (state : State) (z : Text) → let f = found state z in (f.gap + len_of f.piece_text ≤ length z) × (goes_on f.piece_text ≡ true → 1 ≤ f.gap + len_of f.piece_text)
 unfolding found
 found_fits state z =
     let gap = gap_len_ends state.mode z in
     let within = gap.within in
     let g = gap_len state.mode z in
-    let fits = what_fits (drop g z) _ (piece_ends (after_gap g state) (drop g z)) in
+    let fits = piece_text_fits (drop g z) _ (piece_ends (after_gap g state) (drop g z)) in
     (omega (arith, fits.0, length-drop g z), λ goes. omega (arith, fits.1 goes))
 
-pub cut_is : (state : State) (z : Text) → let f = found state z in cut state z ≡ f ∷ cond (goes_on f.what) (cut (behind state f.what) (drop (f.gap + len_of f.what) z)) []
+pub cut_is : (state : State) (z : Text) → let f = found state z in cut state z ≡ f ∷ cond (goes_on f.piece_text) (cut (behind state f.piece_text) (drop (f.gap + len_of f.piece_text) z)) []
 cut_is state z =
     let f = found state z in
     let fits = found_fits state z in
-    elim (goes_on f.what) as (λ b. goes_on f.what ≡ b → cut state z ≡ f ∷ cond b (cut (behind state f.what) (drop (f.gap + len_of f.what) z)) []) [
+    elim (goes_on f.piece_text) as (λ b. goes_on f.piece_text ≡ b → cut state z ≡ f ∷ cond b (cut (behind state f.piece_text) (drop (f.gap + len_of f.piece_text) z)) []) [
       | true ↦ λ goes. cut_goes state z goes (fits.1 goes) fits.0
       | false ↦ λ stops. cut_stops state z stops
     ] refl
 
 -- ---- the same without the gaps
 
-map_cond : (b : Bool) (state : State) (z : Text) → map (λ f. f.what) (cond b (cut state z) []) ≡ cond b (whats state z) []
+map_cond : (b : Bool) (state : State) (z : Text) → map (λ f. f.piece_text) (cond b (cut state z) []) ≡ cond b (pieces state z) []
 map_cond true state z = refl
 map_cond false state z = refl
 
-pub whats_is : (state : State) (z : Text) → let f = found state z in whats state z ≡ f.what ∷ cond (goes_on f.what) (whats (behind state f.what) (drop (f.gap + len_of f.what) z)) []
-whats_is state z = let f = found state z in ap (map (λ f. f.what)) (cut_is state z) ∙ ap (λ ws. f.what ∷ ws) (map_cond (goes_on f.what) (behind state f.what) (drop (f.gap + len_of f.what) z))
+pub pieces_are : (state : State) (z : Text) → let f = found state z in pieces state z ≡ f.piece_text ∷ cond (goes_on f.piece_text) (pieces (behind state f.piece_text) (drop (f.gap + len_of f.piece_text) z)) []
+pieces_are state z = let f = found state z in ap (map (λ f. f.piece_text)) (cut_is state z) ∙ ap (λ ws. f.piece_text ∷ ws) (map_cond (goes_on f.piece_text) (behind state f.piece_text) (drop (f.gap + len_of f.piece_text) z))
 
 -- no gap leaves the state as it is
 pub no_gap_state : (state : State) → after_gap 0 state ≡ state
@@ -60,22 +60,22 @@ unfolding after_gap
 no_gap_state state = refl
 
 -- a piece with no gap before it
-pub whats_piece : (state : State) (w r : Text) (id : ℕ) → gap_len state.mode (w ++ r) ≡ 0 → piece state (w ++ r) ≡ Ok (id, length w) → (id == 6) ≡ false → whats state (w ++ r) ≡ Ok (id, w) ∷ whats (after state id) r
+pub pieces_piece : (state : State) (w r : Text) (id : ℕ) → gap_len state.mode (w ++ r) ≡ 0 → piece state (w ++ r) ≡ Ok (id, length w) → (id == 6) ≡ false → pieces state (w ++ r) ≡ Ok (id, w) ∷ pieces (after state id) r
 unfolding found
-whats_piece state w r id gap is more =
+pieces_piece state w r id gap is more =
     let z = w ++ r in
-    let what_is : (found state z).what ≡ Ok (id, w) =
-    ap (λ n. what (piece (after_gap n state) (drop n z)) (drop n z)) gap ∙ ap (λ s. what (piece s z) z) (no_gap_state state) ∙ ap (λ p. what p z) is ∙ ap (λ t. Ok (id, t)) (take-append_seam w r) in
+    let piece_text_is : (found state z).piece_text ≡ Ok (id, w) =
+    ap (λ n. piece_text (piece (after_gap n state) (drop n z)) (drop n z)) gap ∙ ap (λ s. piece_text (piece s z) z) (no_gap_state state) ∙ ap (λ p. piece_text p z) is ∙ ap (λ t. Ok (id, t)) (take-append_seam w r) in
     let goes : goes_on (Ok (id, w)) ≡ true = ap not more in
-    whats_is state z
-    ∙ (λ i. what_is i ∷ cond (goes_on (what_is i)) (whats (behind state (what_is i)) (drop (gap i + len_of (what_is i)) z)) [])
-    ∙ ap (λ b. Ok (id, w) ∷ cond b (whats (after state id) (drop (0 + length w) z)) []) goes
-    ∙ ap (λ n. Ok (id, w) ∷ whats (after state id) (drop n z)) (zero-add (length w))
-    ∙ ap (λ q. Ok (id, w) ∷ whats (after state id) q) (drop-append_seam w r)
+    pieces_are state z
+    ∙ (λ i. piece_text_is i ∷ cond (goes_on (piece_text_is i)) (pieces (behind state (piece_text_is i)) (drop (gap i + len_of (piece_text_is i)) z)) [])
+    ∙ ap (λ b. Ok (id, w) ∷ cond b (pieces (after state id) (drop (0 + length w) z)) []) goes
+    ∙ ap (λ n. Ok (id, w) ∷ pieces (after state id) (drop n z)) (zero-add (length w))
+    ∙ ap (λ q. Ok (id, w) ∷ pieces (after state id) q) (drop-append_seam w r)
 
-pub whats_end : whats start [] ≡ Ok (6, []) ∷ []
+pub pieces_end : pieces start [] ≡ Ok (6, []) ∷ []
 unfolding found gap_len piece after_gap cut
-whats_end = refl
+pieces_end = refl
 
 -- ---- white space
 
@@ -97,20 +97,20 @@ pub same_state : (n : ℕ) (state : State) → mode_after_something state.mode �
 unfolding after_gap
 same_state n state same = cond_both (n == 0) _ _ (λ s. s ≡ state) (λ _. refl) (λ _ i. record { depth = state.depth; mode = same i })
 
-whats_white : (state : State) (b : ℕ) (r : Text) → mode_after_something state.mode ≡ state.mode → is_ascii_whitespace b ≡ true → whats state (b ∷ r) ≡ whats state r
+pieces_white : (state : State) (b : ℕ) (r : Text) → mode_after_something state.mode ≡ state.mode → is_ascii_whitespace b ≡ true → pieces state (b ∷ r) ≡ pieces state r
 unfolding found
-whats_white state b r same white =
-    let w = (found state r).what in
+pieces_white state b r same white =
+    let w = (found state r).piece_text in
     let z = b ∷ r in
     let n = gap_len state.mode r in
     let gap = white_gap state.mode b r white in
     let states = same_state (suc n) state same ∙ sym (same_state n state same) in
-    let what_is : (found state z).what ≡ w = ap (λ n. what (piece (after_gap n state) (drop n z)) (drop n z)) gap ∙ ap (λ s. what (piece s (drop n r)) (drop n r)) states in
+    let piece_text_is : (found state z).piece_text ≡ w = ap (λ n. piece_text (piece (after_gap n state) (drop n z)) (drop n z)) gap ∙ ap (λ s. piece_text (piece s (drop n r)) (drop n r)) states in
     let one_more : suc n + len_of w ≡ suc (n + len_of w) = omega arith in
-    whats_is state z
-    ∙ (λ i. what_is i ∷ cond (goes_on (what_is i)) (whats (behind state (what_is i)) (drop (gap i + len_of (what_is i)) z)) [])
-    ∙ ap (λ n. w ∷ cond (goes_on w) (whats (behind state w) (drop n z)) []) one_more ∙ sym (whats_is state r)
+    pieces_are state z
+    ∙ (λ i. piece_text_is i ∷ cond (goes_on (piece_text_is i)) (pieces (behind state (piece_text_is i)) (drop (gap i + len_of (piece_text_is i)) z)) [])
+    ∙ ap (λ n. w ∷ cond (goes_on w) (pieces (behind state w) (drop n z)) []) one_more ∙ sym (pieces_are state r)
 
-pub whats_run : (state : State) (g r : Text) → mode_after_something state.mode ≡ state.mode → list_all is_ascii_whitespace g ≡ true → whats state (g ++ r) ≡ whats state r
-whats_run state [] r same white = refl
-whats_run state (b ∷ g) r same white = whats_white state b (g ++ r) same (grind (arith, common_steps, white)) ∙ whats_run state g r same (grind (arith, common_steps, white))
+pub pieces_run : (state : State) (g r : Text) → mode_after_something state.mode ≡ state.mode → list_all is_ascii_whitespace g ≡ true → pieces state (g ++ r) ≡ pieces state r
+pieces_run state [] r same white = refl
+pieces_run state (b ∷ g) r same white = pieces_white state b (g ++ r) same (grind (arith, common_steps, white)) ∙ pieces_run state g r same (grind (arith, common_steps, white))

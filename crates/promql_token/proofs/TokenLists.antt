@@ -16,16 +16,16 @@ use Rattle.promql_token.specs.Begins.{MayBegin}
 use Rattle.promql_token.specs.Cut.{mode_at, state_at, ids_behind}
 use Rattle.promql_token.specs.FaultPlaces.{IsFault}
 use Rattle.promql_token.specs.Gaps.{IsGapIn}
-use Rattle.promql_token.specs.Lexing.{Found, What, behind, collected, cut, found, goes_on, items, len_of, lex, placed, result_sliced, shown, sliced, start, text_at, what, whats, with_front}
+use Rattle.promql_token.specs.Lexing.{Found, PieceText, behind, collected, cut, found, goes_on, items, len_of, lex, placed, result_sliced, shown, sliced, start, text_at, piece_text, pieces, with_front}
 use Rattle.promql_token.specs.Pieces.{Piece, piece, after_gap, after, end_in, gap_len}
-use Rattle.promql_token.specs.TokenLists.{Step, state_after, IsRead, IsEnd, EndsIn, places, to_end, OnlyTokens, OnlyFault, OnlyTexts, OnlyWhats, OnlyItems}
+use Rattle.promql_token.specs.TokenLists.{Step, state_after, IsRead, IsEnd, EndsIn, places, to_end, OnlyTokens, OnlyFault, OnlyTexts, OnlyPieces, OnlyItems}
 use Rattle.promql_token.proofs.Begun.{begins_piece, faults, piece_begins}
 use Rattle.promql_token.proofs.Choices.{split}
 use Rattle.promql_token.proofs.Ends.{PieceEnds, piece_ends}
 use Rattle.promql_token.proofs.Gaps.{gap_passed, is_gap}
 use Rattle.promql_token.proofs.Inner.{Inner, begun_inner}
 use Rattle.promql_token.proofs.Places.{gap_len_ends}
-use Rattle.promql_token.proofs.Steps.{cut_is, whats_is}
+use Rattle.promql_token.proofs.Steps.{cut_is, pieces_are}
 use Rattle.promql_token.proofs.Told.{IsAt, at_start, is_state, next_at}
 
 -- ---- what is read
@@ -176,16 +176,16 @@ told_token before state at z n t rs k is more rest_told =
     (subst (λ r. IsTold (t.0 ∷ before) (at + n + length w) r rs) behind_it rest_told)
 
 told_piece : (before : List ℕ) (state : State) (at : ℕ) (z : Text) (n : ℕ) (p : Piece) (fs : List Found) → Behind before state z n → piece (after_gap n state) (drop n z) ≡ p
-    → (goes_on (what p (drop n z)) ≡ false → fs ≡ [])
-    → (goes_on (what p (drop n z)) ≡ true → IsTold (ids_behind before (what p (drop n z))) (at + n + len_of (what p (drop n z))) (drop (n + len_of (what p (drop n z))) z) (placed (at + n + len_of (what p (drop n z))) fs))
-    → IsTold before at z (placed at (record { gap = n; what = what p (drop n z) } ∷ fs))
+    → (goes_on (piece_text p (drop n z)) ≡ false → fs ≡ [])
+    → (goes_on (piece_text p (drop n z)) ≡ true → IsTold (ids_behind before (piece_text p (drop n z))) (at + n + len_of (piece_text p (drop n z))) (drop (n + len_of (piece_text p (drop n z))) z) (placed (at + n + len_of (piece_text p (drop n z))) fs))
+    → IsTold before at z (placed at (record { gap = n; piece_text = piece_text p (drop n z) } ∷ fs))
 told_piece before state at z n (Ok t) fs k is stops goes =
     let w = take t.1 (drop n z) in
     split (t.0 == 6)
-    (λ six. subst (λ fs. IsTold before at z (placed at (record { gap = n; what = Ok (t.0, w) } ∷ fs))) (sym (stops (ap not six))) (told_end before state at z n t k is six))
+    (λ six. subst (λ fs. IsTold before at z (placed at (record { gap = n; piece_text = Ok (t.0, w) } ∷ fs))) (sym (stops (ap not six))) (told_end before state at z n t k is six))
     (λ more. told_token before state at z n t (placed (at + n + length w) fs) k is more (goes (ap not more)))
 told_piece before state at z n (Err f) fs k is stops goes =
-    subst (λ fs. IsTold before at z (placed at (record { gap = n; what = Err (f.0, f.1, shown f.0 (drop f.1 (drop n z))) } ∷ fs))) (sym (stops refl)) (told_fault before state at z n f k is)
+    subst (λ fs. IsTold before at z (placed at (record { gap = n; piece_text = Err (f.0, f.1, shown f.0 (drop f.1 (drop n z))) } ∷ fs))) (sym (stops refl)) (told_fault before state at z n f k is)
 
 told : (fs : List Found) (before : List ℕ) (state : State) (at : ℕ) (z : Text) → IsAt before state → cut state z ≡ fs → IsTold before at z (placed at fs)
 unfolding found
@@ -193,9 +193,9 @@ told [] before state at z h is = let head = cut_is state z in absurd (cc)
 told (f ∷ fs) before state at z h is =
     let n = gap_len state.mode z in
     let p = piece (after_gap n state) (drop n z) in
-    let w = what p (drop n z) in
+    let w = piece_text p (drop n z) in
     let head = sym is ∙ cut_is state z in
-    let first : f ≡ record { gap = n; what = w } = cc in
+    let first : f ≡ record { gap = n; piece_text = w } = cc in
     let rest : fs ≡ cond (goes_on w) (cut (behind state w) (drop (n + len_of w) z)) [] = cc in
     let next = next_at before state z w h refl in
     subst (λ f. IsTold before at z (placed at (f ∷ fs))) (sym first)
@@ -206,17 +206,17 @@ told (f ∷ fs) before state at z h is =
 -- ---- and nothing else
 
 -- what is found, where the gap and what is after it are known
-found_is : (before : List ℕ) (state : State) (g r : Text) → IsAt before state → IsGapIn (mode_at before) g r → found state (g ++ r) ≡ record { gap = length g; what = what (piece (state_after before g) r) r }
+found_is : (before : List ℕ) (state : State) (g r : Text) → IsAt before state → IsGapIn (mode_at before) g r → found state (g ++ r) ≡ record { gap = length g; piece_text = piece_text (piece (state_after before g) r) r }
 unfolding found
 found_is before state g r h gap =
     let len : gap_len state.mode (g ++ r) ≡ length g = ap (λ m. gap_len m (g ++ r)) h.mode ∙ gap_passed (mode_at before) g r gap in
     let rest : drop (gap_len state.mode (g ++ r)) (g ++ r) ≡ r = ap (λ n. drop n (g ++ r)) len ∙ drop-append_seam g r in
     let same : after_gap (gap_len state.mode (g ++ r)) state ≡ state_after before g = gap_state before state g (gap_len state.mode (g ++ r)) h len in
-    λ i. record { gap = len i; what = what (piece (same i) (rest i)) (rest i) }
+    λ i. record { gap = len i; piece_text = piece_text (piece (same i) (rest i)) (rest i) }
 
 -- what is found at a step
 record StepIs (before : List ℕ) (state : State) (z : Text) (t : Step) (r : Text) : Type 0 where
-  found : found state z ≡ record { gap = length t.0; what = Ok (t.1, t.2) }
+  found : found state z ≡ record { gap = length t.0; piece_text = Ok (t.1, t.2) }
   goes : goes_on (Ok (t.1, t.2)) ≡ true
   rest : drop (length t.0 + length t.2) z ≡ r
   at : IsAt (t.1 ∷ before) (after state t.1)
@@ -229,13 +229,13 @@ step_is before state z t r h is gap may =
     let w = t.2 in
     let s = state_after before g in
     let begins = begins_piece s id w r may in
-    let what_is : what (piece s (w ++ r)) (w ++ r) ≡ Ok (id, w) = ap (λ p. what p (w ++ r)) begins.0 ∙ ap (λ w. Ok (id, w)) (take-append_seam w r) in
-    let f : found state z ≡ record { gap = length g; what = Ok (id, w) } = ap (found state) is ∙ found_is before state g (w ++ r) h gap ∙ ap (λ w. record { gap = length g; what = w }) what_is in
+    let piece_text_is : piece_text (piece s (w ++ r)) (w ++ r) ≡ Ok (id, w) = ap (λ p. piece_text p (w ++ r)) begins.0 ∙ ap (λ w. Ok (id, w)) (take-append_seam w r) in
+    let f : found state z ≡ record { gap = length g; piece_text = Ok (id, w) } = ap (found state) is ∙ found_is before state g (w ++ r) h gap ∙ ap (λ w. record { gap = length g; piece_text = w }) piece_text_is in
     record {
       found = f;
       goes = ap not begins.1;
       rest = ap (drop (length g + length w)) is ∙ sym (drop-drop (length w) (length g) (g ++ (w ++ r))) ∙ ap (drop (length w)) (drop-append_seam g (w ++ r)) ∙ drop-append_seam w r;
-      at = next_at before state z (Ok (id, w)) h (ap (λ f. f.what) f);
+      at = next_at before state z (Ok (id, w)) h (ap (λ f. f.piece_text) f);
     }
 
 -- after steps, what is placed of the rest
@@ -253,28 +253,28 @@ steps_placed Rest tail total (t ∷ ts) before state at z last h len read =
     let whole : length z ≡ length g + (length w + length r) = ap length read.1 ∙ length-append g (w ++ r) ∙ ap (λ n. length g + n) (length-append w r) in
     let more = steps_placed Rest tail total ts (id ∷ before) (after state id) here r last k.at (omega arith) read.4 in
     ap (placed at) (cut_is state z)
-    ∙ ap (λ f. placed at (f ∷ cond (goes_on f.what) (cut (behind state f.what) (drop (f.gap + len_of f.what) z)) [])) k.found
-    ∙ ap (λ b. placed at (record { gap = length g; what = Ok (id, w) } ∷ cond b (cut (after state id) (drop (length g + length w) z)) [])) k.goes
+    ∙ ap (λ f. placed at (f ∷ cond (goes_on f.piece_text) (cut (behind state f.piece_text) (drop (f.gap + len_of f.piece_text) z)) [])) k.found
+    ∙ ap (λ b. placed at (record { gap = length g; piece_text = Ok (id, w) } ∷ cond b (cut (after state id) (drop (length g + length w) z)) [])) k.goes
     ∙ ap (λ r. Ok (record { id = id; start = at + length g; len = length w }) ∷ placed here (cut (after state id) r)) k.rest
     ∙ ap (λ rs. Ok (record { id = id; start = at + length g; len = length w }) ∷ rs) more
 
 -- the same without places, up to a rest of which P holds
-steps_whats : (Rest : List ℕ → Text → Type 0) (P : List What → Type 0) (ts : List Step) (before : List ℕ) (state : State) (z : Text)
-    → ((before : List ℕ) (state : State) (z : Text) → IsAt before state → Rest before z → (tail : List What) × P tail × (whats state z ≡ tail))
-    → IsAt before state → IsRead Rest before z ts → (tail : List What) × P tail × (whats state z ≡ map (λ t. Ok (t.1, t.2)) ts ++ tail)
-steps_whats Rest P [] before state z last h read = last before state z h read
-steps_whats Rest P (t ∷ ts) before state z last h read =
+steps_pieces : (Rest : List ℕ → Text → Type 0) (P : List PieceText → Type 0) (ts : List Step) (before : List ℕ) (state : State) (z : Text)
+    → ((before : List ℕ) (state : State) (z : Text) → IsAt before state → Rest before z → (tail : List PieceText) × P tail × (pieces state z ≡ tail))
+    → IsAt before state → IsRead Rest before z ts → (tail : List PieceText) × P tail × (pieces state z ≡ map (λ t. Ok (t.1, t.2)) ts ++ tail)
+steps_pieces Rest P [] before state z last h read = last before state z h read
+steps_pieces Rest P (t ∷ ts) before state z last h read =
     let id = t.1 in
     let w = t.2 in
     let r = read.0 in
     let k = step_is before state z t r h read.1 read.2 read.3 in
-    let more = steps_whats Rest P ts (id ∷ before) (after state id) r last k.at read.4 in (
+    let more = steps_pieces Rest P ts (id ∷ before) (after state id) r last k.at read.4 in (
       more.0,
       more.1,
-      whats_is state z
-          ∙ ap (λ f. f.what ∷ cond (goes_on f.what) (whats (behind state f.what) (drop (f.gap + len_of f.what) z)) []) k.found
-          ∙ ap (λ b. Ok (id, w) ∷ cond b (whats (after state id) (drop (length t.0 + length w) z)) []) k.goes
-          ∙ ap (λ r. Ok (id, w) ∷ whats (after state id) r) k.rest
+      pieces_are state z
+          ∙ ap (λ f. f.piece_text ∷ cond (goes_on f.piece_text) (pieces (behind state f.piece_text) (drop (f.gap + len_of f.piece_text) z)) []) k.found
+          ∙ ap (λ b. Ok (id, w) ∷ cond b (pieces (after state id) (drop (length t.0 + length w) z)) []) k.goes
+          ∙ ap (λ r. Ok (id, w) ∷ pieces (after state id) r) k.rest
           ∙ ap (λ ws. Ok (id, w) ∷ ws) more.2,
     )
 
@@ -282,7 +282,7 @@ outside_end : (n : ℕ) (s : State) → s.mode ≡ mode.Outside → s.depth ≡ 
 unfolding after_gap
 outside_end n s m d = ap (after_gap n) (λ i. record { depth = d i; mode = m i }) ∙ cond_both (n == 0) _ _ (λ (s : State). s ≡ record { depth = 0; mode = mode.Outside }) (λ _. refl) (λ _. refl)
 
-empty : what (piece (record { depth = 0; mode = mode.Outside }) []) [] ≡ Ok (6, [])
+empty : piece_text (piece (record { depth = 0; mode = mode.Outside }) []) [] ≡ Ok (6, [])
 unfolding piece
 empty = refl
 
@@ -290,28 +290,28 @@ append_nil : (t : Text) → t ++ [] ≡ t
 append_nil [] = refl
 append_nil (b ∷ t) = ap (λ t. b ∷ t) (append_nil t)
 
-end_found : (before : List ℕ) (state : State) (z : Text) → IsAt before state → IsEnd before z → found state z ≡ record { gap = length z; what = Ok (6, []) }
+end_found : (before : List ℕ) (state : State) (z : Text) → IsAt before state → IsEnd before z → found state z ≡ record { gap = length z; piece_text = Ok (6, []) }
 end_found before state z h e =
     let at_rest : state_after before z ≡ record { depth = 0; mode = mode.Outside } = outside_end (length z) (state_at before) e.1 e.2 in
-    let what_is : what (piece (state_after before z) []) [] ≡ Ok (6, []) = ap (λ s. what (piece s []) []) at_rest ∙ empty in
-    ap (found state) (sym (append_nil z)) ∙ found_is before state z [] h e.0 ∙ ap (λ w. record { gap = length z; what = w }) what_is
+    let piece_text_is : piece_text (piece (state_after before z) []) [] ≡ Ok (6, []) = ap (λ s. piece_text (piece s []) []) at_rest ∙ empty in
+    ap (found state) (sym (append_nil z)) ∙ found_is before state z [] h e.0 ∙ ap (λ w. record { gap = length z; piece_text = w }) piece_text_is
 
-fault_found : (f : LexFault) (total : ℕ) (before : List ℕ) (state : State) (z : Text) → IsAt before state → (e : EndsIn f total before z) → found state z ≡ record { gap = length e.0; what = Err (f.kind, length e.1, f.ch) }
+fault_found : (f : LexFault) (total : ℕ) (before : List ℕ) (state : State) (z : Text) → IsAt before state → (e : EndsIn f total before z) → found state z ≡ record { gap = length e.0; piece_text = Err (f.kind, length e.1, f.ch) }
 fault_found f total before state z h e =
     let g = e.0 in
     let u = e.1 in
     let v = e.2 in
     let s = state_after before g in
     let reads : piece s (u ++ v) ≡ Err (f.kind, length u) = (faults s f.kind u v).1 e.5 in
-    let what_is : what (piece s (u ++ v)) (u ++ v) ≡ Err (f.kind, length u, f.ch) =
-    ap (λ p. what p (u ++ v)) reads ∙ ap (λ v. Err (f.kind, length u, shown f.kind v)) (drop-append_seam u v) ∙ ap (λ c. Err (f.kind, length u, c)) (sym e.7) in
-    ap (found state) e.3 ∙ found_is before state g (u ++ v) h e.4 ∙ ap (λ w. record { gap = length g; what = w }) what_is
+    let piece_text_is : piece_text (piece s (u ++ v)) (u ++ v) ≡ Err (f.kind, length u, f.ch) =
+    ap (λ p. piece_text p (u ++ v)) reads ∙ ap (λ v. Err (f.kind, length u, shown f.kind v)) (drop-append_seam u v) ∙ ap (λ c. Err (f.kind, length u, c)) (sym e.7) in
+    ap (found state) e.3 ∙ found_is before state g (u ++ v) h e.4 ∙ ap (λ w. record { gap = length g; piece_text = w }) piece_text_is
 
 -- the end, in a text of this length
 end_placed : (total : ℕ) (before : List ℕ) (state : State) (at : ℕ) (z : Text) → IsAt before state → at + length z ≡ total → IsEnd before z
     → placed at (cut state z) ≡ Ok (record { id = 6; start = total; len = 0 }) ∷ []
 end_placed total before state at z h len e =
-    ap (placed at) (cut_is state z) ∙ ap (λ f. placed at (f ∷ cond (goes_on f.what) (cut (behind state f.what) (drop (f.gap + len_of f.what) z)) [])) (end_found before state z h e)
+    ap (placed at) (cut_is state z) ∙ ap (λ f. placed at (f ∷ cond (goes_on f.piece_text) (cut (behind state f.piece_text) (drop (f.gap + len_of f.piece_text) z)) [])) (end_found before state z h e)
     ∙ ap (λ n. Ok (record { id = 6; start = n; len = 0 }) ∷ []) len
 
 -- the fault
@@ -323,16 +323,16 @@ fault_placed f total before state at z h len e =
     let whole : length z ≡ length g + (length u + length v) = ap length e.3 ∙ length-append g (u ++ v) ∙ ap (λ n. length g + n) (length-append u v) in
     let place_is = e.6 in
     let place : at + length g + length u ≡ f.at = omega arith in
-    ap (placed at) (cut_is state z) ∙ ap (λ f. placed at (f ∷ cond (goes_on f.what) (cut (behind state f.what) (drop (f.gap + len_of f.what) z)) [])) (fault_found f total before state z h e)
+    ap (placed at) (cut_is state z) ∙ ap (λ f. placed at (f ∷ cond (goes_on f.piece_text) (cut (behind state f.piece_text) (drop (f.gap + len_of f.piece_text) z)) [])) (fault_found f total before state z h e)
     ∙ ap (λ n. Err (record { kind = f.kind; at = n; ch = f.ch }) ∷ []) place
 
-end_whats : (before : List ℕ) (state : State) (z : Text) → IsAt before state → IsEnd before z → whats state z ≡ Ok (6, []) ∷ []
-end_whats before state z h e =
-    whats_is state z ∙ ap (λ f. f.what ∷ cond (goes_on f.what) (whats (behind state f.what) (drop (f.gap + len_of f.what) z)) []) (end_found before state z h e)
+end_pieces : (before : List ℕ) (state : State) (z : Text) → IsAt before state → IsEnd before z → pieces state z ≡ Ok (6, []) ∷ []
+end_pieces before state z h e =
+    pieces_are state z ∙ ap (λ f. f.piece_text ∷ cond (goes_on f.piece_text) (pieces (behind state f.piece_text) (drop (f.gap + len_of f.piece_text) z)) []) (end_found before state z h e)
 
-fault_whats : (f : LexFault) (total : ℕ) (before : List ℕ) (state : State) (z : Text) → IsAt before state → (e : EndsIn f total before z) → whats state z ≡ Err (f.kind, length e.1, f.ch) ∷ []
-fault_whats f total before state z h e =
-    whats_is state z ∙ ap (λ f. f.what ∷ cond (goes_on f.what) (whats (behind state f.what) (drop (f.gap + len_of f.what) z)) []) (fault_found f total before state z h e)
+fault_pieces : (f : LexFault) (total : ℕ) (before : List ℕ) (state : State) (z : Text) → IsAt before state → (e : EndsIn f total before z) → pieces state z ≡ Err (f.kind, length e.1, f.ch) ∷ []
+fault_pieces f total before state z h e =
+    pieces_are state z ∙ ap (λ f. f.piece_text ∷ cond (goes_on f.piece_text) (pieces (behind state f.piece_text) (drop (f.gap + len_of f.piece_text) z)) []) (fault_found f total before state z h e)
 
 -- ---- the laws
 
@@ -442,13 +442,13 @@ only_texts s = (
 
 -- ---- what a cursor gives
 
-pub only_whats : OnlyWhats
-only_whats s ts = (
+pub only_pieces : OnlyPieces
+only_pieces s ts = (
   λ read.
-      let k = steps_whats IsEnd (λ ws. ws ≡ Ok (6, []) ∷ []) ts [] start s (λ before state z h e. (Ok (6, []) ∷ [], refl, end_whats before state z h e)) at_start read in
+      let k = steps_pieces IsEnd (λ ws. ws ≡ Ok (6, []) ∷ []) ts [] start s (λ before state z h e. (Ok (6, []) ∷ [], refl, end_pieces before state z h e)) at_start read in
       k.2 ∙ ap (λ ws. map (λ t. Ok (t.1, t.2)) ts ++ ws) k.1,
   λ f read.
-      let k = steps_whats (EndsIn f (length s)) (λ ws. (n : ℕ) × (ws ≡ Err (f.kind, n, f.ch) ∷ [])) ts [] start s
-      (λ before state z h e. (Err (f.kind, length e.1, f.ch) ∷ [], (length e.1, refl), fault_whats f (length s) before state z h e)) at_start read in
+      let k = steps_pieces (EndsIn f (length s)) (λ ws. (n : ℕ) × (ws ≡ Err (f.kind, n, f.ch) ∷ [])) ts [] start s
+      (λ before state z h e. (Err (f.kind, length e.1, f.ch) ∷ [], (length e.1, refl), fault_pieces f (length s) before state z h e)) at_start read in
       (k.1.0, k.2 ∙ ap (λ ws. map (λ t. Ok (t.1, t.2)) ts ++ ws) k.1.1),
 )

@@ -13,12 +13,12 @@ use Rattle.promql_token.specs.declared.state.Mode.TheVariants as mode
 use Rattle.promql_token.specs.declared.state.State.{State}
 use Rattle.promql_text.specs.Texts.{Text}
 use Rattle.promql_token.specs.Cut.{count_of, is_bound, mode_by, mode_at, state_at, ids_behind, IsCut, CutOnce, EndsOnce}
-use Rattle.promql_token.specs.Lexing.{What, Found, found, what, len_of, goes_on, behind, cut, whats, start, lex, placed, collected, item}
+use Rattle.promql_token.specs.Lexing.{PieceText, Found, found, piece_text, len_of, goes_on, behind, cut, pieces, start, lex, placed, collected, item}
 use Rattle.promql_token.specs.Pieces.{Piece, begun, end_in, piece, after_gap, after, depth_after, mode_after, mode_after_something, mode_after_colon, gap_len}
 use Rattle.promql_token.proofs.Choices.{split}
 use Rattle.promql_token.proofs.Inner.{Inner, begun_inner}
 use Rattle.promql_token.proofs.Spans.{front_ok}
-use Rattle.promql_token.proofs.Steps.{cut_is, whats_is, found_fits}
+use Rattle.promql_token.proofs.Steps.{cut_is, pieces_are, found_fits}
 
 -- ---- the state of a place, by the tokens before it
 
@@ -113,29 +113,29 @@ depth_step before id depth h some = depth_tests (id == 11) (id == 18) depth (cou
 -- ---- the cut
 
 -- `)` stands where a parenthesis is open
-what_inner : (depth : ℕ) (p : Piece) (z : Text) (id : ℕ) (t : Text) → Inner depth p → what p z ≡ Ok (id, t) → ((id == 6) ≡ false) × ((id == 18) ≡ true → 0 < depth)
-what_inner depth (Ok q) z id t h is =
+piece_text_inner : (depth : ℕ) (p : Piece) (z : Text) (id : ℕ) (t : Text) → Inner depth p → piece_text p z ≡ Ok (id, t) → ((id == 6) ≡ false) × ((id == 18) ≡ true → 0 < depth)
+piece_text_inner depth (Ok q) z id t h is =
     let pair : ◌≡◌ {A = ℕ × Text} (q.0, take q.1 z) (id, t) = cc in
     subst (λ i. ((i == 6) ≡ false) × ((i == 18) ≡ true → 0 < depth)) (ap (λ (p : ℕ × Text). p.0) pair) h
-what_inner depth (Err f) z id t h is = cc
+piece_text_inner depth (Err f) z id t h is = cc
 
 -- at the end of a text stands T_EOF or a fault
-end_what : (m : Mode) (depth id : ℕ) (t : Text) → what (end_in m depth) [] ≡ Ok (id, t) → ((id == 6) ≡ true) × (t ≡ [])
-end_what mode.Outside depth id t = λ is.
-    cond_both (depth == 0) (Ok (6, 0)) (Err (UnclosedParen, 0)) (λ (p : Piece). what p [] ≡ Ok (id, t) → ((id == 6) ≡ true) × (t ≡ []))
+end_piece_text : (m : Mode) (depth id : ℕ) (t : Text) → piece_text (end_in m depth) [] ≡ Ok (id, t) → ((id == 6) ≡ true) × (t ≡ [])
+end_piece_text mode.Outside depth id t = λ is.
+    cond_both (depth == 0) (Ok (6, 0)) (Err (UnclosedParen, 0)) (λ (p : Piece). piece_text p [] ≡ Ok (id, t) → ((id == 6) ≡ true) × (t ≡ []))
     (λ _ is. let pair : ◌≡◌ {A = ℕ × Text} (6, []) (id, t) = cc in (ap (λ (p : ℕ × Text). p.0 == 6) (sym pair), ap (λ (p : ℕ × Text). p.1) (sym pair)))
     (λ _ is. cc) is
-end_what mode.Braces depth id t = λ is. cc
-end_what (mode.Brackets inside) depth id t = λ is. cc
+end_piece_text mode.Braces depth id t = λ is. cc
+end_piece_text (mode.Brackets inside) depth id t = λ is. cc
 
 -- a token with no gap before it is the end, or none of those
 abbrev IsEnd : Text → ℕ → Text → Type 0
 IsEnd z id t = (z ≡ []) × ((id == 6) ≡ true) × (t ≡ [])
 
-front_inner : (state : State) (z : Text) (id : ℕ) (t : Text) → what (piece state z) z ≡ Ok (id, t) → IsEnd z id t ⊎ (((id == 6) ≡ false) × ((id == 18) ≡ true → 0 < state.depth))
+front_inner : (state : State) (z : Text) (id : ℕ) (t : Text) → piece_text (piece state z) z ≡ Ok (id, t) → IsEnd z id t ⊎ (((id == 6) ≡ false) × ((id == 18) ≡ true → 0 < state.depth))
 unfolding piece
-front_inner state [] id t is = let e = end_what state.mode state.depth id t is in inl (refl, e.0, e.1)
-front_inner state (b ∷ z) id t is = inr (what_inner state.depth (begun state.mode state.depth (b ∷ z)) (b ∷ z) id t (begun_inner state.mode state.depth (b ∷ z)) is)
+front_inner state [] id t is = let e = end_piece_text state.mode state.depth id t is in inl (refl, e.0, e.1)
+front_inner state (b ∷ z) id t is = inr (piece_text_inner state.depth (begun state.mode state.depth (b ∷ z)) (b ∷ z) id t (begun_inner state.mode state.depth (b ∷ z)) is)
 
 gap_depth : (n : ℕ) (state : State) → (after_gap n state).depth ≡ state.depth
 unfolding after_gap
@@ -145,7 +145,7 @@ not_true : (b : Bool) → not b ≡ true → b ≡ false
 not_true true h = sym h
 not_true false h = refl
 
-closes_open : (state : State) (z : Text) (id : ℕ) (t : Text) → (found state z).what ≡ Ok (id, t) → (id == 18) ≡ true → 0 < state.depth
+closes_open : (state : State) (z : Text) (id : ℕ) (t : Text) → (found state z).piece_text ≡ Ok (id, t) → (id == 18) ≡ true → 0 < state.depth
 unfolding found
 closes_open state z id t is close =
     let n = gap_len state.mode z in
@@ -153,7 +153,7 @@ closes_open state z id t is close =
     (λ inner. subst (λ d. 0 < d) (gap_depth n state) (inner.1 close))
     (front_inner (after_gap n state) (drop n z) id t is)
 
-pub next_at : (before : List ℕ) (state : State) (z : Text) (w : What) → IsAt before state → (found state z).what ≡ w → IsAt (ids_behind before w) (behind state w)
+pub next_at : (before : List ℕ) (state : State) (z : Text) (w : PieceText) → IsAt before state → (found state z).piece_text ≡ w → IsAt (ids_behind before w) (behind state w)
 unfolding after
 next_at before state z (Ok t) h is = record {
   depth = depth_step before t.0 state.depth h.depth (closes_open state z t.0 t.1 is);
@@ -162,56 +162,56 @@ next_at before state z (Ok t) h is = record {
 next_at before state z (Err f) h is = record { depth = h.depth; mode = h.mode }
 
 -- what a place's first reading is, and what is behind it
-record Splits (before : List ℕ) (state : State) (z : Text) (w : What) (ws : List What) : Type 0 where
-  first : w ≡ (found (state_at before) z).what
-  rest : ws ≡ cond (goes_on w) (whats (behind state w) (drop ((found (state_at before) z).gap + len_of w) z)) []
+record Splits (before : List ℕ) (state : State) (z : Text) (w : PieceText) (ws : List PieceText) : Type 0 where
+  first : w ≡ (found (state_at before) z).piece_text
+  rest : ws ≡ cond (goes_on w) (pieces (behind state w) (drop ((found (state_at before) z).gap + len_of w) z)) []
 
-splits : (before : List ℕ) (state : State) (z : Text) (w : What) (ws : List What) → IsAt before state → whats state z ≡ w ∷ ws → Splits before state z w ws
+splits : (before : List ℕ) (state : State) (z : Text) (w : PieceText) (ws : List PieceText) → IsAt before state → pieces state z ≡ w ∷ ws → Splits before state z w ws
 splits before state z w ws h is =
     let f = found state z in
-    let head = sym (whats_is state z) ∙ is in
-    let first : f.what ≡ w = cc in
-    let rest : cond (goes_on f.what) (whats (behind state f.what) (drop (f.gap + len_of f.what) z)) [] ≡ ws = cc in
+    let head = sym (pieces_are state z) ∙ is in
+    let first : f.piece_text ≡ w = cc in
+    let rest : cond (goes_on f.piece_text) (pieces (behind state f.piece_text) (drop (f.gap + len_of f.piece_text) z)) [] ≡ ws = cc in
     let same = is_state before state h in
     record {
-      first = sym first ∙ ap (λ s. (found s z).what) same;
-      rest = sym rest ∙ (λ i. cond (goes_on (first i)) (whats (behind state (first i)) (drop ((found (same i) z).gap + len_of (first i)) z)) []);
+      first = sym first ∙ ap (λ s. (found s z).piece_text) same;
+      rest = sym rest ∙ (λ i. cond (goes_on (first i)) (pieces (behind state (first i)) (drop ((found (same i) z).gap + len_of (first i)) z)) []);
     }
 
-is_cut : (ws : List What) (before : List ℕ) (state : State) (z : Text) → IsAt before state → whats state z ≡ ws → IsCut before z ws
-is_cut [] before state z h is = let head = whats_is state z in absurd (cc)
+is_cut : (ws : List PieceText) (before : List ℕ) (state : State) (z : Text) → IsAt before state → pieces state z ≡ ws → IsCut before z ws
+is_cut [] before state z h is = let head = pieces_are state z in absurd (cc)
 is_cut (w ∷ ws) before state z h is =
     let s = splits before state z w ws h is in
-    let at = next_at before state z w h (sym (s.first ∙ ap (λ s. (found s z).what) (sym (is_state before state h)))) in
+    let at = next_at before state z w h (sym (s.first ∙ ap (λ s. (found s z).piece_text) (sym (is_state before state h)))) in
     let behind_it : Text = drop ((found (state_at before) z).gap + len_of w) z in (
       s.first,
-      elim (goes_on w) as (λ b. ws ≡ cond b (whats (behind state w) behind_it) [] → MatchBool b (IsCut (ids_behind before w) behind_it ws) (ws ≡ [])) [
+      elim (goes_on w) as (λ b. ws ≡ cond b (pieces (behind state w) behind_it) [] → MatchBool b (IsCut (ids_behind before w) behind_it ws) (ws ≡ [])) [
         | true ↦ λ e. is_cut ws (ids_behind before w) (behind state w) behind_it at (sym e)
         | false ↦ λ e. e
       ] s.rest,
     )
 
-only_cut : (ws : List What) (before : List ℕ) (state : State) (z : Text) → IsAt before state → IsCut before z ws → ws ≡ whats state z
+only_cut : (ws : List PieceText) (before : List ℕ) (state : State) (z : Text) → IsAt before state → IsCut before z ws → ws ≡ pieces state z
 only_cut [] before state z h c = absurd c
 only_cut (w ∷ ws) before state z h c =
     let same = is_state before state h in
     let f = found state z in
-    let first : w ≡ f.what = c.0 ∙ ap (λ s. (found s z).what) (sym same) in
+    let first : w ≡ f.piece_text = c.0 ∙ ap (λ s. (found s z).piece_text) (sym same) in
     let at = next_at before state z w h (sym first) in
     let behind_it : Text = drop ((found (state_at before) z).gap + len_of w) z in
-    let rest : ws ≡ cond (goes_on w) (whats (behind state w) behind_it) [] =
-    elim (goes_on w) as (λ b. MatchBool b (IsCut (ids_behind before w) behind_it ws) (ws ≡ []) → ws ≡ cond b (whats (behind state w) behind_it) []) [
+    let rest : ws ≡ cond (goes_on w) (pieces (behind state w) behind_it) [] =
+    elim (goes_on w) as (λ b. MatchBool b (IsCut (ids_behind before w) behind_it ws) (ws ≡ []) → ws ≡ cond b (pieces (behind state w) behind_it) []) [
       | true ↦ λ more. only_cut ws (ids_behind before w) (behind state w) behind_it at more
       | false ↦ λ e. e
     ] c.1 in
-    (λ i. first i ∷ (rest ∙ (λ j. cond (goes_on (first j)) (whats (behind state (first j)) (drop ((found (sym same j) z).gap + len_of (first j)) z)) [])) i)
-    ∙ sym (whats_is state z)
+    (λ i. first i ∷ (rest ∙ (λ j. cond (goes_on (first j)) (pieces (behind state (first j)) (drop ((found (sym same j) z).gap + len_of (first j)) z)) [])) i)
+    ∙ sym (pieces_are state z)
 
 pub at_start : IsAt [] start
 at_start = record { depth = refl; mode = refl }
 
 pub cut_once : CutOnce
-cut_once s = (is_cut (whats start s) [] start s at_start refl, λ ws c. only_cut ws [] start s at_start c)
+cut_once s = (is_cut (pieces start s) [] start s at_start refl, λ ws c. only_cut ws [] start s at_start c)
 
 -- ---- the last token
 
@@ -224,7 +224,7 @@ none_left [] at (x ∷ xs) e is = cc
 none_left (f ∷ fs) at xs e is = cc
 
 -- T_EOF stands behind a gap that goes to the end
-end_place : (state : State) (z : Text) (id : ℕ) (t : Text) → (found state z).what ≡ Ok (id, t) → (id == 6) ≡ true → ((found state z).gap ≡ length z) × (t ≡ [])
+end_place : (state : State) (z : Text) (id : ℕ) (t : Text) → (found state z).piece_text ≡ Ok (id, t) → (id == 6) ≡ true → ((found state z).gap ≡ length z) × (t ≡ [])
 unfolding found
 end_place state z id t is end =
     let n = gap_len state.mode z in
@@ -233,7 +233,7 @@ end_place state z id t is end =
     (λ inner. let never = inner.0 in absurd (cc))
     (front_inner (after_gap n state) (drop n z) id t is)
 
-last : (s : Text) (at g : ℕ) (w : What) (fs : List Found) (xs : List Lexeme)
+last : (s : Text) (at g : ℕ) (w : PieceText) (fs : List Found) (xs : List Lexeme)
     → ((id : ℕ) (t : Text) → w ≡ Ok (id, t) → (id == 6) ≡ true → (at + g ≡ length s) × (t ≡ []))
     → (goes_on w ≡ false → fs ≡ [])
     → (goes_on w ≡ true → (ys : List Lexeme) → collected (placed (at + g + len_of w) fs) ≡ Ok ys → EndsAt s ys)
@@ -258,17 +258,17 @@ ends s (f ∷ fs) state at xs within is all =
     let f0 = found state z in
     let head = sym is ∙ cut_is state z in
     let first : f ≡ f0 = cc in
-    let rest : fs ≡ cond (goes_on f0.what) (cut (behind state f0.what) (drop (f0.gap + len_of f0.what) z)) [] = cc in
-    let fits : f.gap + len_of f.what ≤ length z = subst (λ g. g.gap + len_of g.what ≤ length z) (sym first) (found_fits state z).0 in
-    let here : ℕ = at + f.gap + len_of f.what in
-    let at_rest : drop here s ≡ drop (f0.gap + len_of f0.what) z =
-    let e : at + f0.gap + len_of f0.what ≡ at + (f0.gap + len_of f0.what) = omega arith in
-    ap (λ h. drop (at + h.gap + len_of h.what) s) first ∙ ap (λ n. drop n s) e ∙ sym (drop-drop (f0.gap + len_of f0.what) at s) in
-    last s at f.gap f.what fs xs
-    (λ id t w end. let e = end_place state z id t (sym (ap (λ g. g.what) first) ∙ w) end in let gap = ap (λ g. g.gap) first in (omega (arith, e.0, length-drop at s), e.1))
-    (λ stop. rest ∙ ap (λ b. cond b (cut (behind state f0.what) (drop (f0.gap + len_of f0.what) z)) []) (sym (ap (λ g. goes_on g.what) first) ∙ stop))
-    (λ goes ys. ends s fs (behind state f0.what) here ys (omega (arith, length-drop at s))
-    (ap (cut (behind state f0.what)) at_rest ∙ sym (rest ∙ ap (λ b. cond b (cut (behind state f0.what) (drop (f0.gap + len_of f0.what) z)) []) (sym (ap (λ g. goes_on g.what) first) ∙ goes))))
+    let rest : fs ≡ cond (goes_on f0.piece_text) (cut (behind state f0.piece_text) (drop (f0.gap + len_of f0.piece_text) z)) [] = cc in
+    let fits : f.gap + len_of f.piece_text ≤ length z = subst (λ g. g.gap + len_of g.piece_text ≤ length z) (sym first) (found_fits state z).0 in
+    let here : ℕ = at + f.gap + len_of f.piece_text in
+    let at_rest : drop here s ≡ drop (f0.gap + len_of f0.piece_text) z =
+    let e : at + f0.gap + len_of f0.piece_text ≡ at + (f0.gap + len_of f0.piece_text) = omega arith in
+    ap (λ h. drop (at + h.gap + len_of h.piece_text) s) first ∙ ap (λ n. drop n s) e ∙ sym (drop-drop (f0.gap + len_of f0.piece_text) at s) in
+    last s at f.gap f.piece_text fs xs
+    (λ id t w end. let e = end_place state z id t (sym (ap (λ g. g.piece_text) first) ∙ w) end in let gap = ap (λ g. g.gap) first in (omega (arith, e.0, length-drop at s), e.1))
+    (λ stop. rest ∙ ap (λ b. cond b (cut (behind state f0.piece_text) (drop (f0.gap + len_of f0.piece_text) z)) []) (sym (ap (λ g. goes_on g.piece_text) first) ∙ stop))
+    (λ goes ys. ends s fs (behind state f0.piece_text) here ys (omega (arith, length-drop at s))
+    (ap (cut (behind state f0.piece_text)) at_rest ∙ sym (rest ∙ ap (λ b. cond b (cut (behind state f0.piece_text) (drop (f0.gap + len_of f0.piece_text) z)) []) (sym (ap (λ g. goes_on g.piece_text) first) ∙ goes))))
     all
 
 pub ends_once : EndsOnce

@@ -1,7 +1,7 @@
 -- The table of words' bytes has the rank of each byte.
 use Rattle.std.proofs.Common.{◌≡◌, ℕ, zero, suc, ◌+◌, ◌<◌, map, get_or, refl, ap, ◌∙◌, arith}
 use Rattle.promql_token.specs.declared.class.TheConstants.{WORD_BYTES}
-use Rattle.promql_token.specs.Classes.{word_rank}
+use Rattle.promql_token.specs.WordRanks.{word_rank}
 use Rattle.promql_token.specs.Ids.{count_up}
 
 at_count : (f : ℕ → ℕ) (k n b : ℕ) → b < n → get_or (map f (count_up k n)) b 0 ≡ f (k + b)

@@ -1,5 +1,5 @@
 -- Classes of bytes, and runs of one class (docs/TOKENS.md, "Bytes").
-use Rattle.std.specs.Prelude.{ℕ, ◌+◌, Bool, if◌then◌else◌, ◌||◌, ◌==◌, ◌&&◌, length, drop, slice_index}
+use Rattle.std.specs.Prelude.{ℕ, ◌+◌, Bool, ◌||◌, ◌==◌, ◌&&◌, length, drop, slice_index}
 use Rattle.std.specs.Char.{is_ascii_alphabetic, is_ascii_alphanumeric, is_ascii_digit, is_ascii_hexdigit, is_ascii_whitespace}
 use Rattle.std.specs.List.{prefix_len}
 use Rattle.promql_text.specs.Texts.{Text}
@@ -16,10 +16,6 @@ is_name_byte b = is_ascii_alphanumeric b || b == underscore
 abbrev pub is_word_byte : ℕ → Bool
 is_word_byte b = is_name_byte b || b == colon
 
--- 2 for the bytes of names, 1 for the colon, which words have too, and 0 for every other byte
-abbrev pub word_rank : ℕ → ℕ
-word_rank b = if is_name_byte b then 2 else (if b == colon then 1 else 0)
-
 abbrev pub is_in : Class → ℕ → Bool
 is_in class.White b = is_ascii_whitespace b
 is_in class.Digit b = is_ascii_digit b
@@ -28,9 +24,9 @@ is_in class.Name b = is_name_byte b
 is_in class.Word b = is_word_byte b
 
 -- the first place from `at` on whose byte is not of the class
-abbrev pub past : Class → Text → ℕ → ℕ
-past c z at = at + prefix_len (is_in c) (drop at z)
+abbrev pub end_of_run : Class → Text → ℕ → ℕ
+end_of_run c z at = at + prefix_len (is_in c) (drop at z)
 
 -- a letter or `_`, then letters, digits and `_`
 abbrev pub is_label : Text → Bool
-is_label z = is_letter (slice_index z 0) && past class.Name z 0 == length z
+is_label z = is_letter (slice_index z 0) && end_of_run class.Name z 0 == length z

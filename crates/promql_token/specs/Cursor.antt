@@ -1,42 +1,30 @@
 -- What is still to be drawn from a cursor.
-use Rattle.std.specs.Prelude.{◌≡◌, ◌≢◌, ℕ, ◌+◌, ◌<◌, ◌≤◌, Bool, true, false, not, ◌==◌, List, [], ◌∷◌, drop, filter, Ok, Err}
+use Rattle.std.specs.Prelude.{ℕ, Bool, true, false, not, ◌==◌, List, [], ◌∷◌, drop, filter, Ok, Err}
 use Rattle.promql_token.specs.declared.ids.TheConstants.{T_EOF}
 use Rattle.promql_token.specs.declared.cursor.Cursor as code
-use Rattle.promql_token.specs.declared.lexeme.Lexeme.{Lexeme}
 use Rattle.promql_text.specs.Texts.{Text}
-use Rattle.promql_token.specs.Laws.{IsPlaced}
-use Rattle.promql_token.specs.Pieces.{after}
-use Rattle.promql_token.specs.Lexing.{What, whats}
+use Rattle.promql_token.specs.Lexing.{PieceText, pieces}
 
 -- every token but T_EOF, which is the last
 abbrev pub is_before_end : ℕ × Text → Bool
 is_before_end t = not (t.0 == T_EOF)
 
 -- the tokens up to a fault
-abbrev pub up_to_fault : List What → List (ℕ × Text)
+abbrev pub up_to_fault : List PieceText → List (ℕ × Text)
 up_to_fault [] = []
 up_to_fault (Ok t ∷ ws) = t ∷ up_to_fault ws
 up_to_fault (Err f ∷ ws) = []
 
 -- the tokens that are to come, before the end
 abbrev pub tokens_left : code.Cursor → List (ℕ × Text)
-tokens_left c = filter is_before_end (up_to_fault (whats c.state (drop c.at c.text.now)))
+tokens_left c = filter is_before_end (up_to_fault (pieces c.state (drop c.at c.text.now)))
 
 -- whether there is a fault
-abbrev pub has_fault : List What → Bool
+abbrev pub has_fault : List PieceText → Bool
 has_fault [] = false
 has_fault (Ok t ∷ ws) = has_fault ws
 has_fault (Err f ∷ ws) = true
 
 -- whether what is to come ends in a fault
 abbrev pub ends_in_fault : code.Cursor → Bool
-ends_in_fault c = has_fault (whats c.state (drop c.at c.text.now))
-
--- a cursor moves past a token, and stays before the end
-pub record IsPast (x : Lexeme) (old new : code.Cursor) : Type 0 where
-  pub text : new.text ≡ old.text
-  pub at : x.id ≢ T_EOF → new.at ≡ x.start + x.len
-  pub state : x.id ≢ T_EOF → new.state ≡ after old.state x.id
-  pub placed : IsPlaced old.text.now x
-  pub order : old.at ≤ x.start
-  pub moves : x.id ≢ T_EOF → 0 < x.len
+ends_in_fault c = has_fault (pieces c.state (drop c.at c.text.now))

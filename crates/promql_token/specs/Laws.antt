@@ -12,7 +12,7 @@ use Rattle.promql_token.specs.declared.state.State.{State}
 use Rattle.promql_text.specs.Bytes.{point, colon, less, equal, greater, tilde}
 use Rattle.promql_text.specs.Texts.{Text}
 use Rattle.promql_token.specs.Classes.{is_in, is_label, is_letter}
-use Rattle.promql_token.specs.Lexing.{found, len_of, goes_on, behind, cut, whats, start, lex, tokens, sliced}
+use Rattle.promql_token.specs.Lexing.{found, len_of, goes_on, behind, cut, pieces, start, lex, tokens, sliced}
 use Rattle.promql_token.specs.Pieces.{gap_from, piece, after}
 use Rattle.promql_token.specs.States.{mode_after_something}
 use Rattle.promql_token.specs.Vocabulary.{begins_numeral, braces_id, is_quote, word_id}
@@ -22,7 +22,7 @@ pub use Rattle.promql_token.specs.Vocabulary.{is_exponent, is_sign, is_word}
 
 -- the cut of a text is what stands at its front, and the cut of what is behind it
 abbrev pub Cuts : Type 0
-Cuts = (state : State) (z : Text) → let f = found state z in cut state z ≡ f ∷ (if goes_on f.what then cut (behind state f.what) (drop (f.gap + len_of f.what) z) else [])
+Cuts = (state : State) (z : Text) → let f = found state z in cut state z ≡ f ∷ (if goes_on f.piece_text then cut (behind state f.piece_text) (drop (f.gap + len_of f.piece_text) z) else [])
 
 -- ---- spans
 
@@ -37,11 +37,11 @@ InOrder s at (x ∷ xs) = (at ≤ x.start) × IsGap (take (x.start - at) (drop a
 
 -- the tokens of a text have its spans in order, and their texts are the slices there
 abbrev pub Spans : Type 0
-Spans = (s : Text) (xs : List Lexeme) → lex s ≡ Ok xs → InOrder s 0 xs × (whats start s ≡ map (λ t. Ok t) (sliced s xs))
+Spans = (s : Text) (xs : List Lexeme) → lex s ≡ Ok xs → InOrder s 0 xs × (pieces start s ≡ map (λ t. Ok t) (sliced s xs))
 
 -- a text whose pieces are all tokens has these tokens
 abbrev pub Lexes : Type 0
-Lexes = (s : Text) (ts : List (ℕ × Text)) → whats start s ≡ map (λ t. Ok t) ts → tokens s ≡ Ok ts
+Lexes = (s : Text) (ts : List (ℕ × Text)) → pieces start s ≡ map (λ t. Ok t) ts → tokens s ≡ Ok ts
 
 -- a token begins and ends between characters, so that its text is a text
 abbrev pub IsPlaced : Text → Lexeme → Type 0
@@ -96,22 +96,22 @@ parts (mode.Brackets inside) w r = parts_in_brackets w r
 -- what is one token alone is that token in front of a text that doesn't go on with it
 abbrev pub Joins : Type 0
 Joins = (state : State) (w r : Text) (id : ℕ) → 0 < length w → piece state w ≡ Ok (id, length w) → parts state.mode w r ≡ true
-    → whats state (w ++ r) ≡ Ok (id, w) ∷ whats (after state id) r
+    → pieces state (w ++ r) ≡ Ok (id, w) ∷ pieces (after state id) r
 
 -- a word outside, also a fill word
 abbrev pub JoinsWord : Type 0
 JoinsWord = (depth : ℕ) (w r : Text) → is_word w ≡ true → is_in class.Word (slice_index r 0) ≡ false
-    → let state : State = record { depth = depth; mode = mode.Outside } in whats state (w ++ r) ≡ Ok (word_id w r, w) ∷ whats state r
+    → let state : State = record { depth = depth; mode = mode.Outside } in pieces state (w ++ r) ≡ Ok (word_id w r, w) ∷ pieces state r
 
 -- a word in braces, also `or`
 abbrev pub JoinsName : Type 0
 JoinsName = (depth : ℕ) (w r : Text) → is_label w ≡ true → is_in class.Name (slice_index r 0) ≡ false
-    → let state : State = record { depth = depth; mode = mode.Braces } in whats state (w ++ r) ≡ Ok (braces_id w r, w) ∷ whats state r
+    → let state : State = record { depth = depth; mode = mode.Braces } in pieces state (w ++ r) ≡ Ok (braces_id w r, w) ∷ pieces state r
 
 -- white space before a token changes nothing, but directly behind `[`
 abbrev pub SkipsWhite : Type 0
-SkipsWhite = (state : State) (g r : Text) → mode_after_something state.mode ≡ state.mode → list_all is_ascii_whitespace g ≡ true → whats state (g ++ r) ≡ whats state r
+SkipsWhite = (state : State) (g r : Text) → mode_after_something state.mode ≡ state.mode → list_all is_ascii_whitespace g ≡ true → pieces state (g ++ r) ≡ pieces state r
 
 -- the end outside, with no parenthesis open
 abbrev pub Ends : Type 0
-Ends = whats start [] ≡ Ok (T_EOF, []) ∷ []
+Ends = pieces start [] ≡ Ok (T_EOF, []) ∷ []

@@ -14,8 +14,8 @@ use Rattle.promql_token.specs.Faults.{shows}
 use Rattle.promql_token.specs.Pieces.{Piece, gap_len, piece, after_gap, after}
 
 -- a token's id and text; or a fault, how far it is from the piece's front, and the character there, for the kinds that show it
-abbrev pub What : Type 0
-What = Result (ℕ × Text) (LexFaultKind × ℕ × Option ℕ)
+abbrev pub PieceText : Type 0
+PieceText = Result (ℕ × Text) (LexFaultKind × ℕ × Option ℕ)
 
 -- the first character of the text, for the kinds that show it
 abbrev pub shown : LexFaultKind → Text → Option ℕ
@@ -26,31 +26,31 @@ abbrev pub fault_at : Text → LexFaultKind → ℕ → LexFault
 fault_at s kind at = record { kind = kind; at = at; ch = shown kind (drop at s) }
 
 -- of a text with no gap at its front
-abbrev pub what : Piece → Text → What
-what (Ok t) z = Ok (t.0, take t.1 z)
-what (Err f) z = Err (f.0, f.1, shown f.0 (drop f.1 z))
+abbrev pub piece_text : Piece → Text → PieceText
+piece_text (Ok t) z = Ok (t.0, take t.1 z)
+piece_text (Err f) z = Err (f.0, f.1, shown f.0 (drop f.1 z))
 
 -- a gap's length, and what stands behind it
 pub record Found : Type 0 where
   pub gap : ℕ
-  pub what : What
+  pub piece_text : PieceText
 
 unfoldable pub found : State → Text → Found
 found state z =
     let gap = gap_len state.mode z in
     let rest = drop gap z in
-    record { gap = gap; what = what (piece (after_gap gap state) rest) rest }
+    record { gap = gap; piece_text = piece_text (piece (after_gap gap state) rest) rest }
 
 -- how many bytes it takes, whether the text goes on behind it, and the state there
-abbrev pub len_of : What → ℕ
+abbrev pub len_of : PieceText → ℕ
 len_of (Ok t) = length t.1
 len_of (Err f) = 0
 
-abbrev pub goes_on : What → Bool
+abbrev pub goes_on : PieceText → Bool
 goes_on (Ok t) = not (t.0 == T_EOF)
 goes_on (Err f) = false
 
-abbrev pub behind : State → What → State
+abbrev pub behind : State → PieceText → State
 behind state (Ok t) = after state t.0
 behind state (Err f) = state
 
@@ -60,26 +60,26 @@ cut_from left state [] = found state [] ∷ []
 cut_from (suc left) state (b ∷ z) = cut_from left state z
 cut_from zero state (b ∷ z) =
     let f = found state (b ∷ z) in
-    if goes_on f.what then f ∷ cut_from (f.gap + len_of f.what - 1) (behind state f.what) z else f ∷ []
+    if goes_on f.piece_text then f ∷ cut_from (f.gap + len_of f.piece_text - 1) (behind state f.piece_text) z else f ∷ []
 
 unfoldable pub cut : State → Text → List Found
 cut = cut_from 0
 
 -- the same without the gaps: the tokens' ids and texts up to the end, or up to the fault
-abbrev pub whats : State → Text → List What
-whats state z = map (λ f. f.what) (cut state z)
+abbrev pub pieces : State → Text → List PieceText
+pieces state z = map (λ f. f.piece_text) (cut state z)
 
 -- the same, with the places of tokens and faults in a text whose byte `at` is the next
-abbrev pub item : ℕ → What → Result Lexeme LexFault
+abbrev pub item : ℕ → PieceText → Result Lexeme LexFault
 item at (Ok t) = Ok (record { id = t.0; start = at; len = length t.1 })
 item at (Err f) = Err (record { kind = f.0; at = at + f.1; ch = f.2 })
 
 abbrev pub first : ℕ → Found → Result Lexeme LexFault
-first at f = item (at + f.gap) f.what
+first at f = item (at + f.gap) f.piece_text
 
 abbrev pub placed : ℕ → List Found → List (Result Lexeme LexFault)
 placed at [] = []
-placed at (f ∷ fs) = first at f ∷ placed (at + f.gap + len_of f.what) fs
+placed at (f ∷ fs) = first at f ∷ placed (at + f.gap + len_of f.piece_text) fs
 
 -- the state of a text's first place
 abbrev pub start : State

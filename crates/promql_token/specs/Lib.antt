@@ -6,6 +6,8 @@ pub mod FaultPlaces
 pub mod Faults
 pub mod Gaps
 pub mod Ids
+pub mod IsFirst
+pub mod IsPast
 pub mod Laws
 pub mod Lexing
 pub mod Pieces
@@ -18,3 +20,4 @@ pub mod States
 pub mod TokenLists
 pub mod Tokens
 pub mod Vocabulary
+pub mod WordRanks

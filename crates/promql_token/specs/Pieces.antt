@@ -13,7 +13,7 @@ use Rattle.promql_token.specs.declared.state.Mode.TheVariants as mode
 use Rattle.promql_token.specs.declared.state.State.{State}
 use Rattle.promql_text.specs.Bytes.{bang, hash, percent, left_paren, right_paren, star, plus, comma, minus, point, slash, digit_zero, colon, less, equal, greater, at_sign, left_bracket, backslash, right_bracket, caret, backtick, left_brace, right_brace, tilde}
 use Rattle.promql_text.specs.Texts.{Text}
-use Rattle.promql_token.specs.Classes.{is_letter, past}
+use Rattle.promql_token.specs.Classes.{is_letter, end_of_run}
 unfoldable pub use Rattle.promql_token.specs.States.{after_gap, mode_after_something}
 pub use Rattle.promql_token.specs.Vocabulary.{begins_numeral, braces_id, is_escape, is_fill, is_line_end, is_quote, is_unit, name_id, opens, word_id}
 
@@ -29,7 +29,7 @@ gap_from false (b ∷ z) = if b == hash then suc (gap_from true z) else (if is_a
 abbrev pub gap_in : Mode → Text → ℕ
 gap_in mode.Outside z = gap_from false z
 gap_in mode.Braces z = gap_from false z
-gap_in (mode.Brackets inside) z = past class.White z 0
+gap_in (mode.Brackets inside) z = end_of_run class.White z 0
 
 unfoldable pub gap_len : Mode → Text → ℕ
 gap_len = gap_in
@@ -42,10 +42,10 @@ Piece = Result (ℕ × ℕ) (LexFaultKind × ℕ)
 -- ---- words
 
 unfoldable pub word : Text → Piece
-word z = let len = past class.Word z 0 in Ok (word_id (take len z) (drop len z), len)
+word z = let len = end_of_run class.Word z 0 in Ok (word_id (take len z) (drop len z), len)
 
 unfoldable pub word_in_braces : Text → Piece
-word_in_braces z = let len = past class.Name z 0 in Ok (braces_id (take len z) (drop len z), len)
+word_in_braces z = let len = end_of_run class.Name z 0 in Ok (braces_id (take len z) (drop len z), len)
 
 -- ---- numerals
 
@@ -57,16 +57,16 @@ abbrev pub digits : Text → Class
 digits z = if is_hex z then class.HexDigit else class.Digit
 
 abbrev pub past_whole : Text → ℕ
-past_whole z = past (digits z) z (if is_hex z then 2 else 0)
+past_whole z = end_of_run (digits z) z (if is_hex z then 2 else 0)
 
 abbrev pub past_point : Class → Text → ℕ → ℕ
-past_point c z at = if slice_index z at == point then past c z (at + 1) else at
+past_point c z at = if slice_index z at == point then end_of_run c z (at + 1) else at
 
 abbrev pub past_sign : Text → ℕ → ℕ
 past_sign z at = if slice_index z at == plus || slice_index z at == minus then at + 1 else at
 
 abbrev pub past_exponent : Text → ℕ → ℕ
-past_exponent z at = if slice_index z at == 101 || slice_index z at == 69 then past class.Digit z (past_sign z (at + 1)) else at
+past_exponent z at = if slice_index z at == 101 || slice_index z at == 69 then end_of_run class.Digit z (past_sign z (at + 1)) else at
 
 -- where the number that a numeral begins with ends
 unfoldable pub number_end : Text → ℕ
@@ -79,7 +79,7 @@ unit_len first z = if is_unit first (slice_index z 0) then (if slice_index z 1 =
 -- the length of digits and a unit, or 0
 abbrev pub part_len : Text → ℕ
 part_len z =
-    let count = past class.Digit z 0 in
+    let count = end_of_run class.Digit z 0 in
     let unit = unit_len false (drop count z) in
     if count == 0 || unit == 0 then 0 else count + unit
 
@@ -97,7 +97,7 @@ units z = let len = unit_len true z in if len == 0 then false else parts_from 0 
 unfoldable pub numeral : Text → Piece
 numeral z =
     let end = number_end z in
-    let run = past class.Name z end in
+    let run = end_of_run class.Name z end in
     if run == end && not (slice_index z end == point) then Ok (T_NUMBER, end)
     else (if units (take (run - end) (drop end z)) then Ok (T_DURATION, run) else Err (Numeral, 0))
 

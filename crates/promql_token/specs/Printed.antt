@@ -8,7 +8,7 @@ use Rattle.promql_token.specs.declared.state.State.{State}
 use Rattle.promql_text.specs.Bytes.{backtick, point}
 use Rattle.promql_text.specs.Texts.{Text}
 use Rattle.promql_token.specs.Laws.{stops_numeral}
-use Rattle.promql_token.specs.Lexing.{whats}
+use Rattle.promql_token.specs.Lexing.{pieces}
 use Rattle.promql_token.specs.Pieces.{is_quote, after}
 pub use Rattle.promql_token.specs.Vocabulary.{are_digits, holds_strings, is_part, is_spelling, joined, parts_text}
 
@@ -20,7 +20,7 @@ quoted quote ps = quote ∷ (joined ps ++ quote ∷ [])
 -- a string of such spellings is a token before any text
 abbrev pub JoinsString : Type 0
 JoinsString = (state : State) (quote : ℕ) (ps : List Text) (r : Text) → holds_strings state.mode ≡ true → is_quote quote ≡ true → (quote == backtick) ≡ false
-    → list_all (is_spelling quote) ps ≡ true → whats state (quoted quote ps ++ r) ≡ Ok (T_STRING, quoted quote ps) ∷ whats (after state T_STRING) r
+    → list_all (is_spelling quote) ps ≡ true → pieces state (quoted quote ps ++ r) ≡ Ok (T_STRING, quoted quote ps) ∷ pieces (after state T_STRING) r
 
 -- ---- numbers
 
@@ -38,11 +38,11 @@ decimal whole (b ∷ fraction) = whole ++ point ∷ b ∷ fraction
 -- a decimal number without exponent is a token
 abbrev pub JoinsNumber : Type 0
 JoinsNumber = (state : State) (whole fraction r : Text) → holds_numerals state.mode ≡ true → 0 < length whole → are_digits whole ≡ true → are_digits fraction ≡ true
-    → let w = decimal whole fraction in stops_numeral w r ≡ true → whats state (w ++ r) ≡ Ok (T_NUMBER, w) ∷ whats (after state T_NUMBER) r
+    → let w = decimal whole fraction in stops_numeral w r ≡ true → pieces state (w ++ r) ≡ Ok (T_NUMBER, w) ∷ pieces (after state T_NUMBER) r
 
 -- ---- durations
 
 -- such parts, the first one with any unit, are a token
 abbrev pub JoinsDuration : Type 0
 JoinsDuration = (state : State) (p : Text × Text) (ps : List (Text × Text)) (r : Text) → holds_numerals state.mode ≡ true → is_part true p ≡ true → list_all (is_part false) ps ≡ true
-    → let w = parts_text (p ∷ ps) in stops_numeral w r ≡ true → whats state (w ++ r) ≡ Ok (T_DURATION, w) ∷ whats (after state T_DURATION) r
+    → let w = parts_text (p ∷ ps) in stops_numeral w r ≡ true → pieces state (w ++ r) ≡ Ok (T_DURATION, w) ∷ pieces (after state T_DURATION) r

@@ -13,18 +13,18 @@ use Rattle.promql_token.specs.declared.ids.TheConstants.{T_DURATION, T_NUMBER, T
 use Rattle.promql_token.specs.declared.state.Mode.TheVariants as mode
 use Rattle.promql_token.specs.declared.state.State.{State}
 use Rattle.promql_token.specs.Laws.{stops_numeral}
-use Rattle.promql_token.specs.Lexing.{whats}
+use Rattle.promql_token.specs.Lexing.{pieces}
 use Rattle.promql_token.specs.Pieces.{after}
 use Rattle.promql_token.specs.Printed.{holds_numerals, holds_strings}
 
 -- a quoted text is a string, before any text
 abbrev pub JoinsQuoted : Type 0
-JoinsQuoted = (state : State) (s r : Text) → holds_strings state.mode ≡ true → whats state (quoted_text s ++ r) ≡ Ok (T_STRING, quoted_text s) ∷ whats (after state T_STRING) r
+JoinsQuoted = (state : State) (s r : Text) → holds_strings state.mode ≡ true → pieces state (quoted_text s ++ r) ≡ Ok (T_STRING, quoted_text s) ∷ pieces (after state T_STRING) r
 
 -- the text of a number that is not below zero is a number, where it stands outside and nothing goes on with it
 abbrev pub JoinsNumberText : Type 0
 JoinsNumberText = (depth : ℕ) (v : Number) (r : Text) → IsNumber v → is_below_zero v ≡ false → stops_numeral (number_text v) r ≡ true → (slice_index r 0 == colon) ≡ false
-    → let state : State = record { depth = depth; mode = mode.Outside } in whats state (number_text v ++ r) ≡ Ok (T_NUMBER, number_text v) ∷ whats state r
+    → let state : State = record { depth = depth; mode = mode.Outside } in pieces state (number_text v ++ r) ≡ Ok (T_NUMBER, number_text v) ∷ pieces state r
 
 -- whole milliseconds print as a duration, all others as a number
 abbrev pub time_id : ℕ → ℕ
@@ -33,4 +33,4 @@ time_id n = if n % nanos_of Milli == 0 then T_DURATION else T_NUMBER
 -- the text of a duration above zero is a duration or a number
 abbrev pub JoinsTime : Type 0
 JoinsTime = (state : State) (n : ℕ) (r : Text) → holds_numerals state.mode ≡ true → 0 < n → n < 2 ^ 64 * 1_000_000_000 → stops_numeral (duration_text n) r ≡ true
-    → whats state (duration_text n ++ r) ≡ Ok (time_id n, duration_text n) ∷ whats (after state (time_id n)) r
+    → pieces state (duration_text n ++ r) ≡ Ok (time_id n, duration_text n) ∷ pieces (after state (time_id n)) r

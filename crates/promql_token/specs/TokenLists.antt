@@ -9,7 +9,7 @@ use Rattle.promql_text.specs.Texts.{Text}
 use Rattle.promql_token.specs.Begins.{MayBegin}
 use Rattle.promql_token.specs.FaultPlaces.{IsFault}
 use Rattle.promql_token.specs.Gaps.{IsGapIn}
-use Rattle.promql_token.specs.Lexing.{items, lex, shown, start, tokens, whats}
+use Rattle.promql_token.specs.Lexing.{items, lex, shown, start, tokens, pieces}
 use Rattle.promql_token.specs.States.{after_gap, mode_at, state_at}
 
 -- a gap, and the id and the text of the token after it
@@ -67,11 +67,11 @@ OnlyTexts =
     × ((f : LexFault) → (tokens s ≡ Err f) ↔ ((ts : List Step) × IsRead (EndsIn f (length s)) [] s ts))
 
 -- the tokens that a cursor gives from the start on, to the end or to the fault
-abbrev pub OnlyWhats : Type 0
-OnlyWhats =
+abbrev pub OnlyPieces : Type 0
+OnlyPieces =
     (s : Text) (ts : List Step)
-    → (IsRead IsEnd [] s ts → whats start s ≡ map (λ t. Ok (t.1, t.2)) ts ++ Ok (T_EOF, []) ∷ [])
-    × ((f : LexFault) → IsRead (EndsIn f (length s)) [] s ts → (n : ℕ) × (whats start s ≡ map (λ t. Ok (t.1, t.2)) ts ++ Err (f.kind, n, f.ch) ∷ []))
+    → (IsRead IsEnd [] s ts → pieces start s ≡ map (λ t. Ok (t.1, t.2)) ts ++ Ok (T_EOF, []) ∷ [])
+    × ((f : LexFault) → IsRead (EndsIn f (length s)) [] s ts → (n : ℕ) × (pieces start s ≡ map (λ t. Ok (t.1, t.2)) ts ++ Err (f.kind, n, f.ch) ∷ []))
 
 -- a lexer yields the tokens, and then the fault
 abbrev pub OnlyItems : Type 0

@@ -10,7 +10,7 @@ use Rattle.promql_token.specs.declared.state.Mode.{Mode}
 use Rattle.promql_token.specs.declared.state.Mode.TheVariants as mode
 use Rattle.promql_text.specs.Bytes.{backslash, backtick, carriage_return, colon, double_quote, left_paren, line_feed, minus, plus, point, single_quote, space}
 use Rattle.promql_text.specs.Texts.{Text}
-use Rattle.promql_token.specs.Classes.{is_letter, past}
+use Rattle.promql_token.specs.Classes.{is_letter, end_of_run}
 use Rattle.promql_token.specs.Ids.{keyword_in_any_case}
 
 -- the first byte, or NUL where there is none
@@ -24,14 +24,14 @@ is_line_end b = b == line_feed || b == carriage_return
 
 -- a letter, `_` or `:`, then letters, digits, `_` and `:`
 abbrev pub is_word : Text → Bool
-is_word w = (is_letter (slice_index w 0) || slice_index w 0 == colon) && past class.Word w 0 == length w
+is_word w = (is_letter (slice_index w 0) || slice_index w 0 == colon) && end_of_run class.Word w 0 == length w
 
 abbrev pub is_fill : ℕ → Bool
 is_fill id = id == T_FILL || id == T_FILL_LEFT || id == T_FILL_RIGHT
 
 -- whether `(` is the first byte past white space
 abbrev pub opens : Text → Bool
-opens z = slice_index z (past class.White z 0) == left_paren
+opens z = slice_index z (end_of_run class.White z 0) == left_paren
 
 -- of a word that is no keyword
 abbrev pub name_id : Text → ℕ

@@ -3,6 +3,7 @@
 ghost use Rattle.std.specs.Prelude.{◌≡◌, ◌≢◌, ◌<◌, ◌≤◌, length, slice_index};
 ghost use Rattle.std.specs.Prelude.{get_or};
 ghost use Rattle.promql_token.specs.Classes as spec;
+ghost use Rattle.promql_token.specs.WordRanks.{word_rank};
 
 /// Bytes that go together.
 #[derive(Clone, Copy, Debug)]
@@ -53,7 +54,7 @@ fn looked_up(table: &[u8], b: u8) -> u8
 }
 
 fn word_rank(b: u8) -> u8
-    ensures { result ≡ spec.word_rank b }
+    ensures { result ≡ word_rank b }
 {
     looked_up(&WORD_BYTES, b)
 }
@@ -84,9 +85,9 @@ pub fn is_in(class: Class, b: u8) -> bool
 }
 
 /// The first place from `at` on whose byte is not of the class.
-pub fn past(class: Class, z: &[u8], at: usize) -> usize
+pub fn end_of_run(class: Class, z: &[u8], at: usize) -> usize
     requires { at ≤ length z.now }
-    ensures value { result ≡ spec.past class z.now at }
+    ensures value { result ≡ spec.end_of_run class z.now at }
     ensures within { (at ≤ result) × (result ≤ length z.now) }
 {
     let mut end = at;

@@ -1,9 +1,9 @@
 //! A place of a text between two tokens, from which the tokens are drawn one by one.
 
-ghost use Rattle.std.specs.Prelude.{◌≡◌, ◌≢◌, ◌<◌, ◌≤◌, ◌+◌, [], ◌∷◌, List, ℕ, true, false, drop, filter, Ok, Err, IfOk, IfErr, OnErr, MatchOption, MatchResult};
+ghost use Rattle.std.specs.Prelude.{◌≡◌, ◌≢◌, ◌<◌, ◌≤◌, ◌+◌, [], ◌∷◌, List, ℕ, true, false, filter, Ok, Err, IfOk, IfErr, OnErr, MatchOption};
 ghost use Rattle.std.specs.Str.{IsCharBoundary};
+ghost use Rattle.promql_token.specs.IsFirst.{IsFirst};
 ghost use Rattle.promql_token.specs.Lexing as spec;
-ghost use Rattle.promql_token.specs.Pieces as pieces;
 
 use crate::fault::{LexFault, LexFaultKind};
 use crate::gap::gap_len;
@@ -27,10 +27,7 @@ pub struct Cursor<'a> {
 #[inline(always)]
 fn token_at(text: &str, at: usize, state: State) -> Result<Lexeme, (LexFaultKind, usize)>
     requires { IsCharBoundary text.now at }
-    ensures value { MatchResult result
-        (λ x. Ok x ≡ spec.first at (spec.found state (drop at text.now)))
-        (λ f. Err (spec.fault_at text.now f.0 f.1)
-        ≡ spec.first at (spec.found state (drop at text.now))) }
+    ensures value { IsFirst text.now at state result }
     ensures front { IfOk result (λ x. IsCharBoundary text.now x.start) }
     ensures place { IfOk result (λ x. IsCharBoundary text.now (x.start + x.len)) }
     ensures order { IfOk result (λ x. at ≤ x.start) }
@@ -47,7 +44,8 @@ fn token_at(text: &str, at: usize, state: State) -> Result<Lexeme, (LexFaultKind
 }
 
 impl<'a> Cursor<'a> {
-    ghost use Rattle.promql_token.specs.Cursor.{tokens_left, is_before_end, ends_in_fault, IsPast};
+    ghost use Rattle.promql_token.specs.Cursor.{tokens_left, is_before_end, ends_in_fault};
+    ghost use Rattle.promql_token.specs.IsPast.{IsPast};
 
     /// The cursor before a text's first token.
     pub fn new(text: &'a str) -> Cursor<'a>
@@ -80,11 +78,7 @@ impl<'a> Cursor<'a> {
     /// stays before the end and before a fault.
     #[inline(always)]
     pub(crate) fn advance(&mut self) -> Result<Lexeme, (LexFaultKind, usize)>
-        ensures value { MatchResult result
-            (λ x. Ok x ≡ spec.first self.old.at
-            (spec.found self.old.state (drop self.old.at self.old.text.now)))
-            (λ f. Err (spec.fault_at self.old.text.now f.0 f.1) ≡ spec.first self.old.at
-            (spec.found self.old.state (drop self.old.at self.old.text.now))) }
+        ensures value { IsFirst self.old.text.now self.old.at self.old.state result }
         ensures token { IfOk result (λ x. IsPast x self.old self.new) }
         ensures stays { IfOk result (λ x. x.id ≡ T_EOF → self.new ≡ self.old) }
         ensures fault { OnErr result (self.new ≡ self.old) }
@@ -105,11 +99,7 @@ impl<'a> Cursor<'a> {
     #[inline(always)]
     fn step(&mut self, state: State) -> Result<Lexeme, (LexFaultKind, usize)>
         requires { state ≡ self.old.state }
-        ensures value { MatchResult result
-            (λ x. Ok x ≡ spec.first self.old.at
-            (spec.found self.old.state (drop self.old.at self.old.text.now)))
-            (λ f. Err (spec.fault_at self.old.text.now f.0 f.1) ≡ spec.first self.old.at
-            (spec.found self.old.state (drop self.old.at self.old.text.now))) }
+        ensures value { IsFirst self.old.text.now self.old.at self.old.state result }
         ensures token { IfOk result (λ x. IsPast x self.old self.new) }
         ensures stays { IfOk result (λ x. x.id ≡ T_EOF → self.new ≡ self.old) }
         ensures fault { OnErr result (self.new ≡ self.old) }

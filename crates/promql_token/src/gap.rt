@@ -3,7 +3,7 @@
 ghost use Rattle.std.specs.Prelude.{◌≡◌, ◌≤◌, false, length};
 ghost use Rattle.promql_token.specs.Pieces as spec;
 
-use crate::class::{Class, past};
+use crate::class::{Class, end_of_run};
 use crate::state::Mode;
 
 fn with_comments(z: &[u8]) -> usize
@@ -31,6 +31,6 @@ pub fn gap_len(mode: Mode, z: &[u8]) -> usize
 {
     match mode {
         Mode::Outside | Mode::Braces => with_comments(z),
-        Mode::Brackets(_) => past(Class::White, z, 0),
+        Mode::Brackets(_) => end_of_run(Class::White, z, 0),
     }
 }

@@ -78,7 +78,7 @@ pub fn only_tokens()
     ensures tokens { lists.OnlyTokens }
     ensures fault { lists.OnlyFault }
     ensures texts { lists.OnlyTexts }
-    ensures whats { lists.OnlyWhats }
+    ensures pieces { lists.OnlyPieces }
     ensures items { lists.OnlyItems }
 {}
 

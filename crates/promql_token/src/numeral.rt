@@ -3,7 +3,7 @@
 ghost use Rattle.std.specs.Prelude.{◌≡◌, ◌≤◌, true, length};
 ghost use Rattle.promql_token.specs.Pieces as spec;
 
-use crate::class::{Class, byte, past};
+use crate::class::{Class, byte, end_of_run};
 use crate::fault::LexFaultKind;
 use crate::ids::{T_DURATION, T_NUMBER};
 use crate::lexeme::Piece;
@@ -32,9 +32,9 @@ fn past_whole(z: &[u8]) -> usize
     ensures within { result ≤ length z.now }
 {
     if is_hex(z) {
-        past(Class::HexDigit, z, 2)
+        end_of_run(Class::HexDigit, z, 2)
     } else {
-        past(Class::Digit, z, 0)
+        end_of_run(Class::Digit, z, 0)
     }
 }
 
@@ -44,7 +44,7 @@ fn past_point(class: Class, z: &[u8], at: usize) -> usize
     ensures within { (at ≤ result) × (result ≤ length z.now) }
 {
     if byte(z, at) == b'.' {
-        past(class, z, at + 1)
+        end_of_run(class, z, at + 1)
     } else {
         at
     }
@@ -66,7 +66,7 @@ fn past_exponent(z: &[u8], at: usize) -> usize
 {
     let b = byte(z, at);
     if b == b'e' || b == b'E' {
-        past(Class::Digit, z, past_sign(z, at + 1))
+        end_of_run(Class::Digit, z, past_sign(z, at + 1))
     } else {
         at
     }
@@ -106,7 +106,7 @@ fn part_len(z: &[u8]) -> usize
     ensures value { result ≡ spec.part_len z.now }
     ensures within { result ≤ length z.now }
 {
-    let count = past(Class::Digit, z, 0);
+    let count = end_of_run(Class::Digit, z, 0);
     let unit = unit_len(false, &z[count..]);
     if count == 0 || unit == 0 {
         0
@@ -146,7 +146,7 @@ pub fn numeral(z: &[u8]) -> Piece
     ensures { result ≡ spec.numeral z.now }
 {
     let end = number_end(z);
-    let run = past(Class::Name, z, end);
+    let run = end_of_run(Class::Name, z, end);
     if run == end && byte(z, end) != b'.' {
         Ok((T_NUMBER, end))
     } else if is_units(&z[end..run]) {

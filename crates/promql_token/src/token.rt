@@ -4,7 +4,7 @@ ghost use Rattle.std.specs.Prelude.{◌≡◌, IfOk, string_bytes, codes};
 ghost use Rattle.promql_token.specs.Classes as classes;
 ghost use Rattle.promql_token.specs.Ids as spec;
 
-use crate::class::{Class, byte, is_letter, past};
+use crate::class::{Class, byte, end_of_run, is_letter};
 use crate::ids::*;
 use std::alloc::{AllocError, Global};
 use std::fmt;
@@ -136,5 +136,5 @@ pub fn is_label(s: &str) -> bool
     ensures { result ≡ classes.is_label s.now }
 {
     let bytes = s.as_bytes();
-    is_letter(byte(bytes, 0)) && past(Class::Name, bytes, 0) == bytes.len()
+    is_letter(byte(bytes, 0)) && end_of_run(Class::Name, bytes, 0) == bytes.len()
 }

@@ -3,7 +3,7 @@
 ghost use Rattle.std.specs.Prelude.{◌≡◌, length};
 ghost use Rattle.promql_token.specs.Pieces as spec;
 
-use crate::class::{Class, byte, past};
+use crate::class::{Class, byte, end_of_run};
 use crate::ids::*;
 use crate::lexeme::Piece;
 
@@ -17,7 +17,7 @@ fn is_fill(id: TokenId) -> bool
 fn opens(z: &[u8]) -> bool
     ensures { result ≡ spec.opens z.now }
 {
-    byte(z, past(Class::White, z, 0)) == b'('
+    byte(z, end_of_run(Class::White, z, 0)) == b'('
 }
 
 fn name_id(word: &[u8]) -> TokenId
@@ -48,7 +48,7 @@ fn word_id(word: &[u8], rest: &[u8]) -> TokenId
 pub fn word(z: &[u8]) -> Piece
     ensures { result ≡ spec.word z.now }
 {
-    let len = past(Class::Word, z, 0);
+    let len = end_of_run(Class::Word, z, 0);
     Ok((word_id(&z[..len], &z[len..]), len))
 }
 
@@ -68,6 +68,6 @@ fn braces_id(word: &[u8], rest: &[u8]) -> TokenId
 pub fn word_in_braces(z: &[u8]) -> Piece
     ensures { result ≡ spec.word_in_braces z.now }
 {
-    let len = past(Class::Name, z, 0);
+    let len = end_of_run(Class::Name, z, 0);
     Ok((braces_id(&z[..len], &z[len..]), len))
 }

@@ -1,9 +1,9 @@
 use Rattle.std.proofs.Common.{◌≡◌, ◌-◌, ◌≤◌, length}
 use Rattle.promql_token.specs.Classes as spec
-use Rattle.promql_token.proofs.class.past.Given as goal
+use Rattle.promql_token.proofs.class.end_of_run.Given as goal
 
 abbrev pub invariant-loop-end : goal.invariant-loop-end
-invariant-loop-end l = (spec.past l.class l.z l.end ≡ spec.past l.class l.z l.at) × (l.at ≤ l.end) × (l.end ≤ length l.z)
+invariant-loop-end l = (spec.end_of_run l.class l.z l.end ≡ spec.end_of_run l.class l.z l.at) × (l.at ≤ l.end) × (l.end ≤ length l.z)
 
 abbrev pub decreases-loop-end : goal.decreases-loop-end
 decreases-loop-end l = length l.z - l.end
