@@ -10,7 +10,5 @@ mod grammar;
 pub mod label;
 pub mod laws;
 pub mod parser;
-#[cfg(test)]
-mod tests;
 mod tokens;
 pub mod util;

@@ -4,6 +4,7 @@ mod calls;
 mod canonical;
 mod layouts;
 mod memory;
+mod parsing;
 mod queries;
 mod readme;
 mod trees;

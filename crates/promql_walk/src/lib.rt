@@ -12,8 +12,6 @@ pub mod json_error;
 mod json_nodes;
 mod json_parts;
 pub mod laws;
-#[cfg(test)]
-mod tests;
 mod to_json;
 pub mod visitor;
 pub mod visitor_mut;

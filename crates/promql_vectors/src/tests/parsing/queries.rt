@@ -1,7 +1,7 @@
 //! Queries as people write them.
 
-use super::answer;
-use crate::parser::parse;
+use crate::tests::line;
+use promql_parser::parser::parse;
 use std::test::Fail;
 
 const QUERIES: [&str; 71] = [
@@ -82,9 +82,9 @@ const QUERIES: [&str; 71] = [
 fn queries_print_alike(rt: HostRuntime) -> Result<(), Fail> {
     let alloc = rt.alloc();
     for query in &QUERIES {
-        let printed = answer(alloc, query)?;
+        let printed = line(alloc, query)?;
         assert!(rt; parse(alloc, query).is_ok(), "{query}: {printed}");
-        let again = answer(alloc, printed.as_str())?;
+        let again = line(alloc, printed.as_str())?;
         assert!(rt; again == printed, "{query}");
     }
     Ok(())

@@ -1,19 +1,8 @@
-//! Trees made by hand: what they print as, what builders and checks say of them, copies and equality.
+//! Trees made by hand.
 
-mod builders;
-mod checks;
-mod layout;
-mod memory;
-mod printing;
-
-use crate::at_modifier::AtModifier;
-use crate::call::FunctionArgs;
-use crate::expr::Expr;
-use crate::extension::Extension;
-use crate::fault::CheckError;
-use crate::offset::Offset;
-use crate::range_mode::RangeMode;
-use crate::vector_selector::VectorSelector;
+use promql_ast::{
+    AtModifier, CheckError, Expr, Extension, FunctionArgs, Offset, RangeMode, VectorSelector,
+};
 use promql_kind::{
     BinModifier, Function, LabelModifier, ValueType, VectorMatchCardinality, get_function,
 };
@@ -24,17 +13,17 @@ use promql_token::ids::{T_ADD, T_LAND, T_SUM, T_TOPK};
 use std::alloc::Global;
 
 /// The selector of a name.
-fn name(alloc: Global, name: &str) -> Result<Expr, CheckError> {
+pub fn name(alloc: Global, name: &str) -> Result<Expr, CheckError> {
     Ok(Expr::from(VectorSelector::of_str(alloc, name)?))
 }
 
 /// A whole number.
-fn number(val: i64) -> Expr {
+pub fn number(val: i64) -> Expr {
     Expr::from(Number::from_i64(val))
 }
 
 /// The number of a text.
-fn decimal(text: &str) -> Expr {
+pub fn decimal(text: &str) -> Expr {
     match parse_str_radix(text) {
         Ok(val) => Expr::from(val),
         Err(_) => Expr::from(Number::NaN),
@@ -42,17 +31,17 @@ fn decimal(text: &str) -> Expr {
 }
 
 /// A matcher of a label that has to be this text.
-fn equal(alloc: Global, name: &str, value: &str) -> Result<Matcher, CheckError> {
+pub fn equal(alloc: Global, name: &str, value: &str) -> Result<Matcher, CheckError> {
     Ok(Matcher::new(alloc, MatchOp::Equal, name, value)?)
 }
 
 /// The selector with five minutes as its range.
-fn five_minutes(expr: Expr) -> Result<Expr, CheckError> {
+pub fn five_minutes(expr: Expr) -> Result<Expr, CheckError> {
     Expr::new_matrix_selector(expr, minute_duration() * 5)
 }
 
 /// The arguments, of which there are at most three.
-fn args(
+pub fn args(
     alloc: Global,
     first: Option<Expr>,
     second: Option<Expr>,
@@ -72,7 +61,7 @@ fn args(
 }
 
 /// The function of a name; of an unknown name, one that takes nothing.
-fn function(alloc: Global, name: &str) -> Result<Function, CheckError> {
+pub fn function(alloc: Global, name: &str) -> Result<Function, CheckError> {
     match get_function(alloc, name)? {
         Some(function) => Ok(function),
         None => Ok(Function::new("unknown", Vec::new(alloc), 0, ValueType::Scalar, false)),
@@ -80,13 +69,13 @@ fn function(alloc: Global, name: &str) -> Result<Function, CheckError> {
 }
 
 /// The call of a function with one argument.
-fn call(alloc: Global, name: &str, arg: Expr) -> Result<Expr, CheckError> {
+pub fn call(alloc: Global, name: &str, arg: Expr) -> Result<Expr, CheckError> {
     let function = function(alloc, name)?;
     Ok(Expr::new_call(function, FunctionArgs::new_args(alloc, arg)?))
 }
 
 /// The expression of two sides.
-fn binary(
+pub fn binary(
     alloc: Global,
     lhs: Expr,
     op: TokenId,
@@ -97,7 +86,7 @@ fn binary(
 }
 
 /// `on (l) group_left (k)`.
-fn grouped(alloc: Global, l: &str, k: &str) -> Result<BinModifier, CheckError> {
+pub fn grouped(alloc: Global, l: &str, k: &str) -> Result<BinModifier, CheckError> {
     let on = LabelModifier::include(alloc, [l].to_vec(alloc)?)?;
     let card = VectorMatchCardinality::many_to_one(alloc, [k].to_vec(alloc)?)?;
     Ok(
@@ -108,7 +97,7 @@ fn grouped(alloc: Global, l: &str, k: &str) -> Result<BinModifier, CheckError> {
 }
 
 /// An expression of each kind of node, by its number; a selector past the last.
-fn kind(alloc: Global, number_of_kind: usize) -> Result<Expr, CheckError> {
+pub fn kind(alloc: Global, number_of_kind: usize) -> Result<Expr, CheckError> {
     let a = name(alloc, "a")?;
     match number_of_kind {
         0 => {
@@ -155,7 +144,7 @@ fn kind(alloc: Global, number_of_kind: usize) -> Result<Expr, CheckError> {
 }
 
 /// How each of the kinds prints.
-const KINDS: [&str; 12] = [
+pub const KINDS: [&str; 12] = [
     "topk by (l) (5, a)",
     "-a",
     "a + on (l) group_left (k) 1",

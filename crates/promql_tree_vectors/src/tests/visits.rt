@@ -5,23 +5,14 @@ mod json;
 mod layout;
 mod walks;
 
-use promql_ast::{CheckError, Expr, Extension, FunctionArgs, VectorSelector};
-use promql_kind::{Function, LabelModifier, ValueType, get_function};
+use super::trees;
+use super::trees::{name, number};
+use promql_ast::{CheckError, Expr, Extension, FunctionArgs};
+use promql_kind::{LabelModifier, ValueType};
 use promql_label::{MatchOp, Matcher, Matchers};
-use promql_text::{Number, minute_duration};
 use promql_token::TokenId;
 use promql_token::ids::T_TOPK;
 use std::alloc::Global;
-
-/// The selector of a name.
-fn name(alloc: Global, name: &str) -> Result<Expr, CheckError> {
-    Ok(Expr::from(VectorSelector::of_str(alloc, name)?))
-}
-
-/// A whole number.
-fn number(val: i64) -> Expr {
-    Expr::from(Number::from_i64(val))
-}
 
 /// The selector of a name, and of a matcher of a label that has to be this text.
 fn matched(alloc: Global, name: &str, label: &str, value: &str) -> Result<Expr, CheckError> {
@@ -33,26 +24,7 @@ fn matched(alloc: Global, name: &str, label: &str, value: &str) -> Result<Expr, 
 
 /// The expression of two sides, without a modifier.
 fn binary(alloc: Global, lhs: Expr, op: TokenId, rhs: Expr) -> Result<Expr, CheckError> {
-    Ok(Expr::new_binary_expr(alloc, lhs, op, None, rhs)?)
-}
-
-/// The selector with five minutes as its range.
-fn five_minutes(expr: Expr) -> Result<Expr, CheckError> {
-    Expr::new_matrix_selector(expr, minute_duration() * 5)
-}
-
-/// The function of a name; of an unknown name, one that takes nothing.
-fn function(alloc: Global, name: &str) -> Result<Function, CheckError> {
-    match get_function(alloc, name)? {
-        Some(function) => Ok(function),
-        None => Ok(Function::new("unknown", Vec::new(alloc), 0, ValueType::Scalar, false)),
-    }
-}
-
-/// The call of a function with one argument.
-fn call(alloc: Global, name: &str, arg: Expr) -> Result<Expr, CheckError> {
-    let function = function(alloc, name)?;
-    Ok(Expr::new_call(function, FunctionArgs::new_args(alloc, arg)?))
+    trees::binary(alloc, lhs, op, None, rhs)
 }
 
 /// An aggregation of one or two arguments.

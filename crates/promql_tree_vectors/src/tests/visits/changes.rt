@@ -1,11 +1,12 @@
 //! Visitors that change nodes, stop, and fail.
 
-use super::{aggregate, binary, chain, extension, name, number, sum, topk};
-use crate::visitor_mut::{ExprVisitorMut, walk_expr_mut};
+use super::{aggregate, binary, chain, extension, sum, topk};
+use crate::tests::trees::{name, number};
 use promql_ast::Expr;
 use promql_label::{MatchOp, Matcher};
 use promql_text::Number;
 use promql_token::ids::{T_ADD, T_SUM};
+use promql_walk::{ExprVisitorMut, walk_expr_mut};
 use std::alloc::{AllocError, Global};
 use std::mem;
 use std::test::Fail;

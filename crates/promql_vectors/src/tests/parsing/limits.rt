@@ -1,14 +1,10 @@
 //! Deep and long texts.
 
-use super::{answer, repeated};
-use crate::parser::{ParseError, parse};
+use crate::tests::{line, refusal, repeated};
+use promql_parser::parser::{ParseError, parse};
 use promql_token::LexFaultKind;
 use std::alloc::{AllocError, Global};
 use std::test::Fail;
-
-fn refusal(alloc: Global, text: &str) -> Option<ParseError> {
-    parse(alloc, text).err()
-}
 
 // The text between so many pairs of two others.
 fn nested(
@@ -65,7 +61,7 @@ fn long_texts(rt: HostRuntime) -> Result<(), Fail> {
         assert!(rt; parse(alloc, text.as_str()).is_ok(), "row {i}");
     }
     let zeros = repeated(alloc, "0.", "0", 100_000, "")?;
-    let found = answer(alloc, zeros.as_str())?;
+    let found = line(alloc, zeros.as_str())?;
     assert_eq!(rt; found.as_str(), "0");
     let rows = [
         (
@@ -86,7 +82,7 @@ fn long_texts(rt: HostRuntime) -> Result<(), Fail> {
         ),
     ];
     for (text, want) in &rows {
-        let found = answer(alloc, text.as_str())?;
+        let found = line(alloc, text.as_str())?;
         assert_eq!(rt; found.as_str(), *want);
     }
     Ok(())
@@ -112,7 +108,7 @@ fn front_pieces(rt: HostRuntime) -> Result<(), Fail> {
         };
         assert!(rt; is_as_wanted, "at {len}");
     }
-    let found = answer(alloc, "a[5m] offset 5")?;
+    let found = line(alloc, "a[5m] offset 5")?;
     assert_eq!(rt; found.as_str(), "a[5m] offset 5s");
     Ok(())
 }

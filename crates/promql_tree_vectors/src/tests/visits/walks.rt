@@ -1,14 +1,13 @@
 //! The order of a walk, and where it ends.
 
-use super::{
-    aggregate, binary, call, chain, extension, five_minutes, matched, name, number, sum, topk,
-};
-use crate::visitor::{ExprVisitor, walk_expr};
+use super::{aggregate, binary, chain, extension, matched, sum, topk};
+use crate::tests::trees::{call, five_minutes, name, number};
 use promql_ast::{CheckError, Expr};
 use promql_kind::LabelModifier;
 use promql_label::{MatchOp, Matchers};
 use promql_text::minute_duration;
 use promql_token::ids::{T_ADD, T_POW, T_SUM};
+use promql_walk::{ExprVisitor, walk_expr};
 use std::alloc::{AllocError, Global};
 use std::fmt::Write;
 use std::test::Fail;

@@ -1,11 +1,7 @@
 //! One-line texts, copies and equality.
 
-use super::{KINDS, args, binary, decimal, equal, five_minutes, kind, name, number};
-use crate::at_modifier::AtModifier;
-use crate::expr::Expr;
-use crate::offset::Offset;
-use crate::range_mode::RangeMode;
-use crate::vector_selector::VectorSelector;
+use crate::tests::trees::{KINDS, args, binary, decimal, equal, five_minutes, kind, name, number};
+use promql_ast::{AtModifier, Expr, Offset, RangeMode, VectorSelector};
 use promql_kind::LabelModifier;
 use promql_label::Matchers;
 use promql_text::minute_duration;

@@ -1,7 +1,8 @@
 //! Each form of the grammar, printed and read again.
 
-use super::{answer, check_printed, check_rows};
-use crate::parser::{Expr, parse};
+use super::{check_printed, check_rows};
+use crate::tests::line;
+use promql_parser::parser::{Expr, parse};
 use std::test::Fail;
 
 #[test]
@@ -239,9 +240,9 @@ fn printed_texts_are_read_again(rt: HostRuntime) -> Result<(), Fail> {
         "+a",
         "a == bool on (b) group_left (c) fill (1) d",
     ] {
-        let printed = answer(alloc, text)?;
+        let printed = line(alloc, text)?;
         assert!(rt; parse(alloc, text).is_ok(), "{text}");
-        let again = answer(alloc, printed.as_str())?;
+        let again = line(alloc, printed.as_str())?;
         assert!(rt; again == printed, "{text}");
     }
     Ok(())

@@ -1,11 +1,11 @@
 //! Allocations that fail: with `rt try --test --fail-alloc N` each in turn.
 
-use crate::parser::{ParseError, parse};
+use promql_parser::parser::{ParseError, parse};
 use std::alloc::Global;
 use std::test::Fail;
 
 // Each text with what is printed of it, or the message of its refusal.
-const ROWS: [(&str, &str); 5] = [
+const ROWS: [(&str, &str); 6] = [
     (
         "http_requests_total{\nenvironment=~\"staging|testing|development\",\nmethod!=\"GET\"\n} offset 5m",
         "http_requests_total{environment=~\"staging|testing|development\",method!=\"GET\"} offset 5m",
@@ -17,6 +17,10 @@ const ROWS: [(&str, &str); 5] = [
     (
         "{a=\"1\" or or=\"2\", c=\"3\"}",
         "{a=\"1\" or or=\"2\", c=\"3\"}",
+    ),
+    (
+        "{a='1', 'b'=~'2' or c!='3', d!~'4' or 'e'}",
+        "{a=\"1\",b=~\"2\" or c!=\"3\",d!~\"4\" or __name__=\"e\"}",
     ),
     ("{a=~`x\\d{b}`}", "{a=~\"x\\\\d{b}\"}"),
     (

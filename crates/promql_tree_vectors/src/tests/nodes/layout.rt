@@ -1,12 +1,7 @@
 //! Expressions over several lines.
 
-use super::{KINDS, args, binary, function, kind, name, number};
-use crate::call::FunctionArgs;
-use crate::eval_stmt::EvalStmt;
-use crate::expr::Expr;
-use crate::fault::CheckError;
-use crate::layout::prettier::{Prettier, PrettyError};
-use crate::layout::tally::Tally;
+use crate::tests::trees::{KINDS, args, binary, function, kind, name, number};
+use promql_ast::{CheckError, EvalStmt, Expr, FunctionArgs, Prettier, PrettyError, Tally};
 use promql_kind::LabelModifier;
 use promql_text::{minute_duration, second_duration};
 use promql_token::ids::{T_ADD, T_DIV, T_SUM};

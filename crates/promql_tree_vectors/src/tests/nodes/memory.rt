@@ -1,11 +1,8 @@
 //! Allocations that fail: with `rt try --test --fail-alloc N` each in turn.
 
 use super::layout::share;
-use super::{args, binary, call, equal, five_minutes, function, grouped};
-use crate::call::FunctionArgs;
-use crate::expr::Expr;
-use crate::fault::CheckError;
-use crate::layout::prettier::{Prettier, PrettyError};
+use crate::tests::trees::{args, binary, call, equal, five_minutes, function, grouped};
+use promql_ast::{CheckError, Expr, FunctionArgs, Prettier, PrettyError};
 use promql_kind::LabelModifier;
 use promql_label::Matchers;
 use promql_token::ids::{T_ADD, T_SUM};
@@ -19,7 +16,7 @@ const TEXT: &str = r#"foo{a="1"} + on (a) group_left (b) sum by (c) (rate(x[5m])
 fn built(alloc: Global) -> Result<Expr, CheckError> {
     let matchers = Matchers::one(alloc, equal(alloc, "a", "1")?)?;
     let foo = Expr::new_vector_selector(Some(String::from_str(alloc, "foo")?), matchers);
-    let x = five_minutes(super::name(alloc, "x")?)?;
+    let x = five_minutes(crate::tests::trees::name(alloc, "x")?)?;
     let rate = call(alloc, "rate", x)?;
     let by = LabelModifier::include(alloc, ["c"].to_vec(alloc)?)?;
     let sum = Expr::new_aggregate_expr(T_SUM, Some(by), FunctionArgs::new_args(alloc, rate)?)?;

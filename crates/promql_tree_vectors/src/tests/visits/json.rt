@@ -1,11 +1,7 @@
 //! The JSON form of each kind of node, of nodes and parts by themselves, and what has none.
 
-use super::{
-    aggregate, binary, call, chain, extension, five_minutes, function, matched, name, number, topk,
-};
-use crate::json_error::JsonError;
-use crate::json_parts::{labels_json, match_op_json, matcher_json, matchers_json, token_type_json};
-use crate::to_json::ToJson;
+use super::{aggregate, binary, chain, extension, matched, topk};
+use crate::tests::trees::{call, five_minutes, function, name, number};
 use promql_ast::{AtModifier, CheckError, Expr, FunctionArgs, Offset, RangeMode};
 use promql_kind::{
     BinModifier, LabelModifier, ValueType, VectorMatchCardinality, VectorMatchFillValues,
@@ -14,6 +10,9 @@ use promql_label::{Labels, MatchOp, Matcher, Matchers};
 use promql_text::{Number, minute_duration, parse_str_radix};
 use promql_token::TokenType;
 use promql_token::ids::{T_ADD, T_ATAN2, T_SUM};
+use promql_walk::{
+    JsonError, ToJson, labels_json, match_op_json, matcher_json, matchers_json, token_type_json,
+};
 use serde_json::Value;
 use std::alloc::{AllocError, Global};
 use std::test::Fail;

@@ -1,7 +1,8 @@
 //! Each kind of refusal with its message, and which comes first.
 
 use super::check_rows;
-use crate::parser::{CheckFault, NodeFault, ParseError, parse};
+use crate::tests::refusal;
+use promql_parser::parser::{CheckFault, NodeFault, ParseError, parse};
 use promql_text::{DurationFault, NumberFault};
 use std::alloc::Global;
 use std::test::Fail;
@@ -191,10 +192,6 @@ fn the_first_fault_counts(rt: HostRuntime) -> Result<(), Fail> {
             ("sum(a[0:])[5m:] offset 1e309", NOT_POSITIVE),
         ],
     )
-}
-
-fn refusal(alloc: Global, text: &str) -> Option<ParseError> {
-    parse(alloc, text).err()
 }
 
 #[test]

@@ -1,7 +1,7 @@
 //! Texts with their answers, from docs/GRAMMAR.md.
 
-use super::{answer, repeated};
-use crate::parser::{Expr, ParseError, parse};
+use crate::tests::{line, refusal, repeated};
+use promql_parser::parser::{Expr, ParseError, parse};
 use promql_text::NumberFault;
 use promql_token::{LexFault, LexFaultKind, lexer};
 use std::alloc::{AllocError, Global};
@@ -67,7 +67,7 @@ fn core_texts(rt: HostRuntime) -> Result<(), Fail> {
         ("1e309 + 1a", NUMERAL),
     ];
     for (text, want) in &rows {
-        let found = answer(alloc, text)?;
+        let found = line(alloc, text)?;
         assert_eq!(rt; found.as_str(), *want, "at {text:?}");
     }
     Ok(())
@@ -109,10 +109,6 @@ fn sums_are_read_from_the_left(rt: HostRuntime) -> Result<(), Fail> {
     Ok(())
 }
 
-fn refusal(alloc: Global, text: &str) -> Option<ParseError> {
-    parse(alloc, text).err()
-}
-
 // The text twice in parentheses, with a minus between: the left one's height, and one more.
 fn doubled(alloc: Global, text: &str) -> Result<String, AllocError> {
     format!(in alloc; "({text}) - ({text})")
@@ -136,7 +132,7 @@ fn long_texts_are_accepted(rt: HostRuntime) -> Result<(), Fail> {
             return Err(Fail::new("a lexical fault"));
         };
         assert!(rt; least < lexemes.len());
-        let printed = answer(alloc, text.as_str())?;
+        let printed = line(alloc, text.as_str())?;
         assert!(rt; printed == text, "at {levels}");
     }
     Ok(())

@@ -1,10 +1,9 @@
 //! What the checks of a node say.
 
-use super::{
+use crate::tests::trees::{
     args, binary, call, decimal, equal, five_minutes, function, grouped, kind, name, number,
 };
-use crate::expr::Expr;
-use crate::fault::CheckError;
+use promql_ast::{CheckError, Expr};
 use promql_kind::{BinModifier, Function, LabelModifier, ValueType};
 use promql_label::{Matcher, Matchers};
 use promql_text::minute_duration;
@@ -137,7 +136,7 @@ fn aggregations_are_checked(rt: HostRuntime) -> Result<(), Fail> {
         checked(alloc, mistyped)?.as_str(),
         "expected type string in aggregation expression, got scalar"
     );
-    let missing = Expr::Aggregate(crate::aggregate::AggregateExpr {
+    let missing = Expr::Aggregate(promql_ast::AggregateExpr {
         op: promql_token::TokenType::new(T_TOPK),
         expr: Box::new(alloc, a()?)?,
         param: None,

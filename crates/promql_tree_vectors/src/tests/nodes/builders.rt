@@ -1,13 +1,10 @@
 //! What builders reject, and the times after `@`.
 
-use super::{args, decimal, five_minutes, kind, name, number};
-use crate::at_modifier::{AtFault, AtModifier};
-use crate::call::FunctionArgs;
-use crate::expr::Expr;
-use crate::fault::{CheckError, CheckFault, NodeFault};
-use crate::number_literal::NumberLiteral;
-use crate::offset::Offset;
-use crate::range_mode::RangeMode;
+use crate::tests::trees::{args, decimal, five_minutes, kind, name, number};
+use promql_ast::{
+    AtFault, AtModifier, CheckError, CheckFault, Expr, FunctionArgs, NodeFault, NumberLiteral,
+    Offset, RangeMode,
+};
 use promql_kind::ValueType;
 use promql_text::{Number, minute_duration, parse_str_radix};
 use promql_token::ids::{T_END, T_START, T_STEP, T_SUM, T_TOPK};
