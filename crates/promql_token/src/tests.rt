@@ -463,57 +463,76 @@ fn faults_have_their_places_and_messages(rt: HostRuntime) -> Result<(), Fail> {
 }
 
 #[test]
-fn equality(rt: HostRuntime) -> Result<(), Fail> {
-    let alloc = rt.alloc();
+fn lexemes_compare(rt: HostRuntime) {
     let lexeme = Lexeme {
         id: T_STRING,
         start: 1,
         len: 2,
     };
     assert!(rt; lexeme == Lexeme { ..lexeme });
-    assert!(rt;
-        lexeme
-            != Lexeme {
-                id: T_NUMBER,
-                ..lexeme
-            }
-    );
-    assert!(rt; lexeme != Lexeme { start: 2, ..lexeme });
-    assert!(rt; lexeme != Lexeme { len: 1, ..lexeme });
+    let others = [
+        Lexeme {
+            id: T_NUMBER,
+            ..lexeme
+        },
+        Lexeme { start: 2, ..lexeme },
+        Lexeme { len: 1, ..lexeme },
+    ];
+    for other in others {
+        assert!(rt; lexeme != other, "{other:?}");
+    }
+}
+
+#[test]
+fn faults_compare(rt: HostRuntime) {
     let fault = LexFault {
         kind: LexFaultKind::Character,
         at: 3,
         ch: Some('~'),
     };
     assert!(rt; fault == LexFault { ..fault });
-    assert!(rt;
-        fault
-            != LexFault {
-                kind: LexFaultKind::InBraces,
-                ..fault
-            }
-    );
-    assert!(rt; fault != LexFault { at: 4, ..fault });
-    assert!(rt;
-        fault
-            != LexFault {
-                ch: Some('é'),
-                ..fault
-            }
-    );
-    assert!(rt; fault != LexFault { ch: None, ..fault });
+    let others = [
+        LexFault {
+            kind: LexFaultKind::InBraces,
+            ..fault
+        },
+        LexFault { at: 4, ..fault },
+        LexFault {
+            ch: Some('é'),
+            ..fault
+        },
+        LexFault { ch: None, ..fault },
+    ];
+    for other in others {
+        assert!(rt; fault != other, "{other:?}");
+    }
     assert!(rt; LexError::Fault(fault) == LexError::Fault(fault));
     assert!(rt; LexError::Fault(fault) != LexError::Memory);
-    assert!(rt; TokenType::new(T_STRING) != TokenType::new(T_NUMBER));
-    let token = Token::new(T_STRING, String::from_str(alloc, "'é'")?);
-    assert!(rt; token == Token::new(T_STRING, String::from_str(alloc, "'é'")?));
-    assert!(rt; token != Token::new(T_STRING, String::from_str(alloc, "'e'")?));
-    assert!(rt; token != Token::new(T_NUMBER, String::from_str(alloc, "'é'")?));
+}
+
+fn token(alloc: Global, id: TokenId, text: &str) -> Result<Token, AllocError> {
+    Ok(Token::new(id, String::from_str(alloc, text)?))
+}
+
+#[test]
+fn tokens_compare(rt: HostRuntime) -> Result<(), Fail> {
+    let one = token(rt.alloc(), T_STRING, "'é'")?;
+    assert!(rt; one == token(rt.alloc(), T_STRING, "'é'")?);
+    assert!(rt; one != token(rt.alloc(), T_STRING, "'e'")?);
+    assert!(rt; one != token(rt.alloc(), T_NUMBER, "'é'")?);
     Ok(())
 }
 
 #[test]
-fn classes_and_tokens(rt: HostRuntime) -> Result<(), Fail> {
+fn tokens_have_copies(rt: HostRuntime) -> Result<(), Fail> {
+    let one = token(rt.alloc(), T_STRING, "'é'")?;
+    let twin = one.try_clone(rt.alloc())?;
+    assert!(rt; one == twin && twin.id() == T_STRING);
+    Ok(())
+}
+
+#[test]
+fn token_types_have_classes(rt: HostRuntime) {
     let topk = TokenType::new(T_TOPK);
     assert!(rt; topk.is_aggregator() && topk.is_aggregator_with_param());
     assert!(rt; !topk.is_operator() && topk.id() == T_TOPK);
@@ -521,18 +540,22 @@ fn classes_and_tokens(rt: HostRuntime) -> Result<(), Fail> {
     assert!(rt; atan2.is_operator() && !atan2.is_set_operator());
     assert!(rt; TokenType::new(T_LUNLESS).is_set_operator());
     assert!(rt; TokenType::new(T_GTE).is_comparison_operator());
-    let token = Token::new(T_STRING, String::from_str(rt.alloc(), "'é'")?);
-    let twin = token.try_clone(rt.alloc())?;
-    assert!(rt; token == twin && twin.id() == T_STRING);
-    for (text, wanted) in [
-        ("", false),
-        ("_", true),
-        ("a1_B", true),
-        ("1a", false),
-        ("a:b", false),
-        ("é", false),
-    ] {
+    assert!(rt; TokenType::new(T_STRING) != TokenType::new(T_NUMBER));
+}
+
+// A text, and whether it is a label.
+const LABELS: [(&str, bool); 6] = [
+    ("", false),
+    ("_", true),
+    ("a1_B", true),
+    ("1a", false),
+    ("a:b", false),
+    ("é", false),
+];
+
+#[test]
+fn labels_are_letters_and_digits(rt: HostRuntime) {
+    for (text, wanted) in LABELS {
         assert_eq!(rt; is_label(text), wanted, "{text}");
     }
-    Ok(())
 }

@@ -4,10 +4,13 @@ use crate::function::{Function, get_function};
 use crate::value::ValueType;
 use crate::value::ValueType::{Matrix, Scalar, String, Vector};
 use std::alloc::{AllocError, Global};
+use std::process::Abort;
 use std::test::Fail;
 
 /// Names with blanks between them, types of arguments, variadic, type of the value, experimental.
-const ROWS: [(&str, &[ValueType], i32, ValueType, bool); 22] = [
+type Row = (&'static str, &'static [ValueType], i32, ValueType, bool);
+
+const ROWS: [Row; 22] = [
     (
         "abs absent acos acosh asin asinh atan atanh ceil cos cosh deg exp floor \
          histogram_avg histogram_count histogram_stddev histogram_stdvar histogram_sum ln \
@@ -97,18 +100,24 @@ const ROWS: [(&str, &[ValueType], i32, ValueType, bool); 22] = [
     ("vector", &[Scalar], 0, Vector, false),
 ];
 
+/// Asserts that the function of this name is as the row says.
+fn is_of_row(rt: &impl Abort, function: &Function, name: &str, row: Row) {
+    let (_, arg_types, variadic, return_type, experimental) = row;
+    assert_eq!(rt; function.name, name);
+    assert_eq!(rt; function.arg_types.as_slice(), arg_types);
+    assert_eq!(rt; function.variadic, variadic);
+    assert!(rt; function.return_type == return_type);
+    assert_eq!(rt; function.experimental, experimental);
+}
+
 #[test]
 fn each_name_has_its_row(rt: HostRuntime) -> Result<(), Fail> {
     let alloc = rt.alloc();
     let mut names = 0usize;
-    for (row, arg_types, variadic, return_type, experimental) in ROWS {
-        for name in row.split(' ') {
+    for row in ROWS {
+        for name in row.0.split(' ') {
             let function = get_function(alloc, name)?.expect(&rt, "a function has this name");
-            assert_eq!(rt; function.name, name);
-            assert_eq!(rt; function.arg_types.as_slice(), arg_types);
-            assert_eq!(rt; function.variadic, variadic);
-            assert!(rt; function.return_type == return_type);
-            assert_eq!(rt; function.experimental, experimental);
+            is_of_row(&rt, &function, name, row);
             assert!(rt; function.try_clone(alloc)? == function);
             names = names.saturating_add(1);
         }
@@ -126,27 +135,31 @@ fn other_names_have_no_row(rt: HostRuntime) -> Result<(), Fail> {
     Ok(())
 }
 
-fn function(
-    alloc: Global,
-    name: &'static str,
-    types: &[ValueType],
-    variadic: i32,
-    return_type: ValueType,
-    experimental: bool,
-) -> Result<Function, AllocError> {
+fn function(alloc: Global, row: Row) -> Result<Function, AllocError> {
+    let (name, types, variadic, return_type, experimental) = row;
     let types = types.to_vec(alloc)?;
     Ok(Function::new(name, types, variadic, return_type, experimental))
 }
 
+/// A function, and others that differ from it in one part.
+const ONE: Row = ("f", &[Vector], 0, Scalar, false);
+
+const OTHERS: [Row; 5] = [
+    ("g", &[Vector], 0, Scalar, false),
+    ("f", &[Vector, Vector], 0, Scalar, false),
+    ("f", &[Vector], -1, Scalar, false),
+    ("f", &[Vector], 0, Vector, false),
+    ("f", &[Vector], 0, Scalar, true),
+];
+
 #[test]
 fn functions_differ_by_each_part(rt: HostRuntime) -> Result<(), Fail> {
     let alloc = rt.alloc();
-    let one = function(alloc, "f", &[Vector], 0, Scalar, false)?;
-    assert!(rt; one == function(alloc, "f", &[Vector], 0, Scalar, false)?);
-    assert!(rt; one != function(alloc, "g", &[Vector], 0, Scalar, false)?);
-    assert!(rt; one != function(alloc, "f", &[Vector, Vector], 0, Scalar, false)?);
-    assert!(rt; one != function(alloc, "f", &[Vector], -1, Scalar, false)?);
-    assert!(rt; one != function(alloc, "f", &[Vector], 0, Vector, false)?);
-    assert!(rt; one != function(alloc, "f", &[Vector], 0, Scalar, true)?);
+    let one = function(alloc, ONE)?;
+    assert!(rt; one == function(alloc, ONE)?);
+    for row in OTHERS {
+        let other = function(alloc, row)?;
+        assert!(rt; one != other, "{other:?}");
+    }
     Ok(())
 }

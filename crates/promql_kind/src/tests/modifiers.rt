@@ -134,15 +134,30 @@ fn joint_labels_are_found(rt: HostRuntime) -> Result<(), Fail> {
     let labels = both.intersect_labels(alloc)?.unwrap_or(Vec::new(alloc));
     assert_eq!(rt; labels.len(), 1);
     assert_eq!(rt; labels[0].as_str(), "a");
-    assert!(rt; both.is_matching_on());
-    assert!(rt; both.is_matching_labels_not_empty());
+    Ok(())
+}
+
+#[test]
+fn labels_of_one_side_are_not_joint(rt: HostRuntime) -> Result<(), Fail> {
+    let alloc = rt.alloc();
     let apart = modifier(alloc, ("right", "on none", false, None, None, ""))?;
     assert!(rt; !apart.is_labels_joint());
     assert!(rt; apart.intersect_labels(alloc)?.is_some());
-    assert!(rt; !apart.is_matching_labels_not_empty());
     let alone = modifier(alloc, ("", "ignoring", false, None, None, ""))?;
     assert!(rt; !alone.is_labels_joint());
     assert!(rt; alone.intersect_labels(alloc)?.is_none());
+    Ok(())
+}
+
+#[test]
+fn modifiers_match_on_labels(rt: HostRuntime) -> Result<(), Fail> {
+    let alloc = rt.alloc();
+    let both = modifier(alloc, ("left", "on", false, None, None, ""))?;
+    assert!(rt; both.is_matching_on());
+    assert!(rt; both.is_matching_labels_not_empty());
+    let apart = modifier(alloc, ("right", "on none", false, None, None, ""))?;
+    assert!(rt; !apart.is_matching_labels_not_empty());
+    let alone = modifier(alloc, ("", "ignoring", false, None, None, ""))?;
     assert!(rt; !alone.is_matching_on());
     Ok(())
 }

@@ -67,19 +67,35 @@ fn common(rt: HostRuntime) -> Result<(), Fail> {
     Ok(())
 }
 
+/// The list of a label appended to a list, and another appended to that.
+fn foo_and_bar(alloc: Global, empty: Labels) -> Result<Labels, AllocError> {
+    let one = empty.append(String::from_str(alloc, "foo")?)?;
+    one.append(String::from_str(alloc, "bar")?)
+}
+
 #[test]
-fn lists(rt: HostRuntime) -> Result<(), Fail> {
+fn labels_are_appended(rt: HostRuntime) -> Result<(), Fail> {
     let empty = list(rt.alloc(), &[])?;
     assert!(rt; empty.is_empty());
-    let labels = empty
-        .append(String::from_str(rt.alloc(), "foo")?)?
-        .append(String::from_str(rt.alloc(), "bar")?)?;
+    let labels = foo_and_bar(rt.alloc(), empty)?;
     assert!(rt; !labels.is_empty());
     assert_eq!(rt; labels.to_string(rt.alloc())?.as_str(), "foo, bar");
+    Ok(())
+}
+
+#[test]
+fn lists_of_the_same_labels_are_equal(rt: HostRuntime) -> Result<(), Fail> {
+    let labels = foo_and_bar(rt.alloc(), list(rt.alloc(), &[])?)?;
     assert!(rt; labels == list(rt.alloc(), &["foo", "bar"])?);
-    assert!(rt; labels != list(rt.alloc(), &["bar", "foo"])?);
-    assert!(rt; labels != list(rt.alloc(), &["foo"])?);
     let twin = labels.try_clone(rt.alloc())?;
     assert!(rt; twin == labels);
+    Ok(())
+}
+
+#[test]
+fn lists_of_other_labels_differ(rt: HostRuntime) -> Result<(), Fail> {
+    let labels = foo_and_bar(rt.alloc(), list(rt.alloc(), &[])?)?;
+    assert!(rt; labels != list(rt.alloc(), &["bar", "foo"])?);
+    assert!(rt; labels != list(rt.alloc(), &["foo"])?);
     Ok(())
 }

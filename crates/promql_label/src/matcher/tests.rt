@@ -115,26 +115,43 @@ fn metric_names(rt: HostRuntime) -> Result<(), Fail> {
     Ok(())
 }
 
+// The operators of matchers.
+const OPERATORS: [TokenId; 4] = [T_EQL, T_NEQ, T_EQL_REGEX, T_NEQ_REGEX];
+
 #[test]
 fn equal_matchers_hash_alike(rt: HostRuntime) -> Result<(), Fail> {
-    for id in [T_EQL, T_NEQ, T_EQL_REGEX, T_NEQ_REGEX] {
+    for id in OPERATORS {
         let matcher = made(rt.alloc(), id, "a", "b.*")?;
         let again = made(rt.alloc(), id, "a", "b.*")?;
         let shown = TokenType::new(id);
         assert!(rt; matcher == again, "{shown}");
         assert_eq!(rt; hash_of(&matcher), hash_of(&again), "{shown}");
         assert_eq!(rt; hash_of(&matcher.op), hash_of(&again.op), "{shown}");
+    }
+    Ok(())
+}
+
+#[test]
+fn matchers_differ_by_names_and_values(rt: HostRuntime) -> Result<(), Fail> {
+    for id in OPERATORS {
+        let matcher = made(rt.alloc(), id, "a", "b.*")?;
+        let shown = TokenType::new(id);
         for (name, value) in [("b", "b.*"), ("a", "b")] {
-            assert!(rt;
-                matcher != made(rt.alloc(), id, name, value)?,
-                "{shown} of {name} and {value}"
-            );
+            let other = made(rt.alloc(), id, name, value)?;
+            assert!(rt; matcher != other, "{shown} of {name} and {value}");
         }
     }
-    let equal = made(rt.alloc(), T_EQL, "a", "b")?;
+    Ok(())
+}
+
+#[test]
+fn matchers_differ_by_operators(rt: HostRuntime) -> Result<(), Fail> {
     let matching = made(rt.alloc(), T_EQL_REGEX, "a", "b")?;
-    assert!(rt; equal != matching);
-    assert!(rt; made(rt.alloc(), T_NEQ_REGEX, "a", "b")? != matching);
+    for id in [T_EQL, T_NEQ_REGEX] {
+        let other = made(rt.alloc(), id, "a", "b")?;
+        let shown = TokenType::new(id);
+        assert!(rt; other != matching, "{shown}");
+    }
     Ok(())
 }
 
@@ -157,13 +174,17 @@ fn refused(alloc: Global, value: &str) -> Result<MatcherError, AllocError> {
 }
 
 #[test]
-fn errors_compare(rt: HostRuntime) -> Result<(), Fail> {
-    let alloc = rt.alloc();
+fn errors_of_operators_compare(rt: HostRuntime) {
     assert!(rt; MatcherError::InvalidOp(1) != MatcherError::InvalidOp(2));
     assert!(rt; MatcherError::InvalidOp(1) != MatcherError::Memory);
-    assert!(rt; refused(alloc, "(")? == refused(alloc, "(")?);
-    assert!(rt; refused(alloc, "(")? != refused(alloc, ")")?);
-    assert!(rt; refused(alloc, "(")? != MatcherError::Memory);
+}
+
+#[test]
+fn errors_of_patterns_compare(rt: HostRuntime) -> Result<(), Fail> {
+    let error = refused(rt.alloc(), "(")?;
+    assert!(rt; error == refused(rt.alloc(), "(")?);
+    assert!(rt; error != refused(rt.alloc(), ")")?);
+    assert!(rt; error != MatcherError::Memory);
     Ok(())
 }
 

@@ -5,23 +5,25 @@ use std::alloc::{AllocError, Global};
 use std::process::Abort;
 use std::test::Fail;
 
+// A pattern, and what is built of it.
+const BUILT: [(&str, &str); 12] = [
+    ("", "^(?:)$"),
+    ("abc.*", "^(?:abc.*)$"),
+    ("a|b", "^(?:a|b)$"),
+    ("[a-z]+", "^(?:[a-z]+)$"),
+    ("(?i)x", "^(?:(?i)x)$"),
+    (r"x\d{b}", r"^(?:x\d\{b})$"),
+    (r"\x{4a}", r"^(?:\x{4a})$"),
+    (r"\p{Greek}{2,3}", r"^(?:\p{Greek}{2,3})$"),
+    ("é", "^(?:é)$"),
+    ("[{]", "^(?:[{])$"),
+    (r"\b{start}x", r"^(?:\b{start}x)$"),
+    (r"\w{2}{", r"^(?:\w{2}\{)$"),
+];
+
 #[test]
 fn what_is_built_of_a_pattern(rt: HostRuntime) -> Result<(), Fail> {
-    let rows = [
-        ("", "^(?:)$"),
-        ("abc.*", "^(?:abc.*)$"),
-        ("a|b", "^(?:a|b)$"),
-        ("[a-z]+", "^(?:[a-z]+)$"),
-        ("(?i)x", "^(?:(?i)x)$"),
-        (r"x\d{b}", r"^(?:x\d\{b})$"),
-        (r"\x{4a}", r"^(?:\x{4a})$"),
-        (r"\p{Greek}{2,3}", r"^(?:\p{Greek}{2,3})$"),
-        ("é", "^(?:é)$"),
-        ("[{]", "^(?:[{])$"),
-        (r"\b{start}x", r"^(?:\b{start}x)$"),
-        (r"\w{2}{", r"^(?:\w{2}\{)$"),
-    ];
-    for (value, want) in rows {
+    for (value, want) in BUILT {
         let pattern = Pattern::read(rt.alloc(), value)?;
         assert_eq!(rt; pattern.as_str(), want);
     }
@@ -76,39 +78,50 @@ fn a_refused_pattern_or_out_of_memory(rt: HostRuntime) {
     }
 }
 
+// A pattern, a text, and whether it matches.
+const MATCHED: [(&str, &str, bool); 13] = [
+    ("abc.*", "abc123", true),
+    ("abc.*", "xabc123", false),
+    ("", "", true),
+    ("", "a", false),
+    ("a|bc", "bc", true),
+    ("a|bc", "abc", false),
+    ("[^0-9]{2}", "ab", true),
+    ("[^0-9]{2}", "a1", false),
+    ("(?i)get", "GET", true),
+    (r"\p{Greek}+", "αβγ", true),
+    (".", "é", true),
+    ("é", "e", false),
+    ("x{y}", "x{y}", true),
+];
+
 #[test]
 fn what_a_pattern_matches(rt: HostRuntime) -> Result<(), Fail> {
-    let rows = [
-        ("abc.*", "abc123", true),
-        ("abc.*", "xabc123", false),
-        ("", "", true),
-        ("", "a", false),
-        ("a|bc", "bc", true),
-        ("a|bc", "abc", false),
-        ("[^0-9]{2}", "ab", true),
-        ("[^0-9]{2}", "a1", false),
-        ("(?i)get", "GET", true),
-        (r"\p{Greek}+", "αβγ", true),
-        (".", "é", true),
-        ("é", "e", false),
-        ("x{y}", "x{y}", true),
-    ];
-    for (value, text, want) in rows {
+    for (value, text, want) in MATCHED {
         let pattern = Pattern::read(rt.alloc(), value)?;
         let found = pattern.is_match(rt.alloc(), text)?;
         assert_eq!(rt; found, want, "{value} and {text}");
     }
+    Ok(())
+}
+
+#[test]
+fn what_a_pattern_as_it_is_matches(rt: HostRuntime) -> Result<(), Fail> {
     let within = Pattern::of_text(rt.alloc(), "api/v1/.*")?;
     assert!(rt; within.is_match(rt.alloc(), "api/v1/query")?);
     assert!(rt; !within.is_match(rt.alloc(), "api/v2")?);
     assert_eq!(rt; within.as_str(), "api/v1/.*");
+    Ok(())
+}
+
+#[test]
+fn what_is_no_pattern_as_it_is_is_refused(rt: HostRuntime) {
     assert!(rt;
         matches!(
             &Pattern::of_text(rt.alloc(), "("),
             Err(PatternFault::Refused(_))
         )
     );
-    Ok(())
 }
 
 #[test]
@@ -126,13 +139,22 @@ fn refused(alloc: Global, value: &str) -> Result<PatternFault, AllocError> {
 }
 
 #[test]
-fn faults_print_and_compare(rt: HostRuntime) -> Result<(), Fail> {
-    let alloc = rt.alloc();
-    let fault = refused(alloc, "(")?;
-    assert!(rt; fault == refused(alloc, "(")? && fault != refused(alloc, ")")?);
+fn faults_compare(rt: HostRuntime) -> Result<(), Fail> {
+    let fault = refused(rt.alloc(), "(")?;
+    assert!(rt; fault == refused(rt.alloc(), "(")?);
+    assert!(rt; fault != refused(rt.alloc(), ")")?);
     assert!(rt; fault != PatternFault::Memory && PatternFault::Memory == PatternFault::Memory);
-    assert_eq!(rt; fault.to_string(alloc)?.as_str(), "illegal regex for (");
-    let memory = PatternFault::Memory.to_string(alloc)?;
+    Ok(())
+}
+
+#[test]
+fn faults_print(rt: HostRuntime) -> Result<(), Fail> {
+    let fault = refused(rt.alloc(), "(")?;
+    assert_eq!(rt;
+        fault.to_string(rt.alloc())?.as_str(),
+        "illegal regex for ("
+    );
+    let memory = PatternFault::Memory.to_string(rt.alloc())?;
     assert_eq!(rt; memory.as_str(), "out of memory");
     Ok(())
 }

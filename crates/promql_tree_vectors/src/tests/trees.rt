@@ -96,49 +96,78 @@ pub fn grouped(alloc: Global, l: &str, k: &str) -> Result<BinModifier, CheckErro
     )
 }
 
+/// An aggregation of one or two arguments.
+pub fn aggregate(
+    alloc: Global,
+    op: TokenId,
+    modifier: Option<LabelModifier>,
+    first: Expr,
+    second: Option<Expr>,
+) -> Result<Expr, CheckError> {
+    let args = args(alloc, Some(first), second, None)?;
+    Expr::new_aggregate_expr(op, modifier, args)
+}
+
+/// `topk by (l) (5, a)`
+fn topk_by(alloc: Global, a: Expr) -> Result<Expr, CheckError> {
+    let by = LabelModifier::include(alloc, ["l"].to_vec(alloc)?)?;
+    aggregate(alloc, T_TOPK, Some(by), number(5), Some(a))
+}
+
+/// `a + on (l) group_left (k) 1`
+fn grouped_sum(alloc: Global, a: Expr) -> Result<Expr, CheckError> {
+    let modifier = Some(grouped(alloc, "l", "k")?);
+    binary(alloc, a, T_ADD, modifier, number(1))
+}
+
+/// `a[5m:1m] @ start() offset -1m`
+fn subquery_at_start(alloc: Global, a: Expr) -> Result<Expr, CheckError> {
+    let step = Some(minute_duration());
+    Expr::new_subquery_expr(alloc, a, minute_duration() * 5, step)?
+        .at_expr(AtModifier::Start)?
+        .offset_expr(Offset::Neg(minute_duration()))
+}
+
+/// `a{b="1"} @ 1.000 offset 1m`
+fn selector_at_a_second(alloc: Global) -> Result<Expr, CheckError> {
+    let matchers = Matchers::one(alloc, equal(alloc, "b", "1")?)?;
+    let name = Some(String::from_str(alloc, "a")?);
+    Expr::new_vector_selector(name, matchers)
+        .offset_expr(Offset::Pos(minute_duration()))?
+        .at_expr(AtModifier::At(1000))
+}
+
+/// `a[5m] anchored offset 1m`
+fn anchored_range(a: Expr) -> Result<Expr, CheckError> {
+    five_minutes(a)?
+        .mode_expr(RangeMode::Anchored)?
+        .offset_expr(Offset::Pos(minute_duration()))
+}
+
+/// `ext(first, second)`, a node that the language lacks.
+pub fn extension(alloc: Global, first: Expr, second: Expr) -> Result<Expr, CheckError> {
+    Ok(Expr::Extension(Extension {
+        name: String::from_str(alloc, "ext")?,
+        value_type: ValueType::Vector,
+        children: vec![in alloc; first, second]?,
+    }))
+}
+
 /// An expression of each kind of node, by its number; a selector past the last.
 pub fn kind(alloc: Global, number_of_kind: usize) -> Result<Expr, CheckError> {
     let a = name(alloc, "a")?;
     match number_of_kind {
-        0 => {
-            let by = LabelModifier::include(alloc, ["l"].to_vec(alloc)?)?;
-            let args = args(alloc, Some(number(5)), Some(a), None)?;
-            Expr::new_aggregate_expr(T_TOPK, Some(by), args)
-        }
+        0 => topk_by(alloc, a),
         1 => Expr::new_unary_expr(alloc, a),
-        2 => {
-            let modifier = Some(grouped(alloc, "l", "k")?);
-            binary(alloc, a, T_ADD, modifier, number(1))
-        }
+        2 => grouped_sum(alloc, a),
         3 => Ok(Expr::new_paren_expr(alloc, a)?),
-        4 => {
-            let step = Some(minute_duration());
-            Expr::new_subquery_expr(alloc, a, minute_duration() * 5, step)?
-                .at_expr(AtModifier::Start)?
-                .offset_expr(Offset::Neg(minute_duration()))
-        }
+        4 => subquery_at_start(alloc, a),
         5 => Ok(decimal("1.5")),
         6 => Ok(Expr::of_str(alloc, "a\"b")?),
-        7 => {
-            let matchers = Matchers::one(alloc, equal(alloc, "b", "1")?)?;
-            let name = Some(String::from_str(alloc, "a")?);
-            Expr::new_vector_selector(name, matchers)
-                .offset_expr(Offset::Pos(minute_duration()))?
-                .at_expr(AtModifier::At(1000))
-        }
-        8 => five_minutes(a)?
-            .mode_expr(RangeMode::Anchored)?
-            .offset_expr(Offset::Pos(minute_duration())),
+        7 => selector_at_a_second(alloc),
+        8 => anchored_range(a),
         9 => call(alloc, "rate", five_minutes(a)?),
-        10 => {
-            let children = vec![in alloc; a, number(2)]?;
-            let name = String::from_str(alloc, "ext")?;
-            Ok(Expr::Extension(Extension {
-                name,
-                value_type: ValueType::Vector,
-                children,
-            }))
-        }
+        10 => extension(alloc, a, number(2)),
         _ => Ok(a),
     }
 }

@@ -6,9 +6,8 @@ mod layout;
 mod walks;
 
 use super::trees;
-use super::trees::{name, number};
-use promql_ast::{CheckError, Expr, Extension, FunctionArgs};
-use promql_kind::{LabelModifier, ValueType};
+use super::trees::{aggregate, name, number};
+use promql_ast::{CheckError, Expr};
 use promql_label::{MatchOp, Matcher, Matchers};
 use promql_token::TokenId;
 use promql_token::ids::T_TOPK;
@@ -27,33 +26,9 @@ fn binary(alloc: Global, lhs: Expr, op: TokenId, rhs: Expr) -> Result<Expr, Chec
     trees::binary(alloc, lhs, op, None, rhs)
 }
 
-/// An aggregation of one or two arguments.
-fn aggregate(
-    alloc: Global,
-    op: TokenId,
-    modifier: Option<LabelModifier>,
-    first: Expr,
-    second: Option<Expr>,
-) -> Result<Expr, CheckError> {
-    let mut args = FunctionArgs::new_args(alloc, first)?;
-    if let Some(second) = second {
-        args = args.append_args(alloc, second)?;
-    }
-    Expr::new_aggregate_expr(op, modifier, args)
-}
-
 /// `topk(5, a)`.
 fn topk(alloc: Global) -> Result<Expr, CheckError> {
     aggregate(alloc, T_TOPK, None, number(5), Some(name(alloc, "a")?))
-}
-
-/// `ext(first, second)`, a node that the language lacks.
-fn extension(alloc: Global, first: Expr, second: Expr) -> Result<Expr, CheckError> {
-    Ok(Expr::Extension(Extension {
-        name: String::from_str(alloc, "ext")?,
-        value_type: ValueType::Vector,
-        children: vec![in alloc; first, second]?,
-    }))
 }
 
 /// 499 pairs of parentheses round a number: 500 nodes, one below the other.

@@ -38,14 +38,21 @@ fn a_long_expression_is_split(rt: HostRuntime) -> Result<(), Fail> {
     let text = expr.pretty_counted(alloc, 0, 10, &mut tally)?;
     assert_eq!(rt; text.as_str(), "  sum by (b) (\n    a\n  )\n/\n  c");
     assert_eq!(rt; tally.widths(), 4);
+    assert!(rt; expr.needs_split(17));
+    assert!(rt; !expr.needs_split(18));
+    Ok(())
+}
+
+#[test]
+fn a_level_is_two_spaces(rt: HostRuntime) -> Result<(), Fail> {
+    let alloc = rt.alloc();
+    let expr = share(alloc)?;
     assert_eq!(rt;
         expr.pretty(alloc, 1, 10)?.as_str(),
         "    sum by (b) (\n      a\n    )\n  /\n    c"
     );
     assert_eq!(rt; expr.pretty(alloc, 1, 18)?.as_str(), "  sum by (b) (a) / c");
     assert_eq!(rt; expr.prettify(alloc)?.as_str(), "sum by (b) (a) / c");
-    assert!(rt; expr.needs_split(17));
-    assert!(rt; !expr.needs_split(18));
     Ok(())
 }
 
@@ -170,28 +177,36 @@ fn check_node(rt: &impl Abort, alloc: Global, expr: &Expr) -> Result<(), Fail> {
     }
 }
 
+/// `-(a)`
+fn minus_parens(alloc: Global) -> Result<Expr, CheckError> {
+    Expr::new_unary_expr(alloc, in_parens(alloc)?)
+}
+
+/// `(a)[5m:1m]`
+fn window(alloc: Global) -> Result<Expr, CheckError> {
+    let minute = minute_duration();
+    Ok(Expr::new_subquery_expr(alloc, in_parens(alloc)?, minute * 5, Some(minute))?)
+}
+
 #[test]
 fn each_node_by_itself(rt: HostRuntime) -> Result<(), Fail> {
     let alloc = rt.alloc();
     for i in [0, 2, 3, 5, 6, 7, 8, 9] {
         check_node(&rt, alloc, &kind(alloc, i)?)?;
     }
-    let minus = Expr::new_unary_expr(alloc, in_parens(alloc)?)?;
-    check_node(&rt, alloc, &minus)?;
-    let step = Some(minute_duration());
-    let window = Expr::new_subquery_expr(alloc, in_parens(alloc)?, minute_duration() * 5, step)?;
-    check_node(&rt, alloc, &window)
+    check_node(&rt, alloc, &minus_parens(alloc)?)?;
+    check_node(&rt, alloc, &window(alloc)?)
+}
+
+/// `1, (a), 2`
+fn three_arguments(alloc: Global) -> Result<FunctionArgs, CheckError> {
+    let second = in_parens(alloc)?;
+    args(alloc, Some(number(1)), Some(second), Some(number(2)))
 }
 
 #[test]
 fn arguments_have_a_line_each(rt: HostRuntime) -> Result<(), Fail> {
     let alloc = rt.alloc();
-    let three = args(
-        alloc,
-        Some(number(1)),
-        Some(in_parens(alloc)?),
-        Some(number(2)),
-    )?;
     let row = Row {
         max: 2,
         split: "  1,\n  (\n    a\n  ),\n  2",
@@ -199,7 +214,12 @@ fn arguments_have_a_line_each(rt: HostRuntime) -> Result<(), Fail> {
         format: "  1, (a), 2",
         fits: 9,
     };
-    check(&rt, alloc, &three, row)?;
+    check(&rt, alloc, &three_arguments(alloc)?, row)
+}
+
+#[test]
+fn no_arguments_have_no_line(rt: HostRuntime) -> Result<(), Fail> {
+    let alloc = rt.alloc();
     let none = FunctionArgs::empty_args(alloc);
     assert_eq!(rt; none.pretty(alloc, 1, 0)?.as_str(), "");
     assert_eq!(rt; none.format(alloc, 1, 0)?.as_str(), "  ");
@@ -217,17 +237,22 @@ fn a_line_that_fits_is_kept(rt: HostRuntime) -> Result<(), Fail> {
     Ok(())
 }
 
-#[test]
-fn statements_print_their_times(rt: HostRuntime) -> Result<(), Fail> {
-    let alloc = rt.alloc();
-    let statement = EvalStmt {
+/// `a` at each 15 seconds of the first 1.5.
+fn statement(alloc: Global) -> Result<EvalStmt, CheckError> {
+    Ok(EvalStmt {
         expr: name(alloc, "a")?,
         start: 0,
         end: 1500,
         interval: second_duration() * 15,
         lookback_delta: minute_duration() * 5,
-    };
+    })
+}
+
+#[test]
+fn statements_print_their_times(rt: HostRuntime) -> Result<(), Fail> {
+    let alloc = rt.alloc();
     let text = "[a] @ [0.000, 1.500, 15s, 5m]";
+    let statement = statement(alloc)?;
     assert_eq!(rt; statement.to_string(alloc)?.as_str(), text);
     let copy = statement.try_clone(alloc)?;
     assert_eq!(rt; copy.to_string(alloc)?.as_str(), text);

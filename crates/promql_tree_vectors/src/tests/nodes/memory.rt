@@ -1,8 +1,10 @@
 //! Allocations that fail: with `rt try --test --fail-alloc N` each in turn.
 
 use super::layout::share;
-use crate::tests::trees::{args, binary, call, equal, five_minutes, function, grouped};
-use promql_ast::{CheckError, Expr, FunctionArgs, Prettier, PrettyError};
+use crate::tests::trees::{
+    aggregate, args, binary, call, equal, five_minutes, function, grouped, name,
+};
+use promql_ast::{CheckError, Expr, Prettier, PrettyError};
 use promql_kind::LabelModifier;
 use promql_label::Matchers;
 use promql_token::ids::{T_ADD, T_SUM};
@@ -12,15 +14,24 @@ use std::test::Fail;
 
 const TEXT: &str = r#"foo{a="1"} + on (a) group_left (b) sum by (c) (rate(x[5m]))"#;
 
+/// `foo{a="1"}`
+fn foo(alloc: Global) -> Result<Expr, CheckError> {
+    let matchers = Matchers::one(alloc, equal(alloc, "a", "1")?)?;
+    Ok(Expr::new_vector_selector(Some(String::from_str(alloc, "foo")?), matchers))
+}
+
+/// `sum by (c) (rate(x[5m]))`
+fn sum_of_rate(alloc: Global) -> Result<Expr, CheckError> {
+    let rate = call(alloc, "rate", five_minutes(name(alloc, "x")?)?)?;
+    let by = LabelModifier::include(alloc, ["c"].to_vec(alloc)?)?;
+    aggregate(alloc, T_SUM, Some(by), rate, None)
+}
+
 /// The expression of `TEXT`.
 fn built(alloc: Global) -> Result<Expr, CheckError> {
-    let matchers = Matchers::one(alloc, equal(alloc, "a", "1")?)?;
-    let foo = Expr::new_vector_selector(Some(String::from_str(alloc, "foo")?), matchers);
-    let x = five_minutes(crate::tests::trees::name(alloc, "x")?)?;
-    let rate = call(alloc, "rate", x)?;
-    let by = LabelModifier::include(alloc, ["c"].to_vec(alloc)?)?;
-    let sum = Expr::new_aggregate_expr(T_SUM, Some(by), FunctionArgs::new_args(alloc, rate)?)?;
     let modifier = grouped(alloc, "a", "b")?;
+    let foo = foo(alloc)?;
+    let sum = sum_of_rate(alloc)?;
     Expr::checked(alloc, binary(alloc, foo, T_ADD, Some(modifier), sum)?)
 }
 

@@ -1,11 +1,16 @@
 //! One-line texts, copies and equality.
 
-use crate::tests::trees::{KINDS, args, binary, decimal, equal, five_minutes, kind, name, number};
-use promql_ast::{AtModifier, Expr, Offset, RangeMode, VectorSelector};
+use super::shows;
+use crate::tests::trees::{
+    KINDS, aggregate, binary, decimal, equal, five_minutes, kind, name, number,
+};
+use promql_ast::{AtModifier, CheckError, Expr, Offset, RangeMode, VectorSelector};
 use promql_kind::LabelModifier;
 use promql_label::Matchers;
 use promql_text::minute_duration;
 use promql_token::ids::{T_POW, T_SUM};
+use std::alloc::Global;
+use std::process::Abort;
 use std::test::Fail;
 
 #[test]
@@ -41,42 +46,73 @@ fn kinds_are_not_equal(rt: HostRuntime) -> Result<(), Fail> {
     Ok(())
 }
 
-#[test]
-fn each_part_tells_selectors_apart(rt: HostRuntime) -> Result<(), Fail> {
-    let alloc = rt.alloc();
-    let a = || VectorSelector::of_str(alloc, "a");
-    let plain = Expr::from(a()?);
-    assert!(rt; plain != name(alloc, "b")?);
-    assert!(rt; plain != Expr::from(VectorSelector::empty(alloc)));
-    let minute = minute_duration();
-    let back = Expr::from(a()?).offset_expr(Offset::Pos(minute))?;
-    let ahead = Expr::from(a()?).offset_expr(Offset::Neg(minute))?;
-    assert!(rt; plain != back);
-    assert!(rt; back != ahead);
-    let start = Expr::from(a()?).at_expr(AtModifier::Start)?;
-    let end = Expr::from(a()?).at_expr(AtModifier::End)?;
-    assert!(rt; plain != start);
-    assert!(rt; start != end);
-    let range = five_minutes(name(alloc, "a")?)?;
-    let smoothed = five_minutes(name(alloc, "a")?)?.mode_expr(RangeMode::Smoothed)?;
-    assert!(rt; range != smoothed);
-    let longer = Expr::new_matrix_selector(name(alloc, "a")?, minute * 6)?;
-    assert!(rt; range != longer);
+/// What was built is not equal.
+fn differ(
+    rt: &impl Abort,
+    left: Result<Expr, CheckError>,
+    right: Result<Expr, CheckError>,
+) -> Result<(), Fail> {
+    assert!(rt; left? != right?);
     Ok(())
+}
+
+/// `a` with this offset.
+fn shifted(alloc: Global, offset: Offset) -> Result<Expr, CheckError> {
+    name(alloc, "a")?.offset_expr(offset)
+}
+
+/// `a` at this time.
+fn timed(alloc: Global, at: AtModifier) -> Result<Expr, CheckError> {
+    name(alloc, "a")?.at_expr(at)
+}
+
+/// `a` with a range of so many minutes.
+fn ranged(alloc: Global, minutes: u32) -> Result<Expr, CheckError> {
+    Expr::new_matrix_selector(name(alloc, "a")?, minute_duration() * minutes)
+}
+
+#[test]
+fn names_and_offsets_tell_selectors_apart(rt: HostRuntime) -> Result<(), Fail> {
+    let alloc = rt.alloc();
+    let minute = minute_duration();
+    let empty = Expr::from(VectorSelector::empty(alloc));
+    differ(&rt, name(alloc, "a"), name(alloc, "b"))?;
+    differ(&rt, name(alloc, "a"), Ok(empty))?;
+    differ(&rt, name(alloc, "a"), shifted(alloc, Offset::Pos(minute)))?;
+    let back = shifted(alloc, Offset::Pos(minute));
+    differ(&rt, back, shifted(alloc, Offset::Neg(minute)))
+}
+
+#[test]
+fn times_and_ranges_tell_selectors_apart(rt: HostRuntime) -> Result<(), Fail> {
+    let alloc = rt.alloc();
+    differ(&rt, name(alloc, "a"), timed(alloc, AtModifier::Start))?;
+    let start = timed(alloc, AtModifier::Start);
+    differ(&rt, start, timed(alloc, AtModifier::End))?;
+    let smoothed = ranged(alloc, 5)?.mode_expr(RangeMode::Smoothed);
+    differ(&rt, ranged(alloc, 5), smoothed)?;
+    differ(&rt, ranged(alloc, 5), ranged(alloc, 6))
+}
+
+/// The sum of a selector with this clause.
+fn sum_with(alloc: Global, clause: LabelModifier) -> Result<Expr, CheckError> {
+    aggregate(alloc, T_SUM, Some(clause), name(alloc, "a")?, None)
 }
 
 #[test]
 fn empty_lists_print_after_without_alone(rt: HostRuntime) -> Result<(), Fail> {
     let alloc = rt.alloc();
     let without = LabelModifier::exclude(alloc, Vec::new(alloc))?;
-    let one = args(alloc, Some(name(alloc, "a")?), None, None)?;
-    let sum = Expr::new_aggregate_expr(T_SUM, Some(without), one)?;
-    assert_eq!(rt; sum.to_string(alloc)?.as_str(), "sum without () (a)");
+    shows(&rt, alloc, sum_with(alloc, without), "sum without () (a)")?;
     let by = LabelModifier::include(alloc, Vec::new(alloc))?;
-    let one = args(alloc, Some(name(alloc, "a")?), None, None)?;
-    let sum = Expr::new_aggregate_expr(T_SUM, Some(by), one)?;
-    assert_eq!(rt; sum.to_string(alloc)?.as_str(), "sum(a)");
-    Ok(())
+    shows(&rt, alloc, sum_with(alloc, by), "sum(a)")
+}
+
+/// `foo @ 1.000 offset -5m`
+fn timed_and_shifted(alloc: Global) -> Result<Expr, CheckError> {
+    name(alloc, "foo")?
+        .offset_expr(Offset::Neg(minute_duration() * 5))?
+        .at_expr(AtModifier::At(1000))
 }
 
 #[test]
@@ -91,52 +127,77 @@ fn times_print_with_three_digits(rt: HostRuntime) -> Result<(), Fail> {
     ] {
         assert_eq!(rt; AtModifier::At(millis).to_string(alloc)?.as_str(), text);
     }
-    let selector = name(alloc, "foo")?
-        .offset_expr(Offset::Neg(minute_duration() * 5))?
-        .at_expr(AtModifier::At(1000))?;
-    assert_eq!(rt;
-        selector.to_string(alloc)?.as_str(),
-        "foo @ 1.000 offset -5m"
-    );
-    Ok(())
+    shows(
+        &rt,
+        alloc,
+        timed_and_shifted(alloc),
+        "foo @ 1.000 offset -5m",
+    )
+}
+
+/// `foo[5m] smoothed offset 1m`
+fn smoothed_and_shifted(alloc: Global) -> Result<Expr, CheckError> {
+    five_minutes(name(alloc, "foo")?)?
+        .offset_expr(Offset::Pos(minute_duration()))?
+        .mode_expr(RangeMode::Smoothed)
+}
+
+/// `foo[5m] smoothed @ 1.000`
+fn smoothed_and_timed(alloc: Global) -> Result<Expr, CheckError> {
+    five_minutes(name(alloc, "foo")?)?
+        .mode_expr(RangeMode::Smoothed)?
+        .at_expr(AtModifier::At(1000))
+}
+
+/// `foo[5m] anchored`
+fn anchored(alloc: Global) -> Result<Expr, CheckError> {
+    five_minutes(name(alloc, "foo")?)?.mode_expr(RangeMode::Anchored)
 }
 
 #[test]
 fn ranges_print_their_mode_first(rt: HostRuntime) -> Result<(), Fail> {
     let alloc = rt.alloc();
-    let smoothed = five_minutes(name(alloc, "foo")?)?
-        .offset_expr(Offset::Pos(minute_duration()))?
-        .mode_expr(RangeMode::Smoothed)?;
-    assert_eq!(rt;
-        smoothed.to_string(alloc)?.as_str(),
-        "foo[5m] smoothed offset 1m"
-    );
-    let smoothed = five_minutes(name(alloc, "foo")?)?
-        .mode_expr(RangeMode::Smoothed)?
-        .at_expr(AtModifier::At(1000))?;
-    assert_eq!(rt;
-        smoothed.to_string(alloc)?.as_str(),
-        "foo[5m] smoothed @ 1.000"
-    );
-    let anchored = five_minutes(name(alloc, "foo")?)?.mode_expr(RangeMode::Anchored)?;
-    assert_eq!(rt; anchored.to_string(alloc)?.as_str(), "foo[5m] anchored");
-    Ok(())
+    shows(
+        &rt,
+        alloc,
+        smoothed_and_shifted(alloc),
+        "foo[5m] smoothed offset 1m",
+    )?;
+    shows(
+        &rt,
+        alloc,
+        smoothed_and_timed(alloc),
+        "foo[5m] smoothed @ 1.000",
+    )?;
+    shows(&rt, alloc, anchored(alloc), "foo[5m] anchored")
+}
+
+/// The selector of two matchers, each a label and its text.
+fn of_two(
+    alloc: Global,
+    (label, value): (&str, &str),
+    (other, text): (&str, &str),
+) -> Result<Expr, CheckError> {
+    let mut plain = vec![in alloc; equal(alloc, label, value)?]?;
+    plain.push(equal(alloc, other, text)?)?;
+    Ok(Expr::new_vector_selector(None, Matchers::new(alloc, plain)))
+}
+
+/// `a` with an empty group of matchers.
+fn of_empty_group(alloc: Global) -> Result<Expr, CheckError> {
+    let name = String::from_str(alloc, "a")?;
+    let empty = Matchers::empty(alloc).with_or_matchers(vec![in alloc; Vec::new(alloc)]?);
+    Ok(Expr::new_vector_selector(Some(name), empty))
 }
 
 #[test]
 fn braces_hold_what_the_matchers_print(rt: HostRuntime) -> Result<(), Fail> {
     let alloc = rt.alloc();
-    let plain = vec![in alloc; equal(alloc, "b", "1")?, equal(alloc, "a b", "2")?]?;
-    let matchers = Matchers::new(alloc, plain);
-    let selector = Expr::new_vector_selector(None, matchers);
-    assert_eq!(rt; selector.to_string(alloc)?.as_str(), r#"{"a b"="2",b="1"}"#);
-    let twice = vec![in alloc; equal(alloc, "a", "1")?, equal(alloc, "a", "1")?]?;
-    let selector = Expr::new_vector_selector(None, Matchers::new(alloc, twice));
-    assert_eq!(rt; selector.to_string(alloc)?.as_str(), r#"{a="1",a="1"}"#);
-    let empty = Matchers::empty(alloc).with_or_matchers(vec![in alloc; Vec::new(alloc)]?);
-    let selector = Expr::new_vector_selector(Some(String::from_str(alloc, "a")?), empty);
-    assert_eq!(rt; selector.to_string(alloc)?.as_str(), "a");
-    Ok(())
+    let sorted = of_two(alloc, ("b", "1"), ("a b", "2"));
+    shows(&rt, alloc, sorted, r#"{"a b"="2",b="1"}"#)?;
+    let twice = of_two(alloc, ("a", "1"), ("a", "1"));
+    shows(&rt, alloc, twice, r#"{a="1",a="1"}"#)?;
+    shows(&rt, alloc, of_empty_group(alloc), "a")
 }
 
 #[test]
@@ -153,9 +214,19 @@ fn negated_numbers_have_no_negative_zero(rt: HostRuntime) -> Result<(), Fail> {
         assert_eq!(rt; expr.to_string(alloc)?.as_str(), negated);
         assert!(rt; expr == decimal(negated));
     }
+    Ok(())
+}
+
+/// `-5 ^ 2`
+fn minus_power(alloc: Global) -> Result<Expr, CheckError> {
     let power = binary(alloc, number(5), T_POW, None, number(2))?;
-    let minus = Expr::new_unary_expr(alloc, power)?;
-    assert_eq!(rt; minus.to_string(alloc)?.as_str(), "-5 ^ 2");
+    Expr::new_unary_expr(alloc, power)
+}
+
+#[test]
+fn powers_and_selectors_are_negated(rt: HostRuntime) -> Result<(), Fail> {
+    let alloc = rt.alloc();
+    shows(&rt, alloc, minus_power(alloc), "-5 ^ 2")?;
     let selector = VectorSelector::of_str(alloc, "a")?.negated(alloc)?;
     assert_eq!(rt; selector.to_string(alloc)?.as_str(), "-a");
     Ok(())

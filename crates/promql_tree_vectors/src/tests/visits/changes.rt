@@ -1,14 +1,15 @@
 //! Visitors that change nodes, stop, and fail.
 
-use super::{aggregate, binary, chain, extension, sum, topk};
-use crate::tests::trees::{name, number};
-use promql_ast::Expr;
+use super::{binary, chain, sum, topk};
+use crate::tests::trees::{aggregate, extension, name, number};
+use promql_ast::{CheckError, Expr};
 use promql_label::{MatchOp, Matcher};
 use promql_text::Number;
 use promql_token::ids::{T_ADD, T_SUM};
 use promql_walk::{ExprVisitorMut, walk_expr_mut};
 use std::alloc::{AllocError, Global};
 use std::mem;
+use std::process::Abort;
 use std::test::Fail;
 
 /// Adds `env="prod"` to a selector, and stops there if it is to.
@@ -40,16 +41,15 @@ impl ExprVisitorMut for Enforce {
     }
 }
 
+/// `ext(metric_a, metric_b)`
+fn two_metrics(alloc: Global) -> Result<Expr, CheckError> {
+    let first = name(alloc, "metric_a")?;
+    extension(alloc, first, name(alloc, "metric_b")?)
+}
+
 #[test]
 fn a_label_is_enforced(rt: HostRuntime) -> Result<(), Fail> {
     let alloc = rt.alloc();
-    let mut both = extension(alloc, name(alloc, "metric_a")?, name(alloc, "metric_b")?)?;
-    let mut first = Enforce { alloc, stops: true };
-    assert!(rt; walk_expr_mut(&mut first, &mut both) == Ok(false));
-    assert_eq!(rt;
-        both.to_string(alloc)?.as_str(),
-        r#"ext(metric_a{env="prod"}, metric_b)"#
-    );
     let mut every = topk(alloc)?;
     let mut all = Enforce {
         alloc,
@@ -59,6 +59,19 @@ fn a_label_is_enforced(rt: HostRuntime) -> Result<(), Fail> {
     assert_eq!(rt;
         every.to_string(alloc)?.as_str(),
         r#"topk(5, a{env="prod"})"#
+    );
+    Ok(())
+}
+
+#[test]
+fn a_label_is_enforced_once(rt: HostRuntime) -> Result<(), Fail> {
+    let alloc = rt.alloc();
+    let mut both = two_metrics(alloc)?;
+    let mut first = Enforce { alloc, stops: true };
+    assert!(rt; walk_expr_mut(&mut first, &mut both) == Ok(false));
+    assert_eq!(rt;
+        both.to_string(alloc)?.as_str(),
+        r#"ext(metric_a{env="prod"}, metric_b)"#
     );
     Ok(())
 }
@@ -94,20 +107,35 @@ impl ExprVisitorMut for Zero {
     }
 }
 
+/// A walk over the sum of two sides has this end, and leaves this text.
+fn walks(
+    rt: &impl Abort,
+    alloc: Global,
+    (lhs, rhs): (Expr, Expr),
+    end: Result<bool, &'static str>,
+    text: &str,
+) -> Result<(), Fail> {
+    let mut sum = binary(alloc, lhs, T_ADD, rhs)?;
+    assert!(rt; walk_expr_mut(&mut Zero(alloc), &mut sum) == end);
+    assert_eq!(rt; sum.to_string(alloc)?.as_str(), text);
+    Ok(())
+}
+
 #[test]
 fn nodes_are_replaced(rt: HostRuntime) -> Result<(), Fail> {
     let alloc = rt.alloc();
-    let mut names = binary(alloc, name(alloc, "a")?, T_ADD, name(alloc, "b")?)?;
-    assert!(rt; walk_expr_mut(&mut Zero(alloc), &mut names) == Ok(true));
-    assert_eq!(rt; names.to_string(alloc)?.as_str(), "0 + 0");
+    let a = name(alloc, "a")?;
+    walks(&rt, alloc, (a, name(alloc, "b")?), Ok(true), "0 + 0")
+}
+
+#[test]
+fn a_replaced_node_stops_the_walk(rt: HostRuntime) -> Result<(), Fail> {
+    let alloc = rt.alloc();
+    let a = name(alloc, "a")?;
     let text = Expr::of_str(alloc, "t")?;
-    let mut fails = binary(alloc, name(alloc, "a")?, T_ADD, text)?;
-    assert!(rt; walk_expr_mut(&mut Zero(alloc), &mut fails) == Err("a text"));
-    assert_eq!(rt; fails.to_string(alloc)?.as_str(), r#"0 + "t""#);
-    let mut grows = binary(alloc, number(1), T_ADD, name(alloc, "b")?)?;
-    assert!(rt; walk_expr_mut(&mut Zero(alloc), &mut grows) == Ok(false));
-    assert_eq!(rt; grows.to_string(alloc)?.as_str(), r#"("high") + b"#);
-    Ok(())
+    walks(&rt, alloc, (a, text), Err("a text"), r#"0 + "t""#)?;
+    let b = name(alloc, "b")?;
+    walks(&rt, alloc, (number(1), b), Ok(false), r#"("high") + b"#)
 }
 
 /// Puts each sum in parentheses, after its sides. Counts the nodes that are left to it.
@@ -142,20 +170,29 @@ impl ExprVisitorMut for Wrap {
     }
 }
 
+/// `1 + 2`
+fn one_and_two(alloc: Global) -> Result<Expr, CheckError> {
+    binary(alloc, number(1), T_ADD, number(2))
+}
+
 #[test]
 fn nodes_may_grow_after_their_children(rt: HostRuntime) -> Result<(), Fail> {
     let alloc = rt.alloc();
-    let left = binary(alloc, number(1), T_ADD, number(2))?;
-    let mut expr = binary(alloc, left, T_ADD, number(3))?;
+    let mut expr = binary(alloc, one_and_two(alloc)?, T_ADD, number(3))?;
     let mut wrap = Wrap { alloc, left: 100 };
     assert!(rt; walk_expr_mut(&mut wrap, &mut expr) == Ok(true));
     assert_eq!(rt; expr.to_string(alloc)?.as_str(), "((1 + 2) + 3)");
     assert_eq!(rt; wrap.left, 95);
-    let inner = binary(alloc, number(1), T_ADD, number(2))?;
-    let mut cut = aggregate(alloc, T_SUM, None, inner, None)?;
+    Ok(())
+}
+
+#[test]
+fn a_walk_of_changes_ends_where_it_is_stopped(rt: HostRuntime) -> Result<(), Fail> {
+    let alloc = rt.alloc();
+    let mut sum = aggregate(alloc, T_SUM, None, one_and_two(alloc)?, None)?;
     let mut three = Wrap { alloc, left: 3 };
-    assert!(rt; walk_expr_mut(&mut three, &mut cut) == Ok(false));
-    assert_eq!(rt; cut.to_string(alloc)?.as_str(), "sum((1 + 2))");
+    assert!(rt; walk_expr_mut(&mut three, &mut sum) == Ok(false));
+    assert_eq!(rt; sum.to_string(alloc)?.as_str(), "sum((1 + 2))");
     Ok(())
 }
 

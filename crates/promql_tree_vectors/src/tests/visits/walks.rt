@@ -1,15 +1,17 @@
 //! The order of a walk, and where it ends.
 
-use super::{aggregate, binary, chain, extension, matched, sum, topk};
-use crate::tests::trees::{call, five_minutes, name, number};
+use super::{binary, chain, matched, sum, topk};
+use crate::tests::trees::{aggregate, call, extension, five_minutes, name, number};
 use promql_ast::{CheckError, Expr};
 use promql_kind::LabelModifier;
 use promql_label::{MatchOp, Matchers};
 use promql_text::minute_duration;
+use promql_token::TokenId;
 use promql_token::ids::{T_ADD, T_POW, T_SUM};
 use promql_walk::{ExprVisitor, walk_expr};
 use std::alloc::{AllocError, Global};
 use std::fmt::Write;
+use std::process::Abort;
 use std::test::Fail;
 
 /// Writes down each call. From the call of this number on it stops or fails.
@@ -75,18 +77,30 @@ fn an_aggregation_has_its_parameter_first(rt: HostRuntime) -> Result<(), Fail> {
     Ok(())
 }
 
+/// `rate(a[5m])`
+fn rate(alloc: Global) -> Result<Expr, CheckError> {
+    call(alloc, "rate", five_minutes(name(alloc, "a")?)?)
+}
+
+/// `(-b)[1m:]`
+fn window(alloc: Global) -> Result<Expr, CheckError> {
+    let minus = Expr::new_unary_expr(alloc, name(alloc, "b")?)?;
+    let below = Expr::new_paren_expr(alloc, minus)?;
+    Ok(Expr::new_subquery_expr(alloc, below, minute_duration(), None)?)
+}
+
+/// `ext(rate(a[5m]) + (-b)[1m:], "s")`
+fn of_both(alloc: Global) -> Result<Expr, CheckError> {
+    let rate = rate(alloc)?;
+    let both = binary(alloc, rate, T_ADD, window(alloc)?)?;
+    extension(alloc, both, Expr::of_str(alloc, "s")?)
+}
+
 #[test]
 fn children_come_in_their_order(rt: HostRuntime) -> Result<(), Fail> {
     let alloc = rt.alloc();
-    let range = five_minutes(name(alloc, "a")?)?;
-    let rate = call(alloc, "rate", range)?;
-    let below = Expr::new_paren_expr(alloc, Expr::new_unary_expr(alloc, name(alloc, "b")?)?)?;
-    let minute = minute_duration();
-    let subquery = Expr::new_subquery_expr(alloc, below, minute, None)?;
-    let both = binary(alloc, rate, T_ADD, subquery)?;
-    let expr = extension(alloc, both, Expr::of_str(alloc, "s")?)?;
     let mut log = log_up_to(alloc, 100, false);
-    assert!(rt; walk_expr(&mut log, &expr) == Ok(true));
+    assert!(rt; walk_expr(&mut log, &of_both(alloc)?) == Ok(true));
     assert_eq!(rt;
         log.text.as_str(),
         "before ext(rate(a[5m]) + (-b)[1m:], \"s\"); \
@@ -164,22 +178,39 @@ fn summed(alloc: Global, selector: Expr) -> Result<Expr, CheckError> {
     Ok(Expr::new_paren_expr(alloc, sum)?)
 }
 
+/// `m{namespace="s"}`
+fn in_s(alloc: Global) -> Result<Expr, CheckError> {
+    matched(alloc, "m", "namespace", "s")
+}
+
+/// `m{namespace="s"} OPERATOR other`
+fn in_s_and(alloc: Global, op: TokenId, other: Expr) -> Result<Expr, CheckError> {
+    binary(alloc, in_s(alloc)?, op, other)
+}
+
+/// Whether the namespace is in each selector of what was built is this.
+fn walks(rt: &impl Abort, built: Result<Expr, CheckError>, is_in: bool) -> Result<(), Fail> {
+    assert!(rt; walk_expr(&mut Namespace, &built?) == Ok(is_in));
+    Ok(())
+}
+
 #[test]
 fn selectors_are_in_a_namespace(rt: HostRuntime) -> Result<(), Fail> {
     let alloc = rt.alloc();
-    let in_s = || matched(alloc, "m", "namespace", "s");
-    let bare = || name(alloc, "m");
-    for (expr, is_in) in [
-        (summed(alloc, in_s()?)?, true),
-        (summed(alloc, bare()?)?, false),
-        (binary(alloc, number(1), T_ADD, number(1))?, false),
-        (binary(alloc, in_s()?, T_ADD, bare()?)?, false),
-        (binary(alloc, in_s()?, T_POW, in_s()?)?, true),
-    ] {
-        let text = expr.to_string(alloc)?;
-        assert!(rt; walk_expr(&mut Namespace, &expr) == Ok(is_in), "at {text}");
-    }
-    Ok(())
+    let bare = name(alloc, "m")?;
+    walks(&rt, summed(alloc, bare), false)?;
+    let inner = in_s(alloc)?;
+    walks(&rt, summed(alloc, inner), true)?;
+    walks(&rt, binary(alloc, number(1), T_ADD, number(1)), false)
+}
+
+#[test]
+fn both_sides_are_in_a_namespace(rt: HostRuntime) -> Result<(), Fail> {
+    let alloc = rt.alloc();
+    let bare = name(alloc, "m")?;
+    walks(&rt, in_s_and(alloc, T_ADD, bare), false)?;
+    let other = in_s(alloc)?;
+    walks(&rt, in_s_and(alloc, T_POW, other), true)
 }
 
 /// Counts the calls before nodes, and goes on.
