@@ -478,8 +478,8 @@ fn lexemes_compare(rt: HostRuntime) {
         Lexeme { start: 2, ..lexeme },
         Lexeme { len: 1, ..lexeme },
     ];
-    for other in others {
-        assert!(rt; lexeme != other, "{other:?}");
+    for other in &others {
+        assert!(rt; lexeme != *other, "{other:?}");
     }
 }
 
@@ -503,8 +503,8 @@ fn faults_compare(rt: HostRuntime) {
         },
         LexFault { ch: None, ..fault },
     ];
-    for other in others {
-        assert!(rt; fault != other, "{other:?}");
+    for other in &others {
+        assert!(rt; fault != *other, "{other:?}");
     }
     assert!(rt; LexError::Fault(fault) == LexError::Fault(fault));
     assert!(rt; LexError::Fault(fault) != LexError::Memory);
@@ -555,7 +555,7 @@ const LABELS: [(&str, bool); 6] = [
 
 #[test]
 fn labels_are_letters_and_digits(rt: HostRuntime) {
-    for (text, wanted) in LABELS {
-        assert_eq!(rt; is_label(text), wanted, "{text}");
+    for (text, wanted) in &LABELS {
+        assert_eq!(rt; is_label(text), *wanted, "{text}");
     }
 }

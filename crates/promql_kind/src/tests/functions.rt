@@ -101,8 +101,8 @@ const ROWS: [Row; 22] = [
 ];
 
 /// Asserts that the function of this name is as the row says.
-fn is_of_row(rt: &impl Abort, function: &Function, name: &str, row: Row) {
-    let (_, arg_types, variadic, return_type, experimental) = row;
+fn is_of_row(rt: &impl Abort, function: &Function, name: &str, row: &Row) {
+    let (_, arg_types, variadic, return_type, experimental) = *row;
     assert_eq!(rt; function.name, name);
     assert_eq!(rt; function.arg_types.as_slice(), arg_types);
     assert_eq!(rt; function.variadic, variadic);
@@ -114,7 +114,7 @@ fn is_of_row(rt: &impl Abort, function: &Function, name: &str, row: Row) {
 fn each_name_has_its_row(rt: HostRuntime) -> Result<(), Fail> {
     let alloc = rt.alloc();
     let mut names = 0usize;
-    for row in ROWS {
+    for row in &ROWS {
         for name in row.0.split(' ') {
             let function = get_function(alloc, name)?.expect(&rt, "a function has this name");
             is_of_row(&rt, &function, name, row);
@@ -141,7 +141,7 @@ fn function(alloc: Global, row: Row) -> Result<Function, AllocError> {
     Ok(Function::new(name, types, variadic, return_type, experimental))
 }
 
-/// A function, and others that differ from it in one part.
+// What the functions below differ from, each in one part.
 const ONE: Row = ("f", &[Vector], 0, Scalar, false);
 
 const OTHERS: [Row; 5] = [
@@ -157,8 +157,8 @@ fn functions_differ_by_each_part(rt: HostRuntime) -> Result<(), Fail> {
     let alloc = rt.alloc();
     let one = function(alloc, ONE)?;
     assert!(rt; one == function(alloc, ONE)?);
-    for row in OTHERS {
-        let other = function(alloc, row)?;
+    for row in &OTHERS {
+        let other = function(alloc, *row)?;
         assert!(rt; one != other, "{other:?}");
     }
     Ok(())

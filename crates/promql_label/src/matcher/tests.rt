@@ -2,10 +2,11 @@
 
 use crate::matcher::{MatchOp, Matcher, MatcherError};
 use crate::pattern::Pattern;
+use promql_token::TokenId;
 use promql_token::ids::{T_ADD, T_EQL, T_EQL_REGEX, T_NEQ, T_NEQ_REGEX};
-use promql_token::{TokenId, TokenType};
 use std::alloc::{AllocError, Global};
 use std::hash::{DefaultHasher, Hash, Hasher};
+use std::process::Abort;
 use std::test::Fail;
 
 fn made(alloc: Global, id: TokenId, name: &str, value: &str) -> Result<Matcher, MatcherError> {
@@ -118,27 +119,30 @@ fn metric_names(rt: HostRuntime) -> Result<(), Fail> {
 // The operators of matchers.
 const OPERATORS: [TokenId; 4] = [T_EQL, T_NEQ, T_EQL_REGEX, T_NEQ_REGEX];
 
+/// Asserts that they are equal, and so are their hashes and those of their operators.
+fn are_alike(rt: &impl Abort, matcher: &Matcher, again: &Matcher) {
+    assert!(rt; matcher == again, "{matcher}");
+    assert_eq!(rt; hash_of(matcher), hash_of(again), "{matcher}");
+    assert_eq!(rt; hash_of(&matcher.op), hash_of(&again.op), "{matcher}");
+}
+
 #[test]
 fn equal_matchers_hash_alike(rt: HostRuntime) -> Result<(), Fail> {
-    for id in OPERATORS {
-        let matcher = made(rt.alloc(), id, "a", "b.*")?;
-        let again = made(rt.alloc(), id, "a", "b.*")?;
-        let shown = TokenType::new(id);
-        assert!(rt; matcher == again, "{shown}");
-        assert_eq!(rt; hash_of(&matcher), hash_of(&again), "{shown}");
-        assert_eq!(rt; hash_of(&matcher.op), hash_of(&again.op), "{shown}");
+    for id in &OPERATORS {
+        let matcher = made(rt.alloc(), *id, "a", "b.*")?;
+        let again = made(rt.alloc(), *id, "a", "b.*")?;
+        are_alike(&rt, &matcher, &again);
     }
     Ok(())
 }
 
 #[test]
 fn matchers_differ_by_names_and_values(rt: HostRuntime) -> Result<(), Fail> {
-    for id in OPERATORS {
-        let matcher = made(rt.alloc(), id, "a", "b.*")?;
-        let shown = TokenType::new(id);
-        for (name, value) in [("b", "b.*"), ("a", "b")] {
-            let other = made(rt.alloc(), id, name, value)?;
-            assert!(rt; matcher != other, "{shown} of {name} and {value}");
+    for id in &OPERATORS {
+        let matcher = made(rt.alloc(), *id, "a", "b.*")?;
+        for (name, value) in &[("b", "b.*"), ("a", "b")] {
+            let other = made(rt.alloc(), *id, name, value)?;
+            assert!(rt; matcher != other, "{matcher} and {other}");
         }
     }
     Ok(())
@@ -147,10 +151,9 @@ fn matchers_differ_by_names_and_values(rt: HostRuntime) -> Result<(), Fail> {
 #[test]
 fn matchers_differ_by_operators(rt: HostRuntime) -> Result<(), Fail> {
     let matching = made(rt.alloc(), T_EQL_REGEX, "a", "b")?;
-    for id in [T_EQL, T_NEQ_REGEX] {
-        let other = made(rt.alloc(), id, "a", "b")?;
-        let shown = TokenType::new(id);
-        assert!(rt; other != matching, "{shown}");
+    for id in &[T_EQL, T_NEQ_REGEX] {
+        let other = made(rt.alloc(), *id, "a", "b")?;
+        assert!(rt; other != matching, "{other}");
     }
     Ok(())
 }

@@ -113,20 +113,25 @@ const BEHIND_NONE: [Growth; 2] = [
 #[test]
 fn or_begins_groups(rt: HostRuntime) -> Result<(), Fail> {
     let alloc = rt.alloc();
-    for (rows, want) in BEHIND_ONE {
+    for (rows, want) in &BEHIND_ONE {
         let list = grown(alloc, one_equal(alloc, "a", "1")?, rows)?;
-        assert_eq!(rt; shown(alloc, &list)?.as_str(), want);
+        assert_eq!(rt; shown(alloc, &list)?.as_str(), *want);
     }
     Ok(())
+}
+
+/// A matcher, and a group beside it.
+fn beside_a_group(alloc: Global) -> Result<Matchers, AllocError> {
+    let plain = Matchers::new(alloc, all_equal(alloc, &[("a", "1")])?);
+    with_group(alloc, plain, &[("b", "2")])
 }
 
 #[test]
 fn groups_beside_plain_ones_grow(rt: HostRuntime) -> Result<(), Fail> {
     let alloc = rt.alloc();
-    for (rows, want) in BEHIND_A_GROUP {
-        let plain = Matchers::new(alloc, all_equal(alloc, &[("a", "1")])?);
-        let list = grown(alloc, with_group(alloc, plain, &[("b", "2")])?, rows)?;
-        assert_eq!(rt; shown(alloc, &list)?.as_str(), want);
+    for (rows, want) in &BEHIND_A_GROUP {
+        let list = grown(alloc, beside_a_group(alloc)?, rows)?;
+        assert_eq!(rt; shown(alloc, &list)?.as_str(), *want);
     }
     Ok(())
 }
@@ -134,9 +139,9 @@ fn groups_beside_plain_ones_grow(rt: HostRuntime) -> Result<(), Fail> {
 #[test]
 fn empty_lists_grow(rt: HostRuntime) -> Result<(), Fail> {
     let alloc = rt.alloc();
-    for (rows, want) in BEHIND_NONE {
+    for (rows, want) in &BEHIND_NONE {
         let list = grown(alloc, Matchers::empty(alloc), rows)?;
-        assert_eq!(rt; shown(alloc, &list)?.as_str(), want);
+        assert_eq!(rt; shown(alloc, &list)?.as_str(), *want);
     }
     Ok(())
 }
@@ -163,8 +168,8 @@ fn finds_in_groups_too(rt: HostRuntime) -> Result<(), Fail> {
 #[test]
 fn finds_the_first_value(rt: HostRuntime) -> Result<(), Fail> {
     let list = with_a_twice(rt.alloc())?;
-    for (name, want) in [("a", Some("1")), ("b", Some("2")), ("z", None), ("", None)] {
-        assert!(rt; list.find_matcher_value(name) == want, "of {name}");
+    for (name, want) in &[("a", Some("1")), ("b", Some("2")), ("z", None), ("", None)] {
+        assert!(rt; list.find_matcher_value(name) == *want, "of {name}");
     }
     Ok(())
 }
@@ -173,9 +178,9 @@ fn finds_the_first_value(rt: HostRuntime) -> Result<(), Fail> {
 fn empty_matchers(rt: HostRuntime) -> Result<(), Fail> {
     let alloc = rt.alloc();
     assert!(rt; Matchers::empty(alloc).is_empty_matchers(alloc)?);
-    for (value, want) in [("", true), ("1", false)] {
+    for (value, want) in &[("", true), ("1", false)] {
         let list = one_equal(alloc, "a", value)?;
-        assert_eq!(rt; list.is_empty_matchers(alloc)?, want, "of {value}");
+        assert_eq!(rt; list.is_empty_matchers(alloc)?, *want, "of {value}");
     }
     Ok(())
 }
@@ -231,9 +236,9 @@ const PRINTED: [(&[(&str, &str)], &str); 6] = [
 #[test]
 fn prints_in_byte_order(rt: HostRuntime) -> Result<(), Fail> {
     let alloc = rt.alloc();
-    for (rows, want) in PRINTED {
+    for (rows, want) in &PRINTED {
         let list = Matchers::new(alloc, all_equal(alloc, rows)?);
-        assert_eq!(rt; list.to_string(alloc)?.as_str(), want);
+        assert_eq!(rt; list.to_string(alloc)?.as_str(), *want);
     }
     Ok(())
 }

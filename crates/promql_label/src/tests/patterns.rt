@@ -23,9 +23,9 @@ const BUILT: [(&str, &str); 12] = [
 
 #[test]
 fn what_is_built_of_a_pattern(rt: HostRuntime) -> Result<(), Fail> {
-    for (value, want) in BUILT {
+    for (value, want) in &BUILT {
         let pattern = Pattern::read(rt.alloc(), value)?;
-        assert_eq!(rt; pattern.as_str(), want);
+        assert_eq!(rt; pattern.as_str(), *want);
     }
     Ok(())
 }
@@ -95,12 +95,17 @@ const MATCHED: [(&str, &str, bool); 13] = [
     ("x{y}", "x{y}", true),
 ];
 
+/// Whether the pattern of this value matches the text.
+fn is_found(alloc: Global, value: &str, text: &str) -> Result<bool, Fail> {
+    let pattern = Pattern::read(alloc, value)?;
+    Ok(pattern.is_match(alloc, text)?)
+}
+
 #[test]
 fn what_a_pattern_matches(rt: HostRuntime) -> Result<(), Fail> {
-    for (value, text, want) in MATCHED {
-        let pattern = Pattern::read(rt.alloc(), value)?;
-        let found = pattern.is_match(rt.alloc(), text)?;
-        assert_eq!(rt; found, want, "{value} and {text}");
+    for (value, text, want) in &MATCHED {
+        let found = is_found(rt.alloc(), value, text)?;
+        assert_eq!(rt; found, *want, "{value} and {text}");
     }
     Ok(())
 }

@@ -175,22 +175,26 @@ fn numbers(rt: HostRuntime) -> Result<(), Fail> {
     Ok(())
 }
 
+// The text prints itself, or is too deep.
+fn check_height(rt: &impl Abort, alloc: Global, text: &str, is_too_deep: bool) -> Result<(), Fail> {
+    if is_too_deep {
+        assert_eq!(rt; refusal(alloc, text), Some(ParseError::TooDeep));
+    } else {
+        assert_eq!(rt; line(alloc, text)?.as_str(), text);
+    }
+    Ok(())
+}
+
 #[test]
 fn heights(rt: HostRuntime) -> Result<(), Fail> {
     let alloc = rt.alloc();
-    for (pairs, is_read) in [(511, true), (512, false)] {
-        let front = repeated(alloc, "", "(", pairs, "1")?;
-        let text = repeated(alloc, front.as_str(), ")", pairs, "")?;
-        if is_read {
-            assert!(rt; line(alloc, text.as_str())? == text);
-        } else {
-            assert_eq!(rt; refusal(alloc, text.as_str()), Some(ParseError::TooDeep));
-        }
+    for (times, is_too_deep) in [(511, false), (512, true)] {
+        let front = repeated(alloc, "", "(", times, "1")?;
+        let nest = repeated(alloc, front.as_str(), ")", times, "")?;
+        check_height(&rt, alloc, nest.as_str(), is_too_deep)?;
+        let sum = repeated(alloc, "1", " + 1", times, "")?;
+        check_height(&rt, alloc, sum.as_str(), is_too_deep)?;
     }
-    let sum = repeated(alloc, "1", " + 1", 511, "")?;
-    assert!(rt; line(alloc, sum.as_str())? == sum);
-    let more = repeated(alloc, "1", " + 1", 512, "")?;
-    assert_eq!(rt; refusal(alloc, more.as_str()), Some(ParseError::TooDeep));
     Ok(())
 }
 

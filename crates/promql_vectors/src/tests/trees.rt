@@ -24,17 +24,22 @@ fn operand(alloc: Global, text: &str) -> Result<String, Fail> {
 }
 
 #[test]
-fn levels(rt: HostRuntime) -> Result<(), Fail> {
+fn levels_below_minus(rt: HostRuntime) -> Result<(), Fail> {
     let alloc = rt.alloc();
-    assert_eq!(rt; operand(alloc, "-5 ^ 2")?.as_str(), "5 ^ 2");
-    assert_eq!(rt; operand(alloc, "-(5)")?.as_str(), "(5)");
-    let (left, right) = sides(alloc, "2 ^ -3 * 4")?;
-    assert_eq!(rt; left.as_str(), "2 ^ -3");
-    assert_eq!(rt; right.as_str(), "4");
-    let (left, right) = sides(alloc, "2 ^ -3 ^ 2")?;
-    assert_eq!(rt; left.as_str(), "2");
-    assert_eq!(rt; right.as_str(), "-3 ^ 2");
-    assert_eq!(rt; operand(alloc, right.as_str())?.as_str(), "3 ^ 2");
+    for (text, below) in [("-5 ^ 2", "5 ^ 2"), ("-(5)", "(5)"), ("-3 ^ 2", "3 ^ 2")] {
+        assert_eq!(rt; operand(alloc, text)?.as_str(), below);
+    }
+    Ok(())
+}
+
+#[test]
+fn levels_of_sides(rt: HostRuntime) -> Result<(), Fail> {
+    let alloc = rt.alloc();
+    for (text, left, right) in [("2 ^ -3 * 4", "2 ^ -3", "4"), ("2 ^ -3 ^ 2", "2", "-3 ^ 2")] {
+        let (lhs, rhs) = sides(alloc, text)?;
+        assert_eq!(rt; lhs.as_str(), left);
+        assert_eq!(rt; rhs.as_str(), right);
+    }
     Ok(())
 }
 

@@ -4,6 +4,7 @@ use crate::tests::{line, refusal, repeated};
 use promql_parser::parser::{ParseError, parse};
 use promql_token::LexFaultKind;
 use std::alloc::{AllocError, Global};
+use std::process::Abort;
 use std::test::Fail;
 
 // The text between so many pairs of two others.
@@ -18,33 +19,67 @@ fn nested(
     repeated(alloc, front.as_str(), close, pairs, "")
 }
 
+// The text is read.
+fn is_read(rt: &impl Abort, alloc: Global, text: Result<String, AllocError>) -> Result<(), Fail> {
+    let text = text?;
+    assert!(rt; parse(alloc, text.as_str()).is_ok(), "at {text}");
+    Ok(())
+}
+
+// The text is too deep.
+fn is_too_deep(
+    rt: &impl Abort,
+    alloc: Global,
+    text: Result<String, AllocError>,
+) -> Result<(), Fail> {
+    let found = refusal(alloc, text?.as_str());
+    assert_eq!(rt; found, Some(ParseError::TooDeep));
+    Ok(())
+}
+
+// This is printed of the text's tree, or is the message of its refusal.
+fn answers(
+    rt: &impl Abort,
+    alloc: Global,
+    text: Result<String, AllocError>,
+    want: &str,
+) -> Result<(), Fail> {
+    let found = line(alloc, text?.as_str())?;
+    assert_eq!(rt; found.as_str(), want);
+    Ok(())
+}
+
 #[test]
-fn heights(rt: HostRuntime) -> Result<(), Fail> {
+fn greatest_heights(rt: HostRuntime) -> Result<(), Fail> {
     let alloc = rt.alloc();
-    let rows = [
-        repeated(alloc, "1", "+1", 511, "")?,
-        repeated(alloc, "1", "^1", 511, "")?,
-        repeated(alloc, "", "-", 511, "1")?,
-        nested(alloc, "(", "1", ")", 511)?,
-        nested(alloc, "abs(", "a", ")", 511)?,
-        nested(alloc, "sum(", "a", ")", 511)?,
-        nested(alloc, "rate(", "a", "[5m:])", 255)?,
-    ];
-    for (i, text) in rows.iter().enumerate() {
-        assert!(rt; parse(alloc, text.as_str()).is_ok(), "row {i}");
+    for (front, piece) in [("1", "+1"), ("1", "^1")] {
+        is_read(&rt, alloc, repeated(alloc, front, piece, 511, ""))?;
     }
-    let rows = [
-        repeated(alloc, "1", "+1", 512, "")?,
-        repeated(alloc, "1", "^1", 512, "")?,
-        repeated(alloc, "", "-", 512, "1")?,
-        nested(alloc, "(", "1", ")", 512)?,
-        nested(alloc, "(", "1", ")", 100_000)?,
-        nested(alloc, "sum(", "a", ")", 512)?,
-        repeated(alloc, "a", "[1:]", 512, "")?,
-    ];
-    for (i, text) in rows.iter().enumerate() {
-        let found = refusal(alloc, text.as_str());
-        assert_eq!(rt; found, Some(ParseError::TooDeep), "row {i}");
+    is_read(&rt, alloc, repeated(alloc, "", "-", 511, "1"))?;
+    for (open, text, close, pairs) in [
+        ("(", "1", ")", 511),
+        ("abs(", "a", ")", 511),
+        ("sum(", "a", ")", 511),
+        ("rate(", "a", "[5m:])", 255),
+    ] {
+        is_read(&rt, alloc, nested(alloc, open, text, close, pairs))?;
+    }
+    Ok(())
+}
+
+#[test]
+fn greater_heights(rt: HostRuntime) -> Result<(), Fail> {
+    let alloc = rt.alloc();
+    for (front, piece) in [("1", "+1"), ("1", "^1"), ("a", "[1:]")] {
+        is_too_deep(&rt, alloc, repeated(alloc, front, piece, 512, ""))?;
+    }
+    is_too_deep(&rt, alloc, repeated(alloc, "", "-", 512, "1"))?;
+    for (open, text, close, pairs) in [
+        ("(", "1", ")", 512),
+        ("(", "1", ")", 100_000),
+        ("sum(", "a", ")", 512),
+    ] {
+        is_too_deep(&rt, alloc, nested(alloc, open, text, close, pairs))?;
     }
     Ok(())
 }
@@ -52,38 +87,28 @@ fn heights(rt: HostRuntime) -> Result<(), Fail> {
 #[test]
 fn long_texts(rt: HostRuntime) -> Result<(), Fail> {
     let alloc = rt.alloc();
-    let rows = [
-        repeated(alloc, "x{a=\"1\"", ",a=\"1\"", 999, "}")?,
-        repeated(alloc, "label_join(a", ",\"b\"", 599, ")")?,
-        repeated(alloc, "a[", "0", 100_000, "5m]")?,
-    ];
-    for (i, text) in rows.iter().enumerate() {
-        assert!(rt; parse(alloc, text.as_str()).is_ok(), "row {i}");
+    for (front, piece, times, back) in [
+        ("x{a=\"1\"", ",a=\"1\"", 999, "}"),
+        ("label_join(a", ",\"b\"", 599, ")"),
+        ("a[", "0", 100_000, "5m]"),
+    ] {
+        is_read(&rt, alloc, repeated(alloc, front, piece, times, back))?;
     }
-    let zeros = repeated(alloc, "0.", "0", 100_000, "")?;
-    let found = line(alloc, zeros.as_str())?;
-    assert_eq!(rt; found.as_str(), "0");
-    let rows = [
+    for (front, piece, times, back, want) in [
+        ("0.", "0", 100_000, "", "0"),
         (
-            repeated(alloc, "a", " @ 1", 1_000, "")?,
+            "a",
+            " @ 1",
+            1_000,
+            "",
             "@ <timestamp> may not be set multiple times",
         ),
-        (
-            repeated(alloc, "", "9", 100_000, "")?,
-            "more than 38 significant digits",
-        ),
-        (
-            repeated(alloc, "1", "0", 100_000, "")?,
-            "number out of range",
-        ),
-        (
-            repeated(alloc, "a[1", "0", 100_000, "s]")?,
-            "duration overflowed",
-        ),
-    ];
-    for (text, want) in &rows {
-        let found = line(alloc, text.as_str())?;
-        assert_eq!(rt; found.as_str(), *want);
+        ("", "9", 100_000, "", "more than 38 significant digits"),
+        ("1", "0", 100_000, "", "number out of range"),
+        ("a[1", "0", 100_000, "s]", "duration overflowed"),
+    ] {
+        let text = repeated(alloc, front, piece, times, back);
+        answers(&rt, alloc, text, want)?;
     }
     Ok(())
 }

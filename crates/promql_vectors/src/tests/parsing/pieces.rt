@@ -101,6 +101,10 @@ fn braces(rt: HostRuntime) -> Result<(), Fail> {
             "{a='1' or b='2', c='3' or d='4'}",
             "{a=\"1\" or b=\"2\", c=\"3\" or d=\"4\"}",
         ),
+        (
+            "{a='1', 'b'=~'2' or c!='3', d!~'4' or 'e'}",
+            "{a=\"1\", b=~\"2\" or c!=\"3\", d!~\"4\" or __name__=\"e\"}",
+        ),
         ("{,}", SYNTAX),
         ("{a}", SYNTAX),
         ("{a='1' b='2'}", SYNTAX),
