@@ -9,7 +9,7 @@ use promql_kind::{
 use promql_label::{MatchOp, Matcher, Matchers};
 use promql_text::{Number, minute_duration, parse_str_radix};
 use promql_token::TokenId;
-use promql_token::ids::{T_ADD, T_LAND, T_SUM, T_TOPK};
+use promql_token::ids::{T_ADD, T_TOPK};
 use std::alloc::Global;
 
 /// The selector of a name.

@@ -1,7 +1,7 @@
 //! Calls on texts, tokens and labels, by the names that a user calls.
 
 use promql_parser::label::{Labels, escape_repeats};
-use promql_parser::parser::lex::{LexError, LexFault, LexFaultKind, Lexeme};
+use promql_parser::parser::lex::{LexError, LexFaultKind, Lexeme};
 use promql_parser::parser::lexer;
 use promql_parser::parser::token::{T_ADD, T_EOF, T_NUMBER};
 use promql_parser::util::duration::{DurationFault, day_duration};

@@ -6,7 +6,6 @@ use promql_kind::LabelModifier;
 use promql_text::{minute_duration, second_duration};
 use promql_token::ids::{T_ADD, T_DIV, T_SUM};
 use std::alloc::Global;
-use std::fmt::Display;
 use std::process::Abort;
 use std::test::Fail;
 

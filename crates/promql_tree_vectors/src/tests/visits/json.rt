@@ -1,6 +1,6 @@
 //! The JSON form of each kind of node, of nodes and parts by themselves, and what has none.
 
-use super::{binary, chain, matched, topk};
+use super::{binary, chain, topk};
 use crate::tests::trees::{aggregate, call, extension, five_minutes, function, name, number};
 use promql_ast::{AtModifier, CheckError, Expr, FunctionArgs, Offset, RangeMode};
 use promql_kind::{

@@ -2,9 +2,8 @@
 
 use super::check_rows;
 use crate::tests::refusal;
-use promql_parser::parser::{CheckFault, NodeFault, ParseError, parse};
+use promql_parser::parser::{CheckFault, NodeFault, ParseError};
 use promql_text::{DurationFault, NumberFault};
-use std::alloc::Global;
 use std::test::Fail;
 
 const SYNTAX: &str = "invalid promql query";
