@@ -2,12 +2,11 @@
 
 use super::layout::share;
 use crate::tests::trees::{
-    aggregate, args, binary, call, equal, five_minutes, function, grouped, name,
+    binary, by, call, equal, five_minutes, function, grouped, name, sum_with,
 };
-use promql_ast::{CheckError, Expr, Prettier, PrettyError};
-use promql_kind::LabelModifier;
+use promql_ast::{CheckError, Expr, FunctionArgs, Prettier, PrettyError};
 use promql_label::Matchers;
-use promql_token::ids::{T_ADD, T_SUM};
+use promql_token::ids::T_ADD;
 use std::alloc::Global;
 use std::process::Abort;
 use std::test::Fail;
@@ -23,8 +22,7 @@ fn foo(alloc: Global) -> Result<Expr, CheckError> {
 /// `sum by (c) (rate(x[5m]))`
 fn sum_of_rate(alloc: Global) -> Result<Expr, CheckError> {
     let rate = call(alloc, "rate", five_minutes(name(alloc, "x")?)?)?;
-    let by = LabelModifier::include(alloc, ["c"].to_vec(alloc)?)?;
-    aggregate(alloc, T_SUM, Some(by), rate, None)
+    sum_with(alloc, by(alloc, "c")?, rate)
 }
 
 /// The expression of `TEXT`.
@@ -70,7 +68,7 @@ fn check_layout(
 
 /// `time()`
 fn time(alloc: Global) -> Result<Expr, CheckError> {
-    Ok(Expr::new_call(function(alloc, "time")?, args(alloc, None, None, None)?))
+    Ok(Expr::new_call(function(alloc, "time")?, FunctionArgs::empty_args(alloc)))
 }
 
 #[test]
