@@ -96,6 +96,7 @@ fn long_texts(rt: HostRuntime) -> Result<(), Fail> {
     }
     for (front, piece, times, back, want) in [
         ("0.", "0", 100_000, "", "0"),
+        ("", " \n", 50_000, "", "no expression found in input"),
         (
             "a",
             " @ 1",

@@ -77,6 +77,7 @@ fn core_texts(rt: HostRuntime) -> Result<(), Fail> {
 fn lexical_faults_keep_their_places(rt: HostRuntime) -> Result<(), Fail> {
     let alloc = rt.alloc();
     let unclosed = repeated(alloc, "", "(", 100_000, "")?;
+    let bracketed = repeated(alloc, "1", "+1", 599, "]")?;
     let rows = [
         ("(1", LexFaultKind::UnclosedParen, 2),
         ("1a", LexFaultKind::Numeral, 0),
@@ -84,6 +85,7 @@ fn lexical_faults_keep_their_places(rt: HostRuntime) -> Result<(), Fail> {
         ("a )", LexFaultKind::RightParen, 2),
         ("a b {", LexFaultKind::EndInBraces, 5),
         (unclosed.as_str(), LexFaultKind::UnclosedParen, 100_000),
+        (bracketed.as_str(), LexFaultKind::RightBracket, 1_199),
     ];
     for (i, (text, kind, at)) in rows.iter().enumerate() {
         let Some(ParseError::Lex(fault)) = refusal(alloc, text) else {
