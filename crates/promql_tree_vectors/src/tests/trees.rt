@@ -9,7 +9,7 @@ use promql_kind::{
 use promql_label::{MatchOp, Matcher, Matchers};
 use promql_text::{Number, minute_duration, parse_str_radix};
 use promql_token::TokenId;
-use promql_token::ids::{T_ADD, T_SUM, T_TOPK};
+use promql_token::ids::{T_ADD, T_TOPK};
 use std::alloc::Global;
 
 /// The selector of a name.
@@ -40,24 +40,24 @@ pub fn five_minutes(expr: Expr) -> Result<Expr, CheckError> {
     Expr::new_matrix_selector(expr, minute_duration() * 5)
 }
 
-/// One argument.
-pub fn one_arg(alloc: Global, arg: Expr) -> Result<FunctionArgs, CheckError> {
-    Ok(FunctionArgs::new_args(alloc, arg)?)
-}
-
-/// Two arguments.
-pub fn two_args(alloc: Global, first: Expr, second: Expr) -> Result<FunctionArgs, CheckError> {
-    Ok(one_arg(alloc, first)?.append_args(alloc, second)?)
-}
-
-/// Three arguments.
-pub fn three_args(
+/// The arguments, of which there are at most three.
+pub fn args(
     alloc: Global,
-    first: Expr,
-    second: Expr,
-    third: Expr,
+    first: Option<Expr>,
+    second: Option<Expr>,
+    third: Option<Expr>,
 ) -> Result<FunctionArgs, CheckError> {
-    Ok(two_args(alloc, first, second)?.append_args(alloc, third)?)
+    let mut args = FunctionArgs::empty_args(alloc);
+    if let Some(first) = first {
+        args = args.append_args(alloc, first)?;
+    }
+    if let Some(second) = second {
+        args = args.append_args(alloc, second)?;
+    }
+    if let Some(third) = third {
+        args = args.append_args(alloc, third)?;
+    }
+    Ok(args)
 }
 
 /// The function of a name; of an unknown name, one that takes nothing.
@@ -70,8 +70,8 @@ pub fn function(alloc: Global, name: &str) -> Result<Function, CheckError> {
 
 /// The call of a function with one argument.
 pub fn call(alloc: Global, name: &str, arg: Expr) -> Result<Expr, CheckError> {
-    let args = one_arg(alloc, arg)?;
-    Ok(Expr::new_call(function(alloc, name)?, args))
+    let function = function(alloc, name)?;
+    Ok(Expr::new_call(function, FunctionArgs::new_args(alloc, arg)?))
 }
 
 /// The expression of two sides.
@@ -87,7 +87,7 @@ pub fn binary(
 
 /// `on (l) group_left (k)`.
 pub fn grouped(alloc: Global, l: &str, k: &str) -> Result<BinModifier, CheckError> {
-    let on = by(alloc, l)?;
+    let on = LabelModifier::include(alloc, [l].to_vec(alloc)?)?;
     let card = VectorMatchCardinality::many_to_one(alloc, [k].to_vec(alloc)?)?;
     Ok(
         BinModifier::default()
@@ -96,35 +96,22 @@ pub fn grouped(alloc: Global, l: &str, k: &str) -> Result<BinModifier, CheckErro
     )
 }
 
-/// The aggregation of one argument, without a clause.
-pub fn aggregate(alloc: Global, op: TokenId, arg: Expr) -> Result<Expr, CheckError> {
-    Expr::new_aggregate_expr(op, None, one_arg(alloc, arg)?)
-}
-
-/// The aggregation of the second of two arguments, without a clause.
-pub fn aggregate_with(
+/// An aggregation of one or two arguments.
+pub fn aggregate(
     alloc: Global,
     op: TokenId,
-    param: Expr,
-    arg: Expr,
+    modifier: Option<LabelModifier>,
+    first: Expr,
+    second: Option<Expr>,
 ) -> Result<Expr, CheckError> {
-    Expr::new_aggregate_expr(op, None, two_args(alloc, param, arg)?)
-}
-
-/// The sum with a clause.
-pub fn sum_with(alloc: Global, clause: LabelModifier, arg: Expr) -> Result<Expr, CheckError> {
-    Expr::new_aggregate_expr(T_SUM, Some(clause), one_arg(alloc, arg)?)
-}
-
-/// `by` a label.
-pub fn by(alloc: Global, label: &str) -> Result<LabelModifier, CheckError> {
-    Ok(LabelModifier::include(alloc, [label].to_vec(alloc)?)?)
+    let args = args(alloc, Some(first), second, None)?;
+    Expr::new_aggregate_expr(op, modifier, args)
 }
 
 /// `topk by (l) (5, a)`
 fn topk_by(alloc: Global, a: Expr) -> Result<Expr, CheckError> {
-    let args = two_args(alloc, number(5), a)?;
-    Expr::new_aggregate_expr(T_TOPK, Some(by(alloc, "l")?), args)
+    let by = LabelModifier::include(alloc, ["l"].to_vec(alloc)?)?;
+    aggregate(alloc, T_TOPK, Some(by), number(5), Some(a))
 }
 
 /// `a + on (l) group_left (k) 1`

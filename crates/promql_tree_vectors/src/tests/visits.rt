@@ -6,11 +6,11 @@ mod layout;
 mod walks;
 
 use super::trees;
-use super::trees::{aggregate_with, name, number};
+use super::trees::{aggregate, name, number};
 use promql_ast::{CheckError, Expr};
 use promql_label::{MatchOp, Matcher, Matchers};
 use promql_token::TokenId;
-use promql_token::ids::{T_ADD, T_TOPK};
+use promql_token::ids::T_TOPK;
 use std::alloc::Global;
 
 /// The selector of a name, and of a matcher of a label that has to be this text.
@@ -28,8 +28,7 @@ fn binary(alloc: Global, lhs: Expr, op: TokenId, rhs: Expr) -> Result<Expr, Chec
 
 /// `topk(5, a)`.
 fn topk(alloc: Global) -> Result<Expr, CheckError> {
-    let a = name(alloc, "a")?;
-    aggregate_with(alloc, T_TOPK, number(5), a)
+    aggregate(alloc, T_TOPK, None, number(5), Some(name(alloc, "a")?))
 }
 
 /// 499 pairs of parentheses round a number: 500 nodes, one below the other.
@@ -42,10 +41,10 @@ fn chain(alloc: Global) -> Result<Expr, CheckError> {
 }
 
 /// A sum of 500 numbers, from left to right.
-fn long_sum(alloc: Global) -> Result<Expr, CheckError> {
+fn sum(alloc: Global) -> Result<Expr, CheckError> {
     let mut expr = number(0);
     for i in 1..500 {
-        expr = binary(alloc, expr, T_ADD, number(i))?;
+        expr = binary(alloc, expr, promql_token::ids::T_ADD, number(i))?;
     }
     Ok(expr)
 }

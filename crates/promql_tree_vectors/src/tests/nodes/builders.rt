@@ -1,9 +1,7 @@
 //! What builders reject, and the times after `@`.
 
 use super::shows;
-use crate::tests::trees::{
-    decimal, five_minutes, kind, name, number, one_arg, three_args, two_args,
-};
+use crate::tests::trees::{args, decimal, five_minutes, kind, name, number};
 use promql_ast::{
     AtFault, AtModifier, CheckError, Expr, FunctionArgs, NumberLiteral, Offset, RangeMode,
 };
@@ -155,14 +153,12 @@ fn aggregation(op: TokenId, args: Result<FunctionArgs, CheckError>) -> Result<Ex
 
 /// So many arguments, `a` the last but for a third.
 fn arguments(alloc: Global, count: usize) -> Result<FunctionArgs, CheckError> {
-    if count == 0 {
-        return Ok(FunctionArgs::empty_args(alloc));
-    }
-    let a = name(alloc, "a")?;
+    let a = Some(name(alloc, "a")?);
     match count {
-        1 => one_arg(alloc, a),
-        2 => two_args(alloc, number(1), a),
-        _ => three_args(alloc, number(1), a, number(2)),
+        0 => Ok(FunctionArgs::empty_args(alloc)),
+        1 => args(alloc, a, None, None),
+        2 => args(alloc, Some(number(1)), a, None),
+        _ => args(alloc, Some(number(1)), a, Some(number(2))),
     }
 }
 
@@ -207,7 +203,7 @@ fn no_arguments_are_lent(rt: HostRuntime) {
 
 /// `1, 2`
 fn two_numbers(alloc: Global) -> Result<FunctionArgs, CheckError> {
-    two_args(alloc, number(1), number(2))
+    args(alloc, Some(number(1)), Some(number(2)), None)
 }
 
 #[test]

@@ -2,10 +2,10 @@
 
 use super::shows;
 use crate::tests::trees::{
-    aggregate, aggregate_with, binary, call, decimal, equal, five_minutes, function, grouped, kind,
-    name, number, one_arg, three_args, two_args,
+    aggregate, args, binary, call, decimal, equal, five_minutes, function, grouped, kind, name,
+    number,
 };
-use promql_ast::{AggregateExpr, CheckError, Expr, FunctionArgs};
+use promql_ast::{AggregateExpr, CheckError, Expr};
 use promql_kind::{BinModifier, Function, ValueType, VectorMatchCardinality};
 use promql_label::{Matcher, Matchers};
 use promql_text::minute_duration;
@@ -159,24 +159,30 @@ fn set_operators_match_many_to_many(rt: HostRuntime) -> Result<(), Fail> {
 
 /// An operator that aggregates nothing, on a selector.
 fn no_aggregator(alloc: Global) -> Result<Expr, CheckError> {
-    aggregate(alloc, T_ADD, name(alloc, "a")?)
+    aggregate(alloc, T_ADD, None, name(alloc, "a")?, None)
 }
 
 /// `sum(a[5m])`
 fn sum_of_range(alloc: Global) -> Result<Expr, CheckError> {
-    aggregate(alloc, T_SUM, five_minutes(name(alloc, "a")?)?)
+    let range = five_minutes(name(alloc, "a")?)?;
+    aggregate(alloc, T_SUM, None, range, None)
 }
 
 /// The aggregation of a selector with another one as its parameter.
 fn by_vector(alloc: Global, op: TokenId) -> Result<Expr, CheckError> {
     let param = name(alloc, "b")?;
-    aggregate_with(alloc, op, param, name(alloc, "a")?)
+    aggregate(alloc, op, None, param, Some(name(alloc, "a")?))
 }
 
 /// `count_values(1, a)`
 fn counted_by_number(alloc: Global) -> Result<Expr, CheckError> {
-    let a = name(alloc, "a")?;
-    aggregate_with(alloc, T_COUNT_VALUES, number(1), a)
+    aggregate(
+        alloc,
+        T_COUNT_VALUES,
+        None,
+        number(1),
+        Some(name(alloc, "a")?),
+    )
 }
 
 /// `topk` without its parameter.
@@ -234,25 +240,20 @@ fn parameters_of_aggregations_are_checked(rt: HostRuntime) -> Result<(), Fail> {
 
 /// `rate()`
 fn rate_of_nothing(alloc: Global) -> Result<Expr, CheckError> {
-    let rate = function(alloc, "rate")?;
-    Ok(Expr::new_call(rate, FunctionArgs::empty_args(alloc)))
+    let none = args(alloc, None, None, None)?;
+    Ok(Expr::new_call(function(alloc, "rate")?, none))
 }
 
-/// `round` of these.
-fn round(alloc: Global, args: FunctionArgs) -> Result<Expr, CheckError> {
-    Ok(Expr::new_call(function(alloc, "round")?, args))
+/// `round` of a selector and these.
+fn round(alloc: Global, second: Expr, third: Option<Expr>) -> Result<Expr, CheckError> {
+    let all = args(alloc, Some(name(alloc, "a")?), Some(second), third)?;
+    Ok(Expr::new_call(function(alloc, "round")?, all))
 }
 
 /// `round(a, a)`
 fn round_to_vector(alloc: Global) -> Result<Expr, CheckError> {
-    let first = name(alloc, "a")?;
-    round(alloc, two_args(alloc, first, name(alloc, "a")?)?)
-}
-
-/// `round(a, 1, 2)`
-fn round_of_three(alloc: Global) -> Result<Expr, CheckError> {
-    let first = name(alloc, "a")?;
-    round(alloc, three_args(alloc, first, number(1), number(2))?)
+    let second = name(alloc, "a")?;
+    round(alloc, second, None)
 }
 
 /// `label_join(a)`
@@ -278,7 +279,7 @@ fn arguments_of_calls_are_counted(rt: HostRuntime) -> Result<(), Fail> {
     checks(
         &rt,
         alloc,
-        round_of_three(alloc),
+        round(alloc, number(1), Some(number(2))),
         "expected at most 2 argument(s) in call to 'round', got 3",
     )
 }
@@ -333,13 +334,13 @@ fn some_literals_are_not_typed(rt: HostRuntime) -> Result<(), Fail> {
 /// A function made by hand, which takes any arguments.
 fn any_arguments(alloc: Global) -> Result<Expr, CheckError> {
     let any = Function::new("f", Vec::new(alloc), -1, ValueType::Vector, false);
-    Ok(Expr::new_call(any, one_arg(alloc, number(1))?))
+    Ok(Expr::new_call(any, args(alloc, Some(number(1)), None, None)?))
 }
 
 /// A function made by hand, which takes two arguments at most, with three.
 fn one_too_many(alloc: Global) -> Result<Expr, CheckError> {
     let two = Function::new("f", Vec::new(alloc), 2, ValueType::Vector, false);
-    let three = three_args(alloc, number(1), number(1), number(1))?;
+    let three = args(alloc, Some(number(1)), Some(number(1)), Some(number(1)))?;
     Ok(Expr::new_call(two, three))
 }
 

@@ -1,16 +1,22 @@
 //! Expressions over several lines.
 
-use crate::tests::trees::{KINDS, binary, by, function, kind, name, number, sum_with, three_args};
+use crate::tests::trees::{KINDS, args, binary, function, kind, name, number};
 use promql_ast::{CheckError, EvalStmt, Expr, FunctionArgs, Prettier, PrettyError, Tally};
+use promql_kind::LabelModifier;
 use promql_text::{minute_duration, second_duration};
-use promql_token::ids::{T_ADD, T_DIV};
+use promql_token::ids::{T_ADD, T_DIV, T_SUM};
 use std::alloc::Global;
 use std::process::Abort;
 use std::test::Fail;
 
 /// `sum by (b) (a) / c`
 pub fn share(alloc: Global) -> Result<Expr, CheckError> {
-    let sum = sum_with(alloc, by(alloc, "b")?, name(alloc, "a")?)?;
+    let by = LabelModifier::include(alloc, ["b"].to_vec(alloc)?)?;
+    let sum = Expr::new_aggregate_expr(
+        T_SUM,
+        Some(by),
+        args(alloc, Some(name(alloc, "a")?), None, None)?,
+    )?;
     binary(alloc, sum, T_DIV, None, name(alloc, "c")?)
 }
 
@@ -52,7 +58,7 @@ fn a_level_is_two_spaces(rt: HostRuntime) -> Result<(), Fail> {
 #[test]
 fn a_call_without_arguments_is_split(rt: HostRuntime) -> Result<(), Fail> {
     let alloc = rt.alloc();
-    let time = Expr::new_call(function(alloc, "time")?, FunctionArgs::empty_args(alloc));
+    let time = Expr::new_call(function(alloc, "time")?, args(alloc, None, None, None)?);
     assert_eq!(rt; time.pretty(alloc, 0, 3)?.as_str(), "time(\n\n)");
     Ok(())
 }
@@ -194,7 +200,7 @@ fn each_node_by_itself(rt: HostRuntime) -> Result<(), Fail> {
 /// `1, (a), 2`
 fn three_arguments(alloc: Global) -> Result<FunctionArgs, CheckError> {
     let second = in_parens(alloc)?;
-    three_args(alloc, number(1), second, number(2))
+    args(alloc, Some(number(1)), Some(second), Some(number(2)))
 }
 
 #[test]

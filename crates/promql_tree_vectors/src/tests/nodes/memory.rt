@@ -2,11 +2,12 @@
 
 use super::layout::share;
 use crate::tests::trees::{
-    binary, by, call, equal, five_minutes, function, grouped, name, sum_with,
+    aggregate, args, binary, call, equal, five_minutes, function, grouped, name,
 };
-use promql_ast::{CheckError, Expr, FunctionArgs, Prettier, PrettyError};
+use promql_ast::{CheckError, Expr, Prettier, PrettyError};
+use promql_kind::LabelModifier;
 use promql_label::Matchers;
-use promql_token::ids::T_ADD;
+use promql_token::ids::{T_ADD, T_SUM};
 use std::alloc::Global;
 use std::process::Abort;
 use std::test::Fail;
@@ -22,7 +23,8 @@ fn foo(alloc: Global) -> Result<Expr, CheckError> {
 /// `sum by (c) (rate(x[5m]))`
 fn sum_of_rate(alloc: Global) -> Result<Expr, CheckError> {
     let rate = call(alloc, "rate", five_minutes(name(alloc, "x")?)?)?;
-    sum_with(alloc, by(alloc, "c")?, rate)
+    let by = LabelModifier::include(alloc, ["c"].to_vec(alloc)?)?;
+    aggregate(alloc, T_SUM, Some(by), rate, None)
 }
 
 /// The expression of `TEXT`.
@@ -68,7 +70,7 @@ fn check_layout(
 
 /// `time()`
 fn time(alloc: Global) -> Result<Expr, CheckError> {
-    Ok(Expr::new_call(function(alloc, "time")?, FunctionArgs::empty_args(alloc)))
+    Ok(Expr::new_call(function(alloc, "time")?, args(alloc, None, None, None)?))
 }
 
 #[test]

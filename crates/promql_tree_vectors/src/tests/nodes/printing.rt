@@ -2,13 +2,13 @@
 
 use super::shows;
 use crate::tests::trees::{
-    KINDS, binary, decimal, equal, five_minutes, kind, name, number, sum_with,
+    KINDS, aggregate, binary, decimal, equal, five_minutes, kind, name, number,
 };
 use promql_ast::{AtModifier, CheckError, Expr, Offset, RangeMode, VectorSelector};
 use promql_kind::LabelModifier;
 use promql_label::Matchers;
 use promql_text::minute_duration;
-use promql_token::ids::T_POW;
+use promql_token::ids::{T_POW, T_SUM};
 use std::alloc::Global;
 use std::process::Abort;
 use std::test::Fail;
@@ -95,17 +95,17 @@ fn times_and_ranges_tell_selectors_apart(rt: HostRuntime) -> Result<(), Fail> {
 }
 
 /// The sum of a selector with this clause.
-fn sum_of_a(alloc: Global, clause: LabelModifier) -> Result<Expr, CheckError> {
-    sum_with(alloc, clause, name(alloc, "a")?)
+fn sum_with(alloc: Global, clause: LabelModifier) -> Result<Expr, CheckError> {
+    aggregate(alloc, T_SUM, Some(clause), name(alloc, "a")?, None)
 }
 
 #[test]
 fn empty_lists_print_after_without_alone(rt: HostRuntime) -> Result<(), Fail> {
     let alloc = rt.alloc();
     let without = LabelModifier::exclude(alloc, Vec::new(alloc))?;
-    shows(&rt, alloc, sum_of_a(alloc, without), "sum without () (a)")?;
+    shows(&rt, alloc, sum_with(alloc, without), "sum without () (a)")?;
     let by = LabelModifier::include(alloc, Vec::new(alloc))?;
-    shows(&rt, alloc, sum_of_a(alloc, by), "sum(a)")
+    shows(&rt, alloc, sum_with(alloc, by), "sum(a)")
 }
 
 /// `foo @ 1.000 offset -5m`

@@ -1,6 +1,6 @@
 //! Visitors that change nodes, stop, and fail.
 
-use super::{binary, chain, long_sum, topk};
+use super::{binary, chain, sum, topk};
 use crate::tests::trees::{aggregate, extension, name, number};
 use promql_ast::{CheckError, Expr};
 use promql_label::{MatchOp, Matcher};
@@ -189,7 +189,7 @@ fn nodes_may_grow_after_their_children(rt: HostRuntime) -> Result<(), Fail> {
 #[test]
 fn a_walk_of_changes_ends_where_it_is_stopped(rt: HostRuntime) -> Result<(), Fail> {
     let alloc = rt.alloc();
-    let mut sum = aggregate(alloc, T_SUM, one_and_two(alloc)?)?;
+    let mut sum = aggregate(alloc, T_SUM, None, one_and_two(alloc)?, None)?;
     let mut three = Wrap { alloc, left: 3 };
     assert!(rt; walk_expr_mut(&mut three, &mut sum) == Ok(false));
     assert_eq!(rt; sum.to_string(alloc)?.as_str(), "sum((1 + 2))");
@@ -199,7 +199,7 @@ fn a_walk_of_changes_ends_where_it_is_stopped(rt: HostRuntime) -> Result<(), Fai
 #[test]
 fn high_trees_are_changed(rt: HostRuntime) -> Result<(), Fail> {
     let alloc = rt.alloc();
-    for (mut expr, left) in [(chain(alloc)?, 500), (long_sum(alloc)?, 1)] {
+    for (mut expr, left) in [(chain(alloc)?, 500), (sum(alloc)?, 1)] {
         let before = expr.try_clone(alloc)?;
         let mut wrap = Wrap { alloc, left: 1000 };
         assert!(rt; walk_expr_mut(&mut wrap, &mut expr) == Ok(true));

@@ -1,9 +1,7 @@
 //! The JSON form of each kind of node, of nodes and parts by themselves, and what has none.
 
 use super::{binary, chain, topk};
-use crate::tests::trees::{
-    aggregate, by, call, extension, five_minutes, function, name, number, sum_with,
-};
+use crate::tests::trees::{aggregate, call, extension, five_minutes, function, name, number};
 use promql_ast::{AtModifier, CheckError, Expr, FunctionArgs, Offset, RangeMode};
 use promql_kind::{
     BinModifier, LabelModifier, ValueType, VectorMatchCardinality, VectorMatchFillValues,
@@ -83,7 +81,7 @@ fn groups(alloc: Global) -> Result<Matchers, AllocError> {
 
 /// `1 atan2 bool on (l) group_left (k) fill_right (0.5) 2`.
 fn matched_sum(alloc: Global) -> Result<Expr, CheckError> {
-    let on = by(alloc, "l")?;
+    let on = LabelModifier::include(alloc, ["l"].to_vec(alloc)?)?;
     let card = VectorMatchCardinality::many_to_one(alloc, ["k"].to_vec(alloc)?)?;
     let fills = VectorMatchFillValues::default().with_rhs(number_of("0.5"));
     let modifier = BinModifier::default()
@@ -167,7 +165,7 @@ fn subqueries_and_minus_have_objects(rt: HostRuntime) -> Result<(), Fail> {
 fn sum_without(alloc: Global) -> Result<Expr, CheckError> {
     let without = LabelModifier::exclude(alloc, ["l", "m"].to_vec(alloc)?)?;
     let quoted = Expr::of_str(alloc, "a\"b")?;
-    sum_with(alloc, without, quoted)
+    aggregate(alloc, T_SUM, Some(without), quoted, None)
 }
 
 #[test]
@@ -205,7 +203,7 @@ const NODES_JSON: &str =
 fn node(alloc: Global, number_of_kind: usize) -> Result<Expr, CheckError> {
     let a = name(alloc, "a")?;
     match number_of_kind {
-        0 => aggregate(alloc, T_SUM, number(1)),
+        0 => aggregate(alloc, T_SUM, None, number(1), None),
         1 => Expr::new_unary_expr(alloc, a),
         2 => binary(alloc, number(1), T_ADD, number(2)),
         3 => Ok(Expr::new_paren_expr(alloc, number(1))?),

@@ -1,12 +1,13 @@
 //! The order of a walk, and where it ends.
 
-use super::{binary, chain, long_sum, matched, topk};
-use crate::tests::trees::{by, call, extension, five_minutes, name, number, sum_with};
+use super::{binary, chain, matched, sum, topk};
+use crate::tests::trees::{aggregate, call, extension, five_minutes, name, number};
 use promql_ast::{CheckError, Expr};
+use promql_kind::LabelModifier;
 use promql_label::{MatchOp, Matchers};
 use promql_text::minute_duration;
 use promql_token::TokenId;
-use promql_token::ids::{T_ADD, T_POW};
+use promql_token::ids::{T_ADD, T_POW, T_SUM};
 use promql_walk::{ExprVisitor, walk_expr};
 use std::alloc::{AllocError, Global};
 use std::fmt::Write;
@@ -169,15 +170,11 @@ impl ExprVisitor for Namespace {
     }
 }
 
-/// `max_over_time(SELECTOR[5m])`
-fn greatest(alloc: Global, selector: Expr) -> Result<Expr, CheckError> {
-    call(alloc, "max_over_time", five_minutes(selector)?)
-}
-
-/// `(sum by (namespace) (max_over_time(SELECTOR[5m])))`
+/// `(sum by (namespace) (max_over_time(SELECTOR[5m])))`.
 fn summed(alloc: Global, selector: Expr) -> Result<Expr, CheckError> {
-    let greatest = greatest(alloc, selector)?;
-    let sum = sum_with(alloc, by(alloc, "namespace")?, greatest)?;
+    let max = call(alloc, "max_over_time", five_minutes(selector)?)?;
+    let by = LabelModifier::include(alloc, ["namespace"].to_vec(alloc)?)?;
+    let sum = aggregate(alloc, T_SUM, Some(by), max, None)?;
     Ok(Expr::new_paren_expr(alloc, sum)?)
 }
 
@@ -234,7 +231,7 @@ impl ExprVisitor for Count {
 #[test]
 fn high_trees_are_walked(rt: HostRuntime) -> Result<(), Fail> {
     let alloc = rt.alloc();
-    for (expr, nodes) in [(chain(alloc)?, 500), (long_sum(alloc)?, 999)] {
+    for (expr, nodes) in [(chain(alloc)?, 500), (sum(alloc)?, 999)] {
         let mut count = Count(0);
         assert!(rt; walk_expr(&mut count, &expr) == Ok(true));
         assert_eq!(rt; count.0, nodes);
