@@ -1,28 +1,49 @@
-//! Each text with its answer, printed, laid out, as JSON and walked; what a user of the crates writes.
+//! Each text with its tree or its fault, printed, laid out, as JSON and walked; what a user of the crates writes.
 
 mod calls;
 mod canonical;
+mod faults;
+mod forms;
 mod layouts;
+mod limits;
 mod memory;
-mod parsing;
-mod queries;
 mod readme;
 mod trees;
 mod visitors;
 
-use promql_parser::parser::{Expr, ParseError, PrettyError, parse};
+use promql_parser::parser::{Expr, ParseError, parse};
 use promql_walk::{JsonError, ToJson};
 use std::alloc::{AllocError, Global};
+use std::process::Abort;
+use std::test::Fail;
 
-// What is printed of the text's tree, or the message of its refusal.
+/// What is printed of the text's tree, or the message of its rejection.
 fn line(alloc: Global, text: &str) -> Result<String, AllocError> {
     match parse(alloc, text) {
-        Ok(expr) => format!(in alloc; "{expr}"),
-        Err(error) => format!(in alloc; "{error}"),
+        Ok(expr) => expr.to_string(alloc),
+        Err(error) => error.to_string(alloc),
     }
 }
 
-// The text, so many times, between two others.
+/// Each text with what is printed of it, or with its message.
+fn check_rows(rt: &impl Abort, alloc: Global, rows: &[(&str, &str)]) -> Result<(), Fail> {
+    for (text, want) in rows {
+        let found = line(alloc, text)?;
+        assert_eq!(rt; found.as_str(), *want, "at {text:?}");
+    }
+    Ok(())
+}
+
+/// Each text prints itself.
+fn check_lines(rt: &impl Abort, alloc: Global, texts: &[&str]) -> Result<(), Fail> {
+    for text in texts {
+        let found = line(alloc, text)?;
+        assert_eq!(rt; found.as_str(), *text);
+    }
+    Ok(())
+}
+
+/// The text, so many times, between two others.
 fn repeated(
     alloc: Global,
     front: &str,
@@ -38,17 +59,12 @@ fn repeated(
     Ok(made)
 }
 
-// The tree of a text, laid out in lines of 100 bytes.
-fn laid_out(expr: &Expr, alloc: Global) -> Result<String, PrettyError> {
-    expr.prettify(alloc)
-}
-
-// The JSON form of a tree, without a space.
+/// The JSON form of a tree, without a space.
 fn json(expr: &Expr, alloc: Global) -> Result<String, JsonError> {
     Ok(expr.to_json(alloc)?.to_string(alloc)?)
 }
 
-// The error of a text that has no tree.
+/// The error of a text that has no tree.
 fn refusal(alloc: Global, text: &str) -> Option<ParseError> {
     parse(alloc, text).err()
 }

@@ -4,7 +4,7 @@ mod dashboards;
 
 use super::repeated;
 use dashboards::QUERIES;
-use promql_parser::parser::{Expr, Prettier, parse};
+use promql_parser::parser::{Expr, ParseError, Prettier, parse};
 use std::alloc::Global;
 use std::process::Abort;
 use std::test::Fail;
@@ -12,6 +12,13 @@ use std::test::Fail;
 const LEVELS: [usize; 2] = [0, 3];
 
 const WIDTHS: [usize; 3] = [0, 10, 100];
+
+/// Whether the text gives this tree, and prints this line.
+fn reads_back(alloc: Global, text: &str, tree: &Expr, line: &str) -> Result<bool, ParseError> {
+    let read = parse(alloc, text)?;
+    let again = read.to_string(alloc)?;
+    Ok(read == *tree && again.as_str() == line)
+}
 
 /// The text gives this tree, and prints this line.
 fn check_text(
@@ -21,10 +28,7 @@ fn check_text(
     tree: &Expr,
     line: &str,
 ) -> Result<(), Fail> {
-    let read = parse(alloc, text)?;
-    assert!(rt; read == *tree, "at {text:?}");
-    let again = read.to_string(alloc)?;
-    assert_eq!(rt; again.as_str(), line, "at {text:?}");
+    assert!(rt; reads_back(alloc, text, tree, line)?, "at {text:?}");
     Ok(())
 }
 
@@ -56,62 +60,70 @@ fn queries_of_dashboards(rt: HostRuntime) -> Result<(), Fail> {
     check_all(&rt, rt.alloc(), &QUERIES)
 }
 
-#[test]
-fn signs_and_operators(rt: HostRuntime) -> Result<(), Fail> {
-    let texts = [
-        "-5 ^ 2",
-        "- -5",
-        "-(5)",
-        "2 ^ -3 * 4",
-        "2 ^ -3 ^ 2",
-        "a * on (l) group_left (x) + y",
-        "a + ignoring () b",
-        "a + ignoring () group_left () b",
-        "fill + fill (1) b",
-        "0x1F + 017",
-        "1e308",
-        "NaN - -Inf",
-    ];
-    check_all(&rt, rt.alloc(), &texts)
-}
+/// Texts of each form.
+const TEXTS: [&str; 53] = [
+    // Signs, operators and numbers.
+    "-5 ^ 2",
+    "- -5",
+    "-(5)",
+    "2 ^ -3 * 4",
+    "2 ^ -3 ^ 2",
+    "a * on (l) group_left (x) + y",
+    "a + ignoring () b",
+    "a + ignoring () group_left () b",
+    "fill + fill (1) b",
+    "0x1F + 017",
+    "1e308",
+    "NaN - -Inf",
+    // Selectors.
+    "http_requests_total{\nenvironment=~\"staging|testing|development\",\nmethod!=\"GET\"\n} offset 5m",
+    "foo{b=\"2\",a=\"1\",}",
+    "foo{a=\"1\",b=\"2\"}",
+    "foo{}",
+    "{a=\"1\" or or=\"2\", c=\"3\"}",
+    "{a=~`x\\d{b}`}",
+    "{a=\"1\",a=\"1\"}",
+    "{b=~\"x.+\",a=~\"y.+\"}",
+    "{\"a metric\"}",
+    "foo{\"a b\"!=\"\\n\\\"\"}",
+    // Calls, aggregations and times.
+    "sum by () (a)",
+    "sum by (\"inf\", fill, \"a b\") (x)",
+    "sum by (b) (a) / c",
+    "topk(5, a)",
+    "time()",
+    "ln(-1)",
+    "foo[3w2d1h]",
+    "foo[1.0005]",
+    "foo[5m] smoothed",
+    "foo[5m] anchored @ end() offset 1h",
+    "rate(foo[5m])[1h:] offset 5m @ start()",
+    "(a + b)[1h:1m] @ 1.5",
+    "foo @ -1.0005",
+    "foo offset 5m @ start()",
+    "foo @ -1 offset -5m",
+    // Each form of the grammar.
+    "1",
+    "5m",
+    "\"a\"",
+    "a{b=\"c\"} + {d=~\"e+\"}",
+    "(a)",
+    "sum by (a) (b)",
+    "topk without (a) (1, b)",
+    "a[5m]",
+    "a[5m:1m]",
+    "a @ 1",
+    "a @ start()",
+    "a offset -5m",
+    "a[5m] smoothed",
+    "-a",
+    "+a",
+    "a == bool on (b) group_left (c) fill (1) d",
+];
 
 #[test]
-fn selectors(rt: HostRuntime) -> Result<(), Fail> {
-    let texts = [
-        "http_requests_total{\nenvironment=~\"staging|testing|development\",\nmethod!=\"GET\"\n} offset 5m",
-        "foo{b=\"2\",a=\"1\",}",
-        "foo{a=\"1\",b=\"2\"}",
-        "foo{}",
-        "{a=\"1\" or or=\"2\", c=\"3\"}",
-        "{a=~`x\\d{b}`}",
-        "{a=\"1\",a=\"1\"}",
-        "{b=~\"x.+\",a=~\"y.+\"}",
-        "{\"a metric\"}",
-        "foo{\"a b\"!=\"\\n\\\"\"}",
-    ];
-    check_all(&rt, rt.alloc(), &texts)
-}
-
-#[test]
-fn calls_aggregations_and_times(rt: HostRuntime) -> Result<(), Fail> {
-    let texts = [
-        "sum by () (a)",
-        "sum by (\"inf\", fill, \"a b\") (x)",
-        "sum by (b) (a) / c",
-        "topk(5, a)",
-        "time()",
-        "ln(-1)",
-        "foo[3w2d1h]",
-        "foo[1.0005]",
-        "foo[5m] smoothed",
-        "foo[5m] anchored @ end() offset 1h",
-        "rate(foo[5m])[1h:] offset 5m @ start()",
-        "(a + b)[1h:1m] @ 1.5",
-        "foo @ -1.0005",
-        "foo offset 5m @ start()",
-        "foo @ -1 offset -5m",
-    ];
-    check_all(&rt, rt.alloc(), &texts)
+fn texts_of_each_form(rt: HostRuntime) -> Result<(), Fail> {
+    check_all(&rt, rt.alloc(), &TEXTS)
 }
 
 #[test]

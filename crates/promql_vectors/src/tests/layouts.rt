@@ -5,17 +5,35 @@ use std::fmt;
 use std::fmt::{Display, Write};
 use std::test::Fail;
 
+const SHARE: &str = "sum by (b) (a) / c";
+
+/// Texts in lines of so many bytes.
+const LAID: [(&str, usize, &str); 3] = [
+    ("time()", 3, "time(\n\n)"),
+    (SHARE, 10, "  sum by (b) (\n    a\n  )\n/\n  c"),
+    (
+        "http_requests_total{\nenvironment=~\"staging|testing|development\",\nmethod!=\"GET\"\n} offset 5m",
+        100,
+        "http_requests_total{environment=~\"staging|testing|development\",method!=\"GET\"} offset 5m",
+    ),
+];
+
 #[test]
-fn lines_of_ten_bytes(rt: HostRuntime) -> Result<(), Fail> {
+fn texts_over_lines(rt: HostRuntime) -> Result<(), Fail> {
     let alloc = rt.alloc();
-    let time = parse(alloc, "time()")?;
-    assert_eq!(rt; time.pretty(alloc, 0, 3)?.as_str(), "time(\n\n)");
-    let share = parse(alloc, "sum by (b) (a) / c")?;
+    for (text, max, want) in &LAID {
+        let laid = parse(alloc, text)?.pretty(alloc, 0, *max)?;
+        assert_eq!(rt; laid.as_str(), *want);
+    }
+    Ok(())
+}
+
+#[test]
+fn a_line_is_split_where_it_is_too_long(rt: HostRuntime) -> Result<(), Fail> {
+    let alloc = rt.alloc();
+    let share = parse(alloc, SHARE)?;
     assert!(rt; share.needs_split(17) && !share.needs_split(18));
-    assert_eq!(rt;
-        share.pretty(alloc, 0, 10)?.as_str(),
-        "  sum by (b) (\n    a\n  )\n/\n  c"
-    );
+    assert_eq!(rt; share.prettify(alloc)?.as_str(), SHARE);
     Ok(())
 }
 

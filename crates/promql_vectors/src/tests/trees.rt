@@ -1,4 +1,4 @@
-//! The trees of texts: which node stands where, and the JSON form.
+//! The trees of texts: which node is where, and the JSON form.
 
 use super::json;
 use promql_parser::parser::{Expr, ParseError, parse};
@@ -7,7 +7,7 @@ use promql_text::minute_duration;
 use std::alloc::Global;
 use std::test::Fail;
 
-// The texts of the sides of a binary expression.
+/// The texts of the sides of a binary expression.
 fn sides(alloc: Global, text: &str) -> Result<(String, String), Fail> {
     let Expr::Binary(node) = parse(alloc, text)? else {
         return Err(Fail::new("no binary expression"));
@@ -15,7 +15,7 @@ fn sides(alloc: Global, text: &str) -> Result<(String, String), Fail> {
     Ok((node.lhs.to_string(alloc)?, node.rhs.to_string(alloc)?))
 }
 
-// The text of what a minus is before.
+/// The text of what a minus is before.
 fn operand(alloc: Global, text: &str) -> Result<String, Fail> {
     let Expr::Unary(node) = parse(alloc, text)? else {
         return Err(Fail::new("no minus"));
@@ -23,32 +23,45 @@ fn operand(alloc: Global, text: &str) -> Result<String, Fail> {
     Ok(node.expr.to_string(alloc)?)
 }
 
+/// Texts of a minus, and what it is before.
+const OPERANDS: [(&str, &str); 3] = [("-5 ^ 2", "5 ^ 2"), ("-(5)", "(5)"), ("-3 ^ 2", "3 ^ 2")];
+
 #[test]
 fn levels_below_minus(rt: HostRuntime) -> Result<(), Fail> {
     let alloc = rt.alloc();
-    for (text, below) in [("-5 ^ 2", "5 ^ 2"), ("-(5)", "(5)"), ("-3 ^ 2", "3 ^ 2")] {
-        assert_eq!(rt; operand(alloc, text)?.as_str(), below);
+    for (text, below) in &OPERANDS {
+        assert_eq!(rt; operand(alloc, text)?.as_str(), *below);
     }
     Ok(())
 }
+
+/// Texts of an operator, and its sides.
+const SIDES: [(&str, &str, &str); 4] = [
+    ("1-2-3", "1 - 2", "3"),
+    ("2 ^ -3 * 4", "2 ^ -3", "4"),
+    ("2 ^ -3 ^ 2", "2", "-3 ^ 2"),
+    ("a * on (l) group_left (x) + y", "a", "y"),
+];
 
 #[test]
 fn levels_of_sides(rt: HostRuntime) -> Result<(), Fail> {
     let alloc = rt.alloc();
-    for (text, left, right) in [("2 ^ -3 * 4", "2 ^ -3", "4"), ("2 ^ -3 ^ 2", "2", "-3 ^ 2")] {
+    for (text, left, right) in &SIDES {
         let (lhs, rhs) = sides(alloc, text)?;
-        assert_eq!(rt; lhs.as_str(), left);
-        assert_eq!(rt; rhs.as_str(), right);
+        assert!(rt;
+            lhs.as_str() == *left && rhs.as_str() == *right,
+            "{lhs} and {rhs}"
+        );
     }
     Ok(())
 }
 
 #[test]
-fn a_sign_after_a_grouping(rt: HostRuntime) -> Result<(), Fail> {
-    let alloc = rt.alloc();
-    let (left, right) = sides(alloc, "a * on (l) group_left (x) + y")?;
-    assert_eq!(rt; left.as_str(), "a");
-    assert_eq!(rt; right.as_str(), "y");
+fn a_minus_before_a_power_is_a_node(rt: HostRuntime) -> Result<(), Fail> {
+    let Expr::Binary(outer) = parse(rt.alloc(), "2 ^ -3 ^ 2")? else {
+        return Err(Fail::new("no power"));
+    };
+    assert!(rt; matches!(&*outer.rhs, Expr::Unary(_)));
     Ok(())
 }
 

@@ -1,0 +1,181 @@
+//! Trees and their parts, from texts and by hand.
+
+use promql_ast::{
+    AtModifier, CheckError, Expr, Extension, FunctionArgs, Offset, RangeMode, VectorSelector,
+};
+use promql_kind::{
+    BinModifier, Function, LabelModifier, ValueType, VectorMatchCardinality, get_function,
+};
+use promql_label::{MatchOp, Matcher, Matchers};
+use promql_parser::parser::parse;
+use promql_text::{Number, minute_duration, parse_str_radix};
+use promql_token::ids::{T_ADD, T_TOPK};
+use std::alloc::{AllocError, Global};
+use std::test::Fail;
+
+/// How each kind of node prints. The last one is of no text.
+pub const KINDS: [&str; 12] = [
+    "topk by (l) (5, a)",
+    "-a",
+    "a + on (l) group_left (k) b",
+    "(a)",
+    "a[5m:1m] @ start() offset -1m",
+    "1.5",
+    r#""a\"b""#,
+    r#"a{b="1"} @ 1.000 offset 1m"#,
+    "a[5m] anchored offset 1m",
+    "rate(a[5m])",
+    "a",
+    EXTENSION,
+];
+
+/// How the node prints that the language lacks.
+pub const EXTENSION: &str = "ext(a, 2)";
+
+/// The node of one of the kinds.
+pub fn kind(alloc: Global, text: &str) -> Result<Expr, Fail> {
+    if text == EXTENSION {
+        return extension(alloc, "a", "2");
+    }
+    Ok(parse(alloc, text)?)
+}
+
+/// `ext(FIRST, SECOND)`, which no text gives.
+pub fn extension(alloc: Global, first: &str, second: &str) -> Result<Expr, Fail> {
+    let first = parse(alloc, first)?;
+    let second = parse(alloc, second)?;
+    Ok(extension_of(alloc, first, second)?)
+}
+
+/// The extension of two children.
+pub fn extension_of(alloc: Global, first: Expr, second: Expr) -> Result<Expr, CheckError> {
+    let mut children = Vec::new(alloc);
+    children.push(first)?;
+    children.push(second)?;
+    let name = String::from_str(alloc, "ext")?;
+    Ok(Expr::Extension(Extension {
+        name,
+        value_type: ValueType::Vector,
+        children,
+    }))
+}
+
+/// The arguments of these texts.
+pub fn arguments(alloc: Global, texts: &[&str]) -> Result<FunctionArgs, Fail> {
+    let mut args = Vec::new(alloc);
+    for text in texts {
+        let arg = parse(alloc, text)?;
+        args.push(Box::new(alloc, arg)?)?;
+    }
+    Ok(FunctionArgs { args })
+}
+
+/// The selector of a name.
+pub fn name(alloc: Global, name: &str) -> Result<Expr, CheckError> {
+    Ok(Expr::from(VectorSelector::of_str(alloc, name)?))
+}
+
+/// A matcher of a label that has to be this text.
+pub fn equal(alloc: Global, name: &str, value: &str) -> Result<Matcher, CheckError> {
+    Ok(Matcher::new(alloc, MatchOp::Equal, name, value)?)
+}
+
+/// The selector with five minutes as its range.
+pub fn five_minutes(expr: Expr) -> Result<Expr, CheckError> {
+    Expr::new_matrix_selector(expr, minute_duration() * 5)
+}
+
+/// The number of a text.
+pub fn number(text: &str) -> Number {
+    parse_str_radix(text).unwrap_or(Number::NaN)
+}
+
+/// The function of a name; of an unknown name, one that takes nothing.
+pub fn function(alloc: Global, name: &str) -> Result<Function, CheckError> {
+    let unknown = Function::new("unknown", Vec::new(alloc), 0, ValueType::Scalar, false);
+    Ok(get_function(alloc, name)?.unwrap_or(unknown))
+}
+
+/// The call of a function with one argument.
+pub fn call(alloc: Global, name: &str, arg: Expr) -> Result<Expr, CheckError> {
+    let function = function(alloc, name)?;
+    Ok(Expr::new_call(function, FunctionArgs::new_args(alloc, arg)?))
+}
+
+/// `by (l)`, or `on (l)`
+pub fn include(alloc: Global, l: &str) -> Result<LabelModifier, AllocError> {
+    LabelModifier::include(alloc, [l].to_vec(alloc)?)
+}
+
+/// `group_left (k)`
+fn many_to_one(alloc: Global, k: &str) -> Result<VectorMatchCardinality, AllocError> {
+    VectorMatchCardinality::many_to_one(alloc, [k].to_vec(alloc)?)
+}
+
+/// `on (l) group_left (k)`
+pub fn grouped(alloc: Global, l: &str, k: &str) -> Result<BinModifier, AllocError> {
+    let on = include(alloc, l)?;
+    let card = many_to_one(alloc, k)?;
+    Ok(
+        BinModifier::default()
+            .with_card(card)
+            .with_matching(Some(on)),
+    )
+}
+
+/// `topk by (l) (5, a)`
+fn topk_by(alloc: Global, a: Expr) -> Result<Expr, CheckError> {
+    let five = FunctionArgs::new_args(alloc, Expr::from(number("5")))?;
+    let args = five.append_args(alloc, a)?;
+    Expr::new_aggregate_expr(T_TOPK, Some(include(alloc, "l")?), args)
+}
+
+/// `a + on (l) group_left (k) b`
+fn grouped_sum(alloc: Global, a: Expr) -> Result<Expr, CheckError> {
+    let modifier = grouped(alloc, "l", "k")?;
+    let b = name(alloc, "b")?;
+    Ok(Expr::new_binary_expr(alloc, a, T_ADD, Some(modifier), b)?)
+}
+
+/// `a[5m:1m] @ start() offset -1m`
+fn subquery_at_start(alloc: Global, a: Expr) -> Result<Expr, CheckError> {
+    let step = Some(minute_duration());
+    Expr::new_subquery_expr(alloc, a, minute_duration() * 5, step)?
+        .at_expr(AtModifier::Start)?
+        .offset_expr(Offset::Neg(minute_duration()))
+}
+
+/// `a{b="1"} @ 1.000 offset 1m`
+fn selector_at_a_second(alloc: Global) -> Result<Expr, CheckError> {
+    let matchers = Matchers::one(alloc, equal(alloc, "b", "1")?)?;
+    let name = Some(String::from_str(alloc, "a")?);
+    Expr::new_vector_selector(name, matchers)
+        .offset_expr(Offset::Pos(minute_duration()))?
+        .at_expr(AtModifier::At(1000))
+}
+
+/// `a[5m] anchored offset 1m`
+fn anchored_range(a: Expr) -> Result<Expr, CheckError> {
+    five_minutes(a)?
+        .mode_expr(RangeMode::Anchored)?
+        .offset_expr(Offset::Pos(minute_duration()))
+}
+
+/// The kind of this number by the builders.
+pub fn built(alloc: Global, number_of_kind: usize) -> Result<Expr, CheckError> {
+    let a = name(alloc, "a")?;
+    match number_of_kind {
+        0 => topk_by(alloc, a),
+        1 => Expr::new_unary_expr(alloc, a),
+        2 => grouped_sum(alloc, a),
+        3 => Ok(Expr::new_paren_expr(alloc, a)?),
+        4 => subquery_at_start(alloc, a),
+        5 => Ok(Expr::from(number("1.5"))),
+        6 => Ok(Expr::of_str(alloc, "a\"b")?),
+        7 => selector_at_a_second(alloc),
+        8 => anchored_range(a),
+        9 => call(alloc, "rate", five_minutes(a)?),
+        10 => Ok(a),
+        _ => extension_of(alloc, a, Expr::from(number("2"))),
+    }
+}
