@@ -116,7 +116,8 @@ impl fmt::Display for Labels {
 
 /// Writes a label: docs/MATCHERS.md, "Printed labels".
 fn write_label<W: fmt::Write>(label: &Label, f: &mut fmt::Formatter<W>) -> fmt::Result
-    ensures { WritesOnOk W.write_str_gives f.old result (label_text (string_bytes label.now)) f.new }
+    ensures { WritesOnOk W.write_str_gives f.old result
+        (label_text (string_bytes label.now)) f.new }
 {
     let label = label.as_str();
     if is_bare(label) {
