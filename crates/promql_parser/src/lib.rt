@@ -6,9 +6,8 @@
 //! ```
 #![tactic(auto)]
 
-mod grammar;
 pub mod label;
-pub mod laws;
 pub mod parser;
-mod tokens;
 pub mod util;
+
+pub use promql_syntax::laws;

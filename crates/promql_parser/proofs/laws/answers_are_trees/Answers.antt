@@ -1,5 +1,0 @@
-use Rattle.promql_parser.proofs.CanonicalTexts.{answer_has, has_answer}
-use Rattle.promql_parser.proofs.laws.answers_are_trees.Goals as goal
-
-pub returns : goal.returns
-returns c = record { has = answer_has; is = has_answer }

@@ -1,5 +1,0 @@
-use Rattle.promql_parser.proofs.CanonicalTexts.{prints_alike}
-use Rattle.promql_parser.proofs.laws.prints_alike.Goals as goal
-
-pub returns : goal.returns
-returns c = prints_alike

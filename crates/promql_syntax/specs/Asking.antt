@@ -1,0 +1,53 @@
+-- Building that asks `regex` about patterns (docs/GRAMMAR.md, "Answers about patterns").
+use Rattle.std.specs.Prelude.{◌≡◌, List, [], ◌∷◌, Result, Ok, Err}
+use Rattle.promql_text.specs.Texts.{Text}
+use Rattle.promql_label.specs.Answers.{Answer, Allows}
+use Rattle.promql_syntax.specs.Faults.{Fault}
+
+-- a value, a fault, or a question about a pattern and what each answer leads to
+pub data Asking (A : Type 0) : Type 0 where
+  gives : A → Asking A
+  fails : Fault → Asking A
+  asks : Text → (Answer → Asking A) → Asking A
+
+-- first the one, then what its value leads to
+infixl 10 ◌giving◌
+abbrev pub ◌giving◌ : {A B : Type 0} → Asking A → (A → Asking B) → Asking B
+(gives x) giving f = f x
+(fails fault) giving f = fails fault
+(asks v next) giving f = asks v (λ a. next a giving f)
+
+-- what asks nothing
+abbrev pub known : {A : Type 0} → Result A Fault → Asking A
+known (Ok x) = gives x
+known (Err fault) = fails fault
+
+-- a pattern, and the answer about it
+pub record Asked : Type 0 where
+  pub about : Text
+  pub answer : Answer
+
+-- `regex` allows each of the answers
+abbrev pub AreAllowed : List Asked → Type 0
+AreAllowed [] = Unit {0}
+AreAllowed (a ∷ more) = Allows a.about a.answer × AreAllowed more
+
+-- the questions are these, in this order, and with these answers the end is the result
+abbrev pub Ends : {A : Type 0} → Asking A → List Asked → Result A Fault → Type 0
+Ends (gives x) [] result = result ≡ Ok x
+Ends (gives x) (a ∷ more) result = ⊥
+Ends (fails fault) [] result = result ≡ Err fault
+Ends (fails fault) (a ∷ more) result = ⊥
+Ends (asks v next) [] result = ⊥
+Ends (asks v next) (a ∷ more) result = (a.about ≡ v) × Ends (next a.answer) more result
+
+-- the end, where each pattern has one answer
+abbrev pub under : {A : Type 0} → (Text → Answer) → Asking A → Result A Fault
+under answers (gives x) = Ok x
+under answers (fails fault) = Err fault
+under answers (asks v next) = under answers (next (answers v))
+
+-- each answer of the list is the pattern's one answer
+abbrev pub AreAnswersOf : (Text → Answer) → List Asked → Type 0
+AreAnswersOf answers [] = Unit {0}
+AreAnswersOf answers (a ∷ more) = (a.answer ≡ answers a.about) × AreAnswersOf answers more

@@ -1,0 +1,17 @@
+pub mod Lexing
+pub mod Drawing
+pub mod Faults
+pub mod Asking
+pub mod PieceBuilding
+pub mod Building
+pub mod IsPiece
+pub mod Pieces
+pub mod Items
+pub mod ModifierParts
+pub mod Postfixes
+pub mod Words
+pub mod Front
+pub mod Parts
+pub mod Wholes
+pub mod Answers
+pub mod Halts

@@ -1,0 +1,7 @@
+//! Reads PromQL into a tree (docs/GRAMMAR.md). `promql_parser` passes its names on.
+#![tactic(auto)]
+
+mod grammar;
+pub mod laws;
+pub mod parser;
+mod tokens;
