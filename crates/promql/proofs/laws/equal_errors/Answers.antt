@@ -1,5 +1,0 @@
-use Rattle.promql.proofs.SameErrors.{error_Decides}
-use Rattle.promql.proofs.laws.equal_errors.Goals as goal
-
-pub returns : goal.returns
-returns c = error_Decides c.equal_errors.ensures

@@ -1,5 +1,0 @@
-pub mod Ended
-pub mod Extensions
-pub mod Running
-pub mod StepErrors
-pub mod Arguments

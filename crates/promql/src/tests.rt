@@ -1,4 +1,0 @@
-mod failures;
-mod program;
-mod runs;
-mod streams;

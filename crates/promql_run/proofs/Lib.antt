@@ -1,0 +1,12 @@
+pub mod Batches
+pub mod Extensions
+pub mod Forms
+pub mod Indentations
+pub mod KnownBytes
+pub mod LineAnswers
+pub mod LinesRead
+pub mod MemoryAnswer
+pub mod Refusals
+pub mod Requests
+pub mod SameErrors
+pub mod Statuses

@@ -1,0 +1,5 @@
+use Rattle.promql_run.proofs.SameErrors.{mode_Decides}
+use Rattle.promql_run.proofs.laws.equal_modes.Goals as goal
+
+pub returns : goal.returns
+returns c = mode_Decides

@@ -1,0 +1,142 @@
+//! The answer to one line of a batch: docs/BATCH.md, "Answers".
+
+ghost use Rattle.std.specs.Prelude.{◌≡◌, Ok, IfOk, IfErr, false, option_map, string_bytes};
+ghost use Rattle.serde_json.specs.Read.{read};
+ghost use Rattle.serde_json.specs.View.{view};
+ghost use Rattle.serde_json.specs.Written.{compact_text, has_float};
+ghost use Rattle.promql_run.specs.Batch.{FailsOnQuery, FailsWith, HasQueryValue, HasValue, IsErrorText, IsLineAnswer, error_object, line_error_number, ok_object};
+
+use crate::rendering::render_value;
+use crate::request::{Format, format_in, query_in};
+use crate::run::{Mode, RunError};
+use promql_syntax::parser::parse;
+use serde_json::{Category, Value, json};
+use std::alloc::{AllocError, Global};
+use thiserror::Error;
+
+/// Why a line is not answered with `ok` (docs/BATCH.md, "Errors").
+#[derive(PartialEq, Eq, Debug, Drop, Error)]
+pub enum LineError {
+    /// An error that a run on the query has, too.
+    #[error("{0}")]
+    Run(RunError),
+    /// The line is not a JSON string, nor an object that asks for a query.
+    #[error("line is not a request")]
+    NotARequest,
+}
+
+impl LineError {
+    /// The error's number, which its answer shows.
+    pub fn number(&self) -> u8
+        ensures { result ≡ line_error_number self.now }
+    {
+        match self {
+            LineError::Run(error) => error.number(),
+            LineError::NotARequest => 7,
+        }
+    }
+}
+
+/// The answer to a line.
+#[derive(Drop)]
+pub struct LineAnswer {
+    /// A JSON object, without a line feed.
+    pub text: String,
+    /// Whether it is an `ok`.
+    pub is_ok: bool,
+}
+
+/// The value of a line as JSON; `None` where it is none.
+fn read_value(alloc: Global, line: &str) -> Result<Option<Value>, AllocError>
+    ensures { IfOk result (λ value. read line.now ≡ option_map view value) }
+{
+    match Value::from_str(alloc, line) {
+        Ok(value) => Ok(Some(value)),
+        Err(error) if error.classify() == Category::Memory => Err(AllocError),
+        Err(_) => Ok(None),
+    }
+}
+
+/// What a query is in a format.
+fn evaluate_query(alloc: Global, format: Format, query: &str) -> Result<Value, RunError>
+    ensures ok { IfOk result (λ v. HasQueryValue query.now format (Ok (view v))) }
+    ensures finite { IfOk result (λ v. has_float (view v) ≡ false) }
+    ensures err { IfErr result (FailsOnQuery query.now format) }
+{
+    let expr = parse(alloc, query)?;
+    render_value(alloc, format, &expr)
+}
+
+/// What a line's query is in its format.
+fn evaluate(alloc: Global, mode: Mode, line: &[u8]) -> Result<Value, LineError>
+    ensures ok { IfOk result (λ v. HasValue mode line.now (view v)) }
+    ensures finite { IfOk result (λ v. has_float (view v) ≡ false) }
+    ensures err { IfErr result (FailsWith mode line.now) }
+{
+    let Ok(text) = str::from_utf8(line) else {
+        return Err(LineError::Run(RunError::NotUtf8));
+    };
+    let value = match read_value(alloc, text) {
+        Ok(Some(value)) => value,
+        Ok(None) => return Err(LineError::NotARequest),
+        Err(_) => return Err(LineError::Run(RunError::Memory)),
+    };
+    let Some(query) = query_in(&value) else {
+        return Err(LineError::NotARequest);
+    };
+    let Some(format) = format_in(mode, &value) else {
+        return Err(LineError::NotARequest);
+    };
+    match evaluate_query(alloc, format, query) {
+        Ok(value) => Ok(value),
+        Err(error) => Err(LineError::Run(error)),
+    }
+}
+
+/// An object of the value.
+fn ok_value(alloc: Global, value: Value) -> Result<Value, AllocError>
+    ensures { IfOk result (λ v. view v ≡ ok_object (view value)) }
+{
+    json!(in alloc; {"ok": value})
+}
+
+/// An object of an error's number and its message.
+fn error_value(alloc: Global, code: u8, message: &str) -> Result<Value, AllocError>
+    ensures { IfOk result (λ v. view v ≡ error_object code message.now) }
+{
+    json!(in alloc; {"code": code, "error": message})
+}
+
+/// The text of an object of the value.
+fn ok_text(alloc: Global, value: Value) -> Result<String, AllocError>
+    requires { has_float (view value) ≡ false }
+    ensures { IfOk result (λ s. string_bytes s ≡ compact_text (ok_object (view value))) }
+{
+    let object = ok_value(alloc, value)?;
+    object.to_string(alloc)
+}
+
+/// The text of an object of the error.
+fn error_text(alloc: Global, error: &LineError) -> Result<String, AllocError>
+    ensures { IfOk result (λ s. IsErrorText error.now (string_bytes s)) }
+{
+    let message = error.to_string(alloc)?;
+    let object = error_value(alloc, error.number(), message.as_str())?;
+    object.to_string(alloc)
+}
+
+/// The answer to a line: an object with the member `ok`, or with `code` and `error`.
+pub fn answer_line(alloc: Global, mode: Mode, line: &[u8]) -> Result<LineAnswer, AllocError>
+    ensures { IfOk result (λ a. IsLineAnswer mode line.now (string_bytes a.text) a.is_ok) }
+{
+    match evaluate(alloc, mode, line) {
+        Ok(value) => Ok(LineAnswer {
+            text: ok_text(alloc, value)?,
+            is_ok: true,
+        }),
+        Err(error) => Ok(LineAnswer {
+            text: error_text(alloc, &error)?,
+            is_ok: false,
+        }),
+    }
+}
