@@ -5,8 +5,6 @@
 pub mod halt;
 pub mod kind;
 pub mod laws;
-#[cfg(test)]
-mod tests;
 
 pub use halt::Halt;
 pub use kind::{Kind, kind_of};

@@ -16,7 +16,5 @@ pub mod function;
 mod function_table;
 pub mod label_modifier;
 pub mod laws;
-#[cfg(test)]
-mod tests;
 pub mod value;
 mod width;

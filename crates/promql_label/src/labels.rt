@@ -140,6 +140,3 @@ fn is_number_word(label: &str) -> bool
 {
     label.eq_ignore_ascii_case("inf") || label.eq_ignore_ascii_case("nan")
 }
-
-#[cfg(test)]
-mod tests;

@@ -24,8 +24,6 @@ pub mod matchers;
 pub mod pattern;
 pub mod repeats;
 mod sorted;
-#[cfg(test)]
-mod tests;
 mod width;
 
 /// The label that holds a metric's name.

@@ -15,9 +15,6 @@ use std::alloc::{AllocError, Global};
 use std::fmt;
 use thiserror::Error;
 
-#[cfg(test)]
-mod tests;
-
 /// How a matcher compares.
 #[derive(Debug, Drop, PartialEq, Eq, Hash)]
 pub enum MatchOp {

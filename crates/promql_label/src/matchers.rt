@@ -13,9 +13,6 @@ use promql_text::{write_joined, write_joined_by};
 use std::alloc::{AllocError, Global};
 use std::{fmt, mem};
 
-#[cfg(test)]
-mod tests;
-
 /// Matchers that all have to hold, and groups of which one has to.
 #[derive(Debug, Drop, PartialEq, Eq)]
 pub struct Matchers {

@@ -39,6 +39,3 @@ pub use number_text::parse_str_radix;
 pub use quote::{QuoteError, escape_string, unquote_string};
 pub use quoted::{Quoted, QuotedBytes};
 pub use width::{duration_width, number_width, quoted_width, separator_width};
-
-#[cfg(test)]
-mod tests;

@@ -27,8 +27,6 @@ mod piece;
 pub mod scan;
 mod state;
 mod string;
-#[cfg(test)]
-mod tests;
 pub mod token;
 mod word;
 

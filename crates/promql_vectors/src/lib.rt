@@ -1,5 +1,5 @@
-//! Tests across the crates: texts from end to end, by the names that a user calls. docs/GRAMMAR.md, PRINTING.md,
-//! LAYOUT.md, JSON.md and WALKS.md have the rules.
+//! The tests of the libraries: of texts from end to end by the names that a user calls, of nodes made by hand, and of
+//! the calls of each lower crate. No lower crate has tests of its own.
 #![tactic(auto)]
 
 #[cfg(test)]

@@ -3,19 +3,24 @@
 mod calls;
 mod canonical;
 mod faults;
-mod forms;
+mod grammar;
+mod kind;
+mod label;
 mod layouts;
 mod limits;
 mod memory;
+mod nodes;
+mod program;
 mod readme;
+mod rows;
+mod text;
+mod token;
 mod trees;
 mod visitors;
 
 use promql_parser::parser::{Expr, ParseError, parse};
 use promql_walk::{JsonError, ToJson};
 use std::alloc::{AllocError, Global};
-use std::process::Abort;
-use std::test::Fail;
 
 /// What is printed of the text's tree, or the message of its rejection.
 fn line(alloc: Global, text: &str) -> Result<String, AllocError> {
@@ -23,24 +28,6 @@ fn line(alloc: Global, text: &str) -> Result<String, AllocError> {
         Ok(expr) => expr.to_string(alloc),
         Err(error) => error.to_string(alloc),
     }
-}
-
-/// Each text with what is printed of it, or with its message.
-fn check_rows(rt: &impl Abort, alloc: Global, rows: &[(&str, &str)]) -> Result<(), Fail> {
-    for (text, want) in rows {
-        let found = line(alloc, text)?;
-        assert_eq!(rt; found.as_str(), *want, "at {text:?}");
-    }
-    Ok(())
-}
-
-/// Each text prints itself.
-fn check_lines(rt: &impl Abort, alloc: Global, texts: &[&str]) -> Result<(), Fail> {
-    for text in texts {
-        let found = line(alloc, text)?;
-        assert_eq!(rt; found.as_str(), *text);
-    }
-    Ok(())
 }
 
 /// The text, so many times, between two others.

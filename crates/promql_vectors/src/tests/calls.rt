@@ -1,6 +1,6 @@
 //! Calls on texts, tokens and labels, by the names that a user calls.
 
-use promql_parser::label::{Labels, escape_repeats};
+use promql_parser::label::{Labels, METRIC_NAME, escape_repeats};
 use promql_parser::parser::lex::{LexError, LexFaultKind, Lexeme};
 use promql_parser::parser::lexer;
 use promql_parser::parser::token::{T_ADD, T_EOF, T_NUMBER};
@@ -95,5 +95,6 @@ fn common_labels(rt: HostRuntime) -> Result<(), Fail> {
     let both = left.intersect(alloc, &right)?;
     assert!(rt; left.is_joint(&right));
     assert_eq!(rt; both.to_string(alloc)?.as_str(), "foo, bar");
+    assert_eq!(rt; METRIC_NAME, "__name__");
     Ok(())
 }

@@ -47,83 +47,12 @@ fn check_printed(rt: &impl Abort, alloc: Global, text: &str) -> Result<(), Fail>
     Ok(())
 }
 
-/// Each of the texts is checked as `check_printed` does.
-fn check_all(rt: &impl Abort, alloc: Global, texts: &[&str]) -> Result<(), Fail> {
-    for text in texts {
-        check_printed(rt, alloc, text)?;
-    }
-    Ok(())
-}
-
 #[test]
 fn queries_of_dashboards(rt: HostRuntime) -> Result<(), Fail> {
-    check_all(&rt, rt.alloc(), &QUERIES)
-}
-
-/// Texts of each form.
-const TEXTS: [&str; 53] = [
-    // Signs, operators and numbers.
-    "-5 ^ 2",
-    "- -5",
-    "-(5)",
-    "2 ^ -3 * 4",
-    "2 ^ -3 ^ 2",
-    "a * on (l) group_left (x) + y",
-    "a + ignoring () b",
-    "a + ignoring () group_left () b",
-    "fill + fill (1) b",
-    "0x1F + 017",
-    "1e308",
-    "NaN - -Inf",
-    // Selectors.
-    "http_requests_total{\nenvironment=~\"staging|testing|development\",\nmethod!=\"GET\"\n} offset 5m",
-    "foo{b=\"2\",a=\"1\",}",
-    "foo{a=\"1\",b=\"2\"}",
-    "foo{}",
-    "{a=\"1\" or or=\"2\", c=\"3\"}",
-    "{a=~`x\\d{b}`}",
-    "{a=\"1\",a=\"1\"}",
-    "{b=~\"x.+\",a=~\"y.+\"}",
-    "{\"a metric\"}",
-    "foo{\"a b\"!=\"\\n\\\"\"}",
-    // Calls, aggregations and times.
-    "sum by () (a)",
-    "sum by (\"inf\", fill, \"a b\") (x)",
-    "sum by (b) (a) / c",
-    "topk(5, a)",
-    "time()",
-    "ln(-1)",
-    "foo[3w2d1h]",
-    "foo[1.0005]",
-    "foo[5m] smoothed",
-    "foo[5m] anchored @ end() offset 1h",
-    "rate(foo[5m])[1h:] offset 5m @ start()",
-    "(a + b)[1h:1m] @ 1.5",
-    "foo @ -1.0005",
-    "foo offset 5m @ start()",
-    "foo @ -1 offset -5m",
-    // Each form of the grammar.
-    "1",
-    "5m",
-    "\"a\"",
-    "a{b=\"c\"} + {d=~\"e+\"}",
-    "(a)",
-    "sum by (a) (b)",
-    "topk without (a) (1, b)",
-    "a[5m]",
-    "a[5m:1m]",
-    "a @ 1",
-    "a @ start()",
-    "a offset -5m",
-    "a[5m] smoothed",
-    "-a",
-    "+a",
-    "a == bool on (b) group_left (c) fill (1) d",
-];
-
-#[test]
-fn texts_of_each_form(rt: HostRuntime) -> Result<(), Fail> {
-    check_all(&rt, rt.alloc(), &TEXTS)
+    for text in &QUERIES {
+        check_printed(&rt, rt.alloc(), text)?;
+    }
+    Ok(())
 }
 
 #[test]

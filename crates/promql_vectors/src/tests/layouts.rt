@@ -1,4 +1,4 @@
-//! Texts laid out, and a user's own type that is.
+//! Which texts are split, and a user's own type that is laid out.
 
 use promql_parser::parser::{Prettier, parse};
 use std::fmt;
@@ -6,27 +6,6 @@ use std::fmt::{Display, Write};
 use std::test::Fail;
 
 const SHARE: &str = "sum by (b) (a) / c";
-
-/// Texts in lines of so many bytes.
-const LAID: [(&str, usize, &str); 3] = [
-    ("time()", 3, "time(\n\n)"),
-    (SHARE, 10, "  sum by (b) (\n    a\n  )\n/\n  c"),
-    (
-        "http_requests_total{\nenvironment=~\"staging|testing|development\",\nmethod!=\"GET\"\n} offset 5m",
-        100,
-        "http_requests_total{environment=~\"staging|testing|development\",method!=\"GET\"} offset 5m",
-    ),
-];
-
-#[test]
-fn texts_over_lines(rt: HostRuntime) -> Result<(), Fail> {
-    let alloc = rt.alloc();
-    for (text, max, want) in &LAID {
-        let laid = parse(alloc, text)?.pretty(alloc, 0, *max)?;
-        assert_eq!(rt; laid.as_str(), *want);
-    }
-    Ok(())
-}
 
 #[test]
 fn a_line_is_split_where_it_is_too_long(rt: HostRuntime) -> Result<(), Fail> {

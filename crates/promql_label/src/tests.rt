@@ -1,4 +1,0 @@
-//! Worked rows.
-
-mod patterns;
-mod repeats;

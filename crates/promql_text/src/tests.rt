@@ -1,8 +1,0 @@
-//! Test cases with values from outside.
-
-mod duration;
-mod duration_text;
-mod equality;
-mod numbers;
-mod printed;
-mod quote;

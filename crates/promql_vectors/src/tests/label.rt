@@ -1,0 +1,7 @@
+//! Labels, patterns, matchers and their lists.
+
+mod labels;
+mod matcher;
+mod matchers;
+mod patterns;
+mod repeats;

@@ -1,0 +1,185 @@
+//! Visitors that change nodes, stop, and fail.
+
+use super::shows;
+use super::trees::{extension, number};
+use super::walks::{chain, sum};
+use promql_ast::Expr;
+use promql_label::{MatchOp, Matcher, Matchers};
+use promql_parser::parser::parse;
+use promql_walk::{ExprVisitorMut, walk_expr_mut};
+use std::alloc::{AllocError, Global};
+use std::mem;
+use std::test::Fail;
+
+/// Adds `env="prod"` to a selector, and stops there if it is to.
+#[derive(Drop)]
+struct Enforce {
+    alloc: Global,
+    stops: bool,
+}
+
+impl Enforce {
+    fn add(&self, matchers: &mut Matchers) -> Result<bool, AllocError> {
+        let matcher = Matcher::new(self.alloc, MatchOp::Equal, "env", "prod")?;
+        matchers.matchers.push(matcher)?;
+        Ok(!self.stops)
+    }
+}
+
+impl ExprVisitorMut for Enforce {
+    type Error = AllocError;
+
+    ghost pre_gives = { λ _ _ _ _ _. Unit {0} };
+
+    fn pre_visit(&mut self, expr: &mut Expr) -> Result<bool, AllocError> {
+        match expr {
+            Expr::VectorSelector(e) => self.add(&mut e.matchers),
+            Expr::MatrixSelector(e) => self.add(&mut e.vs.matchers),
+            _ => Ok(true),
+        }
+    }
+}
+
+/// What a walk that stops at the first selector or at none leaves of `ext(metric_a, metric_b)`.
+const ENFORCED: [(bool, &str); 2] = [
+    (true, r#"ext(metric_a{env="prod"}, metric_b)"#),
+    (false, r#"ext(metric_a{env="prod"}, metric_b{env="prod"})"#),
+];
+
+#[test]
+fn a_label_is_enforced(rt: HostRuntime) -> Result<(), Fail> {
+    let alloc = rt.alloc();
+    for (stops, want) in &ENFORCED {
+        let stops = *stops;
+        let mut both = extension(alloc, "metric_a", "metric_b")?;
+        let end = walk_expr_mut(&mut Enforce { alloc, stops }, &mut both);
+        assert!(rt; end == Ok(!stops));
+        shows(&rt, alloc, Ok(both), want)?;
+    }
+    Ok(())
+}
+
+/// Puts 0 in the place of a name, and fails at a text. Numbers become a text in parentheses, and the walk stops there.
+#[derive(Drop)]
+struct Zero(Global);
+
+impl ExprVisitorMut for Zero {
+    type Error = &'static str;
+
+    ghost pre_gives = { λ _ _ _ _ _. Unit {0} };
+
+    fn pre_visit(&mut self, expr: &mut Expr) -> Result<bool, &'static str> {
+        match expr {
+            Expr::VectorSelector(_) => {
+                *expr = Expr::from(number("0"));
+                Ok(true)
+            }
+            Expr::NumberLiteral(_) => {
+                let Ok(higher) = parse(self.0, "(\"high\")") else {
+                    return Err("out of memory");
+                };
+                *expr = higher;
+                Ok(false)
+            }
+            Expr::StringLiteral(_) => Err("a text"),
+            _ => Ok(true),
+        }
+    }
+}
+
+/// The children of a node, how a walk over it ends, and what it leaves of the node.
+const REPLACED: [(&str, &str, Result<bool, &str>, &str); 3] = [
+    ("a", "b", Ok(true), "ext(0, 0)"),
+    ("a", "\"t\"", Err("a text"), "ext(0, \"t\")"),
+    ("1", "b", Ok(false), "ext((\"high\"), b)"),
+];
+
+#[test]
+fn nodes_are_replaced(rt: HostRuntime) -> Result<(), Fail> {
+    let alloc = rt.alloc();
+    for (first, second, end, want) in &REPLACED {
+        let mut node = extension(alloc, first, second)?;
+        assert!(rt; walk_expr_mut(&mut Zero(alloc), &mut node) == *end);
+        shows(&rt, alloc, Ok(node), want)?;
+    }
+    Ok(())
+}
+
+/// Puts each sum in parentheses, after its sides. Counts the nodes that are left to it.
+#[derive(Drop)]
+struct Wrap {
+    alloc: Global,
+    left: usize,
+}
+
+impl ExprVisitorMut for Wrap {
+    type Error = AllocError;
+
+    ghost pre_gives = { λ _ _ _ _ _. Unit {0} };
+
+    ghost post_gives = { λ _ _ _ _ _. Unit {0} };
+
+    fn pre_visit(&mut self, _expr: &mut Expr) -> Result<bool, AllocError> {
+        Ok(true)
+    }
+
+    fn post_visit(&mut self, expr: &mut Expr) -> Result<bool, AllocError> {
+        if self.left == 0 {
+            return Ok(false);
+        }
+        self.left -= 1;
+        let is_sum = matches!(expr, Expr::Binary(_));
+        if is_sum {
+            let sum = mem::replace(expr, Expr::from(number("0")));
+            *expr = Expr::new_paren_expr(self.alloc, sum)?;
+        }
+        Ok(true)
+    }
+}
+
+/// An expression, how many nodes a walk is to see, whether it sees all and how many are left to it, and what it leaves.
+const WRAPPED: [(&str, usize, bool, usize, &str); 2] = [
+    ("1 + 2 + 3", 100, true, 95, "((1 + 2) + 3)"),
+    ("sum(a + b)", 3, false, 0, "sum((a + b))"),
+];
+
+#[test]
+fn nodes_may_grow_after_their_children(rt: HostRuntime) -> Result<(), Fail> {
+    let alloc = rt.alloc();
+    for (text, nodes, end, left, want) in &WRAPPED {
+        let mut expr = parse(alloc, text)?;
+        let mut wrap = Wrap {
+            alloc,
+            left: *nodes,
+        };
+        assert!(rt; walk_expr_mut(&mut wrap, &mut expr) == Ok(*end));
+        assert_eq!(rt; wrap.left, *left);
+        shows(&rt, alloc, Ok(expr), want)?;
+    }
+    Ok(())
+}
+
+/// How many of 1,000 nodes are left after a walk to the end of the expression.
+fn nodes_left(alloc: Global, expr: &mut Expr) -> usize {
+    let mut wrap = Wrap { alloc, left: 1000 };
+    match walk_expr_mut(&mut wrap, expr) {
+        Ok(true) => wrap.left,
+        _ => 0,
+    }
+}
+
+#[test]
+fn high_trees_without_a_sum_are_unchanged(rt: HostRuntime) -> Result<(), Fail> {
+    let mut expr = chain(rt.alloc())?;
+    assert_eq!(rt; nodes_left(rt.alloc(), &mut expr), 500);
+    assert!(rt; expr == chain(rt.alloc())?);
+    Ok(())
+}
+
+#[test]
+fn high_sums_are_changed(rt: HostRuntime) -> Result<(), Fail> {
+    let mut expr = sum(rt.alloc())?;
+    assert_eq!(rt; nodes_left(rt.alloc(), &mut expr), 1);
+    assert!(rt; matches!(expr, Expr::Paren(_)));
+    Ok(())
+}

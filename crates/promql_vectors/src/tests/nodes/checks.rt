@@ -1,0 +1,114 @@
+//! What the checks of a node say of children that its builder takes.
+
+use super::shows;
+use super::trees::{KINDS, arguments, kind, name};
+use promql_ast::{AggregateExpr, CheckError, Expr, FunctionArgs};
+use promql_kind::{BinModifier, Function, ValueType, VectorMatchCardinality};
+use promql_token::ids::{T_ADD, T_LAND, T_NUMBER, T_TOPK};
+use promql_token::{TokenId, TokenType};
+use std::alloc::Global;
+use std::process::Abort;
+use std::test::Fail;
+
+/// The check accepts what was built, which prints this text, or rejects it with this message.
+fn checks(
+    rt: &impl Abort,
+    alloc: Global,
+    built: Result<Expr, CheckError>,
+    want: &str,
+) -> Result<(), Fail> {
+    shows(rt, alloc, Expr::checked(alloc, built?), want)
+}
+
+#[test]
+fn well_typed_nodes_pass(rt: HostRuntime) -> Result<(), Fail> {
+    let alloc = rt.alloc();
+    for text in &KINDS {
+        let checked = Expr::checked(alloc, kind(alloc, text)?)?;
+        assert!(rt; checked == kind(alloc, text)?, "{text}");
+    }
+    Ok(())
+}
+
+/// `a` and `b` with this token and modifier between them.
+fn both(alloc: Global, op: TokenId, modifier: Option<BinModifier>) -> Result<Expr, CheckError> {
+    let a = name(alloc, "a")?;
+    let b = name(alloc, "b")?;
+    Ok(Expr::new_binary_expr(alloc, a, op, modifier, b)?)
+}
+
+/// An aggregation of `a` with this token in place of the aggregator.
+fn aggregated(alloc: Global, op: TokenId) -> Result<Expr, CheckError> {
+    let args = FunctionArgs::new_args(alloc, name(alloc, "a")?)?;
+    Expr::new_aggregate_expr(op, None, args)
+}
+
+#[test]
+fn other_tokens_are_rejected(rt: HostRuntime) -> Result<(), Fail> {
+    let alloc = rt.alloc();
+    checks(
+        &rt,
+        alloc,
+        both(alloc, T_NUMBER, None),
+        "binary expression does not support operator '{Num}'",
+    )?;
+    checks(
+        &rt,
+        alloc,
+        aggregated(alloc, T_ADD),
+        "aggregation operator expected in aggregation expression but got '+'",
+    )
+}
+
+#[test]
+fn set_operators_match_many_to_many(rt: HostRuntime) -> Result<(), Fail> {
+    let alloc = rt.alloc();
+    let many = BinModifier::default().with_card(VectorMatchCardinality::ManyToMany);
+    let found = Expr::checked(alloc, both(alloc, T_LAND, None)?)?;
+    assert!(rt; found == both(alloc, T_LAND, Some(many))?);
+    assert_eq!(rt; found.to_string(alloc)?.as_str(), "a and b");
+    Ok(())
+}
+
+/// `topk` without its parameter.
+fn without_parameter(alloc: Global) -> Result<Expr, CheckError> {
+    let expr = Box::new(alloc, name(alloc, "a")?)?;
+    Ok(Expr::Aggregate(AggregateExpr {
+        op: TokenType::new(T_TOPK),
+        expr,
+        param: None,
+        modifier: None,
+    }))
+}
+
+#[test]
+fn aggregations_need_their_parameter(rt: HostRuntime) -> Result<(), Fail> {
+    let alloc = rt.alloc();
+    checks(
+        &rt,
+        alloc,
+        without_parameter(alloc),
+        "expected type scalar in aggregation expression, got None",
+    )
+}
+
+/// The call of a function made by hand that takes no argument, and so many more, with these, and what its check says.
+const MADE_BY_HAND: [(i32, &[&str], &str); 2] = [
+    (-1, &["1"], "f(1)"),
+    (
+        2,
+        &["1", "1", "1"],
+        "expected at most 2 argument(s) in call to 'f', got 3",
+    ),
+];
+
+#[test]
+fn functions_made_by_hand_are_checked(rt: HostRuntime) -> Result<(), Fail> {
+    let alloc = rt.alloc();
+    for (variadic, texts, want) in &MADE_BY_HAND {
+        let args = arguments(alloc, texts)?;
+        let function = Function::new("f", Vec::new(alloc), *variadic, ValueType::Vector, false);
+        checks(&rt, alloc, Ok(Expr::new_call(function, args)), want)?;
+    }
+    Ok(())
+}

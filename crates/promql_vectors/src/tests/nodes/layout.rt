@@ -1,0 +1,290 @@
+//! Expressions over several lines.
+
+ghost use Rattle.std.specs.Prelude.{Some};
+
+use super::trees::{EXTENSION, KINDS, arguments, kind};
+use promql_ast::{EvalStmt, Expr, FunctionArgs, Prettier, PrettyError, Tally};
+use promql_parser::parser::parse;
+use promql_text::{minute_duration, second_duration};
+use std::alloc::Global;
+use std::fmt;
+use std::process::Abort;
+use std::test::Fail;
+
+/// An expression that is split in lines of 17 bytes, and not in lines of 18.
+pub const SHARE: &str = "sum by (b) (a) / c";
+
+/// A value at level 1, at a width where its line or a part of it is too long and at one where it is not; then the value
+/// over several lines, and the least width that its line fits.
+#[derive(Clone, Copy)]
+struct Row {
+    max: usize,
+    split: &'static str,
+    line: &'static str,
+    format: &'static str,
+    fits: usize,
+}
+
+impl Row {
+    /// The row of a node that never splits.
+    fn leaf(line: &'static str) -> Row {
+        Row {
+            max: 0,
+            split: line,
+            line,
+            format: line,
+            fits: 0,
+        }
+    }
+}
+
+/// Each kind of node that is split, with its row.
+const NODES: [(&str, Row); 6] = [
+    (
+        "topk by (l) (5, a)",
+        Row {
+            max: 17,
+            split: "  topk by (l) (\n    5,\n    a\n  )",
+            line: "  topk by (l) (5, a)",
+            format: "  topk by (l) (\n    5,\n    a\n  )",
+            fits: 18,
+        },
+    ),
+    (
+        "-(a)",
+        Row {
+            max: 2,
+            split: "  -(\n    a\n  )",
+            line: "  -(a)",
+            format: "  -(a)",
+            fits: 4,
+        },
+    ),
+    (
+        "a + on (l) group_left (k) b",
+        Row {
+            max: 26,
+            split: "    a\n  + on (l) group_left (k)\n    b",
+            line: "  a + on (l) group_left (k) b",
+            format: "    a\n  + on (l) group_left (k)\n    b",
+            fits: 27,
+        },
+    ),
+    (
+        "(a)",
+        Row {
+            max: 2,
+            split: "  (\n    a\n  )",
+            line: "  (a)",
+            format: "  (\n    a\n  )",
+            fits: 3,
+        },
+    ),
+    (
+        "(a)[5m:1m]",
+        Row {
+            max: 2,
+            split: "  (\n    a\n  )[5m:1m]",
+            line: "  (a)[5m:1m]",
+            format: "  (a)[5m:1m]",
+            fits: 10,
+        },
+    ),
+    (
+        "rate(a[5m])",
+        Row {
+            max: 10,
+            split: "  rate(\n    a[5m]\n  )",
+            line: "  rate(a[5m])",
+            format: "  rate(\n    a[5m]\n  )",
+            fits: 11,
+        },
+    ),
+];
+
+/// The nodes that are never split, at level 1.
+const LEAVES: [(&str, &str); 4] = [
+    ("1.5", "  1.5"),
+    (r#""a\"b""#, r#"  "a\"b""#),
+    (
+        r#"a{b="1"} @ 1 offset 1m"#,
+        r#"  a{b="1"} @ 1.000 offset 1m"#,
+    ),
+    ("a[5m] anchored offset 1m", "  a[5m] anchored offset 1m"),
+];
+
+fn check<T: Prettier>(rt: &impl Abort, alloc: Global, value: &T, row: &Row) -> Result<(), Fail> {
+    assert_eq!(rt; value.pretty(alloc, 1, row.max)?.as_str(), row.split);
+    assert_eq!(rt; value.pretty(alloc, 1, 100)?.as_str(), row.line);
+    assert_eq!(rt; value.format(alloc, 1, 100)?.as_str(), row.format);
+    assert!(rt; !value.needs_split(row.fits));
+    assert!(rt; row.fits == 0 || value.needs_split(row.fits - 1));
+    Ok(())
+}
+
+/// The node of an expression, as a value of its own.
+fn check_node(rt: &impl Abort, alloc: Global, expr: &Expr, row: &Row) -> Result<(), Fail> {
+    match expr {
+        Expr::Aggregate(e) => check(rt, alloc, e, row),
+        Expr::Unary(e) => check(rt, alloc, e, row),
+        Expr::Binary(e) => check(rt, alloc, e, row),
+        Expr::Paren(e) => check(rt, alloc, e, row),
+        Expr::Subquery(e) => check(rt, alloc, e, row),
+        Expr::NumberLiteral(e) => check(rt, alloc, e, row),
+        Expr::StringLiteral(e) => check(rt, alloc, e, row),
+        Expr::VectorSelector(e) => check(rt, alloc, e, row),
+        Expr::MatrixSelector(e) => check(rt, alloc, e, row),
+        Expr::Call(e) => check(rt, alloc, e, row),
+        Expr::Extension(_) => Ok(()),
+    }
+}
+
+#[test]
+fn each_node_by_itself(rt: HostRuntime) -> Result<(), Fail> {
+    let alloc = rt.alloc();
+    for (text, row) in &NODES {
+        check_node(&rt, alloc, &parse(alloc, text)?, row)?;
+    }
+    for (text, line) in &LEAVES {
+        check_node(&rt, alloc, &parse(alloc, text)?, &Row::leaf(line))?;
+    }
+    Ok(())
+}
+
+/// `1, (a), 2`
+const ARGUMENTS: Row = Row {
+    max: 2,
+    split: "  1,\n  (\n    a\n  ),\n  2",
+    line: "  1,\n  (a),\n  2",
+    format: "  1, (a), 2",
+    fits: 9,
+};
+
+#[test]
+fn arguments_have_a_line_each(rt: HostRuntime) -> Result<(), Fail> {
+    let alloc = rt.alloc();
+    let args = arguments(alloc, &["1", "(a)", "2"])?;
+    check(&rt, alloc, &args, &ARGUMENTS)
+}
+
+#[test]
+fn no_arguments_have_no_line(rt: HostRuntime) -> Result<(), Fail> {
+    let alloc = rt.alloc();
+    let none = FunctionArgs::empty_args(alloc);
+    assert_eq!(rt; none.pretty(alloc, 1, 0)?.as_str(), "");
+    assert_eq!(rt; none.format(alloc, 1, 0)?.as_str(), "  ");
+    Ok(())
+}
+
+#[test]
+fn a_line_that_fits_is_kept(rt: HostRuntime) -> Result<(), Fail> {
+    let alloc = rt.alloc();
+    for line in &KINDS {
+        let expr = kind(alloc, line)?;
+        assert_eq!(rt; expr.pretty(alloc, 0, line.len())?.as_str(), *line);
+        assert_eq!(rt; expr.format(alloc, 0, 0)?.as_str(), *line);
+    }
+    Ok(())
+}
+
+/// `a` at each 15 seconds of the first 1.5.
+fn statement(expr: Expr) -> EvalStmt {
+    EvalStmt {
+        expr,
+        start: 0,
+        end: 1500,
+        interval: second_duration() * 15,
+        lookback_delta: minute_duration() * 5,
+    }
+}
+
+#[test]
+fn statements_print_their_times(rt: HostRuntime) -> Result<(), Fail> {
+    let alloc = rt.alloc();
+    let text = "[a] @ [0.000, 1.500, 15s, 5m]";
+    let statement = statement(parse(alloc, "a")?);
+    assert_eq!(rt; statement.to_string(alloc)?.as_str(), text);
+    let copy = statement.try_clone(alloc)?;
+    assert_eq!(rt; copy.to_string(alloc)?.as_str(), text);
+    Ok(())
+}
+
+/// A sum of 512 ones.
+fn ones(alloc: Global) -> Result<Expr, Fail> {
+    let mut text = String::from_str(alloc, "1")?;
+    for _ in 1..512 {
+        text.push_str("+1")?;
+    }
+    Ok(parse(alloc, text.as_str())?)
+}
+
+#[test]
+fn each_node_has_one_width(rt: HostRuntime) -> Result<(), Fail> {
+    let alloc = rt.alloc();
+    for (expr, widths, least) in [(parse(alloc, SHARE)?, 4, 20), (ones(alloc)?, 1023, 100_000)] {
+        let mut tally = Tally::default();
+        let laid = expr.pretty_counted(alloc, 0, 0, &mut tally)?;
+        assert_eq!(rt; tally.widths(), widths);
+        assert!(rt; laid.as_str().len() > least);
+        assert!(rt; laid == expr.pretty(alloc, 0, 0)?);
+    }
+    Ok(())
+}
+
+/// Whether a layout failed since its indentation is wider than a `usize` counts.
+fn is_too_wide(laid: &Result<String, PrettyError>) -> bool {
+    matches!(laid, Err(PrettyError::IndentTooWide))
+}
+
+#[test]
+fn too_wide_indentations_are_rejected(rt: HostRuntime) -> Result<(), Fail> {
+    let alloc = rt.alloc();
+    for text in [SHARE, "1"] {
+        let expr = parse(alloc, text)?;
+        assert!(rt; is_too_wide(&expr.pretty(alloc, usize::MAX, 0)));
+    }
+    Ok(())
+}
+
+#[test]
+fn an_extension_is_not_indented(rt: HostRuntime) -> Result<(), Fail> {
+    let alloc = rt.alloc();
+    let laid = kind(alloc, EXTENSION)?.pretty(alloc, usize::MAX, 0)?;
+    assert_eq!(rt; laid.as_str(), EXTENSION);
+    Ok(())
+}
+
+/// A type that has its one line and nothing of its own for a layout.
+#[derive(Drop)]
+struct Note {
+    text: &'static str,
+}
+
+impl fmt::Display for Note {
+    ghost output = { λ n. Some n.text.now };
+
+    fn fmt<W: fmt::Write>(&self, f: &mut fmt::Formatter<W>) -> fmt::Result {
+        f.write_str(self.text)
+    }
+}
+
+impl Prettier for Note {
+    ghost use Rattle.std.proofs.Common.{rules};
+
+    ghost states = { λ n. Prim.search rules };
+}
+
+#[test]
+fn a_type_without_bodies_is_one_line(rt: HostRuntime) -> Result<(), Fail> {
+    let alloc = rt.alloc();
+    let long = Note {
+        text: "demo_again.",
+    };
+    assert!(rt; long.needs_split(10));
+    assert_eq!(rt; long.pretty(alloc, 1, 10)?.as_str(), "  demo_again.");
+    assert_eq!(rt; long.format(alloc, 1, 10)?.as_str(), "  demo_again.");
+    let short = Note { text: "demo" };
+    assert!(rt; !short.needs_split(10));
+    assert_eq!(rt; short.pretty(alloc, 1, 10)?.as_str(), "  demo");
+    Ok(())
+}

@@ -1,0 +1,225 @@
+//! The order of a walk, and where it ends.
+
+use super::trees::extension;
+use promql_ast::Expr;
+use promql_label::{MatchOp, Matchers};
+use promql_parser::parser::parse;
+use promql_walk::{ExprVisitor, walk_expr};
+use std::alloc::{AllocError, Global};
+use std::fmt::Write;
+use std::test::Fail;
+
+/// 499 pairs of parentheses round a number: 500 nodes, one below the other.
+pub fn chain(alloc: Global) -> Result<Expr, Fail> {
+    let mut text = String::new(alloc);
+    for _ in 0..499 {
+        text.push_str("(")?;
+    }
+    text.push_str("1")?;
+    for _ in 0..499 {
+        text.push_str(")")?;
+    }
+    Ok(parse(alloc, text.as_str())?)
+}
+
+/// A sum of 500 numbers, from left to right.
+pub fn sum(alloc: Global) -> Result<Expr, Fail> {
+    let mut text = String::from_str(alloc, "0")?;
+    for _ in 1..500 {
+        text.push_str(" + 1")?;
+    }
+    Ok(parse(alloc, text.as_str())?)
+}
+
+/// Writes down each call. From the call of this number on it stops or fails.
+#[derive(Drop)]
+struct Log {
+    text: String,
+    calls: usize,
+    last: usize,
+    fails: bool,
+}
+
+impl Log {
+    fn add(&mut self, when: &str, expr: &Expr) -> Result<bool, &'static str> {
+        if write!(&mut self.text, "{when} {expr}; ").is_err() {
+            return Err("out of memory");
+        }
+        self.calls = self.calls.saturating_add(1);
+        if self.calls < self.last {
+            Ok(true)
+        } else if self.fails {
+            Err("failed")
+        } else {
+            Ok(false)
+        }
+    }
+}
+
+impl ExprVisitor for Log {
+    type Error = &'static str;
+
+    ghost pre_gives = { λ _ _ _ _. Unit {0} };
+
+    ghost post_gives = { λ _ _ _ _. Unit {0} };
+
+    fn pre_visit(&mut self, expr: &Expr) -> Result<bool, &'static str> {
+        self.add("before", expr)
+    }
+
+    fn post_visit(&mut self, expr: &Expr) -> Result<bool, &'static str> {
+        self.add("after", expr)
+    }
+}
+
+fn log_up_to(alloc: Global, last: usize, fails: bool) -> Log {
+    Log {
+        text: String::new(alloc),
+        calls: 0,
+        last,
+        fails,
+    }
+}
+
+/// Whether a walk ends with this result after these calls.
+fn is_walked(log: Log, expr: &Expr, end: Result<bool, &'static str>, calls: &str) -> bool {
+    let mut log = log;
+    walk_expr(&mut log, expr) == end && log.text.as_str() == calls
+}
+
+/// The calls of a whole walk.
+const ALL_CALLS: &str = "before ext(rate(a[5m]) + max_over_time((-b)[1m:]), \"s\"); \
+    before rate(a[5m]) + max_over_time((-b)[1m:]); \
+    before rate(a[5m]); before a[5m]; after a[5m]; after rate(a[5m]); \
+    before max_over_time((-b)[1m:]); \
+    before (-b)[1m:]; before (-b); before -b; before b; after b; after -b; after (-b); \
+    after (-b)[1m:]; after max_over_time((-b)[1m:]); \
+    after rate(a[5m]) + max_over_time((-b)[1m:]); \
+    before \"s\"; after \"s\"; after ext(rate(a[5m]) + max_over_time((-b)[1m:]), \"s\"); ";
+
+#[test]
+fn children_come_in_their_order(rt: HostRuntime) -> Result<(), Fail> {
+    let alloc = rt.alloc();
+    let expr = extension(alloc, "rate(a[5m]) + max_over_time((-b)[1m:])", "\"s\"")?;
+    let log = log_up_to(alloc, 100, false);
+    assert!(rt; is_walked(log, &expr, Ok(true), ALL_CALLS));
+    Ok(())
+}
+
+/// What a walk over `topk(5, a)` has called up to each call: its parameter comes first.
+const CALLS: [&str; 6] = [
+    "before topk(5, a); ",
+    "before topk(5, a); before 5; ",
+    "before topk(5, a); before 5; after 5; ",
+    "before topk(5, a); before 5; after 5; before a; ",
+    "before topk(5, a); before 5; after 5; before a; after a; ",
+    "before topk(5, a); before 5; after 5; before a; after a; after topk(5, a); ",
+];
+
+#[test]
+fn a_walk_ends_at_the_first_other_result(rt: HostRuntime) -> Result<(), Fail> {
+    let alloc = rt.alloc();
+    let expr = parse(alloc, "topk(5, a)")?;
+    for (last, calls) in (1..10).zip(&CALLS) {
+        let stops = log_up_to(alloc, last, false);
+        assert!(rt; is_walked(stops, &expr, Ok(false), calls), "{last}");
+        let fails = log_up_to(alloc, last, true);
+        assert!(rt; is_walked(fails, &expr, Err("failed"), calls), "{last}");
+    }
+    Ok(())
+}
+
+#[test]
+fn a_walk_goes_on_to_its_end(rt: HostRuntime) -> Result<(), Fail> {
+    let expr = parse(rt.alloc(), "topk(5, a)")?;
+    let log = log_up_to(rt.alloc(), 7, true);
+    assert!(rt; is_walked(log, &expr, Ok(true), CALLS[5]));
+    Ok(())
+}
+
+/// Whether each selector has the matcher `namespace="s"` beside its groups, and no number or string is met.
+#[derive(Drop)]
+struct Namespace;
+
+impl Namespace {
+    fn is_in(matchers: &Matchers) -> bool {
+        for matcher in &matchers.matchers {
+            if matcher.op == MatchOp::Equal
+                && matcher.name.as_str() == "namespace"
+                && matcher.value.as_str() == "s"
+            {
+                return true;
+            }
+        }
+        false
+    }
+}
+
+impl ExprVisitor for Namespace {
+    type Error = AllocError;
+
+    ghost pre_gives = { λ _ _ _ _. Unit {0} };
+
+    fn pre_visit(&mut self, expr: &Expr) -> Result<bool, AllocError> {
+        match expr {
+            Expr::VectorSelector(e) => Ok(Namespace::is_in(&e.matchers)),
+            Expr::MatrixSelector(e) => Ok(Namespace::is_in(&e.vs.matchers)),
+            Expr::NumberLiteral(_) => Ok(false),
+            Expr::StringLiteral(_) => Ok(false),
+            _ => Ok(true),
+        }
+    }
+}
+
+/// Expressions, and whether the namespace is in each of their selectors.
+const NAMESPACES: [(&str, bool); 5] = [
+    ("(sum by (namespace) (max_over_time(m[5m])))", false),
+    (
+        "(sum by (namespace) (max_over_time(m{namespace=\"s\"}[5m])))",
+        true,
+    ),
+    ("1 + 1", false),
+    ("m{namespace=\"s\"} + m", false),
+    ("m{namespace=\"s\"} ^ m{namespace=\"s\"}", true),
+];
+
+#[test]
+fn selectors_are_in_a_namespace(rt: HostRuntime) -> Result<(), Fail> {
+    let alloc = rt.alloc();
+    for (text, is_in) in &NAMESPACES {
+        let expr = parse(alloc, text)?;
+        assert!(rt; walk_expr(&mut Namespace, &expr) == Ok(*is_in), "{text}");
+    }
+    Ok(())
+}
+
+/// Counts the calls before nodes, and goes on.
+#[derive(Drop)]
+struct Count(usize);
+
+impl ExprVisitor for Count {
+    type Error = AllocError;
+
+    ghost pre_gives = { λ _ _ _ _. Unit {0} };
+
+    fn pre_visit(&mut self, _expr: &Expr) -> Result<bool, AllocError> {
+        self.0 = self.0.saturating_add(1);
+        Ok(true)
+    }
+}
+
+/// The nodes of an expression, by a walk to its end.
+fn node_count(expr: &Expr) -> usize {
+    let mut count = Count(0);
+    match walk_expr(&mut count, expr) {
+        Ok(true) => count.0,
+        _ => 0,
+    }
+}
+
+#[test]
+fn high_trees_are_walked(rt: HostRuntime) -> Result<(), Fail> {
+    assert_eq!(rt; node_count(&chain(rt.alloc())?), 500);
+    assert_eq!(rt; node_count(&sum(rt.alloc())?), 999);
+    Ok(())
+}

@@ -1,0 +1,158 @@
+//! Batches over readers and writers in memory, and over some that fail.
+
+use super::streams::{FlakyReader, FlakyWriter};
+use promql_run::batch::run_batch;
+use promql_run::batch_program::{BATCH_HELP, BATCH_USAGE, batch_program};
+use promql_run::ended::Ended;
+use promql_run::run::{Mode, RunError};
+use std::alloc::{AllocError, Global};
+use std::io::BufReader;
+use std::process::Abort;
+use std::test::Fail;
+
+const LINES: &[u8] = b"\"1+2\"\n{\"query\":\"a\",\"mode\":\"json\"}\n\n\"a b\"\n\xff\n\"x\"";
+
+const ANSWERS: &[u8] = b"{\"ok\":\"1 + 2\"}
+{\"ok\":{\"matchers\":[],\"name\":\"a\",\"offset\":0,\"startOrEnd\":null,\"timestamp\":null,\"type\":\"vectorSelector\"}}
+{\"code\":7,\"error\":\"line is not a request\"}
+{\"code\":4,\"error\":\"invalid promql query\"}
+{\"code\":3,\"error\":\"input is not UTF-8\"}
+{\"ok\":\"x\"}
+";
+
+#[test]
+fn lines_and_their_answers(rt: HostRuntime) -> Result<(), Fail> {
+    let alloc = rt.alloc();
+    let mut writer = Ended::new(Vec::new(alloc));
+    let answer = run_batch(alloc, Mode::Line, &mut { LINES }, &mut writer);
+    assert_eq!(rt; answer, Ok(false));
+    assert!(rt; writer.inner().as_slice() == ANSWERS && !writer.is_pending());
+    Ok(())
+}
+
+/// What is written of a batch in the mode `line`, and whether each answer is an `ok`.
+fn check_batch(rt: &impl Abort, alloc: Global, input: &[u8], want: &[u8], all_ok: bool) {
+    let mut reader = input;
+    let mut writer = Ended::new(Vec::new(alloc));
+    let answer = run_batch(alloc, Mode::Line, &mut reader, &mut writer);
+    assert_eq!(rt; answer, Ok(all_ok));
+    assert!(rt; writer.inner().as_slice() == want, "at {input:?}");
+}
+
+#[test]
+fn ends_of_the_input(rt: HostRuntime) -> Result<(), Fail> {
+    let alloc = rt.alloc();
+    check_batch(&rt, alloc, b"", b"", true);
+    check_batch(&rt, alloc, b"\"1\"", b"{\"ok\":\"1\"}\n", true);
+    check_batch(&rt, alloc, b"\"1\"\n", b"{\"ok\":\"1\"}\n", true);
+    let empty = b"{\"code\":7,\"error\":\"line is not a request\"}\n";
+    check_batch(&rt, alloc, b"\n", empty, false);
+    Ok(())
+}
+
+#[test]
+fn a_reader_that_fails(rt: HostRuntime) -> Result<(), Fail> {
+    let alloc = rt.alloc();
+    // 8 bytes are 4 reads.
+    for fails_at in 2..=4 {
+        let flaky = FlakyReader {
+            left: b"\"1\"\n\"2\"\n",
+            calls: 0,
+            fails_at,
+        };
+        let mut reader = BufReader::with_capacity(alloc, 2, flaky)?;
+        let mut writer = Ended::new(Vec::new(alloc));
+        // The fake error is an interruption, after which the read is made again.
+        let answer = run_batch(alloc, Mode::Line, &mut reader, &mut writer);
+        assert_eq!(rt; answer, Ok(true));
+        assert!(rt; writer.inner().as_slice() == b"{\"ok\":\"1\"}\n{\"ok\":\"2\"}\n".as_slice());
+    }
+    Ok(())
+}
+
+#[test]
+fn a_writer_that_fails(rt: HostRuntime) -> Result<(), Fail> {
+    let alloc = rt.alloc();
+    let want = b"{\"ok\":\"1\"}\n{\"code\":7,\"error\":\"line is not a request\"}\n";
+    for fails_at in 1..=30 {
+        let mut reader: &[u8] = b"\"1\"\n1\n";
+        let mut writer = Ended::new(FlakyWriter::new(alloc, fails_at, 0));
+        let answer = run_batch(alloc, Mode::Line, &mut reader, &mut writer);
+        let is_failed = writer.has_failed();
+        assert_eq!(rt;
+            answer,
+            if is_failed {
+                Err(RunError::Write)
+            } else {
+                Ok(false)
+            }
+        );
+        assert!(rt;
+            want.starts_with(writer.inner().held.as_slice()),
+            "at {fails_at}"
+        );
+    }
+    Ok(())
+}
+
+fn texts(alloc: Global, words: &[&str]) -> Result<Vec<String>, AllocError> {
+    let mut texts = Vec::new(alloc);
+    for word in words {
+        texts.push(String::from_str(alloc, word)?)?;
+    }
+    Ok(texts)
+}
+
+/// The status of the program with a word after its name, and what it writes to its two outputs.
+fn check_program(
+    rt: &impl Abort,
+    alloc: Global,
+    words: &[&str],
+    input: &[u8],
+    want: (u8, &str, &str),
+) -> Result<(), AllocError> {
+    let args = texts(alloc, words)?;
+    let mut reader = input;
+    let mut writer = Ended::new(Vec::new(alloc));
+    let mut errors = Ended::new(Vec::new(alloc));
+    let status = batch_program(
+        alloc,
+        args.as_slice(),
+        &mut reader,
+        &mut writer,
+        &mut errors,
+    );
+    assert_eq!(rt; status, want.0);
+    assert!(rt; writer.inner().as_slice() == want.1.as_bytes());
+    assert!(rt; errors.inner().as_slice() == want.2.as_bytes());
+    Ok(())
+}
+
+#[test]
+fn statuses_of_batches(rt: HostRuntime) -> Result<(), Fail> {
+    let alloc = rt.alloc();
+    check_program(
+        &rt,
+        alloc,
+        &["", "line"],
+        b"\"1\"\n",
+        (0, "{\"ok\":\"1\"}\n", ""),
+    )?;
+    check_program(
+        &rt,
+        alloc,
+        &["", "json"],
+        b"1",
+        (4, "{\"code\":7,\"error\":\"line is not a request\"}\n", ""),
+    )?;
+    check_program(&rt, alloc, &["", "--help"], b"\"1\"", (0, BATCH_HELP, ""))?;
+    check_program(&rt, alloc, &["", "lines"], b"\"1\"", (64, "", BATCH_USAGE))?;
+    check_program(
+        &rt,
+        alloc,
+        &["", "line", "line"],
+        b"\"1\"",
+        (64, "", BATCH_USAGE),
+    )?;
+    Ok(())
+}

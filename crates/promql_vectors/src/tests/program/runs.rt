@@ -1,0 +1,165 @@
+//! Runs over readers and writers in memory.
+
+use promql_parser::parser::ParseError;
+use promql_run::ended::Ended;
+use promql_run::run::{Mode, RunError, run};
+use std::alloc::{AllocError, Global};
+use std::test::Fail;
+
+// One millisecond more than 2^63.
+const WIDE: &str = "foo offset -9223372036854775809ms";
+
+const SUM: &str =
+    "sum by (code, job) (rate(http_requests_total{code=~\"5..\"}[5m])) / sum by (job) (rate(http_requests_total[5m]))";
+
+const SUM_LINES: &str = "  sum by (code, job) (rate(http_requests_total{code=~\"5..\"}[5m]))
+/
+  sum by (job) (rate(http_requests_total[5m]))
+";
+
+#[test]
+fn bytes_in_and_out(rt: HostRuntime) -> Result<(), Fail> {
+    let alloc = rt.alloc();
+    let rows: [(&[u8], Result<&[u8], RunError>); 6] = [
+        (b"1 + (foo - 2)", Ok(b"1 + (foo - 2)\n")),
+        (b"1-2-3\n", Ok(b"1 - 2 - 3\n")),
+        (b"", Err(RunError::Parse(ParseError::Empty))),
+        (b"a b", Err(RunError::Parse(ParseError::Syntax))),
+        (b"1 + \xff", Err(RunError::NotUtf8)),
+        (b"+ \xff", Err(RunError::NotUtf8)),
+    ];
+    for (input, want) in &rows {
+        let mut reader = Ended::new(*input);
+        let mut writer = Ended::new(Vec::new(alloc));
+        let answer = run(alloc, Mode::Line, &mut reader, &mut writer);
+        match want {
+            Ok(bytes) => {
+                assert_eq!(rt; answer, Ok(()));
+                assert!(rt; writer.inner().as_slice() == *bytes, "at {input:?}");
+            }
+            Err(error) => {
+                assert!(rt; answer.as_ref().err() == Some(error), "at {input:?}");
+                assert!(rt; writer.inner().is_empty(), "at {input:?}");
+            }
+        }
+        assert!(rt; !reader.has_failed() && !writer.has_failed() && reader.inner().is_empty());
+    }
+    Ok(())
+}
+
+#[test]
+fn errors(rt: HostRuntime) -> Result<(), Fail> {
+    let alloc = rt.alloc();
+    let rows = [
+        (RunError::Memory, 1, "out of memory"),
+        (RunError::Read, 2, "read failed"),
+        (RunError::NotUtf8, 3, "input is not UTF-8"),
+        (
+            RunError::Parse(ParseError::Syntax),
+            4,
+            "invalid promql query",
+        ),
+        (RunError::Write, 5, "write failed"),
+        (RunError::Json, 6, "number too wide for JSON"),
+    ];
+    for (error, number, message) in &rows {
+        assert_eq!(rt; error.number(), *number);
+        let found = format!(in alloc; "{error}")?;
+        assert_eq!(rt; found.as_str(), *message);
+    }
+    Ok(())
+}
+
+#[test]
+fn modes(rt: HostRuntime) {
+    assert_eq!(rt; Mode::named("pretty"), Some(Mode::Pretty));
+    assert_eq!(rt; Mode::named("line"), Some(Mode::Line));
+    assert_eq!(rt; Mode::named("json"), Some(Mode::Json));
+    assert_eq!(rt; Mode::named("Line"), None);
+    assert_eq!(rt; Mode::named(""), None);
+}
+
+// What a run in the mode prints of the text.
+fn answer(alloc: Global, mode: Mode, text: &str) -> Result<Vec<u8>, RunError> {
+    let mut reader = Ended::new(text.as_bytes());
+    let mut written = Vec::new(alloc);
+    run(alloc, mode, &mut reader, &mut Ended::new(&mut written))?;
+    Ok(written)
+}
+
+fn printed(alloc: Global, text: &str) -> Result<Vec<u8>, RunError> {
+    answer(alloc, Mode::Line, text)
+}
+
+#[test]
+fn laid_out(rt: HostRuntime) -> Result<(), Fail> {
+    let alloc = rt.alloc();
+    let found = answer(alloc, Mode::Pretty, SUM)?;
+    assert!(rt; found.as_slice() == SUM_LINES.as_bytes());
+    assert_eq!(rt;
+        answer(alloc, Mode::Pretty, "a b"),
+        Err(RunError::Parse(ParseError::Syntax))
+    );
+    Ok(())
+}
+
+#[test]
+fn as_json(rt: HostRuntime) -> Result<(), Fail> {
+    let alloc = rt.alloc();
+    for (text, want) in [
+        (
+            "foo @ -1 offset -5m",
+            "{\"matchers\":[],\"name\":\"foo\",\"offset\":-300000,\"startOrEnd\":null,\"timestamp\":-1000,\"type\":\"vectorSelector\"}\n",
+        ),
+        ("-1e3", "{\"type\":\"numberLiteral\",\"val\":\"-1000\"}\n"),
+    ] {
+        let found = answer(alloc, Mode::Json, text)?;
+        assert!(rt; found.as_slice() == want.as_bytes(), "{text}");
+    }
+    assert_eq!(rt; answer(alloc, Mode::Json, WIDE), Err(RunError::Json));
+    assert_eq!(rt;
+        answer(alloc, Mode::Json, ""),
+        Err(RunError::Parse(ParseError::Empty))
+    );
+    Ok(())
+}
+
+// The text with so many copies of `x` between `front` and `back`.
+fn padded(alloc: Global, front: &str, count: usize, back: &str) -> Result<String, AllocError> {
+    let mut made = String::from_str(alloc, front)?;
+    for _ in 0..count {
+        made.push_str("x")?;
+    }
+    made.push_str(back)?;
+    Ok(made)
+}
+
+// The input is read in pieces of 4,096 bytes.
+#[test]
+fn inputs_of_many_pieces(rt: HostRuntime) -> Result<(), Fail> {
+    let alloc = rt.alloc();
+    for len in [
+        1, 13, 14, 4_094, 4_095, 4_096, 4_097, 8_191, 8_192, 8_193, 1_000_000,
+    ] {
+        let name = padded(alloc, "", len, "")?;
+        let want = padded(alloc, "", len, "\n")?;
+        assert!(rt;
+            printed(alloc, name.as_str())?.as_slice() == want.as_bytes(),
+            "at {len}"
+        );
+    }
+    Ok(())
+}
+
+#[test]
+fn characters_across_pieces(rt: HostRuntime) -> Result<(), Fail> {
+    let alloc = rt.alloc();
+    for before in 4_088..4_096 {
+        for back in ["é\n+ 2", "€\n+ 2", "\u{1f600}\n+ 2"] {
+            let text = padded(alloc, "1 # ", before, back)?;
+            let line = printed(alloc, text.as_str())?;
+            assert!(rt; line.as_slice() == b"1 + 2\n".as_slice(), "at {before}");
+        }
+    }
+    Ok(())
+}
