@@ -1,0 +1,115 @@
+# shellcheck shell=bash
+# Functions that the scripts of bin/ share. A script sets `root`, the top of the repository, and then sources this file.
+# None of them needs the command rt, but for the kit's line, which a file of a release keeps.
+: "${root:?}"
+
+# The crates of crates.txt that are programs, in the file's order.
+program_names() {
+    local name
+    awk -F: '!/^#/ && NF { split($1, words, " "); print words[1] }' "$root/crates.txt" | while read -r name; do
+        if [ -f "$root/crates/$name/src/main.rt" ]; then printf '%s\n' "$name"; fi
+    done
+}
+
+# crate_lines CRATE..: these crates and those of the repository below them, lowest first, as 'NAME: DEP ..', where each DEP
+# is a crate of the repository.
+crate_lines() {
+    awk -F: -v wanted="$*" '
+        !/^#/ && NF { split($1, words, " "); uses[words[1]] = $2 }
+        function visit(name,    parts, count, i, deps) {
+            if (name in seen) return
+            seen[name] = 1
+            count = split(uses[name], parts, " ")
+            for (i = 1; i <= count; i++) if (parts[i] in uses) { visit(parts[i]); deps = deps " " parts[i] }
+            print name ":" deps
+        }
+        END {
+            count = split(wanted, all, " ")
+            for (k = 1; k <= count; k++) {
+                if (!(all[k] in uses)) { print "crates.txt has no crate " all[k] >"/dev/stderr"; exit 1 }
+                visit(all[k])
+            }
+        }' "$root/crates.txt"
+}
+
+# listing_of CRATE..: the lines that these crates have in crates.txt.
+listing_of() {
+    awk -F: -v wanted="$*" '
+        BEGIN { count = split(wanted, all, " "); for (k = 1; k <= count; k++) is_wanted[all[k]] = 1 }
+        !/^#/ && NF { split($1, words, " "); if (words[1] in is_wanted) print }' "$root/crates.txt"
+}
+
+# fingerprint KIT CRATE..: the checksum of what these crates are made from: the kit's line, HANDLES, and of these crates and
+# those below them the line of crates.txt and the files of src/, specs/ and proofs/.
+fingerprint() {
+    local kit=$1 names part name
+    local -a folders=()
+    shift
+    names=$(crate_lines "$@" | cut -d: -f1) || return
+    for name in $names; do
+        for part in src specs proofs; do
+            if [ -d "$root/crates/$name/$part" ]; then folders+=("crates/$name/$part"); fi
+        done
+    done
+    (
+        cd "$root" || exit
+        printf '%s\n' "$kit"
+        if [ -f HANDLES ]; then cat HANDLES; fi
+        # shellcheck disable=SC2086 # the names are words
+        listing_of $names | LC_ALL=C sort
+        find "${folders[@]}" -type f -print0 | LC_ALL=C sort -z | xargs -0 sha256sum
+    ) | sha256sum | cut -d' ' -f1
+}
+
+# The kit's line, or nothing where there is no rt. The file beside rt is read where it is there: rt itself takes half a second.
+kit_line() {
+    local rt
+    rt=$(command -v rt) || return 0
+    rt=$(readlink -f "$rt")
+    cat "${rt%/*}/../KIT-ID" 2>/dev/null || rt version
+}
+
+# write_made_from FILE KIT PROGRAM-FILE..: what these programs were made from: the checksum, the kit's line, and a line with
+# the checksum of each program.
+write_made_from() {
+    local file=$1 kit=$2 program
+    local -a names=()
+    shift 2
+    for program in "$@"; do names+=("${program##*/}"); done
+    {
+        fingerprint "$kit" "${names[@]}"
+        printf '%s\n' "$kit"
+        for program in "$@"; do
+            printf '%s  %s\n' "$(file_sum "$program")" "${program##*/}"
+        done
+    } >"$file.new" && mv -f "$file.new" "$file"
+}
+
+file_sum() {
+    sha256sum <"$1" | cut -d' ' -f1
+}
+
+# why_stale FILE PROGRAM-FILE KIT CRATE..: why the program isn't what FILE says was made from these crates as they are
+# here, or nothing where it is. KIT is the kit's line of this machine, or empty where there is no rt.
+why_stale() {
+    local file=$1 program=$2 kit=$3 name=${2##*/}
+    local -a lines=()
+    shift 3
+    if [ -f "$file" ]; then mapfile -t lines <"$file"; fi
+    if [ "${#lines[@]}" -lt 3 ] || ! [ -x "$program" ]; then
+        echo "there is no release of it here"
+    elif [ -n "$kit" ] && [ "$kit" != "${lines[1]}" ]; then
+        echo "the kit is another one than the release was made with"
+    elif [ "$(fingerprint "${lines[1]}" "$@")" != "${lines[0]}" ]; then
+        echo "the sources are newer than the release"
+    elif ! printf '%s\n' "${lines[@]:2}" | grep -qxF "$(file_sum "$program")  $name"; then
+        echo "$name is not the program that was released"
+    fi
+}
+
+# The same for a program of dist/.
+why_release_stale() {
+    local -a programs
+    mapfile -t programs < <(program_names)
+    why_stale "$root/dist/MADE_FROM" "$root/dist/$1" "$2" "${programs[@]}"
+}
