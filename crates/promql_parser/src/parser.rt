@@ -2,9 +2,9 @@
 
 pub use ast::{
     AggregateExpr, AtFault, AtModifier, BinModifier, BinaryExpr, Call, CheckError, CheckFault,
-    Expr, Extension, LabelModifier, MatrixSelector, NodeFault, NumberLiteral, Offset, ParenExpr,
-    RangeMode, StringLiteral, SubqueryExpr, TypedPlace, UnaryExpr, VectorMatchCardinality,
-    VectorMatchFillValues, VectorSelector,
+    EvalStmt, Expr, Extension, LabelModifier, MatrixSelector, NodeFault, NumberLiteral, Offset,
+    ParenExpr, RangeMode, StringLiteral, SubqueryExpr, TypedPlace, UnaryExpr,
+    VectorMatchCardinality, VectorMatchFillValues, VectorSelector,
 };
 pub use function::{Function, FunctionArgs};
 pub use lex::lexer;

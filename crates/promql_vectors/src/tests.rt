@@ -2,19 +2,13 @@
 
 mod calls;
 mod canonical;
+mod facade;
 mod faults;
-mod grammar;
-mod kind;
-mod label;
 mod layouts;
 mod limits;
 mod memory;
-mod nodes;
 mod program;
 mod readme;
-mod rows;
-mod text;
-mod token;
 mod trees;
 mod visitors;
 

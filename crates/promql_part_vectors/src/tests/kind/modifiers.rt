@@ -1,0 +1,232 @@
+//! Modifiers: their text, their labels and their copies.
+
+use crate::tests::rows::{holds, is_so, prints};
+use promql_kind::{BinModifier, LabelModifier, VectorMatchCardinality, VectorMatchFillValues};
+use promql_text::{Number, parse_str_radix};
+use std::alloc::{AllocError, Global};
+use std::test::Fail;
+
+/// The card by its word, the matching word, whether there is `bool`, the values of both sides; and the text.
+type Case = (
+    &'static str,
+    &'static str,
+    bool,
+    Option<i64>,
+    Option<i64>,
+    &'static str,
+);
+
+const PRINTED: [Case; 15] = [
+    ("", "", false, None, None, ""),
+    ("many", "", false, None, None, ""),
+    ("", "", true, None, None, " bool"),
+    ("", "on", true, None, None, " bool on (a)"),
+    ("", "ignoring", false, None, None, " ignoring (a)"),
+    ("", "on none", false, None, None, " on ()"),
+    ("", "ignoring none", false, None, None, ""),
+    (
+        "left",
+        "ignoring none",
+        false,
+        None,
+        None,
+        " ignoring () group_left (a, inf_)",
+    ),
+    (
+        "right",
+        "on",
+        false,
+        None,
+        None,
+        " on (a) group_right (a, inf_)",
+    ),
+    ("left", "", false, None, None, " group_left (a, inf_)"),
+    (
+        "",
+        "",
+        false,
+        Some(1),
+        Some(2),
+        " fill_left (1) fill_right (2)",
+    ),
+    ("", "", false, Some(-3), Some(-3), " fill (-3)"),
+    ("", "", false, Some(0), None, " fill_left (0)"),
+    ("", "", false, None, Some(7), " fill_right (7)"),
+    (
+        "right",
+        "on none",
+        true,
+        Some(1),
+        Some(1),
+        " bool on () group_right (a, inf_) fill (1)",
+    ),
+];
+
+fn card(alloc: Global, word: &str) -> Result<VectorMatchCardinality, AllocError> {
+    let labels = ["a", "inf_"].to_vec(alloc)?;
+    match word {
+        "left" => VectorMatchCardinality::many_to_one(alloc, labels),
+        "right" => VectorMatchCardinality::one_to_many(alloc, labels),
+        "many" => Ok(VectorMatchCardinality::ManyToMany),
+        _ => Ok(VectorMatchCardinality::OneToOne),
+    }
+}
+
+fn matching(alloc: Global, word: &str) -> Result<Option<LabelModifier>, AllocError> {
+    Ok(match word {
+        "on" => Some(LabelModifier::include(alloc, ["a"].to_vec(alloc)?)?),
+        "on none" => Some(LabelModifier::include(alloc, Vec::new(alloc))?),
+        "ignoring" => Some(LabelModifier::exclude(alloc, ["a"].to_vec(alloc)?)?),
+        "ignoring none" => Some(LabelModifier::exclude(alloc, Vec::new(alloc))?),
+        _ => None,
+    })
+}
+
+fn fills(lhs: Option<i64>, rhs: Option<i64>) -> VectorMatchFillValues {
+    let mut values = VectorMatchFillValues::default();
+    if let Some(lhs) = lhs {
+        values = values.with_lhs(Number::from_i64(lhs));
+    }
+    if let Some(rhs) = rhs {
+        values = values.with_rhs(Number::from_i64(rhs));
+    }
+    values
+}
+
+fn modifier(alloc: Global, case: &Case) -> Result<BinModifier, AllocError> {
+    let matched = BinModifier::default().with_matching(matching(alloc, case.1)?);
+    let filled = matched.with_fill_values(fills(case.3, case.4));
+    Ok(
+        filled
+            .with_return_bool(case.2)
+            .with_card(card(alloc, case.0)?),
+    )
+}
+
+/// How the modifier prints.
+fn shown(alloc: Global, case: &Case) -> Result<String, AllocError> {
+    modifier(alloc, case)?.to_string(alloc)
+}
+
+#[test]
+fn modifiers_print_their_parts(rt: HostRuntime) -> Result<(), Fail> {
+    for case in &PRINTED {
+        prints(&rt, shown(rt.alloc(), case), case.5)?;
+    }
+    Ok(())
+}
+
+fn is_copied(alloc: Global, case: &Case) -> Result<bool, AllocError> {
+    let modifier = modifier(alloc, case)?;
+    match modifier.try_clone(alloc) {
+        Ok(copy) => Ok(copy == modifier),
+        Err(error) => Err(error),
+    }
+}
+
+#[test]
+fn copies_are_equal(rt: HostRuntime) -> Result<(), Fail> {
+    for case in &PRINTED {
+        is_so(&rt, is_copied(rt.alloc(), case), case.5)?;
+    }
+    Ok(())
+}
+
+#[test]
+fn modifiers_have_a_word_for_bool(rt: HostRuntime) {
+    let with = BinModifier::default().with_return_bool(true);
+    holds(&rt, with.bool_str() == "bool ", "bool");
+    holds(&rt, BinModifier::default().bool_str() == "", "none");
+}
+
+/// Whether the modifiers of two cases are equal.
+fn is_equal(alloc: Global, one: &Case, other: &Case) -> Result<bool, AllocError> {
+    let one = modifier(alloc, one)?;
+    match modifier(alloc, other) {
+        Ok(other) => Ok(one == other),
+        Err(error) => Err(error),
+    }
+}
+
+#[test]
+fn modifiers_differ_by_each_part(rt: HostRuntime) -> Result<(), Fail> {
+    for (i, one) in PRINTED.iter().enumerate() {
+        for (j, other) in PRINTED.iter().enumerate() {
+            let is_same = is_equal(rt.alloc(), one, other)?;
+            holds(&rt, is_same == (i == j), one.5);
+        }
+    }
+    Ok(())
+}
+
+/// `on (a) group_left (a, inf_)`
+const BOTH: Case = ("left", "on", false, None, None, "a");
+
+/// `on () group_right (a, inf_)`
+const APART: Case = ("right", "on none", false, None, None, "");
+
+/// `ignoring (a)`
+const ALONE: Case = ("", "ignoring", false, None, None, "none");
+
+/// The joint labels of a modifier with a space between each two, or `none`.
+fn joint_labels(alloc: Global, case: &Case) -> Result<String, AllocError> {
+    match modifier(alloc, case)?.intersect_labels(alloc)? {
+        Some(labels) => spaced(alloc, &labels),
+        None => String::from_str(alloc, "none"),
+    }
+}
+
+fn spaced(alloc: Global, labels: &[String]) -> Result<String, AllocError> {
+    let mut text = String::new(alloc);
+    for label in labels {
+        if !text.is_empty() {
+            text.push(' ')?;
+        }
+        text.push_str(label.as_str())?;
+    }
+    Ok(text)
+}
+
+#[test]
+fn joint_labels_are_found(rt: HostRuntime) -> Result<(), Fail> {
+    for case in &[BOTH, APART, ALONE] {
+        prints(&rt, joint_labels(rt.alloc(), case), case.5)?;
+    }
+    Ok(())
+}
+
+#[test]
+fn labels_of_both_sides_are_joint(rt: HostRuntime) -> Result<(), Fail> {
+    let both = modifier(rt.alloc(), &BOTH)?;
+    holds(&rt, both.is_labels_joint(), "joint");
+    holds(&rt, both.is_matching_on(), "on");
+    holds(&rt, both.is_matching_labels_not_empty(), "not empty");
+    Ok(())
+}
+
+#[test]
+fn labels_of_one_side_are_not_joint(rt: HostRuntime) -> Result<(), Fail> {
+    let apart = modifier(rt.alloc(), &APART)?;
+    holds(&rt, !apart.is_labels_joint(), "not joint");
+    holds(&rt, !apart.is_matching_labels_not_empty(), "empty");
+    Ok(())
+}
+
+#[test]
+fn labels_that_are_ignored_are_not_joint(rt: HostRuntime) -> Result<(), Fail> {
+    let alone = modifier(rt.alloc(), &ALONE)?;
+    holds(&rt, !alone.is_labels_joint(), "not joint");
+    holds(&rt, !alone.is_matching_on(), "ignoring");
+    Ok(())
+}
+
+#[test]
+fn fill_values_that_are_no_number_are_equal(rt: HostRuntime) -> Result<(), Fail> {
+    let alloc = rt.alloc();
+    let nan = parse_str_radix("nan").expect(&rt, "nan is a number's text");
+    let values = VectorMatchFillValues::new(nan, nan);
+    assert!(rt; values == VectorMatchFillValues::new(nan, nan));
+    let modifier = BinModifier::default().with_fill_values(values);
+    assert_eq!(rt; modifier.to_string(alloc)?.as_str(), " fill (NaN)");
+    Ok(())
+}

@@ -1,0 +1,209 @@
+//! Patterns that `regex` reads, what they match, and those that it rejects.
+
+use crate::tests::rows::{holds, is_so, prints};
+use promql_label::{MatchOp, Matcher, Pattern, PatternFault};
+use std::alloc::{AllocError, Global};
+use std::test::Fail;
+
+// A pattern, and what is built of it.
+const BUILT: [(&str, &str); 12] = [
+    ("", "^(?:)$"),
+    ("abc.*", "^(?:abc.*)$"),
+    ("a|b", "^(?:a|b)$"),
+    ("[a-z]+", "^(?:[a-z]+)$"),
+    ("(?i)x", "^(?:(?i)x)$"),
+    (r"x\d{b}", r"^(?:x\d\{b})$"),
+    (r"\x{4a}", r"^(?:\x{4a})$"),
+    (r"\p{Greek}{2,3}", r"^(?:\p{Greek}{2,3})$"),
+    ("é", "^(?:é)$"),
+    ("[{]", "^(?:[{])$"),
+    (r"\b{start}x", r"^(?:\b{start}x)$"),
+    (r"\w{2}{", r"^(?:\w{2}\{)$"),
+];
+
+#[test]
+fn patterns_are_anchored(rt: HostRuntime) {
+    for (value, want) in &BUILT {
+        let found = Pattern::read(rt.alloc(), value);
+        holds(&rt, is_built_as(&found, want), value);
+    }
+}
+
+/// Texts that are no patterns. The last is rejected for the size of what it would compile to.
+const REJECTED: [&str; 7] = ["a)|(?:b", r"b\", "(", "[", "*", r"\", r"\w{1000}"];
+
+fn is_rejected(found: &Result<Pattern, PatternFault>, value: &str) -> bool {
+    match found {
+        Err(PatternFault::Refused(text)) => text.as_str() == value,
+        _ => false,
+    }
+}
+
+#[test]
+fn other_texts_are_rejected(rt: HostRuntime) {
+    for value in &REJECTED {
+        let found = Pattern::read(rt.alloc(), value);
+        holds(&rt, is_rejected(&found, value), value);
+    }
+}
+
+// The three reads below are also run by hand with each of their allocations failing in turn:
+// `rt try --test --fail-alloc N`, N from 1 to 140.
+
+fn is_out_of_memory(found: &Result<Pattern, PatternFault>) -> bool {
+    match found {
+        Err(PatternFault::Memory) => true,
+        _ => false,
+    }
+}
+
+fn is_built_as(found: &Result<Pattern, PatternFault>, want: &str) -> bool {
+    match found {
+        Ok(pattern) => pattern.as_str() == want,
+        Err(_) => false,
+    }
+}
+
+#[test]
+fn a_plain_pattern_or_out_of_memory(rt: HostRuntime) {
+    let found = Pattern::read(rt.alloc(), "[{]");
+    holds(
+        &rt,
+        is_built_as(&found, "^(?:[{])$") || is_out_of_memory(&found),
+        "[{]",
+    );
+}
+
+#[test]
+fn an_escaped_pattern_or_out_of_memory(rt: HostRuntime) {
+    let found = Pattern::read(rt.alloc(), r"x\d{b}");
+    let is_built = is_built_as(&found, r"^(?:x\d\{b})$");
+    holds(&rt, is_built || is_out_of_memory(&found), r"x\d{b}");
+}
+
+#[test]
+fn a_rejected_pattern_or_out_of_memory(rt: HostRuntime) {
+    let found = Pattern::read(rt.alloc(), "a)|(?:b");
+    holds(
+        &rt,
+        is_rejected(&found, "a)|(?:b") || is_out_of_memory(&found),
+        "a)|(?:b",
+    );
+}
+
+// A pattern, a text, and whether it matches.
+const MATCHED: [(&str, &str, bool); 13] = [
+    ("abc.*", "abc123", true),
+    ("abc.*", "xabc123", false),
+    ("", "", true),
+    ("", "a", false),
+    ("a|bc", "bc", true),
+    ("a|bc", "abc", false),
+    ("[^0-9]{2}", "ab", true),
+    ("[^0-9]{2}", "a1", false),
+    ("(?i)get", "GET", true),
+    (r"\p{Greek}+", "αβγ", true),
+    (".", "é", true),
+    ("é", "e", false),
+    ("x{y}", "x{y}", true),
+];
+
+/// The matcher of a pattern.
+fn matcher(alloc: Global, value: &str) -> Result<Matcher, Fail> {
+    let op = MatchOp::Re(Pattern::read(alloc, value)?);
+    Ok(Matcher::new(alloc, op, "a", value)?)
+}
+
+/// Whether the pattern of this value matches the text.
+fn is_found(alloc: Global, value: &str, text: &str) -> Result<bool, Fail> {
+    Ok(matcher(alloc, value)?.is_match(alloc, text)?)
+}
+
+#[test]
+fn patterns_match_whole_texts(rt: HostRuntime) -> Result<(), Fail> {
+    for (value, text, want) in &MATCHED {
+        let found = is_found(rt.alloc(), value, text)?;
+        holds(&rt, found == *want, text);
+    }
+    Ok(())
+}
+
+#[test]
+fn a_text_that_is_no_pattern_is_rejected(rt: HostRuntime) {
+    let found = Pattern::of_text(rt.alloc(), "(");
+    holds(&rt, is_rejected(&found, "("), "(");
+}
+
+/// Whether two patterns that were built are equal.
+fn is_equal(one: &Pattern, other: Result<Pattern, PatternFault>) -> bool {
+    match other {
+        Ok(other) => *one == other,
+        Err(_) => false,
+    }
+}
+
+#[test]
+fn patterns_are_equal_by_their_texts(rt: HostRuntime) -> Result<(), Fail> {
+    let pattern = Pattern::read(rt.alloc(), "a")?;
+    holds(
+        &rt,
+        is_equal(&pattern, Pattern::of_text(rt.alloc(), "^(?:a)$")),
+        "a",
+    );
+    holds(
+        &rt,
+        !is_equal(&pattern, Pattern::read(rt.alloc(), "b")),
+        "b",
+    );
+    Ok(())
+}
+
+#[test]
+fn copies_of_patterns_are_equal(rt: HostRuntime) -> Result<(), Fail> {
+    let pattern = Pattern::read(rt.alloc(), "a")?;
+    is_so(&rt, is_copied(rt.alloc(), &pattern), "a")
+}
+
+fn is_copied(alloc: Global, pattern: &Pattern) -> Result<bool, AllocError> {
+    match pattern.try_clone(alloc) {
+        Ok(copy) => Ok(copy == *pattern),
+        Err(error) => Err(error),
+    }
+}
+
+fn rejection(alloc: Global, value: &str) -> Result<PatternFault, AllocError> {
+    Ok(PatternFault::Refused(String::from_str(alloc, value)?))
+}
+
+/// Whether the fault is the rejection of this value.
+fn is_rejection(alloc: Global, fault: &PatternFault, value: &str) -> Result<bool, AllocError> {
+    match rejection(alloc, value) {
+        Ok(other) => Ok(*fault == other),
+        Err(error) => Err(error),
+    }
+}
+
+#[test]
+fn faults_compare(rt: HostRuntime) -> Result<(), Fail> {
+    let fault = rejection(rt.alloc(), "(")?;
+    is_so(&rt, is_rejection(rt.alloc(), &fault, "("), "(")
+}
+
+#[test]
+fn faults_of_two_values_differ(rt: HostRuntime) -> Result<(), Fail> {
+    let fault = rejection(rt.alloc(), "(")?;
+    let is_other = is_rejection(rt.alloc(), &fault, ")")?;
+    holds(&rt, !is_other && fault != PatternFault::Memory, ")");
+    Ok(())
+}
+
+#[test]
+fn faults_print(rt: HostRuntime) -> Result<(), Fail> {
+    let fault = rejection(rt.alloc(), "(")?;
+    prints(&rt, fault.to_string(rt.alloc()), "illegal regex for (")?;
+    prints(
+        &rt,
+        PatternFault::Memory.to_string(rt.alloc()),
+        "out of memory",
+    )
+}

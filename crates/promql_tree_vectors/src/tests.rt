@@ -1,0 +1,39 @@
+//! Each kind of node built, checked, copied, printed, laid out, walked and as JSON. Parts are read from texts; nodes that
+//! no text gives are made by hand.
+
+mod builders;
+mod changes;
+mod checks;
+mod json;
+mod layout;
+mod memory;
+mod parts;
+mod printing;
+mod trees;
+mod walks;
+mod writers;
+
+use promql_ast::{CheckError, Expr};
+use std::alloc::{AllocError, Global};
+use std::process::Abort;
+use std::test::Fail;
+
+/// What was built as it prints, or the message of its rejection.
+fn shown(alloc: Global, built: Result<Expr, CheckError>) -> Result<String, AllocError> {
+    match built {
+        Ok(expr) => expr.to_string(alloc),
+        Err(error) => error.to_string(alloc),
+    }
+}
+
+/// What was built prints this text, or was rejected with this message.
+fn shows(
+    rt: &impl Abort,
+    alloc: Global,
+    built: Result<Expr, CheckError>,
+    want: &str,
+) -> Result<(), Fail> {
+    let found = shown(alloc, built)?;
+    assert_eq!(rt; found.as_str(), want);
+    Ok(())
+}

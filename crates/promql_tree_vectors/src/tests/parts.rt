@@ -1,0 +1,156 @@
+//! What nodes and their parts say of themselves, and a copy of each node by itself.
+
+use super::trees::{KINDS, grouped, kind, name, number};
+use promql_ast::{BinaryExpr, CheckError, Expr, NumberLiteral, Offset, RangeMode, VectorSelector};
+use promql_kind::ValueType;
+use promql_label::Matchers;
+use promql_parser::parser::parse;
+use promql_text::{DurationText, minute_duration};
+use promql_token::ids::T_ADD;
+use std::alloc::{AllocError, Global};
+use std::fmt::Display;
+use std::process::Abort;
+use std::test::Fail;
+
+/// The value prints this text.
+fn prints<T: Display>(rt: &impl Abort, alloc: Global, value: &T, want: &str) -> Result<(), Fail> {
+    let found = value.to_string(alloc)?;
+    assert_eq!(rt; found.as_str(), want);
+    Ok(())
+}
+
+/// The operator of an expression.
+fn binary(expr: Expr) -> Result<BinaryExpr, Fail> {
+    match expr {
+        Expr::Binary(e) => Ok(e),
+        _ => Err(Fail::new("no operator")),
+    }
+}
+
+/// `a + on (l) group_left (l) b`, which no check accepts.
+fn joint_sum(alloc: Global) -> Result<Expr, CheckError> {
+    let modifier = grouped(alloc, "l", "l")?;
+    let a = name(alloc, "a")?;
+    let b = name(alloc, "b")?;
+    Ok(Expr::new_binary_expr(alloc, a, T_ADD, Some(modifier), b)?)
+}
+
+#[test]
+fn labels_on_both_sides_are_joint(rt: HostRuntime) -> Result<(), Fail> {
+    let alloc = rt.alloc();
+    let sum = binary(joint_sum(alloc)?)?;
+    assert!(rt; sum.is_matching_on() && sum.is_matching_labels_not_empty());
+    assert!(rt; sum.is_labels_joint() && !sum.return_bool());
+    let both = sum.intersect_labels(alloc)?;
+    let both = both.expect(&rt, "both sides have labels");
+    assert!(rt; both.len() == 1 && both[0].as_str() == "l");
+    Ok(())
+}
+
+#[test]
+fn operators_without_labels(rt: HostRuntime) -> Result<(), Fail> {
+    let alloc = rt.alloc();
+    let compared = binary(parse(alloc, "a == bool b")?)?;
+    assert!(rt; compared.return_bool() && !compared.is_labels_joint());
+    assert!(rt; !compared.is_matching_on() && !compared.is_matching_labels_not_empty());
+    assert!(rt; compared.intersect_labels(alloc)?.is_none());
+    Ok(())
+}
+
+/// The types of the kinds.
+const TYPES: [ValueType; 12] = [
+    ValueType::Vector,
+    ValueType::Vector,
+    ValueType::Vector,
+    ValueType::Vector,
+    ValueType::Matrix,
+    ValueType::Scalar,
+    ValueType::String,
+    ValueType::Vector,
+    ValueType::Matrix,
+    ValueType::Vector,
+    ValueType::Vector,
+    ValueType::Vector,
+];
+
+#[test]
+fn kinds_have_types(rt: HostRuntime) -> Result<(), Fail> {
+    for (text, value_type) in KINDS.iter().zip(&TYPES) {
+        let expr = kind(rt.alloc(), text)?;
+        assert!(rt; expr.value_type() == *value_type, "{text}");
+        let value = expr.scalar_value();
+        assert!(rt; value.is_some() == (*text == "1.5"), "{text}");
+    }
+    Ok(())
+}
+
+/// What the kinds are with a minus sign; a number has it by itself.
+const NEGATED: [(&str, &str); 3] = [("1.5", "-1.5"), ("a", "-a"), ("(a)", "-(a)")];
+
+#[test]
+fn expressions_are_negated(rt: HostRuntime) -> Result<(), Fail> {
+    let alloc = rt.alloc();
+    for (text, want) in &NEGATED {
+        let negated = parse(alloc, text)?.negated(alloc)?;
+        assert!(rt; negated.scalar_value().is_some() == (*text == "1.5"));
+        prints(&rt, alloc, &negated, want)?;
+    }
+    let literal = -NumberLiteral::new(number("2"));
+    assert!(rt; literal.val == number("-2"));
+    Ok(())
+}
+
+#[test]
+fn selectors_of_names(rt: HostRuntime) -> Result<(), Fail> {
+    let alloc = rt.alloc();
+    let a = VectorSelector::of_name(alloc, String::from_str(alloc, "a")?);
+    prints(&rt, alloc, &a, "a")?;
+    let nameless = VectorSelector::new(None, Matchers::empty(alloc));
+    assert!(rt; nameless == VectorSelector::empty(alloc) && nameless != a);
+    Ok(())
+}
+
+#[test]
+fn times_and_modes_print(rt: HostRuntime) -> Result<(), Fail> {
+    let alloc = rt.alloc();
+    let minute = minute_duration();
+    prints(&rt, alloc, &DurationText(&minute), "1m")?;
+    prints(&rt, alloc, &Offset::Pos(minute), "1m")?;
+    prints(&rt, alloc, &Offset::Neg(minute), "-1m")?;
+    assert!(rt; RangeMode::default() == RangeMode::Plain);
+    Ok(())
+}
+
+/// Whether the copy was made and is the value.
+fn is_copy<T: PartialEq + Drop>(
+    value: &T,
+    copy: Result<T, AllocError>,
+) -> Result<bool, AllocError> {
+    Ok(copy? == *value)
+}
+
+/// Whether the copy of the node by itself is the node.
+fn is_copied(alloc: Global, expr: &Expr) -> Result<bool, AllocError> {
+    match expr {
+        Expr::Aggregate(e) => is_copy(e, e.try_clone(alloc)),
+        Expr::Unary(e) => is_copy(e, e.try_clone(alloc)),
+        Expr::Binary(e) => is_copy(e, e.try_clone(alloc)),
+        Expr::Paren(e) => is_copy(e, e.try_clone(alloc)),
+        Expr::Subquery(e) => is_copy(e, e.try_clone(alloc)),
+        Expr::NumberLiteral(e) => Ok(*e == NumberLiteral::new(e.val)),
+        Expr::StringLiteral(e) => is_copy(e, e.try_clone(alloc)),
+        Expr::VectorSelector(e) => is_copy(e, e.try_clone(alloc)),
+        Expr::MatrixSelector(e) => is_copy(e, e.try_clone(alloc)),
+        Expr::Call(e) => is_copy(e, e.try_clone(alloc)),
+        Expr::Extension(e) => is_copy(e, e.try_clone(alloc)),
+    }
+}
+
+#[test]
+fn nodes_by_themselves_are_copied(rt: HostRuntime) -> Result<(), Fail> {
+    for text in &KINDS {
+        let expr = kind(rt.alloc(), text)?;
+        assert!(rt; is_copied(rt.alloc(), &expr)?, "{text}");
+    }
+    Ok(())
+}
