@@ -1,16 +1,13 @@
-//! Each kind of node built, checked, copied, printed, laid out, walked and as JSON. Parts are read from texts; nodes that
-//! no text gives are made by hand.
+//! Each kind of node built, checked, copied, printed and laid out. Parts are read from texts; nodes that no text gives are
+//! made by hand.
 
 mod builders;
-mod changes;
 mod checks;
-mod json;
 mod layout;
 mod memory;
 mod parts;
 mod printing;
 mod trees;
-mod walks;
 mod writers;
 
 use promql_ast::{CheckError, Expr};

@@ -1,6 +1,6 @@
 //! The order of a walk, and where it ends.
 
-use super::trees::extension;
+use super::extension;
 use promql_ast::Expr;
 use promql_label::{MatchOp, Matchers};
 use promql_parser::parser::parse;

@@ -1,11 +1,11 @@
 //! Visitors that change nodes, stop, and fail.
 
-use super::shows;
-use super::trees::{extension, number};
 use super::walks::{chain, sum};
+use super::{extension, prints};
 use promql_ast::Expr;
 use promql_label::{MatchOp, Matcher, Matchers};
 use promql_parser::parser::parse;
+use promql_text::Number;
 use promql_walk::{ExprVisitorMut, walk_expr_mut};
 use std::alloc::{AllocError, Global};
 use std::mem;
@@ -54,7 +54,7 @@ fn a_label_is_enforced(rt: HostRuntime) -> Result<(), Fail> {
         let mut both = extension(alloc, "metric_a", "metric_b")?;
         let end = walk_expr_mut(&mut Enforce { alloc, stops }, &mut both);
         assert!(rt; end == Ok(!stops));
-        shows(&rt, alloc, Ok(both), want)?;
+        prints(&rt, alloc, &both, want)?;
     }
     Ok(())
 }
@@ -71,7 +71,7 @@ impl ExprVisitorMut for Zero {
     fn pre_visit(&mut self, expr: &mut Expr) -> Result<bool, &'static str> {
         match expr {
             Expr::VectorSelector(_) => {
-                *expr = Expr::from(number("0"));
+                *expr = Expr::from(Number::from_i64(0));
                 Ok(true)
             }
             Expr::NumberLiteral(_) => {
@@ -100,7 +100,7 @@ fn nodes_are_replaced(rt: HostRuntime) -> Result<(), Fail> {
     for (first, second, end, want) in &REPLACED {
         let mut node = extension(alloc, first, second)?;
         assert!(rt; walk_expr_mut(&mut Zero(alloc), &mut node) == *end);
-        shows(&rt, alloc, Ok(node), want)?;
+        prints(&rt, alloc, &node, want)?;
     }
     Ok(())
 }
@@ -130,7 +130,7 @@ impl ExprVisitorMut for Wrap {
         self.left -= 1;
         let is_sum = matches!(expr, Expr::Binary(_));
         if is_sum {
-            let sum = mem::replace(expr, Expr::from(number("0")));
+            let sum = mem::replace(expr, Expr::from(Number::from_i64(0)));
             *expr = Expr::new_paren_expr(self.alloc, sum)?;
         }
         Ok(true)
@@ -154,7 +154,7 @@ fn nodes_may_grow_after_their_children(rt: HostRuntime) -> Result<(), Fail> {
         };
         assert!(rt; walk_expr_mut(&mut wrap, &mut expr) == Ok(*end));
         assert_eq!(rt; wrap.left, *left);
-        shows(&rt, alloc, Ok(expr), want)?;
+        prints(&rt, alloc, &expr, want)?;
     }
     Ok(())
 }
@@ -182,4 +182,39 @@ fn high_sums_are_changed(rt: HostRuntime) -> Result<(), Fail> {
     assert_eq!(rt; nodes_left(rt.alloc(), &mut expr), 1);
     assert!(rt; matches!(expr, Expr::Paren(_)));
     Ok(())
+}
+
+/// Puts 0 in the place of each operator, and counts the calls.
+#[derive(Drop)]
+struct Cut(usize);
+
+impl ExprVisitorMut for Cut {
+    type Error = AllocError;
+
+    ghost pre_gives = { λ _ _ _ _ _. Unit {0} };
+
+    ghost post_gives = { λ _ _ _ _ _. Unit {0} };
+
+    fn pre_visit(&mut self, expr: &mut Expr) -> Result<bool, AllocError> {
+        self.0 = self.0.saturating_add(1);
+        if matches!(expr, Expr::Binary(_)) {
+            *expr = Expr::from(Number::from_i64(0));
+        }
+        Ok(true)
+    }
+
+    fn post_visit(&mut self, _expr: &mut Expr) -> Result<bool, AllocError> {
+        self.0 = self.0.saturating_add(1);
+        Ok(true)
+    }
+}
+
+#[test]
+fn what_was_replaced_is_not_walked(rt: HostRuntime) -> Result<(), Fail> {
+    let alloc = rt.alloc();
+    let mut expr = parse(alloc, "topk(5, a) + b")?;
+    let mut cut = Cut(0);
+    assert!(rt; walk_expr_mut(&mut cut, &mut expr) == Ok(true));
+    assert_eq!(rt; cut.0, 2);
+    prints(&rt, alloc, &expr, "0")
 }

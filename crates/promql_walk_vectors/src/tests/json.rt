@@ -1,8 +1,8 @@
 //! The JSON form of each kind of node, of nodes and parts by themselves, and what has none.
 
-use super::trees::{arguments, extension, function, number};
-use promql_ast::{CheckError, Expr};
-use promql_kind::{ValueType, VectorMatchCardinality, VectorMatchFillValues};
+use super::extension;
+use promql_ast::{CheckError, Expr, FunctionArgs};
+use promql_kind::{ValueType, VectorMatchCardinality, VectorMatchFillValues, get_function};
 use promql_label::{Labels, MatchOp, Matcher, Matchers};
 use promql_parser::parser::parse;
 use promql_text::Number;
@@ -150,11 +150,12 @@ fn has_line<T: ToJson>(rt: &impl Abort, alloc: Global, value: &T, want: &str) ->
 fn types_functions_and_arguments_have_forms(rt: HostRuntime) -> Result<(), Fail> {
     let alloc = rt.alloc();
     has_line(&rt, alloc, &ValueType::Matrix, r#""matrix""#)?;
-    let label_join = function(alloc, "label_join")?;
+    let label_join = get_function(alloc, "label_join")?;
+    let label_join = label_join.expect(&rt, "the function is in the table");
     let signature =
         r#"{"argTypes":["vector","string","string","string"],"experimental":false,"name":"label_join","returnType":"vector","variadic":-1}"#;
     has_line(&rt, alloc, &label_join, signature)?;
-    let args = arguments(alloc, &["1"])?;
+    let args = FunctionArgs::new_args(alloc, parse(alloc, "1")?)?;
     let list = r#"{"args":[{"type":"numberLiteral","val":"1"}]}"#;
     has_line(&rt, alloc, &args, list)
 }
@@ -168,7 +169,7 @@ fn parts_of_modifiers_have_forms(rt: HostRuntime) -> Result<(), Fail> {
     has_line(&rt, alloc, &group, r#"{"one-to-many":["k"]}"#)?;
     let many = VectorMatchCardinality::ManyToMany;
     has_line(&rt, alloc, &many, r#""many-to-many""#)?;
-    let fills = VectorMatchFillValues::new(Number::Inf, number("0x10"));
+    let fills = VectorMatchFillValues::new(Number::Inf, Number::from_i64(16));
     has_line(&rt, alloc, &fills, r#"{"lhs":"Inf","rhs":"16"}"#)
 }
 
