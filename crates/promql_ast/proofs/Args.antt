@@ -1,6 +1,6 @@
 -- Lists of arguments, as lists of the code and as lists of trees.
 use Rattle.std.proofs.Common.{◌≡◌, ◌∙◌, ◌+◌, ◌-◌, suc, slice_get, List, [], ◌∷◌, ◌++◌, Some, map, length, refl, sym, ap, arith}
-use Rattle.promql_ast.specs.Arguments.{appended, count, last_of}
+use Rattle.promql_ast.specs.Arguments.{append_tree, count, last_of}
 use Rattle.promql_ast.specs.Tree.{Tree, first_tree}
 use Rattle.promql_ast.specs.View.{trees}
 
@@ -11,7 +11,7 @@ module _ {X : Type 0} (f : X → Tree) where
       let one : suc (count (trees (map f xs))) ≡ count (trees (map f xs)) + 1 = omega arith in
       ap suc (count_trees xs) ∙ one
 
-  pub appended_trees : (xs : List X) (x : X) → trees (map f (xs ++ x ∷ [])) ≡ appended (trees (map f xs)) (f x)
+  pub appended_trees : (xs : List X) (x : X) → trees (map f (xs ++ x ∷ [])) ≡ append_tree (trees (map f xs)) (f x)
   appended_trees [] x = refl
   appended_trees (y ∷ xs) x = ap (first_tree (f y)) (appended_trees xs x)
 

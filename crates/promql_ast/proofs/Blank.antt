@@ -5,7 +5,7 @@ use Rattle.promql_text.specs.Texts.{Text, joined_text}
 use Rattle.promql_label.specs.PlainMatchers.{PlainMatcher, plain_matcher, PlainMatchers, plain_matchers, name_text, operator_text, matcher_text, group_text, matchers_text}
 use Rattle.promql_label.specs.SortedTexts.{insert_text, sorted_texts, text_order}
 use Rattle.promql_ast.specs.BlankMatchers.{is_blank}
-use Rattle.promql_ast.specs.node.Vector.{braced}
+use Rattle.promql_ast.specs.node.Vector.{with_braces}
 
 -- a text that is not empty
 abbrev is_filled : Text → Bool
@@ -80,9 +80,9 @@ blank_text (plain_matchers plain ([] ∷ [])) e = refl
 blank_text (plain_matchers plain ((c ∷ cs) ∷ [])) e = cc
 blank_text (plain_matchers plain (g ∷ h ∷ groups)) e = cc
 
-braced_filled : (t : Text) → is_filled t ≡ true → braced t ≡ codes "{" ++ (t ++ codes "}")
+braced_filled : (t : Text) → is_filled t ≡ true → with_braces t ≡ codes "{" ++ (t ++ codes "}")
 braced_filled [] e = cc
 braced_filled (b ∷ t) e = refl
 
-pub braced_text : (ms : PlainMatchers) → is_blank ms ≡ false → braced (matchers_text ms) ≡ codes "{" ++ (matchers_text ms ++ codes "}")
+pub braced_text : (ms : PlainMatchers) → is_blank ms ≡ false → with_braces (matchers_text ms) ≡ codes "{" ++ (matchers_text ms ++ codes "}")
 braced_text ms e = braced_filled (matchers_text ms) (text_filled ms e)

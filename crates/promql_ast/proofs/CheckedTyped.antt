@@ -14,8 +14,8 @@ use Rattle.promql_kind.specs.declared.value.ValueType.{ValueType}
 use Rattle.promql_kind.specs.declared.value.ValueType.TheVariants.{Vector, Scalar, Matrix, String}
 use Rattle.promql_kind.proofs.Same.{type_eq-Decides}
 use Rattle.promql_ast.specs.Arguments.{count}
-use Rattle.promql_ast.specs.Checked.{checked}
-use Rattle.promql_ast.specs.Checks.{when, first_fault, unless, is_scalar, is_vector, is_scalar_or_vector, mistyped}
+use Rattle.promql_ast.specs.Checked.{check_tree}
+use Rattle.promql_ast.specs.Checks.{when, first_fault, unless, is_scalar, is_vector, is_scalar_or_vector, type_fault}
 use Rattle.promql_ast.specs.Faults.{Fault, Place, in_aggregation, binary_operator, bool_modifier, scalar_comparison, set_on_scalar, no_grouping, binary_types, vector_matching, Verdict, passes}
 use Rattle.promql_ast.specs.OptionalModifiers.{has_matching_labels, is_grouped, is_on, joint_labels, returns_bool}
 use Rattle.promql_ast.specs.Selectors.{Selector, selector}
@@ -23,7 +23,7 @@ use Rattle.promql_ast.specs.Tree.{Tree, aggregate, unary, binary, paren, subquer
 use Rattle.promql_ast.specs.Typed.{IsApart, IsManyToMany, TypedBinary, TypedParam, TypedAggregate, TakesCount, TypedArgs, Named, TypedSelector, Typed, TypedBelow}
 use Rattle.promql_ast.specs.Types.{type_of}
 use Rattle.promql_ast.specs.check.Aggregate.{aggregate_fault, maybe_type, param_fault, param_type}
-use Rattle.promql_ast.specs.check.Binary.{first_twice, label_fault, operator_fault, set_fault, settled, settled_set, side_fault}
+use Rattle.promql_ast.specs.check.Binary.{first_twice, label_fault, operator_fault, set_fault, settle_matching, settled_set, side_fault}
 use Rattle.promql_ast.specs.check.Call.{arity_fault, is_exempt, types_fault, typing_fault}
 use Rattle.promql_ast.specs.check.Vector.{name_fault, second_name, selector_fault}
 
@@ -33,8 +33,8 @@ unless_passes : (f : Option Fault) (v : Verdict) (u : Tree) → unless f v ≡ p
 unless_passes (Some f) v u e = cc
 unless_passes None v u e = (refl, e)
 
-passed : (t u : Tree) → passes t ≡ passes u → t ≡ u
-passed t u e = cc
+passes_is_injective : (t u : Tree) → passes t ≡ passes u → t ≡ u
+passes_is_injective t u e = cc
 
 first_none : (f : Option Fault) (fs : List (Option Fault)) → first_fault (f ∷ fs) ≡ None → (f ≡ None) × (first_fault fs ≡ None)
 first_none (Some f) fs e = cc
@@ -66,10 +66,10 @@ not_false : (b : Bool) → not b ≡ false → b ≡ true
 not_false true e = refl
 not_false false e = cc
 
-implied : (a b : Bool) → (a && not b) ≡ false → a ≡ true → b ≡ true
-implied true true e h = refl
-implied true false e h = cc
-implied false b e h = cc
+true_of_and_not : (a b : Bool) → (a && not b) ≡ false → a ≡ true → b ≡ true
+true_of_and_not true true e h = refl
+true_of_and_not true false e h = cc
+true_of_and_not false b e h = cc
 
 implied_by_three : (a b c d : Bool) → (a && (b && (c && not d))) ≡ false → a ≡ true → b ≡ true → c ≡ true → d ≡ true
 implied_by_three true true true d e ha hb hc = not_false d e
@@ -111,13 +111,13 @@ vector_left Scalar e h = cc
 vector_left Matrix e h = cc
 vector_left String e h = cc
 
-typed_as : (k : ValueType) (p : Place) (t : ValueType) → mistyped k p (Some t) ≡ None → k ≡ t
+typed_as : (k : ValueType) (p : Place) (t : ValueType) → type_fault k p (Some t) ≡ None → k ≡ t
 typed_as k p t e = is_type k t (not_false (type_eq k t) (when_none _ _ e))
 
 -- ---- binary expressions
 
 module _ (op : ℕ) (m : Option Matching) where
-  settled_bool : returns_bool (settled op m) ≡ returns_bool m
+  settled_bool : returns_bool (settle_matching op m) ≡ returns_bool m
   settled_bool = go (is_set_operator op) m
     where
       go : (b : Bool) (n : Option Matching) → returns_bool (if b then Some (settled_set n) else n) ≡ returns_bool n
@@ -125,7 +125,7 @@ module _ (op : ℕ) (m : Option Matching) where
       go true None = refl
       go true (Some (matching card clause return_bool values)) = refl
 
-  settled_on : is_on (settled op m) ≡ is_on m
+  settled_on : is_on (settle_matching op m) ≡ is_on m
   settled_on = go (is_set_operator op) m
     where
       go : (b : Bool) (n : Option Matching) → is_on (if b then Some (settled_set n) else n) ≡ is_on n
@@ -133,7 +133,7 @@ module _ (op : ℕ) (m : Option Matching) where
       go true None = refl
       go true (Some (matching card clause return_bool values)) = refl
 
-  settled_labels : has_matching_labels (settled op m) ≡ has_matching_labels m
+  settled_labels : has_matching_labels (settle_matching op m) ≡ has_matching_labels m
   settled_labels = go (is_set_operator op) m
     where
       go : (b : Bool) (n : Option Matching) → has_matching_labels (if b then Some (settled_set n) else n) ≡ has_matching_labels n
@@ -141,7 +141,7 @@ module _ (op : ℕ) (m : Option Matching) where
       go true None = refl
       go true (Some (matching card clause return_bool values)) = refl
 
-  settled_joint : joint_labels (settled op m) ≡ joint_labels m
+  settled_joint : joint_labels (settle_matching op m) ≡ joint_labels m
   settled_joint = go (is_set_operator op) m
     where
       go : (b : Bool) (n : Option Matching) → joint_labels (if b then Some (settled_set n) else n) ≡ joint_labels n
@@ -152,7 +152,7 @@ module _ (op : ℕ) (m : Option Matching) where
       go true (Some (matching (one_to_many ls) clause return_bool values)) = refl
       go true (Some (matching many_to_many clause return_bool values)) = refl
 
-  settled_many : is_set_operator op ≡ true → is_grouped m ≡ false → IsManyToMany (settled op m)
+  settled_many : is_set_operator op ≡ true → is_grouped m ≡ false → IsManyToMany (settle_matching op m)
   settled_many set grouped = subst (λ b. IsManyToMany (if b then Some (settled_set m) else m)) (sym set) (go m grouped)
     where
       go : (n : Option Matching) → is_grouped n ≡ false → IsManyToMany (Some (settled_set n))
@@ -171,7 +171,7 @@ labels_apart : (m : Option Matching) → label_fault m ≡ None → is_on m ≡ 
 labels_apart m e on = apart (joint_labels m) (ap (λ b. if b then first_twice (joint_labels m) else None) (sym on) ∙ e)
 
 typed_binary : (op : ℕ) (l r : ValueType) (m : Option Matching) → operator_fault op l r m ≡ None → label_fault m ≡ None
-    → set_fault op l r m ≡ None → side_fault l r m ≡ None → TypedBinary op l r (settled op m)
+    → set_fault op l r m ≡ None → side_fault l r m ≡ None → TypedBinary op l r (settle_matching op m)
 typed_binary op l r m operators labels sets sides =
     let op_faults = none_of_three (not (is_operator op)) (returns_bool m && not (is_comparison_operator op))
     (is_comparison_operator op && (is_scalar l && (is_scalar r && not (returns_bool m)))) (binary_operator op) bool_modifier scalar_comparison operators in
@@ -185,7 +185,7 @@ typed_binary op l r m operators labels sets sides =
     (vector_left l both.0 neither.0, vector_left r both.1 neither.1) in
     record {
       operator = not_false (is_operator op) op_faults.0;
-      bool_on_comparison = λ e. implied (returns_bool m) (is_comparison_operator op) op_faults.1 (sym (settled_bool op m) ∙ e);
+      bool_on_comparison = λ e. true_of_and_not (returns_bool m) (is_comparison_operator op) op_faults.1 (sym (settled_bool op m) ∙ e);
       scalars_with_bool = λ compares left right.
           settled_bool op m
           ∙ implied_by_three (is_comparison_operator op) (is_scalar l) (is_scalar r) (returns_bool m) op_faults.2 compares (of_type l Scalar left) (of_type r Scalar right);
@@ -223,16 +223,16 @@ typed_aggregate op e p h =
 
 -- ---- selectors
 
-named : (name : Option Text) (ms : PlainMatchers) → name_fault name ms ≡ None → Named name ms
-named (Some n) ms e = go (found_value ms _) e
+name_without_fault : (name : Option Text) (ms : PlainMatchers) → name_fault name ms ≡ None → Named name ms
+name_without_fault (Some n) ms e = go (found_value ms _) e
   where
     go : (v : Option Text) → second_name n v ≡ None → v ≡ None
     go None h = refl
     go (Some v) h = cc
-named None ms e = when_none _ _ e
+name_without_fault None ms e = when_none _ _ e
 
 typed_selector : (s : Selector) → selector_fault s ≡ None → TypedSelector s
-typed_selector (selector name ms offset at) e = named name ms e
+typed_selector (selector name ms offset at) e = name_without_fault name ms e
 
 -- ---- calls
 
@@ -247,12 +247,12 @@ typed_args name (k ∷ j ∷ ks) (first_tree t ts) e =
     (sym (is_type k (type_of t) (not_false _ parts.0)), typed_args name (j ∷ ks) ts parts.1)
 
 -- of nested tests without a fault, those that are reached fail
-nested : (z same less negative more : Bool) (f g h : Fault)
+first_fault_of_four : (z same less negative more : Bool) (f g h : Fault)
     → (if z then (if not same then Some f else None)
     else (if less then Some g else (if negative then None else (if more then Some h else None)))) ≡ None
     → (z ≡ true → same ≡ true) × (z ≡ false → less ≡ false) × (z ≡ false → negative ≡ false → more ≡ false)
-nested true same less negative more f g h e = ((λ _. not_false same (if_none (not same) f None e).0), (λ k. cc), (λ k j. cc))
-nested false same less negative more f g h e =
+first_fault_of_four true same less negative more f g h e = ((λ _. not_false same (if_none (not same) f None e).0), (λ k. cc), (λ k j. cc))
+first_fault_of_four false same less negative more f g h e =
     let parts = if_none less g (if negative then None else (if more then Some h else None)) e in
     ((λ k. cc), (λ _. parts.0), (λ _ plain. go negative more plain parts.1))
   where
@@ -269,7 +269,7 @@ not_less a b e = ltb-false a b e
 
 takes : (name : Text) (v : ℤ) (n k : ℕ) → arity_fault name v n k ≡ None → TakesCount v n k
 takes name v n k e =
-    let parts = nested (unsigned_abs v == 0) (k == n) (nat_lt k (n - 1)) (is_negative v) (nat_lt (n - 1 + unsigned_abs v) k) _ _ _ e in
+    let parts = first_fault_of_four (unsigned_abs v == 0) (k == n) (nat_lt k (n - 1)) (is_negative v) (nat_lt (n - 1 + unsigned_abs v) k) _ _ _ e in
     let some : (unsigned_abs v ≡ 0 → ⊥) → (unsigned_abs v == 0) ≡ false =
     λ h. is_false (unsigned_abs v == 0) (λ t. h ((Decides-eqb (unsigned_abs v) 0).0 t)) in (
       (λ z. (Decides-eqb k n).0 (parts.0 ((Decides-eqb (unsigned_abs v) 0).1 z))),
@@ -282,37 +282,37 @@ typing name ks ts e h = typed_args name ks ts (ap (λ b. if b then None else typ
 
 -- ---- the law
 
-pub checked_typed : (t u : Tree) → TypedBelow t → checked t ≡ passes u → Typed u
+pub checked_typed : (t u : Tree) → TypedBelow t → check_tree t ≡ passes u → Typed u
 checked_typed (aggregate op e p m) u below h =
     let parts = unless_passes _ _ u h in
     let whole : Typed (aggregate op e p m) = (typed_aggregate op (type_of e) (maybe_type p) parts.0, below) in
-    subst Typed (passed (aggregate op e p m) u parts.1) whole
+    subst Typed (passes_is_injective (aggregate op e p m) u parts.1) whole
 checked_typed (unary e) u below h =
     let parts = unless_passes _ _ u h in
     let whole : Typed (unary e) = (either_type (type_of e) (not_false _ (when_none _ _ parts.0)), below) in
-    subst Typed (passed (unary e) u parts.1) whole
+    subst Typed (passes_is_injective (unary e) u parts.1) whole
 checked_typed (binary op l r m) u below h =
     let one = unless_passes _ _ u h in
     let two = unless_passes _ _ u one.1 in
     let three = unless_passes _ _ u two.1 in
     let four = unless_passes _ _ u three.1 in
-    let whole : Typed (binary op l r (settled op m)) = (typed_binary op (type_of l) (type_of r) m one.0 two.0 three.0 four.0, below) in
-    subst Typed (passed (binary op l r (settled op m)) u four.1) whole
-checked_typed (paren e) u below h = subst Typed (passed (paren e) u h) below
+    let whole : Typed (binary op l r (settle_matching op m)) = (typed_binary op (type_of l) (type_of r) m one.0 two.0 three.0 four.0, below) in
+    subst Typed (passes_is_injective (binary op l r (settle_matching op m)) u four.1) whole
+checked_typed (paren e) u below h = subst Typed (passes_is_injective (paren e) u h) below
 checked_typed (subquery e offset at range step) u below h =
     let parts = unless_passes _ _ u h in
     let whole : Typed (subquery e offset at range step) = (is_type (type_of e) Vector (not_false _ (when_none _ _ parts.0)), below) in
-    subst Typed (passed (subquery e offset at range step) u parts.1) whole
-checked_typed (number n) u below h = subst Typed (passed (number n) u h) tt
-checked_typed (string s) u below h = subst Typed (passed (string s) u h) tt
+    subst Typed (passes_is_injective (subquery e offset at range step) u parts.1) whole
+checked_typed (number n) u below h = subst Typed (passes_is_injective (number n) u h) tt
+checked_typed (string s) u below h = subst Typed (passes_is_injective (string s) u h) tt
 checked_typed (vector s) u below h =
     let parts = unless_passes _ _ u h in
-    subst Typed (passed (vector s) u parts.1) (typed_selector s parts.0)
-checked_typed (matrix s range mode) u below h = subst Typed (passed (matrix s range mode) u h) below
+    subst Typed (passes_is_injective (vector s) u parts.1) (typed_selector s parts.0)
+checked_typed (matrix s range mode) u below h = subst Typed (passes_is_injective (matrix s range mode) u h) below
 checked_typed (call (signature name types variadic gives experimental) ts) u below h =
     let one = unless_passes _ _ u h in
     let two = unless_passes _ _ u one.1 in
     let whole : Typed (call (signature name types variadic gives experimental) ts) =
     (record { arguments = takes name variadic (length types) (count ts) one.0; typed = typing name types ts two.0 }, below) in
-    subst Typed (passed (call (signature name types variadic gives experimental) ts) u two.1) whole
-checked_typed (extension name gives es) u below h = subst Typed (passed (extension name gives es) u h) below
+    subst Typed (passes_is_injective (call (signature name types variadic gives experimental) ts) u two.1) whole
+checked_typed (extension name gives es) u below h = subst Typed (passes_is_injective (extension name gives es) u h) below

@@ -1,6 +1,6 @@
 -- What builders make of expressions of the kinds that they do not take.
 use Rattle.std.proofs.Common.{◌≡◌, None, Err, refl, sym, subst, ℕ}
-use Rattle.promql_ast.specs.Builds.{at_given, minus, mode_given, negated, offset_given, ranged, scalar_value}
+use Rattle.promql_ast.specs.Builds.{at_given, minus, mode_given, negate_tree, offset_given, with_range, scalar_value}
 use Rattle.promql_ast.specs.Faults.{Gives, Verdict, passes, rejected, node}
 use Rattle.promql_ast.specs.Shifts.{Moment, Shift}
 use Rattle.promql_ast.specs.Tree.{unary}
@@ -20,17 +20,17 @@ pub no_scalar : (e : Expr) → ((x : _) → e ≡ NumberLiteral x → ⊥) → N
 no_scalar (NumberLiteral x) h = absurd (h x refl)
 no_scalar _ h = refl
 
-pub negated_other : (e : Expr) → ((x : _) → e ≡ NumberLiteral x → ⊥) → unary (tree_of e) ≡ negated (tree_of e)
+pub negated_other : (e : Expr) → ((x : _) → e ≡ NumberLiteral x → ⊥) → unary (tree_of e) ≡ negate_tree (tree_of e)
 negated_other (NumberLiteral x) h = absurd (h x refl)
 negated_other _ h = refl
 
 pub minus_other : (e : Expr) → ((x : _) → e ≡ StringLiteral x → ⊥) → ((x : _) → e ≡ MatrixSelector x → ⊥)
-    → minus (tree_of e) ≡ passes (negated (tree_of e))
+    → minus (tree_of e) ≡ passes (negate_tree (tree_of e))
 minus_other (StringLiteral x) s m = absurd (s x refl)
 minus_other (MatrixSelector x) s m = absurd (m x refl)
 minus_other _ s m = refl
 
-pub ranged_other : (e : Expr) (n : ℕ) → ((x : _) → e ≡ VectorSelector x → ⊥) → ranged (tree_of e) n ≡ rejected (node RangeBase)
+pub ranged_other : (e : Expr) (n : ℕ) → ((x : _) → e ≡ VectorSelector x → ⊥) → with_range (tree_of e) n ≡ rejected (node RangeBase)
 ranged_other (VectorSelector x) n v = absurd (v x refl)
 ranged_other _ n v = refl
 

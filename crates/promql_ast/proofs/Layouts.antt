@@ -128,13 +128,8 @@ lines_alike (extension name gives es) level most = indented level _ _ (same (tex
 pub keeps_alike : {E : Type 0} (bs line : Text) (r : Result (String Global) E) → Alike bs line → IfOk r (λ s. string_bytes s ≡ bs) → Keeps (Some line) r
 keeps_alike bs line r p h = IfOk-weaker r _ _ (λ s e. ap squeeze e ∙ p.shown) h
 
--- pushed onto an empty text
+pub keeps_laid : {E : Type 0} (t u : Tree) (level most : ℕ) (line : Option Text) (r : Result (String Global) E) → t ≡ u → line ≡ Some (text u) → IfOk r (λ s. string_bytes s ≡ laid t level most) → Keeps line r
+keeps_laid t u level most line r is shows h = subst (λ o. Keeps o r) (sym (shows ∙ ap (λ v. Some (text v)) (sym is))) (keeps_alike (laid t level most) (text t) r (laid_alike t level most) h)
 
-pub shown_laid : (t : Tree) (level most : ℕ) (start all : Text) → start ≡ [] → all ≡ start ++ laid t level most → squeeze all ≡ squeeze (text t)
-shown_laid t level most start all e p = ap squeeze (p ∙ ap (λ s. s ++ laid t level most) e) ∙ (laid_alike t level most).shown
-
-pub shown_lines : (t : Tree) (level most : ℕ) (start all : Text) → start ≡ [] → all ≡ start ++ lines t level most → squeeze all ≡ squeeze (text t)
-shown_lines t level most start all e p = ap squeeze (p ∙ ap (λ s. s ++ lines t level most) e) ∙ (lines_alike t level most).shown
-
-pub shown_args : (ts : Trees) (level most : ℕ) (start all : Text) → start ≡ [] → all ≡ start ++ args_laid ts level most → squeeze all ≡ squeeze (joined_text (codes ", ") (texts ts))
-shown_args ts level most start all e p = ap squeeze (p ∙ ap (λ s. s ++ args_laid ts level most) e) ∙ (args_alike ts level most).shown
+pub keeps_lines : {E : Type 0} (t u : Tree) (level most : ℕ) (line : Option Text) (r : Result (String Global) E) → t ≡ u → line ≡ Some (text u) → IfOk r (λ s. string_bytes s ≡ lines t level most) → Keeps line r
+keeps_lines t u level most line r is shows h = subst (λ o. Keeps o r) (sym (shows ∙ ap (λ v. Some (text v)) (sym is))) (keeps_alike (lines t level most) (text t) r (lines_alike t level most) h)

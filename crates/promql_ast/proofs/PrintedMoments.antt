@@ -8,10 +8,10 @@ use Rattle.std.specs.Str.Parse.{AllDigits, digits_value, digits_value_after}
 use Rattle.std.proofs.lemmas.Bool.{le-leb, leb-true, ne_eqb}
 use Rattle.std.proofs.lemmas.Bool.Decides.{nat_tests}
 use Rattle.std.proofs.lemmas.Fmt.{decimal_digit, decimal_is_IsNumeral_wide}
-use Rattle.promql_text.specs.DecimalForm.{front, unsigned}
+use Rattle.promql_text.specs.DecimalForm.{front, without_sign}
 use Rattle.promql_text.specs.Millis.{millis, to_millis, within_i64}
 use Rattle.promql_text.specs.NumberText.{finite, is_octal, read_number}
-use Rattle.promql_text.specs.Numbers.{Exact, digit_count, exact_zero, is_in_range, negated, placed, scaled}
+use Rattle.promql_text.specs.Numbers.{Exact, digit_count, exact_zero, is_in_range, negate, from_digits, exact_quotient}
 use Rattle.promql_text.specs.Texts.{Text}
 use Rattle.promql_text.specs.Values.{neg}
 use Rattle.promql_text.specs.declared.number.Number.{Number}
@@ -86,15 +86,15 @@ record Reads (b : Bool) (k : ℕ) : Type 0 where
   pub some : 0 < k → (number.digits == 0) ≡ false
 
 finite_three : (b : Bool) (k c z : ℕ) → k < 2 ^ 64 → c * 10 ^ z ≡ k → c < 10 ^ 38 → (c % 10 ≡ 0 → c ≡ 0)
-    → finite b (plain_numeral (decimal (k / 1000)) (fraction k)) ≡ ok_or (option_map Finite (placed b c (z + 0) 3)) fault.OutOfRange
+    → finite b (plain_numeral (decimal (k / 1000)) (fraction k)) ≡ ok_or (option_map Finite (from_digits b c (z + 0) 3)) fault.OutOfRange
 finite_three b k c z low is short ends =
     finite_short b (plain_numeral (decimal (k / 1000)) (fraction k)) c z (decimal_is_IsNumeral_wide (k / 1000) (omega arith)).0.1 (fraction_digits k) (is ∙ sym (all_value k low)) short ends
-    ∙ ap (λ n. ok_or (option_map Finite (placed b c (z + 0) n)) fault.OutOfRange) (fraction_length k)
+    ∙ ap (λ n. ok_or (option_map Finite (from_digits b c (z + 0) n)) fault.OutOfRange) (fraction_length k)
 
-ranged : (c up down : ℕ) → digit_count c + up ≤ 309 + down → down ≤ digit_count c + up + 323 → is_in_range c up down ≡ true
-ranged c up down below above = grind (arith, nat_tests)
+in_range_of_bounds : (c up down : ℕ) → digit_count c + up ≤ 309 + down → down ≤ digit_count c + up + 323 → is_in_range c up down ≡ true
+in_range_of_bounds c up down below above = grind (arith, nat_tests)
 
-scaled_millis : (b : Bool) (c z k : ℕ) → c * 10 ^ z ≡ k → millis (scaled b c (z + 0) 3) ≡ k
+scaled_millis : (b : Bool) (c z k : ℕ) → c * 10 ^ z ≡ k → millis (exact_quotient b c (z + 0) 3) ≡ k
 scaled_millis b c zero k is = omega (arith, is)
 scaled_millis b c (suc zero) k is = omega (arith, is)
 scaled_millis b c (suc (suc zero)) k is = omega (arith, is)
@@ -128,12 +128,12 @@ reads b (suc j) low =
     let few : z < 29 = zeros_below c z k 29 parts.is above (omega arith) in
     let count : digit_count c ≤ 29 = count_within 29 c (omega arith) (omega arith) (omega arith) in
     let none : (c == 0) ≡ false = ne_eqb c 0 (omega arith) in
-    let range : is_in_range c (z + 0) 3 ≡ true = ranged c (z + 0) 3 (omega arith) (omega arith) in
-    let place : placed b c (z + 0) 3 ≡ Some (scaled b c (z + 0) 3) =
-    ap (λ x. cond x (Some exact_zero) (cond (is_in_range c (z + 0) 3) (Some (scaled b c (z + 0) 3)) None)) none
-    ∙ ap (λ x. cond x (Some (scaled b c (z + 0) 3)) None) range in
+    let range : is_in_range c (z + 0) 3 ≡ true = in_range_of_bounds c (z + 0) 3 (omega arith) (omega arith) in
+    let place : from_digits b c (z + 0) 3 ≡ Some (exact_quotient b c (z + 0) 3) =
+    ap (λ x. cond x (Some exact_zero) (cond (is_in_range c (z + 0) 3) (Some (exact_quotient b c (z + 0) 3)) None)) none
+    ∙ ap (λ x. cond x (Some (exact_quotient b c (z + 0) 3)) None) range in
     record {
-      number = scaled b c (z + 0) 3;
+      number = exact_quotient b c (z + 0) 3;
       is = finite_three b k c z low parts.is (omega arith) (λ e. absurd (parts.ends e)) ∙ ap (λ o. ok_or (option_map Finite o) fault.OutOfRange) place;
       sign = λ _. refl;
       millis = scaled_millis b c z k parts.is;
@@ -146,7 +146,7 @@ seconds k = decimal (k / 1000) ++ (46 ∷ fraction k)
 not_octal_point : (b : Bool) (xs ys : Text) → is_octal (with_sign b (xs ++ (46 ∷ ys))) ≡ false
 not_octal_point b xs ys =
     let s : Text = with_sign b (xs ++ (46 ∷ ys)) in
-    ap (λ x. (front (unsigned s) == 48) && (not (length (drop 1 (unsigned s)) == 0) && not x)) (point_signed b xs ys) ∙ false_both _ _
+    ap (λ x. (front (without_sign s) == 48) && (not (length (drop 1 (without_sign s)) == 0) && not x)) (point_signed b xs ys) ∙ false_both _ _
   where
     false_both : (x y : Bool) → (x && (y && false)) ≡ false
     false_both true true = refl
@@ -172,8 +172,8 @@ at_reads b k r some fits = (λ i. at_of_millis (Finite r.number) (within_i64 (r.
 -- the number of the text without its sign, negated
 negated_reads : (k : ℕ) (r : Reads false k) → 0 < k → nat_le k (2 ^ 63) ≡ true → at_of_number (neg (Finite r.number)) ≡ Ok (At (neg_ℤ (pos k)))
 negated_reads k r some fits =
-    let minus : (negated r.number).is_negative ≡ true = (λ i. not (r.sign (λ e. some) i) && not (r.some some i)) in
-    (λ i. at_of_millis (Finite (negated r.number)) (within_i64 (minus i) (r.millis i))) ∙ at_within (Finite (negated r.number)) true k fits
+    let minus : (negate r.number).is_negative ≡ true = (λ i. not (r.sign (λ e. some) i) && not (r.some some i)) in
+    (λ i. at_of_millis (Finite (negate r.number)) (within_i64 (minus i) (r.millis i))) ∙ at_within (Finite (negate r.number)) true k fits
 
 not_negative : (n : ℕ) → is_negative (pos n) ≡ false
 not_negative n = none_below n

@@ -5,9 +5,9 @@ use Rattle.std.specs.List.{flat_map, join_by}
 use Rattle.std.proofs.lemmas.Bool.{ne_eqb}
 use Rattle.std.proofs.lemmas.List.{drop_more, drop_all}
 use Rattle.promql_text.specs.Texts.{Text, joined_text}
-use Rattle.promql_text.specs.Widths.{stopped, greatest, width}
+use Rattle.promql_text.specs.PrintedLen.{cap_usize, usize_max, printed_len}
 use Rattle.promql_ast.specs.Nodes.{nodes, all_nodes}
-use Rattle.promql_ast.specs.Splits.{decisions, all_decisions}
+use Rattle.promql_ast.specs.Decisions.{decisions, all_decisions}
 use Rattle.promql_ast.specs.Text.{text, texts}
 use Rattle.promql_ast.specs.Tree.{Tree}
 use Rattle.promql_ast.specs.View.{trees}
@@ -46,16 +46,22 @@ decisions_step f xs i most y a b all h e p q =
     ap (λ s. s ++ all_decisions (trees (map f (drop (i + 1) xs))) most) p ∙ append_assoc a _ _ ∙ ap (λ s. a ++ s) (sym (ap (λ ts. all_decisions (trees ts) most) (trees_next f xs i y h e))) ∙ q
 
 pub nodes_step : {X : Type 0} (f : X → Tree) (xs : List X) (i : ℕ) (y : X) (a b all : ℕ) → i < length xs → y ≡ get_or xs i y
-    → b ≡ stopped (a + nodes (f y)) → stopped (a + all_nodes (trees (map f (drop i xs)))) ≡ stopped all → stopped (b + all_nodes (trees (map f (drop (i + 1) xs)))) ≡ stopped all
+    → cap_usize b ≡ cap_usize (a + nodes (f y)) → cap_usize (a + all_nodes (trees (map f (drop i xs)))) ≡ cap_usize all → cap_usize (b + all_nodes (trees (map f (drop (i + 1) xs)))) ≡ cap_usize all
 nodes_step f xs i y a b all h e p q = omega (arith, p, q, ap (λ ts. all_nodes (trees ts)) (trees_next f xs i y h e))
 
-pub nodes_within : {X : Type 0} (f : X → Tree) (xs : List X) (i : ℕ) (y : X) (a b all : ℕ) → i < length xs → y ≡ get_or xs i y
-    → b ≤ stopped (a + nodes (f y)) → stopped (a + all_nodes (trees (map f (drop i xs)))) ≡ stopped all → b ≤ stopped all
-nodes_within f xs i y a b all h e p q = omega (arith, p, q, ap (λ ts. all_nodes (trees ts)) (trees_next f xs i y h e))
+pub nodes_end : {X : Type 0} (f : X → Tree) (xs : List X) (i a all : ℕ) → length xs ≤ i → cap_usize (a + all_nodes (trees (map f (drop i xs)))) ≡ cap_usize all → cap_usize a ≡ cap_usize all
+nodes_end f xs i a all h p = omega (arith, p, ap (λ ys. all_nodes (trees (map f ys))) (drop_all i xs h))
 
-pub nodes_end : {X : Type 0} (f : X → Tree) (xs : List X) (i a all : ℕ) → length xs ≤ i → a ≤ greatest → stopped (a + all_nodes (trees (map f (drop i xs)))) ≡ stopped all → a ≡ stopped all
-nodes_end f xs i a all h small p = omega (arith, small, p, ap (λ ys. all_nodes (trees (map f ys))) (drop_all i xs h))
+-- one of them has no more nodes than all of them
+nodes_left : {X : Type 0} (f : X → Tree) (xs : List X) (i : ℕ) → all_nodes (trees (map f (drop i xs))) ≤ all_nodes (trees (map f xs))
+nodes_left f [] zero = omega arith
+nodes_left f [] (suc i) = omega arith
+nodes_left f (x ∷ xs) zero = omega arith
+nodes_left f (x ∷ xs) (suc i) = omega (arith, nodes_left f xs i)
 
--- the width of all of them
-pub width_all : {X : Type 0} (f : X → Tree) (xs : List X) (i total : ℕ) → length xs ≤ i → total ≡ width (join_by (λ x. text (f x)) (codes ", ") (take i xs)) → total ≡ width (joined_text (codes ", ") (texts (trees (map f xs))))
-width_all f xs i total end so_far = so_far ∙ ap width (written_all f xs i end)
+pub nodes_of_one : {X : Type 0} (f : X → Tree) (xs : List X) (i : ℕ) (y : X) → i < length xs → y ≡ get_or xs i y → nodes (f y) ≤ all_nodes (trees (map f xs))
+nodes_of_one f xs i y h e = omega (arith, nodes_left f xs i, ap (λ ts. all_nodes (trees ts)) (trees_next f xs i y h e))
+
+-- the bytes of all of them
+pub len_all : {X : Type 0} (f : X → Tree) (xs : List X) (i total : ℕ) → length xs ≤ i → total ≡ printed_len (join_by (λ x. text (f x)) (codes ", ") (take i xs)) → total ≡ printed_len (joined_text (codes ", ") (texts (trees (map f xs))))
+len_all f xs i total end so_far = so_far ∙ ap printed_len (written_all f xs i end)

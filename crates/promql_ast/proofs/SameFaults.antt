@@ -7,12 +7,12 @@ use Rattle.std.proofs.lemmas.Slice.Eq.{bytes_eq-Decides}
 use Rattle.promql_text.specs.Equalities.{IsSameBy}
 use Rattle.promql_kind.proofs.Equal.{number_Decides, type_Decides}
 use Rattle.promql_ast.specs.Faults.{place_of, in_call, fault_of, binary_operator, label_twice, set_on_scalar, no_grouping, aggregator_expected, unary_type, subquery_type, node, error_fault}
-use Rattle.promql_ast.specs.contracts.fault.TypedPlacePartialEq.TheImpl as places
+use Rattle.promql_ast.specs.contracts.fault.TypeContextPartialEq.TheImpl as places
 use Rattle.promql_ast.specs.contracts.fault.NodeFaultPartialEq.TheImpl as nodes
 use Rattle.promql_ast.specs.contracts.fault.CheckFaultPartialEq.TheImpl as faults
 use Rattle.promql_ast.specs.contracts.fault.CheckErrorPartialEq.TheImpl as errors
 use Rattle.promql_ast.specs.contracts.at_modifier.AtFaultPartialEq.TheImpl as times
-use Rattle.promql_ast.specs.declared.fault.TypedPlace.TheVariants.{Aggregation, CallOf}
+use Rattle.promql_ast.specs.declared.fault.TypeContext.TheVariants.{Aggregation, CallOf}
 use Rattle.promql_ast.specs.declared.fault.NodeFault.TheVariants.{UnaryLiteral, OffsetBeforeRange, AtBeforeRange, RangeBase, AtTwice, AtBase, OffsetTwice, OffsetBase, NoArguments, ArgumentCount, ModeTwice, ModeBase}
 use Rattle.promql_ast.specs.declared.fault.CheckFault.TheVariants.{BinaryOperator, BoolModifier, ScalarComparison, LabelTwice, SetOnScalar, NoGrouping, BinaryTypes, VectorMatching, AggregatorExpected, TypeExpected, ArityExact, ArityLeast, ArityMost, UnaryType, SubqueryType, NameTwice, EmptySelector, Node}
 use Rattle.promql_ast.specs.declared.fault.CheckError.TheVariants.{Memory, Check}

@@ -1,10 +1,10 @@
--- Lists of arguments (docs/TREE.md, "Calls").
+-- Lists of arguments (docs/reference/tree.md, "Calls").
 use Rattle.std.specs.Prelude.{ℕ, ◌+◌, Option, Some, None}
 use Rattle.promql_ast.specs.Tree.{Tree, Trees, no_trees, first_tree}
 
-abbrev pub appended : Trees → Tree → Trees
-appended no_trees u = first_tree u no_trees
-appended (first_tree t ts) u = first_tree t (appended ts u)
+abbrev pub append_tree : Trees → Tree → Trees
+append_tree no_trees u = first_tree u no_trees
+append_tree (first_tree t ts) u = first_tree t (append_tree ts u)
 
 abbrev pub count : Trees → ℕ
 count no_trees = 0

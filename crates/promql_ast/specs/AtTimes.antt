@@ -1,4 +1,4 @@
--- The time after `@` (docs/TREE.md, "Offset and @").
+-- The time after `@` (docs/reference/tree.md, "Offset and @").
 use Rattle.std.specs.Prelude.{ℕ, ℤ, ◌==◌, if◌then◌else◌, Option, Some, None, Result, Ok, Err}
 use Rattle.promql_text.specs.Millis.{to_millis}
 use Rattle.promql_text.specs.declared.number.Number.{Number}

@@ -1,4 +1,4 @@
--- What the builders make of trees (docs/TREE.md, "Builders").
+-- What the builders make of trees (docs/reference/tree.md, "Builders").
 use Rattle.std.specs.Prelude.{ℕ, if◌then◌else◌, Option, Some, None}
 use Rattle.promql_text.specs.Values.{neg}
 use Rattle.promql_text.specs.declared.number.Number.{Number}
@@ -15,22 +15,22 @@ use Rattle.promql_ast.specs.declared.range_mode.RangeMode.{RangeMode}
 use Rattle.promql_ast.specs.declared.range_mode.RangeMode.TheVariants.{Plain, Smoothed, Anchored}
 
 -- "Minus": a number changes its sign, everything else gets a node
-abbrev pub negated : Tree → Tree
-negated (number n) = number (neg n)
-negated t = unary t
+abbrev pub negate_tree : Tree → Tree
+negate_tree (number n) = number (neg n)
+negate_tree t = unary t
 
 -- "Minus", but neither over a string literal nor over a matrix selector
 abbrev pub minus : Tree → Verdict
 minus (string s) = rejected (node (UnaryLiteral kind.String))
 minus (matrix s range mode) = rejected (node (UnaryLiteral kind.Matrix))
-minus t = passes (negated t)
+minus t = passes (negate_tree t)
 
 -- "Range": over a selector that has neither `offset` nor `@`
-abbrev pub ranged : Tree → ℕ → Verdict
-ranged (vector (selector name matchers (Some offset) at)) range = rejected (node OffsetBeforeRange)
-ranged (vector (selector name matchers None (Some at))) range = rejected (node AtBeforeRange)
-ranged (vector (selector name matchers None None)) range = passes (matrix (selector name matchers None None) range Plain)
-ranged _ range = rejected (node RangeBase)
+abbrev pub with_range : Tree → ℕ → Verdict
+with_range (vector (selector name matchers (Some offset) at)) range = rejected (node OffsetBeforeRange)
+with_range (vector (selector name matchers None (Some at))) range = rejected (node AtBeforeRange)
+with_range (vector (selector name matchers None None)) range = passes (matrix (selector name matchers None None) range Plain)
+with_range _ range = rejected (node RangeBase)
 
 -- "Offset and @": each once, on a selector, a matrix selector or a subquery
 abbrev pub at_given : Tree → Moment → Verdict
@@ -71,8 +71,8 @@ aggregated_with op m no_trees = rejected (node (NoArguments op))
 aggregated_with op m (first_tree p (first_tree e no_trees)) = passes (aggregate op e (present p) m)
 aggregated_with op m ts = rejected (node (ArgumentCount 2 (count ts)))
 
-abbrev pub aggregated : ℕ → Option Clause → Trees → Verdict
-aggregated op m ts = if is_aggregator_with_param op then aggregated_with op m ts else aggregated_alone op m ts
+abbrev pub aggregate_args : ℕ → Option Clause → Trees → Verdict
+aggregate_args op m ts = if is_aggregator_with_param op then aggregated_with op m ts else aggregated_alone op m ts
 
 -- the value of a number literal
 abbrev pub scalar_value : Tree → Option Number

@@ -1,4 +1,4 @@
--- Why a node is rejected (docs/TREE.md, "Checks" and "Builders"), as plain data.
+-- Why a node is rejected (docs/reference/tree.md, "Checks" and "Builders"), as plain data.
 use Rattle.std.specs.Prelude.{◌≡◌, ℕ, Option, Some, None, Result, Ok, Err, string_bytes}
 use Rattle.promql_text.specs.Texts.{Text}
 use Rattle.promql_kind.specs.declared.value.ValueType.{ValueType}
@@ -10,8 +10,8 @@ use Rattle.promql_ast.specs.declared.fault.CheckError.TheVariants as error
 use Rattle.promql_ast.specs.declared.fault.CheckFault.{CheckFault}
 use Rattle.promql_ast.specs.declared.fault.CheckFault.TheVariants as fault
 use Rattle.promql_ast.specs.declared.fault.NodeFault.{NodeFault}
-use Rattle.promql_ast.specs.declared.fault.TypedPlace.{TypedPlace}
-use Rattle.promql_ast.specs.declared.fault.TypedPlace.TheVariants.{Aggregation, CallOf}
+use Rattle.promql_ast.specs.declared.fault.TypeContext.{TypeContext}
+use Rattle.promql_ast.specs.declared.fault.TypeContext.TheVariants.{Aggregation, CallOf}
 
 -- where a type is expected: in an aggregation, or in a call of a function of this name
 pub data Place : Type 0 where
@@ -38,7 +38,7 @@ pub data Fault : Type 0 where
   empty_selector : Fault
   node : NodeFault → Fault
 
-abbrev pub place_of : TypedPlace → Place
+abbrev pub place_of : TypeContext → Place
 place_of Aggregation = in_aggregation
 place_of (CallOf name) = in_call name.now
 

@@ -1,5 +1,5 @@
--- A tree laid out over lines (docs/LAYOUT.md, "Nodes").
-use Rattle.std.specs.Prelude.{ℕ, ◌+◌, ◌==◌, max, if◌then◌else◌, List, [], ◌∷◌, ◌++◌, Option, Some, None, codes}
+-- A tree laid out over lines (docs/reference/printing.md, "Nodes over several lines").
+use Rattle.std.specs.Prelude.{ℕ, ◌+◌, ◌==◌, max, Bool, true, false, if◌then◌else◌, List, [], ◌∷◌, ◌++◌, Option, Some, None, codes}
 use Rattle.promql_text.specs.Bytes.{space}
 use Rattle.promql_text.specs.NumberText.{number_text}
 use Rattle.promql_text.specs.Quoting.{quoted_text}
@@ -89,6 +89,14 @@ lines (binary op l r m) level most = binary_lines op m (laid l (level + 1) most)
 lines (paren e) level most = paren_lines (laid e (level + 1) most) level
 lines (call f args) level most = call_lines (name_of f) (args_laid args (level + 1) most) level
 lines t level most = indent level ++ text t
+
+-- the nodes that never need a split
+abbrev pub is_leaf : Tree → Bool
+is_leaf (number n) = true
+is_leaf (string s) = true
+is_leaf (vector s) = true
+is_leaf (matrix s range mode) = true
+is_leaf t = false
 
 -- ---- the deepest level that a layout indents to
 

@@ -1,14 +1,14 @@
--- Lines, and what a layout keeps of one (docs/LAYOUT.md, "Lines").
-use Rattle.std.specs.Prelude.{◌≡◌, ℕ, zero, suc, ◌==◌, nat_lt, not, ◌&&◌, Bool, [], ◌∷◌, Option, Result, IfSome, IfOk, String, string_bytes}
+-- Lines, and what a layout keeps of one (docs/reference/printing.md, "Lines").
+use Rattle.std.specs.Prelude.{◌≡◌, ◌<◌, ◌≤◌, ◌*◌, ◌++◌, Err, ℕ, zero, suc, ◌==◌, nat_lt, not, ◌&&◌, Bool, [], ◌∷◌, Option, Result, IfSome, IfOk, String, string_bytes}
 use Rattle.std.specs.List.{filter}
 use Rattle.std.specs.declared.alloc.Global.{Global}
 use Rattle.promql_text.specs.Bytes.{line_feed, space}
 use Rattle.promql_text.specs.Texts.{Text}
-use Rattle.promql_text.specs.Widths.{width}
+use Rattle.promql_text.specs.PrintedLen.{usize_max, printed_len}
 
 -- the line has more bytes than `most`
 abbrev pub is_longer : ℕ → Text → Bool
-is_longer most line = nat_lt most (width line)
+is_longer most line = nat_lt most (printed_len line)
 
 -- two spaces a level
 abbrev pub indent : ℕ → Text
@@ -21,6 +21,11 @@ is_shown b = not (b == space) && not (b == line_feed)
 -- the text without spaces and line feeds
 abbrev pub squeeze : Text → Text
 squeeze t = filter is_shown t
+
+-- the one line, indented; `too_wide` only where the indentation has more bytes than a `usize` counts
+abbrev pub IsLine : {E : Type 0} → Option Text → ℕ → E → Result (String Global) E → Type 0
+IsLine line level too_wide result =
+    IfSome line (λ t. IfOk result (λ s. string_bytes s ≡ indent level ++ t)) × (result ≡ Err too_wide → usize_max < 2 * level) × IfOk result (λ s. 2 * level ≤ usize_max)
 
 -- the layout of the line changes nothing else
 abbrev pub Keeps : {E : Type 0} → Option Text → Result (String Global) E → Type 0

@@ -1,4 +1,4 @@
--- How many nodes a tree has (docs/LAYOUT.md, "One width a node").
+-- How many nodes a tree has (docs/reference/printing.md, "One width a node").
 use Rattle.std.specs.Prelude.{ℕ, ◌+◌}
 use Rattle.promql_ast.specs.Tree.{Tree, aggregate, unary, binary, paren, subquery, call, extension, MaybeTree, absent, present, Trees, no_trees, first_tree}
 

@@ -1,4 +1,4 @@
--- The normal form of a tree (docs/PRINTING.md, "Normal form").
+-- The normal form of a tree (docs/reference/printing.md, "Normal form").
 use Rattle.std.specs.Prelude.{Bool, false, [], ◌∷◌, Option, Some, None}
 use Rattle.promql_label.specs.PlainMatchers.{PlainMatchers, plain_matchers}
 use Rattle.promql_label.specs.ReadMatchers.{sorted_matchers}

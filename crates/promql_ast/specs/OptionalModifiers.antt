@@ -1,4 +1,4 @@
--- What a modifier of a binary expression says, where it may be missing (docs/TREE.md, "Binary expressions").
+-- What a modifier of a binary expression says, where it may be missing (docs/reference/tree.md, "Binary expressions").
 use Rattle.std.specs.Prelude.{Bool, false, List, Option, Some, None}
 use Rattle.promql_text.specs.Texts.{Text}
 use Rattle.promql_kind.specs.Modifiers as kind

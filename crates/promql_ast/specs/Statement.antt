@@ -1,4 +1,4 @@
--- A query and the times at which it is evaluated, as they print (docs/PRINTING.md, "Statements").
+-- A query and the times at which it is evaluated, as they print (docs/reference/printing.md, "Statements").
 use Rattle.std.specs.Prelude.{ℕ, ℤ, ◌++◌, codes}
 use Rattle.promql_text.specs.DurationText.{duration_text}
 use Rattle.promql_text.specs.Texts.{Text}

@@ -1,4 +1,4 @@
--- Well typed trees (docs/TREE.md, "Well typed trees"): each condition by itself, on the finished tree.
+-- Well typed trees (docs/reference/tree.md, "Well typed trees"): each condition by itself, on the finished tree.
 use Rattle.std.specs.Prelude.{◌≡◌, ◌≢◌, ◌⊎◌, ◌≤◌, ◌+◌, ◌-◌, ℕ, ℤ, true, false, List, [], ◌∷◌, length, Option, Some, None, codes, unsigned_abs}
 use Rattle.std.specs.Int.{is_negative}
 use Rattle.promql_text.specs.Texts.{Text}
@@ -113,7 +113,7 @@ abbrev mutual
   AllTyped no_trees = Unit {0}
   AllTyped (first_tree e es) = Typed e × AllTyped es
 
--- what stands below the root is well typed: the children, and a matrix selector's selector
+-- what is below the root is well typed: the children, and a matrix selector's selector
 abbrev pub TypedBelow : Tree → Type 0
 TypedBelow (aggregate op e p m) = MaybeTyped p × Typed e
 TypedBelow (unary e) = Typed e

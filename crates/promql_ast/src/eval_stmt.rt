@@ -1,4 +1,4 @@
-//! A query and the times at which it is evaluated: docs/TREE.md, "Statements".
+//! A query and the times at which it is evaluated: docs/reference/tree.md, "Statements".
 
 ghost use Rattle.std.specs.Prelude.{◌≡◌, Some, IfOk};
 ghost use Rattle.std.specs.Duration.{as_nanos};

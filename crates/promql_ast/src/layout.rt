@@ -1,14 +1,12 @@
-//! Layout over several lines: docs/LAYOUT.md.
+//! Layout over several lines: docs/reference/printing.md.
 
+pub mod decisions;
+pub mod display_len;
 pub mod indent;
-pub mod leaves;
-pub mod measure;
-pub mod operands;
-pub mod place;
+pub mod kinds;
+pub mod measurer;
+pub mod node;
 pub mod prettier;
 pub mod pretty;
-pub mod split_nodes;
-pub mod splits;
 pub mod tally;
-pub mod width;
-pub mod widths;
+pub mod writer;

@@ -1,9 +1,10 @@
-//! Range modes: docs/TREE.md, "Range modes".
+//! Range modes: docs/reference/tree.md, "Range modes".
 
 ghost use Rattle.std.specs.Prelude.{◌≡◌};
 ghost use Rattle.std.specs.Fmt.{WritesOnOk};
 ghost use Rattle.promql_ast.specs.Same.{mode_eq};
 ghost use Rattle.promql_ast.specs.node.Matrix.{mode_text};
+ghost use Rattle.promql_text.specs.PrintedLen.{printed_len};
 
 use std::fmt;
 
@@ -44,4 +45,15 @@ pub(crate) fn is_same_mode(a: RangeMode, b: RangeMode) -> bool
     ensures { result ≡ mode_eq a b }
 {
     a == b
+}
+
+/// The bytes of the mode's word with a space before it.
+pub(crate) fn mode_len(mode: RangeMode) -> usize
+    ensures { result ≡ printed_len (mode_text mode) }
+{
+    match mode {
+        RangeMode::Plain => 0,
+        RangeMode::Smoothed => 9,
+        RangeMode::Anchored => 9,
+    }
 }

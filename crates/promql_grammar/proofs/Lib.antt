@@ -1,9 +1,10 @@
-pub mod Choices
+pub mod GrammarChoices
 pub mod Complete
-pub mod Known
-pub mod Levels
-pub mod PiecesRead
-pub mod PiecesTaken
+pub mod KnownKinds
+pub mod Precedences
+pub mod CompleteParts
+pub mod SameTokenKinds
+pub mod SoundParts
 pub mod Sound
 pub mod Unique
 pub mod Within

@@ -1,12 +1,13 @@
--- The grammar: derivations, their tokens, their heights, and which of them are well formed (docs/GRAMMAR.md, "Grammar").
+-- The grammar: derivations, their tokens, their heights, and which of them are well formed (docs/reference/grammar.md,
+-- "Grammar").
 use Rattle.std.specs.Prelude.{◌≡◌, ◌⊎◌, ℕ, ◌+◌, ◌≤◌, ◌<◌, Bool, true, ◌==◌, if◌then◌else◌, min, max, Option, List, [], ◌∷◌, ◌++◌}
 use Rattle.std.specs.List.{list_any}
 use Rattle.promql_text.specs.Texts.{Text}
 use Rattle.promql_token.specs.declared.ids.TheConstants.{T_LOR, T_LAND, T_LUNLESS, T_EQLC, T_NEQ, T_LTE, T_LSS, T_GTE, T_GTR, T_ADD, T_SUB, T_POW}
-use Rattle.promql_grammar.specs.declared.kind.Kind.{Kind}
-use Rattle.promql_grammar.specs.declared.kind.Kind.TheVariants as kind
-use Rattle.promql_grammar.specs.Symbols.{Symbol, sign, word, is_sign_operator, may_be_name, may_be_called}
-use Rattle.promql_grammar.specs.Pieces.{Braces, yield_braces, yield_any_braces, IsBraces, IsAnyBraces, Clause, yield_before, yield_after, IsClause, Modifier, yield_modifier, IsModifier, Matching, no_matching, matching, Group, bare, Fills, no_fill, Postfix, subquery, yield_postfix, IsPostfix}
+use Rattle.promql_grammar.specs.declared.token_kinds.TokenKind.{TokenKind}
+use Rattle.promql_grammar.specs.declared.token_kinds.TokenKind.TheVariants as kind
+use Rattle.promql_grammar.specs.Symbols.{Symbol, punct, word, is_plus_or_minus, may_be_name, may_be_called}
+use Rattle.promql_grammar.specs.GrammarParts.{Braces, yield_braces, yield_any_braces, IsBraces, IsAnyBraces, Clause, yield_before, yield_after, IsClause, Modifier, yield_modifier, IsModifier, Matching, no_matching, matching, Group, bare, Fills, no_fill, Postfix, subquery, yield_postfix, IsPostfix}
 
 -- a derivation, with a case for each form of expression; it keeps the tokens of its form
 mutual
@@ -14,10 +15,10 @@ mutual
     number : Text → Derivation
     duration : Text → Derivation
     string : Text → Derivation
-    selector : Kind → Text → Option Braces → Derivation
+    selector : TokenKind → Text → Option Braces → Derivation
     nameless : Braces → Derivation
     paren : Derivation → Derivation
-    call : Kind → Text → Arguments → Derivation
+    call : TokenKind → Text → Arguments → Derivation
     aggregate : ℕ → Text → Clause → Arguments → Derivation
     postfixed : Derivation → Postfix → Derivation
     unary : ℕ → Text → Derivation → Derivation
@@ -32,31 +33,31 @@ abbrev mutual
   pub yield : Derivation → List Symbol
   yield (number text) = word kind.Number text ∷ []
   yield (duration text) = word kind.Duration text ∷ []
-  yield (string text) = word kind.Str text ∷ []
+  yield (string text) = word kind.String text ∷ []
   yield (selector k text b) = word k text ∷ yield_any_braces b
   yield (nameless b) = yield_braces b
-  yield (paren d) = sign kind.LeftParen ∷ (yield d ++ sign kind.RightParen ∷ [])
-  yield (call k text ds) = word k text ∷ sign kind.LeftParen ∷ yield_arguments ds
-  yield (aggregate op text c ds) = word (kind.Aggregator op) text ∷ (yield_before c ++ sign kind.LeftParen ∷ (yield_arguments ds ++ yield_after c))
+  yield (paren d) = punct kind.LeftParen ∷ (yield d ++ punct kind.RightParen ∷ [])
+  yield (call k text ds) = word k text ∷ punct kind.LeftParen ∷ yield_arguments ds
+  yield (aggregate op text c ds) = word (kind.Aggregator op) text ∷ (yield_before c ++ punct kind.LeftParen ∷ (yield_arguments ds ++ yield_after c))
   yield (postfixed d p) = yield d ++ yield_postfix p
   yield (unary op text d) = word (kind.Operator op) text ∷ yield d
   yield (binary op text m l r) = yield l ++ word (kind.Operator op) text ∷ (yield_modifier m ++ yield r)
 
   pub yield_arguments : Arguments → List Symbol
-  yield_arguments none = sign kind.RightParen ∷ []
+  yield_arguments none = punct kind.RightParen ∷ []
   yield_arguments (more d ds) = yield d ++ yield_rest ds
 
   pub yield_rest : Arguments → List Symbol
-  yield_rest none = sign kind.RightParen ∷ []
-  yield_rest (more d ds) = sign kind.Comma ∷ (yield d ++ yield_rest ds)
+  yield_rest none = punct kind.RightParen ∷ []
+  yield_rest (more d ds) = punct kind.Comma ∷ (yield d ++ yield_rest ds)
 
--- the operators of one level, but for the highest two
+-- the operators of one precedence, but for the highest two
 abbrev is_one_of : List ℕ → ℕ → Bool
 is_one_of ops op = list_any (λ k. op == k) ops
 
 -- how tightly an operator binds; `*`, `/`, `%` and `atan2` by 5
-abbrev pub level : ℕ → ℕ
-level op =
+abbrev pub precedence : ℕ → ℕ
+precedence op =
     if op == T_POW then 6
     else if is_one_of (T_LOR ∷ []) op then 1
     else if is_one_of (T_LAND ∷ T_LUNLESS ∷ []) op then 2
@@ -64,34 +65,34 @@ level op =
     else if is_one_of (T_ADD ∷ T_SUB ∷ []) op then 4
     else 5
 
--- an operator of at most this level may follow the form and take all of it as its left side
+-- an operator of at most this precedence may follow the form and take all of it as its left side
 abbrev pub openness : Derivation → ℕ
 openness (unary op text d) = min 5 (openness d)
-openness (binary op text m l r) = min (level op) (openness r)
+openness (binary op text m l r) = min (precedence op) (openness r)
 openness d = 7
 
--- the openness of a left side is at least the level, and for a power above it
+-- the openness of a left side is at least the precedence, and for a power above it
 abbrev pub FitsLeft : ℕ → ℕ → Type 0
-FitsLeft op left = (if op == T_POW then 7 else level op) ≤ left
+FitsLeft op left = (if op == T_POW then 7 else precedence op) ≤ left
 
--- a right side that is binary has a higher level, or both are powers
+-- a right side that is binary has a higher precedence, or both are powers
 abbrev pub FitsRight : ℕ → Derivation → Type 0
-FitsRight op (binary inner text m l r) = (level op < level inner) ⊎ ((op ≡ T_POW) × (inner ≡ T_POW))
+FitsRight op (binary inner text m l r) = (precedence op < precedence inner) ⊎ ((op ≡ T_POW) × (inner ≡ T_POW))
 FitsRight op d = Unit {0}
 
--- a sign before a binary form stands before a power
-abbrev pub FitsSign : Derivation → Type 0
-FitsSign (binary op text m l r) = op ≡ T_POW
-FitsSign d = Unit {0}
+-- a unary operator before a binary form is before a power
+abbrev pub FitsUnary : Derivation → Type 0
+FitsUnary (binary op text m l r) = op ≡ T_POW
+FitsUnary d = Unit {0}
 
--- a postfix follows a form without sign and operator outside
+-- a postfix follows a form without unary and binary operators outside
 abbrev pub IsBase : Derivation → Type 0
 IsBase (binary op text m l r) = ⊥
 IsBase (unary op text d) = ⊥
 IsBase d = Unit {0}
 
 abbrev pub OpensNoParen : List Symbol → Type 0
-OpensNoParen (sign kind.LeftParen ∷ ts) = ⊥
+OpensNoParen (punct kind.LeftParen ∷ ts) = ⊥
 OpensNoParen ts = Unit {0}
 
 -- a parenthesis directly after a grouping word opens its labels
@@ -115,7 +116,7 @@ abbrev mutual
   IsWellFormed (call k text ds) = (may_be_called k ≡ true) × AreWellFormed ds
   IsWellFormed (aggregate op text c ds) = IsClause c × AreWellFormed ds
   IsWellFormed (postfixed d p) = IsWellFormed d × IsBase d × IsPostfix p
-  IsWellFormed (unary op text d) = (is_sign_operator op ≡ true) × IsWellFormed d × FitsSign d
+  IsWellFormed (unary op text d) = (is_plus_or_minus op ≡ true) × IsWellFormed d × FitsUnary d
   IsWellFormed (binary op text m l r) = IsWellFormed l × IsWellFormed r × IsModifier m × FitsLeft op (openness l) × FitsRight op r × FitsMatching m.matching m.fills (yield r)
 
   pub AreWellFormed : Arguments → Type 0

@@ -1,5 +1,5 @@
 pub mod Grammar
-pub mod Pieces
-pub mod Reading
+pub mod GrammarParts
+pub mod Parsing
 pub mod Results
 pub mod Symbols

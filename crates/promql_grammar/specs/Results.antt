@@ -5,7 +5,7 @@ abbrev pub on_result : {A B E : Type 0} → (A → B) → Result A E → Result 
 on_result f (Ok x) = Ok (f x)
 on_result f (Err e) = Err e
 
--- the second, where the first has no fault
+-- the second, if the first is no error
 infixl 10 ◌then◌
 abbrev pub ◌then◌ : {A B E : Type 0} → Result A E → (A → Result B E) → Result B E
 (Ok x) then f = f x

@@ -1,12 +1,14 @@
 //! Laws of the grammar.
 
 ghost use Rattle.std.specs.Prelude.{◌≡◌, ℕ, ◌≤◌, ◌++◌, [], List, Ok, Err, nat_lt, if◌then◌else◌, length};
-ghost use Rattle.promql_grammar.specs.declared.halt.Halt.TheVariants.{TooDeep};
+ghost use Rattle.promql_text.specs.Equalities.{IsSameBy};
+ghost use Rattle.promql_grammar.specs.declared.read_error.ReadError.TheVariants.{TooDeep};
 ghost use Rattle.promql_grammar.specs.Grammar.{Derivation, IsWellFormed, height, yield};
-ghost use Rattle.promql_grammar.specs.Reading.{expression};
-ghost use Rattle.promql_grammar.specs.Symbols.{Symbol};
-ghost use Rattle.promql_grammar.specs.Symbols.{ids_of_kinds};
+ghost use Rattle.promql_grammar.specs.Parsing.{parse_expression};
+ghost use Rattle.promql_grammar.specs.Symbols.{Symbol, ids_of_kinds};
 ghost use Rattle.promql_token.specs.Ids.{count_up};
+
+use crate::token_kinds::TokenKind;
 
 /// No two well formed derivations have the same tokens, so a text has one tree.
 pub fn one_tree()
@@ -18,24 +20,30 @@ pub fn kinds_by_id()
     ensures { ids_of_kinds ≡ count_up 0 86 }
 {}
 
+/// Kinds of tokens are equal exactly if they are the same.
+pub fn equal_token_kinds()
+    ensures { IsSameBy (λ k. k) ⟦<TokenKind as PartialEq>⟧.eq }
+{}
+
 /// No derivation is higher than its tokens are many.
 pub fn heights()
     ensures { (d : Derivation) → height d ≤ length (yield d) }
 {}
 
-/// Reading within a height gives each well formed derivation of that height from its tokens, and no other; a higher one
+/// Parsing within a height gives each well formed derivation of that height from its tokens, and no other; a higher one
 /// is too deep, which a list without enough tokens never is.
-pub fn reading()
+pub fn parsing_is_sound_and_complete()
     ensures complete { (n : ℕ) (d : Derivation) → IsWellFormed d
-        → expression n 0 (yield d) ≡ (if nat_lt n (height d) then Err TooDeep else Ok (d, [])) }
+        → parse_expression n 0 (yield d) ≡ (if nat_lt n (height d) then Err TooDeep else Ok
+        (d, [])) }
     ensures formed { (n : ℕ) (ts rest : List Symbol) (d : Derivation)
-        → expression n 0 ts ≡ Ok (d, rest)
+        → parse_expression n 0 ts ≡ Ok (d, rest)
         → IsWellFormed d }
     ensures low { (n : ℕ) (ts rest : List Symbol) (d : Derivation)
-        → expression n 0 ts ≡ Ok (d, rest) → height d ≤ n }
+        → parse_expression n 0 ts ≡ Ok (d, rest) → height d ≤ n }
     ensures spells { (n : ℕ) (ts rest : List Symbol) (d : Derivation)
-        → expression n 0 ts ≡ Ok (d, rest)
+        → parse_expression n 0 ts ≡ Ok (d, rest)
         → ts ≡ yield d ++ rest }
-    ensures too_deep { (n : ℕ) (ts : List Symbol) → expression n 0 ts ≡ Err TooDeep
+    ensures too_deep { (n : ℕ) (ts : List Symbol) → parse_expression n 0 ts ≡ Err TooDeep
         → n ≤ length ts }
 {}

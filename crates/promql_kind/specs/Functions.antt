@@ -1,4 +1,4 @@
--- Functions, as plain data, and the row that a name has in the table (docs/FUNCTIONS.md).
+-- Functions, as plain data, and the row that a name has in the table (docs/reference/functions.md).
 use Rattle.std.specs.Prelude.{ℤ, Bool, List, Option, find, map}
 use Rattle.std.specs.Str.{bytes_eq}
 use Rattle.promql_text.specs.Texts.{Text}

@@ -1,4 +1,4 @@
--- How modifiers print (docs/PRINTING.md, "Modifiers"): each part with one space before it.
+-- How modifiers print (docs/reference/printing.md, "Modifiers"): each part with one space before it.
 use Rattle.std.specs.Prelude.{Bool, true, false, if◌then◌else◌, List, [], ◌∷◌, ◌++◌, Option, Some, None, codes}
 use Rattle.promql_text.specs.NumberText.{number_text}
 use Rattle.promql_text.specs.declared.number.Number.{Number}

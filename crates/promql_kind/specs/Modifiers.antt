@@ -1,4 +1,4 @@
--- Modifiers, as plain data (docs/TREE.md, "Modifiers").
+-- Modifiers, as plain data (docs/reference/tree.md, "Modifiers").
 use Rattle.std.specs.Prelude.{Bool, true, false, ◌==◌, ◌&&◌, List, [], ◌∷◌, Option, Some, None}
 use Rattle.std.specs.List.{list_any}
 use mathlib.Core.Bool.{beq}

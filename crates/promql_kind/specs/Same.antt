@@ -1,4 +1,5 @@
--- Tests of whether modifiers, numbers and functions are the same (docs/TREE.md, "Equality"). Each decides `≡`.
+-- Tests of whether modifiers, numbers and functions are the same (docs/reference/tree.md, "Equality"). Each decides
+-- `≡`.
 use Rattle.std.specs.Prelude.{Bool, true, false, ◌&&◌, List}
 use mathlib.Core.Bool.{beq}
 use lib.Pointwise.{pointwise}

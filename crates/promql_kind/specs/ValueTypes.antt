@@ -1,4 +1,4 @@
--- Value types (docs/TREE.md, "Value types").
+-- Value types (docs/reference/tree.md, "Value types").
 use Rattle.std.specs.Prelude.{Bool, true, false, codes}
 use Rattle.promql_text.specs.Texts.{Text}
 use Rattle.promql_kind.specs.declared.value.ValueType.{ValueType}

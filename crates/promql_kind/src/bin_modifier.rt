@@ -1,4 +1,4 @@
-//! Modifiers of binary expressions: docs/TREE.md, "Modifiers", and docs/PRINTING.md, "Modifiers".
+//! Modifiers of binary expressions: docs/reference/tree.md, "Modifiers", and docs/reference/printing.md, "Modifiers".
 
 ghost use Rattle.std.specs.Prelude.{◌≡◌, ◌++◌, [], Some, None, IfOk, codes, if◌then◌else◌, map, option_map, string_bytes};
 ghost use Rattle.std.specs.Fmt.{WritesOnOk};
@@ -165,12 +165,7 @@ impl BinModifier {
     }
 }
 
-/// A copy of an optional list of labels.
-///
-/// # Errors
-///
-/// `AllocError` where an allocation failed.
-pub fn clone_label_modifier(
+fn clone_label_modifier(
     alloc: Global,
     modifier: &Option<LabelModifier>,
 ) -> Result<Option<LabelModifier>, AllocError>

@@ -1,4 +1,4 @@
-//! How many elements of one side match one of the other: docs/TREE.md, "Modifiers".
+//! How many elements of one side match one of the other: docs/reference/tree.md, "Modifiers".
 
 ghost use Rattle.std.specs.Prelude.{◌≡◌, IfOk, map, option_map};
 ghost use Rattle.promql_label.specs.Labels.{labels_of};

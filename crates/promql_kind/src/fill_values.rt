@@ -1,12 +1,13 @@
-//! Values for elements that match nothing: docs/TREE.md, "Modifiers".
+//! Values for elements that match nothing: docs/reference/tree.md, "Modifiers".
 
-ghost use Rattle.std.specs.Prelude.{◌≡◌, Some, None};
+ghost use Rattle.std.specs.Prelude.{◌≡◌, Ok, Some, None};
 ghost use Rattle.promql_kind.specs.Modifiers.{fills};
 ghost use Rattle.promql_kind.specs.Views.{fills_of};
 
 use promql_text::Number;
+use std::alloc::{AllocError, Global};
 
-/// The values that stand in for a missing element of either side. Without a value, elements that match nothing are
+/// The values that are in for a missing element of either side. Without a value, elements that match nothing are
 /// left out.
 #[derive(Clone, Copy, Debug, PartialEq)]
 pub struct VectorMatchFillValues {
@@ -17,6 +18,18 @@ pub struct VectorMatchFillValues {
 }
 
 impl VectorMatchFillValues {
+    /// A copy of the values, as the other nodes have it: it allocates nothing, and never fails.
+    ///
+    /// # Errors
+    ///
+    /// None.
+    pub fn try_clone(&self, alloc: Global) -> Result<VectorMatchFillValues, AllocError>
+        ensures { result ≡ Ok self.now }
+    {
+        let _ = alloc;
+        Ok(*self)
+    }
+
     /// A value for each side.
     pub fn new(lhs: Number, rhs: Number) -> VectorMatchFillValues
         ensures { fills_of result ≡ fills (Some rhs) (Some lhs) }

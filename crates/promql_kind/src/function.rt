@@ -1,4 +1,4 @@
-//! Functions of the language: docs/FUNCTIONS.md.
+//! Functions of the language: docs/reference/functions.md.
 
 ghost use Rattle.std.specs.Prelude.{◌≡◌, IfOk, find, map, option_map};
 ghost use Rattle.promql_kind.specs.Functions.{function_named, is_named, signature, signature_of};

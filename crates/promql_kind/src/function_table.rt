@@ -1,4 +1,4 @@
-//! The functions of the language, a row for each, in the order of their names: docs/FUNCTIONS.md.
+//! The functions of the language, a row for each, in the order of their names: docs/reference/functions.md.
 
 use crate::value::ValueType;
 use crate::value::ValueType::{Matrix, Scalar, String, Vector};

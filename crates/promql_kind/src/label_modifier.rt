@@ -1,4 +1,4 @@
-//! Lists of labels to include or to exclude: docs/TREE.md, "Modifiers".
+//! Lists of labels to include or to exclude: docs/reference/tree.md, "Modifiers".
 
 ghost use Rattle.std.specs.Prelude.{◌≡◌, ◌↔◌, IfOk, IsTrue, map};
 ghost use Rattle.promql_label.specs.Labels.{labels_of};

@@ -1,6 +1,6 @@
 //! Laws on the definitions alone. Each is the contract of a function that does nothing.
 
-ghost use Rattle.promql_text.specs.Equalities.{IsSameBy};
+ghost use Rattle.promql_text.specs.Equalities.{ClonesKeep, IsSameBy};
 ghost use Rattle.promql_kind.specs.Functions.{signature_of};
 ghost use Rattle.promql_kind.specs.Views.{cardinality_of, clause_of, fills_of, matching_of};
 
@@ -14,6 +14,12 @@ use crate::value::ValueType;
 /// Value types are equal exactly if they are the same.
 pub fn equal_value_types()
     ensures { IsSameBy (λ t. t) ⟦<ValueType as PartialEq>⟧.eq }
+{}
+
+/// A clone is the value.
+pub fn equal_clones()
+    ensures value_types { ClonesKeep (λ t. t) ⟦<ValueType as Clone>⟧.is_clone }
+    ensures fill_values { ClonesKeep fills_of ⟦<VectorMatchFillValues as Clone>⟧.is_clone }
 {}
 
 /// Lists of labels are equal exactly if both include or both exclude, and they have the same labels in the same order.

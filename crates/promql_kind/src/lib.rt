@@ -1,5 +1,5 @@
 //! What nodes of a query hold beside their parts: value types, modifiers and functions.
-//! The rules are in docs/TREE.md, docs/PRINTING.md and docs/FUNCTIONS.md.
+//! The rules are in docs/reference/tree.md, docs/reference/printing.md and docs/reference/functions.md.
 #![tactic(auto)]
 
 pub use bin_modifier::BinModifier;
@@ -16,5 +16,5 @@ pub mod function;
 mod function_table;
 pub mod label_modifier;
 pub mod laws;
+mod printed_len;
 pub mod value;
-mod width;

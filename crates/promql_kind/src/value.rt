@@ -1,4 +1,4 @@
-//! Value types: docs/TREE.md, "Value types".
+//! Value types: docs/reference/tree.md, "Value types".
 
 ghost use Rattle.std.specs.Prelude.{◌≡◌};
 

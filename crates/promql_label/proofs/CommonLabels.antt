@@ -52,8 +52,8 @@ is_among-common ls others l =
 
 -- ---- one label more
 
-kept : Bool → Text → List Text
-kept b l = if b then [] else l ∷ []
+keep_unless : Bool → Text → List Text
+keep_unless b l = if b then [] else l ∷ []
 
 filter-kept : (p : Text → Bool) (seen : Bool) (l : Text) → filter p (if seen then [] else l ∷ []) ≡ (if not (p l) || seen then [] else l ∷ [])
 filter-kept p true l = by_pass (p l)
@@ -82,19 +82,19 @@ firsts-push (k ∷ ls) l =
     not-not true = refl
     not-not false = refl
 
--- a label of the other list that isn't there yet comes behind the common labels; no other does
+-- a label of the other list that isn't there yet comes after the common labels; no other does
 pub common-push : (ls others : List Text) (l : Text)
     → common (ls ++ l ∷ []) others ≡ common ls others ++ (if is_among others l && not (is_among (common ls others) l) then l ∷ [] else [])
 common-push ls others l =
     ap (filter (is_among others)) (firsts-push ls l)
     ∙ filter-append (is_among others) (firsts ls) (if is_among ls l then [] else l ∷ [])
-    ∙ ap (λ ms. common ls others ++ ms) (filter-kept (is_among others) (is_among ls l) l ∙ turned (is_among others l) (is_among ls l))
+    ∙ ap (λ ms. common ls others ++ ms) (filter-kept (is_among others) (is_among ls l) l ∙ keep_by_parts (is_among others l) (is_among ls l))
     ∙ ap (λ b. common ls others ++ (if is_among others l && not b then l ∷ [] else [])) (sym (is_among-common ls others l))
   where
-    turned : (o s : Bool) → (if not o || s then [] else l ∷ []) ≡ (if o && not (o && s) then l ∷ [] else [])
-    turned true true = refl
-    turned true false = refl
-    turned false s = refl
+    keep_by_parts : (o s : Bool) → (if not o || s then [] else l ∷ []) ≡ (if o && not (o && s) then l ∷ [] else [])
+    keep_by_parts true true = refl
+    keep_by_parts true false = refl
+    keep_by_parts false s = refl
 
 pub common-kept : (ls others : List Text) (l : Text) → is_among others l ≡ true → is_among (common ls others) l ≡ false → common (ls ++ l ∷ []) others ≡ common ls others ++ l ∷ []
 common-kept ls others l there new =
@@ -144,11 +144,11 @@ none_common ls others none = list_any_none (is_among others) ls (λ k d lt.
     and-true false = refl
 
 some_common : (ls others : List Text) → common ls others ≢ [] → list_any (is_among others) ls ≡ true
-some_common ls others some = found (common ls others) refl some
+some_common ls others some = common_is_among (common ls others) refl some
   where
-    found : (ms : List Text) → common ls others ≡ ms → ms ≢ [] → list_any (is_among others) ls ≡ true
-    found [] is some = absurd (some refl)
-    found (l ∷ ms) is some =
+    common_is_among : (ms : List Text) → common ls others ≡ ms → ms ≢ [] → list_any (is_among others) ls ≡ true
+    common_is_among [] is some = absurd (some refl)
+    common_is_among (l ∷ ms) is some =
         let front : is_among (common ls others) l ≡ true = ap (λ ks. is_among ks l) is ∙ ap (λ b. b || is_among ms l) (nat_list_eq_equiv.refl l) in
         let parts = both (is_among others l) (is_among ls l) (sym (is_among-common ls others l) ∙ front) in
         let there : Contains ls l = Contains-from_is_among ls l parts.1 in
@@ -201,7 +201,7 @@ firsts-order (l ∷ ls) =
     let below : first_place ls (get_or rest i d) < first_place ls (get_or rest j d) = AllPairs-filter (λ m k. first_place ls m < first_place ls k) q (firsts ls) (firsts-order ls) i j d lt bound in
     omega (arith, below, later i d (omega arith), later j d bound))
 
--- the common labels stand in the order in which the first list has them first, so each once
+-- the common labels are in the order in which the first list has them first, so each once
 pub common-order : (ls others : List Text) → AllPairs (λ l k. first_place ls l < first_place ls k) (common ls others)
 common-order ls others = AllPairs-filter (λ l k. first_place ls l < first_place ls k) (is_among others) (firsts ls) (firsts-order ls)
 

@@ -1,4 +1,4 @@
--- A count stands in front of a text exactly if the test says so.
+-- A count is before a text exactly if the test says so.
 use Rattle.std.proofs.Common.{◌≡◌, ℕ, suc, ◌+◌, ◌<◌, Bool, true, false, cond, ◌&&◌, ◌||◌, ◌==◌, [], ◌∷◌, ◌++◌, length, get_or, take, drop, refl, sym, ap, ◌∙◌, subst, inl, inr, ◌⊎◌, ⊎_elim, true≢false, arith}
 use Rattle.std.specs.Prelude.{slice_index}
 use Rattle.std.specs.Char.{is_ascii_digit}
@@ -7,33 +7,33 @@ use Rattle.std.proofs.Math.Seq.{drop-append_seam}
 use Rattle.std.proofs.lemmas.Bool.{cond_both, eqb-true}
 use Rattle.std.proofs.lemmas.List.{take-append-drop}
 use Rattle.promql_token.proofs.Ends.{and_left, and_right, or_cases}
-use Rattle.promql_token.proofs.Printed.{prefix_all}
+use Rattle.promql_token.proofs.PrintedForms.{prefix_all}
 use Rattle.promql_text.specs.Texts.{Text}
-use Rattle.promql_label.specs.Repeats.{IsNumeral, OpensCount, exactly, at_least, between, behind_digits, opens_count}
+use Rattle.promql_label.specs.Repeats.{IsNumeral, OpensCount, exactly, at_least, between, after_digits, opens_count}
 
--- whether a count ends here, behind its first digits
+-- whether a count ends here, after its first digits
 abbrev ends_count : Text → Bool
-ends_count end = slice_index end 0 == 125 || slice_index end 0 == 44 && slice_index (behind_digits (drop 1 end)) 0 == 125
+ends_count end = slice_index end 0 == 125 || slice_index end 0 == 44 && slice_index (after_digits (drop 1 end)) 0 == 125
 
--- ---- the test passes in front of a count
+-- ---- the test passes before a count
 
-behind : (n r : Text) → list_all is_ascii_digit n ≡ true → is_ascii_digit (get_or r 0 0) ≡ false → behind_digits (n ++ r) ≡ r
+behind : (n r : Text) → list_all is_ascii_digit n ≡ true → is_ascii_digit (get_or r 0 0) ≡ false → after_digits (n ++ r) ≡ r
 behind n r digits stop = ap (λ k. drop k (n ++ r)) (prefix_all is_ascii_digit n r digits stop) ∙ drop-append_seam n r
 
 begins : (n r : Text) → IsNumeral n → is_ascii_digit (slice_index (n ++ r) 0) ≡ true
 begins [] r numeral = absurd (omega (arith, numeral.some))
 begins (b ∷ n) r numeral = and_left (is_ascii_digit b) (list_all is_ascii_digit n) numeral.digits
 
-counted_behind : (n r : Text) → IsNumeral n → is_ascii_digit (get_or r 0 0) ≡ false → ends_count r ≡ true → opens_count (n ++ r) ≡ true
-counted_behind n r numeral stop ends =
-    ap (λ digit. digit && ends_count (behind_digits (n ++ r))) (begins n r numeral)
+count_after : (n r : Text) → IsNumeral n → is_ascii_digit (get_or r 0 0) ≡ false → ends_count r ≡ true → opens_count (n ++ r) ≡ true
+count_after n r numeral stop ends =
+    ap (λ digit. digit && ends_count (after_digits (n ++ r))) (begins n r numeral)
     ∙ ap ends_count (behind n r numeral.digits stop) ∙ ends
 
-pub counted : (z : Text) → OpensCount z → opens_count z ≡ true
-counted _ (exactly n z numeral) = counted_behind n (125 ∷ z) numeral refl refl
-counted _ (at_least n z numeral) = counted_behind n (44 ∷ 125 ∷ z) numeral refl refl
-counted _ (between n m z numeral more) =
-    counted_behind n (44 ∷ (m ++ 125 ∷ z)) numeral refl
+pub opens_count_of_relation : (z : Text) → OpensCount z → opens_count z ≡ true
+opens_count_of_relation _ (exactly n z numeral) = count_after n (125 ∷ z) numeral refl refl
+opens_count_of_relation _ (at_least n z numeral) = count_after n (44 ∷ 125 ∷ z) numeral refl refl
+opens_count_of_relation _ (between n m z numeral more) =
+    count_after n (44 ∷ (m ++ 125 ∷ z)) numeral refl
     (ap (λ e. slice_index e 0 == 125) (behind m (125 ∷ z) more.digits refl))
 
 -- ---- where the test passes there is a count
@@ -59,7 +59,7 @@ taken_numeral (b ∷ z) h =
       digits = taken_digits (b ∷ z);
     }
 
-no_digits : (z : Text) → is_ascii_digit (slice_index z 0) ≡ false → behind_digits z ≡ z
+no_digits : (z : Text) → is_ascii_digit (slice_index z 0) ≡ false → after_digits z ≡ z
 no_digits [] h = refl
 no_digits (b ∷ z) h = ap (λ t. drop (cond t (1 + prefix_len is_ascii_digit z) 0) (b ∷ z)) h
 
@@ -67,9 +67,9 @@ front : (b : ℕ) (e : Text) → (slice_index e 0 == suc b) ≡ true → (z : Te
 front b [] h = let zero_is : 0 ≡ suc b = eqb-true 0 (suc b) h in absurd (omega arith)
 front b (c ∷ z) h = (z, ap (λ k. k ∷ z) (eqb-true c (suc b) h))
 
-behind_comma : (n z : Text) → IsNumeral n → (slice_index (behind_digits z) 0 == 125) ≡ true → OpensCount (n ++ 44 ∷ z)
+behind_comma : (n z : Text) → IsNumeral n → (slice_index (after_digits z) 0 == 125) ≡ true → OpensCount (n ++ 44 ∷ z)
 behind_comma n z numeral h =
-    let brace = front 124 (behind_digits z) h in
+    let brace = front 124 (after_digits z) h in
     let m = take (prefix_len is_ascii_digit z) z in
     ⊎_elim
     (λ digit. subst (λ t. OpensCount (n ++ 44 ∷ t)) (ap (λ e. m ++ e) (sym brace.1) ∙ take-append-drop (prefix_len is_ascii_digit z) z)
@@ -86,14 +86,14 @@ behind_numeral n e numeral ends =
     ⊎_elim
     (λ last. let brace = front 124 e last in subst (λ t. OpensCount (n ++ t)) (sym brace.1) (exactly n brace.0 numeral))
     (λ more. let comma = front 43 e (and_left (slice_index e 0 == 44) _ more) in
-    let last = and_right (slice_index e 0 == 44) (slice_index (behind_digits (drop 1 e)) 0 == 125) more in
+    let last = and_right (slice_index e 0 == 44) (slice_index (after_digits (drop 1 e)) 0 == 125) more in
     subst (λ t. OpensCount (n ++ t)) (sym comma.1)
-    (behind_comma n comma.0 numeral (subst (λ t. (slice_index (behind_digits (drop 1 t)) 0 == 125) ≡ true) comma.1 last)))
+    (behind_comma n comma.0 numeral (subst (λ t. (slice_index (after_digits (drop 1 t)) 0 == 125) ≡ true) comma.1 last)))
     (or_cases (slice_index e 0 == 125) _ ends)
 
 pub count_of : (z : Text) → opens_count z ≡ true → OpensCount z
 count_of z h =
     let k = prefix_len is_ascii_digit z in
-    let digit = and_left (is_ascii_digit (slice_index z 0)) (ends_count (behind_digits z)) h in
-    let ends = and_right (is_ascii_digit (slice_index z 0)) (ends_count (behind_digits z)) h in
-    subst OpensCount (take-append-drop k z) (behind_numeral (take k z) (behind_digits z) (taken_numeral z digit) ends)
+    let digit = and_left (is_ascii_digit (slice_index z 0)) (ends_count (after_digits z)) h in
+    let ends = and_right (is_ascii_digit (slice_index z 0)) (ends_count (after_digits z)) h in
+    subst OpensCount (take-append-drop k z) (behind_numeral (take k z) (after_digits z) (taken_numeral z digit) ends)

@@ -6,33 +6,33 @@ use Rattle.std.proofs.lemmas.Str.{encode_ascii, length-encode, len_utf8_bounds}
 use Rattle.std.proofs.str.Laws.{order}
 use Rattle.promql_text.proofs.Quotes.{bytes_high}
 use Rattle.promql_text.specs.Texts.{Text}
-use Rattle.promql_label.specs.Repeats.{opens_count, is_loose, marked, escaped_repeats}
+use Rattle.promql_label.specs.Repeats.{opens_count, is_literal_brace, with_backslash, escaped_repeats}
 
 -- the escaped form, from a place on where `taken` says whether a backslash takes the next byte
 abbrev pub escaped_from : Bool → Text → Text
 escaped_from taken [] = []
 escaped_from true (b ∷ z) = b ∷ escaped_from false z
-escaped_from false (b ∷ z) = marked b z ++ escaped_from (b == 92) z
+escaped_from false (b ∷ z) = with_backslash b z ++ escaped_from (b == 92) z
 
 -- a backslash that takes nothing is no brace
-loose_backslash : (b : ℕ) (z : Text) → (b == 92) ≡ true → marked b z ≡ b ∷ []
+loose_backslash : (b : ℕ) (z : Text) → (b == 92) ≡ true → with_backslash b z ≡ b ∷ []
 loose_backslash b z slash = rw (eqb-true b 92 slash) refl
 
 -- from the start on it is the escaped form
 pub from_start : (z : Text) → escaped_from false z ≡ escaped_repeats z
 from_start [] = refl
-from_start (b ∷ []) = append-nil (marked b [])
+from_start (b ∷ []) = append-nil (with_backslash b [])
 from_start (b ∷ c ∷ z) =
     let whole = from_start z in
     let rest = from_start (c ∷ z) in
-    cond_both (b == 92) _ _ (λ made. marked b (c ∷ z) ++ escaped_from (b == 92) (c ∷ z) ≡ made)
-    (λ slash. ap (λ t. marked b (c ∷ z) ++ escaped_from t (c ∷ z)) slash
+    cond_both (b == 92) _ _ (λ made. with_backslash b (c ∷ z) ++ escaped_from (b == 92) (c ∷ z) ≡ made)
+    (λ slash. ap (λ t. with_backslash b (c ∷ z) ++ escaped_from t (c ∷ z)) slash
     ∙ ap (λ m. m ++ (c ∷ escaped_from false z)) (loose_backslash b (c ∷ z) slash) ∙ ap (λ t. b ∷ c ∷ t) whole)
-    (λ other. ap (λ t. marked b (c ∷ z) ++ escaped_from t (c ∷ z)) other ∙ ap (λ t. marked b (c ∷ z) ++ t) rest)
+    (λ other. ap (λ t. with_backslash b (c ∷ z) ++ escaped_from t (c ∷ z)) other ∙ ap (λ t. with_backslash b (c ∷ z) ++ t) rest)
 
--- the backslash that stands before a character
+-- the backslash that comes before a character
 abbrev pub mark : Bool → ℕ → Text → Text
-mark taken c z = cond (not taken && is_loose c z) (92 ∷ []) []
+mark taken c z = cond (not taken && is_literal_brace c z) (92 ∷ []) []
 
 abbrev AreHigh : Text → Type 0
 AreHigh w = (k : ℕ) → k < length w → 128 ≤ get_or w k 0
@@ -54,7 +54,7 @@ high_from true (b ∷ w) z some high = ap (λ t. b ∷ t) (high_stay w z (λ k l
 pub low_char : (taken : Bool) (c : ℕ) (z : Text) → escaped_from taken (c ∷ z) ≡ mark taken c z ++ (c ∷ escaped_from (not taken && c == 92) z)
 low_char true c z = refl
 low_char false c z =
-    cond_both (is_loose c z) _ _ (λ e. e ++ escaped_from (c == 92) z ≡ mark false c z ++ (c ∷ escaped_from (c == 92) z))
+    cond_both (is_literal_brace c z) _ _ (λ e. e ++ escaped_from (c == 92) z ≡ mark false c z ++ (c ∷ escaped_from (c == 92) z))
     (λ loose. ap (λ t. cond t (92 ∷ []) [] ++ (c ∷ escaped_from (c == 92) z)) (sym loose))
     (λ kept. ap (λ t. cond t (92 ∷ []) [] ++ (c ∷ escaped_from (c == 92) z)) (sym kept))
 

@@ -1,6 +1,6 @@
 -- Writing the last group of a list is growing the list.
 use Rattle.std.proofs.Common.{arith, ◌≡◌, ℕ, suc, zero, ◌<◌, true, false, List, [], ◌∷◌, ◌++◌, length, get_or, set, map, ap, ◌∙◌}
-use Rattle.promql_label.specs.PlainMatchers.{PlainMatcher, plain_matchers, grown, appended}
+use Rattle.promql_label.specs.PlainMatchers.{PlainMatcher, plain_matchers, grown, append_plain}
 
 -- a list whose last group got one more is the grown list
 pub grown_set : {G : Type 0} (f : G → List PlainMatcher) (gs : List G) (i : ℕ) (g old : G) (c : PlainMatcher) →
@@ -15,13 +15,13 @@ grown_set f (x ∷ y ∷ gs) (suc i) g old c e is more =
 -- where there are groups, the list with one more in the last
 pub appended_set : {G : Type 0} (f : G → List PlainMatcher) (plain : List PlainMatcher) (gs : List G) (i : ℕ) (g old : G)
     (c : PlainMatcher) → length gs ≡ suc i → old ≡ get_or gs i old → f g ≡ f old ++ c ∷ [] →
-    plain_matchers plain (map f (set gs i g)) ≡ appended (plain_matchers plain (map f gs)) c
+    plain_matchers plain (map f (set gs i g)) ≡ append_plain (plain_matchers plain (map f gs)) c
 appended_set f plain [] i g old c e is more = cc
 appended_set f plain (x ∷ gs) i g old c e is more = ap (plain_matchers plain) (grown_set f (x ∷ gs) i g old c e is more)
 
 -- where there are none, the list with one more beside them
 pub appended_none : {G : Type 0} (f : G → List PlainMatcher) (plain more : List PlainMatcher) (gs : List G) (c : PlainMatcher) →
     (0 < length gs → false ≡ true) → more ≡ plain ++ c ∷ [] →
-    plain_matchers more (map f gs) ≡ appended (plain_matchers plain (map f gs)) c
+    plain_matchers more (map f gs) ≡ append_plain (plain_matchers plain (map f gs)) c
 appended_none f plain more [] c none is = ap (λ p. plain_matchers p []) is
 appended_none f plain more (x ∷ gs) c none is = let no : false ≡ true = none (omega arith) in cc

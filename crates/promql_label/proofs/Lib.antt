@@ -2,7 +2,7 @@ pub mod CommonLabels
 pub mod Counts
 pub mod Escaping
 pub mod Finding
-pub mod Found
+pub mod MatcherSearch
 pub mod Groups
 pub mod MatcherRows
 pub mod NextText
@@ -16,4 +16,4 @@ pub mod ReadTokens
 pub mod Reading
 pub mod RepeatPlaces
 pub mod SameMatchers
-pub mod Widths
+pub mod LabelPrintedLen

@@ -9,7 +9,7 @@ use Rattle.std.proofs.Math.ListN.{length-append}
 use Rattle.std.proofs.lemmas.Cmp.{nat_list_cmp_total}
 use Rattle.std.proofs.lemmas.Map.Lookups.{exact_bytes}
 use Rattle.promql_text.specs.Texts.{Text}
-use Rattle.promql_label.specs.NextText.{is_above, is_below, is_from, IsLeast, better_text, Each, copies, times}
+use Rattle.promql_label.specs.NextText.{is_above, is_below, is_from, IsLeast, smaller_text, Each, copies, times}
 use Rattle.promql_label.specs.SortedTexts.{text_order, insert_text, sorted_texts}
 
 same : (t : Text) → text_order t t ≡ Equal
@@ -59,10 +59,10 @@ insert_past : (x t : Text) (n : ℕ) (us : List Text) → text_order x t ≡ Gre
 insert_past x t zero us g = refl
 insert_past x t (suc n) us g = rw g (ap (λ vs. t ∷ vs) (insert_past x t n us g))
 
--- what is not below t: t as often as it stands, and what is above
-pub split : (t : Text) (ts : List Text) → sorted_texts (filter (is_from t) ts) ≡ times (copies t ts) t ++ sorted_texts (filter (is_above (Some t)) ts)
-split t [] = refl
-split t (x ∷ xs) = step (text_order x t) refl (split t xs)
+-- what is not below t: t as often as it is, and what is above
+pub sorted_from_text : (t : Text) (ts : List Text) → sorted_texts (filter (is_from t) ts) ≡ times (copies t ts) t ++ sorted_texts (filter (is_above (Some t)) ts)
+sorted_from_text t [] = refl
+sorted_from_text t (x ∷ xs) = step (text_order x t) refl (sorted_from_text t xs)
   where
     step : (o : Ordering) → text_order x t ≡ o → sorted_texts (filter (is_from t) xs) ≡ times (copies t xs) t ++ sorted_texts (filter (is_above (Some t)) xs) → sorted_texts (cond (is_ge o) (x ∷ filter (is_from t) xs) (filter (is_from t) xs)) ≡ times (length (cond (is_eq o) (x ∷ filter (λ u. is_eq (text_order u t)) xs) (filter (λ u. is_eq (text_order u t)) xs))) t ++ sorted_texts (cond (is_gt o) (x ∷ filter (is_above (Some t)) xs) (filter (is_above (Some t)) xs))
     step Less e more = more
@@ -83,7 +83,7 @@ filter_all (x ∷ xs) = ap (λ ys. x ∷ ys) (filter_all xs)
 
 -- the least above the last, all its copies, and the others
 pub next_texts : (last : Option Text) (t : Text) (ts : List Text) → IsLeast last (Some t) ts → sorted_texts (filter (is_above last) ts) ≡ times (copies t ts) t ++ sorted_texts (filter (is_above (Some t)) ts)
-next_texts last t ts h = ap sorted_texts (filter_same (is_above last) (is_from t) ts h.1.0) ∙ split t ts
+next_texts last t ts h = ap sorted_texts (filter_same (is_above last) (is_from t) ts h.1.0) ∙ sorted_from_text t ts
 
 -- ---- how many are left
 
@@ -188,7 +188,7 @@ module _ (last : Option Text) where
       some : 1 ≤ copies m (ts ++ x ∷ [])
       some = let e = count_more (λ u. is_eq (text_order u m)) ts x in let k : 1 ≤ copies m ts = h.1.1 in omega (arith, e, k)
 
-  pub least_step : (best : Option Text) (ts : List Text) (x : Text) → IsLeast last best ts → IsLeast last (better_text last best x) (ts ++ x ∷ [])
+  pub least_step : (best : Option Text) (ts : List Text) (x : Text) → IsLeast last best ts → IsLeast last (smaller_text last best x) (ts ++ x ∷ [])
   least_step best ts x h = step (is_above last x) (is_below best x) refl refl
     where
       step : (a b : Bool) → is_above last x ≡ a → is_below best x ≡ b → IsLeast last (cond (a && b) (Some x) best) (ts ++ x ∷ [])

@@ -10,9 +10,9 @@ module _ {X : Type 0} where
   behind : (x : X) (xs : List X) (z : X) → Contains xs z → Contains (x ∷ xs) z
   behind x xs z (k, lt, is) = (suc k, omega arith, is)
 
-  parted : (x : X) (xs : List X) (z : X) → Contains (x ∷ xs) z → (x ≡ z) ⊎ Contains xs z
-  parted x xs z (zero, lt, is) = inl is
-  parted x xs z (suc k, lt, is) = inr (k, omega arith, is)
+  contains_first_or_rest : (x : X) (xs : List X) (z : X) → Contains (x ∷ xs) z → (x ≡ z) ⊎ Contains xs z
+  contains_first_or_rest x xs z (zero, lt, is) = inl is
+  contains_first_or_rest x xs z (suc k, lt, is) = inr (k, omega arith, is)
 
   nowhere : (z : X) → Contains [] z → ⊥
   nowhere z (k, lt, is) = absurd (omega arith)
@@ -31,12 +31,12 @@ module _ {X : Type 0} where
     same_first x y xs ys p q there back =
         ⊎_elim
         (λ (e : y ≡ x). sym e)
-        (λ in_ys. ⊎_elim (λ (e : x ≡ y). e) (λ in_xs. absurd (omega (arith, first_below y ys x q in_ys, first_below x xs y p in_xs))) (parted x xs y back))
-        (parted y ys x there)
+        (λ in_ys. ⊎_elim (λ (e : x ≡ y). e) (λ in_xs. absurd (omega (arith, first_below y ys x q in_ys, first_below x xs y p in_xs))) (contains_first_or_rest x xs y back))
+        (contains_first_or_rest y ys x there)
 
     still_there : (x y : X) (xs ys : List X) (z : X) → x ≡ y → Rising (x ∷ xs) → Contains (y ∷ ys) z → Contains xs z → Contains ys z
     still_there x y xs ys z same p there in_xs =
-        ⊎_elim (λ (e : y ≡ z). absurd (omega (arith, first_below x xs z p in_xs, ap key (same ∙ e)))) (λ in_ys. in_ys) (parted y ys z there)
+        ⊎_elim (λ (e : y ≡ z). absurd (omega (arith, first_below x xs z p in_xs, ap key (same ∙ e)))) (λ in_ys. in_ys) (contains_first_or_rest y ys z there)
 
     pub one_order : (xs ys : List X) → Rising xs → Rising ys → ((z : X) → Contains xs z → Contains ys z) → ((z : X) → Contains ys z → Contains xs z) → xs ≡ ys
     one_order [] [] p q to from = refl

@@ -20,8 +20,8 @@ joined_is [] = refl
 joined_is (t ∷ ts) = ap (λ w. t ++ w) (after_first ts)
 
 -- all copies of the next text, and then the others
-pub printed : (s : Bool) (last : Option Text) (t : Text) (ts : List Text) → IsLeast last (Some t) ts → texts_after s (sorted_texts (filter (is_above last) ts)) ≡ texts_after s (times (copies t ts) t) ++ texts_after true (sorted_texts (filter (is_above (Some t)) ts))
-printed s last t ts h = ap (texts_after s) (next_texts last t ts h) ∙ step (copies t ts) h.1.1
+pub texts_after_sorted : (s : Bool) (last : Option Text) (t : Text) (ts : List Text) → IsLeast last (Some t) ts → texts_after s (sorted_texts (filter (is_above last) ts)) ≡ texts_after s (times (copies t ts) t) ++ texts_after true (sorted_texts (filter (is_above (Some t)) ts))
+texts_after_sorted s last t ts h = ap (texts_after s) (next_texts last t ts h) ∙ step (copies t ts) h.1.1
   where
     step : (n : ℕ) → 1 ≤ n → texts_after s (times n t ++ sorted_texts (filter (is_above (Some t)) ts)) ≡ texts_after s (times n t) ++ texts_after true (sorted_texts (filter (is_above (Some t)) ts))
     step zero some = absurd (omega arith)
@@ -41,7 +41,7 @@ copy_no g t x us rest e is =
     ap (λ vs. texts_after g (times (copies t vs) t)) e
     ∙ ap (λ b. texts_after g (times (length (cond b (x ∷ filter (λ u. is_eq (text_order u t)) rest) (filter (λ u. is_eq (text_order u t)) rest))) t)) is
 
-pub dropped : {X : Type 0} (f : X → Text) (xs : List X) (i : ℕ) (y : X) → i < length xs → y ≡ get_or xs i y → map f (drop i xs) ≡ f y ∷ map f (drop (i + 1) xs)
-dropped f [] i y h is = absurd (omega arith)
-dropped f (x ∷ xs) zero y h is = ap (λ z. f z ∷ map f xs) (sym is)
-dropped f (x ∷ xs) (suc i) y h is = let step : suc (i + 1) ≡ suc i + 1 = omega arith in dropped f xs i y (omega arith) is ∙ ap (λ n. f y ∷ map f (drop n (x ∷ xs))) step
+pub map_drop_step : {X : Type 0} (f : X → Text) (xs : List X) (i : ℕ) (y : X) → i < length xs → y ≡ get_or xs i y → map f (drop i xs) ≡ f y ∷ map f (drop (i + 1) xs)
+map_drop_step f [] i y h is = absurd (omega arith)
+map_drop_step f (x ∷ xs) zero y h is = ap (λ z. f z ∷ map f xs) (sym is)
+map_drop_step f (x ∷ xs) (suc i) y h is = let step : suc (i + 1) ≡ suc i + 1 = omega arith in map_drop_step f xs i y (omega arith) is ∙ ap (λ n. f y ∷ map f (drop n (x ∷ xs))) step

@@ -6,30 +6,30 @@ use Rattle.std.proofs.lemmas.List.{map-append}
 use Rattle.promql_text.specs.Quoting.{quoted_text}
 use Rattle.promql_text.specs.Texts.{Text, joined_text}
 use Rattle.promql_token.specs.Classes.{is_in, is_label}
-use Rattle.promql_token.specs.Lexing.{PieceText, pieces}
-use Rattle.promql_token.specs.Pieces as scan
-use Rattle.promql_token.specs.Pieces.{after, in_braces}
+use Rattle.promql_token.specs.Lexing.{ScannedText, pieces}
+use Rattle.promql_token.specs.TokenScanning as scan
+use Rattle.promql_token.specs.TokenScanning.{after, in_braces}
 use Rattle.promql_token.specs.declared.class.Class.TheVariants as class
 use Rattle.promql_token.specs.declared.ids.TheConstants.{T_COMMA, T_EQL, T_EQL_REGEX, T_IDENTIFIER, T_LOR, T_NEQ, T_NEQ_REGEX, T_STRING}
-use Rattle.promql_token.proofs.Joins.{joins, joins_name}
+use Rattle.promql_token.proofs.Concatenation.{joins, joins_name}
 use Rattle.promql_token.proofs.PrintedValues.{joins_quoted}
 use Rattle.promql_token.proofs.Steps.{pieces_run}
 use Rattle.promql_label.specs.PlainMatchers.{Operator, equal, not_equal, matches, matches_not, PlainMatcher, plain_matcher, PlainMatchers, plain_matchers, group_text, matcher_text, matchers_text, name_text, operator_text}
 use Rattle.promql_label.specs.SortedTexts.{insert_text, sorted_texts, text_order}
 use Rattle.promql_label.specs.ReadMatchers.{Token, inside, insert_matcher, sorted_matchers, name_token, sign_id, matcher_tokens, group_tokens, matchers_tokens}
 
-abbrev read : List Token → List PieceText
-read ts = map (λ t. Ok t) ts
+abbrev scanned_tokens : List Token → List ScannedText
+scanned_tokens ts = map (λ t. Ok t) ts
 
 -- in braces, before any text, the text is read as the tokens
 abbrev Reads : ℕ → Text → List Token → Type 0
-Reads depth s ts = (r : Text) → pieces (inside depth) (s ++ r) ≡ read ts ++ pieces (inside depth) r
+Reads depth s ts = (r : Text) → pieces (inside depth) (s ++ r) ≡ scanned_tokens ts ++ pieces (inside depth) r
 
 append_reads : (depth : ℕ) (s z : Text) (ts us : List Token) → Reads depth s ts → Reads depth z us → Reads depth (s ++ z) (ts ++ us)
 append_reads depth s z ts us first second r =
-    ap (pieces (inside depth)) (append_assoc s z r) ∙ first (z ++ r) ∙ ap (λ ws. read ts ++ ws) (second r)
-    ∙ sym (append_assoc {A = PieceText} (read ts) (read us) (pieces (inside depth) r))
-    ∙ ap (λ ws. ws ++ pieces (inside depth) r) (sym (map-append {B = PieceText} (λ t. Ok t) ts us))
+    ap (pieces (inside depth)) (append_assoc s z r) ∙ first (z ++ r) ∙ ap (λ ws. scanned_tokens ts ++ ws) (second r)
+    ∙ sym (append_assoc {A = ScannedText} (scanned_tokens ts) (scanned_tokens us) (pieces (inside depth) r))
+    ∙ ap (λ ws. ws ++ pieces (inside depth) r) (sym (map-append {B = ScannedText} (λ t. Ok t) ts us))
 
 -- what is joined is read piece by piece
 separated_reads : {X : Type 0} (depth : ℕ) (f : X → Text) (g : X → List Token) (s : Text) (t : Token) → Reads depth s (t ∷ []) → ((x : X) → Reads depth (f x) (g x)) → (xs : List X)
@@ -75,7 +75,7 @@ name_before depth name (matches_not w) r = name_reads depth name _ refl refl
 
 -- a sign before a quote
 sign_reads : (depth : ℕ) (op : Operator) (r : Text) → pieces (inside depth) (operator_text op ++ (34 ∷ r)) ≡ Ok (sign_id op, operator_text op) ∷ pieces (inside depth) (34 ∷ r)
-unfolding scan.piece in_braces after
+unfolding scan.scan_token in_braces after
 sign_reads depth equal r = joins (inside depth) (codes "=") (34 ∷ r) T_EQL (omega arith) refl refl
 sign_reads depth not_equal r = joins (inside depth) (codes "!=") (34 ∷ r) T_NEQ (omega arith) refl refl
 sign_reads depth (matches w) r = joins (inside depth) (codes "=~") (34 ∷ r) T_EQL_REGEX (omega arith) refl refl
@@ -89,7 +89,7 @@ matcher_reads depth (plain_matcher op name value) r =
     ∙ ap (λ ws. Ok (name_token name) ∷ ws) (sign_reads depth op _ ∙ ap (λ ws. Ok (sign_id op, operator_text op) ∷ ws) (string_reads depth value r))
 
 comma_reads : (depth : ℕ) → Reads depth (codes ",") ((T_COMMA, codes ",") ∷ [])
-unfolding scan.piece in_braces after
+unfolding scan.scan_token in_braces after
 comma_reads depth r = joins (inside depth) (codes ",") r T_COMMA (omega arith) refl refl
 
 blank_reads : (depth : ℕ) → Reads depth (codes " ") []
@@ -123,6 +123,6 @@ matchers_read depth (plain_matchers plain []) r =
     let cs = sorted_matchers plain in
     ap (λ ts. pieces (inside depth) (joined_text (codes ",") ts ++ r)) (sym (texts_sorted plain))
     ∙ joined_reads depth matcher_text matcher_tokens (codes ",") (T_COMMA, codes ",") (comma_reads depth) (matcher_reads depth) cs r
-    ∙ ap (λ ts. read ts ++ pieces (inside depth) r) (sym (append-nil (group_tokens cs)))
+    ∙ ap (λ ts. scanned_tokens ts ++ pieces (inside depth) r) (sym (append-nil (group_tokens cs)))
 matchers_read depth (plain_matchers plain (g ∷ groups)) r =
     joined_reads depth group_text group_tokens (codes " or ") (T_LOR, codes "or") (or_reads depth) (group_reads depth) (g ∷ groups) r

@@ -8,7 +8,7 @@ use Rattle.promql_text.specs.Quoting.{quoted_text}
 use Rattle.promql_text.specs.Texts.{Text}
 use Rattle.promql_text.proofs.Quotes.{unquoted_text-quoted}
 use Rattle.promql_token.specs.Classes.{is_label}
-use Rattle.promql_token.specs.Lexing.{PieceText, pieces}
+use Rattle.promql_token.specs.Lexing.{ScannedText, pieces}
 use Rattle.promql_token.specs.declared.ids.TheConstants.{T_COMMA, T_IDENTIFIER, T_LOR, T_STRING}
 use Rattle.promql_label.specs.Operators.{IsMatcherOf}
 use Rattle.promql_label.specs.PlainMatchers.{Operator, equal, not_equal, matches, matches_not, PlainMatcher, plain_matcher, PlainMatchers, plain_matchers, matchers_text, operator_text}
@@ -38,7 +38,7 @@ all_again : {X A Y : Type 0} (f : A → Option Y) (g : X → A) (h : X → Y) �
 all_again f g h each [] = refl
 all_again f g h each (x ∷ xs) = λ i. option_and_then (λ y. option_map (λ ys. y ∷ ys) (all_again f g h each xs i)) (each x i)
 
--- what is joined by a token is split where it stands
+-- what is joined by a token is split where it is
 split_joined : {X : Type 0} (p : Token → Bool) (g : X → List Token) (t : Token) → p t ≡ true → ((x : X) → All (λ k. p k ≡ false) (g x)) → (x : X) (xs : List X)
     → slice_split p (join_by g (t ∷ []) (x ∷ xs)) ≡ map g (x ∷ xs)
 split_joined p g t is each x [] = ap (slice_split p) (append-nil (g x)) ∙ slice_split_none p (g x) (each x)
@@ -113,7 +113,7 @@ parts_built id name value (plain_matcher not_equal n v) h = λ i. record { sign 
 parts_built id name value (plain_matcher (matches w) n v) h = λ i. record { sign = sym h.0.0 i; name = h.1 i; value = h.2 i }
 parts_built id name value (plain_matcher (matches_not w) n v) h = λ i. record { sign = sym h.0.0 i; name = h.1 i; value = h.2 i }
 
-abbrev tokens_of : List PieceText → List Token
+abbrev tokens_of : List ScannedText → List Token
 tokens_of [] = []
 tokens_of (Ok t ∷ ws) = t ∷ tokens_of ws
 tokens_of (Err e ∷ ws) = tokens_of ws

@@ -6,7 +6,7 @@ use Rattle.std.proofs.Math.Seq.{take-append_seam, drop-append_seam, get_or-appen
 use Rattle.std.proofs.lemmas.Bool.{eqb-true, eq-eqb, ne_eqb}
 use Rattle.std.proofs.lemmas.List.{reverse-append}
 use Rattle.promql_text.specs.Texts.{Text}
-use Rattle.promql_label.specs.Repeats.{is_loose, escaped_repeats}
+use Rattle.promql_label.specs.Repeats.{is_literal_brace, escaped_repeats}
 use Rattle.promql_label.specs.RepeatPlaces.{byte_at, bytes_from}
 use Rattle.promql_label.proofs.Escaping.{escaped_from, from_start, low_char, mark}
 
@@ -46,7 +46,7 @@ before_place p b z =
 
 here : (p : Text) (b : ℕ) (z : Text) → byte_at (p ++ b ∷ z) (length p) ≡ mark (ends_odd p) b z ++ b ∷ []
 here p b z =
-    let made : Text → ℕ → Text → Text = λ q c r. cond (not (ends_odd q) && is_loose c r) (92 ∷ []) [] ++ c ∷ [] in
+    let made : Text → ℕ → Text → Text = λ q c r. cond (not (ends_odd q) && is_literal_brace c r) (92 ∷ []) [] ++ c ∷ [] in
     ap (λ q. made q (get_or (p ++ b ∷ z) (length p) 0) (drop (length p + 1) (p ++ b ∷ z))) (take-append_seam p (b ∷ z))
     ∙ ap (λ c. made p c (drop (length p + 1) (p ++ b ∷ z))) (get_or-append_seam p b z 0)
     ∙ ap (made p b) (before_place p b z)

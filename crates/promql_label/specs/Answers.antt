@@ -1,4 +1,4 @@
--- What `regex` may return for a pattern: docs/MATCHERS.md, "Patterns".
+-- What `regex` may return for a pattern: docs/reference/matchers.md, "Patterns".
 use Rattle.std.specs.Prelude.{◌≡◌, ◌≢◌, ◌⊎◌, Bool, false, ◌++◌, Option, Some, None, is_some, option_map, unwrap_or, codes, chars}
 use Rattle.regex.specs.Failures.{IsPattern}
 use Rattle.regex.specs.Strings.{regex_source, regex_config, IsReadFromSource, IsDefaultFailure}
@@ -11,8 +11,8 @@ use Rattle.promql_text.specs.Texts.{Text}
 use Rattle.promql_label.specs.Repeats.{escaped_repeats}
 
 -- "Anchoring": the text that is built of a pattern
-abbrev pub anchored : Text → Text
-anchored u = codes "^(?:" ++ (u ++ codes ")$")
+abbrev pub anchor : Text → Text
+anchor u = codes "^(?:" ++ (u ++ codes ")$")
 
 -- the grammar of `regex` reads the text
 abbrev pub IsRead : Text → Type 0
@@ -28,26 +28,26 @@ IsCompiledFrom w r = (regex_source r ≡ w) × (regex_config r ≡ default_confi
 
 -- a form of a pattern is read, or rejected, by itself or anchored
 abbrev pub IsReadPair : Text → Type 0
-IsReadPair u = IsRead u × IsRead (anchored u)
+IsReadPair u = IsRead u × IsRead (anchor u)
 
 abbrev pub MayRefusePair : Text → Type 0
-MayRefusePair u = MayRefuse u ⊎ MayRefuse (anchored u)
+MayRefusePair u = MayRefuse u ⊎ MayRefuse (anchor u)
 
 -- what becomes of a form that is tried: its anchored text, or nothing
 abbrev pub IsTried : Text → Option Text → Type 0
-IsTried u (Some w) = (w ≡ anchored u) × IsReadPair u
+IsTried u (Some w) = (w ≡ anchor u) × IsReadPair u
 IsTried u None = MayRefusePair u
 
 -- what is returned for a pattern: the built text, or that it is rejected
 pub data Answer : Type 0 where
   built : Text → Answer
-  refused : Answer
+  rejected : Answer
 
 -- "Answers": `regex` allows this result for a pattern
 pub data Allows : Text → Answer → Type 0 where
-  as_it_is : (v : Text) → IsReadPair v → Allows v (built (anchored v))
-  escaped : (v : Text) → MayRefusePair v → IsReadPair (escaped_repeats v) → Allows v (built (anchored (escaped_repeats v)))
-  neither : (v : Text) → MayRefusePair v → MayRefusePair (escaped_repeats v) → Allows v refused
+  as_it_is : (v : Text) → IsReadPair v → Allows v (built (anchor v))
+  by_escaping : (v : Text) → MayRefusePair v → IsReadPair (escaped_repeats v) → Allows v (built (anchor (escaped_repeats v)))
+  neither : (v : Text) → MayRefusePair v → MayRefusePair (escaped_repeats v) → Allows v rejected
 
 -- "Matching by a pattern": whether `regex` finds the pattern of a built text in a text
 abbrev pub finds : Text → Text → Bool

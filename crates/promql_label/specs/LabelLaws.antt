@@ -1,4 +1,5 @@
--- What the laws on labels speak of: docs/MATCHERS.md, "Common labels", "Printed labels" and "Printed matchers".
+-- What the laws on labels speak of: docs/reference/matchers.md, "Common labels", "Printed labels" and
+-- "Printed matchers".
 use Rattle.std.specs.Prelude.{ℕ, if◌then◌else◌, List, Option, Some}
 use Rattle.std.specs.List.{position_or_len}
 use Rattle.std.specs.Str.{bytes_eq}

@@ -1,4 +1,4 @@
--- Lists of labels: docs/MATCHERS.md, "Labels".
+-- Lists of labels: docs/reference/matchers.md, "Labels".
 use Rattle.std.specs.Prelude.{Bool, not, ◌&&◌, ◌||◌, if◌then◌else◌, List, [], ◌∷◌, map, filter, codes, string_bytes}
 use Rattle.std.specs.List.{list_any}
 use Rattle.std.specs.Str.{bytes_eq, str_eq_ignore_ascii_case}

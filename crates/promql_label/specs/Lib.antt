@@ -8,7 +8,7 @@ pub mod NextText
 pub mod Operators
 pub mod PlainMatchers
 pub mod ReadMatchers
-pub mod Refusals
+pub mod PatternRejections
 pub mod RepeatPlaces
 pub mod Repeats
 pub mod SortedTexts

@@ -1,6 +1,6 @@
--- Why no matcher is made: docs/MATCHERS.md, "Operators of tokens".
+-- Why no matcher is made: docs/reference/matchers.md, "Operators of tokens".
 use Rattle.std.specs.Prelude.{◌≡◌, ℕ, true, false, string_bytes}
-use Rattle.promql_label.specs.Answers.{Allows, refused}
+use Rattle.promql_label.specs.Answers.{Allows, rejected}
 use Rattle.promql_label.specs.declared.matcher.MatcherError.{MatcherError}
 use Rattle.promql_label.specs.declared.matcher.MatcherError.TheVariants as errors
 use Rattle.promql_label.specs.declared.pattern.PatternFault.{PatternFault}
@@ -17,7 +17,7 @@ error_of (Refused value) = errors.Pattern value
 abbrev pub IsFaultOf : ℕ → Text → MatcherError → Type 0
 IsFaultOf id value errors.Memory = is_pattern_id id ≡ true
 IsFaultOf id value (errors.InvalidOp k) = (is_operator_id id ≡ false) × (k ≡ id)
-IsFaultOf id value (errors.Pattern s) = (is_pattern_id id ≡ true) × Allows value refused × (string_bytes s ≡ value)
+IsFaultOf id value (errors.Pattern s) = (is_pattern_id id ≡ true) × Allows value rejected × (string_bytes s ≡ value)
 
 -- an error as plain data
 pub data PlainError : Type 0 where

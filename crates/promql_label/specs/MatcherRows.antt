@@ -1,4 +1,4 @@
--- Worked lists of matchers (docs/MATCHERS.md, "Printed lists" and "Printed lists read back").
+-- Worked lists of matchers (docs/reference/matchers.md, "Printed lists" and "Printed lists read back").
 use Rattle.std.specs.Prelude.{◌≡◌, [], ℕ, ◌∷◌, Some, None, codes}
 use Rattle.promql_text.specs.Texts.{Text}
 use Rattle.promql_token.specs.declared.ids.TheConstants.{T_COMMA, T_EQL, T_EQL_REGEX, T_IDENTIFIER, T_LOR, T_NEQ, T_NUMBER, T_STRING}

@@ -46,8 +46,8 @@ IsLeast last (Some t) ts =
     (is_above last t ≡ true) × (Each (λ u. is_above last u ≡ is_from t u) ts × (1 ≤ copies t ts))
 
 -- the better of the best so far and t
-abbrev pub better_text : Option Text → Option Text → Text → Option Text
-better_text last best t = if is_above last t && is_below best t then Some t else best
+abbrev pub smaller_text : Option Text → Option Text → Text → Option Text
+smaller_text last best t = if is_above last t && is_below best t then Some t else best
 
 -- what comes before a text: a comma, if a text was printed before
 abbrev pub comma_after : Bool → Text

@@ -1,4 +1,4 @@
--- The operators that token ids stand for: docs/MATCHERS.md, "Operators of tokens".
+-- The operators that token ids are for: docs/reference/matchers.md, "Operators of tokens".
 use Rattle.std.specs.Prelude.{◌≡◌, ℕ, Bool, ◌||◌, [], ◌∷◌}
 use Rattle.promql_token.specs.declared.ids.TheConstants.{T_EQL, T_NEQ, T_EQL_REGEX, T_NEQ_REGEX}
 use Rattle.promql_token.specs.Ids.{is_one_of}

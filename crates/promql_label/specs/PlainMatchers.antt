@@ -1,4 +1,4 @@
--- Matchers and their lists, as plain data: docs/MATCHERS.md, "Matchers" and "Lists of matchers".
+-- Matchers and their lists, as plain data: docs/reference/matchers.md, "Matchers" and "Lists of matchers".
 use Rattle.std.specs.Prelude.{Bool, not, if◌then◌else◌, List, [], ◌∷◌, ◌++◌, Option, filter, find, map, option_map, codes}
 use Rattle.std.specs.List.{flat_map, list_all}
 use Rattle.std.specs.Str.{bytes_eq}
@@ -64,9 +64,9 @@ grown (g ∷ []) c = (g ++ c ∷ []) ∷ []
 grown (g ∷ h ∷ groups) c = g ∷ grown (h ∷ groups) c
 
 -- "Appending": to the last group if there is one, else to the plain ones
-abbrev pub appended : PlainMatchers → PlainMatcher → PlainMatchers
-appended (plain_matchers plain []) c = plain_matchers (plain ++ c ∷ []) []
-appended (plain_matchers plain (g ∷ groups)) c = plain_matchers plain (grown (g ∷ groups) c)
+abbrev pub append_plain : PlainMatchers → PlainMatcher → PlainMatchers
+append_plain (plain_matchers plain []) c = plain_matchers (plain ++ c ∷ []) []
+append_plain (plain_matchers plain (g ∷ groups)) c = plain_matchers plain (grown (g ∷ groups) c)
 
 -- "Appending with `or`": plain ones become the last group first, if there are any; then c is a group of its own
 abbrev pub appended_or : PlainMatchers → PlainMatcher → PlainMatchers
@@ -77,8 +77,8 @@ appended_or (plain_matchers (p ∷ plain) groups) c = plain_matchers [] (groups 
 abbrev pub is_of : Text → PlainMatcher → Bool
 is_of name c = bytes_eq (name_of c) name
 
-abbrev pub found : PlainMatchers → Text → List PlainMatcher
-found cs name = filter (is_of name) (every cs)
+abbrev pub find_plain : PlainMatchers → Text → List PlainMatcher
+find_plain cs name = filter (is_of name) (every cs)
 
 abbrev pub found_value : PlainMatchers → Text → Option Text
 found_value cs name = option_map value_of (find (is_of name) (every cs))

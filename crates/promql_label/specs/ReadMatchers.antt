@@ -1,4 +1,5 @@
--- The tokens of a printed list of matchers, and what such tokens mean: docs/MATCHERS.md, "Printed lists read back".
+-- The tokens of a printed list of matchers, and what such tokens mean: docs/reference/matchers.md,
+-- "Printed lists read back".
 use Rattle.std.specs.Prelude.{ℕ, ◌==◌, if◌then◌else◌, List, [], ◌∷◌, Option, Some, None, codes, map, option_map}
 use Rattle.std.specs.List.{join_by, slice_split}
 use Rattle.std.specs.Option.{option_and_then}

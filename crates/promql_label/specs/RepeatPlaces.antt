@@ -1,9 +1,9 @@
--- Where the escaped form of a pattern has its backslashes (docs/MATCHERS.md, "Repetitions").
+-- Where the escaped form of a pattern has its backslashes (docs/reference/matchers.md, "Repetitions").
 use Rattle.std.specs.Prelude.{ℕ, zero, suc, ◌+◌, ◌%◌, Bool, not, ◌&&◌, ◌==◌, if◌then◌else◌, [], ◌∷◌, ◌++◌, drop, reverse, slice_index, take}
 use Rattle.std.specs.List.{prefix_len}
 use Rattle.promql_text.specs.Bytes.{backslash}
 use Rattle.promql_text.specs.Texts.{Text}
-use Rattle.promql_label.specs.Repeats.{is_loose}
+use Rattle.promql_label.specs.Repeats.{is_literal_brace}
 
 -- how many backslashes come directly before the place k
 abbrev pub backslashes_before : Text → ℕ → ℕ
@@ -15,7 +15,7 @@ is_taken z k = backslashes_before z k % 2 == 1
 
 -- the byte at k is a `{` that no backslash takes and after which no count comes
 abbrev pub is_loose_at : Text → ℕ → Bool
-is_loose_at z k = not (is_taken z k) && is_loose (slice_index z k) (drop (k + 1) z)
+is_loose_at z k = not (is_taken z k) && is_literal_brace (slice_index z k) (drop (k + 1) z)
 
 -- the byte at k, with a backslash before it if it is such a brace
 abbrev pub byte_at : Text → ℕ → Text

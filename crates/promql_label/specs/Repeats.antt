@@ -1,4 +1,4 @@
--- Repetitions in a pattern: docs/MATCHERS.md, "Repetitions".
+-- Repetitions in a pattern: docs/reference/matchers.md, "Repetitions".
 use Rattle.std.specs.Prelude.{◌≡◌, ℕ, ◌<◌, Bool, true, not, ◌==◌, ◌&&◌, ◌||◌, if◌then◌else◌, [], ◌∷◌, ◌++◌, length, drop, slice_index, codes}
 use Rattle.std.specs.Char.{is_ascii_digit}
 use Rattle.std.specs.List.{list_all, prefix_len}
@@ -16,28 +16,28 @@ pub data OpensCount : Text → Type 0 where
   between : (n m z : Text) → IsNumeral n → IsNumeral m → OpensCount (n ++ (codes "," ++ (m ++ (codes "}" ++ z))))
 
 -- what is left after the digits that the text begins with
-abbrev pub behind_digits : Text → Text
-behind_digits z = drop (prefix_len is_ascii_digit z) z
+abbrev pub after_digits : Text → Text
+after_digits z = drop (prefix_len is_ascii_digit z) z
 
 -- whether a count comes next: the law `counts`
 abbrev pub opens_count : Text → Bool
 opens_count z =
     is_ascii_digit (slice_index z 0)
-    && (let end = behind_digits z in
+    && (let end = after_digits z in
     slice_index end 0 == 125
-    || slice_index end 0 == 44 && slice_index (behind_digits (drop 1 end)) 0 == 125)
+    || slice_index end 0 == 44 && slice_index (after_digits (drop 1 end)) 0 == 125)
 
 -- "Repetitions": a `{` after which no count comes
-abbrev pub is_loose : ℕ → Text → Bool
-is_loose b z = b == 123 && not (opens_count z)
+abbrev pub is_literal_brace : ℕ → Text → Bool
+is_literal_brace b z = b == 123 && not (opens_count z)
 
 -- a byte before z, with a backslash if it is loose
-abbrev pub marked : ℕ → Text → Text
-marked b z = if is_loose b z then 92 ∷ b ∷ [] else b ∷ []
+abbrev pub with_backslash : ℕ → Text → Text
+with_backslash b z = if is_literal_brace b z then 92 ∷ b ∷ [] else b ∷ []
 
 -- "Repetitions": the escaped form of a pattern. A backslash stays, and so does the byte after it.
 abbrev pub escaped_repeats : Text → Text
 escaped_repeats [] = []
-escaped_repeats (b ∷ []) = marked b []
+escaped_repeats (b ∷ []) = with_backslash b []
 escaped_repeats (b ∷ c ∷ z) =
-    if b == 92 then b ∷ c ∷ escaped_repeats z else marked b (c ∷ z) ++ escaped_repeats (c ∷ z)
+    if b == 92 then b ∷ c ∷ escaped_repeats z else with_backslash b (c ∷ z) ++ escaped_repeats (c ∷ z)

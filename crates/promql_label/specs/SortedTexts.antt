@@ -1,4 +1,4 @@
--- Texts in byte order (docs/MATCHERS.md, "Printed lists").
+-- Texts in byte order (docs/reference/matchers.md, "Printed lists").
 use Rattle.std.specs.Prelude.{List, [], ◌∷◌, if◌then◌else◌}
 use Rattle.std.specs.Ordering.{nat_cmp, is_gt}
 use Rattle.std.specs.Cmp.Lexicographic.{slice_cmp}

@@ -1,4 +1,4 @@
-//! Lists of labels: docs/MATCHERS.md, "Labels".
+//! Lists of labels: docs/reference/matchers.md, "Labels".
 
 ghost use Rattle.std.specs.Prelude.{◌≡◌, ◌≢◌, ◌↔◌, ◌++◌, ◌∷◌, ◌&&◌, [], not, IfOk, IsTrue, map, string_bytes};
 ghost use Rattle.promql_token.specs.Classes.{is_label};
@@ -48,7 +48,7 @@ impl Labels {
         self.labels.is_empty()
     }
 
-    /// Whether the lists have a label in common: docs/MATCHERS.md, "Common labels".
+    /// Whether the lists have a label in common: docs/reference/matchers.md, "Common labels".
     pub fn is_joint(&self, other: &Labels) -> bool
         ensures value { result ≡ list_any (is_among (labels_of other.now)) (labels_of self.now) }
         ensures common { IsTrue result ↔ (common (labels_of self.now) (labels_of other.now) ≢ []) }
@@ -59,7 +59,7 @@ impl Labels {
     }
 
     /// The labels of this list that the other has too, each once, in the order in which this list
-    /// has them first: docs/MATCHERS.md, "Common labels".
+    /// has them first: docs/reference/matchers.md, "Common labels".
     pub fn intersect(&self, alloc: Global, other: &Labels) -> Result<Labels, AllocError>
         ensures { IfOk result (λ x.
             labels_of x ≡ common (labels_of self.now) (labels_of other.now)) }
@@ -114,7 +114,7 @@ impl fmt::Display for Labels {
     }
 }
 
-/// Writes a label: docs/MATCHERS.md, "Printed labels".
+/// Writes a label: docs/reference/matchers.md, "Printed labels".
 fn write_label<W: fmt::Write>(label: &Label, f: &mut fmt::Formatter<W>) -> fmt::Result
     ensures { WritesOnOk W.write_str_gives f.old result
         (label_text (string_bytes label.now)) f.new }

@@ -15,7 +15,7 @@ ghost use Rattle.promql_label.specs.SortedTexts.{sorted_texts};
 ghost use Rattle.promql_token.specs.Lexing.{pieces};
 ghost use Rattle.promql_text.specs.Equalities.{HashesAlike, IsSameBy};
 ghost use Rattle.promql_label.specs.MatcherErrors.{plain_error_of};
-ghost use Rattle.promql_label.specs.Refusals.{refused_value};
+ghost use Rattle.promql_label.specs.PatternRejections.{rejected_value};
 ghost use Rattle.promql_label.specs.Views.{plain_matcher_of, plain_matchers_of, operator_of};
 
 use crate::labels::Labels;
@@ -129,7 +129,7 @@ pub fn equal_patterns()
 
 /// Faults of patterns are equal exactly if they are of one kind and have one value.
 pub fn equal_pattern_faults()
-    ensures { IsSameBy refused_value ⟦<PatternFault as PartialEq>⟧.eq }
+    ensures { IsSameBy rejected_value ⟦<PatternFault as PartialEq>⟧.eq }
 {}
 
 /// Errors of matchers are equal exactly if they are of one kind and have one id or value.

@@ -1,5 +1,5 @@
 //! Labels and label matchers: lists of labels, patterns, matchers and their or-groups. The rules
-//! are in docs/MATCHERS.md.
+//! are in docs/reference/matchers.md.
 //!
 //! ```text
 //! let job = Matcher::new(alloc, MatchOp::Equal, "job", "api")?;
@@ -22,9 +22,9 @@ pub mod laws;
 pub mod matcher;
 pub mod matchers;
 pub mod pattern;
+mod printed_len;
 pub mod repeats;
 mod sorted;
-mod width;
 
 /// The label that holds a metric's name.
 pub const METRIC_NAME: &str = "__name__";

@@ -1,4 +1,4 @@
-//! Matchers: docs/MATCHERS.md, "Matchers".
+//! Matchers: docs/reference/matchers.md, "Matchers".
 
 ghost use Rattle.std.specs.Prelude.{◌≡◌, ◌↔◌, false, true, IfOk, IfErr, IsOk, IsErrOf, codes, string_bytes};
 ghost use Rattle.promql_label.specs.PlainMatchers.{plain_matcher, equal, holds, operator_text};

@@ -1,9 +1,9 @@
-//! Lists of matchers: docs/MATCHERS.md, "Lists of matchers".
+//! Lists of matchers: docs/reference/matchers.md, "Lists of matchers".
 
 ghost use Rattle.std.specs.Prelude.{◌≡◌, [], ◌∷◌, ◌++◌, IfOk, OnOk, codes, filter, find, map, option_map};
 ghost use Rattle.std.specs.Fmt.{WritesOnOk};
 ghost use Rattle.std.specs.List.{list_all};
-ghost use Rattle.promql_label.specs.PlainMatchers.{all_match_empty, appended, appended_or, plain_matchers, found, found_value, group_text, holds, is_of, value_of};
+ghost use Rattle.promql_label.specs.PlainMatchers.{all_match_empty, append_plain, appended_or, plain_matchers, find_plain, found_value, group_text, holds, is_of, value_of};
 ghost use Rattle.promql_label.specs.Views.{plain_matcher_of, plain_matchers_of};
 ghost use Rattle.promql_text.specs.Texts.{joined_text};
 
@@ -66,7 +66,7 @@ impl Matchers {
     /// The list with one more matcher: in the last group if there is one, else beside the groups.
     pub fn append(mut self, matcher: Matcher) -> Result<Matchers, AllocError>
         ensures { IfOk result (λ m.
-            plain_matchers_of m ≡ appended (plain_matchers_of self) (plain_matcher_of matcher)) }
+            plain_matchers_of m ≡ append_plain (plain_matchers_of self) (plain_matcher_of matcher)) }
     {
         match self.or_matchers.last_mut() {
             Some(group) => group.push(matcher)?,
@@ -107,7 +107,7 @@ impl Matchers {
     }
 
     /// The value of the first matcher of this name.
-    #[tactic(auto, using(crate::proofs::Found::searching))]
+    #[tactic(auto, using(crate::proofs::MatcherSearch::searching))]
     pub fn find_matcher_value(&self, name: &str) -> Option<&str>
         ensures { option_map (λ v. v.now) result
             ≡ found_value (plain_matchers_of self.now) name.now }
@@ -127,7 +127,7 @@ impl Matchers {
     /// order.
     pub fn find_matchers(&self, alloc: Global, name: &str) -> Result<Vec<Matcher>, AllocError>
         ensures { IfOk result (λ v.
-            map plain_matcher_of v.items ≡ found (plain_matchers_of self.now) name.now) }
+            map plain_matcher_of v.items ≡ find_plain (plain_matchers_of self.now) name.now) }
     {
         let mut matchers = Vec::new(alloc);
         copy_named(alloc, &self.matchers, name, &mut matchers)?;
@@ -143,10 +143,10 @@ impl Matchers {
     {
         let mut or_matchers = Vec::with_capacity(alloc, self.or_matchers.len())?;
         for group in &self.or_matchers {
-            or_matchers.push(copied(alloc, group)?)?;
+            or_matchers.push(copy_matchers(alloc, group)?)?;
         }
         Ok(Matchers {
-            matchers: copied(alloc, &self.matchers)?,
+            matchers: copy_matchers(alloc, &self.matchers)?,
             or_matchers,
         })
     }
@@ -227,7 +227,7 @@ fn copy_named(
 }
 
 /// The same matchers.
-fn copied(alloc: Global, matchers: &[Matcher]) -> Result<Vec<Matcher>, AllocError>
+fn copy_matchers(alloc: Global, matchers: &[Matcher]) -> Result<Vec<Matcher>, AllocError>
     ensures { IfOk result (λ v. map plain_matcher_of v.items ≡ map plain_matcher_of matchers.now) }
 {
     let mut copies = Vec::with_capacity(alloc, matchers.len())?;

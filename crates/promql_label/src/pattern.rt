@@ -1,10 +1,10 @@
-//! Patterns: docs/MATCHERS.md, "Patterns".
+//! Patterns: docs/reference/matchers.md, "Patterns".
 
 ghost use Rattle.std.specs.Prelude.{◌≡◌, true, false, IfOk, IfErr, IfSome, IfNone};
 ghost use Rattle.regex.specs.Patterns.{default_config};
 ghost use Rattle.regex.specs.Strings.{regex_config, regex_source, IsReadFromSource};
-ghost use Rattle.promql_label.specs.Refusals.{IsRefused};
-ghost use Rattle.promql_label.specs.Answers.{Allows, built, finds, IsCompiledFrom, IsRead, IsTried, MayRefuse, MayRefusePair, refused};
+ghost use Rattle.promql_label.specs.PatternRejections.{IsRejected};
+ghost use Rattle.promql_label.specs.Answers.{Allows, built, finds, IsCompiledFrom, IsRead, IsTried, MayRefuse, MayRefusePair, rejected};
 
 use crate::repeats::escape_repeats;
 use regex::Regex;
@@ -61,7 +61,7 @@ impl From<AllocError> for PatternFault {
 /// memory ran out.
 fn compile(alloc: Global, text: &str) -> Result<Option<Regex>, AllocError>
     ensures read { IfOk result (λ o. IfSome o (IsCompiledFrom text.now)) }
-    ensures refused { IfOk result (λ o. IfNone o (MayRefuse text.now)) }
+    ensures rejected { IfOk result (λ o. IfNone o (MayRefuse text.now)) }
 {
     match Regex::new(alloc, text) {
         Ok(regex) => Ok(Some(regex)),
@@ -73,7 +73,7 @@ fn compile(alloc: Global, text: &str) -> Result<Option<Regex>, AllocError>
 /// Whether the grammar of `regex` reads a text.
 fn is_read(alloc: Global, text: &str) -> Result<bool, AllocError>
     ensures read { IfOk result (λ is_read. is_read ≡ true → IsRead text.now) }
-    ensures refused { IfOk result (λ is_read. is_read ≡ false → MayRefuse text.now) }
+    ensures rejected { IfOk result (λ is_read. is_read ≡ false → MayRefuse text.now) }
 {
     match regex_syntax::parse(alloc, text, &Config::default()) {
         Ok(_parsed) => Ok(true),
@@ -85,7 +85,7 @@ fn is_read(alloc: Global, text: &str) -> Result<bool, AllocError>
 }
 
 /// The pattern of a form of a value, if `regex` reads that form by itself and anchored.
-fn anchored(alloc: Global, form: &str) -> Result<Option<Pattern>, AllocError>
+fn compile_anchored(alloc: Global, form: &str) -> Result<Option<Pattern>, AllocError>
     ensures { IfOk result (IsTried form.now) }
 {
     if !is_read(alloc, form)? {
@@ -110,9 +110,9 @@ impl Pattern {
     /// `Refused` with the value, where `regex` rejects both; `Memory` if an allocation fails.
     pub fn read(alloc: Global, value: &str) -> Result<Pattern, PatternFault>
         ensures built { IfOk result (λ p. Allows value.now (built p)) }
-        ensures refused { IfErr result (IsRefused value.now (Allows value.now refused)) }
+        ensures rejected { IfErr result (IsRejected value.now (Allows value.now rejected)) }
     {
-        match anchored(alloc, value)? {
+        match compile_anchored(alloc, value)? {
             Some(pattern) => Ok(pattern),
             None => Pattern::read_escaped(alloc, value),
         }
@@ -125,7 +125,7 @@ impl Pattern {
     /// `Refused` with the text, where `regex` rejects it; `Memory` if an allocation fails.
     pub fn of_text(alloc: Global, text: &str) -> Result<Pattern, PatternFault>
         ensures built { IfOk result (λ p. (p ≡ text.now) × IsRead text.now) }
-        ensures refused { IfErr result (IsRefused text.now (MayRefuse text.now)) }
+        ensures rejected { IfErr result (IsRejected text.now (MayRefuse text.now)) }
     {
         match compile(alloc, text)? {
             Some(regex) => Ok(Pattern::new(alloc, regex)?),
@@ -137,10 +137,10 @@ impl Pattern {
     fn read_escaped(alloc: Global, value: &str) -> Result<Pattern, PatternFault>
         requires { MayRefusePair value.now }
         ensures built { IfOk result (λ p. Allows value.now (built p)) }
-        ensures refused { IfErr result (IsRefused value.now (Allows value.now refused)) }
+        ensures rejected { IfErr result (IsRejected value.now (Allows value.now rejected)) }
     {
         let escaped = escape_repeats(alloc, value)?;
-        match anchored(alloc, escaped.as_str())? {
+        match compile_anchored(alloc, escaped.as_str())? {
             Some(pattern) => Ok(pattern),
             None => Err(PatternFault::Refused(String::from_str(alloc, value)?)),
         }

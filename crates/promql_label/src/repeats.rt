@@ -1,8 +1,8 @@
-//! Repetitions in a pattern: docs/MATCHERS.md, "Repetitions".
+//! Repetitions in a pattern: docs/reference/matchers.md, "Repetitions".
 
 ghost use Rattle.std.specs.Prelude.{◌≡◌, ◌≤◌, IfOk, length, slice_index, string_bytes, take_while};
 ghost use Rattle.std.specs.Char.{is_ascii_digit};
-ghost use Rattle.promql_label.specs.Repeats.{behind_digits, escaped_repeats, is_loose, opens_count};
+ghost use Rattle.promql_label.specs.Repeats.{after_digits, escaped_repeats, is_literal_brace, opens_count};
 
 use std::alloc::{AllocError, Global};
 
@@ -15,7 +15,7 @@ pub fn escape_repeats(alloc: Global, pattern: &str) -> Result<String, AllocError
     let mut rest = pattern.chars();
     let mut taken = false;
     while let Some(c) = rest.next() {
-        if !taken && is_loose(c, rest.as_str()) {
+        if !taken && is_literal_brace(c, rest.as_str()) {
             escaped.push('\\')?;
         }
         escaped.push(c)?;
@@ -25,8 +25,8 @@ pub fn escape_repeats(alloc: Global, pattern: &str) -> Result<String, AllocError
 }
 
 /// Whether a character is a `{` that opens no count, before the rest of the pattern.
-fn is_loose(c: char, rest: &str) -> bool
-    ensures { result ≡ is_loose c rest.now }
+fn is_literal_brace(c: char, rest: &str) -> bool
+    ensures { result ≡ is_literal_brace c rest.now }
 {
     c == '{' && !opens_count(rest.as_bytes())
 }
@@ -35,20 +35,20 @@ fn is_loose(c: char, rest: &str) -> bool
 fn opens_count(text: &[u8]) -> bool
     ensures { result ≡ opens_count text.now }
 {
-    let end = behind_digits(text);
+    let end = after_digits(text);
     if end.len() == text.len() {
         return false;
     }
     match end.first() {
         Some(b'}') => true,
-        Some(b',') => behind_digits(&end[1..]).first() == Some(&b'}'),
+        Some(b',') => after_digits(&end[1..]).first() == Some(&b'}'),
         _ => false,
     }
 }
 
 /// What is left after the digits at the start.
-fn behind_digits(text: &[u8]) -> &[u8]
-    ensures { result.now ≡ behind_digits text.now }
+fn after_digits(text: &[u8]) -> &[u8]
+    ensures { result.now ≡ after_digits text.now }
 {
     &text[digit_count(text)..]
 }

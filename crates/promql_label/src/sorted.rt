@@ -1,4 +1,4 @@
-//! Matchers in the byte order of their texts, without memory (docs/MATCHERS.md, "Printed lists").
+//! Matchers in the byte order of their texts, without memory (docs/reference/matchers.md, "Printed lists").
 //!
 //! The printer goes from each text to the next greater one, and prints it as often as matchers have
 //! it. So it compares each matcher with each other one, but allocates nothing.
@@ -7,7 +7,7 @@ ghost use Rattle.std.specs.Prelude.{◌≡◌, codes, map};
 ghost use Rattle.std.specs.Fmt.{WritesOnOk};
 ghost use Rattle.std.specs.Iterator.{YieldsFirst, item_count};
 ghost use Rattle.promql_label.specs.MatcherBytes.{left_of, left_of_name};
-ghost use Rattle.promql_label.specs.NextText.{better_text, comma_after, copies, IsLeast, text_of, text_of_some, texts_after, times};
+ghost use Rattle.promql_label.specs.NextText.{smaller_text, comma_after, copies, IsLeast, text_of, text_of_some, texts_after, times};
 ghost use Rattle.promql_label.specs.PlainMatchers.{name_text};
 ghost use Rattle.promql_label.specs.SortedTexts.{sorted_texts, text_order};
 ghost use Rattle.promql_text.specs.Texts.{joined_text};
@@ -29,7 +29,7 @@ pub(crate) fn write_sorted<W: fmt::Write>(
         (joined_text (codes ",") (sorted_texts (map text_of matchers.now))) f.new }
 {
     let mut last: Option<&Matcher> = None;
-    'texts: while let Some(next) = next_above(matchers, last) {
+    'texts: while let Some(next) = next_greater(matchers, last) {
         write_copies(matchers, next, last.is_some(), f)?;
         last = Some(next);
     }
@@ -65,24 +65,24 @@ fn write_comma<W: fmt::Write>(started: bool, f: &mut fmt::Formatter<W>) -> fmt::
 }
 
 /// A matcher with the least text above that of `last`.
-fn next_above<'a>(matchers: &'a [Matcher], last: Option<&Matcher>) -> Option<&'a Matcher>
+fn next_greater<'a>(matchers: &'a [Matcher], last: Option<&Matcher>) -> Option<&'a Matcher>
     ensures { IsLeast (text_of_some last.entry) (text_of_some result) (map text_of matchers.now) }
 {
     let mut best: Option<&'a Matcher> = None;
     'search: for matcher in matchers {
-        best = better(matcher, last, best);
+        best = smaller_of(matcher, last, best);
     }
     best
 }
 
 /// `matcher`, if its text is above that of `last` and below that of `best`; else `best`.
-fn better<'a>(
+fn smaller_of<'a>(
     matcher: &'a Matcher,
     last: Option<&Matcher>,
     best: Option<&'a Matcher>,
 ) -> Option<&'a Matcher>
     ensures { text_of_some result
-        ≡ better_text (text_of_some last.entry) (text_of_some best.entry) (text_of matcher.now) }
+        ≡ smaller_text (text_of_some last.entry) (text_of_some best.entry) (text_of matcher.now) }
 {
     if let Some(last) = last {
         if !compare(matcher, last).is_gt() {

@@ -1,7 +1,7 @@
-pub use Rattle.promql_syntax.specs.Answers
+pub use Rattle.promql_syntax.specs.ParseAnswers
 pub use Rattle.promql_syntax.specs.Asking
 pub use Rattle.promql_syntax.specs.Building
-pub use Rattle.promql_syntax.specs.Faults
-pub use Rattle.promql_syntax.specs.Halts
-pub use Rattle.promql_syntax.specs.Lexing
-pub use Rattle.promql_syntax.specs.PieceBuilding
+pub use Rattle.promql_syntax.specs.BuildErrors
+pub use Rattle.promql_syntax.specs.ParseErrors
+pub use Rattle.promql_syntax.specs.SourceTokens
+pub use Rattle.promql_syntax.specs.PartBuilding

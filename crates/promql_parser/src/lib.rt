@@ -1,4 +1,4 @@
-//! Reads PromQL into a tree, and prints the tree again. docs/GRAMMAR.md has the rules.
+//! Reads PromQL into a tree, and prints the tree again. docs/reference/grammar.md has the rules.
 //!
 //! ```
 //! let expr = promql_parser::parser::parse(rt.alloc(), "1-(foo-2)")?;

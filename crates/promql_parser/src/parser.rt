@@ -3,7 +3,7 @@
 pub use ast::{
     AggregateExpr, AtFault, AtModifier, BinModifier, BinaryExpr, Call, CheckError, CheckFault,
     EvalStmt, Expr, Extension, LabelModifier, MatrixSelector, NodeFault, NumberLiteral, Offset,
-    ParenExpr, RangeMode, StringLiteral, SubqueryExpr, TypedPlace, UnaryExpr,
+    ParenExpr, RangeMode, StringLiteral, SubqueryExpr, TypeContext, UnaryExpr,
     VectorMatchCardinality, VectorMatchFillValues, VectorSelector,
 };
 pub use function::{Function, FunctionArgs};

@@ -8,10 +8,10 @@ use Rattle.promql_kind.specs.Functions.{Signature, signature, function_named}
 use Rattle.promql_kind.specs.Modifiers.{Clause}
 use Rattle.promql_label.specs.Answers.{Answer}
 use Rattle.promql_grammar.specs.Grammar as grammar
-use Rattle.promql_grammar.specs.Pieces as piece
+use Rattle.promql_grammar.specs.GrammarParts as piece
 use Rattle.promql_ast.specs.Arguments.{count}
-use Rattle.promql_ast.specs.Builds.{minus, ranged, at_given, offset_given, mode_given, aggregated, aggregated_alone, aggregated_with}
-use Rattle.promql_ast.specs.Checked.{checked}
+use Rattle.promql_ast.specs.Builds.{minus, with_range, at_given, offset_given, mode_given, aggregate_args, aggregated_alone, aggregated_with}
+use Rattle.promql_ast.specs.Checked.{check_tree}
 use Rattle.promql_ast.specs.Checks.{when, unless, is_scalar_or_vector, is_vector}
 use Rattle.promql_ast.specs.Faults.{Fault, Verdict, passes, rejected, unary_type, subquery_type}
 use Rattle.promql_ast.specs.Selectors.{selector}
@@ -24,10 +24,10 @@ use Rattle.promql_ast.specs.check.Call.{arity_fault, typing_fault}
 use Rattle.promql_ast.specs.check.Vector.{selector_fault}
 use Rattle.promql_ast.specs.declared.range_mode.RangeMode.{RangeMode}
 use Rattle.promql_ast.specs.declared.range_mode.RangeMode.TheVariants.{Plain, Smoothed, Anchored}
-use Rattle.promql_syntax.specs.Answers.{IsAnswerTo}
+use Rattle.promql_syntax.specs.ParseAnswers.{IsAnswerTo}
 use Rattle.promql_syntax.specs.Asking.{Asking, gives, fails, asks, ◌giving◌, known, Asked, Ends}
-use Rattle.promql_syntax.specs.Building.{build, build_all, passing, passing_checks, called, bound, range_mode, with_postfix}
-use Rattle.promql_syntax.specs.PieceBuilding.{string_value, number_value, duration_value, time_value, step_value, shift_value, moment_value, clause_value, modifier_value, braces_value, any_braces_value}
+use Rattle.promql_syntax.specs.Building.{build, build_all, from_verdict, from_checked_verdict, build_call, bound_moment, range_mode, build_postfix}
+use Rattle.promql_syntax.specs.PartBuilding.{string_value, number_value, duration_value, time_value, step_value, shift_value, moment_value, clause_value, modifier_value, braces_value, any_braces_value}
 use Rattle.promql_run.specs.Extensions.{HasNoExtension, NoneInEach}
 
 -- whatever `regex` answers, what is given in the end is one of these
@@ -63,7 +63,7 @@ abbrev PassesPlain : Verdict → Type 0
 PassesPlain (passes t) = HasNoExtension t
 PassesPlain (rejected fault) = Unit {0}
 
-passing_plain : (v : Verdict) → PassesPlain v → EachGives HasNoExtension (passing v)
+passing_plain : (v : Verdict) → PassesPlain v → EachGives HasNoExtension (from_verdict v)
 passing_plain (passes t) plain = plain
 passing_plain (rejected fault) plain = tt
 
@@ -75,7 +75,7 @@ either_plain : (b : Bool) (v w : Verdict) → PassesPlain v → PassesPlain w �
 either_plain true v w first second = first
 either_plain false v w first second = second
 
-checked_plain : (t : Tree) → HasNoExtension t → PassesPlain (checked t)
+checked_plain : (t : Tree) → HasNoExtension t → PassesPlain (check_tree t)
 checked_plain (aggregate op e p m) plain = unless_plain (aggregate_fault op (type_of e) (maybe_type p)) _ plain
 checked_plain (unary e) plain = unless_plain (when (not (is_scalar_or_vector (type_of e))) (unary_type (type_of e))) _ plain
 checked_plain (binary op l r m) plain =
@@ -106,7 +106,7 @@ minus_plain (matrix s range mode) plain = tt
 minus_plain (call f args) plain = plain
 minus_plain (extension name value es) plain = absurd plain
 
-ranged_plain : (t : Tree) (n : ℕ) → PassesPlain (ranged t n)
+ranged_plain : (t : Tree) (n : ℕ) → PassesPlain (with_range t n)
 ranged_plain (vector (selector name matchers (Some offset) at)) n = tt
 ranged_plain (vector (selector name matchers None (Some at))) n = tt
 ranged_plain (vector (selector name matchers None None)) n = tt
@@ -147,29 +147,29 @@ with_plain op m (first_tree p no_trees) plain = tt
 with_plain op m (first_tree p (first_tree e no_trees)) plain = (plain.0, plain.1.0)
 with_plain op m (first_tree p (first_tree e (first_tree x es))) plain = tt
 
-aggregated_plain : (op : ℕ) (m : Option Clause) (ts : Trees) → NoneInEach ts → PassesPlain (aggregated op m ts)
+aggregated_plain : (op : ℕ) (m : Option Clause) (ts : Trees) → NoneInEach ts → PassesPlain (aggregate_args op m ts)
 aggregated_plain op m ts plain = either_plain (is_aggregator_with_param op) _ _ (with_plain op m ts plain) (alone_plain op m ts plain)
 
 -- ---- building
 
-passing_checks_plain : (v : Verdict) → PassesPlain v → EachGives HasNoExtension (passing_checks v)
+passing_checks_plain : (v : Verdict) → PassesPlain v → EachGives HasNoExtension (from_checked_verdict v)
 passing_checks_plain v plain =
-    gives_then HasNoExtension HasNoExtension (passing v) _ (passing_plain v plain) (λ t h. passing_plain (checked t) (checked_plain t h))
+    gives_then HasNoExtension HasNoExtension (from_verdict v) _ (passing_plain v plain) (λ t h. passing_plain (check_tree t) (checked_plain t h))
 
-called_plain : (name : Text) (f : Option Signature) (ts : Trees) → NoneInEach ts → EachGives HasNoExtension (called name f ts)
+called_plain : (name : Text) (f : Option Signature) (ts : Trees) → NoneInEach ts → EachGives HasNoExtension (build_call name f ts)
 called_plain name None ts plain = tt
-called_plain name (Some f) ts plain = passing_plain (checked (call f ts)) (checked_plain (call f ts) plain)
+called_plain name (Some f) ts plain = passing_plain (check_tree (call f ts)) (checked_plain (call f ts) plain)
 
-postfix_plain : (t : Tree) (p : piece.Postfix) → HasNoExtension t → EachGives HasNoExtension (with_postfix t p)
+postfix_plain : (t : Tree) (p : piece.Postfix) → HasNoExtension t → EachGives HasNoExtension (build_postfix t p)
 postfix_plain t (piece.range r) plain =
-    gives_then Whatever HasNoExtension (known (time_value r)) _ (gives_whatever _) (λ n _. passing_plain (ranged t n) (ranged_plain t n))
+    gives_then Whatever HasNoExtension (known (time_value r)) _ (gives_whatever _) (λ n _. passing_plain (with_range t n) (ranged_plain t n))
 postfix_plain t (piece.subquery r s) plain =
     gives_then Whatever HasNoExtension (known (time_value r)) _ (gives_whatever _) (λ n _.
     gives_then Whatever HasNoExtension (known (step_value s)) _ (gives_whatever _) (λ m _.
-    passing_plain (checked (subquery t None None n m)) (checked_plain (subquery t None None n m) plain)))
+    passing_plain (check_tree (subquery t None None n m)) (checked_plain (subquery t None None n m) plain)))
 postfix_plain t (piece.at_number s text) plain =
     gives_then Whatever HasNoExtension (known (moment_value s text)) _ (gives_whatever _) (λ m _. passing_plain (at_given t m) (at_plain t m plain))
-postfix_plain t (piece.at_bound k text) plain = passing_plain (at_given t (bound k)) (at_plain t (bound k) plain)
+postfix_plain t (piece.at_bound k text) plain = passing_plain (at_given t (bound_moment k)) (at_plain t (bound_moment k) plain)
 postfix_plain t (piece.offset text s r) plain =
     gives_then Whatever HasNoExtension (known (shift_value s r)) _ (gives_whatever _) (λ x _. passing_plain (offset_given t x) (offset_plain t x plain))
 postfix_plain t (piece.mode k text) plain = passing_plain (mode_given t (range_mode k)) (mode_plain t (range_mode k))
@@ -185,17 +185,17 @@ mutual
   built_plain (grammar.string text) = gives_then Whatever HasNoExtension (known (string_value text)) _ (gives_whatever _) (λ s _. tt)
   built_plain (grammar.selector k text b) =
       gives_then Whatever HasNoExtension (any_braces_value b) _ (gives_whatever _) (λ cs _.
-      passing_plain (checked (vector (selector (Some text) cs None None))) (checked_plain (vector (selector (Some text) cs None None)) tt))
+      passing_plain (check_tree (vector (selector (Some text) cs None None))) (checked_plain (vector (selector (Some text) cs None None)) tt))
   built_plain (grammar.nameless b) =
       gives_then Whatever HasNoExtension (braces_value b) _ (gives_whatever _) (λ cs _.
-      passing_plain (checked (vector (selector None cs None None))) (checked_plain (vector (selector None cs None None)) tt))
+      passing_plain (check_tree (vector (selector None cs None None))) (checked_plain (vector (selector None cs None None)) tt))
   built_plain (grammar.paren d) = gives_then HasNoExtension HasNoExtension (build d) _ (built_plain d) (λ t plain. plain)
   built_plain (grammar.call k text ds) =
       gives_then NoneInEach HasNoExtension (build_all ds) _ (all_plain ds) (λ ts plain. called_plain text (function_named text) ts plain)
   built_plain (grammar.aggregate op text c ds) =
       gives_then NoneInEach HasNoExtension (build_all ds) _ (all_plain ds) (λ ts plain.
       gives_then Whatever HasNoExtension (known (clause_value c)) _ (gives_whatever _) (λ m _.
-      passing_checks_plain (aggregated op m ts) (aggregated_plain op m ts plain)))
+      passing_checks_plain (aggregate_args op m ts) (aggregated_plain op m ts plain)))
   built_plain (grammar.postfixed d p) = gives_then HasNoExtension HasNoExtension (build d) _ (built_plain d) (λ t plain. postfix_plain t p plain)
   built_plain (grammar.unary op text d) =
       gives_then HasNoExtension HasNoExtension (build d) _ (built_plain d) (λ t plain.
@@ -204,7 +204,7 @@ mutual
       gives_then HasNoExtension HasNoExtension (build l) _ (built_plain l) (λ x first.
       gives_then HasNoExtension HasNoExtension (build r) _ (built_plain r) (λ y second.
       gives_then Whatever HasNoExtension (known (modifier_value m)) _ (gives_whatever _) (λ z _.
-      passing_plain (checked (binary op x y z)) (checked_plain (binary op x y z) (first, second)))))
+      passing_plain (check_tree (binary op x y z)) (checked_plain (binary op x y z) (first, second)))))
 
   all_plain : (ds : grammar.Arguments) → EachGives NoneInEach (build_all ds)
   all_plain grammar.none = tt

@@ -1,7 +1,7 @@
 -- A layout indents no deeper than its level and the height of its tree.
 use Rattle.std.proofs.Common.{ℕ, ◌+◌, ◌*◌, ◌^◌, ◌<◌, ◌≤◌, arith}
 use Rattle.std.specs.Prelude.{Bool, true, false, if◌then◌else◌}
-use Rattle.promql_text.specs.Widths.{greatest}
+use Rattle.promql_text.specs.PrintedLen.{usize_max}
 use Rattle.promql_ast.specs.Height.{height, maybe_height, greatest_height}
 use Rattle.promql_ast.specs.Layout.{deepest, maybe_deepest, deepests}
 use Rattle.promql_ast.specs.Lines.{is_longer}
@@ -49,5 +49,5 @@ mutual
       omega arith
 
 -- an expression that was read is low enough for each indentation below a level of 16 bits
-pub low_enough : (t : Tree) (level most : ℕ) → height t ≤ MAX_DEPTH → level < 2 ^ 16 → ¬ (greatest < 2 * deepest t level most)
+pub low_enough : (t : Tree) (level most : ℕ) → height t ≤ MAX_DEPTH → level < 2 ^ 16 → ¬ (usize_max < 2 * deepest t level most)
 low_enough t level most low fits wide = let indented = deepest_low t level most in omega arith

@@ -5,7 +5,7 @@ use Rattle.serde_json.specs.Data.{Data}
 use Rattle.serde_json.specs.Written.{has_float}
 use Rattle.promql_text.specs.Texts.{Text}
 use Rattle.promql_ast.specs.Tree.{Tree}
-use Rattle.promql_syntax.specs.Answers.{IsAnswerTo}
+use Rattle.promql_syntax.specs.ParseAnswers.{IsAnswerTo}
 use Rattle.promql_walk.specs.declared.json_error.JsonError.TheVariants.{NumberTooWide}
 use Rattle.promql_run.specs.Batch.{FailsOnQuery, error_object, format_value, ok_object}
 use Rattle.promql_run.specs.StepErrors.{IsShowError}

@@ -4,18 +4,18 @@ use Rattle.std.specs.Prelude.{◌≢◌, Option, Err}
 use Rattle.std.specs.Str.{IsUtf8}
 use Rattle.promql_syntax.specs.declared.parser.ParseError.{ParseError}
 use Rattle.promql_syntax.specs.declared.parser.ParseError.TheVariants as parse_errors
-use Rattle.promql_syntax.specs.Answers.{IsAnswerTo, refusal_of}
+use Rattle.promql_syntax.specs.ParseAnswers.{IsAnswerTo, plain_error_of}
 use Rattle.promql_run.specs.declared.run.Mode.{Mode}
 use Rattle.promql_run.specs.declared.run.RunError.{RunError}
 use Rattle.promql_run.specs.declared.run.RunError.TheVariants.{Memory, Parse}
 use Rattle.promql_run.specs.Running.{HasNoForm, HasRead, IsRaised, IsRejected, IsTooWide}
 
-pub rejected_of : (e : ParseError) (left left_after : Option (List ℕ)) (input text : List ℕ) → HasRead left left_after input → text ≡ input → IsUtf8 input → IsAnswerTo text (Err (refusal_of e)) × (e ≢ parse_errors.Memory) → IsRejected e left left_after
+pub rejected_of : (e : ParseError) (left left_after : Option (List ℕ)) (input text : List ℕ) → HasRead left left_after input → text ≡ input → IsUtf8 input → IsAnswerTo text (Err (plain_error_of e)) × (e ≢ parse_errors.Memory) → IsRejected e left left_after
 rejected_of e left left_after input text read same utf8 rejection = record {
   input = input;
   read = read;
   utf8 = utf8;
-  rejected = subst (λ t. IsAnswerTo t (Err (refusal_of e))) same rejection.0;
+  rejected = subst (λ t. IsAnswerTo t (Err (plain_error_of e))) same rejection.0;
   own = rejection.1;
 }
 

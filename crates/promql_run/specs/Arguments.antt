@@ -1,4 +1,4 @@
--- What the arguments ask for (docs/PROGRAM.md, "Statuses and messages").
+-- What the arguments ask for (docs/reference/programs.md, "Statuses and messages").
 use Rattle.std.specs.Prelude.{List, [], ◌∷◌, Option, None}
 use Rattle.std.specs.Prelude.{Some, bytes_eq, codes, if◌then◌else◌, option_map}
 use Rattle.promql_text.specs.Texts.{Text}
@@ -12,7 +12,8 @@ abbrev pub asked_mode : List Text → Option Mode
 asked_mode (own ∷ word ∷ []) = mode_named word
 asked_mode _ = None
 
--- the program's own name, and `--help` or the name of one known mode (docs/BATCH.md, "Statuses")
+-- the program's own name, and `--help` or the name of one known mode (docs/reference/programs.md,
+-- "Statuses of a batch")
 abbrev pub batch_command : List Text → Option Command
 batch_command (own ∷ word ∷ []) = if bytes_eq word (codes "--help") then Some Help else option_map Batch (mode_named word)
 batch_command _ = None

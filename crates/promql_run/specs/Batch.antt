@@ -1,4 +1,4 @@
--- What a batch answers to its lines (docs/BATCH.md).
+-- What a batch answers to its lines (docs/reference/programs.md).
 use Rattle.std.specs.Prelude.{◌≡◌, ◌≢◌, ◌⊎◌, ℕ, ◌++◌, ◌&&◌, List, [], ◌∷◌, All, Bool, true, false, Option, Some, None, Result, Ok, Err, codes, map}
 use Rattle.std.specs.Str.{IsUtf8}
 use Rattle.std.specs.Io.{StopsAt}
@@ -10,7 +10,7 @@ use Rattle.promql_text.specs.Texts.{Text}
 use Rattle.promql_ast.specs.Layout.{laid}
 use Rattle.promql_ast.specs.Text as one_line
 use Rattle.promql_ast.specs.Tree.{Tree}
-use Rattle.promql_syntax.specs.Answers.{IsAnswerTo, refusal_of}
+use Rattle.promql_syntax.specs.ParseAnswers.{IsAnswerTo, plain_error_of}
 use Rattle.promql_syntax.specs.declared.parser.ParseError.TheVariants as parse_errors
 use Rattle.promql_walk.specs.Json.{json}
 use Rattle.promql_walk.specs.declared.json_error.JsonError.{JsonError}
@@ -56,7 +56,7 @@ pub record HasQueryValue (query : Text) (format : Format) (value : Result Data J
 -- when a query has this error
 abbrev pub FailsOnQuery : Text → Format → RunError → Type 0
 FailsOnQuery query format error.Memory = Unit {0}
-FailsOnQuery query format (error.Parse e) = IsAnswerTo query (Err (refusal_of e)) × (e ≢ parse_errors.Memory)
+FailsOnQuery query format (error.Parse e) = IsAnswerTo query (Err (plain_error_of e)) × (e ≢ parse_errors.Memory)
 FailsOnQuery query format error.Json = HasQueryValue query format (Err NumberTooWide)
 FailsOnQuery query format _ = ⊥
 

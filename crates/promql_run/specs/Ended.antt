@@ -1,4 +1,4 @@
--- When a write has failed and what it has written (docs/PROGRAM.md, "Reading and writing").
+-- When a write has failed and what it has written (docs/reference/programs.md, "Reading and writing").
 use Rattle.std.specs.Prelude.{◌≡◌, ℕ, ◌++◌, ◌==◌, ◌&&◌, Bool, true, false, not, List, length, Option, Result, Ok, Err}
 use Rattle.std.specs.Io.KnownBytes.{Appends}
 

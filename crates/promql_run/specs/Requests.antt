@@ -1,4 +1,4 @@
--- What a line of a batch asks for (docs/BATCH.md, "Requests").
+-- What a line of a batch asks for (docs/reference/programs.md, "Requests").
 use Rattle.std.specs.Prelude.{ℕ, ◌-◌, ◌^◌, Bool, true, false, Option, Some, None, ◌||◌, ◌&&◌, if◌then◌else◌, option_and_then, bytes_eq, codes, nat_le}
 use Rattle.serde_json.specs.Data.{Data, string, object, Members, no_members, member}
 use Rattle.serde_json.specs.Find.{as_number, as_str, as_u64, get}

@@ -1,4 +1,4 @@
--- What a run does (docs/PROGRAM.md, "A run").
+-- What a run does (docs/reference/programs.md, "A run").
 use Rattle.std.specs.Prelude.{◌≡◌, ◌≢◌, ℕ, ◌++◌, List, [], ◌∷◌, Option, Some, None, Result, Ok, Err, if◌then◌else◌, bytes_eq, codes}
 use Rattle.std.specs.Str.{IsUtf8}
 use Rattle.std.specs.Io.KnownBytes.{Appends, Consumes, IsAtEnd}
@@ -9,7 +9,7 @@ use Rattle.promql_grammar.specs.Results.{on_result}
 use Rattle.promql_ast.specs.Layout.{laid}
 use Rattle.promql_ast.specs.Text as one_line
 use Rattle.promql_ast.specs.Tree.{Tree}
-use Rattle.promql_syntax.specs.Answers.{IsAnswerTo, Refusal, refusal_of}
+use Rattle.promql_syntax.specs.ParseAnswers.{IsAnswerTo, PlainParseError, plain_error_of}
 use Rattle.promql_walk.specs.Json.{json}
 use Rattle.promql_walk.specs.declared.json_error.JsonError.{JsonError}
 use Rattle.promql_walk.specs.declared.json_error.JsonError.TheVariants.{NumberTooWide}
@@ -50,13 +50,15 @@ pub record HasRead (old new : Option (List ℕ)) (input : List ℕ) : Type 0 whe
   pub consumes : Consumes old new input
   pub ended : IsAtEnd new
 
+-- this is what the mode makes of the tree, and a line feed
+abbrev pub IsModeLine : Mode → Tree → Text → Type 0
+IsModeLine mode tree printed = (shown : Text) × (mode_text mode tree ≡ Ok shown) × (printed ≡ shown ++ 10 ∷ [])
+
 -- this is what the mode makes of the text's tree, and a line feed
 pub record IsPrinted (mode : Mode) (text printed : Text) : Type 0 where
   pub tree : Tree
   pub parsed : IsAnswerTo text (Ok tree)
-  pub shown : Text
-  pub gives : mode_text mode tree ≡ Ok shown
-  pub is : printed ≡ shown ++ 10 ∷ []
+  pub line : IsModeLine mode tree printed
 
 -- the text's tree has a number that is too wide for the mode
 pub record HasNoForm (mode : Mode) (text : Text) : Type 0 where
@@ -84,7 +86,7 @@ pub record IsRejected (e : ParseError) (left left_after : Option (List ℕ)) : T
   pub input : List ℕ
   pub read : HasRead left left_after input
   pub utf8 : IsUtf8 input
-  pub rejected : IsAnswerTo input (Err (refusal_of e))
+  pub rejected : IsAnswerTo input (Err (plain_error_of e))
   pub own : e ≢ parse_errors.Memory
 
 -- all of the input was read, and its tree has a number that is too wide for the mode
@@ -108,7 +110,7 @@ pub data Failure : Type 0 where
   memory : Failure
   read : Failure
   not_utf8 : Failure
-  parse : Refusal → Failure
+  parse : PlainParseError → Failure
   write : Failure
   no_json : Failure
 
@@ -116,7 +118,7 @@ abbrev pub failure_of : RunError → Failure
 failure_of error.Memory = memory
 failure_of error.Read = read
 failure_of error.NotUtf8 = not_utf8
-failure_of (error.Parse e) = parse (refusal_of e)
+failure_of (error.Parse e) = parse (plain_error_of e)
 failure_of error.Write = write
 failure_of error.Json = no_json
 

@@ -1,4 +1,4 @@
-//! Many queries, a line each: docs/BATCH.md.
+//! Many queries, a line each: docs/reference/programs.md.
 
 ghost use Rattle.std.specs.Prelude.{◌≡◌, ◌≢◌, ◌++◌, [], ◌∷◌, false, true, IfOk, OnOk, IfErr, OnErr, IsErrOf};
 ghost use Rattle.std.specs.Io.KnownBytes.{Appends};

@@ -56,7 +56,7 @@ fn command_of(args: &[String]) -> Option<Command>
     }
 }
 
-/// Runs the program for batches, and returns its status (docs/BATCH.md, "Statuses").
+/// Runs the program for batches, and returns its status (docs/reference/programs.md, "Statuses of a batch").
 ///
 /// `args` begins with the program's own name. The message of an error and a line feed go to `errors`, without
 /// memory; a message that cannot be written is lost, and the status tells the error all the same.

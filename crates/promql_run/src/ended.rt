@@ -7,7 +7,7 @@ ghost use Rattle.std.specs.Io.KnownBytes.{ReadConsumes, WriteAppends, Keeps};
 use std::io;
 use std::io::{Read, Write};
 
-/// A reader or a writer that records what its calls did (docs/PROGRAM.md, "Reading and writing").
+/// A reader or a writer that records what its calls did (docs/reference/programs.md, "Reading and writing").
 ///
 /// Only the calls below change its fields, so no caller can claim a failure that did not happen.
 #[derive(Drop)]

@@ -1,5 +1,5 @@
-//! What the programs do, as functions of their arguments, their inputs and their outputs. docs/PROGRAM.md and
-//! docs/BATCH.md have the rules.
+//! What the programs do, as functions of their arguments, their inputs and their outputs. docs/reference/programs.md
+//! has the rules.
 #![tactic(auto)]
 
 pub mod batch;

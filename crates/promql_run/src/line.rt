@@ -1,4 +1,4 @@
-//! The answer to one line of a batch: docs/BATCH.md, "Answers".
+//! The answer to one line of a batch: docs/reference/programs.md, "Answers".
 
 ghost use Rattle.std.specs.Prelude.{◌≡◌, Ok, IfOk, IfErr, false, option_map, string_bytes};
 ghost use Rattle.serde_json.specs.Read.{read};
@@ -14,7 +14,7 @@ use serde_json::{Category, Value, json};
 use std::alloc::{AllocError, Global};
 use thiserror::Error;
 
-/// Why a line is not answered with `ok` (docs/BATCH.md, "Errors").
+/// Why a line is not answered with `ok` (docs/reference/programs.md, "Errors").
 #[derive(PartialEq, Eq, Debug, Drop, Error)]
 pub enum LineError {
     /// An error that a run on the query has, too.

@@ -39,7 +39,7 @@ fn mode_of(args: &[String]) -> Option<Mode>
     }
 }
 
-/// Runs the program and returns its status (docs/PROGRAM.md, "Statuses and messages").
+/// Runs the program and returns its status (docs/reference/programs.md, "Statuses and messages").
 ///
 /// `args` begins with the program's own name. The message of an error and a line feed go to `errors`, without
 /// memory; a message that cannot be written is lost, and the status tells the error all the same.

@@ -11,7 +11,7 @@ ghost use Rattle.promql_walk.specs.Json as walk;
 ghost use Rattle.promql_walk.specs.declared.json_error.JsonError.TheVariants.{NumberTooWide};
 ghost use Rattle.promql_run.specs.Batch.{format_value};
 ghost use Rattle.promql_run.specs.Extensions.{HasNoExtension};
-ghost use Rattle.promql_run.specs.Running.{mode_text};
+ghost use Rattle.promql_run.specs.Running.{IsModeLine, mode_text};
 ghost use Rattle.promql_run.specs.StepErrors.{IsShowError};
 
 use crate::request::Format;
@@ -67,7 +67,7 @@ fn json_text(alloc: Global, expr: &Expr) -> Result<String, RunError>
 }
 
 /// The text of an expression in a mode.
-pub fn render(alloc: Global, mode: Mode, expr: &Expr) -> Result<String, RunError>
+fn render(alloc: Global, mode: Mode, expr: &Expr) -> Result<String, RunError>
     requires low { height (tree_of expr.now) ≤ MAX_DEPTH }
     requires plain { HasNoExtension (tree_of expr.now) }
     ensures ok { IfOk result (λ s. mode_text mode (tree_of expr.now) ≡ Ok (string_bytes s)) }
@@ -80,6 +80,20 @@ pub fn render(alloc: Global, mode: Mode, expr: &Expr) -> Result<String, RunError
         Mode::Line => Ok(expr.to_string(alloc)?),
         Mode::Json => json_text(alloc, expr),
     }
+}
+
+/// The text of an expression in a mode, with a line feed after it.
+pub fn render_line(alloc: Global, mode: Mode, expr: &Expr) -> Result<String, RunError>
+    requires low { height (tree_of expr.now) ≤ MAX_DEPTH }
+    requires plain { HasNoExtension (tree_of expr.now) }
+    ensures ok { IfOk result (λ s. IsModeLine mode (tree_of expr.now) (string_bytes s)) }
+    ensures json { IsErrOf result RunError.Json →
+        mode_text mode (tree_of expr.now) ≡ Err NumberTooWide }
+    ensures errors { IfErr result IsShowError }
+{
+    let mut line = render(alloc, mode, expr)?;
+    line.push_str("\n")?;
+    Ok(line)
 }
 
 /// The JSON value of an expression in a format: a string, or its JSON form.

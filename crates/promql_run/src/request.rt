@@ -1,4 +1,4 @@
-//! What a line of a batch asks for: docs/BATCH.md, "Requests".
+//! What a line of a batch asks for: docs/reference/programs.md, "Requests".
 
 ghost use Rattle.std.specs.Prelude.{◌≡◌, option_map, string_bytes};
 ghost use Rattle.std.specs.List.{list_all};

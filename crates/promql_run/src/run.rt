@@ -3,13 +3,13 @@
 ghost use Rattle.std.specs.Prelude.{◌≡◌, ◌≢◌, true, false, Ok, Err, OnOk, IfOk, IfErr, OnErr, IsErrOf, MatchResult, string_bytes};
 ghost use Rattle.std.specs.Io.KnownBytes.{Appends, Keeps};
 ghost use Rattle.promql_syntax.specs.declared.parser.ParseError.{ParseError};
-ghost use Rattle.promql_syntax.specs.Answers.{IsAnswerTo, refusal_of};
+ghost use Rattle.promql_syntax.specs.ParseAnswers.{IsAnswerTo, plain_error_of};
 ghost use Rattle.promql_run.specs.Ended.{AppendsBeginning};
 ghost use Rattle.promql_run.specs.Running.{HasRead, IsPrinted, HasNoForm, Prints, BeginsToPrint, IsNotUtf8, IsRejected, IsTooWide, UnlessRead, UnlessWrite, mode_named, error_number};
 ghost use Rattle.promql_run.specs.StepErrors.{IsReadError, IsAnswerError};
 
 use crate::ended::Ended;
-use crate::rendering::render;
+use crate::rendering::render_line;
 use promql_syntax::parser::{ParseError, parse};
 use std::alloc::{AllocError, Global};
 use std::io::{Read, Write};
@@ -40,7 +40,7 @@ impl Mode {
     }
 }
 
-/// Why a run ended without its answer (docs/PROGRAM.md, "Statuses and messages").
+/// Why a run ended without its answer (docs/reference/programs.md, "Statuses and messages").
 #[derive(PartialEq, Eq, Debug, Drop, Error)]
 pub enum RunError {
     /// An allocation failed.
@@ -130,13 +130,13 @@ fn render_query(alloc: Global, mode: Mode, text: &str) -> Result<String, RunErro
     ensures ok { IfOk result (λ answer. IsPrinted mode text.now (string_bytes answer)) }
     ensures json { IsErrOf result RunError.Json → HasNoForm mode text.now }
     ensures parse { (e : ParseError) → IsErrOf result (RunError.Parse e)
-        → IsAnswerTo text.now (Err (refusal_of e)) × (e ≢ ParseError.Memory) }
+        → IsAnswerTo text.now (Err (plain_error_of e)) × (e ≢ ParseError.Memory) }
     ensures errors { IfErr result IsAnswerError }
 {
     let expr = parse(alloc, text)?;
-    let mut answer = render(alloc, mode, &expr)?;
-    answer.push_str("\n")?;
-    Ok(answer)
+    let line = render_line(alloc, mode, &expr);
+    drop(expr);
+    line
 }
 
 /// Writes the whole text. No call that failed is made again.
@@ -195,7 +195,7 @@ pub fn write_text<W: Write>(writer: &mut Ended<W>, text: &str) -> Result<(), Run
 
 /// Reads all of the input, and writes what the mode makes of it, with a line feed after it.
 ///
-/// The whole answer is made before the first byte of it is written (docs/PROGRAM.md, "A run").
+/// The whole answer is made before the first byte of it is written (docs/reference/programs.md, "A run").
 pub fn run<R: Read, W: Write>(
     alloc: Global,
     mode: Mode,

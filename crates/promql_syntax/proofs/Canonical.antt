@@ -4,10 +4,10 @@ use Rattle.std.specs.Prelude.{Ok, option_map}
 use Rattle.std.specs.Int.{is_negative}
 use Rattle.promql_text.specs.Texts.{Text}
 use Rattle.promql_grammar.specs.Grammar as grammar
-use Rattle.promql_grammar.specs.Grammar.{Derivation, Arguments, IsWellFormed, AreWellFormed, IsBase, FitsSign, height, greatest_height, openness, added_height, level}
-use Rattle.promql_grammar.specs.Pieces as piece
-use Rattle.promql_grammar.specs.Reading.{right_level}
-use Rattle.promql_grammar.proofs.Levels.{Root, band, Band, root_base}
+use Rattle.promql_grammar.specs.Grammar.{Derivation, Arguments, IsWellFormed, AreWellFormed, IsBase, FitsUnary, height, greatest_height, openness, added_height, precedence}
+use Rattle.promql_grammar.specs.GrammarParts as part
+use Rattle.promql_grammar.specs.Parsing.{right_precedence}
+use Rattle.promql_grammar.proofs.Precedences.{Root, band, Band, root_base}
 use Rattle.promql_label.specs.Answers.{Answer}
 use Rattle.promql_label.specs.PlainMatchers.{PlainMatchers}
 use Rattle.promql_ast.specs.Builds.{at_given, mode_given, offset_given}
@@ -19,19 +19,19 @@ use Rattle.promql_ast.specs.Tree.{Tree, subquery, vector, matrix, Trees}
 use Rattle.promql_ast.specs.declared.range_mode.RangeMode.{RangeMode}
 use Rattle.promql_ast.specs.declared.range_mode.RangeMode.TheVariants.{Plain, Smoothed, Anchored}
 use Rattle.promql_syntax.specs.Asking.{under}
-use Rattle.promql_syntax.specs.Building.{build, build_all, passing}
+use Rattle.promql_syntax.specs.Building.{build, build_all, from_verdict}
 use Rattle.promql_syntax.proofs.Derive.{derive, derive_all, derive_base, with_at, with_mode, with_suffix, HasWords, AllHaveWords}
-use Rattle.promql_syntax.specs.PieceBuilding.{moment_value, shift_value, time_value}
-use Rattle.promql_syntax.proofs.PrintedPieces.{braces, moment, seconds_text, shift, sign, time}
+use Rattle.promql_syntax.specs.PartBuilding.{moment_value, shift_value, time_value}
+use Rattle.promql_syntax.proofs.PrintedParts.{braces, moment, seconds_text, shift, sign, time}
 use Rattle.promql_syntax.proofs.CheckedAgain.{same_tree}
-use Rattle.promql_syntax.proofs.PrintedValues.{IsTime, time_again}
+use Rattle.promql_syntax.proofs.PrintedTimesAndLabels.{IsTime, time_again}
 use Rattle.promql_syntax.proofs.Printable.{IsAnyMoment, IsMoment, IsShift, Printable, AllPrintable}
 use Rattle.promql_syntax.proofs.SingleAnswers.{giving_leads, known_leads, passes_passing, then_leads}
 
--- ---- levels
+-- ---- precedences
 
--- a level that is asked of a right side is at most 6
-pub right_low : (op : ℕ) → right_level op ≤ 6
+-- the precedence that is asked of a right side is at most 6
+pub right_low : (op : ℕ) → right_precedence op ≤ 6
 right_low op = go (band op)
   where
     go : {l n a : ℕ} → Band l n a → a ≤ 6
@@ -42,7 +42,7 @@ pub root_weaker : (m : ℕ) (d : Derivation) → m ≤ 6 → Root 6 d → Root m
 root_weaker m (grammar.binary op text w l r) e h = omega arith
 root_weaker m d e h = tt
 
-level_low : (op : ℕ) → level op ≤ 7
+level_low : (op : ℕ) → precedence op ≤ 7
 level_low op = go (band op)
   where
     go : {l n a : ℕ} → Band l n a → l ≤ 7
@@ -103,16 +103,16 @@ module _ (g : Text → Answer) where
 
   -- ---- range modes, `@` and `offset`
 
-  moment_formed : (m : Moment) → piece.IsPostfix (moment m)
+  moment_formed : (m : Moment) → part.IsPostfix (moment m)
   moment_formed at_start = refl
   moment_formed at_end = refl
   moment_formed (at_time t) = go _
     where
-      go : (b : Bool) → piece.IsSigned (sign b)
+      go : (b : Bool) → part.IsSigned (sign b)
       go true = refl
       go false = tt
 
-  shift_formed : (s : Shift) → piece.IsPostfix (shift s)
+  shift_formed : (s : Shift) → part.IsPostfix (shift s)
   shift_formed (back n) = tt
   shift_formed (ahead n) = refl
 
@@ -182,7 +182,7 @@ module _ (g : Text → Answer) where
   at_again at_end d s t h e f = giving_leads g (build d) _ s _ e (passes_passing g (at_given s at_end) t f)
   at_again (at_time k) d s t h e f =
       giving_leads g (build d) _ s _ e
-      (known_leads g (moment_value (sign (is_negative k)) (seconds_text k)) (λ m. passing (at_given s m)) (at_time k) _ h (passes_passing g (at_given s (at_time k)) t f))
+      (known_leads g (moment_value (sign (is_negative k)) (seconds_text k)) (λ m. from_verdict (at_given s m)) (at_time k) _ h (passes_passing g (at_given s (at_time k)) t f))
 
   shift_again : (b : Bool) (n : ℕ) → IsTime n → shift_value (sign b) (time n) ≡ Ok (cond b (ahead n) (back n))
   shift_again true n h = then_leads (time_value (time n)) _ n _ (time_again n h) refl
@@ -206,7 +206,7 @@ module _ (g : Text → Answer) where
   mode_again Smoothed d name cs range e = giving_leads g (build d) _ _ _ e refl
   mode_again Anchored d name cs range e = giving_leads g (build d) _ _ _ e refl
 
-  pub base_is : (name : Option Text) (b : Option piece.Braces) → IsBase (derive_base name b)
+  pub base_is : (name : Option Text) (b : Option part.Braces) → IsBase (derive_base name b)
   base_is (Some name) b = tt
   base_is None (Some b) = tt
   base_is None None = tt
@@ -240,7 +240,7 @@ module _ (g : Text → Answer) where
         again = suffix_again (λ o a. vector (selector name (normal_matchers cs) o a)) (λ m. refl) (λ a x. refl) o a under_it c.suffixes.0 c.suffixes.1 c.kept.again;
       }
   whole d (matrix (selector name cs o a) range mode) c =
-      let below = grammar.postfixed (derive_base name (braces cs)) (piece.range (time range)) in
+      let below = grammar.postfixed (derive_base name (braces cs)) (part.range (time range)) in
       let under_it = with_mode mode below in
       let b = mode_base mode below tt in
       let base = suffix_base o a under_it b in
@@ -256,7 +256,7 @@ module _ (g : Text → Answer) where
             (mode_again mode below name (normal_matchers cs) range c.kept.again);
       }
   whole d (subquery e o a range step) c =
-      let under_it = grammar.postfixed (derive e) (piece.subquery (time range) (option_map time step)) in
+      let under_it = grammar.postfixed (derive e) (part.subquery (time range) (option_map time step)) in
       let base = suffix_base o a under_it tt in
       record {
         formed = suffix_formed o a under_it c.kept.formed tt;

@@ -2,7 +2,7 @@
 use Rattle.std.proofs.Common.{◌≡◌, ℕ, ◌≤◌, refl, sym, ◌∙◌, ap, subst, arith, Bool, true, false, cond, not, ◌/◌, ◌^◌, Option, Some, None, [], ◌∷◌, codes}
 use Rattle.std.specs.Prelude.{Ok, ◌==◌, option_map}
 use Rattle.promql_text.specs.NumberText.{number_text}
-use Rattle.promql_text.specs.Numbers.{exact_zero, scaled, tens}
+use Rattle.promql_text.specs.Numbers.{exact_zero, exact_quotient, tens}
 use Rattle.promql_text.specs.Quoting.{quoted_text}
 use Rattle.promql_text.specs.Texts.{Text}
 use Rattle.promql_text.specs.Values.{IsNumber, from_nanos, is_below_zero, neg}
@@ -13,43 +13,43 @@ use Rattle.promql_text.proofs.ReadsBack.{reads_back}
 use Rattle.promql_token.specs.Ids.{is_aggregator, keyword_in_any_case}
 use Rattle.promql_token.specs.Laws.{is_word}
 use Rattle.promql_token.specs.declared.ids.TheConstants.{T_SUB}
-use Rattle.promql_grammar.specs.declared.kind.Kind.{Kind}
-use Rattle.promql_grammar.specs.declared.kind.Kind.TheVariants as kind
+use Rattle.promql_grammar.specs.declared.token_kinds.TokenKind.{TokenKind}
+use Rattle.promql_grammar.specs.declared.token_kinds.TokenKind.TheVariants as kind
 use Rattle.promql_grammar.specs.Grammar as grammar
-use Rattle.promql_grammar.specs.Grammar.{Derivation, Arguments, IsWellFormed, AreWellFormed, IsBase, FitsSign, height, greatest_height, openness, level, yield}
-use Rattle.promql_grammar.specs.Pieces as piece
-use Rattle.promql_grammar.specs.Reading.{right_level}
-use Rattle.promql_grammar.specs.Symbols.{kind_of, may_be_called, may_be_name}
-use Rattle.promql_grammar.proofs.Levels.{Root, root_base, root_right, root_sign, right_root, sign_root}
+use Rattle.promql_grammar.specs.Grammar.{Derivation, Arguments, IsWellFormed, AreWellFormed, IsBase, FitsUnary, height, greatest_height, openness, precedence, yield}
+use Rattle.promql_grammar.specs.GrammarParts as part
+use Rattle.promql_grammar.specs.Parsing.{right_precedence}
+use Rattle.promql_grammar.specs.Symbols.{token_kind, may_be_called, may_be_name}
+use Rattle.promql_grammar.proofs.Precedences.{Root, root_base, root_right, root_sign, right_root, sign_root}
 use Rattle.promql_label.specs.Answers.{Answer}
 use Rattle.promql_label.specs.PlainMatchers.{PlainMatchers, plain_matchers}
 use Rattle.promql_kind.specs.Functions.{Signature, function_named, name_of}
 use Rattle.promql_kind.proofs.NamedFunctions.{each_named, named_so}
 use Rattle.promql_kind.specs.Modifiers.{Clause, Matching}
-use Rattle.promql_ast.specs.Builds.{aggregated, minus}
-use Rattle.promql_ast.specs.Checked.{checked}
+use Rattle.promql_ast.specs.Builds.{aggregate_args, minus}
+use Rattle.promql_ast.specs.Checked.{check_tree}
 use Rattle.promql_ast.specs.Checks.{unless}
-use Rattle.promql_ast.specs.Faults as faults
+use Rattle.promql_ast.specs.Faults as build_errors
 use Rattle.promql_ast.specs.Faults.{Verdict, passes, rejected}
 use Rattle.promql_ast.specs.Normal.{normal, all_normal, maybe_normal, normal_clause, normal_matchers}
 use Rattle.promql_ast.specs.Selectors.{selector}
 use Rattle.promql_ast.specs.Tree.{Tree, aggregate, unary, binary, paren, subquery, number, string, vector, matrix, call, MaybeTree, absent, present, Trees, no_trees, first_tree}
-use Rattle.promql_ast.specs.check.Binary.{checked_binary, settled}
+use Rattle.promql_ast.specs.check.Binary.{checked_binary, settle_matching}
 use Rattle.promql_ast.specs.check.Vector.{name_fault}
 use Rattle.promql_ast.specs.declared.range_mode.RangeMode.TheVariants.{Plain}
 use Rattle.promql_syntax.specs.Asking.{under}
-use Rattle.promql_syntax.specs.Building.{build, build_all, called, selector_tree}
+use Rattle.promql_syntax.specs.Building.{build, build_all, build_call, selector_tree}
 use Rattle.promql_syntax.proofs.Derive.{derive, derive_all, derive_base, HasWords, IsName, IsUnsigned}
-use Rattle.promql_syntax.specs.PieceBuilding.{any_braces_value, braces_value, clause_value, modifier_value, number_value, string_value, step_value, time_value}
-use Rattle.promql_syntax.proofs.PrintedPieces.{braces, clause, modifier, time, word_kind}
+use Rattle.promql_syntax.specs.PartBuilding.{any_braces_value, braces_value, clause_value, modifier_value, number_value, string_value, step_value, time_value}
+use Rattle.promql_syntax.proofs.PrintedParts.{braces, clause, modifier, time, word_kind}
 use Rattle.promql_syntax.proofs.Canonical.{Keeps, AllKept, base_is, open_base, open_most, right_low, root_weaker, some_height}
 use Rattle.promql_syntax.proofs.CheckedAgain.{arguments, minus_normal, same_tree, type_normal}
 use Rattle.promql_syntax.proofs.Booleans.{not_true}
 use Rattle.promql_syntax.proofs.LexedWords.{is_fill_word}
 use Rattle.promql_syntax.proofs.Printable.{IsSelecting}
-use Rattle.promql_syntax.proofs.PrintedMatchers.{AreAnyMatchers, AreMatchers, any_matchers, braces_again, braces_formed, named_again}
-use Rattle.promql_syntax.proofs.PrintedModifiers.{Checked, IsMatched, IsWritten, checked_again, fits_printed, modifier_again, modifier_formed, read_alike, reread, settled_matched, settles, ungrouped}
-use Rattle.promql_syntax.proofs.PrintedValues.{IsStep, IsTime, below_zero, number_again, step_again, string_again, time_again}
+use Rattle.promql_syntax.proofs.PrintedMatcherLists.{AreAnyMatchers, AreMatchers, any_matchers, braces_again, braces_formed, named_again}
+use Rattle.promql_syntax.proofs.PrintedModifiers.{Checked, IsMatched, IsWritten, checked_again, fits_printed, modifier_again, modifier_formed, read_alike, normal_modifier, settled_matched, settles, set_has_no_group}
+use Rattle.promql_syntax.proofs.PrintedTimesAndLabels.{IsStep, IsTime, below_zero, number_again, step_again, string_again, time_again}
 use Rattle.promql_syntax.proofs.PrintedWords.{clause_again, clause_formed}
 use Rattle.promql_syntax.proofs.SingleAnswers.{giving_leads, known_leads, pass_checks, passes_passing}
 
@@ -58,7 +58,7 @@ use Rattle.promql_syntax.proofs.SingleAnswers.{giving_leads, known_leads, pass_c
 pub nanos_above : (n : ℕ) → is_below_zero (from_nanos n) ≡ false
 nanos_above n = go (n == 0) (tens 29 n)
   where
-    go : (b : Bool) (z : ℕ) → is_below_zero (Finite (cond b exact_zero (scaled false (n / 10 ^ z) z 9))) ≡ false
+    go : (b : Bool) (z : ℕ) → is_below_zero (Finite (cond b exact_zero (exact_quotient false (n / 10 ^ z) z 9))) ≡ false
     go true z = refl
     go false z = refl
 
@@ -70,7 +70,7 @@ unfolding keyword_in_any_case
 no_fill name f e = not_true _ (each_named (λ f. not (is_fill_word (name_of f))) refl name f e)
 
 module _ (g : Text → Answer) where
-  -- a number below zero is the tree of a sign alone
+  -- a number below zero is the tree of a minus alone
   pub keeps_number : (d : Derivation) (n : Number) → IsNumber n → (is_below_zero n ≡ true → (2 ≤ height d) × (openness d ≤ 5) × (IsBase d → ⊥)) → Keeps g d (number n)
   keeps_number d n is signed = record {
     formed = formed (is_below_zero n);
@@ -141,17 +141,17 @@ module _ (g : Text → Answer) where
   pub selects : (cs : PlainMatchers) → AreAnyMatchers g cs → name_fault None cs ≡ None → IsSelecting g None cs
   selects cs h e = named_selects cs h e
 
-  unless_passes : (f : Option faults.Fault) (v : Verdict) (u : Tree) → unless f v ≡ passes u → (f ≡ None) × (v ≡ passes u)
+  unless_passes : (f : Option build_errors.Fault) (v : Verdict) (u : Tree) → unless f v ≡ passes u → (f ≡ None) × (v ≡ passes u)
   unless_passes (Some f) v u e = cc
   unless_passes None v u e = (refl, e)
 
-  pub selector_passes : (name : Option Text) (cs : PlainMatchers) (t : Tree) → checked (vector (selector name cs None None)) ≡ passes t → (name_fault name cs ≡ None) × (vector (selector name cs None None) ≡ t)
+  pub selector_passes : (name : Option Text) (cs : PlainMatchers) (t : Tree) → check_tree (vector (selector name cs None None)) ≡ passes t → (name_fault name cs ≡ None) × (vector (selector name cs None None) ≡ t)
   selector_passes name cs t e =
       let both = unless_passes (name_fault name cs) (passes (vector (selector name cs None None))) t e in
       (both.0, same_tree _ _ both.1)
 
   selector_again : (name : Option Text) (cs : PlainMatchers) → name_fault name cs ≡ None → under g (selector_tree name (normal_matchers cs)) ≡ Ok (vector (selector name (normal_matchers cs) None None))
-  selector_again name cs e = passes_passing g (checked (vector (selector name (normal_matchers cs) None None))) _ (ap (λ f. unless f (passes (vector (selector name (normal_matchers cs) None None)))) (named_again name cs e))
+  selector_again name cs e = passes_passing g (check_tree (vector (selector name (normal_matchers cs) None None))) _ (ap (λ f. unless f (passes (vector (selector name (normal_matchers cs) None None)))) (named_again name cs e))
 
   pub keeps_named : (d : Derivation) (name : Text) (cs : PlainMatchers) → is_word name ≡ true → may_be_name (word_kind name) ≡ true → AreAnyMatchers g cs → name_fault (Some name) cs ≡ None → Keeps g d (vector (selector (Some name) cs None None))
   keeps_named d name cs letters may h e = record {
@@ -177,23 +177,23 @@ module _ (g : Text → Answer) where
     again = again (braces cs) (braces_again g cs (any_matchers g cs h));
   }
     where
-      formed : (b : Option piece.Braces) → piece.IsAnyBraces b → IsWellFormed (derive_base None b)
+      formed : (b : Option part.Braces) → part.IsAnyBraces b → IsWellFormed (derive_base None b)
       formed None h = tt
       formed (Some b) h = h
 
-      flat : (b : Option piece.Braces) → height (derive_base None b) ≡ 1
+      flat : (b : Option part.Braces) → height (derive_base None b) ≡ 1
       flat None = refl
       flat (Some b) = refl
 
-      words : (b : Option piece.Braces) → HasWords (derive_base None b)
+      words : (b : Option part.Braces) → HasWords (derive_base None b)
       words None = tt
       words (Some b) = tt
 
-      again : (b : Option piece.Braces) → under g (any_braces_value b) ≡ Ok (normal_matchers cs) → under g (build (derive_base None b)) ≡ Ok (vector (selector None (normal_matchers cs) None None))
-      again None k = giving_leads g (braces_value piece.no_item) (λ x. selector_tree None x) (normal_matchers cs) (Ok (vector (selector None (normal_matchers cs) None None))) k (selector_again None cs e)
+      again : (b : Option part.Braces) → under g (any_braces_value b) ≡ Ok (normal_matchers cs) → under g (build (derive_base None b)) ≡ Ok (vector (selector None (normal_matchers cs) None None))
+      again None k = giving_leads g (braces_value part.no_item) (λ x. selector_tree None x) (normal_matchers cs) (Ok (vector (selector None (normal_matchers cs) None None))) k (selector_again None cs e)
       again (Some b) k = giving_leads g (braces_value b) (λ x. selector_tree None x) (normal_matchers cs) (Ok (vector (selector None (normal_matchers cs) None None))) k (selector_again None cs e)
 
-  -- ---- parentheses and signs
+  -- ---- parentheses and unary operators
 
   pub keeps_paren : (d : Derivation) (t : Tree) → Keeps g d t → Keeps g (grammar.paren d) (paren t)
   keeps_paren d t c = record {
@@ -207,7 +207,7 @@ module _ (g : Text → Answer) where
     again = giving_leads g (build (derive t)) _ (normal t) _ c.again refl;
   }
 
-  pub keeps_plus : (op : ℕ) (text : Text) (d : Derivation) (t : Tree) → Keeps g d t → FitsSign d → Keeps g (grammar.unary op text d) t
+  pub keeps_plus : (op : ℕ) (text : Text) (d : Derivation) (t : Tree) → Keeps g d t → FitsUnary d → Keeps g (grammar.unary op text d) t
   keeps_plus op text d t c fits = record {
     formed = c.formed;
     wide = omega (arith, c.wide);
@@ -219,7 +219,7 @@ module _ (g : Text → Answer) where
     again = c.again;
   }
 
-  pub keeps_minus : (op : ℕ) (text : Text) (d : Derivation) (t : Tree) → Keeps g d t → FitsSign d → minus t ≡ passes (unary t) → checked (unary (normal t)) ≡ passes (unary (normal t)) → Keeps g (grammar.unary op text d) (unary t)
+  pub keeps_minus : (op : ℕ) (text : Text) (d : Derivation) (t : Tree) → Keeps g d t → FitsUnary d → minus t ≡ passes (unary t) → check_tree (unary (normal t)) ≡ passes (unary (normal t)) → Keeps g (grammar.unary op text d) (unary t)
   keeps_minus op text d t c fits e h = record {
     formed = (refl, c.formed, sign_root (derive t) (c.root 6 (omega arith) (root_sign d fits)));
     wide = omega (arith, c.wide);
@@ -233,10 +233,10 @@ module _ (g : Text → Answer) where
 
   -- ---- binary expressions
 
-  pub keeps_binary : (op : ℕ) (text : Text) (w : piece.Modifier) (a b : Derivation) (l r : Tree) (m : Option Matching) (t : Tree)
-      → Keeps g a l → Keeps g b r → IsWellFormed (grammar.binary op text w a b) → kind_of op ≡ kind.Operator op → IsMatched m → IsWritten m → Checked op l r m t → Keeps g (grammar.binary op text w a b) (binary op l r (settled op m))
+  pub keeps_binary : (op : ℕ) (text : Text) (w : part.Modifier) (a b : Derivation) (l r : Tree) (m : Option Matching) (t : Tree)
+      → Keeps g a l → Keeps g b r → IsWellFormed (grammar.binary op text w a b) → token_kind op ≡ kind.Operator op → IsMatched m → IsWritten m → Checked op l r m t → Keeps g (grammar.binary op text w a b) (binary op l r (settle_matching op m))
   keeps_binary op text w a b l r m t ca cb h known matched written c = record {
-    formed = (ca.formed, cb.formed, modifier_formed (settled op m), omega (arith, h.3, ca.wide), right_root op (derive r) (cb.root (right_level op) (right_low op) (root_right op b h.4)), fits_printed (settled op m) (yield (derive r)));
+    formed = (ca.formed, cb.formed, modifier_formed (settle_matching op m), omega (arith, h.3, ca.wide), right_root op (derive r) (cb.root (right_precedence op) (right_low op) (root_right op b h.4)), fits_printed (settle_matching op m) (yield (derive r)));
     wide = omega (arith, cb.wide);
     low = omega (arith, ca.low, cb.low);
     root = λ m e h. h;
@@ -246,15 +246,15 @@ module _ (g : Text → Answer) where
     again =
         giving_leads g (build (derive l)) _ (normal l) _ ca.again
         (giving_leads g (build (derive r)) _ (normal r) _ cb.again
-        (known_leads g (modifier_value (modifier (settled op m))) _ (reread (settled op m)) _ (modifier_again (settled op m) (settled_matched op m matched))
-        (passes_passing g (checked_binary op (normal l) (normal r) (reread (settled op m))) _
-        (checked_again op l r (normal l) (normal r) m (reread (settled op m)) t (type_normal l) (type_normal r) (read_alike op m) c
-        ∙ ap (λ x. passes (binary op (normal l) (normal r) x)) (settles op m written (ungrouped op l r m t c))))));
+        (known_leads g (modifier_value (modifier (settle_matching op m))) _ (normal_modifier (settle_matching op m)) _ (modifier_again (settle_matching op m) (settled_matched op m matched))
+        (passes_passing g (checked_binary op (normal l) (normal r) (normal_modifier (settle_matching op m))) _
+        (checked_again op l r (normal l) (normal r) m (normal_modifier (settle_matching op m)) t (type_normal l) (type_normal r) (read_alike op m) c
+        ∙ ap (λ x. passes (binary op (normal l) (normal r) x)) (settles op m written (set_has_no_group op l r m t c))))));
   }
 
   -- ---- ranges and subqueries
 
-  pub keeps_range : (d : Derivation) (t : piece.Time) (name : Option Text) (cs : PlainMatchers) (n : ℕ) → Keeps g d (vector (selector name cs None None)) → IsTime n → Keeps g (grammar.postfixed d (piece.range t)) (matrix (selector name cs None None) n Plain)
+  pub keeps_range : (d : Derivation) (t : part.Time) (name : Option Text) (cs : PlainMatchers) (n : ℕ) → Keeps g d (vector (selector name cs None None)) → IsTime n → Keeps g (grammar.postfixed d (part.range t)) (matrix (selector name cs None None) n Plain)
   keeps_range d t name cs n c is = record {
     formed = (c.formed, base_is g name (braces cs), tt);
     wide = omega arith;
@@ -266,8 +266,8 @@ module _ (g : Text → Answer) where
     again = giving_leads g (build (derive_base name (braces cs))) _ (vector (selector name (normal_matchers cs) None None)) _ c.again (known_leads g (time_value (time n)) _ n _ (time_again n is) refl);
   }
 
-  pub keeps_subquery : (d : Derivation) (r : piece.Time) (s : Option piece.Time) (t : Tree) (n : ℕ) (m : Option ℕ) → Keeps g d t → IsBase d → IsTime n → IsStep m
-      → checked (subquery (normal t) None None n m) ≡ passes (subquery (normal t) None None n m) → Keeps g (grammar.postfixed d (piece.subquery r s)) (subquery t None None n m)
+  pub keeps_subquery : (d : Derivation) (r : part.Time) (s : Option part.Time) (t : Tree) (n : ℕ) (m : Option ℕ) → Keeps g d t → IsBase d → IsTime n → IsStep m
+      → check_tree (subquery (normal t) None None n m) ≡ passes (subquery (normal t) None None n m) → Keeps g (grammar.postfixed d (part.subquery r s)) (subquery t None None n m)
   keeps_subquery d r s t n m c b is step h = record {
     formed = (c.formed, c.base b, tt);
     wide = omega arith;
@@ -280,13 +280,13 @@ module _ (g : Text → Answer) where
         giving_leads g (build (derive t)) _ (normal t) _ c.again
         (known_leads g (time_value (time n)) _ n _ (time_again n is)
         (known_leads g (step_value (option_map time m)) _ m _ (step_again m step)
-        (passes_passing g (checked (subquery (normal t) None None n m)) _ h)));
+        (passes_passing g (check_tree (subquery (normal t) None None n m)) _ h)));
   }
 
   -- ---- calls and aggregations
 
-  pub keeps_call : (k : Kind) (text : Text) (ds : Arguments) (f : Signature) (ts : Trees) → AllKept g ds ts → may_be_called k ≡ true → IsName k text → function_named text ≡ Some f
-      → checked (call f (all_normal ts)) ≡ passes (call f (all_normal ts)) → Keeps g (grammar.call k text ds) (call f ts)
+  pub keeps_call : (k : TokenKind) (text : Text) (ds : Arguments) (f : Signature) (ts : Trees) → AllKept g ds ts → may_be_called k ≡ true → IsName k text → function_named text ≡ Some f
+      → check_tree (call f (all_normal ts)) ≡ passes (call f (all_normal ts)) → Keeps g (grammar.call k text ds) (call f ts)
   keeps_call k text ds f ts c may is e h =
       let name = named_so text f e in
       record {
@@ -299,13 +299,13 @@ module _ (g : Text → Answer) where
         printable = (subst (λ x. is_word x ≡ true) (sym name) is.letters, c.printable, no_fill text f e);
         again =
             giving_leads g (build_all (derive_all ts)) _ (all_normal ts) _ c.again
-            (ap (λ o. under g (called (name_of f) o (all_normal ts))) (ap function_named name ∙ e)
-            ∙ passes_passing g (checked (call f (all_normal ts))) _ h);
+            (ap (λ o. under g (build_call (name_of f) o (all_normal ts))) (ap function_named name ∙ e)
+            ∙ passes_passing g (check_tree (call f (all_normal ts))) _ h);
       }
 
-  pub keeps_aggregate : (op : ℕ) (text : Text) (k : piece.Clause) (ds : Arguments) (m : Option Clause) (e : Tree) (p : MaybeTree) → is_aggregator op ≡ true → AllKept g ds (arguments p e)
-      → ((n : Option Clause) → aggregated op n (all_normal (arguments p e)) ≡ passes (aggregate op (normal e) (maybe_normal p) n))
-      → checked (aggregate op (normal e) (maybe_normal p) (normal_clause m)) ≡ passes (aggregate op (normal e) (maybe_normal p) (normal_clause m))
+  pub keeps_aggregate : (op : ℕ) (text : Text) (k : part.Clause) (ds : Arguments) (m : Option Clause) (e : Tree) (p : MaybeTree) → is_aggregator op ≡ true → AllKept g ds (arguments p e)
+      → ((n : Option Clause) → aggregate_args op n (all_normal (arguments p e)) ≡ passes (aggregate op (normal e) (maybe_normal p) n))
+      → check_tree (aggregate op (normal e) (maybe_normal p) (normal_clause m)) ≡ passes (aggregate op (normal e) (maybe_normal p) (normal_clause m))
       → Keeps g (grammar.aggregate op text k ds) (aggregate op e p m)
   keeps_aggregate op text k ds m e absent is c made h = record {
     formed = (clause_formed m, c.formed);
@@ -318,7 +318,7 @@ module _ (g : Text → Answer) where
     again =
         giving_leads g (build_all (derive_all (arguments absent e))) _ (all_normal (arguments absent e)) _ c.again
         (known_leads g (clause_value (clause m)) _ (normal_clause m) _ (clause_again m)
-        (pass_checks g (aggregated op (normal_clause m) (all_normal (arguments absent e))) _ _ (made (normal_clause m)) h));
+        (pass_checks g (aggregate_args op (normal_clause m) (all_normal (arguments absent e))) _ _ (made (normal_clause m)) h));
   }
   keeps_aggregate op text k ds m e (present p) is c made h = record {
     formed = (clause_formed m, c.formed);
@@ -331,7 +331,7 @@ module _ (g : Text → Answer) where
     again =
         giving_leads g (build_all (derive_all (arguments (present p) e))) _ (all_normal (arguments (present p) e)) _ c.again
         (known_leads g (clause_value (clause m)) _ (normal_clause m) _ (clause_again m)
-        (pass_checks g (aggregated op (normal_clause m) (all_normal (arguments (present p) e))) _ _ (made (normal_clause m)) h));
+        (pass_checks g (aggregate_args op (normal_clause m) (all_normal (arguments (present p) e))) _ _ (made (normal_clause m)) h));
   }
 
   pub all_none : AllKept g grammar.none no_trees

@@ -12,11 +12,11 @@ use Rattle.promql_ast.specs.Normal.{normal}
 use Rattle.promql_ast.specs.Text.{text}
 use Rattle.promql_ast.specs.Tree.{Tree}
 use Rattle.promql_ast.proofs.NormalForms.{text_alike}
-use Rattle.promql_syntax.specs.Answers.{Derives, HasTree, IsServed, Refusal, built_answer}
+use Rattle.promql_syntax.specs.ParseAnswers.{Derives, HasTree, IsServed, PlainParseError, built_answer}
 use Rattle.promql_syntax.specs.Asking.{AreAnswersOf, Asked, under}
 use Rattle.promql_syntax.specs.Building.{build}
 use Rattle.promql_syntax.proofs.Derive.{derive}
-use Rattle.promql_syntax.specs.Faults.{Fault}
+use Rattle.promql_syntax.specs.BuildErrors.{BuildError}
 use Rattle.promql_syntax.proofs.PrintedItems.{line, lines}
 use Rattle.promql_syntax.proofs.Canonical.{Keeps}
 use Rattle.promql_syntax.proofs.CanonicalTrees.{keeps}
@@ -24,7 +24,7 @@ use Rattle.promql_syntax.proofs.LexedTexts.{items_derive}
 use Rattle.promql_syntax.proofs.LexedTrees.{tree_lexed}
 use Rattle.promql_syntax.proofs.PrintedLayouts.{lines_bytes}
 use Rattle.promql_syntax.proofs.PrintedLines.{line_bytes}
-use Rattle.promql_syntax.proofs.PrintedTokens.{line_tokens, lines_tokens}
+use Rattle.promql_syntax.proofs.PrintedExprTokens.{line_tokens, lines_tokens}
 use Rattle.promql_syntax.proofs.SingleAnswers.{same_ok}
 use Rattle.promql_syntax.proofs.SpelledWords.{has_words}
 
@@ -44,7 +44,7 @@ one_tree g z s t first second =
 
 -- ---- answers
 
-built_ok : (r : Result Tree Fault) (t : Tree) → Ok t ≡ built_answer r → r ≡ Ok t
+built_ok : (r : Result Tree BuildError) (t : Tree) → Ok t ≡ built_answer r → r ≡ Ok t
 built_ok (Ok u) t same = cc
 built_ok (Err e) t same = cc
 
@@ -55,7 +55,7 @@ answer_has g source answers t s single =
     record { derivation = b.derivation; derives = b.derives; low = b.low; builds = built_ok (under g (build b.derivation)) t (s.single g single b.derivation b.derives b.low) }
 
 -- where the text has a tree, the answer is it
-pub has_answer : (g : Text → Answer) (source : Text) (answers : List Asked) (answer : Result Tree Refusal) (t : Tree) → IsServed source answers answer → AreAnswersOf g answers → HasTree g source t → answer ≡ Ok t
+pub has_answer : (g : Text → Answer) (source : Text) (answers : List Asked) (answer : Result Tree PlainParseError) (t : Tree) → IsServed source answers answer → AreAnswersOf g answers → HasTree g source t → answer ≡ Ok t
 has_answer g source answers answer t s single h = s.single g single h.derivation h.derives h.low ∙ ap built_answer h.builds
 
 module _ (g : Text → Answer) where

@@ -8,10 +8,10 @@ use Rattle.promql_kind.specs.ValueTypes.{type_eq}
 use Rattle.promql_kind.specs.declared.value.ValueType.{ValueType}
 use Rattle.promql_kind.specs.declared.value.ValueType.TheVariants as kind
 use Rattle.promql_ast.specs.Arguments.{count}
-use Rattle.promql_ast.specs.Builds.{aggregated, aggregated_alone, aggregated_with, minus, scalar_value}
-use Rattle.promql_ast.specs.Checked.{checked}
-use Rattle.promql_ast.specs.Checks.{first_fault, is_scalar_or_vector, is_vector, mistyped, unless, when}
-use Rattle.promql_ast.specs.Faults as faults
+use Rattle.promql_ast.specs.Builds.{aggregate_args, aggregated_alone, aggregated_with, minus, scalar_value}
+use Rattle.promql_ast.specs.Checked.{check_tree}
+use Rattle.promql_ast.specs.Checks.{first_fault, is_scalar_or_vector, is_vector, type_fault, unless, when}
+use Rattle.promql_ast.specs.Faults as build_errors
 use Rattle.promql_ast.specs.Faults.{Fault, Verdict, passes, rejected, type_expected, in_call}
 use Rattle.promql_ast.specs.Normal.{normal, maybe_normal, all_normal}
 use Rattle.promql_ast.specs.Tree.{Tree, aggregate, unary, binary, paren, subquery, number, string, vector, matrix, call, extension, MaybeTree, absent, present, Trees, no_trees, first_tree}
@@ -52,23 +52,23 @@ pub record PassesAgain (t u : Tree) (verdict : Verdict) (v : Tree) : Type 0 wher
   pub is : t ≡ u
   pub again : verdict ≡ passes v
 
-pub subquery_again : (e : Tree) (range : ℕ) (step : Option ℕ) (u : Tree) → checked (subquery e None None range step) ≡ passes u
-    → PassesAgain (subquery e None None range step) u (checked (subquery (normal e) None None range step)) (subquery (normal e) None None range step)
+pub subquery_again : (e : Tree) (range : ℕ) (step : Option ℕ) (u : Tree) → check_tree (subquery e None None range step) ≡ passes u
+    → PassesAgain (subquery e None None range step) u (check_tree (subquery (normal e) None None range step)) (subquery (normal e) None None range step)
 subquery_again e range step u h =
-    let both = unless_passes (when (not (is_vector (type_of e))) (faults.subquery_type (type_of e))) (passes (subquery e None None range step)) u h in
+    let both = unless_passes (when (not (is_vector (type_of e))) (build_errors.subquery_type (type_of e))) (passes (subquery e None None range step)) u h in
     record {
       is = same_tree _ _ both.1;
-      again = no_fault (when (not (is_vector (type_of (normal e)))) (faults.subquery_type (type_of (normal e)))) _ _
-          (ap (λ k. when (not (is_vector k)) (faults.subquery_type k)) (type_normal e) ∙ both.0) refl;
+      again = no_fault (when (not (is_vector (type_of (normal e)))) (build_errors.subquery_type (type_of (normal e)))) _ _
+          (ap (λ k. when (not (is_vector k)) (build_errors.subquery_type k)) (type_normal e) ∙ both.0) refl;
     }
 
-pub unary_again : (e u : Tree) → checked (unary e) ≡ passes u → PassesAgain (unary e) u (checked (unary (normal e))) (unary (normal e))
+pub unary_again : (e u : Tree) → check_tree (unary e) ≡ passes u → PassesAgain (unary e) u (check_tree (unary (normal e))) (unary (normal e))
 unary_again e u h =
-    let both = unless_passes (when (not (is_scalar_or_vector (type_of e))) (faults.unary_type (type_of e))) (passes (unary e)) u h in
+    let both = unless_passes (when (not (is_scalar_or_vector (type_of e))) (build_errors.unary_type (type_of e))) (passes (unary e)) u h in
     record {
       is = same_tree _ _ both.1;
-      again = no_fault (when (not (is_scalar_or_vector (type_of (normal e)))) (faults.unary_type (type_of (normal e)))) _ _
-          (ap (λ k. when (not (is_scalar_or_vector k)) (faults.unary_type k)) (type_normal e) ∙ both.0) refl;
+      again = no_fault (when (not (is_scalar_or_vector (type_of (normal e)))) (build_errors.unary_type (type_of (normal e)))) _ _
+          (ap (λ k. when (not (is_scalar_or_vector k)) (build_errors.unary_type k)) (type_normal e) ∙ both.0) refl;
     }
 
 pub minus_normal : (t : Tree) → minus t ≡ passes (unary t) → minus (normal t) ≡ passes (unary (normal t))
@@ -103,7 +103,7 @@ types_normal name (k ∷ j ∷ ks) (first_tree t ts) =
 typing_normal : (name : Text) (ks : List ValueType) (ts : Trees) → typing_fault name ks (all_normal ts) ≡ typing_fault name ks ts
 typing_normal name ks ts = λ i. cond (is_exempt_number name (first_normal ts i)) None (types_normal name ks ts i)
 
-pub call_again : (f : Signature) (ts : Trees) (u : Tree) → checked (call f ts) ≡ passes u → PassesAgain (call f ts) u (checked (call f (all_normal ts))) (call f (all_normal ts))
+pub call_again : (f : Signature) (ts : Trees) (u : Tree) → check_tree (call f ts) ≡ passes u → PassesAgain (call f ts) u (check_tree (call f (all_normal ts))) (call f (all_normal ts))
 call_again (signature name types variadic gives experimental) ts u h =
     let one = unless_passes (arity_fault name variadic (length types) (count ts)) _ u h in
     let two = unless_passes (typing_fault name types ts) _ u one.1 in
@@ -124,13 +124,13 @@ aggregator_of : (b : Bool) (f : Fault) (fs : List (Option Fault)) → first_faul
 aggregator_of true f fs e = refl
 aggregator_of false f fs e = cc
 
-pub is_aggregated : (op : ℕ) (e : Tree) (p : MaybeTree) (m : Option Clause) (u : Tree) → checked (aggregate op e p m) ≡ passes u → is_aggregator op ≡ true
+pub is_aggregated : (op : ℕ) (e : Tree) (p : MaybeTree) (m : Option Clause) (u : Tree) → check_tree (aggregate op e p m) ≡ passes u → is_aggregator op ≡ true
 is_aggregated op e p m u h =
     let both = unless_passes (aggregate_fault op (type_of e) (maybe_type p)) (passes (aggregate op e p m)) u h in
-    aggregator_of (is_aggregator op) (faults.aggregator_expected op) (mistyped kind.Vector faults.in_aggregation (Some (type_of e)) ∷ param_fault (param_type op) (maybe_type p) ∷ []) both.0
+    aggregator_of (is_aggregator op) (build_errors.aggregator_expected op) (type_fault kind.Vector build_errors.in_aggregation (Some (type_of e)) ∷ param_fault (param_type op) (maybe_type p) ∷ []) both.0
 
-pub aggregate_again : (op : ℕ) (e : Tree) (p : MaybeTree) (m n : Option Clause) (u : Tree) → checked (aggregate op e p m) ≡ passes u
-    → PassesAgain (aggregate op e p m) u (checked (aggregate op (normal e) (maybe_normal p) n)) (aggregate op (normal e) (maybe_normal p) n)
+pub aggregate_again : (op : ℕ) (e : Tree) (p : MaybeTree) (m n : Option Clause) (u : Tree) → check_tree (aggregate op e p m) ≡ passes u
+    → PassesAgain (aggregate op e p m) u (check_tree (aggregate op (normal e) (maybe_normal p) n)) (aggregate op (normal e) (maybe_normal p) n)
 aggregate_again op e p m n u h =
     let both = unless_passes (aggregate_fault op (type_of e) (maybe_type p)) (passes (aggregate op e p m)) u h in
     record {
@@ -149,7 +149,7 @@ pub record Aggregates (op : ℕ) (m : Option Clause) (ts : Trees) (u : Tree) : T
   pub param : MaybeTree
   pub is : u ≡ aggregate op tree param m
   pub all : ts ≡ arguments param tree
-  pub again : (n : Option Clause) → aggregated op n (all_normal ts) ≡ passes (aggregate op (normal tree) (maybe_normal param) n)
+  pub again : (n : Option Clause) → aggregate_args op n (all_normal ts) ≡ passes (aggregate op (normal tree) (maybe_normal param) n)
 
 aggregates_by : (b : Bool) (op : ℕ) (m : Option Clause) (ts : Trees) (u : Tree) → is_aggregator_with_param op ≡ b → cond b (aggregated_with op m ts) (aggregated_alone op m ts) ≡ passes u → Aggregates op m ts u
 aggregates_by true op m no_trees u is e = cc
@@ -172,5 +172,5 @@ aggregates_by false op m (first_tree t no_trees) u is e = record {
 }
 aggregates_by false op m (first_tree p (first_tree t ts)) u is e = cc
 
-pub aggregates : (op : ℕ) (m : Option Clause) (ts : Trees) (u : Tree) → aggregated op m ts ≡ passes u → Aggregates op m ts u
+pub aggregates : (op : ℕ) (m : Option Clause) (ts : Trees) (u : Tree) → aggregate_args op m ts ≡ passes u → Aggregates op m ts u
 aggregates op m ts u e = aggregates_by (is_aggregator_with_param op) op m ts u refl e

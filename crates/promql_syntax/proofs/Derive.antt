@@ -1,4 +1,4 @@
--- The derivation of a tree's text (docs/PRINTING.md, "Nodes"): what the grammar reads the printed tree as.
+-- The derivation of a tree's text (docs/reference/printing.md, "Nodes"): what the grammar reads the printed tree as.
 use Rattle.std.specs.Prelude.{◌≡◌, ℕ, true, false, if◌then◌else◌, Option, Some, None, option_map, Result, Ok, Err, codes}
 use Rattle.promql_text.specs.NumberText.{number_text, read_number}
 use Rattle.promql_text.specs.Quoting.{quoted_text}
@@ -9,19 +9,19 @@ use Rattle.promql_text.specs.declared.number.NumberFault.{NumberFault}
 use Rattle.promql_token.specs.Ids.{text_of}
 use Rattle.promql_token.specs.Laws.{is_word}
 use Rattle.promql_token.specs.declared.ids.TheConstants.{T_SUB}
-use Rattle.promql_grammar.specs.declared.kind.Kind.{Kind}
-use Rattle.promql_grammar.specs.declared.kind.Kind.TheVariants as kind
+use Rattle.promql_grammar.specs.declared.token_kinds.TokenKind.{TokenKind}
+use Rattle.promql_grammar.specs.declared.token_kinds.TokenKind.TheVariants as kind
 use Rattle.promql_grammar.specs.Grammar as grammar
 use Rattle.promql_grammar.specs.Grammar.{Derivation, Arguments}
-use Rattle.promql_grammar.specs.Pieces as piece
-use Rattle.promql_grammar.specs.Symbols.{kind_of}
+use Rattle.promql_grammar.specs.GrammarParts as part
+use Rattle.promql_grammar.specs.Symbols.{token_kind}
 use Rattle.promql_kind.specs.Functions.{name_of}
 use Rattle.promql_ast.specs.Selectors.{Selector, selector}
 use Rattle.promql_ast.specs.Shifts.{Shift, Moment}
 use Rattle.promql_ast.specs.Tree.{Tree, aggregate, unary, binary, paren, subquery, number, string, vector, matrix, call, extension, MaybeTree, absent, present, Trees, no_trees, first_tree}
 use Rattle.promql_ast.specs.declared.range_mode.RangeMode.{RangeMode}
 use Rattle.promql_ast.specs.declared.range_mode.RangeMode.TheVariants.{Plain, Smoothed, Anchored}
-use Rattle.promql_syntax.proofs.PrintedPieces.{word_kind, time, moment, shift, clause, modifier, braces}
+use Rattle.promql_syntax.proofs.PrintedParts.{word_kind, time, moment, shift, clause, modifier, braces}
 
 -- a number below zero is a minus and a number
 abbrev pub derive_number : Number → Derivation
@@ -29,16 +29,16 @@ derive_number n =
     if is_below_zero n then grammar.unary T_SUB (codes "-") (grammar.number (number_text (neg n)))
     else grammar.number (number_text n)
 
-abbrev pub derive_base : Option Text → Option piece.Braces → Derivation
+abbrev pub derive_base : Option Text → Option part.Braces → Derivation
 derive_base (Some name) b = grammar.selector (word_kind name) name b
 derive_base None (Some b) = grammar.nameless b
-derive_base None None = grammar.nameless piece.no_item
+derive_base None None = grammar.nameless part.no_item
 
 -- a range mode, `@` and `offset`, in the order in which they are printed
 abbrev pub with_mode : RangeMode → Derivation → Derivation
 with_mode Plain d = d
-with_mode Smoothed d = grammar.postfixed d (piece.mode kind.Smoothed (codes "smoothed"))
-with_mode Anchored d = grammar.postfixed d (piece.mode kind.Anchored (codes "anchored"))
+with_mode Smoothed d = grammar.postfixed d (part.mode kind.Smoothed (codes "smoothed"))
+with_mode Anchored d = grammar.postfixed d (part.mode kind.Anchored (codes "anchored"))
 
 abbrev pub with_at : Option Moment → Derivation → Derivation
 with_at None d = d
@@ -56,7 +56,7 @@ derive_selector (selector name matchers offset at) = with_suffix offset at (deri
 
 abbrev pub derive_matrix : Selector → ℕ → RangeMode → Derivation
 derive_matrix (selector name matchers offset at) range mode =
-    with_suffix offset at (with_mode mode (grammar.postfixed (derive_base name (braces matchers)) (piece.range (time range))))
+    with_suffix offset at (with_mode mode (grammar.postfixed (derive_base name (braces matchers)) (part.range (time range))))
 
 abbrev mutual
   pub derive : Tree → Derivation
@@ -65,7 +65,7 @@ abbrev mutual
   derive (binary op l r m) = grammar.binary op (text_of op) (modifier m) (derive l) (derive r)
   derive (paren e) = grammar.paren (derive e)
   derive (subquery e offset at range step) =
-      with_suffix offset at (grammar.postfixed (derive e) (piece.subquery (time range) (option_map time step)))
+      with_suffix offset at (grammar.postfixed (derive e) (part.subquery (time range) (option_map time step)))
   derive (number n) = derive_number n
   derive (string s) = grammar.string (quoted_text s)
   derive (vector s) = derive_selector s
@@ -90,7 +90,7 @@ IsUnsigned (Ok n) = is_below_zero n ≡ false
 IsUnsigned (Err f) = Unit {0}
 
 -- a word, of the kind that its text has
-pub record IsName (k : Kind) (text : Text) : Type 0 where
+pub record IsName (k : TokenKind) (text : Text) : Type 0 where
   pub letters : is_word text ≡ true
   pub kind : k ≡ word_kind text
 
@@ -104,7 +104,7 @@ abbrev mutual
   HasWords (grammar.aggregate op text c ds) = AllHaveWords ds
   HasWords (grammar.postfixed d p) = HasWords d
   HasWords (grammar.unary op text d) = HasWords d
-  HasWords (grammar.binary op text m l r) = HasWords l × HasWords r × (kind_of op ≡ kind.Operator op)
+  HasWords (grammar.binary op text m l r) = HasWords l × HasWords r × (token_kind op ≡ kind.Operator op)
   HasWords d = Unit {0}
 
   pub AllHaveWords : Arguments → Type 0

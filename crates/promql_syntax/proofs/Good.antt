@@ -7,13 +7,13 @@ use Rattle.promql_label.specs.Answers.{Answer}
 use Rattle.promql_label.specs.PlainMatchers.{PlainMatchers}
 use Rattle.promql_kind.specs.Functions.{Signature, signature, function_named}
 use Rattle.promql_kind.specs.Modifiers.{Clause}
-use Rattle.promql_ast.specs.Builds.{negated, minus, ranged, at_given, offset_given, mode_given, aggregated, aggregated_alone, aggregated_with}
+use Rattle.promql_ast.specs.Builds.{negate_tree, minus, with_range, at_given, offset_given, mode_given, aggregate_args, aggregated_alone, aggregated_with}
 use Rattle.promql_token.specs.Ids.{is_aggregator_with_param}
-use Rattle.promql_ast.specs.Checked.{checked}
+use Rattle.promql_ast.specs.Checked.{check_tree}
 use Rattle.promql_ast.specs.Checks.{unless}
-use Rattle.promql_ast.specs.check.Binary.{label_fault, operator_fault, set_fault, settled, side_fault}
+use Rattle.promql_ast.specs.check.Binary.{label_fault, operator_fault, set_fault, settle_matching, side_fault}
 use Rattle.promql_ast.specs.Types.{type_of}
-use Rattle.promql_ast.specs.Faults as faults
+use Rattle.promql_ast.specs.Faults as build_errors
 use Rattle.promql_ast.specs.Faults.{Verdict, passes, rejected}
 use Rattle.promql_ast.specs.Height.{height, greatest_height}
 use Rattle.promql_ast.specs.Selectors.{selector}
@@ -23,11 +23,11 @@ use Rattle.promql_ast.specs.Typed.{Typed, AllTyped, TypedBelow}
 use Rattle.promql_ast.specs.declared.range_mode.RangeMode.{RangeMode}
 use Rattle.promql_ast.specs.declared.range_mode.RangeMode.TheVariants.{Plain, Smoothed, Anchored}
 use Rattle.promql_grammar.specs.Grammar as grammar
-use Rattle.promql_grammar.specs.Pieces as piece
+use Rattle.promql_grammar.specs.GrammarParts as part
 use Rattle.promql_syntax.specs.Asking.{Asking, gives, fails, asks, ◌giving◌, known, Asked, Ends}
-use Rattle.promql_syntax.specs.Building.{build, build_all, passing, passing_checks, selector_tree, called, with_postfix, with_sign, bound, range_mode}
-use Rattle.promql_syntax.specs.Faults.{Fault}
-use Rattle.promql_syntax.specs.PieceBuilding.{string_value, number_value, duration_value, time_value, step_value, shift_value, moment_value, clause_value, modifier_value, braces_value, any_braces_value}
+use Rattle.promql_syntax.specs.Building.{build, build_all, from_verdict, from_checked_verdict, selector_tree, build_call, build_postfix, build_unary, bound_moment, range_mode}
+use Rattle.promql_syntax.specs.BuildErrors.{BuildError}
+use Rattle.promql_syntax.specs.PartBuilding.{string_value, number_value, duration_value, time_value, step_value, shift_value, moment_value, clause_value, modifier_value, braces_value, any_braces_value}
 
 -- whatever is answered, what is given has a property
 abbrev pub AllGive : {A : Type 0} → (A → Type 0) → Asking A → Type 0
@@ -67,45 +67,45 @@ record AreGood (n : ℕ) (ts : Trees) : Type 0 where
   typed : AllTyped ts
   low : greatest_height ts ≤ n
 
-all_passing : (P : Tree → Type 0) (v : Verdict) → ((t : Tree) → v ≡ passes t → P t) → AllGive P (passing v)
+all_passing : (P : Tree → Type 0) (v : Verdict) → ((t : Tree) → v ≡ passes t → P t) → AllGive P (from_verdict v)
 all_passing P (passes t) good = good t refl
 all_passing P (rejected f) good = tt
 
-passed : (t u : Tree) → passes t ≡ passes u → t ≡ u
-passed t u same = cc
+passes_same : (t u : Tree) → passes t ≡ passes u → t ≡ u
+passes_same t u same = cc
 
-unless_passes : (f : Option faults.Fault) (v : Verdict) (u : Tree) → unless f v ≡ passes u → v ≡ passes u
+unless_passes : (f : Option build_errors.Fault) (v : Verdict) (u : Tree) → unless f v ≡ passes u → v ≡ passes u
 unless_passes (Some f) v u is = cc
 unless_passes None v u is = is
 
 -- checks change no height
-checked_height : (t u : Tree) → checked t ≡ passes u → height u ≡ height t
-checked_height (aggregate op e p m) u is = ap height (sym (passed (aggregate op e p m) u (unless_passes _ _ u is)))
-checked_height (unary e) u is = ap height (sym (passed (unary e) u (unless_passes _ _ u is)))
+checked_height : (t u : Tree) → check_tree t ≡ passes u → height u ≡ height t
+checked_height (aggregate op e p m) u is = ap height (sym (passes_same (aggregate op e p m) u (unless_passes _ _ u is)))
+checked_height (unary e) u is = ap height (sym (passes_same (unary e) u (unless_passes _ _ u is)))
 checked_height (binary op l r m) u is =
     let one = unless_passes (operator_fault op (type_of l) (type_of r) m) _ u is in
     let two = unless_passes (label_fault m) _ u one in
     let three = unless_passes (set_fault op (type_of l) (type_of r) m) _ u two in
     let four = unless_passes (side_fault (type_of l) (type_of r) m) _ u three in
-    ap height (sym (passed (binary op l r (settled op m)) u four))
-checked_height (paren e) u is = ap height (sym (passed (paren e) u is))
-checked_height (subquery e offset at range step) u is = ap height (sym (passed (subquery e offset at range step) u (unless_passes _ _ u is)))
-checked_height (number n) u is = ap height (sym (passed (number n) u is))
-checked_height (string s) u is = ap height (sym (passed (string s) u is))
-checked_height (vector s) u is = ap height (sym (passed (vector s) u (unless_passes _ _ u is)))
-checked_height (matrix s range mode) u is = ap height (sym (passed (matrix s range mode) u is))
+    ap height (sym (passes_same (binary op l r (settle_matching op m)) u four))
+checked_height (paren e) u is = ap height (sym (passes_same (paren e) u is))
+checked_height (subquery e offset at range step) u is = ap height (sym (passes_same (subquery e offset at range step) u (unless_passes _ _ u is)))
+checked_height (number n) u is = ap height (sym (passes_same (number n) u is))
+checked_height (string s) u is = ap height (sym (passes_same (string s) u is))
+checked_height (vector s) u is = ap height (sym (passes_same (vector s) u (unless_passes _ _ u is)))
+checked_height (matrix s range mode) u is = ap height (sym (passes_same (matrix s range mode) u is))
 checked_height (call (signature name types variadic result experimental) ts) u is =
     let one = unless_passes _ _ u is in
     let two = unless_passes _ _ u one in
-    ap height (sym (passed (call (signature name types variadic result experimental) ts) u two))
-checked_height (extension name result es) u is = ap height (sym (passed (extension name result es) u is))
+    ap height (sym (passes_same (call (signature name types variadic result experimental) ts) u two))
+checked_height (extension name result es) u is = ap height (sym (passes_same (extension name result es) u is))
 
 -- what the checks accept, over well typed children, is well typed
 abbrev pub CheckedTyped : Type 0
-CheckedTyped = (t u : Tree) → TypedBelow t → checked t ≡ passes u → Typed u
+CheckedTyped = (t u : Tree) → TypedBelow t → check_tree t ≡ passes u → Typed u
 
-all_checked : CheckedTyped → (n : ℕ) (t : Tree) → TypedBelow t → height t ≤ n → AllGive (IsGood n) (passing (checked t))
-all_checked law n t below low = all_passing (IsGood n) (checked t) (λ u is. record {
+all_checked : CheckedTyped → (n : ℕ) (t : Tree) → TypedBelow t → height t ≤ n → AllGive (IsGood n) (from_verdict (check_tree t))
+all_checked law n t below low = all_passing (IsGood n) (check_tree t) (λ u is. record {
   typed = law t u below is;
   low = let same = checked_height t u is in omega arith;
 })
@@ -126,30 +126,30 @@ below_root (extension name result es) typed = typed
 
 -- ---- each form
 
-negated_below : (t : Tree) → Typed t → TypedBelow (negated t)
+negated_below : (t : Tree) → Typed t → TypedBelow (negate_tree t)
 negated_below (number n) typed = tt
 negated_below t typed = typed
 
-negated_low : (n : ℕ) (t : Tree) → height t ≤ n → height (negated t) ≤ 1 + n
+negated_low : (n : ℕ) (t : Tree) → height t ≤ n → height (negate_tree t) ≤ 1 + n
 negated_low n (number m) low = omega arith
 negated_low n t low = omega arith
 
-minus_negated : (t u : Tree) → minus t ≡ passes u → u ≡ negated t
+minus_negated : (t u : Tree) → minus t ≡ passes u → u ≡ negate_tree t
 minus_negated (string s) u is = cc
 minus_negated (matrix s range mode) u is = cc
 minus_negated t u is = cc
 
-minus_good : CheckedTyped → (n : ℕ) (t : Tree) → IsGood n t → AllGive (IsGood (1 + n)) (passing_checks (minus t))
+minus_good : CheckedTyped → (n : ℕ) (t : Tree) → IsGood n t → AllGive (IsGood (1 + n)) (from_checked_verdict (minus t))
 minus_good law n t good =
-    all_then (λ u. u ≡ negated t) (IsGood (1 + n)) (passing (minus t)) (λ u. passing (checked u))
-    (all_passing (λ u. u ≡ negated t) (minus t) (minus_negated t))
+    all_then (λ u. u ≡ negate_tree t) (IsGood (1 + n)) (from_verdict (minus t)) (λ u. from_verdict (check_tree u))
+    (all_passing (λ u. u ≡ negate_tree t) (minus t) (minus_negated t))
     (λ u is. all_checked law (1 + n) u (subst TypedBelow (sym is) (negated_below t good.typed)) (subst (λ v. height v ≤ 1 + n) (sym is) (negated_low n t good.low)))
 
 higher : (m n : ℕ) (t : Tree) → IsGood m t → m ≤ n → IsGood n t
 higher m n t good le = record { typed = good.typed; low = let low = good.low in omega arith }
 
-sign_good : CheckedTyped → (n op : ℕ) (t : Tree) → IsGood n t → AllGive (IsGood (1 + n)) (with_sign op t)
-sign_good law n op t good = elim (op == T_SUB) as (λ b. AllGive (IsGood (1 + n)) (cond b (passing_checks (minus t)) (gives t))) [
+sign_good : CheckedTyped → (n op : ℕ) (t : Tree) → IsGood n t → AllGive (IsGood (1 + n)) (build_unary op t)
+sign_good law n op t good = elim (op == T_SUB) as (λ b. AllGive (IsGood (1 + n)) (cond b (from_checked_verdict (minus t)) (gives t))) [
   | true ↦ minus_good law n t good
   | false ↦ higher n (1 + n) t good (omega arith)
 ]
@@ -157,7 +157,7 @@ sign_good law n op t good = elim (op == T_SUB) as (λ b. AllGive (IsGood (1 + n)
 selector_good : CheckedTyped → (name : Option Text) (cs : PlainMatchers) → AllGive (IsGood 1) (selector_tree name cs)
 selector_good law name cs = all_checked law 1 (vector (selector name cs None None)) tt (omega arith)
 
-called_good : CheckedTyped → (n : ℕ) (name : Text) (f : Option Signature) (ts : Trees) → AreGood n ts → AllGive (IsGood (1 + n)) (called name f ts)
+called_good : CheckedTyped → (n : ℕ) (name : Text) (f : Option Signature) (ts : Trees) → AreGood n ts → AllGive (IsGood (1 + n)) (build_call name f ts)
 called_good law n name None ts good = tt
 called_good law n name (Some f) ts good = all_checked law (1 + n) (call f ts) good.typed (let low = good.low in omega arith)
 
@@ -169,7 +169,7 @@ record IsMade (n : ℕ) (t : Tree) : Type 0 where
 alone_made : (n op : ℕ) (m : Option Clause) (ts : Trees) (u : Tree) → AreGood n ts → aggregated_alone op m ts ≡ passes u → IsMade (1 + n) u
 alone_made n op m no_trees u good is = cc
 alone_made n op m (first_tree e no_trees) u good is =
-    let same = passed (aggregate op e absent m) u is in
+    let same = passes_same (aggregate op e absent m) u is in
     subst (IsMade (1 + n)) same (record { below = (tt, good.typed.0); low = let low = good.low in omega arith })
 alone_made n op m (first_tree e (first_tree f ts)) u good is = cc
 
@@ -177,31 +177,31 @@ with_made : (n op : ℕ) (m : Option Clause) (ts : Trees) (u : Tree) → AreGood
 with_made n op m no_trees u good is = cc
 with_made n op m (first_tree p no_trees) u good is = cc
 with_made n op m (first_tree p (first_tree e no_trees)) u good is =
-    let same = passed (aggregate op e (present p) m) u is in
+    let same = passes_same (aggregate op e (present p) m) u is in
     subst (IsMade (1 + n)) same (record { below = (good.typed.0, good.typed.1.0); low = let low = good.low in omega arith })
 with_made n op m (first_tree p (first_tree e (first_tree f ts))) u good is = cc
 
-aggregated_made : (n op : ℕ) (m : Option Clause) (ts : Trees) (u : Tree) → AreGood n ts → aggregated op m ts ≡ passes u → IsMade (1 + n) u
+aggregated_made : (n op : ℕ) (m : Option Clause) (ts : Trees) (u : Tree) → AreGood n ts → aggregate_args op m ts ≡ passes u → IsMade (1 + n) u
 aggregated_made n op m ts u good = elim (is_aggregator_with_param op) as (λ b. cond b (aggregated_with op m ts) (aggregated_alone op m ts) ≡ passes u → IsMade (1 + n) u) [
   | true ↦ with_made n op m ts u good
   | false ↦ alone_made n op m ts u good
 ]
 
-aggregated_good : CheckedTyped → (n op : ℕ) (m : Option Clause) (ts : Trees) → AreGood n ts → AllGive (IsGood (1 + n)) (passing_checks (aggregated op m ts))
+aggregated_good : CheckedTyped → (n op : ℕ) (m : Option Clause) (ts : Trees) → AreGood n ts → AllGive (IsGood (1 + n)) (from_checked_verdict (aggregate_args op m ts))
 aggregated_good law n op m ts good =
-    all_then (IsMade (1 + n)) (IsGood (1 + n)) (passing (aggregated op m ts)) (λ u. passing (checked u))
-    (all_passing (IsMade (1 + n)) (aggregated op m ts) (λ u is. aggregated_made n op m ts u good is))
+    all_then (IsMade (1 + n)) (IsGood (1 + n)) (from_verdict (aggregate_args op m ts)) (λ u. from_verdict (check_tree u))
+    (all_passing (IsMade (1 + n)) (aggregate_args op m ts) (λ u is. aggregated_made n op m ts u good is))
     (λ u made. all_checked law (1 + n) u made.below made.low)
 
 -- ---- postfixes
 
-ranged_good : (n : ℕ) (t : Tree) (range : ℕ) → IsGood n t → AllGive (IsGood n) (passing (ranged t range))
+ranged_good : (n : ℕ) (t : Tree) (range : ℕ) → IsGood n t → AllGive (IsGood n) (from_verdict (with_range t range))
 ranged_good n (vector (selector name cs None None)) range good = record { typed = good.typed; low = good.low }
 ranged_good n (vector (selector name cs None (Some at))) range good = tt
 ranged_good n (vector (selector name cs (Some offset) at)) range good = tt
 ranged_good n t range good = tt
 
-at_good : (n : ℕ) (t : Tree) (at : Moment) → IsGood n t → AllGive (IsGood n) (passing (at_given t at))
+at_good : (n : ℕ) (t : Tree) (at : Moment) → IsGood n t → AllGive (IsGood n) (from_verdict (at_given t at))
 at_good n (vector (selector name cs offset None)) at good = record { typed = good.typed; low = good.low }
 at_good n (vector (selector name cs offset (Some before))) at good = tt
 at_good n (matrix (selector name cs offset None) range mode) at good = record { typed = good.typed; low = good.low }
@@ -210,7 +210,7 @@ at_good n (subquery e offset None range step) at good = record { typed = good.ty
 at_good n (subquery e offset (Some before) range step) at good = tt
 at_good n t at good = tt
 
-offset_good : (n : ℕ) (t : Tree) (offset : Shift) → IsGood n t → AllGive (IsGood n) (passing (offset_given t offset))
+offset_good : (n : ℕ) (t : Tree) (offset : Shift) → IsGood n t → AllGive (IsGood n) (from_verdict (offset_given t offset))
 offset_good n (vector (selector name cs None at)) offset good = record { typed = good.typed; low = good.low }
 offset_good n (vector (selector name cs (Some before) at)) offset good = tt
 offset_good n (matrix (selector name cs None at) range mode) offset good = record { typed = good.typed; low = good.low }
@@ -219,30 +219,30 @@ offset_good n (subquery e None at range step) offset good = record { typed = goo
 offset_good n (subquery e (Some before) at range step) offset good = tt
 offset_good n t offset good = tt
 
-mode_good : (n : ℕ) (t : Tree) (mode : RangeMode) → IsGood n t → AllGive (IsGood n) (passing (mode_given t mode))
+mode_good : (n : ℕ) (t : Tree) (mode : RangeMode) → IsGood n t → AllGive (IsGood n) (from_verdict (mode_given t mode))
 mode_good n (matrix s range Plain) mode good = record { typed = good.typed; low = good.low }
 mode_good n (matrix s range Smoothed) mode good = tt
 mode_good n (matrix s range Anchored) mode good = tt
 mode_good n t mode good = tt
 
 -- what adds nothing to the height
-same_height : (n : ℕ) (t : Tree) (p : piece.Postfix) → grammar.added_height p ≡ 0 → AllGive (IsGood n) (with_postfix t p) → AllGive (IsGood (grammar.added_height p + n)) (with_postfix t p)
-same_height n t p none good = let same : n ≡ grammar.added_height p + n = omega arith in subst (λ i. AllGive (IsGood i) (with_postfix t p)) same good
+same_height : (n : ℕ) (t : Tree) (p : part.Postfix) → grammar.added_height p ≡ 0 → AllGive (IsGood n) (build_postfix t p) → AllGive (IsGood (grammar.added_height p + n)) (build_postfix t p)
+same_height n t p none good = let same : n ≡ grammar.added_height p + n = omega arith in subst (λ i. AllGive (IsGood i) (build_postfix t p)) same good
 
-postfix_good : CheckedTyped → (n : ℕ) (t : Tree) (p : piece.Postfix) → IsGood n t → AllGive (IsGood (grammar.added_height p + n)) (with_postfix t p)
-postfix_good law n t (piece.range r) good = same_height n t (piece.range r) refl (any_then (IsGood n) (known (time_value r)) (λ x. passing (ranged t x)) (λ x. ranged_good n t x good))
-postfix_good law n t (piece.subquery r s) good =
-    any_then (IsGood (1 + n)) (known (time_value r)) (λ x. known (step_value s) giving λ y. passing (checked (subquery t None None x y)))
-    (λ x. any_then (IsGood (1 + n)) (known (step_value s)) (λ y. passing (checked (subquery t None None x y)))
+postfix_good : CheckedTyped → (n : ℕ) (t : Tree) (p : part.Postfix) → IsGood n t → AllGive (IsGood (grammar.added_height p + n)) (build_postfix t p)
+postfix_good law n t (part.range r) good = same_height n t (part.range r) refl (any_then (IsGood n) (known (time_value r)) (λ x. from_verdict (with_range t x)) (λ x. ranged_good n t x good))
+postfix_good law n t (part.subquery r s) good =
+    any_then (IsGood (1 + n)) (known (time_value r)) (λ x. known (step_value s) giving λ y. from_verdict (check_tree (subquery t None None x y)))
+    (λ x. any_then (IsGood (1 + n)) (known (step_value s)) (λ y. from_verdict (check_tree (subquery t None None x y)))
     (λ y. all_checked law (1 + n) (subquery t None None x y) good.typed (let low = good.low in omega arith)))
-postfix_good law n t (piece.at_number s text) good = same_height n t (piece.at_number s text) refl (any_then (IsGood n) (known (moment_value s text)) (λ x. passing (at_given t x)) (λ x. at_good n t x good))
-postfix_good law n t (piece.at_bound k text) good = same_height n t (piece.at_bound k text) refl (at_good n t (bound k) good)
-postfix_good law n t (piece.offset text s r) good = same_height n t (piece.offset text s r) refl (any_then (IsGood n) (known (shift_value s r)) (λ x. passing (offset_given t x)) (λ x. offset_good n t x good))
-postfix_good law n t (piece.mode k text) good = same_height n t (piece.mode k text) refl (mode_good n t (range_mode k) good)
+postfix_good law n t (part.at_number s text) good = same_height n t (part.at_number s text) refl (any_then (IsGood n) (known (moment_value s text)) (λ x. from_verdict (at_given t x)) (λ x. at_good n t x good))
+postfix_good law n t (part.at_bound k text) good = same_height n t (part.at_bound k text) refl (at_good n t (bound_moment k) good)
+postfix_good law n t (part.offset text s r) good = same_height n t (part.offset text s r) refl (any_then (IsGood n) (known (shift_value s r)) (λ x. from_verdict (offset_given t x)) (λ x. offset_good n t x good))
+postfix_good law n t (part.mode k text) good = same_height n t (part.mode k text) refl (mode_good n t (range_mode k) good)
 
 -- ---- derivations
 
-leaf_good : {A : Type 0} (r : Result A Fault) (f : A → Tree) → ((x : A) → IsGood 1 (f x)) → AllGive (IsGood 1) (known r giving λ x. gives (f x))
+leaf_good : {A : Type 0} (r : Result A BuildError) (f : A → Tree) → ((x : A) → IsGood 1 (f x)) → AllGive (IsGood 1) (known r giving λ x. gives (f x))
 leaf_good r f good = any_then (IsGood 1) (known r) (λ x. gives (f x)) good
 
 mutual
@@ -256,22 +256,22 @@ mutual
       all_then (IsGood (grammar.height d)) (IsGood (1 + grammar.height d)) (build d) (λ t. gives (paren t)) (build_good law d)
       (λ t good. record { typed = good.typed; low = let low = good.low in omega arith })
   build_good law (grammar.call k text ds) =
-      all_then (AreGood (grammar.greatest_height ds)) (IsGood (1 + grammar.greatest_height ds)) (build_all ds) (λ ts. called text (function_named text) ts) (all_good law ds)
+      all_then (AreGood (grammar.greatest_height ds)) (IsGood (1 + grammar.greatest_height ds)) (build_all ds) (λ ts. build_call text (function_named text) ts) (all_good law ds)
       (λ ts good. called_good law (grammar.greatest_height ds) text (function_named text) ts good)
   build_good law (grammar.aggregate op text c ds) =
-      all_then (AreGood (grammar.greatest_height ds)) (IsGood (1 + grammar.greatest_height ds)) (build_all ds) (λ ts. known (clause_value c) giving λ m. passing_checks (aggregated op m ts)) (all_good law ds)
-      (λ ts good. any_then (IsGood (1 + grammar.greatest_height ds)) (known (clause_value c)) (λ m. passing_checks (aggregated op m ts)) (λ m. aggregated_good law (grammar.greatest_height ds) op m ts good))
+      all_then (AreGood (grammar.greatest_height ds)) (IsGood (1 + grammar.greatest_height ds)) (build_all ds) (λ ts. known (clause_value c) giving λ m. from_checked_verdict (aggregate_args op m ts)) (all_good law ds)
+      (λ ts good. any_then (IsGood (1 + grammar.greatest_height ds)) (known (clause_value c)) (λ m. from_checked_verdict (aggregate_args op m ts)) (λ m. aggregated_good law (grammar.greatest_height ds) op m ts good))
   build_good law (grammar.postfixed d p) =
-      all_then (IsGood (grammar.height d)) (IsGood (grammar.added_height p + grammar.height d)) (build d) (λ t. with_postfix t p) (build_good law d)
+      all_then (IsGood (grammar.height d)) (IsGood (grammar.added_height p + grammar.height d)) (build d) (λ t. build_postfix t p) (build_good law d)
       (λ t good. postfix_good law (grammar.height d) t p good)
   build_good law (grammar.unary op text d) =
-      all_then (IsGood (grammar.height d)) (IsGood (1 + grammar.height d)) (build d) (λ t. with_sign op t) (build_good law d)
+      all_then (IsGood (grammar.height d)) (IsGood (1 + grammar.height d)) (build d) (λ t. build_unary op t) (build_good law d)
       (λ t good. sign_good law (grammar.height d) op t good)
   build_good law (grammar.binary op text m l r) =
       let n = 1 + max (grammar.height l) (grammar.height r) in
-      all_then (IsGood (grammar.height l)) (IsGood n) (build l) (λ x. build r giving λ y. known (modifier_value m) giving λ z. passing (checked (binary op x y z))) (build_good law l)
-      (λ x left. all_then (IsGood (grammar.height r)) (IsGood n) (build r) (λ y. known (modifier_value m) giving λ z. passing (checked (binary op x y z))) (build_good law r)
-      (λ y right. any_then (IsGood n) (known (modifier_value m)) (λ z. passing (checked (binary op x y z)))
+      all_then (IsGood (grammar.height l)) (IsGood n) (build l) (λ x. build r giving λ y. known (modifier_value m) giving λ z. from_verdict (check_tree (binary op x y z))) (build_good law l)
+      (λ x left. all_then (IsGood (grammar.height r)) (IsGood n) (build r) (λ y. known (modifier_value m) giving λ z. from_verdict (check_tree (binary op x y z))) (build_good law r)
+      (λ y right. any_then (IsGood n) (known (modifier_value m)) (λ z. from_verdict (check_tree (binary op x y z)))
       (λ z. all_checked law n (binary op x y z) (left.typed, right.typed) (let a = left.low in let b = right.low in omega arith))))
 
   all_good : CheckedTyped → (ds : grammar.Arguments) → AllGive (AreGood (grammar.greatest_height ds)) (build_all ds)

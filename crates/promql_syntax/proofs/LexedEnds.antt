@@ -4,7 +4,7 @@ use Rattle.std.specs.Prelude.{◌==◌, slice_index}
 use Rattle.std.specs.List.{list_any}
 use Rattle.promql_text.specs.Texts.{Text}
 use Rattle.promql_token.specs.Laws.{stops_numeral}
-use Rattle.promql_token.specs.Pieces.{opens}
+use Rattle.promql_token.specs.TokenScanning.{opens}
 use Rattle.promql_syntax.proofs.Booleans.{and_cases, not_true, or_cases}
 use Rattle.promql_syntax.proofs.Lexes.{ends_word, is_break, is_clear}
 

@@ -5,24 +5,24 @@ use Rattle.std.proofs.lemmas.List.{map-append}
 use Rattle.promql_text.specs.Texts.{Text}
 use Rattle.promql_token.specs.Classes.{is_in}
 use Rattle.promql_token.specs.Laws.{is_word}
-use Rattle.promql_token.specs.Lexing.{PieceText, pieces}
-use Rattle.promql_token.specs.Pieces.{word_id}
+use Rattle.promql_token.specs.Lexing.{ScannedText, pieces}
+use Rattle.promql_token.specs.TokenScanning.{word_id}
 use Rattle.promql_token.specs.declared.class.Class.TheVariants as class
 use Rattle.promql_token.specs.declared.state.State.{State}
-use Rattle.promql_token.proofs.Joins.{joins_word}
+use Rattle.promql_token.proofs.Concatenation.{joins_word}
 use Rattle.promql_token.proofs.Steps.{pieces_run}
-use Rattle.promql_grammar.specs.declared.kind.Kind.{Kind}
-use Rattle.promql_grammar.specs.declared.kind.Kind.TheVariants as kind
-use Rattle.promql_grammar.specs.Symbols.{Symbol, sign, symbol, symbol_of, word}
+use Rattle.promql_grammar.specs.declared.token_kinds.TokenKind.{TokenKind}
+use Rattle.promql_grammar.specs.declared.token_kinds.TokenKind.TheVariants as kind
+use Rattle.promql_grammar.specs.Symbols.{Symbol, punct, symbol, symbol_of, word}
 use Rattle.promql_syntax.proofs.Lexes.{Lexes, LexesBefore, at_depth}
 use Rattle.promql_syntax.proofs.PrintedItems.{Item, token, blank, newline, render, spell}
 use Rattle.promql_syntax.proofs.LexedSigns.{close_lex, comma_lex, open_lex}
 use Rattle.promql_syntax.proofs.PrintedBytes.{render_append}
-use Rattle.promql_syntax.proofs.PrintedTokens.{strip_append}
+use Rattle.promql_syntax.proofs.PrintedExprTokens.{strip_append}
 
 -- ---- items one after the other
 
--- a token in front of a text
+-- a token before a text
 pub record Reads (before after : State) (s : Symbol) (r : Text) : Type 0 where
   pub id : ℕ
   pub is : symbol_of (id, spell s) ≡ s
@@ -31,7 +31,7 @@ pub record Reads (before after : State) (s : Symbol) (r : Text) : Type 0 where
 pub nothing : (a : State) → Lexes a a []
 nothing a r = ([], refl, refl)
 
--- ---- in front of texts that pass a test
+-- ---- before texts that pass a test
 
 pub before_any : (test : Text → Bool) (a b : State) (is : List Item) → Lexes a b is → LexesBefore test a b is
 before_any test a b is more r passes = more r
@@ -67,11 +67,11 @@ append_before early late a b c is js meets first second r passes =
       f.0 ++ s.0,
       map-append symbol_of f.0 s.0 ∙ (λ i. f.1 i ++ s.1 i) ∙ sym (strip_append is js),
       ap (λ z. pieces a (z ++ r)) (render_append is js) ∙ ap (pieces a) (append_assoc (render is) (render js) r) ∙ f.2
-          ∙ ap (λ ws. map (λ t. Ok t) f.0 ++ ws) s.2 ∙ sym (append_assoc {A = PieceText} (map (λ t. Ok t) f.0) (map (λ t. Ok t) s.0) (pieces c r))
-          ∙ ap (λ ws. ws ++ pieces c r) (sym (map-append {B = PieceText} (λ t. Ok t) f.0 s.0)),
+          ∙ ap (λ ws. map (λ t. Ok t) f.0 ++ ws) s.2 ∙ sym (append_assoc {A = ScannedText} (map (λ t. Ok t) f.0) (map (λ t. Ok t) s.0) (pieces c r))
+          ∙ ap (λ ws. ws ++ pieces c r) (sym (map-append {B = ScannedText} (λ t. Ok t) f.0 s.0)),
     )
 
--- ---- in front of any text
+-- ---- before any text
 
 abbrev any : Text → Bool
 any r = true
@@ -89,19 +89,19 @@ pub append_lex : (a b c : State) (is js : List Item) → Lexes a b is → Lexes 
 append_lex a b c is js first second r =
     append_before any any a b c is js (λ r passes. refl) (before_any any a b is first) (before_any any b c js second) r refl
 
--- ---- signs
+-- ---- punctuation
 
-pub open_reads : (depth : ℕ) (r : Text) → Reads (at_depth depth) (at_depth (suc depth)) (sign kind.LeftParen) r
+pub open_reads : (depth : ℕ) (r : Text) → Reads (at_depth depth) (at_depth (suc depth)) (punct kind.LeftParen) r
 open_reads depth r = record { id = 11; is = refl; reads = open_lex depth r }
 
-pub comma_reads : (depth : ℕ) (r : Text) → Reads (at_depth depth) (at_depth depth) (sign kind.Comma) r
+pub comma_reads : (depth : ℕ) (r : Text) → Reads (at_depth depth) (at_depth depth) (punct kind.Comma) r
 comma_reads depth r = record { id = 3; is = refl; reads = comma_lex depth r }
 
-pub close_reads : (depth : ℕ) (r : Text) → Reads (at_depth (suc depth)) (at_depth depth) (sign kind.RightParen) r
+pub close_reads : (depth : ℕ) (r : Text) → Reads (at_depth (suc depth)) (at_depth depth) (punct kind.RightParen) r
 close_reads depth r = record { id = 18; is = refl; reads = close_lex depth r }
 
 -- ---- words
 
-pub known_reads : (depth : ℕ) (w r : Text) (id : ℕ) (k : Kind) → is_word w ≡ true → word_id w r ≡ id → symbol_of (id, w) ≡ word k w → is_in class.Word (slice_index r 0) ≡ false
+pub known_reads : (depth : ℕ) (w r : Text) (id : ℕ) (k : TokenKind) → is_word w ≡ true → word_id w r ≡ id → symbol_of (id, w) ≡ word k w → is_in class.Word (slice_index r 0) ≡ false
     → Reads (at_depth depth) (at_depth depth) (word k w) r
 known_reads depth w r id k is known symbol stop = record { id = id; is = symbol; reads = joins_word depth w r is stop ∙ ap (λ n. Ok (n, w) ∷ pieces (at_depth depth) r) known }

@@ -1,4 +1,4 @@
--- The lexer reads printed labels, clauses and matchings as their tokens.
+-- The lexer reads printed labels, groupings and matchings as their tokens.
 use Rattle.std.proofs.Common.{◌≡◌, ℕ, suc, ◌+◌, refl, ap, arith, Bool, true, false, cond, not, ◌&&◌, ◌||◌, Option, Some, None, List, [], ◌∷◌, ◌++◌, length, codes, eqb-true}
 use Rattle.std.specs.Prelude.{◌==◌, slice_index}
 use Rattle.std.specs.List.{prefix_len}
@@ -8,19 +8,19 @@ use Rattle.promql_text.specs.Texts.{Text}
 use Rattle.promql_token.specs.Classes.{is_in, is_label, is_letter, is_name_byte, end_of_run}
 use Rattle.promql_token.specs.Ids.{keyword_in_any_case}
 use Rattle.promql_token.specs.Laws.{is_word}
-use Rattle.promql_token.specs.Pieces.{after, opens, word_id}
+use Rattle.promql_token.specs.TokenScanning.{after, opens, word_id}
 use Rattle.promql_token.specs.declared.class.Class.TheVariants as class
 use Rattle.promql_token.specs.declared.ids.TheConstants.{T_STRING}
 use Rattle.promql_token.proofs.PrintedValues.{joins_quoted}
-use Rattle.promql_grammar.specs.declared.kind.Kind.{Kind}
-use Rattle.promql_grammar.specs.declared.kind.Kind.TheVariants as kind
-use Rattle.promql_grammar.specs.Symbols.{sign, symbol, symbol_of, word}
+use Rattle.promql_grammar.specs.declared.token_kinds.TokenKind.{TokenKind}
+use Rattle.promql_grammar.specs.declared.token_kinds.TokenKind.TheVariants as kind
+use Rattle.promql_grammar.specs.Symbols.{punct, symbol, symbol_of, word}
 use Rattle.promql_label.specs.Labels.{is_number_word, label_text}
 use Rattle.promql_kind.specs.Modifiers.{Clause, including, excluding, Cardinality, one_to_one, many_to_one, one_to_many, many_to_many}
 use Rattle.promql_syntax.proofs.Booleans.{and_both, and_cases}
 use Rattle.promql_syntax.proofs.Lexes.{Lexes, at_depth, ends_word}
 use Rattle.promql_syntax.proofs.PrintedItems.{Item, token, blank, before_line, group_line, labels_line, matching_line, names_line, render}
-use Rattle.promql_syntax.proofs.PrintedPieces.{clause, group, label_kind, labels, matched, names, word_kind}
+use Rattle.promql_syntax.proofs.PrintedParts.{clause, group, label_kind, labels, matching_of_clause, names, word_kind}
 use Rattle.promql_syntax.proofs.LexedItems.{Reads, append_lex, blank_then, close_reads, comma_reads, known_reads, nothing, open_reads, token_then}
 use Rattle.promql_syntax.proofs.LexedWords.{name_reads}
 
@@ -49,7 +49,7 @@ label_is_word l is =
     let whole : end_of_run class.Word l 0 ≡ length l = omega (arith, word) in
     and_both _ _ (ap (λ b. b || (slice_index l 0 == 58)) h.0) (eq-eqb _ _ whole)
 
-pub string_reads : (depth : ℕ) (s r : Text) → Reads (at_depth depth) (at_depth depth) (word kind.Str (quoted_text s)) r
+pub string_reads : (depth : ℕ) (s r : Text) → Reads (at_depth depth) (at_depth depth) (word kind.String (quoted_text s)) r
 unfolding after
 string_reads depth s r = record { id = T_STRING; is = refl; reads = joins_quoted (at_depth depth) s r refl }
 
@@ -58,7 +58,7 @@ string_reads depth s r = record { id = T_STRING; is = refl; reads = joins_quoted
 label_reads : (depth : ℕ) (l r : Text) → ends_word r ≡ true → opens r ≡ false → Reads (at_depth depth) (at_depth depth) (word (label_kind l) (label_text l)) r
 label_reads depth l r ends shut = go (is_label l) (is_number_word l) refl
   where
-    go : (a b : Bool) → is_label l ≡ a → Reads (at_depth depth) (at_depth depth) (word (cond (a && not b) (word_kind l) kind.Str) (cond (a && not b) l (quoted_text l))) r
+    go : (a b : Bool) → is_label l ≡ a → Reads (at_depth depth) (at_depth depth) (word (cond (a && not b) (word_kind l) kind.String) (cond (a && not b) l (quoted_text l))) r
     go true false is = name_reads depth l r (label_is_word l is) ends shut
     go true true is = string_reads depth l r
     go false b is = string_reads depth l r
@@ -66,26 +66,26 @@ label_reads depth l r ends shut = go (is_label l) (is_number_word l) refl
 names_lex : (depth : ℕ) (l : Text) (ls : List Text) → Lexes (at_depth (suc depth)) (at_depth depth) (names_line (names l ls))
 names_lex depth l [] =
     let inner = at_depth (suc depth) in
-    token_then inner inner (at_depth depth) (word (label_kind l) (label_text l)) (token (sign kind.RightParen) ∷ []) (λ r. label_reads (suc depth) l (41 ∷ r) refl refl)
-    (token_then inner (at_depth depth) (at_depth depth) (sign kind.RightParen) [] (λ r. close_reads depth r) (nothing (at_depth depth)))
+    token_then inner inner (at_depth depth) (word (label_kind l) (label_text l)) (token (punct kind.RightParen) ∷ []) (λ r. label_reads (suc depth) l (41 ∷ r) refl refl)
+    (token_then inner (at_depth depth) (at_depth depth) (punct kind.RightParen) [] (λ r. close_reads depth r) (nothing (at_depth depth)))
 names_lex depth l (k ∷ ls) =
     let inner = at_depth (suc depth) in
     let rest = names_line (names k ls) in
-    token_then inner inner (at_depth depth) (word (label_kind l) (label_text l)) (token (sign kind.Comma) ∷ blank ∷ rest) (λ r. label_reads (suc depth) l (44 ∷ 32 ∷ (render rest ++ r)) refl refl)
-    (token_then inner inner (at_depth depth) (sign kind.Comma) (blank ∷ rest) (λ r. comma_reads (suc depth) (32 ∷ (render rest ++ r)))
+    token_then inner inner (at_depth depth) (word (label_kind l) (label_text l)) (token (punct kind.Comma) ∷ blank ∷ rest) (λ r. label_reads (suc depth) l (44 ∷ 32 ∷ (render rest ++ r)) refl refl)
+    (token_then inner inner (at_depth depth) (punct kind.Comma) (blank ∷ rest) (λ r. comma_reads (suc depth) (32 ∷ (render rest ++ r)))
     (blank_then (suc depth) (at_depth depth) rest (names_lex depth k ls)))
 
 pub labels_lex : (depth : ℕ) (ls : List Text) → Lexes (at_depth depth) (at_depth depth) (labels_line (labels ls))
 labels_lex depth [] =
     let inner = at_depth (suc depth) in
-    token_then (at_depth depth) inner (at_depth depth) (sign kind.LeftParen) (token (sign kind.RightParen) ∷ []) (λ r. open_reads depth (41 ∷ r))
-    (token_then inner (at_depth depth) (at_depth depth) (sign kind.RightParen) [] (λ r. close_reads depth r) (nothing (at_depth depth)))
+    token_then (at_depth depth) inner (at_depth depth) (punct kind.LeftParen) (token (punct kind.RightParen) ∷ []) (λ r. open_reads depth (41 ∷ r))
+    (token_then inner (at_depth depth) (at_depth depth) (punct kind.RightParen) [] (λ r. close_reads depth r) (nothing (at_depth depth)))
 labels_lex depth (l ∷ ls) =
     let inner = at_depth (suc depth) in
     let rest = names_line (names l ls) in
-    token_then (at_depth depth) inner (at_depth depth) (sign kind.LeftParen) rest (λ r. open_reads depth (render rest ++ r)) (names_lex depth l ls)
+    token_then (at_depth depth) inner (at_depth depth) (punct kind.LeftParen) rest (λ r. open_reads depth (render rest ++ r)) (names_lex depth l ls)
 
--- ---- clauses
+-- ---- groupings
 
 by_id : (r : Text) → word_id (codes "by") r ≡ 62
 unfolding keyword_in_any_case
@@ -96,7 +96,7 @@ unfolding keyword_in_any_case
 without_id r = refl
 
 -- a word between spaces, and what follows it
-spaced_word : (depth id : ℕ) (k : Kind) (w : Text) (is : List Item) → is_word w ≡ true → ((r : Text) → word_id w r ≡ id) → symbol_of (id, w) ≡ word k w
+spaced_word : (depth id : ℕ) (k : TokenKind) (w : Text) (is : List Item) → is_word w ≡ true → ((r : Text) → word_id w r ≡ id) → symbol_of (id, w) ≡ word k w
     → Lexes (at_depth depth) (at_depth depth) is → Lexes (at_depth depth) (at_depth depth) (blank ∷ token (word k w) ∷ blank ∷ is)
 spaced_word depth id k w is letters known symbol more =
     let o = at_depth depth in
@@ -136,7 +136,7 @@ group_lex depth (many_to_one ls) = spaced_word depth 63 kind.GroupLeft (codes "g
 group_lex depth (one_to_many ls) = spaced_word depth 64 kind.GroupRight (codes "group_right") (labels_line (labels ls)) refl group_right_id refl (labels_lex depth ls)
 group_lex depth many_to_many = nothing (at_depth depth)
 
-pub matching_lex : (depth : ℕ) (c : Option Clause) (card : Cardinality) → Lexes (at_depth depth) (at_depth depth) (matching_line (matched c (group card)))
+pub matching_lex : (depth : ℕ) (c : Option Clause) (card : Cardinality) → Lexes (at_depth depth) (at_depth depth) (matching_line (matching_of_clause c (group card)))
 matching_lex depth None card = nothing (at_depth depth)
 matching_lex depth (Some (including ls)) card =
     let o = at_depth depth in

@@ -1,18 +1,18 @@
--- The lexer reads printed modifiers as their tokens, in front of what ends a word.
+-- The lexer reads printed modifiers as their tokens, before what ends a word.
 use Rattle.std.proofs.Common.{◌≡◌, ℕ, refl, ◌∙◌, ap, Bool, true, false, Option, Some, None, List, [], ◌∷◌, ◌++◌, append_assoc, codes}
 use Rattle.std.proofs.lemmas.Bool.{cond_both}
 use Rattle.promql_text.specs.Texts.{Text}
 use Rattle.promql_token.specs.Ids.{keyword_in_any_case}
-use Rattle.promql_token.specs.Pieces.{word_id}
-use Rattle.promql_grammar.specs.declared.kind.Kind.TheVariants as kind
-use Rattle.promql_grammar.specs.Pieces as piece
+use Rattle.promql_token.specs.TokenScanning.{word_id}
+use Rattle.promql_grammar.specs.declared.token_kinds.TokenKind.TheVariants as kind
+use Rattle.promql_grammar.specs.GrammarParts as part
 use Rattle.promql_grammar.specs.Symbols.{word}
 use Rattle.promql_kind.specs.Modifiers.{Clause, including, excluding, Cardinality, Fills, fills, Matching, matching, is_grouping, number_eq}
 use Rattle.promql_ast.specs.Normal.{normal_matched}
 use Rattle.promql_syntax.proofs.Booleans.{not_true}
 use Rattle.promql_syntax.proofs.Lexes.{Lexes, LexesBefore, at_depth, ends_operator, ends_word}
 use Rattle.promql_syntax.proofs.PrintedItems.{Item, token, fills_line, flag_line, matching_line, modifier_line, render}
-use Rattle.promql_syntax.proofs.PrintedPieces.{fill_words, flag, group, matched, modifier, value}
+use Rattle.promql_syntax.proofs.PrintedParts.{fill_words, flag, group, matching_of_clause, modifier, value}
 use Rattle.promql_syntax.proofs.LexedItems.{append_before, append_lex, before_any, blank_before, known_reads, last_before, nothing}
 use Rattle.promql_syntax.proofs.LexedLabels.{matching_lex}
 use Rattle.promql_syntax.proofs.LexedValues.{fills_lex}
@@ -43,10 +43,10 @@ module _ (test : Text → Bool) (space : (z : Text) → test (32 ∷ z) ≡ true
   fills_end (fills (Some v) None) r ends = space _
   fills_end (fills None (Some w)) r ends = space _
   fills_end (fills (Some v) (Some w)) r ends =
-      cond_both (number_eq w v) (piece.both (codes "fill") (value w)) (piece.left_right (codes "fill_left") (value w) (codes "fill_right") (value v))
+      cond_both (number_eq w v) (part.both (codes "fill") (value w)) (part.left_right (codes "fill_left") (value w) (codes "fill_right") (value v))
       (λ p. test (render (fills_line p) ++ r) ≡ true) (λ _. space _) (λ _. space _)
 
-  parts_end : (c : Option Clause) (card : Cardinality) (f : Fills) (r : Text) → test r ≡ true → test (render (matching_line (matched c (group card)) ++ fills_line (fill_words f)) ++ r) ≡ true
+  parts_end : (c : Option Clause) (card : Cardinality) (f : Fills) (r : Text) → test r ≡ true → test (render (matching_line (matching_of_clause c (group card)) ++ fills_line (fill_words f)) ++ r) ≡ true
   parts_end None card f r ends = fills_end f r ends
   parts_end (Some (including ls)) card f r ends = space _
   parts_end (Some (excluding ls)) card f r ends = space _
@@ -61,9 +61,9 @@ modifier_lex depth None is = before_any ends_word (at_depth depth) (at_depth dep
 modifier_lex depth (Some (matching card c b f)) is =
     let o = at_depth depth in
     let clause = normal_matched (is_grouping card) c in
-    let rest = matching_line (matched clause (group card)) ++ fills_line (fill_words f) in
+    let rest = matching_line (matching_of_clause clause (group card)) ++ fills_line (fill_words f) in
     append_before ends_word ends_word o o o (flag_line (flag b)) rest (parts_end ends_word (λ z. refl) clause card f) (flag_lex depth b)
-    (before_any ends_word o o rest (append_lex o o o (matching_line (matched clause (group card))) (fills_line (fill_words f)) (matching_lex depth clause card) (values_lex depth f is.1)))
+    (before_any ends_word o o rest (append_lex o o o (matching_line (matching_of_clause clause (group card))) (fills_line (fill_words f)) (matching_lex depth clause card) (values_lex depth f is.1)))
 
 -- a modifier, or what follows it, may follow an operator
 pub after_operator : (m : Option Matching) (is : List Item) (r : Text) → ends_operator (render is ++ r) ≡ true → ends_operator (render (modifier_line (modifier m) ++ is) ++ r) ≡ true

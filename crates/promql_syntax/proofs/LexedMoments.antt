@@ -16,24 +16,24 @@ use Rattle.promql_text.specs.declared.number.Number.TheVariants.{Finite, Inf, Ne
 use Rattle.promql_token.specs.Ids.{keyword_in_any_case}
 use Rattle.promql_token.specs.Laws.{is_word, stops_numeral}
 use Rattle.promql_token.specs.Lexing.{pieces}
-use Rattle.promql_token.specs.Pieces as scan
-use Rattle.promql_token.specs.Pieces.{after, outside, word_id}
+use Rattle.promql_token.specs.TokenScanning as scan
+use Rattle.promql_token.specs.TokenScanning.{after, outside, word_id}
 use Rattle.promql_token.specs.Printed.{are_digits}
 use Rattle.promql_token.specs.declared.ids.TheConstants.{T_NUMBER}
-use Rattle.promql_token.proofs.Joins.{joins}
-use Rattle.promql_token.proofs.Printed.{joins_number}
-use Rattle.promql_grammar.specs.declared.kind.Kind.{Kind}
-use Rattle.promql_grammar.specs.declared.kind.Kind.TheVariants as kind
-use Rattle.promql_grammar.specs.Pieces as piece
-use Rattle.promql_grammar.specs.Symbols.{sign, symbol_of, word}
+use Rattle.promql_token.proofs.Concatenation.{joins}
+use Rattle.promql_token.proofs.PrintedForms.{joins_number}
+use Rattle.promql_grammar.specs.declared.token_kinds.TokenKind.{TokenKind}
+use Rattle.promql_grammar.specs.declared.token_kinds.TokenKind.TheVariants as kind
+use Rattle.promql_grammar.specs.GrammarParts as part
+use Rattle.promql_grammar.specs.Symbols.{punct, symbol_of, word}
 use Rattle.promql_ast.specs.AtTimes.{at_of_millis, at_of_number}
 use Rattle.promql_ast.specs.Shifts.{Shift, back, ahead, Moment, at_start, at_end, at_time}
 use Rattle.promql_syntax.proofs.Booleans.{and_both}
 use Rattle.promql_syntax.proofs.Lexes.{LexesBefore, at_depth, is_clear}
-use Rattle.promql_syntax.specs.PieceBuilding.{at_fault, signed_number}
+use Rattle.promql_syntax.specs.PartBuilding.{at_fault, signed_number}
 use Rattle.promql_syntax.proofs.PrintedItems.{Item, token, blank, postfix_line, render, signed_line}
-use Rattle.promql_syntax.proofs.PrintedPieces.{moment, seconds_text, shift}
-use Rattle.promql_syntax.proofs.PrintedPieces as printed
+use Rattle.promql_syntax.proofs.PrintedParts.{moment, seconds_text, shift}
+use Rattle.promql_syntax.proofs.PrintedParts as printed
 use Rattle.promql_syntax.proofs.LexedEnds.{clear_stops}
 use Rattle.promql_syntax.proofs.LexedItems.{Reads, before_any, blank_before, close_reads, known_reads, last_before, nothing, open_reads, token_before, token_then}
 use Rattle.promql_syntax.proofs.LexedPostfixes.{offset_lex, signed_before}
@@ -50,27 +50,27 @@ end_id : (r : Text) → word_id (codes "end") r ≡ 77
 unfolding keyword_in_any_case
 end_id r = refl
 
-at_reads : (depth : ℕ) (r : Text) → Reads (at_depth depth) (at_depth depth) (sign kind.At) r
-unfolding scan.piece outside scan.sign after
+at_reads : (depth : ℕ) (r : Text) → Reads (at_depth depth) (at_depth depth) (punct kind.At) r
+unfolding scan.scan_token outside scan.sign after
 at_reads depth r = record { id = 41; is = refl; reads = joins (at_depth depth) (64 ∷ []) r 41 (omega arith) refl refl }
 
-at_then : (test : Text → Bool) (depth : ℕ) (is : List Item) → LexesBefore test (at_depth depth) (at_depth depth) is → LexesBefore test (at_depth depth) (at_depth depth) (blank ∷ token (sign kind.At) ∷ blank ∷ is)
+at_then : (test : Text → Bool) (depth : ℕ) (is : List Item) → LexesBefore test (at_depth depth) (at_depth depth) is → LexesBefore test (at_depth depth) (at_depth depth) (blank ∷ token (punct kind.At) ∷ blank ∷ is)
 at_then test depth is more =
     let o = at_depth depth in
-    blank_before test depth o (token (sign kind.At) ∷ blank ∷ is)
-    (token_before test o o o (sign kind.At) (blank ∷ is) (λ r passes. at_reads depth (32 ∷ (render is ++ r))) (blank_before test depth o is more))
+    blank_before test depth o (token (punct kind.At) ∷ blank ∷ is)
+    (token_before test o o o (punct kind.At) (blank ∷ is) (λ r passes. at_reads depth (32 ∷ (render is ++ r))) (blank_before test depth o is more))
 
-bound_lex : (depth id : ℕ) (k : Kind) (w : Text) → is_word w ≡ true → ((r : Text) → word_id w r ≡ id) → symbol_of (id, w) ≡ word k w
-    → LexesBefore is_clear (at_depth depth) (at_depth depth) (postfix_line (piece.at_bound k w))
+bound_lex : (depth id : ℕ) (k : TokenKind) (w : Text) → is_word w ≡ true → ((r : Text) → word_id w r ≡ id) → symbol_of (id, w) ≡ word k w
+    → LexesBefore is_clear (at_depth depth) (at_depth depth) (postfix_line (part.at_bound k w))
 bound_lex depth id k w letters known symbol =
     let o = at_depth depth in
-    let shut = token (sign kind.RightParen) ∷ [] in
-    let empty = token (sign kind.LeftParen) ∷ shut in
+    let shut = token (punct kind.RightParen) ∷ [] in
+    let empty = token (punct kind.LeftParen) ∷ shut in
     at_then is_clear depth (token (word k w) ∷ empty)
     (before_any is_clear o o (token (word k w) ∷ empty)
     (token_then o o o (word k w) empty (λ r. known_reads depth w (40 ∷ 41 ∷ r) id k letters (known (40 ∷ 41 ∷ r)) symbol refl)
-    (token_then o (at_depth (suc depth)) o (sign kind.LeftParen) shut (λ r. open_reads depth (41 ∷ r))
-    (token_then (at_depth (suc depth)) o o (sign kind.RightParen) [] (λ r. close_reads depth r) (nothing o)))))
+    (token_then o (at_depth (suc depth)) o (punct kind.LeftParen) shut (λ r. open_reads depth (41 ∷ r))
+    (token_then (at_depth (suc depth)) o o (punct kind.RightParen) [] (λ r. close_reads depth r) (nothing o)))))
 
 -- ---- seconds
 
@@ -109,7 +109,7 @@ seconds_joins depth size r low =
     (digits_then (decimal (size / 10 % 10)) (decimal (size % 10)) (decimal_is (size / 10 % 10) (omega arith)) (decimal_is (size % 10) (omega arith))))
 
 -- milliseconds of no more than 64 bits
-at_time_lex : (depth : ℕ) (t : ℤ) → unsigned_abs t < 2 ^ 64 → LexesBefore is_clear (at_depth depth) (at_depth depth) (postfix_line (piece.at_number (printed.sign (is_negative t)) (seconds_text t)))
+at_time_lex : (depth : ℕ) (t : ℤ) → unsigned_abs t < 2 ^ 64 → LexesBefore is_clear (at_depth depth) (at_depth depth) (postfix_line (part.at_number (printed.sign (is_negative t)) (seconds_text t)))
 unfolding seconds_text
 at_time_lex depth t low =
     let o = at_depth depth in

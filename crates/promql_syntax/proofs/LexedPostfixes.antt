@@ -12,8 +12,8 @@ use Rattle.promql_text.specs.declared.number.Number.{Number}
 use Rattle.promql_token.specs.Ids.{keyword_in_any_case}
 use Rattle.promql_token.specs.Laws.{is_word, stops_numeral}
 use Rattle.promql_token.specs.Lexing.{pieces}
-use Rattle.promql_token.specs.Pieces as scan
-use Rattle.promql_token.specs.Pieces.{after, in_brackets, mode_after_something, outside, word_id}
+use Rattle.promql_token.specs.TokenScanning as scan
+use Rattle.promql_token.specs.TokenScanning.{after, in_brackets, mode_after_something, outside, word_id}
 use Rattle.promql_token.specs.Printed.{holds_numerals}
 use Rattle.promql_token.specs.PrintedValues.{time_id}
 use Rattle.promql_token.specs.declared.ids.TheConstants.{T_DURATION, T_NUMBER, T_SUB}
@@ -22,21 +22,21 @@ use Rattle.promql_token.specs.declared.state.Bracket.TheVariants as bracket
 use Rattle.promql_token.specs.declared.state.Mode.{Mode}
 use Rattle.promql_token.specs.declared.state.Mode.TheVariants as mode
 use Rattle.promql_token.specs.declared.state.State.{State}
-use Rattle.promql_token.proofs.Joins.{joins}
+use Rattle.promql_token.proofs.Concatenation.{joins}
 use Rattle.promql_token.proofs.PrintedValues.{joins_number_text, joins_time}
-use Rattle.promql_grammar.specs.declared.kind.Kind.{Kind}
-use Rattle.promql_grammar.specs.declared.kind.Kind.TheVariants as kind
-use Rattle.promql_grammar.specs.Pieces as piece
-use Rattle.promql_grammar.specs.Symbols.{sign, symbol_of, word}
+use Rattle.promql_grammar.specs.declared.token_kinds.TokenKind.{TokenKind}
+use Rattle.promql_grammar.specs.declared.token_kinds.TokenKind.TheVariants as kind
+use Rattle.promql_grammar.specs.GrammarParts as part
+use Rattle.promql_grammar.specs.Symbols.{punct, symbol_of, word}
 use Rattle.promql_syntax.proofs.Booleans.{not_true}
 use Rattle.promql_syntax.proofs.Lexes.{Lexes, LexesBefore, at_depth, is_clear}
 use Rattle.promql_syntax.proofs.PrintedItems.{Item, token, blank, postfix_line, render, signed_line, step_line, time_line}
-use Rattle.promql_syntax.proofs.PrintedPieces.{seconds_text, time}
-use Rattle.promql_syntax.proofs.PrintedPieces as printed
+use Rattle.promql_syntax.proofs.PrintedParts.{seconds_text, time}
+use Rattle.promql_syntax.proofs.PrintedParts as printed
 use Rattle.promql_syntax.proofs.LexedEnds.{clear_colon, clear_ends, clear_stops}
 use Rattle.promql_syntax.proofs.LexedItems.{Reads, append_before, before_any, before_fewer, blank_before, known_reads, last_before, nothing, token_before, token_then}
 use Rattle.promql_syntax.proofs.LexedValues.{minus_reads}
-use Rattle.promql_syntax.proofs.PrintedValues.{IsStep, IsTime}
+use Rattle.promql_syntax.proofs.PrintedTimesAndLabels.{IsStep, IsTime}
 
 -- ---- numbers
 
@@ -67,57 +67,57 @@ time_lex m depth n holds is =
     go a b test (n % nanos_of Milli == 0) reads
   where
     go : (a b : State) (test : Text → Bool) (x : Bool) → ((r : Text) → test r ≡ true → pieces a (duration_text n ++ r) ≡ Ok (cond x T_DURATION T_NUMBER, duration_text n) ∷ pieces b r)
-        → LexesBefore test a b (time_line (cond x (piece.duration (duration_text n)) (piece.seconds (duration_text n))))
+        → LexesBefore test a b (time_line (cond x (part.duration (duration_text n)) (part.seconds (duration_text n))))
     go a b test true reads = last_before test a b (word kind.Duration (duration_text n)) (λ r stop. record { id = T_DURATION; is = refl; reads = reads r stop })
     go a b test false reads = last_before test a b (word kind.Number (duration_text n)) (λ r stop. record { id = T_NUMBER; is = refl; reads = reads r stop })
 
 -- ---- ranges and subqueries
 
-bracket_reads : (depth : ℕ) (r : Text) → Reads (at_depth depth) (in_bracket depth bracket.Nothing) (sign kind.LeftBracket) r
-unfolding scan.piece outside scan.sign after
+bracket_reads : (depth : ℕ) (r : Text) → Reads (at_depth depth) (in_bracket depth bracket.Nothing) (punct kind.LeftBracket) r
+unfolding scan.scan_token outside scan.sign after
 bracket_reads depth r = record { id = 10; is = refl; reads = joins (at_depth depth) (91 ∷ []) r 10 (omega arith) refl refl }
 
-unbracket_reads : (depth : ℕ) (inside : Bracket) (r : Text) → Reads (in_bracket depth inside) (at_depth depth) (sign kind.RightBracket) r
-unfolding scan.piece in_brackets after
+unbracket_reads : (depth : ℕ) (inside : Bracket) (r : Text) → Reads (in_bracket depth inside) (at_depth depth) (punct kind.RightBracket) r
+unfolding scan.scan_token in_brackets after
 unbracket_reads depth inside r = record { id = 17; is = refl; reads = joins (in_bracket depth inside) (93 ∷ []) r 17 (omega arith) refl refl }
 
-colon_reads : (depth : ℕ) (r : Text) → Reads (in_bracket depth bracket.Something) (in_bracket depth bracket.Colon) (sign kind.Colon) r
-unfolding scan.piece in_brackets after
+colon_reads : (depth : ℕ) (r : Text) → Reads (in_bracket depth bracket.Something) (in_bracket depth bracket.Colon) (punct kind.Colon) r
+unfolding scan.scan_token in_brackets after
 colon_reads depth r = record { id = 2; is = refl; reads = joins (in_bracket depth bracket.Something) (58 ∷ []) r 2 (omega arith) refl refl }
 
 abbrev any : Text → Bool
 any r = true
 
 -- a closing bracket, which ends a time
-closed_lex : (depth : ℕ) (inside : Bracket) → Lexes (in_bracket depth inside) (at_depth depth) (token (sign kind.RightBracket) ∷ [])
-closed_lex depth inside = token_then (in_bracket depth inside) (at_depth depth) (at_depth depth) (sign kind.RightBracket) [] (λ r. unbracket_reads depth inside r) (nothing (at_depth depth))
+closed_lex : (depth : ℕ) (inside : Bracket) → Lexes (in_bracket depth inside) (at_depth depth) (token (punct kind.RightBracket) ∷ [])
+closed_lex depth inside = token_then (in_bracket depth inside) (at_depth depth) (at_depth depth) (punct kind.RightBracket) [] (λ r. unbracket_reads depth inside r) (nothing (at_depth depth))
 
--- a time, and a sign that ends it
+-- a time, and punctuation that ends it
 time_then : (depth n : ℕ) (inside : Bracket) (c : State) (is : List Item) → IsTime n → ((r : Text) → stops_numeral (duration_text n) (render is ++ r) ≡ true)
     → let b : State = record { depth = depth; mode = mode_after_something (mode.Brackets inside) } in Lexes b c is → Lexes (in_bracket depth inside) c (time_line (time n) ++ is)
 time_then depth n inside c is time_is stop more r =
     let b : State = record { depth = depth; mode = mode_after_something (mode.Brackets inside) } in
     append_before (stops_numeral (duration_text n)) any (in_bracket depth inside) b c (time_line (time n)) is (λ r passes. stop r) (time_lex (mode.Brackets inside) depth n refl time_is) (before_any any b c is more) r refl
 
-pub range_lex : (depth n : ℕ) → IsTime n → Lexes (at_depth depth) (at_depth depth) (postfix_line (piece.range (time n)))
+pub range_lex : (depth n : ℕ) → IsTime n → Lexes (at_depth depth) (at_depth depth) (postfix_line (part.range (time n)))
 range_lex depth n is =
     let o = at_depth depth in
-    let rest = time_line (time n) ++ token (sign kind.RightBracket) ∷ [] in
-    token_then o (in_bracket depth bracket.Nothing) o (sign kind.LeftBracket) rest (λ r. bracket_reads depth (render rest ++ r))
-    (time_then depth n bracket.Nothing o (token (sign kind.RightBracket) ∷ []) is (λ r. refl) (closed_lex depth bracket.Something))
+    let rest = time_line (time n) ++ token (punct kind.RightBracket) ∷ [] in
+    token_then o (in_bracket depth bracket.Nothing) o (punct kind.LeftBracket) rest (λ r. bracket_reads depth (render rest ++ r))
+    (time_then depth n bracket.Nothing o (token (punct kind.RightBracket) ∷ []) is (λ r. refl) (closed_lex depth bracket.Something))
 
-step_lex : (depth : ℕ) (s : Option ℕ) → IsStep s → Lexes (in_bracket depth bracket.Colon) (at_depth depth) (step_line (option_map time s) ++ token (sign kind.RightBracket) ∷ [])
+step_lex : (depth : ℕ) (s : Option ℕ) → IsStep s → Lexes (in_bracket depth bracket.Colon) (at_depth depth) (step_line (option_map time s) ++ token (punct kind.RightBracket) ∷ [])
 step_lex depth None is = closed_lex depth bracket.Colon
-step_lex depth (Some n) is = time_then depth n bracket.Colon (at_depth depth) (token (sign kind.RightBracket) ∷ []) is (λ r. refl) (closed_lex depth bracket.Colon)
+step_lex depth (Some n) is = time_then depth n bracket.Colon (at_depth depth) (token (punct kind.RightBracket) ∷ []) is (λ r. refl) (closed_lex depth bracket.Colon)
 
-pub subquery_lex : (depth n : ℕ) (s : Option ℕ) → IsTime n → IsStep s → Lexes (at_depth depth) (at_depth depth) (postfix_line (piece.subquery (time n) (option_map time s)))
+pub subquery_lex : (depth n : ℕ) (s : Option ℕ) → IsTime n → IsStep s → Lexes (at_depth depth) (at_depth depth) (postfix_line (part.subquery (time n) (option_map time s)))
 subquery_lex depth n s is step_is =
     let o = at_depth depth in
-    let late = step_line (option_map time s) ++ token (sign kind.RightBracket) ∷ [] in
-    let rest = time_line (time n) ++ token (sign kind.Colon) ∷ late in
-    token_then o (in_bracket depth bracket.Nothing) o (sign kind.LeftBracket) rest (λ r. bracket_reads depth (render rest ++ r))
-    (time_then depth n bracket.Nothing o (token (sign kind.Colon) ∷ late) is (λ r. refl)
-    (token_then (in_bracket depth bracket.Something) (in_bracket depth bracket.Colon) o (sign kind.Colon) late (λ r. colon_reads depth (render late ++ r)) (step_lex depth s step_is)))
+    let late = step_line (option_map time s) ++ token (punct kind.RightBracket) ∷ [] in
+    let rest = time_line (time n) ++ token (punct kind.Colon) ∷ late in
+    token_then o (in_bracket depth bracket.Nothing) o (punct kind.LeftBracket) rest (λ r. bracket_reads depth (render rest ++ r))
+    (time_then depth n bracket.Nothing o (token (punct kind.Colon) ∷ late) is (λ r. refl)
+    (token_then (in_bracket depth bracket.Something) (in_bracket depth bracket.Colon) o (punct kind.Colon) late (λ r. colon_reads depth (render late ++ r)) (step_lex depth s step_is)))
 
 -- ---- words before what they change
 
@@ -150,13 +150,13 @@ unfolding keyword_in_any_case
 anchored_id r = refl
 
 -- a word after a space
-last_word : (depth id : ℕ) (k : Kind) (w : Text) → is_word w ≡ true → ((r : Text) → word_id w r ≡ id) → symbol_of (id, w) ≡ word k w → LexesBefore is_clear (at_depth depth) (at_depth depth) (blank ∷ token (word k w) ∷ [])
+last_word : (depth id : ℕ) (k : TokenKind) (w : Text) → is_word w ≡ true → ((r : Text) → word_id w r ≡ id) → symbol_of (id, w) ≡ word k w → LexesBefore is_clear (at_depth depth) (at_depth depth) (blank ∷ token (word k w) ∷ [])
 last_word depth id k w letters known symbol =
     let o = at_depth depth in
     blank_before is_clear depth o (token (word k w) ∷ []) (last_before is_clear o o (word k w) (λ r clear. known_reads depth w r id k letters (known r) symbol (not_true _ (clear_ends r clear))))
 
-pub smoothed_lex : (depth : ℕ) → LexesBefore is_clear (at_depth depth) (at_depth depth) (postfix_line (piece.mode kind.Smoothed (codes "smoothed")))
+pub smoothed_lex : (depth : ℕ) → LexesBefore is_clear (at_depth depth) (at_depth depth) (postfix_line (part.mode kind.Smoothed (codes "smoothed")))
 smoothed_lex depth = last_word depth 67 kind.Smoothed (codes "smoothed") refl smoothed_id refl
 
-pub anchored_lex : (depth : ℕ) → LexesBefore is_clear (at_depth depth) (at_depth depth) (postfix_line (piece.mode kind.Anchored (codes "anchored")))
+pub anchored_lex : (depth : ℕ) → LexesBefore is_clear (at_depth depth) (at_depth depth) (postfix_line (part.mode kind.Anchored (codes "anchored")))
 anchored_lex depth = last_word depth 68 kind.Anchored (codes "anchored") refl anchored_id refl

@@ -11,12 +11,12 @@ use Rattle.promql_token.specs.Ids.{is_aggregator, text_of}
 use Rattle.promql_token.specs.declared.ids.TheConstants.{T_SUB}
 use Rattle.promql_token.specs.declared.state.State.{State}
 use Rattle.promql_token.proofs.Steps.{pieces_run}
-use Rattle.promql_grammar.specs.declared.kind.Kind.{Kind}
-use Rattle.promql_grammar.specs.declared.kind.Kind.TheVariants as kind
+use Rattle.promql_grammar.specs.declared.token_kinds.TokenKind.{TokenKind}
+use Rattle.promql_grammar.specs.declared.token_kinds.TokenKind.TheVariants as kind
 use Rattle.promql_grammar.specs.Grammar as grammar
 use Rattle.promql_grammar.specs.Grammar.{Arguments, Derivation}
-use Rattle.promql_grammar.specs.Pieces as piece
-use Rattle.promql_grammar.specs.Symbols.{kind_of, sign, word}
+use Rattle.promql_grammar.specs.GrammarParts as part
+use Rattle.promql_grammar.specs.Symbols.{token_kind, punct, word}
 use Rattle.promql_label.specs.Answers.{Answer}
 use Rattle.promql_label.specs.PlainMatchers.{PlainMatchers}
 use Rattle.promql_kind.specs.Functions.{name_of}
@@ -29,10 +29,10 @@ use Rattle.promql_ast.specs.declared.range_mode.RangeMode.{RangeMode}
 use Rattle.promql_ast.specs.declared.range_mode.RangeMode.TheVariants.{Plain, Smoothed, Anchored}
 use Rattle.promql_syntax.proofs.Derive.{derive, derive_after, derive_all, derive_base, with_at, with_mode, with_suffix}
 use Rattle.promql_syntax.proofs.Lexes.{Lexes, LexesBefore, at_depth, ends_word, is_clear}
-use Rattle.promql_syntax.proofs.PrintedItems.{Item, token, blank, newline, after_line, any_braces_line, arguments_line, arguments_lines, before_line, braces_line, chosen, closing_line, indented, line, lines, modifier_line, postfix_line, render, rest_line, rest_lines, trimmed}
-use Rattle.promql_syntax.proofs.PrintedPieces.{braces, clause, modifier, moment, shift, time, word_kind}
+use Rattle.promql_syntax.proofs.PrintedItems.{Item, token, blank, newline, after_line, any_braces_line, arguments_line, arguments_lines, before_line, braces_line, choose_items, closing_line, indent_items, line, lines, modifier_line, postfix_line, render, rest_line, rest_lines, trim_items}
+use Rattle.promql_syntax.proofs.PrintedParts.{braces, clause, modifier, moment, shift, time, word_kind}
 use Rattle.promql_syntax.proofs.LexedBraces.{braces_lex, no_item_lex}
-use Rattle.promql_syntax.proofs.LexedFronts.{IsClear, braces_end, clause_ends, closing_clear, moment_clear, operator_clear, operator_line_clear, rest_clear, rest_lines_clear, shift_clear}
+use Rattle.promql_syntax.proofs.LexedStarts.{IsClear, braces_end, clause_ends, closing_clear, moment_clear, operator_clear, operator_line_clear, rest_clear, rest_lines_clear, shift_clear}
 use Rattle.promql_syntax.proofs.LexedItems.{Reads, append_before, append_lex, before_any, blank_before, blank_then, close_reads, comma_reads, newline_before, newline_then, nothing, open_reads, token_before, token_then}
 use Rattle.promql_syntax.proofs.LexedLabels.{clause_lex, string_reads}
 use Rattle.promql_syntax.proofs.LexedModifiers.{after_operator, modifier_lex}
@@ -42,7 +42,7 @@ use Rattle.promql_syntax.proofs.LexedValues.{minus_reads, negated_above}
 use Rattle.promql_syntax.proofs.LexedWords.{aggregator_reads, called_reads, name_reads, operator_reads}
 use Rattle.promql_syntax.proofs.Printable.{AllPrintable, IsAnyMoment, IsSelecting, IsShift, MaybePrintable, Printable}
 use Rattle.promql_syntax.proofs.PrintedModifiers.{IsMatched}
-use Rattle.promql_syntax.proofs.PrintedValues.{IsTime}
+use Rattle.promql_syntax.proofs.PrintedTimesAndLabels.{IsTime}
 
 -- ---- an expression, and arguments with the parenthesis after them
 
@@ -77,46 +77,46 @@ of_any depth is more = before_any is_clear (at_depth depth) (at_depth depth) is 
 
 -- ---- white space
 
-indented_before : (depth level : ℕ) (c : State) (is : List Item) → LexesBefore is_clear (at_depth depth) c is → LexesBefore is_clear (at_depth depth) c (indented level is)
+indented_before : (depth level : ℕ) (c : State) (is : List Item) → LexesBefore is_clear (at_depth depth) c is → LexesBefore is_clear (at_depth depth) c (indent_items level is)
 indented_before depth zero c is more = more
-indented_before depth (suc level) c is more = blank_before is_clear depth c (blank ∷ indented level is) (blank_before is_clear depth c (indented level is) (indented_before depth level c is more))
+indented_before depth (suc level) c is more = blank_before is_clear depth c (blank ∷ indent_items level is) (blank_before is_clear depth c (indent_items level is) (indented_before depth level c is more))
 
-indented_then : (depth level : ℕ) (c : State) (is : List Item) → Lexes (at_depth depth) c is → Lexes (at_depth depth) c (indented level is)
+indented_then : (depth level : ℕ) (c : State) (is : List Item) → Lexes (at_depth depth) c is → Lexes (at_depth depth) c (indent_items level is)
 indented_then depth zero c is more = more
-indented_then depth (suc level) c is more = blank_then depth c (blank ∷ indented level is) (blank_then depth c (indented level is) (indented_then depth level c is more))
+indented_then depth (suc level) c is more = blank_then depth c (blank ∷ indent_items level is) (blank_then depth c (indent_items level is) (indented_then depth level c is more))
 
 without_blank : (depth : ℕ) (c : State) (is : List Item) → LexesBefore is_clear (at_depth depth) c (blank ∷ is) → LexesBefore is_clear (at_depth depth) c is
 without_blank depth c is more r passes = let m = more r passes in (m.0, m.1, sym (pieces_run (at_depth depth) (32 ∷ []) (render is ++ r) refl refl) ∙ m.2)
 
-trimmed_before : (depth : ℕ) (c : State) (is : List Item) → LexesBefore is_clear (at_depth depth) c is → LexesBefore is_clear (at_depth depth) c (trimmed is)
+trimmed_before : (depth : ℕ) (c : State) (is : List Item) → LexesBefore is_clear (at_depth depth) c is → LexesBefore is_clear (at_depth depth) c (trim_items is)
 trimmed_before depth c [] more = more
 trimmed_before depth c (blank ∷ is) more = trimmed_before depth c is (without_blank depth c is more)
 trimmed_before depth c (token s ∷ is) more = more
 trimmed_before depth c (newline ∷ is) more = more
 
-chosen_before : (depth level most : ℕ) (one many : List Item) → LexesExpression depth one → LexesExpression depth many → LexesExpression depth (chosen one many level most)
+chosen_before : (depth level most : ℕ) (one many : List Item) → LexesExpression depth one → LexesExpression depth many → LexesExpression depth (choose_items one many level most)
 chosen_before depth level most one many first second =
-    cond_both (is_longer most (render one)) many (indented level one) (LexesExpression depth) (λ _. second) (λ _. indented_before depth level (at_depth depth) one first)
+    cond_both (is_longer most (render one)) many (indent_items level one) (LexesExpression depth) (λ _. second) (λ _. indented_before depth level (at_depth depth) one first)
 
 -- ---- arguments
 
 abbrev close_items : List Item
-close_items = token (sign kind.RightParen) ∷ []
+close_items = token (punct kind.RightParen) ∷ []
 
-close_then : (depth : ℕ) (is : List Item) → Lexes (at_depth depth) (at_depth depth) is → LexesClosing depth (token (sign kind.RightParen) ∷ is)
-close_then depth is more = token_then (at_depth (suc depth)) (at_depth depth) (at_depth depth) (sign kind.RightParen) is (λ r. close_reads depth (render is ++ r)) more
+close_then : (depth : ℕ) (is : List Item) → Lexes (at_depth depth) (at_depth depth) is → LexesClosing depth (token (punct kind.RightParen) ∷ is)
+close_then depth is more = token_then (at_depth (suc depth)) (at_depth depth) (at_depth depth) (punct kind.RightParen) is (λ r. close_reads depth (render is ++ r)) more
 
-open_then : (depth : ℕ) (is : List Item) → LexesClosing depth is → Lexes (at_depth depth) (at_depth depth) (token (sign kind.LeftParen) ∷ is)
-open_then depth is more = token_then (at_depth depth) (at_depth (suc depth)) (at_depth depth) (sign kind.LeftParen) is (λ r. open_reads depth (render is ++ r)) more
+open_then : (depth : ℕ) (is : List Item) → LexesClosing depth is → Lexes (at_depth depth) (at_depth depth) (token (punct kind.LeftParen) ∷ is)
+open_then depth is more = token_then (at_depth depth) (at_depth (suc depth)) (at_depth depth) (punct kind.LeftParen) is (λ r. open_reads depth (render is ++ r)) more
 
-comma_then : (depth : ℕ) (is : List Item) → LexesClosing depth is → LexesClosing depth (token (sign kind.Comma) ∷ is)
-comma_then depth is more = token_then (at_depth (suc depth)) (at_depth (suc depth)) (at_depth depth) (sign kind.Comma) is (λ r. comma_reads (suc depth) (render is ++ r)) more
+comma_then : (depth : ℕ) (is : List Item) → LexesClosing depth is → LexesClosing depth (token (punct kind.Comma) ∷ is)
+comma_then depth is more = token_then (at_depth (suc depth)) (at_depth (suc depth)) (at_depth depth) (punct kind.Comma) is (λ r. comma_reads (suc depth) (render is ++ r)) more
 
 -- on a line of its own
 closing_then : (depth level : ℕ) (after : List Item) → Lexes (at_depth depth) (at_depth depth) after → LexesClosing depth (closing_line level after)
 closing_then depth level after more =
-    let items = token (sign kind.RightParen) ∷ after in
-    newline_then (suc depth) (at_depth depth) (indented level items) (indented_then (suc depth) level (at_depth depth) items (close_then depth after more))
+    let items = token (punct kind.RightParen) ∷ after in
+    newline_then (suc depth) (at_depth depth) (indent_items level items) (indented_then (suc depth) level (at_depth depth) items (close_then depth after more))
 
 none_lexed : AllLexed grammar.none
 none_lexed = record {
@@ -144,7 +144,7 @@ more_lexed d ds h hs =
 -- ---- nodes
 
 -- without expressions in it, it is not broken into lines
-leaf_lexed : (d : Derivation) → ((level most : ℕ) → lines d level most ≡ indented level (line d)) → ((depth : ℕ) → LexesExpression depth (line d)) → Lexed d
+leaf_lexed : (d : Derivation) → ((level most : ℕ) → lines d level most ≡ indent_items level (line d)) → ((depth : ℕ) → LexesExpression depth (line d)) → Lexed d
 leaf_lexed d laid one = record {
   one = one;
   many = λ depth level most. subst (LexesExpression depth) (sym (laid level most)) (indented_before depth level (at_depth depth) (line d) (one depth));
@@ -159,29 +159,29 @@ paren_lexed d h =
       many = λ depth level most.
           let o = at_depth depth in
           let inside = lines d (level + 1) most ++ closing_line level [] in
-          let many = token (sign kind.LeftParen) ∷ newline ∷ inside in
-          chosen_before depth level most (line (grammar.paren d)) (indented level many) (one depth)
-          (of_any depth (indented level many) (indented_then depth level o many (open_then depth (newline ∷ inside) (newline_then (suc depth) o inside
+          let many = token (punct kind.LeftParen) ∷ newline ∷ inside in
+          chosen_before depth level most (line (grammar.paren d)) (indent_items level many) (one depth)
+          (of_any depth (indent_items level many) (indented_then depth level o many (open_then depth (newline ∷ inside) (newline_then (suc depth) o inside
           (then_any (suc depth) o (lines d (level + 1) most) (closing_line level []) (closing_clear level []) (h.many (suc depth) (level + 1) most) (closing_then depth level [] (nothing o)))))));
     }
 
-call_lexed : (k : Kind) (name : Text) (ds : Arguments) → ((depth : ℕ) (r : Text) → Reads (at_depth depth) (at_depth depth) (word k name) (40 ∷ r)) → AllLexed ds → Lexed (grammar.call k name ds)
+call_lexed : (k : TokenKind) (name : Text) (ds : Arguments) → ((depth : ℕ) (r : Text) → Reads (at_depth depth) (at_depth depth) (word k name) (40 ∷ r)) → AllLexed ds → Lexed (grammar.call k name ds)
 call_lexed k name ds reads hs =
     let name_then = λ (depth : ℕ) (is : List Item) (more : LexesClosing depth is).
-    token_then (at_depth depth) (at_depth depth) (at_depth depth) (word k name) (token (sign kind.LeftParen) ∷ is) (λ r. reads depth (render is ++ r)) (open_then depth is more) in
+    token_then (at_depth depth) (at_depth depth) (at_depth depth) (word k name) (token (punct kind.LeftParen) ∷ is) (λ r. reads depth (render is ++ r)) (open_then depth is more) in
     let one = λ (depth : ℕ). of_any depth (line (grammar.call k name ds)) (name_then depth (arguments_line ds) (hs.one_first depth)) in
     record {
       one = one;
       many = λ depth level most.
           let o = at_depth depth in
           let inside = arguments_lines ds (level + 1) most (closing_line level []) in
-          let many = token (word k name) ∷ token (sign kind.LeftParen) ∷ newline ∷ inside in
-          chosen_before depth level most (line (grammar.call k name ds)) (indented level many) (one depth)
-          (of_any depth (indented level many) (indented_then depth level o many (name_then depth (newline ∷ inside) (newline_then (suc depth) o inside
+          let many = token (word k name) ∷ token (punct kind.LeftParen) ∷ newline ∷ inside in
+          chosen_before depth level most (line (grammar.call k name ds)) (indent_items level many) (one depth)
+          (of_any depth (indent_items level many) (indented_then depth level o many (name_then depth (newline ∷ inside) (newline_then (suc depth) o inside
           (hs.many_first depth (level + 1) most (closing_line level []) (closing_clear level []) (closing_then depth level [] (nothing o)))))));
     }
 
--- a clause is printed before the arguments
+-- a grouping is printed before the arguments
 after_clause : (depth : ℕ) (m : Option Clause) → Lexes (at_depth depth) (at_depth depth) (after_line (clause m))
 after_clause depth None = nothing (at_depth depth)
 after_clause depth (Some (including [])) = nothing (at_depth depth)
@@ -195,7 +195,7 @@ aggregate_lexed op m ds is hs =
     let w = word (kind.Aggregator op) (text_of op) in
     let name_then = λ (depth : ℕ) (items : List Item) (more : Lexes (at_depth (suc depth)) (at_depth depth) items).
     let o = at_depth depth in
-    let rest = token (sign kind.LeftParen) ∷ items in
+    let rest = token (punct kind.LeftParen) ∷ items in
     token_then o o o w (before_line c ++ rest) (λ r. aggregator_reads depth op (render (before_line c ++ rest) ++ r) is (clause_ends m items r))
     (append_lex o o o (before_line c) rest (clause_lex depth m) (open_then depth items more)) in
     let one = λ (depth : ℕ).
@@ -207,13 +207,13 @@ aggregate_lexed op m ds is hs =
           let o = at_depth depth in
           let after = closing_line level (after_line c) in
           let inside = arguments_lines ds (level + 1) most after in
-          let many = token w ∷ (before_line c ++ token (sign kind.LeftParen) ∷ newline ∷ inside) in
-          chosen_before depth level most (line d) (indented level many) (one depth)
-          (of_any depth (indented level many) (indented_then depth level o many (name_then depth (newline ∷ inside) (newline_then (suc depth) o inside
+          let many = token w ∷ (before_line c ++ token (punct kind.LeftParen) ∷ newline ∷ inside) in
+          chosen_before depth level most (line d) (indent_items level many) (one depth)
+          (of_any depth (indent_items level many) (indented_then depth level o many (name_then depth (newline ∷ inside) (newline_then (suc depth) o inside
           (hs.many_first depth (level + 1) most after (closing_clear level (after_line c)) (closing_then depth level (after_line c) (after_clause depth m)))))));
     }
 
-postfixed_lexed : (d : Derivation) (p : piece.Postfix) → IsClear (postfix_line p) → ((depth : ℕ) → LexesExpression depth (postfix_line p)) → Lexed d → Lexed (grammar.postfixed d p)
+postfixed_lexed : (d : Derivation) (p : part.Postfix) → IsClear (postfix_line p) → ((depth : ℕ) → LexesExpression depth (postfix_line p)) → Lexed d → Lexed (grammar.postfixed d p)
 postfixed_lexed d p clear last h = record {
   one = λ depth. then_before is_clear depth (at_depth depth) (line d) (postfix_line p) clear (h.one depth) (last depth);
   many = λ depth level most. then_before is_clear depth (at_depth depth) (lines d level most) (postfix_line p) clear (h.many depth level most) (last depth);
@@ -228,11 +228,11 @@ minus_lexed d h =
     record {
       one = λ depth. sign_then depth (line d) (h.one depth);
       many = λ depth level most.
-          let rest = trimmed (lines d level most) in
+          let rest = trim_items (lines d level most) in
           indented_before depth level (at_depth depth) (token minus ∷ rest) (sign_then depth rest (trimmed_before depth (at_depth depth) (lines d level most) (h.many depth level most)));
     }
 
-binary_lexed : (op : ℕ) (m : Option Matching) (l r : Derivation) → kind_of op ≡ kind.Operator op → IsMatched m → Lexed l → Lexed r → Lexed (grammar.binary op (text_of op) (modifier m) l r)
+binary_lexed : (op : ℕ) (m : Option Matching) (l r : Derivation) → token_kind op ≡ kind.Operator op → IsMatched m → Lexed l → Lexed r → Lexed (grammar.binary op (text_of op) (modifier m) l r)
 binary_lexed op m l r known matched hl hr =
     let d = grammar.binary op (text_of op) (modifier m) l r in
     let w = word (kind.Operator op) (text_of op) in
@@ -251,9 +251,9 @@ binary_lexed op m l r known matched hl hr =
           let o = at_depth depth in
           let right = newline ∷ lines r (level + 1) most in
           let rest = token w ∷ (modified ++ right) in
-          chosen_before depth level most (line d) (lines l (level + 1) most ++ newline ∷ indented level rest) (one depth)
-          (then_before is_clear depth o (lines l (level + 1) most) (newline ∷ indented level rest) (operator_line_clear level op (modified ++ right) known) (hl.many depth (level + 1) most)
-          (newline_before is_clear depth o (indented level rest) (indented_before depth level o rest
+          chosen_before depth level most (line d) (lines l (level + 1) most ++ newline ∷ indent_items level rest) (one depth)
+          (then_before is_clear depth o (lines l (level + 1) most) (newline ∷ indent_items level rest) (operator_line_clear level op (modified ++ right) known) (hl.many depth (level + 1) most)
+          (newline_before is_clear depth o (indent_items level rest) (indented_before depth level o rest
           (token_before is_clear o o o w (modified ++ right) (λ z passes. operator_reads depth op (render (modified ++ right) ++ z) known (after_operator m right z refl))
           (append_before ends_word is_clear o o o modified right (λ z passes. refl) (modifier_lex depth m matched)
           (newline_before is_clear depth o (lines r (level + 1) most) (hr.many depth (level + 1) most)))))));
@@ -281,8 +281,8 @@ module _ (g : Text → Answer) where
       token_before is_clear o o o (word (word_kind name) name) items
       (λ r passes. let after = braces_end (braces cs) r passes in name_reads depth name (render items ++ r) h.0 after.0 after.1) (of_any depth items (braces_lex depth cs)))
 
-  nameless_lexed : (b : Option piece.Braces) → ((depth : ℕ) → Lexes (at_depth depth) (at_depth depth) (any_braces_line b)) → Lexed (derive_base None b)
-  nameless_lexed None more = leaf_lexed (grammar.nameless piece.no_item) (λ level most. refl) (λ depth. of_any depth (braces_line piece.no_item) (no_item_lex depth))
+  nameless_lexed : (b : Option part.Braces) → ((depth : ℕ) → Lexes (at_depth depth) (at_depth depth) (any_braces_line b)) → Lexed (derive_base None b)
+  nameless_lexed None more = leaf_lexed (grammar.nameless part.no_item) (λ level most. refl) (λ depth. of_any depth (braces_line part.no_item) (no_item_lex depth))
   nameless_lexed (Some b) more = leaf_lexed (grammar.nameless b) (λ level most. refl) (λ depth. of_any depth (braces_line b) (more depth))
 
   base_lexed : (name : Option Text) (cs : PlainMatchers) → IsSelecting g name cs → Lexed (derive_base name (braces cs))
@@ -291,8 +291,8 @@ module _ (g : Text → Answer) where
 
   mode_lexed : (mode : RangeMode) (d : Derivation) → Lexed d → Lexed (with_mode mode d)
   mode_lexed Plain d h = h
-  mode_lexed Smoothed d h = postfixed_lexed d (piece.mode kind.Smoothed (codes "smoothed")) (λ r. refl) smoothed_lex h
-  mode_lexed Anchored d h = postfixed_lexed d (piece.mode kind.Anchored (codes "anchored")) (λ r. refl) anchored_lex h
+  mode_lexed Smoothed d h = postfixed_lexed d (part.mode kind.Smoothed (codes "smoothed")) (λ r. refl) smoothed_lex h
+  mode_lexed Anchored d h = postfixed_lexed d (part.mode kind.Anchored (codes "anchored")) (λ r. refl) anchored_lex h
 
   at_lexed : (a : Option Moment) (d : Derivation) → IsAnyMoment a → Lexed d → Lexed (with_at a d)
   at_lexed None d is h = h
@@ -302,8 +302,8 @@ module _ (g : Text → Answer) where
   suffix_lexed None a d shifted is h = at_lexed a d is h
   suffix_lexed (Some s) a d shifted is h = postfixed_lexed (with_at a d) (shift s) (shift_clear s) (λ depth. shift_lex depth s shifted) (at_lexed a d is h)
 
-  range_lexed : (d : Derivation) (range : ℕ) → IsTime range → Lexed d → Lexed (grammar.postfixed d (piece.range (time range)))
-  range_lexed d range is h = postfixed_lexed d (piece.range (time range)) (λ r. refl) (λ depth. of_any depth (postfix_line (piece.range (time range))) (range_lex depth range is)) h
+  range_lexed : (d : Derivation) (range : ℕ) → IsTime range → Lexed d → Lexed (grammar.postfixed d (part.range (time range)))
+  range_lexed d range is h = postfixed_lexed d (part.range (time range)) (λ r. refl) (λ depth. of_any depth (postfix_line (part.range (time range))) (range_lex depth range is)) h
 
   -- ---- any tree
 
@@ -315,14 +315,14 @@ module _ (g : Text → Answer) where
     tree_lexed (binary op l r m) h = binary_lexed op m (derive l) (derive r) h.3 h.0 (tree_lexed l h.1) (tree_lexed r h.2)
     tree_lexed (paren e) h = paren_lexed (derive e) (tree_lexed e h)
     tree_lexed (subquery e o a range step) h =
-        let p = piece.subquery (time range) (option_map time step) in
+        let p = part.subquery (time range) (option_map time step) in
         suffix_lexed o a (grammar.postfixed (derive e) p) h.3 h.4 (postfixed_lexed (derive e) p (λ r. refl) (λ depth. of_any depth (postfix_line p) (subquery_lex depth range step h.1 h.2)) (tree_lexed e h.0))
     tree_lexed (number n) h = number_lexed n h
-    tree_lexed (string s) h = leaf_lexed (grammar.string (quoted_text s)) (λ level most. refl) (λ depth. of_any depth (line (grammar.string (quoted_text s))) (token_then (at_depth depth) (at_depth depth) (at_depth depth) (word kind.Str (quoted_text s)) [] (λ r. string_reads depth s r) (nothing (at_depth depth))))
+    tree_lexed (string s) h = leaf_lexed (grammar.string (quoted_text s)) (λ level most. refl) (λ depth. of_any depth (line (grammar.string (quoted_text s))) (token_then (at_depth depth) (at_depth depth) (at_depth depth) (word kind.String (quoted_text s)) [] (λ r. string_reads depth s r) (nothing (at_depth depth))))
     tree_lexed (vector (selector name cs o a)) h = suffix_lexed o a (derive_base name (braces cs)) h.1 h.2 (base_lexed name cs h.0)
     tree_lexed (matrix (selector name cs o a) range mode) h =
         let base = derive_base name (braces cs) in
-        let below = grammar.postfixed base (piece.range (time range)) in
+        let below = grammar.postfixed base (part.range (time range)) in
         suffix_lexed o a (with_mode mode below) h.0.1 h.0.2 (mode_lexed mode below (range_lexed base range h.1 (base_lexed name cs h.0.0)))
     tree_lexed (call f ts) h =
         call_lexed (word_kind (name_of f)) (name_of f) (derive_all ts) (λ depth r. called_reads depth (name_of f) (40 ∷ r) h.0 h.2 refl) (all_lexed ts h.1)

@@ -5,25 +5,25 @@ use Rattle.std.specs.List.{list_all, list_any}
 use Rattle.std.specs.Option.{unwrap_or}
 use Rattle.std.proofs.lemmas.Bool.{cond_both}
 use Rattle.std.proofs.lemmas.Bool.Decides.{nat_tests}
+use Rattle.std.specs.Str.{str_eq_ignore_ascii_case}
 use Rattle.promql_text.specs.Texts.{Text}
-use Rattle.promql_token.specs.Ids.{count_up, is_aggregator, keyword_in_any_case, keywords, lookup, same_word, text_of}
+use Rattle.promql_token.specs.Ids.{count_up, is_aggregator, keyword_in_any_case, keywords, lookup, text_of}
 use Rattle.promql_token.specs.Laws.{is_word, parts}
 use Rattle.promql_token.specs.Lexing.{pieces}
-use Rattle.promql_token.specs.Pieces.{Piece, after, is_fill, name_id, opens, outside, piece, word_id}
-use Rattle.promql_token.specs.Pieces as scan
-use Rattle.promql_token.specs.declared.ids.Case.TheVariants as case
+use Rattle.promql_token.specs.TokenScanning.{Scanned, after, is_fill, name_id, opens, outside, scan_token, word_id}
+use Rattle.promql_token.specs.TokenScanning as scan
 use Rattle.promql_token.specs.declared.state.Mode.TheVariants as mode
 use Rattle.promql_token.specs.declared.ids.TheConstants.{T_IDENTIFIER, T_METRIC_IDENTIFIER}
 use Rattle.promql_token.proofs.Inner.{after_outside, is_plain}
-use Rattle.promql_token.proofs.Joins.{joins}
-use Rattle.promql_grammar.specs.declared.kind.Kind.{Kind}
-use Rattle.promql_grammar.specs.declared.kind.Kind.TheVariants as kind
-use Rattle.promql_grammar.specs.declared.kind.TheConstants.{KINDS}
-use Rattle.promql_grammar.specs.Symbols.{is_sign, kind_of, sign, symbol, word}
+use Rattle.promql_token.proofs.Concatenation.{joins}
+use Rattle.promql_grammar.specs.declared.token_kinds.TokenKind.{TokenKind}
+use Rattle.promql_grammar.specs.declared.token_kinds.TokenKind.TheVariants as kind
+use Rattle.promql_grammar.specs.declared.token_kinds.TheConstants.{TOKEN_KINDS}
+use Rattle.promql_grammar.specs.Symbols.{is_punct, token_kind, punct, symbol, word}
 use Rattle.promql_syntax.proofs.Booleans.{and_cases, not_true, or_cases}
 use Rattle.promql_syntax.proofs.Lexes.{at_depth, ends_operator, ends_word}
-use Rattle.promql_syntax.proofs.PrintedPieces.{word_kind}
-use Rattle.promql_syntax.proofs.KindRows.{by_table}
+use Rattle.promql_syntax.proofs.PrintedParts.{word_kind}
+use Rattle.promql_syntax.proofs.TokenKindRows.{by_table}
 use Rattle.promql_syntax.proofs.LexedEnds.{among}
 use Rattle.promql_syntax.proofs.LexedItems.{Reads, known_reads}
 
@@ -50,46 +50,46 @@ word_operators = 30 ∷ 31 ∷ 34 ∷ 42 ∷ []
 abbrev is_one_of : List ℕ → ℕ → Bool
 is_one_of ids id = list_any (λ k. id == k) ids
 
-abbrev is_operator_kind : Kind → Bool
+abbrev is_operator_kind : TokenKind → Bool
 is_operator_kind (kind.Operator op) = true
 is_operator_kind k = false
 
-abbrev is_known : ℕ → Kind → Bool
+abbrev is_known : ℕ → TokenKind → Bool
 is_known id k = not (is_operator_kind k) || (is_one_of plain_operators id || (is_one_of order_operators id || is_one_of word_operators id))
 
-operator_id : (op : ℕ) → kind_of op ≡ kind.Operator op → (is_one_of plain_operators op || (is_one_of order_operators op || is_one_of word_operators op)) ≡ true
-operator_id op is = ap (λ k. is_known op k) (sym is) ∙ by_table is_known KINDS (λ id. refl) refl op
+operator_id : (op : ℕ) → token_kind op ≡ kind.Operator op → (is_one_of plain_operators op || (is_one_of order_operators op || is_one_of word_operators op)) ≡ true
+operator_id op is = ap (λ k. is_known op k) (sym is) ∙ by_table is_known TOKEN_KINDS (λ id. refl) refl op
 
 -- the text of the id is one token of it outside
-abbrev is_piece : ℕ → ℕ → Piece → Bool
+abbrev is_piece : ℕ → ℕ → Scanned → Bool
 is_piece id len (Ok t) = t.0 == id && t.1 == len
 is_piece id len (Err f) = false
 
 abbrev is_sign_token : ℕ → ℕ → Bool
-is_sign_token depth id = is_piece id (length (text_of id)) (piece (at_depth depth) (text_of id)) && (is_plain id && not (length (text_of id) == 0))
+is_sign_token depth id = is_piece id (length (text_of id)) (scan_token (at_depth depth) (text_of id)) && (is_plain id && not (length (text_of id) == 0))
 
-piece_is : (id len : ℕ) (p : Piece) → is_piece id len p ≡ true → p ≡ Ok (id, len)
+piece_is : (id len : ℕ) (p : Scanned) → is_piece id len p ≡ true → p ≡ Ok (id, len)
 piece_is id len (Ok t) e = let both = and_cases (t.0 == id) (t.1 == len) e in (λ i. Ok (eqb-true t.0 id both.0 i, eqb-true t.1 len both.1 i))
 piece_is id len (Err f) e = cc
 
 plain_sign : (depth op : ℕ) → is_one_of plain_operators op ≡ true → is_sign_token depth op ≡ true
-unfolding piece outside scan.sign
+unfolding scan_token outside scan.sign
 plain_sign depth op is = test_of (is_sign_token depth) plain_operators op refl is
 
 order_sign : (depth op : ℕ) → is_one_of order_operators op ≡ true → is_sign_token depth op ≡ true
-unfolding piece outside scan.sign
+unfolding scan_token outside scan.sign
 order_sign depth op is = test_of (is_sign_token depth) order_operators op refl is
 
-sign_reads : (depth op : ℕ) (r : Text) → kind_of op ≡ kind.Operator op → is_sign_token depth op ≡ true → parts mode.Outside (text_of op) r ≡ true → Reads (at_depth depth) (at_depth depth) (word (kind.Operator op) (text_of op)) r
+sign_reads : (depth op : ℕ) (r : Text) → token_kind op ≡ kind.Operator op → is_sign_token depth op ≡ true → parts mode.Outside (text_of op) r ≡ true → Reads (at_depth depth) (at_depth depth) (word (kind.Operator op) (text_of op)) r
 sign_reads depth op r is token parts =
     let w = text_of op in
-    let both = and_cases (is_piece op (length w) (piece (at_depth depth) w)) _ token in
+    let both = and_cases (is_piece op (length w) (scan_token (at_depth depth) w)) _ token in
     let more = and_cases (is_plain op) _ both.1 in
     let some : 0 < length w = (let none : (length w == 0) ≡ false = not_true _ more.1 in grind (arith, nat_tests)) in
     record {
       id = op;
       is = ap (λ k. symbol k w) is;
-      reads = joins (at_depth depth) w r op some (piece_is op (length w) (piece (at_depth depth) w) both.0) parts ∙ ap (λ s. Ok (op, w) ∷ pieces s r) (after_outside depth op more.0);
+      reads = joins (at_depth depth) w r op some (piece_is op (length w) (scan_token (at_depth depth) w) both.0) parts ∙ ap (λ s. Ok (op, w) ∷ pieces s r) (after_outside depth op more.0);
     }
 
 -- the text of the id is a word that is this keyword, and no fill word
@@ -104,19 +104,19 @@ word_operator : (op : ℕ) → is_one_of word_operators op ≡ true → is_word_
 unfolding keyword_in_any_case
 word_operator op is = test_of is_word_token word_operators op refl is
 
-keyword_reads : (depth id : ℕ) (k : Kind) (r : Text) → kind_of id ≡ k → is_sign k ≡ false → is_word_token id ≡ true → ends_word r ≡ true → Reads (at_depth depth) (at_depth depth) (word k (text_of id)) r
+keyword_reads : (depth id : ℕ) (k : TokenKind) (r : Text) → token_kind id ≡ k → is_punct k ≡ false → is_word_token id ≡ true → ends_word r ≡ true → Reads (at_depth depth) (at_depth depth) (word k (text_of id)) r
 keyword_reads depth id k r kind plain token ends =
     let w = text_of id in
     let both = and_cases (is_word w) _ token in
     let more = and_cases (is_keyword id (keyword_in_any_case w)) _ both.1 in
-    known_reads depth w r id k both.0 (known (keyword_in_any_case w) (name_id w) (opens r) more.0 (not_true _ more.1)) (ap (λ k. symbol k w) kind ∙ ap (λ b. cond b (sign k) (word k w)) plain) (not_true _ ends)
+    known_reads depth w r id k both.0 (known (keyword_in_any_case w) (name_id w) (opens r) more.0 (not_true _ more.1)) (ap (λ k. symbol k w) kind ∙ ap (λ b. cond b (punct k) (word k w)) plain) (not_true _ ends)
   where
     known : (o : Option ℕ) (d : ℕ) (b : Bool) → is_keyword id o ≡ true → is_fill id ≡ false → (let n = unwrap_or o d in cond (is_fill n && not b) T_IDENTIFIER n) ≡ id
     known None d b e fill = cc
     known (Some k) d b e fill = let same = eqb-true k id e in ap (λ n. cond (is_fill n && not b) T_IDENTIFIER n) same ∙ ap (λ x. cond (x && not b) T_IDENTIFIER id) fill
 
 -- an operator that the lexer gives
-pub operator_reads : (depth op : ℕ) (r : Text) → kind_of op ≡ kind.Operator op → ends_operator r ≡ true → Reads (at_depth depth) (at_depth depth) (word (kind.Operator op) (text_of op)) r
+pub operator_reads : (depth op : ℕ) (r : Text) → token_kind op ≡ kind.Operator op → ends_operator r ≡ true → Reads (at_depth depth) (at_depth depth) (word (kind.Operator op) (text_of op)) r
 operator_reads depth op r is ends =
     let both = and_cases (ends_word r) _ ends in
     ⊎_elim (λ h. sign_reads depth op r is (plain_sign depth op h) (test_of (λ id. parts mode.Outside (text_of id) r) plain_operators op refl h))
@@ -127,11 +127,11 @@ operator_reads depth op r is ends =
 
 -- ---- aggregators
 
-abbrev aggregates : ℕ → Kind → Bool
+abbrev aggregates : ℕ → TokenKind → Bool
 aggregates id (kind.Aggregator op) = op == id
 aggregates id k = false
 
-aggregator_kind : (id : ℕ) (k : Kind) → aggregates id k ≡ true → k ≡ kind.Aggregator id
+aggregator_kind : (id : ℕ) (k : TokenKind) → aggregates id k ≡ true → k ≡ kind.Aggregator id
 aggregator_kind id (kind.Aggregator op) e = ap kind.Aggregator (eqb-true op id e)
 aggregator_kind id k e = cc
 
@@ -139,9 +139,9 @@ aggregator_word : (op : ℕ) → is_one_of (count_up 45 14) op ≡ true → is_w
 unfolding keyword_in_any_case
 aggregator_word op is = test_of is_word_token (count_up 45 14) op refl is
 
-counted : (low n id : ℕ) → low ≤ id → id < low + n → list_any (λ k. id == k) (count_up low n) ≡ true
-counted low zero id above below = absurd (omega arith)
-counted low (suc n) id above below = go (id == low) refl (λ later. counted (low + 1) n id later (omega arith))
+is_counted : (low n id : ℕ) → low ≤ id → id < low + n → list_any (λ k. id == k) (count_up low n) ≡ true
+is_counted low zero id above below = absurd (omega arith)
+is_counted low (suc n) id above below = go (id == low) refl (λ later. is_counted (low + 1) n id later (omega arith))
   where
     go : (b : Bool) → (id == low) ≡ b → (low + 1 ≤ id → list_any (λ k. id == k) (count_up (low + 1) n) ≡ true) → (b || list_any (λ k. id == k) (count_up (low + 1) n)) ≡ true
     go true is more = refl
@@ -151,40 +151,40 @@ pub aggregator_reads : (depth op : ℕ) (r : Text) → is_aggregator op ≡ true
 aggregator_reads depth op r is ends =
     let low : 45 ≤ op = grind (arith, nat_tests) in
     let high : op ≤ 58 = grind (arith, nat_tests) in
-    let here = counted 45 14 op low (omega arith) in
-    keyword_reads depth op (kind.Aggregator op) r (aggregator_kind op (kind_of op) (test_of (λ id. aggregates id (kind_of id)) (count_up 45 14) op refl here)) refl (aggregator_word op here) ends
+    let here = is_counted 45 14 op low (omega arith) in
+    keyword_reads depth op (kind.Aggregator op) r (aggregator_kind op (token_kind op) (test_of (λ id. aggregates id (token_kind id)) (count_up 45 14) op refl here)) refl (aggregator_word op here) ends
 
 -- ---- names
 
 abbrev is_word_kind : Option ℕ → Bool
 is_word_kind None = true
-is_word_kind (Some id) = not (is_sign (kind_of id))
+is_word_kind (Some id) = not (is_punct (token_kind id))
 
--- no keyword is a sign
-found_word : (ks : List (Text × ℕ)) (w : Text) → list_all (λ k. not (is_sign (kind_of k.1))) ks ≡ true → is_word_kind (lookup (same_word case.Any) ks w) ≡ true
+-- no keyword is punctuation
+found_word : (ks : List (Text × ℕ)) (w : Text) → list_all (λ k. not (is_punct (token_kind k.1))) ks ≡ true → is_word_kind (lookup str_eq_ignore_ascii_case ks w) ≡ true
 found_word [] w all = refl
 found_word (k ∷ ks) w all =
-    let both = and_cases (not (is_sign (kind_of k.1))) _ all in
-    cond_both (same_word case.Any k.0 w) (Some k.1) (lookup (same_word case.Any) ks w) (λ o. is_word_kind o ≡ true) (λ _. both.0) (λ _. found_word ks w both.1)
+    let both = and_cases (not (is_punct (token_kind k.1))) _ all in
+    cond_both (str_eq_ignore_ascii_case k.0 w) (Some k.1) (lookup str_eq_ignore_ascii_case ks w) (λ o. is_word_kind o ≡ true) (λ _. both.0) (λ _. found_word ks w both.1)
 
 keyword_word : (w : Text) → is_word_kind (keyword_in_any_case w) ≡ true
 unfolding keyword_in_any_case
 keyword_word w = found_word keywords w refl
 
--- the kind of a word is no sign
-pub word_no_sign : (w : Text) → is_sign (word_kind w) ≡ false
+-- the kind of a word is no punctuation
+pub word_is_no_punct : (w : Text) → is_punct (word_kind w) ≡ false
 unfolding word_kind
-word_no_sign w = go (keyword_in_any_case w) (keyword_word w)
+word_is_no_punct w = go (keyword_in_any_case w) (keyword_word w)
   where
-    named : (b : Bool) → is_sign (kind_of (cond b T_METRIC_IDENTIFIER T_IDENTIFIER)) ≡ false
+    named : (b : Bool) → is_punct (token_kind (cond b T_METRIC_IDENTIFIER T_IDENTIFIER)) ≡ false
     named true = refl
     named false = refl
 
-    either : (b : Bool) (id : ℕ) → is_sign (kind_of id) ≡ false → is_sign (kind_of (cond b T_IDENTIFIER id)) ≡ false
+    either : (b : Bool) (id : ℕ) → is_punct (token_kind id) ≡ false → is_punct (token_kind (cond b T_IDENTIFIER id)) ≡ false
     either true id is = refl
     either false id is = is
 
-    go : (o : Option ℕ) → is_word_kind o ≡ true → is_sign (kind_of (let id = unwrap_or o (name_id w) in cond (is_fill id && true) T_IDENTIFIER id)) ≡ false
+    go : (o : Option ℕ) → is_word_kind o ≡ true → is_punct (token_kind (let id = unwrap_or o (name_id w) in cond (is_fill id && true) T_IDENTIFIER id)) ≡ false
     go None is = either (is_fill (name_id w) && true) (name_id w) (named (list_any (λ b. b == 58) w))
     go (Some id) is = either (is_fill id && true) id (not_true _ is)
 
@@ -200,12 +200,12 @@ same_id w r apart = go (is_fill_word w) (opens r) apart
     go true false e = refl
     go false b e = refl
 
-plain_symbol : (k : Kind) (w : Text) → is_sign k ≡ false → symbol k w ≡ word k w
-plain_symbol k w none = ap (λ b. cond b (sign k) (word k w)) none
+plain_symbol : (k : TokenKind) (w : Text) → is_punct k ≡ false → symbol k w ≡ word k w
+plain_symbol k w none = ap (λ b. cond b (punct k) (word k w)) none
 
 word_reads_as : (depth : ℕ) (w r : Text) → is_word w ≡ true → (is_fill_word w && opens r) ≡ false → ends_word r ≡ true → Reads (at_depth depth) (at_depth depth) (word (word_kind w) w) r
 unfolding word_kind
-word_reads_as depth w r is apart ends = known_reads depth w r (word_id w []) (word_kind w) is (same_id w r apart) (plain_symbol (word_kind w) w (word_no_sign w)) (not_true _ ends)
+word_reads_as depth w r is apart ends = known_reads depth w r (word_id w []) (word_kind w) is (same_id w r apart) (plain_symbol (word_kind w) w (word_is_no_punct w)) (not_true _ ends)
 
 -- the name of a metric
 pub name_reads : (depth : ℕ) (w r : Text) → is_word w ≡ true → ends_word r ≡ true → opens r ≡ false → Reads (at_depth depth) (at_depth depth) (word (word_kind w) w) r

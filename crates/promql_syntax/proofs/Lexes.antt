@@ -1,28 +1,28 @@
--- Printed items that the lexer reads as their tokens (docs/PRINTING.md, "Nodes").
+-- Printed items that the lexer reads as their tokens (docs/reference/printing.md, "Nodes").
 use Rattle.std.specs.Prelude.{◌≡◌, ℕ, Bool, true, not, ◌&&◌, ◌||◌, ◌==◌, List, [], ◌∷◌, ◌++◌, codes, map, slice_index, Ok}
 use Rattle.std.specs.List.{list_any}
 use Rattle.promql_text.specs.Bytes.{line_feed, equal, tilde}
 use Rattle.promql_text.specs.Texts.{Text}
 use Rattle.promql_token.specs.Classes.{is_in}
 use Rattle.promql_token.specs.Lexing.{pieces}
-use Rattle.promql_token.specs.Pieces.{opens}
+use Rattle.promql_token.specs.TokenScanning.{opens}
 use Rattle.promql_token.specs.declared.class.Class.TheVariants as class
 use Rattle.promql_token.specs.declared.state.Mode.TheVariants as mode
 use Rattle.promql_token.specs.declared.state.State.{State}
 use Rattle.promql_grammar.specs.Symbols.{symbol_of}
-use Rattle.promql_syntax.specs.Lexing.{Token}
+use Rattle.promql_syntax.specs.SourceTokens.{Token}
 use Rattle.promql_syntax.proofs.PrintedItems.{Item, render, strip}
 
 -- outside braces and brackets, with so many open parentheses
 abbrev pub at_depth : ℕ → State
 at_depth depth = record { depth = depth; mode = mode.Outside }
 
--- in front of any text, the bytes of the items are read as their tokens, from the first state to the second
+-- before any text, the bytes of the items are read as their tokens, from the first state to the second
 abbrev pub Lexes : State → State → List Item → Type 0
 Lexes before after is =
     (r : Text) → (ts : List Token) × (map symbol_of ts ≡ strip is) × (pieces before (render is ++ r) ≡ map (λ t. Ok t) ts ++ pieces after r)
 
--- ---- in front of some texts
+-- ---- before some texts
 
 -- white space, `)`, `,` and `[`
 abbrev pub is_break : ℕ → Bool
@@ -41,7 +41,7 @@ ends_word r = not (is_in class.Word (slice_index r 0))
 abbrev pub ends_operator : Text → Bool
 ends_operator r = let b = slice_index r 0 in ends_word r && not (b == equal || b == tilde)
 
--- in front of any text that passes the test, the bytes of the items are read as their tokens, from the first state to the second
+-- before any text that passes the test, the bytes of the items are read as their tokens, from the first state to the second
 abbrev pub LexesBefore : (Text → Bool) → State → State → List Item → Type 0
 LexesBefore test before after is =
     (r : Text) → test r ≡ true → (ts : List Token) × (map symbol_of ts ≡ strip is) × (pieces before (render is ++ r) ≡ map (λ t. Ok t) ts ++ pieces after r)

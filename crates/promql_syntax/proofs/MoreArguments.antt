@@ -1,26 +1,26 @@
 -- Building arguments with one more after them.
 use Rattle.std.proofs.Common.{◌≡◌, ◌⊎◌, inl, inr, ⊎_elim, max, refl, sym, ap, subst, arith, List, [], ◌∷◌, ◌++◌, map}
 use Rattle.std.specs.Prelude.{Result, Ok, Err}
-use Rattle.promql_ast.specs.Arguments.{appended}
+use Rattle.promql_ast.specs.Arguments.{append_tree}
 use Rattle.promql_ast.specs.View.{trees}
 use Rattle.promql_ast.specs.Tree.{Tree, Trees, no_trees, first_tree}
 use Rattle.promql_grammar.specs.Grammar as grammar
 use Rattle.promql_syntax.specs.Asking.{Asking, gives, fails, asks, ◌giving◌, Asked, AreAllowed, Ends}
 use Rattle.promql_syntax.specs.Building.{build, build_all}
-use Rattle.promql_syntax.specs.Faults.{Fault}
-use Rattle.promql_syntax.specs.Parts.{EndsIn, IsPart, AreArguments, built_all, followed}
-use Rattle.promql_syntax.specs.declared.grammar.part.Part.{Part}
-use Rattle.promql_syntax.specs.declared.grammar.part.Arguments.{Arguments}
+use Rattle.promql_syntax.specs.BuildErrors.{BuildError}
+use Rattle.promql_syntax.specs.ParsesExpr.{EndsIn, IsExprOf, AreArgsOf, trees_result, append_derivation}
+use Rattle.promql_syntax.specs.declared.grammar.parsed.ParsedExpr.{ParsedExpr}
+use Rattle.promql_syntax.specs.declared.grammar.parsed.ParsedArgs.{ParsedArgs}
 use Rattle.promql_syntax.proofs.Ending.{then_value, then_fault, ends_known}
 
--- ---- what comes first ends in a fault, or in a value that leads on
+-- ---- what comes first ends in an error, or in a value that leads on
 
-record Halts {A B : Type 0} (m : Asking A) (xs : List Asked) (r : Result B Fault) : Type 0 where
-  fault : Fault
+record Halts {A B : Type 0} (m : Asking A) (xs : List Asked) (r : Result B BuildError) : Type 0 where
+  fault : BuildError
   ends : Ends m xs (Err fault)
   is : r ≡ Err fault
 
-record Leads {A B : Type 0} (m : Asking A) (f : A → Asking B) (xs : List Asked) (r : Result B Fault) : Type 0 where
+record Leads {A B : Type 0} (m : Asking A) (f : A → Asking B) (xs : List Asked) (r : Result B BuildError) : Type 0 where
   value : A
   front : List Asked
   back : List Asked
@@ -28,7 +28,7 @@ record Leads {A B : Type 0} (m : Asking A) (f : A → Asking B) (xs : List Asked
   before : Ends m front (Ok value)
   after : Ends (f value) back r
 
-ends_split : {A B : Type 0} (m : Asking A) (f : A → Asking B) (xs : List Asked) (r : Result B Fault) → Ends (m giving f) xs r → Halts m xs r ⊎ Leads m f xs r
+ends_split : {A B : Type 0} (m : Asking A) (f : A → Asking B) (xs : List Asked) (r : Result B BuildError) → Ends (m giving f) xs r → Halts m xs r ⊎ Leads m f xs r
 ends_split (gives x) f xs r ends = inr (record { value = x; front = []; back = xs; whole = refl; before = refl; after = ends })
 ends_split (fails e) f [] r ends = inl (record { fault = e; ends = refl; is = ends })
 ends_split (fails e) f (a ∷ xs) r ends = absurd ends
@@ -46,17 +46,17 @@ allowed_back : (xs ys : List Asked) → AreAllowed (xs ++ ys) → AreAllowed ys
 allowed_back [] ys all = all
 allowed_back (x ∷ xs) ys all = allowed_back xs ys all.1
 
-record HaltsIn {A B : Type 0} (m : Asking A) (r : Result B Fault) : Type 0 where
-  fault : Fault
+record HaltsIn {A B : Type 0} (m : Asking A) (r : Result B BuildError) : Type 0 where
+  fault : BuildError
   ends : EndsIn m (Err fault)
   is : r ≡ Err fault
 
-record LeadsIn {A B : Type 0} (m : Asking A) (f : A → Asking B) (r : Result B Fault) : Type 0 where
+record LeadsIn {A B : Type 0} (m : Asking A) (f : A → Asking B) (r : Result B BuildError) : Type 0 where
   value : A
   before : EndsIn m (Ok value)
   after : EndsIn (f value) r
 
-split_in : {A B : Type 0} (m : Asking A) (f : A → Asking B) (r : Result B Fault) → EndsIn (m giving f) r → HaltsIn m r ⊎ LeadsIn m f r
+split_in : {A B : Type 0} (m : Asking A) (f : A → Asking B) (r : Result B BuildError) → EndsIn (m giving f) r → HaltsIn m r ⊎ LeadsIn m f r
 split_in m f r ends =
     ⊎_elim (λ h. inl (record { fault = h.fault; ends = record { answers = ends.answers; allowed = ends.allowed; ends = h.ends }; is = h.is }))
     (λ l. let all = subst AreAllowed l.whole ends.allowed in inr (record {
@@ -66,56 +66,56 @@ split_in m f r ends =
     }))
     (ends_split m f ends.answers r ends.ends)
 
-given_ends : {A : Type 0} (x : A) (r : Result A Fault) → EndsIn (gives x) r → r ≡ Ok x
+given_ends : {A : Type 0} (x : A) (r : Result A BuildError) → EndsIn (gives x) r → r ≡ Ok x
 given_ends x r ends = given_is x ends.answers r ends.ends
   where
-    given_is : {A : Type 0} (x : A) (xs : List Asked) (r : Result A Fault) → Ends (gives x) xs r → r ≡ Ok x
+    given_is : {A : Type 0} (x : A) (xs : List Asked) (r : Result A BuildError) → Ends (gives x) xs r → r ≡ Ok x
     given_is x [] r ends = ends
     given_is x (a ∷ xs) r ends = absurd ends
 
 -- ---- arguments, and one more
 
-abbrev pub combined : Result Trees Fault → Result Tree Fault → Result Trees Fault
-combined (Err e) p = Err e
-combined (Ok ts) (Err e) = Err e
-combined (Ok ts) (Ok t) = Ok (appended ts t)
+abbrev pub combine_results : Result Trees BuildError → Result Tree BuildError → Result Trees BuildError
+combine_results (Err e) p = Err e
+combine_results (Ok ts) (Err e) = Err e
+combine_results (Ok ts) (Ok t) = Ok (append_tree ts t)
 
-first_argument : (d : grammar.Derivation) (p : Result Tree Fault) → EndsIn (build d) p → EndsIn (build d giving λ t. gives (first_tree t no_trees)) (combined (Ok no_trees) p)
+first_argument : (d : grammar.Derivation) (p : Result Tree BuildError) → EndsIn (build d) p → EndsIn (build d giving λ t. gives (first_tree t no_trees)) (combine_results (Ok no_trees) p)
 first_argument d (Ok t) ends = then_value (build d) (λ t. gives (first_tree t no_trees)) t (Ok (first_tree t no_trees)) ends (ends_known (Ok (first_tree t no_trees)))
 first_argument d (Err e) ends = then_fault (build d) (λ t. gives (first_tree t no_trees)) e ends
 
-next_argument : (x : Tree) (ts : Trees) (p : Result Tree Fault) (m : Asking Trees) → EndsIn m (combined (Ok ts) p) → EndsIn (m giving λ us. gives (first_tree x us)) (combined (Ok (first_tree x ts)) p)
-next_argument x ts (Ok t) m ends = then_value m (λ us. gives (first_tree x us)) (appended ts t) (Ok (first_tree x (appended ts t))) ends (ends_known (Ok (first_tree x (appended ts t))))
+next_argument : (x : Tree) (ts : Trees) (p : Result Tree BuildError) (m : Asking Trees) → EndsIn m (combine_results (Ok ts) p) → EndsIn (m giving λ us. gives (first_tree x us)) (combine_results (Ok (first_tree x ts)) p)
+next_argument x ts (Ok t) m ends = then_value m (λ us. gives (first_tree x us)) (append_tree ts t) (Ok (first_tree x (append_tree ts t))) ends (ends_known (Ok (first_tree x (append_tree ts t))))
 next_argument x ts (Err e) m ends = then_fault m (λ us. gives (first_tree x us)) e ends
 
-pub more_ends : (ds : grammar.Arguments) (d : grammar.Derivation) (o : Result Trees Fault) (p : Result Tree Fault) → EndsIn (build_all ds) o → EndsIn (build d) p → EndsIn (build_all (followed ds d)) (combined o p)
+pub more_ends : (ds : grammar.Arguments) (d : grammar.Derivation) (o : Result Trees BuildError) (p : Result Tree BuildError) → EndsIn (build_all ds) o → EndsIn (build d) p → EndsIn (build_all (append_derivation ds d)) (combine_results o p)
 more_ends grammar.none d o p ends last =
-    subst (λ r. EndsIn (build_all (followed grammar.none d)) (combined r p)) (sym (given_ends no_trees o ends))
+    subst (λ r. EndsIn (build_all (append_derivation grammar.none d)) (combine_results r p)) (sym (given_ends no_trees o ends))
     (then_all d p last)
   where
-    then_all : (d : grammar.Derivation) (p : Result Tree Fault) → EndsIn (build d) p → EndsIn (build_all (grammar.more d grammar.none)) (combined (Ok no_trees) p)
+    then_all : (d : grammar.Derivation) (p : Result Tree BuildError) → EndsIn (build d) p → EndsIn (build_all (grammar.more d grammar.none)) (combine_results (Ok no_trees) p)
     then_all d p last = first_argument d p last
 more_ends (grammar.more e ds) d o p ends last =
-    ⊎_elim (λ h. subst (λ r. EndsIn (build_all (followed (grammar.more e ds) d)) (combined r p)) (sym h.is) (then_fault (build e) (λ t. build_all (followed ds d) giving λ us. gives (first_tree t us)) h.fault h.ends))
-    (λ l. then_value (build e) (λ t. build_all (followed ds d) giving λ us. gives (first_tree t us)) l.value (combined o p) l.before
-    (⊎_elim (λ h. subst (λ r. EndsIn (build_all (followed ds d) giving λ us. gives (first_tree l.value us)) (combined r p)) (sym h.is)
-    (then_fault (build_all (followed ds d)) (λ us. gives (first_tree l.value us)) h.fault (more_ends ds d (Err h.fault) p h.ends last)))
-    (λ k. subst (λ r. EndsIn (build_all (followed ds d) giving λ us. gives (first_tree l.value us)) (combined r p)) (sym (given_ends (first_tree l.value k.value) o k.after))
-    (next_argument l.value k.value p (build_all (followed ds d)) (more_ends ds d (Ok k.value) p k.before last)))
+    ⊎_elim (λ h. subst (λ r. EndsIn (build_all (append_derivation (grammar.more e ds) d)) (combine_results r p)) (sym h.is) (then_fault (build e) (λ t. build_all (append_derivation ds d) giving λ us. gives (first_tree t us)) h.fault h.ends))
+    (λ l. then_value (build e) (λ t. build_all (append_derivation ds d) giving λ us. gives (first_tree t us)) l.value (combine_results o p) l.before
+    (⊎_elim (λ h. subst (λ r. EndsIn (build_all (append_derivation ds d) giving λ us. gives (first_tree l.value us)) (combine_results r p)) (sym h.is)
+    (then_fault (build_all (append_derivation ds d)) (λ us. gives (first_tree l.value us)) h.fault (more_ends ds d (Err h.fault) p h.ends last)))
+    (λ k. subst (λ r. EndsIn (build_all (append_derivation ds d) giving λ us. gives (first_tree l.value us)) (combine_results r p)) (sym (given_ends (first_tree l.value k.value) o k.after))
+    (next_argument l.value k.value p (build_all (append_derivation ds d)) (more_ends ds d (Ok k.value) p k.before last)))
     (split_in (build_all ds) (λ us. gives (first_tree l.value us)) o l.after)))
     (split_in (build e) (λ t. build_all ds giving λ us. gives (first_tree t us)) o ends)
 
-followed_height : (ds : grammar.Arguments) (d : grammar.Derivation) → grammar.greatest_height (followed ds d) ≡ max (grammar.greatest_height ds) (grammar.height d)
+followed_height : (ds : grammar.Arguments) (d : grammar.Derivation) → grammar.greatest_height (append_derivation ds d) ≡ max (grammar.greatest_height ds) (grammar.height d)
 followed_height grammar.none d = omega arith
 followed_height (grammar.more e ds) d = let rest = followed_height ds d in omega arith
 
-pub more_arguments_of : (made args : Arguments) (part : Part) (ds : grammar.Arguments) (d : grammar.Derivation) (o : Result Trees Fault) (p : Result Tree Fault) → built_all made ≡ combined o p → made.height ≡ max args.height part.height
-    → AreArguments args ds → IsPart part d → EndsIn (build_all ds) o → EndsIn (build d) p → AreArguments made (followed ds d)
-more_arguments_of made args part ds d o p value tall before last first second = record {
+pub more_arguments_of : (made args : ParsedArgs) (parsed : ParsedExpr) (ds : grammar.Arguments) (d : grammar.Derivation) (o : Result Trees BuildError) (p : Result Tree BuildError) → trees_result made ≡ combine_results o p → made.height ≡ max args.height parsed.height
+    → AreArgsOf args ds → IsExprOf parsed d → EndsIn (build_all ds) o → EndsIn (build d) p → AreArgsOf made (append_derivation ds d)
+more_arguments_of made args parsed ds d o p value tall before last first second = record {
   tall = let one = before.tall in let other = last.tall in let all = followed_height ds d in omega arith;
-  built = subst (EndsIn (build_all (followed ds d))) (sym value) (more_ends ds d o p first second);
+  built = subst (EndsIn (build_all (append_derivation ds d))) (sym value) (more_ends ds d o p first second);
 }
 
-pub appended_trees : {X : Type 0} (f : X → Tree) (xs : List X) (x : X) → trees (map f (xs ++ x ∷ [])) ≡ appended (trees (map f xs)) (f x)
+pub appended_trees : {X : Type 0} (f : X → Tree) (xs : List X) (x : X) → trees (map f (xs ++ x ∷ [])) ≡ append_tree (trees (map f xs)) (f x)
 appended_trees f [] x = refl
 appended_trees f (y ∷ xs) x = ap (first_tree (f y)) (appended_trees f xs x)

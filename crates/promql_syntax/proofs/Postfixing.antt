@@ -3,84 +3,84 @@ use Rattle.std.proofs.Common.{◌≡◌, ℕ, zero, suc, ◌+◌, ◌<◌, ◌�
 use Rattle.std.specs.Prelude.{Option, Some, None, Ok, Err}
 use Rattle.std.proofs.lemmas.Bool.{cond_above, cond_below}
 use Rattle.promql_text.specs.Texts.{Text}
-use Rattle.promql_grammar.specs.declared.kind.Kind.{Kind}
-use Rattle.promql_grammar.specs.declared.kind.Kind.TheVariants as kind
-use Rattle.promql_grammar.specs.declared.halt.Halt.{Halt}
-use Rattle.promql_grammar.specs.declared.halt.Halt.TheVariants.{Memory, Syntax, TooDeep}
+use Rattle.promql_grammar.specs.declared.token_kinds.TokenKind.{TokenKind}
+use Rattle.promql_grammar.specs.declared.token_kinds.TokenKind.TheVariants as kind
+use Rattle.promql_grammar.specs.declared.read_error.ReadError.{ReadError}
+use Rattle.promql_grammar.specs.declared.read_error.ReadError.TheVariants.{Memory, Syntax, TooDeep}
 use Rattle.promql_grammar.specs.Results.{◌then◌}
 use Rattle.promql_grammar.specs.Symbols.{Symbol, symbol}
-use Rattle.promql_grammar.specs.Pieces.{Postfix, subquery}
+use Rattle.promql_grammar.specs.GrammarParts.{Postfix, subquery}
 use Rattle.promql_grammar.specs.Grammar.{Derivation, postfixed, height, added_height}
-use Rattle.promql_grammar.specs.Reading.{Read, postfix_at, postfixes, with_postfix}
-use Rattle.promql_syntax.specs.declared.grammar.part.Part.{Part}
-use Rattle.promql_syntax.specs.Parts.{IsPart, IsGiven, Fails}
-use Rattle.promql_syntax.specs.declared.grammar.postfix.HeldPostfix.{HeldPostfix}
-use Rattle.promql_syntax.specs.Postfixes.{IsHeld, begins_postfix}
-use Rattle.promql_syntax.proofs.Failing.{fails_first, fails_same}
+use Rattle.promql_grammar.specs.Parsing.{Read, parse_postfix, parse_postfixes, parse_more_postfixes}
+use Rattle.promql_syntax.specs.declared.grammar.parsed.ParsedExpr.{ParsedExpr}
+use Rattle.promql_syntax.specs.ParsesExpr.{IsExprOf, ParsesExpr, Fails}
+use Rattle.promql_syntax.specs.declared.grammar.postfix.ParsedPostfix.{ParsedPostfix}
+use Rattle.promql_syntax.specs.Postfixes.{IsPostfixOf, starts_postfix}
+use Rattle.promql_syntax.proofs.ReadErrorSteps.{fails_first, fails_same}
 
--- a base and some postfixes were read, and reading goes on behind them
-pub record Postfixing (k n : ℕ) (d : Derivation) (all : List Symbol) (part : Part) (rest : List Symbol) : Type 0 where
+-- a base and some postfixes were parsed, and parsing goes on after them
+pub record Postfixing (k n : ℕ) (d : Derivation) (all : List Symbol) (parsed : ParsedExpr) (rest : List Symbol) : Type 0 where
   pub derivation : Derivation
   pub turns : ℕ
   pub enough : length rest ≤ turns
-  pub built : IsPart part derivation
-  pub goes : postfixes k n d all ≡ postfixes turns n derivation rest
+  pub built : IsExprOf parsed derivation
+  pub goes : parse_postfixes k n d all ≡ parse_postfixes turns n derivation rest
 
-pub postfixing_first : (k n : ℕ) (d : Derivation) (ts : List Symbol) (part : Part) → IsPart part d → length ts ≤ k → Postfixing k n d ts part ts
-postfixing_first k n d ts part built enough = record { derivation = d; turns = k; enough = enough; built = built; goes = refl }
+pub postfixing_first : (k n : ℕ) (d : Derivation) (ts : List Symbol) (parsed : ParsedExpr) → IsExprOf parsed d → length ts ≤ k → Postfixing k n d ts parsed ts
+postfixing_first k n d ts parsed built enough = record { derivation = d; turns = k; enough = enough; built = built; goes = refl }
 
 rest_of : Read (Option Postfix) → List Symbol
 rest_of (Ok x) = x.1
 rest_of (Err e) = []
 
-postfixes_none : (k n : ℕ) (d : Derivation) (ts us : List Symbol) → length ts ≤ k → postfix_at ts ≡ Ok (None, us) → postfixes k n d ts ≡ Ok (d, us)
+postfixes_none : (k n : ℕ) (d : Derivation) (ts us : List Symbol) → length ts ≤ k → parse_postfix ts ≡ Ok (None, us) → parse_postfixes k n d ts ≡ Ok (d, us)
 unfolding rest_of
 postfixes_none zero n d [] us enough none = let same : [] ≡ us = ap rest_of none in ap (λ l. Ok (d, l)) same
 postfixes_none zero n d (t ∷ ts) us enough none = absurd (omega arith)
-postfixes_none (suc k) n d ts us enough none = ap (λ o. o then λ p. with_postfix (postfixes k n) n d p.0 p.1) none
+postfixes_none (suc k) n d ts us enough none = ap (λ o. o then λ p. parse_more_postfixes (parse_postfixes k n) n d p.0 p.1) none
 
-postfixes_fail : (k n : ℕ) (d : Derivation) (ts : List Symbol) (e : Halt) → length ts ≤ k → Fails e (postfix_at ts) → Fails e (postfixes k n d ts)
+postfixes_fail : (k n : ℕ) (d : Derivation) (ts : List Symbol) (e : ReadError) → length ts ≤ k → Fails e (parse_postfix ts) → Fails e (parse_postfixes k n d ts)
 postfixes_fail zero n d [] Memory enough fails = tt
 postfixes_fail zero n d [] Syntax enough fails = cc
 postfixes_fail zero n d [] TooDeep enough fails = cc
 postfixes_fail zero n d (t ∷ ts) e enough fails = absurd (omega arith)
-postfixes_fail (suc k) n d ts e enough fails = fails_first e (postfix_at ts) (λ p. with_postfix (postfixes k n) n d p.0 p.1) (postfixes (suc k) n d ts) refl fails
+postfixes_fail (suc k) n d ts e enough fails = fails_first e (parse_postfix ts) (λ p. parse_more_postfixes (parse_postfixes k n) n d p.0 p.1) (parse_postfixes (suc k) n d ts) refl fails
 
-postfixes_deep : (k n : ℕ) (d : Derivation) (ts us : List Symbol) (p : Postfix) → length us < length ts → length ts ≤ k → postfix_at ts ≡ Ok (Some p, us) → n < height (postfixed d p) → postfixes k n d ts ≡ Err TooDeep
+postfixes_deep : (k n : ℕ) (d : Derivation) (ts us : List Symbol) (p : Postfix) → length us < length ts → length ts ≤ k → parse_postfix ts ≡ Ok (Some p, us) → n < height (postfixed d p) → parse_postfixes k n d ts ≡ Err TooDeep
 postfixes_deep zero n d ts us p short enough some high = absurd (omega arith)
 postfixes_deep (suc k) n d ts us p short enough some high =
-    ap (λ o. o then λ q. with_postfix (postfixes k n) n d q.0 q.1) some ∙ sym (cond_below n (height (postfixed d p)) (Err TooDeep) _ high)
+    ap (λ o. o then λ q. parse_more_postfixes (parse_postfixes k n) n d q.0 q.1) some ∙ sym (cond_below n (height (postfixed d p)) (Err TooDeep) _ high)
 
-postfixes_on : (k n : ℕ) (d : Derivation) (ts us : List Symbol) (p : Postfix) → length us < length ts → length ts ≤ k → postfix_at ts ≡ Ok (Some p, us) → height (postfixed d p) ≤ n
-    → (j : ℕ) × (length us ≤ j) × (postfixes k n d ts ≡ postfixes j n (postfixed d p) us)
+postfixes_on : (k n : ℕ) (d : Derivation) (ts us : List Symbol) (p : Postfix) → length us < length ts → length ts ≤ k → parse_postfix ts ≡ Ok (Some p, us) → height (postfixed d p) ≤ n
+    → (j : ℕ) × (length us ≤ j) × (parse_postfixes k n d ts ≡ parse_postfixes j n (postfixed d p) us)
 postfixes_on zero n d ts us p short enough some low = absurd (omega arith)
 postfixes_on (suc k) n d ts us p short enough some low = (
   k,
   omega arith,
-  ap (λ o. o then λ q. with_postfix (postfixes k n) n d q.0 q.1) some ∙ sym (cond_above n (height (postfixed d p)) (Err TooDeep) _ _ low refl),
+  ap (λ o. o then λ q. parse_more_postfixes (parse_postfixes k n) n d q.0 q.1) some ∙ sym (cond_above n (height (postfixed d p)) (Err TooDeep) _ _ low refl),
 )
 
-module _ (k n : ℕ) (d : Derivation) (all ts : List Symbol) (part : Part) (postfixing : Postfixing k n d all part ts) where
-  pub postfixing_ends : (us : List Symbol) → postfix_at ts ≡ Ok (None, us) → IsGiven part us (postfixes k n d all)
+module _ (k n : ℕ) (d : Derivation) (all ts : List Symbol) (parsed : ParsedExpr) (postfixing : Postfixing k n d all parsed ts) where
+  pub postfixing_ends : (us : List Symbol) → parse_postfix ts ≡ Ok (None, us) → ParsesExpr parsed us (parse_postfixes k n d all)
   postfixing_ends us none = record {
     derivation = postfixing.derivation;
     is = postfixing.goes ∙ postfixes_none postfixing.turns n postfixing.derivation ts us postfixing.enough none;
     built = postfixing.built;
   }
 
-  pub postfixing_fails : (e : Halt) → Fails e (postfix_at ts) → Fails e (postfixes k n d all)
+  pub postfixing_fails : (e : ReadError) → Fails e (parse_postfix ts) → Fails e (parse_postfixes k n d all)
   postfixing_fails e fails = fails_same e _ _ postfixing.goes (postfixes_fail postfixing.turns n postfixing.derivation ts e postfixing.enough fails)
 
-  module _ (us : List Symbol) (short : length us < length ts) (held : HeldPostfix) (p : Postfix) (some : postfix_at ts ≡ Ok (Some p, us)) (holds : IsHeld held p) where
-    pub postfixing_deep : n < part.height + held.added_height → postfixes k n d all ≡ Err TooDeep
+  module _ (us : List Symbol) (short : length us < length ts) (held : ParsedPostfix) (p : Postfix) (some : parse_postfix ts ≡ Ok (Some p, us)) (holds : IsPostfixOf held p) where
+    pub postfixing_deep : n < parsed.height + held.added_height → parse_postfixes k n d all ≡ Err TooDeep
     postfixing_deep high =
         let so_far = postfixing.built in
         let tall = so_far.tall in
         let adds = holds.adds in
         postfixing.goes ∙ postfixes_deep postfixing.turns n postfixing.derivation ts us p short postfixing.enough some (omega arith)
 
-    pub postfixing_on : (made : Part) → part.height + held.added_height ≤ n
-        → ((e : Derivation) (q : Postfix) → IsPart part e → IsHeld held q → IsPart made (postfixed e q)) → Postfixing k n d all made us
+    pub postfixing_on : (made : ParsedExpr) → parsed.height + held.added_height ≤ n
+        → ((e : Derivation) (q : Postfix) → IsExprOf parsed e → IsPostfixOf held q → IsExprOf made (postfixed e q)) → Postfixing k n d all made us
     postfixing_on made low built =
         let so_far = postfixing.built in
         let tall = so_far.tall in
@@ -99,7 +99,7 @@ added_low (subquery t s) = omega arith
 added_low p = omega arith
 
 -- no postfix begins with the first token, or there is none
-other_front : (k : Kind) (t : Text) (ts : List Symbol) → begins_postfix k ≡ false → postfix_at (symbol k t ∷ ts) ≡ Ok (None, symbol k t ∷ ts)
+other_front : (k : TokenKind) (t : Text) (ts : List Symbol) → starts_postfix k ≡ false → parse_postfix (symbol k t ∷ ts) ≡ Ok (None, symbol k t ∷ ts)
 other_front kind.LeftBracket t ts other = cc
 other_front kind.At t ts other = cc
 other_front kind.Offset t ts other = cc
@@ -107,12 +107,12 @@ other_front kind.Smoothed t ts other = cc
 other_front kind.Anchored t ts other = cc
 other_front k t ts other = refl
 
-pub no_postfix_at : (ts us : List Symbol) (k : Kind) (t : Text) → ts ≡ symbol k t ∷ us → begins_postfix k ≡ false → postfix_at ts ≡ Ok (None, ts)
-no_postfix_at ts us k t front other = ap postfix_at front ∙ other_front k t us other ∙ ap (λ l. Ok (None, l)) (sym front)
+pub no_postfix_at : (ts us : List Symbol) (k : TokenKind) (t : Text) → ts ≡ symbol k t ∷ us → starts_postfix k ≡ false → parse_postfix ts ≡ Ok (None, ts)
+no_postfix_at ts us k t front other = ap parse_postfix front ∙ other_front k t us other ∙ ap (λ l. Ok (None, l)) (sym front)
 
-pub no_postfix_left : (ts : List Symbol) → ts ≡ [] → postfix_at ts ≡ Ok (None, ts)
-no_postfix_left ts end = ap postfix_at end ∙ ap (λ l. Ok (None, l)) (sym end)
+pub no_postfix_left : (ts : List Symbol) → ts ≡ [] → parse_postfix ts ≡ Ok (None, ts)
+no_postfix_left ts end = ap parse_postfix end ∙ ap (λ l. Ok (None, l)) (sym end)
 
 -- a base that no postfix follows
-pub no_postfixes : (k n : ℕ) (d : Derivation) (ts : List Symbol) (part : Part) → IsPart part d → length ts ≤ k → postfix_at ts ≡ Ok (None, ts) → IsGiven part ts (postfixes k n d ts)
-no_postfixes k n d ts part built enough none = record { derivation = d; is = postfixes_none k n d ts ts enough none; built = built }
+pub no_postfixes : (k n : ℕ) (d : Derivation) (ts : List Symbol) (parsed : ParsedExpr) → IsExprOf parsed d → length ts ≤ k → parse_postfix ts ≡ Ok (None, ts) → ParsesExpr parsed ts (parse_postfixes k n d ts)
+no_postfixes k n d ts parsed built enough none = record { derivation = d; is = postfixes_none k n d ts ts enough none; built = built }

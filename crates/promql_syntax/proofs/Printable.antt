@@ -6,20 +6,20 @@ use Rattle.promql_text.specs.Texts.{Text}
 use Rattle.promql_text.specs.Values.{IsNumber}
 use Rattle.promql_token.specs.Ids.{is_aggregator}
 use Rattle.promql_token.specs.Laws.{is_word}
-use Rattle.promql_grammar.specs.declared.kind.Kind.TheVariants as kind
-use Rattle.promql_grammar.specs.Symbols.{kind_of}
+use Rattle.promql_grammar.specs.declared.token_kinds.TokenKind.TheVariants as kind
+use Rattle.promql_grammar.specs.Symbols.{token_kind}
 use Rattle.promql_label.specs.Answers.{Answer}
 use Rattle.promql_label.specs.PlainMatchers.{PlainMatchers}
 use Rattle.promql_kind.specs.Functions.{name_of}
 use Rattle.promql_ast.specs.Selectors.{Selector, selector}
 use Rattle.promql_ast.specs.Shifts.{Shift, back, ahead, Moment, at_start, at_end, at_time}
 use Rattle.promql_ast.specs.Tree.{Tree, aggregate, unary, binary, paren, subquery, number, string, vector, matrix, call, extension, MaybeTree, absent, present, Trees, no_trees, first_tree}
-use Rattle.promql_syntax.specs.PieceBuilding.{moment_value}
-use Rattle.promql_syntax.proofs.PrintedPieces.{seconds_text, sign}
+use Rattle.promql_syntax.specs.PartBuilding.{moment_value}
+use Rattle.promql_syntax.proofs.PrintedParts.{seconds_text, sign}
 use Rattle.promql_syntax.proofs.LexedWords.{is_fill_word}
-use Rattle.promql_syntax.proofs.PrintedMatchers.{AreAnyMatchers, AreMatchers}
+use Rattle.promql_syntax.proofs.PrintedMatcherLists.{AreAnyMatchers, AreMatchers}
 use Rattle.promql_syntax.proofs.PrintedModifiers.{IsMatched}
-use Rattle.promql_syntax.proofs.PrintedValues.{IsStep, IsTime}
+use Rattle.promql_syntax.proofs.PrintedTimesAndLabels.{IsStep, IsTime}
 
 abbrev pub IsShift : Option Shift → Type 0
 IsShift None = Unit {0}
@@ -48,7 +48,7 @@ module _ (g : Text → Answer) where
     pub Printable : Tree → Type 0
     Printable (aggregate op e p m) = (is_aggregator op ≡ true) × Printable e × MaybePrintable p
     Printable (unary e) = Printable e
-    Printable (binary op l r m) = IsMatched m × Printable l × Printable r × (kind_of op ≡ kind.Operator op)
+    Printable (binary op l r m) = IsMatched m × Printable l × Printable r × (token_kind op ≡ kind.Operator op)
     Printable (paren e) = Printable e
     Printable (subquery e offset at range step) = Printable e × IsTime range × IsStep step × IsShift offset × IsAnyMoment at
     Printable (number n) = IsNumber n

@@ -1,4 +1,4 @@
--- The bytes of the items of a printed line: its pieces.
+-- The bytes of the items of a printed line: its parts.
 use Rattle.std.proofs.Common.{◌≡◌, ℕ, ◌%◌, refl, sym, ◌∙◌, ap, Bool, true, false, cond, not, ◌&&◌, Option, Some, None, List, [], ◌∷◌, ◌++◌, append-nil, append_assoc, map, codes}
 use Rattle.std.specs.Prelude.{◌==◌}
 use Rattle.std.specs.Int.{is_negative}
@@ -7,16 +7,16 @@ use Rattle.promql_text.specs.DurationText.{duration_text}
 use Rattle.promql_text.specs.Durations.{nanos_of}
 use Rattle.promql_text.specs.NumberDigits.{magnitude_text}
 use Rattle.promql_text.specs.NumberText.{number_text}
-use Rattle.promql_text.specs.Numbers.{negated}
+use Rattle.promql_text.specs.Numbers.{negate}
 use Rattle.promql_text.specs.Texts.{Text}
 use Rattle.promql_text.specs.Values.{is_below_zero}
 use Rattle.promql_text.specs.declared.duration.Unit.TheVariants.{Milli}
 use Rattle.promql_text.specs.declared.number.Number.{Number}
 use Rattle.promql_text.specs.declared.number.Number.TheVariants.{Finite, Inf, NegInf, NaN}
-use Rattle.promql_grammar.specs.declared.kind.Kind.TheVariants as kind
+use Rattle.promql_grammar.specs.declared.token_kinds.TokenKind.TheVariants as kind
 use Rattle.promql_grammar.specs.Grammar.{Derivation}
-use Rattle.promql_grammar.specs.Pieces as piece
-use Rattle.promql_grammar.specs.Symbols.{sign, word}
+use Rattle.promql_grammar.specs.GrammarParts as part
+use Rattle.promql_grammar.specs.Symbols.{punct, word}
 use Rattle.promql_label.specs.Labels.{label_text, labels_text}
 use Rattle.promql_kind.specs.ModifierText.{bool_text, fill_text, fills_text, grouping_text, matched_text}
 use Rattle.promql_kind.specs.Modifiers.{Clause, including, excluding, Cardinality, one_to_one, many_to_one, one_to_many, many_to_many, Fills, fills, Matching, matching, is_grouping, number_eq}
@@ -29,8 +29,8 @@ use Rattle.promql_ast.specs.node.Binary.{matching_text}
 use Rattle.promql_ast.specs.node.Matrix.{mode_text}
 use Rattle.promql_syntax.proofs.Derive.{with_at, with_mode, with_suffix}
 use Rattle.promql_syntax.proofs.PrintedItems.{Item, token, blank, newline, render, spell, before_line, fills_line, flag_line, group_line, labels_line, line, matching_line, modifier_line, names_line, postfix_line, signed_line, time_line, value_line}
-use Rattle.promql_syntax.proofs.PrintedPieces.{any_items, braces, clause, fill_words, flag, followed, group, group_items, item, labels, magnitude, match_sign, matched, modifier, moment, names, or_items, seconds_text, shift, time, value}
-use Rattle.promql_syntax.proofs.PrintedPieces as printed
+use Rattle.promql_syntax.proofs.PrintedParts.{any_items, braces, clause, fill_words, flag, items_of, group, group_items, item, labels, magnitude, match_operator, matching_of_clause, modifier, moment, names, or_items, seconds_text, shift, time, value}
+use Rattle.promql_syntax.proofs.PrintedParts as printed
 use Rattle.promql_syntax.proofs.PrintedModifiers.{IsGroupedAfter, IsMatched}
 
 pub render_append : (is js : List Item) → render (is ++ js) ≡ render is ++ render js
@@ -40,10 +40,10 @@ render_append (blank ∷ is) js = ap (λ t. 32 ∷ t) (render_append is js)
 render_append (newline ∷ is) js = ap (λ t. 10 ∷ t) (render_append is js)
 
 -- two parts whose bytes are known
-pub glued : (is js : List Item) (s t : Text) → render is ≡ s → render js ≡ t → render (is ++ js) ≡ s ++ t
-glued is js s t e f = render_append is js ∙ (λ i. e i ++ f i)
+pub render_both : (is js : List Item) (s t : Text) → render is ≡ s → render js ≡ t → render (is ++ js) ≡ s ++ t
+render_both is js s t e f = render_append is js ∙ (λ i. e i ++ f i)
 
--- ---- labels and clauses
+-- ---- labels and groupings
 
 abbrev after_comma : List Text → Text
 after_comma ts = flat_map (λ t. codes ", " ++ t) ts
@@ -60,7 +60,7 @@ labels_bytes (l ∷ ls) = ap (λ t. codes "(" ++ t) (names_bytes l ls)
 
 spaced_bytes : (ls : List Text) → render (labels_line (labels ls) ++ blank ∷ []) ≡ codes "(" ++ (labels_text ls ++ codes ") ")
 spaced_bytes ls =
-    glued (labels_line (labels ls)) (blank ∷ []) _ (codes " ") (labels_bytes ls) refl
+    render_both (labels_line (labels ls)) (blank ∷ []) _ (codes " ") (labels_bytes ls) refl
     ∙ ap (λ t. codes "(" ++ t) (append_assoc (labels_text ls) (codes ")") (codes " "))
 
 pub clause_bytes : (m : Option Clause) → render (before_line (clause m)) ≡ clause_text m
@@ -74,7 +74,7 @@ clause_bytes (Some (excluding ls)) = ap (λ t. codes " without " ++ t) (spaced_b
 pub number_split : (n : Number) (rest : Text) → render (signed_line (printed.sign (is_below_zero n))) ++ (number_text (magnitude n) ++ rest) ≡ number_text n ++ rest
 number_split (Finite d) rest = go d.is_negative refl
   where
-    go : (b : Bool) → d.is_negative ≡ b → render (signed_line (printed.sign b)) ++ (number_text (cond b (Finite (negated d)) (Finite d)) ++ rest) ≡ number_text (Finite d) ++ rest
+    go : (b : Bool) → d.is_negative ≡ b → render (signed_line (printed.sign b)) ++ (number_text (cond b (Finite (negate d)) (Finite d)) ++ rest) ≡ number_text (Finite d) ++ rest
     go true e =
         (λ i. 45 ∷ ((cond (not (e i) && not (d.digits == 0)) (45 ∷ []) [] ++ magnitude_text d) ++ rest))
         ∙ sym (λ i. (cond (e i) (45 ∷ []) [] ++ magnitude_text d) ++ rest)
@@ -86,13 +86,13 @@ number_split NaN rest = refl
 value_bytes : (n : Number) → render (value_line (value n)) ≡ codes " (" ++ (number_text n ++ codes ")")
 value_bytes n =
     ap (λ t. codes " (" ++ t)
-    (render_append (signed_line (printed.sign (is_below_zero n))) (token (word kind.Number (number_text (magnitude n))) ∷ token (sign kind.RightParen) ∷ [])
+    (render_append (signed_line (printed.sign (is_below_zero n))) (token (word kind.Number (number_text (magnitude n))) ∷ token (punct kind.RightParen) ∷ [])
     ∙ number_split n (codes ")"))
 
 pub time_bytes : (n : ℕ) → render (time_line (time n)) ≡ duration_text n
 time_bytes n = go (n % nanos_of Milli == 0)
   where
-    go : (b : Bool) → render (time_line (cond b (piece.duration (duration_text n)) (piece.seconds (duration_text n)))) ≡ duration_text n
+    go : (b : Bool) → render (time_line (cond b (part.duration (duration_text n)) (part.seconds (duration_text n)))) ≡ duration_text n
     go true = append-nil (duration_text n)
     go false = append-nil (duration_text n)
 
@@ -101,7 +101,7 @@ unfolding seconds_text time_text
 moment_bytes at_start = refl
 moment_bytes at_end = refl
 moment_bytes (at_time t) =
-    ap (λ x. codes " @ " ++ x) (glued (signed_line (printed.sign (is_negative t))) (token (word kind.Number (seconds_text t)) ∷ []) (cond (is_negative t) (codes "-") []) (seconds_text t) (go (is_negative t)) (append-nil (seconds_text t)))
+    ap (λ x. codes " @ " ++ x) (render_both (signed_line (printed.sign (is_negative t))) (token (word kind.Number (seconds_text t)) ∷ []) (cond (is_negative t) (codes "-") []) (seconds_text t) (go (is_negative t)) (append-nil (seconds_text t)))
   where
     go : (b : Bool) → render (signed_line (printed.sign b)) ≡ cond b (codes "-") []
     go true = refl
@@ -113,18 +113,18 @@ shift_bytes (ahead n) = ap (λ t. codes " offset -" ++ t) (time_bytes n)
 
 at_bytes : (a : Option Moment) (d : Derivation) (t : Text) → render (line d) ≡ t → render (line (with_at a d)) ≡ t ++ at_text a
 at_bytes None d t e = e ∙ sym (append-nil t)
-at_bytes (Some m) d t e = glued (line d) (postfix_line (moment m)) t _ e (moment_bytes m)
+at_bytes (Some m) d t e = render_both (line d) (postfix_line (moment m)) t _ e (moment_bytes m)
 
 pub suffix_bytes : (o : Option Shift) (a : Option Moment) (d : Derivation) (t : Text) → render (line d) ≡ t → render (line (with_suffix o a d)) ≡ t ++ (at_text a ++ offset_text o)
 suffix_bytes None a d t e = at_bytes a d t e ∙ ap (λ x. t ++ x) (sym (append-nil (at_text a)))
 suffix_bytes (Some s) a d t e =
-    glued (line (with_at a d)) (postfix_line (shift s)) (t ++ at_text a) _ (at_bytes a d t e) (shift_bytes s)
+    render_both (line (with_at a d)) (postfix_line (shift s)) (t ++ at_text a) _ (at_bytes a d t e) (shift_bytes s)
     ∙ append_assoc t (at_text a) (offset_text (Some s))
 
 pub mode_bytes : (m : RangeMode) (d : Derivation) (t : Text) → render (line d) ≡ t → render (line (with_mode m d)) ≡ t ++ mode_text m
 mode_bytes Plain d t e = e ∙ sym (append-nil t)
-mode_bytes Smoothed d t e = glued (line d) (postfix_line (piece.mode kind.Smoothed (codes "smoothed"))) t _ e refl
-mode_bytes Anchored d t e = glued (line d) (postfix_line (piece.mode kind.Anchored (codes "anchored"))) t _ e refl
+mode_bytes Smoothed d t e = render_both (line d) (postfix_line (part.mode kind.Smoothed (codes "smoothed"))) t _ e refl
+mode_bytes Anchored d t e = render_both (line d) (postfix_line (part.mode kind.Anchored (codes "anchored"))) t _ e refl
 
 -- ---- modifiers
 
@@ -135,9 +135,9 @@ group_bytes (one_to_many ls) = ap (λ t. codes " group_right " ++ t) (labels_byt
 group_bytes many_to_many = refl
 
 labels_then : (ls : List Text) (card : Cardinality) → render (labels_line (labels ls) ++ group_line (group card)) ≡ (codes "(" ++ (labels_text ls ++ codes ")")) ++ grouping_text card
-labels_then ls card = glued (labels_line (labels ls)) (group_line (group card)) _ _ (labels_bytes ls) (group_bytes card)
+labels_then ls card = render_both (labels_line (labels ls)) (group_line (group card)) _ _ (labels_bytes ls) (group_bytes card)
 
-matching_bytes : (c : Option Clause) (card : Cardinality) → IsGroupedAfter c card → render (matching_line (matched (normal_matched (is_grouping card) c) (group card))) ≡ matched_text (is_grouping card) c ++ grouping_text card
+matching_bytes : (c : Option Clause) (card : Cardinality) → IsGroupedAfter c card → render (matching_line (matching_of_clause (normal_matched (is_grouping card) c) (group card))) ≡ matched_text (is_grouping card) c ++ grouping_text card
 matching_bytes None one_to_one h = refl
 matching_bytes None (many_to_one ls) h = absurd h
 matching_bytes None (one_to_many ls) h = absurd h
@@ -161,12 +161,12 @@ fills_bytes (fills (Some r) None) = ap (λ t. codes " fill_right" ++ t) (value_b
 fills_bytes (fills None (Some l)) = ap (λ t. codes " fill_left" ++ t) (value_bytes l)
 fills_bytes (fills (Some r) (Some l)) = go (number_eq l r)
   where
-    go : (b : Bool) → render (fills_line (cond b (piece.both (codes "fill") (value l)) (piece.left_right (codes "fill_left") (value l) (codes "fill_right") (value r))))
+    go : (b : Bool) → render (fills_line (cond b (part.both (codes "fill") (value l)) (part.left_right (codes "fill_left") (value l) (codes "fill_right") (value r))))
         ≡ cond b (fill_text (codes " fill (") l) (fill_text (codes " fill_left (") l ++ fill_text (codes " fill_right (") r)
     go true = ap (λ t. codes " fill" ++ t) (value_bytes l)
     go false =
         ap (λ t. codes " fill_left" ++ t)
-        (glued (value_line (value l)) (blank ∷ token (word kind.FillRight (codes "fill_right")) ∷ value_line (value r)) _ (fill_text (codes " fill_right (") r) (value_bytes l) (ap (λ t. codes " fill_right" ++ t) (value_bytes r)))
+        (render_both (value_line (value l)) (blank ∷ token (word kind.FillRight (codes "fill_right")) ∷ value_line (value r)) _ (fill_text (codes " fill_right (") r) (value_bytes l) (ap (λ t. codes " fill_right" ++ t) (value_bytes r)))
 
 flag_bytes : (b : Bool) → render (flag_line (flag b)) ≡ bool_text b
 flag_bytes true = refl
@@ -175,7 +175,7 @@ flag_bytes false = refl
 pub modifier_bytes : (m : Option Matching) → IsMatched m → render (modifier_line (modifier m)) ≡ matching_text m
 modifier_bytes None h = refl
 modifier_bytes (Some (matching card c b values)) h =
-    let m = matched (normal_matched (is_grouping card) c) (group card) in
-    glued (flag_line (flag b)) (matching_line m ++ fills_line (fill_words values)) _ _ (flag_bytes b)
-    (glued (matching_line m) (fills_line (fill_words values)) _ _ (matching_bytes c card h.0) (fills_bytes values)
+    let m = matching_of_clause (normal_matched (is_grouping card) c) (group card) in
+    render_both (flag_line (flag b)) (matching_line m ++ fills_line (fill_words values)) _ _ (flag_bytes b)
+    (render_both (matching_line m) (fills_line (fill_words values)) _ _ (matching_bytes c card h.0) (fills_bytes values)
     ∙ append_assoc (matched_text (is_grouping card) c) (grouping_text card) (fills_text values))

@@ -9,7 +9,7 @@ use Rattle.std.proofs.lemmas.Bool.Decides.{nat_tests}
 use Rattle.std.proofs.lemmas.Fmt.{decimal_is_IsNumeral_wide}
 use Rattle.promql_text.specs.DecimalForm.{front}
 use Rattle.promql_text.specs.DurationText.{duration_text}
-use Rattle.promql_text.specs.NumberDigits.{magnitude_text, padded}
+use Rattle.promql_text.specs.NumberDigits.{magnitude_text, pad_zeros}
 use Rattle.promql_text.specs.NumberText.{number_text}
 use Rattle.promql_text.specs.Numbers.{Exact, IsExact}
 use Rattle.promql_text.specs.Quoting.{quoted_text}
@@ -21,11 +21,11 @@ use Rattle.promql_text.proofs.Runs.{front_digit}
 use Rattle.promql_token.specs.Ids.{is_aggregator, text_of}
 use Rattle.promql_token.specs.Laws.{is_word}
 use Rattle.promql_token.specs.declared.ids.TheConstants.{T_SUB}
-use Rattle.promql_grammar.specs.declared.kind.Kind.TheVariants as kind
+use Rattle.promql_grammar.specs.declared.token_kinds.TokenKind.TheVariants as kind
 use Rattle.promql_grammar.specs.Grammar as grammar
 use Rattle.promql_grammar.specs.Grammar.{Arguments, Derivation}
-use Rattle.promql_grammar.specs.Pieces as piece
-use Rattle.promql_grammar.specs.Symbols.{Symbol, sign, word}
+use Rattle.promql_grammar.specs.GrammarParts as part
+use Rattle.promql_grammar.specs.Symbols.{Symbol, punct, word}
 use Rattle.promql_label.specs.Answers.{Answer}
 use Rattle.promql_label.specs.PlainMatchers.{PlainMatchers, matchers_text}
 use Rattle.promql_kind.specs.Functions.{name_of}
@@ -42,13 +42,13 @@ use Rattle.promql_ast.specs.node.Aggregate.{clause_text}
 use Rattle.promql_ast.specs.node.Binary.{matching_text}
 use Rattle.promql_ast.specs.node.Matrix.{mode_text}
 use Rattle.promql_ast.specs.node.Subquery.{range_text}
-use Rattle.promql_ast.specs.node.Vector.{braced, selected_name_text}
+use Rattle.promql_ast.specs.node.Vector.{with_braces, selected_name_text}
 use Rattle.promql_syntax.proofs.Derive.{derive, derive_after, derive_all, derive_base, derive_number, with_at, with_mode, with_suffix}
-use Rattle.promql_syntax.proofs.PrintedItems.{Item, token, blank, newline, render, spell, after_line, arguments_lines, before_line, chosen, closing_line, indented, line, lines, modifier_line, postfix_line, rest_lines, signed_line, time_line, trimmed}
-use Rattle.promql_syntax.proofs.PrintedPieces.{braces, clause, modifier, moment, shift, time, word_kind}
-use Rattle.promql_syntax.proofs.PrintedPieces as printed
+use Rattle.promql_syntax.proofs.PrintedItems.{Item, token, blank, newline, render, spell, after_line, arguments_lines, before_line, choose_items, closing_line, indent_items, line, lines, modifier_line, postfix_line, rest_lines, signed_line, time_line, trim_items}
+use Rattle.promql_syntax.proofs.PrintedParts.{braces, clause, modifier, moment, shift, time, word_kind}
+use Rattle.promql_syntax.proofs.PrintedParts as printed
 use Rattle.promql_syntax.proofs.Printable.{AllPrintable, IsSelecting, MaybePrintable, Printable, PrintableSelector}
-use Rattle.promql_syntax.proofs.PrintedBytes.{clause_bytes, glued, modifier_bytes, moment_bytes, number_split, shift_bytes, time_bytes}
+use Rattle.promql_syntax.proofs.PrintedBytes.{clause_bytes, render_both, modifier_bytes, moment_bytes, number_split, shift_bytes, time_bytes}
 use Rattle.promql_syntax.proofs.PrintedLines.{base_bytes, line_bytes, nothing_after, range_bytes}
 
 -- ---- what the first token is, so that trimming stops there
@@ -73,14 +73,14 @@ fronted_append (token s ∷ is) js h = h
 fronted_append (blank ∷ is) js h = fronted_append is js h
 fronted_append (newline ∷ is) js h = absurd h
 
-fronted_indented : (n : ℕ) (is : List Item) → Fronted is → Fronted (indented n is)
+fronted_indented : (n : ℕ) (is : List Item) → Fronted is → Fronted (indent_items n is)
 fronted_indented zero is h = h
 fronted_indented (suc n) is h = fronted_indented n is h
 
-fronted_chosen : (one many : List Item) (level most : ℕ) → Fronted one → Fronted many → Fronted (chosen one many level most)
+fronted_chosen : (one many : List Item) (level most : ℕ) → Fronted one → Fronted many → Fronted (choose_items one many level most)
 fronted_chosen one many level most h k = go (is_longer most (render one))
   where
-    go : (b : Bool) → Fronted (cond b many (indented level one))
+    go : (b : Bool) → Fronted (cond b many (indent_items level one))
     go true = k
     go false = fronted_indented level one h
 
@@ -88,7 +88,7 @@ kept_front : (t u : Text) → IsFront t → layout.trimmed (t ++ u) ≡ t ++ u
 kept_front [] u h = absurd h
 kept_front (b ∷ t) u h = ap (λ x. cond x (layout.trimmed (t ++ u)) (b ∷ (t ++ u))) h
 
-trimmed_bytes : (is : List Item) → Fronted is → render (trimmed is) ≡ layout.trimmed (render is)
+trimmed_bytes : (is : List Item) → Fronted is → render (trim_items is) ≡ layout.trimmed (render is)
 trimmed_bytes [] h = absurd h
 trimmed_bytes (token s ∷ is) h = sym (kept_front (spell s) (render is) h)
 trimmed_bytes (blank ∷ is) h = trimmed_bytes is h
@@ -140,7 +140,7 @@ decimal_front n r low = let own = (decimal_is_IsNumeral_wide n (omega arith)).0 
 magnitude_front : (d : Exact) → IsExact d → IsFront (magnitude_text d)
 magnitude_front d is = go (d.places == 0)
   where
-    go : (b : Bool) → IsFront (cond b (decimal d.digits ++ replicate d.zeros 48) (decimal (d.digits / 10 ^ d.places) ++ (46 ∷ padded d.places (d.digits % 10 ^ d.places))))
+    go : (b : Bool) → IsFront (cond b (decimal d.digits ++ replicate d.zeros 48) (decimal (d.digits / 10 ^ d.places) ++ (46 ∷ pad_zeros d.places (d.digits % 10 ^ d.places))))
     go true = decimal_front d.digits _ is.short
     go false = decimal_front (d.digits / 10 ^ d.places) _ (let h = div-le_self d.digits (10 ^ d.places) in let s = is.short in omega (arith, h, s))
 
@@ -150,38 +150,38 @@ number_front Inf is plus = refl
 number_front NegInf is plus = cc
 number_front NaN is plus = refl
 
--- ---- pieces over several lines
+-- ---- parts over several lines
 
-indented_bytes : (n : ℕ) (is : List Item) → render (indented n is) ≡ indent n ++ render is
+indented_bytes : (n : ℕ) (is : List Item) → render (indent_items n is) ≡ indent n ++ render is
 indented_bytes zero is = refl
 indented_bytes (suc n) is = ap (λ t. 32 ∷ 32 ∷ t) (indented_bytes n is)
 
-indented_is : (n : ℕ) (is : List Item) (t : Text) → render is ≡ t → render (indented n is) ≡ indent n ++ t
+indented_is : (n : ℕ) (is : List Item) (t : Text) → render is ≡ t → render (indent_items n is) ≡ indent n ++ t
 indented_is n is t e = indented_bytes n is ∙ ap (λ x. indent n ++ x) e
 
-chosen_bytes : (one many : List Item) (level most : ℕ) (s t : Text) → render one ≡ s → render many ≡ t → render (chosen one many level most) ≡ layout.chosen s t level most
-chosen_bytes one many level most s t e f = ap (λ x. render (cond (is_longer most x) many (indented level one))) e ∙ go (is_longer most s)
+chosen_bytes : (one many : List Item) (level most : ℕ) (s t : Text) → render one ≡ s → render many ≡ t → render (choose_items one many level most) ≡ layout.chosen s t level most
+chosen_bytes one many level most s t e f = ap (λ x. render (cond (is_longer most x) many (indent_items level one))) e ∙ go (is_longer most s)
   where
-    go : (b : Bool) → render (cond b many (indented level one)) ≡ cond b t (indent level ++ s)
+    go : (b : Bool) → render (cond b many (indent_items level one)) ≡ cond b t (indent level ++ s)
     go true = f
     go false = indented_is level one s e
 
 closing_bytes : (level : ℕ) (after : List Item) → after ≡ [] → render (closing_line level after) ≡ codes "\n" ++ (indent level ++ codes ")")
-closing_bytes level after e = ap (λ is. render (closing_line level is)) e ∙ ap (λ t. codes "\n" ++ t) (indented_bytes level (token (sign kind.RightParen) ∷ []))
+closing_bytes level after e = ap (λ is. render (closing_line level is)) e ∙ ap (λ t. codes "\n" ++ t) (indented_bytes level (token (punct kind.RightParen) ∷ []))
 
-trimmed_indented : (n : ℕ) (s : Symbol) (is : List Item) → trimmed (indented n (token s ∷ is)) ≡ token s ∷ is
+trimmed_indented : (n : ℕ) (s : Symbol) (is : List Item) → trim_items (indent_items n (token s ∷ is)) ≡ token s ∷ is
 trimmed_indented zero s is = refl
 trimmed_indented (suc n) s is = trimmed_indented n s is
 
 module _ (level most : ℕ) where
   at_lines : (a : Option Moment) (d : Derivation) (t : Text) → render (lines d level most) ≡ t → render (lines (with_at a d) level most) ≡ t ++ at_text a
   at_lines None d t e = e ∙ sym (append-nil t)
-  at_lines (Some m) d t e = glued (lines d level most) (postfix_line (moment m)) t _ e (moment_bytes m)
+  at_lines (Some m) d t e = render_both (lines d level most) (postfix_line (moment m)) t _ e (moment_bytes m)
 
   suffix_lines : (o : Option Shift) (a : Option Moment) (d : Derivation) (t : Text) → render (lines d level most) ≡ t → render (lines (with_suffix o a d) level most) ≡ t ++ (at_text a ++ offset_text o)
   suffix_lines None a d t e = at_lines a d t e ∙ ap (λ x. t ++ x) (sym (append-nil (at_text a)))
   suffix_lines (Some s) a d t e =
-      glued (lines (with_at a d) level most) (postfix_line (shift s)) (t ++ at_text a) _ (at_lines a d t e) (shift_bytes s)
+      render_both (lines (with_at a d) level most) (postfix_line (shift s)) (t ++ at_text a) _ (at_lines a d t e) (shift_bytes s)
       ∙ append_assoc t (at_text a) (offset_text (Some s))
 
   at_fronted : (a : Option Moment) (d : Derivation) → Fronted (lines d level most) → Fronted (lines (with_at a d) level most)
@@ -194,15 +194,15 @@ module _ (level most : ℕ) where
 
   mode_lines : (m : RangeMode) (d : Derivation) (t : Text) → render (lines d level most) ≡ t → render (lines (with_mode m d) level most) ≡ t ++ mode_text m
   mode_lines Plain d t e = e ∙ sym (append-nil t)
-  mode_lines Smoothed d t e = glued (lines d level most) (postfix_line (piece.mode kind.Smoothed (codes "smoothed"))) t _ e refl
-  mode_lines Anchored d t e = glued (lines d level most) (postfix_line (piece.mode kind.Anchored (codes "anchored"))) t _ e refl
+  mode_lines Smoothed d t e = render_both (lines d level most) (postfix_line (part.mode kind.Smoothed (codes "smoothed"))) t _ e refl
+  mode_lines Anchored d t e = render_both (lines d level most) (postfix_line (part.mode kind.Anchored (codes "anchored"))) t _ e refl
 
   mode_fronted : (m : RangeMode) (d : Derivation) → Fronted (lines d level most) → Fronted (lines (with_mode m d) level most)
   mode_fronted Plain d h = h
-  mode_fronted Smoothed d h = fronted_append (lines d level most) (postfix_line (piece.mode kind.Smoothed (codes "smoothed"))) h
-  mode_fronted Anchored d h = fronted_append (lines d level most) (postfix_line (piece.mode kind.Anchored (codes "anchored"))) h
+  mode_fronted Smoothed d h = fronted_append (lines d level most) (postfix_line (part.mode kind.Smoothed (codes "smoothed"))) h
+  mode_fronted Anchored d h = fronted_append (lines d level most) (postfix_line (part.mode kind.Anchored (codes "anchored"))) h
 
-  base_lines : (name : Option Text) (b : Option piece.Braces) → lines (derive_base name b) level most ≡ indented level (line (derive_base name b))
+  base_lines : (name : Option Text) (b : Option part.Braces) → lines (derive_base name b) level most ≡ indent_items level (line (derive_base name b))
   base_lines (Some name) b = refl
   base_lines None (Some b) = refl
   base_lines None None = refl
@@ -213,7 +213,7 @@ module _ (level most : ℕ) where
       go : (b : Bool) → render (lines (cond b (grammar.unary T_SUB (codes "-") (grammar.number (number_text (neg n)))) (grammar.number (number_text n))) level most)
           ≡ indent level ++ (render (signed_line (printed.sign b)) ++ (number_text (cond b (neg n) n) ++ []))
       go true =
-          ap (λ is. render (indented level (token (word (kind.Operator T_SUB) (codes "-")) ∷ is))) (trimmed_indented level (word kind.Number (number_text (neg n))) [])
+          ap (λ is. render (indent_items level (token (word (kind.Operator T_SUB) (codes "-")) ∷ is))) (trimmed_indented level (word kind.Number (number_text (neg n))) [])
           ∙ indented_bytes level (token (word (kind.Operator T_SUB) (codes "-")) ∷ token (word kind.Number (number_text (neg n))) ∷ [])
       go false = indented_bytes level (token (word kind.Number (number_text n)) ∷ [])
 
@@ -228,13 +228,13 @@ suffix_front (Some s) a d h = fronted_append (line (with_at a d)) (postfix_line 
 
 mode_front : (m : RangeMode) (d : Derivation) → Fronted (line d) → Fronted (line (with_mode m d))
 mode_front Plain d h = h
-mode_front Smoothed d h = fronted_append (line d) (postfix_line (piece.mode kind.Smoothed (codes "smoothed"))) h
-mode_front Anchored d h = fronted_append (line d) (postfix_line (piece.mode kind.Anchored (codes "anchored"))) h
+mode_front Smoothed d h = fronted_append (line d) (postfix_line (part.mode kind.Smoothed (codes "smoothed"))) h
+mode_front Anchored d h = fronted_append (line d) (postfix_line (part.mode kind.Anchored (codes "anchored"))) h
 
-nameless_front : (b : Option piece.Braces) → Fronted (line (derive_base None b))
+nameless_front : (b : Option part.Braces) → Fronted (line (derive_base None b))
 nameless_front None = refl
-nameless_front (Some piece.no_item) = refl
-nameless_front (Some (piece.items is)) = refl
+nameless_front (Some part.no_item) = refl
+nameless_front (Some (part.items is)) = refl
 
 number_line_front : (n : Number) → IsNumber n → Fronted (line (derive_number n))
 number_line_front n is = go (is_below_zero n) refl
@@ -247,7 +247,7 @@ number_lines_front : (n : Number) (level most : ℕ) → IsNumber n → Fronted 
 number_lines_front n level most is = go (is_below_zero n) refl
   where
     go : (b : Bool) → is_below_zero n ≡ b → Fronted (lines (cond b (grammar.unary T_SUB (codes "-") (grammar.number (number_text (neg n)))) (grammar.number (number_text n))) level most)
-    go true e = fronted_indented level (token (word (kind.Operator T_SUB) (codes "-")) ∷ trimmed (indented level (token (word kind.Number (number_text (neg n))) ∷ []))) refl
+    go true e = fronted_indented level (token (word (kind.Operator T_SUB) (codes "-")) ∷ trim_items (indent_items level (token (word kind.Number (number_text (neg n))) ∷ []))) refl
     go false e = fronted_indented level (token (word kind.Number (number_text n)) ∷ []) (number_front n is e)
 
 module _ (g : Text → Answer) where
@@ -265,60 +265,60 @@ module _ (g : Text → Answer) where
   line_front (binary op l r m) h = fronted_append (line (derive l)) _ (line_front l h.1)
   line_front (paren e) h = refl
   line_front (subquery e o a range step) h =
-      let below = piece.subquery (time range) (option_map time step) in
+      let below = part.subquery (time range) (option_map time step) in
       suffix_front o a (grammar.postfixed (derive e) below) (fronted_append (line (derive e)) (postfix_line below) (line_front e h.0))
   line_front (number n) h = number_line_front n h
   line_front (string s) h = refl
   line_front (vector (selector name cs o a)) h = suffix_front o a (derive_base name (braces cs)) (base_front name cs h.0)
   line_front (matrix (selector name cs o a) range mode) h =
       let base = derive_base name (braces cs) in
-      let below = grammar.postfixed base (piece.range (time range)) in
-      suffix_front o a (with_mode mode below) (mode_front mode below (fronted_append (line base) (postfix_line (piece.range (time range))) (base_front name cs h.0.0)))
+      let below = grammar.postfixed base (part.range (time range)) in
+      suffix_front o a (with_mode mode below) (mode_front mode below (fronted_append (line base) (postfix_line (part.range (time range))) (base_front name cs h.0.0)))
   line_front (call f ts) h = word_front (name_of f) h.0
   line_front (extension name gives ts) h = absurd h
 
   lines_front : (t : Tree) (level most : ℕ) → Printable g t → Fronted (lines (derive t) level most)
   lines_front (aggregate op e p m) level most h =
       fronted_chosen (line (derive (aggregate op e p m))) _ level most (line_front (aggregate op e p m) h) (fronted_indented level _ (text_front op h.0))
-  lines_front (unary e) level most h = fronted_indented level (token (word (kind.Operator T_SUB) (codes "-")) ∷ trimmed (lines (derive e) level most)) refl
+  lines_front (unary e) level most h = fronted_indented level (token (word (kind.Operator T_SUB) (codes "-")) ∷ trim_items (lines (derive e) level most)) refl
   lines_front (binary op l r m) level most h =
       fronted_chosen (line (derive (binary op l r m))) _ level most (line_front (binary op l r m) h) (fronted_append (lines (derive l) (level + 1) most) _ (lines_front l (level + 1) most h.1))
   lines_front (paren e) level most h = fronted_chosen (line (derive (paren e))) _ level most refl (fronted_indented level _ refl)
   lines_front (subquery e o a range step) level most h =
-      let below = piece.subquery (time range) (option_map time step) in
+      let below = part.subquery (time range) (option_map time step) in
       suffix_fronted level most o a (grammar.postfixed (derive e) below) (fronted_append (lines (derive e) level most) (postfix_line below) (lines_front e level most h.0))
   lines_front (number n) level most h = number_lines_front n level most h
   lines_front (string s) level most h = fronted_indented level (line (derive (string s))) refl
   lines_front (vector (selector name cs o a)) level most h = suffix_fronted level most o a (derive_base name (braces cs)) (base_fronted name cs level most h.0)
   lines_front (matrix (selector name cs o a) range mode) level most h =
       let base = derive_base name (braces cs) in
-      let below = grammar.postfixed base (piece.range (time range)) in
+      let below = grammar.postfixed base (part.range (time range)) in
       suffix_fronted level most o a (with_mode mode below)
-      (mode_fronted level most mode below (fronted_append (lines base level most) (postfix_line (piece.range (time range))) (base_fronted name cs level most h.0.0)))
+      (mode_fronted level most mode below (fronted_append (lines base level most) (postfix_line (part.range (time range))) (base_fronted name cs level most h.0.0)))
   lines_front (call f ts) level most h =
       fronted_chosen (line (derive (call f ts))) _ level most (word_front (name_of f) h.0) (fronted_indented level _ (word_front (name_of f) h.0))
   lines_front (extension name gives ts) level most h = absurd h
 
   -- ---- the layout
 
-  base_laid : (level most : ℕ) (name : Option Text) (cs : PlainMatchers) → IsSelecting g name cs → render (lines (derive_base name (braces cs)) level most) ≡ indent level ++ (selected_name_text name ++ braced (matchers_text cs))
+  base_laid : (level most : ℕ) (name : Option Text) (cs : PlainMatchers) → IsSelecting g name cs → render (lines (derive_base name (braces cs)) level most) ≡ indent level ++ (selected_name_text name ++ with_braces (matchers_text cs))
   base_laid level most name cs h = ap render (base_lines level most name (braces cs)) ∙ indented_is level (line (derive_base name (braces cs))) _ (base_bytes g name cs h)
 
   vector_laid : (level most : ℕ) (s : Selector) → PrintableSelector g s → render (lines (derive (vector s)) level most) ≡ laid (vector s) level most
   vector_laid level most (selector name cs o a) h =
       suffix_lines level most o a (derive_base name (braces cs)) _ (base_laid level most name cs h.0)
-      ∙ append_assoc (indent level) (selected_name_text name ++ braced (matchers_text cs)) (at_text a ++ offset_text o)
+      ∙ append_assoc (indent level) (selected_name_text name ++ with_braces (matchers_text cs)) (at_text a ++ offset_text o)
 
   matrix_laid : (level most : ℕ) (s : Selector) (range : ℕ) (mode : RangeMode) → PrintableSelector g s → render (lines (derive (matrix s range mode)) level most) ≡ laid (matrix s range mode) level most
   matrix_laid level most (selector name cs o a) range mode h =
       let base = derive_base name (braces cs) in
-      let below = grammar.postfixed base (piece.range (time range)) in
-      let b = selected_name_text name ++ braced (matchers_text cs) in
+      let below = grammar.postfixed base (part.range (time range)) in
+      let b = selected_name_text name ++ with_braces (matchers_text cs) in
       let r = codes "[" ++ (duration_text range ++ codes "]") in
       let m = mode_text mode in
       let x = at_text a ++ offset_text o in
-      let is : render (lines below level most) ≡ (indent level ++ b) ++ r = glued (lines base level most) (postfix_line (piece.range (time range))) (indent level ++ b) r (base_laid level most name cs h.0)
-      (ap (λ t. codes "[" ++ t) (glued (time_line (time range)) (token (sign kind.RightBracket) ∷ []) (duration_text range) (codes "]") (time_bytes range) refl)) in
+      let is : render (lines below level most) ≡ (indent level ++ b) ++ r = render_both (lines base level most) (postfix_line (part.range (time range))) (indent level ++ b) r (base_laid level most name cs h.0)
+      (ap (λ t. codes "[" ++ t) (render_both (time_line (time range)) (token (punct kind.RightBracket) ∷ []) (duration_text range) (codes "]") (time_bytes range) refl)) in
       suffix_lines level most o a (with_mode mode below) (((indent level ++ b) ++ r) ++ m) (mode_lines level most mode below ((indent level ++ b) ++ r) is)
       ∙ ap (λ t. t ++ x) (append_assoc (indent level ++ b) r m ∙ append_assoc (indent level) b (r ++ m))
       ∙ append_assoc (indent level) (b ++ (r ++ m)) x
@@ -328,13 +328,13 @@ module _ (g : Text → Answer) where
     pub lines_bytes : (t : Tree) (level most : ℕ) → Printable g t → render (lines (derive t) level most) ≡ laid t level most
     lines_bytes (aggregate op e p m) level most h =
         let after = closing_line level (after_line (clause m)) in
-        let rest = token (sign kind.LeftParen) ∷ newline ∷ arguments_lines (derive_after p (grammar.more (derive e) grammar.none)) (level + 1) most after in
+        let rest = token (punct kind.LeftParen) ∷ newline ∷ arguments_lines (derive_after p (grammar.more (derive e) grammar.none)) (level + 1) most after in
         let close = codes "\n" ++ (indent level ++ codes ")") in
         let inner = layout.param_lines (maybe_laid p (level + 1) most) ++ (laid e (level + 1) most ++ close) in
-        chosen_bytes (line (derive (aggregate op e p m))) (indented level (token (word (kind.Aggregator op) (text_of op)) ∷ (before_line (clause m) ++ rest))) level most (text (aggregate op e p m)) _
+        chosen_bytes (line (derive (aggregate op e p m))) (indent_items level (token (word (kind.Aggregator op) (text_of op)) ∷ (before_line (clause m) ++ rest))) level most (text (aggregate op e p m)) _
         (line_bytes g (aggregate op e p m) h)
         (indented_is level _ (text_of op ++ (clause_text m ++ (codes "(\n" ++ inner)))
-        (ap (λ t. text_of op ++ t) (glued (before_line (clause m)) rest (clause_text m) (codes "(\n" ++ inner) (clause_bytes m)
+        (ap (λ t. text_of op ++ t) (render_both (before_line (clause m)) rest (clause_text m) (codes "(\n" ++ inner) (clause_bytes m)
         (ap (λ t. codes "(\n" ++ t) (param_laid p e (level + 1) most after close h.2 (lines_bytes e (level + 1) most h.1) (closing_bytes level (after_line (clause m)) (nothing_after m))))))
         ∙ ap (λ t. indent level ++ t) (sym (append_assoc (text_of op) (clause_text m) (codes "(\n" ++ inner))))
     lines_bytes (unary e) level most h =
@@ -342,20 +342,20 @@ module _ (g : Text → Answer) where
         (ap (λ t. codes "-" ++ t) (trimmed_bytes (lines (derive e) level most) (lines_front e level most h) ∙ ap layout.trimmed (lines_bytes e level most h)))
     lines_bytes (binary op l r m) level most h =
         let right = modifier_line (modifier m) ++ newline ∷ lines (derive r) (level + 1) most in
-        chosen_bytes (line (derive (binary op l r m))) (lines (derive l) (level + 1) most ++ newline ∷ indented level (token (word (kind.Operator op) (text_of op)) ∷ right)) level most (text (binary op l r m)) _
+        chosen_bytes (line (derive (binary op l r m))) (lines (derive l) (level + 1) most ++ newline ∷ indent_items level (token (word (kind.Operator op) (text_of op)) ∷ right)) level most (text (binary op l r m)) _
         (line_bytes g (binary op l r m) h)
-        (glued (lines (derive l) (level + 1) most) (newline ∷ indented level (token (word (kind.Operator op) (text_of op)) ∷ right)) (laid l (level + 1) most) _ (lines_bytes l (level + 1) most h.1)
+        (render_both (lines (derive l) (level + 1) most) (newline ∷ indent_items level (token (word (kind.Operator op) (text_of op)) ∷ right)) (laid l (level + 1) most) _ (lines_bytes l (level + 1) most h.1)
         (ap (λ t. codes "\n" ++ t) (indented_is level _ (text_of op ++ (matching_text m ++ (codes "\n" ++ laid r (level + 1) most)))
-        (ap (λ t. text_of op ++ t) (glued (modifier_line (modifier m)) (newline ∷ lines (derive r) (level + 1) most) (matching_text m) (codes "\n" ++ laid r (level + 1) most) (modifier_bytes m h.0) (ap (λ t. codes "\n" ++ t) (lines_bytes r (level + 1) most h.2)))))))
+        (ap (λ t. text_of op ++ t) (render_both (modifier_line (modifier m)) (newline ∷ lines (derive r) (level + 1) most) (matching_text m) (codes "\n" ++ laid r (level + 1) most) (modifier_bytes m h.0) (ap (λ t. codes "\n" ++ t) (lines_bytes r (level + 1) most h.2)))))))
     lines_bytes (paren e) level most h =
-        let many = token (sign kind.LeftParen) ∷ newline ∷ (lines (derive e) (level + 1) most ++ closing_line level []) in
-        chosen_bytes (line (derive (paren e))) (indented level many) level most (text (paren e)) _ (line_bytes g (paren e) h)
+        let many = token (punct kind.LeftParen) ∷ newline ∷ (lines (derive e) (level + 1) most ++ closing_line level []) in
+        chosen_bytes (line (derive (paren e))) (indent_items level many) level most (text (paren e)) _ (line_bytes g (paren e) h)
         (indented_is level many (codes "(\n" ++ (laid e (level + 1) most ++ (codes "\n" ++ (indent level ++ codes ")"))))
-        (ap (λ t. codes "(\n" ++ t) (glued (lines (derive e) (level + 1) most) (closing_line level []) (laid e (level + 1) most) _ (lines_bytes e (level + 1) most h) (closing_bytes level [] refl))))
+        (ap (λ t. codes "(\n" ++ t) (render_both (lines (derive e) (level + 1) most) (closing_line level []) (laid e (level + 1) most) _ (lines_bytes e (level + 1) most h) (closing_bytes level [] refl))))
     lines_bytes (subquery e o a range step) level most h =
-        let below = piece.subquery (time range) (option_map time step) in
+        let below = part.subquery (time range) (option_map time step) in
         suffix_lines level most o a (grammar.postfixed (derive e) below) (laid e level most ++ range_text range step)
-        (glued (lines (derive e) level most) (postfix_line below) (laid e level most) (range_text range step) (lines_bytes e level most h.0) (range_bytes range step))
+        (render_both (lines (derive e) level most) (postfix_line below) (laid e level most) (range_text range step) (lines_bytes e level most h.0) (range_bytes range step))
         ∙ append_assoc (laid e level most) (range_text range step) (at_text a ++ offset_text o)
     lines_bytes (number n) level most h = number_lines level most n
     lines_bytes (string s) level most h = indented_is level (line (derive (string s))) (quoted_text s) (append-nil (quoted_text s))
@@ -363,29 +363,29 @@ module _ (g : Text → Answer) where
     lines_bytes (matrix s range mode) level most h = matrix_laid level most s range mode h.0
     lines_bytes (call f ts) level most h =
         let close = codes "\n" ++ (indent level ++ codes ")") in
-        let many = token (word (word_kind (name_of f)) (name_of f)) ∷ token (sign kind.LeftParen) ∷ newline ∷ arguments_lines (derive_all ts) (level + 1) most (closing_line level []) in
-        chosen_bytes (line (derive (call f ts))) (indented level many) level most (text (call f ts)) _ (line_bytes g (call f ts) h)
+        let many = token (word (word_kind (name_of f)) (name_of f)) ∷ token (punct kind.LeftParen) ∷ newline ∷ arguments_lines (derive_all ts) (level + 1) most (closing_line level []) in
+        chosen_bytes (line (derive (call f ts))) (indent_items level many) level most (text (call f ts)) _ (line_bytes g (call f ts) h)
         (indented_is level many (name_of f ++ (codes "(\n" ++ (joined_text (codes ",\n") (laids ts (level + 1) most) ++ close)))
         (ap (λ t. name_of f ++ (codes "(\n" ++ t)) (arguments_laid ts (level + 1) most (closing_line level []) close h.1 (closing_bytes level [] refl))))
     lines_bytes (extension name gives ts) level most h = absurd h
 
     param_laid : (p : MaybeTree) (e : Tree) (level most : ℕ) (after : List Item) (close : Text) → MaybePrintable g p → render (lines (derive e) level most) ≡ laid e level most → render after ≡ close
         → render (arguments_lines (derive_after p (grammar.more (derive e) grammar.none)) level most after) ≡ layout.param_lines (maybe_laid p level most) ++ (laid e level most ++ close)
-    param_laid absent e level most after close k h c = glued (lines (derive e) level most) after (laid e level most) close h c
+    param_laid absent e level most after close k h c = render_both (lines (derive e) level most) after (laid e level most) close h c
     param_laid (present p) e level most after close k h c =
-        glued (lines (derive p) level most) (token (sign kind.Comma) ∷ newline ∷ (lines (derive e) level most ++ after)) (laid p level most) (codes ",\n" ++ (laid e level most ++ close)) (lines_bytes p level most k)
-        (ap (λ t. codes ",\n" ++ t) (glued (lines (derive e) level most) after (laid e level most) close h c))
+        render_both (lines (derive p) level most) (token (punct kind.Comma) ∷ newline ∷ (lines (derive e) level most ++ after)) (laid p level most) (codes ",\n" ++ (laid e level most ++ close)) (lines_bytes p level most k)
+        (ap (λ t. codes ",\n" ++ t) (render_both (lines (derive e) level most) after (laid e level most) close h c))
         ∙ sym (append_assoc (laid p level most) (codes ",\n") (laid e level most ++ close))
 
     arguments_laid : (ts : Trees) (level most : ℕ) (after : List Item) (close : Text) → AllPrintable g ts → render after ≡ close → render (arguments_lines (derive_all ts) level most after) ≡ joined_text (codes ",\n") (laids ts level most) ++ close
     arguments_laid no_trees level most after close h c = c
     arguments_laid (first_tree t ts) level most after close h c =
-        glued (lines (derive t) level most) (rest_lines (derive_all ts) level most after) (laid t level most) _ (lines_bytes t level most h.0) (rest_laid ts level most after close h.1 c)
+        render_both (lines (derive t) level most) (rest_lines (derive_all ts) level most after) (laid t level most) _ (lines_bytes t level most h.0) (rest_laid ts level most after close h.1 c)
         ∙ sym (append_assoc (laid t level most) (flat_map (λ y. codes ",\n" ++ y) (laids ts level most)) close)
 
     rest_laid : (ts : Trees) (level most : ℕ) (after : List Item) (close : Text) → AllPrintable g ts → render after ≡ close → render (rest_lines (derive_all ts) level most after) ≡ flat_map (λ y. codes ",\n" ++ y) (laids ts level most) ++ close
     rest_laid no_trees level most after close h c = c
     rest_laid (first_tree t ts) level most after close h c =
         ap (λ x. codes ",\n" ++ x)
-        (glued (lines (derive t) level most) (rest_lines (derive_all ts) level most after) (laid t level most) _ (lines_bytes t level most h.0) (rest_laid ts level most after close h.1 c)
+        (render_both (lines (derive t) level most) (rest_lines (derive_all ts) level most after) (laid t level most) _ (lines_bytes t level most h.0) (rest_laid ts level most after close h.1 c)
         ∙ sym (append_assoc (laid t level most) (flat_map (λ y. codes ",\n" ++ y) (laids ts level most)) close))

@@ -5,26 +5,26 @@ use Rattle.promql_text.specs.Texts.{Text}
 use Rattle.promql_text.specs.Values.{IsNumber}
 use Rattle.promql_text.specs.declared.number.Number.{Number}
 use Rattle.promql_token.specs.Ids.{is_operator, is_comparison_operator, is_set_operator}
-use Rattle.promql_grammar.specs.declared.kind.Kind.{Kind}
-use Rattle.promql_grammar.specs.declared.kind.Kind.TheVariants as kind
+use Rattle.promql_grammar.specs.declared.token_kinds.TokenKind.{TokenKind}
+use Rattle.promql_grammar.specs.declared.token_kinds.TokenKind.TheVariants as kind
 use Rattle.promql_grammar.specs.Results.{◌then◌}
-use Rattle.promql_grammar.specs.Pieces as piece
+use Rattle.promql_grammar.specs.GrammarParts as part
 use Rattle.promql_grammar.specs.Grammar.{FitsMatching}
 use Rattle.promql_grammar.specs.Symbols.{Symbol}
 use Rattle.promql_kind.specs.Modifiers.{Clause, including, excluding, Cardinality, one_to_one, many_to_one, one_to_many, many_to_many, Fills, fills, Matching, matching, is_grouping, number_eq}
 use Rattle.promql_kind.proofs.Same.{number_eq-Decides}
 use Rattle.promql_ast.specs.Checks.{when, first_fault, unless, is_scalar, is_vector, is_scalar_or_vector}
-use Rattle.promql_ast.specs.Faults as faults
+use Rattle.promql_ast.specs.Faults as build_errors
 use Rattle.promql_ast.specs.Faults.{Verdict, passes, rejected}
 use Rattle.promql_ast.specs.Normal.{normal_matched, normal_matching, unless_default}
 use Rattle.promql_ast.specs.OptionalModifiers.{has_matching_labels, is_grouped, is_on, joint_labels, returns_bool}
 use Rattle.promql_ast.specs.Tree.{Tree, binary}
 use Rattle.promql_ast.specs.Types.{type_of}
-use Rattle.promql_ast.specs.check.Binary.{checked_binary, first_twice, label_fault, operator_fault, set_fault, settled, settled_set, side_fault}
-use Rattle.promql_syntax.specs.Faults.{Fault}
-use Rattle.promql_syntax.specs.PieceBuilding.{cardinality, fill_value, fills_value, group_value, is_blank, label_values, matching_clause, matching_value, modifier_value}
-use Rattle.promql_syntax.proofs.PrintedPieces.{fill_words, flag, group, labels, matched, modifier, value}
-use Rattle.promql_syntax.proofs.PrintedValues.{signed_again, signed_is}
+use Rattle.promql_ast.specs.check.Binary.{checked_binary, first_twice, label_fault, operator_fault, set_fault, settle_matching, settled_set, side_fault}
+use Rattle.promql_syntax.specs.BuildErrors.{BuildError}
+use Rattle.promql_syntax.specs.PartBuilding.{cardinality, fill_value, fills_value, group_value, is_blank, label_values, matching_clause, matching_value, modifier_value}
+use Rattle.promql_syntax.proofs.PrintedParts.{fill_words, flag, group, labels, matching_of_clause, modifier, value}
+use Rattle.promql_syntax.proofs.PrintedTimesAndLabels.{signed_again, signed_is}
 use Rattle.promql_syntax.proofs.PrintedWords.{labels_again, labels_formed}
 use Rattle.promql_syntax.proofs.SingleAnswers.{then_steps, then_leads, same_ok}
 
@@ -36,7 +36,7 @@ IsUngrouped (many_to_one ls) = ⊥
 IsUngrouped (one_to_many ls) = ⊥
 IsUngrouped many_to_many = Unit {0}
 
--- a grouping stands after matching labels
+-- a group word follows matching labels
 abbrev pub IsGroupedAfter : Option Clause → Cardinality → Type 0
 IsGroupedAfter None card = IsUngrouped card
 IsGroupedAfter (Some c) card = Unit {0}
@@ -61,47 +61,47 @@ abbrev pub IsWritten : Option Matching → Type 0
 IsWritten None = Unit {0}
 IsWritten (Some (matching card c return_bool values)) = IsWrittenCard card
 
-cardinality_written : (k : Kind) (ls : List Text) → IsWrittenCard (cardinality k ls)
+cardinality_written : (k : TokenKind) (ls : List Text) → IsWrittenCard (cardinality k ls)
 cardinality_written kind.GroupLeft ls = tt
 cardinality_written k ls = tt
 
-group_written : (g : piece.Group) (card : Cardinality) → group_value g ≡ Ok card → IsWrittenCard card
-group_written piece.no_group card e = subst IsWrittenCard (same_ok _ _ _ _ refl refl e) tt
-group_written (piece.bare k text) card e = subst IsWrittenCard (same_ok _ _ _ _ refl refl e) (cardinality_written k [])
-group_written (piece.listed k text ls) card e =
+group_written : (g : part.Group) (card : Cardinality) → group_value g ≡ Ok card → IsWrittenCard card
+group_written part.no_group card e = subst IsWrittenCard (same_ok _ _ _ _ refl refl e) tt
+group_written (part.bare k text) card e = subst IsWrittenCard (same_ok _ _ _ _ refl refl e) (cardinality_written k [])
+group_written (part.listed k text ls) card e =
     let step = then_steps (label_values ls) (λ x. Ok (cardinality k x)) card e in
     subst IsWrittenCard (same_ok _ _ _ _ refl refl step.leads) (cardinality_written k step.value)
 
 abbrev IsMatchedValue : Cardinality × Option Clause → Type 0
 IsMatchedValue x = IsGroupedAfter x.1 x.0 × IsWrittenCard x.0
 
-matching_is : (m : piece.Matching) (x : Cardinality × Option Clause) → matching_value m ≡ Ok x → IsMatchedValue x
-matching_is piece.no_matching x e = subst IsMatchedValue (same_ok _ _ _ _ refl refl e) (tt, tt)
-matching_is (piece.matching k text ls g) x e =
+matching_is : (m : part.Matching) (x : Cardinality × Option Clause) → matching_value m ≡ Ok x → IsMatchedValue x
+matching_is part.no_matching x e = subst IsMatchedValue (same_ok _ _ _ _ refl refl e) (tt, tt)
+matching_is (part.matching k text ls g) x e =
     let step = then_steps (label_values ls) (λ y. group_value g then λ c. Ok (c, Some (matching_clause k y))) x e in
     let next = then_steps (group_value g) (λ c. Ok (c, Some (matching_clause k step.value))) x step.leads in
     subst IsMatchedValue (same_ok _ _ _ _ refl refl next.leads) (tt, group_written g next.value next.is)
 
-fill_is : (v : piece.Value) (n : Number) → fill_value v ≡ Ok n → IsNumber n
+fill_is : (v : part.FillValue) (n : Number) → fill_value v ≡ Ok n → IsNumber n
 fill_is v n e = signed_is v.sign v.number n e
 
-fills_are : (f : piece.Fills) (x : Fills) → fills_value f ≡ Ok x → AreFills x
-fills_are piece.no_fill x e = subst AreFills (same_ok _ _ _ _ refl refl e) (tt, tt)
-fills_are (piece.both text v) x e =
+fills_are : (f : part.Fills) (x : Fills) → fills_value f ≡ Ok x → AreFills x
+fills_are part.no_fill x e = subst AreFills (same_ok _ _ _ _ refl refl e) (tt, tt)
+fills_are (part.both text v) x e =
     let step = then_steps (fill_value v) (λ n. Ok (fills (Some n) (Some n))) x e in
     let is = fill_is v step.value step.is in
     subst AreFills (same_ok _ _ _ _ refl refl step.leads) (is, is)
-fills_are (piece.left text v) x e =
+fills_are (part.left text v) x e =
     let step = then_steps (fill_value v) (λ n. Ok (fills None (Some n))) x e in
     subst AreFills (same_ok _ _ _ _ refl refl step.leads) (tt, fill_is v step.value step.is)
-fills_are (piece.right text v) x e =
+fills_are (part.right text v) x e =
     let step = then_steps (fill_value v) (λ n. Ok (fills (Some n) None)) x e in
     subst AreFills (same_ok _ _ _ _ refl refl step.leads) (fill_is v step.value step.is, tt)
-fills_are (piece.left_right text v text' w) x e =
+fills_are (part.left_right text v text' w) x e =
     let step = then_steps (fill_value v) (λ n. fill_value w then λ m. Ok (fills (Some m) (Some n))) x e in
     let next = then_steps (fill_value w) (λ m. Ok (fills (Some m) (Some step.value))) x step.leads in
     subst AreFills (same_ok _ _ _ _ refl refl next.leads) (fill_is w next.value next.is, fill_is v step.value step.is)
-fills_are (piece.right_left text v text' w) x e =
+fills_are (part.right_left text v text' w) x e =
     let step = then_steps (fill_value v) (λ n. fill_value w then λ m. Ok (fills (Some n) (Some m))) x e in
     let next = then_steps (fill_value w) (λ m. Ok (fills (Some step.value) (Some m))) x step.leads in
     subst AreFills (same_ok _ _ _ _ refl refl next.leads) (fill_is v step.value step.is, fill_is w next.value next.is)
@@ -109,10 +109,10 @@ fills_are (piece.right_left text v text' w) x e =
 abbrev IsModifierValue : Option Matching → Type 0
 IsModifierValue m = IsMatched m × IsWritten m
 
-pub modifier_is : (w : piece.Modifier) (m : Option Matching) → modifier_value w ≡ Ok m → IsModifierValue m
+pub modifier_is : (w : part.Modifier) (m : Option Matching) → modifier_value w ≡ Ok m → IsModifierValue m
 modifier_is w m e = go (is_blank w.flag w.matching w.fills) e
   where
-    made : Cardinality × Option Clause → Fills → Result (Option Matching) Fault
+    made : Cardinality × Option Clause → Fills → Result (Option Matching) BuildError
     made c f = Ok (Some (matching c.0 c.1 (is_some w.flag) f))
 
     go : (b : Bool) → cond b (Ok None) (matching_value w.matching then λ c. fills_value w.fills then λ f. made c f) ≡ Ok m → IsModifierValue m
@@ -132,9 +132,9 @@ plain_card (one_to_many ls) = one_to_many ls
 plain_card many_to_many = one_to_one
 
 -- the normal form, but for the cardinality of a set operator
-abbrev pub reread : Option Matching → Option Matching
-reread None = None
-reread (Some (matching card c return_bool values)) = unless_default (matching (plain_card card) (normal_matched (is_grouping card) c) return_bool values)
+abbrev pub normal_modifier : Option Matching → Option Matching
+normal_modifier None = None
+normal_modifier (Some (matching card c return_bool values)) = unless_default (matching (plain_card card) (normal_matched (is_grouping card) c) return_bool values)
 
 group_again : (card : Cardinality) → group_value (group card) ≡ Ok (plain_card card)
 group_again one_to_one = refl
@@ -142,7 +142,7 @@ group_again (many_to_one ls) = then_leads (label_values (labels ls)) _ ls _ (lab
 group_again (one_to_many ls) = then_leads (label_values (labels ls)) _ ls _ (labels_again ls) refl
 group_again many_to_many = refl
 
-matching_again : (c : Option Clause) (card : Cardinality) → IsGroupedAfter c card → matching_value (matched c (group card)) ≡ Ok (plain_card card, c)
+matching_again : (c : Option Clause) (card : Cardinality) → IsGroupedAfter c card → matching_value (matching_of_clause c (group card)) ≡ Ok (plain_card card, c)
 matching_again None one_to_one h = refl
 matching_again None (many_to_one ls) h = absurd h
 matching_again None (one_to_many ls) h = absurd h
@@ -158,7 +158,7 @@ fills_again (fills (Some r) None) h = then_leads (fill_value (value r)) _ r _ (s
 fills_again (fills None (Some l)) h = then_leads (fill_value (value l)) _ l _ (signed_again l h.1) refl
 fills_again (fills (Some r) (Some l)) h = go (number_eq l r) refl
   where
-    go : (b : Bool) → number_eq l r ≡ b → fills_value (cond b (piece.both (codes "fill") (value l)) (piece.left_right (codes "fill_left") (value l) (codes "fill_right") (value r))) ≡ Ok (fills (Some r) (Some l))
+    go : (b : Bool) → number_eq l r ≡ b → fills_value (cond b (part.both (codes "fill") (value l)) (part.left_right (codes "fill_left") (value l) (codes "fill_right") (value r))) ≡ Ok (fills (Some r) (Some l))
     go true is =
         let same = (number_eq-Decides l r).0 is in
         then_leads (fill_value (value l)) _ l _ (signed_again l h.1) (ap (λ n. Ok (fills (Some n) (Some l))) same)
@@ -176,12 +176,12 @@ kept_labels card c b values = refl
 -- nothing is written exactly where the rest is the default
 abbrev Shown : Bool → Option Clause → Cardinality → Fills → Type 0
 Shown b c card values =
-    let blank = is_blank (flag b) (matched c (group card)) (fill_words values) in
+    let blank = is_blank (flag b) (matching_of_clause c (group card)) (fill_words values) in
     let kept = unless_default (matching (plain_card card) c b values) in
     ((blank ≡ true) × (kept ≡ None)) ⊎ ((blank ≡ false) × (kept ≡ Some (matching (plain_card card) c b values)))
 
 shown_fills : (values : Fills) →
-    let blank = is_blank None piece.no_matching (fill_words values) in
+    let blank = is_blank None part.no_matching (fill_words values) in
     let kept = unless_default (matching one_to_one None false values) in
     ((blank ≡ true) × (kept ≡ None)) ⊎ ((blank ≡ false) × (kept ≡ Some (matching one_to_one None false values)))
 shown_fills (fills None None) = inl (refl, refl)
@@ -189,36 +189,36 @@ shown_fills (fills (Some r) None) = inr (refl, refl)
 shown_fills (fills None (Some l)) = inr (refl, refl)
 shown_fills (fills (Some r) (Some l)) = inr (go (number_eq l r), refl)
   where
-    go : (b : Bool) → is_blank None piece.no_matching (cond b (piece.both (codes "fill") (value l)) (piece.left_right (codes "fill_left") (value l) (codes "fill_right") (value r))) ≡ false
+    go : (b : Bool) → is_blank None part.no_matching (cond b (part.both (codes "fill") (value l)) (part.left_right (codes "fill_left") (value l) (codes "fill_right") (value r))) ≡ false
     go true = refl
     go false = refl
 
-shown : (b : Bool) (c : Option Clause) (card : Cardinality) (values : Fills) → IsGroupedAfter c card → Shown b c card values
-shown true c card values h = inr (refl, kept_bool (plain_card card) c values)
-shown false (Some (including ls)) card values h = inr (refl, kept_labels (plain_card card) (including ls) false values)
-shown false (Some (excluding ls)) card values h = inr (refl, kept_labels (plain_card card) (excluding ls) false values)
-shown false None (many_to_one ls) values h = absurd h
-shown false None (one_to_many ls) values h = absurd h
-shown false None one_to_one values h = shown_fills values
-shown false None many_to_many values h = shown_fills values
+modifier_shows : (b : Bool) (c : Option Clause) (card : Cardinality) (values : Fills) → IsGroupedAfter c card → Shown b c card values
+modifier_shows true c card values h = inr (refl, kept_bool (plain_card card) c values)
+modifier_shows false (Some (including ls)) card values h = inr (refl, kept_labels (plain_card card) (including ls) false values)
+modifier_shows false (Some (excluding ls)) card values h = inr (refl, kept_labels (plain_card card) (excluding ls) false values)
+modifier_shows false None (many_to_one ls) values h = absurd h
+modifier_shows false None (one_to_many ls) values h = absurd h
+modifier_shows false None one_to_one values h = shown_fills values
+modifier_shows false None many_to_many values h = shown_fills values
 
 flag_again : (b : Bool) → is_some (flag b) ≡ b
 flag_again true = refl
 flag_again false = refl
 
 written_again : (b : Bool) (c : Option Clause) (card : Cardinality) (values : Fills) → IsGroupedAfter c card → AreFills values
-    → modifier_value (record { flag = flag b; matching = matched c (group card); fills = fill_words values }) ≡ Ok (unless_default (matching (plain_card card) c b values))
+    → modifier_value (record { flag = flag b; matching = matching_of_clause c (group card); fills = fill_words values }) ≡ Ok (unless_default (matching (plain_card card) c b values))
 written_again b c card values h k = ⊎_elim
     (λ x. ap (λ o. cond o (Ok None) rest) x.0 ∙ ap Ok (sym x.1))
     (λ x. ap (λ o. cond o (Ok None) rest) x.0 ∙ all ∙ ap Ok (sym x.1))
-    (shown b c card values h)
+    (modifier_shows b c card values h)
   where
-    rest : Result (Option Matching) Fault
-    rest = matching_value (matched c (group card)) then λ x. fills_value (fill_words values) then λ f. Ok (Some (matching x.0 x.1 (is_some (flag b)) f))
+    rest : Result (Option Matching) BuildError
+    rest = matching_value (matching_of_clause c (group card)) then λ x. fills_value (fill_words values) then λ f. Ok (Some (matching x.0 x.1 (is_some (flag b)) f))
 
     all : rest ≡ Ok (Some (matching (plain_card card) c b values))
     all =
-        then_leads (matching_value (matched c (group card))) _ (plain_card card, c) _ (matching_again c card h)
+        then_leads (matching_value (matching_of_clause c (group card))) _ (plain_card card, c) _ (matching_again c card h)
         (then_leads (fills_value (fill_words values)) _ values _ (fills_again values k)
         (ap (λ o. Ok (Some (matching (plain_card card) c o values))) (flag_again b)))
 
@@ -243,14 +243,14 @@ normal_grouped (Some (excluding (l ∷ ls))) (many_to_one ks) h = tt
 normal_grouped (Some (excluding (l ∷ ls))) (one_to_many ks) h = tt
 normal_grouped (Some (excluding (l ∷ ls))) many_to_many h = tt
 
-pub modifier_again : (m : Option Matching) → IsMatched m → modifier_value (modifier m) ≡ Ok (reread m)
+pub modifier_again : (m : Option Matching) → IsMatched m → modifier_value (modifier m) ≡ Ok (normal_modifier m)
 modifier_again None h = refl
 modifier_again (Some (matching card c b values)) h = written_again b (normal_matched (is_grouping card) c) card values (normal_grouped c card h.0) h.1
 
 -- ---- after an operator
 
 -- a written modifier, or that of a set operator without grouping, is settled again to its normal form
-written_settles : (m : Option Matching) → IsWritten m → reread m ≡ normal_matching m
+written_settles : (m : Option Matching) → IsWritten m → normal_modifier m ≡ normal_matching m
 written_settles None h = refl
 written_settles (Some (matching one_to_one c b values)) h = refl
 written_settles (Some (matching (many_to_one ls) c b values)) h = refl
@@ -261,18 +261,18 @@ set_kept : (c : Option Clause) (b : Bool) (values : Fills) → Some (settled_set
 set_kept None false (fills None None) = refl
 set_kept c b values = refl
 
-set_settles : (m : Option Matching) → IsWritten m → is_grouped m ≡ false → Some (settled_set (reread (Some (settled_set m)))) ≡ normal_matching (Some (settled_set m))
+set_settles : (m : Option Matching) → IsWritten m → is_grouped m ≡ false → Some (settled_set (normal_modifier (Some (settled_set m)))) ≡ normal_matching (Some (settled_set m))
 set_settles None h e = refl
 set_settles (Some (matching one_to_one c b values)) h e = set_kept (normal_matched false c) b values
 set_settles (Some (matching (many_to_one ls) c b values)) h e = cc
 set_settles (Some (matching (one_to_many ls) c b values)) h e = cc
 set_settles (Some (matching many_to_many c b values)) h e = absurd h
 
-pub settles : (op : ℕ) (m : Option Matching) → IsWritten m → (is_set_operator op ≡ true → is_grouped m ≡ false) → settled op (reread (settled op m)) ≡ normal_matching (settled op m)
+pub settles : (op : ℕ) (m : Option Matching) → IsWritten m → (is_set_operator op ≡ true → is_grouped m ≡ false) → settle_matching op (normal_modifier (settle_matching op m)) ≡ normal_matching (settle_matching op m)
 settles op m h e = go (is_set_operator op) e
   where
     go : (b : Bool) → (b ≡ true → is_grouped m ≡ false)
-        → cond b (Some (settled_set (reread (cond b (Some (settled_set m)) m)))) (reread (cond b (Some (settled_set m)) m)) ≡ normal_matching (cond b (Some (settled_set m)) m)
+        → cond b (Some (settled_set (normal_modifier (cond b (Some (settled_set m)) m)))) (normal_modifier (cond b (Some (settled_set m)) m)) ≡ normal_matching (cond b (Some (settled_set m)) m)
     go true e = set_settles m h (e refl)
     go false e = written_settles m h
 
@@ -284,7 +284,7 @@ matched_settled (Some (matching (many_to_one ls) c b values)) h = h
 matched_settled (Some (matching (one_to_many ls) c b values)) h = h
 matched_settled (Some (matching many_to_many c b values)) h = h
 
-pub settled_matched : (op : ℕ) (m : Option Matching) → IsMatched m → IsMatched (settled op m)
+pub settled_matched : (op : ℕ) (m : Option Matching) → IsMatched m → IsMatched (settle_matching op m)
 settled_matched op m h = go (is_set_operator op)
   where
     go : (b : Bool) → IsMatched (cond b (Some (settled_set m)) m)
@@ -316,7 +316,7 @@ default_alike : (m : Matching) → Alike (unless_default m) (Some m)
 default_alike (matching one_to_one None false (fills None None)) = record { bool = refl; on = refl; joint = refl; grouped = refl; labels = refl }
 default_alike m = record { bool = refl; on = refl; joint = refl; grouped = refl; labels = refl }
 
-reread_alike : (m : Option Matching) → Alike (reread m) m
+reread_alike : (m : Option Matching) → Alike (normal_modifier m) m
 reread_alike None = same_alike None
 reread_alike (Some (matching card c b values)) =
     both_alike _ (Some (matching (plain_card card) (normal_matched (is_grouping card) c) b values)) _
@@ -334,30 +334,30 @@ set_alike (Some (matching (many_to_one ls) c b values)) = record { bool = refl; 
 set_alike (Some (matching (one_to_many ls) c b values)) = record { bool = refl; on = refl; joint = refl; grouped = refl; labels = refl }
 set_alike (Some (matching many_to_many c b values)) = record { bool = refl; on = refl; joint = refl; grouped = refl; labels = refl }
 
-settled_alike : (op : ℕ) (m : Option Matching) → Alike (settled op m) m
+settled_alike : (op : ℕ) (m : Option Matching) → Alike (settle_matching op m) m
 settled_alike op m = go (is_set_operator op)
   where
     go : (b : Bool) → Alike (cond b (Some (settled_set m)) m) m
     go true = set_alike m
     go false = same_alike m
 
-pub read_alike : (op : ℕ) (m : Option Matching) → Alike (reread (settled op m)) m
-read_alike op m = both_alike _ (settled op m) _ (reread_alike (settled op m)) (settled_alike op m)
+pub read_alike : (op : ℕ) (m : Option Matching) → Alike (normal_modifier (settle_matching op m)) m
+read_alike op m = both_alike _ (settle_matching op m) _ (reread_alike (settle_matching op m)) (settled_alike op m)
 
 -- ---- the checks of a binary expression
 
-unless_passes : (f : Option faults.Fault) (v : Verdict) (u : Tree) → unless f v ≡ passes u → (f ≡ None) × (v ≡ passes u)
+unless_passes : (f : Option build_errors.Fault) (v : Verdict) (u : Tree) → unless f v ≡ passes u → (f ≡ None) × (v ≡ passes u)
 unless_passes (Some f) v u e = cc
 unless_passes None v u e = (refl, e)
 
-no_fault : (f : Option faults.Fault) (v w : Verdict) → f ≡ None → v ≡ w → unless f v ≡ w
+no_fault : (f : Option build_errors.Fault) (v w : Verdict) → f ≡ None → v ≡ w → unless f v ≡ w
 no_fault f v w e h = ap (λ f. unless f v) e ∙ h
 
-when_none : (b : Bool) (f : faults.Fault) → when b f ≡ None → b ≡ false
+when_none : (b : Bool) (f : build_errors.Fault) → when b f ≡ None → b ≡ false
 when_none true f e = cc
 when_none false f e = refl
 
-both_none : (a b : Bool) (f g : faults.Fault) → first_fault (when a f ∷ when b g ∷ []) ≡ None → (a ≡ false) × (b ≡ false)
+both_none : (a b : Bool) (f g : build_errors.Fault) → first_fault (when a f ∷ when b g ∷ []) ≡ None → (a ≡ false) × (b ≡ false)
 both_none true b f g e = cc
 both_none false true f g e = cc
 both_none false false f g e = (refl, refl)
@@ -375,7 +375,7 @@ pub record Checked (op : ℕ) (l r : Tree) (m : Option Matching) (t : Tree) : Ty
   pub label : label_fault m ≡ None
   pub set : set_fault op (type_of l) (type_of r) m ≡ None
   pub side : side_fault (type_of l) (type_of r) m ≡ None
-  pub is : binary op l r (settled op m) ≡ t
+  pub is : binary op l r (settle_matching op m) ≡ t
 
 pub binary_checked : (op : ℕ) (l r : Tree) (m : Option Matching) (t : Tree) → checked_binary op l r m ≡ passes t → Checked op l r m t
 binary_checked op l r m t e =
@@ -385,8 +385,8 @@ binary_checked op l r m t e =
     let four = unless_passes (side_fault (type_of l) (type_of r) m) _ t three.1 in
     record { operator = one.0; label = two.0; set = three.0; side = four.0; is = cc }
 
-pub ungrouped : (op : ℕ) (l r : Tree) (m : Option Matching) (t : Tree) → Checked op l r m t → is_set_operator op ≡ true → is_grouped m ≡ false
-ungrouped op l r m t c e =
+pub set_has_no_group : (op : ℕ) (l r : Tree) (m : Option Matching) (t : Tree) → Checked op l r m t → is_set_operator op ≡ true → is_grouped m ≡ false
+set_has_no_group op l r m t c e =
     let set = both_none (is_set_operator op && (is_scalar (type_of l) || is_scalar (type_of r))) (is_set_operator op && ((is_vector (type_of l) && is_vector (type_of r)) && is_grouped m)) _ _ c.set in
     let side = both_none (not (is_scalar_or_vector (type_of l) && is_scalar_or_vector (type_of r))) (not (is_vector (type_of l) && is_vector (type_of r)) && has_matching_labels m) _ _ c.side in
     ungrouped_of (is_scalar (type_of l)) (is_vector (type_of l)) (is_scalar (type_of r)) (is_vector (type_of r)) (is_grouped m)
@@ -396,7 +396,7 @@ ungrouped op l r m t c e =
 
 -- trees of the same types and a modifier that says the same pass
 pub checked_again : (op : ℕ) (l r l' r' : Tree) (m m' : Option Matching) (t : Tree) → type_of l' ≡ type_of l → type_of r' ≡ type_of r → Alike m' m → Checked op l r m t
-    → checked_binary op l' r' m' ≡ passes (binary op l' r' (settled op m'))
+    → checked_binary op l' r' m' ≡ passes (binary op l' r' (settle_matching op m'))
 checked_again op l r l' r' m m' t el er a c =
     no_fault (operator_fault op (type_of l') (type_of r') m') _ _ (operator ∙ c.operator)
     (no_fault (label_fault m') _ _ (label ∙ c.label)
@@ -405,9 +405,9 @@ checked_again op l r l' r' m m' t el er a c =
   where
     operator : operator_fault op (type_of l') (type_of r') m' ≡ operator_fault op (type_of l) (type_of r) m
     operator = λ i. first_fault (
-        when (not (is_operator op)) (faults.binary_operator op)
-        ∷ when (a.bool i && not (is_comparison_operator op)) faults.bool_modifier
-        ∷ when (is_comparison_operator op && (is_scalar (el i) && (is_scalar (er i) && not (a.bool i)))) faults.scalar_comparison
+        when (not (is_operator op)) (build_errors.binary_operator op)
+        ∷ when (a.bool i && not (is_comparison_operator op)) build_errors.bool_modifier
+        ∷ when (is_comparison_operator op && (is_scalar (el i) && (is_scalar (er i) && not (a.bool i)))) build_errors.scalar_comparison
         ∷ [])
 
     label : label_fault m' ≡ label_fault m
@@ -415,49 +415,49 @@ checked_again op l r l' r' m m' t el er a c =
 
     set : set_fault op (type_of l') (type_of r') m' ≡ set_fault op (type_of l) (type_of r) m
     set = λ i. first_fault (
-        when (is_set_operator op && (is_scalar (el i) || is_scalar (er i))) (faults.set_on_scalar op)
-        ∷ when (is_set_operator op && ((is_vector (el i) && is_vector (er i)) && a.grouped i)) (faults.no_grouping op)
+        when (is_set_operator op && (is_scalar (el i) || is_scalar (er i))) (build_errors.set_on_scalar op)
+        ∷ when (is_set_operator op && ((is_vector (el i) && is_vector (er i)) && a.grouped i)) (build_errors.no_grouping op)
         ∷ [])
 
     side : side_fault (type_of l') (type_of r') m' ≡ side_fault (type_of l) (type_of r) m
     side = λ i. first_fault (
-        when (not (is_scalar_or_vector (el i) && is_scalar_or_vector (er i))) faults.binary_types
-        ∷ when (not (is_vector (el i) && is_vector (er i)) && a.labels i) faults.vector_matching
+        when (not (is_scalar_or_vector (el i) && is_scalar_or_vector (er i))) build_errors.binary_types
+        ∷ when (not (is_vector (el i) && is_vector (er i)) && a.labels i) build_errors.vector_matching
         ∷ [])
 
 -- ---- the grammar's conditions
 
-group_formed : (card : Cardinality) → piece.IsGroup (group card)
+group_formed : (card : Cardinality) → part.IsGroup (group card)
 group_formed one_to_one = tt
 group_formed (many_to_one ls) = (refl, labels_formed ls)
 group_formed (one_to_many ls) = (refl, labels_formed ls)
 group_formed many_to_many = tt
 
-matched_formed : (c : Option Clause) (card : Cardinality) → piece.IsMatching (matched c (group card))
+matched_formed : (c : Option Clause) (card : Cardinality) → part.IsMatching (matching_of_clause c (group card))
 matched_formed None card = tt
 matched_formed (Some (including ls)) card = (refl, labels_formed ls, group_formed card)
 matched_formed (Some (excluding ls)) card = (refl, labels_formed ls, group_formed card)
 
-signed_formed : (b : Bool) → piece.IsSigned (Rattle.promql_syntax.proofs.PrintedPieces.sign b)
+signed_formed : (b : Bool) → part.IsSigned (Rattle.promql_syntax.proofs.PrintedParts.sign b)
 signed_formed true = refl
 signed_formed false = tt
 
-fills_formed : (values : Fills) → piece.IsFills (fill_words values)
+fills_formed : (values : Fills) → part.IsFills (fill_words values)
 fills_formed (fills None None) = tt
 fills_formed (fills (Some r) None) = signed_formed _
 fills_formed (fills None (Some l)) = signed_formed _
 fills_formed (fills (Some r) (Some l)) = go (number_eq l r)
   where
-    go : (b : Bool) → piece.IsFills (cond b (piece.both (codes "fill") (value l)) (piece.left_right (codes "fill_left") (value l) (codes "fill_right") (value r)))
+    go : (b : Bool) → part.IsFills (cond b (part.both (codes "fill") (value l)) (part.left_right (codes "fill_left") (value l) (codes "fill_right") (value r)))
     go true = signed_formed _
     go false = (signed_formed _, signed_formed _)
 
-pub modifier_formed : (m : Option Matching) → piece.IsModifier (modifier m)
+pub modifier_formed : (m : Option Matching) → part.IsModifier (modifier m)
 modifier_formed None = (tt, tt)
 modifier_formed (Some (matching card c b values)) = (matched_formed (normal_matched (is_grouping card) c) card, fills_formed values)
 
 -- a printed grouping word has its labels, so that a right side may begin with a parenthesis
-fits_matched : (c : Option Clause) (card : Cardinality) (f : piece.Fills) (ts : List Symbol) → FitsMatching (matched c (group card)) f ts
+fits_matched : (c : Option Clause) (card : Cardinality) (f : part.Fills) (ts : List Symbol) → FitsMatching (matching_of_clause c (group card)) f ts
 fits_matched None card f ts = tt
 fits_matched (Some (including ls)) one_to_one f ts = tt
 fits_matched (Some (including ls)) (many_to_one ks) f ts = tt

@@ -7,20 +7,20 @@ use Rattle.promql_text.specs.NumberText.{read_number}
 use Rattle.promql_text.specs.Texts.{Text}
 use Rattle.promql_text.specs.Values.{neg}
 use Rattle.promql_text.specs.declared.number.Number.{Number}
-use Rattle.promql_grammar.specs.declared.kind.Kind.{Kind}
-use Rattle.promql_grammar.specs.declared.kind.Kind.TheVariants as kind
-use Rattle.promql_grammar.specs.Pieces as piece
+use Rattle.promql_grammar.specs.declared.token_kinds.TokenKind.{TokenKind}
+use Rattle.promql_grammar.specs.declared.token_kinds.TokenKind.TheVariants as kind
+use Rattle.promql_grammar.specs.GrammarParts as part
 use Rattle.promql_ast.specs.AtTimes.{at_of_millis, at_of_number}
 use Rattle.promql_ast.specs.Shifts.{Shift, back, ahead, Moment, at_time, time_text}
 use Rattle.promql_ast.proofs.PrintedMoments.{millis_fits, size_reads, size_text}
-use Rattle.promql_syntax.specs.Building.{bound}
-use Rattle.promql_syntax.specs.PieceBuilding.{at_fault, is_minus, moment_value, number_fault, number_value, shift, shift_value, signed_number, time_value}
-use Rattle.promql_syntax.proofs.PrintedPieces.{seconds_text, sign}
+use Rattle.promql_syntax.specs.Building.{bound_moment}
+use Rattle.promql_syntax.specs.PartBuilding.{at_fault, is_minus, moment_value, number_fault, number_value, shift, shift_value, signed_number, time_value}
+use Rattle.promql_syntax.proofs.PrintedParts.{seconds_text, sign}
 use Rattle.promql_syntax.proofs.Printable.{IsMoment, IsShift}
-use Rattle.promql_syntax.proofs.PrintedValues.{IsTime, time_is}
+use Rattle.promql_syntax.proofs.PrintedTimesAndLabels.{IsTime, time_is}
 use Rattle.promql_syntax.proofs.SingleAnswers.{same_ok, then_leads, then_steps}
 
-pub shift_is : (s : piece.Signed) (t : piece.Time) (x : Shift) → shift_value s t ≡ Ok x → IsShift (Some x)
+pub shift_is : (s : part.Signed) (t : part.Time) (x : Shift) → shift_value s t ≡ Ok x → IsShift (Some x)
 shift_is s t x e =
     let step = then_steps (time_value t) (λ n. Ok (shift s n)) x e in
     subst (λ y. IsShift (Some y)) (same_ok _ _ _ _ refl refl step.leads) (go (is_minus s) step.value (time_is t step.value step.is))
@@ -29,7 +29,7 @@ shift_is s t x e =
     go true n is = is
     go false n is = is
 
-pub bound_is : (k : Kind) → IsMoment (bound k)
+pub bound_is : (k : TokenKind) → IsMoment (bound_moment k)
 bound_is kind.Start = tt
 bound_is k = tt
 
@@ -49,7 +49,7 @@ moment_again t fits =
     then_leads (signed_number (sign (is_negative t)) (seconds_text t)) _ (cond (is_negative t) (neg r.0) r.0) _
     (number_after (is_negative t) (seconds_text t) r.0 (ap read_number (seconds_are t) ∙ r.1)) (ap at_fault r.2)
 
-pub moment_is : (s : piece.Signed) (text : Text) (m : Moment) → moment_value s text ≡ Ok m → IsMoment m
+pub moment_is : (s : part.Signed) (text : Text) (m : Moment) → moment_value s text ≡ Ok m → IsMoment m
 moment_is s text m e =
     let step = then_steps (signed_number s text) (λ n. at_fault (at_of_number n)) m e in
     go step.value (to_millis step.value) refl step.leads

@@ -9,129 +9,129 @@ use Rattle.promql_text.specs.Texts.{Text}
 use Rattle.promql_token.specs.Cursor.{is_before_end}
 use Rattle.promql_token.specs.Ids.{keyword_in_any_case}
 use Rattle.promql_token.specs.Lexing as lexing
-use Rattle.promql_token.specs.Pieces.{is_fill, name_id, opens, word_id}
-use Rattle.promql_token.specs.Spelling.{AreSpelled, IsSpelled, IsWordToken, in_braces_after, is_no_word, no_words}
+use Rattle.promql_token.specs.TokenScanning.{is_fill, name_id, opens, word_id}
+use Rattle.promql_token.specs.TokenSpelling.{AreSpelled, IsSpelled, IsWordToken, in_braces_after, is_no_word, no_words}
 use Rattle.promql_token.specs.declared.fault.LexFault.{LexFault}
 use Rattle.promql_token.specs.declared.ids.TheConstants.{T_IDENTIFIER}
-use Rattle.promql_token.proofs.Spelled.{spelled}
-use Rattle.promql_grammar.specs.declared.kind.Kind.{Kind}
-use Rattle.promql_grammar.specs.declared.kind.Kind.TheVariants as kind
-use Rattle.promql_grammar.specs.declared.kind.TheConstants.{KINDS}
+use Rattle.promql_token.proofs.SpelledTokens.{tokens_are_spelled}
+use Rattle.promql_grammar.specs.declared.token_kinds.TokenKind.{TokenKind}
+use Rattle.promql_grammar.specs.declared.token_kinds.TokenKind.TheVariants as kind
+use Rattle.promql_grammar.specs.declared.token_kinds.TheConstants.{TOKEN_KINDS}
 use Rattle.promql_grammar.specs.Grammar as grammar
 use Rattle.promql_grammar.specs.Grammar.{Derivation, Arguments, yield, yield_arguments, yield_rest, IsWellFormed, AreWellFormed}
-use Rattle.promql_grammar.specs.Pieces as piece
+use Rattle.promql_grammar.specs.GrammarParts as part
 use Rattle.promql_grammar.specs.Results.{on_result}
-use Rattle.promql_grammar.specs.Symbols.{Symbol, is_sign, kind_of, may_be_called, may_be_name, sign, symbol_of, word}
-use Rattle.promql_syntax.specs.Answers.{Derives}
+use Rattle.promql_grammar.specs.Symbols.{Symbol, is_punct, token_kind, may_be_called, may_be_name, punct, symbol_of, word}
+use Rattle.promql_syntax.specs.ParseAnswers.{Derives}
 use Rattle.promql_syntax.proofs.Booleans.{and_cases, or_cases}
 use Rattle.promql_syntax.proofs.Derive.{AllHaveWords, HasWords, IsName, IsUnsigned}
-use Rattle.promql_syntax.specs.Lexing.{Token, tokens}
-use Rattle.promql_syntax.proofs.PrintedPieces.{word_kind}
-use Rattle.promql_syntax.proofs.KindRows.{by_table, same_operator}
+use Rattle.promql_syntax.specs.SourceTokens.{Token, tokens}
+use Rattle.promql_syntax.proofs.PrintedParts.{word_kind}
+use Rattle.promql_syntax.proofs.TokenKindRows.{by_table, same_operator}
 use Rattle.promql_syntax.proofs.UnsignedNumbers.{read_unsigned}
 
 -- ---- tests of ids and their kinds, by the table
 
-abbrev is_number : Kind → Bool
+abbrev is_number : TokenKind → Bool
 is_number kind.Number = true
 is_number k = false
 
-number_id : (id : ℕ) → kind_of id ≡ kind.Number → id ≡ 15
+number_id : (id : ℕ) → token_kind id ≡ kind.Number → id ≡ 15
 number_id id is =
-    let test = by_table (λ id k. not (is_number k) || (id == 15)) KINDS (λ id. refl) refl id in
+    let test = by_table (λ id k. not (is_number k) || (id == 15)) TOKEN_KINDS (λ id. refl) refl id in
     eqb-true id 15 (ap (λ k. not (is_number k) || (id == 15)) (sym is) ∙ test)
 
--- in braces after a sign
-abbrev in_after : Bool → Kind → Bool
+-- in braces after punctuation
+abbrev in_after : Bool → TokenKind → Bool
 in_after inside kind.LeftBrace = true
 in_after inside kind.RightBrace = false
 in_after inside k = inside
 
-close_id : (id : ℕ) → in_after true (kind_of id) ≡ false → (id == 16) ≡ true
+close_id : (id : ℕ) → in_after true (token_kind id) ≡ false → (id == 16) ≡ true
 close_id id is =
-    let test = by_table (λ id k. in_after true k || (id == 16)) KINDS (λ id. refl) refl id in
+    let test = by_table (λ id k. in_after true k || (id == 16)) TOKEN_KINDS (λ id. refl) refl id in
     ap (λ b. b || (id == 16)) (sym is) ∙ test
 
 split : (c : Bool) {X : Type 0} → (c ≡ true → X) → (c ≡ false → X) → X
 split true f g = f refl
 split false f g = g refl
 
-left_brace : (id : ℕ) → (id == 9) ≡ true → in_after false (kind_of id) ≡ true
-left_brace id is = subst (λ k. in_after false (kind_of k) ≡ true) (sym (eqb-true id 9 is)) refl
+left_brace : (id : ℕ) → (id == 9) ≡ true → in_after false (token_kind id) ≡ true
+left_brace id is = subst (λ k. in_after false (token_kind k) ≡ true) (sym (eqb-true id 9 is)) refl
 
 -- where a text is in braces after a token, the symbols say so
-out_again : (c b : Bool) (id : ℕ) → (c ≡ false → b ≡ false) → in_after c (kind_of id) ≡ false → in_braces_after b id ≡ false
+out_again : (c b : Bool) (id : ℕ) → (c ≡ false → b ≡ false) → in_after c (token_kind id) ≡ false → in_braces_after b id ≡ false
 out_again true b id before out = subst (λ k. in_braces_after b k ≡ false) (sym (eqb-true id 16 (close_id id out))) refl
 out_again false b id before out =
     split (id == 9) (λ yes. let left = left_brace id yes in absurd (cc)) (λ apart.
     ap (λ c. cond c true (cond (id == 10) false (cond ((id == 16) || (id == 17)) false b))) apart
     ∙ cond_both (id == 10) false _ (λ c. c ≡ false) (λ _. refl) (λ _. cond_both ((id == 16) || (id == 17)) false b (λ c. c ≡ false) (λ _. refl) (λ _. before refl)))
 
-word_stays : (inside : Bool) (k : Kind) → is_sign k ≡ false → in_after inside k ≡ inside
+word_stays : (inside : Bool) (k : TokenKind) → is_punct k ≡ false → in_after inside k ≡ inside
 word_stays inside kind.LeftBrace plain = cc
 word_stays inside kind.RightBrace plain = cc
 word_stays inside k plain = refl
 
 -- ---- words
 
-record Fits (k : Kind) (text : Text) : Type 0 where
+record Fits (k : TokenKind) (text : Text) : Type 0 where
   name : may_be_name k ≡ true → IsName k text
   number : k ≡ kind.Number → IsUnsigned (read_number text)
-  operator : (op : ℕ) → k ≡ kind.Operator op → kind_of op ≡ kind.Operator op
+  operator : (op : ℕ) → k ≡ kind.Operator op → token_kind op ≡ kind.Operator op
 
 -- outside braces, names are words of their kinds, numbers have no sign and operators have their ids
 abbrev AllFit : Bool → List Symbol → Type 0
 AllFit inside [] = Unit {0}
-AllFit inside (sign k ∷ ts) = AllFit (in_after inside k) ts
+AllFit inside (punct k ∷ ts) = AllFit (in_after inside k) ts
 AllFit inside (word k text ∷ ts) = (inside ≡ false → Fits k text) × AllFit inside ts
 
-fill_no_name : (id : ℕ) → is_fill id ≡ true → may_be_name (kind_of id) ≡ false
+fill_no_name : (id : ℕ) → is_fill id ≡ true → may_be_name (token_kind id) ≡ false
 fill_no_name id is =
     ⊎_elim (λ h. ⊎_elim (λ h. at 71 refl h) (λ h. at 72 refl h) (or_cases (id == 71) (id == 72) h)) (λ h. at 73 refl h) (or_cases ((id == 71) || (id == 72)) (id == 73) is)
   where
-    at : (n : ℕ) → may_be_name (kind_of n) ≡ false → (id == n) ≡ true → may_be_name (kind_of id) ≡ false
-    at n none h = subst (λ k. may_be_name (kind_of k) ≡ false) (sym (eqb-true id n h)) none
+    at : (n : ℕ) → may_be_name (token_kind n) ≡ false → (id == n) ≡ true → may_be_name (token_kind id) ≡ false
+    at n none h = subst (λ k. may_be_name (token_kind k) ≡ false) (sym (eqb-true id n h)) none
 
 -- a word that may be a name is the same whatever follows it
-same_word : (w rest : Text) → may_be_name (kind_of (word_id w rest)) ≡ true → word_id w rest ≡ word_id w []
+same_word : (w rest : Text) → may_be_name (token_kind (word_id w rest)) ≡ true → word_id w rest ≡ word_id w []
 same_word w rest = by_id (unwrap_or (keyword_in_any_case w) (name_id w)) (opens rest)
   where
-    go : (fill before : Bool) (id : ℕ) → is_fill id ≡ fill → may_be_name (kind_of (cond (fill && not before) T_IDENTIFIER id)) ≡ true → cond (fill && not before) T_IDENTIFIER id ≡ cond (fill && true) T_IDENTIFIER id
+    go : (fill before : Bool) (id : ℕ) → is_fill id ≡ fill → may_be_name (token_kind (cond (fill && not before) T_IDENTIFIER id)) ≡ true → cond (fill && not before) T_IDENTIFIER id ≡ cond (fill && true) T_IDENTIFIER id
     go false before id is may = refl
     go true false id is may = refl
     go true true id is may = let none = fill_no_name id is in absurd (cc)
 
-    by_id : (id : ℕ) (before : Bool) → may_be_name (kind_of (cond (is_fill id && not before) T_IDENTIFIER id)) ≡ true → cond (is_fill id && not before) T_IDENTIFIER id ≡ cond (is_fill id && true) T_IDENTIFIER id
+    by_id : (id : ℕ) (before : Bool) → may_be_name (token_kind (cond (is_fill id && not before) T_IDENTIFIER id)) ≡ true → cond (is_fill id && not before) T_IDENTIFIER id ≡ cond (is_fill id && true) T_IDENTIFIER id
     by_id id before = go (is_fill id) before id refl
 
-no_name : (ids : List ℕ) (id : ℕ) → list_all (λ k. not (may_be_name (kind_of k))) ids ≡ true → list_any (λ k. id == k) ids ≡ true → may_be_name (kind_of id) ≡ true → ⊥
+no_name : (ids : List ℕ) (id : ℕ) → list_all (λ k. not (may_be_name (token_kind k))) ids ≡ true → list_any (λ k. id == k) ids ≡ true → may_be_name (token_kind id) ≡ true → ⊥
 no_name [] id all is may = cc
 no_name (k ∷ ids) id all is may =
-    let both = and_cases (not (may_be_name (kind_of k))) _ all in
-    ⊎_elim (λ h. let same : may_be_name (kind_of k) ≡ true = subst (λ n. may_be_name (kind_of n) ≡ true) (eqb-true id k h) may in let first = both.0 in cc)
+    let both = and_cases (not (may_be_name (token_kind k))) _ all in
+    ⊎_elim (λ h. let same : may_be_name (token_kind k) ≡ true = subst (λ n. may_be_name (token_kind n) ≡ true) (eqb-true id k h) may in let first = both.0 in cc)
     (λ h. no_name ids id both.1 h may) (or_cases (id == k) (list_any (λ k. id == k) ids) is)
 
-name_of_token : (t : Token) → IsWordToken t ⊎ (is_no_word t.0 ≡ true) → may_be_name (kind_of t.0) ≡ true → IsName (kind_of t.0) t.1
+name_of_token : (t : Token) → IsWordToken t ⊎ (is_no_word t.0 ≡ true) → may_be_name (token_kind t.0) ≡ true → IsName (token_kind t.0) t.1
 unfolding word_kind
 name_of_token t (inl h) may =
     let id = h.1.1 in
-    let named : may_be_name (kind_of (word_id t.1 h.1.0)) ≡ true = subst (λ n. may_be_name (kind_of n) ≡ true) id may in
-    record { letters = h.0; kind = ap kind_of (id ∙ same_word t.1 h.1.0 named) }
+    let named : may_be_name (token_kind (word_id t.1 h.1.0)) ≡ true = subst (λ n. may_be_name (token_kind n) ≡ true) id may in
+    record { letters = h.0; kind = ap token_kind (id ∙ same_word t.1 h.1.0 named) }
 name_of_token t (inr h) may = absurd (no_name no_words t.0 refl h may)
 
-token_fits : (t : Token) → IsSpelled t → Fits (kind_of t.0) t.1
+token_fits : (t : Token) → IsSpelled t → Fits (token_kind t.0) t.1
 token_fits t s = record { name = λ may. name_of_token t s.word may; number = λ is. read_unsigned t.1 (s.number (number_id t.0 is)); operator = λ op is. same_operator t.0 op is }
 
 -- ---- the tokens of a text
 
-front_fits : (c b s : Bool) (t : Token) (ts : List Symbol) → (c ≡ false → b ≡ false) → (b ≡ false → IsSpelled t) → is_sign (kind_of t.0) ≡ s
-    → ((d : Bool) → (d ≡ false → in_braces_after b t.0 ≡ false) → AllFit d ts) → AllFit c (cond s (sign (kind_of t.0)) (word (kind_of t.0) t.1) ∷ ts)
-front_fits c b true t ts before here is more = more (in_after c (kind_of t.0)) (out_again c b t.0 before)
-front_fits c b false t ts before here is more = (λ out. token_fits t (here (before out)), more c (λ out. out_again c b t.0 before (word_stays c (kind_of t.0) is ∙ out)))
+front_fits : (c b s : Bool) (t : Token) (ts : List Symbol) → (c ≡ false → b ≡ false) → (b ≡ false → IsSpelled t) → is_punct (token_kind t.0) ≡ s
+    → ((d : Bool) → (d ≡ false → in_braces_after b t.0 ≡ false) → AllFit d ts) → AllFit c (cond s (punct (token_kind t.0)) (word (token_kind t.0) t.1) ∷ ts)
+front_fits c b true t ts before here is more = more (in_after c (token_kind t.0)) (out_again c b t.0 before)
+front_fits c b false t ts before here is more = (λ out. token_fits t (here (before out)), more c (λ out. out_again c b t.0 before (word_stays c (token_kind t.0) is ∙ out)))
 
 all_fit : (c b : Bool) (ts : List Token) → (c ≡ false → b ≡ false) → AreSpelled b ts → AllFit c (map symbol_of ts)
 all_fit c b [] before s = tt
-all_fit c b (t ∷ ts) before s = front_fits c b (is_sign (kind_of t.0)) t (map symbol_of ts) before s.0 refl (λ d out. all_fit d (in_braces_after b t.0) ts out s.1)
+all_fit c b (t ∷ ts) before s = front_fits c b (is_punct (token_kind t.0)) t (map symbol_of ts) before s.0 refl (λ d out. all_fit d (in_braces_after b t.0) ts out s.1)
 
 before_end : (b : Bool) (ts : List Token) → AreSpelled b ts → AreSpelled b (filter is_before_end ts)
 before_end b [] s = tt
@@ -147,19 +147,19 @@ tokens_fit text ts is = by_result (lexing.tokens text) refl is
     by_result : (r : Result (List Token) LexFault) → lexing.tokens text ≡ r → on_result (map symbol_of) (on_result (filter is_before_end) r) ≡ Ok ts → AllFit false ts
     by_result (Ok list) lexed e =
         let same : map symbol_of (filter is_before_end list) ≡ ts = cc in
-        subst (AllFit false) same (all_fit false false (filter is_before_end list) (λ out. out) (before_end false list (spelled text list lexed)))
+        subst (AllFit false) same (all_fit false false (filter is_before_end list) (λ out. out) (before_end false list (tokens_are_spelled text list lexed)))
     by_result (Err f) lexed e = cc
 
 -- ---- parts of lists
 
 abbrev behind : Bool → List Symbol → Bool
 behind inside [] = inside
-behind inside (sign k ∷ ts) = behind (in_after inside k) ts
+behind inside (punct k ∷ ts) = behind (in_after inside k) ts
 behind inside (word k text ∷ ts) = behind inside ts
 
 behind_append : (b : Bool) (ts us : List Symbol) → behind b (ts ++ us) ≡ behind (behind b ts) us
 behind_append b [] us = refl
-behind_append b (sign k ∷ ts) us = behind_append (in_after b k) ts us
+behind_append b (punct k ∷ ts) us = behind_append (in_after b k) ts us
 behind_append b (word k text ∷ ts) us = behind_append b ts us
 
 -- parts that end outside braces, where they begin there
@@ -168,12 +168,12 @@ both ts us first second = behind_append false ts us ∙ ap (λ b. behind b us) f
 
 left_fits : (b : Bool) (ts us : List Symbol) → AllFit b (ts ++ us) → AllFit b ts
 left_fits b [] us h = tt
-left_fits b (sign k ∷ ts) us h = left_fits (in_after b k) ts us h
+left_fits b (punct k ∷ ts) us h = left_fits (in_after b k) ts us h
 left_fits b (word k text ∷ ts) us h = (h.0, left_fits b ts us h.1)
 
 right_fits : (b : Bool) (ts us : List Symbol) → AllFit b (ts ++ us) → AllFit (behind b ts) us
 right_fits b [] us h = h
-right_fits b (sign k ∷ ts) us h = right_fits (in_after b k) ts us h
+right_fits b (punct k ∷ ts) us h = right_fits (in_after b k) ts us h
 right_fits b (word k text ∷ ts) us h = right_fits b ts us h.1
 
 past_fits : (ts us : List Symbol) → behind false ts ≡ false → AllFit false (ts ++ us) → AllFit false us
@@ -181,108 +181,108 @@ past_fits ts us out h = subst (λ b. AllFit b us) out (right_fits false ts us h)
 
 -- ---- parts of a derivation end outside braces
 
-time_out : (t : piece.Time) → behind false (piece.yield_time t) ≡ false
-time_out (piece.seconds text) = refl
-time_out (piece.duration text) = refl
+time_out : (t : part.Time) → behind false (part.yield_time t) ≡ false
+time_out (part.seconds text) = refl
+time_out (part.duration text) = refl
 
-signed_out : (s : piece.Signed) → behind false (piece.yield_signed s) ≡ false
-signed_out piece.unsigned = refl
-signed_out (piece.signed op text) = refl
+signed_out : (s : part.Signed) → behind false (part.yield_signed s) ≡ false
+signed_out part.unsigned = refl
+signed_out (part.signed op text) = refl
 
-names_out : (n : piece.Names) → behind false (piece.yield_names n) ≡ false
-names_out (piece.last k text) = refl
-names_out (piece.last_comma k text) = refl
-names_out (piece.next k text names) = names_out names
+names_out : (n : part.Names) → behind false (part.yield_names n) ≡ false
+names_out (part.last k text) = refl
+names_out (part.last_comma k text) = refl
+names_out (part.next k text names) = names_out names
 
-labels_out : (ls : piece.Labels) → behind false (piece.yield_labels ls) ≡ false
-labels_out piece.no_label = refl
-labels_out (piece.labels names) = names_out names
+labels_out : (ls : part.Labels) → behind false (part.yield_labels ls) ≡ false
+labels_out part.no_label = refl
+labels_out (part.labels names) = names_out names
 
-grouping_out : (g : piece.Grouping) → behind false (piece.yield_grouping g) ≡ false
-grouping_out (piece.by text ls) = labels_out ls
-grouping_out (piece.without text ls) = labels_out ls
+grouping_out : (g : part.Grouping) → behind false (part.yield_grouping g) ≡ false
+grouping_out (part.by text ls) = labels_out ls
+grouping_out (part.without text ls) = labels_out ls
 
-before_out : (c : piece.Clause) → behind false (piece.yield_before c) ≡ false
-before_out piece.no_clause = refl
-before_out (piece.before g) = grouping_out g
-before_out (piece.after g) = refl
+before_out : (c : part.Clause) → behind false (part.yield_before c) ≡ false
+before_out part.no_clause = refl
+before_out (part.before g) = grouping_out g
+before_out (part.after g) = refl
 
-after_out : (c : piece.Clause) → behind false (piece.yield_after c) ≡ false
-after_out piece.no_clause = refl
-after_out (piece.before g) = refl
-after_out (piece.after g) = grouping_out g
+after_out : (c : part.Clause) → behind false (part.yield_after c) ≡ false
+after_out part.no_clause = refl
+after_out (part.before g) = refl
+after_out (part.after g) = grouping_out g
 
-group_out : (g : piece.Group) → behind false (piece.yield_group g) ≡ false
-group_out piece.no_group = refl
-group_out (piece.bare k text) = refl
-group_out (piece.listed k text ls) = labels_out ls
+group_out : (g : part.Group) → behind false (part.yield_group g) ≡ false
+group_out part.no_group = refl
+group_out (part.bare k text) = refl
+group_out (part.listed k text ls) = labels_out ls
 
-matching_out : (m : piece.Matching) → behind false (piece.yield_matching m) ≡ false
-matching_out piece.no_matching = refl
-matching_out (piece.matching k text ls g) = both (piece.yield_labels ls) (piece.yield_group g) (labels_out ls) (group_out g)
+matching_out : (m : part.Matching) → behind false (part.yield_matching m) ≡ false
+matching_out part.no_matching = refl
+matching_out (part.matching k text ls g) = both (part.yield_labels ls) (part.yield_group g) (labels_out ls) (group_out g)
 
-value_out : (v : piece.Value) → behind false (piece.yield_value v) ≡ false
-value_out v = both (piece.yield_signed v.sign) (word kind.Number v.number ∷ sign kind.RightParen ∷ []) (signed_out v.sign) refl
+value_out : (v : part.FillValue) → behind false (part.yield_value v) ≡ false
+value_out v = both (part.yield_signed v.sign) (word kind.Number v.number ∷ punct kind.RightParen ∷ []) (signed_out v.sign) refl
 
-fills_out : (f : piece.Fills) → behind false (piece.yield_fills f) ≡ false
-fills_out piece.no_fill = refl
-fills_out (piece.both text v) = value_out v
-fills_out (piece.left text v) = value_out v
-fills_out (piece.right text v) = value_out v
-fills_out (piece.left_right text v text' w) = both (piece.yield_value v) (word kind.FillRight text' ∷ piece.yield_value w) (value_out v) (value_out w)
-fills_out (piece.right_left text v text' w) = both (piece.yield_value v) (word kind.FillLeft text' ∷ piece.yield_value w) (value_out v) (value_out w)
+fills_out : (f : part.Fills) → behind false (part.yield_fills f) ≡ false
+fills_out part.no_fill = refl
+fills_out (part.both text v) = value_out v
+fills_out (part.left text v) = value_out v
+fills_out (part.right text v) = value_out v
+fills_out (part.left_right text v text' w) = both (part.yield_value v) (word kind.FillRight text' ∷ part.yield_value w) (value_out v) (value_out w)
+fills_out (part.right_left text v text' w) = both (part.yield_value v) (word kind.FillLeft text' ∷ part.yield_value w) (value_out v) (value_out w)
 
-flag_out : (f : Option Text) → behind false (piece.yield_flag f) ≡ false
+flag_out : (f : Option Text) → behind false (part.yield_flag f) ≡ false
 flag_out None = refl
 flag_out (Some text) = refl
 
-modifier_out : (m : piece.Modifier) → behind false (piece.yield_modifier m) ≡ false
+modifier_out : (m : part.Modifier) → behind false (part.yield_modifier m) ≡ false
 modifier_out m =
-    both (piece.yield_flag m.flag) (piece.yield_matching m.matching ++ piece.yield_fills m.fills) (flag_out m.flag)
-    (both (piece.yield_matching m.matching) (piece.yield_fills m.fills) (matching_out m.matching) (fills_out m.fills))
+    both (part.yield_flag m.flag) (part.yield_matching m.matching ++ part.yield_fills m.fills) (flag_out m.flag)
+    (both (part.yield_matching m.matching) (part.yield_fills m.fills) (matching_out m.matching) (fills_out m.fills))
 
-match_inside : (s : piece.MatchSign) (ts : List Symbol) → behind true (piece.yield_match_sign s ∷ ts) ≡ behind true ts
-match_inside piece.equal ts = refl
-match_inside (piece.not_equal text) ts = refl
-match_inside piece.equal_regex ts = refl
-match_inside piece.not_equal_regex ts = refl
+match_inside : (s : part.MatchOperator) (ts : List Symbol) → behind true (part.yield_match_sign s ∷ ts) ≡ behind true ts
+match_inside part.equal ts = refl
+match_inside (part.not_equal text) ts = refl
+match_inside part.equal_regex ts = refl
+match_inside part.not_equal_regex ts = refl
 
-item_inside : (i : piece.Item) → behind true (piece.yield_item i) ≡ true
-item_inside (piece.matcher k text s value) = match_inside s (word kind.Str value ∷ [])
-item_inside (piece.lone text) = refl
+item_inside : (i : part.Item) → behind true (part.yield_item i) ≡ true
+item_inside (part.matcher k text s value) = match_inside s (word kind.String value ∷ [])
+item_inside (part.lone text) = refl
 
-inside_then : (i : piece.Item) (us : List Symbol) → behind true us ≡ false → behind true (piece.yield_item i ++ us) ≡ false
-inside_then i us more = behind_append true (piece.yield_item i) us ∙ ap (λ b. behind b us) (item_inside i) ∙ more
+inside_then : (i : part.Item) (us : List Symbol) → behind true us ≡ false → behind true (part.yield_item i ++ us) ≡ false
+inside_then i us more = behind_append true (part.yield_item i) us ∙ ap (λ b. behind b us) (item_inside i) ∙ more
 
-separator_inside : (s : piece.Separator) (ts : List Symbol) → behind true (piece.yield_separator s ∷ ts) ≡ behind true ts
-separator_inside piece.comma ts = refl
-separator_inside (piece.or text) ts = refl
+separator_inside : (s : part.Separator) (ts : List Symbol) → behind true (part.yield_separator s ∷ ts) ≡ behind true ts
+separator_inside part.comma ts = refl
+separator_inside (part.or text) ts = refl
 
-items_out : (is : piece.Items) → behind true (piece.yield_items is) ≡ false
-items_out (piece.last_item i) = inside_then i (sign kind.RightBrace ∷ []) refl
-items_out (piece.last_item_comma i) = inside_then i (sign kind.Comma ∷ sign kind.RightBrace ∷ []) refl
-items_out (piece.next_item i s is) = inside_then i (piece.yield_separator s ∷ piece.yield_items is) (separator_inside s (piece.yield_items is) ∙ items_out is)
+items_out : (is : part.Items) → behind true (part.yield_items is) ≡ false
+items_out (part.last_item i) = inside_then i (punct kind.RightBrace ∷ []) refl
+items_out (part.last_item_comma i) = inside_then i (punct kind.Comma ∷ punct kind.RightBrace ∷ []) refl
+items_out (part.next_item i s is) = inside_then i (part.yield_separator s ∷ part.yield_items is) (separator_inside s (part.yield_items is) ∙ items_out is)
 
-braces_out : (b : piece.Braces) → behind false (piece.yield_braces b) ≡ false
-braces_out piece.no_item = refl
-braces_out (piece.items is) = items_out is
+braces_out : (b : part.Braces) → behind false (part.yield_braces b) ≡ false
+braces_out part.no_item = refl
+braces_out (part.items is) = items_out is
 
-any_braces_out : (b : Option piece.Braces) → behind false (piece.yield_any_braces b) ≡ false
+any_braces_out : (b : Option part.Braces) → behind false (part.yield_any_braces b) ≡ false
 any_braces_out None = refl
 any_braces_out (Some b) = braces_out b
 
-step_out : (t : Option piece.Time) → behind false (piece.yield_step t) ≡ false
+step_out : (t : Option part.Time) → behind false (part.yield_step t) ≡ false
 step_out None = refl
 step_out (Some t) = time_out t
 
-postfix_out : (p : piece.Postfix) → behind false (piece.yield_postfix p) ≡ false
-postfix_out (piece.range t) = both (piece.yield_time t) (sign kind.RightBracket ∷ []) (time_out t) refl
-postfix_out (piece.subquery t s) =
-    both (piece.yield_time t) (sign kind.Colon ∷ (piece.yield_step s ++ sign kind.RightBracket ∷ [])) (time_out t) (both (piece.yield_step s) (sign kind.RightBracket ∷ []) (step_out s) refl)
-postfix_out (piece.at_number s text) = both (piece.yield_signed s) (word kind.Number text ∷ []) (signed_out s) refl
-postfix_out (piece.at_bound k text) = refl
-postfix_out (piece.offset text s t) = both (piece.yield_signed s) (piece.yield_time t) (signed_out s) (time_out t)
-postfix_out (piece.mode k text) = refl
+postfix_out : (p : part.Postfix) → behind false (part.yield_postfix p) ≡ false
+postfix_out (part.range t) = both (part.yield_time t) (punct kind.RightBracket ∷ []) (time_out t) refl
+postfix_out (part.subquery t s) =
+    both (part.yield_time t) (punct kind.Colon ∷ (part.yield_step s ++ punct kind.RightBracket ∷ [])) (time_out t) (both (part.yield_step s) (punct kind.RightBracket ∷ []) (step_out s) refl)
+postfix_out (part.at_number s text) = both (part.yield_signed s) (word kind.Number text ∷ []) (signed_out s) refl
+postfix_out (part.at_bound k text) = refl
+postfix_out (part.offset text s t) = both (part.yield_signed s) (part.yield_time t) (signed_out s) (time_out t)
+postfix_out (part.mode k text) = refl
 
 mutual
   all_out : (d : Derivation) → behind false (yield d) ≡ false
@@ -291,14 +291,14 @@ mutual
   all_out (grammar.string text) = refl
   all_out (grammar.selector k text b) = any_braces_out b
   all_out (grammar.nameless b) = braces_out b
-  all_out (grammar.paren d) = both (yield d) (sign kind.RightParen ∷ []) (all_out d) refl
+  all_out (grammar.paren d) = both (yield d) (punct kind.RightParen ∷ []) (all_out d) refl
   all_out (grammar.call k text ds) = arguments_out ds
   all_out (grammar.aggregate op text c ds) =
-      both (piece.yield_before c) (sign kind.LeftParen ∷ (yield_arguments ds ++ piece.yield_after c)) (before_out c) (both (yield_arguments ds) (piece.yield_after c) (arguments_out ds) (after_out c))
-  all_out (grammar.postfixed d p) = both (yield d) (piece.yield_postfix p) (all_out d) (postfix_out p)
+      both (part.yield_before c) (punct kind.LeftParen ∷ (yield_arguments ds ++ part.yield_after c)) (before_out c) (both (yield_arguments ds) (part.yield_after c) (arguments_out ds) (after_out c))
+  all_out (grammar.postfixed d p) = both (yield d) (part.yield_postfix p) (all_out d) (postfix_out p)
   all_out (grammar.unary op text d) = all_out d
   all_out (grammar.binary op text m l r) =
-      both (yield l) (word (kind.Operator op) text ∷ (piece.yield_modifier m ++ yield r)) (all_out l) (both (piece.yield_modifier m) (yield r) (modifier_out m) (all_out r))
+      both (yield l) (word (kind.Operator op) text ∷ (part.yield_modifier m ++ yield r)) (all_out l) (both (part.yield_modifier m) (yield r) (modifier_out m) (all_out r))
 
   arguments_out : (ds : Arguments) → behind false (yield_arguments ds) ≡ false
   arguments_out grammar.none = refl
@@ -310,8 +310,8 @@ mutual
 
 -- ---- the words of a derivation
 
-called_may_be_name : (k : Kind) → may_be_called k ≡ true → may_be_name k ≡ true
-called_may_be_name kind.Name may = refl
+called_may_be_name : (k : TokenKind) → may_be_called k ≡ true → may_be_name k ≡ true
+called_may_be_name kind.Identifier may = refl
 called_may_be_name kind.Start may = refl
 called_may_be_name kind.End may = refl
 called_may_be_name k may = cc
@@ -323,16 +323,16 @@ mutual
   words_fit (grammar.string text) h f = tt
   words_fit (grammar.selector k text b) h f = (f.0 refl).name h.0
   words_fit (grammar.nameless b) h f = tt
-  words_fit (grammar.paren d) h f = words_fit d h (left_fits false (yield d) (sign kind.RightParen ∷ []) f)
+  words_fit (grammar.paren d) h f = words_fit d h (left_fits false (yield d) (punct kind.RightParen ∷ []) f)
   words_fit (grammar.call k text ds) h f = ((f.0 refl).name (called_may_be_name k h.0), arguments_fit ds h.1 f.1)
   words_fit (grammar.aggregate op text c ds) h f =
-      arguments_fit ds h.1 (left_fits false (yield_arguments ds) (piece.yield_after c) (past_fits (piece.yield_before c) (sign kind.LeftParen ∷ (yield_arguments ds ++ piece.yield_after c)) (before_out c) f.1))
-  words_fit (grammar.postfixed d p) h f = words_fit d h.0 (left_fits false (yield d) (piece.yield_postfix p) f)
+      arguments_fit ds h.1 (left_fits false (yield_arguments ds) (part.yield_after c) (past_fits (part.yield_before c) (punct kind.LeftParen ∷ (yield_arguments ds ++ part.yield_after c)) (before_out c) f.1))
+  words_fit (grammar.postfixed d p) h f = words_fit d h.0 (left_fits false (yield d) (part.yield_postfix p) f)
   words_fit (grammar.unary op text d) h f = words_fit d h.1 f.1
   words_fit (grammar.binary op text m l r) h f =
-      let rest = past_fits (yield l) (word (kind.Operator op) text ∷ (piece.yield_modifier m ++ yield r)) (all_out l) f in (
-        words_fit l h.0 (left_fits false (yield l) (word (kind.Operator op) text ∷ (piece.yield_modifier m ++ yield r)) f),
-        words_fit r h.1 (past_fits (piece.yield_modifier m) (yield r) (modifier_out m) rest.1),
+      let rest = past_fits (yield l) (word (kind.Operator op) text ∷ (part.yield_modifier m ++ yield r)) (all_out l) f in (
+        words_fit l h.0 (left_fits false (yield l) (word (kind.Operator op) text ∷ (part.yield_modifier m ++ yield r)) f),
+        words_fit r h.1 (past_fits (part.yield_modifier m) (yield r) (modifier_out m) rest.1),
         (rest.0 refl).operator op refl,
       )
 

@@ -1,13 +1,13 @@
--- Building that asks `regex` about patterns (docs/GRAMMAR.md, "Answers about patterns").
+-- Building that asks `regex` about patterns (docs/reference/grammar.md, "Answers about patterns").
 use Rattle.std.specs.Prelude.{◌≡◌, List, [], ◌∷◌, Result, Ok, Err}
 use Rattle.promql_text.specs.Texts.{Text}
 use Rattle.promql_label.specs.Answers.{Answer, Allows}
-use Rattle.promql_syntax.specs.Faults.{Fault}
+use Rattle.promql_syntax.specs.BuildErrors.{BuildError}
 
--- a value, a fault, or a question about a pattern and what each answer leads to
+-- a value, an error, or a question about a pattern and what each answer leads to
 pub data Asking (A : Type 0) : Type 0 where
   gives : A → Asking A
-  fails : Fault → Asking A
+  fails : BuildError → Asking A
   asks : Text → (Answer → Asking A) → Asking A
 
 -- first the one, then what its value leads to
@@ -18,7 +18,7 @@ abbrev pub ◌giving◌ : {A B : Type 0} → Asking A → (A → Asking B) → A
 (asks v next) giving f = asks v (λ a. next a giving f)
 
 -- what asks nothing
-abbrev pub known : {A : Type 0} → Result A Fault → Asking A
+abbrev pub known : {A : Type 0} → Result A BuildError → Asking A
 known (Ok x) = gives x
 known (Err fault) = fails fault
 
@@ -33,7 +33,7 @@ AreAllowed [] = Unit {0}
 AreAllowed (a ∷ more) = Allows a.about a.answer × AreAllowed more
 
 -- the questions are these, in this order, and with these answers the end is the result
-abbrev pub Ends : {A : Type 0} → Asking A → List Asked → Result A Fault → Type 0
+abbrev pub Ends : {A : Type 0} → Asking A → List Asked → Result A BuildError → Type 0
 Ends (gives x) [] result = result ≡ Ok x
 Ends (gives x) (a ∷ more) result = ⊥
 Ends (fails fault) [] result = result ≡ Err fault
@@ -42,7 +42,7 @@ Ends (asks v next) [] result = ⊥
 Ends (asks v next) (a ∷ more) result = (a.about ≡ v) × Ends (next a.answer) more result
 
 -- the end, where each pattern has one answer
-abbrev pub under : {A : Type 0} → (Text → Answer) → Asking A → Result A Fault
+abbrev pub under : {A : Type 0} → (Text → Answer) → Asking A → Result A BuildError
 under answers (gives x) = Ok x
 under answers (fails fault) = Err fault
 under answers (asks v next) = under answers (next (answers v))

@@ -1,18 +1,19 @@
-//! The parser, over tokens that are drawn one by one.
+//! The parser, with a function for each rule of docs/reference/grammar.md. It lexes each token when it comes
+//! to it.
 
 pub mod aggregate;
-pub mod building;
+pub mod atom;
+pub mod build;
+pub mod build_atom;
+pub mod build_error;
 pub mod call;
-pub mod clause;
 pub mod expression;
-pub mod fault;
-pub mod front;
+pub mod grouping;
 pub mod labels;
-pub mod leaf;
 pub mod modifier;
-pub mod part;
+pub mod parsed;
 pub mod postfix;
+pub mod precedence;
 pub mod selector;
-pub mod signs;
 pub mod string;
 pub mod time;

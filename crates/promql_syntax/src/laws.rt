@@ -9,7 +9,7 @@ ghost use Rattle.promql_ast.specs.Layout.{laid};
 ghost use Rattle.promql_ast.specs.Normal.{normal};
 ghost use Rattle.promql_ast.specs.Text.{text};
 ghost use Rattle.promql_ast.specs.Tree.{Tree};
-ghost use Rattle.promql_syntax.specs.Answers.{HasTree, IsServed, Refusal, refusal_of};
+ghost use Rattle.promql_syntax.specs.ParseAnswers.{HasTree, IsServed, PlainParseError, plain_error_of};
 ghost use Rattle.promql_syntax.specs.Asking.{AreAnswersOf, Asked};
 
 use crate::parser::ParseError;
@@ -23,7 +23,7 @@ pub fn one_tree()
 
 /// Errors are equal exactly if they are of one kind, with the same data.
 pub fn equal_errors()
-    ensures { IsSameBy refusal_of ⟦<ParseError as PartialEq>⟧.eq }
+    ensures { IsSameBy plain_error_of ⟦<ParseError as PartialEq>⟧.eq }
 {
     promql_token::laws::equal_faults();
 }
@@ -33,7 +33,7 @@ pub fn answers_are_trees()
     ensures has { (g : Text → Answer) (source : Text) (answers : List Asked) (t : Tree)
         → IsServed source answers (Ok t) → AreAnswersOf g answers → HasTree g source t }
     ensures is { (g : Text → Answer) (source : Text) (answers : List Asked)
-        (answer : Result Tree Refusal) (t : Tree) → IsServed source answers answer
+        (answer : Result Tree PlainParseError) (t : Tree) → IsServed source answers answer
         → AreAnswersOf g answers → HasTree g source t → answer ≡ Ok t }
 {}
 

@@ -1,4 +1,4 @@
-//! Reads PromQL into a tree (docs/GRAMMAR.md). `promql_parser` passes its names on.
+//! Reads PromQL into a tree (docs/reference/grammar.md). `promql_parser` passes its names on.
 #![tactic(auto)]
 
 mod grammar;

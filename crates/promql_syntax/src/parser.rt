@@ -1,15 +1,15 @@
 //! From a text to its tree.
 
 ghost use Rattle.std.specs.Prelude.{◌≡◌};
-ghost use Rattle.promql_syntax.specs.Answers.{IsAnswerTo, answer_of};
-ghost use Rattle.promql_syntax.specs.Halts.{fault_error, first_of};
-ghost use Rattle.promql_syntax.specs.Lexing.{tokens, has_any};
+ghost use Rattle.promql_syntax.specs.ParseAnswers.{IsAnswerTo, answer_of};
+ghost use Rattle.promql_syntax.specs.ParseErrors.{error_of_build, first_error};
+ghost use Rattle.promql_syntax.specs.SourceTokens.{tokens, has_any};
 
-use crate::grammar::expression::read_all;
-use crate::grammar::fault::Fault;
+use crate::grammar::build_error::BuildError;
+use crate::grammar::expression::parse_query;
 use crate::tokens::{Tokens, has_tokens};
 use promql_ast::{AtFault, CheckFault, Expr};
-use promql_grammar::Halt;
+use promql_grammar::ReadError;
 use promql_text::{DurationFault, NumberFault};
 use promql_token::LexFault;
 use std::alloc::{AllocError, Global};
@@ -18,7 +18,7 @@ use thiserror::Error;
 /// The greatest height of an expression.
 pub const MAX_DEPTH: usize = 512;
 
-/// Why a text has no tree (docs/GRAMMAR.md, "The answer to a text").
+/// Why a text has no tree (docs/reference/grammar.md, "The answer to a text").
 #[derive(PartialEq, Eq, Debug, Drop, Error)]
 pub enum ParseError {
     /// An allocation failed.
@@ -82,66 +82,65 @@ impl From<LexFault> for ParseError {
     }
 }
 
-impl From<Halt> for ParseError {
+impl From<ReadError> for ParseError {
     ghost use Rattle.std.specs.Prelude.{◌≡◌};
-    ghost use Rattle.promql_syntax.specs.Halts.{error_of};
+    ghost use Rattle.promql_syntax.specs.ParseErrors.{error_of};
 
-    ghost from_gives = { λ halt e. e ≡ error_of halt };
+    ghost from_gives = { λ error e. e ≡ error_of error };
 
-    fn from(halt: Halt) -> ParseError {
-        match halt {
-            Halt::Memory => ParseError::Memory,
-            Halt::Syntax => ParseError::Syntax,
-            Halt::TooDeep => ParseError::TooDeep,
+    fn from(error: ReadError) -> ParseError {
+        match error {
+            ReadError::Memory => ParseError::Memory,
+            ReadError::Syntax => ParseError::Syntax,
+            ReadError::TooDeep => ParseError::TooDeep,
         }
     }
 }
 
-impl From<Fault> for ParseError {
+impl From<BuildError> for ParseError {
     ghost use Rattle.std.specs.Prelude.{◌≡◌};
-    ghost use Rattle.promql_syntax.specs.Halts.{fault_error};
+    ghost use Rattle.promql_syntax.specs.ParseErrors.{error_of_build};
 
-    ghost from_gives = { λ fault e. e ≡ fault_error fault };
+    ghost from_gives = { λ error e. e ≡ error_of_build error };
 
-    fn from(fault: Fault) -> ParseError {
-        match fault {
-            Fault::Number(fault) => ParseError::Number(fault),
-            Fault::Quoted => ParseError::Quoted,
-            Fault::Duration(fault) => ParseError::Duration(fault),
-            Fault::At(fault) => ParseError::At(fault),
-            Fault::Pattern(value) => ParseError::Pattern(value),
-            Fault::UnknownFunction(name) => ParseError::UnknownFunction(name),
-            Fault::Check(fault) => ParseError::Check(fault),
+    fn from(error: BuildError) -> ParseError {
+        match error {
+            BuildError::Number(fault) => ParseError::Number(fault),
+            BuildError::Quoted => ParseError::Quoted,
+            BuildError::Duration(fault) => ParseError::Duration(fault),
+            BuildError::At(fault) => ParseError::At(fault),
+            BuildError::Pattern(value) => ParseError::Pattern(value),
+            BuildError::UnknownFunction(name) => ParseError::UnknownFunction(name),
+            BuildError::Check(fault) => ParseError::Check(fault),
         }
     }
 }
 
-/// The tree of a text (docs/GRAMMAR.md, "The answer to a text").
+/// The tree of a text (docs/reference/grammar.md, "The answer to a text").
 ///
-/// `Empty` and `Lex` come before any other error, want of memory included: a text that is refused
-/// is looked through for them, without an allocation. A text that is accepted is read once.
+/// `Empty` and `Lex` come before any other error, out of memory included: a text that is rejected
+/// is lexed once more, without an allocation. A text that is accepted is lexed once.
 pub fn parse(alloc: Global, text: &str) -> Result<Expr, ParseError>
     ensures { IsAnswerTo text.now (answer_of result) }
 {
     promql_ast::laws::checked_trees_are_typed();
-    match read_all(alloc, MAX_DEPTH, Tokens::new(text)) {
+    match parse_query(alloc, MAX_DEPTH, Tokens::new(text)) {
         Ok(Ok(expr)) => Ok(Box::into_inner(expr)),
-        Ok(Err(fault)) => Err(first_refusal(text, refusal_of(fault))),
-        Err(halt) => Err(first_refusal(text, ParseError::from(halt))),
+        Ok(Err(error)) => Err(first_error(text, parse_error_of(error))),
+        Err(error) => Err(first_error(text, ParseError::from(error))),
     }
 }
 
-/// The error of a fault.
-fn refusal_of(fault: Box<Fault>) -> ParseError
-    ensures { result ≡ fault_error fault.value }
+fn parse_error_of(error: Box<BuildError>) -> ParseError
+    ensures { result ≡ error_of_build error.value }
 {
-    ParseError::from(Box::into_inner(fault))
+    ParseError::from(Box::into_inner(error))
 }
 
-/// Why a text has no tree: its lexical fault, or that it has no token, comes before what reading
+/// The first error of a text: its lexical fault, or that it has no token, comes before what parsing
 /// found.
-fn first_refusal(text: &str, found: ParseError) -> ParseError
-    ensures { result ≡ first_of (has_any (tokens text.now)) found }
+fn first_error(text: &str, found: ParseError) -> ParseError
+    ensures { result ≡ first_error (has_any (tokens text.now)) found }
 {
     match has_tokens(text) {
         Ok(true) => found,

@@ -1,11 +1,13 @@
 //! The tokens of a text before its end, or its lexical fault.
 
-ghost use Rattle.std.specs.Prelude.{◌≡◌, ◌==◌, List, [], ◌∷◌, ◌++◌, length, drop, Ok, Err, map, MatchOption};
-ghost use Rattle.promql_syntax.specs.Lexing.{Token, tokens, has_any};
+ghost use Rattle.std.specs.Prelude.{◌≡◌, ◌==◌, List, [], ◌∷◌, ◌++◌, false, length, drop, Ok, Err, map, IfErr, IfOk, MatchBool, MatchOption};
+ghost use Rattle.promql_syntax.specs.SourceTokens.{Token, tokens, has_any};
 ghost use Rattle.promql_grammar.specs.Symbols.{Symbol, symbol, symbol_of};
-ghost use Rattle.promql_syntax.specs.Drawing.{symbols_left, drawn, fault_mark};
+ghost use Rattle.promql_grammar.specs.declared.read_error.ReadError.TheVariants.{Syntax};
+ghost use Rattle.promql_syntax.specs.PartTokens.{Eats, HasNo};
+ghost use Rattle.promql_syntax.specs.SymbolsLeft.{symbols_left, cursor_symbols, fault_symbol};
 
-use promql_grammar::{Kind, kind_of};
+use promql_grammar::{ReadError, TokenKind, token_kind};
 use promql_token::LexFault;
 use promql_token::cursor::Cursor;
 use promql_token::ids::T_EOF;
@@ -24,22 +26,22 @@ pub fn has_tokens(text: &str) -> Result<bool, LexFault>
     Ok(some)
 }
 
-/// What comes first of a text's tokens.
+/// The first of the tokens that are left.
 #[derive(Clone, Copy)]
-pub enum Front<'a> {
+pub enum Lookahead<'a> {
     /// A token's kind and text.
-    Token(Kind, &'a str),
+    Token(TokenKind, &'a str),
     /// The text's lexical fault.
     Fault,
     End,
 }
 
-/// What is left of a text's tokens before its end or its lexical fault. The first one is read and
-/// classified; those after it are drawn from the text when they are asked for. A lexical fault
-/// comes last, as a token of a kind that no expression has.
+/// The tokens that are left of a text, before its end or its lexical fault, with a lookahead of
+/// one. Those after the first are lexed when they become the first. A lexical fault comes last, as
+/// a token of a kind that no expression has.
 #[derive(Clone, Copy)]
 pub struct Tokens<'a> {
-    front: Front<'a>,
+    lookahead: Lookahead<'a>,
     rest: Cursor<'a>,
 }
 
@@ -49,52 +51,93 @@ impl<'a> Tokens<'a> {
         ensures whole { (list : List Token) → tokens text.now ≡ Ok list
             → symbols_left result ≡ map symbol_of list }
         ensures fault { (f : LexFault) → tokens text.now ≡ Err f
-            → (before : List Symbol) × (symbols_left result ≡ before ++ fault_mark ∷ []) }
+            → (before : List Symbol) × (symbols_left result ≡ before ++ fault_symbol ∷ []) }
     {
         let mut tokens = Tokens {
-            front: Front::End,
+            lookahead: Lookahead::End,
             rest: Cursor::new(text),
         };
-        tokens.draw();
+        tokens.fill();
         tokens
     }
 
-    /// Draws the next token to the front.
-    fn draw(&mut self)
-        ensures { symbols_left self.new ≡ drawn self.old.rest }
+    /// Lexes the next token into the lookahead.
+    fn fill(&mut self)
+        ensures { symbols_left self.new ≡ cursor_symbols self.old.rest }
     {
         match self.rest.next() {
-            Some((id, text)) => self.front = Front::Token(kind_of(id), text),
-            None if self.rest.is_at_fault() => self.front = Front::Fault,
-            None => self.front = Front::End,
+            Some((id, text)) => self.lookahead = Lookahead::Token(token_kind(id), text),
+            None if self.rest.is_at_fault() => self.lookahead = Lookahead::Fault,
+            None => self.lookahead = Lookahead::End,
         }
     }
 
+    /// Whether no token is left.
     pub fn is_empty(&self) -> bool
         ensures { result ≡ (length (symbols_left self.now) == 0) }
     {
-        matches!(self.front, Front::End)
+        matches!(self.lookahead, Lookahead::End)
     }
 
     /// The first token's kind and text.
-    pub fn front(&self) -> Option<(Kind, &'a str)>
+    pub fn peek(&self) -> Option<(TokenKind, &'a str)>
         ensures { MatchOption result (symbols_left self.now ≡ [])
             (λ x. symbols_left self.now ≡ symbol x.0 x.1.now ∷ drop 1 (symbols_left self.now)) }
     {
-        match self.front {
-            Front::Token(kind, text) => Some((kind, text)),
-            Front::Fault => Some((Kind::Other, "")),
-            Front::End => None,
+        match self.lookahead {
+            Lookahead::Token(kind, text) => Some((kind, text)),
+            Lookahead::Fault => Some((TokenKind::Other, "")),
+            Lookahead::End => None,
         }
     }
 
-    /// Passes the first token, if there is one.
-    pub fn pass(&mut self)
+    /// Drops the first token, if there is one.
+    pub fn bump(&mut self)
         ensures { symbols_left self.new ≡ drop 1 (symbols_left self.old) }
     {
-        match self.front {
-            Front::Token(..) => self.draw(),
-            Front::Fault | Front::End => self.front = Front::End,
+        match self.lookahead {
+            Lookahead::Token(..) => self.fill(),
+            Lookahead::Fault | Lookahead::End => self.lookahead = Lookahead::End,
         }
+    }
+    /// Takes the first token: its kind and text.
+    pub fn next(&mut self) -> Option<(TokenKind, &'a str)>
+        ensures { MatchOption result (symbols_left self.old ≡ [])
+            (λ x. symbols_left self.old ≡ symbol x.0 x.1.now ∷ symbols_left self.new) }
+    {
+        let first = self.peek();
+        self.bump();
+        first
+    }
+
+    /// Takes the first token, if it is of this kind.
+    pub fn eat(&mut self, kind: TokenKind) -> bool
+        ensures gives { MatchBool result (Eats kind (symbols_left self.old) (symbols_left self.new))
+            (HasNo kind (symbols_left self.old)) }
+        ensures stays { result ≡ false → symbols_left self.new ≡ symbols_left self.old }
+    {
+        match self.peek() {
+            Some((first, _)) if first == kind => {
+                self.bump();
+                true
+            }
+            _ => false,
+        }
+    }
+
+    /// Takes the first token, which has to be of this kind.
+    ///
+    /// # Errors
+    ///
+    /// `Syntax` if there is no token left, or if the first is of another kind.
+    pub fn expect(&mut self, kind: TokenKind) -> Result<(), ReadError>
+        ensures gives { IfOk result (λ _.
+            Eats kind (symbols_left self.old) (symbols_left self.new)) }
+        ensures fails { IfErr result (λ e. (e ≡ Syntax) × HasNo kind (symbols_left self.old)) }
+    {
+        if !self.eat(kind) {
+            return Err(ReadError::Syntax);
+        }
+        Ok(())
     }
 }

@@ -7,8 +7,8 @@ use Rattle.promql_text.specs.Texts.{Text}
 use Rattle.promql_text.specs.DecimalForm.{numeral, Numeral, reading, Reading, NotANumber, Signed, decimal_form}
 use Rattle.promql_text.specs.DecimalForm as form
 use Rattle.promql_text.specs.Durations.{units, parts_nanos, second_nanos, in_range, of_seconds, of_parts, duration_of}
-use Rattle.promql_text.specs.DurationForms.{Part, IsParts, Meaning, Nanos, Negative, Infinite, Means, IsDuration, DurationsAreTold, parts_text}
-use Rattle.promql_text.specs.Spelling.{IsDecimalForm}
+use Rattle.promql_text.specs.DurationForms.{Part, IsParts, Meaning, Nanos, Negative, Infinite, Means, IsDuration, DurationsMatchRelation, parts_text}
+use Rattle.promql_text.specs.NumeralSpelling.{IsDecimalForm}
 use Rattle.promql_text.specs.declared.duration.DurationFault.{DurationFault}
 use Rattle.promql_text.specs.declared.duration.DurationFault.TheVariants.{Empty, NotPositive, Invalid, Overflow}
 use Rattle.promql_text.proofs.DurationParts.{units_read, parts_form, parts_long, parts_found}
@@ -146,5 +146,5 @@ duration_is s (Err NotPositive) h = ⊎_elim (λ none. means_said s (Nanos 0) no
 duration_is s (Err Overflow) h = ⊎_elim (λ infinite. means_said s Infinite infinite) (λ past. means_said s (Nanos past.0) past.1 ∙ in_range_past past.0 past.2) h
 duration_is s (Err Invalid) h = ⊎_elim (λ meant. absurd (h.1 meant.0 meant.1)) (λ invalid. invalid) (text_meant s (decimal_form s) h.0 refl)
 
-pub durations_told : DurationsAreTold
+pub durations_told : DurationsMatchRelation
 durations_told s r = ((λ is. let P : Result ℕ DurationFault → Type 0 = λ q. IsDuration s q in subst P is (duration_told s)), (λ h. duration_is s r h))

@@ -15,7 +15,7 @@ use Rattle.promql_text.specs.declared.duration.Unit.{Unit}
 use Rattle.promql_text.proofs.Parts.{parts-end}
 use Rattle.promql_text.proofs.ReadsDuration.{word_letter, word_no_point, word_no_end, word_runs, word_passed, same_word, NoWord, Apart, short_apart}
 use Rattle.promql_text.proofs.Runs.{run_digits, run_append, past_append, front_digit}
-use Rattle.promql_text.proofs.Spelled.{both, cut, nothing_left, run_some}
+use Rattle.promql_text.proofs.SpelledNumerals.{both, run_and_rest, nothing_left, run_some}
 use Rattle.promql_text.proofs.TextForms.{word_form}
 
 -- ---- parts are read
@@ -112,7 +112,7 @@ behind s = past_word (past_run s)
 word_cut : (u : Unit) (s : Text) → bytes_eq (word_run (past_run s)) (word_of u) ≡ true → s ≡ digit_run s ++ (word_of u ++ behind s)
 word_cut u s word =
     let w : Text = past_run s in
-    cut s
+    run_and_rest s
     ∙ ap (λ t. digit_run s ++ t) (sym (take-append-drop (prefix_len is_no_digit w) w) ∙ ap (λ t. t ++ behind s) ((bytes_eq-Decides (word_run w) (word_of u)).0 word))
 
 part_found : (u : Unit) (us : List Unit) (s : Text) (n : ℕ) (o : Option ℕ) → ((m : ℕ) → o ≡ Some m → Found us (behind s) m) → begins_part u s ≡ true → option_map (λ k. digits_value 10 (digit_run s) * nanos_of u + k) o ≡ Some n → Found (u ∷ us) s n
@@ -129,11 +129,11 @@ part_found u us s n (Some m) rest begins is =
 
 -- with no part in the first unit
 skip_found : (u : Unit) (us : List Unit) (s : Text) (n : ℕ) → Found us s n → Found (u ∷ us) s n
-skip_found u us s n f = (f.0, lifted f.0 f.1, f.2, f.3)
+skip_found u us s n f = (f.0, parts_of_more_units f.0 f.1, f.2, f.3)
   where
-    lifted : (ps : List Part) → AreParts us ps → AreParts (u ∷ us) ps
-    lifted [] are = tt
-    lifted (p ∷ ps) are = inr are
+    parts_of_more_units : (ps : List Part) → AreParts us ps → AreParts (u ∷ us) ps
+    parts_of_more_units [] are = tt
+    parts_of_more_units (p ∷ ps) are = inr are
 
 pub parts_found : (us : List Unit) (s : Text) (n : ℕ) → parts_nanos us s ≡ Some n → Found us s n
 parts_found [] s n is =

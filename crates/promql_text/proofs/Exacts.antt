@@ -1,7 +1,7 @@
 -- Exact decimal numbers.
 use Rattle.std.proofs.Common.{◌≡◌, ◌≢◌, ◌==◌, ℕ, ◌-◌, ◌*◌, ◌/◌, ◌%◌, ◌^◌, ◌<◌, ◌≤◌, Bool, false, cond, refl, ap, ◌∙◌, sym, arith, lit<, lit≤}
 use Rattle.std.specs.Fmt.{digits}
-use Rattle.promql_text.specs.Numbers.{IsExact, exact_zero, digit_count, scaled, seconds_of, whole, tens}
+use Rattle.promql_text.specs.Numbers.{IsExact, exact_zero, digit_count, exact_quotient, seconds_of, whole, tens}
 use Rattle.std.proofs.lemmas.Bool.{ne_eqb}
 use Rattle.promql_text.proofs.Counts.{count_within}
 use Rattle.promql_text.proofs.Tens.{below_product, zeros_below, Splits, splits}
@@ -11,7 +11,7 @@ unfolding digits
 exact_zero_is = record {
   short = lit< tt;
   ends = λ _. refl;
-  unsigned = λ _. refl;
+  no_minus_zero = λ _. refl;
   no_zeros = λ _. refl;
   no_places = λ _. refl;
   one_side = λ _. refl;
@@ -30,7 +30,7 @@ whole_is neg a z n is some ends less =
     record {
       short = omega arith;
       ends = λ e. absurd (ends e);
-      unsigned = λ e. absurd (omega arith);
+      no_minus_zero = λ e. absurd (omega arith);
       no_zeros = λ e. absurd (omega arith);
       no_places = λ e. absurd (omega arith);
       one_side = λ e. absurd (omega arith);
@@ -38,7 +38,7 @@ whole_is neg a z n is some ends less =
       above = omega arith;
     }
 
-scaled_whole : (neg : Bool) (a z : ℕ) → scaled neg a z 0 ≡ record { is_negative = neg; digits = a; zeros = z; places = 0 }
+scaled_whole : (neg : Bool) (a z : ℕ) → exact_quotient neg a z 0 ≡ record { is_negative = neg; digits = a; zeros = z; places = 0 }
 scaled_whole neg a z = let e : z - 0 ≡ z = omega arith in let f : 0 - z ≡ 0 = omega arith in rw (e, f)
 
 pub whole_value : (neg : Bool) (a z n : ℕ) → a * 10 ^ z ≡ n → 0 < a → a % 10 ≢ 0 → n < 2 ^ 64 → record { is_negative = neg; digits = a; zeros = z; places = 0 } ≡ whole neg n
@@ -46,8 +46,8 @@ whole_value neg a z n is some ends less =
     let s : Splits 20 n a z = splits 20 n a z is ends (omega arith) in
     let low : a ≤ n = (let h = below_product a z in omega (arith, h, is)) in
     let test : (n == 0) ≡ false = ne_eqb n 0 (omega arith) in
-    let e : scaled neg (n / 10 ^ tens 20 n) (tens 20 n) 0 ≡ scaled neg a z 0 = ap (λ d. scaled neg d (tens 20 n) 0) s.digits ∙ ap (λ k. scaled neg a k 0) s.zeros in
-    sym (ap (λ b. cond b exact_zero (scaled neg (n / 10 ^ tens 20 n) (tens 20 n) 0)) test ∙ e ∙ scaled_whole neg a z)
+    let e : exact_quotient neg (n / 10 ^ tens 20 n) (tens 20 n) 0 ≡ exact_quotient neg a z 0 = ap (λ d. exact_quotient neg d (tens 20 n) 0) s.digits ∙ ap (λ k. exact_quotient neg a k 0) s.zeros in
+    sym (ap (λ b. cond b exact_zero (exact_quotient neg (n / 10 ^ tens 20 n) (tens 20 n) 0)) test ∙ e ∙ scaled_whole neg a z)
 
 -- ---- seconds of nanoseconds
 
@@ -60,7 +60,7 @@ seconds_is a z n is some ends less =
     record {
       short = omega arith;
       ends = λ e. absurd (ends e);
-      unsigned = λ e. refl;
+      no_minus_zero = λ e. refl;
       no_zeros = λ e. absurd (omega arith);
       no_places = λ e. absurd (omega arith);
       one_side = λ e. omega arith;
@@ -74,6 +74,6 @@ seconds_value a z n is some ends less =
     let s : Splits 29 n a z = splits 29 n a z is ends (omega arith) in
     let low : a ≤ n = (let h = below_product a z in omega (arith, h, is)) in
     let test : (n == 0) ≡ false = ne_eqb n 0 (omega arith) in
-    let e : scaled false (n / 10 ^ tens 29 n) (tens 29 n) 9 ≡ scaled false a z 9
-    = ap (λ d. scaled false d (tens 29 n) 9) s.digits ∙ ap (λ k. scaled false a k 9) s.zeros in
-    sym (ap (λ b. cond b exact_zero (scaled false (n / 10 ^ tens 29 n) (tens 29 n) 9)) test ∙ e)
+    let e : exact_quotient false (n / 10 ^ tens 29 n) (tens 29 n) 9 ≡ exact_quotient false a z 9
+    = ap (λ d. exact_quotient false d (tens 29 n) 9) s.digits ∙ ap (λ k. exact_quotient false a k 9) s.zeros in
+    sym (ap (λ b. cond b exact_zero (exact_quotient false (n / 10 ^ tens 29 n) (tens 29 n) 9)) test ∙ e)

@@ -10,7 +10,7 @@ use Rattle.std.proofs.Math.Nat.{zero-div, zero-mul}
 use Rattle.promql_text.specs.Texts.{Text}
 use Rattle.promql_text.specs.DecimalForm.{Numeral, digits_number}
 use Rattle.promql_text.specs.NumberText.{at_place, finite, zeros_of}
-use Rattle.promql_text.specs.Numbers.{placed, digit_count}
+use Rattle.promql_text.specs.Numbers.{from_digits, digit_count}
 use Rattle.promql_text.specs.Significands.{IsLong}
 use Rattle.promql_text.specs.declared.number.Number.TheVariants as number
 use Rattle.promql_text.specs.declared.number.NumberFault.{NumberFault}
@@ -63,36 +63,36 @@ quotient_short n (suc c) z is t same short =
     ap (nat_le (10 ^ 38)) e ∙ not_long (suc c) short
 
 -- what at most 38 digits give
-given : (neg : Bool) (n : Numeral) (c z : ℕ) → nat_le (10 ^ 38) (digits_number n / 10 ^ zeros_of n) ≡ false → at_place neg (digits_number n / 10 ^ zeros_of n) (zeros_of n) n ≡ at_place neg c z n → finite neg n ≡ ok_or (option_map number.Finite (at_place neg c z n)) fault.OutOfRange
+out_of_range_at_place : (neg : Bool) (n : Numeral) (c z : ℕ) → nat_le (10 ^ 38) (digits_number n / 10 ^ zeros_of n) ≡ false → at_place neg (digits_number n / 10 ^ zeros_of n) (zeros_of n) n ≡ at_place neg c z n → finite neg n ≡ ok_or (option_map number.Finite (at_place neg c z n)) fault.OutOfRange
 unfolding finite
-given neg n c z short same =
+out_of_range_at_place neg n c z short same =
     let rest : Result _ NumberFault = ok_or (option_map number.Finite (at_place neg (digits_number n / 10 ^ zeros_of n) (zeros_of n) n)) fault.OutOfRange in
     ap (λ b. cond b (Err fault.TooManyDigits) rest) short ∙ ap (λ p. ok_or (option_map number.Finite p) fault.OutOfRange) same
 
 pub finite_short : (neg : Bool) (n : Numeral) (c z : ℕ) → AllDigits 10 n.whole → AllDigits 10 n.fraction → c * 10 ^ z ≡ digits_number n → c < 10 ^ 38 → (c % 10 ≡ 0 → c ≡ 0) → finite neg n ≡ ok_or (option_map number.Finite (at_place neg c z n)) fault.OutOfRange
 finite_short neg n zero z whole fraction is short ends =
     let none : digits_number n ≡ 0 = sym is ∙ zero-mul (10 ^ z) in
-    given neg n 0 z (quotient_short (digits_number n) 0 z is (zeros_of n) (λ some. absurd (some refl)) short)
+    out_of_range_at_place neg n 0 z (quotient_short (digits_number n) 0 z is (zeros_of n) (λ some. absurd (some refl)) short)
     (ap (λ m. at_place neg (m / 10 ^ zeros_of n) (zeros_of n) n) none ∙ none_places neg n 0 z (zeros_of n) refl)
 finite_short neg n (suc c) z whole fraction is short ends =
     let last : suc c % 10 ≢ 0 = λ e. absurd (let h : suc c ≡ 0 = ends e in omega (arith, h)) in
     let s : Splits (length n.whole + length n.fraction) (digits_number n) (suc c) z =
     splits (length n.whole + length n.fraction) (digits_number n) (suc c) z is last (number_below n whole fraction) in
-    given neg n (suc c) z (quotient_short (digits_number n) (suc c) z is (zeros_of n) (λ some. s.digits) short)
+    out_of_range_at_place neg n (suc c) z (quotient_short (digits_number n) (suc c) z is (zeros_of n) (λ some. s.digits) short)
     (few_places neg n (suc c) z whole fraction is last)
 
 -- ---- exponents past the range
 
-placed_above : (neg : Bool) (c up down : ℕ) → c ≢ 0 → 309 + down < digit_count c + up → placed neg c up down ≡ None
+placed_above : (neg : Bool) (c up down : ℕ) → c ≢ 0 → 309 + down < digit_count c + up → from_digits neg c up down ≡ None
 placed_above neg c up down some far = grind (arith, nat_tests)
 
-placed_below : (neg : Bool) (c up down : ℕ) → c ≢ 0 → digit_count c + up + 323 < down → placed neg c up down ≡ None
+placed_below : (neg : Bool) (c up down : ℕ) → c ≢ 0 → digit_count c + up + 323 < down → from_digits neg c up down ≡ None
 placed_below neg c up down some far = grind (arith, nat_tests)
 
-pub capped_down : (neg : Bool) (c z p x : ℕ) → c < 10 ^ 38 → z < 2 ^ 66 → placed neg c z (p + min x (10 ^ 30)) ≡ placed neg c z (p + x)
+pub capped_down : (neg : Bool) (c z p x : ℕ) → c < 10 ^ 38 → z < 2 ^ 66 → from_digits neg c z (p + min x (10 ^ 30)) ≡ from_digits neg c z (p + x)
 capped_down neg zero z p x short few = refl
 capped_down neg (suc c) z p x short few =
-    ⊎_elim (λ near. let e : min x (10 ^ 30) ≡ x = omega arith in ap (λ m. placed neg (suc c) z (p + m)) e)
+    ⊎_elim (λ near. let e : min x (10 ^ 30) ≡ x = omega arith in ap (λ m. from_digits neg (suc c) z (p + m)) e)
     (λ far.
     let count = count_short (suc c) short in
     let some : suc c ≢ 0 = omega arith in
@@ -100,10 +100,10 @@ capped_down neg (suc c) z p x short few =
     ∙ sym (placed_below neg (suc c) z (p + x) some (omega (arith, count))))
     (cases_lt x (10 ^ 30))
 
-pub capped_up : (neg : Bool) (c z p x : ℕ) → p < 2 ^ 64 → placed neg c (z + min x (10 ^ 30)) p ≡ placed neg c (z + x) p
+pub capped_up : (neg : Bool) (c z p x : ℕ) → p < 2 ^ 64 → from_digits neg c (z + min x (10 ^ 30)) p ≡ from_digits neg c (z + x) p
 capped_up neg zero z p x few = refl
 capped_up neg (suc c) z p x few =
-    ⊎_elim (λ near. let e : min x (10 ^ 30) ≡ x = omega arith in ap (λ m. placed neg (suc c) (z + m) p) e)
+    ⊎_elim (λ near. let e : min x (10 ^ 30) ≡ x = omega arith in ap (λ m. from_digits neg (suc c) (z + m) p) e)
     (λ far.
     let some : suc c ≢ 0 = omega arith in
     placed_above neg (suc c) (z + min x (10 ^ 30)) p some (omega arith)

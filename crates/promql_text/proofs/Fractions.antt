@@ -1,4 +1,4 @@
--- Digits behind a point, without zeros at the end.
+-- Digits after a point, without zeros at the end.
 use Rattle.std.proofs.Common.{◌≡◌, ℕ, zero, suc, ◌+◌, ◌-◌, ◌*◌, ◌/◌, ◌%◌, ◌^◌, ◌<◌, ◌≤◌, [], ◌∷◌, ◌++◌, length, refl, sym, ap, ◌∙◌, subst, append-nil, append_assoc, arith}
 use Rattle.std.specs.Prelude.{◌==◌}
 use Rattle.std.specs.Char.{digit_value}
@@ -62,7 +62,7 @@ fraction_all written all place rest late is =
 
 -- ---- what the digits write
 
--- at most k digits, which are r with zeros behind them up to k
+-- at most k digits, which are r with zeros after them up to k
 pub record IsFraction (ds : Text) (k r : ℕ) : Type 0 where
   pub digits : AllDigits 10 ds
   pub short : length ds ≤ k
@@ -76,7 +76,7 @@ first_value q t small =
     digits_after (0 * 10 + digit_value (48 + q)) t
     ∙ ap (λ d. d * 10 ^ length t + digits_value 10 t) (let e : 0 * 10 + digit_value (48 + q) ≡ q = omega (arith, place_is q small) in e)
 
--- a digit in front of the others
+-- a digit before the others
 one_place : (k r : ℕ) (t : Text) → r < 10 ^ suc k → IsFraction t k (r % 10 ^ k) → IsFraction ((48 + r / 10 ^ k) ∷ t) (suc k) r
 one_place k r t below rest =
     let q : ℕ = r / 10 ^ k in
@@ -88,11 +88,11 @@ one_place k r t below rest =
       value =
           ap (λ m. digits_value 10 ((48 + q) ∷ t) * 10 ^ m) left
           ∙ ap (λ v. v * 10 ^ (k - length t)) (first_value q t small)
-          ∙ joined q (10 ^ length t) (digits_value 10 t) (10 ^ (k - length t)) (10 ^ k) (r % 10 ^ k) r (sym (ten_split k (length t) rest.short)) rest.value (div-add-mod r (10 ^ k));
+          ∙ fraction_sum q (10 ^ length t) (digits_value 10 t) (10 ^ (k - length t)) (10 ^ k) (r % 10 ^ k) r (sym (ten_split k (length t) rest.short)) rest.value (div-add-mod r (10 ^ k));
     }
   where
-    joined : (q p v z w m r : ℕ) → z * p ≡ w → v * z ≡ m → w * q + m ≡ r → (q * p + v) * z ≡ r
-    joined q p v z w m r tens value sum = omega (arith, ap (λ x. x * q) tens)
+    fraction_sum : (q p v z w m r : ℕ) → z * p ≡ w → v * z ≡ m → w * q + m ≡ r → (q * p + v) * z ≡ r
+    fraction_sum q p v z w m r tens value sum = omega (arith, ap (λ x. x * q) tens)
 
 pub fraction_is : (k r : ℕ) → r < 10 ^ k → IsFraction (fraction_text k r) k r
 unfolding fraction_text

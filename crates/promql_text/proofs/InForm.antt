@@ -9,10 +9,10 @@ use Rattle.std.proofs.Math.Nat.{zero-div, div-div-eq-div-mul, mul-div_left, div-
 use Rattle.std.proofs.lemmas.Bool.{cases_lt, eqb-false}
 use Rattle.std.proofs.lemmas.Bool.Decides.{nat_tests}
 use Rattle.promql_text.specs.Texts.{Text}
-use Rattle.promql_text.specs.DecimalForm.{front, digit_run, past_run, past_point, unsigned, is_word, is_minus, is_exponent, ends_well, Numeral, numeral, Reading, reading, NotANumber, Infinite, Signed, decimal_form, digits_number, exponent_size, places}
+use Rattle.promql_text.specs.DecimalForm.{front, digit_run, past_run, past_point, without_sign, is_word, is_minus, is_exponent, ends_well, Numeral, numeral, Reading, reading, NotANumber, Infinite, Signed, decimal_form, digits_number, exponent_size, places}
 use Rattle.promql_text.specs.DecimalForm as form
-use Rattle.promql_text.specs.NumberText.{at_place, finite, hexadecimal, is_digit_below, is_octal, is_x, kept, read_number, number_of, of_form, radix_number, signed, zeros_of}
-use Rattle.promql_text.specs.Numbers.{Exact, IsExact, digit_count, exact_zero, is_in_range, placed, scaled, tens, whole}
+use Rattle.promql_text.specs.NumberText.{at_place, finite, hexadecimal, is_digit_below, is_octal, is_x, without_whitespace, read_number, number_of, of_form, radix_number, apply_sign, zeros_of}
+use Rattle.promql_text.specs.Numbers.{Exact, IsExact, digit_count, exact_zero, is_in_range, from_digits, exact_quotient, tens, whole}
 use Rattle.promql_text.specs.Values.{IsNumber}
 use Rattle.promql_text.specs.declared.number.Number.{Number}
 use Rattle.promql_text.specs.declared.number.Number.TheVariants as number
@@ -81,14 +81,14 @@ range_below c up down range = grind (arith, nat_tests)
 range_above : (c up down : ℕ) → is_in_range c up down ≡ true → down ≤ digit_count c + up + 323
 range_above c up down range = grind (arith, nat_tests)
 
-pub scaled_exact : (neg : Bool) (c up down : ℕ) → c < 10 ^ 38 → c % 10 ≢ 0 → is_in_range c up down ≡ true → IsExact (scaled neg c up down)
+pub scaled_exact : (neg : Bool) (c up down : ℕ) → c < 10 ^ 38 → c % 10 ≢ 0 → is_in_range c up down ≡ true → IsExact (exact_quotient neg c up down)
 scaled_exact neg c up down short ends range =
     let low = range_below c up down range in
     let high = range_above c up down range in
     record {
       short = short;
       ends = λ e. absurd (ends e);
-      unsigned = λ e. absurd (omega (arith, ends));
+      no_minus_zero = λ e. absurd (omega (arith, ends));
       no_zeros = λ e. absurd (omega (arith, ends));
       no_places = λ e. absurd (omega (arith, ends));
       one_side = λ some. omega arith;
@@ -110,11 +110,11 @@ abbrev InForm : Result Number NumberFault → Type 0
 InForm (Ok v) = IsNumber v
 InForm (Err e) = Unit {0}
 
-placed_form : (neg : Bool) (c up down : ℕ) → c < 10 ^ 38 → (c % 10 ≡ 0 → c ≡ 0) → ExactIfSome (placed neg c up down)
+placed_form : (neg : Bool) (c up down : ℕ) → c < 10 ^ 38 → (c % 10 ≡ 0 → c ≡ 0) → ExactIfSome (from_digits neg c up down)
 placed_form neg c up down short ends =
-    when ExactIfSome (c == 0) (Some exact_zero) (cond (is_in_range c up down) (Some (scaled neg c up down)) None)
+    when ExactIfSome (c == 0) (Some exact_zero) (cond (is_in_range c up down) (Some (exact_quotient neg c up down)) None)
     (λ _. exact_zero_is)
-    (λ some. when ExactIfSome (is_in_range c up down) (Some (scaled neg c up down)) None
+    (λ some. when ExactIfSome (is_in_range c up down) (Some (exact_quotient neg c up down)) None
     (λ range. scaled_exact neg c up down short (λ e. eqb-false c 0 some (ends e)) range)
     (λ _. tt))
 
@@ -140,7 +140,7 @@ radix_form radix b ds =
 hexadecimal_form : (s : Text) → InForm (hexadecimal s)
 unfolding hexadecimal
 hexadecimal_form s =
-    let body : Text = unsigned s in
+    let body : Text = without_sign s in
     when InForm (front body == 48 && is_x (front (drop 1 body))) (radix_number 16 (is_minus s) (drop 2 body)) (Err fault.NotANumber)
     (λ _. radix_form 16 (is_minus s) (drop 2 body)) (λ _. tt)
 
@@ -169,7 +169,7 @@ finite_form b n whole fraction =
     let short : c < 10 ^ 38 = not_long c long in
     let ends : c % 10 ≡ 0 → c ≡ 0 = quotient_ends n whole fraction in
     ok_form (at_place b c z n)
-    (when ExactIfSome n.is_down (placed b c z (places n + exponent_size n)) (placed b c (z + exponent_size n) (places n))
+    (when ExactIfSome n.is_down (from_digits b c z (places n + exponent_size n)) (from_digits b c (z + exponent_size n) (places n))
     (λ _. placed_form b c z (places n + exponent_size n) short ends)
     (λ _. placed_form b c (z + exponent_size n) (places n) short ends)))
 
@@ -196,7 +196,7 @@ numeral_form s =
     let behind : Text = past_point (past_run s) in
     let end : Text = past_run behind in
     when DigitsIfSome ((is_ascii_digit (front s) || is_ascii_digit (front behind)) && ends_well end)
-    (Some (record { whole = digit_run s; fraction = digit_run behind; is_down = is_minus (drop 1 end); exponent = digit_run (unsigned (drop 1 end)) })) None
+    (Some (record { whole = digit_run s; fraction = digit_run behind; is_down = is_minus (drop 1 end); exponent = digit_run (without_sign (drop 1 end)) })) None
     (λ _. (run_digits s, run_digits behind)) (λ _. tt)
 
 read_form : (o : Option Numeral) → DigitsIfSome o → ReadingIn (option_map form.Finite o)
@@ -214,7 +214,7 @@ signed_read : (b : Bool) (o : Option Reading) → ReadingIn o → SignedIn (opti
 signed_read b None h = tt
 signed_read b (Some r) h = h
 
-signed_form : (b : Bool) (r : Reading) → ReadingIn (Some r) → InForm (signed b r)
+signed_form : (b : Bool) (r : Reading) → ReadingIn (Some r) → InForm (apply_sign b r)
 signed_form b NotANumber h = tt
 signed_form true Infinite h = tt
 signed_form false Infinite h = tt
@@ -226,20 +226,20 @@ of_form_form (Some f) h = signed_form f.is_negative f.reading h
 
 decimal_form_form : (s : Text) → SignedIn (decimal_form s)
 unfolding decimal_form
-decimal_form_form s = signed_read (is_minus s) (reading (unsigned s)) (reading_form (unsigned s))
+decimal_form_form s = signed_read (is_minus s) (reading (without_sign s)) (reading_form (without_sign s))
 
 -- ---- any text
 
 number_form : (s : Text) → InForm (number_of s)
 unfolding number_of
 number_form s =
-    when InForm (list_any is_x s) (hexadecimal s) (cond (is_octal s) (radix_number 8 (is_minus s) (drop 1 (unsigned s))) (of_form (decimal_form s)))
+    when InForm (list_any is_x s) (hexadecimal s) (cond (is_octal s) (radix_number 8 (is_minus s) (drop 1 (without_sign s))) (of_form (decimal_form s)))
     (λ _. hexadecimal_form s)
-    (λ _. when InForm (is_octal s) (radix_number 8 (is_minus s) (drop 1 (unsigned s))) (of_form (decimal_form s))
-    (λ _. radix_form 8 (is_minus s) (drop 1 (unsigned s)))
+    (λ _. when InForm (is_octal s) (radix_number 8 (is_minus s) (drop 1 (without_sign s))) (of_form (decimal_form s))
+    (λ _. radix_form 8 (is_minus s) (drop 1 (without_sign s)))
     (λ _. of_form_form (decimal_form s) (decimal_form_form s)))
 
 pub read_in_form : (s : Text) (v : Number) → read_number s ≡ Ok v → IsNumber v
 read_in_form s v is =
     let P : Result Number NumberFault → Type 0 = λ r. InForm r in
-    subst P is (number_form (kept s))
+    subst P is (number_form (without_whitespace s))

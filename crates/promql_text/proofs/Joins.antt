@@ -27,7 +27,7 @@ join_more f sep (x ∷ xs) (suc i) d h =
     ∙ append_assoc written sep (f (get_or xs i d)) ∙ flat_map_more (λ y. sep ++ f y) (f x) (take i xs) (get_or xs i d)
     ∙ ap (λ ys. f x ++ flat_map (λ y. sep ++ f y) ys) (sym (take_more xs i d (omega arith))) ∙ ap (λ n. join_by f sep (take n (x ∷ xs))) step
 
--- the separator, and the item y at i, behind the first i items
+-- the separator, and the item y at i, after the first i items
 pub join_next : {X : Type 0} (f : X → Text) (sep : Text) (xs : List X) (i : ℕ) (y : X) → i < length xs → y ≡ get_or xs i y
     → (join_by f sep (take i xs) ++ (if i == 0 then [] else sep)) ++ f y ≡ join_by f sep (take (i + 1) xs)
 join_next f sep xs i y h e = ap (λ z. (join_by f sep (take i xs) ++ (if i == 0 then [] else sep)) ++ f z) e ∙ join_more f sep xs i y h
@@ -37,9 +37,9 @@ pub join_end : {X : Type 0} (f : X → Text) (sep : Text) (xs : List X) (i : ℕ
 join_end f sep xs i h = ap (join_by f sep) (take_all i xs h) ∙ join_by-joined f sep xs
 
 -- what a value displays is its text, where its output is known
-pub displayed : {W : Type 0} (took : W → Text → W → Type 0) (f : Formatter W) (r : Result (Unit {0}) Error) (o : Option Text) (text : Text) (g : Formatter W) → o ≡ Some text
+pub writes_what_it_displays : {W : Type 0} (took : W → Text → W → Type 0) (f : Formatter W) (r : Result (Unit {0}) Error) (o : Option Text) (text : Text) (g : Formatter W) → o ≡ Some text
     → DisplaysOnOk took f r o g → WritesOnOk took f r text g
-displayed took f r o text g is writes = subst (λ p. DisplaysOnOk took f r p g) is writes
+writes_what_it_displays took f r o text g is writes = subst (λ p. DisplaysOnOk took f r p g) is writes
 
 -- all items, by what contracts see of them
 pub join_end_of : {X Y : Type 0} (f : Y → Text) (h : X → Y) (sep : Text) (xs : List X) (i : ℕ) → length xs ≤ i

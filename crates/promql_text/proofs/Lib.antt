@@ -9,7 +9,7 @@ pub mod Finites
 pub mod Fractions
 pub mod InForm
 pub mod Joins
-pub mod Kept
+pub mod WhitespaceLemmas
 pub mod Nearest
 pub mod NumberForms
 pub mod NumberTexts
@@ -28,12 +28,12 @@ pub mod ReadsDuration
 pub mod Rounding
 pub mod Runs
 pub mod ShortNumbers
-pub mod Spelled
+pub mod SpelledNumerals
 pub mod SpelledForms
-pub mod Spellings
+pub mod QuotedCharacters
 pub mod Tens
 pub mod TextForms
 pub mod TextRows
 pub mod TextsRead
-pub mod Widths
+pub mod PrintedLengths
 pub mod Writing

@@ -4,7 +4,7 @@ use Rattle.std.proofs.lemmas.Bool.{cases_lt, cases_order}
 use Rattle.std.proofs.lemmas.Nat.{mul-le}
 use Rattle.std.proofs.Math.Nat.{div-add-mod}
 use Rattle.promql_text.specs.DecimalForm.{Numeral, digits_number, places, exponent_size}
-use Rattle.promql_text.specs.Durations.{nearest, rounded, second_nanos}
+use Rattle.promql_text.specs.Durations.{nearest, round_half_even, second_nanos}
 use Rattle.promql_text.specs.DurationForms.{IsNearest, up, down}
 use Rattle.promql_text.proofs.Rounding.{rounded_down, rounded_even, rounded_up, nearest_parts, ten_positive}
 
@@ -32,7 +32,7 @@ tie_even a b w r some parts same =
     (λ (odd : 1 ≤ w % 2). let e : w + 1 ≡ w + w % 2 = omega arith in subst P e (goes_up a b w r parts (omega arith) (omega arith) (λ _. omega arith)))
     (cases_lt (w % 2) 1)
 
-rounded_nearest : (a b w r : ℕ) → a ≡ w * b + r → r < b → IsNearest a b (rounded w r b)
+rounded_nearest : (a b w r : ℕ) → a ≡ w * b + r → r < b → IsNearest a b (round_half_even w r b)
 rounded_nearest a b w r parts less =
     let P : ℕ → Type 0 = λ q. IsNearest a b q in
     ⊎_elim

@@ -3,21 +3,21 @@ use Rattle.std.proofs.Common.{◌≡◌, ⊎_elim, inl, inr, Bool, Result, Err, 
 use Rattle.promql_text.specs.Texts.{Text}
 use Rattle.promql_text.specs.DecimalForm.{Reading, NotANumber, Infinite, Signed}
 use Rattle.promql_text.specs.DecimalForm as form
-use Rattle.promql_text.specs.NumberForms.{Meaning, Whole, Decimal, Means, GivesReading, Gives, IsNumberText, NumbersAreTold}
-use Rattle.promql_text.specs.NumberText.{kept, number_of, signed}
-use Rattle.promql_text.specs.Spelling.{IsReading}
+use Rattle.promql_text.specs.NumberForms.{Meaning, Whole, Decimal, Means, GivesReading, Gives, IsNumberText, NumbersMatchRelation}
+use Rattle.promql_text.specs.NumberText.{without_whitespace, number_of, apply_sign}
+use Rattle.promql_text.specs.NumeralSpelling.{IsReading}
 use Rattle.promql_text.specs.declared.number.Number.{Number}
 use Rattle.promql_text.specs.declared.number.NumberFault.{NumberFault}
 use Rattle.promql_text.specs.declared.number.NumberFault.TheVariants as fault
 use Rattle.promql_text.proofs.NumberTexts.{result_of, means_said, text_found}
 use Rattle.promql_text.proofs.NumberValues.{whole_gives, whole_is, numeral_gives, numeral_is}
 
-reading_gives : (b : Bool) (r : Reading) (t : Text) → IsReading r t → GivesReading b r (signed b r)
+reading_gives : (b : Bool) (r : Reading) (t : Text) → IsReading r t → GivesReading b r (apply_sign b r)
 reading_gives b NotANumber t is = refl
 reading_gives b Infinite t is = refl
 reading_gives b (form.Finite n) t is = numeral_gives b n is.whole is.fraction
 
-reading_is : (b : Bool) (r : Reading) (t : Text) (q : Result Number NumberFault) → IsReading r t → GivesReading b r q → signed b r ≡ q
+reading_is : (b : Bool) (r : Reading) (t : Text) (q : Result Number NumberFault) → IsReading r t → GivesReading b r q → apply_sign b r ≡ q
 reading_is b NotANumber t q is h = sym h
 reading_is b Infinite t q is h = sym h
 reading_is b (form.Finite n) t q is h = numeral_is b n q is.whole is.fraction h
@@ -55,5 +55,5 @@ number_is t r h =
     (λ none. ⊎_elim (λ meant. absurd (none.0 meant.0 meant.1)) (λ is. is ∙ sym none.1) (text_found t))
     h
 
-pub numbers_told : NumbersAreTold
-numbers_told s r = ((λ is. let P : Result Number NumberFault → Type 0 = λ q. IsNumberText (kept s) q in subst P is (number_told (kept s))), (λ h. number_is (kept s) r h))
+pub numbers_told : NumbersMatchRelation
+numbers_told s r = ((λ is. let P : Result Number NumberFault → Type 0 = λ q. IsNumberText (without_whitespace s) q in subst P is (number_told (without_whitespace s))), (λ h. number_is (without_whitespace s) r h))

@@ -10,23 +10,23 @@ use Rattle.std.proofs.lemmas.Bool.Decides.{nat_tests}
 use Rattle.std.proofs.lemmas.List.Folds.{list_any-append}
 use Rattle.std.proofs.lemmas.Str.Parse.{digit_from_value}
 use Rattle.promql_text.specs.Texts.{Text}
-use Rattle.promql_text.specs.DecimalForm.{front, is_minus, unsigned, Numeral, Reading, NotANumber, Infinite, Signed, decimal_form}
+use Rattle.promql_text.specs.DecimalForm.{front, is_minus, without_sign, Numeral, Reading, NotANumber, Infinite, Signed, decimal_form}
 use Rattle.promql_text.specs.DecimalForm as form
-use Rattle.promql_text.specs.NumberText.{hexadecimal, is_digit_below, is_octal, is_past_octal, is_x, number_of, of_form, radix_number, signed}
+use Rattle.promql_text.specs.NumberText.{hexadecimal, is_digit_below, is_octal, is_past_octal, is_x, number_of, of_form, radix_number, apply_sign}
 use Rattle.promql_text.specs.NumberForms.{IsHexadecimal, IsOctal, BeginsOctal, Meaning, Whole, Decimal, Means}
 use Rattle.promql_text.specs.Numbers.{whole}
-use Rattle.promql_text.specs.Spelling.{IsSign, IsPoint, HasNoExponent, HasExponent, IsReading, IsDecimalForm}
+use Rattle.promql_text.specs.NumeralSpelling.{IsSign, IsPoint, HasNoExponent, HasExponent, IsReading, IsDecimalForm}
 use Rattle.promql_text.specs.declared.number.Number.{Number}
 use Rattle.promql_text.specs.declared.number.Number.TheVariants as number
 use Rattle.promql_text.specs.declared.number.NumberFault.{NumberFault}
 use Rattle.promql_text.specs.declared.number.NumberFault.TheVariants as fault
-use Rattle.promql_text.proofs.Spelled.{Signs, SignCut, both}
+use Rattle.promql_text.proofs.SpelledNumerals.{Signs, SignCut, both}
 use Rattle.promql_text.proofs.SpelledForms.{form_spelled, spelled_form, sign_found, signs_plain}
 
 -- what the definition gives for a meaning
 abbrev pub result_of : Meaning → Result Number NumberFault
 result_of (Whole b n) = cond (nat_lt n (2 ^ 63)) (Ok (number.Finite (whole b n))) (Err fault.OutOfRange)
-result_of (Decimal f) = signed f.is_negative f.reading
+result_of (Decimal f) = apply_sign f.is_negative f.reading
 
 -- ---- characters that a text has not
 
@@ -92,7 +92,7 @@ digits_are radix (c ∷ ds) is = record { some = omega arith; all = pass_digits 
 -- ---- the three kinds of texts
 
 abbrev by_kind : Bool → Bool → Text → Result Number NumberFault
-by_kind x octal t = cond x (hexadecimal t) (cond octal (radix_number 8 (is_minus t) (drop 1 (unsigned t))) (of_form (decimal_form t)))
+by_kind x octal t = cond x (hexadecimal t) (cond octal (radix_number 8 (is_minus t) (drop 1 (without_sign t))) (of_form (decimal_form t)))
 
 number_is : (t : Text) → number_of t ≡ by_kind (list_any is_x t) (is_octal t) t
 unfolding number_of
@@ -104,7 +104,7 @@ number_by t x octal has is = number_is t ∙ ap (λ b. by_kind b (is_octal t) t)
 number_hexadecimal : (t : Text) → list_any is_x t ≡ true → number_of t ≡ hexadecimal t
 number_hexadecimal t has = number_by t true (is_octal t) has refl
 
-number_octal : (t : Text) → list_any is_x t ≡ false → is_octal t ≡ true → number_of t ≡ radix_number 8 (is_minus t) (drop 1 (unsigned t))
+number_octal : (t : Text) → list_any is_x t ≡ false → is_octal t ≡ true → number_of t ≡ radix_number 8 (is_minus t) (drop 1 (without_sign t))
 number_octal t none is = number_by t false true none is
 
 number_decimal : (t : Text) → list_any is_x t ≡ false → is_octal t ≡ false → number_of t ≡ of_form (decimal_form t)
@@ -118,7 +118,7 @@ begins_x body = front body == 48 && is_x (front (drop 1 body))
 abbrev of_body : Bool → Text → Result Number NumberFault
 of_body b body = cond (begins_x body) (radix_number 16 b (drop 2 body)) (Err fault.NotANumber)
 
-hexadecimal_is : (t : Text) → hexadecimal t ≡ of_body (is_minus t) (unsigned t)
+hexadecimal_is : (t : Text) → hexadecimal t ≡ of_body (is_minus t) (without_sign t)
 unfolding hexadecimal
 hexadecimal_is t = refl
 
@@ -129,7 +129,7 @@ hexadecimal_said t b n h =
     let g : Signs b s u = signs_plain b h.sign u h.is_sign refl in
     let has : list_any is_x s ≡ true = sign_none is_x b h.sign u refl refl h.is_sign ∙ ap (λ e. e || list_any is_x h.digits) h.is_x in
     ap number_of h.text ∙ number_hexadecimal s has ∙ hexadecimal_is s
-    ∙ ap (λ m. of_body m (unsigned s)) g.minus ∙ ap (of_body b) g.rest
+    ∙ ap (λ m. of_body m (without_sign s)) g.minus ∙ ap (of_body b) g.rest
     ∙ ap (λ e. cond e (radix_number 16 b h.digits) (Err fault.NotANumber)) h.is_x
     ∙ radix_said 16 b h.digits h.some h.all ∙ ap (λ k. result_of (Whole b k)) (sym h.value)
 
@@ -141,19 +141,19 @@ x_cut (c ∷ x ∷ ds) is = let h = both (c == 48) (is_x x) is in (x, ap (λ k. 
 abbrev pub Found : Text → Type 0
 Found t = ((m : Meaning) × Means t m) ⊎ (number_of t ≡ Err fault.NotANumber)
 
-pub split : {A : Type 0} (b : Bool) → (b ≡ true → A) → (b ≡ false → A) → A
-split b one other = ⊎_elim one other (cases_Bool b)
+pub by_bool : {A : Type 0} (b : Bool) → (b ≡ true → A) → (b ≡ false → A) → A
+by_bool b one other = ⊎_elim one other (cases_Bool b)
 
 hexadecimal_found : (t : Text) → list_any is_x t ≡ true → Found t
 hexadecimal_found t has =
-    let body : Text = unsigned t in
+    let body : Text = without_sign t in
     let b : Bool = is_minus t in
     let ds : Text = drop 2 body in
     let is : number_of t ≡ of_body b body = number_hexadecimal t has ∙ hexadecimal_is t in
-    split (begins_x body)
+    by_bool (begins_x body)
     (λ begins.
     let to_digits : number_of t ≡ radix_number 16 b ds = is ∙ ap (λ e. cond e (radix_number 16 b ds) (Err fault.NotANumber)) begins in
-    split (are_digits 16 ds)
+    by_bool (are_digits 16 ds)
     (λ digits.
     let s : SignCut t = sign_found t in
     let x = x_cut body begins in
@@ -189,7 +189,7 @@ some_length ds some = grind (arith, nat_tests)
 
 octal_begins : (t : Text) → is_octal t ≡ true → BeginsOctal t
 octal_begins t is =
-    let body : Text = unsigned t in
+    let body : Text = without_sign t in
     let rest : Text = drop 1 body in
     let s : SignCut t = sign_found t in
     let h = both (front body == 48) (not (length rest == 0) && not (list_any is_past_octal t)) is in
@@ -216,20 +216,20 @@ octal_said t b n h =
     = begins_octal s (record { is_negative = b; sign = h.sign; rest = h.digits; text = refl; is_sign = h.is_sign; some = h.some; none = digits_none is_past_octal 8 h.digits octal_not_past h.all })
     in
     ap number_of h.text ∙ number_octal s none begins
-    ∙ ap (λ m. radix_number 8 m (drop 1 (unsigned s))) g.minus ∙ ap (λ body. radix_number 8 b (drop 1 body)) g.rest
+    ∙ ap (λ m. radix_number 8 m (drop 1 (without_sign s))) g.minus ∙ ap (λ body. radix_number 8 b (drop 1 body)) g.rest
     ∙ radix_said 8 b h.digits h.some h.all ∙ ap (λ k. result_of (Whole b k)) (sym h.value)
 
 octal_found : (t : Text) → list_any is_x t ≡ false → is_octal t ≡ true → Found t
 octal_found t none is =
     let b : Bool = is_minus t in
-    let ds : Text = drop 1 (unsigned t) in
+    let ds : Text = drop 1 (without_sign t) in
     let to_digits : number_of t ≡ radix_number 8 b ds = number_octal t none is in
-    split (are_digits 8 ds)
+    by_bool (are_digits 8 ds)
     (λ digits.
     let s : SignCut t = sign_found t in
     let d = digits_are 8 ds digits in
-    let h = both (front (unsigned t) == 48) (not (length ds == 0) && not (list_any is_past_octal t)) is in
-    inl (Whole b (digits_value 8 ds), inr (record { sign = s.sign; digits = ds; text = s.is ∙ ap (λ r. s.sign ++ r) (zero_cut (unsigned t) h.0); is_sign = s.has; some = d.some; all = d.all; value = refl })))
+    let h = both (front (without_sign t) == 48) (not (length ds == 0) && not (list_any is_past_octal t)) is in
+    inl (Whole b (digits_value 8 ds), inr (record { sign = s.sign; digits = ds; text = s.is ∙ ap (λ r. s.sign ++ r) (zero_cut (without_sign t) h.0); is_sign = s.has; some = d.some; all = d.all; value = refl })))
     (λ other. inr (to_digits ∙ radix_none 8 b ds other))
 
 -- ---- decimal texts
@@ -273,7 +273,7 @@ decimal_no_x f t h = ap (list_any is_x) h.is ∙ sign_none is_x f.is_negative h.
 
 decimal_said : (t : Text) (f : Signed) → IsDecimalForm f t → (BeginsOctal t → ⊥) → number_of t ≡ result_of (Decimal f)
 decimal_said t f h other =
-    number_decimal t (decimal_no_x f t h) (split (is_octal t) (λ is. absurd (other (octal_begins t is))) (λ is. is))
+    number_decimal t (decimal_no_x f t h) (by_bool (is_octal t) (λ is. absurd (other (octal_begins t is))) (λ is. is))
     ∙ ap of_form (spelled_form t f h)
 
 decimal_found : (t : Text) (o : Option Signed) → list_any is_x t ≡ false → is_octal t ≡ false → decimal_form t ≡ o → Found t
@@ -291,6 +291,6 @@ means_said t (Decimal f) h = decimal_said t f h.0 h.1
 
 pub text_found : (t : Text) → Found t
 text_found t =
-    split (list_any is_x t)
+    by_bool (list_any is_x t)
     (λ has. hexadecimal_found t has)
-    (λ none. split (is_octal t) (λ is. octal_found t none is) (λ other. decimal_found t (decimal_form t) none other refl))
+    (λ none. by_bool (is_octal t) (λ is. octal_found t none is) (λ other. decimal_found t (decimal_form t) none other refl))

@@ -10,14 +10,14 @@ use Rattle.promql_text.specs.DecimalForm.{Numeral, digits_number, exponent_size,
 use Rattle.promql_text.specs.DurationForms.{up, down}
 use Rattle.promql_text.specs.NumberForms.{Whole, HasValue, IsTooLong, GivesWhole, GivesNumeral}
 use Rattle.promql_text.specs.NumberText.{at_place, finite, zeros_of}
-use Rattle.promql_text.specs.Numbers.{Exact, IsExact, digit_count, exact_zero, is_in_range, placed, scaled, tens, whole}
+use Rattle.promql_text.specs.Numbers.{Exact, IsExact, digit_count, exact_zero, is_in_range, from_digits, exact_quotient, tens, whole}
 use Rattle.promql_text.specs.declared.number.Number.TheVariants as number
 use Rattle.promql_text.specs.declared.number.NumberFault.{NumberFault}
 use Rattle.promql_text.specs.declared.number.NumberFault.TheVariants as fault
 use Rattle.promql_text.proofs.Exacts.{exact_zero_is}
 use Rattle.promql_text.proofs.Finites.{finite_long, finite_short, number_below}
 use Rattle.promql_text.proofs.InForm.{Parts, scaled_exact, tens_parts, whole_exact}
-use Rattle.promql_text.proofs.NumberTexts.{below, result_of, split}
+use Rattle.promql_text.proofs.NumberTexts.{below, result_of, by_bool}
 use Rattle.promql_text.proofs.OneForm.{one_form, same_digits, same_zeros}
 use Rattle.promql_text.proofs.Tens.{below_product, ends_zero, ten_pos, times_both, times_ten}
 
@@ -48,7 +48,7 @@ value_one b m u v d e h k =
     let sign : d.is_negative ≡ e.is_negative =
     ⊎_elim
     (λ some. h.sign some ∙ sym (k.sign some))
-    (λ low. let none : m ≡ 0 = omega arith in h.exact.unsigned (zero_digits b m u v d h none) ∙ sym (k.exact.unsigned (zero_digits b m u v e k none)))
+    (λ low. let none : m ≡ 0 = omega arith in h.exact.no_minus_zero (zero_digits b m u v d h none) ∙ sym (k.exact.no_minus_zero (zero_digits b m u v e k none)))
     (cases_lt 0 m)
     in
     one_form d e h.exact k.exact (record { sign = sign; size = cross_sizes d.digits d.zeros d.places e.digits e.zeros e.places m u v h.size k.size })
@@ -68,7 +68,7 @@ value_digits b m u v d c z h is ends =
 
 -- ---- numbers of a value
 
-scaled_value : (b : Bool) (c z m u v : ℕ) → c * 10 ^ z ≡ m → IsExact (scaled b c (z + u) v) → HasValue b m u v (scaled b c (z + u) v)
+scaled_value : (b : Bool) (c z m u v : ℕ) → c * 10 ^ z ≡ m → IsExact (exact_quotient b c (z + u) v) → HasValue b m u v (exact_quotient b c (z + u) v)
 scaled_value b c z m u v is exact =
     let k : ℕ = u + (v - (z + u)) in
     let e : (z + u - v) + v ≡ z + k = omega arith in
@@ -92,7 +92,7 @@ whole_value b n less =
     let c : ℕ = n / 10 ^ z in
     let p : Parts n z = tens_parts 20 n some (omega arith) in
     let same : z ≡ z + 0 = omega arith in
-    let is : whole b n ≡ scaled b c (z + 0) 0 = cond-false (n == 0) _ _ (ne_eqb n 0 (λ e. absurd (omega arith))) ∙ ap (λ k. scaled b c k 0) same in
+    let is : whole b n ≡ exact_quotient b c (z + 0) 0 = cond-false (n == 0) _ _ (ne_eqb n 0 (λ e. absurd (omega arith))) ∙ ap (λ k. exact_quotient b c k 0) same in
     let Q : Exact → Type 0 = λ d. IsExact d in
     subst P (sym is) (scaled_value b c z n 0 0 p.is (subst Q is (whole_exact b n (omega arith)))))
     (λ low.
@@ -122,11 +122,11 @@ whole_is b n (Err fault.TooManyDigits) h = absurd h
 
 -- ---- numerals
 
-place_is : (b : Bool) (c z : ℕ) (n : Numeral) → at_place b c z n ≡ placed b c (z + up n) (down n)
+place_is : (b : Bool) (c z : ℕ) (n : Numeral) → at_place b c z n ≡ from_digits b c (z + up n) (down n)
 place_is b c z n = at n.is_down
   where
-    at : (x : Bool) → cond x (placed b c z (places n + exponent_size n)) (placed b c (z + exponent_size n) (places n)) ≡ placed b c (z + cond x 0 (exponent_size n)) (cond x (places n + exponent_size n) (places n))
-    at true = let e : z ≡ z + 0 = omega arith in ap (λ k. placed b c k (places n + exponent_size n)) e
+    at : (x : Bool) → cond x (from_digits b c z (places n + exponent_size n)) (from_digits b c (z + exponent_size n) (places n)) ≡ from_digits b c (z + cond x 0 (exponent_size n)) (cond x (places n + exponent_size n) (places n))
+    at true = let e : z ≡ z + 0 = omega arith in ap (λ k. from_digits b c k (places n + exponent_size n)) e
     at false = refl
 
 -- more than 38 digits, whatever zeros are taken off
@@ -183,21 +183,21 @@ few_outcome : (b : Bool) (n : Numeral) (c z : ℕ) → AllDigits 10 n.whole → 
 few_outcome b n c z whole fraction is ends short =
     let u : ℕ = z + up n in
     let some : (c == 0) ≡ false = ne_eqb c 0 (λ e. absurd (omega (arith, ends))) in
-    let to_place : finite b n ≡ ok_or (option_map number.Finite (cond (is_in_range c u (down n)) (Some (scaled b c u (down n))) None)) fault.OutOfRange =
+    let to_place : finite b n ≡ ok_or (option_map number.Finite (cond (is_in_range c u (down n)) (Some (exact_quotient b c u (down n))) None)) fault.OutOfRange =
     finite_short b n c z whole fraction is short (λ e. absurd (ends e))
     ∙ ap (λ o. ok_or (option_map number.Finite o) fault.OutOfRange) (place_is b c z n ∙ cond-false (c == 0) (Some exact_zero) _ some)
     in
     inr (
       (λ long. let many = long c z is in omega (arith, many)),
-      split (is_in_range c u (down n))
+      by_bool (is_in_range c u (down n))
           (λ range. inl (
-            scaled b c u (down n),
+            exact_quotient b c u (down n),
             scaled_value b c z (digits_number n) (up n) (down n) is (scaled_exact b c u (down n) short ends range),
-            to_place ∙ ap (λ t. ok_or (option_map number.Finite (cond t (Some (scaled b c u (down n))) None)) fault.OutOfRange) range,
+            to_place ∙ ap (λ t. ok_or (option_map number.Finite (cond t (Some (exact_quotient b c u (down n))) None)) fault.OutOfRange) range,
           ))
           (λ out. inr (
             (λ d h. apart (sym (value_range b (digits_number n) (up n) (down n) d c z h is ends) ∙ out)),
-            to_place ∙ ap (λ t. ok_or (option_map number.Finite (cond t (Some (scaled b c u (down n))) None)) fault.OutOfRange) out,
+            to_place ∙ ap (λ t. ok_or (option_map number.Finite (cond t (Some (exact_quotient b c u (down n))) None)) fault.OutOfRange) out,
           )),
     )
   where

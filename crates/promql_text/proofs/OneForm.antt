@@ -3,7 +3,7 @@ use Rattle.std.proofs.Common.{◌≡◌, ◌≢◌, ℕ, zero, suc, ◌+◌, ◌
 use Rattle.std.proofs.Math.Nat.{mul-div_left, zero-mul}
 use Rattle.std.proofs.lemmas.Bool.{cases_lt, eq-eqb}
 use Rattle.std.proofs.lemmas.Nat.{mul-le}
-use Rattle.promql_text.specs.Numbers.{Exact, IsExact, negated, tens}
+use Rattle.promql_text.specs.Numbers.{Exact, IsExact, negate, tens}
 use Rattle.promql_text.specs.Values.{IsNumber, SameValue, neg}
 use Rattle.promql_text.specs.declared.number.Number.{Number}
 use Rattle.promql_text.specs.declared.number.Number.TheVariants.{Finite, Inf, NegInf, NaN}
@@ -16,11 +16,11 @@ and_false : (b : Bool) → (b && false) ≡ false
 and_false true = refl
 and_false false = refl
 
-exact_negated : (d : Exact) → IsExact d → IsExact (negated d)
+exact_negated : (d : Exact) → IsExact d → IsExact (negate d)
 exact_negated d e = record {
   short = e.short;
   ends = e.ends;
-  unsigned = λ none. ap (λ t. not d.is_negative && not t) (eq-eqb d.digits 0 none) ∙ and_false (not d.is_negative);
+  no_minus_zero = λ none. ap (λ t. not d.is_negative && not t) (eq-eqb d.digits 0 none) ∙ and_false (not d.is_negative);
   no_zeros = e.no_zeros;
   no_places = e.no_places;
   one_side = e.one_side;
@@ -45,8 +45,8 @@ same_digits a b y z e is =
     let one : a * 10 ^ y ≡ b * 10 ^ y = is ∙ ap (λ k. b * 10 ^ k) (sym e) in
     sym (mul-div_left a (ten_pos y)) ∙ ap (λ n. n / 10 ^ y) one ∙ mul-div_left b (ten_pos y)
 
-abbrev made : Bool → ℕ → ℕ → ℕ → Exact
-made b c z p = record { is_negative = b; digits = c; zeros = z; places = p }
+abbrev exact_of : Bool → ℕ → ℕ → ℕ → Exact
+exact_of b c z p = record { is_negative = b; digits = c; zeros = z; places = p }
 
 none_both : (v w : Exact) → v.digits ≡ 0 → SameValue v w → w.digits ≡ 0
 none_both v w none same =
@@ -74,8 +74,8 @@ one_form v w e f same =
     let zeros : v.zeros + w.places ≡ w.zeros + v.places = same_zeros v.digits w.digits (v.zeros + w.places) (w.zeros + v.places) last end same.size in
     let digits : v.digits ≡ w.digits = same_digits v.digits w.digits (v.zeros + w.places) (w.zeros + v.places) zeros same.size in
     let s : (v.zeros ≡ w.zeros) × (v.places ≡ w.places) = sides v.zeros v.places w.zeros w.places e.one_side f.one_side zeros in
-    ap (λ b. made b v.digits v.zeros v.places) same.sign ∙ ap (λ c. made w.is_negative c v.zeros v.places) digits
-    ∙ ap (λ z. made w.is_negative w.digits z v.places) s.0 ∙ ap (λ p. made w.is_negative w.digits w.zeros p) s.1)
+    ap (λ b. exact_of b v.digits v.zeros v.places) same.sign ∙ ap (λ c. exact_of w.is_negative c v.zeros v.places) digits
+    ∙ ap (λ z. exact_of w.is_negative w.digits z v.places) s.0 ∙ ap (λ p. exact_of w.is_negative w.digits w.zeros p) s.1)
     (λ low.
     let none : v.digits ≡ 0 = omega arith in
     sym (zero_is v e none) ∙ zero_is w f (none_both v w none same))

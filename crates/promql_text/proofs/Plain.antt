@@ -9,7 +9,7 @@ use Rattle.std.proofs.lemmas.Bool.Decides.{nat_tests}
 use Rattle.std.proofs.lemmas.Str.{chars-IsAscii}
 use Rattle.std.proofs.lemmas.Str.Parse.{digit_from_value}
 use Rattle.promql_text.specs.Texts.{Text}
-use Rattle.promql_text.specs.NumberText.{kept, is_x, is_past_octal}
+use Rattle.promql_text.specs.NumberText.{without_whitespace, is_x, is_past_octal}
 use Rattle.promql_text.proofs.TextForms.{with_sign}
 
 abbrev pub is_plain : ℕ → Bool
@@ -52,7 +52,7 @@ plain_filter (c ∷ cs) plain =
     ap (λ b. cond (not b) (c ∷ filter is_not_whitespace cs) (filter is_not_whitespace cs)) (plain_seen c plain.0)
     ∙ ap (λ z. c ∷ z) (plain_filter cs plain.1)
 
-pub kept_plain : (t : Text) → AllPlain t → kept t ≡ t
+pub kept_plain : (t : Text) → AllPlain t → without_whitespace t ≡ t
 kept_plain t plain = ap (filter is_not_whitespace) (chars-IsAscii t (plain_ascii t plain)) ∙ plain_filter t plain
 
 pub plain_holds_no_x : (t : Text) → AllPlain t → list_any is_x t ≡ false

@@ -8,7 +8,7 @@ use Rattle.std.proofs.lemmas.Nat.{mul-le, pow-add}
 use Rattle.promql_text.specs.Texts.{Text}
 use Rattle.promql_text.specs.DecimalForm.{Numeral, digits_number, places, exponent_size}
 use Rattle.promql_text.specs.Durations.{second_nanos}
-use Rattle.promql_text.specs.DurationReaders.{capped}
+use Rattle.promql_text.specs.DurationReaders.{cap_u128}
 use Rattle.promql_text.specs.Rounding.{at_point, PlacesPoint}
 use Rattle.promql_text.proofs.Rounding.{nearest_none, nearest-at_point, ten_positive, ten_split, capped_zeros}
 
@@ -26,36 +26,36 @@ too_small d w p e below far =
     let some = mul-le 1 (10 ^ k) (10 ^ (p + e - k)) (10 ^ k) (ten_positive (p + e - k)) (omega arith) in
     omega (arith, wide, ten, some)
 
-pub second_none : (n : Numeral) → AllDigits 10 (n.whole ++ n.fraction) → PlacesPoint n None → 0 ≡ capped (second_nanos n)
+pub second_none : (n : Numeral) → AllDigits 10 (n.whole ++ n.fraction) → PlacesPoint n None → 0 ≡ cap_u128 (second_nanos n)
 unfolding second_nanos
 second_none n digits point =
     let d : ℕ = digits_number n in
     let w : ℕ = length n.whole in
     let below : d < 10 ^ (w + places n) = subst (λ k. d < 10 ^ k) (length-append n.whole n.fraction) (digits_value-lt 10 (n.whole ++ n.fraction) digits) in
     let e = exponent_size n in
-    ap capped (sym (nearest_none (d * 10 ^ 9) (10 ^ (places n + e)) (too_small d w (places n) e below point.1)) ∙ sym (cond-true n.is_down _ _ point.0))
+    ap cap_u128 (sym (nearest_none (d * 10 ^ 9) (10 ^ (places n + e)) (too_small d w (places n) e below point.1)) ∙ sym (cond-true n.is_down _ _ point.0))
 
--- ---- a point among the digits or behind them
+-- ---- a point among the digits or after them
 
--- far behind the digits, how far makes no difference
-far_zeros : (d z : ℕ) → 39 ≤ z → capped (d * 10 ^ z) ≡ capped (d * capped (10 ^ 39))
-far_zeros d z far = sym (capped_zeros d z) ∙ ap (λ k. capped (d * capped (10 ^ k))) (let e : min z 39 ≡ 39 = omega arith in e)
+-- far after the digits, how far makes no difference
+far_zeros : (d z : ℕ) → 39 ≤ z → cap_u128 (d * 10 ^ z) ≡ cap_u128 (d * cap_u128 (10 ^ 39))
+far_zeros d z far = sym (capped_zeros d z) ∙ ap (λ k. cap_u128 (d * cap_u128 (10 ^ k))) (let e : min z 39 ≡ 39 = omega arith in e)
 
 behind_is : (ds : Text) (n : ℕ) → length ds ≤ n → at_point n ds ≡ digits_value 10 ds * 10 ^ (n - length ds)
 unfolding at_point
 behind_is ds n within = cond-true (nat_le (length ds) n) _ _ (le-leb (length ds) n within)
 
-pub far_points : (ds : Text) (m n : ℕ) → length ds + 39 ≤ m → length ds + 39 ≤ n → capped (at_point m ds) ≡ capped (at_point n ds)
+pub far_points : (ds : Text) (m n : ℕ) → length ds + 39 ≤ m → length ds + 39 ≤ n → cap_u128 (at_point m ds) ≡ cap_u128 (at_point n ds)
 far_points ds m n far farther =
     let d : ℕ = digits_value 10 ds in
-    ap capped (behind_is ds m (omega arith)) ∙ far_zeros d (m - length ds) (omega arith)
-    ∙ sym (ap capped (behind_is ds n (omega arith)) ∙ far_zeros d (n - length ds) (omega arith))
+    ap cap_u128 (behind_is ds m (omega arith)) ∙ far_zeros d (m - length ds) (omega arith)
+    ∙ sym (ap cap_u128 (behind_is ds n (omega arith)) ∙ far_zeros d (n - length ds) (omega arith))
 
-pub capped_point : (ds : Text) (n : ℕ) → length ds < 2 ^ 100 → capped (at_point (capped n) ds) ≡ capped (at_point n ds)
+pub capped_point : (ds : Text) (n : ℕ) → length ds < 2 ^ 100 → cap_u128 (at_point (cap_u128 n) ds) ≡ cap_u128 (at_point n ds)
 capped_point ds n short =
     ⊎_elim
-    (λ (small : n < 2 ^ 128). ap (λ k. capped (at_point k ds)) (let e : capped n ≡ n = omega arith in e))
-    (λ (big : 2 ^ 128 ≤ n). far_points ds (capped n) n (omega arith) (omega arith))
+    (λ (small : n < 2 ^ 128). ap (λ k. cap_u128 (at_point k ds)) (let e : cap_u128 n ≡ n = omega arith in e))
+    (λ (big : 2 ^ 128 ≤ n). far_points ds (cap_u128 n) n (omega arith) (omega arith))
     (cases_lt n (2 ^ 128))
 
 second_down : (n : Numeral) (p : ℕ) → n.is_down ≡ true → p + exponent_size n ≡ length n.whole + 9 → at_point p (n.whole ++ n.fraction) ≡ second_nanos n
@@ -70,12 +70,12 @@ second_up n up =
     sym (nearest-at_point (n.whole ++ n.fraction) (length n.whole + 9 + exponent_size n) (9 + exponent_size n) (places n) (omega (arith, length-append n.whole n.fraction)))
     ∙ sym (cond-false n.is_down _ _ up)
 
-pub second_some : (n : Numeral) (p : ℕ) → length (n.whole ++ n.fraction) < 2 ^ 100 → PlacesPoint n (Some p) → capped (at_point p (n.whole ++ n.fraction)) ≡ capped (second_nanos n)
+pub second_some : (n : Numeral) (p : ℕ) → length (n.whole ++ n.fraction) < 2 ^ 100 → PlacesPoint n (Some p) → cap_u128 (at_point p (n.whole ++ n.fraction)) ≡ cap_u128 (second_nanos n)
 second_some n p short point =
     ⊎_elim
-    (λ (down : n.is_down ≡ true). ap capped (second_down n p down (point.0 down)))
+    (λ (down : n.is_down ≡ true). ap cap_u128 (second_down n p down (point.0 down)))
     (λ (up : n.is_down ≡ false).
-    ap (λ k. capped (at_point k (n.whole ++ n.fraction))) (point.1 up)
+    ap (λ k. cap_u128 (at_point k (n.whole ++ n.fraction))) (point.1 up)
     ∙ capped_point (n.whole ++ n.fraction) (length n.whole + 9 + exponent_size n) short
-    ∙ ap capped (second_up n up))
+    ∙ ap cap_u128 (second_up n up))
     (cases_Bool n.is_down)

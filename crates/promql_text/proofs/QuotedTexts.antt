@@ -1,4 +1,4 @@
--- A quoted text is read as the characters that its spellings stand for.
+-- A quoted text is read as the characters that its spellings are for.
 use Rattle.std.proofs.Common.{◌≡◌, ℕ, suc, ◌+◌, ◌-◌, ◌*◌, ◌<◌, ◌≤◌, true, cond, List, [], ◌∷◌, ◌++◌, length, drop, Some, None, Option, refl, sym, ap, ◌∙◌, inl, inr, ⊎_elim, lit<, append_assoc, arith}
 use Rattle.std.specs.Prelude.{◌⊎◌, ◌==◌, nat_lt, nat_le, option_and_then, option_map, encode_utf8_all}
 use Rattle.std.specs.Char.{encode_utf8, digit_value, IsScalar}
@@ -10,9 +10,9 @@ use Rattle.std.proofs.lemmas.Str.{encode_ascii}
 use Rattle.std.proofs.Math.Seq.{drop-append_seam}
 use Rattle.promql_text.specs.Texts.{Text}
 use Rattle.promql_text.specs.Quoting.{is_quote, letter, number, hexadecimal, escape, inside, unquoted_text}
-use Rattle.promql_text.specs.Spellings.{Spelling, Itself, OwnQuote, Letter, Octal, Hexadecimal, text_of, digits_behind, Spells, spelled_text, AllSpell, IsQuotedText}
+use Rattle.promql_text.specs.QuoteSpellings.{Spelling, Itself, OwnQuote, Letter, Octal, Hexadecimal, text_of, digits_behind, Spells, spelled_text, AllSpell, IsQuotedText}
 use Rattle.promql_text.proofs.Quotes.{escape-own, escape-x, escape-u, escape-U, escape-octal, escape-letter}
-use Rattle.promql_text.proofs.Spellings.{reads_between_backticks, reads_itself, reads_escape}
+use Rattle.promql_text.proofs.QuotedCharacters.{reads_between_backticks, reads_itself, reads_escape}
 
 -- ---- digits
 
@@ -26,7 +26,7 @@ octal_digit b small = (grind (arith, common_steps), grind (arith, common_steps),
 
 -- ---- quotes and letters
 
--- a quote other than the backtick is no backslash, no letter, and stands before the digits
+-- a quote other than the backtick is no backslash, no letter, and comes before the digits
 pub quote_low : (q : ℕ) → is_quote q ≡ true → (q ≡ 96 → ⊥) → q < 48
 quote_low q is ticks = grind (arith, common_steps)
 
@@ -74,7 +74,7 @@ hexadecimal_reads n c ds r len digits value is =
     (ap (λ n. number 16 n 0 (ds ++ r)) (sym len) ∙ number-all 16 0 ds r digits ∙ ap Some value)
     ∙ cond-true (scalar c) _ _ is
 
--- which letter stands before how many digits
+-- which letter comes before how many digits
 behind_cases : (b n : ℕ) → digits_behind b ≡ Some n → ((b ≡ 120) × (n ≡ 2)) ⊎ (((b ≡ 117) × (n ≡ 4)) ⊎ ((b ≡ 85) × (n ≡ 8)))
 behind_cases b n is =
     ⊎_elim
@@ -97,7 +97,7 @@ behind_cases b n is =
     none : (b : ℕ) → (b ≡ 120 → ⊥) → (b ≡ 117 → ⊥) → (b ≡ 85 → ⊥) → digits_behind b ≡ None
     none b x u U = cond-false (b == 120) _ _ (ne_eqb b 120 x) ∙ cond-false (b == 117) _ _ (ne_eqb b 117 u) ∙ cond-false (b == 85) _ _ (ne_eqb b 85 U)
 
--- what stands behind a letter and its digits is left
+-- what comes after a letter and its digits is left
 behind_rest : (b n : ℕ) (ds r : Text) → length ds ≡ n → r ≡ drop (n + 1) (b ∷ (ds ++ r))
 behind_rest b n ds r len =
     sym (ap (λ k. drop k (b ∷ (ds ++ r))) (let e : n + 1 ≡ suc n = omega arith in e) ∙ ap (λ k. drop k (ds ++ r)) (sym len) ∙ drop-append_seam ds r)

@@ -17,7 +17,7 @@ use Rattle.promql_text.specs.Quoting.{escaped_byte, escaped_text, quoted_text, i
 Reads : Text → Text → Type 0
 Reads z s = inside 34 0 z ≡ Some s
 
--- an escape of two bytes is read as the byte that it stands for
+-- an escape of two bytes is read as the byte that it is for
 two : (x b : ℕ) (z s : Text) → escape 34 (x ∷ z) ≡ Some (b, 1) → b < 128 → Reads z s → Reads (92 ∷ x ∷ z) (b ∷ s)
 unfolding Reads
 two x b z s is low reads =

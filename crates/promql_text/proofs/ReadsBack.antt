@@ -14,11 +14,11 @@ use Rattle.std.proofs.lemmas.Bool.{cases_lt, eq-eqb, ne_eqb}
 use Rattle.std.proofs.lemmas.List.{length-replicate}
 use Rattle.std.proofs.lemmas.Nat.{div-add-mod'}
 use Rattle.promql_text.specs.Texts.{Text}
-use Rattle.promql_text.specs.DecimalForm.{front, digit_run, past_run, past_point, unsigned, is_word, is_minus, Numeral, numeral, Reading, reading, NotANumber, Infinite, Signed, decimal_form}
+use Rattle.promql_text.specs.DecimalForm.{front, digit_run, past_run, past_point, without_sign, is_word, is_minus, Numeral, numeral, Reading, reading, NotANumber, Infinite, Signed, decimal_form}
 use Rattle.promql_text.specs.DecimalForm as form
 use Rattle.promql_text.specs.NumberText.{is_x, is_octal, is_past_octal, read_number, number_of, finite, of_form, hexadecimal, radix_number, number_text}
-use Rattle.promql_text.specs.NumberDigits.{padded}
-use Rattle.promql_text.specs.Numbers.{Exact, IsExact, exact_zero, placed, scaled, is_in_range, digit_count}
+use Rattle.promql_text.specs.NumberDigits.{pad_zeros}
+use Rattle.promql_text.specs.Numbers.{Exact, IsExact, exact_zero, from_digits, exact_quotient, is_in_range, digit_count}
 use Rattle.promql_text.specs.Values.{IsNumber}
 use Rattle.promql_text.specs.declared.number.Number.{Number}
 use Rattle.promql_text.specs.declared.number.Number.TheVariants as number
@@ -61,7 +61,7 @@ number_at : (t : Text) → list_any is_x t ≡ false → is_octal t ≡ false �
 unfolding number_of
 number_at t no_x decimal_text =
     let last : Result Number NumberFault = of_form (decimal_form t) in
-    let octal : Result Number NumberFault = radix_number 8 (is_minus t) (drop 1 (unsigned t)) in
+    let octal : Result Number NumberFault = radix_number 8 (is_minus t) (drop 1 (without_sign t)) in
     ap (λ b. cond b (hexadecimal t) (cond (is_octal t) octal last)) no_x ∙ ap (λ b. cond b octal last) decimal_text
 
 pub number_signed : (b : Bool) (t : Text) (n : Numeral) → is_ascii_digit (front t) ≡ true → AllPlain t → is_octal (with_sign b t) ≡ false → reading t ≡ Some (form.Finite n) → read_number (with_sign b t) ≡ finite b n
@@ -74,7 +74,7 @@ number_signed b t n digit plain decimal_text is =
 -- ---- a number at its own place
 
 pub zero_is : (d : Exact) → IsExact d → d.digits ≡ 0 → exact_zero ≡ d
-zero_is d e none = sym (rw (e.unsigned none, e.no_zeros none, e.no_places none, none) refl)
+zero_is d e none = sym (rw (e.no_minus_zero none, e.no_zeros none, e.no_places none, none) refl)
 
 in_range : (c up down : ℕ) → digit_count c + up ≤ 309 + down → down ≤ digit_count c + up + 323 → is_in_range c up down ≡ true
 in_range c up down below above = grind (arith, nat_tests)
@@ -82,23 +82,23 @@ in_range c up down below above = grind (arith, nat_tests)
 abbrev at_zeros : Exact → ℕ → ℕ → Exact
 at_zeros d z p = record { is_negative = d.is_negative; digits = d.digits; zeros = z; places = p }
 
-scaled_is : (d : Exact) (up down : ℕ) → IsExact d → up ≡ d.zeros → down ≡ d.places → scaled d.is_negative d.digits up down ≡ d
+scaled_is : (d : Exact) (up down : ℕ) → IsExact d → up ≡ d.zeros → down ≡ d.places → exact_quotient d.is_negative d.digits up down ≡ d
 scaled_is d up down e ups downs =
     let z : up - down ≡ d.zeros = ⊎_elim (λ some. let n = e.one_side some in omega (arith, n)) (λ low. omega arith) (cases_lt 0 d.places) in
     let p : down - up ≡ d.places = ⊎_elim (λ some. let n = e.one_side some in omega (arith, n)) (λ low. omega arith) (cases_lt 0 d.places) in
     ap (λ k. at_zeros d k (down - up)) z ∙ ap (at_zeros d d.zeros) p
 
-placed_is : (d : Exact) (up down : ℕ) → IsExact d → up ≡ d.zeros → down ≡ d.places → placed d.is_negative d.digits up down ≡ Some d
+placed_is : (d : Exact) (up down : ℕ) → IsExact d → up ≡ d.zeros → down ≡ d.places → from_digits d.is_negative d.digits up down ≡ Some d
 placed_is d up down e ups downs =
     ⊎_elim
     (λ some.
     let range : is_in_range d.digits up down ≡ true = in_range d.digits up down (omega (arith, e.below)) (omega (arith, e.above)) in
-    ap (λ b. cond b (Some exact_zero) (cond (is_in_range d.digits up down) (Some (scaled d.is_negative d.digits up down)) None)) (ne_eqb d.digits 0 (omega arith))
-    ∙ ap (λ b. cond b (Some (scaled d.is_negative d.digits up down)) None) range
+    ap (λ b. cond b (Some exact_zero) (cond (is_in_range d.digits up down) (Some (exact_quotient d.is_negative d.digits up down)) None)) (ne_eqb d.digits 0 (omega arith))
+    ∙ ap (λ b. cond b (Some (exact_quotient d.is_negative d.digits up down)) None) range
     ∙ ap Some (scaled_is d up down e ups downs))
     (λ low.
     let none : d.digits ≡ 0 = omega arith in
-    ap (λ b. cond b (Some exact_zero) (cond (is_in_range d.digits up down) (Some (scaled d.is_negative d.digits up down)) None)) (eq-eqb d.digits 0 none)
+    ap (λ b. cond b (Some exact_zero) (cond (is_in_range d.digits up down) (Some (exact_quotient d.is_negative d.digits up down)) None)) (eq-eqb d.digits 0 none)
     ∙ ap Some (zero_is d e none))
     (cases_lt 0 d.digits)
 
@@ -143,8 +143,8 @@ false_both false y = refl
 not_octal_point : (b : Bool) (xs ys : Text) → is_octal (with_sign b (xs ++ (46 ∷ ys))) ≡ false
 not_octal_point b xs ys =
     let s : Text = with_sign b (xs ++ (46 ∷ ys)) in
-    ap (λ x. (front (unsigned s) == 48) && (not (length (drop 1 (unsigned s)) == 0) && not x)) (point_signed b xs ys)
-    ∙ false_both (front (unsigned s) == 48) (not (length (drop 1 (unsigned s)) == 0))
+    ap (λ x. (front (without_sign s) == 48) && (not (length (drop 1 (without_sign s)) == 0) && not x)) (point_signed b xs ys)
+    ∙ false_both (front (without_sign s) == 48) (not (length (drop 1 (without_sign s)) == 0))
 
 whole_text : (d : Exact) → IsExact d → 0 < d.digits → d.places ≡ 0 → read_number (with_sign d.is_negative (decimal d.digits ++ replicate d.zeros 48)) ≡ Ok (number.Finite d)
 whole_text d e some no_places =
@@ -160,34 +160,34 @@ whole_text d e some no_places =
     number_signed d.is_negative t (plain_numeral t []) first (plain_digits t digits) (not_octal d.is_negative t first leads) (reading_digits t filled digits)
     ∙ finite_is d t [] e digits tt value (sym no_places)
 
--- the digits behind the point
-padded_digits : (k n : ℕ) → n < 10 ^ 38 → AllDigits 10 (padded k n)
+-- the digits after the point
+padded_digits : (k n : ℕ) → n < 10 ^ 38 → AllDigits 10 (pad_zeros k n)
 padded_digits k n short = all_digits_append (replicate (k - length (decimal n)) 48) (decimal n) (zeros_digits (k - length (decimal n))) (decimal_digits n short).1
 
-padded_length : (k n : ℕ) → digit_count n ≤ k → length (padded k n) ≡ k
+padded_length : (k n : ℕ) → digit_count n ≤ k → length (pad_zeros k n) ≡ k
 padded_length k n room =
     let h = length-append (replicate (k - length (decimal n)) 48) (decimal n) in
     let z = length-replicate {A = ℕ} (k - length (decimal n)) 48 in
     omega (arith, h, z, room)
 
-padded_value : (k n : ℕ) → n < 10 ^ 38 → digits_value 10 (padded k n) ≡ n
+padded_value : (k n : ℕ) → n < 10 ^ 38 → digits_value 10 (pad_zeros k n) ≡ n
 padded_value k n short =
     let j : ℕ = k - length (decimal n) in
     value_append 10 0 (replicate j 48) (decimal n) ∙ ap (λ v. digits_value_after 10 v (decimal n)) (zeros_value j 0 ∙ zero-mul (10 ^ j)) ∙ (decimal_digits n short).2
 
-point_value : (c k q r : ℕ) → q < 10 ^ 38 → r < 10 ^ 38 → digit_count r ≤ k → q * 10 ^ k + r ≡ c → digits_value 10 (decimal q ++ padded k r) ≡ c
+point_value : (c k q r : ℕ) → q < 10 ^ 38 → r < 10 ^ 38 → digit_count r ≤ k → q * 10 ^ k + r ≡ c → digits_value 10 (decimal q ++ pad_zeros k r) ≡ c
 point_value c k q r short few room is =
-    value_append 10 0 (decimal q) (padded k r)
-    ∙ ap (λ v. digits_value_after 10 v (padded k r)) (decimal_digits q short).2
-    ∙ value_split (padded k r) q
-    ∙ ap (λ l. q * 10 ^ l + digits_value 10 (padded k r)) (padded_length k r room)
+    value_append 10 0 (decimal q) (pad_zeros k r)
+    ∙ ap (λ v. digits_value_after 10 v (pad_zeros k r)) (decimal_digits q short).2
+    ∙ value_split (pad_zeros k r) q
+    ∙ ap (λ l. q * 10 ^ l + digits_value 10 (pad_zeros k r)) (padded_length k r room)
     ∙ ap (λ v. q * 10 ^ k + v) (padded_value k r few) ∙ is
 
-point_text : (d : Exact) → IsExact d → 0 < d.places → read_number (with_sign d.is_negative (decimal (d.digits / 10 ^ d.places) ++ (46 ∷ padded d.places (d.digits % 10 ^ d.places)))) ≡ Ok (number.Finite d)
+point_text : (d : Exact) → IsExact d → 0 < d.places → read_number (with_sign d.is_negative (decimal (d.digits / 10 ^ d.places) ++ (46 ∷ pad_zeros d.places (d.digits % 10 ^ d.places)))) ≡ Ok (number.Finite d)
 point_text d e some =
     let q : ℕ = d.digits / 10 ^ d.places in
     let r : ℕ = d.digits % 10 ^ d.places in
-    let f : Text = padded d.places r in
+    let f : Text = pad_zeros d.places r in
     let low : q < 10 ^ 38 = (let h = div-le_self d.digits (10 ^ d.places) in omega (arith, h, e.short)) in
     let few : r < 10 ^ 38 = (let h = mod-le d.digits (10 ^ d.places) in omega (arith, h, e.short)) in
     let own = decimal_digits q low in
@@ -219,7 +219,7 @@ nan_text = refl
 finite_text : (d : Exact) → IsExact d → read_number (number_text (number.Finite d)) ≡ Ok (number.Finite d)
 finite_text d e =
     let whole : Text = decimal d.digits ++ replicate d.zeros 48 in
-    let point : Text = decimal (d.digits / 10 ^ d.places) ++ (46 ∷ padded d.places (d.digits % 10 ^ d.places)) in
+    let point : Text = decimal (d.digits / 10 ^ d.places) ++ (46 ∷ pad_zeros d.places (d.digits % 10 ^ d.places)) in
     ⊎_elim
     (λ some. ap (λ b. read_number (with_sign d.is_negative (cond b whole point))) (ne_eqb d.places 0 (omega arith)) ∙ point_text d e some)
     (λ low.

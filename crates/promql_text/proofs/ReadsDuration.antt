@@ -107,7 +107,7 @@ part_reads n u us r is h =
 
 -- ---- counts, from the greatest unit on
 
--- a part with a count or nothing, in front of r
+-- a part with a count or nothing, before r
 count_front : (n : ℕ) (u : Unit) (r : Text) (P : Text → Type 0) → (n ≡ 0 → P r) → ((n ≡ 0 → ⊥) → P (part_text n u r)) → P (count_text n u ++ r)
 count_front n u r P none some =
     ⊎_elim
@@ -138,7 +138,7 @@ abbrev pub NoWord : Unit → List Unit → Type 0
 NoWord v [] = ⊤
 NoWord v (u ∷ us) = (bytes_eq (word_of u) (word_of v) ≡ false) × NoWord v us
 
--- each unit's word stands once
+-- each unit's word is once
 abbrev pub Apart : List Unit → Type 0
 Apart [] = ⊤
 Apart (u ∷ us) = NoWord u us × Apart us
@@ -320,13 +320,13 @@ seconds_read n some fits =
     let nanos : nearest (digits_value 10 (ds ++ fs) * 10 ^ (9 + 0)) (10 ^ places) ≡ n =
     nearest_right (digits_value 10 (ds ++ fs)) 9 places fraction.short
     ∙ ap (λ v. v * 10 ^ (9 - places)) value
-    ∙ joined s (10 ^ places) (digits_value 10 fs) (10 ^ (9 - places)) r n (sym (ten_split 9 places fraction.short)) fraction.value (omega (arith, div-add-mod n (nanos_of Second)))
+    ∙ seconds_sum s (10 ^ places) (digits_value 10 fs) (10 ^ (9 - places)) r n (sym (ten_split 9 places fraction.short)) fraction.value (omega (arith, div-add-mod n (nanos_of Second)))
     in
     duration-form t (Some (signed_of false (Finite (plain_numeral ds fs)))) more (point_form ds fs is.some is.digits fraction.digits)
     ∙ ap in_range nanos ∙ in_range_is n some fits
   where
-    joined : (s p v q r n : ℕ) → q * p ≡ 10 ^ 9 → v * q ≡ r → s * 1_000_000_000 + r ≡ n → (s * p + v) * q ≡ n
-    joined s p v q r n tens value sum = omega (arith, ap (λ x. s * x) tens)
+    seconds_sum : (s p v q r n : ℕ) → q * p ≡ 10 ^ 9 → v * q ≡ r → s * 1_000_000_000 + r ≡ n → (s * p + v) * q ≡ n
+    seconds_sum s p v q r n tens value sum = omega (arith, ap (λ x. s * x) tens)
 
 pub duration_reads : (n : ℕ) → 0 < n → n < 2 ^ 64 * 1_000_000_000 → duration_of (duration_text n) ≡ Ok n
 unfolding duration_text

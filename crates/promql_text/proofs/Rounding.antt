@@ -7,25 +7,25 @@ use Rattle.std.proofs.lemmas.Bool.{cond-true, cond-false, cases_lt, cases_order,
 use Rattle.std.proofs.lemmas.Nat.{mul-le, div-mul-add, mod-mul-add, pow-add}
 use Rattle.std.proofs.Math.Nat.{pow-suc, one-le-pow, div-add-mod}
 use Rattle.promql_text.specs.Texts.{Text}
-use Rattle.promql_text.specs.Durations.{rounded, nearest}
-use Rattle.promql_text.specs.DurationReaders.{capped}
+use Rattle.promql_text.specs.Durations.{round_half_even, nearest}
+use Rattle.promql_text.specs.DurationReaders.{cap_u128}
 use Rattle.promql_text.specs.Rounding.{at_point}
 
 -- ---- three ways to round
 
-pub rounded_down : (w r b : ℕ) → r * 2 < b → rounded w r b ≡ w
+pub rounded_down : (w r b : ℕ) → r * 2 < b → round_half_even w r b ≡ w
 rounded_down w r b h = cond-true (nat_lt (r * 2) b) _ _ (lt-ltb (r * 2) b h)
 
-pub rounded_even : (w r b : ℕ) → r * 2 ≡ b → rounded w r b ≡ w + w % 2
+pub rounded_even : (w r b : ℕ) → r * 2 ≡ b → round_half_even w r b ≡ w + w % 2
 rounded_even w r b h = cond-false (nat_lt (r * 2) b) _ _ (le-ltb (r * 2) b (omega arith)) ∙ cond-true (r * 2 == b) _ _ (eq-eqb (r * 2) b h)
 
-pub rounded_up : (w r b : ℕ) → b < r * 2 → rounded w r b ≡ w + 1
+pub rounded_up : (w r b : ℕ) → b < r * 2 → round_half_even w r b ≡ w + 1
 rounded_up w r b h = cond-false (nat_lt (r * 2) b) _ _ (le-ltb (r * 2) b (omega arith)) ∙ cond-false (r * 2 == b) _ _ (ne_eqb (r * 2) b (λ e. absurd (omega arith)))
 
 scaled_lt : (a b c : ℕ) → 0 < c → a < b → a * c < b * c
 scaled_lt a b c some h = omega (arith, mul-le (a + 1) c b c (omega arith) (omega arith))
 
-rounded_scaled : (w r b c : ℕ) → 0 < c → rounded w (r * c) (b * c) ≡ rounded w r b
+rounded_scaled : (w r b c : ℕ) → 0 < c → round_half_even w (r * c) (b * c) ≡ round_half_even w r b
 rounded_scaled w r b c some =
     ⊎_elim
     (λ (same : r * 2 ≡ b). rounded_even w (r * c) (b * c) (let e : r * c * 2 ≡ r * 2 * c = omega arith in e ∙ ap (λ x. x * c) same) ∙ sym (rounded_even w r b same))
@@ -37,9 +37,9 @@ rounded_scaled w r b c some =
 
 -- ---- quotients
 
-pub nearest_parts : (w b r : ℕ) → r < b → nearest (w * b + r) b ≡ rounded w r b
+pub nearest_parts : (w b r : ℕ) → r < b → nearest (w * b + r) b ≡ round_half_even w r b
 unfolding nearest
-nearest_parts w b r h = ap (λ q. rounded q ((w * b + r) % b) b) (div-mul-add w b r h) ∙ ap (λ m. rounded w m b) (mod-mul-add w b r h)
+nearest_parts w b r h = ap (λ q. round_half_even q ((w * b + r) % b) b) (div-mul-add w b r h) ∙ ap (λ m. round_half_even w m b) (mod-mul-add w b r h)
 
 pub nearest_whole : (w b : ℕ) → 0 < b → nearest (w * b) b ≡ w
 nearest_whole w b some =
@@ -113,29 +113,29 @@ after-append x (c ∷ xs) ys = after-append (x * 10 + digit_value c) xs ys
 pub digits_value-append : (xs ys : Text) → digits_value 10 (xs ++ ys) ≡ digits_value 10 xs * 10 ^ length ys + digits_value 10 ys
 digits_value-append xs ys = after-append 0 xs ys ∙ digits_after (digits_value 10 xs) ys
 
--- ---- zeros behind a number
+-- ---- zeros after a number
 
 pub tens_huge : (z : ℕ) → 39 ≤ z → 2 ^ 128 ≤ 10 ^ z
 tens_huge z h = omega (arith, ten_split z 39 h, mul-le 1 (10 ^ 39) (10 ^ (z - 39)) (10 ^ 39) (ten_positive (z - 39)) (omega arith))
 
-pub capped_full : (n m : ℕ) → 0 < n → 2 ^ 128 - 1 ≤ m → capped (n * m) ≡ 2 ^ 128 - 1
+pub capped_full : (n m : ℕ) → 0 < n → 2 ^ 128 - 1 ≤ m → cap_u128 (n * m) ≡ 2 ^ 128 - 1
 capped_full n m some full = omega (arith, mul-le 1 (2 ^ 128 - 1) n m some full)
 
-pub capped_times : (n m : ℕ) → capped (n * capped m) ≡ capped (n * m)
+pub capped_times : (n m : ℕ) → cap_u128 (n * cap_u128 m) ≡ cap_u128 (n * m)
 capped_times n m =
     ⊎_elim
-    (λ (small : m < 2 ^ 128). ap (λ x. capped (n * x)) (let e : capped m ≡ m = omega arith in e))
+    (λ (small : m < 2 ^ 128). ap (λ x. cap_u128 (n * x)) (let e : cap_u128 m ≡ m = omega arith in e))
     (λ (big : 2 ^ 128 ≤ m). ⊎_elim
-    (λ (some : 0 < n). capped_full n (capped m) some (omega arith) ∙ sym (capped_full n m some (omega arith)))
+    (λ (some : 0 < n). capped_full n (cap_u128 m) some (omega arith) ∙ sym (capped_full n m some (omega arith)))
     (λ (none : n ≤ 0). let zero_is : n ≡ 0 = omega arith in rw zero_is (omega arith))
     (cases_lt 0 n))
     (cases_lt m (2 ^ 128))
 
-pub capped_zeros : (n z : ℕ) → capped (n * capped (10 ^ (min z 39))) ≡ capped (n * 10 ^ z)
+pub capped_zeros : (n z : ℕ) → cap_u128 (n * cap_u128 (10 ^ (min z 39))) ≡ cap_u128 (n * 10 ^ z)
 capped_zeros n z =
     capped_times n (10 ^ (min z 39))
     ∙ ⊎_elim
-    (λ (few : z < 39). ap (λ k. capped (n * 10 ^ k)) (let e : min z 39 ≡ z = omega arith in e))
+    (λ (few : z < 39). ap (λ k. cap_u128 (n * 10 ^ k)) (let e : min z 39 ≡ z = omega arith in e))
     (λ (many : 39 ≤ z). ⊎_elim
     (λ (some : 0 < n).
     let huge : 2 ^ 128 ≤ 10 ^ (min z 39) = tens_huge (min z 39) (omega arith) in

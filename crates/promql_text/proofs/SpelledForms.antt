@@ -7,10 +7,10 @@ use Rattle.std.proofs.lemmas.Bool.{cond_both}
 use Rattle.std.proofs.lemmas.Bool.Decides.{nat_tests}
 use Rattle.std.proofs.lemmas.Slice.Eq.{bytes_eq-Decides}
 use Rattle.promql_text.specs.Texts.{Text}
-use Rattle.promql_text.specs.DecimalForm.{front, past_run, past_point, unsigned, is_minus, is_word, ends_well, Numeral, numeral, Reading, NotANumber, Infinite, Finite, reading, Signed, decimal_form}
-use Rattle.promql_text.specs.Spelling.{IsSign, IsReading, IsDecimalForm, FormsAreSpelled}
+use Rattle.promql_text.specs.DecimalForm.{front, past_run, past_point, without_sign, is_minus, is_word, ends_well, Numeral, numeral, Reading, NotANumber, Infinite, Finite, reading, Signed, decimal_form}
+use Rattle.promql_text.specs.NumeralSpelling.{IsSign, IsReading, IsDecimalForm, FormsAreSpelled}
 use Rattle.promql_text.proofs.Runs.{past_stops}
-use Rattle.promql_text.proofs.Spelled.{Signs, signs_at, SignCut, sign_at, both, either, given, numeral_is, spelled_reads, reads_spelled}
+use Rattle.promql_text.proofs.SpelledNumerals.{Signs, signs_at, SignCut, sign_at, both, either, some_numeral_is, numeral_is, spelled_reads, reads_spelled}
 use Rattle.promql_text.proofs.TextForms.{signed_of, form_at}
 
 -- ---- what a numeral begins with
@@ -32,7 +32,7 @@ numeral_opens : (t : Text) (n : Numeral) → numeral t ≡ Some n → opens (fro
 numeral_opens t n is =
     let b : Text = past_point (past_run t) in
     let some : Bool = is_ascii_digit (front t) || is_ascii_digit (front b) in
-    let g = given (some && ends_well (past_run b)) _ n (sym (numeral_is t) ∙ is) in
+    let g = some_numeral_is (some && ends_well (past_run b)) _ n (sym (numeral_is t) ∙ is) in
     opens_at t (is_ascii_digit (front t)) (front t == 46) refl refl (both some (ends_well (past_run b)) g.0).0
 
 lower_opens : (c : ℕ) → opens c ≡ true → to_ascii_lowercase c ≡ c
@@ -136,12 +136,12 @@ sign_found (c ∷ t) = sign_at c t (c == 43) (c == 45) refl refl
 
 pub form_spelled : (t : Text) (f : Signed) → decimal_form t ≡ Some f → IsDecimalForm f t
 unfolding decimal_form
-form_spelled t f is = of_reading (reading (unsigned t)) refl is
+form_spelled t f is = of_reading (reading (without_sign t)) refl is
   where
     same : (g : Signed) → ◌≡◌ {A = Option Signed} (Some g) (Some f) → g ≡ f
     same g e = cc
 
-    of_reading : (o : Option Reading) → reading (unsigned t) ≡ o → option_map (signed_of (is_minus t)) o ≡ Some f → IsDecimalForm f t
+    of_reading : (o : Option Reading) → reading (without_sign t) ≡ o → option_map (signed_of (is_minus t)) o ≡ Some f → IsDecimalForm f t
     of_reading None is e = absurd (never e)
       where
         never : ◌≡◌ {A = Option Signed} None (Some f) → ⊥
@@ -149,7 +149,7 @@ form_spelled t f is = of_reading (reading (unsigned t)) refl is
     of_reading (Some r) is e =
         let c : SignCut t = sign_found t in
         let P : Signed → Type 0 = λ g. IsDecimalForm g t in
-        subst P (same (signed_of (is_minus t) r) e) (record { sign = c.sign; body = unsigned t; is = c.is; is_sign = c.has; is_body = reading_spelled r (unsigned t) is })
+        subst P (same (signed_of (is_minus t) r) e) (record { sign = c.sign; body = without_sign t; is = c.is; is_sign = c.has; is_body = reading_spelled r (without_sign t) is })
 
 pub forms_spelled : FormsAreSpelled
 forms_spelled t f = (form_spelled t f, spelled_form t f)

@@ -84,7 +84,7 @@ pub value_after_ge : (ds : List ℕ) (n : ℕ) → n ≤ digits_value_after 10 n
 value_after_ge [] n = omega arith
 value_after_ge (c ∷ cs) n = let h = value_after_ge cs (n * 10 + digit_value c) in omega (arith, h)
 
--- one more digit, behind at most 38 digits and zeros
+-- one more digit, after at most 38 digits and zeros
 pub push_long : (a z d : ℕ) → d < 10 → d ≢ 0 → (a * 10 ^ (z + 1) < 10 ^ 38 → ⊥) → IsLong (a * 10 ^ z * 10 + d)
 push_long a z d small some long = record {
   front = a * 10 ^ z * 10 + d;

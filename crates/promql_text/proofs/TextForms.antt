@@ -6,7 +6,7 @@ use Rattle.std.specs.Str.{bytes_eq, str_to_ascii_lowercase}
 use Rattle.std.specs.Str.Parse.{AllDigits}
 use Rattle.std.proofs.lemmas.Bool.Decides.{nat_tests}
 use Rattle.promql_text.specs.Texts.{Text}
-use Rattle.promql_text.specs.DecimalForm.{front, digit_run, past_run, past_point, unsigned, is_minus, is_word, ends_well, Numeral, numeral, Reading, reading, NotANumber, Infinite, Finite, Signed, decimal_form}
+use Rattle.promql_text.specs.DecimalForm.{front, digit_run, past_run, past_point, without_sign, is_minus, is_word, ends_well, Numeral, numeral, Reading, reading, NotANumber, Infinite, Finite, Signed, decimal_form}
 use Rattle.promql_text.proofs.Runs.{run_append, past_append, run_all, past_all, past_stops, front_digit}
 
 -- ---- a sign in front
@@ -17,7 +17,7 @@ with_sign b t = cond b (45 ∷ []) [] ++ t
 pub digit_no_sign : (s : Text) → is_ascii_digit (front s) ≡ true → (front s == 43 || front s == 45) ≡ false
 digit_no_sign s digit = grind (arith, nat_tests)
 
-pub unsigned_is : (b : Bool) (t : Text) → is_ascii_digit (front t) ≡ true → unsigned (with_sign b t) ≡ t
+pub unsigned_is : (b : Bool) (t : Text) → is_ascii_digit (front t) ≡ true → without_sign (with_sign b t) ≡ t
 unsigned_is true t digit = refl
 unsigned_is false t digit = ap (λ b. cond b (drop 1 t) t) (digit_no_sign t digit)
 
@@ -47,12 +47,12 @@ no_word (c ∷ cs) word b digit letter =
 abbrev pub signed_of : Bool → Reading → Signed
 signed_of b r = record { is_negative = b; reading = r }
 
-pub form_at : (t body : Text) (b : Bool) (r : Reading) → is_minus t ≡ b → unsigned t ≡ body → reading body ≡ Some r → decimal_form t ≡ Some (signed_of b r)
+pub form_at : (t body : Text) (b : Bool) (r : Reading) → is_minus t ≡ b → without_sign t ≡ body → reading body ≡ Some r → decimal_form t ≡ Some (signed_of b r)
 unfolding decimal_form
 form_at t body b r minus rest is =
-    ap (λ m. option_map (signed_of m) (reading (unsigned t))) minus ∙ ap (λ u. option_map (signed_of b) (reading u)) rest ∙ ap (option_map (signed_of b)) is
+    ap (λ m. option_map (signed_of m) (reading (without_sign t))) minus ∙ ap (λ u. option_map (signed_of b) (reading u)) rest ∙ ap (option_map (signed_of b)) is
 
-form_none : (t : Text) → unsigned t ≡ t → reading t ≡ None → decimal_form t ≡ None
+form_none : (t : Text) → without_sign t ≡ t → reading t ≡ None → decimal_form t ≡ None
 unfolding decimal_form
 form_none t rest is = ap (λ u. option_map (signed_of (is_minus t)) (reading u)) rest ∙ ap (option_map (signed_of (is_minus t))) is
 

@@ -7,10 +7,10 @@ use Rattle.promql_text.specs.Texts.{Text}
 use Rattle.promql_text.specs.DecimalForm.{numeral, reading, decimal_form}
 use Rattle.promql_text.specs.Durations.{duration_of, nearest, second_nanos, units}
 use Rattle.promql_text.specs.DurationForms.{IsDuration}
-use Rattle.promql_text.specs.TextRows.{WorkedDurations, WorkedNumbers, finite}
+use Rattle.promql_text.specs.TextRows.{ExampleDurations, ExampleNumbers, finite}
 use Rattle.promql_text.specs.NumberForms.{IsNumberText}
 use Rattle.promql_text.specs.NumberText as text
-use Rattle.promql_text.specs.NumberText.{kept, read_number, number_of, radix_number}
+use Rattle.promql_text.specs.NumberText.{without_whitespace, read_number, number_of, radix_number}
 use Rattle.promql_text.specs.declared.duration.DurationFault.{DurationFault}
 use Rattle.promql_text.specs.declared.duration.DurationFault.TheVariants.{Empty, NotPositive, Invalid, Overflow}
 use Rattle.promql_text.specs.declared.number.Number.{Number}
@@ -23,7 +23,7 @@ use Rattle.promql_text.proofs.NumberForms.{numbers_told}
 row : (s : Text) (r : Result ℕ DurationFault) → duration_of s ≡ r → IsDuration s r
 row s r is = (durations_told s r).0 is
 
-pub worked_durations : WorkedDurations
+pub worked_durations : ExampleDurations
 unfolding duration_of decimal_form reading numeral second_nanos nearest units
 worked_durations = record {
   parts = row (codes "373d1h1m1s1ms") (Ok 32230861001000000) refl;
@@ -50,10 +50,10 @@ worked_durations = record {
   empty = row (codes "") (Err Empty) refl;
 }
 
-number_row : (s : Text) (r : Result Number NumberFault) → read_number s ≡ r → IsNumberText (kept s) r
+number_row : (s : Text) (r : Result Number NumberFault) → read_number s ≡ r → IsNumberText (without_whitespace s) r
 number_row s r is = (numbers_told s r).0 is
 
-pub worked_numbers : WorkedNumbers
+pub worked_numbers : ExampleNumbers
 unfolding chars number_of text.hexadecimal radix_number decimal_form reading numeral text.finite digits
 worked_numbers = record {
   spaced = number_row (codes "1 000") (finite false 1 3 0) refl;

@@ -11,10 +11,10 @@ use Rattle.std.proofs.Math.Seq.{drop-append_seam}
 use lib.Utf8.{scalar, scalars}
 use Rattle.promql_text.specs.Texts.{Text}
 use Rattle.promql_text.specs.Quoting.{is_quote, letter, number, hexadecimal, octal, escape, inside, unquoted_text}
-use Rattle.promql_text.specs.Spellings.{Spelling, Itself, OwnQuote, Letter, Octal, Hexadecimal, text_of, digits_behind, Spells, spelled_text, AllSpell, IsQuotedText}
+use Rattle.promql_text.specs.QuoteSpellings.{Spelling, Itself, OwnQuote, Letter, Octal, Hexadecimal, text_of, digits_behind, Spells, spelled_text, AllSpell, IsQuotedText}
 use Rattle.promql_text.proofs.Quotes.{escape-own, escape-x, escape-u, escape-U, escape-octal, escape-letter}
 use Rattle.promql_text.proofs.QuotedTexts.{slash_no_quote}
-use Rattle.promql_text.proofs.Spellings.{reads_between_backticks, reads_itself, slash_reads, inside-passed, closes, letter_past}
+use Rattle.promql_text.proofs.QuotedCharacters.{reads_between_backticks, reads_itself, slash_reads, inside-passed, closes, letter_past}
 
 -- ---- answers that are there
 
@@ -78,7 +78,7 @@ utf8_behind (b ∷ w) r low text =
 
 -- ---- escapes
 
--- the escape that a text begins with, behind its backslash
+-- the escape that a text begins with, after its backslash
 record Escape (quote c len : ℕ) (z : Text) : Type 0 where
   spelling : Spelling
   spells : Spells quote spelling c

@@ -1,4 +1,4 @@
--- The bytes that the rules name (docs/TEXTS.md, "Texts").
+-- The bytes that the rules name (docs/reference/texts.md, "Texts").
 use Rattle.std.specs.Prelude.{ℕ}
 
 abbrev pub line_feed : ℕ

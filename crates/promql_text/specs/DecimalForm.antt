@@ -1,4 +1,5 @@
--- The decimal form of a text (docs/TEXTS.md, "The decimal form"). A text is a list of codes: bytes or characters.
+-- The decimal form of a text (docs/reference/texts.md, "The decimal form"). A text is a list of codes: bytes or
+-- characters.
 use Rattle.std.specs.Prelude.{ℕ, Bool, ◌&&◌, ◌||◌, if◌then◌else◌, ◌==◌, ◌++◌, length, take, drop, slice_index, codes, Option, Some, None, option_map}
 use Rattle.std.specs.Char.{is_ascii_digit}
 use Rattle.std.specs.List.{prefix_len}
@@ -21,8 +22,8 @@ past_run s = drop (prefix_len is_ascii_digit s) s
 abbrev pub is_minus : Text → Bool
 is_minus s = front s == 45
 
-abbrev pub unsigned : Text → Text
-unsigned s = if front s == 43 || front s == 45 then drop 1 s else s
+abbrev pub without_sign : Text → Text
+without_sign s = if front s == 43 || front s == 45 then drop 1 s else s
 
 -- the text without a point at its start
 abbrev pub past_point : Text → Text
@@ -42,7 +43,7 @@ pub record Numeral : Type 0 where
 -- what comes after the digits of a numeral: nothing, or `e`, a sign or none, and one or more digits
 abbrev pub is_exponent : Text → Bool
 is_exponent s =
-    let digits = unsigned (drop 1 s) in
+    let digits = without_sign (drop 1 s) in
     (front s == 101 || front s == 69) && (is_ascii_digit (front digits) && length (past_run digits) == 0)
 
 abbrev pub ends_well : Text → Bool
@@ -54,7 +55,7 @@ numeral s =
     let behind = past_point (past_run s) in
     let end = past_run behind in
     if (is_ascii_digit (front s) || is_ascii_digit (front behind)) && ends_well end
-    then Some (record { whole = digit_run s; fraction = digit_run behind; is_down = is_minus (drop 1 end); exponent = digit_run (unsigned (drop 1 end)) })
+    then Some (record { whole = digit_run s; fraction = digit_run behind; is_down = is_minus (drop 1 end); exponent = digit_run (without_sign (drop 1 end)) })
     else None
 
 -- What a text of the decimal form is without its sign.
@@ -75,7 +76,7 @@ pub record Signed : Type 0 where
   pub reading : Reading
 
 unfoldable pub decimal_form : Text → Option Signed
-decimal_form s = option_map (λ r. record { is_negative = is_minus s; reading = r }) (reading (unsigned s))
+decimal_form s = option_map (λ r. record { is_negative = is_minus s; reading = r }) (reading (without_sign s))
 
 -- The meaning of a numeral: the whole number of all its digits, how many of them come after the point,
 -- and the size of its exponent. Its value is `digits` times 10 to the exponent, divided by 10 to `places`.

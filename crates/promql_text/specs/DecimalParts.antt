@@ -1,4 +1,4 @@
--- What the parts that the code finds stand for: each text goes on after its digits
+-- What the parts that the code finds are for: each text goes on after its digits
 -- (private: nothing rests on believing it).
 use Rattle.std.specs.Prelude.{ℕ, List}
 use Rattle.promql_text.specs.DecimalForm as spec

@@ -10,13 +10,13 @@ use Rattle.promql_text.specs.Texts.{Text}
 use Rattle.promql_text.specs.declared.duration.Unit.{Unit}
 
 -- what saturating arithmetic leaves of a number
-abbrev pub capped : ℕ → ℕ
-capped n = min n (2 ^ 128 - 1)
+abbrev pub cap_u128 : ℕ → ℕ
+cap_u128 n = min n (2 ^ 128 - 1)
 
 -- a reader of digits, which gives their number, capped, with the rest
 abbrev pub ReadsCount : Text → Option (ℕ × Bor Text) → Type 0
 ReadsCount s None = is_ascii_digit (front s) ≡ false
-ReadsCount s (Some r) = (is_ascii_digit (front s) ≡ true) × (r.0 ≡ capped (digits_value 10 (digit_run s))) × (r.1.now ≡ past_run s)
+ReadsCount s (Some r) = (is_ascii_digit (front s) ≡ true) × (r.0 ≡ cap_u128 (digits_value 10 (digit_run s))) × (r.1.now ≡ past_run s)
 
 -- the first of the units with a word, and the units after it
 abbrev pub seek : List Unit → Text → Option (Unit × List Unit)
@@ -31,5 +31,5 @@ FindsUnit us w (Some r) = seek us w ≡ Some (r.0, r.1.now)
 abbrev pub TakesPart : List Unit → Text → Option (ℕ × Bor (List Unit) × Bor Text) → Type 0
 TakesPart us s None = parts_nanos us s ≡ None
 TakesPart us s (Some r) =
-    ((total : ℕ) → option_map (λ n. capped (capped (total + r.0) + n)) (parts_nanos r.1.now r.2.now) ≡ option_map (λ n. capped (total + n)) (parts_nanos us s))
+    ((total : ℕ) → option_map (λ n. cap_u128 (cap_u128 (total + r.0) + n)) (parts_nanos r.1.now r.2.now) ≡ option_map (λ n. cap_u128 (total + n)) (parts_nanos us s))
     × (length r.2.now < length s)

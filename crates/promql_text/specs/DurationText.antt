@@ -1,4 +1,4 @@
--- The text of a duration: docs/TEXTS.md, "The text of a duration".
+-- The text of a duration: docs/reference/texts.md, "The text of a duration".
 use Rattle.std.specs.Prelude.{ℕ, zero, suc, ◌+◌, ◌/◌, ◌%◌, ◌^◌, if◌then◌else◌, ◌==◌, List, [], ◌∷◌, ◌++◌, codes}
 use Rattle.std.specs.Fmt.{decimal}
 use Rattle.promql_text.specs.Texts.{Text}

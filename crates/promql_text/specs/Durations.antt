@@ -1,4 +1,4 @@
--- The duration of a text, as a whole number of nanoseconds: docs/TEXTS.md, "Durations".
+-- The duration of a text, as a whole number of nanoseconds: docs/reference/texts.md, "Durations".
 use Rattle.std.specs.Prelude.{◌≡◌, ℕ, ◌+◌, ◌*◌, ◌/◌, ◌%◌, ◌^◌, Bool, not, if◌then◌else◌, ◌==◌, ◌&&◌, nat_lt, List, [], ◌∷◌, length, take, drop, codes, Option, Some, None, option_map, Result, Ok, Err}
 use Rattle.std.specs.Char.{is_ascii_digit}
 use Rattle.std.specs.List.{prefix_len}
@@ -59,12 +59,12 @@ parts_nanos (u ∷ us) s =
     else parts_nanos us s
 
 -- "Rounding": w and r of b parts, to the nearest whole number, a tie to the even one
-abbrev pub rounded : ℕ → ℕ → ℕ → ℕ
-rounded w r b = if nat_lt (r * 2) b then w else (if r * 2 == b then w + w % 2 else w + 1)
+abbrev pub round_half_even : ℕ → ℕ → ℕ → ℕ
+round_half_even w r b = if nat_lt (r * 2) b then w else (if r * 2 == b then w + w % 2 else w + 1)
 
 -- the quotient, rounded
 unfoldable pub nearest : ℕ → ℕ → ℕ
-nearest a b = rounded (a / b) (a % b) b
+nearest a b = round_half_even (a / b) (a % b) b
 
 -- "Seconds": the nanoseconds of a numeral of seconds
 unfoldable pub second_nanos : Numeral → ℕ

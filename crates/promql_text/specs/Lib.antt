@@ -16,9 +16,9 @@ pub mod QuotedBytes
 pub mod Quoting
 pub mod Rounding
 pub mod Significands
-pub mod Spelling
-pub mod Spellings
+pub mod NumeralSpelling
+pub mod QuoteSpellings
 pub mod TextRows
 pub mod Texts
 pub mod Values
-pub mod Widths
+pub mod PrintedLen

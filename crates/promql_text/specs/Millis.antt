@@ -1,16 +1,16 @@
--- A number of seconds as whole milliseconds (docs/TEXTS.md, "Milliseconds of a number").
+-- A number of seconds as whole milliseconds (docs/reference/texts.md, "Milliseconds of a number").
 use Rattle.std.specs.Prelude.{ℕ, ◌+◌, ◌-◌, ◌*◌, ◌/◌, ◌^◌, Bool, if◌then◌else◌, nat_le, ℤ, pos, neg_ℤ, Option, Some, None}
 use Rattle.promql_text.specs.Numbers.{Exact}
 use Rattle.promql_text.specs.declared.number.Number.{Number}
 use Rattle.promql_text.specs.declared.number.Number.TheVariants.{Finite, Inf, NegInf, NaN}
 
 -- n divided by d, rounded to the nearest whole number, a half up
-abbrev pub rounded : ℕ → ℕ → ℕ
-rounded n d = (2 * n + d) / (2 * d)
+abbrev pub round_half_up : ℕ → ℕ → ℕ
+round_half_up n d = (2 * n + d) / (2 * d)
 
 -- the milliseconds of a number without its sign, so that a half goes away from zero
 abbrev pub millis : Exact → ℕ
-millis d = rounded (d.digits * 10 ^ (d.zeros + 3)) (10 ^ d.places)
+millis d = round_half_up (d.digits * 10 ^ (d.zeros + 3)) (10 ^ d.places)
 
 -- the whole number with this sign and size, where 64 bits hold it
 abbrev pub within_i64 : Bool → ℕ → Option ℤ

@@ -1,4 +1,4 @@
--- Which texts are numbers, and which numbers: a relation (docs/TEXTS.md, "The number of a text").
+-- Which texts are numbers, and which numbers: a relation (docs/reference/texts.md, "The number of a text").
 -- White space is left out of these texts.
 use Rattle.std.specs.Prelude.{◌≡◌, ◌⊎◌, ◌↔◌, ℕ, ◌+◌, ◌*◌, ◌^◌, ◌<◌, ◌≤◌, Bool, true, false, if◌then◌else◌, [], ◌∷◌, ◌++◌, length, Result, Ok, Err}
 use Rattle.std.specs.Char.{digit_value}
@@ -8,9 +8,9 @@ use Rattle.promql_text.specs.Texts.{Text}
 use Rattle.promql_text.specs.DecimalForm.{Numeral, Reading, NotANumber, Infinite, Signed, digits_number}
 use Rattle.promql_text.specs.DecimalForm as form
 use Rattle.promql_text.specs.DurationForms.{up, down}
-use Rattle.promql_text.specs.NumberText.{is_x, is_past_octal, kept, read_number}
+use Rattle.promql_text.specs.NumberText.{is_x, is_past_octal, without_whitespace, read_number}
 use Rattle.promql_text.specs.Numbers.{Exact, IsExact}
-use Rattle.promql_text.specs.Spelling.{IsSign, IsDecimalForm}
+use Rattle.promql_text.specs.NumeralSpelling.{IsSign, IsDecimalForm}
 use Rattle.promql_text.specs.declared.number.Number.{Number}
 use Rattle.promql_text.specs.declared.number.Number.TheVariants as number
 use Rattle.promql_text.specs.declared.number.NumberFault.{NumberFault}
@@ -105,5 +105,5 @@ Gives (Decimal f) r = GivesReading f.is_negative f.reading r
 abbrev pub IsNumberText : Text → Result Number NumberFault → Type 0
 IsNumberText t r = ((m : Meaning) × Means t m × Gives m r) ⊎ (((m : Meaning) → Means t m → ⊥) × (r ≡ Err fault.NotANumber))
 
-abbrev pub NumbersAreTold : Type 0
-NumbersAreTold = (s : Text) (r : Result Number NumberFault) → (read_number s ≡ r) ↔ IsNumberText (kept s) r
+abbrev pub NumbersMatchRelation : Type 0
+NumbersMatchRelation = (s : Text) (r : Result Number NumberFault) → (read_number s ≡ r) ↔ IsNumberText (without_whitespace s) r

@@ -1,4 +1,4 @@
--- Exact decimal numbers (docs/TEXTS.md, "Numbers").
+-- Exact decimal numbers (docs/reference/texts.md, "Numbers").
 use Rattle.std.specs.Prelude.{◌≡◌, ℕ, zero, suc, ◌+◌, ◌-◌, ◌/◌, ◌%◌, ◌^◌, ◌<◌, ◌≤◌, Bool, false, not, ◌&&◌, if◌then◌else◌, ◌==◌, nat_le, length, Option, Some, None}
 use Rattle.std.specs.Fmt.{decimal}
 
@@ -18,7 +18,7 @@ digit_count n = length (decimal n)
 pub record IsExact (d : Exact) : Type 0 where
   pub short : d.digits < 10 ^ 38
   pub ends : d.digits % 10 ≡ 0 → d.digits ≡ 0
-  pub unsigned : d.digits ≡ 0 → d.is_negative ≡ false
+  pub no_minus_zero : d.digits ≡ 0 → d.is_negative ≡ false
   pub no_zeros : d.digits ≡ 0 → d.zeros ≡ 0
   pub no_places : d.digits ≡ 0 → d.places ≡ 0
   pub one_side : 0 < d.places → d.zeros ≡ 0
@@ -38,22 +38,22 @@ abbrev pub is_in_range : ℕ → ℕ → ℕ → Bool
 is_in_range c up down = nat_le (digit_count c + up) (309 + down) && nat_le down (digit_count c + up + 323)
 
 -- c, which ends in no zero, times 10 to `up`, divided by 10 to `down`
-abbrev pub scaled : Bool → ℕ → ℕ → ℕ → Exact
-scaled is_negative c up down = record { is_negative = is_negative; digits = c; zeros = up - down; places = down - up }
+abbrev pub exact_quotient : Bool → ℕ → ℕ → ℕ → Exact
+exact_quotient is_negative c up down = record { is_negative = is_negative; digits = c; zeros = up - down; places = down - up }
 
 -- the same, where it is a number
-abbrev pub placed : Bool → ℕ → ℕ → ℕ → Option Exact
-placed is_negative c up down =
-    if c == 0 then Some exact_zero else (if is_in_range c up down then Some (scaled is_negative c up down) else None)
+abbrev pub from_digits : Bool → ℕ → ℕ → ℕ → Option Exact
+from_digits is_negative c up down =
+    if c == 0 then Some exact_zero else (if is_in_range c up down then Some (exact_quotient is_negative c up down) else None)
 
 -- a whole number below 2^64, which has at most 20 digits
 abbrev pub whole : Bool → ℕ → Exact
-whole is_negative n = let z = tens 20 n in if n == 0 then exact_zero else scaled is_negative (n / 10 ^ z) z 0
+whole is_negative n = let z = tens 20 n in if n == 0 then exact_zero else exact_quotient is_negative (n / 10 ^ z) z 0
 
 -- the seconds of a number of nanoseconds below 2^64 * 10^9, which has at most 29 digits
 abbrev pub seconds_of : ℕ → Exact
-seconds_of n = let z = tens 29 n in if n == 0 then exact_zero else scaled false (n / 10 ^ z) z 9
+seconds_of n = let z = tens 29 n in if n == 0 then exact_zero else exact_quotient false (n / 10 ^ z) z 9
 
 -- the number with the other sign; zero stays zero
-abbrev pub negated : Exact → Exact
-negated d = record d { is_negative = not d.is_negative && not (d.digits == 0) }
+abbrev pub negate : Exact → Exact
+negate d = record d { is_negative = not d.is_negative && not (d.digits == 0) }

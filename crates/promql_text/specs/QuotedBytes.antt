@@ -1,4 +1,4 @@
--- What an iterator over a quoted text has left (docs/TEXTS.md, "Escaping").
+-- What an iterator over a quoted text has left (docs/reference/texts.md, "Escaping").
 use Rattle.std.specs.Prelude.{◌++◌}
 use Rattle.std.specs.Str.Iter.{bytes_rest}
 use Rattle.promql_text.specs.declared.quoted.QuotedBytes.{QuotedBytes}

@@ -1,4 +1,4 @@
--- Quoted texts, in bytes of UTF-8: docs/TEXTS.md, "Strings".
+-- Quoted texts, in bytes of UTF-8: docs/reference/texts.md, "Strings".
 use Rattle.std.specs.Prelude.{◌≡◌, ℕ, zero, suc, ◌+◌, ◌-◌, ◌*◌, Bool, if◌then◌else◌, ◌==◌, ◌||◌, nat_lt, nat_le, [], ◌∷◌, ◌++◌, length, Option, Some, None, option_and_then, option_map, Result, Ok, Err}
 use Rattle.std.specs.Char.{encode_utf8, digit_value}
 use lib.Utf8.{scalar}
@@ -6,7 +6,7 @@ use Rattle.promql_text.specs.Texts.{Text}
 use Rattle.promql_text.specs.declared.quote.QuoteError.{QuoteError}
 use Rattle.promql_text.specs.declared.quote.QuoteError.TheVariants as errors
 
--- "Escaping": a byte, or the two that stand for it
+-- "Escaping": a byte, or the two that are for it
 abbrev pub escaped_byte : ℕ → Text
 escaped_byte b =
     if b == 92 then 92 ∷ 92 ∷ []
@@ -29,7 +29,7 @@ quoted_text s = 34 ∷ (escaped_text s ++ 34 ∷ [])
 abbrev pub is_quote : ℕ → Bool
 is_quote b = (b == 34 || b == 39) || b == 96
 
--- "Letter escapes": the character that one letter, or a backslash, stands for after a backslash
+-- "Letter escapes": the character that one letter, or a backslash, is for after a backslash
 abbrev pub letter : ℕ → Option ℕ
 letter b =
     if b == 97 then Some 7
@@ -57,7 +57,7 @@ hexadecimal n z = option_and_then (λ c. if scalar c then Some (c, n + 1) else N
 abbrev pub octal : ℕ → Text → Option (ℕ × ℕ)
 octal b z = option_and_then (λ c. if nat_le c 255 then Some (c, 3) else None) (number 8 2 (b - 48) z)
 
--- "Escapes": the character that what follows a backslash stands for, and the length of what stands for it
+-- "Escapes": the character that what follows a backslash is for, and the length of what is for it
 unfoldable pub escape : ℕ → Text → Option (ℕ × ℕ)
 escape quote [] = None
 escape quote (b ∷ z) =
@@ -68,8 +68,8 @@ escape quote (b ∷ z) =
     else (if nat_le 48 b then (if nat_le b 55 then octal b z else option_map (λ c. (c, 1)) (letter b))
     else option_map (λ c. (c, 1)) (letter b)))))
 
--- "Spellings": what the byte b, with what follows it, stands for, and the length of the spelling. Between backticks each
--- byte stands for itself; else a line feed stands for nothing, and a backslash begins an escape.
+-- "Spellings": what the byte b, with what follows it, is for, and the length of the spelling. Between backticks each
+-- byte is for itself; else a line feed is for nothing, and a backslash begins an escape.
 abbrev pub spelling : ℕ → ℕ → Text → Option (Text × ℕ)
 spelling quote b z =
     if quote == 96 then Some (b ∷ [], 1)
@@ -77,7 +77,7 @@ spelling quote b z =
     else (if b == 92 then option_map (λ e. (encode_utf8 e.0, e.1 + 1)) (escape quote z)
     else Some (b ∷ [], 1)))
 
--- what the spellings up to the closing quote, which ends the text, stand for; `left` bytes of a spelling are still to be passed
+-- what the spellings up to the closing quote, which ends the text, are for; `left` bytes of a spelling are still to be passed
 abbrev pub inside : ℕ → ℕ → Text → Option Text
 inside quote left [] = None
 inside quote (suc left) (b ∷ z) = inside quote left z
@@ -90,7 +90,7 @@ unfoldable pub unquoted_text : Text → Option Text
 unquoted_text [] = None
 unquoted_text (b ∷ z) = if is_quote b then inside b 0 z else None
 
--- the result is what was said: its value, or the refusal where there is none. Running out of memory may come in place of either.
+-- the result is what was said: its value, or the rejection where there is none. Running out of memory may come in place of either.
 abbrev pub Unquotes : {X : Type 0} → (X → Text) → Result X QuoteError → Option Text → Type 0
 Unquotes view (Ok x) said = said ≡ Some (view x)
 Unquotes view (Err errors.Memory) said = Unit {0}

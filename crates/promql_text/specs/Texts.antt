@@ -1,4 +1,4 @@
--- Texts, and lists of them (docs/TEXTS.md, "Lists").
+-- Texts, and lists of them (docs/reference/texts.md, "Lists").
 use Rattle.std.specs.Prelude.{ℕ, List, Result}
 use Rattle.std.specs.Borrow.{Bor, MutBor}
 use Rattle.std.specs.Fmt.{WritesOnOk}

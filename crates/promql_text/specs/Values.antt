@@ -1,7 +1,7 @@
--- What is asked of a number, and the number with the other sign (docs/TEXTS.md, "Numbers").
+-- What is asked of a number, and the number with the other sign (docs/reference/texts.md, "Numbers").
 use Rattle.std.specs.Prelude.{◌≡◌, ℕ, ◌+◌, ◌*◌, ◌^◌, Bool, true, false, ◌==◌, ℤ, unsigned_abs}
 use Rattle.std.specs.Int.{is_negative}
-use Rattle.promql_text.specs.Numbers.{Exact, IsExact, negated, seconds_of, whole}
+use Rattle.promql_text.specs.Numbers.{Exact, IsExact, negate, seconds_of, whole}
 use Rattle.promql_text.specs.declared.number.Number.{Number}
 use Rattle.promql_text.specs.declared.number.Number.TheVariants.{Finite, Inf, NegInf, NaN}
 
@@ -13,7 +13,7 @@ abbrev pub from_nanos : ℕ → Number
 from_nanos n = Finite (seconds_of n)
 
 abbrev pub neg : Number → Number
-neg (Finite d) = Finite (negated d)
+neg (Finite d) = Finite (negate d)
 neg Inf = NegInf
 neg NegInf = Inf
 neg NaN = NaN

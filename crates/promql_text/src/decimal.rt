@@ -1,9 +1,9 @@
-//! Finite decimal numbers, exactly (docs/TEXTS.md, "Numbers").
+//! Finite decimal numbers, exactly (docs/reference/texts.md, "Numbers").
 
 ghost use Rattle.std.specs.Prelude.{◌≡◌, ◌≢◌, ◌∷◌, ℕ, ◌+◌, ◌-◌, ◌*◌, ◌^◌, ◌%◌, ◌<◌, ◌≤◌, true, false, ◌==◌, Option, Some, None};
-ghost use Rattle.promql_text.specs.Numbers.{Exact, IsExact, digit_count, exact_zero, negated, placed, seconds_of, whole};
+ghost use Rattle.promql_text.specs.Numbers.{Exact, IsExact, digit_count, exact_zero, negate, from_digits, seconds_of, whole};
 
-use crate::halves::Halves;
+use crate::packed_u128::PackedU128;
 use std::marker::Model;
 
 /// A finite decimal number: at most 38 digits without zeros at either end, the first of them at a
@@ -11,7 +11,7 @@ use std::marker::Model;
 #[derive(Clone, Copy, Debug, PartialEq, Eq, Hash, Drop)]
 pub struct Decimal {
     /// The digits as a whole number.
-    pub(crate) digits: Halves,
+    pub(crate) digits: PackedU128,
     /// How many zeros follow the digits before the point.
     pub(crate) zeros: u16,
     /// How many of the digits, and of the zeros before them, come after the point.
@@ -79,11 +79,16 @@ fn without_zeros(n: u128) -> (u128, u16)
 impl Decimal {
     /// The digits with `up` zeros after them, divided by 10 to `down`; None where its first digit
     /// is out of range.
-    pub(crate) fn placed(is_negative: bool, digits: u128, up: u128, down: u128) -> Option<Decimal>
+    pub(crate) fn from_digits(
+        is_negative: bool,
+        digits: u128,
+        up: u128,
+        down: u128,
+    ) -> Option<Decimal>
         requires short { digits < 10 ^ 38 }
         requires ends { digits % 10 ≡ 0 → digits ≡ 0 }
         requires room { (up < 2 ^ 120) × (down < 2 ^ 120) }
-        ensures { result ≡ placed is_negative digits up down }
+        ensures { result ≡ from_digits is_negative digits up down }
     {
         if digits == 0 {
             return Some(Decimal::zero());
@@ -94,7 +99,7 @@ impl Decimal {
         }
         Some(Decimal {
             is_negative,
-            digits: Halves::new(digits),
+            digits: PackedU128::new(digits),
             zeros: up.saturating_sub(down) as u16,
             places: down.saturating_sub(up) as u16,
         })
@@ -110,7 +115,7 @@ impl Decimal {
         let (digits, zeros) = without_zeros(u128::from(n));
         Decimal {
             is_negative,
-            digits: Halves::new(digits),
+            digits: PackedU128::new(digits),
             zeros,
             places: 0,
         }
@@ -127,7 +132,7 @@ impl Decimal {
         let (digits, zeros) = without_zeros(nanos);
         Decimal {
             is_negative: false,
-            digits: Halves::new(digits),
+            digits: PackedU128::new(digits),
             zeros: zeros.saturating_sub(9),
             places: 9u16.saturating_sub(zeros),
         }
@@ -139,7 +144,7 @@ impl Decimal {
     {
         Decimal {
             is_negative: false,
-            digits: Halves::new(0),
+            digits: PackedU128::new(0),
             zeros: 0,
             places: 0,
         }
@@ -147,7 +152,7 @@ impl Decimal {
 
     /// The number with the other sign; zero stays zero.
     pub(crate) fn neg(self) -> Decimal
-        ensures { result ≡ negated self }
+        ensures { result ≡ negate self }
     {
         Decimal {
             is_negative: !self.is_negative && !self.is_zero(),

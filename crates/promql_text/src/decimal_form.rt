@@ -1,4 +1,4 @@
-//! The decimal form of a text, read once from its start (docs/TEXTS.md, "The decimal form").
+//! The decimal form of a text, read once from its start (docs/reference/texts.md, "The decimal form").
 
 ghost use Rattle.std.specs.Prelude.{◌≡◌, ◌∷◌, ℕ, List, [], drop, length, ◌<◌, ◌^◌, true, false, ◌==◌, Option, Some, None, MatchOption};
 ghost use Rattle.std.specs.Char.{is_ascii_digit};
@@ -97,8 +97,8 @@ pub(crate) fn is_empty<S: Source>(text: S) -> bool
 }
 
 /// The text without a sign at its start.
-pub(crate) fn unsigned<S: Source>(text: S) -> S
-    ensures { S.left result ≡ spec.unsigned (S.left text) }
+pub(crate) fn without_sign<S: Source>(text: S) -> S
+    ensures { S.left result ≡ spec.without_sign (S.left text) }
 {
     match front(text) {
         '+' | '-' => after_first(text),
@@ -137,7 +137,7 @@ fn is_word<S: Source>(text: S, word: &[u8]) -> bool
 fn is_exponent<S: Source>(text: S) -> bool
     ensures { result ≡ spec.is_exponent (S.left text) }
 {
-    let digits = unsigned(after_first(text));
+    let digits = without_sign(after_first(text));
     matches!(front(text), 'e' | 'E') && front(digits).is_ascii_digit() && is_empty(past_run(digits))
 }
 
@@ -157,7 +157,7 @@ fn read_numeral<S: Source>(text: S) -> Option<Numeral<S>>
         whole: text,
         fraction,
         exponent_is_negative: front(exponent) == '-',
-        exponent: unsigned(exponent),
+        exponent: without_sign(exponent),
     })
 }
 
@@ -181,7 +181,7 @@ pub fn decimal_form<S: Source>(text: S) -> Option<DecimalForm<S>>
     ensures { let said = spec.decimal_form (S.left text) in
         MatchOption result (said ≡ None) (λ f. said ≡ Some (parts.form_of S.left f)) }
 {
-    let reading = read_unsigned(unsigned(text))?;
+    let reading = read_unsigned(without_sign(text))?;
     Some(DecimalForm {
         is_negative: front(text) == '-',
         reading,

@@ -1,4 +1,4 @@
-//! Writes the text of a number (docs/TEXTS.md, "Numbers").
+//! Writes the text of a number (docs/reference/texts.md, "Numbers").
 
 ghost use Rattle.std.specs.Prelude.{◌≡◌, ◌/◌, ◌%◌, ◌^◌, ◌<◌, Some, replicate};
 ghost use Rattle.promql_text.specs.NumberDigits.{exact_text, magnitude_text};

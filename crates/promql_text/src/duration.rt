@@ -1,4 +1,4 @@
-//! The duration of a text: docs/TEXTS.md, "Durations".
+//! The duration of a text: docs/reference/texts.md, "Durations".
 
 ghost use Rattle.std.specs.Prelude.{◌≡◌, ◌<◌, ◌≤◌, length, option_map};
 ghost use Rattle.std.specs.Duration.{as_nanos};
@@ -138,7 +138,7 @@ fn part<'a, 'b>(units: &'a [Unit], text: &'b [u8]) -> Option<(u128, &'a [Unit], 
 
 /// The nanoseconds of a text of parts, or `u128::MAX` where there are more.
 fn parts(text: &[u8]) -> Option<u128>
-    ensures { result ≡ option_map readers.capped (spec.parts_nanos spec.units text.now) }
+    ensures { result ≡ option_map readers.cap_u128 (spec.parts_nanos spec.units text.now) }
 {
     let mut units: &[Unit] = &UNITS;
     let mut rest = text;

@@ -1,4 +1,4 @@
-//! The text of a duration: docs/TEXTS.md, "The text of a duration".
+//! The text of a duration: docs/reference/texts.md, "The text of a duration".
 
 ghost use Rattle.std.specs.Prelude.{◌≡◌, ◌/◌, ◌%◌, ◌<◌, ◌^◌, IfOk, Some};
 ghost use Rattle.std.specs.Duration.{as_nanos};
@@ -65,17 +65,17 @@ impl fmt::Display for Counts {
     ghost output = { λ n. Some (spec.counts_text spec.short_units n.0) };
 
     fn fmt<W: fmt::Write>(&self, f: &mut fmt::Formatter<W>) -> fmt::Result {
-        let (days, rest) = counted(self.0, Unit::Day);
-        let (hours, rest) = counted(rest, Unit::Hour);
-        let (minutes, rest) = counted(rest, Unit::Minute);
-        let (seconds, rest) = counted(rest, Unit::Second);
-        let (millis, _) = counted(rest, Unit::Milli);
+        let (days, rest) = divide_by_unit(self.0, Unit::Day);
+        let (hours, rest) = divide_by_unit(rest, Unit::Hour);
+        let (minutes, rest) = divide_by_unit(rest, Unit::Minute);
+        let (seconds, rest) = divide_by_unit(rest, Unit::Second);
+        let (millis, _) = divide_by_unit(rest, Unit::Milli);
         write!(f, "{days}{hours}{minutes}{seconds}{millis}")
     }
 }
 
 /// How many whole units there are, and the rest.
-fn counted(nanos: u128, unit: Unit) -> (Count, u128)
+fn divide_by_unit(nanos: u128, unit: Unit) -> (Count, u128)
     ensures count { result.0 ≡ record { count = nanos / nanos_of unit; unit = unit } }
     ensures rest { result.1 ≡ nanos % nanos_of unit }
 {
@@ -92,8 +92,8 @@ impl fmt::Display for Whole {
     ghost output = { λ n. Some (spec.whole_text n.0) };
 
     fn fmt<W: fmt::Write>(&self, f: &mut fmt::Formatter<W>) -> fmt::Result {
-        let (years, past_years) = counted(self.0, Unit::Year);
-        let (weeks, past_weeks) = counted(self.0, Unit::Week);
+        let (years, past_years) = divide_by_unit(self.0, Unit::Year);
+        let (weeks, past_weeks) = divide_by_unit(self.0, Unit::Week);
         if past_years == 0 {
             write!(f, "{years}")
         } else if past_weeks == 0 {

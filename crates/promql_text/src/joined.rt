@@ -1,4 +1,4 @@
-//! Lists that print with a separator between each two items (docs/TEXTS.md, "Lists"). Nothing is
+//! Lists that print with a separator between each two items (docs/reference/texts.md, "Lists"). Nothing is
 //! allocated.
 //!
 //! A printer calls `write_joined` where the items print as they are to, and cites its clause with

@@ -3,18 +3,18 @@
 ghost use Rattle.std.specs.Prelude.{◌≡◌, ℕ, ◌+◌, ◌*◌, ◌^◌, ◌<◌, List, Ok, Some, encode_utf8_all};
 ghost use Rattle.std.specs.Str.{IsUtf8};
 ghost use Rattle.promql_text.specs.Durations.{duration_of};
-ghost use Rattle.promql_text.specs.DurationForms.{DurationsAreTold};
+ghost use Rattle.promql_text.specs.DurationForms.{DurationsMatchRelation};
 ghost use Rattle.promql_text.specs.DurationText.{duration_text};
 ghost use Rattle.promql_text.specs.Quoting as quoting;
-ghost use Rattle.promql_text.specs.Spellings.{IsQuotedText};
-ghost use Rattle.promql_text.specs.NumberForms.{DigitsAreSummed, NumbersAreTold};
+ghost use Rattle.promql_text.specs.QuoteSpellings.{IsQuotedText};
+ghost use Rattle.promql_text.specs.NumberForms.{DigitsAreSummed, NumbersMatchRelation};
 ghost use Rattle.promql_text.specs.NumberText.{read_number, number_text};
 ghost use Rattle.promql_text.specs.Texts.{Text};
 ghost use Rattle.promql_text.specs.Numbers.{Exact, IsExact, seconds_of};
-ghost use Rattle.promql_text.specs.Spelling.{FormsAreSpelled, NumeralsAreSpelled};
-ghost use Rattle.promql_text.specs.TextRows.{WorkedDurations, WorkedNumbers};
+ghost use Rattle.promql_text.specs.NumeralSpelling.{FormsAreSpelled, NumeralsAreSpelled};
+ghost use Rattle.promql_text.specs.TextRows.{ExampleDurations, ExampleNumbers};
 ghost use Rattle.promql_text.specs.Values.{IsNumber, SameValue, neg};
-ghost use Rattle.promql_text.specs.Equalities.{HashesAlike, IsSameBy};
+ghost use Rattle.promql_text.specs.Equalities.{ClonesKeep, HashesAlike, IsSameBy};
 ghost use Rattle.promql_text.specs.declared.number.Number.{Number};
 
 use crate::decimal::Decimal;
@@ -88,14 +88,14 @@ pub fn decimal_forms_are_spelled()
 /// A text is a duration of so many nanoseconds exactly if it is parts in the order of the units,
 /// each unit at most once, that are so many together, or a numeral of so many seconds, rounded;
 /// and it has a fault exactly if that fault's own rule fits.
-pub fn durations_are_told()
-    ensures { DurationsAreTold }
+pub fn durations_match_relation()
+    ensures { DurationsMatchRelation }
 {}
 
 /// A text gives a number exactly if it is, but for white space, a hexadecimal, an octal or a
 /// decimal text of that number's value; and it has a fault exactly if that fault's own rule fits.
-pub fn numbers_are_told()
-    ensures { NumbersAreTold }
+pub fn numbers_match_relation()
+    ensures { NumbersMatchRelation }
 {}
 
 /// The value of digits is the sum of each digit times its power of the radix.
@@ -104,9 +104,9 @@ pub fn digits_are_summed()
 {}
 
 /// What the relations say of worked texts.
-pub fn worked_texts()
-    ensures durations { WorkedDurations }
-    ensures numbers { WorkedNumbers }
+pub fn example_texts()
+    ensures durations { ExampleDurations }
+    ensures numbers { ExampleNumbers }
 {}
 
 /// Decimals are equal exactly if they are one number, and then they are hashed alike.
@@ -126,6 +126,16 @@ pub fn equal_faults()
     ensures numbers { IsSameBy (λ (f : NumberFault). f) ⟦<NumberFault as PartialEq>⟧.eq }
     ensures durations { IsSameBy (λ (f : DurationFault). f) ⟦<DurationFault as PartialEq>⟧.eq }
     ensures quotes { IsSameBy (λ (f : QuoteError). f) ⟦<QuoteError as PartialEq>⟧.eq }
+{}
+
+/// A clone is the value.
+pub fn equal_clones()
+    ensures decimals { ClonesKeep (λ (d : Exact). d) ⟦<Decimal as Clone>⟧.is_clone }
+    ensures numbers { ClonesKeep (λ (n : Number). n) ⟦<Number as Clone>⟧.is_clone }
+    ensures number_faults { ClonesKeep (λ (f : NumberFault). f) ⟦<NumberFault as Clone>⟧.is_clone }
+    ensures duration_faults { ClonesKeep (λ (f : DurationFault). f) ⟦<DurationFault as Clone>⟧.is_clone }
+    ensures quote_errors { ClonesKeep (λ (f : QuoteError). f) ⟦<QuoteError as Clone>⟧.is_clone }
+    ensures units { ClonesKeep (λ (u : Unit). u) ⟦<Unit as Clone>⟧.is_clone }
 {}
 
 /// Each unit is equal to itself alone.

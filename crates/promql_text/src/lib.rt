@@ -1,4 +1,4 @@
-//! Texts of a query: quoted strings, numbers and durations. The rules are in docs/TEXTS.md.
+//! Texts of a query: quoted strings, numbers and durations. The rules are in docs/reference/texts.md.
 //!
 //! ```text
 //! let number = parse_str_radix("1.50")?; // exactly 1.5, and no floating-point value
@@ -15,17 +15,17 @@ mod decimal_form;
 mod display;
 pub mod duration;
 pub mod duration_text;
-mod halves;
 pub mod joined;
 pub mod laws;
 mod millis;
 mod number;
 mod number_text;
+mod packed_u128;
+pub mod printed_len;
 pub mod quote;
 pub mod quoted;
 mod seconds;
 mod significand;
-pub mod width;
 
 pub use decimal::Decimal;
 pub use duration::{
@@ -36,6 +36,8 @@ pub use duration_text::{DurationText, display_duration};
 pub use joined::{write_joined, write_joined_by, write_separator};
 pub use number::{Number, NumberFault};
 pub use number_text::parse_str_radix;
+pub use printed_len::{
+    duration_printed_len, number_printed_len, quoted_printed_len, separator_printed_len,
+};
 pub use quote::{QuoteError, escape_string, unquote_string};
 pub use quoted::{Quoted, QuotedBytes};
-pub use width::{duration_width, number_width, quoted_width, separator_width};

@@ -1,18 +1,18 @@
-//! A number of seconds as milliseconds (docs/TEXTS.md, "Milliseconds of a number").
+//! A number of seconds as milliseconds (docs/reference/texts.md, "Milliseconds of a number").
 
 ghost use Rattle.std.specs.Prelude.{◌≡◌, ◌*◌, ◌+◌, ◌^◌, ◌<◌, ◌≤◌, Option, Some, None, MatchOption};
 ghost use Rattle.promql_text.specs.Millis as spec;
 
 use crate::decimal::Decimal;
 use crate::number::Number;
-use crate::significand::shifted;
+use crate::significand::append_zeros;
 
 const MOST: u128 = 0x8000_0000_0000_0000;
 
 /// The quotient of a number and a power of ten, rounded to the nearest whole number, a half up.
-fn rounded(digits: u128, places: u16) -> u128
+fn round_quotient(digits: u128, places: u16) -> u128
     requires { digits < 10 ^ 38 }
-    ensures value { result ≡ spec.rounded digits (10 ^ places) }
+    ensures value { result ≡ spec.round_half_up digits (10 ^ places) }
     ensures short { result ≤ 10 ^ 38 }
 {
     if places > 38 {
@@ -34,9 +34,9 @@ fn magnitude(seconds: &Decimal) -> Option<u128>
         (λ n. n ≡ spec.millis seconds.now) }
 {
     if seconds.places > 3 {
-        Some(rounded(seconds.digits.get(), seconds.places - 3))
+        Some(round_quotient(seconds.digits.get(), seconds.places - 3))
     } else {
-        shifted(
+        append_zeros(
             seconds.digits.get(),
             u128::from(seconds.zeros + 3 - seconds.places),
         )

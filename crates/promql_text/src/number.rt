@@ -1,4 +1,4 @@
-//! Numbers (docs/TEXTS.md, "Numbers").
+//! Numbers (docs/reference/texts.md, "Numbers").
 
 ghost use Rattle.std.specs.Prelude.{◌≡◌, ℕ, true, false, not, ◌==◌, Option, Some, None};
 ghost use Rattle.std.specs.Duration.{as_nanos};

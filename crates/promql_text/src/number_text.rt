@@ -1,4 +1,4 @@
-//! Reads the number of a text (docs/TEXTS.md, "Numbers").
+//! Reads the number of a text (docs/reference/texts.md, "Numbers").
 
 ghost use Rattle.std.specs.Prelude.{◌≡◌, ◌∷◌, ℕ, List, [], ◌+◌, ◌*◌, ◌^◌, ◌<◌, ◌≤◌, true, false, if◌then◌else◌, drop, length, Option, Some, None, MatchOption, IfSome, SomeIff};
 ghost use Rattle.std.specs.List.{list_all, list_any};
@@ -6,34 +6,34 @@ ghost use Rattle.std.specs.Str.Parse.{digits_value};
 ghost use Rattle.promql_text.specs.DecimalForm.{digits_number, digit_run, exponent_size, is_minus, places};
 ghost use Rattle.promql_text.specs.DecimalParts as parts;
 ghost use Rattle.promql_text.specs.NumberText as spec;
-ghost use Rattle.promql_text.specs.Numbers.{placed, whole};
+ghost use Rattle.promql_text.specs.Numbers.{from_digits, whole};
 ghost use Rattle.promql_text.specs.Significands.{IsLong};
 
 use crate::decimal::Decimal;
 use crate::decimal_form::{
-    self, DecimalForm, Numeral, Reading, Source, after_first, front, is_empty, unsigned,
+    self, DecimalForm, Numeral, Reading, Source, after_first, front, is_empty, without_sign,
 };
 use crate::number::{Number, NumberFault};
 use crate::significand::{self, Significand};
 
 /// A text without its white space.
 #[derive(Clone, Copy)]
-struct Kept<'a>(&'a str);
+struct WithoutWhitespace<'a>(&'a str);
 
-impl<'a> Source for Kept<'a> {
-    ghost left = { λ s. spec.kept s.0.now };
+impl<'a> Source for WithoutWhitespace<'a> {
+    ghost left = { λ s. spec.without_whitespace s.0.now };
 
-    fn first(self) -> Option<(char, Kept<'a>)> {
-        let (c, rest) = first_kept(self.0)?;
-        Some((c, Kept(rest)))
+    fn first(self) -> Option<(char, WithoutWhitespace<'a>)> {
+        let (c, rest) = first_non_whitespace(self.0)?;
+        Some((c, WithoutWhitespace(rest)))
     }
 }
 
 /// The first character that is no white space, and the text after it.
-fn first_kept(text: &str) -> Option<(char, &str)>
-    ensures value { MatchOption result (spec.kept text.now ≡ [])
-        (λ p. spec.kept text.now ≡ p.0 ∷ spec.kept p.1.now) }
-    ensures small { length (spec.kept text.now) < 2 ^ 64 }
+fn first_non_whitespace(text: &str) -> Option<(char, &str)>
+    ensures value { MatchOption result (spec.without_whitespace text.now ≡ [])
+        (λ p. spec.without_whitespace text.now ≡ p.0 ∷ spec.without_whitespace p.1.now) }
+    ensures small { length (spec.without_whitespace text.now) < 2 ^ 64 }
 {
     let mut chars = text.chars();
     while let Some(c) = chars.next() {
@@ -50,7 +50,7 @@ fn is_x(c: char) -> bool
     matches!(c, 'x' | 'X')
 }
 
-fn holds_x<S: Source>(text: S) -> bool
+fn contains_x<S: Source>(text: S) -> bool
     ensures { result ≡ list_any spec.is_x (S.left text) }
 {
     let mut rest = text;
@@ -80,7 +80,7 @@ fn is_past_octal<S: Source>(text: S) -> bool
 fn is_octal<S: Source>(text: S) -> bool
     ensures { result ≡ spec.is_octal (S.left text) }
 {
-    let body = unsigned(text);
+    let body = without_sign(text);
     front(body) == '0' && !is_empty(after_first(body)) && !is_past_octal(text)
 }
 
@@ -137,7 +137,7 @@ fn radix_number<S: Source>(digits: S, radix: u32, is_negative: bool) -> Result<N
 fn hexadecimal<S: Source>(text: S) -> Result<Number, NumberFault>
     ensures { result ≡ spec.hexadecimal (S.left text) }
 {
-    let body = unsigned(text);
+    let body = without_sign(text);
     let prefix = after_first(body);
     if front(body) != '0' || !is_x(front(prefix)) {
         return Err(NumberFault::NotANumber);
@@ -151,8 +151,8 @@ fn significand_of<S: Source>(numeral: Numeral<S>) -> Option<Significand>
         MatchOption result (IsLong n) (λ s. s.digits * 10 ^ s.zeros ≡ n) }
     ensures room { IfSome result (λ s. s.zeros < 2 ^ 66) }
 {
-    let whole = significand::gather(Significand::new(), numeral.whole)?;
-    significand::gather(whole, numeral.fraction)
+    let whole = significand::read_digits(Significand::new(), numeral.whole)?;
+    significand::read_digits(whole, numeral.fraction)
 }
 
 /// The digits at their place; None where the place is out of range.
@@ -162,11 +162,11 @@ fn at_place<S: Source>(is_negative: bool, read: Significand, numeral: Numeral<S>
         ≡ spec.at_place is_negative read.digits read.zeros (parts.numeral_of S.left numeral) }
 {
     let places = significand::run_len(numeral.fraction);
-    let exponent = significand::number(numeral.exponent).min(significand::FAR);
+    let exponent = significand::number(numeral.exponent).min(significand::EXPONENT_CAP);
     if numeral.exponent_is_negative {
-        Decimal::placed(is_negative, read.digits, read.zeros, places + exponent)
+        Decimal::from_digits(is_negative, read.digits, read.zeros, places + exponent)
     } else {
-        Decimal::placed(is_negative, read.digits, read.zeros + exponent, places)
+        Decimal::from_digits(is_negative, read.digits, read.zeros + exponent, places)
     }
 }
 
@@ -177,13 +177,13 @@ fn finite<S: Source>(is_negative: bool, numeral: Numeral<S>) -> Result<Number, N
         return Err(NumberFault::TooManyDigits);
     };
     match at_place(is_negative, read, numeral) {
-        Some(placed) => Ok(Number::Finite(placed)),
+        Some(from_digits) => Ok(Number::Finite(from_digits)),
         None => Err(NumberFault::OutOfRange),
     }
 }
 
 fn of_form<S: Source>(form: DecimalForm<S>) -> Result<Number, NumberFault>
-    ensures { result ≡ spec.signed form.is_negative (parts.reading_of S.left form.reading) }
+    ensures { result ≡ spec.apply_sign form.is_negative (parts.reading_of S.left form.reading) }
 {
     let DecimalForm {
         is_negative,
@@ -205,11 +205,11 @@ fn of_form<S: Source>(form: DecimalForm<S>) -> Result<Number, NumberFault>
 fn number_of<S: Source>(text: S) -> Result<Number, NumberFault>
     ensures { result ≡ spec.number_of (S.left text) }
 {
-    if holds_x(text) {
+    if contains_x(text) {
         return hexadecimal(text);
     }
     if is_octal(text) {
-        return radix_number(after_first(unsigned(text)), 8, front(text) == '-');
+        return radix_number(after_first(without_sign(text)), 8, front(text) == '-');
     }
     match decimal_form::decimal_form(text) {
         Some(form) => of_form(form),
@@ -242,6 +242,6 @@ pub fn parse_str_radix(text: &str) -> Result<Number, NumberFault>
 {
     match short_whole(text) {
         Some(n) => Ok(Number::Finite(Decimal::whole(false, n))),
-        None => number_of(Kept(text)),
+        None => number_of(WithoutWhitespace(text)),
     }
 }

@@ -1,4 +1,4 @@
-//! Quoted strings: docs/TEXTS.md, "Strings".
+//! Quoted strings: docs/reference/texts.md, "Strings".
 
 ghost use Rattle.std.specs.Prelude.{◌≡◌, ◌≢◌, ◌∷◌, [], ◌++◌, ◌<◌, ◌≤◌, ◌*◌, ◌+◌, ◌^◌, length, true, IfOk, MatchOption};
 ghost use Rattle.std.specs.Char.{encode_utf8};
@@ -34,7 +34,7 @@ impl From<AllocError> for QuoteError {
 }
 
 /// The text with a backslash before backslash and `"`, and `\n`, `\r`, `\t` for line feed, carriage
-/// return and tab. Between two `"` it stands for the text.
+/// return and tab. Between two `"` it is for the text.
 pub fn escape_string(alloc: Global, s: &str) -> Result<String, AllocError>
     ensures { IfOk result (λ t. string_bytes t ≡ escaped_text s.now) }
 {
@@ -63,7 +63,7 @@ pub(crate) fn escape_of(c: char) -> Option<&'static str>
     }
 }
 
-/// The text that a quoted text stands for.
+/// The text that a quoted text is for.
 ///
 /// # Errors
 ///
@@ -82,7 +82,7 @@ pub fn unquote_string(alloc: Global, s: &str) -> Result<String, QuoteError>
                 Some(_) => Err(QuoteError::InvalidSyntax),
             };
         }
-        out.push(spelled(quote, c, &mut rest).ok_or(QuoteError::InvalidSyntax)?)?;
+        out.push(read_spelling(quote, c, &mut rest).ok_or(QuoteError::InvalidSyntax)?)?;
     }
     Err(QuoteError::InvalidSyntax)
 }
@@ -101,9 +101,9 @@ fn is_quote(c: char) -> bool
     c == '"' || c == '\'' || c == '`'
 }
 
-/// The character that the spelling beginning with `first` stands for, with the rest of the spelling
+/// The character that the spelling beginning with `first` is for, with the rest of the spelling
 /// taken from `rest`.
-fn spelled(quote: char, first: char, rest: &mut Chars<'_>) -> Option<char>
+fn read_spelling(quote: char, first: char, rest: &mut Chars<'_>) -> Option<char>
     requires quote { is_quote quote ≡ true }
     requires inner { first ≢ quote }
     ensures value { ReadsSpelling quote (encode_utf8 first ++ chars_rest rest.old) result
@@ -120,7 +120,7 @@ fn spelled(quote: char, first: char, rest: &mut Chars<'_>) -> Option<char>
     }
 }
 
-/// The character that an escape stands for, after its backslash.
+/// The character that an escape is for, after its backslash.
 fn escape(quote: char, rest: &mut Chars<'_>) -> Option<char>
     requires { is_quote quote ≡ true }
     ensures value { ReadsEscape quote (chars_rest rest.old) result (chars_rest rest.new) }
@@ -181,7 +181,7 @@ fn number(base: u32, count: usize, start: u32, rest: &mut Chars<'_>) -> Option<u
     Some(value)
 }
 
-/// The character that a letter or a backslash stands for after a backslash.
+/// The character that a letter or a backslash is for after a backslash.
 fn letter(c: char) -> Option<char>
     ensures { result ≡ letter c }
 {

@@ -1,4 +1,4 @@
-//! Texts between double quotes, without memory (docs/TEXTS.md, "Escaping").
+//! Texts between double quotes, without memory (docs/reference/texts.md, "Escaping").
 
 ghost use Rattle.std.specs.Prelude.{◌≡◌};
 ghost use Rattle.std.specs.Char.{encode_utf8};

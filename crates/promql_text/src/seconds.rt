@@ -1,4 +1,4 @@
-//! Seconds in decimal digits, rounded to nanoseconds: docs/TEXTS.md, "Durations".
+//! Seconds in decimal digits, rounded to nanoseconds: docs/reference/texts.md, "Durations".
 
 ghost use Rattle.std.specs.Prelude.{◌≡◌, ◌∷◌, ◌++◌, ◌<◌, ◌*◌, ◌^◌, ℕ, [], length};
 ghost use Rattle.std.specs.Char.{digit_value, is_ascii_digit};
@@ -8,7 +8,7 @@ ghost use Rattle.promql_text.specs.Texts.{Text};
 ghost use Rattle.promql_text.specs.DecimalForm.{digit_run};
 ghost use Rattle.promql_text.specs.DecimalParts.{numeral_of};
 ghost use Rattle.promql_text.specs.Durations.{second_nanos};
-ghost use Rattle.promql_text.specs.DurationReaders.{capped};
+ghost use Rattle.promql_text.specs.DurationReaders.{cap_u128};
 ghost use Rattle.promql_text.specs.Rounding.{at_point, Compares, ComparesHalf, HasRead, PlacesPoint};
 
 use crate::decimal_form::Numeral;
@@ -16,7 +16,7 @@ use crate::significand::{number, run_len};
 
 /// How the digits after the point compare with a half.
 #[derive(Clone, Copy)]
-pub enum Tail {
+pub enum RoundingTail {
     /// There is no such digit.
     Empty,
     Below,
@@ -31,7 +31,7 @@ pub struct Digits {
     to_point: u128,
     /// The number of the digits before the point, or `u128::MAX` where it is greater.
     whole: u128,
-    tail: Tail,
+    tail: RoundingTail,
 }
 
 impl Digits {
@@ -42,7 +42,7 @@ impl Digits {
         Digits {
             to_point,
             whole: 0,
-            tail: Tail::Empty,
+            tail: RoundingTail::Empty,
         }
     }
 
@@ -59,7 +59,7 @@ impl Digits {
                 .saturating_mul(10)
                 .saturating_add(u128::from(digit));
         } else {
-            self.tail = compared(self.tail, digit);
+            self.tail = compare_half(self.tail, digit);
         }
     }
 
@@ -76,49 +76,55 @@ impl Digits {
 
     /// The number, rounded to the nearest whole one, a tie to the even one; `u128::MAX` where it is
     /// greater.
-    fn rounded(self) -> u128
+    fn round(self) -> u128
         ensures { (n : ℕ) (ds : Text) → AllDigits 10 ds → HasRead n ds self
-            → result ≡ capped (at_point n ds) }
+            → result ≡ cap_u128 (at_point n ds) }
     {
         match self.tail {
-            Tail::Empty => with_zeros(self.whole, self.to_point),
-            Tail::Below => self.whole,
-            Tail::Half => self.whole.saturating_add(self.whole % 2),
-            Tail::Above => self.whole.saturating_add(1),
+            RoundingTail::Empty => with_zeros(self.whole, self.to_point),
+            RoundingTail::Below => self.whole,
+            RoundingTail::Half => self.whole.saturating_add(self.whole % 2),
+            RoundingTail::Above => self.whole.saturating_add(1),
         }
     }
 }
 
 /// How digits after the point compare with a half, with one more digit after them.
-fn compared(tail: Tail, digit: u8) -> Tail
+fn compare_half(tail: RoundingTail, digit: u8) -> RoundingTail
     requires { digit < 10 }
     ensures { (ds : Text) (c : ℕ) → digit_value c ≡ digit → ComparesHalf tail ds
         → ComparesHalf result (ds ++ (c ∷ [])) }
 {
     match tail {
-        Tail::Empty => first_digit(digit),
-        Tail::Below => Tail::Below,
-        Tail::Half => { if digit == 0 { Tail::Half } else { Tail::Above } }
-        Tail::Above => Tail::Above,
+        RoundingTail::Empty => first_digit(digit),
+        RoundingTail::Below => RoundingTail::Below,
+        RoundingTail::Half => {
+            if digit == 0 {
+                RoundingTail::Half
+            } else {
+                RoundingTail::Above
+            }
+        }
+        RoundingTail::Above => RoundingTail::Above,
     }
 }
 
 /// How one digit after the point compares with a half.
-fn first_digit(digit: u8) -> Tail
+fn first_digit(digit: u8) -> RoundingTail
     ensures { Compares result digit 5 }
 {
     if digit < 5 {
-        Tail::Below
+        RoundingTail::Below
     } else if digit == 5 {
-        Tail::Half
+        RoundingTail::Half
     } else {
-        Tail::Above
+        RoundingTail::Above
     }
 }
 
 /// The number with so many zeros after its digits; `u128::MAX` where that is greater.
 fn with_zeros(n: u128, zeros: u128) -> u128
-    ensures { result ≡ capped (n * 10 ^ zeros) }
+    ensures { result ≡ cap_u128 (n * 10 ^ zeros) }
 {
     n.saturating_mul(10u128.saturating_pow(zeros.min(39) as u32))
 }
@@ -148,7 +154,7 @@ fn point(numeral: Numeral<&[u8]>) -> Option<u128>
 
 /// The nanoseconds of a numeral of seconds, rounded; `u128::MAX` where there are more.
 pub fn nanoseconds(numeral: Numeral<&[u8]>) -> u128
-    ensures { result ≡ capped (second_nanos (numeral_of (λ s. s.now) numeral.entry)) }
+    ensures { result ≡ cap_u128 (second_nanos (numeral_of (λ s. s.now) numeral.entry)) }
 {
     let Some(to_point) = point(numeral) else {
         return 0;
@@ -156,5 +162,5 @@ pub fn nanoseconds(numeral: Numeral<&[u8]>) -> u128
     let mut digits = Digits::new(to_point);
     digits.read(run(numeral.whole));
     digits.read(run(numeral.fraction));
-    digits.rounded()
+    digits.round()
 }

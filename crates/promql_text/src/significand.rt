@@ -3,7 +3,7 @@
 ghost use Rattle.std.specs.Prelude.{◌≡◌, ℕ, ◌+◌, ◌*◌, ◌^◌, ◌%◌, ◌<◌, ◌≤◌, true, false, length, Option, Some, None, MatchOption, IfSome, SomeIff};
 ghost use Rattle.std.specs.Str.Parse.{digits_value, digits_value_after};
 ghost use Rattle.promql_text.specs.DecimalForm.{digit_run};
-ghost use Rattle.promql_text.specs.DurationReaders.{capped};
+ghost use Rattle.promql_text.specs.DurationReaders.{cap_u128};
 ghost use Rattle.promql_text.specs.Significands.{IsLong, ReadsDigit};
 
 use crate::decimal_form::Source;
@@ -12,7 +12,7 @@ use crate::decimal_form::Source;
 pub const TOO_LONG: u128 = 100_000_000_000_000_000_000_000_000_000_000_000_000;
 
 /// An exponent of this size is past the range of any number, however many digits its text has.
-pub const FAR: u128 = 1_000_000_000_000_000_000_000_000_000_000;
+pub const EXPONENT_CAP: u128 = 1_000_000_000_000_000_000_000_000_000_000;
 
 /// A whole number of at most 38 digits that ends in no zero, and the zeros after it.
 #[derive(Clone, Copy)]
@@ -36,7 +36,7 @@ pub fn decimal_digit(c: char) -> Option<u128>
 }
 
 /// The number with so many zeros after its digits, if it has at most 38 then.
-pub fn shifted(digits: u128, zeros: u128) -> Option<u128>
+pub fn append_zeros(digits: u128, zeros: u128) -> Option<u128>
     requires { digits < 10 ^ 38 }
     ensures { SomeIff result (digits * 10 ^ zeros < 10 ^ 38) (digits * 10 ^ zeros) }
 {
@@ -70,7 +70,7 @@ impl Significand {
         ensures room { IfSome result (λ s. s.zeros ≤ self.zeros + 1) }
     {
         if digit != 0 {
-            let front = shifted(self.digits, self.zeros + 1)?;
+            let front = append_zeros(self.digits, self.zeros + 1)?;
             return Some(Significand {
                 digits: front + digit,
                 zeros: 0,
@@ -87,7 +87,7 @@ impl Significand {
 /// The significand of the digits before, and after them those at the start of the text; None past
 /// 38 digits.
 #[tactic(auto, using(crate::proofs::Runs::digit_run_digit, crate::proofs::Runs::digit_run_other, crate::proofs::Tens::long_run))]
-pub fn gather<S: Source>(before: Significand, text: S) -> Option<Significand>
+pub fn read_digits<S: Source>(before: Significand, text: S) -> Option<Significand>
     requires { before.zeros ≤ 2 ^ 64 }
     ensures value { let n = digits_value_after 10 (before.digits * 10 ^ before.zeros)
         (digit_run (S.left text)) in
@@ -127,7 +127,7 @@ pub fn run_len<S: Source>(text: S) -> u128
 /// The number of the digits at the start of the text; `u128::MAX` where it is greater.
 #[tactic(auto, using(crate::proofs::Runs::digit_run_other, crate::proofs::Parts::count_more, crate::proofs::Parts::capped_small))]
 pub fn number<S: Source>(text: S) -> u128
-    ensures { result ≡ capped (digits_value 10 (digit_run (S.left text))) }
+    ensures { result ≡ cap_u128 (digits_value 10 (digit_run (S.left text))) }
 {
     let mut number: u128 = 0;
     let mut rest = text;

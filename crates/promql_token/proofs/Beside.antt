@@ -15,7 +15,7 @@ use Rattle.promql_token.specs.declared.ids.TheConstants.{T_DURATION, T_NUMBER, T
 use Rattle.promql_text.specs.Texts.{Text}
 use Rattle.promql_token.specs.Classes.{is_in, end_of_run}
 use Rattle.promql_token.specs.Laws.{is_sign, is_exponent, stops_numeral}
-use Rattle.promql_token.specs.Pieces.{Piece, word_id, word, braces_id, word_in_braces, is_hex, digits, past_whole, past_point, past_sign, past_exponent, number_end, units, numeral, is_escape, string_from}
+use Rattle.promql_token.specs.TokenScanning.{Scanned, word_id, word, braces_id, word_in_braces, is_hex, digits, past_whole, past_point, past_sign, past_exponent, number_end, units, numeral, is_escape, string_from}
 use Rattle.promql_token.proofs.Ends.{and_left, and_right, or_cases}
 use Rattle.promql_token.proofs.Steps.{not_true}
 
@@ -181,7 +181,7 @@ module _ {w r : Text} (some : 0 < length w) (s : Stops w r) where
       let end = number_end w in
       let run = end_of_run class.Name w end in
       let runs = past_beside class.Name w r end end_within s.name in
-      let f : Text → ℕ → ℕ → Piece = λ z end run. cond ((run == end) && not (get_or z end 0 == 46)) (Ok (T_NUMBER, end)) (cond (units (take (run - end) (drop end z))) (Ok (T_DURATION, run)) (Err (Numeral, 0))) in
+      let f : Text → ℕ → ℕ → Scanned = λ z end run. cond ((run == end) && not (get_or z end 0 == 46)) (Ok (T_NUMBER, end)) (cond (units (take (run - end) (drop end z))) (Ok (T_DURATION, run)) (Err (Numeral, 0))) in
       let run_within = past_within class.Name w end end_within in
       let fits : run - end ≤ length (drop end w) = omega (arith, length-drop end w) in
       let tail : take (run - end) (drop end (w ++ r)) ≡ take (run - end) (drop end w) =

@@ -4,9 +4,9 @@ use Rattle.std.specs.Prelude.{◌==◌, ◌&&◌, ◌||◌}
 use Rattle.std.proofs.lemmas.Grind.{common_steps}
 
 -- by a test
-pub split : (c : Bool) {X : Type 0} → (c ≡ true → X) → (c ≡ false → X) → X
-split true f g = f refl
-split false f g = g refl
+pub by_bool : (c : Bool) {X : Type 0} → (c ≡ true → X) → (c ≡ false → X) → X
+by_bool true f g = f refl
+by_bool false f g = g refl
 
 pub or_false : (a b : Bool) → (a || b) ≡ false → (a ≡ false) × (b ≡ false)
 or_false true b h = absurd (cc)

@@ -12,11 +12,11 @@ use Rattle.promql_token.specs.declared.fault.LexFaultKind.TheVariants.{Numeral}
 use Rattle.promql_token.specs.declared.ids.TheConstants.{T_DURATION, T_NUMBER}
 use Rattle.promql_text.specs.Texts.{Text}
 use Rattle.promql_token.specs.Classes.{is_in, end_of_run}
-use Rattle.promql_token.specs.Pieces.{Piece, is_unit, unit_len, part_len, parts_from, units, numeral}
+use Rattle.promql_token.specs.TokenScanning.{Scanned, is_unit, unit_len, part_len, parts_from, units, numeral}
 use Rattle.promql_token.specs.Printed.{are_digits, is_part, parts_text, JoinsDuration}
 use Rattle.promql_token.proofs.Ends.{and_left, and_right}
 use Rattle.promql_token.proofs.Parts.{parts_go}
-use Rattle.promql_token.proofs.Printed.{number_whole, whole_is, at_seam, prefix_whole, digits_first, joins_numeral, digit_name, past_front}
+use Rattle.promql_token.proofs.PrintedForms.{number_whole, whole_is, at_seam, prefix_whole, digits_first, joins_numeral, digit_name, past_front}
 
 -- a unit with its `s`, before a text that begins with no `s`
 pub record IsUnitText (first : Bool) (u rest : Text) : Type 0 where
@@ -174,7 +174,7 @@ duration_all d t some h some_t byte names all =
     let m = n + length t in
     let end = number_whole z n (whole_is d t some h byte.digit byte.hex) (ap (λ b. b == 46) (at_seam d t) ∙ byte.point) (ap (λ b. (b == 101) || (b == 69)) (at_seam d t) ∙ byte.exponent) in
     let run : end_of_run class.Name z n ≡ m = ap (λ r. n + prefix_len (is_in class.Name) r) (drop-append_seam d t) ∙ ap (λ k. n + k) (prefix_whole (is_in class.Name) t names) in
-    let f : ℕ → ℕ → Piece = λ end run. cond ((run == end) && not (get_or z end 0 == 46)) (Ok (T_NUMBER, end)) (cond (units (take (run - end) (drop end z))) (Ok (T_DURATION, run)) (Err (Numeral, 0))) in
+    let f : ℕ → ℕ → Scanned = λ end run. cond ((run == end) && not (get_or z end 0 == 46)) (Ok (T_NUMBER, end)) (cond (units (take (run - end) (drop end z))) (Ok (T_DURATION, run)) (Err (Numeral, 0))) in
     let back : m - n ≡ length t = omega arith in
     let tail : take (m - n) (drop n z) ≡ t = (λ i. take (back i) (drop-append_seam d t i)) ∙ take-length t in
     ap (λ e. f e (end_of_run class.Name z e)) end ∙ ap (f n) run

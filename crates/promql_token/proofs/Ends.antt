@@ -15,10 +15,10 @@ use Rattle.promql_token.specs.declared.state.Mode.TheVariants as mode
 use Rattle.promql_token.specs.declared.state.State.{State}
 use Rattle.promql_text.specs.Texts.{Text}
 use Rattle.promql_token.specs.Classes.{is_in, is_letter, end_of_run}
-use Rattle.promql_token.specs.Pieces.{Piece, word, word_in_braces, is_hex, digits, past_whole, past_point, past_sign, past_exponent, number_end, units, numeral, is_quote, is_escape, string_from, string, equal_sign, or_equal, bang_sign, dot_sign, single, sign, begins_numeral, outside, bang_in_braces, in_braces, colon_sign, in_brackets, end_in, begun, piece}
+use Rattle.promql_token.specs.TokenScanning.{Scanned, word, word_in_braces, is_hex, digits, past_whole, past_point, past_sign, past_exponent, number_end, units, numeral, is_quote, is_escape, string_from, string, equal_sign, or_equal, bang_sign, dot_sign, single, sign, begins_numeral, outside, bang_in_braces, in_braces, colon_sign, in_brackets, end_in, scan_in_mode, scan_token}
 use Rattle.promql_token.proofs.Places.{Ends, front, behind_low, low_eq, IsAsciiRun, run_ends, no_run, past_run, one_more, past_moves}
 
-abbrev pub PieceEnds : Text → Piece → Type 0
+abbrev pub PieceEnds : Text → Scanned → Type 0
 PieceEnds z (Ok t) = Ends z t.1 × (t.0 ≢ 6 → 0 < t.1)
 PieceEnds z (Err f) = Ends z f.1
 
@@ -277,12 +277,12 @@ end_ends mode.Outside depth = cond_both (depth == 0) _ _ (PieceEnds []) (λ _. (
 end_ends mode.Braces depth = front []
 end_ends (mode.Brackets inside) depth = front []
 
-pub begun_ends : (m : Mode) (depth : ℕ) (z : Text) → 0 < length z → PieceEnds z (begun m depth z)
+pub begun_ends : (m : Mode) (depth : ℕ) (z : Text) → 0 < length z → PieceEnds z (scan_in_mode m depth z)
 begun_ends mode.Outside depth z h = outside_ends depth z h
 begun_ends mode.Braces depth z h = in_braces_ends z h
 begun_ends (mode.Brackets inside) depth z h = in_brackets_ends inside z h
 
-pub piece_ends : (state : State) (z : Text) → PieceEnds z (piece state z)
-unfolding piece
+pub piece_ends : (state : State) (z : Text) → PieceEnds z (scan_token state z)
+unfolding scan_token
 piece_ends state [] = end_ends state.mode state.depth
 piece_ends state (b ∷ z) = begun_ends state.mode state.depth (b ∷ z) (omega arith)

@@ -1,4 +1,4 @@
--- A fault that is told by what stands there is what is read there.
+-- A fault that is told by what is there is what is read there.
 use Rattle.std.proofs.Common.{◌≡◌, ℕ, zero, suc, ◌<◌, Bool, true, false, cond, [], ◌∷◌, ◌++◌, length, take, drop, Some, Ok, Err, refl, sym, ap, ◌∙◌, subst, arith, eqb-true}
 use Rattle.std.specs.Prelude.{◌==◌, ◌&&◌, ◌||◌, codes, slice_get}
 use Rattle.std.specs.Char.{is_ascii_digit}
@@ -18,11 +18,11 @@ use Rattle.promql_token.specs.Begins.{IsNumeral}
 use Rattle.promql_token.specs.Classes.{is_in, is_letter}
 use Rattle.promql_token.specs.FaultPlaces.{IsEscaping, IsFault, Meets, Misses, NoNumeral, is_among}
 use Rattle.promql_token.specs.Vocabulary.{next}
-use Rattle.promql_token.specs.Pieces.{Piece, begins_numeral, in_braces, in_brackets, is_quote, numeral, outside, piece, sign, string, word}
-use Rattle.promql_token.specs.Printed.{holds_strings, joined}
+use Rattle.promql_token.specs.TokenScanning.{Scanned, begins_numeral, in_braces, in_brackets, is_quote, numeral, outside, scan_token, sign, string, word}
+use Rattle.promql_token.specs.Printed.{holds_strings, concat_texts}
 use Rattle.promql_token.proofs.Choices.{not_one, not_zero, or_false}
 use Rattle.promql_token.proofs.Numerals.{NumeralSays, numeral_says}
-use Rattle.promql_token.proofs.Read.{digit_first, string_first}
+use Rattle.promql_token.proofs.ReadBeginnings.{digit_first, string_first}
 use Rattle.promql_token.proofs.Strings.{body_quote, escaping_quote, string_at_end, string_unclosed, string_unknown}
 
 abbrev at_state : Mode → ℕ → State
@@ -30,7 +30,7 @@ at_state m depth = record { depth = depth; mode = m }
 
 -- a text after which the fault is
 abbrev HasFault : LexFaultKind → Mode → ℕ → Text → Text → Type 0
-HasFault kind m depth u v = piece (at_state m depth) (u ++ v) ≡ Err (kind, length u)
+HasFault kind m depth u v = scan_token (at_state m depth) (u ++ v) ≡ Err (kind, length u)
 
 -- a byte that is there
 meets : (P : Text → Text → Type 0) (w : Text) (b : ℕ) (u v : Text) → 0 < b → ((y : Text) → P w (b ∷ y)) → Meets w b u v → P u v
@@ -50,42 +50,42 @@ none_of (c ∷ ks) b (suc i) k h is = none_of ks b i k (or_false (b == c) (list_
 
 -- ---- outside
 
-unclosed : (depth : ℕ) (u v : Text) → (u ≡ []) × (v ≡ []) → HasFault UnclosedParen mode.Outside (suc depth) u v
-unfolding piece
-unclosed depth u v h = subst (λ u. HasFault UnclosedParen mode.Outside (suc depth) u v) (sym h.0) (subst (λ v. HasFault UnclosedParen mode.Outside (suc depth) [] v) (sym h.1) (rw (not_zero depth) refl))
+unclosed_paren_at_end : (depth : ℕ) (u v : Text) → (u ≡ []) × (v ≡ []) → HasFault UnclosedParen mode.Outside (suc depth) u v
+unfolding scan_token
+unclosed_paren_at_end depth u v h = subst (λ u. HasFault UnclosedParen mode.Outside (suc depth) u v) (sym h.0) (subst (λ v. HasFault UnclosedParen mode.Outside (suc depth) [] v) (sym h.1) (rw (not_zero depth) refl))
 
 equal_at : (depth : ℕ) (y : Text) → HasFault AfterEqual mode.Outside depth (codes "=") (126 ∷ y)
-unfolding piece outside sign
+unfolding scan_token outside sign
 equal_at depth y = refl
 
 bang_at : (depth c : ℕ) (y : Text) → (c == 61) ≡ false → HasFault AfterBang mode.Outside depth (codes "!") (c ∷ y)
-unfolding piece outside sign
+unfolding scan_token outside sign
 bang_at depth c y h = rw (not_one (length y), h) refl
 
 bang_end : (m : Mode) (depth : ℕ) → holds_strings m ≡ true → HasFault BangAtEnd m depth (codes "!") []
-unfolding piece outside sign in_braces
+unfolding scan_token outside sign in_braces
 bang_end mode.Outside depth h = refl
 bang_end mode.Braces depth h = refl
 bang_end (mode.Brackets inside) depth h = absurd (cc)
 
 dot_at : (depth c : ℕ) (y : Text) → is_ascii_digit c ≡ false → HasFault AfterDot mode.Outside depth (codes ".") (c ∷ y)
-unfolding piece outside sign
+unfolding scan_token outside sign
 dot_at depth c y h = rw (h, not_one (length y)) refl
 
 dot_end : (depth : ℕ) → HasFault DotAtEnd mode.Outside depth [] (codes ".")
-unfolding piece outside sign
+unfolding scan_token outside sign
 dot_end depth = refl
 
 right_paren_at : (y : Text) → HasFault RightParen mode.Outside zero [] (41 ∷ y)
-unfolding piece outside sign
+unfolding scan_token outside sign
 right_paren_at y = refl
 
 right_brace_at : (depth : ℕ) (y : Text) → HasFault RightBrace mode.Outside depth [] (125 ∷ y)
-unfolding piece outside sign
+unfolding scan_token outside sign
 right_brace_at depth y = refl
 
 right_bracket_at : (depth : ℕ) (y : Text) → HasFault RightBracket mode.Outside depth [] (93 ∷ y)
-unfolding piece outside sign
+unfolding scan_token outside sign
 right_bracket_at depth y = refl
 
 no_digit : (b : ℕ) → is_in class.Word b ≡ false → is_ascii_digit b ≡ false
@@ -101,7 +101,7 @@ other_sign depth b y h =
     rw (no 0 46 refl, no 1 64 refl, no 2 44 refl, no 3 42 refl, no 4 47 refl, no 5 37 refl, no 6 43 refl, no 7 45 refl, no 8 94 refl, no 9 123 refl, no 10 91 refl, no 11 40 refl, no 12 41 refl, no 13 125 refl, no 14 93 refl, no 15 61 refl, no 16 33 refl, no 17 60 refl, no 18 62 refl) refl
 
 character_at : (depth b : ℕ) (y : Text) → (is_in class.Word b || (is_quote b || is_among (codes ".@,*/%+-^{[()}]=!<>") b)) ≡ false → HasFault Character mode.Outside depth [] (b ∷ y)
-unfolding piece outside
+unfolding scan_token outside
 character_at depth b y h =
     let a = or_false (is_in class.Word b) (is_quote b || is_among (codes ".@,*/%+-^{[()}]=!<>") b) h in
     let c = or_false (is_quote b) (is_among (codes ".@,*/%+-^{[()}]=!<>") b) a.1 in
@@ -116,12 +116,12 @@ character_at depth b y h =
 no_numeral : (z : Text) → begins_numeral z ≡ true → ((id : ℕ) (w r : Text) → z ≡ w ++ r → IsNumeral id w r → ⊥) → numeral z ≡ Err (Numeral, 0)
 no_numeral z begins none = cases (numeral z) (numeral_says z begins)
   where
-    cases : (p : Piece) → NumeralSays z p → p ≡ Err (Numeral, 0)
+    cases : (p : Scanned) → NumeralSays z p → p ≡ Err (Numeral, 0)
     cases (Ok t) h = absurd (none t.0 (take t.1 z) (drop t.1 z) (sym (take-append-drop t.1 z)) h)
     cases (Err f) h = ap (λ f. Err f) h.0
 
 numeral_at : (depth : ℕ) (u v : Text) → begins_numeral v ≡ true → NoNumeral u v → HasFault Numeral mode.Outside depth u v
-unfolding piece outside
+unfolding scan_token outside
 numeral_at depth u [] begins h = absurd (cc)
 numeral_at depth u (b ∷ y) begins h =
     let z : Text = b ∷ y in
@@ -129,7 +129,7 @@ numeral_at depth u (b ∷ y) begins h =
     (ap (λ x. cond x (numeral z) (cond (is_letter b || (b == 58)) (word z) (cond (is_quote b) (string z) (sign depth z)))) begins ∙ no_numeral z begins h.1)
 
 numeral_in_brackets : (inside : Bracket) (depth : ℕ) (u v : Text) → is_ascii_digit (next v) ≡ true → NoNumeral u v → HasFault Numeral (mode.Brackets inside) depth u v
-unfolding piece
+unfolding scan_token
 numeral_in_brackets inside depth u [] digit h = absurd (cc)
 numeral_in_brackets inside depth u (b ∷ y) digit h =
     let z : Text = b ∷ y in
@@ -137,26 +137,26 @@ numeral_in_brackets inside depth u (b ∷ y) digit h =
 
 -- ---- strings
 
-string_piece : (m : Mode) (depth b : ℕ) (y : Text) → holds_strings m ≡ true → is_quote b ≡ true → piece (at_state m depth) (b ∷ y) ≡ string (b ∷ y)
-unfolding piece
+string_piece : (m : Mode) (depth b : ℕ) (y : Text) → holds_strings m ≡ true → is_quote b ≡ true → scan_token (at_state m depth) (b ∷ y) ≡ string (b ∷ y)
+unfolding scan_token
 string_piece m depth b y holds quote = string_first m depth b y holds quote
 
-escaping_piece : (m : Mode) (depth quote : ℕ) (u v : Text) → holds_strings m ≡ true → IsEscaping quote u → piece (at_state m depth) (u ++ v) ≡ string (u ++ v)
+escaping_piece : (m : Mode) (depth quote : ℕ) (u v : Text) → holds_strings m ≡ true → IsEscaping quote u → scan_token (at_state m depth) (u ++ v) ≡ string (u ++ v)
 escaping_piece m depth quote u v holds h =
-    subst (λ u. piece (at_state m depth) (u ++ v) ≡ string (u ++ v)) (sym h.3) (string_piece m depth quote ((joined h.1 ++ 92 ∷ []) ++ v) holds (escaping_quote quote h.0))
+    subst (λ u. scan_token (at_state m depth) (u ++ v) ≡ string (u ++ v)) (sym h.3) (string_piece m depth quote ((concat_texts h.1 ++ 92 ∷ []) ++ v) holds (escaping_quote quote h.0))
 
 -- ---- in braces
 
 bang_in_braces_at : (depth c : ℕ) (y : Text) → (c == 61 || c == 126) ≡ false → HasFault AfterBangInBraces mode.Braces depth (codes "!") (c ∷ y)
-unfolding piece in_braces
+unfolding scan_token in_braces
 bang_in_braces_at depth c y h = let no = or_false (c == 61) (c == 126) h in rw (not_one (length y), no.0, no.1) refl
 
 brace_at : (depth : ℕ) (y : Text) → HasFault BraceInBraces mode.Braces depth [] (123 ∷ y)
-unfolding piece in_braces
+unfolding scan_token in_braces
 brace_at depth y = refl
 
 other_in_braces : (depth b : ℕ) (y : Text) → (is_letter b || (is_quote b || is_among (codes ",=!{}") b)) ≡ false → HasFault InBraces mode.Braces depth [] (b ∷ y)
-unfolding piece in_braces
+unfolding scan_token in_braces
 other_in_braces depth b y h =
     let a = or_false (is_letter b) (is_quote b || is_among (codes ",=!{}") b) h in
     let c = or_false (is_quote b) (is_among (codes ",=!{}") b) a.1 in
@@ -164,32 +164,32 @@ other_in_braces depth b y h =
     rw (no 0 44 refl, no 1 61 refl, no 2 33 refl, no 3 123 refl, no 4 125 refl, a.0, c.0) refl
 
 end_in_braces : (depth : ℕ) → HasFault EndInBraces mode.Braces depth [] []
-unfolding piece
+unfolding scan_token
 end_in_braces depth = refl
 
 -- ---- in brackets
 
 second_colon : (depth : ℕ) (y : Text) → HasFault SecondColon (mode.Brackets bracket.Colon) depth [] (58 ∷ y)
-unfolding piece in_brackets
+unfolding scan_token in_brackets
 second_colon depth y = refl
 
 first_colon : (depth : ℕ) (y : Text) → HasFault FirstColon (mode.Brackets bracket.Nothing) depth [] (58 ∷ y)
-unfolding piece in_brackets
+unfolding scan_token in_brackets
 first_colon depth y = refl
 
 bracket_at : (inside : Bracket) (depth : ℕ) (y : Text) → HasFault BracketInBrackets (mode.Brackets inside) depth [] (91 ∷ y)
-unfolding piece in_brackets
+unfolding scan_token in_brackets
 bracket_at inside depth y = refl
 
 other_in_brackets : (inside : Bracket) (depth b : ℕ) (y : Text) → (is_ascii_digit b || is_among (codes ":[]") b) ≡ false → HasFault InBrackets (mode.Brackets inside) depth [] (b ∷ y)
-unfolding piece in_brackets
+unfolding scan_token in_brackets
 other_in_brackets inside depth b y h =
     let a = or_false (is_ascii_digit b) (is_among (codes ":[]") b) h in
     let no : (i k : ℕ) → slice_get (codes ":[]") i ≡ Some k → (b == k) ≡ false = λ i k is. none_of (codes ":[]") b i k a.1 is in
     rw (no 0 58 refl, no 1 91 refl, no 2 93 refl, a.0) refl
 
 end_in_brackets : (inside : Bracket) (depth : ℕ) → HasFault EndInBrackets (mode.Brackets inside) depth [] []
-unfolding piece
+unfolding scan_token
 end_in_brackets inside depth = refl
 
 -- ---- all kinds
@@ -198,7 +198,7 @@ both : (P : Text → Text → Type 0) (w x u v : Text) → (u ≡ w) → (v ≡ 
 both P w x u v e f h = subst (λ u. P u v) (sym e) (subst (λ v. P w v) (sym f) h)
 
 pub fault_read : (kind : LexFaultKind) (m : Mode) (depth : ℕ) (u v : Text) → IsFault kind m depth u v → HasFault kind m depth u v
-fault_read UnclosedParen mode.Outside (suc depth) u v h = unclosed depth u v h
+fault_read UnclosedParen mode.Outside (suc depth) u v h = unclosed_paren_at_end depth u v h
 fault_read AfterEqual mode.Outside depth u v h = meets (HasFault AfterEqual mode.Outside depth) (codes "=") 126 u v (omega arith) (equal_at depth) h
 fault_read AfterBang mode.Outside depth u v h = misses (HasFault AfterBang mode.Outside depth) (codes "!") (λ b. b == 61) u v (bang_at depth) h
 fault_read BangAtEnd m depth u v h = both (HasFault BangAtEnd m depth) (codes "!") [] u v h.1 h.2 (bang_end m depth h.0)

@@ -1,4 +1,4 @@
--- A token in front of a text's end is not T_EOF, and `)` stands where a parenthesis is open.
+-- A token before a text's end is not T_EOF, and `)` is where a parenthesis is open.
 use Rattle.std.proofs.Common.{◌≡◌, ℕ, Bool, true, false, [], ◌∷◌, List, length, get_or, take, drop, Ok, Err, refl, sym, ◌<◌, arith}
 use Rattle.std.specs.Prelude.{◌==◌, not, ◌&&◌, ◌||◌, ◌-◌, codes}
 use Rattle.std.specs.Char.{is_ascii_digit}
@@ -16,7 +16,7 @@ use Rattle.promql_text.specs.Texts.{Text}
 use Rattle.promql_token.specs.Classes.{is_letter, end_of_run}
 use Rattle.promql_token.specs.Ids.{lookup, keywords, keyword_in_any_case, same_word}
 use Rattle.promql_token.specs.declared.ids.Case.TheVariants as case
-use Rattle.promql_token.specs.Pieces.{Piece, is_fill, opens, name_id, word_id, word, braces_id, word_in_braces, number_end, units, numeral, is_quote, is_escape, string_from, string, equal_sign, bang_sign, single, sign, begins_numeral, outside, bang_in_braces, in_braces, colon_sign, in_brackets, begun, after}
+use Rattle.promql_token.specs.TokenScanning.{Scanned, is_fill, opens, name_id, word_id, word, braces_id, word_in_braces, number_end, units, numeral, is_quote, is_escape, string_from, string, equal_sign, bang_sign, single, sign, begins_numeral, outside, bang_in_braces, in_braces, colon_sign, in_brackets, scan_in_mode, after}
 use Rattle.promql_token.proofs.Ends.{and_left, and_right}
 
 -- ---- ids that open, close and end nothing
@@ -68,7 +68,7 @@ plain_no_close id h =
 
 -- ---- pieces
 
-abbrev pub Inner : ℕ → Piece → Type 0
+abbrev pub Inner : ℕ → Scanned → Type 0
 Inner depth (Ok t) = ((t.0 == 6) ≡ false) × ((t.0 == 18) ≡ true → 0 < depth)
 Inner depth (Err f) = Unit {0}
 
@@ -169,7 +169,7 @@ in_brackets_inner depth inside z =
     cond_both (b == 91) _ _ (Inner depth) (λ _. tt) (λ _.
     cond_both (is_ascii_digit b) _ _ (Inner depth) (λ _. numeral_inner depth z) (λ _. tt))))
 
-pub begun_inner : (m : Mode) (depth : ℕ) (z : Text) → Inner depth (begun m depth z)
+pub begun_inner : (m : Mode) (depth : ℕ) (z : Text) → Inner depth (scan_in_mode m depth z)
 begun_inner mode.Outside depth z = outside_inner depth z
 begun_inner mode.Braces depth z = in_braces_inner depth z
 begun_inner (mode.Brackets inside) depth z = in_brackets_inner depth inside z

@@ -11,11 +11,11 @@ use Rattle.promql_token.specs.Begins.{IsNumber, is_fraction, is_power}
 use Rattle.promql_token.specs.Classes.{is_in, end_of_run}
 use Rattle.promql_token.specs.Vocabulary.{next}
 use Rattle.promql_token.specs.Laws.{is_exponent, is_sign}
-use Rattle.promql_token.specs.Pieces.{begins_numeral, digits, is_hex, number_end, past_exponent, past_point, past_sign, past_whole}
+use Rattle.promql_token.specs.TokenScanning.{begins_numeral, digits, is_hex, number_end, past_exponent, past_point, past_sign, past_whole}
 use Rattle.promql_token.specs.Printed.{are_digits}
-use Rattle.promql_token.proofs.Choices.{not_one, split}
+use Rattle.promql_token.proofs.Choices.{not_one, by_bool}
 use Rattle.promql_token.proofs.Ends.{and_left, and_right, or_cases}
-use Rattle.promql_token.proofs.Printed.{at_seam, no_hex, past_behind, past_front}
+use Rattle.promql_token.proofs.PrintedForms.{at_seam, no_hex, past_behind, past_front}
 
 -- ---- runs
 
@@ -29,7 +29,7 @@ pub record Run (p : ℕ → Bool) (z : Text) : Type 0 where
 pub run_of : (p : ℕ → Bool) (z : Text) → p 0 ≡ false → Run p z
 run_of p [] none = record { run = []; rest = []; is = refl; all = refl; stop = none }
 run_of p (b ∷ z) none =
-    split (p b) (λ first. let k = run_of p z none in record { run = b ∷ k.run; rest = k.rest; is = ap (λ t. b ∷ t) k.is; all = λ i. first i && k.all i; stop = k.stop })
+    by_bool (p b) (λ first. let k = run_of p z none in record { run = b ∷ k.run; rest = k.rest; is = ap (λ t. b ∷ t) k.is; all = λ i. first i && k.all i; stop = k.stop })
     (λ first. record { run = []; rest = b ∷ z; is = refl; all = refl; stop = first })
 
 pub in_none : (c : Class) → is_in c 0 ≡ false
@@ -95,7 +95,7 @@ power_end front (e ∷ b ∷ ds) r h none stop bare =
     let same2 : n + 1 + suc (length ds) ≡ n + suc (suc (length ds)) = omega arith in
     ap (λ b. cond (is_exponent b) (end_of_run class.Digit z (past_sign z (n + 1))) n) (at_seam front (e ∷ b ∷ (ds ++ r))) ∙ ap (λ x. cond x (end_of_run class.Digit z (past_sign z (n + 1))) n) (and_left (is_exponent e) ((is_sign b || is_ascii_digit b) && are_digits ds) h)
     ∙ ap (λ b. end_of_run class.Digit z (cond (is_sign b) (n + 1 + 1) (n + 1))) (byte_at z u (b ∷ (ds ++ r)) (n + 1) is len)
-    ∙ split (is_sign b)
+    ∙ by_bool (is_sign b)
     (λ signed. ap (λ x. end_of_run class.Digit z (cond x (n + 1 + 1) (n + 1))) signed ∙ past_at class.Digit z u2 ds r (n + 1 + 1) is2 len2 ds_all stop ∙ same)
     (λ plain. ap (λ x. end_of_run class.Digit z (cond x (n + 1 + 1) (n + 1))) plain
     ∙ past_at class.Digit z u (b ∷ ds) r (n + 1) is len (λ i. digit_of plain (and_left (is_sign b || is_ascii_digit b) (are_digits ds) more) i && ds_all i) stop ∙ same2)
@@ -199,7 +199,7 @@ record FractionOf (c : Class) (t : Text) : Type 0 where
 fraction_of : (c : Class) (t : Text) → is_in c (next t) ≡ false → FractionOf c t
 fraction_of c [] h = record { fraction = []; rest = []; is = refl; fraction_is = refl; stop = h; no_point = λ _. refl }
 fraction_of c (b ∷ t) h =
-    split (b == 46)
+    by_bool (b == 46)
     (λ point. let k = run_of (is_in c) t (in_none c) in
     record { fraction = b ∷ k.run; rest = k.rest; is = ap (λ t. b ∷ t) k.is; fraction_is = λ i. point i && k.all i; stop = k.stop; no_point = λ e. absurd (cc) })
     (λ point. record { fraction = []; rest = b ∷ t; is = refl; fraction_is = refl; stop = h; no_point = λ _. point })
@@ -229,13 +229,13 @@ long_power e b t exp first =
 power_of : (t : Text) → is_ascii_digit (next t) ≡ false → PowerOf t
 power_of [] h = record { power = []; rest = []; is = refl; power_is = refl; no_power = λ _. refl; stop = refl; no_sign = refl }
 power_of (e ∷ []) h =
-    split (is_exponent e)
+    by_bool (is_exponent e)
     (λ exp. record { power = e ∷ []; rest = []; is = refl; power_is = exp; no_power = λ no. absurd (cc); stop = refl; no_sign = refl })
     (λ exp. record { power = []; rest = e ∷ []; is = refl; power_is = refl; no_power = λ _. exp; stop = h; no_sign = refl })
 power_of (e ∷ b ∷ t) h =
-    split (is_exponent e)
-    (λ exp. split (is_sign b) (λ signed. long_power e b t exp (ap (λ x. x || is_ascii_digit b) signed)) (λ plain.
-    split (is_ascii_digit b) (λ digit. long_power e b t exp ((λ i. plain i || digit i)))
+    by_bool (is_exponent e)
+    (λ exp. by_bool (is_sign b) (λ signed. long_power e b t exp (ap (λ x. x || is_ascii_digit b) signed)) (λ plain.
+    by_bool (is_ascii_digit b) (λ digit. long_power e b t exp ((λ i. plain i || digit i)))
     (λ other. record { power = e ∷ []; rest = b ∷ t; is = refl; power_is = exp; no_power = λ no. absurd (cc); stop = other; no_sign = plain })))
     (λ exp. record { power = []; rest = e ∷ b ∷ t; is = refl; power_is = refl; no_power = λ _. exp; stop = h; no_sign = refl })
 
@@ -305,7 +305,7 @@ some_digit [] (b ∷ []) t begins stop fraction_stop no_point =
 
 pub front_of : (z : Text) → begins_numeral z ≡ true → Front z
 front_of z begins =
-    split (is_hex z)
+    by_bool (is_hex z)
     (λ hex.
     let h = hex_of z hex in
     let number : Text = 48 ∷ h.x ∷ (h.whole ++ h.fraction) in

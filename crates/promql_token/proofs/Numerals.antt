@@ -14,9 +14,9 @@ use Rattle.promql_token.specs.Begins.{IsDuration, IsNumber, IsNumeral, is_unit_t
 use Rattle.promql_token.specs.Classes.{is_in, end_of_run}
 use Rattle.promql_token.specs.FaultPlaces.{NoNumeral}
 use Rattle.promql_token.specs.Vocabulary.{next}
-use Rattle.promql_token.specs.Pieces.{Piece, begins_numeral, is_unit, number_end, numeral, part_len, parts_from, unit_len, units}
+use Rattle.promql_token.specs.TokenScanning.{Scanned, begins_numeral, is_unit, number_end, numeral, part_len, parts_from, unit_len, units}
 use Rattle.promql_token.specs.Printed.{is_part, parts_text}
-use Rattle.promql_token.proofs.Choices.{same_number, split}
+use Rattle.promql_token.proofs.Choices.{same_number, by_bool}
 use Rattle.promql_token.proofs.Durations.{front_byte, joined_names, parts_all, parts_names, parts_no_s, unit_byte, unit_text, units_all}
 use Rattle.promql_token.proofs.Ends.{and_left, and_right}
 use Rattle.promql_token.proofs.Numbers.{Front, IsApart, byte_at, front_of, number_is, past_at, run_of}
@@ -43,8 +43,8 @@ no_unit false = refl
 unit_front : (first : Bool) (z : Text) → (unit_len first z == 0) ≡ false → UnitFront first z
 unit_front first [] some = let none = ap (λ n. n == 0) (no_unit first) in absurd (cc)
 unit_front first (b ∷ y) some =
-    split (is_unit first b)
-    (λ unit. split (next y == 115)
+    by_bool (is_unit first b)
+    (λ unit. by_bool (next y == 115)
     (λ s. let more = second y s in record {
       unit = b ∷ 115 ∷ [];
       rest = more.0;
@@ -72,8 +72,8 @@ part_front z some =
     let n = length k.run in
     let f : ℕ → ℕ → ℕ = λ count unit. cond ((count == 0) || (unit == 0)) 0 (count + unit) in
     let len : part_len z ≡ f n (unit_len false k.rest) = ap (λ n. f n (unit_len false (drop n z))) count ∙ ap (λ t. f n (unit_len false t)) behind in
-    split (n == 0) (λ none. let never = ap (λ x. x == 0) (len ∙ ap (λ c. cond (c || (unit_len false k.rest == 0)) 0 (n + unit_len false k.rest)) none) in absurd (cc)) (λ counted.
-    split (unit_len false k.rest == 0)
+    by_bool (n == 0) (λ none. let never = ap (λ x. x == 0) (len ∙ ap (λ c. cond (c || (unit_len false k.rest == 0)) 0 (n + unit_len false k.rest)) none) in absurd (cc)) (λ counted.
+    by_bool (unit_len false k.rest == 0)
     (λ none. let never = ap (λ x. x == 0) (len ∙ (λ i. cond (counted i || none i) 0 (n + unit_len false k.rest))) in absurd (cc))
     (λ unit.
     let u = unit_front false k.rest unit in
@@ -94,7 +94,7 @@ parts_of : (fuel : ℕ) (z : Text) → length z ≤ fuel → parts_from 0 z ≡ 
 parts_of fuel [] fits h = ([], refl, refl)
 parts_of zero (b ∷ z) fits h = absurd (omega arith)
 parts_of (suc fuel) (b ∷ z) fits h =
-    split (part_len (b ∷ z) == 0)
+    by_bool (part_len (b ∷ z) == 0)
     (λ none. let never : parts_from 0 (b ∷ z) ≡ false = ap (λ c. cond c false (parts_from (part_len (b ∷ z) - 1) z)) none in absurd (cc))
     (λ some.
     let p = part_front (b ∷ z) some in
@@ -111,7 +111,7 @@ parts_of (suc fuel) (b ∷ z) fits h =
 units_of : (z : Text) → units z ≡ true → (u : Text) × (ps : List (Text × Text)) × (z ≡ u ++ parts_text ps) × (is_unit_text true u ≡ true) × (list_all (is_part false) ps ≡ true)
 unfolding units
 units_of z h =
-    split (unit_len true z == 0)
+    by_bool (unit_len true z == 0)
     (λ none. let never : units z ≡ false = ap (λ c. cond c false (parts_from 0 (drop (unit_len true z) z))) none in absurd (cc))
     (λ some.
     let f = unit_front true z some in
@@ -130,7 +130,7 @@ by_ends : (z : Text) (end run : ℕ) → number_end z ≡ end → end_of_run cla
     → numeral z ≡ cond ((run == end) && not (get_or z end 0 == 46)) (Ok (T_NUMBER, end)) (cond (units (take (run - end) (drop end z))) (Ok (T_DURATION, run)) (Err (Numeral, 0)))
 unfolding numeral
 by_ends z end run e r =
-    let f : ℕ → ℕ → Piece = λ end run. cond ((run == end) && not (get_or z end 0 == 46)) (Ok (T_NUMBER, end)) (cond (units (take (run - end) (drop end z))) (Ok (T_DURATION, run)) (Err (Numeral, 0))) in
+    let f : ℕ → ℕ → Scanned = λ end run. cond ((run == end) && not (get_or z end 0 == 46)) (Ok (T_NUMBER, end)) (cond (units (take (run - end) (drop end z))) (Ok (T_DURATION, run)) (Err (Numeral, 0))) in
     ap (λ e. f e (end_of_run class.Name z e)) e ∙ ap (f end) r
 
 number_read : (w r : Text) → is_in class.Name (next r) ≡ false → IsNumber w (next r) → (next r == 46) ≡ false → numeral (w ++ r) ≡ Ok (T_NUMBER, length w)
@@ -201,13 +201,13 @@ numeral_begins id w r h =
 
 -- ---- what is read is a numeral by its grammar
 
-abbrev pub NumeralSays : Text → Piece → Type 0
+abbrev pub NumeralSays : Text → Scanned → Type 0
 NumeralSays z (Ok t) = IsNumeral t.0 (take t.1 z) (drop t.1 z)
 NumeralSays z (Err f) = (f ≡ (Numeral, 0)) × NoNumeral [] z
 
 run_stops : (p : ℕ → Bool) (r : Text) → p 0 ≡ false → prefix_len p r ≡ 0 → p (next r) ≡ false
 run_stops p [] none h = none
-run_stops p (b ∷ r) none h = split (p b) (λ is. let longer : 1 + prefix_len p r ≡ 0 = sym (ap (λ c. cond c (1 + prefix_len p r) 0) is) ∙ h in absurd (omega arith)) (λ no. no)
+run_stops p (b ∷ r) none h = by_bool (p b) (λ is. let longer : 1 + prefix_len p r ≡ 0 = sym (ap (λ c. cond c (1 + prefix_len p r) 0) is) ∙ h in absurd (omega arith)) (λ no. no)
 
 number_says : (z : Text) (f : Front z) (end run : ℕ) → end ≡ length f.number → end_of_run class.Name z end ≡ run → ((run == end) && not (get_or z end 0 == 46)) ≡ true → IsNumeral T_NUMBER (take end z) (drop end z)
 number_says z f end run len r h =

@@ -1,9 +1,9 @@
--- The parts of a duration behind its first number.
+-- The parts of a duration after its first number.
 use Rattle.std.proofs.Common.{◌≡◌, ℕ, zero, suc, ◌-◌, ◌≤◌, true, false, [], ◌∷◌, length, drop, refl, sym, ap, ◌∙◌, arith}
 use Rattle.std.specs.Prelude.{◌==◌}
 use Rattle.std.proofs.lemmas.Grind.{common_steps}
 use Rattle.promql_text.specs.Texts.{Text}
-use Rattle.promql_token.specs.Pieces.{part_len, parts_from}
+use Rattle.promql_token.specs.TokenScanning.{part_len, parts_from}
 
 -- bytes that are to be passed are passed
 parts_from-drop : (left : ℕ) (z : Text) → left ≤ length z → parts_from left z ≡ parts_from 0 (drop left z)
@@ -18,7 +18,7 @@ drop_one_more (suc n) b z h = let e : suc n - 1 ≡ n = omega arith in ap (λ k.
 some_more : (n : ℕ) → (suc n == 0) ≡ false
 some_more n = grind (arith, common_steps)
 
--- a part, and what is behind it
+-- a part, and what is after it
 pub parts_go : (z : Text) (len : ℕ) → len ≡ part_len z → 1 ≤ len → len ≤ length z → parts_from 0 z ≡ parts_from 0 (drop len z)
 parts_go [] len is some fits = absurd (omega arith)
 parts_go (b ∷ z) zero is some fits = absurd (omega arith)

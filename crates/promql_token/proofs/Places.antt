@@ -1,4 +1,4 @@
--- Places between characters: the front, the end, or behind an ASCII byte.
+-- Places between characters: the front, the end, or after an ASCII byte.
 use Rattle.std.proofs.Common.{◌≡◌, ℕ, zero, suc, ◌+◌, ◌-◌, ◌<◌, ◌≤◌, Bool, true, false, not, cond, [], ◌∷◌, length, get_or, drop, IsUtf8, refl, sym, ap, ◌∙◌, subst, inl, inr, ◌⊎◌, ⊎_elim, add-one, arith, lit<, length-drop, get_or-drop, below_more}
 use Rattle.std.specs.Prelude.{◌==◌}
 use Rattle.std.specs.Char.{is_ascii_whitespace}
@@ -16,9 +16,9 @@ use Rattle.promql_token.specs.declared.state.Mode.{Mode}
 use Rattle.promql_token.specs.declared.state.Mode.TheVariants as mode
 use Rattle.promql_text.specs.Texts.{Text}
 use Rattle.promql_token.specs.Classes.{is_in, end_of_run}
-use Rattle.promql_token.specs.Pieces.{gap_from, gap_in, gap_len, is_line_end}
+use Rattle.promql_token.specs.TokenScanning.{trivia_from, trivia_in, trivia_len, is_line_end}
 
--- n is the front, the end, or behind an ASCII byte
+-- n is the front, the end, or after an ASCII byte
 pub record Ends (z : Text) (n : ℕ) : Type 0 where
   pub within : n ≤ length z
   pub last : (n ≡ 0) ⊎ ((n ≡ length z) ⊎ ((k : ℕ) × (n ≡ suc k) × (get_or z k 0 < 128)))
@@ -39,7 +39,7 @@ behind_low z at h low = record { within = omega arith; last = inr (inr (at, add-
 pub low_eq : (b n : ℕ) → (b == n) ≡ true → n < 128 → b < 128
 low_eq b n h low = grind (arith, common_steps)
 
--- ---- gaps
+-- ---- trivia
 
 -- a byte before the end
 ends_cons : (b : ℕ) (z : Text) (n : ℕ) → Ends z n → (n ≡ 0 → (length z ≡ 0) ⊎ (b < 128)) → Ends (b ∷ z) (suc n)
@@ -51,7 +51,7 @@ ends_cons b z n e h = record {
       e.last;
 }
 
-in_comment : (z : Text) → gap_from true z ≡ 0 → length z ≡ 0
+in_comment : (z : Text) → trivia_from true z ≡ 0 → length z ≡ 0
 in_comment [] h = refl
 in_comment (b ∷ z) h = absurd (omega arith)
 
@@ -61,21 +61,21 @@ line_end_low b h = grind (arith, common_steps)
 space_low : (b : ℕ) → is_ascii_whitespace b ≡ true → b < 128
 space_low b h = grind (arith, common_steps)
 
-after_comment_byte : (b : ℕ) (z : Text) → gap_from (not (is_line_end b)) z ≡ 0 → (length z ≡ 0) ⊎ (b < 128)
+after_comment_byte : (b : ℕ) (z : Text) → trivia_from (not (is_line_end b)) z ≡ 0 → (length z ≡ 0) ⊎ (b < 128)
 after_comment_byte b z = cases (is_line_end b) refl
   where
-    cases : (e : Bool) → is_line_end b ≡ e → gap_from (not e) z ≡ 0 → (length z ≡ 0) ⊎ (b < 128)
+    cases : (e : Bool) → is_line_end b ≡ e → trivia_from (not e) z ≡ 0 → (length z ≡ 0) ⊎ (b < 128)
     cases true is h = inr (line_end_low b is)
     cases false is h = inl (in_comment z h)
 
-pub gap_from_ends : (c : Bool) (z : Text) → Ends z (gap_from c z)
-gap_from_ends c [] = front []
-gap_from_ends true (b ∷ z) = ends_cons b z _ (gap_from_ends (not (is_line_end b)) z) (after_comment_byte b z)
-gap_from_ends false (b ∷ z) =
+pub trivia_from_ends : (c : Bool) (z : Text) → Ends z (trivia_from c z)
+trivia_from_ends c [] = front []
+trivia_from_ends true (b ∷ z) = ends_cons b z _ (trivia_from_ends (not (is_line_end b)) z) (after_comment_byte b z)
+trivia_from_ends false (b ∷ z) =
     cond_both (b == 35) _ _ (Ends (b ∷ z))
-    (λ hash. ends_cons b z _ (gap_from_ends true z) (λ _. inr (low_eq b 35 hash (lit< tt))))
+    (λ hash. ends_cons b z _ (trivia_from_ends true z) (λ _. inr (low_eq b 35 hash (lit< tt))))
     (λ _. cond_both (is_ascii_whitespace b) _ _ (Ends (b ∷ z))
-    (λ space. ends_cons b z _ (gap_from_ends false z) (λ _. inr (space_low b space)))
+    (λ space. ends_cons b z _ (trivia_from_ends false z) (λ _. inr (space_low b space)))
     (λ _. front (b ∷ z)))
 
 -- ---- runs of ASCII bytes
@@ -120,11 +120,11 @@ pub past_moves : (c : Class) (z : Text) → 0 < length z → is_in c (get_or z 0
 past_moves c [] h passes = absurd (omega arith)
 past_moves c (b ∷ z) h passes = subst (λ t. 0 < 0 + cond t (1 + prefix_len (is_in c) z) 0) (sym passes) (omega arith)
 
-gap_ends : (m : Mode) (z : Text) → Ends z (gap_in m z)
-gap_ends mode.Outside z = gap_from_ends false z
-gap_ends mode.Braces z = gap_from_ends false z
-gap_ends (mode.Brackets inside) z = run_ends z _ (past_run class.White z 0 (no_run z))
+trivia_ends : (m : Mode) (z : Text) → Ends z (trivia_in m z)
+trivia_ends mode.Outside z = trivia_from_ends false z
+trivia_ends mode.Braces z = trivia_from_ends false z
+trivia_ends (mode.Brackets inside) z = run_ends z _ (past_run class.White z 0 (no_run z))
 
-pub gap_len_ends : (m : Mode) (z : Text) → Ends z (gap_len m z)
-unfolding gap_len
-gap_len_ends m z = gap_ends m z
+pub trivia_len_ends : (m : Mode) (z : Text) → Ends z (trivia_len m z)
+unfolding trivia_len
+trivia_len_ends m z = trivia_ends m z

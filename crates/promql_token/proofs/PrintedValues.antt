@@ -1,4 +1,4 @@
--- The texts of strings, numbers and durations are tokens in front of what doesn't go on with them.
+-- The texts of strings, numbers and durations are tokens before what doesn't go on with them.
 use Rattle.std.proofs.Common.{◌≡◌, ℕ, zero, suc, ◌-◌, ◌*◌, ◌^◌, ◌<◌, Bool, true, false, cond, List, [], ◌∷◌, ◌++◌, length, get_or, map, Ok, refl, sym, ap, ◌∙◌, subst, arith, append_assoc, length-append}
 use Rattle.std.specs.Prelude.{⊤, ◌/◌, ◌%◌, ◌==◌, ◌||◌, codes, replicate}
 use Rattle.std.specs.Char.{digit_value, is_ascii_digit}
@@ -13,7 +13,7 @@ use Rattle.std.proofs.lemmas.Str.Parse.{digit_from_value}
 use Rattle.std.proofs.Math.Nat.{div-le_self, mod-le}
 use Rattle.promql_text.specs.Durations.{duration_of, nanos_of, word_of}
 use Rattle.promql_text.specs.DurationText.{count_text, counts_text, duration_text, fraction_text, short_units, whole_text}
-use Rattle.promql_text.specs.NumberDigits.{exact_text, magnitude_text, padded}
+use Rattle.promql_text.specs.NumberDigits.{exact_text, magnitude_text, pad_zeros}
 use Rattle.promql_text.specs.Numbers.{Exact, IsExact}
 use Rattle.promql_text.specs.Quoting.{escaped_byte, escaped_text, quoted_text}
 use Rattle.promql_text.specs.Texts.{Text}
@@ -30,21 +30,21 @@ use Rattle.promql_token.specs.Classes.{is_in}
 use Rattle.promql_token.specs.Ids.{keyword_in_any_case}
 use Rattle.promql_token.specs.Laws.{stops_numeral}
 use Rattle.promql_token.specs.Lexing.{pieces}
-use Rattle.promql_token.specs.Pieces.{after, word_id}
+use Rattle.promql_token.specs.TokenScanning.{after, word_id}
 use Rattle.promql_token.specs.Printed as printed
-use Rattle.promql_token.specs.Printed.{are_digits, holds_numerals, holds_strings, is_part, is_spelling, joined, parts_text, quoted}
+use Rattle.promql_token.specs.Printed.{are_digits, holds_numerals, holds_strings, is_part, is_spelling, concat_texts, parts_text, quote_parts}
 use Rattle.promql_token.specs.PrintedValues.{JoinsNumberText, JoinsQuoted, JoinsTime, time_id}
 use Rattle.promql_token.proofs.Beside.{stops}
 use Rattle.promql_token.proofs.Choices.{and_both}
 use Rattle.promql_token.proofs.Durations.{joins_duration}
 use Rattle.promql_token.proofs.Ends.{and_left, and_right}
-use Rattle.promql_token.proofs.Joins.{joins_word}
-use Rattle.promql_token.proofs.Printed.{joins_number, joins_string}
+use Rattle.promql_token.proofs.Concatenation.{joins_word}
+use Rattle.promql_token.proofs.PrintedForms.{joins_number, joins_string}
 
 -- ---- strings
 
-spelled : (b : ℕ) → is_spelling 34 (escaped_byte b) ≡ true
-spelled b =
+escaped_byte_is_spelling : (b : ℕ) → is_spelling 34 (escaped_byte b) ≡ true
+escaped_byte_is_spelling b =
     let P : Text → Type 0 = λ p. is_spelling 34 p ≡ true in
     cond_both (b == 92) _ _ P (λ _. refl) (λ slash.
     cond_both (b == 34) _ _ P (λ _. refl) (λ quote.
@@ -54,15 +54,15 @@ spelled b =
 
 all_spelled : (s : Text) → list_all (is_spelling 34) (map escaped_byte s) ≡ true
 all_spelled [] = refl
-all_spelled (b ∷ s) = and_both _ _ (spelled b) (all_spelled s)
+all_spelled (b ∷ s) = and_both _ _ (escaped_byte_is_spelling b) (all_spelled s)
 
-joined_escapes : (s : Text) → joined (map escaped_byte s) ≡ escaped_text s
+joined_escapes : (s : Text) → concat_texts (map escaped_byte s) ≡ escaped_text s
 joined_escapes [] = refl
 joined_escapes (b ∷ s) = ap (λ z. escaped_byte b ++ z) (joined_escapes s)
 
 pub joins_quoted : JoinsQuoted
 joins_quoted state s r holds =
-    let same : quoted 34 (map escaped_byte s) ≡ quoted_text s = ap (λ z. 34 ∷ (z ++ 34 ∷ [])) (joined_escapes s) in
+    let same : quote_parts 34 (map escaped_byte s) ≡ quoted_text s = ap (λ z. 34 ∷ (z ++ 34 ∷ [])) (joined_escapes s) in
     subst (λ q. pieces state (q ++ r) ≡ Ok (T_STRING, q) ∷ pieces (after state T_STRING) r) same (joins_string state 34 (map escaped_byte s) r holds refl refl (all_spelled s))
 
 -- ---- digits
@@ -111,7 +111,7 @@ magnitude_joins state d r holds e =
     let P : Text → Type 0 = λ t. stops_numeral t r ≡ true → pieces state (t ++ r) ≡ Ok (T_NUMBER, t) ∷ pieces (after state T_NUMBER) r in
     cond_both (d.places == 0) _ _ P
     (λ _. whole_joins state (decimal d.digits ++ replicate d.zeros 48) r holds (first_digits d.digits (omega (arith, e.short)) d.zeros))
-    (λ _. point_joins state (decimal (d.digits / 10 ^ d.places)) (padded d.places (d.digits % 10 ^ d.places)) r holds
+    (λ _. point_joins state (decimal (d.digits / 10 ^ d.places)) (pad_zeros d.places (d.digits % 10 ^ d.places)) r holds
     (decimal_is _ (div_low d.digits (10 ^ d.places) e.short)) (padded_is d.places _ (mod_low d.digits (10 ^ d.places) e.short)))
   where
     first_digits : (n : ℕ) → n < 10 ^ 64 → (z : ℕ) → IsDigits (decimal n ++ replicate z 48)
@@ -123,7 +123,7 @@ magnitude_joins state d r holds e =
     mod_low : (a b : ℕ) → a < 10 ^ 38 → a % b < 10 ^ 64
     mod_low a b h = omega (arith, h, mod-le a b)
 
-    padded_is : (k n : ℕ) → n < 10 ^ 64 → IsDigits (padded k n)
+    padded_is : (k n : ℕ) → n < 10 ^ 64 → IsDigits (pad_zeros k n)
     padded_is k n low =
         let own = decimal_is n low in
         let some = own.some in

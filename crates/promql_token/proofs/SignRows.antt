@@ -16,11 +16,11 @@ use Rattle.promql_token.specs.Begins.{Sign, signs, signs_outside, IsOneOf, MayBe
 use Rattle.promql_token.specs.Classes.{is_in}
 use Rattle.promql_token.specs.FaultPlaces.{IsFault}
 use Rattle.promql_token.specs.Vocabulary.{next}
-use Rattle.promql_token.specs.Pieces.{Piece, is_quote, bang_in_braces, bang_sign, colon_sign, dot_sign, equal_sign, or_equal, sign}
+use Rattle.promql_token.specs.TokenScanning.{Scanned, is_quote, bang_in_braces, bang_sign, colon_sign, dot_sign, equal_sign, or_equal, sign}
 use Rattle.promql_token.proofs.Choices.{not_one}
 
 -- what a piece says of its text
-abbrev pub Says : Mode → ℕ → Text → Piece → Type 0
+abbrev pub Says : Mode → ℕ → Text → Scanned → Type 0
 Says m depth z (Ok t) = MayBegin m depth t.0 (take t.1 z) (drop t.1 z)
 Says m depth z (Err f) = IsFault f.0 m depth (take f.1 z) (drop f.1 z)
 

@@ -1,4 +1,4 @@
--- The cut of a text is its first token and the cut of what is behind it.
+-- The cut of a text is its first token and the cut of what is after it.
 use Rattle.std.proofs.Common.{◌≡◌, ℕ, suc, ◌+◌, ◌<◌, ◌≤◌, Bool, true, false, cond, [], ◌∷◌, ◌++◌, length, drop, map, Ok, Err, refl, sym, ap, ◌∙◌, zero-add, arith, length-drop, length-take-le}
 use Rattle.std.specs.Prelude.{◌==◌, not}
 use Rattle.std.specs.Char.{is_ascii_whitespace}
@@ -10,71 +10,71 @@ use Rattle.promql_token.specs.declared.state.Mode.{Mode}
 use Rattle.promql_token.specs.declared.state.Mode.TheVariants as mode
 use Rattle.promql_token.specs.declared.state.State.{State}
 use Rattle.promql_text.specs.Texts.{Text}
-use Rattle.promql_token.specs.Lexing.{pieces, cut, found, goes_on, behind, len_of, piece_text, start}
-use Rattle.promql_token.specs.Pieces.{Piece, gap_len, gap_from, piece, after_gap, after, mode_after_something}
-use Rattle.promql_token.proofs.Cuts.{cut_goes, cut_stops}
+use Rattle.promql_token.specs.Lexing.{pieces, cut, found, goes_on, state_after_scan, len_of, scanned_text, start}
+use Rattle.promql_token.specs.TokenScanning.{Scanned, trivia_len, trivia_from, scan_token, after_trivia, after, mode_after_something}
+use Rattle.promql_token.proofs.CutSteps.{cut_goes, cut_stops}
 use Rattle.promql_token.proofs.Ends.{PieceEnds, piece_ends}
-use Rattle.promql_token.proofs.Places.{gap_len_ends}
+use Rattle.promql_token.proofs.Places.{trivia_len_ends}
 
 pub not_true : (b : Bool) → not b ≡ true → b ≡ false
 not_true true h = sym h
 not_true false h = refl
 
-piece_text_fits : (z : Text) (p : Piece) → PieceEnds z p → (len_of (piece_text p z) ≤ length z) × (goes_on (piece_text p z) ≡ true → 0 < len_of (piece_text p z))
+piece_text_fits : (z : Text) (p : Scanned) → PieceEnds z p → (len_of (scanned_text p z) ≤ length z) × (goes_on (scanned_text p z) ≡ true → 0 < len_of (scanned_text p z))
 piece_text_fits z (Ok t) e =
     let within = e.0.within in
     let len = length-take-le t.1 z within in
     (omega arith, λ goes. let moves = e.1 (eqb-false _ _ (not_true _ goes)) in omega arith)
 piece_text_fits z (Err f) e = (omega arith, λ (no : false ≡ true). cc)
 
-pub found_fits : (state : State) (z : Text) → let f = found state z in (f.gap + len_of f.piece_text ≤ length z) × (goes_on f.piece_text ≡ true → 1 ≤ f.gap + len_of f.piece_text)
+pub found_fits : (state : State) (z : Text) → let f = found state z in (f.trivia + len_of f.scanned_text ≤ length z) × (goes_on f.scanned_text ≡ true → 1 ≤ f.trivia + len_of f.scanned_text)
 unfolding found
 found_fits state z =
-    let gap = gap_len_ends state.mode z in
-    let within = gap.within in
-    let g = gap_len state.mode z in
-    let fits = piece_text_fits (drop g z) _ (piece_ends (after_gap g state) (drop g z)) in
+    let trivia = trivia_len_ends state.mode z in
+    let within = trivia.within in
+    let g = trivia_len state.mode z in
+    let fits = piece_text_fits (drop g z) _ (piece_ends (after_trivia g state) (drop g z)) in
     (omega (arith, fits.0, length-drop g z), λ goes. omega (arith, fits.1 goes))
 
-pub cut_is : (state : State) (z : Text) → let f = found state z in cut state z ≡ f ∷ cond (goes_on f.piece_text) (cut (behind state f.piece_text) (drop (f.gap + len_of f.piece_text) z)) []
+pub cut_is : (state : State) (z : Text) → let f = found state z in cut state z ≡ f ∷ cond (goes_on f.scanned_text) (cut (state_after_scan state f.scanned_text) (drop (f.trivia + len_of f.scanned_text) z)) []
 cut_is state z =
     let f = found state z in
     let fits = found_fits state z in
-    elim (goes_on f.piece_text) as (λ b. goes_on f.piece_text ≡ b → cut state z ≡ f ∷ cond b (cut (behind state f.piece_text) (drop (f.gap + len_of f.piece_text) z)) []) [
+    elim (goes_on f.scanned_text) as (λ b. goes_on f.scanned_text ≡ b → cut state z ≡ f ∷ cond b (cut (state_after_scan state f.scanned_text) (drop (f.trivia + len_of f.scanned_text) z)) []) [
       | true ↦ λ goes. cut_goes state z goes (fits.1 goes) fits.0
       | false ↦ λ stops. cut_stops state z stops
     ] refl
 
--- ---- the same without the gaps
+-- ---- the same without the trivia
 
-map_cond : (b : Bool) (state : State) (z : Text) → map (λ f. f.piece_text) (cond b (cut state z) []) ≡ cond b (pieces state z) []
+map_cond : (b : Bool) (state : State) (z : Text) → map (λ f. f.scanned_text) (cond b (cut state z) []) ≡ cond b (pieces state z) []
 map_cond true state z = refl
 map_cond false state z = refl
 
-pub pieces_are : (state : State) (z : Text) → let f = found state z in pieces state z ≡ f.piece_text ∷ cond (goes_on f.piece_text) (pieces (behind state f.piece_text) (drop (f.gap + len_of f.piece_text) z)) []
-pieces_are state z = let f = found state z in ap (map (λ f. f.piece_text)) (cut_is state z) ∙ ap (λ ws. f.piece_text ∷ ws) (map_cond (goes_on f.piece_text) (behind state f.piece_text) (drop (f.gap + len_of f.piece_text) z))
+pub pieces_are : (state : State) (z : Text) → let f = found state z in pieces state z ≡ f.scanned_text ∷ cond (goes_on f.scanned_text) (pieces (state_after_scan state f.scanned_text) (drop (f.trivia + len_of f.scanned_text) z)) []
+pieces_are state z = let f = found state z in ap (map (λ f. f.scanned_text)) (cut_is state z) ∙ ap (λ ws. f.scanned_text ∷ ws) (map_cond (goes_on f.scanned_text) (state_after_scan state f.scanned_text) (drop (f.trivia + len_of f.scanned_text) z))
 
--- no gap leaves the state as it is
-pub no_gap_state : (state : State) → after_gap 0 state ≡ state
-unfolding after_gap
-no_gap_state state = refl
+-- no trivia leaves the state as it is
+pub no_trivia_state : (state : State) → after_trivia 0 state ≡ state
+unfolding after_trivia
+no_trivia_state state = refl
 
--- a piece with no gap before it
-pub pieces_piece : (state : State) (w r : Text) (id : ℕ) → gap_len state.mode (w ++ r) ≡ 0 → piece state (w ++ r) ≡ Ok (id, length w) → (id == 6) ≡ false → pieces state (w ++ r) ≡ Ok (id, w) ∷ pieces (after state id) r
+-- a piece with no trivia before it
+pub pieces_piece : (state : State) (w r : Text) (id : ℕ) → trivia_len state.mode (w ++ r) ≡ 0 → scan_token state (w ++ r) ≡ Ok (id, length w) → (id == 6) ≡ false → pieces state (w ++ r) ≡ Ok (id, w) ∷ pieces (after state id) r
 unfolding found
-pieces_piece state w r id gap is more =
+pieces_piece state w r id trivia is more =
     let z = w ++ r in
-    let piece_text_is : (found state z).piece_text ≡ Ok (id, w) =
-    ap (λ n. piece_text (piece (after_gap n state) (drop n z)) (drop n z)) gap ∙ ap (λ s. piece_text (piece s z) z) (no_gap_state state) ∙ ap (λ p. piece_text p z) is ∙ ap (λ t. Ok (id, t)) (take-append_seam w r) in
+    let piece_text_is : (found state z).scanned_text ≡ Ok (id, w) =
+    ap (λ n. scanned_text (scan_token (after_trivia n state) (drop n z)) (drop n z)) trivia ∙ ap (λ s. scanned_text (scan_token s z) z) (no_trivia_state state) ∙ ap (λ p. scanned_text p z) is ∙ ap (λ t. Ok (id, t)) (take-append_seam w r) in
     let goes : goes_on (Ok (id, w)) ≡ true = ap not more in
     pieces_are state z
-    ∙ (λ i. piece_text_is i ∷ cond (goes_on (piece_text_is i)) (pieces (behind state (piece_text_is i)) (drop (gap i + len_of (piece_text_is i)) z)) [])
+    ∙ (λ i. piece_text_is i ∷ cond (goes_on (piece_text_is i)) (pieces (state_after_scan state (piece_text_is i)) (drop (trivia i + len_of (piece_text_is i)) z)) [])
     ∙ ap (λ b. Ok (id, w) ∷ cond b (pieces (after state id) (drop (0 + length w) z)) []) goes
     ∙ ap (λ n. Ok (id, w) ∷ pieces (after state id) (drop n z)) (zero-add (length w))
     ∙ ap (λ q. Ok (id, w) ∷ pieces (after state id) q) (drop-append_seam w r)
 
 pub pieces_end : pieces start [] ≡ Ok (6, []) ∷ []
-unfolding found gap_len piece after_gap cut
+unfolding found trivia_len scan_token after_trivia cut
 pieces_end = refl
 
 -- ---- white space
@@ -82,34 +82,34 @@ pieces_end = refl
 no_hash : (b : ℕ) → is_ascii_whitespace b ≡ true → (b == 35) ≡ false
 no_hash b h = grind (arith, common_steps)
 
-from_white : (b : ℕ) (r : Text) → is_ascii_whitespace b ≡ true → gap_from false (b ∷ r) ≡ suc (gap_from false r)
+from_white : (b : ℕ) (r : Text) → is_ascii_whitespace b ≡ true → trivia_from false (b ∷ r) ≡ suc (trivia_from false r)
 from_white b r white =
-    ap (λ c. cond c (suc (gap_from true r)) (cond (is_ascii_whitespace b) (suc (gap_from false r)) 0)) (no_hash b white) ∙ ap (λ c. cond c (suc (gap_from false r)) 0) white
+    ap (λ c. cond c (suc (trivia_from true r)) (cond (is_ascii_whitespace b) (suc (trivia_from false r)) 0)) (no_hash b white) ∙ ap (λ c. cond c (suc (trivia_from false r)) 0) white
 
-white_gap : (m : Mode) (b : ℕ) (r : Text) → is_ascii_whitespace b ≡ true → gap_len m (b ∷ r) ≡ suc (gap_len m r)
-unfolding gap_len
-white_gap mode.Outside b r white = from_white b r white
-white_gap mode.Braces b r white = from_white b r white
-white_gap (mode.Brackets inside) b r white = rw white (omega arith)
+white_trivia : (m : Mode) (b : ℕ) (r : Text) → is_ascii_whitespace b ≡ true → trivia_len m (b ∷ r) ≡ suc (trivia_len m r)
+unfolding trivia_len
+white_trivia mode.Outside b r white = from_white b r white
+white_trivia mode.Braces b r white = from_white b r white
+white_trivia (mode.Brackets inside) b r white = rw white (omega arith)
 
--- a gap changes no state but that directly behind a bracket
-pub same_state : (n : ℕ) (state : State) → mode_after_something state.mode ≡ state.mode → after_gap n state ≡ state
-unfolding after_gap
+-- a trivia changes no state but that directly after a bracket
+pub same_state : (n : ℕ) (state : State) → mode_after_something state.mode ≡ state.mode → after_trivia n state ≡ state
+unfolding after_trivia
 same_state n state same = cond_both (n == 0) _ _ (λ s. s ≡ state) (λ _. refl) (λ _ i. record { depth = state.depth; mode = same i })
 
 pieces_white : (state : State) (b : ℕ) (r : Text) → mode_after_something state.mode ≡ state.mode → is_ascii_whitespace b ≡ true → pieces state (b ∷ r) ≡ pieces state r
 unfolding found
 pieces_white state b r same white =
-    let w = (found state r).piece_text in
+    let w = (found state r).scanned_text in
     let z = b ∷ r in
-    let n = gap_len state.mode r in
-    let gap = white_gap state.mode b r white in
+    let n = trivia_len state.mode r in
+    let trivia = white_trivia state.mode b r white in
     let states = same_state (suc n) state same ∙ sym (same_state n state same) in
-    let piece_text_is : (found state z).piece_text ≡ w = ap (λ n. piece_text (piece (after_gap n state) (drop n z)) (drop n z)) gap ∙ ap (λ s. piece_text (piece s (drop n r)) (drop n r)) states in
+    let piece_text_is : (found state z).scanned_text ≡ w = ap (λ n. scanned_text (scan_token (after_trivia n state) (drop n z)) (drop n z)) trivia ∙ ap (λ s. scanned_text (scan_token s (drop n r)) (drop n r)) states in
     let one_more : suc n + len_of w ≡ suc (n + len_of w) = omega arith in
     pieces_are state z
-    ∙ (λ i. piece_text_is i ∷ cond (goes_on (piece_text_is i)) (pieces (behind state (piece_text_is i)) (drop (gap i + len_of (piece_text_is i)) z)) [])
-    ∙ ap (λ n. w ∷ cond (goes_on w) (pieces (behind state w) (drop n z)) []) one_more ∙ sym (pieces_are state r)
+    ∙ (λ i. piece_text_is i ∷ cond (goes_on (piece_text_is i)) (pieces (state_after_scan state (piece_text_is i)) (drop (trivia i + len_of (piece_text_is i)) z)) [])
+    ∙ ap (λ n. w ∷ cond (goes_on w) (pieces (state_after_scan state w) (drop n z)) []) one_more ∙ sym (pieces_are state r)
 
 pub pieces_run : (state : State) (g r : Text) → mode_after_something state.mode ≡ state.mode → list_all is_ascii_whitespace g ≡ true → pieces state (g ++ r) ≡ pieces state r
 pieces_run state [] r same white = refl

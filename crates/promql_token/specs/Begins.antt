@@ -1,4 +1,5 @@
--- Which token w may begin at a place, before the text r (docs/TOKENS.md, "Outside", "In braces", "In brackets").
+-- Which token w may begin at a place, before the text r (docs/reference/tokens.md, "Outside", "In braces",
+-- "In brackets").
 use Rattle.std.specs.Prelude.{◌≡◌, ◌⊎◌, ◌↔◌, ℕ, zero, suc, ◌<◌, Bool, true, false, not, ◌&&◌, ◌||◌, ◌==◌, List, [], ◌∷◌, ◌++◌, length, slice_index, codes, Ok}
 use Rattle.std.specs.Char.{is_ascii_digit}
 use Rattle.std.specs.List.{list_all, list_any}
@@ -12,8 +13,8 @@ use Rattle.promql_token.specs.declared.state.State.{State}
 use Rattle.promql_text.specs.Bytes.{backtick, digit_zero, double_quote, point, single_quote}
 use Rattle.promql_text.specs.Texts.{Text}
 use Rattle.promql_token.specs.Classes.{is_in, is_label}
-use Rattle.promql_token.specs.Pieces.{piece}
-use Rattle.promql_token.specs.Vocabulary.{are_digits, braces_id, is_exponent, is_part, is_sign, is_spelling, is_unit, is_word, joined, next, parts_text, word_id}
+use Rattle.promql_token.specs.TokenScanning.{scan_token}
+use Rattle.promql_token.specs.Vocabulary.{are_digits, braces_id, is_exponent, is_part, is_sign, is_spelling, is_unit, is_word, concat_texts, next, parts_text, word_id}
 
 -- ---- signs
 
@@ -98,7 +99,7 @@ has_escapes quote = quote == double_quote || quote == single_quote
 abbrev pub IsBody : ℕ → Text → Type 0
 IsBody quote body =
     (((quote == backtick) ≡ true) × (list_all (λ b. not (b == backtick)) body ≡ true))
-    ⊎ ((has_escapes quote ≡ true) × (ps : List Text) × (list_all (is_spelling quote) ps ≡ true) × (body ≡ joined ps))
+    ⊎ ((has_escapes quote ≡ true) × (ps : List Text) × (list_all (is_spelling quote) ps ≡ true) × (body ≡ concat_texts ps))
 
 abbrev pub IsString : ℕ → Text → Type 0
 IsString id w = (id ≡ T_STRING) × (quote : ℕ) × (body : Text) × IsBody quote body × (w ≡ quote ∷ (body ++ quote ∷ []))
@@ -113,4 +114,4 @@ MayBegin (mode.Brackets inside) depth id w r = IsOneOf (signs (mode.Brackets ins
 
 -- what a text begins with in a state is a token exactly if it may begin there
 abbrev pub Begins : Type 0
-Begins = (state : State) (id : ℕ) (w r : Text) → ((piece state (w ++ r) ≡ Ok (id, length w)) × ((id == T_EOF) ≡ false)) ↔ MayBegin state.mode state.depth id w r
+Begins = (state : State) (id : ℕ) (w r : Text) → ((scan_token state (w ++ r) ≡ Ok (id, length w)) × ((id == T_EOF) ≡ false)) ↔ MayBegin state.mode state.depth id w r

@@ -1,4 +1,4 @@
--- Classes of bytes, and runs of one class (docs/TOKENS.md, "Bytes").
+-- Classes of bytes, and runs of one class (docs/reference/tokens.md, "Bytes").
 use Rattle.std.specs.Prelude.{ℕ, ◌+◌, Bool, ◌||◌, ◌==◌, ◌&&◌, length, drop, slice_index}
 use Rattle.std.specs.Char.{is_ascii_alphabetic, is_ascii_alphanumeric, is_ascii_digit, is_ascii_hexdigit, is_ascii_whitespace}
 use Rattle.std.specs.List.{prefix_len}

@@ -3,14 +3,14 @@ use Rattle.std.specs.Prelude.{ℕ, Bool, true, false, not, ◌==◌, List, [], �
 use Rattle.promql_token.specs.declared.ids.TheConstants.{T_EOF}
 use Rattle.promql_token.specs.declared.cursor.Cursor as code
 use Rattle.promql_text.specs.Texts.{Text}
-use Rattle.promql_token.specs.Lexing.{PieceText, pieces}
+use Rattle.promql_token.specs.Lexing.{ScannedText, pieces}
 
 -- every token but T_EOF, which is the last
 abbrev pub is_before_end : ℕ × Text → Bool
 is_before_end t = not (t.0 == T_EOF)
 
 -- the tokens up to a fault
-abbrev pub up_to_fault : List PieceText → List (ℕ × Text)
+abbrev pub up_to_fault : List ScannedText → List (ℕ × Text)
 up_to_fault [] = []
 up_to_fault (Ok t ∷ ws) = t ∷ up_to_fault ws
 up_to_fault (Err f ∷ ws) = []
@@ -20,7 +20,7 @@ abbrev pub tokens_left : code.Cursor → List (ℕ × Text)
 tokens_left c = filter is_before_end (up_to_fault (pieces c.state (drop c.at c.text.now)))
 
 -- whether there is a fault
-abbrev pub has_fault : List PieceText → Bool
+abbrev pub has_fault : List ScannedText → Bool
 has_fault [] = false
 has_fault (Ok t ∷ ws) = has_fault ws
 has_fault (Err f ∷ ws) = true

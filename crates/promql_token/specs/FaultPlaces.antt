@@ -1,4 +1,5 @@
--- Which fault a text has: u is what comes before the fault's place, back to the gap, and v what begins there (docs/TOKENS.md, "Faults").
+-- Which fault a text has: u is what comes before the fault's place, back to the trivia, and v what begins there
+-- (docs/reference/tokens.md, "Faults").
 use Rattle.std.specs.Prelude.{◌≡◌, ◌↔◌, ℕ, zero, suc, ◌<◌, Bool, true, false, ◌||◌, ◌==◌, List, [], ◌∷◌, ◌++◌, length, codes, Err}
 use Rattle.std.specs.Char.{is_ascii_digit}
 use Rattle.std.specs.List.{list_all, list_any}
@@ -13,8 +14,8 @@ use Rattle.promql_text.specs.Bytes.{backslash, colon, equal, left_brace, left_br
 use Rattle.promql_text.specs.Texts.{Text}
 use Rattle.promql_token.specs.Begins.{IsBody, IsNumeral, has_escapes}
 use Rattle.promql_token.specs.Classes.{is_in, is_letter}
-use Rattle.promql_token.specs.Pieces.{piece}
-use Rattle.promql_token.specs.Vocabulary.{begins_numeral, holds_strings, is_escape, is_quote, is_spelling, joined, next}
+use Rattle.promql_token.specs.TokenScanning.{scan_token}
+use Rattle.promql_token.specs.Vocabulary.{begins_numeral, holds_strings, is_escape, is_quote, is_spelling, concat_texts, next}
 
 -- v begins with this byte, after the text w
 abbrev pub Meets : Text → ℕ → Text → Text → Type 0
@@ -33,7 +34,7 @@ NoNumeral u v = (u ≡ []) × ((id : ℕ) (w r : Text) → v ≡ w ++ r → IsNu
 
 -- a string through a backslash
 abbrev pub IsEscaping : ℕ → Text → Type 0
-IsEscaping quote u = (has_escapes quote ≡ true) × (ps : List Text) × (list_all (is_spelling quote) ps ≡ true) × (u ≡ quote ∷ (joined ps ++ backslash ∷ []))
+IsEscaping quote u = (has_escapes quote ≡ true) × (ps : List Text) × (list_all (is_spelling quote) ps ≡ true) × (u ≡ quote ∷ (concat_texts ps ++ backslash ∷ []))
 
 -- with this many parentheses open
 abbrev pub IsFault : LexFaultKind → Mode → ℕ → Text → Text → Type 0
@@ -65,4 +66,4 @@ IsFault kind m depth u v = ⊥
 
 -- what a text begins with in a state is a fault exactly if it has this fault there
 abbrev pub Faults : Type 0
-Faults = (state : State) (kind : LexFaultKind) (u v : Text) → (piece state (u ++ v) ≡ Err (kind, length u)) ↔ IsFault kind state.mode state.depth u v
+Faults = (state : State) (kind : LexFaultKind) (u v : Text) → (scan_token state (u ++ v) ≡ Err (kind, length u)) ↔ IsFault kind state.mode state.depth u v

@@ -1,40 +1,40 @@
--- Lexical faults and their messages (docs/TOKENS.md, "Faults").
+-- Lexical faults and their messages (docs/reference/tokens.md, "Faults").
 use Rattle.std.specs.Prelude.{Bool, true, false, if◌then◌else◌, List, [], ◌∷◌, ◌++◌, codes, map}
 use Rattle.std.specs.Char.{encode_utf8}
 use Rattle.std.specs.Option.{option_map_or}
 use Rattle.promql_text.specs.Texts.{Text}
 use Rattle.promql_token.specs.contracts.fault.LexFaultKindPartialEq.TheImpl as kinds
-use Rattle.promql_token.specs.declared.fault.TheConstants.{WORDS}
+use Rattle.promql_token.specs.declared.fault.TheConstants.{MESSAGES}
 use Rattle.promql_token.specs.declared.fault.LexFault.{LexFault}
 use Rattle.promql_token.specs.declared.fault.LexFaultKind.{LexFaultKind}
 use Rattle.promql_token.specs.declared.fault.LexFaultKind.TheVariants.{AfterBang, AfterDot, Character, Escape, OpenString, AfterBangInBraces, InBraces, InBrackets}
 
 -- the kinds that show the character at fault
-abbrev pub shows : LexFaultKind → Bool
-shows AfterBang = true
-shows AfterDot = true
-shows Character = true
-shows Escape = true
-shows OpenString = true
-shows AfterBangInBraces = true
-shows InBraces = true
-shows InBrackets = true
-shows _ = false
+abbrev pub has_char : LexFaultKind → Bool
+has_char AfterBang = true
+has_char AfterDot = true
+has_char Character = true
+has_char Escape = true
+has_char OpenString = true
+has_char AfterBangInBraces = true
+has_char InBraces = true
+has_char InBrackets = true
+has_char _ = false
 
 -- the words beside a kind, in a table
-abbrev pub words_in : List (LexFaultKind × Text) → LexFaultKind → Text
-words_in [] kind = []
-words_in (row ∷ rows) kind = if kinds.ghosts.eq row.0 kind then row.1 else words_in rows kind
+abbrev pub message_in : List (LexFaultKind × Text) → LexFaultKind → Text
+message_in [] kind = []
+message_in (row ∷ rows) kind = if kinds.ghosts.eq row.0 kind then row.1 else message_in rows kind
 
--- what stands before the character, or the whole message
+-- what comes before the character, or the whole message
 unfoldable pub words : LexFaultKind → Text
-words = words_in (map (λ row. (row.0, row.1.now)) WORDS)
+words = message_in (map (λ row. (row.0, row.1.now)) MESSAGES)
 
--- what stands after the character
-abbrev pub closing : LexFaultKind → Text
-closing OpenString = []
-closing kind = if shows kind then codes "'" else []
+-- what comes after the character
+abbrev pub message_end : LexFaultKind → Text
+message_end OpenString = []
+message_end kind = if has_char kind then codes "'" else []
 
 -- what a fault prints as
 abbrev pub message : LexFault → Text
-message f = words f.kind ++ (option_map_or encode_utf8 f.ch [] ++ closing f.kind)
+message f = words f.kind ++ (option_map_or encode_utf8 f.ch [] ++ message_end f.kind)

@@ -1,4 +1,4 @@
--- Ids of tokens: their texts, the keywords and the classes (docs/TOKENS.md, "Ids").
+-- Ids of tokens: their texts, the keywords and the classes (docs/reference/tokens.md, "Ids").
 use Rattle.std.specs.Prelude.{ℕ, zero, suc, ◌+◌, Bool, ◌&&◌, ◌==◌, nat_le, if◌then◌else◌, List, [], ◌∷◌, codes, map, slice_get, Option, Some, None}
 use Rattle.std.specs.List.{list_any}
 use Rattle.std.specs.Option.{unwrap_or}

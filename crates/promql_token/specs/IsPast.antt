@@ -1,10 +1,10 @@
--- Where a cursor stands behind a token. Private: nothing rests on believing it.
+-- Where a cursor comes after a token. Private: nothing rests on believing it.
 use Rattle.std.specs.Prelude.{◌≡◌, ◌≢◌, ◌+◌, ◌<◌, ◌≤◌}
 use Rattle.promql_token.specs.declared.ids.TheConstants.{T_EOF}
 use Rattle.promql_token.specs.declared.cursor.Cursor as code
 use Rattle.promql_token.specs.declared.lexeme.Lexeme.{Lexeme}
 use Rattle.promql_token.specs.Laws.{IsPlaced}
-use Rattle.promql_token.specs.Pieces.{after}
+use Rattle.promql_token.specs.TokenScanning.{after}
 
 -- a cursor moves past a token, and stays before the end
 pub record IsPast (x : Lexeme) (old new : code.Cursor) : Type 0 where

@@ -1,4 +1,4 @@
--- Laws of the token list (docs/TOKENS.md, "Laws").
+-- Laws of the token list (docs/proofs/proofs.md, "Laws of tokens").
 use Rattle.std.specs.Prelude.{◌≡◌, ℕ, ◌+◌, ◌-◌, ◌<◌, ◌≤◌, Bool, true, false, not, ◌&&◌, ◌||◌, if◌then◌else◌, ◌==◌, List, [], ◌∷◌, ◌++◌, length, take, drop, map, slice_index, Ok}
 use Rattle.std.specs.Char.{is_ascii_digit, is_ascii_whitespace}
 use Rattle.std.specs.List.{list_all}
@@ -12,32 +12,32 @@ use Rattle.promql_token.specs.declared.state.State.{State}
 use Rattle.promql_text.specs.Bytes.{point, colon, less, equal, greater, tilde}
 use Rattle.promql_text.specs.Texts.{Text}
 use Rattle.promql_token.specs.Classes.{is_in, is_label, is_letter}
-use Rattle.promql_token.specs.Lexing.{found, len_of, goes_on, behind, cut, pieces, start, lex, tokens, sliced}
-use Rattle.promql_token.specs.Pieces.{gap_from, piece, after}
+use Rattle.promql_token.specs.Lexing.{found, len_of, goes_on, state_after_scan, cut, pieces, start, lex, tokens, slice_texts}
+use Rattle.promql_token.specs.TokenScanning.{trivia_from, scan_token, after}
 use Rattle.promql_token.specs.States.{mode_after_something}
 use Rattle.promql_token.specs.Vocabulary.{begins_numeral, braces_id, is_quote, word_id}
 pub use Rattle.promql_token.specs.Vocabulary.{is_exponent, is_sign, is_word}
 
 -- ---- the cut
 
--- the cut of a text is what stands at its front, and the cut of what is behind it
+-- the cut of a text is what is at its front, and the cut of what is after it
 abbrev pub Cuts : Type 0
-Cuts = (state : State) (z : Text) → let f = found state z in cut state z ≡ f ∷ (if goes_on f.piece_text then cut (behind state f.piece_text) (drop (f.gap + len_of f.piece_text) z) else [])
+Cuts = (state : State) (z : Text) → let f = found state z in cut state z ≡ f ∷ (if goes_on f.scanned_text then cut (state_after_scan state f.scanned_text) (drop (f.trivia + len_of f.scanned_text) z) else [])
 
 -- ---- spans
 
 -- white space and comments, and nothing else
-abbrev pub IsGap : Text → Type 0
-IsGap g = gap_from false g ≡ length g
+abbrev pub IsTrivia : Text → Type 0
+IsTrivia g = trivia_from false g ≡ length g
 
--- from `at` on the spans are in order, and only gaps lie between them
+-- from `at` on the spans are in order, and only trivia lie between them
 abbrev pub InOrder : Text → ℕ → List Lexeme → Type 0
 InOrder s at [] = Unit {0}
-InOrder s at (x ∷ xs) = (at ≤ x.start) × IsGap (take (x.start - at) (drop at s)) × (x.start + x.len ≤ length s) × InOrder s (x.start + x.len) xs
+InOrder s at (x ∷ xs) = (at ≤ x.start) × IsTrivia (take (x.start - at) (drop at s)) × (x.start + x.len ≤ length s) × InOrder s (x.start + x.len) xs
 
 -- the tokens of a text have its spans in order, and their texts are the slices there
 abbrev pub Spans : Type 0
-Spans = (s : Text) (xs : List Lexeme) → lex s ≡ Ok xs → InOrder s 0 xs × (pieces start s ≡ map (λ t. Ok t) (sliced s xs))
+Spans = (s : Text) (xs : List Lexeme) → lex s ≡ Ok xs → InOrder s 0 xs × (pieces start s ≡ map (λ t. Ok t) (slice_texts s xs))
 
 -- a text whose pieces are all tokens has these tokens
 abbrev pub Lexes : Type 0
@@ -93,9 +93,9 @@ parts mode.Outside w r = parts_outside w r
 parts mode.Braces w r = parts_in_braces w r
 parts (mode.Brackets inside) w r = parts_in_brackets w r
 
--- what is one token alone is that token in front of a text that doesn't go on with it
+-- what is one token alone is that token before a text that doesn't go on with it
 abbrev pub Joins : Type 0
-Joins = (state : State) (w r : Text) (id : ℕ) → 0 < length w → piece state w ≡ Ok (id, length w) → parts state.mode w r ≡ true
+Joins = (state : State) (w r : Text) (id : ℕ) → 0 < length w → scan_token state w ≡ Ok (id, length w) → parts state.mode w r ≡ true
     → pieces state (w ++ r) ≡ Ok (id, w) ∷ pieces (after state id) r
 
 -- a word outside, also a fill word
@@ -108,7 +108,7 @@ abbrev pub JoinsName : Type 0
 JoinsName = (depth : ℕ) (w r : Text) → is_label w ≡ true → is_in class.Name (slice_index r 0) ≡ false
     → let state : State = record { depth = depth; mode = mode.Braces } in pieces state (w ++ r) ≡ Ok (braces_id w r, w) ∷ pieces state r
 
--- white space before a token changes nothing, but directly behind `[`
+-- white space before a token changes nothing, but directly after `[`
 abbrev pub SkipsWhite : Type 0
 SkipsWhite = (state : State) (g r : Text) → mode_after_something state.mode ≡ state.mode → list_all is_ascii_whitespace g ≡ true → pieces state (g ++ r) ≡ pieces state r
 

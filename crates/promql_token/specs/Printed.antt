@@ -1,4 +1,4 @@
--- Tokens that a printer writes, in front of what follows them (docs/TOKENS.md, "Laws").
+-- Tokens that a printer writes, before what follows them (docs/proofs/proofs.md, "Laws of tokens").
 use Rattle.std.specs.Prelude.{◌≡◌, ℕ, ◌<◌, Bool, true, false, ◌==◌, List, [], ◌∷◌, ◌++◌, length, Ok}
 use Rattle.std.specs.List.{list_all}
 use Rattle.promql_token.specs.declared.ids.TheConstants.{T_DURATION, T_NUMBER, T_STRING}
@@ -9,22 +9,22 @@ use Rattle.promql_text.specs.Bytes.{backtick, point}
 use Rattle.promql_text.specs.Texts.{Text}
 use Rattle.promql_token.specs.Laws.{stops_numeral}
 use Rattle.promql_token.specs.Lexing.{pieces}
-use Rattle.promql_token.specs.Pieces.{is_quote, after}
-pub use Rattle.promql_token.specs.Vocabulary.{are_digits, holds_strings, is_part, is_spelling, joined, parts_text}
+use Rattle.promql_token.specs.TokenScanning.{is_quote, after}
+pub use Rattle.promql_token.specs.Vocabulary.{are_digits, holds_strings, is_part, is_spelling, concat_texts, parts_text}
 
 -- ---- strings
 
-abbrev pub quoted : ℕ → List Text → Text
-quoted quote ps = quote ∷ (joined ps ++ quote ∷ [])
+abbrev pub quote_parts : ℕ → List Text → Text
+quote_parts quote ps = quote ∷ (concat_texts ps ++ quote ∷ [])
 
 -- a string of such spellings is a token before any text
 abbrev pub JoinsString : Type 0
 JoinsString = (state : State) (quote : ℕ) (ps : List Text) (r : Text) → holds_strings state.mode ≡ true → is_quote quote ≡ true → (quote == backtick) ≡ false
-    → list_all (is_spelling quote) ps ≡ true → pieces state (quoted quote ps ++ r) ≡ Ok (T_STRING, quoted quote ps) ∷ pieces (after state T_STRING) r
+    → list_all (is_spelling quote) ps ≡ true → pieces state (quote_parts quote ps ++ r) ≡ Ok (T_STRING, quote_parts quote ps) ∷ pieces (after state T_STRING) r
 
 -- ---- numbers
 
--- numerals stand outside and in brackets
+-- numerals are outside and in brackets
 abbrev pub holds_numerals : Mode → Bool
 holds_numerals mode.Outside = true
 holds_numerals mode.Braces = false

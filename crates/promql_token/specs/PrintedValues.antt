@@ -1,4 +1,4 @@
--- Values that printers write, in front of what follows them (docs/TOKENS.md, "Laws").
+-- Values that printers write, before what follows them (docs/proofs/proofs.md, "Laws of tokens").
 use Rattle.std.specs.Prelude.{◌≡◌, ℕ, ◌*◌, ◌^◌, ◌%◌, ◌<◌, true, false, ◌==◌, if◌then◌else◌, ◌∷◌, ◌++◌, slice_index, Ok}
 use Rattle.promql_text.specs.Bytes.{colon}
 use Rattle.promql_text.specs.Durations.{nanos_of}
@@ -14,14 +14,14 @@ use Rattle.promql_token.specs.declared.state.Mode.TheVariants as mode
 use Rattle.promql_token.specs.declared.state.State.{State}
 use Rattle.promql_token.specs.Laws.{stops_numeral}
 use Rattle.promql_token.specs.Lexing.{pieces}
-use Rattle.promql_token.specs.Pieces.{after}
+use Rattle.promql_token.specs.TokenScanning.{after}
 use Rattle.promql_token.specs.Printed.{holds_numerals, holds_strings}
 
 -- a quoted text is a string, before any text
 abbrev pub JoinsQuoted : Type 0
 JoinsQuoted = (state : State) (s r : Text) → holds_strings state.mode ≡ true → pieces state (quoted_text s ++ r) ≡ Ok (T_STRING, quoted_text s) ∷ pieces (after state T_STRING) r
 
--- the text of a number that is not below zero is a number, where it stands outside and nothing goes on with it
+-- the text of a number that is not below zero is a number, where it is outside and nothing goes on with it
 abbrev pub JoinsNumberText : Type 0
 JoinsNumberText = (depth : ℕ) (v : Number) (r : Text) → IsNumber v → is_below_zero v ≡ false → stops_numeral (number_text v) r ≡ true → (slice_index r 0 == colon) ≡ false
     → let state : State = record { depth = depth; mode = mode.Outside } in pieces state (number_text v ++ r) ≡ Ok (T_NUMBER, number_text v) ∷ pieces state r

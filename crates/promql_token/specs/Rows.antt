@@ -1,4 +1,4 @@
--- Worked texts with their tokens or faults (docs/TOKENS.md, "Worked texts").
+-- Worked texts with their tokens or faults (docs/reference/tokens.md, "Worked texts").
 use Rattle.std.specs.Prelude.{ℕ, List, [], ◌∷◌, ◌++◌, codes, Option, Some, None, Result, Ok, Err}
 use Rattle.promql_token.specs.declared.fault.LexFault.{LexFault}
 use Rattle.promql_token.specs.declared.fault.LexFaultKind.{LexFaultKind}
@@ -14,7 +14,7 @@ token id start len = record { id = id; start = start; len = len }
 abbrev pub fault : LexFaultKind → ℕ → Option ℕ → Result (List Lexeme) LexFault
 fault kind at ch = Err (record { kind = kind; at = at; ch = ch })
 
-pub record WorkedTokens (Gives : Text → Result (List Lexeme) LexFault → Type 0) : Type 0 where
+pub record ExampleTokens (Gives : Text → Result (List Lexeme) LexFault → Type 0) : Type 0 where
   pub fill_word : Gives (codes "fill (1)") (Ok (token T_FILL 0 4 ∷ token T_LEFT_PAREN 5 1 ∷ token T_NUMBER 6 1 ∷ token T_RIGHT_PAREN 7 1 ∷ token T_EOF 8 0 ∷ []))
   pub fill_name : Gives (codes "fill 1") (Ok (token T_IDENTIFIER 0 4 ∷ token T_NUMBER 5 1 ∷ token T_EOF 6 0 ∷ []))
   pub or_words : Gives (codes "{or or}") (Ok (token T_LEFT_BRACE 0 1 ∷ token T_LOR 1 2 ∷ token T_IDENTIFIER 4 2 ∷ token T_RIGHT_BRACE 6 1 ∷ token T_EOF 7 0 ∷ []))
@@ -25,7 +25,7 @@ pub record WorkedTokens (Gives : Text → Result (List Lexeme) LexFault → Type
   pub raw_string : Gives (backtick ∷ backslash ∷ 113 ∷ backtick ∷ []) (Ok (token T_STRING 0 4 ∷ token T_EOF 4 0 ∷ []))
   pub spaced_colon : Gives (codes "foo[ :5m]") (Ok (token T_IDENTIFIER 0 3 ∷ token T_LEFT_BRACKET 3 1 ∷ token T_COLON 5 1 ∷ token T_DURATION 6 2 ∷ token T_RIGHT_BRACKET 8 1 ∷ token T_EOF 9 0 ∷ []))
 
-pub record WorkedFaults (Gives : Text → Result (List Lexeme) LexFault → Type 0) : Type 0 where
+pub record ExampleFaults (Gives : Text → Result (List Lexeme) LexFault → Type 0) : Type 0 where
   pub unclosed_paren : Gives (codes "(1") (fault UnclosedParen 2 None)
   pub after_equal : Gives (codes "a=~b") (fault AfterEqual 2 None)
   pub after_bang : Gives (codes "a !b") (fault AfterBang 3 (Some 98))

@@ -1,4 +1,5 @@
--- The mode of a place and the parentheses open there, told by the tokens before it (docs/TOKENS.md, "The token list of a text").
+-- The mode of a place and the parentheses open there, told by the tokens before it (docs/reference/tokens.md,
+-- "The token list of a text").
 -- `before` has the ids of the tokens before a place, the last one first.
 use Rattle.std.specs.Prelude.{ℕ, suc, ◌-◌, Bool, not, ◌||◌, if◌then◌else◌, ◌==◌, List, [], ◌∷◌, length, Option, Some, None}
 use Rattle.std.specs.List.{find, list_any, take_while}
@@ -37,6 +38,6 @@ abbrev pub mode_after_something : Mode → Mode
 mode_after_something (mode.Brackets bracket.Nothing) = mode.Brackets bracket.Something
 mode_after_something m = m
 
--- after a gap of this length
-unfoldable pub after_gap : ℕ → State → State
-after_gap gap state = if gap == 0 then state else record state { mode = mode_after_something state.mode }
+-- after a trivia of this length
+unfoldable pub after_trivia : ℕ → State → State
+after_trivia trivia state = if trivia == 0 then state else record state { mode = mode_after_something state.mode }

@@ -1,4 +1,5 @@
--- The one way in which a text is gaps and tokens, to its end or to a fault (docs/TOKENS.md, "The token list of a text").
+-- The one way in which a text is trivia and tokens, to its end or to a fault (docs/reference/tokens.md,
+-- "The token list of a text").
 use Rattle.std.specs.Prelude.{◌≡◌, ◌⊎◌, ◌↔◌, ℕ, ◌+◌, List, [], ◌∷◌, ◌++◌, length, map, Result, Ok, Err}
 use Rattle.promql_token.specs.declared.fault.LexFault.{LexFault}
 use Rattle.promql_token.specs.declared.ids.TheConstants.{T_EOF}
@@ -8,34 +9,34 @@ use Rattle.promql_token.specs.declared.state.State.{State}
 use Rattle.promql_text.specs.Texts.{Text}
 use Rattle.promql_token.specs.Begins.{MayBegin}
 use Rattle.promql_token.specs.FaultPlaces.{IsFault}
-use Rattle.promql_token.specs.Gaps.{IsGapIn}
-use Rattle.promql_token.specs.Lexing.{items, lex, shown, start, tokens, pieces}
-use Rattle.promql_token.specs.States.{after_gap, mode_at, state_at}
+use Rattle.promql_token.specs.Trivia.{IsTriviaIn}
+use Rattle.promql_token.specs.Lexing.{items, lex, fault_char, start, tokens, pieces}
+use Rattle.promql_token.specs.States.{after_trivia, mode_at, state_at}
 
--- a gap, and the id and the text of the token after it
+-- a trivia, and the id and the text of the token after it
 abbrev pub Step : Type 0
 Step = Text × ℕ × Text
 
--- the state after tokens with the ids `before` and this gap
+-- the state after tokens with the ids `before` and this trivia
 abbrev pub state_after : List ℕ → Text → State
-state_after before g = after_gap (length g) (state_at before)
+state_after before g = after_trivia (length g) (state_at before)
 
--- after tokens with the ids `before`, z is these gaps and tokens and then a rest
+-- after tokens with the ids `before`, z is these trivia and tokens and then a rest
 abbrev pub IsRead : (List ℕ → Text → Type 0) → List ℕ → Text → List Step → Type 0
 IsRead Rest before z [] = Rest before z
 IsRead Rest before z (t ∷ ts) =
-    (r : Text) × (z ≡ t.0 ++ (t.2 ++ r)) × IsGapIn (mode_at before) t.0 (t.2 ++ r) × MayBegin (state_after before t.0).mode (state_after before t.0).depth t.1 t.2 r
+    (r : Text) × (z ≡ t.0 ++ (t.2 ++ r)) × IsTriviaIn (mode_at before) t.0 (t.2 ++ r) × MayBegin (state_after before t.0).mode (state_after before t.0).depth t.1 t.2 r
     × IsRead Rest (t.1 ∷ before) r ts
 
--- the rest is a gap to the end, where nothing is open
+-- the rest is a trivia to the end, where nothing is open
 abbrev pub IsEnd : List ℕ → Text → Type 0
-IsEnd before z = IsGapIn (mode_at before) z [] × (mode_at before ≡ mode.Outside) × ((state_at before).depth ≡ 0)
+IsEnd before z = IsTriviaIn (mode_at before) z [] × (mode_at before ≡ mode.Outside) × ((state_at before).depth ≡ 0)
 
--- the rest is a gap and this fault, in a text of this length
+-- the rest is a trivia and this fault, in a text of this length
 abbrev pub EndsIn : LexFault → ℕ → List ℕ → Text → Type 0
 EndsIn f len before z =
-    (g : Text) × (u : Text) × (v : Text) × (z ≡ g ++ (u ++ v)) × IsGapIn (mode_at before) g (u ++ v) × IsFault f.kind (state_after before g).mode (state_after before g).depth u v
-    × (f.at + length v ≡ len) × (f.ch ≡ shown f.kind v)
+    (g : Text) × (u : Text) × (v : Text) × (z ≡ g ++ (u ++ v)) × IsTriviaIn (mode_at before) g (u ++ v) × IsFault f.kind (state_after before g).mode (state_after before g).depth u v
+    × (f.at + length v ≡ len) × (f.ch ≡ fault_char f.kind v)
 
 -- the places of tokens from `at` on
 abbrev pub places : ℕ → List Step → List Lexeme

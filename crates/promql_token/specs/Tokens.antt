@@ -1,4 +1,4 @@
--- What is seen of a token (docs/TOKENS.md, "Ids").
+-- What is seen of a token (docs/reference/tokens.md, "Ids").
 use Rattle.std.specs.Prelude.{ℕ, string_bytes}
 use Rattle.promql_text.specs.Texts.{Text}
 use Rattle.promql_token.specs.declared.token.Token.{Token}

@@ -1,4 +1,4 @@
--- Words for the parts of tokens (docs/TOKENS.md, "Outside", "Numerals", "Strings").
+-- Words for the parts of tokens (docs/reference/tokens.md, "Outside", "Numerals", "Strings").
 use Rattle.std.specs.Prelude.{ℕ, Bool, true, false, not, ◌&&◌, ◌||◌, if◌then◌else◌, ◌==◌, List, [], ◌∷◌, ◌++◌, length, slice_index, codes}
 use Rattle.std.specs.Char.{is_ascii_digit}
 use Rattle.std.specs.List.{list_all, list_any}
@@ -92,6 +92,6 @@ abbrev pub is_spelling : ℕ → Text → Bool
 is_spelling quote p =
     list_all (λ b. not (b == quote) && not (b == backslash)) p || (length p == 2 && slice_index p 0 == backslash && is_escape quote (slice_index p 1))
 
-abbrev pub joined : List Text → Text
-joined [] = []
-joined (p ∷ ps) = p ++ joined ps
+abbrev pub concat_texts : List Text → Text
+concat_texts [] = []
+concat_texts (p ∷ ps) = p ++ concat_texts ps

@@ -1,4 +1,4 @@
--- How a byte stands to names and words. Private: nothing rests on believing it.
+-- How a byte is to names and words. Private: nothing rests on believing it.
 use Rattle.std.specs.Prelude.{ℕ, if◌then◌else◌, ◌==◌}
 use Rattle.promql_text.specs.Bytes.{colon}
 use Rattle.promql_token.specs.Classes.{is_name_byte}

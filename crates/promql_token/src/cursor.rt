@@ -6,11 +6,11 @@ ghost use Rattle.promql_token.specs.IsFirst.{IsFirst};
 ghost use Rattle.promql_token.specs.Lexing as spec;
 
 use crate::fault::{LexFault, LexFaultKind};
-use crate::gap::gap_len;
 use crate::ids::{T_EOF, TokenId};
 use crate::lexeme::Lexeme;
-use crate::piece::piece;
-use crate::state::{Mode, State, after, after_gap};
+use crate::scan_token::scan_token;
+use crate::state::{Mode, State, after, after_trivia};
+use crate::trivia::trivia_len;
 
 /// A place of a text between two tokens. It may be copied, and it allocates nothing.
 #[derive(Clone, Copy)]
@@ -23,7 +23,7 @@ pub struct Cursor<'a> {
     ghost depth: { state.depth ≤ at },
 }
 
-// The token after the gap at a place, or the fault there: its kind, and where it is.
+// The token after the trivia at a place, or the fault there: its kind, and where it is.
 #[inline(always)]
 fn token_at(text: &str, at: usize, state: State) -> Result<Lexeme, (LexFaultKind, usize)>
     requires { IsCharBoundary text.now at }
@@ -35,9 +35,9 @@ fn token_at(text: &str, at: usize, state: State) -> Result<Lexeme, (LexFaultKind
     ensures fault { IfErr result (λ f. IsCharBoundary text.now f.1) }
 {
     let bytes = text.as_bytes();
-    let gap = gap_len(state.mode, &bytes[at..]);
-    let start = at + gap;
-    match piece(after_gap(gap, state), &bytes[start..]) {
+    let trivia = trivia_len(state.mode, &bytes[at..]);
+    let start = at + trivia;
+    match scan_token(after_trivia(trivia, state), &bytes[start..]) {
         Ok((id, len)) => Ok(Lexeme { id, start, len }),
         Err((kind, offset)) => Err((kind, start + offset)),
     }
@@ -85,7 +85,7 @@ impl<'a> Cursor<'a> {
         ensures place { IfErr result (λ f. IsCharBoundary self.old.text.now f.1) }
     {
         let depth = self.state.depth;
-        // Most tokens stand outside: where the mode is known, a step takes less.
+        // Most tokens are outside: where the mode is known, a step takes less.
         match self.state.mode {
             Mode::Outside => self.step(State {
                 depth,

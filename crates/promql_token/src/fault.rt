@@ -59,7 +59,7 @@ pub enum LexFaultKind {
 }
 
 /// What a message has before the character, or the whole message, by kind.
-const WORDS: [(LexFaultKind, &str); 23] = [
+const MESSAGES: [(LexFaultKind, &str); 23] = [
     (LexFaultKind::UnclosedParen, "unclosed left parenthesis"),
     (
         LexFaultKind::AfterEqual,
@@ -118,26 +118,26 @@ const WORDS: [(LexFaultKind, &str); 23] = [
 impl LexFaultKind {
     /// What comes before the character in a message, or the whole message.
     #[tactic(auto, unfolding(crate::specs::Faults::words))]
-    fn words(self) -> &'static str
+    fn message(self) -> &'static str
         ensures { result.now ≡ spec.words self }
     {
-        words_in(&WORDS, self)
+        words_in(&MESSAGES, self)
     }
 
     /// What comes after the character.
-    fn closing(self) -> &'static str
-        ensures { result.now ≡ spec.closing self }
+    fn message_end(self) -> &'static str
+        ensures { result.now ≡ spec.message_end self }
     {
         match self {
             LexFaultKind::OpenString => "",
-            _ if self.shows() => "'",
+            _ if self.has_char() => "'",
             _ => "",
         }
     }
 
-    /// Whether a fault of this kind shows the character.
-    pub fn shows(self) -> bool
-        ensures { result ≡ spec.shows self }
+    /// Whether a fault of this kind has_char the character.
+    pub(crate) fn has_char(self) -> bool
+        ensures { result ≡ spec.has_char self }
     {
         matches!(
             self,
@@ -154,7 +154,7 @@ impl LexFaultKind {
 }
 
 fn words_in(table: &[(LexFaultKind, &'static str)], kind: LexFaultKind) -> &'static str
-    ensures { result.now ≡ spec.words_in (map (λ row. (row.0, row.1.now)) table.now) kind }
+    ensures { result.now ≡ spec.message_in (map (λ row. (row.0, row.1.now)) table.now) kind }
 {
     for row in table {
         if row.0 == kind {
@@ -180,11 +180,11 @@ impl fmt::Display for LexFault {
     ghost output = { λ f. Some (spec.message f) };
 
     fn fmt<W: fmt::Write>(&self, f: &mut fmt::Formatter<W>) -> fmt::Result {
-        f.write_str(self.kind.words())?;
+        f.write_str(self.kind.message())?;
         if let Some(ch) = self.ch {
             f.write_char(ch)?;
         }
-        f.write_str(self.kind.closing())
+        f.write_str(self.kind.message_end())
     }
 }
 

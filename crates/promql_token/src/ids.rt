@@ -327,7 +327,7 @@ const KEYWORDS: [(&[u8], TokenId); 35] = [
 
 /// How a word is looked up.
 #[derive(Clone, Copy, Debug)]
-pub enum Case {
+pub(crate) enum Case {
     Lower,
     Any,
 }

@@ -1,18 +1,18 @@
 //! Laws of the token list: the contracts of functions that do nothing.
 
 ghost use Rattle.std.specs.Prelude.{◌≡◌, ℕ};
-ghost use Rattle.promql_text.specs.Equalities.{IsSameBy};
+ghost use Rattle.promql_text.specs.Equalities.{ClonesKeep, IsSameBy};
 ghost use Rattle.promql_token.specs.Begins as begin;
-ghost use Rattle.promql_token.specs.Cut as cuts;
+ghost use Rattle.promql_token.specs.Cut as lexing_is_compositional;
 ghost use Rattle.promql_token.specs.FaultPlaces as places;
-ghost use Rattle.promql_token.specs.Gaps as gaps;
+ghost use Rattle.promql_token.specs.Trivia as trivia;
 ghost use Rattle.promql_token.specs.Ids as ids;
 ghost use Rattle.promql_token.specs.Laws as spec;
 ghost use Rattle.promql_token.specs.Lexing.{lex};
-ghost use Rattle.promql_token.specs.Printed as printed;
+ghost use Rattle.promql_token.specs.Printed as printed_forms_are_tokens;
 ghost use Rattle.promql_token.specs.PrintedValues as values;
 ghost use Rattle.promql_token.specs.Rows as rows;
-ghost use Rattle.promql_token.specs.Spelling as spelling;
+ghost use Rattle.promql_token.specs.TokenSpelling as spelling;
 ghost use Rattle.promql_token.specs.TokenLists as lists;
 ghost use Rattle.promql_token.specs.Tokens.{id_and_text};
 ghost use Rattle.promql_token.specs.declared.fault.LexError.{LexError};
@@ -25,27 +25,27 @@ use crate::{fault, lexeme};
 
 /// The cut of a text is what it begins with, and the cut of the rest.
 #[tactic(auto, using(crate::proofs::Steps::cut_is))]
-pub fn cuts()
+pub fn lexing_is_compositional()
     ensures { spec.Cuts }
 {}
 
 /// A text is cut in one way, told by the tokens before each place, and T_EOF is its last token
 /// alone.
-pub fn told()
-    ensures cut { cuts.CutOnce }
-    ensures end { cuts.EndsOnce }
+pub fn tokenization_is_unique()
+    ensures cut { lexing_is_compositional.CutOnce }
+    ensures end { lexing_is_compositional.EndsOnce }
 {}
 
-/// Strings, decimal numbers and durations are tokens in front of a text that doesn't go on with
+/// Strings, decimal numbers and durations are tokens before a text that doesn't go on with
 /// them.
-pub fn printed()
-    ensures string { printed.JoinsString }
-    ensures number { printed.JoinsNumber }
-    ensures duration { printed.JoinsDuration }
+pub fn printed_forms_are_tokens()
+    ensures string { printed_forms_are_tokens.JoinsString }
+    ensures number { printed_forms_are_tokens.JoinsNumber }
+    ensures duration { printed_forms_are_tokens.JoinsDuration }
 {}
 
 /// The text of a string is a token before any text, and the texts of numbers that are not below
-/// zero and of durations above zero are tokens in front of a text that doesn't go on with them.
+/// zero and of durations above zero are tokens before a text that doesn't go on with them.
 pub fn printed_values()
     ensures string { values.JoinsQuoted }
     ensures number { values.JoinsNumberText }
@@ -58,7 +58,7 @@ pub fn skips_white()
     ensures end { spec.Ends }
 {}
 
-/// Spans are in order with only gaps between, each token's text is the slice at its span, a text
+/// Spans are in order with only trivia between, each token's text is the slice at its span, a text
 /// whose pieces are all tokens has these tokens, and tokens begin and end between characters.
 pub fn spans()
     ensures spans { spec.Spans }
@@ -69,10 +69,10 @@ pub fn spans()
 /// Tokens, also those before a fault, have spans in order and between characters, and only white
 /// space and comments lie between them, in brackets only white space.
 pub fn spans_to_fault()
-    ensures { gaps.SpansToFault }
+    ensures { trivia.SpansToFault }
 {}
 
-/// A text has a token list, or a fault, exactly if it is gaps and tokens to its end, or to this
+/// A text has a token list, or a fault, exactly if it is trivia and tokens to its end, or to this
 /// fault, each of them what may begin there.
 pub fn only_tokens()
     ensures tokens { lists.OnlyTokens }
@@ -88,8 +88,8 @@ pub fn begins()
     ensures fault { places.Faults }
 {}
 
-/// What is one token alone is that token in front of a text that doesn't go on with it.
-pub fn joins()
+/// What is one token alone is that token before a text that doesn't go on with it.
+pub fn tokens_concatenate()
     ensures token { spec.Joins }
     ensures word { spec.JoinsWord }
     ensures name { spec.JoinsName }
@@ -97,7 +97,7 @@ pub fn joins()
 
 /// Outside braces each token is a word with its id, or has the id of no word, and no number begins
 /// with a sign.
-pub fn spelled()
+pub fn tokens_are_spelled()
     ensures { spelling.Spelled }
 {}
 
@@ -106,6 +106,14 @@ pub fn spelled()
 pub fn equal_tokens()
     ensures kinds { IsSameBy (λ (id : ℕ). id) ⟦<TokenType as PartialEq>⟧.eq }
     ensures tokens { IsSameBy id_and_text ⟦<Token as PartialEq>⟧.eq }
+{}
+
+/// A clone is the value.
+pub fn equal_clones()
+    ensures kinds { ClonesKeep (λ (id : ℕ). id) ⟦<TokenType as Clone>⟧.is_clone }
+    ensures lexemes { ClonesKeep (λ (x : Lexeme). x) ⟦<lexeme::Lexeme as Clone>⟧.is_clone }
+    ensures fault_kinds { ClonesKeep (λ (k : LexFaultKind). k) ⟦<fault::LexFaultKind as Clone>⟧.is_clone }
+    ensures faults { ClonesKeep (λ (f : LexFault). f) ⟦<fault::LexFault as Clone>⟧.is_clone }
 {}
 
 /// Lexemes are equal exactly if they have one id and one place.
@@ -120,7 +128,7 @@ pub fn equal_faults()
     ensures errors { IsSameBy (λ (e : LexError). e) ⟦<fault::LexError as PartialEq>⟧.eq }
 {}
 
-/// The constants, in the order in which docs/TOKENS.md lists them, are the numbers from 0 on, and
+/// The constants, in the order in which docs/reference/tokens.md lists them, are the numbers from 0 on, and
 /// so are the ids of the rows of texts.
 pub fn ids_count_up()
     ensures constants { ids.constants ≡ ids.count_up 0 86 }
@@ -128,9 +136,9 @@ pub fn ids_count_up()
 {}
 
 /// What the definition gives for worked texts, and that the relations say the same of them.
-pub fn worked()
-    ensures tokens { rows.WorkedTokens (λ s r. lex s ≡ r) }
-    ensures faults { rows.WorkedFaults (λ s r. lex s ≡ r) }
-    ensures tokens_read { rows.WorkedTokens lists.IsLexed }
-    ensures faults_read { rows.WorkedFaults lists.IsLexed }
+pub fn examples()
+    ensures tokens { rows.ExampleTokens (λ s r. lex s ≡ r) }
+    ensures faults { rows.ExampleFaults (λ s r. lex s ≡ r) }
+    ensures tokens_read { rows.ExampleTokens lists.IsLexed }
+    ensures faults_read { rows.ExampleFaults lists.IsLexed }
 {}

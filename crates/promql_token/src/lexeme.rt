@@ -15,4 +15,4 @@ pub struct Lexeme {
 
 /// A token's id and length, or a fault and how far from the front it is. What reads one outside braces and brackets is
 /// inlined where it is called, so that it stays in registers.
-pub type Piece = Result<(TokenId, usize), (LexFaultKind, usize)>;
+pub(crate) type Scanned = Result<(TokenId, usize), (LexFaultKind, usize)>;

@@ -1,5 +1,5 @@
 //! The tokens of PromQL: their ids, the tokens that a text is made of, and its lexical faults.
-//! docs/TOKENS.md has the rules.
+//! docs/reference/tokens.md has the rules.
 //!
 //! ```
 //! let lexemes = promql_token::lexer(rt.alloc(), "sum(up)")?;
@@ -18,22 +18,22 @@ pub use token::{Token, TokenType, is_label};
 mod class;
 pub mod cursor;
 pub mod fault;
-mod gap;
 pub mod ids;
 pub mod laws;
 pub mod lexeme;
 mod numeral;
-mod piece;
 pub mod scan;
+mod scan_token;
 mod state;
 mod string;
 pub mod token;
+mod trivia;
 mod word;
 
 /// The tokens of a text in order, T_EOF last.
 ///
 /// Returns `Fault` where the text has a lexical fault, with its first one, and `Memory` where an
-/// allocation failed (docs/TOKENS.md, "The token list of a text").
+/// allocation failed (docs/reference/tokens.md, "The token list of a text").
 #[tactic(auto, unfolding(crate::specs::Lexing::lex))]
 pub fn lexer(alloc: Global, s: &str) -> Result<Vec<Lexeme>, LexError>
     ensures { spec.Gives (λ v. v.items) result (spec.lex s.now) }

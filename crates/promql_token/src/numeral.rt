@@ -1,12 +1,12 @@
 //! Numbers and durations.
 
 ghost use Rattle.std.specs.Prelude.{◌≡◌, ◌≤◌, true, length};
-ghost use Rattle.promql_token.specs.Pieces as spec;
+ghost use Rattle.promql_token.specs.TokenScanning as spec;
 
 use crate::class::{Class, byte, end_of_run};
 use crate::fault::LexFaultKind;
 use crate::ids::{T_DURATION, T_NUMBER};
-use crate::lexeme::Piece;
+use crate::lexeme::Scanned;
 
 fn is_hex(z: &[u8]) -> bool
     ensures value { result ≡ spec.is_hex z.now }
@@ -73,7 +73,7 @@ fn past_exponent(z: &[u8], at: usize) -> usize
 }
 
 // Where the number that a numeral begins with ends.
-#[tactic(auto, unfolding(crate::specs::Pieces::number_end))]
+#[tactic(auto, unfolding(crate::specs::TokenScanning::number_end))]
 fn number_end(z: &[u8]) -> usize
     ensures value { result ≡ spec.number_end z.now }
     ensures within { result ≤ length z.now }
@@ -131,7 +131,7 @@ fn are_parts(z: &[u8]) -> bool
 }
 
 // Whether a text is what follows a duration's first number: a unit, then such parts.
-#[tactic(auto, unfolding(crate::specs::Pieces::units))]
+#[tactic(auto, unfolding(crate::specs::TokenScanning::units))]
 fn is_units(z: &[u8]) -> bool
     ensures { result ≡ spec.units z.now }
 {
@@ -141,8 +141,8 @@ fn is_units(z: &[u8]) -> bool
 
 /// The number or duration at the front.
 #[inline(always)]
-#[tactic(auto, unfolding(crate::specs::Pieces::numeral))]
-pub fn numeral(z: &[u8]) -> Piece
+#[tactic(auto, unfolding(crate::specs::TokenScanning::numeral))]
+pub fn numeral(z: &[u8]) -> Scanned
     ensures { result ≡ spec.numeral z.now }
 {
     let end = number_end(z);

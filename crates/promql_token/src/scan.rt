@@ -11,11 +11,11 @@ use crate::fault::{LexFault, LexFaultKind};
 use crate::ids::T_EOF;
 use crate::lexeme::Lexeme;
 
-fn shown(text: &str, kind: LexFaultKind, at: usize) -> Option<char>
+fn fault_char(text: &str, kind: LexFaultKind, at: usize) -> Option<char>
     requires { IsCharBoundary text.now at }
-    ensures { result ≡ spec.shown kind (drop at text.now) }
+    ensures { result ≡ spec.fault_char kind (drop at text.now) }
 {
-    if kind.shows() {
+    if kind.has_char() {
         text[at..].chars().next()
     } else {
         None
@@ -60,7 +60,7 @@ impl<'a> Iterator for Lexer<'a> {
             }
             Err((kind, at)) => {
                 self.ended = true;
-                let ch = shown(self.cursor.text, kind, at);
+                let ch = fault_char(self.cursor.text, kind, at);
                 Some(Err(LexFault { kind, at, ch }))
             }
         }

@@ -1,7 +1,7 @@
 //! What the tokens before a place say of it.
 
 ghost use Rattle.std.specs.Prelude.{◌≡◌, ◌<◌, ◌≤◌, ◌+◌, ◌^◌};
-ghost use Rattle.promql_token.specs.Pieces as spec;
+ghost use Rattle.promql_token.specs.TokenScanning as spec;
 
 use crate::ids::*;
 
@@ -19,7 +19,7 @@ pub enum Mode {
 #[derive(Clone, Copy, Debug)]
 pub enum Bracket {
     Nothing,
-    /// A gap or a token, but no `:`.
+    /// A trivia or a token, but no `:`.
     Something,
     /// A `:`, and maybe more.
     Colon,
@@ -33,7 +33,7 @@ pub struct State {
     pub mode: Mode,
 }
 
-// After a gap, or a token that sets no mode.
+// After a trivia, or a token that sets no mode.
 fn mode_after_something(mode: Mode) -> Mode
     ensures { result ≡ spec.mode_after_something mode }
 {
@@ -52,12 +52,12 @@ fn mode_after_colon(mode: Mode) -> Mode
     }
 }
 
-/// The state after a gap.
-#[tactic(auto, unfolding(crate::specs::States::after_gap))]
-pub fn after_gap(gap: usize, state: State) -> State
-    ensures { result ≡ spec.after_gap gap state }
+/// The state after a trivia.
+#[tactic(auto, unfolding(crate::specs::States::after_trivia))]
+pub fn after_trivia(trivia: usize, state: State) -> State
+    ensures { result ≡ spec.after_trivia trivia state }
 {
-    if gap == 0 {
+    if trivia == 0 {
         return state;
     }
     State {
@@ -90,7 +90,7 @@ fn depth_after(depth: usize, id: TokenId) -> usize
 }
 
 /// The state after a token.
-#[tactic(auto, unfolding(crate::specs::Pieces::after))]
+#[tactic(auto, unfolding(crate::specs::TokenScanning::after))]
 pub fn after(state: State, id: TokenId) -> State
     requires { state.depth < 2 ^ 63 }
     ensures value { result ≡ spec.after state id }

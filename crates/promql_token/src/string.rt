@@ -1,12 +1,12 @@
 //! Strings.
 
 ghost use Rattle.std.specs.Prelude.{◌≡◌, ◌<◌, length};
-ghost use Rattle.promql_token.specs.Pieces as spec;
+ghost use Rattle.promql_token.specs.TokenScanning as spec;
 
 use crate::class::byte;
 use crate::fault::LexFaultKind;
 use crate::ids::T_STRING;
-use crate::lexeme::Piece;
+use crate::lexeme::Scanned;
 
 /// Whether it is a quote of strings.
 pub fn is_quote(b: u8) -> bool
@@ -30,8 +30,8 @@ fn is_escape(quote: u8, b: u8) -> bool
 
 /// The string whose opening quote is the first byte.
 #[inline(always)]
-#[tactic(auto, unfolding(crate::specs::Pieces::string))]
-pub fn string(z: &[u8]) -> Piece
+#[tactic(auto, unfolding(crate::specs::TokenScanning::string))]
+pub fn string(z: &[u8]) -> Scanned
     requires { 0 < length z.now }
     ensures { result ≡ spec.string z.now }
 {

@@ -1,11 +1,11 @@
 //! Words.
 
 ghost use Rattle.std.specs.Prelude.{◌≡◌, length};
-ghost use Rattle.promql_token.specs.Pieces as spec;
+ghost use Rattle.promql_token.specs.TokenScanning as spec;
 
 use crate::class::{Class, byte, end_of_run};
 use crate::ids::*;
-use crate::lexeme::Piece;
+use crate::lexeme::Scanned;
 
 fn is_fill(id: TokenId) -> bool
     ensures { result ≡ spec.is_fill id }
@@ -44,8 +44,8 @@ fn word_id(word: &[u8], rest: &[u8]) -> TokenId
 
 /// The word at the front, outside braces.
 #[inline(always)]
-#[tactic(auto, unfolding(crate::specs::Pieces::word))]
-pub fn word(z: &[u8]) -> Piece
+#[tactic(auto, unfolding(crate::specs::TokenScanning::word))]
+pub fn word(z: &[u8]) -> Scanned
     ensures { result ≡ spec.word z.now }
 {
     let len = end_of_run(Class::Word, z, 0);
@@ -64,8 +64,8 @@ fn braces_id(word: &[u8], rest: &[u8]) -> TokenId
 }
 
 /// The word at the front, in braces.
-#[tactic(auto, unfolding(crate::specs::Pieces::word_in_braces))]
-pub fn word_in_braces(z: &[u8]) -> Piece
+#[tactic(auto, unfolding(crate::specs::TokenScanning::word_in_braces))]
+pub fn word_in_braces(z: &[u8]) -> Scanned
     ensures { result ≡ spec.word_in_braces z.now }
 {
     let len = end_of_run(Class::Name, z, 0);

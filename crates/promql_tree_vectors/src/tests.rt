@@ -12,8 +12,16 @@ mod writers;
 
 use promql_ast::{CheckError, Expr};
 use std::alloc::{AllocError, Global};
+use std::fmt::Display;
 use std::process::Abort;
 use std::test::Fail;
+
+/// The value prints this text.
+fn prints<T: Display>(rt: &impl Abort, alloc: Global, value: &T, want: &str) -> Result<(), Fail> {
+    let found = value.to_string(alloc)?;
+    assert_eq!(rt; found.as_str(), want);
+    Ok(())
+}
 
 /// What was built as it prints, or the message of its rejection.
 fn shown(alloc: Global, built: Result<Expr, CheckError>) -> Result<String, AllocError> {

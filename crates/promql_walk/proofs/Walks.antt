@@ -21,18 +21,18 @@ module _ {X S E : Type 0} (step : X → S → Result Bool E → S → Type 0) wh
   join xs ys s (Ok false) u r t e f h = cc
   join xs ys s (Err x) u r t e f h = cc
 
-  stopped : (a : Result Bool E) (u : S) (r : Result Bool E) (t : S) (b : Result Bool E) (P : Type 0) → IsEnd b → a ≡ b → IfGoesOn a P ((r ≡ a) × (t ≡ u)) → (r ≡ a) × (t ≡ u)
-  stopped (Ok false) u r t b P ends e k = k
-  stopped (Err x) u r t b P ends e k = k
-  stopped (Ok true) u r t (Ok true) P ends e k = absurd ends
-  stopped (Ok true) u r t (Ok false) P ends e k = cc
-  stopped (Ok true) u r t (Err x) P ends e k = cc
+  end_or_go_on : (a : Result Bool E) (u : S) (r : Result Bool E) (t : S) (b : Result Bool E) (P : Type 0) → IsEnd b → a ≡ b → IfGoesOn a P ((r ≡ a) × (t ≡ u)) → (r ≡ a) × (t ≡ u)
+  end_or_go_on (Ok false) u r t b P ends e k = k
+  end_or_go_on (Err x) u r t b P ends e k = k
+  end_or_go_on (Ok true) u r t (Ok true) P ends e k = absurd ends
+  end_or_go_on (Ok true) u r t (Ok false) P ends e k = cc
+  end_or_go_on (Ok true) u r t (Err x) P ends e k = cc
 
   pub walked_append : (xs ys : List X) (s : S) (a : Result Bool E) (u : S) (r : Result Bool E) (t : S) → Walked step xs s a u → IfGoesOn a (Walked step ys u r t) ((r ≡ a) × (t ≡ u)) → Walked step (xs ++ ys) s r t
   walked_append [] ys s a u r t h k = join [] ys s a u r t h.0 h.1 k
   walked_append (x ∷ xs) ys s a u r t (Ok true, (v, (st, more))) k = (Ok true, (v, (st, walked_append xs ys v a u r t more k)))
-  walked_append (x ∷ xs) ys s a u r t (Ok false, (v, (st, more))) k = let end = stopped a u r t (Ok false) _ tt more.0 k in (Ok false, (v, (st, (end.0 ∙ more.0, end.1 ∙ more.1))))
-  walked_append (x ∷ xs) ys s a u r t (Err e, (v, (st, more))) k = let end = stopped a u r t (Err e) _ tt more.0 k in (Err e, (v, (st, (end.0 ∙ more.0, end.1 ∙ more.1))))
+  walked_append (x ∷ xs) ys s a u r t (Ok false, (v, (st, more))) k = let end = end_or_go_on a u r t (Ok false) _ tt more.0 k in (Ok false, (v, (st, (end.0 ∙ more.0, end.1 ∙ more.1))))
+  walked_append (x ∷ xs) ys s a u r t (Err e, (v, (st, more))) k = let end = end_or_go_on a u r t (Err e) _ tt more.0 k in (Err e, (v, (st, (end.0 ∙ more.0, end.1 ∙ more.1))))
 
   pub walked_both : (xs ys : List X) (s : S) (a : Result Bool E) (u : S) (r : Result Bool E) (t : S) → a ≡ Ok true → Walked step xs s a u → Walked step ys u r t → Walked step (xs ++ ys) s r t
   walked_both xs ys s a u r t is h k = walked_append xs ys s (Ok true) u r t (subst (λ b. Walked step xs s b u) is h) k
@@ -87,7 +87,7 @@ args_events bs = all_events (trees_of bs)
 abbrev pub nodes_events : List Expr → List Event
 nodes_events es = all_events (children_of es)
 
-pub dropped : {X : Type 0} (xs : List X) (i : ℕ) (y : X) → i < length xs → y ≡ get_or xs i y → drop i xs ≡ y ∷ drop (i + 1) xs
-dropped [] i y h is = absurd (omega arith)
-dropped (x ∷ xs) zero y h is = ap (λ z. z ∷ xs) (sym is)
-dropped (x ∷ xs) (suc i) y h is = let step : suc (i + 1) ≡ suc i + 1 = omega arith in dropped xs i y (omega arith) is ∙ ap (λ n. y ∷ drop n (x ∷ xs)) step
+pub drop_step : {X : Type 0} (xs : List X) (i : ℕ) (y : X) → i < length xs → y ≡ get_or xs i y → drop i xs ≡ y ∷ drop (i + 1) xs
+drop_step [] i y h is = absurd (omega arith)
+drop_step (x ∷ xs) zero y h is = ap (λ z. z ∷ xs) (sym is)
+drop_step (x ∷ xs) (suc i) y h is = let step : suc (i + 1) ≡ suc i + 1 = omega arith in drop_step xs i y (omega arith) is ∙ ap (λ n. y ∷ drop n (x ∷ xs)) step

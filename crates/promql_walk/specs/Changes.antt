@@ -1,4 +1,4 @@
--- What a walk that may change the tree does (docs/WALKS.md, "Changing walks").
+-- What a walk that may change the tree does (docs/reference/walks.md, "Changing walks").
 use Rattle.std.specs.Prelude.{◌≡◌, ◌⊎◌, Bool, true, Result, Ok}
 use Rattle.promql_ast.specs.Tree.{Tree, Trees, no_trees, first_tree}
 use Rattle.promql_walk.specs.Children.{children, with_children}

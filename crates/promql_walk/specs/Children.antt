@@ -1,4 +1,4 @@
--- The children of a node (docs/WALKS.md, "Order").
+-- The children of a node (docs/reference/walks.md, "Order").
 use Rattle.promql_ast.specs.Tree.{Tree, aggregate, unary, binary, paren, subquery, number, string, vector, matrix, call, extension, absent, present, Trees, no_trees, first_tree}
 
 -- in their order

@@ -1,4 +1,4 @@
--- The events of a walk (docs/WALKS.md, "Order").
+-- The events of a walk (docs/reference/walks.md, "Order").
 use Rattle.std.specs.Prelude.{List, [], ◌∷◌, ◌++◌}
 use Rattle.promql_ast.specs.Tree.{Tree, aggregate, unary, binary, paren, subquery, number, string, vector, matrix, call, extension, MaybeTree, absent, present, Trees, no_trees, first_tree}
 

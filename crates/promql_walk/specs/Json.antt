@@ -1,4 +1,4 @@
--- The JSON form of a tree (docs/JSON.md, "Nodes" and "What has no form").
+-- The JSON form of a tree (docs/reference/json.md, "Nodes" and "What has no form").
 use Rattle.std.specs.Prelude.{◌≡◌, ℕ, ◌^◌, ◌||◌, ℤ, pos, neg_ℤ, int_lt, int_le, List, [], ◌∷◌, Bool, if◌then◌else◌, Option, Some, None, Result, Ok, Err, codes}
 use Rattle.serde_json.specs.Data.{Data, null, boolean, string as text, array, object, Items, no_items, item, Members, no_members, put}
 use Rattle.promql_text.specs.Texts.{Text}
@@ -36,33 +36,33 @@ type_name (call f args) = codes "call"
 type_name (extension name gives es) = []
 
 -- a node's object with its `type`
-abbrev pub typed : Tree → Members → Data
-typed t ms = object (put (codes "type") (text (type_name t)) ms)
+abbrev pub with_type : Tree → Members → Data
+with_type t ms = object (put (codes "type") (text (type_name t)) ms)
 
 abbrev mutual
   -- the members of a node's object, without `type`
   pub node_members : Tree → Members
   node_members (aggregate op e p m) = members (
       (codes "op", token_json op)
-      ∷ (codes "expr", typed e (node_members e))
+      ∷ (codes "expr", with_type e (node_members e))
       ∷ (codes "param", param_json p)
       ∷ (codes "grouping", labels_json (optional_labels m))
       ∷ (codes "without", boolean (is_excluding m))
       ∷ [])
   node_members (unary e) = members (
       (codes "op", text (codes "-"))
-      ∷ (codes "expr", typed e (node_members e))
+      ∷ (codes "expr", with_type e (node_members e))
       ∷ [])
   node_members (binary op l r m) = members (
       (codes "op", token_json op)
-      ∷ (codes "lhs", typed l (node_members l))
-      ∷ (codes "rhs", typed r (node_members r))
+      ∷ (codes "lhs", with_type l (node_members l))
+      ∷ (codes "rhs", with_type r (node_members r))
       ∷ (codes "bool", boolean (returns_bool m))
       ∷ (codes "matching", or_null matching_json m)
       ∷ [])
-  node_members (paren e) = members ((codes "expr", typed e (node_members e)) ∷ [])
+  node_members (paren e) = members ((codes "expr", with_type e (node_members e)) ∷ [])
   node_members (subquery e offset at range step) = members (
-      (codes "expr", typed e (node_members e))
+      (codes "expr", with_type e (node_members e))
       ∷ (codes "offset", whole (shift_millis offset))
       ∷ (codes "startOrEnd", start_or_end at)
       ∷ (codes "timestamp", timestamp at)
@@ -81,15 +81,15 @@ abbrev mutual
 
   pub param_json : MaybeTree → Data
   param_json absent = null
-  param_json (present e) = typed e (node_members e)
+  param_json (present e) = with_type e (node_members e)
 
   pub args_items : Trees → Items
   args_items no_trees = no_items
-  args_items (first_tree e es) = item (typed e (node_members e)) (args_items es)
+  args_items (first_tree e es) = item (with_type e (node_members e)) (args_items es)
 
 -- the object of a tree that has one
 abbrev pub json_value : Tree → Data
-json_value t = typed t (node_members t)
+json_value t = with_type t (node_members t)
 
 -- ---- "What has no form"
 

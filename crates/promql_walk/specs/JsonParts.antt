@@ -1,4 +1,4 @@
--- The JSON form of what nodes hold beside their parts (docs/JSON.md, "Parts").
+-- The JSON form of what nodes hold beside their parts (docs/reference/json.md, "Parts").
 use Rattle.std.specs.Prelude.{ℕ, ◌/◌, ℤ, pos, neg_ℤ, List, [], ◌∷◌, map, Bool, false, not, Option, Some, None, codes}
 use Rattle.serde_json.specs.Data.{Data, null, boolean, number, string, array, object, Members, no_members, put}
 use Rattle.serde_json.specs.Find.{of_integer}

@@ -1,4 +1,4 @@
--- What a visitor may have become along the events of a walk (docs/WALKS.md, "Walks").
+-- What a visitor may have become along the events of a walk (docs/reference/walks.md, "Walks").
 use Rattle.std.specs.Prelude.{◌≡◌, ◌⊎◌, Bool, true, false, List, [], ◌∷◌, Result, Ok, Err}
 use Rattle.promql_ast.specs.Tree.{Tree}
 use Rattle.promql_walk.specs.Events.{Event, before, after}

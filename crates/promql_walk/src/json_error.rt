@@ -1,4 +1,4 @@
-//! Why a tree has no JSON form: docs/JSON.md, "What has no form".
+//! Why a tree has no JSON form: docs/reference/json.md, "What has no form".
 
 use std::alloc::{AllocError, AllocFailed};
 use thiserror::Error;

@@ -1,4 +1,4 @@
-//! The JSON form of nodes: docs/JSON.md, "Nodes".
+//! The JSON form of nodes: docs/reference/json.md, "Nodes".
 
 ghost use Rattle.std.specs.Prelude.{◌≡◌, ◌≢◌, None, Some, IfErr, IfOk, codes, string_bytes};
 ghost use Rattle.serde_json.specs.Data.{object, put as with_member, string as text};
@@ -271,7 +271,11 @@ pub(crate) fn args_members(
 }
 
 /// A node's object: its members, and its `type`.
-fn typed(alloc: Global, type_name: &str, members: Map<String, Value>) -> Result<Value, AllocError>
+fn with_type(
+    alloc: Global,
+    type_name: &str,
+    members: Map<String, Value>,
+) -> Result<Value, AllocError>
     ensures { IfOk result (λ v. view v
         ≡ object (with_member (codes "type") (text type_name.now) (members_view members.entries))) }
 {
@@ -294,20 +298,20 @@ pub(crate) fn expr_json(alloc: Global, expr: &Expr) -> Result<Value, JsonError>
     ensures err { IfErr result (λ e. e ≢ Memory → json_fault (tree_of expr.now) ≡ Some e) }
 {
     match expr {
-        Expr::Aggregate(e) => Ok(typed(alloc, "aggregation", aggregate_members(alloc, e)?)?),
-        Expr::Unary(e) => Ok(typed(alloc, "unaryExpr", unary_members(alloc, e)?)?),
-        Expr::Binary(e) => Ok(typed(alloc, "binaryExpr", binary_members(alloc, e)?)?),
-        Expr::Paren(e) => Ok(typed(alloc, "parenExpr", paren_members(alloc, e)?)?),
-        Expr::Subquery(e) => Ok(typed(alloc, "subquery", subquery_members(alloc, e)?)?),
-        Expr::NumberLiteral(e) => Ok(typed(alloc, "numberLiteral", number_members(alloc, e)?)?),
-        Expr::StringLiteral(e) => Ok(typed(alloc, "stringLiteral", string_members(alloc, e)?)?),
+        Expr::Aggregate(e) => Ok(with_type(alloc, "aggregation", aggregate_members(alloc, e)?)?),
+        Expr::Unary(e) => Ok(with_type(alloc, "unaryExpr", unary_members(alloc, e)?)?),
+        Expr::Binary(e) => Ok(with_type(alloc, "binaryExpr", binary_members(alloc, e)?)?),
+        Expr::Paren(e) => Ok(with_type(alloc, "parenExpr", paren_members(alloc, e)?)?),
+        Expr::Subquery(e) => Ok(with_type(alloc, "subquery", subquery_members(alloc, e)?)?),
+        Expr::NumberLiteral(e) => Ok(with_type(alloc, "numberLiteral", number_members(alloc, e)?)?),
+        Expr::StringLiteral(e) => Ok(with_type(alloc, "stringLiteral", string_members(alloc, e)?)?),
         Expr::VectorSelector(e) => {
-            Ok(typed(alloc, "vectorSelector", selector_members(alloc, e)?)?)
+            Ok(with_type(alloc, "vectorSelector", selector_members(alloc, e)?)?)
         }
         Expr::MatrixSelector(e) => {
-            Ok(typed(alloc, "matrixSelector", matrix_members(alloc, e)?)?)
+            Ok(with_type(alloc, "matrixSelector", matrix_members(alloc, e)?)?)
         }
-        Expr::Call(e) => Ok(typed(alloc, "call", call_members(alloc, e)?)?),
+        Expr::Call(e) => Ok(with_type(alloc, "call", call_members(alloc, e)?)?),
         Expr::Extension(_) => Err(JsonError::Extension),
     }
 }

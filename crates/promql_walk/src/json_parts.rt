@@ -1,4 +1,4 @@
-//! The JSON form of what nodes hold beside their parts: docs/JSON.md, "Parts".
+//! The JSON form of what nodes hold beside their parts: docs/reference/json.md, "Parts".
 
 ghost use Rattle.std.specs.Prelude.{◌≡◌, None, Some, IfErr, IfOk, OnOk, map, option_map, string_bytes};
 ghost use Rattle.std.specs.Duration.{as_nanos};

@@ -1,5 +1,5 @@
 //! Walks over a query's tree, and its form in JSON.
-//! The rules are in docs/WALKS.md and docs/JSON.md.
+//! The rules are in docs/reference/walks.md and docs/reference/json.md.
 #![tactic(auto)]
 
 pub use json_error::JsonError;

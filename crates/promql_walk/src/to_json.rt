@@ -1,4 +1,4 @@
-//! The JSON form of a tree, its nodes and their parts: docs/JSON.md.
+//! The JSON form of a tree, its nodes and their parts: docs/reference/json.md.
 
 ghost use Rattle.std.specs.Prelude.{◌≡◌, ◌≢◌, Err, IfErr, IfOk, Ok, Result, string_bytes};
 ghost use Rattle.serde_json.specs.Data.{Data};

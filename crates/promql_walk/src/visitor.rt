@@ -1,4 +1,4 @@
-//! Walks over a tree: docs/WALKS.md, "Walks".
+//! Walks over a tree: docs/reference/walks.md, "Walks".
 
 ghost use Rattle.std.specs.Prelude.{Bool, Result};
 ghost use Rattle.promql_ast.specs.Tree.{Tree};
@@ -36,7 +36,8 @@ pub trait ExprVisitor {
     }
 }
 
-/// Calls the visitor before each node and after its children, in the order of docs/WALKS.md, "Order". It returns
+/// Calls the visitor before each node and after its children, in the order of docs/reference/walks.md, "Order". It
+/// returns
 /// `Ok(true)` if each call did, and else what the first other call returned; no call comes after that one. Nothing is
 /// allocated beside what the visitor allocates.
 ///

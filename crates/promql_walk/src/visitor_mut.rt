@@ -1,4 +1,4 @@
-//! Walks that may change a tree: docs/WALKS.md, "Changing walks".
+//! Walks that may change a tree: docs/reference/walks.md, "Changing walks".
 
 ghost use Rattle.std.specs.Prelude.{◌≡◌, ◌≤◌, Bool, true, Result, Ok};
 ghost use Rattle.promql_ast.specs.Height.{height};

@@ -6,7 +6,7 @@ mod walks;
 
 use promql_ast::{CheckError, Expr, Extension};
 use promql_kind::ValueType;
-use promql_parser::parser::parse;
+use promql_parser::parser::{ParseError, parse};
 use std::alloc::Global;
 use std::process::Abort;
 use std::test::Fail;
@@ -36,4 +36,9 @@ fn prints(rt: &impl Abort, alloc: Global, expr: &Expr, want: &str) -> Result<(),
     let found = expr.to_string(alloc)?;
     assert_eq!(rt; found.as_str(), want);
     Ok(())
+}
+
+/// Whether the text gives this expression.
+fn is_read(alloc: Global, expr: &Expr, text: &str) -> Result<bool, ParseError> {
+    Ok(parse(alloc, text)? == *expr)
 }

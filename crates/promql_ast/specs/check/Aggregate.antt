@@ -1,11 +1,11 @@
--- The checks of an aggregation, in order (docs/TREE.md, "Aggregations").
+-- The checks of an aggregation, in order (docs/reference/tree.md, "Aggregations").
 use Rattle.std.specs.Prelude.{ℕ, not, ◌==◌, if◌then◌else◌, [], ◌∷◌, Option, Some, None}
 use Rattle.promql_token.specs.Ids.{is_aggregator, is_one_of}
 use Rattle.promql_token.specs.declared.ids.TheConstants.{T_TOPK, T_BOTTOMK, T_QUANTILE, T_LIMITK, T_LIMIT_RATIO, T_COUNT_VALUES}
 use Rattle.promql_kind.specs.Modifiers.{Clause}
 use Rattle.promql_kind.specs.declared.value.ValueType.{ValueType}
 use Rattle.promql_kind.specs.declared.value.ValueType.TheVariants.{Vector, Scalar, String}
-use Rattle.promql_ast.specs.Checks.{when, first_fault, unless, mistyped}
+use Rattle.promql_ast.specs.Checks.{when, first_fault, unless, type_fault}
 use Rattle.promql_ast.specs.Faults.{Fault, aggregator_expected, in_aggregation, Verdict, passes}
 use Rattle.promql_ast.specs.Tree.{Tree, aggregate, MaybeTree, absent, present}
 use Rattle.promql_ast.specs.Types.{type_of}
@@ -22,12 +22,12 @@ maybe_type (present e) = Some (type_of e)
 
 abbrev pub param_fault : Option ValueType → Option ValueType → Option Fault
 param_fault None found = None
-param_fault (Some expected) found = mistyped expected in_aggregation found
+param_fault (Some expected) found = type_fault expected in_aggregation found
 
 abbrev pub aggregate_fault : ℕ → ValueType → Option ValueType → Option Fault
 aggregate_fault op e p = first_fault (
     when (not (is_aggregator op)) (aggregator_expected op)
-    ∷ mistyped Vector in_aggregation (Some e)
+    ∷ type_fault Vector in_aggregation (Some e)
     ∷ param_fault (param_type op) p
     ∷ [])
 

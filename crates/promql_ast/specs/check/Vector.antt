@@ -1,4 +1,4 @@
--- The checks of a selector (docs/TREE.md, "Selectors").
+-- The checks of a selector (docs/reference/tree.md, "Selectors").
 use Rattle.std.specs.Prelude.{Option, Some, None, codes}
 use Rattle.promql_text.specs.Texts.{Text}
 use Rattle.promql_label.specs.PlainMatchers.{PlainMatchers, all_match_empty, found_value}

@@ -3,7 +3,7 @@
 ghost use Rattle.std.specs.Prelude.{◌≡◌, ◌++◌, ◌+◌, ◌<◌, ◌≤◌, ◌*◌, ◌==◌, if◌then◌else◌, [], Err, IfOk, OnOk, IfSome, string_bytes, codes};
 ghost use Rattle.promql_ast.specs.Layout.{trimmed};
 ghost use Rattle.promql_ast.specs.Lines.{indent, Keeps};
-ghost use Rattle.promql_text.specs.Widths.{greatest};
+ghost use Rattle.promql_text.specs.PrintedLen.{usize_max};
 
 use crate::layout::prettier::PrettyError;
 use std::alloc::{AllocError, Global};
@@ -12,8 +12,8 @@ use std::fmt::Display;
 /// The level of a node's parts.
 pub fn deeper(level: usize) -> Result<usize, PrettyError>
     ensures ok { IfOk result (λ n. n ≡ level + 1) }
-    ensures wide { result ≡ Err PrettyError.IndentTooWide → greatest < 2 * level }
-    ensures fits { IfOk result (λ n. 2 * level ≤ greatest) }
+    ensures wide { result ≡ Err PrettyError.IndentTooWide → usize_max < 2 * level }
+    ensures fits { IfOk result (λ n. 2 * level ≤ usize_max) }
 {
     if level > usize::MAX / 2 {
         return Err(PrettyError::IndentTooWide);
@@ -25,8 +25,8 @@ pub fn deeper(level: usize) -> Result<usize, PrettyError>
 #[tactic(auto, using(crate::proofs::Indents::indent_more_after))]
 pub fn push_indent(out: &mut String, level: usize) -> Result<(), PrettyError>
     ensures ok { OnOk result (string_bytes out.new ≡ string_bytes out.old ++ indent level) }
-    ensures wide { result ≡ Err PrettyError.IndentTooWide → greatest < 2 * level }
-    ensures fits { OnOk result (2 * level ≤ greatest) }
+    ensures wide { result ≡ Err PrettyError.IndentTooWide → usize_max < 2 * level }
+    ensures fits { OnOk result (2 * level ≤ usize_max) }
 {
     if level > usize::MAX / 2 {
         return Err(PrettyError::IndentTooWide);
@@ -42,8 +42,8 @@ pub fn indented<T: Display>(value: &T, alloc: Global, level: usize) -> Result<St
     ensures ok { IfSome (T.output value.now) (λ t. IfOk result
         (λ s. string_bytes s ≡ indent level ++ t)) }
     ensures keeps { Keeps (T.output value.now) result }
-    ensures wide { result ≡ Err PrettyError.IndentTooWide → greatest < 2 * level }
-    ensures fits { IfOk result (λ s. 2 * level ≤ greatest) }
+    ensures wide { result ≡ Err PrettyError.IndentTooWide → usize_max < 2 * level }
+    ensures fits { IfOk result (λ s. 2 * level ≤ usize_max) }
 {
     let mut out = String::new(alloc);
     push_indent(&mut out, level)?;
@@ -66,8 +66,8 @@ pub fn push_shown<T: Display>(value: &T, out: &mut String) -> Result<(), PrettyE
 pub fn push_line<T: Display>(value: &T, level: usize, out: &mut String) -> Result<(), PrettyError>
     ensures ok { IfSome (T.output value.now) (λ t. OnOk result
         (string_bytes out.new ≡ string_bytes out.old ++ (indent level ++ t))) }
-    ensures wide { result ≡ Err PrettyError.IndentTooWide → greatest < 2 * level }
-    ensures fits { OnOk result (2 * level ≤ greatest) }
+    ensures wide { result ≡ Err PrettyError.IndentTooWide → usize_max < 2 * level }
+    ensures fits { OnOk result (2 * level ≤ usize_max) }
 {
     push_indent(out, level)?;
     out.write(value)?;
@@ -83,7 +83,7 @@ pub fn push_trimmed(text: &str, out: &mut String) -> Result<(), AllocError>
     Ok(())
 }
 
-/// Appends what stands before the argument at a place.
+/// Appends what comes before the argument at a place.
 pub fn push_comma(at: usize, out: &mut String) -> Result<(), AllocError>
     ensures { OnOk result (string_bytes out.new
         ≡ string_bytes out.old ++ (if at == 0 then [] else codes ",\n")) }
@@ -99,8 +99,8 @@ pub fn push_comma(at: usize, out: &mut String) -> Result<(), AllocError>
 pub fn push_below(out: &mut String, level: usize, text: &str) -> Result<(), PrettyError>
     ensures ok { OnOk result (string_bytes out.new
         ≡ string_bytes out.old ++ (codes "\n" ++ (indent level ++ text.now))) }
-    ensures wide { result ≡ Err PrettyError.IndentTooWide → greatest < 2 * level }
-    ensures fits { OnOk result (2 * level ≤ greatest) }
+    ensures wide { result ≡ Err PrettyError.IndentTooWide → usize_max < 2 * level }
+    ensures fits { OnOk result (2 * level ≤ usize_max) }
 {
     out.push_str("\n")?;
     push_indent(out, level)?;

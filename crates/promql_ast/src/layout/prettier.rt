@@ -1,11 +1,12 @@
-//! The layout of any value that displays: docs/LAYOUT.md, "The trait".
+//! The layout of any value that displays: docs/reference/printing.md, "The trait".
 
-ghost use Rattle.std.specs.Prelude.{◌≡◌, ◌⊎◌, ℕ, Bool, IfOk, IfSome, IsSome, IsTrue};
-ghost use Rattle.promql_ast.specs.Lines.{is_longer, Keeps};
-ghost use Rattle.promql_text.specs.Widths.{width};
+ghost use Rattle.std.specs.Prelude.{◌≡◌, ◌⊎◌, ℕ, Bool, Result, String, IfOk, IfSome, IsSome, IsTrue};
+ghost use Rattle.std.specs.declared.alloc.Global.{Global};
+ghost use Rattle.promql_ast.specs.Lines.{is_longer, IsLine, Keeps};
+ghost use Rattle.promql_text.specs.PrintedLen.{printed_len};
 
+use crate::layout::display_len::is_too_long;
 use crate::layout::indent::indented;
-use crate::layout::widths::is_too_long;
 use std::alloc::{AllocError, Global};
 use std::fmt::Display;
 use thiserror::Error;
@@ -37,7 +38,13 @@ impl From<AllocError> for PrettyError {
 ///
 /// `level` counts indentations of two spaces; `max` is the most bytes that a line has, its indentation not counted.
 pub trait Prettier: Display {
-    /// What an implementation of its own answers as `needs_split`.
+    ghost use Rattle.promql_ast.specs.declared.layout.prettier.PrettyError.{PrettyError};
+
+    /// What an implementation of its own returns from `pretty`, from `format` and from `needs_split`.
+    ghost own_pretty: { Self → ℕ → ℕ → Result (String Global) PrettyError → Type 0 } = { λ _ _ _ _. ⊥ };
+
+    ghost own_format: { Self → ℕ → ℕ → Result (String Global) PrettyError → Type 0 } = { λ _ _ _ _. ⊥ };
+
     ghost own_split: { Self → ℕ → Bool → Type 0 } = { λ _ _ _. ⊥ };
 
     /// The value, laid out.
@@ -49,7 +56,9 @@ pub trait Prettier: Display {
     fn pretty(&self, alloc: Global, level: usize, max: usize) -> Result<String, PrettyError>
     where
         Self: Sized,
-        ensures { Keeps (Self.output self.now) result }
+        ensures keeps { Keeps (Self.output self.now) result }
+        ensures line { IsLine (Self.output self.now) level PrettyError.IndentTooWide result
+            ⊎ (own_format self.now level max result ⊎ own_pretty self.now level max result) }
     {
         if self.needs_split(max) {
             self.format(alloc, level, max)
@@ -66,7 +75,9 @@ pub trait Prettier: Display {
     fn format(&self, alloc: Global, level: usize, max: usize) -> Result<String, PrettyError>
     where
         Self: Sized,
-        ensures { Keeps (Self.output self.now) result }
+        ensures keeps { Keeps (Self.output self.now) result }
+        ensures line { IsLine (Self.output self.now) level PrettyError.IndentTooWide result
+            ⊎ own_format self.now level max result }
     {
         let _ = max;
         indented(self, alloc, level)
@@ -76,7 +87,7 @@ pub trait Prettier: Display {
     fn needs_split(&self, max: usize) -> bool
     where
         Self: Sized,
-        ensures { IfSome (Self.output self.now) (λ t.
+        ensures split { IfSome (Self.output self.now) (λ t.
             (IsTrue result → IsTrue (is_longer max t)) ⊎ own_split self.now max result) }
     {
         is_too_long(self, max)

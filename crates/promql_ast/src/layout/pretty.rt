@@ -1,18 +1,122 @@
-//! Expressions lay themselves out: docs/LAYOUT.md, "Nodes".
+//! Layouts of nodes, of expressions and of lists of arguments: docs/reference/printing.md, "Nodes over several lines".
 
-ghost use Rattle.std.specs.Prelude.{◌≡◌, ◌≤◌, ◌+◌, ◌++◌, ◌⊎◌, ◌<◌, ◌*◌, Err, Some, IfOk, OnOk, IfSome, IsTrue, string_bytes};
-ghost use Rattle.promql_ast.specs.Layout.{deepest, laid};
-ghost use Rattle.promql_ast.specs.Lines.{indent, is_longer, Keeps};
+ghost use Rattle.std.specs.Prelude.{◌≡◌, ◌≤◌, ◌+◌, ◌++◌, ◌<◌, ◌*◌, ◌⊎◌, ◌&&◌, not, codes, ⊤, Err, Some, IfOk, OnOk, IfSome, IsTrue, string_bytes};
+ghost use Rattle.promql_ast.specs.Layout.{args_laid, deepest, deepests, is_leaf, laid, lines, lines_deepest};
+ghost use Rattle.promql_ast.specs.Lines.{indent, is_longer, IsLine, Keeps};
+ghost use Rattle.promql_ast.specs.NodeView.{tree_of_node};
 ghost use Rattle.promql_ast.specs.Nodes.{nodes};
-ghost use Rattle.promql_ast.specs.Text.{text};
-ghost use Rattle.promql_ast.specs.View.{tree_of};
-ghost use Rattle.promql_text.specs.Widths.{greatest, stopped};
+ghost use Rattle.promql_ast.specs.Text.{text, texts};
+ghost use Rattle.promql_ast.specs.Tree.{Tree};
+ghost use Rattle.promql_ast.specs.View.{tree_of, trees_of};
+ghost use Rattle.promql_text.specs.Texts.{joined_text};
+ghost use Rattle.promql_text.specs.PrintedLen.{usize_max, cap_usize};
 
+use crate::call::FunctionArgs;
 use crate::expr::Expr;
 use crate::layout::indent::indented;
+use crate::layout::measurer::Measurer;
+use crate::layout::node::{Node, args_len};
 use crate::layout::prettier::{Prettier, PrettyError};
 use crate::layout::tally::Tally;
+use crate::layout::writer::LayoutWriter;
 use std::alloc::Global;
+use std::fmt::Display;
+
+impl Node<'_> {
+    /// The node, laid out; `tally` counts the widths that are made.
+    #[tactic(auto, using(crate::proofs::LayoutsBy::laid_by, crate::proofs::LayoutsBy::deepest_all))]
+    fn pretty(
+        self,
+        alloc: Global,
+        level: usize,
+        max: usize,
+        tally: &mut Tally,
+    ) -> Result<String, PrettyError>
+        ensures text { IfOk result (λ s. string_bytes s ≡ laid (tree_of_node self.entry) level max) }
+        ensures wide { result ≡ Err PrettyError.IndentTooWide
+            → usize_max < 2 * deepest (tree_of_node self.entry) level max }
+        ensures fits { IfOk result (λ s. 2 * deepest (tree_of_node self.entry) level max ≤ usize_max) }
+        ensures counted { OnOk result
+            (tally.new.widths ≡ cap_usize (tally.old.widths + nodes (tree_of_node self.entry))) }
+        ensures between { (tally.old.widths ≤ tally.new.widths)
+            × (tally.new.widths ≤ cap_usize (tally.old.widths + nodes (tree_of_node self.entry))) }
+    {
+        let mut measurer = Measurer::new(alloc);
+        measurer.measure(self, max)?;
+        tally.add(measurer.measured);
+        let mut writer = LayoutWriter::new(alloc, &measurer.decisions);
+        writer.write_layout(self, level)?;
+        Ok(writer.out)
+    }
+
+    /// The node over several lines, if it has such a form, else its one line, indented.
+    #[tactic(auto, using(crate::proofs::LayoutsBy::lines_laid_by, crate::proofs::LayoutsBy::lines_deepest_all))]
+    fn format(self, alloc: Global, level: usize, max: usize) -> Result<String, PrettyError>
+        ensures text { IfOk result (λ s. string_bytes s ≡ lines (tree_of_node self.entry) level max) }
+        ensures wide { result ≡ Err PrettyError.IndentTooWide
+            → usize_max < 2 * lines_deepest (tree_of_node self.entry) level max }
+        ensures fits { IfOk result
+            (λ s. 2 * lines_deepest (tree_of_node self.entry) level max ≤ usize_max) }
+    {
+        let mut measurer = Measurer::new(alloc);
+        measurer.measure_operands(self, max)?;
+        let mut writer = LayoutWriter::new(alloc, &measurer.decisions);
+        writer.write_lines(self, level)?;
+        Ok(writer.out)
+    }
+}
+
+/// A node that is laid out by itself.
+pub trait LayoutNode: Display {
+    ghost tree: { Self → Tree };
+
+    fn node(&self) -> Node<'_>
+        ensures { tree_of_node result ≡ tree self.now };
+
+    /// It displays its one line.
+    ghost shows: { (x : Self) → Self.output x ≡ Some (text (tree x)) };
+}
+
+impl<T: LayoutNode> Prettier for T {
+    ghost use Rattle.std.proofs.Common.{ap};
+    ghost use Rattle.std.specs.Option.{is_some};
+
+    ghost own_pretty = { λ _ _ _ _. ⊤ };
+
+    ghost own_format = { λ _ _ _ _. ⊤ };
+
+    ghost states = { λ x. ap is_some (T.shows x) };
+
+    fn pretty(&self, alloc: Global, level: usize, max: usize) -> Result<String, PrettyError>
+        ensures keeps { Keeps (T.output self.now) result }
+        ensures text { IfOk result (λ s. string_bytes s ≡ laid (T.tree self.now) level max) }
+        ensures wide { result ≡ Err PrettyError.IndentTooWide
+            → usize_max < 2 * deepest (T.tree self.now) level max }
+        ensures fits { IfOk result (λ s. 2 * deepest (T.tree self.now) level max ≤ usize_max) }
+    {
+        self.node().pretty(alloc, level, max, &mut Tally::default())
+    }
+
+    fn format(&self, alloc: Global, level: usize, max: usize) -> Result<String, PrettyError>
+        ensures keeps { Keeps (T.output self.now) result }
+        ensures text { IfOk result (λ s. string_bytes s ≡ lines (T.tree self.now) level max) }
+        ensures wide { result ≡ Err PrettyError.IndentTooWide
+            → usize_max < 2 * lines_deepest (T.tree self.now) level max }
+        ensures fits { IfOk result (λ s. 2 * lines_deepest (T.tree self.now) level max ≤ usize_max) }
+    {
+        self.node().format(alloc, level, max)
+    }
+
+    fn needs_split(&self, max: usize) -> bool
+        ensures split { IfSome (T.output self.now)
+            (λ t. (IsTrue result → IsTrue (is_longer max t)) ⊎ ⊥) }
+        ensures exact { result
+            ≡ (not (is_leaf (T.tree self.now)) && is_longer max (text (T.tree self.now))) }
+    {
+        let node = self.node();
+        !node.is_leaf() && max < node.printed_len()
+    }
+}
 
 impl Expr {
     /// The expression, laid out; `tally` counts the widths that are made, one for each node.
@@ -21,7 +125,6 @@ impl Expr {
     ///
     /// `IndentTooWide` where an indentation would have more bytes than a `usize` counts; `Memory` where an allocation
     /// failed.
-    #[tactic(auto, using(crate::proofs::Told::told_all, crate::proofs::Told::deepest_all))]
     pub fn pretty_counted(
         &self,
         alloc: Global,
@@ -31,20 +134,15 @@ impl Expr {
     ) -> Result<String, PrettyError>
         ensures text { IfOk result (λ s. string_bytes s ≡ laid (tree_of self.now) level max) }
         ensures wide { result ≡ Err PrettyError.IndentTooWide
-            → greatest < 2 * deepest (tree_of self.now) level max }
+            → usize_max < 2 * deepest (tree_of self.now) level max }
         ensures fits { IfOk result
-            (λ s. 2 * deepest (tree_of self.now) level max ≤ greatest) }
+            (λ s. 2 * deepest (tree_of self.now) level max ≤ usize_max) }
         ensures counted { OnOk result
-            (tally.new.widths ≡ stopped (tally.old.widths + nodes (tree_of self.now))) }
+            (tally.new.widths ≡ cap_usize (tally.old.widths + nodes (tree_of self.now))) }
         ensures between { (tally.old.widths ≤ tally.new.widths)
-            × (tally.new.widths ≤ stopped (tally.old.widths + nodes (tree_of self.now))) }
+            × (tally.new.widths ≤ cap_usize (tally.old.widths + nodes (tree_of self.now))) }
     {
-        let mut splits = Vec::new(alloc);
-        self.measure(max, &mut splits, tally)?;
-        let mut out = String::new(alloc);
-        let mut decisions = splits.iter();
-        self.place(alloc, level, &mut decisions, &mut out)?;
-        Ok(out)
+        self.node().pretty(alloc, level, max, tally)
     }
 
     /// The expression, laid out at level 0 in lines of at most 100 bytes.
@@ -55,9 +153,9 @@ impl Expr {
     pub fn prettify(&self, alloc: Global) -> Result<String, PrettyError>
         ensures text { IfOk result (λ s. string_bytes s ≡ laid (tree_of self.now) 0 100) }
         ensures wide { result ≡ Err PrettyError.IndentTooWide
-            → greatest < 2 * deepest (tree_of self.now) 0 100 }
+            → usize_max < 2 * deepest (tree_of self.now) 0 100 }
         ensures fits { IfOk result
-            (λ s. 2 * deepest (tree_of self.now) 0 100 ≤ greatest) }
+            (λ s. 2 * deepest (tree_of self.now) 0 100 ≤ usize_max) }
     {
         self.pretty(alloc, 0, 100)
     }
@@ -66,6 +164,8 @@ impl Expr {
 impl Prettier for Expr {
     ghost use Rattle.std.proofs.Common.{rules};
 
+    ghost own_pretty = { λ _ _ _ _. ⊤ };
+
     ghost states = { λ e. Prim.search rules };
 
     #[tactic(auto, using(crate::proofs::Layouts::keeps_alike, crate::proofs::Layouts::laid_alike))]
@@ -73,20 +173,18 @@ impl Prettier for Expr {
         ensures keeps { Keeps (Some (text (tree_of self.now))) result }
         ensures text { IfOk result (λ s. string_bytes s ≡ laid (tree_of self.now) level max) }
         ensures wide { result ≡ Err PrettyError.IndentTooWide
-            → greatest < 2 * deepest (tree_of self.now) level max }
-        ensures fits { IfOk result
-            (λ s. 2 * deepest (tree_of self.now) level max ≤ greatest) }
+            → usize_max < 2 * deepest (tree_of self.now) level max }
+        ensures fits { IfOk result (λ s. 2 * deepest (tree_of self.now) level max ≤ usize_max) }
     {
-        let mut tally = Tally::default();
-        self.pretty_counted(alloc, level, max, &mut tally)
+        self.pretty_counted(alloc, level, max, &mut Tally::default())
     }
 
     fn format(&self, alloc: Global, level: usize, max: usize) -> Result<String, PrettyError>
         ensures keeps { Keeps (Some (text (tree_of self.now))) result }
         ensures text { IfOk result
             (λ s. string_bytes s ≡ indent level ++ text (tree_of self.now)) }
-        ensures wide { result ≡ Err PrettyError.IndentTooWide → greatest < 2 * level }
-        ensures fits { IfOk result (λ s. 2 * level ≤ greatest) }
+        ensures wide { result ≡ Err PrettyError.IndentTooWide → usize_max < 2 * level }
+        ensures fits { IfOk result (λ s. 2 * level ≤ usize_max) }
     {
         let _ = max;
         indented(self, alloc, level)
@@ -97,6 +195,54 @@ impl Prettier for Expr {
             (λ t. (IsTrue result → IsTrue (is_longer max t)) ⊎ ⊥) }
         ensures exact { result ≡ is_longer max (text (tree_of self.now)) }
     {
-        max < self.width()
+        max < self.node().printed_len()
+    }
+}
+
+impl Prettier for FunctionArgs {
+    ghost use Rattle.std.proofs.Common.{rules};
+
+    ghost own_pretty = { λ _ _ _ _. ⊤ };
+
+    ghost states = { λ e. Prim.search rules };
+
+    fn pretty(&self, alloc: Global, level: usize, max: usize) -> Result<String, PrettyError>
+        ensures keeps { Keeps (Some (joined_text (codes ", ") (texts
+            (trees_of self.now.args.items)))) result }
+        ensures text { IfOk result
+            (λ s. string_bytes s ≡ args_laid (trees_of self.now.args.items) level max) }
+        ensures wide { result ≡ Err PrettyError.IndentTooWide
+            → usize_max < 2 * deepests (trees_of self.now.args.items) level max }
+        ensures fits { IfOk result
+            (λ s. 2 * deepests (trees_of self.now.args.items) level max ≤ usize_max) }
+    {
+        let args = self.args.as_slice();
+        let mut measurer = Measurer::new(alloc);
+        measurer.measure_args(args, max)?;
+        let mut writer = LayoutWriter::new(alloc, &measurer.decisions);
+        writer.write_args(args, level)?;
+        Ok(writer.out)
+    }
+
+    fn format(&self, alloc: Global, level: usize, max: usize) -> Result<String, PrettyError>
+        ensures keeps { Keeps (Some (joined_text (codes ", ") (texts
+            (trees_of self.now.args.items)))) result }
+        ensures text { IfOk result (λ s. string_bytes s ≡ indent level
+            ++ joined_text (codes ", ") (texts (trees_of self.now.args.items))) }
+        ensures wide { result ≡ Err PrettyError.IndentTooWide → usize_max < 2 * level }
+        ensures fits { IfOk result (λ s. 2 * level ≤ usize_max) }
+    {
+        let _ = max;
+        indented(self, alloc, level)
+    }
+
+    fn needs_split(&self, max: usize) -> bool
+        ensures split { IfSome (Some (joined_text (codes ", ") (texts
+            (trees_of self.now.args.items))))
+            (λ t. (IsTrue result → IsTrue (is_longer max t)) ⊎ ⊥) }
+        ensures exact { result
+            ≡ is_longer max (joined_text (codes ", ") (texts (trees_of self.now.args.items))) }
+    {
+        max < args_len(self.args.as_slice())
     }
 }

@@ -1,13 +1,13 @@
-//! How many widths were made: docs/LAYOUT.md, "One width a node".
+//! How many widths were made: docs/reference/printing.md, "One width a node".
 
 ghost use Rattle.std.specs.Prelude.{◌≡◌, ◌+◌, ◌≤◌};
-ghost use Rattle.promql_text.specs.Widths.{greatest, stopped};
+ghost use Rattle.promql_text.specs.PrintedLen.{usize_max, cap_usize};
 
 /// Counts the widths that layouts make, up to the greatest `usize`.
 #[derive(Drop)]
 pub struct Tally {
     widths: usize,
-    ghost known: { widths ≤ greatest },
+    ghost known: { widths ≤ usize_max },
 }
 
 impl Default for Tally {
@@ -28,10 +28,10 @@ impl Tally {
         self.widths
     }
 
-    pub(crate) fn count(&mut self)
-        ensures counted { self.new.widths ≡ stopped (self.old.widths + 1) }
-        ensures known { self.old.widths ≤ greatest }
+    pub(crate) fn add(&mut self, widths: usize)
+        ensures counted { self.new.widths ≡ cap_usize (self.old.widths + widths) }
+        ensures known { self.old.widths ≤ usize_max }
     {
-        self.widths = self.widths.saturating_add(1);
+        self.widths = self.widths.saturating_add(widths);
     }
 }

@@ -3,6 +3,6 @@
 pub use promql_ast::{
     AggregateExpr, AtFault, AtModifier, BinaryExpr, Call, CheckError, CheckFault, EvalStmt, Expr,
     Extension, MatrixSelector, NodeFault, NumberLiteral, Offset, ParenExpr, RangeMode,
-    StringLiteral, SubqueryExpr, TypedPlace, UnaryExpr, VectorSelector,
+    StringLiteral, SubqueryExpr, TypeContext, UnaryExpr, VectorSelector,
 };
 pub use promql_kind::{BinModifier, LabelModifier, VectorMatchCardinality, VectorMatchFillValues};

@@ -1,68 +1,68 @@
 //! Kinds of tokens.
 
 use crate::tests::rows::{holds, is_so};
-use promql_grammar::{Kind, kind_of};
+use promql_grammar::{TokenKind, token_kind};
 use promql_token::TokenType;
 use promql_token::ids::*;
 use std::alloc::{AllocError, Global};
 use std::test::Fail;
 
-// Kinds with their ids, from docs/GRAMMAR.md.
-const KINDS: [(TokenId, Kind); 32] = [
-    (T_NUMBER, Kind::Number),
-    (T_DURATION, Kind::Duration),
-    (T_STRING, Kind::Str),
-    (T_IDENTIFIER, Kind::Name),
-    (T_METRIC_IDENTIFIER, Kind::MetricName),
-    (T_BY, Kind::By),
-    (T_WITHOUT, Kind::Without),
-    (T_ON, Kind::On),
-    (T_IGNORING, Kind::Ignoring),
-    (T_GROUP_LEFT, Kind::GroupLeft),
-    (T_GROUP_RIGHT, Kind::GroupRight),
-    (T_BOOL, Kind::Bool),
-    (T_OFFSET, Kind::Offset),
-    (T_START, Kind::Start),
-    (T_END, Kind::End),
-    (T_SMOOTHED, Kind::Smoothed),
-    (T_ANCHORED, Kind::Anchored),
-    (T_FILL, Kind::Fill),
-    (T_FILL_LEFT, Kind::FillLeft),
-    (T_FILL_RIGHT, Kind::FillRight),
-    (T_LEFT_PAREN, Kind::LeftParen),
-    (T_RIGHT_PAREN, Kind::RightParen),
-    (T_LEFT_BRACE, Kind::LeftBrace),
-    (T_RIGHT_BRACE, Kind::RightBrace),
-    (T_LEFT_BRACKET, Kind::LeftBracket),
-    (T_RIGHT_BRACKET, Kind::RightBracket),
-    (T_COMMA, Kind::Comma),
-    (T_COLON, Kind::Colon),
-    (T_EQL, Kind::Equal),
-    (T_EQL_REGEX, Kind::EqualRegex),
-    (T_NEQ_REGEX, Kind::NotEqualRegex),
-    (T_AT, Kind::At),
+// Kinds with their ids, from docs/reference/grammar.md.
+const TOKEN_KINDS: [(TokenId, TokenKind); 32] = [
+    (T_NUMBER, TokenKind::Number),
+    (T_DURATION, TokenKind::Duration),
+    (T_STRING, TokenKind::String),
+    (T_IDENTIFIER, TokenKind::Identifier),
+    (T_METRIC_IDENTIFIER, TokenKind::MetricIdentifier),
+    (T_BY, TokenKind::By),
+    (T_WITHOUT, TokenKind::Without),
+    (T_ON, TokenKind::On),
+    (T_IGNORING, TokenKind::Ignoring),
+    (T_GROUP_LEFT, TokenKind::GroupLeft),
+    (T_GROUP_RIGHT, TokenKind::GroupRight),
+    (T_BOOL, TokenKind::Bool),
+    (T_OFFSET, TokenKind::Offset),
+    (T_START, TokenKind::Start),
+    (T_END, TokenKind::End),
+    (T_SMOOTHED, TokenKind::Smoothed),
+    (T_ANCHORED, TokenKind::Anchored),
+    (T_FILL, TokenKind::Fill),
+    (T_FILL_LEFT, TokenKind::FillLeft),
+    (T_FILL_RIGHT, TokenKind::FillRight),
+    (T_LEFT_PAREN, TokenKind::LeftParen),
+    (T_RIGHT_PAREN, TokenKind::RightParen),
+    (T_LEFT_BRACE, TokenKind::LeftBrace),
+    (T_RIGHT_BRACE, TokenKind::RightBrace),
+    (T_LEFT_BRACKET, TokenKind::LeftBracket),
+    (T_RIGHT_BRACKET, TokenKind::RightBracket),
+    (T_COMMA, TokenKind::Comma),
+    (T_COLON, TokenKind::Colon),
+    (T_EQL, TokenKind::Equal),
+    (T_EQL_REGEX, TokenKind::EqualRegex),
+    (T_NEQ_REGEX, TokenKind::NotEqualRegex),
+    (T_AT, TokenKind::At),
 ];
 
 // The kind of an id by the table and the classes of ids.
-fn wanted(id: TokenId) -> Kind {
-    for (row, kind) in &KINDS {
+fn wanted(id: TokenId) -> TokenKind {
+    for (row, kind) in &TOKEN_KINDS {
         if *row == id {
             return *kind;
         }
     }
     let token = TokenType::new(id);
     if token.is_aggregator() {
-        Kind::Aggregator(id)
+        TokenKind::Aggregator(id)
     } else if token.is_operator() {
-        Kind::Operator(id)
+        TokenKind::Operator(id)
     } else {
-        Kind::Other
+        TokenKind::Other
     }
 }
 
 // Whether the kind of an id is the wanted one; kinds are told apart by their names.
 fn has_kind(alloc: Global, id: TokenId) -> Result<bool, AllocError> {
-    let found = format!(in alloc; "{:?}", kind_of(id))?;
+    let found = format!(in alloc; "{:?}", token_kind(id))?;
     match format!(in alloc; "{:?}", wanted(id)) {
         Ok(want) => Ok(found == want),
         Err(error) => Err(error),
@@ -72,7 +72,7 @@ fn has_kind(alloc: Global, id: TokenId) -> Result<bool, AllocError> {
 #[test]
 fn kinds_of_tokens(rt: HostRuntime) -> Result<(), Fail> {
     for id in 0..100u16 {
-        let found = format!(in rt.alloc(); "{:?}", kind_of(id))?;
+        let found = format!(in rt.alloc(); "{:?}", token_kind(id))?;
         assert!(rt;
             found == format!(in rt.alloc(); "{:?}", wanted(id))?,
             "{id}"
@@ -112,10 +112,10 @@ const NO_NAMES: [TokenId; 10] = [
 #[test]
 fn names(rt: HostRuntime) {
     for id in &NAMES {
-        holds(&rt, kind_of(*id).may_be_name(), token_display(*id));
+        holds(&rt, token_kind(*id).may_be_name(), token_display(*id));
     }
     for id in &NO_NAMES {
-        holds(&rt, !kind_of(*id).may_be_name(), token_display(*id));
+        holds(&rt, !token_kind(*id).may_be_name(), token_display(*id));
     }
 }
 
@@ -153,9 +153,9 @@ const NO_LABELS: [TokenId; 10] = [
 #[test]
 fn labels(rt: HostRuntime) {
     for id in &LABELS {
-        holds(&rt, kind_of(*id).may_be_label(), token_display(*id));
+        holds(&rt, token_kind(*id).may_be_label(), token_display(*id));
     }
     for id in &NO_LABELS {
-        holds(&rt, !kind_of(*id).may_be_label(), token_display(*id));
+        holds(&rt, !token_kind(*id).may_be_label(), token_display(*id));
     }
 }

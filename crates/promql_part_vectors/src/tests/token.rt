@@ -1,4 +1,4 @@
-//! Texts with their tokens and lexical faults, from docs/TOKENS.md.
+//! Texts with their tokens and lexical faults, from docs/reference/tokens.md.
 
 mod ids;
 
@@ -372,6 +372,15 @@ fn last_item(text: &str) -> Option<Result<Lexeme, LexFault>> {
         last = Some(item);
     }
     last
+}
+
+#[test]
+fn a_lexer_ends_with_its_fault(rt: HostRuntime) {
+    let mut lexer = Lexer::new("a ~ b");
+    holds(&rt, matches!(lexer.next(), Some(Ok(_))), "a");
+    holds(&rt, matches!(lexer.next(), Some(Err(_))), "~");
+    holds(&rt, lexer.next().is_none(), "after the fault");
+    holds(&rt, lexer.next().is_none(), "again");
 }
 
 fn has_tokens(alloc: Global, text: &str, wanted: &[(TokenId, usize, usize)]) -> bool {

@@ -1,76 +1,73 @@
 //! The rule `aggregation`.
 
 ghost use Rattle.std.specs.Prelude.{◌≡◌, ℕ, ◌+◌, ◌≤◌, length, IfOk, MatchResult, OnOk};
-ghost use Rattle.promql_grammar.specs.Reading.{aggregated, clause_at, expression};
-ghost use Rattle.promql_syntax.specs.Drawing.{symbols_left};
-ghost use Rattle.promql_syntax.specs.Parts.{Fails, FailsBase, IsBase, IsClauseRead};
+ghost use Rattle.promql_grammar.specs.Parsing.{parse_aggregate, parse_grouping, parse_expression};
+ghost use Rattle.promql_syntax.specs.SymbolsLeft.{symbols_left};
+ghost use Rattle.promql_syntax.specs.ParsesExpr.{Fails, FailsBase, ParsesBase, ParsesGrouping};
 
-use crate::grammar::building::aggregate_part;
-use crate::grammar::call::read_arguments;
-use crate::grammar::clause::clause_at;
-use crate::grammar::fault::Fault;
-use crate::grammar::front::begins_clause;
-use crate::grammar::leaf::read_selector;
-use crate::grammar::part::Part;
-use crate::grammar::signs::takes_left_paren;
+use crate::grammar::atom::parse_selector;
+use crate::grammar::build::build_aggregate;
+use crate::grammar::call::parse_arguments;
+use crate::grammar::grouping::{parse_grouping, starts_grouping};
+use crate::grammar::parsed::{ParsedExpr, Pending};
 use crate::parser::MAX_DEPTH;
 use crate::tokens::Tokens;
-use promql_grammar::{Halt, Kind};
+use promql_grammar::{ReadError, TokenKind};
 use promql_kind::LabelModifier;
 use promql_token::TokenId;
 use std::alloc::Global;
 
-/// An aggregation, or a selector of that name, after the aggregator.
+/// Parses an aggregation, or a selector of that name, after the aggregator.
 #[cycle(parser)]
-pub fn read_aggregate(
+pub fn parse_aggregate(
     alloc: Global,
-    room: usize,
+    max_height: usize,
     op: TokenId,
     name: &str,
     tokens: &mut Tokens<'_>,
-) -> Result<Part, Halt>
-    requires { room ≤ MAX_DEPTH }
+) -> Result<ParsedExpr, ReadError>
+    requires { max_height ≤ MAX_DEPTH }
     ensures gives { MatchResult result
-        (λ part. IsBase part (symbols_left tokens.new)
-        (λ k n. aggregated (expression room) k n op name.now (symbols_left tokens.old)))
+        (λ parsed. ParsesBase parsed (symbols_left tokens.new)
+        (λ k n. parse_aggregate (parse_expression max_height) k n op name.now
+        (symbols_left tokens.old)))
         (λ e. FailsBase e
-        (λ k n. aggregated (expression room) k n op name.now (symbols_left tokens.old))) }
-    ensures low { IfOk result (λ part. part.height ≤ room + 1) }
+        (λ k n. parse_aggregate (parse_expression max_height) k n op name.now
+        (symbols_left tokens.old))) }
+    ensures low { IfOk result (λ parsed. parsed.height ≤ max_height + 1) }
     ensures short { OnOk result
         (length (symbols_left tokens.new) ≤ length (symbols_left tokens.old)) }
 {
-    if takes_left_paren(tokens) {
-        let args = read_arguments(alloc, room, tokens)?;
-        let clause = take_clause(alloc, tokens)?;
-        return Ok(aggregate_part(alloc, op, clause, args)?);
+    if tokens.eat(TokenKind::LeftParen) {
+        let args = parse_arguments(alloc, max_height, tokens)?;
+        let grouping = parse_boxed_grouping(alloc, tokens)?;
+        return Ok(build_aggregate(alloc, op, grouping, args)?);
     }
-    if !begins_clause(tokens) {
-        return read_selector(alloc, Kind::Aggregator(op), name, tokens);
+    if !starts_grouping(tokens) {
+        return parse_selector(alloc, TokenKind::Aggregator(op), name, tokens);
     }
-    let clause = take_clause(alloc, tokens)?;
-    if !takes_left_paren(tokens) {
-        return Err(Halt::Syntax);
-    }
-    let args = read_arguments(alloc, room, tokens)?;
-    Ok(aggregate_part(alloc, op, clause, args)?)
+    let grouping = parse_boxed_grouping(alloc, tokens)?;
+    tokens.expect(TokenKind::LeftParen)?;
+    let args = parse_arguments(alloc, max_height, tokens)?;
+    Ok(build_aggregate(alloc, op, grouping, args)?)
 }
 
-/// Takes a clause, if there is one, into a box: it may wait for the arguments.
+/// Parses a grouping, if there is one, into a box: it may wait for the arguments.
 #[inline(never)]
-fn take_clause(
+fn parse_boxed_grouping(
     alloc: Global,
     tokens: &mut Tokens<'_>,
-) -> Result<Option<Box<Result<LabelModifier, Fault>>>, Halt>
+) -> Result<Pending<LabelModifier>, ReadError>
     ensures gives { MatchResult result
-        (λ held. IsClauseRead held (symbols_left tokens.new)
-        (clause_at (symbols_left tokens.old)))
-        (λ e. Fails e (clause_at (symbols_left tokens.old))) }
+        (λ held. ParsesGrouping held (symbols_left tokens.new)
+        (parse_grouping (symbols_left tokens.old)))
+        (λ e. Fails e (parse_grouping (symbols_left tokens.old))) }
     ensures short { OnOk result
         (length (symbols_left tokens.new) ≤ length (symbols_left tokens.old)) }
 {
-    match clause_at(alloc, tokens)? {
+    match parse_grouping(alloc, tokens)? {
         Ok(None) => Ok(None),
-        Ok(Some(clause)) => Ok(Some(Box::new(alloc, Ok(clause))?)),
-        Err(fault) => Ok(Some(Box::new(alloc, Err(fault))?)),
+        Ok(Some(grouping)) => Ok(Some(Box::new(alloc, Ok(grouping))?)),
+        Err(error) => Ok(Some(Box::new(alloc, Err(error))?)),
     }
 }

@@ -1,83 +1,74 @@
 //! The rules `call` and `arguments`.
 
 ghost use Rattle.std.specs.Prelude.{◌≡◌, ℕ, ◌+◌, ◌≤◌, length, IfOk, MatchResult, OnOk};
-ghost use Rattle.promql_grammar.specs.Reading.{arguments_at, called, expression};
-ghost use Rattle.promql_grammar.specs.Symbols.{may_be_called};
-ghost use Rattle.promql_syntax.specs.Drawing.{symbols_left};
-ghost use Rattle.promql_syntax.specs.Parts.{AreGiven, Fails, FailsBase, IsBase};
+ghost use Rattle.promql_grammar.specs.Parsing.{parse_arguments, parse_call, parse_expression};
+ghost use Rattle.promql_syntax.specs.SymbolsLeft.{symbols_left};
+ghost use Rattle.promql_syntax.specs.ParsesExpr.{ParsesArgs, Fails, FailsBase, ParsesBase};
 
-use crate::grammar::building::{call_part, more_arguments, no_arguments};
-use crate::grammar::expression::read_expression;
-use crate::grammar::front::LOWEST_LEVEL;
-use crate::grammar::leaf::read_selector;
-use crate::grammar::part::{Arguments, Part};
-use crate::grammar::signs::{takes_comma, takes_left_paren, takes_right_paren};
+use crate::grammar::atom::parse_selector;
+use crate::grammar::build::{append_argument, build_call, empty_arguments};
+use crate::grammar::expression::parse_expression;
+use crate::grammar::parsed::{ParsedArgs, ParsedExpr};
+use crate::grammar::precedence::MIN_PRECEDENCE;
 use crate::parser::MAX_DEPTH;
 use crate::tokens::Tokens;
-use promql_grammar::{Halt, Kind};
+use promql_grammar::{ReadError, TokenKind};
 use std::alloc::Global;
 
-/// Whether a token of this kind may be the name of a function.
-pub fn may_be_called(kind: Kind) -> bool
-    ensures { result ≡ may_be_called kind }
-{
-    matches!(kind, Kind::Name | Kind::Start | Kind::End)
-}
-
-/// A call, or a selector, after its name.
+/// Parses a call, or a selector, after its name.
 #[cycle(parser)]
-pub fn read_call(
+pub fn parse_call(
     alloc: Global,
-    room: usize,
-    kind: Kind,
+    max_height: usize,
+    kind: TokenKind,
     name: &str,
     tokens: &mut Tokens<'_>,
-) -> Result<Part, Halt>
-    requires room { room ≤ MAX_DEPTH }
+) -> Result<ParsedExpr, ReadError>
+    requires max_height { max_height ≤ MAX_DEPTH }
     ensures gives { MatchResult result
-        (λ part. IsBase part (symbols_left tokens.new)
-        (λ k n. called (expression room) k n kind name.now (symbols_left tokens.old)))
+        (λ parsed. ParsesBase parsed (symbols_left tokens.new)
+        (λ k n. parse_call (parse_expression max_height) k n kind name.now
+        (symbols_left tokens.old)))
         (λ e. FailsBase e
-        (λ k n. called (expression room) k n kind name.now (symbols_left tokens.old))) }
-    ensures low { IfOk result (λ part. part.height ≤ room + 1) }
+        (λ k n. parse_call (parse_expression max_height) k n kind name.now
+        (symbols_left tokens.old))) }
+    ensures low { IfOk result (λ parsed. parsed.height ≤ max_height + 1) }
     ensures short { OnOk result
         (length (symbols_left tokens.new) ≤ length (symbols_left tokens.old)) }
 {
-    if !takes_left_paren(tokens) {
-        return read_selector(alloc, kind, name, tokens);
+    if !tokens.eat(TokenKind::LeftParen) {
+        return parse_selector(alloc, kind, name, tokens);
     }
-    let args = read_arguments(alloc, room, tokens)?;
-    Ok(call_part(alloc, name, args)?)
+    let args = parse_arguments(alloc, max_height, tokens)?;
+    Ok(build_call(alloc, name, args)?)
 }
 
-/// Arguments, after the opening parenthesis.
+/// Parses arguments, after the opening parenthesis.
 #[cycle(parser)]
-pub fn read_arguments(
+pub fn parse_arguments(
     alloc: Global,
-    room: usize,
+    max_height: usize,
     tokens: &mut Tokens<'_>,
-) -> Result<Arguments, Halt>
-    requires { room ≤ MAX_DEPTH }
+) -> Result<ParsedArgs, ReadError>
+    requires { max_height ≤ MAX_DEPTH }
     ensures gives { MatchResult result
-        (λ args. AreGiven args (symbols_left tokens.new)
-        (arguments_at (expression room) (symbols_left tokens.old)))
-        (λ e. Fails e (arguments_at (expression room) (symbols_left tokens.old))) }
-    ensures low { IfOk result (λ args. args.height ≤ room) }
+        (λ args. ParsesArgs args (symbols_left tokens.new)
+        (parse_arguments (parse_expression max_height) (symbols_left tokens.old)))
+        (λ e. Fails e (parse_arguments (parse_expression max_height) (symbols_left tokens.old))) }
+    ensures low { IfOk result (λ args. args.height ≤ max_height) }
     ensures short { OnOk result
         (length (symbols_left tokens.new) ≤ length (symbols_left tokens.old)) }
 {
-    let mut args = no_arguments(alloc);
-    if takes_right_paren(tokens) {
+    let mut args = empty_arguments(alloc);
+    if tokens.eat(TokenKind::RightParen) {
         return Ok(args);
     }
-    let first = read_expression(alloc, room, LOWEST_LEVEL, tokens)?;
-    args = more_arguments(args, first)?;
-    while takes_comma(tokens) {
-        let next = read_expression(alloc, room, LOWEST_LEVEL, tokens)?;
-        args = more_arguments(args, next)?;
+    let first = parse_expression(alloc, max_height, MIN_PRECEDENCE, tokens)?;
+    args = append_argument(args, first)?;
+    while tokens.eat(TokenKind::Comma) {
+        let next = parse_expression(alloc, max_height, MIN_PRECEDENCE, tokens)?;
+        args = append_argument(args, next)?;
     }
-    if !takes_right_paren(tokens) {
-        return Err(Halt::Syntax);
-    }
+    tokens.expect(TokenKind::RightParen)?;
     Ok(args)
 }

@@ -1,216 +1,228 @@
-//! The rule `expr`.
+//! The rule `expression`, by precedence climbing.
 
 ghost use Rattle.std.specs.Prelude.{◌≡◌, ℕ, ◌+◌, ◌≤◌, true, length, IfOk, IsErrOf, MatchResult, OnOk};
-ghost use Rattle.promql_grammar.specs.Reading.{expression, first};
+ghost use Rattle.promql_grammar.specs.Parsing.{parse_expression, parse_unary};
 ghost use Rattle.promql_grammar.specs.Symbols.{begins};
-ghost use Rattle.promql_syntax.specs.Drawing.{symbols_left};
-ghost use Rattle.promql_syntax.specs.Front.{HasNoSign};
-ghost use Rattle.promql_syntax.specs.Parts.{Fails, FailsBase, GivesModifier, GivesPostfixed, IsBase, IsGiven};
-ghost use Rattle.promql_syntax.specs.Wholes.{IsWhole};
+ghost use Rattle.promql_syntax.specs.SymbolsLeft.{symbols_left};
+ghost use Rattle.promql_syntax.specs.OperatorTokens.{HasNoUnaryOperator};
+ghost use Rattle.promql_syntax.specs.ParsesExpr.{Fails, FailsBase, GivesModifier, ParsesPostfixes, ParsesBase, ParsesExpr};
+ghost use Rattle.promql_syntax.specs.ParsesQuery.{ParsesQuery};
 
-use crate::grammar::aggregate::read_aggregate;
-use crate::grammar::building::{binary_part, paren_part, postfixed_part, unary_part};
-use crate::grammar::call::{may_be_called, read_call};
-use crate::grammar::fault::Fault;
-use crate::grammar::front::{
-    LOWEST_LEVEL, SIGN_LEVEL, next, right_level, take_operator, take_sign,
+use crate::grammar::aggregate::parse_aggregate;
+use crate::grammar::atom::parse_atom;
+use crate::grammar::build::{build_binary, build_paren, build_postfix, build_unary};
+use crate::grammar::build_error::BuildError;
+use crate::grammar::call::parse_call;
+use crate::grammar::modifier::{parse_modifier, starts_modifier};
+use crate::grammar::parsed::{ParsedExpr, Pending};
+use crate::grammar::postfix::{parse_postfix, starts_postfix};
+use crate::grammar::precedence::{
+    MIN_PRECEDENCE, UNARY_PRECEDENCE, eat_operator, eat_unary_operator, right_precedence,
 };
-use crate::grammar::leaf::read_leaf;
-use crate::grammar::modifier::{begins_modifier, modifier_at};
-use crate::grammar::part::Part;
-use crate::grammar::postfix::{begins_postfix, postfix_at};
-use crate::grammar::signs::takes_right_paren;
 use crate::parser::MAX_DEPTH;
 use crate::tokens::Tokens;
 use promql_ast::Expr;
-use promql_grammar::{Halt, Kind};
+use promql_grammar::{ReadError, TokenKind};
 use promql_kind::BinModifier;
 use std::alloc::Global;
 
-/// An expression of height at most `room`, whose operators outside are of at least the lowest
-/// level.
+/// Parses an expression of height at most `max_height`, up to an operator of a precedence below
+/// `min_precedence`.
 #[cycle(parser)]
-pub fn read_expression(
+pub fn parse_expression(
     alloc: Global,
-    room: usize,
-    lowest: usize,
+    max_height: usize,
+    min_precedence: usize,
     tokens: &mut Tokens<'_>,
-) -> Result<Part, Halt>
-    requires { room ≤ MAX_DEPTH }
+) -> Result<ParsedExpr, ReadError>
+    requires { max_height ≤ MAX_DEPTH }
     ensures gives { MatchResult result
-        (λ part. IsGiven part (symbols_left tokens.new)
-        (expression room lowest (symbols_left tokens.old)))
-        (λ e. Fails e (expression room lowest (symbols_left tokens.old))) }
-    ensures low { IfOk result (λ part. part.height ≤ room) }
+        (λ parsed. ParsesExpr parsed (symbols_left tokens.new)
+        (parse_expression max_height min_precedence (symbols_left tokens.old)))
+        (λ e. Fails e (parse_expression max_height min_precedence (symbols_left tokens.old))) }
+    ensures low { IfOk result (λ parsed. parsed.height ≤ max_height) }
     ensures short { OnOk result
         (length (symbols_left tokens.new) ≤ length (symbols_left tokens.old)) }
-    ensures memory { IsErrOf result Halt.Memory → begins (symbols_left tokens.old) ≡ true }
+    ensures memory { IsErrOf result ReadError.Memory → begins (symbols_left tokens.old) ≡ true }
 {
-    if room == 0 {
-        return Err(Halt::TooDeep);
+    if max_height == 0 {
+        return Err(ReadError::TooDeep);
     }
-    let below = room - 1;
-    let mut left = read_first(alloc, below, tokens)?;
-    while let Some(op) = take_operator(tokens, lowest) {
+    let below = max_height - 1;
+    let mut left = parse_unary(alloc, below, tokens)?;
+    while let Some(op) = eat_operator(tokens, min_precedence) {
         if below < left.height {
-            return Err(Halt::TooDeep);
+            return Err(ReadError::TooDeep);
         }
-        let modifier = take_modifier(alloc, tokens)?;
-        let right = read_expression(alloc, below, right_level(op), tokens)?;
-        left = binary_part(alloc, op, left, modifier, right)?;
+        let modifier = parse_optional_modifier(alloc, tokens)?;
+        let right = parse_expression(alloc, below, right_precedence(op), tokens)?;
+        left = build_binary(alloc, op, left, modifier, right)?;
     }
     Ok(left)
 }
 
-/// A form with no binary operator outside, of height at most `room` and one.
+/// Parses an operand with the unary operators before it, or with the postfixes after it, of height
+/// at most `max_height + 1`.
 #[cycle(parser)]
-fn read_first(alloc: Global, room: usize, tokens: &mut Tokens<'_>) -> Result<Part, Halt>
-    requires { room ≤ MAX_DEPTH }
+fn parse_unary(
+    alloc: Global,
+    max_height: usize,
+    tokens: &mut Tokens<'_>,
+) -> Result<ParsedExpr, ReadError>
+    requires { max_height ≤ MAX_DEPTH }
     ensures gives { (k : ℕ) → length (symbols_left tokens.old) ≤ k → MatchResult result
-        (λ part. IsGiven part (symbols_left tokens.new)
-        (first (expression room) k (room + 1) (symbols_left tokens.old)))
-        (λ e. Fails e (first (expression room) k (room + 1) (symbols_left tokens.old))) }
-    ensures low { IfOk result (λ part. part.height ≤ room + 1) }
+        (λ parsed. ParsesExpr parsed (symbols_left tokens.new)
+        (parse_unary (parse_expression max_height) k (max_height + 1) (symbols_left tokens.old)))
+        (λ e. Fails e (parse_unary (parse_expression max_height) k (max_height + 1)
+        (symbols_left tokens.old))) }
+    ensures low { IfOk result (λ parsed. parsed.height ≤ max_height + 1) }
     ensures short { OnOk result
         (length (symbols_left tokens.new) ≤ length (symbols_left tokens.old)) }
-    ensures memory { IsErrOf result Halt.Memory → begins (symbols_left tokens.old) ≡ true }
+    ensures memory { IsErrOf result ReadError.Memory → begins (symbols_left tokens.old) ≡ true }
 {
-    if let Some(op) = take_sign(tokens) {
-        let operand = read_expression(alloc, room, SIGN_LEVEL, tokens)?;
-        return Ok(unary_part(alloc, op, operand)?);
+    if let Some(op) = eat_unary_operator(tokens) {
+        let operand = parse_expression(alloc, max_height, UNARY_PRECEDENCE, tokens)?;
+        return Ok(build_unary(alloc, op, operand)?);
     }
-    let base = read_base(alloc, room, tokens)?;
-    read_postfixes(alloc, room + 1, base, tokens)
+    let base = parse_postfix_base(alloc, max_height, tokens)?;
+    parse_postfixes(alloc, max_height + 1, base, tokens)
 }
 
-/// A form with no sign and no binary operator outside, up to its postfixes.
+/// Parses an operand without unary operators, up to its postfixes.
 #[cycle(parser)]
-fn read_base(alloc: Global, room: usize, tokens: &mut Tokens<'_>) -> Result<Part, Halt>
-    requires room { room ≤ MAX_DEPTH }
-    requires unsigned { HasNoSign (symbols_left tokens.now) }
+fn parse_postfix_base(
+    alloc: Global,
+    max_height: usize,
+    tokens: &mut Tokens<'_>,
+) -> Result<ParsedExpr, ReadError>
+    requires max_height { max_height ≤ MAX_DEPTH }
+    requires unsigned { HasNoUnaryOperator (symbols_left tokens.now) }
     ensures gives { MatchResult result
-        (λ part. IsBase part (symbols_left tokens.new)
-        (λ k n. first (expression room) k n (symbols_left tokens.old)))
-        (λ e. FailsBase e (λ k n. first (expression room) k n (symbols_left tokens.old))) }
-    ensures low { IfOk result (λ part. part.height ≤ room + 1) }
+        (λ parsed. ParsesBase parsed (symbols_left tokens.new)
+        (λ k n. parse_unary (parse_expression max_height) k n (symbols_left tokens.old)))
+        (λ e. FailsBase e (λ k n. parse_unary (parse_expression max_height) k n
+        (symbols_left tokens.old))) }
+    ensures low { IfOk result (λ parsed. parsed.height ≤ max_height + 1) }
     ensures short { OnOk result
         (length (symbols_left tokens.new) ≤ length (symbols_left tokens.old)) }
-    ensures memory { IsErrOf result Halt.Memory → begins (symbols_left tokens.old) ≡ true }
+    ensures memory { IsErrOf result ReadError.Memory → begins (symbols_left tokens.old) ≡ true }
 {
-    let Some((kind, text)) = next(tokens) else {
-        return Err(Halt::Syntax);
+    let Some((kind, text)) = tokens.next() else {
+        return Err(ReadError::Syntax);
     };
-    if may_be_called(kind) {
-        return read_call(alloc, room, kind, text, tokens);
+    if kind.may_be_called() {
+        return parse_call(alloc, max_height, kind, text, tokens);
     }
     match kind {
-        Kind::LeftParen => {
-            let inner = read_expression(alloc, room, LOWEST_LEVEL, tokens)?;
-            if !takes_right_paren(tokens) {
-                return Err(Halt::Syntax);
-            }
-            Ok(paren_part(alloc, inner)?)
+        TokenKind::LeftParen => {
+            let inner = parse_expression(alloc, max_height, MIN_PRECEDENCE, tokens)?;
+            tokens.expect(TokenKind::RightParen)?;
+            Ok(build_paren(alloc, inner)?)
         }
-        Kind::Aggregator(op) => read_aggregate(alloc, room, op, text, tokens),
-        _ => read_leaf(alloc, kind, text, tokens),
+        TokenKind::Aggregator(op) => parse_aggregate(alloc, max_height, op, text, tokens),
+        _ => parse_atom(alloc, kind, text, tokens),
     }
 }
 
-/// Takes the modifier of an operator, if there is one.
-fn take_modifier(
+/// Parses the modifier of an operator, if there is one.
+fn parse_optional_modifier(
     alloc: Global,
     tokens: &mut Tokens<'_>,
-) -> Result<Option<Box<Result<BinModifier, Fault>>>, Halt>
+) -> Result<Pending<BinModifier>, ReadError>
     ensures gives { GivesModifier (symbols_left tokens.old) (symbols_left tokens.new) result }
     ensures short { OnOk result
         (length (symbols_left tokens.new) ≤ length (symbols_left tokens.old)) }
 {
-    match tokens.front() {
-        Some((kind, _)) if begins_modifier(kind) => boxed_modifier(alloc, tokens),
+    match tokens.peek() {
+        Some((kind, _)) if starts_modifier(kind) => parse_boxed_modifier(alloc, tokens),
         _ => Ok(None),
     }
 }
 
-/// Takes a modifier into a box, where it waits for the right side. Most operators have none, so its
-/// frame is kept out of theirs.
+/// Parses a modifier into a box, where it waits for the right side. Most operators have none, so
+/// its frame is kept out of theirs.
 #[inline(never)]
-fn boxed_modifier(
+fn parse_boxed_modifier(
     alloc: Global,
     tokens: &mut Tokens<'_>,
-) -> Result<Option<Box<Result<BinModifier, Fault>>>, Halt>
+) -> Result<Pending<BinModifier>, ReadError>
     ensures gives { GivesModifier (symbols_left tokens.old) (symbols_left tokens.new) result }
     ensures short { OnOk result
         (length (symbols_left tokens.new) ≤ length (symbols_left tokens.old)) }
 {
-    match modifier_at(alloc, tokens)? {
+    match parse_modifier(alloc, tokens)? {
         Ok(None) => Ok(None),
         Ok(Some(modifier)) => Ok(Some(Box::new(alloc, Ok(modifier))?)),
-        Err(fault) => Ok(Some(Box::new(alloc, Err(fault))?)),
+        Err(error) => Ok(Some(Box::new(alloc, Err(error))?)),
     }
 }
 
-/// A base with its postfixes, of height at most `room`.
-fn read_postfixes(
+/// Parses the postfixes of a base. The whole is of height at most `max_height`.
+fn parse_postfixes(
     alloc: Global,
-    room: usize,
-    base: Part,
+    max_height: usize,
+    base: ParsedExpr,
     tokens: &mut Tokens<'_>,
-) -> Result<Part, Halt>
-    requires room { room ≤ MAX_DEPTH + 1 }
-    requires low_base { base.height ≤ room }
-    ensures gives { GivesPostfixed room base (symbols_left tokens.old) (symbols_left tokens.new)
+) -> Result<ParsedExpr, ReadError>
+    requires max_height { max_height ≤ MAX_DEPTH + 1 }
+    requires low_base { base.height ≤ max_height }
+    ensures gives { ParsesPostfixes max_height base (symbols_left tokens.old)
+        (symbols_left tokens.new)
         result }
-    ensures low { IfOk result (λ part. part.height ≤ room) }
+    ensures low { IfOk result (λ parsed. parsed.height ≤ max_height) }
     ensures short { OnOk result
         (length (symbols_left tokens.new) ≤ length (symbols_left tokens.old)) }
 {
-    match tokens.front() {
-        Some((kind, _)) if begins_postfix(kind) => collect_postfixes(alloc, room, base, tokens),
+    match tokens.peek() {
+        Some((kind, _)) if starts_postfix(kind) => parse_some_postfixes(
+            alloc, max_height, base, tokens,
+        ),
         _ => Ok(base),
     }
 }
 
-/// A base with its postfixes. Most bases have none, so its frame is kept out of theirs.
+/// Parses the postfixes of a base that has one. Most have none, so its frame is kept out of theirs.
 #[inline(never)]
-fn collect_postfixes(
+fn parse_some_postfixes(
     alloc: Global,
-    room: usize,
-    base: Part,
+    max_height: usize,
+    base: ParsedExpr,
     tokens: &mut Tokens<'_>,
-) -> Result<Part, Halt>
-    requires room { room ≤ MAX_DEPTH + 1 }
-    requires low_base { base.height ≤ room }
-    ensures gives { GivesPostfixed room base (symbols_left tokens.old) (symbols_left tokens.new)
+) -> Result<ParsedExpr, ReadError>
+    requires max_height { max_height ≤ MAX_DEPTH + 1 }
+    requires low_base { base.height ≤ max_height }
+    ensures gives { ParsesPostfixes max_height base (symbols_left tokens.old)
+        (symbols_left tokens.new)
         result }
-    ensures low { IfOk result (λ part. part.height ≤ room) }
+    ensures low { IfOk result (λ parsed. parsed.height ≤ max_height) }
     ensures short { OnOk result
         (length (symbols_left tokens.new) ≤ length (symbols_left tokens.old)) }
 {
-    let mut part = base;
-    while let Some(postfix) = postfix_at(tokens)? {
-        if room < part.height + postfix.added_height {
-            return Err(Halt::TooDeep);
+    let mut parsed = base;
+    while let Some(postfix) = parse_postfix(tokens)? {
+        if max_height < parsed.height + postfix.added_height {
+            return Err(ReadError::TooDeep);
         }
-        part = postfixed_part(alloc, part, postfix)?;
+        parsed = build_postfix(alloc, parsed, postfix)?;
     }
-    Ok(part)
+    Ok(parsed)
 }
 
-/// What all the tokens build, as one expression of height at most `room`.
-pub fn read_all(
+/// Parses all tokens as one expression of height at most `max_height`.
+pub fn parse_query(
     alloc: Global,
-    room: usize,
+    max_height: usize,
     tokens: Tokens<'_>,
-) -> Result<Result<Box<Expr>, Box<Fault>>, Halt>
-    requires { room ≤ MAX_DEPTH }
-    ensures whole { IsWhole room (symbols_left tokens.entry) result }
-    ensures memory { IsErrOf result Halt.Memory → begins (symbols_left tokens.entry) ≡ true }
+) -> Result<Result<Box<Expr>, Box<BuildError>>, ReadError>
+    requires { max_height ≤ MAX_DEPTH }
+    ensures whole { ParsesQuery max_height (symbols_left tokens.entry) result }
+    ensures memory { IsErrOf result ReadError.Memory → begins (symbols_left tokens.entry) ≡ true }
 {
     let mut rest = tokens;
-    let part = read_expression(alloc, room, LOWEST_LEVEL, &mut rest)?;
+    let parsed = parse_expression(alloc, max_height, MIN_PRECEDENCE, &mut rest)?;
     if !rest.is_empty() {
-        return Err(Halt::Syntax);
+        return Err(ReadError::Syntax);
     }
-    let Part { height: _, value } = part;
+    let ParsedExpr { height: _, value } = parsed;
     Ok(value)
 }

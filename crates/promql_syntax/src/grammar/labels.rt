@@ -1,127 +1,119 @@
 //! The rule `labels`.
 
 ghost use Rattle.std.specs.Prelude.{◌≡◌, ◌<◌, ◌++◌, ◌∷◌, [], true, Ok, length, string_bytes, IfOk, MatchOption, MatchResult, OnOk};
-ghost use Rattle.promql_grammar.specs.Reading as reading;
+ghost use Rattle.promql_grammar.specs.Parsing as parsing;
 ghost use Rattle.promql_grammar.specs.Results.{◌then◌};
 ghost use Rattle.promql_label.specs.Labels.{labels_of};
-ghost use Rattle.promql_syntax.specs.Drawing.{symbols_left};
-ghost use Rattle.promql_syntax.specs.Faults.{viewed};
-ghost use Rattle.promql_syntax.specs.IsPiece.{IsPiece};
-ghost use Rattle.promql_syntax.specs.Parts.{Fails};
-ghost use Rattle.promql_syntax.specs.PieceBuilding.{label_value, label_values};
-ghost use Rattle.promql_syntax.specs.Pieces.{BeginsNoLabel, EndsLabel, TakesLabel, label_end_at};
+ghost use Rattle.promql_syntax.specs.SymbolsLeft.{symbols_left};
+ghost use Rattle.promql_syntax.specs.BuildErrors.{view_result};
+ghost use Rattle.promql_syntax.specs.ParsesPart.{ParsesPart};
+ghost use Rattle.promql_syntax.specs.ParsesExpr.{Fails};
+ghost use Rattle.promql_syntax.specs.PartBuilding.{label_value, label_values};
+ghost use Rattle.promql_syntax.specs.PartTokens.{HasNoLabel, ParsesLabelEnd, EatsLabel, parse_label_end};
 
-use crate::grammar::fault::Fault;
-use crate::grammar::signs::{takes_comma, takes_left_paren, takes_right_paren};
-use crate::grammar::string::string_of;
+use crate::grammar::build_error::BuildError;
+use crate::grammar::parsed::{Built, Parsed};
+use crate::grammar::string::string_value;
 use crate::tokens::Tokens;
-use promql_grammar::{Halt, Kind};
+use promql_grammar::{ReadError, TokenKind};
 use promql_label::Labels;
 use std::alloc::{AllocError, Global};
 
-/// Takes labels in parentheses.
-pub fn labels_at(alloc: Global, tokens: &mut Tokens<'_>) -> Result<Result<Labels, Fault>, Halt>
+/// Parses labels in parentheses.
+pub fn parse_labels(alloc: Global, tokens: &mut Tokens<'_>) -> Parsed<Labels>
     ensures gives { MatchResult result
-        (λ value. IsPiece labels_of label_values value (symbols_left tokens.new)
-        (reading.labels_at (symbols_left tokens.old)))
-        (λ e. Fails e (reading.labels_at (symbols_left tokens.old))) }
+        (λ value. ParsesPart labels_of label_values value (symbols_left tokens.new)
+        (parsing.parse_labels (symbols_left tokens.old)))
+        (λ e. Fails e (parsing.parse_labels (symbols_left tokens.old))) }
     ensures short { OnOk result
         (length (symbols_left tokens.new) < length (symbols_left tokens.old)) }
 {
-    if !takes_left_paren(tokens) {
-        return Err(Halt::Syntax);
-    }
-    labels_in(alloc, tokens)
+    tokens.expect(TokenKind::LeftParen)?;
+    parse_label_list(alloc, tokens)
 }
 
-/// Takes labels after an opening parenthesis, and the closing one.
-pub fn labels_in(alloc: Global, tokens: &mut Tokens<'_>) -> Result<Result<Labels, Fault>, Halt>
+/// Parses labels after an opening parenthesis, and the closing one.
+pub fn parse_label_list(alloc: Global, tokens: &mut Tokens<'_>) -> Parsed<Labels>
     ensures gives { MatchResult result
-        (λ value. IsPiece labels_of label_values value (symbols_left tokens.new)
-        (reading.labels_in (symbols_left tokens.old)))
-        (λ e. Fails e (reading.labels_in (symbols_left tokens.old))) }
+        (λ value. ParsesPart labels_of label_values value (symbols_left tokens.new)
+        (parsing.parse_label_list (symbols_left tokens.old)))
+        (λ e. Fails e (parsing.parse_label_list (symbols_left tokens.old))) }
     ensures short { OnOk result
         (length (symbols_left tokens.new) < length (symbols_left tokens.old)) }
 {
     let mut labels = Ok(Labels {
         labels: Vec::new(alloc),
     });
-    if takes_right_paren(tokens) {
+    if tokens.eat(TokenKind::RightParen) {
         return Ok(labels);
     }
-    while let Some((kind, text)) = take_label(tokens) {
-        labels = with_label(alloc, labels, kind, text)?;
-        if ends_label(tokens)? {
+    while let Some((kind, text)) = eat_label(tokens) {
+        labels = append_label(alloc, labels, kind, text)?;
+        if parse_label_end(tokens)? {
             return Ok(labels);
         }
     }
-    Err(Halt::Syntax)
+    Err(ReadError::Syntax)
 }
 
-/// Takes a label: its kind and text.
-fn take_label<'a>(tokens: &mut Tokens<'a>) -> Option<(Kind, &'a str)>
-    ensures { MatchOption result (BeginsNoLabel (symbols_left tokens.old))
-        (λ x. TakesLabel x.0 x.1.now (symbols_left tokens.old) (symbols_left tokens.new)) }
+/// Takes a label, if it is the first token: its kind and text.
+fn eat_label<'a>(tokens: &mut Tokens<'a>) -> Option<(TokenKind, &'a str)>
+    ensures { MatchOption result (HasNoLabel (symbols_left tokens.old))
+        (λ x. EatsLabel x.0 x.1.now (symbols_left tokens.old) (symbols_left tokens.new)) }
 {
-    let (kind, text) = tokens.front()?;
+    let (kind, text) = tokens.peek()?;
     if !kind.may_be_label() {
         return None;
     }
-    tokens.pass();
+    tokens.bump();
     Some((kind, text))
 }
 
-/// Takes what follows a label: whether it is the last.
-fn ends_label(tokens: &mut Tokens<'_>) -> Result<bool, Halt>
+/// Parses what follows a label: whether it is the last.
+fn parse_label_end(tokens: &mut Tokens<'_>) -> Result<bool, ReadError>
     ensures gives { MatchResult result
-        (λ ended. EndsLabel ended (symbols_left tokens.new)
-        (label_end_at (symbols_left tokens.old)))
-        (λ e. Fails e (label_end_at (symbols_left tokens.old))) }
+        (λ ended. ParsesLabelEnd ended (symbols_left tokens.new)
+        (parse_label_end (symbols_left tokens.old)))
+        (λ e. Fails e (parse_label_end (symbols_left tokens.old))) }
     ensures short { OnOk result
         (length (symbols_left tokens.new) < length (symbols_left tokens.old)) }
 {
-    if takes_right_paren(tokens) {
+    if tokens.eat(TokenKind::RightParen) {
         return Ok(true);
     }
-    if !takes_comma(tokens) {
-        return Err(Halt::Syntax);
-    }
-    if takes_right_paren(tokens) {
+    tokens.expect(TokenKind::Comma)?;
+    if tokens.eat(TokenKind::RightParen) {
         return Ok(true);
     }
     Ok(false)
 }
 
-/// The labels with one more, where there is no fault yet.
-fn with_label(
+/// The labels with one more, if there is no error yet.
+fn append_label(
     alloc: Global,
-    labels: Result<Labels, Fault>,
-    kind: Kind,
+    labels: Result<Labels, BuildError>,
+    kind: TokenKind,
     text: &str,
-) -> Result<Result<Labels, Fault>, AllocError>
-    ensures { IfOk result (λ value. viewed labels_of value ≡ (viewed labels_of labels then
+) -> Built<Labels>
+    ensures { IfOk result (λ value. view_result labels_of value ≡ (view_result labels_of labels then
         λ ls. label_value kind text.now then λ l. Ok (ls ++ l ∷ []))) }
 {
     let labels = match labels {
         Ok(labels) => labels,
-        Err(fault) => return Ok(Err(fault)),
+        Err(error) => return Ok(Err(error)),
     };
-    match label_text(alloc, kind, text)? {
+    match label_value(alloc, kind, text)? {
         Ok(label) => Ok(Ok(labels.append(label)?)),
-        Err(fault) => Ok(Err(fault)),
+        Err(error) => Ok(Err(error)),
     }
 }
 
-/// The label that a token means.
-pub fn label_text(
-    alloc: Global,
-    kind: Kind,
-    text: &str,
-) -> Result<Result<String, Fault>, AllocError>
-    ensures { IfOk result (λ value. viewed string_bytes value ≡ label_value kind text.now) }
+/// The label of a token.
+pub fn label_value(alloc: Global, kind: TokenKind, text: &str) -> Built<String>
+    ensures { IfOk result (λ value. view_result string_bytes value ≡ label_value kind text.now) }
 {
     match kind {
-        Kind::Str => string_of(alloc, text),
+        TokenKind::String => string_value(alloc, text),
         _ => Ok(Ok(String::from_str(alloc, text)?)),
     }
 }

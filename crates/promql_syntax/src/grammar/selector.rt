@@ -1,192 +1,205 @@
 //! The rule `braces`: the matchers of a selector.
 
 ghost use Rattle.std.specs.Prelude.{◌≡◌, ◌<◌, ◌≤◌, List, ℕ, option_map, length, IfOk, MatchResult, OnOk};
-ghost use Rattle.promql_grammar.specs.Pieces as pieces;
-ghost use Rattle.promql_grammar.specs.Reading as reading;
-ghost use Rattle.promql_label.specs.Views.{plain_matcher_of, plain_matchers_of};
-ghost use Rattle.promql_syntax.specs.Drawing.{symbols_left};
-ghost use Rattle.promql_syntax.specs.Faults.{viewed};
-ghost use Rattle.promql_syntax.specs.IsPiece.{IsAskedPiece, IsBuiltBy};
-ghost use Rattle.promql_syntax.specs.Items.{AddsItem, EndsItem, IsItem, IsMatchSignRead, is_or, item_end_at, item_parts, match_sign_of, parts_of, sign_id};
-ghost use Rattle.promql_syntax.specs.Parts.{Fails};
-ghost use Rattle.promql_syntax.specs.PieceBuilding.{braces_value, item_value};
+ghost use Rattle.promql_grammar.specs.GrammarParts as part;
+ghost use Rattle.promql_grammar.specs.Parsing as parsing;
+ghost use Rattle.promql_label.specs.Answers.{Allows, built, rejected};
+ghost use Rattle.promql_label.specs.Views.{operator_of, plain_matcher_of, plain_matchers_of};
+ghost use Rattle.promql_syntax.specs.SymbolsLeft.{symbols_left};
+ghost use Rattle.promql_syntax.specs.BuildErrors as spec;
+ghost use Rattle.promql_syntax.specs.BuildErrors.{build_error_of, view_result};
+ghost use Rattle.promql_syntax.specs.ParsesPart.{ParsesAskedPart, IsBuiltBy};
+ghost use Rattle.promql_syntax.specs.MatcherItems.{AddsItem, ParsesItemEnd, ParsesItem, ParsesMatchOperator, is_or, parse_item_end, item_parts, match_operator_of, parts_of, operator_of_part};
+ghost use Rattle.promql_syntax.specs.ParsesExpr.{Fails};
+ghost use Rattle.promql_syntax.specs.PartBuilding.{braces_value, item_value, operator_value};
 
-use crate::grammar::fault::Fault;
-use crate::grammar::front::next;
-use crate::grammar::labels::label_text;
-use crate::grammar::signs::takes_right_brace;
-use crate::grammar::string::string_of;
+use crate::grammar::build_error::BuildError;
+use crate::grammar::labels::label_value;
+use crate::grammar::parsed::{Built, Parsed};
+use crate::grammar::string::string_value;
 use crate::tokens::Tokens;
-use promql_grammar::{Halt, Kind};
-use promql_label::{Matcher, MatcherError, Matchers};
-use promql_token::TokenId;
-use promql_token::ids::{T_EQL, T_EQL_REGEX, T_LOR, T_NEQ, T_NEQ_REGEX};
+use promql_grammar::{ReadError, TokenKind};
+use promql_label::{MatchOp, Matcher, Matchers, Pattern, PatternFault};
+use promql_token::ids::{T_LOR, T_NEQ};
 use std::alloc::{AllocError, Global};
 
-/// A matcher's tokens: its name, and its sign and value, or none for a lone string.
+/// The token between a matcher's name and its value.
 #[derive(Clone, Copy)]
-struct Item<'a> {
-    kind: Kind,
-    name: &'a str,
-    value: Option<(TokenId, &'a str)>,
+enum MatchOperator {
+    Equal,
+    NotEqual,
+    EqualRegex,
+    NotEqualRegex,
 }
 
-/// Takes matchers after an opening brace, and the closing one.
-pub fn braces_in(alloc: Global, tokens: &mut Tokens<'_>) -> Result<Result<Matchers, Fault>, Halt>
+/// A matcher's tokens: its name, and its operator and value, or none for a lone string.
+#[derive(Clone, Copy)]
+struct Item<'a> {
+    kind: TokenKind,
+    name: &'a str,
+    value: Option<(MatchOperator, &'a str)>,
+}
+
+/// Parses matchers after an opening brace, and the closing one.
+pub fn parse_braces(alloc: Global, tokens: &mut Tokens<'_>) -> Parsed<Matchers>
     ensures gives { MatchResult result
-        (λ value. IsAskedPiece plain_matchers_of braces_value value (symbols_left tokens.new)
-        (reading.braces_in (symbols_left tokens.old)))
-        (λ e. Fails e (reading.braces_in (symbols_left tokens.old))) }
+        (λ value. ParsesAskedPart plain_matchers_of braces_value value (symbols_left tokens.new)
+        (parsing.parse_braces (symbols_left tokens.old)))
+        (λ e. Fails e (parsing.parse_braces (symbols_left tokens.old))) }
     ensures short { OnOk result
         (length (symbols_left tokens.new) < length (symbols_left tokens.old)) }
 {
     let mut matchers = Ok(Matchers::empty(alloc));
-    if takes_right_brace(tokens) {
+    if tokens.eat(TokenKind::RightBrace) {
         return Ok(matchers);
     }
     let mut by_or = false;
     loop {
-        let item = item_at(tokens)?;
-        matchers = with_item(alloc, matchers, by_or, item)?;
-        match after_item(tokens)? {
+        let item = parse_item(tokens)?;
+        matchers = append_item(alloc, matchers, by_or, item)?;
+        match parse_item_end(tokens)? {
             Some(next_by_or) => by_or = next_by_or,
             None => return Ok(matchers),
         }
     }
 }
 
-/// Takes a matcher's tokens.
-fn item_at<'a>(tokens: &mut Tokens<'a>) -> Result<Item<'a>, Halt>
+/// Parses a matcher, or a lone string.
+fn parse_item<'a>(tokens: &mut Tokens<'a>) -> Result<Item<'a>, ReadError>
     ensures gives { MatchResult result
-        (λ item. IsItem item (symbols_left tokens.new) (reading.item_at (symbols_left tokens.old)))
-        (λ e. Fails e (reading.item_at (symbols_left tokens.old))) }
+        (λ item. ParsesItem item (symbols_left tokens.new) (parsing.parse_item
+        (symbols_left tokens.old)))
+        (λ e. Fails e (parsing.parse_item (symbols_left tokens.old))) }
     ensures short { OnOk result
         (length (symbols_left tokens.new) < length (symbols_left tokens.old)) }
 {
-    let Some((kind, name)) = next(tokens) else {
-        return Err(Halt::Syntax);
+    let Some((kind, name)) = tokens.next() else {
+        return Err(ReadError::Syntax);
     };
     match kind {
-        Kind::Name => {
-            let Some(id) = take_match_sign(tokens) else {
-                return Err(Halt::Syntax);
+        TokenKind::Identifier => {
+            let Some(operator) = eat_match_operator(tokens) else {
+                return Err(ReadError::Syntax);
             };
-            matcher_value(tokens, kind, name, id)
+            parse_matcher_value(tokens, kind, name, operator)
         }
-        Kind::Str => {
-            let Some(id) = take_match_sign(tokens) else {
+        TokenKind::String => {
+            let Some(operator) = eat_match_operator(tokens) else {
                 return Ok(Item {
                     kind,
                     name,
                     value: None,
                 });
             };
-            matcher_value(tokens, kind, name, id)
+            parse_matcher_value(tokens, kind, name, operator)
         }
-        _ => Err(Halt::Syntax),
+        _ => Err(ReadError::Syntax),
     }
 }
 
-/// Takes the value after a matcher's name and sign.
-fn matcher_value<'a>(
+/// Parses the value after a matcher's name and operator.
+fn parse_matcher_value<'a>(
     tokens: &mut Tokens<'a>,
-    kind: Kind,
+    kind: TokenKind,
     name: &'a str,
-    id: TokenId,
-) -> Result<Item<'a>, Halt>
-    ensures gives { (s : pieces.MatchSign) → id ≡ sign_id s → MatchResult result
-        (λ item. IsItem item (symbols_left tokens.new)
-        (reading.matcher_value kind name.entry.now s (symbols_left tokens.old)))
-        (λ e. Fails e (reading.matcher_value kind name.entry.now s (symbols_left tokens.old))) }
+    operator: MatchOperator,
+) -> Result<Item<'a>, ReadError>
+    ensures gives { (s : part.MatchOperator) → operator ≡ operator_of_part s → MatchResult result
+        (λ item. ParsesItem item (symbols_left tokens.new)
+        (parsing.parse_matcher_value kind name.entry.now s (symbols_left tokens.old)))
+        (λ e. Fails e (parsing.parse_matcher_value kind name.entry.now s
+        (symbols_left tokens.old))) }
     ensures short { OnOk result
         (length (symbols_left tokens.new) < length (symbols_left tokens.old)) }
 {
-    let Some((value_kind, value)) = next(tokens) else {
-        return Err(Halt::Syntax);
+    let Some((value_kind, value)) = tokens.next() else {
+        return Err(ReadError::Syntax);
     };
     match value_kind {
-        Kind::Str => Ok(Item {
+        TokenKind::String => Ok(Item {
             kind,
             name,
-            value: Some((id, value)),
+            value: Some((operator, value)),
         }),
-        _ => Err(Halt::Syntax),
+        _ => Err(ReadError::Syntax),
     }
 }
 
-/// Takes the sign of a matcher, if it is the first token: its id.
-fn take_match_sign(tokens: &mut Tokens<'_>) -> Option<TokenId>
-    ensures gives { IsMatchSignRead result (symbols_left tokens.new)
-        (reading.match_sign_at (symbols_left tokens.old)) }
+/// Takes the operator of a matcher, if it is the first token.
+fn eat_match_operator(tokens: &mut Tokens<'_>) -> Option<MatchOperator>
+    ensures gives { ParsesMatchOperator result (symbols_left tokens.new)
+        (parsing.parse_match_operator (symbols_left tokens.old)) }
     ensures short { length (symbols_left tokens.new) ≤ length (symbols_left tokens.old) }
 {
-    let Some((kind, _)) = tokens.front() else {
+    let Some((kind, _)) = tokens.peek() else {
         return None;
     };
-    let Some(id) = match_sign(kind) else {
+    let Some(operator) = match_operator(kind) else {
         return None;
     };
-    tokens.pass();
-    Some(id)
+    tokens.bump();
+    Some(operator)
 }
 
-/// The id of a matcher's sign.
-fn match_sign(kind: Kind) -> Option<TokenId>
-    ensures { (text : List ℕ) → result ≡ option_map sign_id (match_sign_of kind text) }
+/// The operator of a matcher that a token is.
+fn match_operator(kind: TokenKind) -> Option<MatchOperator>
+    ensures { (text : List ℕ) → result ≡ option_map operator_of_part (match_operator_of kind text) }
 {
     match kind {
-        Kind::Equal => Some(T_EQL),
-        Kind::EqualRegex => Some(T_EQL_REGEX),
-        Kind::NotEqualRegex => Some(T_NEQ_REGEX),
-        Kind::Operator(T_NEQ) => Some(T_NEQ),
+        TokenKind::Equal => Some(MatchOperator::Equal),
+        TokenKind::EqualRegex => Some(MatchOperator::EqualRegex),
+        TokenKind::NotEqualRegex => Some(MatchOperator::NotEqualRegex),
+        TokenKind::Operator(T_NEQ) => Some(MatchOperator::NotEqual),
         _ => None,
     }
 }
 
-/// Takes what follows a matcher: whether the next one begins a group; none after the last.
+/// Parses what follows a matcher: whether the next one starts a group; `None` after the last.
 #[tactic(auto, using(crate::proofs::MatcherLists::comma_joins))]
-fn after_item(tokens: &mut Tokens<'_>) -> Result<Option<bool>, Halt>
+fn parse_item_end(tokens: &mut Tokens<'_>) -> Result<Option<bool>, ReadError>
     ensures gives { MatchResult result
-        (λ next. EndsItem next (symbols_left tokens.new) (item_end_at (symbols_left tokens.old)))
-        (λ e. Fails e (item_end_at (symbols_left tokens.old))) }
+        (λ next. ParsesItemEnd next (symbols_left tokens.new) (parse_item_end
+        (symbols_left tokens.old)))
+        (λ e. Fails e (parse_item_end (symbols_left tokens.old))) }
     ensures short { OnOk result
         (length (symbols_left tokens.new) < length (symbols_left tokens.old)) }
 {
-    let Some((kind, _)) = next(tokens) else {
-        return Err(Halt::Syntax);
+    let Some((kind, _)) = tokens.next() else {
+        return Err(ReadError::Syntax);
     };
     match kind {
-        Kind::RightBrace => Ok(None),
-        Kind::Comma => {
-            if takes_right_brace(tokens) {
+        TokenKind::RightBrace => Ok(None),
+        TokenKind::Comma => {
+            if tokens.eat(TokenKind::RightBrace) {
                 Ok(None)
             } else {
                 Ok(Some(false))
             }
         }
-        Kind::Operator(T_LOR) => Ok(Some(true)),
-        _ => Err(Halt::Syntax),
+        TokenKind::Operator(T_LOR) => Ok(Some(true)),
+        _ => Err(ReadError::Syntax),
     }
 }
 
-/// The matchers with one more, in a group of its own or not, where there is no fault yet.
-fn with_item(
+/// The matchers with one more, in a group of its own or not, if there is no error yet.
+fn append_item(
     alloc: Global,
-    matchers: Result<Matchers, Fault>,
+    matchers: Result<Matchers, BuildError>,
     by_or: bool,
     item: Item<'_>,
-) -> Result<Result<Matchers, Fault>, AllocError>
-    ensures { IfOk result (λ value. (i : pieces.Item) (s : pieces.Separator)
+) -> Built<Matchers>
+    ensures { IfOk result (λ value. (i : part.Item) (s : part.Separator)
         → parts_of item.entry ≡ item_parts i → by_or ≡ is_or s
-        → AddsItem (viewed plain_matchers_of matchers) s i (viewed plain_matchers_of value)) }
+        → AddsItem (view_result plain_matchers_of matchers) s i
+        (view_result plain_matchers_of value)) }
 {
     let matchers = match matchers {
         Ok(matchers) => matchers,
-        Err(fault) => return Ok(Err(fault)),
+        Err(error) => return Ok(Err(error)),
     };
-    let matcher = match matcher_of(alloc, item)? {
+    let matcher = match build_matcher(alloc, item)? {
         Ok(matcher) => matcher,
-        Err(fault) => return Ok(Err(fault)),
+        Err(error) => return Ok(Err(error)),
     };
     if by_or {
         return Ok(Ok(matchers.append_or(alloc, matcher)?));
@@ -195,25 +208,55 @@ fn with_item(
 }
 
 /// What the tokens of a matcher build: its name, then its value, then its pattern.
-fn matcher_of(alloc: Global, item: Item<'_>) -> Result<Result<Matcher, Fault>, AllocError>
-    ensures { IfOk result (λ value. (i : pieces.Item) → parts_of item.entry ≡ item_parts i
+fn build_matcher(alloc: Global, item: Item<'_>) -> Built<Matcher>
+    ensures { IfOk result (λ value. (i : part.Item) → parts_of item.entry ≡ item_parts i
         → IsBuiltBy plain_matcher_of value (item_value i)) }
 {
-    let name = match label_text(alloc, item.kind, item.name)? {
+    let name = match label_value(alloc, item.kind, item.name)? {
         Ok(name) => name,
-        Err(fault) => return Ok(Err(fault)),
+        Err(error) => return Ok(Err(error)),
     };
-    let Some((id, value)) = item.value else {
+    let Some((operator, value)) = item.value else {
         return Ok(Ok(Matcher::new_metric_name_matcher(alloc, name)?));
     };
-    let value = match string_of(alloc, value)? {
+    let value = match string_value(alloc, value)? {
         Ok(value) => value,
-        Err(fault) => return Ok(Err(fault)),
+        Err(error) => return Ok(Err(error)),
     };
-    match Matcher::new_matcher(alloc, id, name, value) {
-        Ok(matcher) => Ok(Ok(matcher)),
-        Err(MatcherError::Pattern(value)) => Ok(Err(Fault::Pattern(value))),
-        Err(MatcherError::Memory) => Err(AllocError),
-        Err(MatcherError::InvalidOp(_)) => Err(AllocError),
+    match build_match_op(alloc, operator, &value)? {
+        Ok(op) => Ok(Ok(Matcher { op, name, value })),
+        Err(error) => Ok(Err(error)),
+    }
+}
+
+/// How a matcher compares, with the pattern that its value is.
+fn build_match_op(alloc: Global, operator: MatchOperator, value: &str) -> Built<MatchOp>
+    ensures { IfOk result (λ op. (s : part.MatchOperator) → operator ≡ operator_of_part s
+        → IsBuiltBy operator_of op (operator_value s value.now)) }
+{
+    match operator {
+        MatchOperator::Equal => Ok(Ok(MatchOp::Equal)),
+        MatchOperator::NotEqual => Ok(Ok(MatchOp::NotEqual)),
+        MatchOperator::EqualRegex => match build_pattern(alloc, value)? {
+            Ok(pattern) => Ok(Ok(MatchOp::Re(pattern))),
+            Err(error) => Ok(Err(error)),
+        },
+        MatchOperator::NotEqualRegex => match build_pattern(alloc, value)? {
+            Ok(pattern) => Ok(Ok(MatchOp::NotRe(pattern))),
+            Err(error) => Ok(Err(error)),
+        },
+    }
+}
+
+/// The pattern of a matcher's value.
+fn build_pattern(alloc: Global, value: &str) -> Built<Pattern>
+    ensures { IfOk result (λ pattern. MatchResult pattern
+        (λ p. Allows value.now (built p))
+        (λ e. (build_error_of e ≡ spec.pattern value.now) × Allows value.now rejected)) }
+{
+    match Pattern::read(alloc, value) {
+        Ok(pattern) => Ok(Ok(pattern)),
+        Err(PatternFault::Refused(value)) => Ok(Err(BuildError::Pattern(value))),
+        Err(PatternFault::Memory) => Err(AllocError),
     }
 }

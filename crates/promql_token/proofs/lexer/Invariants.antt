@@ -8,4 +8,4 @@ abbrev pub invariant-loop-found : goal.invariant-loop-found
 invariant-loop-found l =
     (goal.iterator-loop-found).can_next l.found-iterator ×
     (goal.iterator-loop-found).is_finite l.found-iterator ×
-    (spec.with_front l.lexemes.items (spec.collected (items_left l.found-iterator)) ≡ spec.collected (spec.items l.s))
+    (spec.with_front l.lexemes.items (spec.collect_items (items_left l.found-iterator)) ≡ spec.collect_items (spec.items l.s))

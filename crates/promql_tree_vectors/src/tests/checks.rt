@@ -1,7 +1,7 @@
 //! What the checks of a node say of children that its builder takes.
 
 use super::shows;
-use super::trees::{KINDS, arguments, kind, name};
+use super::trees::{KINDS, arguments, is_kind, kind, name};
 use promql_ast::{AggregateExpr, CheckError, Expr, FunctionArgs};
 use promql_kind::{BinModifier, Function, ValueType, VectorMatchCardinality};
 use promql_token::ids::{T_ADD, T_LAND, T_NUMBER, T_TOPK};
@@ -20,12 +20,16 @@ fn checks(
     shows(rt, alloc, Expr::checked(alloc, built?), want)
 }
 
+/// The node of one of the kinds, as it is after its check.
+fn checked_kind(alloc: Global, text: &str) -> Result<Expr, Fail> {
+    Ok(Expr::checked(alloc, kind(alloc, text)?)?)
+}
+
 #[test]
 fn well_typed_nodes_pass(rt: HostRuntime) -> Result<(), Fail> {
-    let alloc = rt.alloc();
     for text in &KINDS {
-        let checked = Expr::checked(alloc, kind(alloc, text)?)?;
-        assert!(rt; checked == kind(alloc, text)?, "{text}");
+        let found = is_kind(rt.alloc(), &checked_kind(rt.alloc(), text)?, text)?;
+        assert!(rt; found, "{text}");
     }
     Ok(())
 }
@@ -40,7 +44,7 @@ fn both(alloc: Global, op: TokenId, modifier: Option<BinModifier>) -> Result<Exp
 /// An aggregation of `a` with this token in place of the aggregator.
 fn aggregated(alloc: Global, op: TokenId) -> Result<Expr, CheckError> {
     let args = FunctionArgs::new_args(alloc, name(alloc, "a")?)?;
-    Expr::new_aggregate_expr(op, None, args)
+    Expr::new_aggregate_expr(alloc, op, None, args)
 }
 
 #[test]
@@ -60,14 +64,27 @@ fn other_tokens_are_rejected(rt: HostRuntime) -> Result<(), Fail> {
     )
 }
 
+/// Whether the expression is `a and b` that matches many with many.
+fn is_many_to_many(alloc: Global, expr: &Expr) -> Result<bool, CheckError> {
+    let many = BinModifier::default().with_card(VectorMatchCardinality::ManyToMany);
+    Ok(both(alloc, T_LAND, Some(many))? == *expr)
+}
+
+/// `a and b` as it is after its check.
+fn checked_and(alloc: Global) -> Result<Expr, CheckError> {
+    Expr::checked(alloc, both(alloc, T_LAND, None)?)
+}
+
 #[test]
 fn set_operators_match_many_to_many(rt: HostRuntime) -> Result<(), Fail> {
-    let alloc = rt.alloc();
-    let many = BinModifier::default().with_card(VectorMatchCardinality::ManyToMany);
-    let found = Expr::checked(alloc, both(alloc, T_LAND, None)?)?;
-    assert!(rt; found == both(alloc, T_LAND, Some(many))?);
-    assert_eq!(rt; found.to_string(alloc)?.as_str(), "a and b");
+    let found = is_many_to_many(rt.alloc(), &checked_and(rt.alloc())?)?;
+    assert!(rt; found);
     Ok(())
+}
+
+#[test]
+fn set_operators_print_no_modifier(rt: HostRuntime) -> Result<(), Fail> {
+    shows(&rt, rt.alloc(), checked_and(rt.alloc()), "a and b")
 }
 
 /// `topk` without its parameter.

@@ -2,6 +2,7 @@
 
 ghost use Rattle.std.specs.Prelude.{Some};
 
+use super::prints;
 use super::trees::{EXTENSION, KINDS, arguments, kind};
 use promql_ast::{EvalStmt, Expr, FunctionArgs, Prettier, PrettyError, Tally};
 use promql_parser::parser::parse;
@@ -139,14 +140,18 @@ fn check_node(rt: &impl Abort, alloc: Global, expr: &Expr, row: &Row) -> Result<
     }
 }
 
+/// The node of a text, as a value of its own.
+fn check_text(rt: &impl Abort, alloc: Global, text: &str, row: &Row) -> Result<(), Fail> {
+    check_node(rt, alloc, &parse(alloc, text)?, row)
+}
+
 #[test]
 fn each_node_by_itself(rt: HostRuntime) -> Result<(), Fail> {
-    let alloc = rt.alloc();
     for (text, row) in &NODES {
-        check_node(&rt, alloc, &parse(alloc, text)?, row)?;
+        check_text(&rt, rt.alloc(), text, row)?;
     }
     for (text, line) in &LEAVES {
-        check_node(&rt, alloc, &parse(alloc, text)?, &Row::leaf(line))?;
+        check_text(&rt, rt.alloc(), text, &Row::leaf(line))?;
     }
     Ok(())
 }
@@ -202,11 +207,24 @@ fn statement(expr: Expr) -> EvalStmt {
 fn statements_print_their_times(rt: HostRuntime) -> Result<(), Fail> {
     let alloc = rt.alloc();
     let text = "[a] @ [0.000, 1.500, 15s, 5m]";
-    let statement = statement(parse(alloc, "a")?);
-    assert_eq!(rt; statement.to_string(alloc)?.as_str(), text);
-    let copy = statement.try_clone(alloc)?;
-    assert_eq!(rt; copy.to_string(alloc)?.as_str(), text);
-    Ok(())
+    prints(&rt, alloc, &statement(parse(alloc, "a")?), text)
+}
+
+/// A copy of the statement prints this text.
+fn check_copy(
+    rt: &impl Abort,
+    alloc: Global,
+    statement: &EvalStmt,
+    text: &str,
+) -> Result<(), Fail> {
+    prints(rt, alloc, &statement.try_clone(alloc)?, text)
+}
+
+#[test]
+fn copies_of_statements_print_alike(rt: HostRuntime) -> Result<(), Fail> {
+    let alloc = rt.alloc();
+    let text = "[a] @ [0.000, 1.500, 15s, 5m]";
+    check_copy(&rt, alloc, &statement(parse(alloc, "a")?), text)
 }
 
 /// A sum of 512 ones.
@@ -218,17 +236,30 @@ fn ones(alloc: Global) -> Result<Expr, Fail> {
     Ok(parse(alloc, text.as_str())?)
 }
 
+/// The layout of the expression in lines of no byte has more bytes than this, and takes so many widths.
+fn check_widths(
+    rt: &impl Abort,
+    alloc: Global,
+    expr: &Expr,
+    widths: usize,
+    least: usize,
+) -> Result<(), Fail> {
+    let mut tally = Tally::default();
+    let laid = expr.pretty_counted(alloc, 0, 0, &mut tally)?;
+    assert_eq!(rt; tally.widths(), widths);
+    assert!(rt; laid.as_str().len() > least);
+    assert!(rt; laid == expr.pretty(alloc, 0, 0)?);
+    Ok(())
+}
+
 #[test]
 fn each_node_has_one_width(rt: HostRuntime) -> Result<(), Fail> {
-    let alloc = rt.alloc();
-    for (expr, widths, least) in [(parse(alloc, SHARE)?, 4, 20), (ones(alloc)?, 1023, 100_000)] {
-        let mut tally = Tally::default();
-        let laid = expr.pretty_counted(alloc, 0, 0, &mut tally)?;
-        assert_eq!(rt; tally.widths(), widths);
-        assert!(rt; laid.as_str().len() > least);
-        assert!(rt; laid == expr.pretty(alloc, 0, 0)?);
-    }
-    Ok(())
+    check_widths(&rt, rt.alloc(), &parse(rt.alloc(), SHARE)?, 4, 20)
+}
+
+#[test]
+fn each_node_of_a_long_sum_has_one_width(rt: HostRuntime) -> Result<(), Fail> {
+    check_widths(&rt, rt.alloc(), &ones(rt.alloc())?, 1023, 100_000)
 }
 
 /// Whether a layout failed since its indentation is wider than a `usize` counts.

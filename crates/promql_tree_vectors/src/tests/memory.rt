@@ -1,12 +1,15 @@
-//! Allocations that fail: with `rt try --test --fail-alloc N` each in turn.
+//! Allocations that fail: bin/test_memory makes each fail in turn. Then a call runs out of memory or does what it does with
+//! memory, and what it was called on is what it was.
 
-use super::trees::{call, equal, five_minutes, grouped, include, name};
+use super::layout::SHARE;
+use super::trees::{call, equal, five_minutes, grouped, include, is_read, name};
 use promql_ast::{CheckError, Expr, FunctionArgs};
-use promql_label::Matchers;
+use promql_label::{Labels, Matchers};
 use promql_parser::parser::{ParseError, Prettier, PrettyError, parse};
 use promql_token::ids::{T_ADD, T_SUM};
 use promql_walk::{JsonError, ToJson};
-use std::alloc::Global;
+use std::alloc::{AllocError, Global};
+use std::test::Fail;
 
 const TEXT: &str = r#"foo{a="1"} + on (a) group_left (b) sum by (c) (rate(x[5m]))"#;
 
@@ -20,7 +23,7 @@ fn foo(alloc: Global) -> Result<Expr, CheckError> {
 fn sum_of_rate(alloc: Global) -> Result<Expr, CheckError> {
     let rate = call(alloc, "rate", five_minutes(name(alloc, "x")?)?)?;
     let args = FunctionArgs::new_args(alloc, rate)?;
-    Expr::new_aggregate_expr(T_SUM, Some(include(alloc, "c")?), args)
+    Expr::new_aggregate_expr(alloc, T_SUM, Some(include(alloc, "c")?), args)
 }
 
 /// The expression of `TEXT`.
@@ -111,4 +114,136 @@ fn a_form_runs_out_of_memory_or_is_whole(rt: HostRuntime) {
         Ok(text) => assert_eq!(rt; text.as_str(), TOPK),
         Err(error) => assert!(rt; error == JsonError::Memory),
     }
+}
+
+/// Expressions with patterns, groups of matchers, fill values and each kind of modifier.
+const TEXTS: [&str; 8] = [
+    "http_requests_total{\nenvironment=~\"staging|testing|development\",\nmethod!=\"GET\"\n} offset 5m",
+    "a * on (l) group_left (x) + y",
+    r#"{a="1" or or="2", c="3"}"#,
+    r"{a=~`x\d{b}`}",
+    "time()",
+    "sum by (b) (a) / c",
+    r#"sum by (l, "m n") (rate(a{b!~"c|d"}[5m] smoothed @ start() offset -1m)) == bool on (l) group_right (k) fill_left (1) fill_right (-2) topk without (l) (5, max_over_time((b @ 1.5 offset 2h)[1h:5m] @ end() offset 3s))"#,
+    r#"label_replace(a, "b", "$1", "c", `d\.(.*)`) and ignoring (e) -(f ^ 2) unless g + fill (0) rate(h[1m] anchored)"#,
+];
+
+/// Whether the layout is read as the expression, or there is no memory for it.
+fn is_laid_out(alloc: Global, expr: &Expr) -> bool {
+    match expr.prettify(alloc) {
+        Ok(laid) => is_read_again(alloc, expr, laid.as_str()),
+        Err(error) => error == PrettyError::Memory,
+    }
+}
+
+/// Whether the text gives this expression, or there is no memory to read it.
+fn is_read_again(alloc: Global, expr: &Expr, text: &str) -> bool {
+    match is_read(alloc, expr, text) {
+        Ok(is_read) => is_read,
+        Err(error) => error == ParseError::Memory,
+    }
+}
+
+/// Whether copying and laying out give what they should or run out of memory, and leave the expression of the text.
+fn is_left_by_calls(alloc: Global, expr: &Expr, text: &str) -> bool {
+    is_copied(alloc, expr) && is_laid_out(alloc, expr) && is_read_again(alloc, expr, text)
+}
+
+fn is_left(alloc: Global, text: &str) -> Result<bool, ParseError> {
+    Ok(is_left_by_calls(alloc, &parse(alloc, text)?, text))
+}
+
+#[test]
+fn calls_on_expressions_leave_them(rt: HostRuntime) {
+    for text in &TEXTS {
+        match is_left(rt.alloc(), text) {
+            Ok(is_left) => assert!(rt; is_left, "{text}"),
+            Err(error) => assert!(rt; error == ParseError::Memory, "{text}"),
+        }
+    }
+}
+
+/// The matchers of a selector.
+fn matchers_of(expr: &Expr) -> Option<&Matchers> {
+    match expr {
+        Expr::VectorSelector(e) => Some(&e.matchers),
+        _ => None,
+    }
+}
+
+/// Whether the two matchers of `a` are found, or there is no memory for them.
+fn finds_both(alloc: Global, expr: &Expr) -> bool {
+    let Some(matchers) = matchers_of(expr) else {
+        return false;
+    };
+    match matchers.find_matchers(alloc, "a") {
+        Ok(found) => found.len() == 2,
+        Err(_) => true,
+    }
+}
+
+/// A selector with two matchers of `a`, one of them a pattern.
+const TWICE: &str = r#"{a="1",b="2" or c!="3",a=~"4|5"}"#;
+
+#[test]
+fn finding_matchers_leaves_them(rt: HostRuntime) {
+    let alloc = rt.alloc();
+    match parse(alloc, TWICE) {
+        Ok(expr) => {
+            assert!(rt; finds_both(alloc, &expr));
+            assert!(rt; is_read_again(alloc, &expr, TWICE));
+        }
+        Err(error) => assert!(rt; error == ParseError::Memory),
+    }
+}
+
+/// Whether these are the labels.
+fn has_labels(labels: &Labels, texts: &[&str]) -> bool {
+    labels.labels.len() == texts.len()
+        && labels
+            .labels
+            .iter()
+            .zip(texts)
+            .all(|(label, text)| label.as_str() == *text)
+}
+
+/// Whether the common labels of the lists are these, or there is no memory for them.
+fn has_common(alloc: Global, left: &Labels, right: &Labels, texts: &[&str]) -> bool {
+    match left.intersect(alloc, right) {
+        Ok(both) => has_labels(&both, texts),
+        Err(_) => true,
+    }
+}
+
+/// Whether common labels are found, or there is no memory for them, and the lists are as they were.
+fn intersects_well(alloc: Global) -> Result<bool, AllocError> {
+    let left = Labels::new(alloc, ["foo", "bar", "foo"].to_vec(alloc)?)?;
+    match Labels::new(alloc, ["bar", "foo"].to_vec(alloc)?) {
+        Ok(right) => Ok(
+            has_common(alloc, &left, &right, &["foo", "bar"])
+                && has_labels(&left, &["foo", "bar", "foo"])
+                && has_labels(&right, &["bar", "foo"]),
+        ),
+        Err(error) => Err(error),
+    }
+}
+
+#[test]
+fn intersecting_labels_leaves_them(rt: HostRuntime) {
+    if let Ok(is_left) = intersects_well(rt.alloc()) {
+        assert!(rt; is_left);
+    }
+}
+
+/// Whether the expression is too wide for the greatest level, and is then what it was.
+fn is_left_too_wide(alloc: Global, expr: &Expr) -> bool {
+    let laid = expr.pretty(alloc, usize::MAX, 0);
+    laid == Err(PrettyError::IndentTooWide) && is_read_again(alloc, expr, SHARE)
+}
+
+#[test]
+fn a_failed_layout_leaves_the_expression(rt: HostRuntime) -> Result<(), Fail> {
+    let found = is_left_too_wide(rt.alloc(), &parse(rt.alloc(), SHARE)?);
+    assert!(rt; found);
+    Ok(())
 }

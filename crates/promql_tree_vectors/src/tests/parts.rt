@@ -1,5 +1,6 @@
 //! What nodes and their parts say of themselves, and a copy of each node by itself.
 
+use super::prints;
 use super::trees::{KINDS, grouped, kind, name, number};
 use promql_ast::{BinaryExpr, CheckError, Expr, NumberLiteral, Offset, RangeMode, VectorSelector};
 use promql_kind::ValueType;
@@ -8,16 +9,7 @@ use promql_parser::parser::parse;
 use promql_text::{DurationText, minute_duration};
 use promql_token::ids::T_ADD;
 use std::alloc::{AllocError, Global};
-use std::fmt::Display;
-use std::process::Abort;
 use std::test::Fail;
-
-/// The value prints this text.
-fn prints<T: Display>(rt: &impl Abort, alloc: Global, value: &T, want: &str) -> Result<(), Fail> {
-    let found = value.to_string(alloc)?;
-    assert_eq!(rt; found.as_str(), want);
-    Ok(())
-}
 
 /// The operator of an expression.
 fn binary(expr: Expr) -> Result<BinaryExpr, Fail> {

@@ -1,33 +1,55 @@
 //! One-line texts, copies and equality.
 
-use super::shows;
-use super::trees::{KINDS, kind};
+use super::trees::{KINDS, is_kind, is_read, kind};
+use super::{prints, shows};
 use promql_ast::{CheckError, Expr, VectorSelector};
 use promql_label::Matchers;
-use promql_parser::parser::parse;
+use promql_parser::parser::{ParseError, parse};
 use std::alloc::Global;
+use std::process::Abort;
 use std::test::Fail;
+
+/// The copy is the expression, and both print this text.
+fn check_copy(
+    rt: &impl Abort,
+    alloc: Global,
+    expr: &Expr,
+    copy: &Expr,
+    text: &str,
+) -> Result<(), Fail> {
+    assert!(rt; *copy == *expr, "{text}");
+    prints(rt, alloc, expr, text)?;
+    prints(rt, alloc, copy, text)
+}
+
+/// The expression and a copy of it are equal, and print this text.
+fn check_copied(rt: &impl Abort, alloc: Global, expr: &Expr, text: &str) -> Result<(), Fail> {
+    check_copy(rt, alloc, expr, &expr.try_clone(alloc)?, text)
+}
+
+fn check_kind(rt: &impl Abort, alloc: Global, text: &str) -> Result<(), Fail> {
+    check_copied(rt, alloc, &kind(alloc, text)?, text)
+}
 
 #[test]
 fn copies_are_equal_and_print_alike(rt: HostRuntime) -> Result<(), Fail> {
-    let alloc = rt.alloc();
     for text in &KINDS {
-        let expr = kind(alloc, text)?;
-        let copy = expr.try_clone(alloc)?;
-        assert!(rt; copy == expr, "{text}");
-        assert_eq!(rt; expr.to_string(alloc)?.as_str(), *text);
-        assert_eq!(rt; copy.to_string(alloc)?.as_str(), *text);
+        check_kind(&rt, rt.alloc(), text)?;
     }
     Ok(())
 }
 
+/// Whether two kinds are one.
+fn is_same_kind(alloc: Global, one: &str, other: &str) -> Result<bool, Fail> {
+    is_kind(alloc, &kind(alloc, one)?, other)
+}
+
 #[test]
 fn kinds_are_not_equal(rt: HostRuntime) -> Result<(), Fail> {
-    let alloc = rt.alloc();
     for (i, one) in KINDS.iter().enumerate() {
         for (j, other) in KINDS.iter().enumerate() {
-            let same = kind(alloc, one)? == kind(alloc, other)?;
-            assert_eq!(rt; same, i == j, "{one} and {other}");
+            let is_same = is_same_kind(rt.alloc(), one, other)?;
+            assert_eq!(rt; is_same, i == j, "{one} and {other}");
         }
     }
     Ok(())
@@ -44,17 +66,24 @@ const DIFFERENT: [(&str, &str); 7] = [
     ("a[5m]", "a[6m]"),
 ];
 
+/// Whether both texts give one tree.
+fn is_same(alloc: Global, one: &str, other: &str) -> Result<bool, ParseError> {
+    is_read(alloc, &parse(alloc, one)?, other)
+}
+
 #[test]
 fn each_part_tells_selectors_apart(rt: HostRuntime) -> Result<(), Fail> {
-    let alloc = rt.alloc();
     for (one, other) in &DIFFERENT {
-        assert!(rt;
-            parse(alloc, one)? != parse(alloc, other)?,
-            "{one} and {other}"
-        );
+        assert!(rt; !is_same(rt.alloc(), one, other)?, "{one} and {other}");
     }
-    let nameless = Expr::from(VectorSelector::empty(alloc));
-    assert!(rt; parse(alloc, "a")? != nameless);
+    Ok(())
+}
+
+#[test]
+fn a_name_tells_selectors_apart(rt: HostRuntime) -> Result<(), Fail> {
+    let nameless = Expr::from(VectorSelector::empty(rt.alloc()));
+    let found = is_read(rt.alloc(), &nameless, "a");
+    assert!(rt; found == Ok(false));
     Ok(())
 }
 

@@ -7,7 +7,7 @@ use promql_kind::{
     BinModifier, Function, LabelModifier, ValueType, VectorMatchCardinality, get_function,
 };
 use promql_label::{MatchOp, Matcher, Matchers};
-use promql_parser::parser::parse;
+use promql_parser::parser::{ParseError, parse};
 use promql_text::{Number, minute_duration, parse_str_radix};
 use promql_token::ids::{T_ADD, T_TOPK};
 use std::alloc::{AllocError, Global};
@@ -38,6 +38,16 @@ pub fn kind(alloc: Global, text: &str) -> Result<Expr, Fail> {
         return extension(alloc, "a", "2");
     }
     Ok(parse(alloc, text)?)
+}
+
+/// Whether the text gives this expression.
+pub fn is_read(alloc: Global, expr: &Expr, text: &str) -> Result<bool, ParseError> {
+    Ok(parse(alloc, text)? == *expr)
+}
+
+/// Whether the expression is the node of this kind.
+pub fn is_kind(alloc: Global, expr: &Expr, text: &str) -> Result<bool, Fail> {
+    Ok(kind(alloc, text)? == *expr)
 }
 
 /// `ext(FIRST, SECOND)`, which no text gives.
@@ -124,25 +134,41 @@ pub fn grouped(alloc: Global, l: &str, k: &str) -> Result<BinModifier, AllocErro
 }
 
 /// `topk by (l) (5, a)`
-fn topk_by(alloc: Global, a: Expr) -> Result<Expr, CheckError> {
+fn topk_by(alloc: Global) -> Result<Expr, CheckError> {
     let five = FunctionArgs::new_args(alloc, Expr::from(number("5")))?;
-    let args = five.append_args(alloc, a)?;
-    Expr::new_aggregate_expr(T_TOPK, Some(include(alloc, "l")?), args)
+    let args = five.append_args(alloc, name(alloc, "a")?)?;
+    Expr::new_aggregate_expr(alloc, T_TOPK, Some(include(alloc, "l")?), args)
+}
+
+/// `-a`
+fn negative(alloc: Global) -> Result<Expr, CheckError> {
+    Expr::new_unary_expr(alloc, name(alloc, "a")?)
 }
 
 /// `a + on (l) group_left (k) b`
-fn grouped_sum(alloc: Global, a: Expr) -> Result<Expr, CheckError> {
+fn grouped_sum(alloc: Global) -> Result<Expr, CheckError> {
     let modifier = grouped(alloc, "l", "k")?;
+    let a = name(alloc, "a")?;
     let b = name(alloc, "b")?;
     Ok(Expr::new_binary_expr(alloc, a, T_ADD, Some(modifier), b)?)
 }
 
+/// `(a)`
+fn in_parentheses(alloc: Global) -> Result<Expr, CheckError> {
+    Ok(Expr::new_paren_expr(alloc, name(alloc, "a")?)?)
+}
+
 /// `a[5m:1m] @ start() offset -1m`
-fn subquery_at_start(alloc: Global, a: Expr) -> Result<Expr, CheckError> {
+fn subquery_at_start(alloc: Global) -> Result<Expr, CheckError> {
     let step = Some(minute_duration());
-    Expr::new_subquery_expr(alloc, a, minute_duration() * 5, step)?
+    Expr::new_subquery_expr(alloc, name(alloc, "a")?, minute_duration() * 5, step)?
         .at_expr(AtModifier::Start)?
         .offset_expr(Offset::Neg(minute_duration()))
+}
+
+/// `"a\"b"`
+fn quoted(alloc: Global) -> Result<Expr, CheckError> {
+    Ok(Expr::of_str(alloc, "a\"b")?)
 }
 
 /// `a{b="1"} @ 1.000 offset 1m`
@@ -155,27 +181,36 @@ fn selector_at_a_second(alloc: Global) -> Result<Expr, CheckError> {
 }
 
 /// `a[5m] anchored offset 1m`
-fn anchored_range(a: Expr) -> Result<Expr, CheckError> {
-    five_minutes(a)?
+fn anchored_range(alloc: Global) -> Result<Expr, CheckError> {
+    five_minutes(name(alloc, "a")?)?
         .mode_expr(RangeMode::Anchored)?
         .offset_expr(Offset::Pos(minute_duration()))
 }
 
+/// `rate(a[5m])`
+fn rate(alloc: Global) -> Result<Expr, CheckError> {
+    call(alloc, "rate", five_minutes(name(alloc, "a")?)?)
+}
+
+/// `ext(a, 2)`
+fn extended(alloc: Global) -> Result<Expr, CheckError> {
+    extension_of(alloc, name(alloc, "a")?, Expr::from(number("2")))
+}
+
 /// The kind of this number by the builders.
 pub fn built(alloc: Global, number_of_kind: usize) -> Result<Expr, CheckError> {
-    let a = name(alloc, "a")?;
     match number_of_kind {
-        0 => topk_by(alloc, a),
-        1 => Expr::new_unary_expr(alloc, a),
-        2 => grouped_sum(alloc, a),
-        3 => Ok(Expr::new_paren_expr(alloc, a)?),
-        4 => subquery_at_start(alloc, a),
+        0 => topk_by(alloc),
+        1 => negative(alloc),
+        2 => grouped_sum(alloc),
+        3 => in_parentheses(alloc),
+        4 => subquery_at_start(alloc),
         5 => Ok(Expr::from(number("1.5"))),
-        6 => Ok(Expr::of_str(alloc, "a\"b")?),
+        6 => quoted(alloc),
         7 => selector_at_a_second(alloc),
-        8 => anchored_range(a),
-        9 => call(alloc, "rate", five_minutes(a)?),
-        10 => Ok(a),
-        _ => extension_of(alloc, a, Expr::from(number("2"))),
+        8 => anchored_range(alloc),
+        9 => rate(alloc),
+        10 => name(alloc, "a"),
+        _ => extended(alloc),
     }
 }

@@ -1,12 +1,12 @@
 //! Expressions printed into writers that fail, and errors that have no text.
 
+use super::prints;
 use super::trees::{KINDS, kind};
 use promql_ast::{CheckError, Expr, PrettyError};
 use promql_walk::JsonError;
 use std::alloc::Global;
 use std::fmt;
-use std::fmt::{Display, Write};
-use std::process::Abort;
+use std::fmt::Write;
 use std::test::Fail;
 
 /// Keeps what it is given, and fails at one of its calls.
@@ -55,20 +55,13 @@ fn a_failed_write_ends_printing(rt: HostRuntime) -> Result<(), Fail> {
     Ok(())
 }
 
-/// The error has this message.
-fn says<T: Display>(rt: &impl Abort, alloc: Global, error: &T, want: &str) -> Result<(), Fail> {
-    let found = error.to_string(alloc)?;
-    assert_eq!(rt; found.as_str(), want);
-    Ok(())
-}
-
 #[test]
 fn errors_of_memory_have_messages(rt: HostRuntime) -> Result<(), Fail> {
     let alloc = rt.alloc();
-    says(&rt, alloc, &CheckError::Memory, "out of memory")?;
-    says(&rt, alloc, &PrettyError::Memory, "out of memory")?;
-    says(&rt, alloc, &JsonError::Memory, "out of memory")?;
-    says(
+    prints(&rt, alloc, &CheckError::Memory, "out of memory")?;
+    prints(&rt, alloc, &PrettyError::Memory, "out of memory")?;
+    prints(&rt, alloc, &JsonError::Memory, "out of memory")?;
+    prints(
         &rt,
         alloc,
         &PrettyError::IndentTooWide,

@@ -4,8 +4,8 @@ mod dashboards;
 
 use super::repeated;
 use dashboards::QUERIES;
-use promql_parser::parser::{Expr, ParseError, Prettier, parse};
-use std::alloc::Global;
+use promql_parser::parser::{Expr, Prettier, parse};
+use std::alloc::{AllocError, Global};
 use std::process::Abort;
 use std::test::Fail;
 
@@ -13,11 +13,14 @@ const LEVELS: [usize; 2] = [0, 3];
 
 const WIDTHS: [usize; 3] = [0, 10, 100];
 
+/// Whether the expression is this tree, and prints this line.
+fn is_tree(alloc: Global, expr: &Expr, tree: &Expr, line: &str) -> Result<bool, AllocError> {
+    Ok(*expr == *tree && expr.to_string(alloc)?.as_str() == line)
+}
+
 /// Whether the text gives this tree, and prints this line.
-fn reads_back(alloc: Global, text: &str, tree: &Expr, line: &str) -> Result<bool, ParseError> {
-    let read = parse(alloc, text)?;
-    let again = read.to_string(alloc)?;
-    Ok(read == *tree && again.as_str() == line)
+fn reads_back(alloc: Global, text: &str, tree: &Expr, line: &str) -> Result<bool, Fail> {
+    Ok(is_tree(alloc, &parse(alloc, text)?, tree, line)?)
 }
 
 /// The text gives this tree, and prints this line.
@@ -32,19 +35,48 @@ fn check_text(
     Ok(())
 }
 
-/// What is printed of the text's tree, at each level and width, is read as one tree with one line.
-fn check_printed(rt: &impl Abort, alloc: Global, text: &str) -> Result<(), Fail> {
-    let expr = parse(alloc, text)?;
-    let line = expr.to_string(alloc)?;
-    let tree = parse(alloc, line.as_str())?;
-    check_text(rt, alloc, line.as_str(), &tree, line.as_str())?;
+/// What is printed of the expression at each level and width gives this tree, and prints this line.
+fn check_layouts(
+    rt: &impl Abort,
+    alloc: Global,
+    expr: &Expr,
+    tree: &Expr,
+    line: &str,
+) -> Result<(), Fail> {
     for level in LEVELS {
         for most in WIDTHS {
             let laid = expr.pretty(alloc, level, most)?;
-            check_text(rt, alloc, laid.as_str(), &tree, line.as_str())?;
+            check_text(rt, alloc, laid.as_str(), tree, line)?;
         }
     }
     Ok(())
+}
+
+/// The line, and what is laid out of the expression, are read as this tree with this line.
+fn check_tree(
+    rt: &impl Abort,
+    alloc: Global,
+    expr: &Expr,
+    tree: &Expr,
+    line: &str,
+) -> Result<(), Fail> {
+    check_text(rt, alloc, line, tree, line)?;
+    check_layouts(rt, alloc, expr, tree, line)
+}
+
+/// The line of the expression, and what is laid out of it, are read as one tree with one line.
+fn check_expr(rt: &impl Abort, alloc: Global, expr: &Expr) -> Result<(), Fail> {
+    let line = expr.to_string(alloc)?;
+    check_line(rt, alloc, expr, line.as_str())
+}
+
+fn check_line(rt: &impl Abort, alloc: Global, expr: &Expr, line: &str) -> Result<(), Fail> {
+    check_tree(rt, alloc, expr, &parse(alloc, line)?, line)
+}
+
+/// What is printed of the text's tree, at each level and width, is read as one tree with one line.
+fn check_printed(rt: &impl Abort, alloc: Global, text: &str) -> Result<(), Fail> {
+    check_expr(rt, alloc, &parse(alloc, text)?)
 }
 
 #[test]

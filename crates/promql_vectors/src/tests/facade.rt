@@ -33,7 +33,7 @@ type Types<'a> = (
     promql_parser::parser::StringLiteral,
     promql_parser::parser::SubqueryExpr,
     promql_parser::parser::Tally,
-    promql_parser::parser::TypedPlace,
+    promql_parser::parser::TypeContext,
     promql_parser::parser::UnaryExpr,
     promql_parser::parser::VectorMatchCardinality,
     promql_parser::parser::VectorMatchFillValues,
@@ -58,7 +58,7 @@ type Types<'a> = (
     promql_parser::parser::ast::RangeMode,
     promql_parser::parser::ast::StringLiteral,
     promql_parser::parser::ast::SubqueryExpr,
-    promql_parser::parser::ast::TypedPlace,
+    promql_parser::parser::ast::TypeContext,
     promql_parser::parser::ast::UnaryExpr,
     promql_parser::parser::ast::VectorMatchCardinality,
     promql_parser::parser::ast::VectorMatchFillValues,
@@ -90,7 +90,7 @@ type Types<'a> = (
     promql_parser::util::number::NumberFault,
 );
 
-/// The constants of ids, in the order of docs/TOKENS.md.
+/// The constants of ids, in the order of docs/reference/tokens.md.
 const IDS: [token::TokenId; 86] = [
     token::T_EQL,
     token::T_BLANK,

@@ -1,4 +1,4 @@
-//! Allocations that fail: with `rt try --test --fail-alloc N` each in turn.
+//! Allocations that fail: bin/test_memory makes each fail in turn.
 
 use super::json;
 use promql_parser::parser::{ParseError, parse};

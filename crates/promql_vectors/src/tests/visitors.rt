@@ -1,10 +1,12 @@
 //! Visitors that a user writes, over texts that are read.
 
+use super::line;
 use promql_parser::label::{MatchOp, Matcher, Matchers};
 use promql_parser::parser::{Expr, VectorSelector, parse};
 use promql_parser::util::visitor::{ExprVisitor, ExprVisitorMut, walk_expr, walk_expr_mut};
 use std::alloc::{AllocError, Global};
 use std::fmt::Write;
+use std::process::Abort;
 use std::test::Fail;
 
 /// Writes down each call.
@@ -80,24 +82,35 @@ impl ExprVisitor for Names {
     }
 }
 
-#[test]
-fn all_names_of_metrics(rt: HostRuntime) -> Result<(), Fail> {
-    let alloc = rt.alloc();
-    let expr = parse(
-        alloc,
-        "quantile(scalar(q), a) + {\"b c\"} / sum by (l) (rate(d[5m]) or max_over_time(e[1h:]))",
-    )?;
+/// A query with names of metrics in all places, which are `q`, `a`, `b c`, `d` and `e`.
+const NAMED: &str =
+    "quantile(scalar(q), a) + {\"b c\"} / sum by (l) (rate(d[5m]) or max_over_time(e[1h:]))";
+
+/// The names that a walk to the end of the expression collects.
+fn names_of(rt: &impl Abort, alloc: Global, expr: &Expr) -> Vec<String> {
     let mut names = Names {
         alloc,
         names: Vec::new(alloc),
     };
-    assert!(rt; walk_expr(&mut names, &expr) == Ok(true));
+    assert!(rt; walk_expr(&mut names, expr) == Ok(true));
+    names.names
+}
+
+/// The texts, each with a semicolon after it.
+fn listed(alloc: Global, texts: &[String]) -> Result<String, AllocError> {
     let mut list = String::new(alloc);
-    for name in &names.names {
-        list.push_str(name.as_str())?;
+    for text in texts {
+        list.push_str(text.as_str())?;
         list.push_str(";")?;
     }
-    assert_eq!(rt; list.as_str(), "q;a;b c;d;e;");
+    Ok(list)
+}
+
+#[test]
+fn all_names_of_metrics(rt: HostRuntime) -> Result<(), Fail> {
+    let alloc = rt.alloc();
+    let names = names_of(&rt, alloc, &parse(alloc, NAMED)?);
+    assert_eq!(rt; listed(alloc, &names)?.as_str(), "q;a;b c;d;e;");
     Ok(())
 }
 
@@ -136,25 +149,38 @@ impl ExprVisitorMut for Enforce {
     }
 }
 
+/// Queries, and how they print with the label in every selector.
+const ENFORCED: [(&str, &str); 2] = [
+    (
+        "sum(rate(a{b=\"1\"}[5m])) / c",
+        "sum(rate(a{b=\"1\",tenant=\"t\"}[5m])) / c{tenant=\"t\"}",
+    ),
+    (
+        "topk(scalar(k), {a=\"1\" or b=\"2\"})",
+        "topk(scalar(k{tenant=\"t\"}), {a=\"1\", tenant=\"t\" or b=\"2\", tenant=\"t\"})",
+    ),
+];
+
+/// How the expression prints after a walk to its end that adds the label.
+fn enforced(rt: &impl Abort, alloc: Global, expr: &mut Expr) -> Result<String, AllocError> {
+    assert!(rt; walk_expr_mut(&mut Enforce(alloc), expr) == Ok(true));
+    expr.to_string(alloc)
+}
+
 #[test]
 fn a_label_in_every_selector(rt: HostRuntime) -> Result<(), Fail> {
     let alloc = rt.alloc();
-    for (query, want) in [
-        (
-            "sum(rate(a{b=\"1\"}[5m])) / c",
-            "sum(rate(a{b=\"1\",tenant=\"t\"}[5m])) / c{tenant=\"t\"}",
-        ),
-        (
-            "topk(scalar(k), {a=\"1\" or b=\"2\"})",
-            "topk(scalar(k{tenant=\"t\"}), {a=\"1\", tenant=\"t\" or b=\"2\", tenant=\"t\"})",
-        ),
-    ] {
-        let mut expr = parse(alloc, query)?;
-        assert!(rt; walk_expr_mut(&mut Enforce(alloc), &mut expr) == Ok(true));
-        let printed = expr.to_string(alloc)?;
-        assert_eq!(rt; printed.as_str(), want);
-        let again = parse(alloc, printed.as_str())?;
-        assert_eq!(rt; again.to_string(alloc)?.as_str(), want);
+    for (query, want) in &ENFORCED {
+        let printed = enforced(&rt, alloc, &mut parse(alloc, query)?)?;
+        assert_eq!(rt; printed.as_str(), *want);
+    }
+    Ok(())
+}
+
+#[test]
+fn queries_with_the_label_are_read_again(rt: HostRuntime) -> Result<(), Fail> {
+    for (_, want) in &ENFORCED {
+        assert_eq!(rt; line(rt.alloc(), want)?.as_str(), *want);
     }
     Ok(())
 }

@@ -1,7 +1,7 @@
 //! Visitors that change nodes, stop, and fail.
 
-use super::walks::{chain, sum};
-use super::{extension, prints};
+use super::walks::{ENDED, Log, chain, log_up_to, sum};
+use super::{extension, is_read, prints};
 use promql_ast::Expr;
 use promql_label::{MatchOp, Matcher, Matchers};
 use promql_parser::parser::parse;
@@ -9,6 +9,7 @@ use promql_text::Number;
 use promql_walk::{ExprVisitorMut, walk_expr_mut};
 use std::alloc::{AllocError, Global};
 use std::mem;
+use std::process::Abort;
 use std::test::Fail;
 
 /// Adds `env="prod"` to a selector, and stops there if it is to.
@@ -217,4 +218,41 @@ fn what_was_replaced_is_not_walked(rt: HostRuntime) -> Result<(), Fail> {
     assert!(rt; walk_expr_mut(&mut cut, &mut expr) == Ok(true));
     assert_eq!(rt; cut.0, 2);
     prints(&rt, alloc, &expr, "0")
+}
+
+impl ExprVisitorMut for Log {
+    type Error = &'static str;
+
+    ghost pre_gives = { λ _ _ _ _ _. Unit {0} };
+
+    ghost post_gives = { λ _ _ _ _ _. Unit {0} };
+
+    fn pre_visit(&mut self, expr: &mut Expr) -> Result<bool, &'static str> {
+        self.add("before", expr)
+    }
+
+    fn post_visit(&mut self, expr: &mut Expr) -> Result<bool, &'static str> {
+        self.add("after", expr)
+    }
+}
+
+/// Whether a walk ends with this result after these calls.
+fn is_walked(log: Log, expr: &mut Expr, end: Result<bool, &'static str>, calls: &str) -> bool {
+    let mut log = log;
+    walk_expr_mut(&mut log, expr) == end && log.text.as_str() == calls
+}
+
+/// The walks end so, and leave the expression as it was read.
+fn check_ended(rt: &impl Abort, alloc: Global, expr: &mut Expr) -> Result<(), Fail> {
+    for (last, fails, end, calls) in &ENDED {
+        let log = log_up_to(alloc, *last, *fails);
+        assert!(rt; is_walked(log, expr, *end, calls), "{calls}");
+    }
+    assert!(rt; is_read(alloc, expr, "topk(5, a) + b")?);
+    Ok(())
+}
+
+#[test]
+fn a_changing_walk_that_ends_leaves_the_expression(rt: HostRuntime) -> Result<(), Fail> {
+    check_ended(&rt, rt.alloc(), &mut parse(rt.alloc(), "topk(5, a) + b")?)
 }

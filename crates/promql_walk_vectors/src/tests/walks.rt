@@ -1,12 +1,13 @@
 //! The order of a walk, and where it ends.
 
-use super::extension;
+use super::{extension, is_read};
 use promql_ast::Expr;
 use promql_label::{MatchOp, Matchers};
 use promql_parser::parser::parse;
 use promql_walk::{ExprVisitor, walk_expr};
 use std::alloc::{AllocError, Global};
 use std::fmt::Write;
+use std::process::Abort;
 use std::test::Fail;
 
 /// 499 pairs of parentheses round a number: 500 nodes, one below the other.
@@ -33,15 +34,15 @@ pub fn sum(alloc: Global) -> Result<Expr, Fail> {
 
 /// Writes down each call. From the call of this number on it stops or fails.
 #[derive(Drop)]
-struct Log {
-    text: String,
+pub struct Log {
+    pub text: String,
     calls: usize,
     last: usize,
     fails: bool,
 }
 
 impl Log {
-    fn add(&mut self, when: &str, expr: &Expr) -> Result<bool, &'static str> {
+    pub fn add(&mut self, when: &str, expr: &Expr) -> Result<bool, &'static str> {
         if write!(&mut self.text, "{when} {expr}; ").is_err() {
             return Err("out of memory");
         }
@@ -72,7 +73,7 @@ impl ExprVisitor for Log {
     }
 }
 
-fn log_up_to(alloc: Global, last: usize, fails: bool) -> Log {
+pub fn log_up_to(alloc: Global, last: usize, fails: bool) -> Log {
     Log {
         text: String::new(alloc),
         calls: 0,
@@ -135,6 +136,38 @@ fn a_walk_goes_on_to_its_end(rt: HostRuntime) -> Result<(), Fail> {
     let log = log_up_to(rt.alloc(), 7, true);
     assert!(rt; is_walked(log, &expr, Ok(true), CALLS[5]));
     Ok(())
+}
+
+/// Walks over `topk(5, a) + b`: the call that ends one, whether it fails, how the walk ends, and its calls. The first
+/// ends before `a`, the second after `5`.
+pub const ENDED: [(usize, bool, Result<bool, &str>, &str); 2] = [
+    (
+        5,
+        false,
+        Ok(false),
+        "before topk(5, a) + b; before topk(5, a); before 5; after 5; before a; ",
+    ),
+    (
+        4,
+        true,
+        Err("failed"),
+        "before topk(5, a) + b; before topk(5, a); before 5; after 5; ",
+    ),
+];
+
+/// The walks end so, and leave the expression as it was read.
+fn check_ended(rt: &impl Abort, alloc: Global, expr: &Expr) -> Result<(), Fail> {
+    for (last, fails, end, calls) in &ENDED {
+        let log = log_up_to(alloc, *last, *fails);
+        assert!(rt; is_walked(log, expr, *end, calls), "{calls}");
+    }
+    assert!(rt; is_read(alloc, expr, "topk(5, a) + b")?);
+    Ok(())
+}
+
+#[test]
+fn a_walk_that_ends_leaves_the_expression(rt: HostRuntime) -> Result<(), Fail> {
+    check_ended(&rt, rt.alloc(), &parse(rt.alloc(), "topk(5, a) + b")?)
 }
 
 /// Whether each selector has the matcher `namespace="s"` beside its groups, and no number or string is met.

@@ -2,7 +2,7 @@ use Rattle.std.proofs.Common.{◌++◌, refl, sym, ap, ◌∙◌}
 use Rattle.std.proofs.Output.{has_written_append}
 use Rattle.std.specs.Ordering.{is_eq}
 use Rattle.promql_label.specs.NextText.{comma_after, text_of}
-use Rattle.promql_label.proofs.PrintedTexts.{copy_yes, copy_no, dropped}
+use Rattle.promql_label.proofs.PrintedTexts.{copy_yes, copy_no, map_drop_step}
 use Rattle.promql_text.proofs.Writing.{writing_plain, writing_more, writing_as}
 use Rattle.promql_label.proofs.sorted.write_copies.Goals.{then-is_eq+in_ok-write_comma+in_ok-fmt, else-is_eq}
 use Rattle.promql_label.proofs.sorted.write_copies.Goals as goal
@@ -13,7 +13,7 @@ copies-preserved g c = λ plain.
     let text = text_of c.args.matcher.now in
     let other = text_of c.other-item.result in
     let so_far = c.copies.invariant plain in
-    let next = dropped text_of c.args.matchers.now c.copies.other-index c.other-item.result c.copies-test.true c.other-item.is in
+    let next = map_drop_step text_of c.args.matchers.now c.copies.other-index c.other-item.result c.copies-test.true c.other-item.is in
     let order = c.is_eq.ensures ∙ ap is_eq c.compare.ensures in
     elim c.if-is_eq.branch [
       | then-is_eq+in_ok-write_comma+in_ok-fmt w ↦

@@ -3,7 +3,7 @@ use Rattle.std.specs.List.{filter}
 use Rattle.promql_label.specs.NextText.{copies, is_above, text_of, text_of_some, texts_after, times}
 use Rattle.promql_label.specs.SortedTexts.{sorted_texts}
 use Rattle.promql_label.proofs.NextText.{filter_all, fewer}
-use Rattle.promql_label.proofs.PrintedTexts.{joined_is, printed, nothing_left}
+use Rattle.promql_label.proofs.PrintedTexts.{joined_is, texts_after_sorted, nothing_left}
 use Rattle.promql_text.proofs.Writing.{writing_plain, writing_more, writing_start, writing_end}
 use Rattle.promql_label.proofs.sorted.write_sorted.Goals as goal
 
@@ -27,9 +27,9 @@ texts-preserved g c = λ plain.
     writing_more took _ _ _ _ (texts_after c.is_some.result (times (copies next texts) next)) _ _ so_far
     (c.in_ok-write_copies.ensures (writing_plain took _ _ _ _ so_far) refl)
     (ap (λ s. texts_after s (sorted_texts (filter (is_above last) texts))) (sym c.is_some.ensures)
-    ∙ printed c.is_some.result last next texts c.in-Some.ensures)
+    ∙ texts_after_sorted c.is_some.result last next texts c.in-Some.ensures)
 
 pub returns : goal.returns
 returns g c = λ plain ok.
     writing_end g.W.Write.write_str_gives _ _ _ _ (c.texts.invariant plain)
-    (nothing_left _ _ (text_of_some c.next_above.result) _ (ap text_of_some c.in_default.is) c.next_above.ensures)
+    (nothing_left _ _ (text_of_some c.next_greater.result) _ (ap text_of_some c.in_default.is) c.next_greater.ensures)

@@ -1,4 +1,4 @@
-//! The table of functions, against the rows of docs/FUNCTIONS.md.
+//! The table of functions, against the rows of docs/reference/functions.md.
 
 use crate::tests::rows::{holds, is_so};
 use promql_kind::ValueType::{Matrix, Scalar, String, Vector};

@@ -132,6 +132,42 @@ fn copies_are_equal(rt: HostRuntime) -> Result<(), Fail> {
     Ok(())
 }
 
+/// Whether the copy was made and is the value.
+fn is_copy<T: PartialEq + Drop>(
+    value: &T,
+    copy: Result<T, AllocError>,
+) -> Result<bool, AllocError> {
+    Ok(copy? == *value)
+}
+
+fn is_card_copied(alloc: Global, word: &str) -> Result<bool, AllocError> {
+    let card = card(alloc, word)?;
+    is_copy(&card, card.try_clone(alloc))
+}
+
+#[test]
+fn cards_are_copied(rt: HostRuntime) -> Result<(), Fail> {
+    for word in &["", "many", "left", "right"] {
+        is_so(&rt, is_card_copied(rt.alloc(), word), word)?;
+    }
+    Ok(())
+}
+
+fn is_matching_copied(alloc: Global, word: &str) -> Result<bool, AllocError> {
+    match &matching(alloc, word)? {
+        Some(labels) => is_copy(labels, labels.try_clone(alloc)),
+        None => Ok(false),
+    }
+}
+
+#[test]
+fn matching_labels_are_copied(rt: HostRuntime) -> Result<(), Fail> {
+    for word in &["on", "on none", "ignoring", "ignoring none"] {
+        is_so(&rt, is_matching_copied(rt.alloc(), word), word)?;
+    }
+    Ok(())
+}
+
 #[test]
 fn modifiers_have_a_word_for_bool(rt: HostRuntime) {
     let with = BinModifier::default().with_return_bool(true);

@@ -222,6 +222,24 @@ fn operators_print(rt: HostRuntime) -> Result<(), Fail> {
     Ok(())
 }
 
+/// Whether a copy of the matcher's operator is the operator.
+fn is_operator_copied(alloc: Global, id: TokenId) -> Result<bool, MatcherError> {
+    let matcher = made(alloc, id, "a", "b.*")?;
+    match matcher.op.try_clone(alloc) {
+        Ok(copy) => Ok(copy == matcher.op),
+        Err(_) => Err(MatcherError::Memory),
+    }
+}
+
+#[test]
+fn operators_are_copied(rt: HostRuntime) -> Result<(), Fail> {
+    for (id, text) in &OPERATORS {
+        let found = is_operator_copied(rt.alloc(), *id)?;
+        holds(&rt, found, text);
+    }
+    Ok(())
+}
+
 #[test]
 fn errors_of_operators_compare(rt: HostRuntime) {
     holds(

@@ -47,8 +47,7 @@ fn other_texts_are_rejected(rt: HostRuntime) {
     }
 }
 
-// The three reads below are also run by hand with each of their allocations failing in turn:
-// `rt try --test --fail-alloc N`, N from 1 to 140.
+// In the three reads below bin/test_memory makes each allocation fail in turn.
 
 fn is_out_of_memory(found: &Result<Pattern, PatternFault>) -> bool {
     match found {

@@ -22,7 +22,7 @@ fn texts_are_escaped(rt: HostRuntime) -> Result<(), Fail> {
     Ok(())
 }
 
-/// Quoted texts, and what they stand for.
+/// Quoted texts, and what they are for.
 const UNQUOTED: [(&str, &str); 9] = [
     (r#""""#, ""),
     (r#""\x41\u20AC\101""#, "A€A"),
@@ -38,7 +38,7 @@ const UNQUOTED: [(&str, &str); 9] = [
     ("`a\nb`", "a\nb"),
 ];
 
-/// Whether the quoted text stands for the other.
+/// Whether the quoted text is for the other.
 fn is_unquoted(alloc: Global, text: &str, want: &str) -> bool {
     match unquote_string(alloc, text) {
         Ok(found) => found.as_str() == want,

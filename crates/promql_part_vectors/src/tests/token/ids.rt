@@ -1,5 +1,9 @@
 //! The texts of ids, and the keywords.
 
+ghost use Rattle.std.specs.Prelude.{◌≡◌, map};
+ghost use Rattle.promql_part_vectors.specs.Tables as tables;
+ghost use Rattle.promql_token.specs.Ids.{keywords};
+
 use crate::tests::rows::{holds, is_so, prints};
 use promql_token::ids::*;
 use promql_token::{TokenType, get_keyword_token, lexer, token_display};
@@ -113,7 +117,7 @@ fn ids_print_their_texts(rt: HostRuntime) -> Result<(), Fail> {
     Ok(())
 }
 
-const WORDS: [(&str, &str, &str, TokenId); 35] = [
+const SPELLINGS: [(&str, &str, &str, TokenId); 35] = [
     ("and", "AND", "aNd", T_LAND),
     ("or", "OR", "oR", T_LOR),
     ("unless", "UNLESS", "uNlEsS", T_LUNLESS),
@@ -166,7 +170,7 @@ fn reads_as(alloc: Global, word: &str, id: TokenId) -> Result<bool, AllocError> 
 
 #[test]
 fn keywords_are_read_in_any_case(rt: HostRuntime) -> Result<(), Fail> {
-    for (lower, upper, mixed, id) in &WORDS {
+    for (lower, upper, mixed, id) in &SPELLINGS {
         for word in [lower, upper, mixed] {
             is_so(&rt, reads_as(rt.alloc(), word, *id), word)?;
         }
@@ -174,9 +178,15 @@ fn keywords_are_read_in_any_case(rt: HostRuntime) -> Result<(), Fail> {
     Ok(())
 }
 
+/// The table has the keywords of docs/reference/tokens.md, and no other word.
+fn has_these_keywords()
+    ensures { map (λ row. row.0) keywords ≡ tables.keywords }
+{}
+
 #[test]
 fn keywords_are_found_in_lower_case(rt: HostRuntime) {
-    for (lower, upper, _mixed, id) in &WORDS {
+    has_these_keywords();
+    for (lower, upper, _mixed, id) in &SPELLINGS {
         holds(&rt, get_keyword_token(lower) == Some(*id), lower);
         holds(&rt, get_keyword_token(upper).is_none(), upper);
     }

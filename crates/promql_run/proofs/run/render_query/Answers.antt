@@ -1,8 +1,14 @@
 use Rattle.std.proofs.Common.{◌≡◌, sym, ◌∙◌, ap, subst}
-use Rattle.std.specs.Prelude.{Err}
+use Rattle.std.specs.Prelude.{Result, Ok, Err, IfErr, IfOk, String, string_bytes}
+use Rattle.std.specs.declared.alloc.Global.{Global}
+use Rattle.promql_text.specs.Texts.{Text}
+use Rattle.promql_ast.specs.Tree.{Tree}
+use Rattle.promql_run.specs.Running.{IsModeLine, IsPrinted}
+use Rattle.promql_run.specs.declared.run.Mode.{Mode}
+use Rattle.promql_run.specs.declared.run.RunError.{RunError}
 use Rattle.std.proofs.lemmas.Result.{err_from_is_err_and}
 use Rattle.promql_run.specs.declared.run.RunError.TheVariants.{Parse, Json}
-use Rattle.promql_syntax.specs.Answers.{IsAnswerTo, refusal_of}
+use Rattle.promql_syntax.specs.ParseAnswers.{IsAnswerTo, plain_error_of}
 use Rattle.promql_ast.specs.View.{tree_of}
 use Rattle.promql_run.specs.StepErrors.{IsShowError}
 use Rattle.promql_run.proofs.Extensions.{answers_are_plain}
@@ -16,25 +22,25 @@ returns-in_err-expr-clause-parse c = λ e is.
     let raised : Err same.0 ≡ Err (Parse e) = sym same.1 ∙ is in
     let own : same.0 ≡ Parse e = cc in
     let parsed = raised_own c.in_err-expr.field-0.0 same.0 same.2 e own in
-    (subst (λ f. IsAnswerTo c.args.text.now (Err (refusal_of f))) parsed.0 refusal, parsed.1)
+    (subst (λ f. IsAnswerTo c.args.text.now (Err (plain_error_of f))) parsed.0 refusal, parsed.1)
 
-pub render-requires-clause-plain : goal.render-requires-clause-plain
-render-requires-clause-plain c = answers_are_plain c.args.text.now (tree_of c.in_ok-expr.expr) c.in_ok-expr.ensures
+pub render_line-line-requires-clause-plain : goal.render_line-line-requires-clause-plain
+render_line-line-requires-clause-plain c = answers_are_plain c.args.text.now (tree_of c.in_ok-expr.expr) c.in_ok-expr.ensures
 
-pub returns-in_err-answer-clause-json : goal.returns-in_err-answer-clause-json
-returns-in_err-answer-clause-json c = λ is.
-    let same = err_from_is_err_and c.from_residual-in_err-answer.result c.from_residual-in_err-answer.ensures.1 in
-    let raised : Err same.0 ≡ Err Json = sym same.1 ∙ is in
-    let own : same.0 ≡ Json = cc in
+pub returns-clause-json : goal.returns-clause-json
+returns-clause-json c = λ is.
     record {
       tree = tree_of c.in_ok-expr.expr;
       parsed = c.in_ok-expr.ensures;
-      wide = c.in_err-answer.ensures.json (ap Err (sym same.2 ∙ own));
+      wide = c.render_line-line.ensures.json is;
     }
 
-pub returns-in_err-answer-clause-parse : goal.returns-in_err-answer-clause-parse
-returns-in_err-answer-clause-parse c = λ e is.
-    let same = err_from_is_err_and c.from_residual-in_err-answer.result c.from_residual-in_err-answer.ensures.1 in
-    let raised : Err same.0 ≡ Err (Parse e) = sym same.1 ∙ is in
-    let own : same.0 ≡ Parse e = cc in
-    absurd (subst IsShowError (sym same.2 ∙ own) c.in_err-answer.ensures.errors)
+pub returns-clause-parse : goal.returns-clause-parse
+returns-clause-parse c = λ e is. absurd (subst (λ r. IfErr r IsShowError) is c.render_line-line.ensures.errors)
+
+line_printed : (r : Result (String Global) RunError) (mode : Mode) (text : Text) (t : Tree) → IsAnswerTo text (Ok t) → IfOk r (λ s. IsModeLine mode t (string_bytes s)) → IfOk r (λ s. IsPrinted mode text (string_bytes s))
+line_printed (Ok s) mode text t parsed line = record { tree = t; parsed = parsed; line = line }
+line_printed (Err e) mode text t parsed line = tt
+
+pub returns-clause-ok : goal.returns-clause-ok
+returns-clause-ok c = line_printed c.render_line-line.result c.args.mode c.args.text.now (tree_of c.in_ok-expr.expr) c.in_ok-expr.ensures c.render_line-line.ensures.ok

@@ -1,47 +1,47 @@
 use Rattle.std.proofs.Common.{◌≡◌, ◌+◌, ◌*◌, ◌≤◌, true, length}
-use Rattle.promql_grammar.specs.Reading.{expression}
+use Rattle.promql_grammar.specs.Parsing.{parse_expression}
 use Rattle.promql_grammar.specs.Symbols.{begins}
-use Rattle.promql_syntax.specs.Drawing.{symbols_left}
+use Rattle.promql_syntax.specs.SymbolsLeft.{symbols_left}
 use Rattle.promql_syntax.proofs.Climbing.{Climbing}
 use Rattle.promql_syntax.proofs.Collecting.{Collecting}
 use Rattle.promql_syntax.proofs.grammar.+parser.Given as goal
 
-abbrev pub decreases-expression::read_expression : goal.decreases-expression::read_expression
-decreases-expression::read_expression l = 6 * l.room
+abbrev pub decreases-expression::parse_expression : goal.decreases-expression::parse_expression
+decreases-expression::parse_expression l = 6 * l.max_height
 
-abbrev pub decreases-call::read_arguments : goal.decreases-call::read_arguments
-decreases-call::read_arguments l = 6 * l.room + 1
+abbrev pub decreases-call::parse_arguments : goal.decreases-call::parse_arguments
+decreases-call::parse_arguments l = 6 * l.max_height + 1
 
-abbrev pub decreases-call::read_call : goal.decreases-call::read_call
-decreases-call::read_call l = 6 * l.room + 2
+abbrev pub decreases-call::parse_call : goal.decreases-call::parse_call
+decreases-call::parse_call l = 6 * l.max_height + 2
 
-abbrev pub decreases-aggregate::read_aggregate : goal.decreases-aggregate::read_aggregate
-decreases-aggregate::read_aggregate l = 6 * l.room + 2
+abbrev pub decreases-aggregate::parse_aggregate : goal.decreases-aggregate::parse_aggregate
+decreases-aggregate::parse_aggregate l = 6 * l.max_height + 2
 
-abbrev pub decreases-expression::read_base : goal.decreases-expression::read_base
-decreases-expression::read_base l = 6 * l.room + 3
+abbrev pub decreases-expression::parse_postfix_base : goal.decreases-expression::parse_postfix_base
+decreases-expression::parse_postfix_base l = 6 * l.max_height + 3
 
-abbrev pub decreases-expression::read_first : goal.decreases-expression::read_first
-decreases-expression::read_first l = 6 * l.room + 4
+abbrev pub decreases-expression::parse_unary : goal.decreases-expression::parse_unary
+decreases-expression::parse_unary l = 6 * l.max_height + 4
 
-abbrev pub invariant-expression::read_expression-loop-op : goal.invariant-expression::read_expression-loop-op
-invariant-expression::read_expression-loop-op l = record {
-  low : l.left.height ≤ l.room;
-  under : l.room ≡ l.below + 1;
+abbrev pub invariant-expression::parse_expression-loop-op : goal.invariant-expression::parse_expression-loop-op
+invariant-expression::parse_expression-loop-op l = record {
+  low : l.left.height ≤ l.max_height;
+  under : l.max_height ≡ l.below + 1;
   short : length (symbols_left l.tokens) ≤ length (symbols_left l.fn.tokens);
   begun : begins (symbols_left l.fn.tokens) ≡ true;
-  goes : Climbing l.room l.below l.lowest (symbols_left l.fn.tokens) l.left (symbols_left l.tokens);
+  goes : Climbing l.max_height l.below l.min_precedence (symbols_left l.fn.tokens) l.left (symbols_left l.tokens);
 }
 
-abbrev pub decreases-expression::read_expression-loop-op : goal.decreases-expression::read_expression-loop-op
-decreases-expression::read_expression-loop-op l = length (symbols_left l.tokens)
+abbrev pub decreases-expression::parse_expression-loop-op : goal.decreases-expression::parse_expression-loop-op
+decreases-expression::parse_expression-loop-op l = length (symbols_left l.tokens)
 
-abbrev pub invariant-call::read_arguments-loop-alloc : goal.invariant-call::read_arguments-loop-alloc
-invariant-call::read_arguments-loop-alloc l = record {
-  low : l.args.height ≤ l.room;
+abbrev pub invariant-call::parse_arguments-loop-alloc : goal.invariant-call::parse_arguments-loop-alloc
+invariant-call::parse_arguments-loop-alloc l = record {
+  low : l.args.height ≤ l.max_height;
   short : length (symbols_left l.tokens) ≤ length (symbols_left l.fn.tokens);
-  goes : Collecting (expression l.room) (symbols_left l.fn.tokens) l.args (symbols_left l.tokens);
+  goes : Collecting (parse_expression l.max_height) (symbols_left l.fn.tokens) l.args (symbols_left l.tokens);
 }
 
-abbrev pub decreases-call::read_arguments-loop-alloc : goal.decreases-call::read_arguments-loop-alloc
-decreases-call::read_arguments-loop-alloc l = length (symbols_left l.tokens)
+abbrev pub decreases-call::parse_arguments-loop-alloc : goal.decreases-call::parse_arguments-loop-alloc
+decreases-call::parse_arguments-loop-alloc l = length (symbols_left l.tokens)

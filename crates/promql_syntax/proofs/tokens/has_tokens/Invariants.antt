@@ -1,5 +1,5 @@
 use Rattle.std.proofs.Common.{◌≡◌}
-use Rattle.promql_token.specs.Lexing.{collected, items}
+use Rattle.promql_token.specs.Lexing.{collect_items, items}
 use Rattle.promql_token.specs.Scan.{items_left}
 use Rattle.promql_syntax.proofs.Listing.{any_token, or_any}
 use Rattle.promql_syntax.proofs.tokens.has_tokens.Given as goal
@@ -9,4 +9,4 @@ abbrev pub invariant-loop-found : goal.invariant-loop-found
 invariant-loop-found l =
     (goal.iterator-loop-found).can_next l.found-iterator ×
     (goal.iterator-loop-found).is_finite l.found-iterator ×
-    (or_any l.some (any_token (collected (items_left l.found-iterator))) ≡ any_token (collected (items l.text)))
+    (or_any l.some (any_token (collect_items (items_left l.found-iterator))) ≡ any_token (collect_items (items l.text)))

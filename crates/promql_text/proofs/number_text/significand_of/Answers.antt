@@ -15,7 +15,7 @@ returns-in_err-whole-clause-value g c =
 pub returns-clause-value : goal.returns-clause-value
 returns-clause-value g c =
     let n : Numeral = numeral_of g.S.Source.left c.args.numeral in
-    let P : ℕ → Type 0 = λ v. MatchOption c.gather-2.result (IsLong v) (λ s. s.digits * 10 ^ s.zeros ≡ v) in
+    let P : ℕ → Type 0 = λ v. MatchOption c.read_digits-2.result (IsLong v) (λ s. s.digits * 10 ^ s.zeros ≡ v) in
     subst P
     (both_parts n (c.new.result.digits * 10 ^ c.new.result.zeros) (c.in_ok-whole.whole.digits * 10 ^ c.in_ok-whole.whole.zeros) (nothing_yet c.new.result.digits c.new.result.zeros c.new.ensures.0) c.in_ok-whole.ensures.value)
-    c.gather-2.ensures.value
+    c.read_digits-2.ensures.value

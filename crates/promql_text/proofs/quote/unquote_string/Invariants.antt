@@ -5,7 +5,7 @@ use Rattle.std.specs.Str.Iter.{chars_rest}
 use Rattle.promql_text.specs.Quoting.{is_quote, inside, unquoted_text}
 use Rattle.promql_text.proofs.quote.unquote_string.Given as goal
 
--- what is written, and what is left stands for
+-- what is written, and what is left is for
 abbrev pub invariant-loop-c : goal.invariant-loop-c
 invariant-loop-c l =
     (unquoted_text l.s ≡ option_map (λ more. string_bytes l.out ++ more) (inside l.quote 0 (chars_rest l.rest)))

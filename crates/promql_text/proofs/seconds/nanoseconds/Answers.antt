@@ -23,5 +23,5 @@ returns c =
     let short : length (whole ++ fraction) < 2 ^ 100 =
     omega (arith, length-append whole fraction, ap length c.run.ensures.value, ap length c.run-2.ensures.value, c.run.ensures.fits, c.run-2.ensures.fits)
     in
-    c.rounded.ensures c.in-Some.to_point (whole ++ fraction) digits read
+    c.round.ensures c.in-Some.to_point (whole ++ fraction) digits read
     ∙ second_some (numeral_of (λ s. s.now) n) c.in-Some.to_point short c.in-Some.ensures

@@ -1,10 +1,10 @@
 use Rattle.std.proofs.Common.{◌*◌, ◌^◌, ◌∙◌, ap}
-use Rattle.promql_text.specs.DurationReaders.{capped}
+use Rattle.promql_text.specs.DurationReaders.{cap_u128}
 use Rattle.promql_text.proofs.Rounding.{capped_zeros}
 use Rattle.promql_text.proofs.seconds.with_zeros.Goals as goal
 
 pub returns : goal.returns
 returns c =
     c.saturating_mul.ensures
-    ∙ ap (λ p. capped (c.args.n * p)) (c.saturating_pow.ensures ∙ ap (λ z. capped (10 ^ z)) c.min.ensures)
+    ∙ ap (λ p. cap_u128 (c.args.n * p)) (c.saturating_pow.ensures ∙ ap (λ z. cap_u128 (10 ^ z)) c.min.ensures)
     ∙ capped_zeros c.args.n c.args.zeros

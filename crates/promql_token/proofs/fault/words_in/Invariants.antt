@@ -4,5 +4,5 @@ use Rattle.promql_token.proofs.fault.words_in.Given as goal
 
 abbrev pub invariant-loop-row : goal.invariant-loop-row
 invariant-loop-row l =
-    spec.words_in (map (λ row. (row.0, row.1.now)) l.table) l.kind
-    ≡ spec.words_in (map (λ row. (row.0, row.1.now)) (drop l.row-index l.table)) l.kind
+    spec.message_in (map (λ row. (row.0, row.1.now)) l.table) l.kind
+    ≡ spec.message_in (map (λ row. (row.0, row.1.now)) (drop l.row-index l.table)) l.kind

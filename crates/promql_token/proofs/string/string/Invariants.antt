@@ -1,5 +1,5 @@
 use Rattle.std.proofs.Common.{◌≡◌, ◌+◌, length, drop, false}
-use Rattle.promql_token.specs.Pieces as spec
+use Rattle.promql_token.specs.TokenScanning as spec
 use Rattle.promql_token.proofs.string.string.Given as goal
 
 abbrev pub invariant-loop-rest : goal.invariant-loop-rest

@@ -70,7 +70,7 @@ fn a_writer_that_takes_nothing(rt: HostRuntime) -> Result<(), Fail> {
     Ok(())
 }
 
-// Out of memory, or the same answer: where each allocation in turn fails (`rt try --test --fail-alloc N`).
+// Out of memory, or the same answer: bin/test_memory makes each allocation fail in turn.
 #[test]
 fn one_row_for_failing_allocations(rt: HostRuntime) -> Result<(), Fail> {
     let alloc = rt.alloc();

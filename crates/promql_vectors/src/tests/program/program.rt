@@ -4,6 +4,7 @@ use super::streams::FlakyWriter;
 use promql_run::ended::Ended;
 use promql_run::program::program;
 use std::alloc::{AllocError, Global};
+use std::process::Abort;
 use std::test::Fail;
 
 const USAGE: &str = "usage: promql pretty|line|json\n";
@@ -16,68 +17,76 @@ fn texts(alloc: Global, words: &[&str]) -> Result<Vec<String>, AllocError> {
     Ok(texts)
 }
 
+/// Arguments, input, status, standard output, standard error.
+type Row = (
+    &'static [&'static str],
+    &'static [u8],
+    u8,
+    &'static str,
+    &'static str,
+);
+
+const ROWS: [Row; 13] = [
+    (
+        &["promql", "line"],
+        b"1 + (foo - 2)",
+        0,
+        "1 + (foo - 2)\n",
+        "",
+    ),
+    (&["", "line"], b"007\n", 0, "7\n", ""),
+    (&["promql", "pretty"], b"(((a)))", 0, "(((a)))\n", ""),
+    (
+        &["promql", "json"],
+        b"\"a\\n\"",
+        0,
+        "{\"type\":\"stringLiteral\",\"val\":\"a\\n\"}\n",
+        "",
+    ),
+    (
+        &["promql", "json"],
+        b"a[18446744073709551616ms]",
+        6,
+        "",
+        "number too wide for JSON\n",
+    ),
+    (&["promql", "line"], b"a b", 4, "", "invalid promql query\n"),
+    (
+        &["promql", "line"],
+        b"1 + \xff",
+        3,
+        "",
+        "input is not UTF-8\n",
+    ),
+    (&[], b"1", 64, "", USAGE),
+    (&["promql"], b"1", 64, "", USAGE),
+    (&["line"], b"1", 64, "", USAGE),
+    (&["promql", "Line"], b"1", 64, "", USAGE),
+    (&["promql", "line", "line"], b"1", 64, "", USAGE),
+    (&["promql", ""], b"1", 64, "", USAGE),
+];
+
+/// The program with these arguments does what the row says.
+fn check_row(rt: &impl Abort, alloc: Global, args: &[String], row: &Row) {
+    let (words, input, status, line, message) = *row;
+    let mut reader = Ended::new(input);
+    let mut writer = Ended::new(Vec::new(alloc));
+    let mut errors = Ended::new(Vec::new(alloc));
+    let found = program(alloc, args, &mut reader, &mut writer, &mut errors);
+    assert_eq!(rt; found, status, "{words:?}");
+    assert!(rt; writer.inner().as_slice() == line.as_bytes(), "{words:?}");
+    assert!(rt;
+        errors.inner().as_slice() == message.as_bytes(),
+        "{words:?}"
+    );
+    assert_eq!(rt; reader.inner().is_empty(), status != 64, "{words:?}");
+}
+
 #[test]
 fn statuses_and_messages(rt: HostRuntime) -> Result<(), Fail> {
-    let alloc = rt.alloc();
-    // arguments, input, status, standard output, standard error
-    let rows: [(&[&str], &[u8], u8, &str, &str); 13] = [
-        (
-            &["promql", "line"],
-            b"1 + (foo - 2)",
-            0,
-            "1 + (foo - 2)\n",
-            "",
-        ),
-        (&["", "line"], b"007\n", 0, "7\n", ""),
-        (&["promql", "pretty"], b"(((a)))", 0, "(((a)))\n", ""),
-        (
-            &["promql", "json"],
-            b"\"a\\n\"",
-            0,
-            "{\"type\":\"stringLiteral\",\"val\":\"a\\n\"}\n",
-            "",
-        ),
-        (
-            &["promql", "json"],
-            b"a[18446744073709551616ms]",
-            6,
-            "",
-            "number too wide for JSON\n",
-        ),
-        (&["promql", "line"], b"a b", 4, "", "invalid promql query\n"),
-        (
-            &["promql", "line"],
-            b"1 + \xff",
-            3,
-            "",
-            "input is not UTF-8\n",
-        ),
-        (&[], b"1", 64, "", USAGE),
-        (&["promql"], b"1", 64, "", USAGE),
-        (&["line"], b"1", 64, "", USAGE),
-        (&["promql", "Line"], b"1", 64, "", USAGE),
-        (&["promql", "line", "line"], b"1", 64, "", USAGE),
-        (&["promql", ""], b"1", 64, "", USAGE),
-    ];
-    for (i, (words, input, status, line, message)) in rows.iter().enumerate() {
-        let args = texts(alloc, words)?;
-        let mut reader = Ended::new(*input);
-        let mut writer = Ended::new(Vec::new(alloc));
-        let mut errors = Ended::new(Vec::new(alloc));
-        let found = program(
-            alloc,
-            args.as_slice(),
-            &mut reader,
-            &mut writer,
-            &mut errors,
-        );
-        assert_eq!(rt; found, *status, "at row {i}");
-        assert!(rt; writer.inner().as_slice() == line.as_bytes(), "at row {i}");
-        assert!(rt;
-            errors.inner().as_slice() == message.as_bytes(),
-            "at row {i}"
-        );
-        assert_eq!(rt; reader.inner().is_empty(), *status != 64, "at row {i}");
+    for row in &ROWS {
+        let args = texts(rt.alloc(), row.0)?;
+        check_row(&rt, rt.alloc(), args.as_slice(), row);
     }
     Ok(())
 }

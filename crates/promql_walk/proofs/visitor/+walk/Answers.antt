@@ -4,7 +4,7 @@ use Rattle.promql_ast.specs.View.{tree_of, option_tree, trees_of, children_of, a
 use Rattle.promql_ast.proofs.Views.{tree_of_aggregate, tree_of_call, tree_of_extension}
 use Rattle.promql_walk.specs.Events.{events, param_events, all_events}
 use Rattle.promql_walk.specs.Walked.{IdlesOr, Visit, Walked}
-use Rattle.promql_walk.proofs.Walks.{whole, ends_inside, ends_before, walked_both, walked_stops, walked_as, walked_below, next_goes, next_ends, dropped, args_events, nodes_events}
+use Rattle.promql_walk.proofs.Walks.{whole, ends_inside, ends_before, walked_both, walked_stops, walked_as, walked_below, next_goes, next_ends, drop_step, args_events, nodes_events}
 use Rattle.promql_walk.proofs.visitor.+walk.Goals as goal
 
 pub walk_expr-returns-in-Ok-true-walk_children : goal.walk_expr-returns-in-Ok-true-walk_children
@@ -91,19 +91,19 @@ walk_args-returns g t c =
 pub walk_args-loop-arg-preserved : goal.walk_args-loop-arg-preserved
 walk_args-loop-arg-preserved g t c =
     λ r u more. c.loop-arg.invariant r u (next_goes g.V.ExprVisitor.pre_gives (IdlesOr g.V.ExprVisitor.post_gives) (λ b. tree_of b.value) args_events (λ b bs. refl) _ c.arg-item.result _ _ _ _ _ _
-    (dropped c.args.args.now c.loop-arg.arg-index _ c.loop-arg-test.true c.arg-item.is) (c.in-Ok-true.is ∙ ap (λ b. Ok b) c.in-Ok-true.field-0-test)
+    (drop_step c.args.args.now c.loop-arg.arg-index _ c.loop-arg-test.true c.arg-item.is) (c.in-Ok-true.is ∙ ap (λ b. Ok b) c.in-Ok-true.field-0-test)
     (walked_as g.V.ExprVisitor.pre_gives (IdlesOr g.V.ExprVisitor.post_gives) _ c.arg-item.result.value _ _ _ c.deref.ensures c.walk_expr.ensures) more)
 
 pub walk_args-returns-in-Ok-false : goal.walk_args-returns-in-Ok-false
 walk_args-returns-in-Ok-false g t c =
     c.loop-arg.invariant _ _ (next_ends g.V.ExprVisitor.pre_gives (IdlesOr g.V.ExprVisitor.post_gives) (λ b. tree_of b.value) args_events (λ b bs. refl) _ c.arg-item.result _ _ _ _ _
-    (dropped c.args.args.now c.loop-arg.arg-index _ c.loop-arg-test.true c.arg-item.is) tt (c.in-Ok-false.is ∙ ap (λ b. Ok b) c.in-Ok-false.field-0-test)
+    (drop_step c.args.args.now c.loop-arg.arg-index _ c.loop-arg-test.true c.arg-item.is) tt (c.in-Ok-false.is ∙ ap (λ b. Ok b) c.in-Ok-false.field-0-test)
     (walked_as g.V.ExprVisitor.pre_gives (IdlesOr g.V.ExprVisitor.post_gives) _ c.arg-item.result.value _ _ _ c.deref.ensures c.walk_expr.ensures))
 
 pub walk_args-returns-in-Err : goal.walk_args-returns-in-Err
 walk_args-returns-in-Err g t c =
     c.loop-arg.invariant _ _ (next_ends g.V.ExprVisitor.pre_gives (IdlesOr g.V.ExprVisitor.post_gives) (λ b. tree_of b.value) args_events (λ b bs. refl) _ c.arg-item.result _ _ _ _ _
-    (dropped c.args.args.now c.loop-arg.arg-index _ c.loop-arg-test.true c.arg-item.is) tt c.in-Err.is
+    (drop_step c.args.args.now c.loop-arg.arg-index _ c.loop-arg-test.true c.arg-item.is) tt c.in-Err.is
     (walked_as g.V.ExprVisitor.pre_gives (IdlesOr g.V.ExprVisitor.post_gives) _ c.arg-item.result.value _ _ _ c.deref.ensures c.walk_expr.ensures))
 
 pub walk_nodes-returns : goal.walk_nodes-returns
@@ -113,14 +113,14 @@ walk_nodes-returns g t c =
 pub walk_nodes-loop-node-preserved : goal.walk_nodes-loop-node-preserved
 walk_nodes-loop-node-preserved g t c =
     λ r u more. c.loop-node.invariant r u (next_goes g.V.ExprVisitor.pre_gives (IdlesOr g.V.ExprVisitor.post_gives) tree_of nodes_events (λ e es. refl) _ c.node-item.result _ _ _ _ _ _
-    (dropped c.args.nodes.now c.loop-node.node-index _ c.loop-node-test.true c.node-item.is) (c.in-Ok-true.is ∙ ap (λ b. Ok b) c.in-Ok-true.field-0-test) c.walk_expr.ensures more)
+    (drop_step c.args.nodes.now c.loop-node.node-index _ c.loop-node-test.true c.node-item.is) (c.in-Ok-true.is ∙ ap (λ b. Ok b) c.in-Ok-true.field-0-test) c.walk_expr.ensures more)
 
 pub walk_nodes-returns-in-Ok-false : goal.walk_nodes-returns-in-Ok-false
 walk_nodes-returns-in-Ok-false g t c =
     c.loop-node.invariant _ _ (next_ends g.V.ExprVisitor.pre_gives (IdlesOr g.V.ExprVisitor.post_gives) tree_of nodes_events (λ e es. refl) _ c.node-item.result _ _ _ _ _
-    (dropped c.args.nodes.now c.loop-node.node-index _ c.loop-node-test.true c.node-item.is) tt (c.in-Ok-false.is ∙ ap (λ b. Ok b) c.in-Ok-false.field-0-test) c.walk_expr.ensures)
+    (drop_step c.args.nodes.now c.loop-node.node-index _ c.loop-node-test.true c.node-item.is) tt (c.in-Ok-false.is ∙ ap (λ b. Ok b) c.in-Ok-false.field-0-test) c.walk_expr.ensures)
 
 pub walk_nodes-returns-in-Err : goal.walk_nodes-returns-in-Err
 walk_nodes-returns-in-Err g t c =
     c.loop-node.invariant _ _ (next_ends g.V.ExprVisitor.pre_gives (IdlesOr g.V.ExprVisitor.post_gives) tree_of nodes_events (λ e es. refl) _ c.node-item.result _ _ _ _ _
-    (dropped c.args.nodes.now c.loop-node.node-index _ c.loop-node-test.true c.node-item.is) tt c.in-Err.is c.walk_expr.ensures)
+    (drop_step c.args.nodes.now c.loop-node.node-index _ c.loop-node-test.true c.node-item.is) tt c.in-Err.is c.walk_expr.ensures)

@@ -1,7 +1,7 @@
 use Rattle.std.proofs.Common.{◌∙◌, length, drop, ap, refl, rules}
-use Rattle.promql_token.specs.Lexing.{shown}
+use Rattle.promql_token.specs.Lexing.{fault_char}
 use Rattle.promql_token.specs.declared.cursor.Cursor.{Cursor}
-use Rattle.promql_token.proofs.Drawn.{left_past}
+use Rattle.promql_token.proofs.CursorTokens.{left_past}
 use Rattle.promql_token.proofs.Items.{left_fault}
 use Rattle.promql_token.proofs.scan.LexerIterator.next.Goals as goal
 
@@ -17,7 +17,7 @@ pub returns-in-Err-clause-steps : goal.returns-in-Err-clause-steps
 returns-in-Err-clause-steps c =
     let s = c.args.self.now.cursor in
     let e = c.in-Err.ensures in
-    let ch = c.shown-ch.ensures ∙ ap (λ (k : Cursor). shown c.in-Err.kind (drop c.in-Err.at k.text.now)) e.fault in
+    let ch = c.fault_char-ch.ensures ∙ ap (λ (k : Cursor). fault_char c.in-Err.kind (drop c.in-Err.at k.text.now)) e.fault in
     rw ch (rw c.if-self.false (left_fault _ s.at s.state _ _ e.value refl))
 
 pub returns-in-Err-clause-goes : goal.returns-in-Err-clause-goes

@@ -1,0 +1,41 @@
+use Rattle.std.proofs.Common.{◌≡◌, ℕ, ◌+◌, ◌++◌, ◌∷◌, max, Bool, List, drop, map, codes, string_bytes, ap, sym, ◌∙◌, arith, Global}
+use Rattle.std.specs.Slice.Iter.{iter_rest}
+use Rattle.std.specs.declared.boxed.Box.{Box}
+use Rattle.promql_text.specs.Texts.{Text}
+use Rattle.promql_ast.specs.Decisions.{all_deepest_by, all_rest, deepest_by, layout_by, layouts_by, rest}
+use Rattle.promql_ast.specs.NodeView.{tree_of_node}
+use Rattle.promql_ast.specs.Nodes.{nodes}
+use Rattle.promql_ast.specs.Tree.{Tree}
+use Rattle.promql_ast.specs.View.{tree_of, trees, trees_of}
+use Rattle.promql_ast.specs.declared.expr.Expr.{Expr}
+use Rattle.promql_ast.proofs.Rows.{nodes_of_one, row_from, row_step, trees_next}
+use Rattle.promql_ast.proofs.layout.writer.LayoutWriter.+layout.Goals as goal
+
+pub write_args-write_layout-requires : goal.write_args-write_layout-requires
+write_args-write_layout-requires t c =
+    let f : Box Expr Global → Tree = λ x. tree_of x.value in
+    let here : tree_of_node c.node.result ≡ f c.index-args-i.result = c.node.ensures ∙ ap tree_of c.deref.ensures in
+    (omega (arith, c.decreases, ap nodes here, nodes_of_one f c.args.args.now c.loop-i.i c.index-args-i.result c.loop-i-test.true c.index-args-i.is), tt)
+
+pub write_args-loop-i-preserved : goal.write_args-loop-i-preserved
+write_args-loop-i-preserved t c =
+    let xs = c.args.args.now in
+    let i = c.loop-i.i in
+    let y = c.index-args-i.result in
+    let level : ℕ = c.args.level in
+    let sep : Text = codes ",\n" in
+    let f : Box Expr Global → Tree = λ x. tree_of x.value in
+    let here : tree_of_node c.node.result ≡ f y = c.node.ensures ∙ ap tree_of c.deref.ensures in
+    let next : map f (drop i xs) ≡ f y ∷ map f (drop (i + 1) xs) = trees_next f xs i y c.loop-i-test.true c.index-args-i.is in
+    let cs : List Bool = iter_rest c.loop-i.self.decisions in
+    let rests : iter_rest c.write_layout.new.self.decisions ≡ rest (f y) cs = c.in_ok-write_layout.ensures.rest ∙ ap (λ x. rest x cs) here in
+    let deeper : all_deepest_by (trees_of (drop (i + 1) xs)) level (iter_rest c.write_layout.new.self.decisions) ≡ all_deepest_by (trees_of (drop (i + 1) xs)) level (rest (f y) cs) = ap (all_deepest_by (trees_of (drop (i + 1) xs)) level) rests in
+    let deepest : all_deepest_by (trees_of (drop i xs)) level cs ≡ max (deepest_by (f y) level cs) (all_deepest_by (trees_of (drop (i + 1) xs)) level (rest (f y) cs)) = ap (λ ts. all_deepest_by (trees ts) level cs) next in
+    record {
+      text = ap (λ bs. string_bytes c.write_layout.new.self.out ++ row_from sep (i + 1) (layouts_by (trees_of (drop (i + 1) xs)) level bs)) rests
+          ∙ row_step sep i (layout_by (f y) level cs) (layouts_by (trees_of (drop (i + 1) xs)) level (rest (f y) cs)) (string_bytes c.loop-i.self.out) (string_bytes c.push_comma.new.out) (string_bytes c.write_layout.new.self.out) c.in_ok-push_comma.ensures (c.in_ok-write_layout.ensures.text ∙ ap (λ x. string_bytes c.push_comma.new.out ++ layout_by x level cs) here)
+          ∙ ap (λ ts. string_bytes c.loop-i.self.out ++ row_from sep i (layouts_by (trees ts) level cs)) (sym next) ∙ c.loop-i.invariant.text;
+      rest = ap (all_rest (trees_of (drop (i + 1) xs))) rests ∙ ap (λ ts. all_rest (trees ts) cs) (sym next) ∙ c.loop-i.invariant.rest;
+      wide = omega (arith, c.loop-i.invariant.wide, deeper, deepest);
+      fits = omega (arith, c.loop-i.invariant.fits, deeper, deepest, c.in_ok-write_layout.ensures.fits, ap (λ x. deepest_by x level cs) here);
+    }

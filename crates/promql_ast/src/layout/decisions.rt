@@ -1,0 +1,43 @@
+//! Which nodes are split, from the root on. A node that fits drops the decisions of its operands.
+
+ghost use Rattle.std.specs.Prelude.{◌≡◌, ◌++◌, ◌∷◌, Bool, List, false, length};
+ghost use Rattle.std.specs.Slice.Iter.{iter_rest};
+ghost use Rattle.promql_ast.specs.Decisions.{decided, decision, later};
+
+use std::slice;
+
+/// Keeps a node's decision at a place, and what follows if the node is split.
+pub fn decide(decisions: &mut Vec<bool>, place: usize, longer: bool)
+    ensures { (front parts : List Bool) → place ≡ length front
+        → decisions.old.items ≡ front ++ false ∷ parts
+        → decisions.new.items ≡ front ++ decided longer parts }
+{
+    if longer {
+        if place < decisions.len() {
+            decisions[place] = true;
+        }
+    } else if place < decisions.len() {
+        decisions.truncate(place + 1);
+    }
+}
+
+/// Drops the decisions from a place on.
+pub fn forget(decisions: &mut Vec<bool>, place: usize)
+    ensures { (front parts : List Bool) → place ≡ length front
+        → decisions.old.items ≡ front ++ parts → decisions.new.items ≡ front }
+{
+    if place < decisions.len() {
+        decisions.truncate(place);
+    }
+}
+
+/// The next decision; false after the last.
+pub fn next_decision(decisions: &mut slice::Iter<bool>) -> bool
+    ensures decision { result ≡ decision (iter_rest decisions.old) }
+    ensures later { iter_rest decisions.new ≡ later (iter_rest decisions.old) }
+{
+    match decisions.next() {
+        Some(split) => *split,
+        None => false,
+    }
+}

@@ -1,7 +1,0 @@
-use Rattle.std.proofs.Common.{◌≡◌, ◌++◌, map}
-use Rattle.promql_label.specs.Views.{plain_matcher_of}
-use Rattle.promql_label.proofs.Found.{rest_from}
-use Rattle.promql_label.proofs.matchers.copied.Given as goal
-
-abbrev pub invariant-loop-matcher : goal.invariant-loop-matcher
-invariant-loop-matcher l = map plain_matcher_of l.matchers ≡ map plain_matcher_of l.copies.items ++ rest_from l.matchers l.matcher-index

@@ -1,0 +1,31 @@
+use Rattle.std.proofs.Common.{◌≡◌, refl, ◌∙◌, arith, List, ℕ}
+use Rattle.promql_ast.specs.Builds.{aggregate_args}
+use Rattle.promql_ast.specs.View.{trees_of}
+use Rattle.promql_grammar.specs.Grammar as grammar
+use Rattle.promql_grammar.specs.GrammarParts as part
+use Rattle.promql_syntax.specs.ParsesExpr.{IsExprOf, AreArgsOf, clause_in}
+use Rattle.promql_syntax.specs.Asking.{known, ◌giving◌}
+use Rattle.promql_syntax.specs.Building.{build_all, from_checked_verdict}
+use Rattle.promql_syntax.specs.PartBuilding.{clause_value}
+use Rattle.promql_syntax.proofs.Ending.{then_value, then_fault}
+use Rattle.promql_syntax.proofs.BuiltForms.{if_ok_both, is_expr_of, with_trees, with_no_trees, gives_or_memory, aggregate_ends, clause_fails}
+use Rattle.promql_syntax.proofs.grammar.build.build_aggregate.Goals as goal
+
+pub returns-in-Err-clause-built : goal.returns-in-Err-clause-built
+returns-in-Err-clause-built c = λ text cl ds clause args.
+    is_expr_of _ (grammar.aggregate c.args.op text cl ds) _ _ refl refl (let same = args.tall in omega arith)
+    (then_fault (build_all ds) (λ ts. known (clause_value cl) giving λ m. from_checked_verdict (aggregate_args c.args.op m ts)) _ (with_no_trees c.args.args (build_all ds) c.in-Err.error c.in-Err.is args.built))
+
+pub returns-in-Ok-unbox_grouping-clause-built : goal.returns-in-Ok-unbox_grouping-clause-built
+returns-in-Ok-unbox_grouping-clause-built c =
+    if_ok_both {R = λ parsed. (text : List ℕ) (cl : part.Clause) (ds : grammar.Arguments) → clause_in c.args.clause ≡ clause_value cl → AreArgsOf c.args.args ds → IsExprOf parsed (grammar.aggregate c.args.op text cl ds)} _ c.check_result.ensures.value c.check_result.ensures.tall (λ parsed value tall. λ text cl ds clause args.
+    is_expr_of parsed (grammar.aggregate c.args.op text cl ds) _ _ (value _ (gives_or_memory _ _ c.new_aggregate_expr-built.ensures)) tall (let same = args.tall in omega arith)
+    (then_value (build_all ds) (λ ts. known (clause_value cl) giving λ m. from_checked_verdict (aggregate_args c.args.op m ts)) (trees_of c.in-Ok.args.args.items) _ (with_trees c.args.args (build_all ds) c.in-Ok.args c.in-Ok.is args.built)
+    (aggregate_ends c.args.op cl _ _ (c.in-Ok-unbox_grouping.ensures ∙ clause))))
+
+pub returns-in-Err-unbox_grouping-clause-built : goal.returns-in-Err-unbox_grouping-clause-built
+returns-in-Err-unbox_grouping-clause-built c =
+    if_ok_both {R = λ parsed. (text : List ℕ) (cl : part.Clause) (ds : grammar.Arguments) → clause_in c.args.clause ≡ clause_value cl → AreArgsOf c.args.args ds → IsExprOf parsed (grammar.aggregate c.args.op text cl ds)} _ c.parsed_error.ensures.value c.parsed_error.ensures.tall (λ parsed value tall. λ text cl ds clause args.
+    is_expr_of parsed (grammar.aggregate c.args.op text cl ds) _ _ value tall (let same = args.tall in omega arith)
+    (then_value (build_all ds) (λ ts. known (clause_value cl) giving λ m. from_checked_verdict (aggregate_args c.args.op m ts)) (trees_of c.in-Ok.args.args.items) _ (with_trees c.args.args (build_all ds) c.in-Ok.args c.in-Ok.is args.built)
+    (clause_fails c.args.op cl _ _ (c.in-Err-unbox_grouping.ensures ∙ clause))))

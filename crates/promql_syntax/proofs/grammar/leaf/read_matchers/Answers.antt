@@ -1,6 +1,0 @@
-use Rattle.promql_syntax.specs.Drawing.{symbols_left}
-use Rattle.promql_syntax.proofs.Leaves.{selected_base}
-use Rattle.promql_syntax.proofs.grammar.leaf.read_matchers.Goals as goal
-
-pub returns-clause-gives : goal.returns-clause-gives
-returns-clause-gives c = λ kind. selected_base kind c.args.name.now (symbols_left c.args.tokens.now) _ _ _ c.in_ok-matchers.ensures.gives c.in_ok-selector_part.ensures.built

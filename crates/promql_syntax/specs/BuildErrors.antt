@@ -1,0 +1,32 @@
+-- Errors of building, as plain data (docs/reference/grammar.md, "Building").
+use Rattle.std.specs.Prelude.{string_bytes, Result, Ok, Err}
+use Rattle.promql_text.specs.Texts.{Text}
+use Rattle.promql_text.specs.declared.number.NumberFault.{NumberFault}
+use Rattle.promql_text.specs.declared.duration.DurationFault.{DurationFault}
+use Rattle.promql_ast.specs.declared.at_modifier.AtFault.{AtFault}
+use Rattle.promql_ast.specs.Faults as trees
+use Rattle.promql_syntax.specs.declared.grammar.build_error.BuildError as code
+use Rattle.promql_syntax.specs.declared.grammar.build_error.BuildError.TheVariants as build_errors
+
+pub data BuildError : Type 0 where
+  number : NumberFault → BuildError
+  quoted : BuildError
+  duration : DurationFault → BuildError
+  at : AtFault → BuildError
+  pattern : Text → BuildError
+  unknown_function : Text → BuildError
+  check : trees.Fault → BuildError
+
+abbrev pub build_error_of : code.BuildError → BuildError
+build_error_of (build_errors.Number f) = number f
+build_error_of build_errors.Quoted = quoted
+build_error_of (build_errors.Duration f) = duration f
+build_error_of (build_errors.At f) = at f
+build_error_of (build_errors.Pattern value) = pattern (string_bytes value)
+build_error_of (build_errors.UnknownFunction name) = unknown_function (string_bytes name)
+build_error_of (build_errors.Check f) = check (trees.fault_of f)
+
+-- a value or an error, as plain data
+abbrev pub view_result : {V A : Type 0} → (V → A) → Result V code.BuildError → Result A BuildError
+view_result view (Ok v) = Ok (view v)
+view_result view (Err f) = Err (build_error_of f)

@@ -1,0 +1,179 @@
+-- What the parts of an expression build (docs/reference/grammar.md, "Building"): each from left to right, up to its
+-- first error.
+use Rattle.std.specs.Prelude.{ℕ, Bool, true, false, ◌==◌, if◌then◌else◌, Option, Some, None, is_some, List, [], ◌∷◌, Result, Ok, Err, codes}
+use Rattle.promql_text.specs.Texts.{Text}
+use Rattle.promql_text.specs.declared.number.Number.{Number}
+use Rattle.promql_text.specs.declared.number.NumberFault.{NumberFault}
+use Rattle.promql_text.specs.declared.duration.DurationFault.{DurationFault}
+use Rattle.promql_text.specs.Durations.{duration_of}
+use Rattle.promql_text.specs.NumberText.{read_number}
+use Rattle.promql_text.specs.Quoting.{unquoted_text}
+use Rattle.promql_text.specs.Values.{neg}
+use Rattle.promql_token.specs.declared.ids.TheConstants.{T_SUB}
+use Rattle.promql_grammar.specs.declared.token_kinds.TokenKind.{TokenKind}
+use Rattle.promql_grammar.specs.declared.token_kinds.TokenKind.TheVariants as kind
+use Rattle.promql_grammar.specs.Results.{◌then◌}
+use Rattle.promql_grammar.specs.GrammarParts as part
+use Rattle.promql_label.specs.Answers.{Answer, built, rejected}
+use Rattle.promql_label.specs.PlainMatchers.{Operator, equal, not_equal, matches, matches_not, PlainMatcher, plain_matcher, PlainMatchers, plain_matchers, append_plain, appended_or}
+use Rattle.promql_kind.specs.Modifiers.{Clause, including, excluding, Cardinality, one_to_one, many_to_one, one_to_many, Fills, fills, Matching, matching}
+use Rattle.promql_ast.specs.AtTimes.{at_of_number}
+use Rattle.promql_ast.specs.Shifts.{Shift, back, ahead, Moment, moment_of}
+use Rattle.promql_ast.specs.declared.at_modifier.AtFault.{AtFault}
+use Rattle.promql_ast.specs.declared.at_modifier.AtModifier.{AtModifier}
+use Rattle.promql_syntax.specs.Asking.{Asking, gives, fails, asks, ◌giving◌, known}
+use Rattle.promql_syntax.specs.BuildErrors.{BuildError, number, quoted, duration, at, pattern}
+
+-- "Strings"
+abbrev unquoted_or_error : Option Text → Result Text BuildError
+unquoted_or_error (Some text) = Ok text
+unquoted_or_error None = Err quoted
+
+abbrev pub string_value : Text → Result Text BuildError
+string_value text = unquoted_or_error (unquoted_text text)
+
+-- "Numbers"
+abbrev pub number_fault : {A : Type 0} → Result A NumberFault → Result A BuildError
+number_fault (Ok n) = Ok n
+number_fault (Err fault) = Err (number fault)
+
+abbrev pub number_value : Text → Result Number BuildError
+number_value text = number_fault (read_number text)
+
+-- "Signs": a minus negates, a plus does not
+abbrev pub is_minus : part.Signed → Bool
+is_minus part.unsigned = false
+is_minus (part.signed op text) = op == T_SUB
+
+abbrev pub signed_number : part.Signed → Text → Result Number BuildError
+signed_number s text = number_value text then λ n. Ok (if is_minus s then neg n else n)
+
+-- "Times": nanoseconds
+abbrev pub duration_fault : {A : Type 0} → Result A DurationFault → Result A BuildError
+duration_fault (Ok n) = Ok n
+duration_fault (Err fault) = Err (duration fault)
+
+abbrev pub duration_value : Text → Result ℕ BuildError
+duration_value text = duration_fault (duration_of text)
+
+abbrev pub time_value : part.Time → Result ℕ BuildError
+time_value (part.seconds text) = duration_value text
+time_value (part.duration text) = duration_value text
+
+abbrev pub step_value : Option part.Time → Result (Option ℕ) BuildError
+step_value None = Ok None
+step_value (Some t) = time_value t then λ n. Ok (Some n)
+
+-- "Offset and @"
+abbrev pub shift : part.Signed → ℕ → Shift
+shift s n = if is_minus s then ahead n else back n
+
+abbrev pub shift_value : part.Signed → part.Time → Result Shift BuildError
+shift_value s t = time_value t then λ n. Ok (shift s n)
+
+abbrev pub at_fault : Result AtModifier AtFault → Result Moment BuildError
+at_fault (Ok m) = Ok (moment_of m)
+at_fault (Err fault) = Err (at fault)
+
+abbrev pub moment_value : part.Signed → Text → Result Moment BuildError
+moment_value s text = signed_number s text then λ n. at_fault (at_of_number n)
+
+-- "Labels": a string means its text
+abbrev pub label_value : TokenKind → Text → Result Text BuildError
+label_value kind.String text = string_value text
+label_value k text = Ok text
+
+abbrev pub name_values : part.Names → Result (List Text) BuildError
+name_values (part.last k text) = label_value k text then λ l. Ok (l ∷ [])
+name_values (part.last_comma k text) = label_value k text then λ l. Ok (l ∷ [])
+name_values (part.next k text names) = label_value k text then λ l. name_values names then λ ls. Ok (l ∷ ls)
+
+abbrev pub label_values : part.Labels → Result (List Text) BuildError
+label_values part.no_label = Ok []
+label_values (part.labels names) = name_values names
+
+-- "Clauses"
+abbrev pub grouping_value : part.Grouping → Result Clause BuildError
+grouping_value (part.by text ls) = label_values ls then λ x. Ok (including x)
+grouping_value (part.without text ls) = label_values ls then λ x. Ok (excluding x)
+
+abbrev pub clause_value : part.Clause → Result (Option Clause) BuildError
+clause_value part.no_clause = Ok None
+clause_value (part.before g) = grouping_value g then λ c. Ok (Some c)
+clause_value (part.after g) = grouping_value g then λ c. Ok (Some c)
+
+-- "Modifiers"
+abbrev pub cardinality : TokenKind → List Text → Cardinality
+cardinality kind.GroupLeft ls = many_to_one ls
+cardinality k ls = one_to_many ls
+
+abbrev pub group_value : part.Group → Result Cardinality BuildError
+group_value part.no_group = Ok one_to_one
+group_value (part.bare k text) = Ok (cardinality k [])
+group_value (part.listed k text ls) = label_values ls then λ x. Ok (cardinality k x)
+
+abbrev pub matching_clause : TokenKind → List Text → Clause
+matching_clause kind.On ls = including ls
+matching_clause k ls = excluding ls
+
+abbrev pub matching_value : part.Matching → Result (Cardinality × Option Clause) BuildError
+matching_value part.no_matching = Ok (one_to_one, None)
+matching_value (part.matching k text ls g) =
+    label_values ls then λ x. group_value g then λ c. Ok (c, Some (matching_clause k x))
+
+abbrev pub fill_value : part.FillValue → Result Number BuildError
+fill_value v = signed_number v.sign v.number
+
+-- the right side's value comes first
+abbrev pub fills_value : part.Fills → Result Fills BuildError
+fills_value part.no_fill = Ok (fills None None)
+fills_value (part.both text v) = fill_value v then λ n. Ok (fills (Some n) (Some n))
+fills_value (part.left text v) = fill_value v then λ n. Ok (fills None (Some n))
+fills_value (part.right text v) = fill_value v then λ n. Ok (fills (Some n) None)
+fills_value (part.left_right text v text' w) = fill_value v then λ n. fill_value w then λ m. Ok (fills (Some m) (Some n))
+fills_value (part.right_left text v text' w) = fill_value v then λ n. fill_value w then λ m. Ok (fills (Some n) (Some m))
+
+-- nothing comes between the operator and its right side
+abbrev pub is_blank : Option Text → part.Matching → part.Fills → Bool
+is_blank None part.no_matching part.no_fill = true
+is_blank flag m f = false
+
+abbrev pub modifier_value : part.Modifier → Result (Option Matching) BuildError
+modifier_value m =
+    if is_blank m.flag m.matching m.fills then Ok None
+    else (matching_value m.matching then λ c. fills_value m.fills then λ f. Ok (Some (matching c.0 c.1 (is_some m.flag) f)))
+
+-- "Selectors": each matcher whole before the next, a pattern after its string
+abbrev pub pattern_operator : (Text → Operator) → Text → Answer → Asking Operator
+pattern_operator operator value (built w) = gives (operator w)
+pattern_operator operator value rejected = fails (pattern value)
+
+abbrev pub operator_value : part.MatchOperator → Text → Asking Operator
+operator_value part.equal value = gives equal
+operator_value (part.not_equal text) value = gives not_equal
+operator_value part.equal_regex value = asks value (pattern_operator matches value)
+operator_value part.not_equal_regex value = asks value (pattern_operator matches_not value)
+
+abbrev pub item_value : part.Item → Asking PlainMatcher
+item_value (part.matcher k text s string) =
+    known (label_value k text) giving λ name. known (string_value string) giving λ value.
+    operator_value s value giving λ op. gives (plain_matcher op name value)
+item_value (part.lone text) = known (string_value text) giving λ name. gives (plain_matcher equal (codes "__name__") name)
+
+abbrev pub append_matcher : part.Separator → PlainMatchers → PlainMatcher → PlainMatchers
+append_matcher part.comma = append_plain
+append_matcher (part.or text) = appended_or
+
+-- the matchers so far, and what comes before the next
+abbrev pub items_value : PlainMatchers → part.Separator → part.Items → Asking PlainMatchers
+items_value cs s (part.last_item i) = item_value i giving λ c. gives (append_matcher s cs c)
+items_value cs s (part.last_item_comma i) = item_value i giving λ c. gives (append_matcher s cs c)
+items_value cs s (part.next_item i t is) = item_value i giving λ c. items_value (append_matcher s cs c) t is
+
+abbrev pub braces_value : part.Braces → Asking PlainMatchers
+braces_value part.no_item = gives (plain_matchers [] [])
+braces_value (part.items is) = items_value (plain_matchers [] []) part.comma is
+
+abbrev pub any_braces_value : Option part.Braces → Asking PlainMatchers
+any_braces_value None = gives (plain_matchers [] [])
+any_braces_value (Some b) = braces_value b

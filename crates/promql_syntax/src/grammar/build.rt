@@ -1,0 +1,443 @@
+//! What each form of expression builds of its parts: their first error, or a checked node.
+
+ghost use Rattle.std.specs.Prelude.{◌≡◌, ℕ, ◌+◌, ◌≤◌, max, List, Option, None, Some, Ok, Err, IfOk, option_map};
+ghost use Rattle.promql_ast.specs.Checked.{check_tree};
+ghost use Rattle.promql_ast.specs.Faults.{Gives, GivesOrMemory, Verdict};
+ghost use Rattle.promql_ast.specs.Tree.{binary};
+ghost use Rattle.promql_ast.specs.View.{tree_of};
+ghost use Rattle.promql_grammar.specs.Grammar as grammar;
+ghost use Rattle.promql_grammar.specs.GrammarParts as part;
+ghost use Rattle.promql_grammar.specs.Results.{◌then◌};
+ghost use Rattle.promql_grammar.specs.declared.token_kinds.TokenKind as kinds;
+ghost use Rattle.promql_label.specs.Views.{plain_matchers_of};
+ghost use Rattle.promql_syntax.specs.BuildErrors.{build_error_of, view_result};
+ghost use Rattle.promql_syntax.specs.ParsesPart.{IsBuiltBy};
+ghost use Rattle.promql_syntax.specs.ParsesExpr.{AreArgsOf, EndsIn, IsExprOf, tree_result, clause_in, append_derivation, modifier_of, outcome};
+ghost use Rattle.promql_syntax.specs.PartBuilding.{braces_value, clause_value, modifier_value};
+ghost use Rattle.promql_kind.specs.Views.{clause_of};
+ghost use Rattle.promql_syntax.specs.Asking.{◌giving◌, known};
+ghost use Rattle.promql_syntax.specs.Building.{from_verdict};
+ghost use Rattle.promql_syntax.specs.Postfixes.{IsPostfixOf, change_of, apply_change};
+
+use crate::grammar::build_error::BuildError;
+use crate::grammar::parsed::{ParsedArgs, ParsedExpr, Pending};
+use crate::grammar::postfix::{ParsedPostfix, Postfix};
+use crate::parser::MAX_DEPTH;
+use promql_ast::{BinaryExpr, CheckError, Expr, FunctionArgs, ParenExpr, SubqueryExpr};
+use promql_kind::{BinModifier, LabelModifier, get_function};
+use promql_token::ids::T_SUB;
+use promql_token::{TokenId, TokenType};
+use std::alloc::{AllocError, Global};
+
+/// A node that was built.
+pub fn parsed_node(expr: Box<Expr>, height: usize) -> ParsedExpr
+    ensures value { tree_result result ≡ Ok (tree_of expr.value) }
+    ensures tall { result.height ≡ height }
+{
+    ParsedExpr {
+        height,
+        value: Ok(expr),
+    }
+}
+
+/// An error in place of a node.
+pub fn parsed_error(
+    alloc: Global,
+    error: BuildError,
+    height: usize,
+) -> Result<ParsedExpr, AllocError>
+    ensures value { IfOk result (λ parsed. tree_result parsed ≡ Err (build_error_of error)) }
+    ensures tall { IfOk result (λ parsed. parsed.height ≡ height) }
+{
+    let error = Box::new(alloc, error)?;
+    Ok(ParsedExpr {
+        height,
+        value: Err(error),
+    })
+}
+
+/// The result of a builder that allocates nothing.
+fn parsed_result(
+    alloc: Global,
+    built: Result<Expr, CheckError>,
+    height: usize,
+) -> Result<ParsedExpr, AllocError>
+    ensures value { IfOk result (λ parsed. (verdict : Verdict) → Gives built verdict
+        → tree_result parsed ≡ outcome verdict) }
+    ensures tall { IfOk result (λ parsed. parsed.height ≡ height) }
+{
+    match built {
+        Ok(expr) => {
+            let expr = Box::new(alloc, expr)?;
+            Ok(parsed_node(expr, height))
+        }
+        Err(CheckError::Memory) => Err(AllocError),
+        Err(CheckError::Check(error)) => parsed_error(alloc, BuildError::Check(error), height),
+    }
+}
+
+/// A node, if no check of its root fails. It is checked in its box.
+pub fn check_node(alloc: Global, expr: Box<Expr>, height: usize) -> Result<ParsedExpr, AllocError>
+    ensures value { IfOk result (λ parsed. tree_result parsed ≡ outcome (check_tree
+        (tree_of expr.value))) }
+    ensures tall { IfOk result (λ parsed. parsed.height ≡ height) }
+{
+    let mut expr = expr;
+    match expr.check(alloc) {
+        Ok(()) => Ok(parsed_node(expr, height)),
+        Err(CheckError::Memory) => Err(AllocError),
+        Err(CheckError::Check(error)) => parsed_error(alloc, BuildError::Check(error), height),
+    }
+}
+
+/// The result of a builder, if no check of it fails.
+fn check_result(
+    alloc: Global,
+    built: Result<Expr, CheckError>,
+    height: usize,
+) -> Result<ParsedExpr, AllocError>
+    ensures value { IfOk result (λ parsed. (verdict : Verdict) → GivesOrMemory built verdict
+        → tree_result parsed ≡ (outcome verdict then λ t. outcome (check_tree t))) }
+    ensures tall { IfOk result (λ parsed. parsed.height ≡ height) }
+{
+    match built {
+        Ok(expr) => {
+            let expr = Box::new(alloc, expr)?;
+            check_node(alloc, expr, height)
+        }
+        Err(CheckError::Memory) => Err(AllocError),
+        Err(CheckError::Check(error)) => parsed_error(alloc, BuildError::Check(error), height),
+    }
+}
+
+/// Builds parentheses.
+#[inline(never)]
+pub fn build_paren(alloc: Global, inner: ParsedExpr) -> Result<ParsedExpr, AllocError>
+    requires { inner.height ≤ MAX_DEPTH }
+    ensures built { IfOk result (λ parsed. (d : grammar.Derivation)
+        → IsExprOf inner d → IsExprOf parsed (grammar.paren d)) }
+    ensures low { IfOk result (λ parsed. parsed.height ≡ inner.height + 1) }
+{
+    let ParsedExpr { height, value } = inner;
+    let height = height + 1;
+    match value {
+        Ok(expr) => {
+            let expr = Box::new(alloc, Expr::Paren(ParenExpr { expr }))?;
+            Ok(parsed_node(expr, height))
+        }
+        Err(error) => Ok(ParsedExpr {
+            height,
+            value: Err(error),
+        }),
+    }
+}
+
+/// Builds a unary operator. A plus leaves no node.
+#[inline(never)]
+pub fn build_unary(
+    alloc: Global,
+    op: TokenId,
+    operand: ParsedExpr,
+) -> Result<ParsedExpr, AllocError>
+    requires { operand.height ≤ MAX_DEPTH }
+    ensures built { IfOk result (λ parsed. (text : List ℕ) (d : grammar.Derivation)
+        → IsExprOf operand d → IsExprOf parsed (grammar.unary op text d)) }
+    ensures low { IfOk result (λ parsed. parsed.height ≡ operand.height + 1) }
+{
+    let ParsedExpr { height, value } = operand;
+    let height = height + 1;
+    match value {
+        Ok(expr) => {
+            if op != T_SUB {
+                return Ok(parsed_node(expr, height));
+            }
+            let expr = Box::into_inner(expr);
+            check_result(alloc, Expr::new_unary_expr(alloc, expr), height)
+        }
+        Err(error) => Ok(ParsedExpr {
+            height,
+            value: Err(error),
+        }),
+    }
+}
+
+/// Builds a binary operator.
+#[inline(never)]
+pub fn build_binary(
+    alloc: Global,
+    op: TokenId,
+    left: ParsedExpr,
+    modifier: Pending<BinModifier>,
+    right: ParsedExpr,
+) -> Result<ParsedExpr, AllocError>
+    requires low_left { left.height ≤ MAX_DEPTH }
+    requires low_right { right.height ≤ MAX_DEPTH }
+    ensures built { IfOk result (λ parsed. (text : List ℕ) (m : part.Modifier)
+        (l r : grammar.Derivation)
+        → modifier_of modifier ≡ modifier_value m → IsExprOf left l
+        → IsExprOf right r → IsExprOf parsed (grammar.binary op text m l r)) }
+    ensures low { IfOk result (λ parsed. parsed.height ≡ max left.height right.height + 1) }
+{
+    let ParsedExpr {
+        height: left_height,
+        value: left,
+    } = left;
+    let ParsedExpr {
+        height: right_height,
+        value: right,
+    } = right;
+    let height = left_height.max(right_height) + 1;
+    let lhs = match left {
+        Ok(expr) => expr,
+        Err(error) => {
+            return Ok(ParsedExpr {
+                height,
+                value: Err(error),
+            });
+        }
+    };
+    let rhs = match right {
+        Ok(expr) => expr,
+        Err(error) => {
+            return Ok(ParsedExpr {
+                height,
+                value: Err(error),
+            });
+        }
+    };
+    let op = TokenType::new(op);
+    match modifier {
+        Some(modifier) => build_modified_binary(alloc, op, lhs, rhs, modifier, height),
+        None => {
+            let node = BinaryExpr {
+                op,
+                lhs,
+                rhs,
+                modifier: None,
+            };
+            let expr = Box::new(alloc, Expr::Binary(node))?;
+            check_node(alloc, expr, height)
+        }
+    }
+}
+
+/// Builds a binary operator that has a modifier. Most have none, so its frame is kept out of
+/// theirs.
+#[inline(never)]
+fn build_modified_binary(
+    alloc: Global,
+    op: TokenType,
+    lhs: Box<Expr>,
+    rhs: Box<Expr>,
+    modifier: Box<Result<BinModifier, BuildError>>,
+    height: usize,
+) -> Result<ParsedExpr, AllocError>
+    ensures value { IfOk result (λ parsed. (m : part.Modifier)
+        → modifier_of (Some modifier) ≡ modifier_value m
+        → EndsIn (known (modifier_value m) giving
+        λ z. from_verdict (check_tree (binary op (tree_of lhs.value) (tree_of rhs.value) z)))
+        (tree_result parsed)) }
+    ensures tall { IfOk result (λ parsed. parsed.height ≡ height) }
+{
+    match Box::into_inner(modifier) {
+        Ok(modifier) => {
+            let node = BinaryExpr {
+                op,
+                lhs,
+                rhs,
+                modifier: Some(modifier),
+            };
+            let expr = Box::new(alloc, Expr::Binary(node))?;
+            check_node(alloc, expr, height)
+        }
+        Err(error) => parsed_error(alloc, error, height),
+    }
+}
+
+/// Builds a call. Its name is looked up after its arguments.
+#[inline(never)]
+pub fn build_call(alloc: Global, name: &str, args: ParsedArgs) -> Result<ParsedExpr, AllocError>
+    requires { args.height ≤ MAX_DEPTH }
+    ensures built { IfOk result (λ parsed. (kind : kinds.TokenKind) (ds : grammar.Arguments)
+        → AreArgsOf args ds → IsExprOf parsed (grammar.call kind name.now ds)) }
+    ensures low { IfOk result (λ parsed. parsed.height ≡ args.height + 1) }
+{
+    let ParsedArgs { height, value } = args;
+    let height = height + 1;
+    let args = match value {
+        Ok(args) => args,
+        Err(error) => {
+            return Ok(ParsedExpr {
+                height,
+                value: Err(error),
+            });
+        }
+    };
+    match get_function(alloc, name)? {
+        Some(func) => {
+            let expr = Box::new(alloc, Expr::new_call(func, args))?;
+            check_node(alloc, expr, height)
+        }
+        None => {
+            let name = String::from_str(alloc, name)?;
+            parsed_error(alloc, BuildError::UnknownFunction(name), height)
+        }
+    }
+}
+
+/// Builds an aggregation. An error of its grouping comes after one of its arguments.
+#[inline(never)]
+pub fn build_aggregate(
+    alloc: Global,
+    op: TokenId,
+    clause: Pending<LabelModifier>,
+    args: ParsedArgs,
+) -> Result<ParsedExpr, AllocError>
+    requires { args.height ≤ MAX_DEPTH }
+    ensures built { IfOk result (λ parsed. (text : List ℕ) (c : part.Clause)
+        (ds : grammar.Arguments)
+        → clause_in clause ≡ clause_value c → AreArgsOf args ds
+        → IsExprOf parsed (grammar.aggregate op text c ds)) }
+    ensures low { IfOk result (λ parsed. parsed.height ≡ args.height + 1) }
+{
+    let ParsedArgs { height, value } = args;
+    let height = height + 1;
+    let args = match value {
+        Ok(args) => args,
+        Err(error) => {
+            return Ok(ParsedExpr {
+                height,
+                value: Err(error),
+            });
+        }
+    };
+    match unbox_grouping(clause) {
+        Ok(clause) => {
+            let built = Expr::new_aggregate_expr(alloc, op, clause, args);
+            check_result(alloc, built, height)
+        }
+        Err(error) => parsed_error(alloc, error, height),
+    }
+}
+
+/// The grouping out of its box.
+fn unbox_grouping(clause: Pending<LabelModifier>) -> Result<Option<LabelModifier>, BuildError>
+    ensures { view_result (option_map clause_of) result ≡ clause_in clause }
+{
+    clause.map(Box::into_inner).transpose()
+}
+
+/// No arguments.
+pub fn empty_arguments(alloc: Global) -> ParsedArgs
+    ensures built { AreArgsOf result grammar.none }
+    ensures low { result.height ≡ 0 }
+{
+    ParsedArgs {
+        height: 0,
+        value: Ok(FunctionArgs::empty_args(alloc)),
+    }
+}
+
+/// The arguments with one more.
+#[inline(never)]
+pub fn append_argument(args: ParsedArgs, parsed: ParsedExpr) -> Result<ParsedArgs, AllocError>
+    ensures built { IfOk result (λ more. (ds : grammar.Arguments) (d : grammar.Derivation)
+        → AreArgsOf args ds → IsExprOf parsed d → AreArgsOf more (append_derivation ds d)) }
+    ensures low { IfOk result (λ more. more.height ≡ max args.height parsed.height) }
+{
+    let ParsedArgs { height, value } = args;
+    let ParsedExpr {
+        height: last_height,
+        value: last,
+    } = parsed;
+    let height = height.max(last_height);
+    let mut args = match value {
+        Ok(args) => args,
+        Err(error) => {
+            return Ok(ParsedArgs {
+                height,
+                value: Err(error),
+            });
+        }
+    };
+    match last {
+        Ok(arg) => {
+            args.args.push(arg)?;
+            Ok(ParsedArgs {
+                height,
+                value: Ok(args),
+            })
+        }
+        Err(error) => Ok(ParsedArgs {
+            height,
+            value: Err(error),
+        }),
+    }
+}
+
+/// Builds a base with its postfix.
+pub fn build_postfix(
+    alloc: Global,
+    base: ParsedExpr,
+    postfix: ParsedPostfix,
+) -> Result<ParsedExpr, AllocError>
+    requires low_base { base.height ≤ MAX_DEPTH + 1 }
+    requires low_postfix { postfix.added_height ≤ 1 }
+    ensures built { IfOk result (λ parsed. (d : grammar.Derivation) (p : part.Postfix)
+        → IsExprOf base d → IsPostfixOf postfix p → IsExprOf parsed (grammar.postfixed d p)) }
+    ensures low { IfOk result (λ parsed. parsed.height ≡ base.height + postfix.added_height) }
+{
+    let ParsedExpr { height, value } = base;
+    let ParsedPostfix {
+        value: postfix,
+        added_height,
+    } = postfix;
+    let height = height + added_height;
+    match value {
+        Ok(expr) => apply_postfix(alloc, expr, postfix, height),
+        Err(error) => Ok(ParsedExpr {
+            height,
+            value: Err(error),
+        }),
+    }
+}
+
+/// Builds an expression with its postfix.
+fn apply_postfix(
+    alloc: Global,
+    expr: Box<Expr>,
+    postfix: Result<Postfix, BuildError>,
+    height: usize,
+) -> Result<ParsedExpr, AllocError>
+    ensures built { IfOk result (λ parsed. EndsIn (known (view_result change_of postfix) giving
+        λ c. apply_change (tree_of expr.value) c) (tree_result parsed)) }
+    ensures tall { IfOk result (λ parsed. parsed.height ≡ height) }
+{
+    match postfix {
+        Ok(Postfix::Range(range)) => {
+            let expr = Box::into_inner(expr);
+            parsed_result(alloc, Expr::new_matrix_selector(expr, range), height)
+        }
+        Ok(Postfix::Subquery { range, step }) => {
+            let node = SubqueryExpr {
+                expr,
+                offset: None,
+                at: None,
+                range,
+                step,
+            };
+            let expr = Box::new(alloc, Expr::Subquery(node))?;
+            check_node(alloc, expr, height)
+        }
+        Ok(Postfix::At(at)) => parsed_result(alloc, Box::into_inner(expr).at_expr(at), height),
+        Ok(Postfix::Offset(offset)) => {
+            parsed_result(alloc, Box::into_inner(expr).offset_expr(offset), height)
+        }
+        Ok(Postfix::Mode(mode)) => parsed_result(
+            alloc,
+            Box::into_inner(expr).mode_expr(mode),
+            height,
+        ),
+        Err(error) => parsed_error(alloc, error, height),
+    }
+}

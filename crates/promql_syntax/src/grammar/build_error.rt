@@ -1,0 +1,24 @@
+//! Why nothing is built of tokens that are an expression.
+
+use promql_ast::{AtFault, CheckFault};
+use promql_text::{DurationFault, NumberFault};
+
+/// Why tokens that are an expression build no tree: the first fault in the order of
+/// docs/reference/grammar.md, "Building". It is held until all tokens are read.
+#[derive(Drop)]
+pub enum BuildError {
+    /// A number has no value that can be held.
+    Number(NumberFault),
+    /// A string has a raw line feed, or an escape of no character.
+    Quoted,
+    /// A text is no duration.
+    Duration(DurationFault),
+    /// A number after `@` is no moment.
+    At(AtFault),
+    /// `regex` rejects the pattern.
+    Pattern(String),
+    /// There is no function of this name.
+    UnknownFunction(String),
+    /// A builder or a check rejects the node.
+    Check(CheckFault),
+}

@@ -1,0 +1,73 @@
+//! The rule `grouping`: `by` or `without` of an aggregation, before or after its arguments.
+
+ghost use Rattle.std.specs.Prelude.{◌≡◌, ◌≤◌, length, option_map, Some, MatchBool, MatchResult, OnOk};
+ghost use Rattle.promql_grammar.specs.Parsing as parsing;
+ghost use Rattle.promql_label.specs.Labels.{labels_of};
+ghost use Rattle.promql_kind.specs.Modifiers.{excluding, including};
+ghost use Rattle.promql_kind.specs.Views.{clause_of};
+ghost use Rattle.promql_syntax.specs.SymbolsLeft.{symbols_left};
+ghost use Rattle.promql_syntax.specs.BuildErrors.{view_result};
+ghost use Rattle.promql_syntax.specs.ParsesPart.{ParsesPart};
+ghost use Rattle.promql_syntax.specs.ParsesExpr.{Fails};
+ghost use Rattle.promql_syntax.specs.PartBuilding.{clause_value};
+ghost use Rattle.promql_syntax.specs.PartTokens.{HasNoGrouping, StartsGrouping};
+
+use crate::grammar::build_error::BuildError;
+use crate::grammar::labels::parse_labels;
+use crate::grammar::parsed::Parsed;
+use crate::tokens::Tokens;
+use promql_grammar::TokenKind;
+use promql_kind::LabelModifier;
+use promql_label::Labels;
+use std::alloc::Global;
+
+/// Whether the first token is `by` or `without`.
+pub fn starts_grouping(tokens: &Tokens<'_>) -> bool
+    ensures { MatchBool result (StartsGrouping (symbols_left tokens.now))
+        (HasNoGrouping (symbols_left tokens.now)) }
+{
+    matches!(tokens.peek(), Some((TokenKind::By | TokenKind::Without, _)))
+}
+
+/// Parses a grouping, if there is one.
+pub fn parse_grouping(alloc: Global, tokens: &mut Tokens<'_>) -> Parsed<Option<LabelModifier>>
+    ensures gives { MatchResult result
+        (λ value. ParsesPart (option_map clause_of) clause_value value (symbols_left tokens.new)
+        (parsing.parse_grouping (symbols_left tokens.old)))
+        (λ e. Fails e (parsing.parse_grouping (symbols_left tokens.old))) }
+    ensures short { OnOk result
+        (length (symbols_left tokens.new) ≤ length (symbols_left tokens.old)) }
+{
+    let Some((kind, _)) = tokens.peek() else {
+        return Ok(Ok(None));
+    };
+    match kind {
+        TokenKind::By => {
+            tokens.bump();
+            let labels = parse_labels(alloc, tokens)?;
+            Ok(build_by(labels))
+        }
+        TokenKind::Without => {
+            tokens.bump();
+            let labels = parse_labels(alloc, tokens)?;
+            Ok(build_without(labels))
+        }
+        _ => Ok(Ok(None)),
+    }
+}
+
+/// The grouping that keeps these labels.
+fn build_by(labels: Result<Labels, BuildError>) -> Result<Option<LabelModifier>, BuildError>
+    ensures { view_result (option_map clause_of) result
+        ≡ view_result (λ ls. Some (including (labels_of ls))) labels }
+{
+    Ok(Some(LabelModifier::Include(labels?)))
+}
+
+/// The grouping that drops these labels.
+fn build_without(labels: Result<Labels, BuildError>) -> Result<Option<LabelModifier>, BuildError>
+    ensures { view_result (option_map clause_of) result
+        ≡ view_result (λ ls. Some (excluding (labels_of ls))) labels }
+{
+    Ok(Some(LabelModifier::Exclude(labels?)))
+}

@@ -1,5 +1,0 @@
-use Rattle.promql_text.proofs.NumberForms.{numbers_told}
-use Rattle.promql_text.proofs.laws.numbers_are_told.Goals as goal
-
-pub returns : goal.returns
-returns c = numbers_told

@@ -1,0 +1,5 @@
+use Rattle.promql_text.proofs.NumberForms.{numbers_told}
+use Rattle.promql_text.proofs.laws.numbers_match_relation.Goals as goal
+
+pub returns : goal.returns
+returns c = numbers_told

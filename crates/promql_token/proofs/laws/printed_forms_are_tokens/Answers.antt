@@ -1,0 +1,6 @@
+use Rattle.promql_token.proofs.Durations.{joins_duration}
+use Rattle.promql_token.proofs.PrintedForms.{joins_number, joins_string}
+use Rattle.promql_token.proofs.laws.printed_forms_are_tokens.Goals as goal
+
+pub returns : goal.returns
+returns c = record { string = joins_string; number = joins_number; duration = joins_duration }
