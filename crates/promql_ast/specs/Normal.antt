@@ -1,14 +1,9 @@
 -- The normal form of a tree (docs/reference/printing.md, "Normal form").
 use Rattle.std.specs.Prelude.{Bool, false, [], ◌∷◌, Option, Some, None}
-use Rattle.promql_label.specs.PlainMatchers.{PlainMatchers, plain_matchers}
-use Rattle.promql_label.specs.ReadMatchers.{sorted_matchers}
+pub use Rattle.promql_label.specs.ReadMatchers.{normal_matchers}
 use Rattle.promql_kind.specs.Modifiers.{Clause, including, excluding, one_to_one, fills, Matching, matching, is_grouping}
 use Rattle.promql_ast.specs.Selectors.{Selector, selector}
 use Rattle.promql_ast.specs.Tree.{Tree, aggregate, unary, binary, paren, subquery, number, string, vector, matrix, call, extension, MaybeTree, absent, present, Trees, no_trees, first_tree}
-
--- matchers in byte order of their texts
-abbrev pub normal_matchers : PlainMatchers → PlainMatchers
-normal_matchers (plain_matchers plain groups) = plain_matchers (sorted_matchers plain) groups
 
 abbrev pub normal_selector : Selector → Selector
 normal_selector (selector name matchers offset at) = selector name (normal_matchers matchers) offset at

@@ -16,4 +16,6 @@ pub mod ReadTokens
 pub mod Reading
 pub mod RepeatPlaces
 pub mod SameMatchers
+pub mod SortedMatchers
+pub mod StableSort
 pub mod LabelPrintedLen

@@ -32,6 +32,10 @@ abbrev pub sorted_matchers : List PlainMatcher → List PlainMatcher
 sorted_matchers [] = []
 sorted_matchers (c ∷ cs) = insert_matcher c (sorted_matchers cs)
 
+-- the normal form of a list of matchers (docs/reference/printing.md, "Normal form")
+abbrev pub normal_matchers : PlainMatchers → PlainMatchers
+normal_matchers (plain_matchers plain groups) = plain_matchers (sorted_matchers plain) groups
+
 -- the groups that print; matchers without groups print as one group
 abbrev pub printed_groups : PlainMatchers → List (List PlainMatcher)
 printed_groups (plain_matchers plain []) = sorted_matchers plain ∷ []

@@ -1,14 +1,15 @@
 //! Lists of matchers: docs/reference/matchers.md, "Lists of matchers".
 
-ghost use Rattle.std.specs.Prelude.{◌≡◌, [], ◌∷◌, ◌++◌, IfOk, OnOk, codes, filter, find, map, option_map};
+ghost use Rattle.std.specs.Prelude.{◌≡◌, ◌≤◌, [], ◌∷◌, ◌++◌, IfOk, IsOk, OnErr, OnOk, codes, filter, find, length, map, option_map};
 ghost use Rattle.std.specs.Fmt.{WritesOnOk};
 ghost use Rattle.std.specs.List.{list_all};
 ghost use Rattle.promql_label.specs.PlainMatchers.{all_match_empty, append_plain, appended_or, plain_matchers, find_plain, found_value, group_text, holds, is_of, value_of};
+ghost use Rattle.promql_label.specs.ReadMatchers.{normal_matchers};
 ghost use Rattle.promql_label.specs.Views.{plain_matcher_of, plain_matchers_of};
 ghost use Rattle.promql_text.specs.Texts.{joined_text};
 
 use crate::matcher::Matcher;
-use crate::sorted::write_sorted;
+use crate::sorted::{compare, write_sorted};
 use promql_text::{write_joined, write_joined_by};
 use std::alloc::{AllocError, Global};
 use std::{fmt, mem};
@@ -135,6 +136,22 @@ impl Matchers {
             copy_named(alloc, group, name, &mut matchers)?;
         }
         Ok(matchers)
+    }
+
+    /// Puts the matchers beside the groups into the byte order of their texts, as they print; those
+    /// with equal texts stay in their order.
+    ///
+    /// # Errors
+    ///
+    /// `AllocError` where an allocation failed, which no list of up to 20 matchers needs. The list is
+    /// then as it was.
+    pub fn sort(&mut self) -> Result<(), AllocError>
+        ensures sorted { OnOk result
+            (plain_matchers_of self.new ≡ normal_matchers (plain_matchers_of self.old)) }
+        ensures unchanged { OnErr result (plain_matchers_of self.new ≡ plain_matchers_of self.old) }
+        ensures succeeds { length self.old.matchers.items ≤ 20 → IsOk result }
+    {
+        self.matchers.sort_by(compare)
     }
 
     /// The same list.

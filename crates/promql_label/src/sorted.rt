@@ -102,7 +102,7 @@ fn smaller_of<'a>(
 }
 
 /// Compares the texts byte by byte.
-fn compare(a: &Matcher, b: &Matcher) -> Ordering
+pub(crate) fn compare(a: &Matcher, b: &Matcher) -> Ordering
     ensures { result ≡ text_order (text_of a.now) (text_of b.now) }
 {
     MatcherBytes::new(a).cmp(MatcherBytes::new(b))
