@@ -194,6 +194,7 @@ fn normal_matrix(alloc: Global, node: &MatrixSelector) -> Result<MatrixSelector,
 }
 
 #[cycle(normal)]
+#[tactic(auto, using(crate::proofs::NormalTrees::normal_trees))]
 fn normal_call(alloc: Global, node: &Call) -> Result<Call, AllocError>
     ensures { IfOk result (λ c. call_tree c ≡ normal (call_tree node.now)) }
 {
@@ -217,6 +218,7 @@ fn normal_args(alloc: Global, args: &[Box<Expr>]) -> Result<Vec<Box<Expr>>, Allo
 }
 
 #[cycle(normal)]
+#[tactic(auto, using(crate::proofs::NormalTrees::normal_trees))]
 fn normal_extension(alloc: Global, node: &Extension) -> Result<Extension, AllocError>
     ensures { IfOk result (λ e. extension_tree e ≡ normal (extension_tree node.now)) }
 {

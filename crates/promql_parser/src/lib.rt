@@ -6,6 +6,7 @@
 //! ```
 #![tactic(auto)]
 
+pub mod json;
 pub mod label;
 pub mod parser;
 pub mod util;
