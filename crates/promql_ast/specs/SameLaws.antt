@@ -2,7 +2,7 @@
 use Rattle.std.proofs.Common.{◌≡◌, Bool, List, refl, ap}
 use lib.Pointwise.{pointwise}
 use Rattle.std.specs.Bool.{Decides}
-use Rattle.std.specs.Cmp.{decided, IsPartialEquivalence, partial_equiv_from_equiv}
+use Rattle.std.specs.Cmp.{decided, IsEquivalence, IsPartialEquivalence, partial_equiv_from_equiv}
 use Rattle.std.proofs.lemmas.Bool.Decides.{Decides-and, Decides-eqb, Decides-int_eq, Decides-like}
 use Rattle.std.proofs.lemmas.Slice.Eq.{bytes_eq-Decides, slice_eq-Decides}
 use Rattle.promql_label.specs.PlainMatchers.{Operator, equal, not_equal, matches, matches_not, PlainMatcher, plain_matcher, PlainMatchers, plain_matchers}
@@ -101,14 +101,26 @@ mutual
   trees_eq-Decides _ _ = (λ e. cc, λ e. cc)
 
 -- so each test is reflexive, symmetric and transitive
+pub shift_equivalence : IsEquivalence shift_eq
+shift_equivalence = decided shift_eq shift_eq-Decides
+
 pub shift_laws : IsPartialEquivalence shift_eq
-shift_laws = partial_equiv_from_equiv (decided shift_eq shift_eq-Decides)
+shift_laws = partial_equiv_from_equiv shift_equivalence
+
+pub moment_equivalence : IsEquivalence moment_eq
+moment_equivalence = decided moment_eq moment_eq-Decides
 
 pub moment_laws : IsPartialEquivalence moment_eq
-moment_laws = partial_equiv_from_equiv (decided moment_eq moment_eq-Decides)
+moment_laws = partial_equiv_from_equiv moment_equivalence
+
+pub tree_equivalence : IsEquivalence tree_eq
+tree_equivalence = decided tree_eq tree_eq-Decides
 
 pub tree_laws : IsPartialEquivalence tree_eq
-tree_laws = partial_equiv_from_equiv (decided tree_eq tree_eq-Decides)
+tree_laws = partial_equiv_from_equiv tree_equivalence
+
+pub trees_equivalence : IsEquivalence trees_eq
+trees_equivalence = decided trees_eq trees_eq-Decides
 
 pub trees_laws : IsPartialEquivalence trees_eq
-trees_laws = partial_equiv_from_equiv (decided trees_eq trees_eq-Decides)
+trees_laws = partial_equiv_from_equiv trees_equivalence

@@ -14,7 +14,7 @@ use std::fmt::Display;
 use std::time::Duration;
 
 /// A query and the times at which it is evaluated.
-#[derive(Drop)]
+#[derive(Debug, Drop)]
 pub struct EvalStmt {
     /// The query.
     pub expr: Expr,
