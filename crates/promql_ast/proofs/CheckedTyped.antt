@@ -12,20 +12,20 @@ use Rattle.promql_kind.specs.Modifiers.{one_to_one, many_to_one, one_to_many, ma
 use Rattle.promql_kind.specs.ValueTypes.{type_eq}
 use Rattle.promql_kind.specs.declared.value.ValueType.{ValueType}
 use Rattle.promql_kind.specs.declared.value.ValueType.TheVariants.{Vector, Scalar, Matrix, String}
-use Rattle.promql_kind.proofs.Same.{type_eq-Decides}
+use Rattle.promql_kind.proofs.SameModifiersDecide.{type_eq-Decides}
 use Rattle.promql_ast.specs.Arguments.{count}
 use Rattle.promql_ast.specs.Checked.{check_tree}
 use Rattle.promql_ast.specs.Checks.{when, first_fault, unless, is_scalar, is_vector, is_scalar_or_vector, type_fault}
-use Rattle.promql_ast.specs.Faults.{Fault, Place, in_aggregation, binary_operator, bool_modifier, scalar_comparison, set_on_scalar, no_grouping, binary_types, vector_matching, Verdict, passes}
+use Rattle.promql_ast.specs.Faults.{Fault, Context, in_aggregation, binary_operator, bool_modifier, scalar_comparison, set_on_scalar, no_grouping, binary_types, vector_matching, Verdict, passes}
 use Rattle.promql_ast.specs.OptionalModifiers.{has_matching_labels, is_grouped, is_on, joint_labels, returns_bool}
 use Rattle.promql_ast.specs.Selectors.{Selector, selector}
 use Rattle.promql_ast.specs.Tree.{Tree, aggregate, unary, binary, paren, subquery, number, string, vector, matrix, call, extension, Trees, no_trees, first_tree}
-use Rattle.promql_ast.specs.Typed.{IsApart, IsManyToMany, TypedBinary, TypedParam, TypedAggregate, TakesCount, TypedArgs, Named, TypedSelector, Typed, TypedBelow}
+use Rattle.promql_ast.specs.Typed.{IsApart, IsManyToMany, TypedBinary, TypedParam, TypedAggregate, TakesCount, TypedArgs, HasName, TypedSelector, Typed, TypedBelow}
 use Rattle.promql_ast.specs.Types.{type_of}
-use Rattle.promql_ast.specs.check.Aggregate.{aggregate_fault, maybe_type, param_fault, param_type}
-use Rattle.promql_ast.specs.check.Binary.{first_twice, label_fault, operator_fault, set_fault, settle_matching, settled_set, side_fault}
-use Rattle.promql_ast.specs.check.Call.{arity_fault, is_exempt, types_fault, typing_fault}
-use Rattle.promql_ast.specs.check.Vector.{name_fault, second_name, selector_fault}
+use Rattle.promql_ast.specs.check.AggregateChecks.{aggregate_fault, maybe_type, param_fault, param_type}
+use Rattle.promql_ast.specs.check.BinaryChecks.{first_twice, label_fault, operator_fault, set_fault, settle_matching, settled_set, side_fault}
+use Rattle.promql_ast.specs.check.CallChecks.{arity_fault, is_exempt, types_fault, typing_fault}
+use Rattle.promql_ast.specs.check.VectorChecks.{name_fault, second_name, selector_fault}
 
 -- ---- faults that do not apply
 
@@ -111,7 +111,7 @@ vector_left Scalar e h = cc
 vector_left Matrix e h = cc
 vector_left String e h = cc
 
-typed_as : (k : ValueType) (p : Place) (t : ValueType) → type_fault k p (Some t) ≡ None → k ≡ t
+typed_as : (k : ValueType) (p : Context) (t : ValueType) → type_fault k p (Some t) ≡ None → k ≡ t
 typed_as k p t e = is_type k t (not_false (type_eq k t) (when_none _ _ e))
 
 -- ---- binary expressions
@@ -223,7 +223,7 @@ typed_aggregate op e p h =
 
 -- ---- selectors
 
-name_without_fault : (name : Option Text) (ms : PlainMatchers) → name_fault name ms ≡ None → Named name ms
+name_without_fault : (name : Option Text) (ms : PlainMatchers) → name_fault name ms ≡ None → HasName name ms
 name_without_fault (Some n) ms e = go (found_value ms _) e
   where
     go : (v : Option Text) → second_name n v ≡ None → v ≡ None

@@ -3,7 +3,7 @@ use Rattle.std.proofs.Common.{◌≡◌, ℕ, ◌*◌, ◌<◌, ◌≤◌, List,
 use Rattle.promql_text.specs.Texts.{Text, joined_text}
 use Rattle.promql_text.specs.PrintedLen.{usize_max}
 use Rattle.promql_ast.specs.Decisions.{all_decisions, layouts_by, all_deepest_by, decisions, operand_decisions, layout_by, lines_by, deepest_by, lines_deepest_by}
-use Rattle.promql_ast.specs.Layout.{args_laid, deepest, deepests, laid, lines, lines_deepest}
+use Rattle.promql_ast.specs.Layout.{args_layout_of, deepest, deepests, layout_of, lines, lines_deepest}
 use Rattle.promql_ast.specs.Lines.{squeeze}
 use Rattle.promql_ast.specs.Text.{texts}
 use Rattle.promql_ast.specs.Tree.{Tree, Trees}
@@ -14,7 +14,7 @@ use Rattle.promql_ast.proofs.LayoutsBy.{args_deepest_all, args_laid_by, deepest_
 fresh : (start all more : Text) → start ≡ [] → all ≡ start ++ more → all ≡ more
 fresh start all more e p = p ∙ ap (λ s. s ++ more) e
 
-pub node_text : (t : Tree) (level most : ℕ) (start all : Text) (bs : List Bool) → start ≡ [] → bs ≡ decisions t most → all ≡ start ++ layout_by t level bs → all ≡ laid t level most
+pub node_text : (t : Tree) (level most : ℕ) (start all : Text) (bs : List Bool) → start ≡ [] → bs ≡ decisions t most → all ≡ start ++ layout_by t level bs → all ≡ layout_of t level most
 node_text t level most start all bs e is p = fresh start all (layout_by t level bs) e p ∙ laid_by t level most bs is
 
 pub node_wide : (t : Tree) (level most : ℕ) (bs : List Bool) → bs ≡ decisions t most → usize_max < 2 * deepest_by t level bs → usize_max < 2 * deepest t level most
@@ -36,11 +36,11 @@ lines_fits t level most bs is h = subst (λ n. 2 * n ≤ usize_max) (lines_deepe
 
 -- arguments
 
-pub args_text : (ts : Trees) (level most : ℕ) (start all : Text) (bs : List Bool) → start ≡ [] → bs ≡ all_decisions ts most → all ≡ start ++ joined_text (codes ",\n") (layouts_by ts level bs) → all ≡ args_laid ts level most
+pub args_text : (ts : Trees) (level most : ℕ) (start all : Text) (bs : List Bool) → start ≡ [] → bs ≡ all_decisions ts most → all ≡ start ++ joined_text (codes ",\n") (layouts_by ts level bs) → all ≡ args_layout_of ts level most
 args_text ts level most start all bs e is p = fresh start all (joined_text (codes ",\n") (layouts_by ts level bs)) e p ∙ args_laid_by ts level most bs is
 
-pub args_shown : (ts : Trees) (level most : ℕ) (start all : Text) (bs : List Bool) → start ≡ [] → bs ≡ all_decisions ts most → all ≡ start ++ joined_text (codes ",\n") (layouts_by ts level bs) → squeeze all ≡ squeeze (joined_text (codes ", ") (texts ts))
-args_shown ts level most start all bs e is p = ap squeeze (args_text ts level most start all bs e is p) ∙ (args_alike ts level most).shown
+pub args_squeezed : (ts : Trees) (level most : ℕ) (start all : Text) (bs : List Bool) → start ≡ [] → bs ≡ all_decisions ts most → all ≡ start ++ joined_text (codes ",\n") (layouts_by ts level bs) → squeeze all ≡ squeeze (joined_text (codes ", ") (texts ts))
+args_squeezed ts level most start all bs e is p = ap squeeze (args_text ts level most start all bs e is p) ∙ (args_alike ts level most).shown
 
 pub args_wide : (ts : Trees) (level most : ℕ) (bs : List Bool) → bs ≡ all_decisions ts most → usize_max < 2 * all_deepest_by ts level bs → usize_max < 2 * deepests ts level most
 args_wide ts level most bs is h = subst (λ n. usize_max < 2 * n) (args_deepest_all ts level most bs is) h

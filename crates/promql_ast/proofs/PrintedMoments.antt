@@ -17,7 +17,7 @@ use Rattle.promql_text.specs.Values.{neg}
 use Rattle.promql_text.specs.declared.number.Number.{Number}
 use Rattle.promql_text.specs.declared.number.Number.TheVariants.{Finite, Inf, NegInf, NaN}
 use Rattle.promql_text.specs.declared.number.NumberFault.TheVariants as fault
-use Rattle.promql_text.proofs.Counts.{count_within}
+use Rattle.promql_text.proofs.DigitCounts.{count_within}
 use Rattle.promql_text.proofs.Finites.{all_digits_append, finite_short}
 use Rattle.promql_text.proofs.Plain.{plain_append, plain_digits, point_signed}
 use Rattle.promql_text.proofs.Radix.{value_append}

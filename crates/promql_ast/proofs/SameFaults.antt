@@ -6,8 +6,8 @@ use Rattle.std.proofs.lemmas.Bool.Decides.{Decides-like, Decides-and, Decides-eq
 use Rattle.std.proofs.lemmas.Slice.Eq.{bytes_eq-Decides}
 use Rattle.promql_text.specs.Equalities.{IsSameBy}
 use Rattle.promql_kind.proofs.Equal.{number_Decides, type_Decides}
-use Rattle.promql_ast.specs.Faults.{place_of, in_call, fault_of, binary_operator, label_twice, set_on_scalar, no_grouping, aggregator_expected, unary_type, subquery_type, node, error_fault}
-use Rattle.promql_ast.specs.contracts.fault.TypeContextPartialEq.TheImpl as places
+use Rattle.promql_ast.specs.Faults.{context_of, in_call, fault_of, binary_operator, label_twice, set_on_scalar, no_grouping, aggregator_expected, unary_type, subquery_type, node, error_fault}
+use Rattle.promql_ast.specs.contracts.fault.TypeContextPartialEq.TheImpl as contexts
 use Rattle.promql_ast.specs.contracts.fault.NodeFaultPartialEq.TheImpl as nodes
 use Rattle.promql_ast.specs.contracts.fault.CheckFaultPartialEq.TheImpl as faults
 use Rattle.promql_ast.specs.contracts.fault.CheckErrorPartialEq.TheImpl as errors
@@ -18,10 +18,10 @@ use Rattle.promql_ast.specs.declared.fault.CheckFault.TheVariants.{BinaryOperato
 use Rattle.promql_ast.specs.declared.fault.CheckError.TheVariants.{Memory, Check}
 use Rattle.promql_ast.specs.declared.at_modifier.AtFault.TheVariants.{NotPreprocessor, OutOfBounds, NotANumber}
 
-pub place_Decides : IsSameBy place_of places.ghosts.eq
-place_Decides Aggregation Aggregation = ((λ _. refl), (λ _. refl))
-place_Decides (CallOf a) (CallOf b) = Decides-like _ (λ e. ap in_call e) (λ e. cc) (bytes_eq-Decides a.now b.now)
-place_Decides _ _ = ((λ h. cc), (λ h. cc))
+pub context_Decides : IsSameBy context_of contexts.ghosts.eq
+context_Decides Aggregation Aggregation = ((λ _. refl), (λ _. refl))
+context_Decides (CallOf a) (CallOf b) = Decides-like _ (λ e. ap in_call e) (λ e. cc) (bytes_eq-Decides a.now b.now)
+context_Decides _ _ = ((λ h. cc), (λ h. cc))
 
 pub node_Decides : IsSameBy (λ f. f) nodes.ghosts.eq
 node_Decides (UnaryLiteral a) (UnaryLiteral b) = Decides-like _ (λ e. ap UnaryLiteral e) (λ e. cc) (type_Decides a b)
@@ -64,16 +64,16 @@ fault_Decides VectorMatching VectorMatching = ((λ _. refl), (λ _. refl))
 fault_Decides (AggregatorExpected a) (AggregatorExpected b) = Decides-like _ (λ e. ap aggregator_expected e) (λ e. cc) (Decides-eqb a b)
 fault_Decides (TypeExpected a p None) (TypeExpected b q None) =
     Decides-like _ (λ same. let first = same.0 in let second = same.1.0 in cc) (λ same. ((cc), ((cc), nothing)))
-    (Decides-and _ _ (type_Decides a b) (Decides-and _ _ (place_Decides p q) none_none))
+    (Decides-and _ _ (type_Decides a b) (Decides-and _ _ (context_Decides p q) none_none))
 fault_Decides (TypeExpected a p (Some f)) (TypeExpected b q (Some g)) =
     Decides-like _ (λ same. let first = same.0 in let second = same.1.0 in let third = same.1.1 in cc) (λ same. ((cc), ((cc), (cc))))
-    (Decides-and _ _ (type_Decides a b) (Decides-and _ _ (place_Decides p q) (type_Decides f g)))
+    (Decides-and _ _ (type_Decides a b) (Decides-and _ _ (context_Decides p q) (type_Decides f g)))
 fault_Decides (TypeExpected a p None) (TypeExpected b q (Some g)) =
     Decides-like _ (λ same. let third = same.1.1 in cc) (λ same. ((cc), ((cc), (cc))))
-    (Decides-and _ _ (type_Decides a b) (Decides-and _ _ (place_Decides p q) (none_some g)))
+    (Decides-and _ _ (type_Decides a b) (Decides-and _ _ (context_Decides p q) (none_some g)))
 fault_Decides (TypeExpected a p (Some f)) (TypeExpected b q None) =
     Decides-like _ (λ same. let third = same.1.1 in cc) (λ same. ((cc), ((cc), (cc))))
-    (Decides-and _ _ (type_Decides a b) (Decides-and _ _ (place_Decides p q) (some_none f)))
+    (Decides-and _ _ (type_Decides a b) (Decides-and _ _ (context_Decides p q) (some_none f)))
 fault_Decides (ArityExact a n k) (ArityExact b m j) =
     Decides-like _ (λ same. let first = same.0 in let second = same.1.0 in let third = same.1.1 in cc) (λ same. ((cc), ((cc), (cc))))
     (Decides-and _ _ (Decides-eqb a b) (Decides-and _ _ (bytes_eq-Decides n.now m.now) (Decides-eqb k j)))

@@ -20,22 +20,22 @@ can_split (call f args) = true
 can_split t = false
 
 -- a node's decision, and those of its operands if it is split
-abbrev pub decided : Bool → List Bool → List Bool
-decided longer parts = if longer then true ∷ parts else false ∷ []
+abbrev pub node_decisions : Bool → List Bool → List Bool
+node_decisions longer parts = if longer then true ∷ parts else false ∷ []
 
 -- whether each node is split, of those that can be, from the root on
 abbrev mutual
   pub decisions : Tree → ℕ → List Bool
-  decisions (aggregate op e p m) most = decided (is_longer most (text (aggregate op e p m))) (maybe_decisions p most ++ decisions e most)
+  decisions (aggregate op e p m) most = node_decisions (is_longer most (text (aggregate op e p m))) (maybe_decisions p most ++ decisions e most)
   decisions (unary e) most = decisions e most
-  decisions (binary op l r m) most = decided (is_longer most (text (binary op l r m))) (decisions l most ++ decisions r most)
-  decisions (paren e) most = decided (is_longer most (text (paren e))) (decisions e most)
+  decisions (binary op l r m) most = node_decisions (is_longer most (text (binary op l r m))) (decisions l most ++ decisions r most)
+  decisions (paren e) most = node_decisions (is_longer most (text (paren e))) (decisions e most)
   decisions (subquery e offset at range step) most = decisions e most
   decisions (number n) most = []
   decisions (string s) most = []
   decisions (vector s) most = []
   decisions (matrix s range mode) most = []
-  decisions (call f args) most = decided (is_longer most (text (call f args))) (all_decisions args most)
+  decisions (call f args) most = node_decisions (is_longer most (text (call f args))) (all_decisions args most)
   decisions (extension name gives es) most = []
 
   pub maybe_decisions : MaybeTree → ℕ → List Bool

@@ -14,9 +14,9 @@ use Rattle.promql_ast.specs.declared.fault.TypeContext.{TypeContext}
 use Rattle.promql_ast.specs.declared.fault.TypeContext.TheVariants.{Aggregation, CallOf}
 
 -- where a type is expected: in an aggregation, or in a call of a function of this name
-pub data Place : Type 0 where
-  in_aggregation : Place
-  in_call : Text → Place
+pub data Context : Type 0 where
+  in_aggregation : Context
+  in_call : Text → Context
 
 pub data Fault : Type 0 where
   binary_operator : ℕ → Fault
@@ -28,7 +28,7 @@ pub data Fault : Type 0 where
   binary_types : Fault
   vector_matching : Fault
   aggregator_expected : ℕ → Fault
-  type_expected : ValueType → Place → Option ValueType → Fault
+  type_expected : ValueType → Context → Option ValueType → Fault
   arity_exact : ℕ → Text → ℕ → Fault
   arity_least : ℕ → Text → ℕ → Fault
   arity_most : ℕ → Text → ℕ → Fault
@@ -38,9 +38,9 @@ pub data Fault : Type 0 where
   empty_selector : Fault
   node : NodeFault → Fault
 
-abbrev pub place_of : TypeContext → Place
-place_of Aggregation = in_aggregation
-place_of (CallOf name) = in_call name.now
+abbrev pub context_of : TypeContext → Context
+context_of Aggregation = in_aggregation
+context_of (CallOf name) = in_call name.now
 
 abbrev pub fault_of : CheckFault → Fault
 fault_of (fault.BinaryOperator op) = binary_operator op
@@ -52,7 +52,7 @@ fault_of (fault.NoGrouping op) = no_grouping op
 fault_of fault.BinaryTypes = binary_types
 fault_of fault.VectorMatching = vector_matching
 fault_of (fault.AggregatorExpected op) = aggregator_expected op
-fault_of (fault.TypeExpected expected place found) = type_expected expected (place_of place) found
+fault_of (fault.TypeExpected expected context found) = type_expected expected (context_of context) found
 fault_of (fault.ArityExact expected name found) = arity_exact expected name.now found
 fault_of (fault.ArityLeast expected name found) = arity_least expected name.now found
 fault_of (fault.ArityMost expected name found) = arity_most expected name.now found

@@ -18,13 +18,13 @@ use Rattle.promql_ast.specs.node.Subquery.{range_text}
 use Rattle.promql_ast.specs.node.Vector.{vector_text}
 
 -- the one line if it fits, else the lines
-abbrev pub chosen : Text → Text → ℕ → ℕ → Text
-chosen line lines level most = if is_longer most line then lines else indent level ++ line
+abbrev pub line_or_lines : Text → Text → ℕ → ℕ → Text
+line_or_lines line lines level most = if is_longer most line then lines else indent level ++ line
 
--- without the spaces in front
-abbrev pub trimmed : Text → Text
-trimmed [] = []
-trimmed (b ∷ t) = if b == space then trimmed t else b ∷ t
+-- without the spaces that it begins with
+abbrev pub without_indent : Text → Text
+without_indent [] = []
+without_indent (b ∷ t) = if b == space then without_indent t else b ∷ t
 
 -- ---- a node's lines from its parts' layouts
 
@@ -37,7 +37,7 @@ aggregate_lines op m p e level =
     indent level ++ (head_text op m ++ (codes "(\n" ++ (param_lines p ++ (e ++ (codes "\n" ++ (indent level ++ codes ")"))))))
 
 abbrev pub unary_line : Text → ℕ → Text
-unary_line e level = indent level ++ (codes "-" ++ trimmed e)
+unary_line e level = indent level ++ (codes "-" ++ without_indent e)
 
 abbrev pub binary_lines : ℕ → Option Matching → Text → Text → ℕ → Text
 binary_lines op m l r level = l ++ (codes "\n" ++ (indent level ++ (text_of op ++ (matching_text m ++ (codes "\n" ++ r)))))
@@ -54,40 +54,40 @@ call_lines name args level = indent level ++ (name ++ (codes "(\n" ++ (args ++ (
 -- ---- the layout of a tree at a level, where a line has at most so many bytes
 
 abbrev mutual
-  pub laid : Tree → ℕ → ℕ → Text
-  laid (aggregate op e p m) level most =
-      chosen (text (aggregate op e p m)) (aggregate_lines op m (maybe_laid p (level + 1) most) (laid e (level + 1) most) level) level most
-  laid (unary e) level most = unary_line (laid e level most) level
-  laid (binary op l r m) level most =
-      chosen (text (binary op l r m)) (binary_lines op m (laid l (level + 1) most) (laid r (level + 1) most) level) level most
-  laid (paren e) level most = chosen (text (paren e)) (paren_lines (laid e (level + 1) most) level) level most
-  laid (subquery e offset at range step) level most = subquery_lines (laid e level most) offset at range step
-  laid (number n) level most = indent level ++ number_text n
-  laid (string s) level most = indent level ++ quoted_text s
-  laid (vector s) level most = indent level ++ vector_text s
-  laid (matrix s range mode) level most = indent level ++ matrix_text s range mode
-  laid (call f args) level most =
-      chosen (text (call f args)) (call_lines (name_of f) (joined_text (codes ",\n") (laids args (level + 1) most)) level) level most
-  laid (extension name gives es) level most = text (extension name gives es)
+  pub layout_of : Tree → ℕ → ℕ → Text
+  layout_of (aggregate op e p m) level most =
+      line_or_lines (text (aggregate op e p m)) (aggregate_lines op m (maybe_layout_of p (level + 1) most) (layout_of e (level + 1) most) level) level most
+  layout_of (unary e) level most = unary_line (layout_of e level most) level
+  layout_of (binary op l r m) level most =
+      line_or_lines (text (binary op l r m)) (binary_lines op m (layout_of l (level + 1) most) (layout_of r (level + 1) most) level) level most
+  layout_of (paren e) level most = line_or_lines (text (paren e)) (paren_lines (layout_of e (level + 1) most) level) level most
+  layout_of (subquery e offset at range step) level most = subquery_lines (layout_of e level most) offset at range step
+  layout_of (number n) level most = indent level ++ number_text n
+  layout_of (string s) level most = indent level ++ quoted_text s
+  layout_of (vector s) level most = indent level ++ vector_text s
+  layout_of (matrix s range mode) level most = indent level ++ matrix_text s range mode
+  layout_of (call f args) level most =
+      line_or_lines (text (call f args)) (call_lines (name_of f) (joined_text (codes ",\n") (layouts_of args (level + 1) most)) level) level most
+  layout_of (extension name gives es) level most = text (extension name gives es)
 
-  pub maybe_laid : MaybeTree → ℕ → ℕ → Option Text
-  maybe_laid absent level most = None
-  maybe_laid (present e) level most = Some (laid e level most)
+  pub maybe_layout_of : MaybeTree → ℕ → ℕ → Option Text
+  maybe_layout_of absent level most = None
+  maybe_layout_of (present e) level most = Some (layout_of e level most)
 
-  pub laids : Trees → ℕ → ℕ → List Text
-  laids no_trees level most = []
-  laids (first_tree e es) level most = laid e level most ∷ laids es level most
+  pub layouts_of : Trees → ℕ → ℕ → List Text
+  layouts_of no_trees level most = []
+  layouts_of (first_tree e es) level most = layout_of e level most ∷ layouts_of es level most
 
 -- arguments, one after the other
-abbrev pub args_laid : Trees → ℕ → ℕ → Text
-args_laid args level most = joined_text (codes ",\n") (laids args level most)
+abbrev pub args_layout_of : Trees → ℕ → ℕ → Text
+args_layout_of args level most = joined_text (codes ",\n") (layouts_of args level most)
 
 -- a node over several lines, where it has such a form
 abbrev pub lines : Tree → ℕ → ℕ → Text
-lines (aggregate op e p m) level most = aggregate_lines op m (maybe_laid p (level + 1) most) (laid e (level + 1) most) level
-lines (binary op l r m) level most = binary_lines op m (laid l (level + 1) most) (laid r (level + 1) most) level
-lines (paren e) level most = paren_lines (laid e (level + 1) most) level
-lines (call f args) level most = call_lines (name_of f) (args_laid args (level + 1) most) level
+lines (aggregate op e p m) level most = aggregate_lines op m (maybe_layout_of p (level + 1) most) (layout_of e (level + 1) most) level
+lines (binary op l r m) level most = binary_lines op m (layout_of l (level + 1) most) (layout_of r (level + 1) most) level
+lines (paren e) level most = paren_lines (layout_of e (level + 1) most) level
+lines (call f args) level most = call_lines (name_of f) (args_layout_of args (level + 1) most) level
 lines t level most = indent level ++ text t
 
 -- the nodes that never need a split

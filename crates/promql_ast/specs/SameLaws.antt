@@ -6,7 +6,7 @@ use Rattle.std.specs.Cmp.{decided, IsEquivalence, IsPartialEquivalence, partial_
 use Rattle.std.proofs.lemmas.Bool.Decides.{Decides-and, Decides-eqb, Decides-int_eq, Decides-like}
 use Rattle.std.proofs.lemmas.Slice.Eq.{bytes_eq-Decides, slice_eq-Decides}
 use Rattle.promql_label.specs.PlainMatchers.{Operator, equal, not_equal, matches, matches_not, PlainMatcher, plain_matcher, PlainMatchers, plain_matchers}
-use Rattle.promql_kind.proofs.Same.{clause_eq-Decides, matching_eq-Decides, number_eq-Decides, option_eq-Decides, signature_eq-Decides, type_eq-Decides}
+use Rattle.promql_kind.proofs.SameModifiersDecide.{clause_eq-Decides, matching_eq-Decides, number_eq-Decides, option_eq-Decides, signature_eq-Decides, type_eq-Decides}
 use Rattle.promql_ast.specs.Same.{operator_eq, matcher_eq, matchers_eq, shift_eq, moment_eq, mode_eq, selector_eq, tree_eq, maybe_eq, trees_eq}
 use Rattle.promql_ast.specs.Selectors.{Selector, selector}
 use Rattle.promql_ast.specs.Shifts.{Shift, back, ahead, Moment, at_start, at_end, at_time}

@@ -13,8 +13,8 @@ use Rattle.promql_ast.specs.OptionalModifiers.{has_matching_labels, is_on, joint
 use Rattle.promql_ast.specs.Selectors.{Selector, selector}
 use Rattle.promql_ast.specs.Tree.{Tree, aggregate, unary, binary, paren, subquery, number, string, vector, matrix, call, extension, MaybeTree, absent, present, Trees, no_trees, first_tree}
 use Rattle.promql_ast.specs.Types.{type_of}
-use Rattle.promql_ast.specs.check.Aggregate.{maybe_type, param_type}
-use Rattle.promql_ast.specs.check.Call.{is_exempt}
+use Rattle.promql_ast.specs.check.AggregateChecks.{maybe_type, param_type}
+use Rattle.promql_ast.specs.check.CallChecks.{is_exempt}
 
 -- no label is in both lists
 abbrev pub IsApart : Option (List Text) → Type 0
@@ -66,12 +66,12 @@ pub record TypedCall (name : Text) (types : List ValueType) (variadic : ℤ) (ts
   pub typed : is_exempt name ts ≡ false → TypedArgs types ts
 
 -- one name at most; without one, a matcher that does not match the empty text
-abbrev pub Named : Option Text → PlainMatchers → Type 0
-Named (Some name) matchers = found_value matchers (codes "__name__") ≡ None
-Named None matchers = all_match_empty matchers ≡ false
+abbrev pub HasName : Option Text → PlainMatchers → Type 0
+HasName (Some name) matchers = found_value matchers (codes "__name__") ≡ None
+HasName None matchers = all_match_empty matchers ≡ false
 
 abbrev pub TypedSelector : Selector → Type 0
-TypedSelector (selector name matchers offset at) = Named name matchers
+TypedSelector (selector name matchers offset at) = HasName name matchers
 
 abbrev pub TypedSignature : Signature → Trees → Type 0
 TypedSignature (signature name types variadic gives experimental) ts = TypedCall name types variadic ts

@@ -4,7 +4,7 @@ use Rattle.promql_text.specs.Texts.{Text}
 use Rattle.promql_grammar.specs.declared.token_kinds.TokenKind.{TokenKind}
 use Rattle.promql_grammar.specs.declared.token_kinds.TokenKind.TheVariants as kind
 use Rattle.promql_grammar.specs.Symbols.{Symbol, punct, word, may_be_name, may_be_label, may_be_called}
-use Rattle.promql_grammar.specs.GrammarParts.{Time, seconds, duration, Signed, unsigned, signed, Names, last, last_comma, next, Labels, no_label, labels, Grouping, by, without, Clause, before, after, Group, no_group, bare, listed, Matching, no_matching, matching, FillValue, Fills, no_fill, both, left, right, left_right, right_left, Modifier, MatchOperator, equal, not_equal, equal_regex, not_equal_regex, Item, matcher, lone, Separator, comma, or, Items, last_item, last_item_comma, next_item, Braces, no_item, items, Postfix, range, subquery, at_number, at_bound, offset, mode, yield_time, yield_signed, yield_names, yield_labels, yield_grouping, yield_before, yield_after, yield_group, yield_matching, yield_value, yield_fills, yield_flag, yield_modifier, yield_match_sign, yield_item, yield_items, yield_separator, yield_braces, yield_any_braces, yield_postfix, yield_step, AreLabels, IsLabels, IsGrouping, IsClause, IsGroup, IsMatching, IsModifier, IsItem, AreItems, IsBraces, IsAnyBraces, IsPostfix, is_group_word, is_matching_word, is_matcher_name, is_bound_word, is_mode_word}
+use Rattle.promql_grammar.specs.GrammarParts.{Time, seconds, duration, Signed, unsigned, signed, Names, last, last_comma, next, Labels, no_label, labels, Grouping, by, without, Clause, before, after, Group, no_group, bare, listed, Matching, no_matching, matching, FillValue, Fills, no_fill, both, left, right, left_right, right_left, Modifier, MatchOperator, equal, not_equal, equal_regex, not_equal_regex, Item, matcher, lone, Separator, comma, or, Items, last_item, last_item_comma, next_item, Braces, no_item, items, Postfix, range, subquery, at_number, at_bound, offset, mode, yield_time, yield_signed, yield_names, yield_labels, yield_grouping, yield_before, yield_after, yield_group, yield_matching, yield_value, yield_fills, yield_flag, yield_modifier, yield_match_operator, yield_item, yield_items, yield_separator, yield_braces, yield_any_braces, yield_postfix, yield_step, AreLabels, IsLabels, IsGrouping, IsClause, IsGroup, IsMatching, IsModifier, IsItem, AreItems, IsBraces, IsAnyBraces, IsPostfix, is_group_word, is_matching_word, is_matcher_name, is_bound_word, is_mode_word}
 use Rattle.promql_grammar.specs.Grammar as grammar
 use Rattle.promql_grammar.specs.Grammar.{Derivation, Arguments, selector, nameless, paren, call, aggregate, postfixed, unary, binary, none, more, yield, yield_arguments, yield_rest, IsWellFormed, AreWellFormed}
 
@@ -89,14 +89,14 @@ known_modifier m h =
     known_append (yield_flag m.flag) (yield_matching m.matching ++ yield_fills m.fills) (known_flag m.flag)
     (known_append (yield_matching m.matching) (yield_fills m.fills) (known_matching m.matching h.0) (known_fills m.fills))
 
-known_match_sign : (s : MatchOperator) (ts : List Symbol) → AreKnown ts → AreKnown (yield_match_sign s ∷ ts)
-known_match_sign equal ts k = k
-known_match_sign (not_equal text) ts k = (refl, k)
-known_match_sign equal_regex ts k = k
-known_match_sign not_equal_regex ts k = k
+known_match_operator : (s : MatchOperator) (ts : List Symbol) → AreKnown ts → AreKnown (yield_match_operator s ∷ ts)
+known_match_operator equal ts k = k
+known_match_operator (not_equal text) ts k = (refl, k)
+known_match_operator equal_regex ts k = k
+known_match_operator not_equal_regex ts k = k
 
 known_item : (i : Item) → IsItem i → AreKnown (yield_item i)
-known_item (matcher k text s value) h = (known_if is_matcher_name k refl h, known_match_sign s (word kind.String value ∷ []) (refl, tt))
+known_item (matcher k text s value) h = (known_if is_matcher_name k refl h, known_match_operator s (word kind.String value ∷ []) (refl, tt))
 known_item (lone text) h = (refl, tt)
 
 known_separator : (s : Separator) (ts : List Symbol) → AreKnown ts → AreKnown (yield_separator s ∷ ts)

@@ -8,7 +8,7 @@ use Rattle.promql_grammar.specs.declared.token_kinds.TokenKind.TheVariants as ki
 use Rattle.promql_grammar.specs.declared.read_error.ReadError.TheVariants.{Memory, Syntax, TooDeep}
 use Rattle.promql_grammar.specs.Results.{◌then◌}
 use Rattle.promql_grammar.specs.Symbols.{Symbol, punct, word, may_be_name, may_be_called, is_plus_or_minus}
-use Rattle.promql_grammar.specs.GrammarParts.{Labels, Grouping, by, without, Clause, no_clause, before, after, Group, bare, listed, no_group, Matching, no_matching, matching, Fills, no_fill, both, left, right, left_right, right_left, Modifier, Braces, Postfix, range, subquery, at_number, at_bound, offset, mode, yield_labels, yield_grouping, yield_before, yield_after, yield_modifier, yield_braces, yield_any_braces, yield_postfix, IsLabels, IsGrouping, IsClause, IsBraces, IsAnyBraces, IsPostfix}
+use Rattle.promql_grammar.specs.GrammarParts.{Grouping, by, without, Clause, no_clause, before, after, bare, Matching, matching, Fills, no_fill, Modifier, Braces, Postfix, range, subquery, at_number, at_bound, offset, mode, yield_labels, yield_grouping, yield_before, yield_after, yield_modifier, yield_braces, yield_any_braces, yield_postfix, IsLabels, IsGrouping, IsClause, IsBraces, IsAnyBraces}
 use Rattle.promql_grammar.specs.Grammar.{Derivation, number, duration, string, selector, nameless, paren, call, aggregate, postfixed, unary, binary, Arguments, none, more, yield, yield_arguments, yield_rest, precedence, openness, height, greatest_height, added_height, IsWellFormed, AreWellFormed, IsBase, OpensNoParen, FitsLeft, FitsMatching}
 use Rattle.promql_grammar.specs.Parsing.{Read, Reader, right_precedence, parse_labels, parse_grouping, parse_modifier, parse_optional_braces, parse_braces, parse_postfix, parse_more_postfixes, parse_postfixes, parse_paren_end, parse_more_arguments, parse_arguments, parse_selector, parse_call, parse_grouped_aggregate, parse_aggregate, parse_unary, parse_operators, parse_expression}
 use Rattle.promql_grammar.proofs.Complete.{tall}

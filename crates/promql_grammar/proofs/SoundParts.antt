@@ -9,7 +9,7 @@ use Rattle.promql_grammar.specs.declared.token_kinds.TokenKind.TheVariants as ki
 use Rattle.promql_grammar.specs.declared.read_error.ReadError.TheVariants.{Memory, Syntax, TooDeep}
 use Rattle.promql_grammar.specs.Results.{◌then◌}
 use Rattle.promql_grammar.specs.Symbols.{Symbol, punct, word, is_plus_or_minus, may_be_label}
-use Rattle.promql_grammar.specs.GrammarParts.{Time, Signed, unsigned, signed, last, last_comma, next, labels, by, without, Clause, no_clause, before, after, Group, bare, listed, Matching, no_matching, matching, FillValue, Fills, no_fill, both, left_right, right_left, Modifier, MatchOperator, not_equal, Item, matcher, comma, or, Items, next_item, items, Postfix, at_number, offset, yield_time, yield_signed, yield_names, yield_labels, yield_before, yield_after, yield_group, yield_matching, yield_value, yield_fills, yield_flag, yield_modifier, yield_match_sign, yield_item, yield_items, yield_braces, yield_any_braces, yield_postfix, IsSigned, AreLabels, IsLabels, IsGrouping, IsGroup, IsMatching, IsFills, IsModifier, IsItem, AreItems, IsBraces, IsAnyBraces, IsPostfix, is_group_word, is_matching_word, is_matcher_name, is_bound_word}
+use Rattle.promql_grammar.specs.GrammarParts.{Time, Signed, unsigned, signed, last, last_comma, next, labels, by, without, Clause, no_clause, before, after, Group, bare, listed, Matching, no_matching, matching, FillValue, Fills, no_fill, both, left_right, right_left, Modifier, MatchOperator, not_equal, Item, matcher, comma, or, Items, next_item, items, Postfix, at_number, offset, yield_time, yield_signed, yield_names, yield_labels, yield_before, yield_after, yield_group, yield_matching, yield_value, yield_fills, yield_flag, yield_modifier, yield_match_operator, yield_item, yield_items, yield_braces, yield_any_braces, yield_postfix, IsSigned, AreLabels, IsLabels, IsGrouping, IsGroup, IsMatching, IsFills, IsModifier, IsItem, AreItems, IsBraces, IsAnyBraces, IsPostfix, is_group_word, is_matching_word, is_matcher_name, is_bound_word}
 use Rattle.promql_grammar.specs.Grammar.{OpensNoParen, FitsMatching}
 use Rattle.promql_grammar.specs.Parsing.{Read, parse_time, eat_sign, parse_number, parse_string, parse_fill_value_end, parse_fill_value, parse_label_names, parse_label_list, parse_labels, parse_grouping, parse_group_labels, parse_group, parse_matching_after, parse_matching, parse_fills, parse_fill_right, parse_fill_left, parse_flag, with_fills, with_matching, parse_modifier, parse_match_operator, parse_matcher_value, parse_after_name, parse_after_string, parse_item, parse_after_item, parse_items, parse_braces, parse_optional_braces, parse_step_end, parse_step, parse_range_end, parse_at_bound, parse_at_modifier, parse_offset_postfix, parse_postfix}
 
@@ -195,40 +195,40 @@ modifier_taken ts =
     (λ m vs f i. takes_then yield_fills (λ f us. IsFills f) vs yield_modifier IsModifierBefore ts (parse_fills vs) (with_fills b m) (fills_taken vs)
     (λ g ws h j. (e ∙ ap (λ l. yield_flag b ++ l) (f ∙ ap (λ l. yield_matching m ++ l) h ∙ sym (append_assoc (yield_matching m) (yield_fills g) ws)) ∙ sym (append_assoc (yield_flag b) (yield_matching m ++ yield_fills g) ws), ((i.0, j), ends_fit m g vs ws i.1 h)))))
 
-abbrev yield_any_sign : Option MatchOperator → List Symbol
-yield_any_sign None = []
-yield_any_sign (Some s) = yield_match_sign s ∷ []
+abbrev yield_any_operator : Option MatchOperator → List Symbol
+yield_any_operator None = []
+yield_any_operator (Some s) = yield_match_operator s ∷ []
 
-abbrev AnySign : Option MatchOperator → Type 0
-AnySign s = Unit {0}
+abbrev AnyOperator : Option MatchOperator → Type 0
+AnyOperator s = Unit {0}
 
-not_equal_if : (op : ℕ) (t : Text) (ts : List Symbol) (b : Bool) → (op == T_NEQ) ≡ b → Took yield_any_sign AnySign (word (kind.Operator op) t ∷ ts) (if b then Ok (Some (not_equal t), ts) else Ok (None, word (kind.Operator op) t ∷ ts))
+not_equal_if : (op : ℕ) (t : Text) (ts : List Symbol) (b : Bool) → (op == T_NEQ) ≡ b → Took yield_any_operator AnyOperator (word (kind.Operator op) t ∷ ts) (if b then Ok (Some (not_equal t), ts) else Ok (None, word (kind.Operator op) t ∷ ts))
 not_equal_if op t ts true e = (ap (λ o. word (kind.Operator o) t ∷ ts) (eqb-true op T_NEQ e), tt)
 not_equal_if op t ts false e = (refl, tt)
 
-match_sign_taken : (ts : List Symbol) → Took yield_any_sign AnySign ts (parse_match_operator ts)
-match_sign_taken (punct kind.Equal ∷ ts) = (refl, tt)
-match_sign_taken (punct kind.EqualRegex ∷ ts) = (refl, tt)
-match_sign_taken (punct kind.NotEqualRegex ∷ ts) = (refl, tt)
-match_sign_taken (word (kind.Operator op) t ∷ ts) = not_equal_if op t ts (op == T_NEQ) refl
-match_sign_taken ts = (refl, tt)
+match_operator_taken : (ts : List Symbol) → Took yield_any_operator AnyOperator ts (parse_match_operator ts)
+match_operator_taken (punct kind.Equal ∷ ts) = (refl, tt)
+match_operator_taken (punct kind.EqualRegex ∷ ts) = (refl, tt)
+match_operator_taken (punct kind.NotEqualRegex ∷ ts) = (refl, tt)
+match_operator_taken (word (kind.Operator op) t ∷ ts) = not_equal_if op t ts (op == T_NEQ) refl
+match_operator_taken ts = (refl, tt)
 
-matcher_taken : (k : TokenKind) (t : Text) (s : MatchOperator) (ts us : List Symbol) → is_matcher_name k ≡ true → ts ≡ yield_match_sign s ∷ us → Took yield_item IsItem (word k t ∷ ts) (parse_matcher_value k t s us)
+matcher_taken : (k : TokenKind) (t : Text) (s : MatchOperator) (ts us : List Symbol) → is_matcher_name k ≡ true → ts ≡ yield_match_operator s ∷ us → Took yield_item IsItem (word k t ∷ ts) (parse_matcher_value k t s us)
 matcher_taken k t s ts us h e =
     took_then yield_string AnyText us yield_item IsItem (word k t ∷ ts) (parse_string us) (λ v. Ok (matcher k t s v.0, v.1)) (string_taken us)
-    (λ v vs f i. (ap (λ l. word k t ∷ l) (e ∙ ap (λ l. yield_match_sign s ∷ l) f), h))
+    (λ v vs f i. (ap (λ l. word k t ∷ l) (e ∙ ap (λ l. yield_match_operator s ∷ l) f), h))
 
-after_name_taken : (t : Text) (s : Option MatchOperator) (ts us : List Symbol) → ts ≡ yield_any_sign s ++ us → Took yield_item IsItem (word kind.Identifier t ∷ ts) (parse_after_name t (s, us))
+after_name_taken : (t : Text) (s : Option MatchOperator) (ts us : List Symbol) → ts ≡ yield_any_operator s ++ us → Took yield_item IsItem (word kind.Identifier t ∷ ts) (parse_after_name t (s, us))
 after_name_taken t (Some s) ts us e = matcher_taken kind.Identifier t s ts us refl e
 after_name_taken t None ts us e = tt
 
-after_string_taken : (t : Text) (s : Option MatchOperator) (ts us : List Symbol) → ts ≡ yield_any_sign s ++ us → Took yield_item IsItem (word kind.String t ∷ ts) (parse_after_string t (s, us))
+after_string_taken : (t : Text) (s : Option MatchOperator) (ts us : List Symbol) → ts ≡ yield_any_operator s ++ us → Took yield_item IsItem (word kind.String t ∷ ts) (parse_after_string t (s, us))
 after_string_taken t (Some s) ts us e = matcher_taken kind.String t s ts us refl e
 after_string_taken t None ts us e = (ap (λ l. word kind.String t ∷ l) e, tt)
 
 item_taken : (ts : List Symbol) → Took yield_item IsItem ts (parse_item ts)
-item_taken (word kind.Identifier t ∷ ts) = took_then yield_any_sign AnySign ts yield_item IsItem (word kind.Identifier t ∷ ts) (parse_match_operator ts) (parse_after_name t) (match_sign_taken ts) (λ s us e h. after_name_taken t s ts us e)
-item_taken (word kind.String t ∷ ts) = took_then yield_any_sign AnySign ts yield_item IsItem (word kind.String t ∷ ts) (parse_match_operator ts) (parse_after_string t) (match_sign_taken ts) (λ s us e h. after_string_taken t s ts us e)
+item_taken (word kind.Identifier t ∷ ts) = took_then yield_any_operator AnyOperator ts yield_item IsItem (word kind.Identifier t ∷ ts) (parse_match_operator ts) (parse_after_name t) (match_operator_taken ts) (λ s us e h. after_name_taken t s ts us e)
+item_taken (word kind.String t ∷ ts) = took_then yield_any_operator AnyOperator ts yield_item IsItem (word kind.String t ∷ ts) (parse_match_operator ts) (parse_after_string t) (match_operator_taken ts) (λ s us e h. after_string_taken t s ts us e)
 item_taken ts = tt
 
 after_item_taken : (r : List Symbol → Read Items) → ((ts : List Symbol) → Took yield_items AreItems ts (r ts)) → (i : Item) (ts us : List Symbol) → IsItem i → ts ≡ yield_item i ++ us → Took yield_items AreItems ts (parse_after_item r i us)

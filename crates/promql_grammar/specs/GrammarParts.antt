@@ -178,11 +178,11 @@ pub data MatchOperator : Type 0 where
   equal_regex : MatchOperator
   not_equal_regex : MatchOperator
 
-abbrev pub yield_match_sign : MatchOperator → Symbol
-yield_match_sign equal = punct kind.Equal
-yield_match_sign (not_equal text) = word (kind.Operator T_NEQ) text
-yield_match_sign equal_regex = punct kind.EqualRegex
-yield_match_sign not_equal_regex = punct kind.NotEqualRegex
+abbrev pub yield_match_operator : MatchOperator → Symbol
+yield_match_operator equal = punct kind.Equal
+yield_match_operator (not_equal text) = word (kind.Operator T_NEQ) text
+yield_match_operator equal_regex = punct kind.EqualRegex
+yield_match_operator not_equal_regex = punct kind.NotEqualRegex
 
 pub data Item : Type 0 where
   matcher : TokenKind → Text → MatchOperator → Text → Item
@@ -212,7 +212,7 @@ is_matcher_name kind.String = true
 is_matcher_name _ = false
 
 abbrev pub yield_item : Item → List Symbol
-yield_item (matcher k text s value) = word k text ∷ yield_match_sign s ∷ word kind.String value ∷ []
+yield_item (matcher k text s value) = word k text ∷ yield_match_operator s ∷ word kind.String value ∷ []
 yield_item (lone text) = word kind.String text ∷ []
 
 abbrev pub yield_items : Items → List Symbol

@@ -148,9 +148,9 @@ pub const TOKEN_KINDS: [(TokenId, TokenKind); 86] = [
 fn kind_in(table: &[(TokenId, TokenKind)], id: TokenId) -> TokenKind
     ensures { result ≡ spec.kind_in table.now id }
 {
-    let place = id as usize;
-    if place < table.len() {
-        table[place].1
+    let index = id as usize;
+    if index < table.len() {
+        table[index].1
     } else {
         TokenKind::Other
     }

@@ -14,7 +14,7 @@ use Rattle.std.specs.contracts.prelude.OptionPartialEq.TheImpl as options
 use Rattle.promql_text.specs.declared.number.Number.TheVariants.{Finite, Inf, NegInf, NaN}
 use Rattle.promql_kind.specs.Functions.{signature_of}
 use Rattle.promql_kind.specs.Modifiers.{including, excluding, many_to_one, one_to_many}
-use Rattle.promql_kind.specs.Views.{clause_of, cardinality_of, fills_of, matching_of}
+use Rattle.promql_kind.specs.ModifierViews.{clause_of, cardinality_of, fills_of, matching_of}
 use Rattle.promql_kind.specs.contracts.bin_modifier.BinModifierPartialEq.TheImpl as matchings
 use Rattle.promql_kind.specs.contracts.cardinality.VectorMatchCardinalityPartialEq.TheImpl as cardinalities
 use Rattle.promql_kind.specs.contracts.fill_values.VectorMatchFillValuesPartialEq.TheImpl as fill_values
@@ -25,7 +25,7 @@ use Rattle.promql_kind.specs.contracts.value.ValueTypePartialEq.TheImpl as types
 use Rattle.promql_kind.specs.declared.cardinality.VectorMatchCardinality.TheVariants.{OneToOne, ManyToOne, OneToMany, ManyToMany}
 use Rattle.promql_kind.specs.declared.label_modifier.LabelModifier.TheVariants.{Include, Exclude}
 use Rattle.promql_kind.specs.declared.value.ValueType.TheVariants.{Vector, Scalar, Matrix, String}
-use Rattle.promql_kind.proofs.Same.{number_eq-Decides}
+use Rattle.promql_kind.proofs.SameModifiersDecide.{number_eq-Decides}
 
 pub type_Decides : IsSameBy (λ t. t) types.ghosts.eq
 type_Decides Vector Vector = ((λ _. refl), (λ _. refl))

@@ -1,3 +1,3 @@
 pub mod Equal
-pub mod Same
+pub mod SameModifiersDecide
 pub mod NamedFunctions

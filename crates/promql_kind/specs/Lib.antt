@@ -1,6 +1,6 @@
 pub mod ValueTypes
 pub mod Modifiers
-pub mod Views
+pub mod ModifierViews
 pub mod ModifierText
 pub mod Functions
-pub mod Same
+pub mod SameModifiers

@@ -6,7 +6,7 @@ ghost use Rattle.promql_text.specs.NumberText.{number_text};
 ghost use Rattle.promql_label.specs.Labels.{labels_of, labels_text};
 ghost use Rattle.promql_kind.specs.Modifiers as spec;
 ghost use Rattle.promql_kind.specs.ModifierText.{bool_text, matched_text, grouping_text, fills_text, modifier_text};
-ghost use Rattle.promql_kind.specs.Views.{clause_of, cardinality_of, fills_of, matching_of};
+ghost use Rattle.promql_kind.specs.ModifierViews.{clause_of, cardinality_of, matching_of};
 
 use crate::cardinality::VectorMatchCardinality;
 use crate::fill_values::VectorMatchFillValues;

@@ -3,7 +3,7 @@
 ghost use Rattle.std.specs.Prelude.{◌≡◌, IfOk, map, option_map};
 ghost use Rattle.promql_label.specs.Labels.{labels_of};
 ghost use Rattle.promql_kind.specs.Modifiers.{grouping, is_grouping, many_to_one, one_to_many};
-ghost use Rattle.promql_kind.specs.Views.{cardinality_of};
+ghost use Rattle.promql_kind.specs.ModifierViews.{cardinality_of};
 
 use promql_label::Labels;
 use std::alloc::{AllocError, Global};

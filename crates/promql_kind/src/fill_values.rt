@@ -2,7 +2,7 @@
 
 ghost use Rattle.std.specs.Prelude.{◌≡◌, Ok, Some, None};
 ghost use Rattle.promql_kind.specs.Modifiers.{fills};
-ghost use Rattle.promql_kind.specs.Views.{fills_of};
+ghost use Rattle.promql_kind.specs.ModifierViews.{fills_of};
 
 use promql_text::Number;
 use std::alloc::{AllocError, Global};

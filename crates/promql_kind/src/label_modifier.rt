@@ -1,9 +1,9 @@
 //! Lists of labels to include or to exclude: docs/reference/tree.md, "Modifiers".
 
-ghost use Rattle.std.specs.Prelude.{◌≡◌, ◌↔◌, IfOk, IsTrue, map};
+ghost use Rattle.std.specs.Prelude.{◌≡◌, IfOk, map};
 ghost use Rattle.promql_label.specs.Labels.{labels_of};
 ghost use Rattle.promql_kind.specs.Modifiers.{clause_labels, including, excluding, is_including};
-ghost use Rattle.promql_kind.specs.Views.{clause_of};
+ghost use Rattle.promql_kind.specs.ModifierViews.{clause_of};
 
 use promql_label::Labels;
 use std::alloc::{AllocError, Global};

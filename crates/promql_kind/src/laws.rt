@@ -2,7 +2,7 @@
 
 ghost use Rattle.promql_text.specs.Equalities.{ClonesKeep, IsSameBy};
 ghost use Rattle.promql_kind.specs.Functions.{signature_of};
-ghost use Rattle.promql_kind.specs.Views.{cardinality_of, clause_of, fills_of, matching_of};
+ghost use Rattle.promql_kind.specs.ModifierViews.{cardinality_of, clause_of, fills_of, matching_of};
 
 use crate::bin_modifier::BinModifier;
 use crate::cardinality::VectorMatchCardinality;

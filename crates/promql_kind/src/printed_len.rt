@@ -4,7 +4,7 @@
 ghost use Rattle.std.specs.Prelude.{◌≡◌, ◌++◌, codes, option_map};
 ghost use Rattle.promql_kind.specs.ModifierText.{bool_text, fills_text, grouping_text, matched_text, modifier_text};
 ghost use Rattle.promql_kind.specs.Modifiers as spec;
-ghost use Rattle.promql_kind.specs.Views.{cardinality_of, clause_of, matching_of};
+ghost use Rattle.promql_kind.specs.ModifierViews.{cardinality_of, clause_of, matching_of};
 ghost use Rattle.promql_label.specs.Labels.{labels_of, labels_text};
 ghost use Rattle.promql_text.specs.NumberText.{number_text};
 ghost use Rattle.promql_text.specs.PrintedLen.{printed_len};

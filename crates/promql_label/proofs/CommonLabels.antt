@@ -13,7 +13,7 @@ use Rattle.std.proofs.lemmas.Map.Views.{any-filter_same, list_any-from_Contains,
 use Rattle.std.proofs.lemmas.Slice.Eq.{bytes_eq-Decides}
 use Rattle.promql_text.specs.Texts.{Text}
 use Rattle.promql_label.specs.Labels.{is_among, firsts, common}
-use Rattle.promql_label.specs.LabelLaws.{first_place}
+use Rattle.promql_label.specs.LabelLaws.{first_index}
 use Rattle.promql_label.proofs.OneOrder.{one_order}
 
 -- ---- tests
@@ -182,39 +182,39 @@ other_than l ks k d lt = nat_list_eq_equiv.symm _ l ∙ turn (bytes_eq l _) (fil
     turn true e = absurd (cc)
     turn false e = refl
 
-first_place-later : (l : Text) (ls : List Text) (k : Text) → bytes_eq k l ≡ false → first_place (l ∷ ls) k ≡ 1 + first_place ls k
-first_place-later l ls k e = ap (λ b. cond (not b) (1 + first_place ls k) 0) e
+first_index-later : (l : Text) (ls : List Text) (k : Text) → bytes_eq k l ≡ false → first_index (l ∷ ls) k ≡ 1 + first_index ls k
+first_index-later l ls k e = ap (λ b. cond (not b) (1 + first_index ls k) 0) e
 
-first_place-first : (l : Text) (ls : List Text) → first_place (l ∷ ls) l ≡ 0
-first_place-first l ls = ap (λ b. cond (not b) (1 + first_place ls l) 0) (nat_list_eq_equiv.refl l)
+first_index-first : (l : Text) (ls : List Text) → first_index (l ∷ ls) l ≡ 0
+first_index-first l ls = ap (λ b. cond (not b) (1 + first_index ls l) 0) (nat_list_eq_equiv.refl l)
 
-firsts-order : (ls : List Text) → AllPairs (λ l k. first_place ls l < first_place ls k) (firsts ls)
+firsts-order : (ls : List Text) → AllPairs (λ l k. first_index ls l < first_index ls k) (firsts ls)
 firsts-order [] = λ i j d lt bound. absurd (omega arith)
 firsts-order (l ∷ ls) =
     let q : Text → Bool = λ k. not (bytes_eq l k) in
     let rest : List Text = filter q (firsts ls) in
-    let later : (k : ℕ) (d : Text) → k < length rest → first_place (l ∷ ls) (get_or rest k d) ≡ 1 + first_place ls (get_or rest k d)
-    = λ k d lt. first_place-later l ls (get_or rest k d) (other_than l (firsts ls) k d lt) in
-    AllPairs-cons (λ m k. first_place (l ∷ ls) m < first_place (l ∷ ls) k) l rest
-    (λ k d lt. omega (arith, later k d lt, first_place-first l ls))
+    let later : (k : ℕ) (d : Text) → k < length rest → first_index (l ∷ ls) (get_or rest k d) ≡ 1 + first_index ls (get_or rest k d)
+    = λ k d lt. first_index-later l ls (get_or rest k d) (other_than l (firsts ls) k d lt) in
+    AllPairs-cons (λ m k. first_index (l ∷ ls) m < first_index (l ∷ ls) k) l rest
+    (λ k d lt. omega (arith, later k d lt, first_index-first l ls))
     (λ i j d lt bound.
-    let below : first_place ls (get_or rest i d) < first_place ls (get_or rest j d) = AllPairs-filter (λ m k. first_place ls m < first_place ls k) q (firsts ls) (firsts-order ls) i j d lt bound in
+    let below : first_index ls (get_or rest i d) < first_index ls (get_or rest j d) = AllPairs-filter (λ m k. first_index ls m < first_index ls k) q (firsts ls) (firsts-order ls) i j d lt bound in
     omega (arith, below, later i d (omega arith), later j d bound))
 
 -- the common labels are in the order in which the first list has them first, so each once
-pub common-order : (ls others : List Text) → AllPairs (λ l k. first_place ls l < first_place ls k) (common ls others)
-common-order ls others = AllPairs-filter (λ l k. first_place ls l < first_place ls k) (is_among others) (firsts ls) (firsts-order ls)
+pub common-order : (ls others : List Text) → AllPairs (λ l k. first_index ls l < first_index ls k) (common ls others)
+common-order ls others = AllPairs-filter (λ l k. first_index ls l < first_index ls k) (is_among others) (firsts ls) (firsts-order ls)
 
 pub common-once : (ls others : List Text) → AllPairs (λ l k. l ≢ k) (common ls others)
 common-once ls others i j d lt bound same =
     let below = common-order ls others i j d lt bound in
-    let as_one = ap (first_place ls) same in
+    let as_one = ap (first_index ls) same in
     absurd (omega (arith, below, as_one))
 
 -- no other list has these labels in this order
 pub common-only : (ls others ms : List Text) → ((l : Text) → Contains ms l ↔ (Contains ls l × Contains others l))
-    → AllPairs (λ l k. first_place ls l < first_place ls k) ms → ms ≡ common ls others
+    → AllPairs (λ l k. first_index ls l < first_index ls k) ms → ms ≡ common ls others
 common-only ls others ms members order =
-    one_order (first_place ls) ms (common ls others) order (common-order ls others)
+    one_order (first_index ls) ms (common ls others) order (common-order ls others)
     (λ z h. (common-Contains ls others z).1 ((members z).0 h))
     (λ z h. (members z).1 ((common-Contains ls others z).0 h))

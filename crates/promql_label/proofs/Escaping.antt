@@ -58,9 +58,9 @@ low_char false c z =
     (λ loose. ap (λ t. cond t (92 ∷ []) [] ++ (c ∷ escaped_from (c == 92) z)) (sym loose))
     (λ kept. ap (λ t. cond t (92 ∷ []) [] ++ (c ∷ escaped_from (c == 92) z)) (sym kept))
 
-false_behind : (taken : Bool) → (not taken && false) ≡ false
-false_behind true = refl
-false_behind false = refl
+false_after : (taken : Bool) → (not taken && false) ≡ false
+false_after true = refl
+false_after false = refl
 
 -- the escaped form of a text that begins with a character
 pub escaped_char : (taken : Bool) (c : ℕ) (z : Text) →
@@ -70,8 +70,8 @@ escaped_char taken c z =
     (λ (low : c < 128). ap (λ e. escaped_from taken (e ++ z)) (encode_ascii c low) ∙ low_char taken c z
     ∙ ap (λ e. mark taken c z ++ (e ++ escaped_from (not taken && c == 92) z)) (sym (encode_ascii c low)))
     (λ (high : 128 ≤ c). high_from taken (encode_utf8 c) z (omega (arith, length-encode c, len_utf8_bounds c)) (bytes_high c high)
-    ∙ ap (λ t. encode_utf8 c ++ escaped_from t z) (sym (false_behind taken))
+    ∙ ap (λ t. encode_utf8 c ++ escaped_from t z) (sym (false_after taken))
     ∙ ap (λ t. encode_utf8 c ++ escaped_from (not taken && t) z) (sym (ne_eqb c 92 (omega arith)))
-    ∙ ap (λ t. cond t (92 ∷ []) [] ++ (encode_utf8 c ++ escaped_from (not taken && c == 92) z)) (sym (false_behind taken))
+    ∙ ap (λ t. cond t (92 ∷ []) [] ++ (encode_utf8 c ++ escaped_from (not taken && c == 92) z)) (sym (false_after taken))
     ∙ ap (λ t. cond (not taken && (t && not (opens_count z))) (92 ∷ []) [] ++ (encode_utf8 c ++ escaped_from (not taken && c == 92) z)) (sym (ne_eqb c 123 (omega arith))))
     (order c 128)

@@ -9,7 +9,7 @@ use Rattle.promql_text.specs.Quoting.{quoted_text}
 use Rattle.promql_text.specs.Texts.{Text, joined_text}
 use Rattle.promql_text.specs.PrintedLen.{cap_usize, printed_len}
 use Rattle.promql_label.specs.PlainMatchers.{PlainMatcher, plain_matcher, plain_matchers, Operator, name_text, operator_text, matcher_text, group_text, matchers_text}
-use Rattle.promql_label.specs.Views.{plain_matcher_of}
+use Rattle.promql_label.specs.MatcherViews.{plain_matcher_of}
 use Rattle.promql_label.specs.declared.matcher.Matcher.{Matcher}
 use Rattle.promql_label.specs.SortedTexts.{text_order, insert_text, sorted_texts}
 

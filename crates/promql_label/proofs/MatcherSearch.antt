@@ -7,7 +7,7 @@ use Rattle.std.proofs.lemmas.List.{drop_more}
 use Rattle.promql_label.specs.declared.matcher.Matcher.{Matcher}
 use Rattle.promql_label.specs.PlainMatchers.{PlainMatcher, value_of}
 use Rattle.promql_text.specs.Texts.{Text}
-use Rattle.promql_label.specs.Views.{plain_matcher_of}
+use Rattle.promql_label.specs.MatcherViews.{plain_matcher_of}
 
 -- the matchers from index i on
 abbrev pub rest_from : List Matcher → ℕ → List PlainMatcher
@@ -25,28 +25,28 @@ abbrev pub first_value : (PlainMatcher → Bool) → List PlainMatcher → Optio
 first_value p cs = option_map value_of (find p cs)
 
 -- what is found in front is found
-pub first_value_in_front : (p : PlainMatcher → Bool) (cs ds : List PlainMatcher) (v : Text) →
+pub first_value_earlier : (p : PlainMatcher → Bool) (cs ds : List PlainMatcher) (v : Text) →
     first_value p cs ≡ Some v → first_value p (cs ++ ds) ≡ Some v
-first_value_in_front p [] ds v is = cc
-first_value_in_front p (c ∷ cs) ds v is = go (p c) (first_value_in_front p cs ds v) is
+first_value_earlier p [] ds v is = cc
+first_value_earlier p (c ∷ cs) ds v is = go (p c) (first_value_earlier p cs ds v) is
   where
     go : (b : Bool) → (first_value p cs ≡ Some v → first_value p (cs ++ ds) ≡ Some v) →
         option_map value_of (cond b (Some c) (find p cs)) ≡ Some v →
         option_map value_of (cond b (Some c) (find p (cs ++ ds))) ≡ Some v
-    go true behind is' = is'
-    go false behind is' = behind is'
+    go true later is' = is'
+    go false later is' = later is'
 
 -- where nothing is found in front, what is after decides
-pub first_value_behind : (p : PlainMatcher → Bool) (cs ds : List PlainMatcher) →
+pub first_value_later : (p : PlainMatcher → Bool) (cs ds : List PlainMatcher) →
     first_value p cs ≡ None → first_value p (cs ++ ds) ≡ first_value p ds
-first_value_behind p [] ds is = refl
-first_value_behind p (c ∷ cs) ds is = go (p c) (first_value_behind p cs ds) is
+first_value_later p [] ds is = refl
+first_value_later p (c ∷ cs) ds is = go (p c) (first_value_later p cs ds) is
   where
     go : (b : Bool) → (first_value p cs ≡ None → first_value p (cs ++ ds) ≡ first_value p ds) →
         option_map value_of (cond b (Some c) (find p cs)) ≡ None →
         option_map value_of (cond b (Some c) (find p (cs ++ ds))) ≡ first_value p ds
-    go true behind is' = cc
-    go false behind is' = behind is'
+    go true later is' = cc
+    go false later is' = later is'
 
 -- the groups from index i on: the one there, and those after it
 pub held_from_more : (gs : List (Vec Matcher Global)) (i : ℕ) (g : Vec Matcher Global) → i < length gs → g ≡ get_or gs i g →
@@ -60,7 +60,7 @@ pub first_value_here : (p : PlainMatcher → Bool) (gs : List (Vec Matcher Globa
     first_value p (map plain_matcher_of ms) ≡ Some v → first_value p (held_from gs i) ≡ Some v
 first_value_here p gs i g ms v within is all has =
     ap (first_value p) (held_from_more gs i g within is)
-    ∙ first_value_in_front p _ _ v (ap (λ l. first_value p (map plain_matcher_of l)) (sym all) ∙ has)
+    ∙ first_value_earlier p _ _ v (ap (λ l. first_value p (map plain_matcher_of l)) (sym all) ∙ has)
 
 -- a group that doesn't leaves it to those after
 pub first_value_past : (p : PlainMatcher → Bool) (gs : List (Vec Matcher Global)) (i : ℕ) (g : Vec Matcher Global)
@@ -68,7 +68,7 @@ pub first_value_past : (p : PlainMatcher → Bool) (gs : List (Vec Matcher Globa
     first_value p (map plain_matcher_of ms) ≡ None → first_value p (held_from gs i) ≡ first_value p (held_from gs (i + 1))
 first_value_past p gs i g ms within is all none =
     ap (first_value p) (held_from_more gs i g within is)
-    ∙ first_value_behind p _ _ (ap (λ l. first_value p (map plain_matcher_of l)) (sym all) ∙ none)
+    ∙ first_value_later p _ _ (ap (λ l. first_value p (map plain_matcher_of l)) (sym all) ∙ none)
 
 -- for goals before the groups
-pub ruleset searching = (first_value_in_front, first_value_behind)
+pub ruleset searching = (first_value_earlier, first_value_later)

@@ -7,8 +7,8 @@ module _ {X : Type 0} where
   front : (x : X) (xs : List X) → Contains (x ∷ xs) x
   front x xs = (0, omega arith, refl)
 
-  behind : (x : X) (xs : List X) (z : X) → Contains xs z → Contains (x ∷ xs) z
-  behind x xs z (k, lt, is) = (suc k, omega arith, is)
+  later : (x : X) (xs : List X) (z : X) → Contains xs z → Contains (x ∷ xs) z
+  later x xs z (k, lt, is) = (suc k, omega arith, is)
 
   contains_first_or_rest : (x : X) (xs : List X) (z : X) → Contains (x ∷ xs) z → (x ≡ z) ⊎ Contains xs z
   contains_first_or_rest x xs z (zero, lt, is) = inl is
@@ -45,6 +45,6 @@ module _ {X : Type 0} where
     one_order (x ∷ xs) (y ∷ ys) p q to from =
         let same = same_first x y xs ys p q (to x (front x xs)) (from y (front y ys)) in
         let rest = one_order xs ys (rest_rising x xs p) (rest_rising y ys q)
-        (λ z h. still_there x y xs ys z same p (to z (behind x xs z h)) h)
-        (λ z h. still_there y x ys xs z (sym same) q (from z (behind y ys z h)) h) in
+        (λ z h. still_there x y xs ys z same p (to z (later x xs z h)) h)
+        (λ z h. still_there y x ys xs z (sym same) q (from z (later y ys z h)) h) in
         ap (λ z. z ∷ xs) same ∙ ap (λ zs. y ∷ zs) rest

@@ -5,7 +5,7 @@ use Rattle.std.specs.Ordering.{is_eq}
 use Rattle.promql_text.specs.Texts.{Text, joined_text}
 use Rattle.promql_label.specs.NextText.{is_above, IsLeast, copies, times, comma_after, texts_after}
 use Rattle.promql_label.specs.SortedTexts.{text_order, sorted_texts}
-use Rattle.promql_label.proofs.NextText.{filter_none, next_texts}
+use Rattle.promql_label.proofs.LeastText.{filter_none, next_texts}
 
 pub after_times : (s : Bool) (n : ℕ) (t : Text) (us : List Text) → texts_after s (times (suc n) t ++ us) ≡ texts_after s (times (suc n) t) ++ texts_after true us
 after_times s zero t us = ap (λ w. w ++ texts_after true us) (sym (append-nil (comma_after s ++ t)))

@@ -12,11 +12,11 @@ use Rattle.promql_token.specs.TokenScanning.{after, in_braces}
 use Rattle.promql_token.specs.declared.class.Class.TheVariants as class
 use Rattle.promql_token.specs.declared.ids.TheConstants.{T_COMMA, T_EQL, T_EQL_REGEX, T_IDENTIFIER, T_LOR, T_NEQ, T_NEQ_REGEX, T_STRING}
 use Rattle.promql_token.proofs.Concatenation.{joins, joins_name}
-use Rattle.promql_token.proofs.PrintedValues.{joins_quoted}
+use Rattle.promql_token.proofs.ValueTokens.{joins_quoted}
 use Rattle.promql_token.proofs.Steps.{pieces_run}
 use Rattle.promql_label.specs.PlainMatchers.{Operator, equal, not_equal, matches, matches_not, PlainMatcher, plain_matcher, PlainMatchers, plain_matchers, group_text, matcher_text, matchers_text, name_text, operator_text}
 use Rattle.promql_label.specs.SortedTexts.{insert_text, sorted_texts, text_order}
-use Rattle.promql_label.specs.ReadMatchers.{Token, inside, insert_matcher, sorted_matchers, name_token, sign_id, matcher_tokens, group_tokens, matchers_tokens}
+use Rattle.promql_label.specs.ReadMatchers.{Token, inside, insert_matcher, sorted_matchers, name_token, operator_id, matcher_tokens, group_tokens, matchers_tokens}
 
 abbrev scanned_tokens : List Token → List ScannedText
 scanned_tokens ts = map (λ t. Ok t) ts
@@ -66,27 +66,27 @@ name_reads depth name r stop apart = go (is_label name) refl
     go true label = bare_reads depth name r label stop apart
     go false label = string_reads depth name r
 
--- a sign ends the name before it
+-- an operator ends the name before it
 name_before : (depth : ℕ) (name : Text) (op : Operator) (r : Text) → pieces (inside depth) (name_text name ++ (operator_text op ++ r)) ≡ Ok (name_token name) ∷ pieces (inside depth) (operator_text op ++ r)
 name_before depth name equal r = name_reads depth name _ refl refl
 name_before depth name not_equal r = name_reads depth name _ refl refl
 name_before depth name (matches w) r = name_reads depth name _ refl refl
 name_before depth name (matches_not w) r = name_reads depth name _ refl refl
 
--- a sign before a quote
-sign_reads : (depth : ℕ) (op : Operator) (r : Text) → pieces (inside depth) (operator_text op ++ (34 ∷ r)) ≡ Ok (sign_id op, operator_text op) ∷ pieces (inside depth) (34 ∷ r)
+-- an operator before a quote
+operator_reads : (depth : ℕ) (op : Operator) (r : Text) → pieces (inside depth) (operator_text op ++ (34 ∷ r)) ≡ Ok (operator_id op, operator_text op) ∷ pieces (inside depth) (34 ∷ r)
 unfolding scan.scan_token in_braces after
-sign_reads depth equal r = joins (inside depth) (codes "=") (34 ∷ r) T_EQL (omega arith) refl refl
-sign_reads depth not_equal r = joins (inside depth) (codes "!=") (34 ∷ r) T_NEQ (omega arith) refl refl
-sign_reads depth (matches w) r = joins (inside depth) (codes "=~") (34 ∷ r) T_EQL_REGEX (omega arith) refl refl
-sign_reads depth (matches_not w) r = joins (inside depth) (codes "!~") (34 ∷ r) T_NEQ_REGEX (omega arith) refl refl
+operator_reads depth equal r = joins (inside depth) (codes "=") (34 ∷ r) T_EQL (omega arith) refl refl
+operator_reads depth not_equal r = joins (inside depth) (codes "!=") (34 ∷ r) T_NEQ (omega arith) refl refl
+operator_reads depth (matches w) r = joins (inside depth) (codes "=~") (34 ∷ r) T_EQL_REGEX (omega arith) refl refl
+operator_reads depth (matches_not w) r = joins (inside depth) (codes "!~") (34 ∷ r) T_NEQ_REGEX (omega arith) refl refl
 
 matcher_reads : (depth : ℕ) (c : PlainMatcher) → Reads depth (matcher_text c) (matcher_tokens c)
 matcher_reads depth (plain_matcher op name value) r =
     let v = quoted_text value in
     ap (pieces (inside depth)) (append_assoc (name_text name) (operator_text op ++ v) r ∙ ap (λ z. name_text name ++ z) (append_assoc (operator_text op) v r))
     ∙ name_before depth name op (v ++ r)
-    ∙ ap (λ ws. Ok (name_token name) ∷ ws) (sign_reads depth op _ ∙ ap (λ ws. Ok (sign_id op, operator_text op) ∷ ws) (string_reads depth value r))
+    ∙ ap (λ ws. Ok (name_token name) ∷ ws) (operator_reads depth op _ ∙ ap (λ ws. Ok (operator_id op, operator_text op) ∷ ws) (string_reads depth value r))
 
 comma_reads : (depth : ℕ) → Reads depth (codes ",") ((T_COMMA, codes ",") ∷ [])
 unfolding scan.scan_token in_braces after

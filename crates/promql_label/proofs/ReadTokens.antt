@@ -5,7 +5,7 @@ use Rattle.std.proofs.lemmas.List.Splits.{length-slice_split}
 use Rattle.std.proofs.lemmas.Option.{option_and_then_some}
 use Rattle.promql_token.specs.declared.ids.TheConstants.{T_COMMA, T_EQL, T_EQL_REGEX, T_LOR, T_NEQ, T_NEQ_REGEX}
 use Rattle.promql_label.specs.PlainMatchers.{Operator, equal, not_equal, matches, matches_not, PlainMatcher, plain_matcher, PlainMatchers, plain_matchers}
-use Rattle.promql_label.specs.ReadMatchers.{Token, Parts, printed_groups, sign_id, parts_of, read_string, read_name, read_sign, read_matcher, all_or_none, read_group, read_groups}
+use Rattle.promql_label.specs.ReadMatchers.{Token, Parts, printed_groups, operator_id, parts_of, read_string, read_name, read_operator, read_matcher, all_or_none, read_group, read_groups}
 
 mapped_some : {A B P : Type 0} (f : A → B) (o : Option A) (y : B) → option_map f o ≡ Some y → ((x : A) → o ≡ Some x → f x ≡ y → P) → P
 mapped_some f None y e go = absurd (cc)
@@ -27,11 +27,11 @@ images : {A X Y : Type 0} (f : A → Option Y) (h : X → Y) → ((a : A) (y : Y
 images f h each [] ys e = ([], cc)
 images f h each (a ∷ bs) ys e = let all = first_of_images f h each a bs (images f h each bs) ys e in (all.0 ∷ all.1, all.2)
 
-sign_read : (t : Token) (id : ℕ) → read_sign t ≡ Some id → (op : Operator) × (sign_id op ≡ id)
-sign_read t id = go (t.0 == T_EQL) (t.0 == T_NEQ) (t.0 == T_EQL_REGEX) (t.0 == T_NEQ_REGEX) refl refl refl refl
+operator_read : (t : Token) (id : ℕ) → read_operator t ≡ Some id → (op : Operator) × (operator_id op ≡ id)
+operator_read t id = go (t.0 == T_EQL) (t.0 == T_NEQ) (t.0 == T_EQL_REGEX) (t.0 == T_NEQ_REGEX) refl refl refl refl
   where
     go : (a b c d : Bool) → (t.0 == T_EQL) ≡ a → (t.0 == T_NEQ) ≡ b → (t.0 == T_EQL_REGEX) ≡ c → (t.0 == T_NEQ_REGEX) ≡ d
-        → cond ((a || (b || false)) || (c || (d || false))) (Some t.0) None ≡ Some id → (op : Operator) × (sign_id op ≡ id)
+        → cond ((a || (b || false)) || (c || (d || false))) (Some t.0) None ≡ Some id → (op : Operator) × (operator_id op ≡ id)
     go true b c d ha hb hc hd e = let is = eqb-true t.0 T_EQL ha in (equal, cc)
     go false true c d ha hb hc hd e = let is = eqb-true t.0 T_NEQ hb in (not_equal, cc)
     go false false true d ha hb hc hd e = let is = eqb-true t.0 T_EQL_REGEX hc in (matches [], cc)
@@ -41,10 +41,10 @@ sign_read t id = go (t.0 == T_EQL) (t.0 == T_NEQ) (t.0 == T_EQL_REGEX) (t.0 == T
 matcher_read : (ts : List Token) (p : Parts) → read_matcher ts ≡ Some p → (c : PlainMatcher) × (parts_of c ≡ p)
 matcher_read (n ∷ s ∷ v ∷ []) p e =
     option_and_then_some _ (read_name n) p e (λ name en named.
-    option_and_then_some _ (read_sign s) p named (λ sign es signed.
-    mapped_some _ (read_string v) p signed (λ value ev is.
-    let op = sign_read s sign es in
-    (plain_matcher op.0 name value, (λ i. record { sign = op.1 i; name = name; value = value }) ∙ is))))
+    option_and_then_some _ (read_operator s) p named (λ operator es some_operator.
+    mapped_some _ (read_string v) p some_operator (λ value ev is.
+    let op = operator_read s operator es in
+    (plain_matcher op.0 name value, (λ i. record { operator = op.1 i; name = name; value = value }) ∙ is))))
 matcher_read _ p e = absurd (cc)
 
 group_read : (ts : List Token) (ps : List Parts) → read_group ts ≡ Some ps → (cs : List PlainMatcher) × (map parts_of cs ≡ ps)

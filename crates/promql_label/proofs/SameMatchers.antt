@@ -14,7 +14,7 @@ use Rattle.promql_label.specs.contracts.matchers.MatchersPartialEq.TheImpl as li
 use Rattle.promql_label.specs.declared.matcher.Matcher.{Matcher}
 use Rattle.promql_label.specs.PlainMatchers.{matches, matches_not}
 use Rattle.promql_text.specs.Equalities.{HashesAlike, IsSameBy}
-use Rattle.promql_label.specs.Views.{plain_matcher_of, plain_matchers_of, operator_of}
+use Rattle.promql_label.specs.MatcherViews.{plain_matcher_of, plain_matchers_of, operator_of}
 
 pub operator_Decides : IsSameBy operator_of operators.ghosts.eq
 operator_Decides Equal Equal = ((λ _. refl), (λ _. refl))

@@ -19,8 +19,8 @@ abbrev pub IsRead : Text → Type 0
 IsRead = IsPattern default_config
 
 -- `regex` may reject the text for another cause than memory
-abbrev pub MayRefuse : Text → Type 0
-MayRefuse w = (e : Error) × (e ≢ OutOfMemory) × IsDefaultFailure w e
+abbrev pub MayReject : Text → Type 0
+MayReject w = (e : Error) × (e ≢ OutOfMemory) × IsDefaultFailure w e
 
 -- what is compiled is the text
 abbrev pub IsCompiledFrom : Text → Regex → Type 0
@@ -30,13 +30,13 @@ IsCompiledFrom w r = (regex_source r ≡ w) × (regex_config r ≡ default_confi
 abbrev pub IsReadPair : Text → Type 0
 IsReadPair u = IsRead u × IsRead (anchor u)
 
-abbrev pub MayRefusePair : Text → Type 0
-MayRefusePair u = MayRefuse u ⊎ MayRefuse (anchor u)
+abbrev pub MayRejectPair : Text → Type 0
+MayRejectPair u = MayReject u ⊎ MayReject (anchor u)
 
 -- what becomes of a form that is tried: its anchored text, or nothing
 abbrev pub IsTried : Text → Option Text → Type 0
 IsTried u (Some w) = (w ≡ anchor u) × IsReadPair u
-IsTried u None = MayRefusePair u
+IsTried u None = MayRejectPair u
 
 -- what is returned for a pattern: the built text, or that it is rejected
 pub data Answer : Type 0 where
@@ -46,8 +46,8 @@ pub data Answer : Type 0 where
 -- "Answers": `regex` allows this result for a pattern
 pub data Allows : Text → Answer → Type 0 where
   as_it_is : (v : Text) → IsReadPair v → Allows v (built (anchor v))
-  by_escaping : (v : Text) → MayRefusePair v → IsReadPair (escaped_repeats v) → Allows v (built (anchor (escaped_repeats v)))
-  neither : (v : Text) → MayRefusePair v → MayRefusePair (escaped_repeats v) → Allows v rejected
+  by_escaping : (v : Text) → MayRejectPair v → IsReadPair (escaped_repeats v) → Allows v (built (anchor (escaped_repeats v)))
+  neither : (v : Text) → MayRejectPair v → MayRejectPair (escaped_repeats v) → Allows v rejected
 
 -- "Matching by a pattern": whether `regex` finds the pattern of a built text in a text
 abbrev pub finds : Text → Text → Bool

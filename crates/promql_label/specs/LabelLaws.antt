@@ -7,9 +7,9 @@ use Rattle.promql_text.specs.Quoting.{unquoted_text}
 use Rattle.promql_text.specs.Texts.{Text}
 use Rattle.promql_token.specs.Classes.{is_label}
 
--- the place at which the text comes first in the list; the list's length if it isn't there
-abbrev pub first_place : List Text → Text → ℕ
-first_place ls l = position_or_len (bytes_eq l) ls
+-- the index at which the text comes first in the list; the list's length if it isn't there
+abbrev pub first_index : List Text → Text → ℕ
+first_index ls l = position_or_len (bytes_eq l) ls
 
 -- the label that a printed text means: a bare label is itself, and any other text is unquoted
 abbrev pub label_of : Text → Option Text

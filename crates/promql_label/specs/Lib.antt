@@ -12,4 +12,4 @@ pub mod PatternRejections
 pub mod RepeatPlaces
 pub mod Repeats
 pub mod SortedTexts
-pub mod Views
+pub mod MatcherViews

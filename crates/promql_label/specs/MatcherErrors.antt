@@ -23,9 +23,9 @@ IsFaultOf id value (errors.Pattern s) = (is_pattern_id id ≡ true) × Allows va
 pub data PlainError : Type 0 where
   memory : PlainError
   invalid_op : ℕ → PlainError
-  refused_pattern : Text → PlainError
+  rejected_pattern : Text → PlainError
 
 abbrev pub plain_error_of : MatcherError → PlainError
 plain_error_of errors.Memory = memory
 plain_error_of (errors.InvalidOp id) = invalid_op id
-plain_error_of (errors.Pattern s) = refused_pattern (string_bytes s)
+plain_error_of (errors.Pattern s) = rejected_pattern (string_bytes s)

@@ -5,7 +5,7 @@ use Rattle.std.specs.Ordering.{is_lt, is_gt, is_eq, is_ge}
 use Rattle.std.proofs.Common.{Bor}
 use Rattle.promql_label.specs.PlainMatchers.{matcher_text}
 use Rattle.promql_label.specs.SortedTexts.{text_order}
-use Rattle.promql_label.specs.Views.{plain_matcher_of}
+use Rattle.promql_label.specs.MatcherViews.{plain_matcher_of}
 use Rattle.promql_label.specs.declared.matcher.Matcher.{Matcher}
 use Rattle.promql_text.specs.Texts.{Text}
 
@@ -45,7 +45,7 @@ IsLeast last None ts = Each (λ u. is_above last u ≡ false) ts
 IsLeast last (Some t) ts =
     (is_above last t ≡ true) × (Each (λ u. is_above last u ≡ is_from t u) ts × (1 ≤ copies t ts))
 
--- the better of the best so far and t
+-- t, if it is above the last one and below the best so far, else the best so far
 abbrev pub smaller_text : Option Text → Option Text → Text → Option Text
 smaller_text last best t = if is_above last t && is_below best t then Some t else best
 

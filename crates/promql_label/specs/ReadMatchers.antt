@@ -41,19 +41,19 @@ abbrev pub printed_groups : PlainMatchers → List (List PlainMatcher)
 printed_groups (plain_matchers plain []) = sorted_matchers plain ∷ []
 printed_groups (plain_matchers plain (g ∷ groups)) = g ∷ groups
 
--- "Printed matchers": the tokens of a name, a sign and a value
+-- "Printed matchers": the tokens of a name, an operator and a value
 abbrev pub name_token : Text → Token
 name_token name = (if is_label name then T_IDENTIFIER else T_STRING, name_text name)
 
-abbrev pub sign_id : Operator → ℕ
-sign_id equal = T_EQL
-sign_id not_equal = T_NEQ
-sign_id (matches w) = T_EQL_REGEX
-sign_id (matches_not w) = T_NEQ_REGEX
+abbrev pub operator_id : Operator → ℕ
+operator_id equal = T_EQL
+operator_id not_equal = T_NEQ
+operator_id (matches w) = T_EQL_REGEX
+operator_id (matches_not w) = T_NEQ_REGEX
 
 abbrev pub matcher_tokens : PlainMatcher → List Token
 matcher_tokens (plain_matcher op name value) =
-    name_token name ∷ (sign_id op, operator_text op) ∷ (T_STRING, quoted_text value) ∷ []
+    name_token name ∷ (operator_id op, operator_text op) ∷ (T_STRING, quoted_text value) ∷ []
 
 -- "Printed lists": a comma between each two matchers
 abbrev pub group_tokens : List PlainMatcher → List Token
@@ -63,14 +63,14 @@ group_tokens = join_by matcher_tokens ((T_COMMA, codes ",") ∷ [])
 abbrev pub matchers_tokens : PlainMatchers → List Token
 matchers_tokens cs = join_by group_tokens ((T_LOR, codes "or") ∷ []) (printed_groups cs)
 
--- what a matcher prints: the id of its sign, its name and its value
+-- what a matcher prints: the id of its operator, its name and its value
 pub record Parts : Type 0 where
-  pub sign : ℕ
+  pub operator : ℕ
   pub name : Text
   pub value : Text
 
 abbrev pub parts_of : PlainMatcher → Parts
-parts_of (plain_matcher op name value) = record { sign = sign_id op; name = name; value = value }
+parts_of (plain_matcher op name value) = record { operator = operator_id op; name = name; value = value }
 
 -- a string means its text unquoted, and an identifier its text
 abbrev pub read_string : Token → Option Text
@@ -79,15 +79,15 @@ read_string t = if t.0 == T_STRING then unquoted_text t.1 else None
 abbrev pub read_name : Token → Option Text
 read_name t = if t.0 == T_IDENTIFIER then Some t.1 else read_string t
 
-abbrev pub read_sign : Token → Option ℕ
-read_sign t = if is_operator_id t.0 then Some t.0 else None
+abbrev pub read_operator : Token → Option ℕ
+read_operator t = if is_operator_id t.0 then Some t.0 else None
 
--- a matcher is a name, a sign and a string
+-- a matcher is a name, an operator and a string
 abbrev pub read_matcher : List Token → Option Parts
 read_matcher (n ∷ s ∷ v ∷ []) =
     option_and_then (λ name.
-    option_and_then (λ sign.
-    option_map (λ value. record { sign = sign; name = name; value = value }) (read_string v)) (read_sign s)) (read_name n)
+    option_and_then (λ operator.
+    option_map (λ value. record { operator = operator; name = name; value = value }) (read_string v)) (read_operator s)) (read_name n)
 read_matcher _ = None
 
 -- all values, if each is there

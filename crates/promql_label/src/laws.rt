@@ -4,7 +4,7 @@ ghost use Rattle.std.specs.Prelude.{◌≡◌, ◌≢◌, ◌↔◌, ◌<◌, �
 ghost use Rattle.std.specs.List.{list_any, AllPairs, Contains};
 ghost use Rattle.promql_text.specs.Texts.{Text};
 ghost use Rattle.promql_label.specs.Labels.{common, is_among, is_number_word, label_text, labels_of};
-ghost use Rattle.promql_label.specs.LabelLaws.{first_place, label_of};
+ghost use Rattle.promql_label.specs.LabelLaws.{first_index, label_of};
 ghost use Rattle.promql_label.specs.MatcherRows.{WorkedLists};
 ghost use Rattle.promql_label.specs.Operators.{IsMatcherOf};
 ghost use Rattle.promql_label.specs.PlainMatchers.{PlainMatcher, PlainMatchers, matcher_text, matchers_text, name_text};
@@ -16,7 +16,7 @@ ghost use Rattle.promql_token.specs.Lexing.{pieces};
 ghost use Rattle.promql_text.specs.Equalities.{HashesAlike, IsSameBy};
 ghost use Rattle.promql_label.specs.MatcherErrors.{plain_error_of};
 ghost use Rattle.promql_label.specs.PatternRejections.{rejected_value};
-ghost use Rattle.promql_label.specs.Views.{plain_matcher_of, plain_matchers_of, operator_of};
+ghost use Rattle.promql_label.specs.MatcherViews.{plain_matcher_of, plain_matchers_of, operator_of};
 
 use crate::labels::Labels;
 use crate::matcher::{MatchOp, Matcher, MatcherError};
@@ -39,14 +39,14 @@ pub fn common_labels_are_distinct()
 /// The common labels come in the order in which the first list has them first.
 pub fn common_labels_keep_their_order()
     ensures { (ls others : List Text)
-        → AllPairs (λ l k. first_place ls l < first_place ls k) (common ls others) }
+        → AllPairs (λ l k. first_index ls l < first_index ls k) (common ls others) }
 {}
 
 /// No other list has these labels in this order.
 pub fn common_labels_are_one_list()
     ensures { (ls others both : List Text)
         → ((l : Text) → Contains both l ↔ (Contains ls l × Contains others l))
-        → AllPairs (λ l k. first_place ls l < first_place ls k) both
+        → AllPairs (λ l k. first_index ls l < first_index ls k) both
         → both ≡ common ls others }
 {}
 
@@ -65,7 +65,7 @@ pub fn printed_labels_read_back()
 {}
 
 /// A printed list of matchers is read in braces, before any text, as the tokens of its matchers.
-/// These tokens mean the sign, the name and the value of each matcher, group by group, in the order
+/// These tokens mean the operator, the name and the value of each matcher, group by group, in the order
 /// in which they print; so lists that print alike have the same. Tokens mean nothing but what some
 /// list prints.
 pub fn printed_matchers_read_back()
@@ -80,7 +80,7 @@ pub fn printed_matchers_read_back()
         → map matcher_text (sorted_matchers cs) ≡ sorted_texts (map matcher_text cs) }
     ensures built { (id : ℕ) (name value : Text) (c : PlainMatcher)
         → IsMatcherOf id name value c
-        → parts_of c ≡ record { sign = id; name = name; value = value } }
+        → parts_of c ≡ record { operator = id; name = name; value = value } }
     ensures alike { (cs ds : PlainMatchers) → matchers_text cs ≡ matchers_text ds
         → map (map parts_of) (printed_groups cs) ≡ map (map parts_of) (printed_groups ds) }
     ensures worked { WorkedLists }

@@ -4,7 +4,7 @@ ghost use Rattle.std.specs.Prelude.{◌≡◌, ◌↔◌, false, true, IfOk, IfE
 ghost use Rattle.promql_label.specs.PlainMatchers.{plain_matcher, equal, holds, operator_text};
 ghost use Rattle.promql_label.specs.MatcherErrors.{IsFaultOf};
 ghost use Rattle.promql_label.specs.Operators.{IsMatcherOf, is_operator_id, is_text_id};
-ghost use Rattle.promql_label.specs.Views.{plain_matcher_of, operator_of};
+ghost use Rattle.promql_label.specs.MatcherViews.{plain_matcher_of, operator_of};
 
 use crate::METRIC_NAME;
 use crate::pattern::{Pattern, PatternFault};
@@ -57,7 +57,7 @@ impl MatchOp {
 impl fmt::Display for MatchOp {
     ghost use Rattle.std.specs.Prelude.{Some};
     ghost use Rattle.promql_label.specs.PlainMatchers.{operator_text};
-    ghost use Rattle.promql_label.specs.Views.{operator_of};
+    ghost use Rattle.promql_label.specs.MatcherViews.{operator_of};
 
     ghost output = { λ op. Some (operator_text (operator_of op)) };
 
@@ -154,7 +154,7 @@ impl Matcher {
 impl fmt::Display for Matcher {
     ghost use Rattle.std.specs.Prelude.{Some};
     ghost use Rattle.promql_label.specs.PlainMatchers.{matcher_text};
-    ghost use Rattle.promql_label.specs.Views.{plain_matcher_of};
+    ghost use Rattle.promql_label.specs.MatcherViews.{plain_matcher_of};
 
     ghost output = { λ m. Some (matcher_text (plain_matcher_of m)) };
 

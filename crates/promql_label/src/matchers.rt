@@ -4,8 +4,8 @@ ghost use Rattle.std.specs.Prelude.{◌≡◌, ◌≤◌, [], ◌∷◌, ◌++�
 ghost use Rattle.std.specs.Fmt.{WritesOnOk};
 ghost use Rattle.std.specs.List.{list_all};
 ghost use Rattle.promql_label.specs.PlainMatchers.{all_match_empty, append_plain, appended_or, plain_matchers, find_plain, found_value, group_text, holds, is_of, value_of};
+ghost use Rattle.promql_label.specs.MatcherViews.{plain_matcher_of, plain_matchers_of};
 ghost use Rattle.promql_label.specs.ReadMatchers.{normal_matchers};
-ghost use Rattle.promql_label.specs.Views.{plain_matcher_of, plain_matchers_of};
 ghost use Rattle.promql_text.specs.Texts.{joined_text};
 
 use crate::matcher::Matcher;

@@ -4,7 +4,7 @@ ghost use Rattle.std.specs.Prelude.{◌≡◌, true, false, IfOk, IfErr, IfSome,
 ghost use Rattle.regex.specs.Patterns.{default_config};
 ghost use Rattle.regex.specs.Strings.{regex_config, regex_source, IsReadFromSource};
 ghost use Rattle.promql_label.specs.PatternRejections.{IsRejected};
-ghost use Rattle.promql_label.specs.Answers.{Allows, built, finds, IsCompiledFrom, IsRead, IsTried, MayRefuse, MayRefusePair, rejected};
+ghost use Rattle.promql_label.specs.Answers.{Allows, built, finds, IsCompiledFrom, IsRead, IsTried, MayReject, MayRejectPair, rejected};
 
 use crate::repeats::escape_repeats;
 use regex::Regex;
@@ -61,7 +61,7 @@ impl From<AllocError> for PatternFault {
 /// memory ran out.
 fn compile(alloc: Global, text: &str) -> Result<Option<Regex>, AllocError>
     ensures read { IfOk result (λ o. IfSome o (IsCompiledFrom text.now)) }
-    ensures rejected { IfOk result (λ o. IfNone o (MayRefuse text.now)) }
+    ensures rejected { IfOk result (λ o. IfNone o (MayReject text.now)) }
 {
     match Regex::new(alloc, text) {
         Ok(regex) => Ok(Some(regex)),
@@ -73,7 +73,7 @@ fn compile(alloc: Global, text: &str) -> Result<Option<Regex>, AllocError>
 /// Whether the grammar of `regex` reads a text.
 fn is_read(alloc: Global, text: &str) -> Result<bool, AllocError>
     ensures read { IfOk result (λ is_read. is_read ≡ true → IsRead text.now) }
-    ensures rejected { IfOk result (λ is_read. is_read ≡ false → MayRefuse text.now) }
+    ensures rejected { IfOk result (λ is_read. is_read ≡ false → MayReject text.now) }
 {
     match regex_syntax::parse(alloc, text, &Config::default()) {
         Ok(_parsed) => Ok(true),
@@ -125,7 +125,7 @@ impl Pattern {
     /// `Refused` with the text, where `regex` rejects it; `Memory` if an allocation fails.
     pub fn of_text(alloc: Global, text: &str) -> Result<Pattern, PatternFault>
         ensures built { IfOk result (λ p. (p ≡ text.now) × IsRead text.now) }
-        ensures rejected { IfErr result (IsRejected text.now (MayRefuse text.now)) }
+        ensures rejected { IfErr result (IsRejected text.now (MayReject text.now)) }
     {
         match compile(alloc, text)? {
             Some(regex) => Ok(Pattern::new(alloc, regex)?),
@@ -135,7 +135,7 @@ impl Pattern {
 
     /// The pattern of a value whose own form is rejected.
     fn read_escaped(alloc: Global, value: &str) -> Result<Pattern, PatternFault>
-        requires { MayRefusePair value.now }
+        requires { MayRejectPair value.now }
         ensures built { IfOk result (λ p. Allows value.now (built p)) }
         ensures rejected { IfErr result (IsRejected value.now (Allows value.now rejected)) }
     {

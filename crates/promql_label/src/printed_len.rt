@@ -4,7 +4,7 @@
 ghost use Rattle.std.specs.Prelude.{◌≡◌, codes, map};
 ghost use Rattle.promql_label.specs.Labels.{label_text, labels_of, labels_text};
 ghost use Rattle.promql_label.specs.PlainMatchers.{group_text, matcher_text, matchers_text, name_text};
-ghost use Rattle.promql_label.specs.Views.{plain_matcher_of, plain_matchers_of};
+ghost use Rattle.promql_label.specs.MatcherViews.{plain_matcher_of, plain_matchers_of};
 ghost use Rattle.promql_text.specs.Texts.{joined_text};
 ghost use Rattle.promql_text.specs.PrintedLen.{printed_len};
 

@@ -1,6 +1,6 @@
 //! Repetitions in a pattern: docs/reference/matchers.md, "Repetitions".
 
-ghost use Rattle.std.specs.Prelude.{◌≡◌, ◌≤◌, IfOk, length, slice_index, string_bytes, take_while};
+ghost use Rattle.std.specs.Prelude.{◌≡◌, IfOk, length, string_bytes, take_while};
 ghost use Rattle.std.specs.Char.{is_ascii_digit};
 ghost use Rattle.promql_label.specs.Repeats.{after_digits, escaped_repeats, is_literal_brace, opens_count};
 

@@ -1,12 +1,12 @@
 pub mod Batches
-pub mod Extensions
-pub mod Forms
+pub mod NoExtensions
+pub mod JsonForms
 pub mod Indentations
 pub mod KnownBytes
 pub mod LineAnswers
 pub mod LinesRead
 pub mod MemoryAnswer
-pub mod Refusals
-pub mod Requests
-pub mod SameErrors
+pub mod Rejections
+pub mod RequestMembers
+pub mod SameRunErrors
 pub mod Statuses

@@ -7,7 +7,7 @@ use Rattle.serde_json.specs.Data.{Data, string, number, unsigned, object, no_mem
 use Rattle.serde_json.specs.Read.{read}
 use Rattle.serde_json.specs.Written.{compact_text}
 use Rattle.promql_text.specs.Texts.{Text}
-use Rattle.promql_ast.specs.Layout.{laid}
+use Rattle.promql_ast.specs.Layout.{layout_of}
 use Rattle.promql_ast.specs.Text as one_line
 use Rattle.promql_ast.specs.Tree.{Tree}
 use Rattle.promql_syntax.specs.ParseAnswers.{IsAnswerTo, plain_error_of}
@@ -29,7 +29,7 @@ use Rattle.promql_run.specs.Running.{error_number}
 
 -- "Answers": the value of a tree in a format, or why it has none
 abbrev pub format_value : Format → Tree → Result Data JsonError
-format_value (Pretty layout) t = Ok (string (laid t layout.level layout.width))
+format_value (Pretty layout) t = Ok (string (layout_of t layout.level layout.width))
 format_value Line t = Ok (string (one_line.text t))
 format_value Json t = json t
 

@@ -5,4 +5,4 @@ pub mod Extensions
 pub mod Requests
 pub mod Running
 pub mod StepErrors
-pub mod Arguments
+pub mod ProgramArguments

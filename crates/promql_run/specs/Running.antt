@@ -6,7 +6,7 @@ use Rattle.promql_syntax.specs.declared.parser.ParseError.{ParseError}
 use Rattle.promql_syntax.specs.declared.parser.ParseError.TheVariants as parse_errors
 use Rattle.promql_text.specs.Texts.{Text}
 use Rattle.promql_grammar.specs.Results.{on_result}
-use Rattle.promql_ast.specs.Layout.{laid}
+use Rattle.promql_ast.specs.Layout.{layout_of}
 use Rattle.promql_ast.specs.Text as one_line
 use Rattle.promql_ast.specs.Tree.{Tree}
 use Rattle.promql_syntax.specs.ParseAnswers.{IsAnswerTo, PlainParseError, plain_error_of}
@@ -28,7 +28,7 @@ mode_named name =
 
 -- "Modes": the text of a tree in a mode, or why it has none
 abbrev pub mode_text : Mode → Tree → Result Text JsonError
-mode_text Pretty t = Ok (laid t 0 100)
+mode_text Pretty t = Ok (layout_of t 0 100)
 mode_text Line t = Ok (one_line.text t)
 mode_text Json t = on_result compact_text (json t)
 
@@ -52,7 +52,7 @@ pub record HasRead (old new : Option (List ℕ)) (input : List ℕ) : Type 0 whe
 
 -- this is what the mode makes of the tree, and a line feed
 abbrev pub IsModeLine : Mode → Tree → Text → Type 0
-IsModeLine mode tree printed = (shown : Text) × (mode_text mode tree ≡ Ok shown) × (printed ≡ shown ++ 10 ∷ [])
+IsModeLine mode tree printed = (body : Text) × (mode_text mode tree ≡ Ok body) × (printed ≡ body ++ 10 ∷ [])
 
 -- this is what the mode makes of the text's tree, and a line feed
 pub record IsPrinted (mode : Mode) (text printed : Text) : Type 0 where

@@ -1,8 +1,8 @@
 //! The program for batches, as a function of its arguments, its input and its two outputs.
 
-ghost use Rattle.std.specs.Prelude.{◌≡◌, ◌≢◌, ◌⊎◌, ◌↔◌, false, true, Some, None, map, string_bytes};
+ghost use Rattle.std.specs.Prelude.{◌≡◌, ◌⊎◌, ◌↔◌, false, true, Some, None, map, string_bytes};
 ghost use Rattle.std.specs.Io.KnownBytes.{Appends};
-ghost use Rattle.promql_run.specs.Arguments.{batch_command};
+ghost use Rattle.promql_run.specs.ProgramArguments.{batch_command};
 ghost use Rattle.promql_run.specs.Batch.{AnswersBefore, AnswersLines, IsCutShort};
 ghost use Rattle.promql_run.specs.declared.batch_program.Command as commands;
 ghost use Rattle.promql_run.specs.declared.run.Mode as modes;
@@ -51,7 +51,7 @@ fn command_of(args: &[String]) -> Option<Command>
 {
     match args {
         [_, word] if word.as_str() == "--help" => Some(Command::Help),
-        [_, word] => Some(Command::Batch(Mode::named(word.as_str())?)),
+        [_, word] => Some(Command::Batch(Mode::from_name(word.as_str())?)),
         _ => None,
     }
 }

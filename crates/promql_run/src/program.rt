@@ -3,7 +3,7 @@
 ghost use Rattle.std.specs.Prelude.{◌≡◌, ◌≢◌, ◌≤◌, ◌↔◌, false, true, Some, None, map, string_bytes};
 ghost use Rattle.std.specs.Io.KnownBytes.{Appends};
 ghost use Rattle.promql_syntax.specs.declared.parser.ParseError.{ParseError};
-ghost use Rattle.promql_run.specs.Arguments.{asked_mode};
+ghost use Rattle.promql_run.specs.ProgramArguments.{asked_mode};
 ghost use Rattle.promql_run.specs.declared.run.Mode as modes;
 ghost use Rattle.promql_run.specs.Running.{Prints, BeginsToPrint, IsNotUtf8, IsRejected, IsTooWide};
 
@@ -34,7 +34,7 @@ fn mode_of(args: &[String]) -> Option<Mode>
     ensures { result ≡ asked_mode (map string_bytes args.now) }
 {
     match args {
-        [_, word] => Mode::named(word.as_str()),
+        [_, word] => Mode::from_name(word.as_str()),
         _ => None,
     }
 }

@@ -1,10 +1,10 @@
 //! What is made of an expression: its text in a mode, its JSON value in a format.
 
-ghost use Rattle.std.specs.Prelude.{◌≡◌, ◌≢◌, ◌≤◌, Ok, Err, IfOk, IfErr, IsErrOf, false, string_bytes};
+ghost use Rattle.std.specs.Prelude.{◌≡◌, ◌≤◌, Ok, Err, IfOk, IfErr, IsErrOf, false, string_bytes};
 ghost use Rattle.serde_json.specs.View.{view};
 ghost use Rattle.serde_json.specs.Written.{has_float};
 ghost use Rattle.promql_ast.specs.Height.{height};
-ghost use Rattle.promql_ast.specs.Layout.{laid};
+ghost use Rattle.promql_ast.specs.Layout.{layout_of};
 ghost use Rattle.promql_ast.specs.View.{tree_of};
 ghost use Rattle.promql_syntax.specs.declared.parser.TheConstants.{MAX_DEPTH};
 ghost use Rattle.promql_walk.specs.Json as walk;
@@ -27,7 +27,7 @@ const PRETTY_WIDTH: usize = 100;
 /// The expression, laid out. An expression that was read is low enough for each indentation.
 fn pretty_text(alloc: Global, level: u16, width: usize, expr: &Expr) -> Result<String, AllocError>
     requires { height (tree_of expr.now) ≤ MAX_DEPTH }
-    ensures { IfOk result (λ s. string_bytes s ≡ laid (tree_of expr.now) level width) }
+    ensures { IfOk result (λ s. string_bytes s ≡ layout_of (tree_of expr.now) level width) }
 {
     match expr.pretty(alloc, level as usize, width) {
         Ok(text) => Ok(text),

@@ -47,7 +47,7 @@ fn mode_in(asked: Mode, member: Option<&Value>) -> Option<Mode>
     ensures { result ≡ spec.mode_in asked (option_map (λ v. view v.now) member.entry) }
 {
     match member {
-        Some(word) => Mode::named(word.as_str()?),
+        Some(word) => Mode::from_name(word.as_str()?),
         None => Some(asked),
     }
 }

@@ -28,7 +28,7 @@ pub enum Mode {
 
 impl Mode {
     /// The mode of this name; `None` for any other word.
-    pub fn named(name: &str) -> Option<Mode>
+    pub fn from_name(name: &str) -> Option<Mode>
         ensures { result ≡ mode_named name.now }
     {
         match name {

@@ -278,9 +278,9 @@ module _ (text : Text) (list : List Token) (is : tokens text ≡ Ok list) (some 
 -- ---- answers to any text
 
 -- an error of parsing, where the text has tokens and no lexical fault
-pub refused_answer : (text : Text) (e : ParseError) → ((list : List Token) → tokens text ≡ Ok list → 0 < length list → IsAnswerTo text (Err (plain_error_of e)))
+pub rejection_answer : (text : Text) (e : ParseError) → ((list : List Token) → tokens text ≡ Ok list → 0 < length list → IsAnswerTo text (Err (plain_error_of e)))
     → IsAnswerTo text (Err (plain_error_of (first_error (has_any (tokens text)) e)))
-refused_answer text e listed = by_tokens (tokens text) refl
+rejection_answer text e listed = by_tokens (tokens text) refl
   where
     by_tokens : (r : Result (List Token) LexFault) → tokens text ≡ r → IsAnswerTo text (Err (plain_error_of (first_error (has_any r) e)))
     by_tokens (Ok []) is = empty_answer text is

@@ -11,7 +11,7 @@ use Rattle.promql_grammar.specs.Symbols.{Symbol, punct, may_be_name}
 use Rattle.promql_grammar.specs.Grammar as grammar
 use Rattle.promql_grammar.specs.GrammarParts.{Braces}
 use Rattle.promql_grammar.specs.Parsing.{parse_optional_braces, parse_braces, parse_selector, parse_postfixes}
-use Rattle.promql_label.specs.Views.{plain_matchers_of}
+use Rattle.promql_label.specs.MatcherViews.{plain_matchers_of}
 use Rattle.promql_label.specs.declared.matchers.Matchers.{Matchers}
 use Rattle.promql_syntax.specs.declared.grammar.build_error.BuildError as code
 use Rattle.promql_syntax.specs.declared.grammar.parsed.ParsedExpr.{ParsedExpr}

@@ -4,7 +4,7 @@ use Rattle.std.specs.Prelude.{Ok, option_map}
 use Rattle.std.specs.Int.{is_negative}
 use Rattle.promql_text.specs.Texts.{Text}
 use Rattle.promql_grammar.specs.Grammar as grammar
-use Rattle.promql_grammar.specs.Grammar.{Derivation, Arguments, IsWellFormed, AreWellFormed, IsBase, FitsUnary, height, greatest_height, openness, added_height, precedence}
+use Rattle.promql_grammar.specs.Grammar.{Derivation, Arguments, IsWellFormed, AreWellFormed, IsBase, height, greatest_height, openness, added_height, precedence}
 use Rattle.promql_grammar.specs.GrammarParts as part
 use Rattle.promql_grammar.specs.Parsing.{right_precedence}
 use Rattle.promql_grammar.proofs.Precedences.{Root, band, Band, root_base}

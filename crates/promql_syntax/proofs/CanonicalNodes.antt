@@ -16,7 +16,7 @@ use Rattle.promql_token.specs.declared.ids.TheConstants.{T_SUB}
 use Rattle.promql_grammar.specs.declared.token_kinds.TokenKind.{TokenKind}
 use Rattle.promql_grammar.specs.declared.token_kinds.TokenKind.TheVariants as kind
 use Rattle.promql_grammar.specs.Grammar as grammar
-use Rattle.promql_grammar.specs.Grammar.{Derivation, Arguments, IsWellFormed, AreWellFormed, IsBase, FitsUnary, height, greatest_height, openness, precedence, yield}
+use Rattle.promql_grammar.specs.Grammar.{Derivation, Arguments, IsWellFormed, IsBase, FitsUnary, height, openness, yield}
 use Rattle.promql_grammar.specs.GrammarParts as part
 use Rattle.promql_grammar.specs.Parsing.{right_precedence}
 use Rattle.promql_grammar.specs.Symbols.{token_kind, may_be_called, may_be_name}
@@ -30,12 +30,12 @@ use Rattle.promql_ast.specs.Builds.{aggregate_args, minus}
 use Rattle.promql_ast.specs.Checked.{check_tree}
 use Rattle.promql_ast.specs.Checks.{unless}
 use Rattle.promql_ast.specs.Faults as build_errors
-use Rattle.promql_ast.specs.Faults.{Verdict, passes, rejected}
+use Rattle.promql_ast.specs.Faults.{Verdict, passes}
 use Rattle.promql_ast.specs.Normal.{normal, all_normal, maybe_normal, normal_clause, normal_matchers}
 use Rattle.promql_ast.specs.Selectors.{selector}
 use Rattle.promql_ast.specs.Tree.{Tree, aggregate, unary, binary, paren, subquery, number, string, vector, matrix, call, MaybeTree, absent, present, Trees, no_trees, first_tree}
-use Rattle.promql_ast.specs.check.Binary.{checked_binary, settle_matching}
-use Rattle.promql_ast.specs.check.Vector.{name_fault}
+use Rattle.promql_ast.specs.check.BinaryChecks.{checked_binary, settle_matching}
+use Rattle.promql_ast.specs.check.VectorChecks.{name_fault}
 use Rattle.promql_ast.specs.declared.range_mode.RangeMode.TheVariants.{Plain}
 use Rattle.promql_syntax.specs.Asking.{under}
 use Rattle.promql_syntax.specs.Building.{build, build_all, build_call, selector_tree}
@@ -48,7 +48,7 @@ use Rattle.promql_syntax.proofs.Booleans.{not_true}
 use Rattle.promql_syntax.proofs.LexedWords.{is_fill_word}
 use Rattle.promql_syntax.proofs.Printable.{IsSelecting}
 use Rattle.promql_syntax.proofs.PrintedMatcherLists.{AreAnyMatchers, AreMatchers, any_matchers, braces_again, braces_formed, named_again}
-use Rattle.promql_syntax.proofs.PrintedModifiers.{Checked, IsMatched, IsWritten, checked_again, fits_printed, modifier_again, modifier_formed, read_alike, normal_modifier, settled_matched, settles, set_has_no_group}
+use Rattle.promql_syntax.proofs.PrintedModifiers.{PassesChecks, IsMatched, IsWritten, checked_again, fits_printed, modifier_again, modifier_formed, read_alike, normal_modifier, settled_matched, settles, set_has_no_group}
 use Rattle.promql_syntax.proofs.PrintedTimesAndLabels.{IsStep, IsTime, below_zero, number_again, step_again, string_again, time_again}
 use Rattle.promql_syntax.proofs.PrintedWords.{clause_again, clause_formed}
 use Rattle.promql_syntax.proofs.SingleAnswers.{giving_leads, known_leads, pass_checks, passes_passing}
@@ -234,7 +234,7 @@ module _ (g : Text → Answer) where
   -- ---- binary expressions
 
   pub keeps_binary : (op : ℕ) (text : Text) (w : part.Modifier) (a b : Derivation) (l r : Tree) (m : Option Matching) (t : Tree)
-      → Keeps g a l → Keeps g b r → IsWellFormed (grammar.binary op text w a b) → token_kind op ≡ kind.Operator op → IsMatched m → IsWritten m → Checked op l r m t → Keeps g (grammar.binary op text w a b) (binary op l r (settle_matching op m))
+      → Keeps g a l → Keeps g b r → IsWellFormed (grammar.binary op text w a b) → token_kind op ≡ kind.Operator op → IsMatched m → IsWritten m → PassesChecks op l r m t → Keeps g (grammar.binary op text w a b) (binary op l r (settle_matching op m))
   keeps_binary op text w a b l r m t ca cb h known matched written c = record {
     formed = (ca.formed, cb.formed, modifier_formed (settle_matching op m), omega (arith, h.3, ca.wide), right_root op (derive r) (cb.root (right_precedence op) (right_low op) (root_right op b h.4)), fits_printed (settle_matching op m) (yield (derive r)));
     wide = omega (arith, cb.wide);

@@ -7,7 +7,7 @@ use Rattle.promql_grammar.specs.Grammar.{Derivation, yield}
 use Rattle.promql_grammar.specs.Symbols.{Symbol}
 use Rattle.promql_grammar.proofs.Unique.{one_derivation}
 use Rattle.promql_label.specs.Answers.{Answer}
-use Rattle.promql_ast.specs.Layout.{laid}
+use Rattle.promql_ast.specs.Layout.{layout_of}
 use Rattle.promql_ast.specs.Normal.{normal}
 use Rattle.promql_ast.specs.Text.{text}
 use Rattle.promql_ast.specs.Tree.{Tree}
@@ -77,10 +77,10 @@ module _ (g : Text → Answer) where
 
   -- ---- over several lines
 
-  pub laid_reads_back : (source : Text) (t : Tree) → HasTree g source t → (level most : ℕ) → HasTree g (laid t level most) (normal t)
+  pub laid_reads_back : (source : Text) (t : Tree) → HasTree g source t → (level most : ℕ) → HasTree g (layout_of t level most) (normal t)
   laid_reads_back source t h level most =
       let k = keeps_of source t h in
-      has_normal source t (laid t level most) h
+      has_normal source t (layout_of t level most) h
       (subst (λ z. Derives z (derive t)) (lines_bytes g t level most k.printable)
       (items_derive (lines (derive t) level most) (derive t) ((tree_lexed g t k.printable).many 0 level most) (lines_tokens (derive t) level most) k.formed))
 

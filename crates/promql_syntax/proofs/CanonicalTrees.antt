@@ -7,7 +7,7 @@ use Rattle.promql_text.proofs.OneForm.{negated_in_form}
 use Rattle.promql_token.specs.declared.ids.TheConstants.{T_SUB}
 use Rattle.promql_grammar.specs.declared.token_kinds.TokenKind.{TokenKind}
 use Rattle.promql_grammar.specs.Grammar as grammar
-use Rattle.promql_grammar.specs.Grammar.{Derivation, Arguments, IsWellFormed, AreWellFormed, IsBase, FitsUnary, height}
+use Rattle.promql_grammar.specs.Grammar.{Derivation, Arguments, IsWellFormed, AreWellFormed, IsBase, FitsUnary}
 use Rattle.promql_grammar.specs.GrammarParts as part
 use Rattle.promql_grammar.specs.Symbols.{may_be_called, may_be_name}
 use Rattle.promql_label.specs.Answers.{Answer}
@@ -19,7 +19,7 @@ use Rattle.promql_ast.specs.Faults.{passes}
 use Rattle.promql_ast.specs.Normal.{normal, maybe_normal, normal_clause}
 use Rattle.promql_ast.specs.Selectors.{selector}
 use Rattle.promql_ast.specs.Tree.{Tree, aggregate, unary, binary, paren, subquery, number, string, vector, matrix, call, Trees, first_tree}
-use Rattle.promql_ast.specs.check.Binary.{checked_binary}
+use Rattle.promql_ast.specs.check.BinaryChecks.{checked_binary}
 use Rattle.promql_syntax.specs.Asking.{gives, ◌giving◌, known, under}
 use Rattle.promql_syntax.specs.Building.{bound_moment, build, build_all, build_call, from_verdict, from_checked_verdict, range_mode, selector_tree, build_postfix, build_unary}
 use Rattle.promql_syntax.proofs.Derive.{AllHaveWords, HasWords, IsName, IsUnsigned}

@@ -12,12 +12,12 @@ use Rattle.promql_ast.specs.Builds.{aggregate_args, aggregated_alone, aggregated
 use Rattle.promql_ast.specs.Checked.{check_tree}
 use Rattle.promql_ast.specs.Checks.{first_fault, is_scalar_or_vector, is_vector, type_fault, unless, when}
 use Rattle.promql_ast.specs.Faults as build_errors
-use Rattle.promql_ast.specs.Faults.{Fault, Verdict, passes, rejected, type_expected, in_call}
+use Rattle.promql_ast.specs.Faults.{Fault, Verdict, passes, type_expected, in_call}
 use Rattle.promql_ast.specs.Normal.{normal, maybe_normal, all_normal}
 use Rattle.promql_ast.specs.Tree.{Tree, aggregate, unary, binary, paren, subquery, number, string, vector, matrix, call, extension, MaybeTree, absent, present, Trees, no_trees, first_tree}
 use Rattle.promql_ast.specs.Types.{type_of}
-use Rattle.promql_ast.specs.check.Aggregate.{aggregate_fault, maybe_type, param_fault, param_type}
-use Rattle.promql_ast.specs.check.Call.{arity_fault, first_scalar, is_exempt_number, types_fault, typing_fault}
+use Rattle.promql_ast.specs.check.AggregateChecks.{aggregate_fault, maybe_type, param_fault, param_type}
+use Rattle.promql_ast.specs.check.CallChecks.{arity_fault, first_scalar, is_exempt_number, types_fault, typing_fault}
 use Rattle.promql_ast.specs.node.Binary.{binary_type}
 
 -- ---- types

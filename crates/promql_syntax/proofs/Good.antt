@@ -11,7 +11,7 @@ use Rattle.promql_ast.specs.Builds.{negate_tree, minus, with_range, at_given, of
 use Rattle.promql_token.specs.Ids.{is_aggregator_with_param}
 use Rattle.promql_ast.specs.Checked.{check_tree}
 use Rattle.promql_ast.specs.Checks.{unless}
-use Rattle.promql_ast.specs.check.Binary.{label_fault, operator_fault, set_fault, settle_matching, side_fault}
+use Rattle.promql_ast.specs.check.BinaryChecks.{label_fault, operator_fault, set_fault, settle_matching, side_fault}
 use Rattle.promql_ast.specs.Types.{type_of}
 use Rattle.promql_ast.specs.Faults as build_errors
 use Rattle.promql_ast.specs.Faults.{Verdict, passes, rejected}

@@ -7,13 +7,13 @@ use Rattle.promql_text.specs.Texts.{Text}
 use Rattle.promql_token.specs.Classes.{is_in, is_label}
 use Rattle.promql_token.specs.Lexing.{pieces}
 use Rattle.promql_token.specs.TokenScanning as scan
-use Rattle.promql_token.specs.TokenScanning.{after, braces_id, in_braces, outside}
+use Rattle.promql_token.specs.TokenScanning.{after, in_braces, outside}
 use Rattle.promql_token.specs.declared.class.Class.TheVariants as class
 use Rattle.promql_token.specs.declared.ids.TheConstants.{T_IDENTIFIER, T_LOR, T_STRING}
 use Rattle.promql_token.specs.declared.state.Mode.TheVariants as mode
 use Rattle.promql_token.specs.declared.state.State.{State}
 use Rattle.promql_token.proofs.Concatenation.{joins, joins_name}
-use Rattle.promql_token.proofs.PrintedValues.{joins_quoted}
+use Rattle.promql_token.proofs.ValueTokens.{joins_quoted}
 use Rattle.promql_token.proofs.Steps.{pieces_run}
 use Rattle.promql_grammar.specs.declared.token_kinds.TokenKind.TheVariants as kind
 use Rattle.promql_grammar.specs.GrammarParts as part
@@ -35,7 +35,7 @@ blank_inside depth c is more r = let m = more r in (m.0, m.1, pieces_run (inside
 -- ---- operators of matchers
 
 brace_reads : (depth : ℕ) (r : Text) → Reads (at_depth depth) (inside depth) (punct kind.LeftBrace) r
-unfolding scan.scan_token outside scan.sign after
+unfolding scan.scan_token outside scan.punctuator after
 brace_reads depth r = record { id = 9; is = refl; reads = joins (at_depth depth) (123 ∷ []) r 9 (omega arith) refl refl }
 
 unbrace_reads : (depth : ℕ) (r : Text) → Reads (inside depth) (at_depth depth) (punct kind.RightBrace) r
@@ -47,12 +47,12 @@ unfolding scan.scan_token in_braces after
 comma_inside depth r = record { id = 3; is = refl; reads = joins (inside depth) (44 ∷ []) r 3 (omega arith) refl refl }
 
 -- the operator of a matcher, before a quote
-match_sign_reads : (depth : ℕ) (op : Operator) (r : Text) → Reads (inside depth) (inside depth) (part.yield_match_sign (match_operator op)) (34 ∷ r)
+match_operator_reads : (depth : ℕ) (op : Operator) (r : Text) → Reads (inside depth) (inside depth) (part.yield_match_operator (match_operator op)) (34 ∷ r)
 unfolding scan.scan_token in_braces after
-match_sign_reads depth equal r = record { id = 0; is = refl; reads = joins (inside depth) (61 ∷ []) (34 ∷ r) 0 (omega arith) refl refl }
-match_sign_reads depth not_equal r = record { id = 37; is = refl; reads = joins (inside depth) (33 ∷ 61 ∷ []) (34 ∷ r) 37 (omega arith) refl refl }
-match_sign_reads depth (matches w) r = record { id = 27; is = refl; reads = joins (inside depth) (61 ∷ 126 ∷ []) (34 ∷ r) 27 (omega arith) refl refl }
-match_sign_reads depth (matches_not w) r = record { id = 38; is = refl; reads = joins (inside depth) (33 ∷ 126 ∷ []) (34 ∷ r) 38 (omega arith) refl refl }
+match_operator_reads depth equal r = record { id = 0; is = refl; reads = joins (inside depth) (61 ∷ []) (34 ∷ r) 0 (omega arith) refl refl }
+match_operator_reads depth not_equal r = record { id = 37; is = refl; reads = joins (inside depth) (33 ∷ 61 ∷ []) (34 ∷ r) 37 (omega arith) refl refl }
+match_operator_reads depth (matches w) r = record { id = 27; is = refl; reads = joins (inside depth) (61 ∷ 126 ∷ []) (34 ∷ r) 27 (omega arith) refl refl }
+match_operator_reads depth (matches_not w) r = record { id = 38; is = refl; reads = joins (inside depth) (33 ∷ 126 ∷ []) (34 ∷ r) 38 (omega arith) refl refl }
 
 -- ---- matchers
 
@@ -82,18 +82,18 @@ matcher_name_reads depth name r stop apart = go (is_label name) refl
     go false label = quoted_inside depth name r
 
 -- the operator of a matcher ends its name
-before_sign : (depth : ℕ) (name : Text) (op : Operator) (is : List Item) (r : Text) → Reads (inside depth) (inside depth) (word (matcher_kind name) (name_text name)) (render (token (part.yield_match_sign (match_operator op)) ∷ is) ++ r)
-before_sign depth name equal is r = matcher_name_reads depth name _ refl refl
-before_sign depth name not_equal is r = matcher_name_reads depth name _ refl refl
-before_sign depth name (matches w) is r = matcher_name_reads depth name _ refl refl
-before_sign depth name (matches_not w) is r = matcher_name_reads depth name _ refl refl
+before_operator : (depth : ℕ) (name : Text) (op : Operator) (is : List Item) (r : Text) → Reads (inside depth) (inside depth) (word (matcher_kind name) (name_text name)) (render (token (part.yield_match_operator (match_operator op)) ∷ is) ++ r)
+before_operator depth name equal is r = matcher_name_reads depth name _ refl refl
+before_operator depth name not_equal is r = matcher_name_reads depth name _ refl refl
+before_operator depth name (matches w) is r = matcher_name_reads depth name _ refl refl
+before_operator depth name (matches_not w) is r = matcher_name_reads depth name _ refl refl
 
 item_lex : (depth : ℕ) (c : PlainMatcher) → Lexes (inside depth) (inside depth) (item_line (item c))
 item_lex depth (plain_matcher op name value) =
     let i = inside depth in
     let last = token (word kind.String (quoted_text value)) ∷ [] in
-    token_then i i i (word (matcher_kind name) (name_text name)) (token (part.yield_match_sign (match_operator op)) ∷ last) (λ r. before_sign depth name op last r)
-    (token_then i i i (part.yield_match_sign (match_operator op)) last (λ r. match_sign_reads depth op _)
+    token_then i i i (word (matcher_kind name) (name_text name)) (token (part.yield_match_operator (match_operator op)) ∷ last) (λ r. before_operator depth name op last r)
+    (token_then i i i (part.yield_match_operator (match_operator op)) last (λ r. match_operator_reads depth op _)
     (token_then i i i (word kind.String (quoted_text value)) [] (λ r. quoted_inside depth value r) (nothing i)))
 
 -- ---- separators

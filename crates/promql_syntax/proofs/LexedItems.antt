@@ -16,7 +16,7 @@ use Rattle.promql_grammar.specs.declared.token_kinds.TokenKind.TheVariants as ki
 use Rattle.promql_grammar.specs.Symbols.{Symbol, punct, symbol, symbol_of, word}
 use Rattle.promql_syntax.proofs.Lexes.{Lexes, LexesBefore, at_depth}
 use Rattle.promql_syntax.proofs.PrintedItems.{Item, token, blank, newline, render, spell}
-use Rattle.promql_syntax.proofs.LexedSigns.{close_lex, comma_lex, open_lex}
+use Rattle.promql_syntax.proofs.LexedPunctuators.{close_lex, comma_lex, open_lex}
 use Rattle.promql_syntax.proofs.PrintedBytes.{render_append}
 use Rattle.promql_syntax.proofs.PrintedExprTokens.{strip_append}
 

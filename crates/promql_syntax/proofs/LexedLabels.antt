@@ -11,7 +11,7 @@ use Rattle.promql_token.specs.Laws.{is_word}
 use Rattle.promql_token.specs.TokenScanning.{after, opens, word_id}
 use Rattle.promql_token.specs.declared.class.Class.TheVariants as class
 use Rattle.promql_token.specs.declared.ids.TheConstants.{T_STRING}
-use Rattle.promql_token.proofs.PrintedValues.{joins_quoted}
+use Rattle.promql_token.proofs.ValueTokens.{joins_quoted}
 use Rattle.promql_grammar.specs.declared.token_kinds.TokenKind.{TokenKind}
 use Rattle.promql_grammar.specs.declared.token_kinds.TokenKind.TheVariants as kind
 use Rattle.promql_grammar.specs.Symbols.{punct, symbol, symbol_of, word}

@@ -51,7 +51,7 @@ unfolding keyword_in_any_case
 end_id r = refl
 
 at_reads : (depth : ℕ) (r : Text) → Reads (at_depth depth) (at_depth depth) (punct kind.At) r
-unfolding scan.scan_token outside scan.sign after
+unfolding scan.scan_token outside scan.punctuator after
 at_reads depth r = record { id = 41; is = refl; reads = joins (at_depth depth) (64 ∷ []) r 41 (omega arith) refl refl }
 
 at_then : (test : Text → Bool) (depth : ℕ) (is : List Item) → LexesBefore test (at_depth depth) (at_depth depth) is → LexesBefore test (at_depth depth) (at_depth depth) (blank ∷ token (punct kind.At) ∷ blank ∷ is)

@@ -23,7 +23,7 @@ use Rattle.promql_token.specs.declared.state.Mode.{Mode}
 use Rattle.promql_token.specs.declared.state.Mode.TheVariants as mode
 use Rattle.promql_token.specs.declared.state.State.{State}
 use Rattle.promql_token.proofs.Concatenation.{joins}
-use Rattle.promql_token.proofs.PrintedValues.{joins_number_text, joins_time}
+use Rattle.promql_token.proofs.ValueTokens.{joins_number_text, joins_time}
 use Rattle.promql_grammar.specs.declared.token_kinds.TokenKind.{TokenKind}
 use Rattle.promql_grammar.specs.declared.token_kinds.TokenKind.TheVariants as kind
 use Rattle.promql_grammar.specs.GrammarParts as part
@@ -31,7 +31,7 @@ use Rattle.promql_grammar.specs.Symbols.{punct, symbol_of, word}
 use Rattle.promql_syntax.proofs.Booleans.{not_true}
 use Rattle.promql_syntax.proofs.Lexes.{Lexes, LexesBefore, at_depth, is_clear}
 use Rattle.promql_syntax.proofs.PrintedItems.{Item, token, blank, postfix_line, render, signed_line, step_line, time_line}
-use Rattle.promql_syntax.proofs.PrintedParts.{seconds_text, time}
+use Rattle.promql_syntax.proofs.PrintedParts.{time}
 use Rattle.promql_syntax.proofs.PrintedParts as printed
 use Rattle.promql_syntax.proofs.LexedEnds.{clear_colon, clear_ends, clear_stops}
 use Rattle.promql_syntax.proofs.LexedItems.{Reads, append_before, before_any, before_fewer, blank_before, known_reads, last_before, nothing, token_before, token_then}
@@ -74,7 +74,7 @@ time_lex m depth n holds is =
 -- ---- ranges and subqueries
 
 bracket_reads : (depth : ℕ) (r : Text) → Reads (at_depth depth) (in_bracket depth bracket.Nothing) (punct kind.LeftBracket) r
-unfolding scan.scan_token outside scan.sign after
+unfolding scan.scan_token outside scan.punctuator after
 bracket_reads depth r = record { id = 10; is = refl; reads = joins (at_depth depth) (91 ∷ []) r 10 (omega arith) refl refl }
 
 unbracket_reads : (depth : ℕ) (inside : Bracket) (r : Text) → Reads (in_bracket depth inside) (at_depth depth) (punct kind.RightBracket) r

@@ -47,19 +47,19 @@ line_shut r shut =
 
 -- ---- items before which no parenthesis opens, whatever follows them
 
-abbrev Shut : List Item → Type 0
-Shut is = (r : Text) → opens (render is ++ r) ≡ false
+abbrev OpensNothing : List Item → Type 0
+OpensNothing is = (r : Text) → opens (render is ++ r) ≡ false
 
-token_shut : (s : Symbol) (is : List Item) → is_plain (spell s) ≡ true → Shut (token s ∷ is)
+token_shut : (s : Symbol) (is : List Item) → is_plain (spell s) ≡ true → OpensNothing (token s ∷ is)
 token_shut s is plain r = ap opens (append_assoc (spell s) (render is) r) ∙ plain_shut (spell s) (render is ++ r) plain
 
-indented_shut : (level : ℕ) (is : List Item) → Shut is → Shut (indent_items level is)
+indented_shut : (level : ℕ) (is : List Item) → OpensNothing is → OpensNothing (indent_items level is)
 indented_shut zero is shut r = shut r
 indented_shut (suc level) is shut r =
     let z = render (indent_items level is) ++ r in
     space_shut (32 ∷ z) (space_shut z (indented_shut level is shut r))
 
-operator_shut : (op : ℕ) (is : List Item) → token_kind op ≡ kind.Operator op → Shut (token (word (kind.Operator op) (text_of op)) ∷ is)
+operator_shut : (op : ℕ) (is : List Item) → token_kind op ≡ kind.Operator op → OpensNothing (token (word (kind.Operator op) (text_of op)) ∷ is)
 operator_shut op is known = token_shut (word (kind.Operator op) (text_of op)) is (operators_pass (λ op. is_plain (text_of op)) refl op known)
 
 -- ---- items that may follow an expression, whatever follows them
@@ -67,10 +67,10 @@ operator_shut op is known = token_shut (word (kind.Operator op) (text_of op)) is
 abbrev pub IsClear : List Item → Type 0
 IsClear is = (r : Text) → is_clear (render is ++ r) ≡ true
 
-blank_clear : (is : List Item) → Shut is → IsClear (blank ∷ is)
+blank_clear : (is : List Item) → OpensNothing is → IsClear (blank ∷ is)
 blank_clear is shut r = ap not (space_shut (render is ++ r) (shut r))
 
-newline_clear : (is : List Item) → Shut is → IsClear (newline ∷ is)
+newline_clear : (is : List Item) → OpensNothing is → IsClear (newline ∷ is)
 newline_clear is shut r = ap not (line_shut (render is ++ r) (shut r))
 
 pub operator_clear : (op : ℕ) (is : List Item) → token_kind op ≡ kind.Operator op → IsClear (blank ∷ token (word (kind.Operator op) (text_of op)) ∷ is)

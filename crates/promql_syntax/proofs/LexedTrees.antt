@@ -53,12 +53,12 @@ LexesExpression depth is = LexesBefore is_clear (at_depth depth) (at_depth depth
 abbrev LexesClosing : ℕ → List Item → Type 0
 LexesClosing depth is = Lexes (at_depth (suc depth)) (at_depth depth) is
 
-pub record Lexed (d : Derivation) : Type 0 where
+pub record LexesDerivation (d : Derivation) : Type 0 where
   pub one : (depth : ℕ) → LexesExpression depth (line d)
   pub many : (depth level most : ℕ) → LexesExpression depth (lines d level most)
 
 -- as the first ones, and as what follows an argument
-record AllLexed (ds : Arguments) : Type 0 where
+record LexesArguments (ds : Arguments) : Type 0 where
   one_first : (depth : ℕ) → LexesClosing depth (arguments_line ds)
   one_rest : (depth : ℕ) → LexesClosing depth (rest_line ds)
   many_first : (depth level most : ℕ) (after : List Item) → IsClear after → LexesClosing depth after → LexesClosing depth (arguments_lines ds level most after)
@@ -88,11 +88,11 @@ indented_then depth (suc level) c is more = blank_then depth c (blank ∷ indent
 without_blank : (depth : ℕ) (c : State) (is : List Item) → LexesBefore is_clear (at_depth depth) c (blank ∷ is) → LexesBefore is_clear (at_depth depth) c is
 without_blank depth c is more r passes = let m = more r passes in (m.0, m.1, sym (pieces_run (at_depth depth) (32 ∷ []) (render is ++ r) refl refl) ∙ m.2)
 
-trimmed_before : (depth : ℕ) (c : State) (is : List Item) → LexesBefore is_clear (at_depth depth) c is → LexesBefore is_clear (at_depth depth) c (trim_items is)
-trimmed_before depth c [] more = more
-trimmed_before depth c (blank ∷ is) more = trimmed_before depth c is (without_blank depth c is more)
-trimmed_before depth c (token s ∷ is) more = more
-trimmed_before depth c (newline ∷ is) more = more
+without_indent_before : (depth : ℕ) (c : State) (is : List Item) → LexesBefore is_clear (at_depth depth) c is → LexesBefore is_clear (at_depth depth) c (trim_items is)
+without_indent_before depth c [] more = more
+without_indent_before depth c (blank ∷ is) more = without_indent_before depth c is (without_blank depth c is more)
+without_indent_before depth c (token s ∷ is) more = more
+without_indent_before depth c (newline ∷ is) more = more
 
 chosen_before : (depth level most : ℕ) (one many : List Item) → LexesExpression depth one → LexesExpression depth many → LexesExpression depth (choose_items one many level most)
 chosen_before depth level most one many first second =
@@ -118,7 +118,7 @@ closing_then depth level after more =
     let items = token (punct kind.RightParen) ∷ after in
     newline_then (suc depth) (at_depth depth) (indent_items level items) (indented_then (suc depth) level (at_depth depth) items (close_then depth after more))
 
-none_lexed : AllLexed grammar.none
+none_lexed : LexesArguments grammar.none
 none_lexed = record {
   one_first = λ depth. close_then depth [] (nothing (at_depth depth));
   one_rest = λ depth. close_then depth [] (nothing (at_depth depth));
@@ -126,7 +126,7 @@ none_lexed = record {
   many_rest = λ depth level most after clear more. more;
 }
 
-more_lexed : (d : Derivation) (ds : Arguments) → Lexed d → AllLexed ds → AllLexed (grammar.more d ds)
+more_lexed : (d : Derivation) (ds : Arguments) → LexesDerivation d → LexesArguments ds → LexesArguments (grammar.more d ds)
 more_lexed d ds h hs =
     let one = λ (depth : ℕ). then_any (suc depth) (at_depth depth) (line d) (rest_line ds) (rest_clear ds) (h.one (suc depth)) (hs.one_rest depth) in
     let many = λ (depth level most : ℕ) (after : List Item) (clear : IsClear after) (more : LexesClosing depth after).
@@ -144,13 +144,13 @@ more_lexed d ds h hs =
 -- ---- nodes
 
 -- without expressions in it, it is not broken into lines
-leaf_lexed : (d : Derivation) → ((level most : ℕ) → lines d level most ≡ indent_items level (line d)) → ((depth : ℕ) → LexesExpression depth (line d)) → Lexed d
-leaf_lexed d laid one = record {
+leaf_lexed : (d : Derivation) → ((level most : ℕ) → lines d level most ≡ indent_items level (line d)) → ((depth : ℕ) → LexesExpression depth (line d)) → LexesDerivation d
+leaf_lexed d layout_of one = record {
   one = one;
-  many = λ depth level most. subst (LexesExpression depth) (sym (laid level most)) (indented_before depth level (at_depth depth) (line d) (one depth));
+  many = λ depth level most. subst (LexesExpression depth) (sym (layout_of level most)) (indented_before depth level (at_depth depth) (line d) (one depth));
 }
 
-paren_lexed : (d : Derivation) → Lexed d → Lexed (grammar.paren d)
+paren_lexed : (d : Derivation) → LexesDerivation d → LexesDerivation (grammar.paren d)
 paren_lexed d h =
     let one = λ (depth : ℕ).
     of_any depth (line (grammar.paren d)) (open_then depth (line d ++ close_items) (then_any (suc depth) (at_depth depth) (line d) close_items (λ r. refl) (h.one (suc depth)) (close_then depth [] (nothing (at_depth depth))))) in
@@ -165,7 +165,7 @@ paren_lexed d h =
           (then_any (suc depth) o (lines d (level + 1) most) (closing_line level []) (closing_clear level []) (h.many (suc depth) (level + 1) most) (closing_then depth level [] (nothing o)))))));
     }
 
-call_lexed : (k : TokenKind) (name : Text) (ds : Arguments) → ((depth : ℕ) (r : Text) → Reads (at_depth depth) (at_depth depth) (word k name) (40 ∷ r)) → AllLexed ds → Lexed (grammar.call k name ds)
+call_lexed : (k : TokenKind) (name : Text) (ds : Arguments) → ((depth : ℕ) (r : Text) → Reads (at_depth depth) (at_depth depth) (word k name) (40 ∷ r)) → LexesArguments ds → LexesDerivation (grammar.call k name ds)
 call_lexed k name ds reads hs =
     let name_then = λ (depth : ℕ) (is : List Item) (more : LexesClosing depth is).
     token_then (at_depth depth) (at_depth depth) (at_depth depth) (word k name) (token (punct kind.LeftParen) ∷ is) (λ r. reads depth (render is ++ r)) (open_then depth is more) in
@@ -188,7 +188,7 @@ after_clause depth (Some (including [])) = nothing (at_depth depth)
 after_clause depth (Some (including (l ∷ ls))) = nothing (at_depth depth)
 after_clause depth (Some (excluding ls)) = nothing (at_depth depth)
 
-aggregate_lexed : (op : ℕ) (m : Option Clause) (ds : Arguments) → is_aggregator op ≡ true → AllLexed ds → Lexed (grammar.aggregate op (text_of op) (clause m) ds)
+aggregate_lexed : (op : ℕ) (m : Option Clause) (ds : Arguments) → is_aggregator op ≡ true → LexesArguments ds → LexesDerivation (grammar.aggregate op (text_of op) (clause m) ds)
 aggregate_lexed op m ds is hs =
     let c = clause m in
     let d = grammar.aggregate op (text_of op) c ds in
@@ -213,13 +213,13 @@ aggregate_lexed op m ds is hs =
           (hs.many_first depth (level + 1) most after (closing_clear level (after_line c)) (closing_then depth level (after_line c) (after_clause depth m)))))));
     }
 
-postfixed_lexed : (d : Derivation) (p : part.Postfix) → IsClear (postfix_line p) → ((depth : ℕ) → LexesExpression depth (postfix_line p)) → Lexed d → Lexed (grammar.postfixed d p)
+postfixed_lexed : (d : Derivation) (p : part.Postfix) → IsClear (postfix_line p) → ((depth : ℕ) → LexesExpression depth (postfix_line p)) → LexesDerivation d → LexesDerivation (grammar.postfixed d p)
 postfixed_lexed d p clear last h = record {
   one = λ depth. then_before is_clear depth (at_depth depth) (line d) (postfix_line p) clear (h.one depth) (last depth);
   many = λ depth level most. then_before is_clear depth (at_depth depth) (lines d level most) (postfix_line p) clear (h.many depth level most) (last depth);
 }
 
-minus_lexed : (d : Derivation) → Lexed d → Lexed (grammar.unary T_SUB (codes "-") d)
+minus_lexed : (d : Derivation) → LexesDerivation d → LexesDerivation (grammar.unary T_SUB (codes "-") d)
 minus_lexed d h =
     let minus = word (kind.Operator T_SUB) (codes "-") in
     let sign_then = λ (depth : ℕ) (is : List Item) (more : LexesExpression depth is).
@@ -229,10 +229,10 @@ minus_lexed d h =
       one = λ depth. sign_then depth (line d) (h.one depth);
       many = λ depth level most.
           let rest = trim_items (lines d level most) in
-          indented_before depth level (at_depth depth) (token minus ∷ rest) (sign_then depth rest (trimmed_before depth (at_depth depth) (lines d level most) (h.many depth level most)));
+          indented_before depth level (at_depth depth) (token minus ∷ rest) (sign_then depth rest (without_indent_before depth (at_depth depth) (lines d level most) (h.many depth level most)));
     }
 
-binary_lexed : (op : ℕ) (m : Option Matching) (l r : Derivation) → token_kind op ≡ kind.Operator op → IsMatched m → Lexed l → Lexed r → Lexed (grammar.binary op (text_of op) (modifier m) l r)
+binary_lexed : (op : ℕ) (m : Option Matching) (l r : Derivation) → token_kind op ≡ kind.Operator op → IsMatched m → LexesDerivation l → LexesDerivation r → LexesDerivation (grammar.binary op (text_of op) (modifier m) l r)
 binary_lexed op m l r known matched hl hr =
     let d = grammar.binary op (text_of op) (modifier m) l r in
     let w = word (kind.Operator op) (text_of op) in
@@ -262,18 +262,18 @@ binary_lexed op m l r known matched hl hr =
 -- ---- trees
 
 module _ (g : Text → Answer) where
-  unsigned_lexed : (v : Number) → IsNumber v → is_below_zero v ≡ false → Lexed (grammar.number (number_text v))
+  unsigned_lexed : (v : Number) → IsNumber v → is_below_zero v ≡ false → LexesDerivation (grammar.number (number_text v))
   unsigned_lexed v is above = leaf_lexed (grammar.number (number_text v)) (λ level most. refl) (λ depth. number_lex depth v is above)
 
-  number_lexed : (n : Number) → IsNumber n → Lexed (derive (number n))
+  number_lexed : (n : Number) → IsNumber n → LexesDerivation (derive (number n))
   number_lexed n is =
-      cond_both (is_below_zero n) (grammar.unary T_SUB (codes "-") (grammar.number (number_text (neg n)))) (grammar.number (number_text n)) Lexed
+      cond_both (is_below_zero n) (grammar.unary T_SUB (codes "-") (grammar.number (number_text (neg n)))) (grammar.number (number_text n)) LexesDerivation
       (λ below. minus_lexed (grammar.number (number_text (neg n))) (unsigned_lexed (neg n) (negated_in_form n is) (negated_above n below)))
       (λ above. unsigned_lexed n is above)
 
   -- ---- selectors
 
-  named_lexed : (name : Text) (cs : PlainMatchers) → IsSelecting g (Some name) cs → Lexed (derive_base (Some name) (braces cs))
+  named_lexed : (name : Text) (cs : PlainMatchers) → IsSelecting g (Some name) cs → LexesDerivation (derive_base (Some name) (braces cs))
   named_lexed name cs h =
       leaf_lexed (derive_base (Some name) (braces cs)) (λ level most. refl) (λ depth.
       let o = at_depth depth in
@@ -281,34 +281,34 @@ module _ (g : Text → Answer) where
       token_before is_clear o o o (word (word_kind name) name) items
       (λ r passes. let after = braces_end (braces cs) r passes in name_reads depth name (render items ++ r) h.0 after.0 after.1) (of_any depth items (braces_lex depth cs)))
 
-  nameless_lexed : (b : Option part.Braces) → ((depth : ℕ) → Lexes (at_depth depth) (at_depth depth) (any_braces_line b)) → Lexed (derive_base None b)
+  nameless_lexed : (b : Option part.Braces) → ((depth : ℕ) → Lexes (at_depth depth) (at_depth depth) (any_braces_line b)) → LexesDerivation (derive_base None b)
   nameless_lexed None more = leaf_lexed (grammar.nameless part.no_item) (λ level most. refl) (λ depth. of_any depth (braces_line part.no_item) (no_item_lex depth))
   nameless_lexed (Some b) more = leaf_lexed (grammar.nameless b) (λ level most. refl) (λ depth. of_any depth (braces_line b) (more depth))
 
-  base_lexed : (name : Option Text) (cs : PlainMatchers) → IsSelecting g name cs → Lexed (derive_base name (braces cs))
+  base_lexed : (name : Option Text) (cs : PlainMatchers) → IsSelecting g name cs → LexesDerivation (derive_base name (braces cs))
   base_lexed (Some name) cs h = named_lexed name cs h
   base_lexed None cs h = nameless_lexed (braces cs) (λ depth. braces_lex depth cs)
 
-  mode_lexed : (mode : RangeMode) (d : Derivation) → Lexed d → Lexed (with_mode mode d)
+  mode_lexed : (mode : RangeMode) (d : Derivation) → LexesDerivation d → LexesDerivation (with_mode mode d)
   mode_lexed Plain d h = h
   mode_lexed Smoothed d h = postfixed_lexed d (part.mode kind.Smoothed (codes "smoothed")) (λ r. refl) smoothed_lex h
   mode_lexed Anchored d h = postfixed_lexed d (part.mode kind.Anchored (codes "anchored")) (λ r. refl) anchored_lex h
 
-  at_lexed : (a : Option Moment) (d : Derivation) → IsAnyMoment a → Lexed d → Lexed (with_at a d)
+  at_lexed : (a : Option Moment) (d : Derivation) → IsAnyMoment a → LexesDerivation d → LexesDerivation (with_at a d)
   at_lexed None d is h = h
   at_lexed (Some m) d is h = postfixed_lexed d (moment m) (moment_clear m) (λ depth. moment_lex depth m is) h
 
-  suffix_lexed : (o : Option Shift) (a : Option Moment) (d : Derivation) → IsShift o → IsAnyMoment a → Lexed d → Lexed (with_suffix o a d)
+  suffix_lexed : (o : Option Shift) (a : Option Moment) (d : Derivation) → IsShift o → IsAnyMoment a → LexesDerivation d → LexesDerivation (with_suffix o a d)
   suffix_lexed None a d shifted is h = at_lexed a d is h
   suffix_lexed (Some s) a d shifted is h = postfixed_lexed (with_at a d) (shift s) (shift_clear s) (λ depth. shift_lex depth s shifted) (at_lexed a d is h)
 
-  range_lexed : (d : Derivation) (range : ℕ) → IsTime range → Lexed d → Lexed (grammar.postfixed d (part.range (time range)))
+  range_lexed : (d : Derivation) (range : ℕ) → IsTime range → LexesDerivation d → LexesDerivation (grammar.postfixed d (part.range (time range)))
   range_lexed d range is h = postfixed_lexed d (part.range (time range)) (λ r. refl) (λ depth. of_any depth (postfix_line (part.range (time range))) (range_lex depth range is)) h
 
   -- ---- any tree
 
   mutual
-    pub tree_lexed : (t : Tree) → Printable g t → Lexed (derive t)
+    pub tree_lexed : (t : Tree) → Printable g t → LexesDerivation (derive t)
     tree_lexed (aggregate op e p m) h =
         aggregate_lexed op m (derive_after p (grammar.more (derive e) grammar.none)) h.0 (param_lexed p (grammar.more (derive e) grammar.none) h.2 (more_lexed (derive e) grammar.none (tree_lexed e h.1) none_lexed))
     tree_lexed (unary e) h = minus_lexed (derive e) (tree_lexed e h)
@@ -328,10 +328,10 @@ module _ (g : Text → Answer) where
         call_lexed (word_kind (name_of f)) (name_of f) (derive_all ts) (λ depth r. called_reads depth (name_of f) (40 ∷ r) h.0 h.2 refl) (all_lexed ts h.1)
     tree_lexed (extension name gives ts) h = absurd h
 
-    param_lexed : (p : MaybeTree) (ds : Arguments) → MaybePrintable g p → AllLexed ds → AllLexed (derive_after p ds)
+    param_lexed : (p : MaybeTree) (ds : Arguments) → MaybePrintable g p → LexesArguments ds → LexesArguments (derive_after p ds)
     param_lexed absent ds h hs = hs
     param_lexed (present e) ds h hs = more_lexed (derive e) ds (tree_lexed e h) hs
 
-    all_lexed : (ts : Trees) → AllPrintable g ts → AllLexed (derive_all ts)
+    all_lexed : (ts : Trees) → AllPrintable g ts → LexesArguments (derive_all ts)
     all_lexed no_trees h = none_lexed
     all_lexed (first_tree t ts) h = more_lexed (derive t) (derive_all ts) (tree_lexed t h.0) (all_lexed ts h.1)

@@ -12,7 +12,7 @@ use Rattle.promql_token.specs.Ids.{keyword_in_any_case}
 use Rattle.promql_token.specs.Laws.{is_word}
 use Rattle.promql_token.specs.TokenScanning.{word_id}
 use Rattle.promql_token.specs.declared.ids.TheConstants.{T_SUB}
-use Rattle.promql_token.proofs.PrintedValues.{joins_number_text}
+use Rattle.promql_token.proofs.ValueTokens.{joins_number_text}
 use Rattle.promql_grammar.specs.declared.token_kinds.TokenKind.{TokenKind}
 use Rattle.promql_grammar.specs.declared.token_kinds.TokenKind.TheVariants as kind
 use Rattle.promql_grammar.specs.GrammarParts as part
@@ -23,7 +23,7 @@ use Rattle.promql_syntax.proofs.PrintedItems.{Item, token, blank, fills_line, re
 use Rattle.promql_syntax.proofs.PrintedParts.{fill_words, magnitude, value}
 use Rattle.promql_syntax.proofs.PrintedParts as printed
 use Rattle.promql_syntax.proofs.LexedItems.{Reads, append_lex, blank_then, close_reads, known_reads, nothing, open_reads, token_then}
-use Rattle.promql_syntax.proofs.LexedSigns.{minus_lex}
+use Rattle.promql_syntax.proofs.LexedPunctuators.{minus_lex}
 
 pub minus_reads : (depth : ℕ) (r : Text) → Reads (at_depth depth) (at_depth depth) (word (kind.Operator T_SUB) (codes "-")) r
 minus_reads depth r = record { id = 40; is = refl; reads = minus_lex depth r }

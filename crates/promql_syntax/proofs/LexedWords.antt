@@ -10,7 +10,7 @@ use Rattle.promql_text.specs.Texts.{Text}
 use Rattle.promql_token.specs.Ids.{count_up, is_aggregator, keyword_in_any_case, keywords, lookup, text_of}
 use Rattle.promql_token.specs.Laws.{is_word, parts}
 use Rattle.promql_token.specs.Lexing.{pieces}
-use Rattle.promql_token.specs.TokenScanning.{Scanned, after, is_fill, name_id, opens, outside, scan_token, word_id}
+use Rattle.promql_token.specs.TokenScanning.{Scanned, is_fill, name_id, opens, outside, scan_token, word_id}
 use Rattle.promql_token.specs.TokenScanning as scan
 use Rattle.promql_token.specs.declared.state.Mode.TheVariants as mode
 use Rattle.promql_token.specs.declared.ids.TheConstants.{T_IDENTIFIER, T_METRIC_IDENTIFIER}
@@ -65,23 +65,23 @@ abbrev is_piece : ℕ → ℕ → Scanned → Bool
 is_piece id len (Ok t) = t.0 == id && t.1 == len
 is_piece id len (Err f) = false
 
-abbrev is_sign_token : ℕ → ℕ → Bool
-is_sign_token depth id = is_piece id (length (text_of id)) (scan_token (at_depth depth) (text_of id)) && (is_plain id && not (length (text_of id) == 0))
+abbrev is_operator_token : ℕ → ℕ → Bool
+is_operator_token depth id = is_piece id (length (text_of id)) (scan_token (at_depth depth) (text_of id)) && (is_plain id && not (length (text_of id) == 0))
 
 piece_is : (id len : ℕ) (p : Scanned) → is_piece id len p ≡ true → p ≡ Ok (id, len)
 piece_is id len (Ok t) e = let both = and_cases (t.0 == id) (t.1 == len) e in (λ i. Ok (eqb-true t.0 id both.0 i, eqb-true t.1 len both.1 i))
 piece_is id len (Err f) e = cc
 
-plain_sign : (depth op : ℕ) → is_one_of plain_operators op ≡ true → is_sign_token depth op ≡ true
-unfolding scan_token outside scan.sign
-plain_sign depth op is = test_of (is_sign_token depth) plain_operators op refl is
+plain_operator_token : (depth op : ℕ) → is_one_of plain_operators op ≡ true → is_operator_token depth op ≡ true
+unfolding scan_token outside scan.punctuator
+plain_operator_token depth op is = test_of (is_operator_token depth) plain_operators op refl is
 
-order_sign : (depth op : ℕ) → is_one_of order_operators op ≡ true → is_sign_token depth op ≡ true
-unfolding scan_token outside scan.sign
-order_sign depth op is = test_of (is_sign_token depth) order_operators op refl is
+order_operator_token : (depth op : ℕ) → is_one_of order_operators op ≡ true → is_operator_token depth op ≡ true
+unfolding scan_token outside scan.punctuator
+order_operator_token depth op is = test_of (is_operator_token depth) order_operators op refl is
 
-sign_reads : (depth op : ℕ) (r : Text) → token_kind op ≡ kind.Operator op → is_sign_token depth op ≡ true → parts mode.Outside (text_of op) r ≡ true → Reads (at_depth depth) (at_depth depth) (word (kind.Operator op) (text_of op)) r
-sign_reads depth op r is token parts =
+operator_token_reads : (depth op : ℕ) (r : Text) → token_kind op ≡ kind.Operator op → is_operator_token depth op ≡ true → parts mode.Outside (text_of op) r ≡ true → Reads (at_depth depth) (at_depth depth) (word (kind.Operator op) (text_of op)) r
+operator_token_reads depth op r is token parts =
     let w = text_of op in
     let both = and_cases (is_piece op (length w) (scan_token (at_depth depth) w)) _ token in
     let more = and_cases (is_plain op) _ both.1 in
@@ -119,9 +119,9 @@ keyword_reads depth id k r kind plain token ends =
 pub operator_reads : (depth op : ℕ) (r : Text) → token_kind op ≡ kind.Operator op → ends_operator r ≡ true → Reads (at_depth depth) (at_depth depth) (word (kind.Operator op) (text_of op)) r
 operator_reads depth op r is ends =
     let both = and_cases (ends_word r) _ ends in
-    ⊎_elim (λ h. sign_reads depth op r is (plain_sign depth op h) (test_of (λ id. parts mode.Outside (text_of id) r) plain_operators op refl h))
+    ⊎_elim (λ h. operator_token_reads depth op r is (plain_operator_token depth op h) (test_of (λ id. parts mode.Outside (text_of id) r) plain_operators op refl h))
     (λ h. ⊎_elim
-    (λ h. sign_reads depth op r is (order_sign depth op h) (among (λ id. parts mode.Outside (text_of id) r ≡ true) order_operators op (both.1, (both.1, tt)) h))
+    (λ h. operator_token_reads depth op r is (order_operator_token depth op h) (among (λ id. parts mode.Outside (text_of id) r ≡ true) order_operators op (both.1, (both.1, tt)) h))
     (λ h. keyword_reads depth op (kind.Operator op) r is refl (word_operator op h) both.0) (or_cases _ _ h))
     (or_cases _ _ (operator_id op is))
 

@@ -27,7 +27,7 @@ pub mod LexedLabels
 pub mod LexedModifiers
 pub mod LexedMoments
 pub mod LexedPostfixes
-pub mod LexedSigns
+pub mod LexedPunctuators
 pub mod LexedTexts
 pub mod LexedTrees
 pub mod LexedValues

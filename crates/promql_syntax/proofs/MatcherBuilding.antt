@@ -49,7 +49,7 @@ no_match_operator k t ts none = refl
 -- ---- building
 
 -- the end of building, with the answers to its questions
-pub record Ended {A : Type 0} (m : Asking A) (end : Result A BuildError) : Type 0 where
+pub record BuildingEnds {A : Type 0} (m : Asking A) (end : Result A BuildError) : Type 0 where
   pub answers : List Asked
   pub allowed : AreAllowed answers
   pub ends : Ends m answers end
@@ -58,28 +58,28 @@ pub record Ended {A : Type 0} (m : Asking A) (end : Result A BuildError) : Type 
 one_asked : Text → Answer → List Asked
 one_asked value answer = record { about = value; answer = answer } ∷ []
 
-pub matches_ends : (s : MatchOperator) (value w : Text) → operators.EqualRegex ≡ operator_of_part s → Allows value (built w) → Ended (operator_value s value) (Ok (plain.matches w))
+pub matches_ends : (s : MatchOperator) (value w : Text) → operators.EqualRegex ≡ operator_of_part s → Allows value (built w) → BuildingEnds (operator_value s value) (Ok (plain.matches w))
 unfolding one_asked
 matches_ends equal value w is allowed = cc
 matches_ends (not_equal t) value w is allowed = cc
 matches_ends equal_regex value w is allowed = record { answers = one_asked value (built w); allowed = (allowed, tt); ends = (refl, refl) }
 matches_ends not_equal_regex value w is allowed = cc
 
-pub matches_not_ends : (s : MatchOperator) (value w : Text) → operators.NotEqualRegex ≡ operator_of_part s → Allows value (built w) → Ended (operator_value s value) (Ok (plain.matches_not w))
+pub matches_not_ends : (s : MatchOperator) (value w : Text) → operators.NotEqualRegex ≡ operator_of_part s → Allows value (built w) → BuildingEnds (operator_value s value) (Ok (plain.matches_not w))
 unfolding one_asked
 matches_not_ends equal value w is allowed = cc
 matches_not_ends (not_equal t) value w is allowed = cc
 matches_not_ends equal_regex value w is allowed = cc
 matches_not_ends not_equal_regex value w is allowed = record { answers = one_asked value (built w); allowed = (allowed, tt); ends = (refl, refl) }
 
-pub matches_fails : (s : MatchOperator) (value : Text) → operators.EqualRegex ≡ operator_of_part s → Allows value rejected → Ended (operator_value s value) (Err (pattern value))
+pub matches_fails : (s : MatchOperator) (value : Text) → operators.EqualRegex ≡ operator_of_part s → Allows value rejected → BuildingEnds (operator_value s value) (Err (pattern value))
 unfolding one_asked
 matches_fails equal value is allowed = cc
 matches_fails (not_equal t) value is allowed = cc
 matches_fails equal_regex value is allowed = record { answers = one_asked value rejected; allowed = (allowed, tt); ends = (refl, refl) }
 matches_fails not_equal_regex value is allowed = cc
 
-pub matches_not_fails : (s : MatchOperator) (value : Text) → operators.NotEqualRegex ≡ operator_of_part s → Allows value rejected → Ended (operator_value s value) (Err (pattern value))
+pub matches_not_fails : (s : MatchOperator) (value : Text) → operators.NotEqualRegex ≡ operator_of_part s → Allows value rejected → BuildingEnds (operator_value s value) (Err (pattern value))
 unfolding one_asked
 matches_not_fails equal value is allowed = cc
 matches_not_fails (not_equal t) value is allowed = cc

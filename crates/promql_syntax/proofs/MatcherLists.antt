@@ -9,7 +9,7 @@ use Rattle.promql_grammar.specs.Symbols.{Symbol, punct, word}
 use Rattle.promql_grammar.specs.GrammarParts.{Item, Items, last_item, last_item_comma, next_item, items, Separator, comma, or}
 use Rattle.promql_grammar.specs.Parsing.{Read, parse_item, parse_items, parse_after_item, parse_braces}
 use Rattle.promql_label.specs.PlainMatchers.{PlainMatchers, plain_matchers}
-use Rattle.promql_label.specs.Views.{plain_matchers_of}
+use Rattle.promql_label.specs.MatcherViews.{plain_matchers_of}
 use Rattle.promql_label.specs.declared.matchers.Matchers as code
 use Rattle.promql_syntax.specs.declared.grammar.build_error.BuildError as build_errors
 use Rattle.promql_syntax.specs.Asking.{◌giving◌, Asked, AreAllowed, Ends}

@@ -13,7 +13,7 @@ use Rattle.promql_grammar.specs.Parsing.{parse_label_list, parse_group_labels, p
 use Rattle.promql_label.specs.Labels.{labels_of}
 use Rattle.promql_label.specs.declared.labels.Labels as code
 use Rattle.promql_kind.specs.Modifiers.{Clause, Cardinality, one_to_one, Fills, fills, Matching, matching}
-use Rattle.promql_kind.specs.Views.{cardinality_of, fills_of, matching_of}
+use Rattle.promql_kind.specs.ModifierViews.{cardinality_of, fills_of, matching_of}
 use Rattle.promql_kind.specs.declared.bin_modifier.BinModifier.{BinModifier}
 use Rattle.promql_kind.specs.declared.cardinality.VectorMatchCardinality.{VectorMatchCardinality}
 use Rattle.promql_kind.specs.declared.fill_values.VectorMatchFillValues.{VectorMatchFillValues}
@@ -69,9 +69,9 @@ module _ (ts us : List Symbol) (k : TokenKind) (t : Text) (read : parse_group ts
   pub group_fails : (e : ReadError) → Fails e (list_in us) → Fails e (parse_group ts)
   group_fails e fails = fails_same e _ _ read (fails_then e (list_in us) (λ l. Ok (group_of_labels k t l.0, l.1)) fails)
 
-  pub group_piece : (rest : List Symbol) (labels : Result code.Labels build_errors.BuildError) (card : Result VectorMatchCardinality build_errors.BuildError) → ParsesPart labels_of list_value labels rest (list_in us)
+  pub group_part : (rest : List Symbol) (labels : Result code.Labels build_errors.BuildError) (card : Result VectorMatchCardinality build_errors.BuildError) → ParsesPart labels_of list_value labels rest (list_in us)
       → view_result cardinality_of card ≡ (view_result labels_of labels then λ ls. Ok (cardinality k ls)) → ParsesPart cardinality_of group_value card rest (parse_group ts)
-  group_piece rest labels card list made = record {
+  group_part rest labels card list made = record {
     part = group_of_labels k t list.part;
     is = read ∙ ap (λ o. o then λ l. Ok (group_of_labels k t l.0, l.1)) list.is;
     built = made ∙ ap (λ r. r then λ ls. Ok (cardinality k ls)) list.built ∙ sym (grouped_value k t list.part);
@@ -131,11 +131,11 @@ abbrev of_matching : Result Fills BuildError → Bool → Cardinality × Option 
 of_matching f flag c = f then λ g. Ok (modifier_of flag c g)
 
 -- a flag, labels and fill values were read one after another
-pub modifier_piece : (ts us vs rest : List Symbol) (given : Bool) (m : Result parts.Matching build_errors.BuildError) (f : Result VectorMatchFillValues build_errors.BuildError) (value : Result (Option BinModifier) build_errors.BuildError)
+pub modifier_part : (ts us vs rest : List Symbol) (given : Bool) (m : Result parts.Matching build_errors.BuildError) (f : Result VectorMatchFillValues build_errors.BuildError) (value : Result (Option BinModifier) build_errors.BuildError)
     → ParsesFlag given us (parse_flag ts) → ParsesPart matching_parts matching_value m vs (parse_matching us) → ParsesPart fills_of fills_value f rest (parse_fills vs)
     → view_result (option_map matching_of) value ≡ (view_result matching_parts m then λ c. view_result fills_of f then λ g. Ok (modifier_of given c g))
     → ParsesPart (option_map matching_of) modifier_value value rest (parse_modifier ts)
-modifier_piece ts us vs rest given m f value flag labels values made = record {
+modifier_part ts us vs rest given m f value flag labels values made = record {
   part = record { flag = flag.flag; matching = labels.part; fills = values.part };
   is =
       ap (λ o. o then λ b. parse_matching b.1 then with_matching b.0) flag.is

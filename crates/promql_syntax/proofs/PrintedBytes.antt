@@ -29,7 +29,7 @@ use Rattle.promql_ast.specs.node.Binary.{matching_text}
 use Rattle.promql_ast.specs.node.Matrix.{mode_text}
 use Rattle.promql_syntax.proofs.Derive.{with_at, with_mode, with_suffix}
 use Rattle.promql_syntax.proofs.PrintedItems.{Item, token, blank, newline, render, spell, before_line, fills_line, flag_line, group_line, labels_line, line, matching_line, modifier_line, names_line, postfix_line, signed_line, time_line, value_line}
-use Rattle.promql_syntax.proofs.PrintedParts.{any_items, braces, clause, fill_words, flag, items_of, group, group_items, item, labels, magnitude, match_operator, matching_of_clause, modifier, moment, names, or_items, seconds_text, shift, time, value}
+use Rattle.promql_syntax.proofs.PrintedParts.{clause, fill_words, flag, group, labels, magnitude, matching_of_clause, modifier, moment, names, seconds_text, shift, time, value}
 use Rattle.promql_syntax.proofs.PrintedParts as printed
 use Rattle.promql_syntax.proofs.PrintedModifiers.{IsGroupedAfter, IsMatched}
 

@@ -109,7 +109,7 @@ abbrev pub modifier_line : part.Modifier → List Item
 modifier_line m = flag_line m.flag ++ (matching_line m.matching ++ fills_line m.fills)
 
 abbrev pub item_line : part.Item → List Item
-item_line (part.matcher k text s value) = token (word k text) ∷ token (part.yield_match_sign s) ∷ token (word kind.String value) ∷ []
+item_line (part.matcher k text s value) = token (word k text) ∷ token (part.yield_match_operator s) ∷ token (word kind.String value) ∷ []
 item_line (part.lone text) = token (word kind.String text) ∷ []
 
 -- matchers in groups have a space after a comma, all others have none

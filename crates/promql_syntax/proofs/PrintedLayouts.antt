@@ -23,14 +23,14 @@ use Rattle.promql_token.specs.Laws.{is_word}
 use Rattle.promql_token.specs.declared.ids.TheConstants.{T_SUB}
 use Rattle.promql_grammar.specs.declared.token_kinds.TokenKind.TheVariants as kind
 use Rattle.promql_grammar.specs.Grammar as grammar
-use Rattle.promql_grammar.specs.Grammar.{Arguments, Derivation}
+use Rattle.promql_grammar.specs.Grammar.{Derivation}
 use Rattle.promql_grammar.specs.GrammarParts as part
 use Rattle.promql_grammar.specs.Symbols.{Symbol, punct, word}
 use Rattle.promql_label.specs.Answers.{Answer}
 use Rattle.promql_label.specs.PlainMatchers.{PlainMatchers, matchers_text}
 use Rattle.promql_kind.specs.Functions.{name_of}
 use Rattle.promql_ast.specs.Layout as layout
-use Rattle.promql_ast.specs.Layout.{laid, laids, maybe_laid}
+use Rattle.promql_ast.specs.Layout.{layout_of, layouts_of, maybe_layout_of}
 use Rattle.promql_ast.specs.Lines.{indent, is_longer}
 use Rattle.promql_ast.specs.Selectors.{Selector, selector}
 use Rattle.promql_ast.specs.Shifts.{Shift, Moment, at_text, offset_text}
@@ -61,34 +61,34 @@ front_append : (t u : Text) → IsFront t → IsFront (t ++ u)
 front_append [] u h = absurd h
 front_append (b ∷ t) u h = h
 
-abbrev Fronted : List Item → Type 0
-Fronted [] = ⊥
-Fronted (token s ∷ is) = IsFront (spell s)
-Fronted (blank ∷ is) = Fronted is
-Fronted (newline ∷ is) = ⊥
+abbrev HasFront : List Item → Type 0
+HasFront [] = ⊥
+HasFront (token s ∷ is) = IsFront (spell s)
+HasFront (blank ∷ is) = HasFront is
+HasFront (newline ∷ is) = ⊥
 
-fronted_append : (is js : List Item) → Fronted is → Fronted (is ++ js)
-fronted_append [] js h = absurd h
-fronted_append (token s ∷ is) js h = h
-fronted_append (blank ∷ is) js h = fronted_append is js h
-fronted_append (newline ∷ is) js h = absurd h
+has_front_append : (is js : List Item) → HasFront is → HasFront (is ++ js)
+has_front_append [] js h = absurd h
+has_front_append (token s ∷ is) js h = h
+has_front_append (blank ∷ is) js h = has_front_append is js h
+has_front_append (newline ∷ is) js h = absurd h
 
-fronted_indented : (n : ℕ) (is : List Item) → Fronted is → Fronted (indent_items n is)
+fronted_indented : (n : ℕ) (is : List Item) → HasFront is → HasFront (indent_items n is)
 fronted_indented zero is h = h
 fronted_indented (suc n) is h = fronted_indented n is h
 
-fronted_chosen : (one many : List Item) (level most : ℕ) → Fronted one → Fronted many → Fronted (choose_items one many level most)
-fronted_chosen one many level most h k = go (is_longer most (render one))
+fronted_line_or_lines : (one many : List Item) (level most : ℕ) → HasFront one → HasFront many → HasFront (choose_items one many level most)
+fronted_line_or_lines one many level most h k = go (is_longer most (render one))
   where
-    go : (b : Bool) → Fronted (cond b many (indent_items level one))
+    go : (b : Bool) → HasFront (cond b many (indent_items level one))
     go true = k
     go false = fronted_indented level one h
 
-kept_front : (t u : Text) → IsFront t → layout.trimmed (t ++ u) ≡ t ++ u
+kept_front : (t u : Text) → IsFront t → layout.without_indent (t ++ u) ≡ t ++ u
 kept_front [] u h = absurd h
-kept_front (b ∷ t) u h = ap (λ x. cond x (layout.trimmed (t ++ u)) (b ∷ (t ++ u))) h
+kept_front (b ∷ t) u h = ap (λ x. cond x (layout.without_indent (t ++ u)) (b ∷ (t ++ u))) h
 
-trimmed_bytes : (is : List Item) → Fronted is → render (trim_items is) ≡ layout.trimmed (render is)
+trimmed_bytes : (is : List Item) → HasFront is → render (trim_items is) ≡ layout.without_indent (render is)
 trimmed_bytes [] h = absurd h
 trimmed_bytes (token s ∷ is) h = sym (kept_front (spell s) (render is) h)
 trimmed_bytes (blank ∷ is) h = trimmed_bytes is h
@@ -159,7 +159,7 @@ indented_bytes (suc n) is = ap (λ t. 32 ∷ 32 ∷ t) (indented_bytes n is)
 indented_is : (n : ℕ) (is : List Item) (t : Text) → render is ≡ t → render (indent_items n is) ≡ indent n ++ t
 indented_is n is t e = indented_bytes n is ∙ ap (λ x. indent n ++ x) e
 
-chosen_bytes : (one many : List Item) (level most : ℕ) (s t : Text) → render one ≡ s → render many ≡ t → render (choose_items one many level most) ≡ layout.chosen s t level most
+chosen_bytes : (one many : List Item) (level most : ℕ) (s t : Text) → render one ≡ s → render many ≡ t → render (choose_items one many level most) ≡ layout.line_or_lines s t level most
 chosen_bytes one many level most s t e f = ap (λ x. render (cond (is_longer most x) many (indent_items level one))) e ∙ go (is_longer most s)
   where
     go : (b : Bool) → render (cond b many (indent_items level one)) ≡ cond b t (indent level ++ s)
@@ -169,9 +169,9 @@ chosen_bytes one many level most s t e f = ap (λ x. render (cond (is_longer mos
 closing_bytes : (level : ℕ) (after : List Item) → after ≡ [] → render (closing_line level after) ≡ codes "\n" ++ (indent level ++ codes ")")
 closing_bytes level after e = ap (λ is. render (closing_line level is)) e ∙ ap (λ t. codes "\n" ++ t) (indented_bytes level (token (punct kind.RightParen) ∷ []))
 
-trimmed_indented : (n : ℕ) (s : Symbol) (is : List Item) → trim_items (indent_items n (token s ∷ is)) ≡ token s ∷ is
-trimmed_indented zero s is = refl
-trimmed_indented (suc n) s is = trimmed_indented n s is
+without_indent_indented : (n : ℕ) (s : Symbol) (is : List Item) → trim_items (indent_items n (token s ∷ is)) ≡ token s ∷ is
+without_indent_indented zero s is = refl
+without_indent_indented (suc n) s is = without_indent_indented n s is
 
 module _ (level most : ℕ) where
   at_lines : (a : Option Moment) (d : Derivation) (t : Text) → render (lines d level most) ≡ t → render (lines (with_at a d) level most) ≡ t ++ at_text a
@@ -184,23 +184,23 @@ module _ (level most : ℕ) where
       render_both (lines (with_at a d) level most) (postfix_line (shift s)) (t ++ at_text a) _ (at_lines a d t e) (shift_bytes s)
       ∙ append_assoc t (at_text a) (offset_text (Some s))
 
-  at_fronted : (a : Option Moment) (d : Derivation) → Fronted (lines d level most) → Fronted (lines (with_at a d) level most)
+  at_fronted : (a : Option Moment) (d : Derivation) → HasFront (lines d level most) → HasFront (lines (with_at a d) level most)
   at_fronted None d h = h
-  at_fronted (Some m) d h = fronted_append (lines d level most) (postfix_line (moment m)) h
+  at_fronted (Some m) d h = has_front_append (lines d level most) (postfix_line (moment m)) h
 
-  suffix_fronted : (o : Option Shift) (a : Option Moment) (d : Derivation) → Fronted (lines d level most) → Fronted (lines (with_suffix o a d) level most)
+  suffix_fronted : (o : Option Shift) (a : Option Moment) (d : Derivation) → HasFront (lines d level most) → HasFront (lines (with_suffix o a d) level most)
   suffix_fronted None a d h = at_fronted a d h
-  suffix_fronted (Some s) a d h = fronted_append (lines (with_at a d) level most) (postfix_line (shift s)) (at_fronted a d h)
+  suffix_fronted (Some s) a d h = has_front_append (lines (with_at a d) level most) (postfix_line (shift s)) (at_fronted a d h)
 
   mode_lines : (m : RangeMode) (d : Derivation) (t : Text) → render (lines d level most) ≡ t → render (lines (with_mode m d) level most) ≡ t ++ mode_text m
   mode_lines Plain d t e = e ∙ sym (append-nil t)
   mode_lines Smoothed d t e = render_both (lines d level most) (postfix_line (part.mode kind.Smoothed (codes "smoothed"))) t _ e refl
   mode_lines Anchored d t e = render_both (lines d level most) (postfix_line (part.mode kind.Anchored (codes "anchored"))) t _ e refl
 
-  mode_fronted : (m : RangeMode) (d : Derivation) → Fronted (lines d level most) → Fronted (lines (with_mode m d) level most)
+  mode_fronted : (m : RangeMode) (d : Derivation) → HasFront (lines d level most) → HasFront (lines (with_mode m d) level most)
   mode_fronted Plain d h = h
-  mode_fronted Smoothed d h = fronted_append (lines d level most) (postfix_line (part.mode kind.Smoothed (codes "smoothed"))) h
-  mode_fronted Anchored d h = fronted_append (lines d level most) (postfix_line (part.mode kind.Anchored (codes "anchored"))) h
+  mode_fronted Smoothed d h = has_front_append (lines d level most) (postfix_line (part.mode kind.Smoothed (codes "smoothed"))) h
+  mode_fronted Anchored d h = has_front_append (lines d level most) (postfix_line (part.mode kind.Anchored (codes "anchored"))) h
 
   base_lines : (name : Option Text) (b : Option part.Braces) → lines (derive_base name b) level most ≡ indent_items level (line (derive_base name b))
   base_lines (Some name) b = refl
@@ -213,80 +213,80 @@ module _ (level most : ℕ) where
       go : (b : Bool) → render (lines (cond b (grammar.unary T_SUB (codes "-") (grammar.number (number_text (neg n)))) (grammar.number (number_text n))) level most)
           ≡ indent level ++ (render (signed_line (printed.sign b)) ++ (number_text (cond b (neg n) n) ++ []))
       go true =
-          ap (λ is. render (indent_items level (token (word (kind.Operator T_SUB) (codes "-")) ∷ is))) (trimmed_indented level (word kind.Number (number_text (neg n))) [])
+          ap (λ is. render (indent_items level (token (word (kind.Operator T_SUB) (codes "-")) ∷ is))) (without_indent_indented level (word kind.Number (number_text (neg n))) [])
           ∙ indented_bytes level (token (word (kind.Operator T_SUB) (codes "-")) ∷ token (word kind.Number (number_text (neg n))) ∷ [])
       go false = indented_bytes level (token (word kind.Number (number_text n)) ∷ [])
 
 -- on one line
-at_front : (a : Option Moment) (d : Derivation) → Fronted (line d) → Fronted (line (with_at a d))
+at_front : (a : Option Moment) (d : Derivation) → HasFront (line d) → HasFront (line (with_at a d))
 at_front None d h = h
-at_front (Some m) d h = fronted_append (line d) (postfix_line (moment m)) h
+at_front (Some m) d h = has_front_append (line d) (postfix_line (moment m)) h
 
-suffix_front : (o : Option Shift) (a : Option Moment) (d : Derivation) → Fronted (line d) → Fronted (line (with_suffix o a d))
+suffix_front : (o : Option Shift) (a : Option Moment) (d : Derivation) → HasFront (line d) → HasFront (line (with_suffix o a d))
 suffix_front None a d h = at_front a d h
-suffix_front (Some s) a d h = fronted_append (line (with_at a d)) (postfix_line (shift s)) (at_front a d h)
+suffix_front (Some s) a d h = has_front_append (line (with_at a d)) (postfix_line (shift s)) (at_front a d h)
 
-mode_front : (m : RangeMode) (d : Derivation) → Fronted (line d) → Fronted (line (with_mode m d))
+mode_front : (m : RangeMode) (d : Derivation) → HasFront (line d) → HasFront (line (with_mode m d))
 mode_front Plain d h = h
-mode_front Smoothed d h = fronted_append (line d) (postfix_line (part.mode kind.Smoothed (codes "smoothed"))) h
-mode_front Anchored d h = fronted_append (line d) (postfix_line (part.mode kind.Anchored (codes "anchored"))) h
+mode_front Smoothed d h = has_front_append (line d) (postfix_line (part.mode kind.Smoothed (codes "smoothed"))) h
+mode_front Anchored d h = has_front_append (line d) (postfix_line (part.mode kind.Anchored (codes "anchored"))) h
 
-nameless_front : (b : Option part.Braces) → Fronted (line (derive_base None b))
+nameless_front : (b : Option part.Braces) → HasFront (line (derive_base None b))
 nameless_front None = refl
 nameless_front (Some part.no_item) = refl
 nameless_front (Some (part.items is)) = refl
 
-number_line_front : (n : Number) → IsNumber n → Fronted (line (derive_number n))
+number_line_front : (n : Number) → IsNumber n → HasFront (line (derive_number n))
 number_line_front n is = go (is_below_zero n) refl
   where
-    go : (b : Bool) → is_below_zero n ≡ b → Fronted (line (cond b (grammar.unary T_SUB (codes "-") (grammar.number (number_text (neg n)))) (grammar.number (number_text n))))
+    go : (b : Bool) → is_below_zero n ≡ b → HasFront (line (cond b (grammar.unary T_SUB (codes "-") (grammar.number (number_text (neg n)))) (grammar.number (number_text n))))
     go true e = refl
     go false e = number_front n is e
 
-number_lines_front : (n : Number) (level most : ℕ) → IsNumber n → Fronted (lines (derive_number n) level most)
+number_lines_front : (n : Number) (level most : ℕ) → IsNumber n → HasFront (lines (derive_number n) level most)
 number_lines_front n level most is = go (is_below_zero n) refl
   where
-    go : (b : Bool) → is_below_zero n ≡ b → Fronted (lines (cond b (grammar.unary T_SUB (codes "-") (grammar.number (number_text (neg n)))) (grammar.number (number_text n))) level most)
+    go : (b : Bool) → is_below_zero n ≡ b → HasFront (lines (cond b (grammar.unary T_SUB (codes "-") (grammar.number (number_text (neg n)))) (grammar.number (number_text n))) level most)
     go true e = fronted_indented level (token (word (kind.Operator T_SUB) (codes "-")) ∷ trim_items (indent_items level (token (word kind.Number (number_text (neg n))) ∷ []))) refl
     go false e = fronted_indented level (token (word kind.Number (number_text n)) ∷ []) (number_front n is e)
 
 module _ (g : Text → Answer) where
-  base_front : (name : Option Text) (cs : PlainMatchers) → IsSelecting g name cs → Fronted (line (derive_base name (braces cs)))
+  base_front : (name : Option Text) (cs : PlainMatchers) → IsSelecting g name cs → HasFront (line (derive_base name (braces cs)))
   base_front (Some name) cs h = word_front name h.0
   base_front None cs h = nameless_front (braces cs)
 
-  base_fronted : (name : Option Text) (cs : PlainMatchers) (level most : ℕ) → IsSelecting g name cs → Fronted (lines (derive_base name (braces cs)) level most)
+  base_fronted : (name : Option Text) (cs : PlainMatchers) (level most : ℕ) → IsSelecting g name cs → HasFront (lines (derive_base name (braces cs)) level most)
   base_fronted name cs level most h =
-      subst Fronted (sym (base_lines level most name (braces cs))) (fronted_indented level (line (derive_base name (braces cs))) (base_front name cs h))
+      subst HasFront (sym (base_lines level most name (braces cs))) (fronted_indented level (line (derive_base name (braces cs))) (base_front name cs h))
 
-  line_front : (t : Tree) → Printable g t → Fronted (line (derive t))
+  line_front : (t : Tree) → Printable g t → HasFront (line (derive t))
   line_front (aggregate op e p m) h = text_front op h.0
   line_front (unary e) h = refl
-  line_front (binary op l r m) h = fronted_append (line (derive l)) _ (line_front l h.1)
+  line_front (binary op l r m) h = has_front_append (line (derive l)) _ (line_front l h.1)
   line_front (paren e) h = refl
   line_front (subquery e o a range step) h =
       let below = part.subquery (time range) (option_map time step) in
-      suffix_front o a (grammar.postfixed (derive e) below) (fronted_append (line (derive e)) (postfix_line below) (line_front e h.0))
+      suffix_front o a (grammar.postfixed (derive e) below) (has_front_append (line (derive e)) (postfix_line below) (line_front e h.0))
   line_front (number n) h = number_line_front n h
   line_front (string s) h = refl
   line_front (vector (selector name cs o a)) h = suffix_front o a (derive_base name (braces cs)) (base_front name cs h.0)
   line_front (matrix (selector name cs o a) range mode) h =
       let base = derive_base name (braces cs) in
       let below = grammar.postfixed base (part.range (time range)) in
-      suffix_front o a (with_mode mode below) (mode_front mode below (fronted_append (line base) (postfix_line (part.range (time range))) (base_front name cs h.0.0)))
+      suffix_front o a (with_mode mode below) (mode_front mode below (has_front_append (line base) (postfix_line (part.range (time range))) (base_front name cs h.0.0)))
   line_front (call f ts) h = word_front (name_of f) h.0
   line_front (extension name gives ts) h = absurd h
 
-  lines_front : (t : Tree) (level most : ℕ) → Printable g t → Fronted (lines (derive t) level most)
+  lines_front : (t : Tree) (level most : ℕ) → Printable g t → HasFront (lines (derive t) level most)
   lines_front (aggregate op e p m) level most h =
-      fronted_chosen (line (derive (aggregate op e p m))) _ level most (line_front (aggregate op e p m) h) (fronted_indented level _ (text_front op h.0))
+      fronted_line_or_lines (line (derive (aggregate op e p m))) _ level most (line_front (aggregate op e p m) h) (fronted_indented level _ (text_front op h.0))
   lines_front (unary e) level most h = fronted_indented level (token (word (kind.Operator T_SUB) (codes "-")) ∷ trim_items (lines (derive e) level most)) refl
   lines_front (binary op l r m) level most h =
-      fronted_chosen (line (derive (binary op l r m))) _ level most (line_front (binary op l r m) h) (fronted_append (lines (derive l) (level + 1) most) _ (lines_front l (level + 1) most h.1))
-  lines_front (paren e) level most h = fronted_chosen (line (derive (paren e))) _ level most refl (fronted_indented level _ refl)
+      fronted_line_or_lines (line (derive (binary op l r m))) _ level most (line_front (binary op l r m) h) (has_front_append (lines (derive l) (level + 1) most) _ (lines_front l (level + 1) most h.1))
+  lines_front (paren e) level most h = fronted_line_or_lines (line (derive (paren e))) _ level most refl (fronted_indented level _ refl)
   lines_front (subquery e o a range step) level most h =
       let below = part.subquery (time range) (option_map time step) in
-      suffix_fronted level most o a (grammar.postfixed (derive e) below) (fronted_append (lines (derive e) level most) (postfix_line below) (lines_front e level most h.0))
+      suffix_fronted level most o a (grammar.postfixed (derive e) below) (has_front_append (lines (derive e) level most) (postfix_line below) (lines_front e level most h.0))
   lines_front (number n) level most h = number_lines_front n level most h
   lines_front (string s) level most h = fronted_indented level (line (derive (string s))) refl
   lines_front (vector (selector name cs o a)) level most h = suffix_fronted level most o a (derive_base name (braces cs)) (base_fronted name cs level most h.0)
@@ -294,9 +294,9 @@ module _ (g : Text → Answer) where
       let base = derive_base name (braces cs) in
       let below = grammar.postfixed base (part.range (time range)) in
       suffix_fronted level most o a (with_mode mode below)
-      (mode_fronted level most mode below (fronted_append (lines base level most) (postfix_line (part.range (time range))) (base_fronted name cs level most h.0.0)))
+      (mode_fronted level most mode below (has_front_append (lines base level most) (postfix_line (part.range (time range))) (base_fronted name cs level most h.0.0)))
   lines_front (call f ts) level most h =
-      fronted_chosen (line (derive (call f ts))) _ level most (word_front (name_of f) h.0) (fronted_indented level _ (word_front (name_of f) h.0))
+      fronted_line_or_lines (line (derive (call f ts))) _ level most (word_front (name_of f) h.0) (fronted_indented level _ (word_front (name_of f) h.0))
   lines_front (extension name gives ts) level most h = absurd h
 
   -- ---- the layout
@@ -304,12 +304,12 @@ module _ (g : Text → Answer) where
   base_laid : (level most : ℕ) (name : Option Text) (cs : PlainMatchers) → IsSelecting g name cs → render (lines (derive_base name (braces cs)) level most) ≡ indent level ++ (selected_name_text name ++ with_braces (matchers_text cs))
   base_laid level most name cs h = ap render (base_lines level most name (braces cs)) ∙ indented_is level (line (derive_base name (braces cs))) _ (base_bytes g name cs h)
 
-  vector_laid : (level most : ℕ) (s : Selector) → PrintableSelector g s → render (lines (derive (vector s)) level most) ≡ laid (vector s) level most
+  vector_laid : (level most : ℕ) (s : Selector) → PrintableSelector g s → render (lines (derive (vector s)) level most) ≡ layout_of (vector s) level most
   vector_laid level most (selector name cs o a) h =
       suffix_lines level most o a (derive_base name (braces cs)) _ (base_laid level most name cs h.0)
       ∙ append_assoc (indent level) (selected_name_text name ++ with_braces (matchers_text cs)) (at_text a ++ offset_text o)
 
-  matrix_laid : (level most : ℕ) (s : Selector) (range : ℕ) (mode : RangeMode) → PrintableSelector g s → render (lines (derive (matrix s range mode)) level most) ≡ laid (matrix s range mode) level most
+  matrix_laid : (level most : ℕ) (s : Selector) (range : ℕ) (mode : RangeMode) → PrintableSelector g s → render (lines (derive (matrix s range mode)) level most) ≡ layout_of (matrix s range mode) level most
   matrix_laid level most (selector name cs o a) range mode h =
       let base = derive_base name (braces cs) in
       let below = grammar.postfixed base (part.range (time range)) in
@@ -325,12 +325,12 @@ module _ (g : Text → Answer) where
       ∙ ap (λ t. indent level ++ t) (append_assoc b (r ++ m) x ∙ ap (λ t. b ++ ((codes "[" ++ t) ++ x)) (append_assoc (duration_text range) (codes "]") m))
 
   mutual
-    pub lines_bytes : (t : Tree) (level most : ℕ) → Printable g t → render (lines (derive t) level most) ≡ laid t level most
+    pub lines_bytes : (t : Tree) (level most : ℕ) → Printable g t → render (lines (derive t) level most) ≡ layout_of t level most
     lines_bytes (aggregate op e p m) level most h =
         let after = closing_line level (after_line (clause m)) in
         let rest = token (punct kind.LeftParen) ∷ newline ∷ arguments_lines (derive_after p (grammar.more (derive e) grammar.none)) (level + 1) most after in
         let close = codes "\n" ++ (indent level ++ codes ")") in
-        let inner = layout.param_lines (maybe_laid p (level + 1) most) ++ (laid e (level + 1) most ++ close) in
+        let inner = layout.param_lines (maybe_layout_of p (level + 1) most) ++ (layout_of e (level + 1) most ++ close) in
         chosen_bytes (line (derive (aggregate op e p m))) (indent_items level (token (word (kind.Aggregator op) (text_of op)) ∷ (before_line (clause m) ++ rest))) level most (text (aggregate op e p m)) _
         (line_bytes g (aggregate op e p m) h)
         (indented_is level _ (text_of op ++ (clause_text m ++ (codes "(\n" ++ inner)))
@@ -338,25 +338,25 @@ module _ (g : Text → Answer) where
         (ap (λ t. codes "(\n" ++ t) (param_laid p e (level + 1) most after close h.2 (lines_bytes e (level + 1) most h.1) (closing_bytes level (after_line (clause m)) (nothing_after m))))))
         ∙ ap (λ t. indent level ++ t) (sym (append_assoc (text_of op) (clause_text m) (codes "(\n" ++ inner))))
     lines_bytes (unary e) level most h =
-        indented_is level _ (codes "-" ++ layout.trimmed (laid e level most))
-        (ap (λ t. codes "-" ++ t) (trimmed_bytes (lines (derive e) level most) (lines_front e level most h) ∙ ap layout.trimmed (lines_bytes e level most h)))
+        indented_is level _ (codes "-" ++ layout.without_indent (layout_of e level most))
+        (ap (λ t. codes "-" ++ t) (trimmed_bytes (lines (derive e) level most) (lines_front e level most h) ∙ ap layout.without_indent (lines_bytes e level most h)))
     lines_bytes (binary op l r m) level most h =
         let right = modifier_line (modifier m) ++ newline ∷ lines (derive r) (level + 1) most in
         chosen_bytes (line (derive (binary op l r m))) (lines (derive l) (level + 1) most ++ newline ∷ indent_items level (token (word (kind.Operator op) (text_of op)) ∷ right)) level most (text (binary op l r m)) _
         (line_bytes g (binary op l r m) h)
-        (render_both (lines (derive l) (level + 1) most) (newline ∷ indent_items level (token (word (kind.Operator op) (text_of op)) ∷ right)) (laid l (level + 1) most) _ (lines_bytes l (level + 1) most h.1)
-        (ap (λ t. codes "\n" ++ t) (indented_is level _ (text_of op ++ (matching_text m ++ (codes "\n" ++ laid r (level + 1) most)))
-        (ap (λ t. text_of op ++ t) (render_both (modifier_line (modifier m)) (newline ∷ lines (derive r) (level + 1) most) (matching_text m) (codes "\n" ++ laid r (level + 1) most) (modifier_bytes m h.0) (ap (λ t. codes "\n" ++ t) (lines_bytes r (level + 1) most h.2)))))))
+        (render_both (lines (derive l) (level + 1) most) (newline ∷ indent_items level (token (word (kind.Operator op) (text_of op)) ∷ right)) (layout_of l (level + 1) most) _ (lines_bytes l (level + 1) most h.1)
+        (ap (λ t. codes "\n" ++ t) (indented_is level _ (text_of op ++ (matching_text m ++ (codes "\n" ++ layout_of r (level + 1) most)))
+        (ap (λ t. text_of op ++ t) (render_both (modifier_line (modifier m)) (newline ∷ lines (derive r) (level + 1) most) (matching_text m) (codes "\n" ++ layout_of r (level + 1) most) (modifier_bytes m h.0) (ap (λ t. codes "\n" ++ t) (lines_bytes r (level + 1) most h.2)))))))
     lines_bytes (paren e) level most h =
         let many = token (punct kind.LeftParen) ∷ newline ∷ (lines (derive e) (level + 1) most ++ closing_line level []) in
         chosen_bytes (line (derive (paren e))) (indent_items level many) level most (text (paren e)) _ (line_bytes g (paren e) h)
-        (indented_is level many (codes "(\n" ++ (laid e (level + 1) most ++ (codes "\n" ++ (indent level ++ codes ")"))))
-        (ap (λ t. codes "(\n" ++ t) (render_both (lines (derive e) (level + 1) most) (closing_line level []) (laid e (level + 1) most) _ (lines_bytes e (level + 1) most h) (closing_bytes level [] refl))))
+        (indented_is level many (codes "(\n" ++ (layout_of e (level + 1) most ++ (codes "\n" ++ (indent level ++ codes ")"))))
+        (ap (λ t. codes "(\n" ++ t) (render_both (lines (derive e) (level + 1) most) (closing_line level []) (layout_of e (level + 1) most) _ (lines_bytes e (level + 1) most h) (closing_bytes level [] refl))))
     lines_bytes (subquery e o a range step) level most h =
         let below = part.subquery (time range) (option_map time step) in
-        suffix_lines level most o a (grammar.postfixed (derive e) below) (laid e level most ++ range_text range step)
-        (render_both (lines (derive e) level most) (postfix_line below) (laid e level most) (range_text range step) (lines_bytes e level most h.0) (range_bytes range step))
-        ∙ append_assoc (laid e level most) (range_text range step) (at_text a ++ offset_text o)
+        suffix_lines level most o a (grammar.postfixed (derive e) below) (layout_of e level most ++ range_text range step)
+        (render_both (lines (derive e) level most) (postfix_line below) (layout_of e level most) (range_text range step) (lines_bytes e level most h.0) (range_bytes range step))
+        ∙ append_assoc (layout_of e level most) (range_text range step) (at_text a ++ offset_text o)
     lines_bytes (number n) level most h = number_lines level most n
     lines_bytes (string s) level most h = indented_is level (line (derive (string s))) (quoted_text s) (append-nil (quoted_text s))
     lines_bytes (vector s) level most h = vector_laid level most s h
@@ -365,27 +365,27 @@ module _ (g : Text → Answer) where
         let close = codes "\n" ++ (indent level ++ codes ")") in
         let many = token (word (word_kind (name_of f)) (name_of f)) ∷ token (punct kind.LeftParen) ∷ newline ∷ arguments_lines (derive_all ts) (level + 1) most (closing_line level []) in
         chosen_bytes (line (derive (call f ts))) (indent_items level many) level most (text (call f ts)) _ (line_bytes g (call f ts) h)
-        (indented_is level many (name_of f ++ (codes "(\n" ++ (joined_text (codes ",\n") (laids ts (level + 1) most) ++ close)))
+        (indented_is level many (name_of f ++ (codes "(\n" ++ (joined_text (codes ",\n") (layouts_of ts (level + 1) most) ++ close)))
         (ap (λ t. name_of f ++ (codes "(\n" ++ t)) (arguments_laid ts (level + 1) most (closing_line level []) close h.1 (closing_bytes level [] refl))))
     lines_bytes (extension name gives ts) level most h = absurd h
 
-    param_laid : (p : MaybeTree) (e : Tree) (level most : ℕ) (after : List Item) (close : Text) → MaybePrintable g p → render (lines (derive e) level most) ≡ laid e level most → render after ≡ close
-        → render (arguments_lines (derive_after p (grammar.more (derive e) grammar.none)) level most after) ≡ layout.param_lines (maybe_laid p level most) ++ (laid e level most ++ close)
-    param_laid absent e level most after close k h c = render_both (lines (derive e) level most) after (laid e level most) close h c
+    param_laid : (p : MaybeTree) (e : Tree) (level most : ℕ) (after : List Item) (close : Text) → MaybePrintable g p → render (lines (derive e) level most) ≡ layout_of e level most → render after ≡ close
+        → render (arguments_lines (derive_after p (grammar.more (derive e) grammar.none)) level most after) ≡ layout.param_lines (maybe_layout_of p level most) ++ (layout_of e level most ++ close)
+    param_laid absent e level most after close k h c = render_both (lines (derive e) level most) after (layout_of e level most) close h c
     param_laid (present p) e level most after close k h c =
-        render_both (lines (derive p) level most) (token (punct kind.Comma) ∷ newline ∷ (lines (derive e) level most ++ after)) (laid p level most) (codes ",\n" ++ (laid e level most ++ close)) (lines_bytes p level most k)
-        (ap (λ t. codes ",\n" ++ t) (render_both (lines (derive e) level most) after (laid e level most) close h c))
-        ∙ sym (append_assoc (laid p level most) (codes ",\n") (laid e level most ++ close))
+        render_both (lines (derive p) level most) (token (punct kind.Comma) ∷ newline ∷ (lines (derive e) level most ++ after)) (layout_of p level most) (codes ",\n" ++ (layout_of e level most ++ close)) (lines_bytes p level most k)
+        (ap (λ t. codes ",\n" ++ t) (render_both (lines (derive e) level most) after (layout_of e level most) close h c))
+        ∙ sym (append_assoc (layout_of p level most) (codes ",\n") (layout_of e level most ++ close))
 
-    arguments_laid : (ts : Trees) (level most : ℕ) (after : List Item) (close : Text) → AllPrintable g ts → render after ≡ close → render (arguments_lines (derive_all ts) level most after) ≡ joined_text (codes ",\n") (laids ts level most) ++ close
+    arguments_laid : (ts : Trees) (level most : ℕ) (after : List Item) (close : Text) → AllPrintable g ts → render after ≡ close → render (arguments_lines (derive_all ts) level most after) ≡ joined_text (codes ",\n") (layouts_of ts level most) ++ close
     arguments_laid no_trees level most after close h c = c
     arguments_laid (first_tree t ts) level most after close h c =
-        render_both (lines (derive t) level most) (rest_lines (derive_all ts) level most after) (laid t level most) _ (lines_bytes t level most h.0) (rest_laid ts level most after close h.1 c)
-        ∙ sym (append_assoc (laid t level most) (flat_map (λ y. codes ",\n" ++ y) (laids ts level most)) close)
+        render_both (lines (derive t) level most) (rest_lines (derive_all ts) level most after) (layout_of t level most) _ (lines_bytes t level most h.0) (rest_laid ts level most after close h.1 c)
+        ∙ sym (append_assoc (layout_of t level most) (flat_map (λ y. codes ",\n" ++ y) (layouts_of ts level most)) close)
 
-    rest_laid : (ts : Trees) (level most : ℕ) (after : List Item) (close : Text) → AllPrintable g ts → render after ≡ close → render (rest_lines (derive_all ts) level most after) ≡ flat_map (λ y. codes ",\n" ++ y) (laids ts level most) ++ close
+    rest_laid : (ts : Trees) (level most : ℕ) (after : List Item) (close : Text) → AllPrintable g ts → render after ≡ close → render (rest_lines (derive_all ts) level most after) ≡ flat_map (λ y. codes ",\n" ++ y) (layouts_of ts level most) ++ close
     rest_laid no_trees level most after close h c = c
     rest_laid (first_tree t ts) level most after close h c =
         ap (λ x. codes ",\n" ++ x)
-        (render_both (lines (derive t) level most) (rest_lines (derive_all ts) level most after) (laid t level most) _ (lines_bytes t level most h.0) (rest_laid ts level most after close h.1 c)
-        ∙ sym (append_assoc (laid t level most) (flat_map (λ y. codes ",\n" ++ y) (laids ts level most)) close))
+        (render_both (lines (derive t) level most) (rest_lines (derive_all ts) level most after) (layout_of t level most) _ (lines_bytes t level most h.0) (rest_laid ts level most after close h.1 c)
+        ∙ sym (append_assoc (layout_of t level most) (flat_map (λ y. codes ",\n" ++ y) (layouts_of ts level most)) close))

@@ -12,7 +12,6 @@ use Rattle.promql_token.specs.Ids.{text_of}
 use Rattle.promql_token.specs.declared.ids.TheConstants.{T_SUB}
 use Rattle.promql_grammar.specs.declared.token_kinds.TokenKind.TheVariants as kind
 use Rattle.promql_grammar.specs.Grammar as grammar
-use Rattle.promql_grammar.specs.Grammar.{Arguments, Derivation}
 use Rattle.promql_grammar.specs.GrammarParts as part
 use Rattle.promql_grammar.specs.Symbols.{punct}
 use Rattle.promql_label.specs.Answers.{Answer}
@@ -34,7 +33,7 @@ use Rattle.promql_ast.specs.node.Subquery.{range_text, step_text}
 use Rattle.promql_ast.specs.node.Vector.{with_braces, selected_name_text}
 use Rattle.promql_syntax.proofs.Derive.{derive, derive_after, derive_all, derive_base, derive_number, with_mode}
 use Rattle.promql_syntax.proofs.PrintedItems.{Item, token, blank, render, close, wide, spacing, after_line, any_braces_line, arguments_line, before_line, item_line, items_line, line, modifier_line, postfix_line, rest_line, separator_line, signed_line, step_line, time_line}
-use Rattle.promql_syntax.proofs.PrintedParts.{any_items, braces, clause, items_of, group_items, item, modifier, or_items, time}
+use Rattle.promql_syntax.proofs.PrintedParts.{any_items, braces, clause, group_items, item, modifier, or_items, time}
 use Rattle.promql_syntax.proofs.PrintedParts as printed
 use Rattle.promql_syntax.proofs.Printable.{AllPrintable, IsSelecting, MaybePrintable, Printable, PrintableSelector}
 use Rattle.promql_syntax.proofs.PrintedBytes.{clause_bytes, render_both, mode_bytes, modifier_bytes, number_split, suffix_bytes, time_bytes}

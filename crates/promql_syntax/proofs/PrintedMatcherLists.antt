@@ -13,9 +13,8 @@ use Rattle.promql_label.specs.ReadMatchers.{insert_matcher, sorted_matchers}
 use Rattle.promql_label.specs.SortedTexts.{text_order}
 use Rattle.promql_ast.specs.Checks.{when}
 use Rattle.promql_ast.specs.Faults as build_errors
-use Rattle.promql_ast.specs.Faults.{passes}
 use Rattle.promql_ast.specs.Normal.{normal_matchers}
-use Rattle.promql_ast.specs.check.Vector.{name_fault, second_name}
+use Rattle.promql_ast.specs.check.VectorChecks.{name_fault, second_name}
 use Rattle.promql_syntax.specs.Asking.{gives, ◌giving◌, known, under}
 use Rattle.promql_syntax.specs.BuildErrors.{BuildError}
 use Rattle.promql_syntax.specs.PartBuilding.{any_braces_value, braces_value, item_value, items_value, append_matcher, label_value, operator_value, pattern_operator, string_value}

@@ -12,15 +12,15 @@ use Rattle.promql_grammar.specs.GrammarParts as part
 use Rattle.promql_grammar.specs.Grammar.{FitsMatching}
 use Rattle.promql_grammar.specs.Symbols.{Symbol}
 use Rattle.promql_kind.specs.Modifiers.{Clause, including, excluding, Cardinality, one_to_one, many_to_one, one_to_many, many_to_many, Fills, fills, Matching, matching, is_grouping, number_eq}
-use Rattle.promql_kind.proofs.Same.{number_eq-Decides}
+use Rattle.promql_kind.proofs.SameModifiersDecide.{number_eq-Decides}
 use Rattle.promql_ast.specs.Checks.{when, first_fault, unless, is_scalar, is_vector, is_scalar_or_vector}
 use Rattle.promql_ast.specs.Faults as build_errors
-use Rattle.promql_ast.specs.Faults.{Verdict, passes, rejected}
+use Rattle.promql_ast.specs.Faults.{Verdict, passes}
 use Rattle.promql_ast.specs.Normal.{normal_matched, normal_matching, unless_default}
 use Rattle.promql_ast.specs.OptionalModifiers.{has_matching_labels, is_grouped, is_on, joint_labels, returns_bool}
 use Rattle.promql_ast.specs.Tree.{Tree, binary}
 use Rattle.promql_ast.specs.Types.{type_of}
-use Rattle.promql_ast.specs.check.Binary.{checked_binary, first_twice, label_fault, operator_fault, set_fault, settle_matching, settled_set, side_fault}
+use Rattle.promql_ast.specs.check.BinaryChecks.{checked_binary, first_twice, label_fault, operator_fault, set_fault, settle_matching, settled_set, side_fault}
 use Rattle.promql_syntax.specs.BuildErrors.{BuildError}
 use Rattle.promql_syntax.specs.PartBuilding.{cardinality, fill_value, fills_value, group_value, is_blank, label_values, matching_clause, matching_value, modifier_value}
 use Rattle.promql_syntax.proofs.PrintedParts.{fill_words, flag, group, labels, matching_of_clause, modifier, value}
@@ -174,33 +174,33 @@ kept_labels one_to_one c b values = refl
 kept_labels card c b values = refl
 
 -- nothing is written exactly where the rest is the default
-abbrev Shown : Bool → Option Clause → Cardinality → Fills → Type 0
-Shown b c card values =
+abbrev BlankIfDefault : Bool → Option Clause → Cardinality → Fills → Type 0
+BlankIfDefault b c card values =
     let blank = is_blank (flag b) (matching_of_clause c (group card)) (fill_words values) in
     let kept = unless_default (matching (plain_card card) c b values) in
     ((blank ≡ true) × (kept ≡ None)) ⊎ ((blank ≡ false) × (kept ≡ Some (matching (plain_card card) c b values)))
 
-shown_fills : (values : Fills) →
+blank_fills : (values : Fills) →
     let blank = is_blank None part.no_matching (fill_words values) in
     let kept = unless_default (matching one_to_one None false values) in
     ((blank ≡ true) × (kept ≡ None)) ⊎ ((blank ≡ false) × (kept ≡ Some (matching one_to_one None false values)))
-shown_fills (fills None None) = inl (refl, refl)
-shown_fills (fills (Some r) None) = inr (refl, refl)
-shown_fills (fills None (Some l)) = inr (refl, refl)
-shown_fills (fills (Some r) (Some l)) = inr (go (number_eq l r), refl)
+blank_fills (fills None None) = inl (refl, refl)
+blank_fills (fills (Some r) None) = inr (refl, refl)
+blank_fills (fills None (Some l)) = inr (refl, refl)
+blank_fills (fills (Some r) (Some l)) = inr (go (number_eq l r), refl)
   where
     go : (b : Bool) → is_blank None part.no_matching (cond b (part.both (codes "fill") (value l)) (part.left_right (codes "fill_left") (value l) (codes "fill_right") (value r))) ≡ false
     go true = refl
     go false = refl
 
-modifier_shows : (b : Bool) (c : Option Clause) (card : Cardinality) (values : Fills) → IsGroupedAfter c card → Shown b c card values
-modifier_shows true c card values h = inr (refl, kept_bool (plain_card card) c values)
-modifier_shows false (Some (including ls)) card values h = inr (refl, kept_labels (plain_card card) (including ls) false values)
-modifier_shows false (Some (excluding ls)) card values h = inr (refl, kept_labels (plain_card card) (excluding ls) false values)
-modifier_shows false None (many_to_one ls) values h = absurd h
-modifier_shows false None (one_to_many ls) values h = absurd h
-modifier_shows false None one_to_one values h = shown_fills values
-modifier_shows false None many_to_many values h = shown_fills values
+blank_modifier : (b : Bool) (c : Option Clause) (card : Cardinality) (values : Fills) → IsGroupedAfter c card → BlankIfDefault b c card values
+blank_modifier true c card values h = inr (refl, kept_bool (plain_card card) c values)
+blank_modifier false (Some (including ls)) card values h = inr (refl, kept_labels (plain_card card) (including ls) false values)
+blank_modifier false (Some (excluding ls)) card values h = inr (refl, kept_labels (plain_card card) (excluding ls) false values)
+blank_modifier false None (many_to_one ls) values h = absurd h
+blank_modifier false None (one_to_many ls) values h = absurd h
+blank_modifier false None one_to_one values h = blank_fills values
+blank_modifier false None many_to_many values h = blank_fills values
 
 flag_again : (b : Bool) → is_some (flag b) ≡ b
 flag_again true = refl
@@ -211,7 +211,7 @@ written_again : (b : Bool) (c : Option Clause) (card : Cardinality) (values : Fi
 written_again b c card values h k = ⊎_elim
     (λ x. ap (λ o. cond o (Ok None) rest) x.0 ∙ ap Ok (sym x.1))
     (λ x. ap (λ o. cond o (Ok None) rest) x.0 ∙ all ∙ ap Ok (sym x.1))
-    (modifier_shows b c card values h)
+    (blank_modifier b c card values h)
   where
     rest : Result (Option Matching) BuildError
     rest = matching_value (matching_of_clause c (group card)) then λ x. fills_value (fill_words values) then λ f. Ok (Some (matching x.0 x.1 (is_some (flag b)) f))
@@ -370,14 +370,14 @@ ungrouped_of false true false true true a b c = cc
 ungrouped_of false true false false true a b c = cc
 ungrouped_of false false false vr true a b c = cc
 
-pub record Checked (op : ℕ) (l r : Tree) (m : Option Matching) (t : Tree) : Type 0 where
+pub record PassesChecks (op : ℕ) (l r : Tree) (m : Option Matching) (t : Tree) : Type 0 where
   pub operator : operator_fault op (type_of l) (type_of r) m ≡ None
   pub label : label_fault m ≡ None
   pub set : set_fault op (type_of l) (type_of r) m ≡ None
   pub side : side_fault (type_of l) (type_of r) m ≡ None
   pub is : binary op l r (settle_matching op m) ≡ t
 
-pub binary_checked : (op : ℕ) (l r : Tree) (m : Option Matching) (t : Tree) → checked_binary op l r m ≡ passes t → Checked op l r m t
+pub binary_checked : (op : ℕ) (l r : Tree) (m : Option Matching) (t : Tree) → checked_binary op l r m ≡ passes t → PassesChecks op l r m t
 binary_checked op l r m t e =
     let one = unless_passes (operator_fault op (type_of l) (type_of r) m) _ t e in
     let two = unless_passes (label_fault m) _ t one.1 in
@@ -385,7 +385,7 @@ binary_checked op l r m t e =
     let four = unless_passes (side_fault (type_of l) (type_of r) m) _ t three.1 in
     record { operator = one.0; label = two.0; set = three.0; side = four.0; is = cc }
 
-pub set_has_no_group : (op : ℕ) (l r : Tree) (m : Option Matching) (t : Tree) → Checked op l r m t → is_set_operator op ≡ true → is_grouped m ≡ false
+pub set_has_no_group : (op : ℕ) (l r : Tree) (m : Option Matching) (t : Tree) → PassesChecks op l r m t → is_set_operator op ≡ true → is_grouped m ≡ false
 set_has_no_group op l r m t c e =
     let set = both_none (is_set_operator op && (is_scalar (type_of l) || is_scalar (type_of r))) (is_set_operator op && ((is_vector (type_of l) && is_vector (type_of r)) && is_grouped m)) _ _ c.set in
     let side = both_none (not (is_scalar_or_vector (type_of l) && is_scalar_or_vector (type_of r))) (not (is_vector (type_of l) && is_vector (type_of r)) && has_matching_labels m) _ _ c.side in
@@ -395,7 +395,7 @@ set_has_no_group op l r m t c e =
     side.0
 
 -- trees of the same types and a modifier that says the same pass
-pub checked_again : (op : ℕ) (l r l' r' : Tree) (m m' : Option Matching) (t : Tree) → type_of l' ≡ type_of l → type_of r' ≡ type_of r → Alike m' m → Checked op l r m t
+pub checked_again : (op : ℕ) (l r l' r' : Tree) (m m' : Option Matching) (t : Tree) → type_of l' ≡ type_of l → type_of r' ≡ type_of r → Alike m' m → PassesChecks op l r m t
     → checked_binary op l' r' m' ≡ passes (binary op l' r' (settle_matching op m'))
 checked_again op l r l' r' m m' t el er a c =
     no_fault (operator_fault op (type_of l') (type_of r') m') _ _ (operator ∙ c.operator)

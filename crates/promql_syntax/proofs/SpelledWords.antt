@@ -152,79 +152,79 @@ tokens_fit text ts is = by_result (lexing.tokens text) refl is
 
 -- ---- parts of lists
 
-abbrev behind : Bool → List Symbol → Bool
-behind inside [] = inside
-behind inside (punct k ∷ ts) = behind (in_after inside k) ts
-behind inside (word k text ∷ ts) = behind inside ts
+abbrev inside_after : Bool → List Symbol → Bool
+inside_after inside [] = inside
+inside_after inside (punct k ∷ ts) = inside_after (in_after inside k) ts
+inside_after inside (word k text ∷ ts) = inside_after inside ts
 
-behind_append : (b : Bool) (ts us : List Symbol) → behind b (ts ++ us) ≡ behind (behind b ts) us
-behind_append b [] us = refl
-behind_append b (punct k ∷ ts) us = behind_append (in_after b k) ts us
-behind_append b (word k text ∷ ts) us = behind_append b ts us
+inside_after_append : (b : Bool) (ts us : List Symbol) → inside_after b (ts ++ us) ≡ inside_after (inside_after b ts) us
+inside_after_append b [] us = refl
+inside_after_append b (punct k ∷ ts) us = inside_after_append (in_after b k) ts us
+inside_after_append b (word k text ∷ ts) us = inside_after_append b ts us
 
 -- parts that end outside braces, where they begin there
-both : (ts us : List Symbol) → behind false ts ≡ false → behind false us ≡ false → behind false (ts ++ us) ≡ false
-both ts us first second = behind_append false ts us ∙ ap (λ b. behind b us) first ∙ second
+both : (ts us : List Symbol) → inside_after false ts ≡ false → inside_after false us ≡ false → inside_after false (ts ++ us) ≡ false
+both ts us first second = inside_after_append false ts us ∙ ap (λ b. inside_after b us) first ∙ second
 
 left_fits : (b : Bool) (ts us : List Symbol) → AllFit b (ts ++ us) → AllFit b ts
 left_fits b [] us h = tt
 left_fits b (punct k ∷ ts) us h = left_fits (in_after b k) ts us h
 left_fits b (word k text ∷ ts) us h = (h.0, left_fits b ts us h.1)
 
-right_fits : (b : Bool) (ts us : List Symbol) → AllFit b (ts ++ us) → AllFit (behind b ts) us
+right_fits : (b : Bool) (ts us : List Symbol) → AllFit b (ts ++ us) → AllFit (inside_after b ts) us
 right_fits b [] us h = h
 right_fits b (punct k ∷ ts) us h = right_fits (in_after b k) ts us h
 right_fits b (word k text ∷ ts) us h = right_fits b ts us h.1
 
-past_fits : (ts us : List Symbol) → behind false ts ≡ false → AllFit false (ts ++ us) → AllFit false us
+past_fits : (ts us : List Symbol) → inside_after false ts ≡ false → AllFit false (ts ++ us) → AllFit false us
 past_fits ts us out h = subst (λ b. AllFit b us) out (right_fits false ts us h)
 
 -- ---- parts of a derivation end outside braces
 
-time_out : (t : part.Time) → behind false (part.yield_time t) ≡ false
+time_out : (t : part.Time) → inside_after false (part.yield_time t) ≡ false
 time_out (part.seconds text) = refl
 time_out (part.duration text) = refl
 
-signed_out : (s : part.Signed) → behind false (part.yield_signed s) ≡ false
+signed_out : (s : part.Signed) → inside_after false (part.yield_signed s) ≡ false
 signed_out part.unsigned = refl
 signed_out (part.signed op text) = refl
 
-names_out : (n : part.Names) → behind false (part.yield_names n) ≡ false
+names_out : (n : part.Names) → inside_after false (part.yield_names n) ≡ false
 names_out (part.last k text) = refl
 names_out (part.last_comma k text) = refl
 names_out (part.next k text names) = names_out names
 
-labels_out : (ls : part.Labels) → behind false (part.yield_labels ls) ≡ false
+labels_out : (ls : part.Labels) → inside_after false (part.yield_labels ls) ≡ false
 labels_out part.no_label = refl
 labels_out (part.labels names) = names_out names
 
-grouping_out : (g : part.Grouping) → behind false (part.yield_grouping g) ≡ false
+grouping_out : (g : part.Grouping) → inside_after false (part.yield_grouping g) ≡ false
 grouping_out (part.by text ls) = labels_out ls
 grouping_out (part.without text ls) = labels_out ls
 
-before_out : (c : part.Clause) → behind false (part.yield_before c) ≡ false
+before_out : (c : part.Clause) → inside_after false (part.yield_before c) ≡ false
 before_out part.no_clause = refl
 before_out (part.before g) = grouping_out g
 before_out (part.after g) = refl
 
-after_out : (c : part.Clause) → behind false (part.yield_after c) ≡ false
+after_out : (c : part.Clause) → inside_after false (part.yield_after c) ≡ false
 after_out part.no_clause = refl
 after_out (part.before g) = refl
 after_out (part.after g) = grouping_out g
 
-group_out : (g : part.Group) → behind false (part.yield_group g) ≡ false
+group_out : (g : part.Group) → inside_after false (part.yield_group g) ≡ false
 group_out part.no_group = refl
 group_out (part.bare k text) = refl
 group_out (part.listed k text ls) = labels_out ls
 
-matching_out : (m : part.Matching) → behind false (part.yield_matching m) ≡ false
+matching_out : (m : part.Matching) → inside_after false (part.yield_matching m) ≡ false
 matching_out part.no_matching = refl
 matching_out (part.matching k text ls g) = both (part.yield_labels ls) (part.yield_group g) (labels_out ls) (group_out g)
 
-value_out : (v : part.FillValue) → behind false (part.yield_value v) ≡ false
+value_out : (v : part.FillValue) → inside_after false (part.yield_value v) ≡ false
 value_out v = both (part.yield_signed v.sign) (word kind.Number v.number ∷ punct kind.RightParen ∷ []) (signed_out v.sign) refl
 
-fills_out : (f : part.Fills) → behind false (part.yield_fills f) ≡ false
+fills_out : (f : part.Fills) → inside_after false (part.yield_fills f) ≡ false
 fills_out part.no_fill = refl
 fills_out (part.both text v) = value_out v
 fills_out (part.left text v) = value_out v
@@ -232,50 +232,50 @@ fills_out (part.right text v) = value_out v
 fills_out (part.left_right text v text' w) = both (part.yield_value v) (word kind.FillRight text' ∷ part.yield_value w) (value_out v) (value_out w)
 fills_out (part.right_left text v text' w) = both (part.yield_value v) (word kind.FillLeft text' ∷ part.yield_value w) (value_out v) (value_out w)
 
-flag_out : (f : Option Text) → behind false (part.yield_flag f) ≡ false
+flag_out : (f : Option Text) → inside_after false (part.yield_flag f) ≡ false
 flag_out None = refl
 flag_out (Some text) = refl
 
-modifier_out : (m : part.Modifier) → behind false (part.yield_modifier m) ≡ false
+modifier_out : (m : part.Modifier) → inside_after false (part.yield_modifier m) ≡ false
 modifier_out m =
     both (part.yield_flag m.flag) (part.yield_matching m.matching ++ part.yield_fills m.fills) (flag_out m.flag)
     (both (part.yield_matching m.matching) (part.yield_fills m.fills) (matching_out m.matching) (fills_out m.fills))
 
-match_inside : (s : part.MatchOperator) (ts : List Symbol) → behind true (part.yield_match_sign s ∷ ts) ≡ behind true ts
+match_inside : (s : part.MatchOperator) (ts : List Symbol) → inside_after true (part.yield_match_operator s ∷ ts) ≡ inside_after true ts
 match_inside part.equal ts = refl
 match_inside (part.not_equal text) ts = refl
 match_inside part.equal_regex ts = refl
 match_inside part.not_equal_regex ts = refl
 
-item_inside : (i : part.Item) → behind true (part.yield_item i) ≡ true
+item_inside : (i : part.Item) → inside_after true (part.yield_item i) ≡ true
 item_inside (part.matcher k text s value) = match_inside s (word kind.String value ∷ [])
 item_inside (part.lone text) = refl
 
-inside_then : (i : part.Item) (us : List Symbol) → behind true us ≡ false → behind true (part.yield_item i ++ us) ≡ false
-inside_then i us more = behind_append true (part.yield_item i) us ∙ ap (λ b. behind b us) (item_inside i) ∙ more
+inside_then : (i : part.Item) (us : List Symbol) → inside_after true us ≡ false → inside_after true (part.yield_item i ++ us) ≡ false
+inside_then i us more = inside_after_append true (part.yield_item i) us ∙ ap (λ b. inside_after b us) (item_inside i) ∙ more
 
-separator_inside : (s : part.Separator) (ts : List Symbol) → behind true (part.yield_separator s ∷ ts) ≡ behind true ts
+separator_inside : (s : part.Separator) (ts : List Symbol) → inside_after true (part.yield_separator s ∷ ts) ≡ inside_after true ts
 separator_inside part.comma ts = refl
 separator_inside (part.or text) ts = refl
 
-items_out : (is : part.Items) → behind true (part.yield_items is) ≡ false
+items_out : (is : part.Items) → inside_after true (part.yield_items is) ≡ false
 items_out (part.last_item i) = inside_then i (punct kind.RightBrace ∷ []) refl
 items_out (part.last_item_comma i) = inside_then i (punct kind.Comma ∷ punct kind.RightBrace ∷ []) refl
 items_out (part.next_item i s is) = inside_then i (part.yield_separator s ∷ part.yield_items is) (separator_inside s (part.yield_items is) ∙ items_out is)
 
-braces_out : (b : part.Braces) → behind false (part.yield_braces b) ≡ false
+braces_out : (b : part.Braces) → inside_after false (part.yield_braces b) ≡ false
 braces_out part.no_item = refl
 braces_out (part.items is) = items_out is
 
-any_braces_out : (b : Option part.Braces) → behind false (part.yield_any_braces b) ≡ false
+any_braces_out : (b : Option part.Braces) → inside_after false (part.yield_any_braces b) ≡ false
 any_braces_out None = refl
 any_braces_out (Some b) = braces_out b
 
-step_out : (t : Option part.Time) → behind false (part.yield_step t) ≡ false
+step_out : (t : Option part.Time) → inside_after false (part.yield_step t) ≡ false
 step_out None = refl
 step_out (Some t) = time_out t
 
-postfix_out : (p : part.Postfix) → behind false (part.yield_postfix p) ≡ false
+postfix_out : (p : part.Postfix) → inside_after false (part.yield_postfix p) ≡ false
 postfix_out (part.range t) = both (part.yield_time t) (punct kind.RightBracket ∷ []) (time_out t) refl
 postfix_out (part.subquery t s) =
     both (part.yield_time t) (punct kind.Colon ∷ (part.yield_step s ++ punct kind.RightBracket ∷ [])) (time_out t) (both (part.yield_step s) (punct kind.RightBracket ∷ []) (step_out s) refl)
@@ -285,7 +285,7 @@ postfix_out (part.offset text s t) = both (part.yield_signed s) (part.yield_time
 postfix_out (part.mode k text) = refl
 
 mutual
-  all_out : (d : Derivation) → behind false (yield d) ≡ false
+  all_out : (d : Derivation) → inside_after false (yield d) ≡ false
   all_out (grammar.number text) = refl
   all_out (grammar.duration text) = refl
   all_out (grammar.string text) = refl
@@ -300,11 +300,11 @@ mutual
   all_out (grammar.binary op text m l r) =
       both (yield l) (word (kind.Operator op) text ∷ (part.yield_modifier m ++ yield r)) (all_out l) (both (part.yield_modifier m) (yield r) (modifier_out m) (all_out r))
 
-  arguments_out : (ds : Arguments) → behind false (yield_arguments ds) ≡ false
+  arguments_out : (ds : Arguments) → inside_after false (yield_arguments ds) ≡ false
   arguments_out grammar.none = refl
   arguments_out (grammar.more d ds) = both (yield d) (yield_rest ds) (all_out d) (rest_out ds)
 
-  rest_out : (ds : Arguments) → behind false (yield_rest ds) ≡ false
+  rest_out : (ds : Arguments) → inside_after false (yield_rest ds) ≡ false
   rest_out grammar.none = refl
   rest_out (grammar.more d ds) = both (yield d) (yield_rest ds) (all_out d) (rest_out ds)
 

@@ -8,7 +8,7 @@ use Rattle.promql_grammar.specs.Parsing.{Read, parse_label_list}
 use Rattle.promql_grammar.specs.Results.{◌then◌}
 use Rattle.promql_grammar.specs.Symbols.{Symbol, punct}
 use Rattle.promql_kind.specs.Modifiers.{Clause, Cardinality, Fills, fills, Matching, matching}
-use Rattle.promql_kind.specs.Views.{cardinality_of, clause_of}
+use Rattle.promql_kind.specs.ModifierViews.{cardinality_of, clause_of}
 use Rattle.promql_syntax.specs.declared.grammar.modifier.Matching as code
 use Rattle.promql_syntax.specs.BuildErrors.{BuildError}
 use Rattle.promql_syntax.specs.PartBuilding.{label_values}

@@ -7,7 +7,7 @@ use Rattle.promql_ast.specs.declared.expr.Expr.{Expr}
 use Rattle.std.specs.declared.alloc.Global.{Global}
 use Rattle.std.specs.declared.boxed.Box.{Box}
 use Rattle.promql_kind.specs.Modifiers.{Clause, Matching}
-use Rattle.promql_kind.specs.Views.{clause_of, matching_of}
+use Rattle.promql_kind.specs.ModifierViews.{clause_of, matching_of}
 use Rattle.promql_kind.specs.declared.bin_modifier.BinModifier.{BinModifier}
 use Rattle.promql_kind.specs.declared.label_modifier.LabelModifier.{LabelModifier}
 use Rattle.promql_grammar.specs.GrammarParts as part

@@ -5,7 +5,7 @@ ghost use Rattle.promql_text.specs.Equalities.{IsSameBy};
 ghost use Rattle.promql_grammar.specs.Grammar.{Derivation, IsWellFormed, yield};
 ghost use Rattle.promql_text.specs.Texts.{Text};
 ghost use Rattle.promql_label.specs.Answers.{Answer};
-ghost use Rattle.promql_ast.specs.Layout.{laid};
+ghost use Rattle.promql_ast.specs.Layout.{layout_of};
 ghost use Rattle.promql_ast.specs.Normal.{normal};
 ghost use Rattle.promql_ast.specs.Text.{text};
 ghost use Rattle.promql_ast.specs.Tree.{Tree};
@@ -43,7 +43,7 @@ pub fn laid_reads_back()
     ensures line { (g : Text → Answer) (source : Text) (t : Tree) → HasTree g source t
         → HasTree g (text t) (normal t) }
     ensures lines { (g : Text → Answer) (source : Text) (t : Tree) → HasTree g source t
-        → (level most : ℕ) → HasTree g (laid t level most) (normal t) }
+        → (level most : ℕ) → HasTree g (layout_of t level most) (normal t) }
 {}
 
 /// With one answer for each pattern, the trees of two texts print alike exactly if their normal

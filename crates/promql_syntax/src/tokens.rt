@@ -100,6 +100,7 @@ impl<'a> Tokens<'a> {
             Lookahead::Fault | Lookahead::End => self.lookahead = Lookahead::End,
         }
     }
+
     /// Takes the first token: its kind and text.
     pub fn next(&mut self) -> Option<(TokenKind, &'a str)>
         ensures { MatchOption result (symbols_left self.old ≡ [])

@@ -15,7 +15,7 @@ use Rattle.promql_text.specs.Rounding.{at_point, Compares, IsTail, ComparesHalf,
 use Rattle.promql_text.specs.declared.seconds.Digits.{Digits}
 use Rattle.promql_text.specs.declared.seconds.RoundingTail.{RoundingTail}
 use Rattle.promql_text.specs.declared.seconds.RoundingTail.TheVariants.{Empty, Below, Half, Above}
-use Rattle.promql_text.proofs.Rounding.{rounded_down, rounded_even, rounded_up, nearest_parts, digits_value-append, capped_times}
+use Rattle.promql_text.proofs.RoundedQuotients.{rounded_down, rounded_even, rounded_up, nearest_parts, digits_value-append, capped_times}
 
 -- ---- a half
 
@@ -84,11 +84,11 @@ push_before n ds c digit old new is before to whole half read =
     capped_digit v d = omega arith
 
 -- after it
-pub push_behind : (n : ℕ) (ds : Text) (c : ℕ) (t : RoundingTail) (old new : Digits) → old.to_point ≡ 0 → new.to_point ≡ old.to_point → new.whole ≡ old.whole → new.tail ≡ t → (ComparesHalf old.tail (drop n ds) → ComparesHalf t (drop n ds ++ (c ∷ []))) → HasRead n ds old → HasRead n (ds ++ (c ∷ [])) new
-push_behind n ds c t old new behind to whole half compares read =
-    let past : n ≤ length ds = omega (arith, read.to_point, behind) in
+pub push_past_point : (n : ℕ) (ds : Text) (c : ℕ) (t : RoundingTail) (old new : Digits) → old.to_point ≡ 0 → new.to_point ≡ old.to_point → new.whole ≡ old.whole → new.tail ≡ t → (ComparesHalf old.tail (drop n ds) → ComparesHalf t (drop n ds ++ (c ∷ []))) → HasRead n ds old → HasRead n (ds ++ (c ∷ [])) new
+push_past_point n ds c t old new past_point to whole half compares read =
+    let past : n ≤ length ds = omega (arith, read.to_point, past_point) in
     record {
-      to_point = omega (arith, to, behind, read.to_point, length_push ds c);
+      to_point = omega (arith, to, past_point, read.to_point, length_push ds c);
       whole = whole ∙ read.whole ∙ ap (λ ds. cap_u128 (digits_value 10 ds)) (sym (take-append-le n ds (c ∷ []) past));
       tail = subst (λ h. ComparesHalf h (drop n (ds ++ (c ∷ [])))) (sym half) (subst (λ x. ComparesHalf t x) (sym (drop-append-le n ds (c ∷ []) past)) (compares read.tail));
     }
@@ -135,18 +135,18 @@ moved_is Above w r h above = rounded_up w r (h * 2) (omega arith)
 -- digits after the point
 finish_some : (n : ℕ) (ds : Text) (t : RoundingTail) → AllDigits 10 ds → IsTail t (drop n ds) → cap_u128 (round_by_tail t (digits_value 10 (take n ds))) ≡ cap_u128 (at_point n ds)
 unfolding at_point
-finish_some n ds tail digits behind =
+finish_some n ds tail digits past_point =
     let t : Text = drop n ds in
-    let past : n < length ds = omega (arith, length-drop n ds, behind.0) in
+    let past : n < length ds = omega (arith, length-drop n ds, past_point.0) in
     let m : ℕ = length t in
     let h : ℕ = 5 * 10 ^ (m - 1) in
     let w : ℕ = digits_value 10 (take n ds) in
     let r : ℕ = digits_value 10 t in
-    let one_more : m ≡ suc (m - 1) = omega (arith, behind.0) in
+    let one_more : m ≡ suc (m - 1) = omega (arith, past_point.0) in
     let twice : 10 ^ m ≡ h * 2 = ap (λ k. 10 ^ k) one_more ∙ pow-suc 10 (m - 1) ∙ (let e : 10 ^ (m - 1) * 10 ≡ 5 * 10 ^ (m - 1) * 2 = omega arith in e) in
     let parts : digits_value 10 ds ≡ w * 10 ^ m + r = ap (digits_value 10) (sym (take-append-drop n ds)) ∙ digits_value-append (take n ds) t in
     let below : r < 10 ^ m = digits_value-lt 10 t (digits_drop n ds digits) in
-    ap cap_u128 (sym (moved_is tail w r h behind.1)
+    ap cap_u128 (sym (moved_is tail w r h past_point.1)
     ∙ ap (round_half_even w r) (sym twice) ∙ sym (nearest_parts w (10 ^ m) r below)
     ∙ ap (λ v. nearest v (10 ^ m)) (sym parts)
     ∙ ap (λ k. nearest (digits_value 10 ds) (10 ^ k)) (length-drop n ds)

@@ -12,7 +12,7 @@ use Rattle.promql_text.specs.DecimalForm.{front, digit_run, past_run, decimal_fo
 use Rattle.promql_text.specs.Durations.{nanos_of, word_of, units, is_no_digit, word_run, past_word, begins_part, parts_nanos}
 use Rattle.promql_text.specs.DurationForms.{Part, IsCount, AreParts, parts_text, parts_sum}
 use Rattle.promql_text.specs.declared.duration.Unit.{Unit}
-use Rattle.promql_text.proofs.Parts.{parts-end}
+use Rattle.promql_text.proofs.SaturatingParts.{parts-end}
 use Rattle.promql_text.proofs.ReadsDuration.{word_letter, word_no_point, word_no_end, word_runs, word_passed, same_word, NoWord, Apart, short_apart}
 use Rattle.promql_text.proofs.Runs.{run_digits, run_append, past_append, front_digit}
 use Rattle.promql_text.proofs.SpelledNumerals.{both, run_and_rest, nothing_left, run_some}
@@ -106,20 +106,20 @@ same m n e = cc
 none_some : (n : ℕ) → ◌≡◌ {A = Option ℕ} None (Some n) → ⊥
 none_some n e = cc
 
-abbrev behind : Text → Text
-behind s = past_word (past_run s)
+abbrev after_part : Text → Text
+after_part s = past_word (past_run s)
 
-word_cut : (u : Unit) (s : Text) → bytes_eq (word_run (past_run s)) (word_of u) ≡ true → s ≡ digit_run s ++ (word_of u ++ behind s)
+word_cut : (u : Unit) (s : Text) → bytes_eq (word_run (past_run s)) (word_of u) ≡ true → s ≡ digit_run s ++ (word_of u ++ after_part s)
 word_cut u s word =
     let w : Text = past_run s in
     run_and_rest s
-    ∙ ap (λ t. digit_run s ++ t) (sym (take-append-drop (prefix_len is_no_digit w) w) ∙ ap (λ t. t ++ behind s) ((bytes_eq-Decides (word_run w) (word_of u)).0 word))
+    ∙ ap (λ t. digit_run s ++ t) (sym (take-append-drop (prefix_len is_no_digit w) w) ∙ ap (λ t. t ++ after_part s) ((bytes_eq-Decides (word_run w) (word_of u)).0 word))
 
-part_found : (u : Unit) (us : List Unit) (s : Text) (n : ℕ) (o : Option ℕ) → ((m : ℕ) → o ≡ Some m → Found us (behind s) m) → begins_part u s ≡ true → option_map (λ k. digits_value 10 (digit_run s) * nanos_of u + k) o ≡ Some n → Found (u ∷ us) s n
+part_found : (u : Unit) (us : List Unit) (s : Text) (n : ℕ) (o : Option ℕ) → ((m : ℕ) → o ≡ Some m → Found us (after_part s) m) → begins_part u s ≡ true → option_map (λ k. digits_value 10 (digit_run s) * nanos_of u + k) o ≡ Some n → Found (u ∷ us) s n
 part_found u us s n None rest begins is = absurd (none_some n is)
 part_found u us s n (Some m) rest begins is =
     let h = both (is_ascii_digit (front s)) (bytes_eq (word_run (past_run s)) (word_of u)) begins in
-    let r : Found us (behind s) m = rest m refl in
+    let r : Found us (after_part s) m = rest m refl in
     let sum : n ≡ digits_value 10 (digit_run s) * nanos_of u + m = sym (same (digits_value 10 (digit_run s) * nanos_of u + m) n is) in (
       record { count = digit_run s; unit = u } ∷ r.0,
       inl (refl, (run_some s h.0, run_digits s), r.1),
@@ -142,7 +142,7 @@ parts_found [] s n is =
     (λ _ e. absurd (none_some n e))
     is
 parts_found (u ∷ us) s n is =
-    cond_both (begins_part u s) (option_map (λ k. digits_value 10 (digit_run s) * nanos_of u + k) (parts_nanos us (behind s))) (parts_nanos us s) (λ o. o ≡ Some n → Found (u ∷ us) s n)
-    (λ begins e. part_found u us s n (parts_nanos us (behind s)) (λ m h. parts_found us (behind s) m h) begins e)
+    cond_both (begins_part u s) (option_map (λ k. digits_value 10 (digit_run s) * nanos_of u + k) (parts_nanos us (after_part s))) (parts_nanos us s) (λ o. o ≡ Some n → Found (u ∷ us) s n)
+    (λ begins e. part_found u us s n (parts_nanos us (after_part s)) (λ m h. parts_found us (after_part s) m h) begins e)
     (λ _ e. skip_found u us s n (parts_found us s n e))
     is

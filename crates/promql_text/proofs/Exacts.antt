@@ -3,7 +3,7 @@ use Rattle.std.proofs.Common.{◌≡◌, ◌≢◌, ◌==◌, ℕ, ◌-◌, ◌*
 use Rattle.std.specs.Fmt.{digits}
 use Rattle.promql_text.specs.Numbers.{IsExact, exact_zero, digit_count, exact_quotient, seconds_of, whole, tens}
 use Rattle.std.proofs.lemmas.Bool.{ne_eqb}
-use Rattle.promql_text.proofs.Counts.{count_within}
+use Rattle.promql_text.proofs.DigitCounts.{count_within}
 use Rattle.promql_text.proofs.Tens.{below_product, zeros_below, Splits, splits}
 
 pub exact_zero_is : IsExact exact_zero

@@ -15,7 +15,7 @@ use Rattle.promql_text.specs.Significands.{IsLong}
 use Rattle.promql_text.specs.declared.number.Number.TheVariants as number
 use Rattle.promql_text.specs.declared.number.NumberFault.{NumberFault}
 use Rattle.promql_text.specs.declared.number.NumberFault.TheVariants as fault
-use Rattle.promql_text.proofs.Counts.{count_short}
+use Rattle.promql_text.proofs.DigitCounts.{count_short}
 use Rattle.promql_text.proofs.Radix.{value_append}
 use Rattle.promql_text.proofs.Tens.{Splits, splits, long_after}
 

@@ -10,7 +10,7 @@ use Rattle.std.proofs.lemmas.Fmt.{decimal_digit}
 use Rattle.std.proofs.Math.Nat.{pow-suc, div-lt_iff_lt-mul, div-add-mod}
 use Rattle.promql_text.specs.Texts.{Text}
 use Rattle.promql_text.specs.DurationText.{fraction_text}
-use Rattle.promql_text.proofs.Rounding.{ten_positive, ten_split, digits_after}
+use Rattle.promql_text.proofs.RoundedQuotients.{ten_positive, ten_split, digits_after}
 
 pub fraction-none : (k : ℕ) → fraction_text k 0 ≡ []
 unfolding fraction_text

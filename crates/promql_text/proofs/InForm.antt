@@ -9,7 +9,7 @@ use Rattle.std.proofs.Math.Nat.{zero-div, div-div-eq-div-mul, mul-div_left, div-
 use Rattle.std.proofs.lemmas.Bool.{cases_lt, eqb-false}
 use Rattle.std.proofs.lemmas.Bool.Decides.{nat_tests}
 use Rattle.promql_text.specs.Texts.{Text}
-use Rattle.promql_text.specs.DecimalForm.{front, digit_run, past_run, past_point, without_sign, is_word, is_minus, is_exponent, ends_well, Numeral, numeral, Reading, reading, NotANumber, Infinite, Signed, decimal_form, digits_number, exponent_size, places}
+use Rattle.promql_text.specs.DecimalForm.{front, digit_run, past_run, past_point, without_sign, is_word, is_minus, ends_well, Numeral, numeral, Reading, reading, NotANumber, Infinite, Signed, decimal_form, digits_number, exponent_size, places}
 use Rattle.promql_text.specs.DecimalForm as form
 use Rattle.promql_text.specs.NumberText.{at_place, finite, hexadecimal, is_digit_below, is_octal, is_x, without_whitespace, read_number, number_of, of_form, radix_number, apply_sign, zeros_of}
 use Rattle.promql_text.specs.Numbers.{Exact, IsExact, digit_count, exact_zero, is_in_range, from_digits, exact_quotient, tens, whole}
@@ -193,11 +193,11 @@ SignedIn (Some f) = ReadingIn (Some f.reading)
 numeral_form : (s : Text) → DigitsIfSome (numeral s)
 unfolding numeral
 numeral_form s =
-    let behind : Text = past_point (past_run s) in
-    let end : Text = past_run behind in
-    when DigitsIfSome ((is_ascii_digit (front s) || is_ascii_digit (front behind)) && ends_well end)
-    (Some (record { whole = digit_run s; fraction = digit_run behind; is_down = is_minus (drop 1 end); exponent = digit_run (without_sign (drop 1 end)) })) None
-    (λ _. (run_digits s, run_digits behind)) (λ _. tt)
+    let after_point : Text = past_point (past_run s) in
+    let end : Text = past_run after_point in
+    when DigitsIfSome ((is_ascii_digit (front s) || is_ascii_digit (front after_point)) && ends_well end)
+    (Some (record { whole = digit_run s; fraction = digit_run after_point; is_down = is_minus (drop 1 end); exponent = digit_run (without_sign (drop 1 end)) })) None
+    (λ _. (run_digits s, run_digits after_point)) (λ _. tt)
 
 read_form : (o : Option Numeral) → DigitsIfSome o → ReadingIn (option_map form.Finite o)
 read_form None h = tt

@@ -1,6 +1,6 @@
-pub mod Counts
+pub mod DigitCounts
 pub mod DigitsRead
-pub mod DurationForms
+pub mod DurationRelation
 pub mod DurationParts
 pub mod Escapes
 pub mod Exacts
@@ -11,11 +11,11 @@ pub mod InForm
 pub mod Joins
 pub mod WhitespaceLemmas
 pub mod Nearest
-pub mod NumberForms
+pub mod NumberRelation
 pub mod NumberTexts
 pub mod NumberValues
 pub mod OneForm
-pub mod Parts
+pub mod SaturatingParts
 pub mod Plain
 pub mod PointAmong
 pub mod Points
@@ -25,7 +25,7 @@ pub mod Quotients
 pub mod Radix
 pub mod ReadsBack
 pub mod ReadsDuration
-pub mod Rounding
+pub mod RoundedQuotients
 pub mod Runs
 pub mod ShortNumbers
 pub mod SpelledNumerals
@@ -33,7 +33,7 @@ pub mod SpelledForms
 pub mod QuotedCharacters
 pub mod Tens
 pub mod TextForms
-pub mod TextRows
+pub mod WorkedTexts
 pub mod TextsRead
 pub mod PrintedLengths
 pub mod Writing

@@ -6,7 +6,7 @@ use Rattle.std.proofs.Math.Nat.{div-add-mod}
 use Rattle.promql_text.specs.DecimalForm.{Numeral, digits_number, places, exponent_size}
 use Rattle.promql_text.specs.Durations.{nearest, round_half_even, second_nanos}
 use Rattle.promql_text.specs.DurationForms.{IsNearest, up, down}
-use Rattle.promql_text.proofs.Rounding.{rounded_down, rounded_even, rounded_up, nearest_parts, ten_positive}
+use Rattle.promql_text.proofs.RoundedQuotients.{rounded_down, rounded_even, rounded_up, nearest_parts, ten_positive}
 
 stays : (a b w r : ℕ) → 0 < b → a ≡ w * b + r → r * 2 ≤ b → (r * 2 ≡ b → w % 2 ≡ 0) → IsNearest a b w
 stays a b w r some parts low even = record {

@@ -10,7 +10,7 @@ use Rattle.promql_text.specs.DecimalForm.{Numeral, digits_number, places, expone
 use Rattle.promql_text.specs.Durations.{second_nanos}
 use Rattle.promql_text.specs.DurationReaders.{cap_u128}
 use Rattle.promql_text.specs.Rounding.{at_point, PlacesPoint}
-use Rattle.promql_text.proofs.Rounding.{nearest_none, nearest-at_point, ten_positive, ten_split, capped_zeros}
+use Rattle.promql_text.proofs.RoundedQuotients.{nearest_none, nearest-at_point, ten_positive, ten_split, capped_zeros}
 
 pub digits_append : (xs ys : Text) → AllDigits 10 xs → AllDigits 10 ys → AllDigits 10 (xs ++ ys)
 digits_append [] ys x y = y
@@ -41,15 +41,15 @@ second_none n digits point =
 far_zeros : (d z : ℕ) → 39 ≤ z → cap_u128 (d * 10 ^ z) ≡ cap_u128 (d * cap_u128 (10 ^ 39))
 far_zeros d z far = sym (capped_zeros d z) ∙ ap (λ k. cap_u128 (d * cap_u128 (10 ^ k))) (let e : min z 39 ≡ 39 = omega arith in e)
 
-behind_is : (ds : Text) (n : ℕ) → length ds ≤ n → at_point n ds ≡ digits_value 10 ds * 10 ^ (n - length ds)
+short_digits : (ds : Text) (n : ℕ) → length ds ≤ n → at_point n ds ≡ digits_value 10 ds * 10 ^ (n - length ds)
 unfolding at_point
-behind_is ds n within = cond-true (nat_le (length ds) n) _ _ (le-leb (length ds) n within)
+short_digits ds n within = cond-true (nat_le (length ds) n) _ _ (le-leb (length ds) n within)
 
 pub far_points : (ds : Text) (m n : ℕ) → length ds + 39 ≤ m → length ds + 39 ≤ n → cap_u128 (at_point m ds) ≡ cap_u128 (at_point n ds)
 far_points ds m n far farther =
     let d : ℕ = digits_value 10 ds in
-    ap cap_u128 (behind_is ds m (omega arith)) ∙ far_zeros d (m - length ds) (omega arith)
-    ∙ sym (ap cap_u128 (behind_is ds n (omega arith)) ∙ far_zeros d (n - length ds) (omega arith))
+    ap cap_u128 (short_digits ds m (omega arith)) ∙ far_zeros d (m - length ds) (omega arith)
+    ∙ sym (ap cap_u128 (short_digits ds n (omega arith)) ∙ far_zeros d (n - length ds) (omega arith))
 
 pub capped_point : (ds : Text) (n : ℕ) → length ds < 2 ^ 100 → cap_u128 (at_point (cap_u128 n) ds) ≡ cap_u128 (at_point n ds)
 capped_point ds n short =

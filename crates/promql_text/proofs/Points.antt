@@ -2,7 +2,7 @@
 use Rattle.std.proofs.Common.{◌≡◌, ℕ, ◌/◌, ◌%◌, ◌^◌, ◌<◌, ◌≤◌, arith, sym}
 use Rattle.std.proofs.Math.Nat.{div-eq_of_lt, mod-eq_of_lt, mod-lt, mod-le, pow-le-pow_right}
 use Rattle.promql_text.specs.Numbers.{digit_count}
-use Rattle.promql_text.proofs.Counts.{count_within}
+use Rattle.promql_text.proofs.DigitCounts.{count_within}
 use Rattle.promql_text.proofs.Tens.{ten_pos}
 
 power_le : (j k : ℕ) → j ≤ k → 10 ^ j ≤ 10 ^ k
@@ -15,8 +15,8 @@ pub power_fits : (k : ℕ) → k < 38 → 10 ^ k < 2 ^ 128
 power_fits k less = power_within k (omega arith)
 
 -- all digits come after the point
-pub all_behind : (n k : ℕ) → n < 10 ^ 38 → 38 ≤ k → (0 ≡ n / 10 ^ k) × (n ≡ n % 10 ^ k)
-all_behind n k short le =
+pub all_after_point : (n k : ℕ) → n < 10 ^ 38 → 38 ≤ k → (0 ≡ n / 10 ^ k) × (n ≡ n % 10 ^ k)
+all_after_point n k short le =
     let h = power_le 38 k le in
     let less : n < 10 ^ k = omega (arith, h) in
     (sym (div-eq_of_lt less), sym (mod-eq_of_lt less))

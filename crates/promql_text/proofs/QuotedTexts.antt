@@ -10,7 +10,7 @@ use Rattle.std.proofs.lemmas.Str.{encode_ascii}
 use Rattle.std.proofs.Math.Seq.{drop-append_seam}
 use Rattle.promql_text.specs.Texts.{Text}
 use Rattle.promql_text.specs.Quoting.{is_quote, letter, number, hexadecimal, escape, inside, unquoted_text}
-use Rattle.promql_text.specs.QuoteSpellings.{Spelling, Itself, OwnQuote, Letter, Octal, Hexadecimal, text_of, digits_behind, Spells, spelled_text, AllSpell, IsQuotedText}
+use Rattle.promql_text.specs.QuoteSpellings.{Spelling, Itself, OwnQuote, Letter, Octal, Hexadecimal, text_of, escape_digits, Spells, spelled_text, AllSpell, IsQuotedText}
 use Rattle.promql_text.proofs.Quotes.{escape-own, escape-x, escape-u, escape-U, escape-octal, escape-letter}
 use Rattle.promql_text.proofs.QuotedCharacters.{reads_between_backticks, reads_itself, reads_escape}
 
@@ -75,14 +75,14 @@ hexadecimal_reads n c ds r len digits value is =
     ∙ cond-true (scalar c) _ _ is
 
 -- which letter comes before how many digits
-behind_cases : (b n : ℕ) → digits_behind b ≡ Some n → ((b ≡ 120) × (n ≡ 2)) ⊎ (((b ≡ 117) × (n ≡ 4)) ⊎ ((b ≡ 85) × (n ≡ 8)))
-behind_cases b n is =
+escape_digits_cases : (b n : ℕ) → escape_digits b ≡ Some n → ((b ≡ 120) × (n ≡ 2)) ⊎ (((b ≡ 117) × (n ≡ 4)) ⊎ ((b ≡ 85) × (n ≡ 8)))
+escape_digits_cases b n is =
     ⊎_elim
-    (λ (x : b ≡ 120). inl (x, sym (same 2 n (sym (ap digits_behind x) ∙ is))))
+    (λ (x : b ≡ 120). inl (x, sym (same 2 n (sym (ap escape_digits x) ∙ is))))
     (λ (no_x : b ≡ 120 → ⊥). ⊎_elim
-    (λ (u : b ≡ 117). inr (inl (u, sym (same 4 n (sym (ap digits_behind u) ∙ is)))))
+    (λ (u : b ≡ 117). inr (inl (u, sym (same 4 n (sym (ap escape_digits u) ∙ is)))))
     (λ (no_u : b ≡ 117 → ⊥). ⊎_elim
-    (λ (U : b ≡ 85). inr (inr (U, sym (same 8 n (sym (ap digits_behind U) ∙ is)))))
+    (λ (U : b ≡ 85). inr (inr (U, sym (same 8 n (sym (ap escape_digits U) ∙ is)))))
     (λ (no_U : b ≡ 85 → ⊥). absurd (nothing n (sym (none b no_x no_u no_U) ∙ is)))
     (cases_eq b 85))
     (cases_eq b 117))
@@ -94,16 +94,16 @@ behind_cases b n is =
     nothing : (n : ℕ) → ◌≡◌ {A = Option ℕ} None (Some n) → ⊥
     nothing n e = cc
 
-    none : (b : ℕ) → (b ≡ 120 → ⊥) → (b ≡ 117 → ⊥) → (b ≡ 85 → ⊥) → digits_behind b ≡ None
+    none : (b : ℕ) → (b ≡ 120 → ⊥) → (b ≡ 117 → ⊥) → (b ≡ 85 → ⊥) → escape_digits b ≡ None
     none b x u U = cond-false (b == 120) _ _ (ne_eqb b 120 x) ∙ cond-false (b == 117) _ _ (ne_eqb b 117 u) ∙ cond-false (b == 85) _ _ (ne_eqb b 85 U)
 
 -- what comes after a letter and its digits is left
-behind_rest : (b n : ℕ) (ds r : Text) → length ds ≡ n → r ≡ drop (n + 1) (b ∷ (ds ++ r))
-behind_rest b n ds r len =
+escape_rest : (b n : ℕ) (ds r : Text) → length ds ≡ n → r ≡ drop (n + 1) (b ∷ (ds ++ r))
+escape_rest b n ds r len =
     sym (ap (λ k. drop k (b ∷ (ds ++ r))) (let e : n + 1 ≡ suc n = omega arith in e) ∙ ap (λ k. drop k (ds ++ r)) (sym len) ∙ drop-append_seam ds r)
 
-behind_reads : (quote b c : ℕ) (ds r : Text) → is_quote quote ≡ true → (quote ≡ 96 → ⊥) → digits_behind b ≡ Some (length ds) → AllDigits 16 ds → digits_value 16 ds ≡ c → IsScalar c → escape quote (b ∷ (ds ++ r)) ≡ Some (c, length ds + 1)
-behind_reads quote b c ds r is ticks behind digits value character =
+digits_escape_reads : (quote b c : ℕ) (ds r : Text) → is_quote quote ≡ true → (quote ≡ 96 → ⊥) → escape_digits b ≡ Some (length ds) → AllDigits 16 ds → digits_value 16 ds ≡ c → IsScalar c → escape quote (b ∷ (ds ++ r)) ≡ Some (c, length ds + 1)
+digits_escape_reads quote b c ds r is ticks count digits value character =
     let low = quote_low quote is ticks in
     let code = λ (n : ℕ) (len : length ds ≡ n). hexadecimal_reads n c ds r len digits value character ∙ ap (λ k. Some (c, k + 1)) (sym len) in
     ⊎_elim
@@ -112,7 +112,7 @@ behind_reads quote b c ds r is ticks behind digits value character =
     (λ u. ap (λ b. escape quote (b ∷ (ds ++ r))) u.0 ∙ escape-u quote (ds ++ r) (λ e. absurd (omega arith)) ∙ code 4 u.1)
     (λ U. ap (λ b. escape quote (b ∷ (ds ++ r))) U.0 ∙ escape-U quote (ds ++ r) (λ e. absurd (omega arith)) ∙ code 8 U.1)
     other)
-    (behind_cases b (length ds) behind)
+    (escape_digits_cases b (length ds) count)
 
 -- ---- a spelling, and all of them
 
@@ -130,7 +130,7 @@ spelling_reads quote (Octal x y z) c r is spells =
     escape_reads quote c 3 (x ∷ y ∷ z ∷ r) r is spells.0 (octal_reads quote x y z c r is spells.0 spells.1 spells.2 spells.3) refl
 spelling_reads quote (Hexadecimal b ds) c r is spells =
     escape_reads quote c (length ds + 1) (b ∷ (ds ++ r)) r is spells.0
-    (behind_reads quote b c ds r is spells.0 spells.1 spells.2 spells.3 spells.4) (behind_rest b (length ds) ds r refl)
+    (digits_escape_reads quote b c ds r is spells.0 spells.1 spells.2 spells.3 spells.4) (escape_rest b (length ds) ds r refl)
 
 all_read : (quote : ℕ) (ps : List Spelling) (cs : List ℕ) → is_quote quote ≡ true → AllSpell quote ps cs → inside quote 0 (spelled_text quote ps ++ quote ∷ []) ≡ Some (encode_utf8_all cs)
 all_read quote [] [] is spell = cond-true (quote == quote) _ _ (eq-eqb quote quote refl)

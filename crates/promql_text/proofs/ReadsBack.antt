@@ -14,7 +14,7 @@ use Rattle.std.proofs.lemmas.Bool.{cases_lt, eq-eqb, ne_eqb}
 use Rattle.std.proofs.lemmas.List.{length-replicate}
 use Rattle.std.proofs.lemmas.Nat.{div-add-mod'}
 use Rattle.promql_text.specs.Texts.{Text}
-use Rattle.promql_text.specs.DecimalForm.{front, digit_run, past_run, past_point, without_sign, is_word, is_minus, Numeral, numeral, Reading, reading, NotANumber, Infinite, Signed, decimal_form}
+use Rattle.promql_text.specs.DecimalForm.{front, without_sign, is_minus, Numeral, numeral, reading, decimal_form}
 use Rattle.promql_text.specs.DecimalForm as form
 use Rattle.promql_text.specs.NumberText.{is_x, is_octal, is_past_octal, read_number, number_of, finite, of_form, hexadecimal, radix_number, number_text}
 use Rattle.promql_text.specs.NumberDigits.{pad_zeros}

@@ -16,9 +16,9 @@ use Rattle.promql_text.specs.Durations.{nanos_of, word_of, units, is_no_digit, w
 use Rattle.promql_text.specs.DurationText.{count_text, counts_text, short_units, whole_text, fraction_text, duration_text}
 use Rattle.promql_text.specs.declared.duration.Unit.{Unit}
 use Rattle.promql_text.specs.declared.duration.Unit.TheVariants.{Year, Week, Day, Hour, Minute, Second, Milli}
-use Rattle.promql_text.proofs.Parts.{parts-end, duration-form}
+use Rattle.promql_text.proofs.SaturatingParts.{parts-end, duration-form}
 use Rattle.promql_text.proofs.Fractions.{fraction_is}
-use Rattle.promql_text.proofs.Rounding.{nearest_right, ten_split, digits_value-append}
+use Rattle.promql_text.proofs.RoundedQuotients.{nearest_right, ten_split, digits_value-append}
 use Rattle.promql_text.proofs.Runs.{run_append, past_append, front_digit}
 use Rattle.promql_text.proofs.TextForms.{word_form, point_form, plain_numeral, signed_of}
 

@@ -82,20 +82,20 @@ exponent_or_none n t h =
     h
 
 -- what comes after the digits before the point
-record Behind (r f : Text) : Type 0 where
+record AfterPoint (r f : Text) : Type 0 where
   stops : is_ascii_digit (front r) ≡ false
   past : past_point r ≡ f
 
-behind_at : (p q f : Text) → p ≡ q → Behind (q ++ f) f → Behind (p ++ f) f
-behind_at p q f e h = let P : Text → Type 0 = λ z. Behind (z ++ f) f in subst P (sym e) h
+after_point_at : (p q f : Text) → p ≡ q → AfterPoint (q ++ f) f → AfterPoint (p ++ f) f
+after_point_at p q f e h = let P : Text → Type 0 = λ z. AfterPoint (z ++ f) f in subst P (sym e) h
 
-behind : (p f e : Text) → IsPoint p f → is_ascii_digit (front e) ≡ false → past_point e ≡ e → Behind (p ++ (f ++ e)) (f ++ e)
-behind p f e is stops no_point =
+after_point : (p f e : Text) → IsPoint p f → is_ascii_digit (front e) ≡ false → past_point e ≡ e → AfterPoint (p ++ (f ++ e)) (f ++ e)
+after_point p f e is stops no_point =
     ⊎_elim
-    (λ point. behind_at p (46 ∷ []) (f ++ e) point (record { stops = refl; past = refl }))
+    (λ point. after_point_at p (46 ∷ []) (f ++ e) point (record { stops = refl; past = refl }))
     (λ none.
-    let P : Text → Type 0 = λ z. Behind (z ++ e) (z ++ e) in
-    behind_at p [] (f ++ e) none.0 (subst P (sym none.1) (record { stops = stops; past = no_point })))
+    let P : Text → Type 0 = λ z. AfterPoint (z ++ e) (z ++ e) in
+    after_point_at p [] (f ++ e) none.0 (subst P (sym none.1) (record { stops = stops; past = no_point })))
     is
 
 abbrev pub numeral_of : Text → Text → Bool → Text → Numeral
@@ -120,7 +120,7 @@ spelled_reads t n s =
     let r : Text = s.point ++ (f ++ e) in
     let u : Text = n.whole ++ r in
     let en : Ended n e = exponent_or_none n e s.ends in
-    let b : Behind r (f ++ e) = behind s.point f e s.has_point en.stops en.no_point in
+    let b : AfterPoint r (f ++ e) = after_point s.point f e s.has_point en.stops en.no_point in
     let rest : past_point (past_run u) ≡ f ++ e = ap past_point (past_append n.whole r s.whole b.stops) ∙ b.past in
     ap numeral s.is ∙ numeral_is u
     ∙ ap (λ z. numeral_of_parts u z (past_run z)) rest

@@ -69,9 +69,9 @@ reading_is s digit =
 abbrev pub plain_numeral : Text → Text → Numeral
 plain_numeral w f = record { whole = w; fraction = f; is_down = false; exponent = [] }
 
-numeral_ended : (s behind : Text) → past_point (past_run s) ≡ behind → past_run behind ≡ [] → is_ascii_digit (front s) ≡ true → numeral s ≡ Some (plain_numeral (digit_run s) (digit_run behind))
+numeral_ended : (s after_point : Text) → past_point (past_run s) ≡ after_point → past_run after_point ≡ [] → is_ascii_digit (front s) ≡ true → numeral s ≡ Some (plain_numeral (digit_run s) (digit_run after_point))
 unfolding numeral
-numeral_ended s behind is end digit = rw (is, end) (ap (λ b. cond ((b || is_ascii_digit (front behind)) && true) (Some (plain_numeral (digit_run s) (digit_run behind))) None) digit)
+numeral_ended s after_point is end digit = rw (is, end) (ap (λ b. cond ((b || is_ascii_digit (front after_point)) && true) (Some (plain_numeral (digit_run s) (digit_run after_point))) None) digit)
 
 pub reading_digits : (ds : Text) → 0 < length ds → AllDigits 10 ds → reading ds ≡ Some (Finite (plain_numeral ds []))
 reading_digits ds some digits =

@@ -11,7 +11,7 @@ use Rattle.std.proofs.Math.Seq.{drop-append_seam}
 use lib.Utf8.{scalar, scalars}
 use Rattle.promql_text.specs.Texts.{Text}
 use Rattle.promql_text.specs.Quoting.{is_quote, letter, number, hexadecimal, octal, escape, inside, unquoted_text}
-use Rattle.promql_text.specs.QuoteSpellings.{Spelling, Itself, OwnQuote, Letter, Octal, Hexadecimal, text_of, digits_behind, Spells, spelled_text, AllSpell, IsQuotedText}
+use Rattle.promql_text.specs.QuoteSpellings.{Spelling, Itself, OwnQuote, Letter, Octal, Hexadecimal, text_of, escape_digits, Spells, spelled_text, AllSpell, IsQuotedText}
 use Rattle.promql_text.proofs.Quotes.{escape-own, escape-x, escape-u, escape-U, escape-octal, escape-letter}
 use Rattle.promql_text.proofs.QuotedTexts.{slash_no_quote}
 use Rattle.promql_text.proofs.QuotedCharacters.{reads_between_backticks, reads_itself, slash_reads, inside-passed, closes, letter_past}
@@ -71,10 +71,10 @@ digits_low : (base : ℕ) (ds : Text) → base ≤ 16 → AllDigits base ds → 
 digits_low base [] small digits = tt
 digits_low base (b ∷ ds) small digits = (digit_low base b small digits.0, digits_low base ds small digits.1)
 
-utf8_behind : (w r : Text) → AllLow w → IsUtf8 (w ++ r) → IsUtf8 r
-utf8_behind [] r low text = text
-utf8_behind (b ∷ w) r low text =
-    utf8_behind w r low.1 (IsUtf8-past_char (b ∷ (w ++ r)) (w ++ r) b text (ap (λ e. e ++ (w ++ r)) (sym (encode_ascii b low.0))))
+utf8_after : (w r : Text) → AllLow w → IsUtf8 (w ++ r) → IsUtf8 r
+utf8_after [] r low text = text
+utf8_after (b ∷ w) r low text =
+    utf8_after w r low.1 (IsUtf8-past_char (b ∷ (w ++ r)) (w ++ r) b text (ap (λ e. e ++ (w ++ r)) (sym (encode_ascii b low.0))))
 
 -- ---- escapes
 
@@ -99,13 +99,13 @@ option_parts (Some d) p n c len is =
     (λ (other : p d ≡ false). absurd (none_some (sym (cond-false (p d) (Some (d, n)) None other) ∙ is)))
     (cases_Bool (p d))
 
-hexadecimal_found : (quote b n c len : ℕ) (z : Text) → (quote ≡ 96 → ⊥) → b < 128 → digits_behind b ≡ Some n → hexadecimal n z ≡ Some (c, len) → Escape quote c len (b ∷ z)
-hexadecimal_found quote b n c len z ticks low behind is =
+hexadecimal_found : (quote b n c len : ℕ) (z : Text) → (quote ≡ 96 → ⊥) → b < 128 → escape_digits b ≡ Some n → hexadecimal n z ≡ Some (c, len) → Escape quote c len (b ∷ z)
+hexadecimal_found quote b n c len z ticks low later is =
     let parts = option_parts (number 16 n 0 z) scalar (n + 1) c len is in
     let found = digits_found 16 n 0 c z parts.0 in
     record {
       spelling = Hexadecimal b found.digits;
-      spells = (ticks, behind ∙ ap Some (sym found.len), found.all, found.value, parts.1);
+      spells = (ticks, later ∙ ap Some (sym found.len), found.all, found.value, parts.1);
       bytes = b ∷ found.digits;
       text = refl;
       low = (low, digits_low 16 found.digits (omega arith) found.all);
@@ -267,13 +267,13 @@ at_slash quote k z rest t (Some e) more is ticks front utf8 short says reads =
     let found = map_found (λ x. encode_utf8 c ++ x) (inside quote (len + 1 - 1) rest) t reads in
     let esc = escape_any quote c len rest is ticks says in
     let dropped : drop len rest ≡ esc.rest = ap (drop len) esc.front ∙ ap (λ n. drop n (esc.bytes ++ esc.rest)) (sym esc.size) ∙ drop-append_seam esc.bytes esc.rest in
-    let behind : inside quote 0 esc.rest ≡ Some found.0 =
+    let later : inside quote 0 esc.rest ≡ Some found.0 =
     sym (ap (λ n. inside quote n rest) (let e : len + 1 - 1 ≡ len = omega arith in e) ∙ inside-passed quote len rest ∙ ap (inside quote 0) dropped) ∙ found.1
     in
     let fits : length esc.rest ≤ k = omega (arith, ap length esc.front, length-append esc.bytes esc.rest) in
-    let utf8_rest = utf8_behind esc.bytes esc.rest esc.low (subst IsUtf8 esc.front utf8) in
+    let utf8_rest = utf8_after esc.bytes esc.rest esc.low (subst IsUtf8 esc.front utf8) in
     subst (λ t. Inside quote z t) found.2
-    (inside_more quote c esc.spelling (92 ∷ esc.bytes) z esc.rest found.0 esc.spells esc.text (front ∙ ap (λ r. 92 ∷ r) esc.front) (more esc.rest found.0 utf8_rest fits behind))
+    (inside_more quote c esc.spelling (92 ∷ esc.bytes) z esc.rest found.0 esc.spells esc.text (front ∙ ap (λ r. 92 ∷ r) esc.front) (more esc.rest found.0 utf8_rest fits later))
 
 feed_none : (quote : ℕ) (rest : Text) → (quote ≡ 96 → ⊥) → (10 ≡ quote → ⊥) → inside quote 0 (10 ∷ rest) ≡ None
 feed_none quote rest ticks other =
@@ -325,7 +325,7 @@ text_is_quoted [] t utf8 reads = absurd (none_some reads)
 text_is_quoted (b ∷ z) t utf8 reads =
     ⊎_elim
     (λ (is : is_quote b ≡ true).
-    let utf8_z = utf8_behind (b ∷ []) z (quote_ascii b is, tt) utf8 in
+    let utf8_z = utf8_after (b ∷ []) z (quote_ascii b is, tt) utf8 in
     let found = all_found b (length z) is z t utf8_z (omega arith) (sym (cond-true (is_quote b) (inside b 0 z) None is) ∙ reads) in
     (found.chars, record { quote = b; spellings = found.spellings; is_quote = is; spell = found.spell; text = ap (λ z. b ∷ z) found.text }, found.value))
     (λ (other : is_quote b ≡ false). absurd (none_some (sym (cond-false (is_quote b) (inside b 0 z) None other) ∙ reads)))

@@ -1,4 +1,4 @@
--- A text that is written piece by piece: what is written so far, and what is still to be written, make it up.
+-- A text that is written part by part: what is written so far, and what is still to be written, make it up.
 use Rattle.std.proofs.Common.{◌≡◌, [], ◌++◌, sym, ap, ◌∙◌, append_assoc, append-nil}
 use Rattle.std.specs.Fmt.{HasWritten, IsPlainFormatter}
 use Rattle.std.specs.declared.fmt.Formatter.{Formatter}
@@ -16,10 +16,10 @@ module _ {W : Type 0} (took : W → Text → W → Type 0) (f : Formatter W) (wh
   pub writing_start : (rest : Text) → IsPlainFormatter f → rest ≡ whole → Writing took f whole f rest
   writing_start rest plain is = ([], (record { wrote = writes_in_calls_nil took f.writer; plain = plain }, is))
 
-  pub writing_more : (g : Formatter W) (rest piece : Text) (h : Formatter W) (less : Text) → Writing took f whole g rest
-      → HasWritten took g piece h → rest ≡ piece ++ less → Writing took f whole h less
-  writing_more g rest piece h less (w, (so_far, e)) now is =
-      (w ++ piece, (has_written_append _ _ _ _ _ _ so_far now, append_assoc w piece less ∙ ap (λ r. w ++ r) (sym is) ∙ e))
+  pub writing_more : (g : Formatter W) (rest part : Text) (h : Formatter W) (less : Text) → Writing took f whole g rest
+      → HasWritten took g part h → rest ≡ part ++ less → Writing took f whole h less
+  writing_more g rest part h less (w, (so_far, e)) now is =
+      (w ++ part, (has_written_append _ _ _ _ _ _ so_far now, append_assoc w part less ∙ ap (λ r. w ++ r) (sym is) ∙ e))
 
   pub writing_end : (g : Formatter W) (rest : Text) → Writing took f whole g rest → rest ≡ [] → HasWritten took f whole g
   writing_end g rest (w, (so_far, e)) is = has_written_of_eq _ _ _ _ _ (sym (append-nil w) ∙ ap (λ r. w ++ r) (sym is) ∙ e) so_far

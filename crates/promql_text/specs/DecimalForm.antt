@@ -52,10 +52,10 @@ ends_well s = length s == 0 || is_exponent s
 -- one or more digits with a point or none, and their end
 unfoldable pub numeral : Text → Option Numeral
 numeral s =
-    let behind = past_point (past_run s) in
-    let end = past_run behind in
-    if (is_ascii_digit (front s) || is_ascii_digit (front behind)) && ends_well end
-    then Some (record { whole = digit_run s; fraction = digit_run behind; is_down = is_minus (drop 1 end); exponent = digit_run (without_sign (drop 1 end)) })
+    let after_point = past_point (past_run s) in
+    let end = past_run after_point in
+    if (is_ascii_digit (front s) || is_ascii_digit (front after_point)) && ends_well end
+    then Some (record { whole = digit_run s; fraction = digit_run after_point; is_down = is_minus (drop 1 end); exponent = digit_run (without_sign (drop 1 end)) })
     else None
 
 -- What a text of the decimal form is without its sign.

@@ -3,7 +3,7 @@
 use Rattle.std.specs.Prelude.{◌≡◌, ◌≢◌, ◌⊎◌, ◌↔◌, ℕ, ◌+◌, ◌*◌, ◌%◌, ◌^◌, ◌<◌, ◌≤◌, ⊤, true, false, if◌then◌else◌, List, [], ◌∷◌, ◌++◌, length, Result, Ok, Err}
 use Rattle.std.specs.Str.Parse.{AllDigits, digits_value}
 use Rattle.promql_text.specs.Texts.{Text}
-use Rattle.promql_text.specs.DecimalForm.{Numeral, Reading, NotANumber, Signed, digits_number, places, exponent_size}
+use Rattle.promql_text.specs.DecimalForm.{Numeral, Reading, NotANumber, digits_number, places, exponent_size}
 use Rattle.promql_text.specs.DecimalForm as form
 use Rattle.promql_text.specs.NumeralSpelling.{IsDecimalForm}
 use Rattle.promql_text.specs.Durations.{nanos_of, word_of, units, duration_of}

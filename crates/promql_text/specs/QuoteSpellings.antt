@@ -21,8 +21,8 @@ text_of quote (Octal x y z) = 92 ∷ x ∷ y ∷ z ∷ []
 text_of quote (Hexadecimal b ds) = 92 ∷ b ∷ ds
 
 -- how many hexadecimal digits come after `x`, `u` and `U`
-abbrev pub digits_behind : ℕ → Option ℕ
-digits_behind b = if b == 120 then Some 2 else (if b == 117 then Some 4 else (if b == 85 then Some 8 else None))
+abbrev pub escape_digits : ℕ → Option ℕ
+escape_digits b = if b == 120 then Some 2 else (if b == 117 then Some 4 else (if b == 85 then Some 8 else None))
 
 -- the spelling is for the character c between these quotes
 abbrev pub Spells : ℕ → Spelling → ℕ → Type 0
@@ -30,7 +30,7 @@ Spells quote (Itself d) c = (d ≡ c) × IsScalar c × (c ≢ quote) × (quote �
 Spells quote OwnQuote c = (quote ≢ 96) × (c ≡ quote)
 Spells quote (Letter b) c = (quote ≢ 96) × (letter b ≡ Some c)
 Spells quote (Octal x y z) c = (quote ≢ 96) × AllDigits 8 (x ∷ y ∷ z ∷ []) × (digits_value 8 (x ∷ y ∷ z ∷ []) ≡ c) × (c ≤ 255)
-Spells quote (Hexadecimal b ds) c = (quote ≢ 96) × (digits_behind b ≡ Some (length ds)) × AllDigits 16 ds × (digits_value 16 ds ≡ c) × IsScalar c
+Spells quote (Hexadecimal b ds) c = (quote ≢ 96) × (escape_digits b ≡ Some (length ds)) × AllDigits 16 ds × (digits_value 16 ds ≡ c) × IsScalar c
 
 -- spellings in order, and the characters that they are for
 abbrev pub spelled_text : ℕ → List Spelling → Text

@@ -1,6 +1,6 @@
 //! Finite decimal numbers, exactly (docs/reference/texts.md, "Numbers").
 
-ghost use Rattle.std.specs.Prelude.{◌≡◌, ◌≢◌, ◌∷◌, ℕ, ◌+◌, ◌-◌, ◌*◌, ◌^◌, ◌%◌, ◌<◌, ◌≤◌, true, false, ◌==◌, Option, Some, None};
+ghost use Rattle.std.specs.Prelude.{◌≡◌, ◌≢◌, ◌+◌, ◌-◌, ◌*◌, ◌^◌, ◌%◌, ◌<◌, ◌≤◌, false, ◌==◌, Option, Some, None};
 ghost use Rattle.promql_text.specs.Numbers.{Exact, IsExact, digit_count, exact_zero, negate, from_digits, seconds_of, whole};
 
 use crate::packed_u128::PackedU128;
@@ -45,7 +45,7 @@ impl Model for Decimal {
 }
 
 /// How many digits the number has; zero has one.
-#[tactic(auto, using(crate::proofs::Counts::count_step, crate::proofs::Counts::count_small, crate::proofs::Counts::count_short))]
+#[tactic(auto, using(crate::proofs::DigitCounts::count_step, crate::proofs::DigitCounts::count_small, crate::proofs::DigitCounts::count_short))]
 pub(crate) fn digit_count(n: u128) -> u128
     requires { n < 10 ^ 38 }
     ensures value { result ≡ digit_count n }

@@ -1,6 +1,6 @@
 //! The decimal form of a text, read once from its start (docs/reference/texts.md, "The decimal form").
 
-ghost use Rattle.std.specs.Prelude.{◌≡◌, ◌∷◌, ℕ, List, [], drop, length, ◌<◌, ◌^◌, true, false, ◌==◌, Option, Some, None, MatchOption};
+ghost use Rattle.std.specs.Prelude.{◌≡◌, ◌∷◌, ℕ, List, [], drop, length, ◌<◌, ◌^◌, false, ◌==◌, Option, Some, None, MatchOption};
 ghost use Rattle.std.specs.Char.{is_ascii_digit};
 ghost use Rattle.promql_text.specs.DecimalForm as spec;
 ghost use Rattle.promql_text.specs.DecimalParts as parts;

@@ -4,7 +4,7 @@
 //! let number = parse_str_radix("1.50")?; // exactly 1.5, and no floating-point value
 //! let text = number.to_string(alloc)?; // 1.5
 //! let timeout = parse_duration("1h30m")?; // 5400 seconds
-//! let shown = display_duration(alloc, &timeout)?; // 1h30m
+//! let text = display_duration(alloc, &timeout)?; // 1h30m
 //! let name = unquote_string(alloc, "'a\\tb'")?; // a, a tab, b
 //! let quoted = Quoted(name.as_str()).to_string(alloc)?; // "a\tb"
 //! ```

@@ -1,6 +1,6 @@
 //! A number of seconds as milliseconds (docs/reference/texts.md, "Milliseconds of a number").
 
-ghost use Rattle.std.specs.Prelude.{◌≡◌, ◌*◌, ◌+◌, ◌^◌, ◌<◌, ◌≤◌, Option, Some, None, MatchOption};
+ghost use Rattle.std.specs.Prelude.{◌≡◌, ◌+◌, ◌^◌, ◌<◌, ◌≤◌, Option, Some, None, MatchOption};
 ghost use Rattle.promql_text.specs.Millis as spec;
 
 use crate::decimal::Decimal;

@@ -1,6 +1,6 @@
 //! Numbers (docs/reference/texts.md, "Numbers").
 
-ghost use Rattle.std.specs.Prelude.{◌≡◌, ℕ, true, false, not, ◌==◌, Option, Some, None};
+ghost use Rattle.std.specs.Prelude.{◌≡◌, true, false, not};
 ghost use Rattle.std.specs.Duration.{as_nanos};
 ghost use Rattle.promql_text.specs.Values as spec;
 

@@ -1,9 +1,9 @@
 //! Reads the number of a text (docs/reference/texts.md, "Numbers").
 
-ghost use Rattle.std.specs.Prelude.{◌≡◌, ◌∷◌, ℕ, List, [], ◌+◌, ◌*◌, ◌^◌, ◌<◌, ◌≤◌, true, false, if◌then◌else◌, drop, length, Option, Some, None, MatchOption, IfSome, SomeIff};
+ghost use Rattle.std.specs.Prelude.{◌≡◌, ◌∷◌, [], ◌+◌, ◌*◌, ◌^◌, ◌<◌, ◌≤◌, true, false, length, Option, Some, None, MatchOption, IfSome, SomeIff};
 ghost use Rattle.std.specs.List.{list_all, list_any};
 ghost use Rattle.std.specs.Str.Parse.{digits_value};
-ghost use Rattle.promql_text.specs.DecimalForm.{digits_number, digit_run, exponent_size, is_minus, places};
+ghost use Rattle.promql_text.specs.DecimalForm.{digits_number, places};
 ghost use Rattle.promql_text.specs.DecimalParts as parts;
 ghost use Rattle.promql_text.specs.NumberText as spec;
 ghost use Rattle.promql_text.specs.Numbers.{from_digits, whole};

@@ -5,7 +5,6 @@ ghost use Rattle.std.specs.Prelude.{◌≡◌, ◌==◌, ◌/◌, ◌^◌, ◌<�
 ghost use Rattle.std.specs.Char.{encode_utf8};
 ghost use Rattle.std.specs.Duration.{as_nanos};
 ghost use Rattle.promql_text.specs.DurationText as durations;
-ghost use Rattle.promql_text.specs.Durations.{nanos_of};
 ghost use Rattle.promql_text.specs.NumberDigits.{exact_text, magnitude_text};
 ghost use Rattle.promql_text.specs.NumberText.{number_text};
 ghost use Rattle.promql_text.specs.Quoting.{escaped_text, quoted_text};

@@ -1,9 +1,8 @@
 //! Seconds in decimal digits, rounded to nanoseconds: docs/reference/texts.md, "Durations".
 
 ghost use Rattle.std.specs.Prelude.{◌≡◌, ◌∷◌, ◌++◌, ◌<◌, ◌*◌, ◌^◌, ℕ, [], length};
-ghost use Rattle.std.specs.Char.{digit_value, is_ascii_digit};
-ghost use Rattle.std.specs.List.{prefix_len};
-ghost use Rattle.std.specs.Str.Parse.{AllDigits, digits_value};
+ghost use Rattle.std.specs.Char.{digit_value};
+ghost use Rattle.std.specs.Str.Parse.{AllDigits};
 ghost use Rattle.promql_text.specs.Texts.{Text};
 ghost use Rattle.promql_text.specs.DecimalForm.{digit_run};
 ghost use Rattle.promql_text.specs.DecimalParts.{numeral_of};

@@ -1,6 +1,6 @@
 //! The digits of a number, read from the first one on.
 
-ghost use Rattle.std.specs.Prelude.{◌≡◌, ℕ, ◌+◌, ◌*◌, ◌^◌, ◌%◌, ◌<◌, ◌≤◌, true, false, length, Option, Some, None, MatchOption, IfSome, SomeIff};
+ghost use Rattle.std.specs.Prelude.{◌≡◌, ◌+◌, ◌*◌, ◌^◌, ◌%◌, ◌<◌, ◌≤◌, length, Option, Some, None, MatchOption, IfSome, SomeIff};
 ghost use Rattle.std.specs.Str.Parse.{digits_value, digits_value_after};
 ghost use Rattle.promql_text.specs.DecimalForm.{digit_run};
 ghost use Rattle.promql_text.specs.DurationReaders.{cap_u128};
@@ -125,7 +125,7 @@ pub fn run_len<S: Source>(text: S) -> u128
 }
 
 /// The number of the digits at the start of the text; `u128::MAX` where it is greater.
-#[tactic(auto, using(crate::proofs::Runs::digit_run_other, crate::proofs::Parts::count_more, crate::proofs::Parts::capped_small))]
+#[tactic(auto, using(crate::proofs::Runs::digit_run_other, crate::proofs::SaturatingParts::count_more, crate::proofs::SaturatingParts::capped_small))]
 pub fn number<S: Source>(text: S) -> u128
     ensures { result ≡ cap_u128 (digits_value 10 (digit_run (S.left text))) }
 {

@@ -14,11 +14,11 @@ use Rattle.promql_token.specs.declared.state.Mode.TheVariants as mode
 use Rattle.promql_token.specs.declared.state.State.{State}
 use Rattle.promql_text.specs.Texts.{Text}
 use Rattle.promql_token.specs.Classes.{is_in, is_letter, end_of_run}
-use Rattle.promql_token.specs.Laws.{Joins, JoinsWord, JoinsName, stops_numeral, stops_sign, parts, parts_outside, parts_in_braces, parts_in_brackets}
+use Rattle.promql_token.specs.Laws.{Joins, JoinsWord, JoinsName, stops_numeral, stops_punctuator, parts, parts_outside, parts_in_braces, parts_in_brackets}
 use Rattle.promql_token.specs.Lexing.{pieces}
-use Rattle.promql_token.specs.TokenScanning.{Scanned, trivia_from, trivia_len, word_id, word, braces_id, word_in_braces, numeral, is_quote, string, bang_sign, dot_sign, sign, begins_numeral, outside, bang_in_braces, in_braces, in_brackets, scan_in_mode, scan_token, after}
+use Rattle.promql_token.specs.TokenScanning.{Scanned, trivia_from, trivia_len, word_id, word, braces_id, word_in_braces, numeral, is_quote, string, bang_token, dot_token, punctuator, begins_numeral, outside, bang_in_braces, in_braces, in_brackets, scan_in_mode, scan_token, after}
 use Rattle.promql_token.proofs.Beside.{numeral_beside, stops, string_beside, word_beside, word_in_braces_beside}
-use Rattle.promql_token.proofs.Choices.{not_one, or_false, by_bool}
+use Rattle.promql_token.proofs.TestsAndCounts.{not_one, or_false, by_bool}
 use Rattle.promql_token.proofs.Ends.{and_left, and_right}
 use Rattle.promql_token.proofs.Inner.{Inner, begun_inner, word_plain, braces_plain, after_outside, after_in_braces}
 use Rattle.promql_token.proofs.Steps.{not_true, pieces_piece}
@@ -43,11 +43,11 @@ abbrev IsNoToken : Mode → ℕ → ℕ → Type 0
 IsNoToken m depth b = (w : Text) (t : ℕ × ℕ) → scan_in_mode m depth (b ∷ w) ≡ Ok t → ⊥
 
 white_outside : (depth b : ℕ) → is_ascii_whitespace b ≡ true → IsNoToken mode.Outside depth b
-unfolding outside sign
+unfolding outside punctuator
 white_outside depth = white_cases (IsNoToken mode.Outside depth) (λ w t is. cc) (λ w t is. cc) (λ w t is. cc) (λ w t is. cc) (λ w t is. cc)
 
 hash_outside : (depth : ℕ) → IsNoToken mode.Outside depth 35
-unfolding outside sign
+unfolding outside punctuator
 hash_outside depth w t is = cc
 
 white_in_braces : (depth b : ℕ) → is_ascii_whitespace b ≡ true → IsNoToken mode.Braces depth b
@@ -134,14 +134,14 @@ arm_false : (c x d : Bool) → c ≡ false → cond c x d ≡ true → d ≡ tru
 arm_false true x d is h = absurd (cc)
 arm_false false x d is h = h
 
--- ---- signs
+-- ---- punctuators
 
 -- one byte, which another may make longer
 record Alone (b : ℕ) (r : Text) : Type 0 where
   equal : (get_or r 0 0 == 61) ≡ false
   tilde : (get_or r 0 0 == 126) ≡ false
 
-alone : (b : ℕ) (r : Text) → ((b == 61) || (b == 60) || (b == 62)) ≡ true → stops_sign (b ∷ []) r ≡ true → Alone b r
+alone : (b : ℕ) (r : Text) → ((b == 61) || (b == 60) || (b == 62)) ≡ true → stops_punctuator (b ∷ []) r ≡ true → Alone b r
 alone b r first apart =
     let c = get_or r 0 0 in
     let no : ((c == 61) || (c == 126)) ≡ false = first_false _ _ first (not_true _ apart) in
@@ -152,18 +152,18 @@ alone b r first apart =
     first_false true d is h = h
     first_false false d is h = absurd (cc)
 
-dot_never : (z : Text) (t : ℕ × ℕ) → dot_sign z ≡ Ok t → ⊥
+dot_never : (z : Text) (t : ℕ × ℕ) → dot_token z ≡ Ok t → ⊥
 dot_never z t = cond_both (length z == 1) _ _ (λ p. p ≡ Ok t → ⊥) (λ _ is. cc) (λ _ is. cc)
 
-bang_two : (b c : ℕ) (w : Text) → bang_sign (b ∷ c ∷ w) ≡ cond (c == 61) (Ok (T_NEQ, 2)) (Err (AfterBang, 1))
+bang_two : (b c : ℕ) (w : Text) → bang_token (b ∷ c ∷ w) ≡ cond (c == 61) (Ok (T_NEQ, 2)) (Err (AfterBang, 1))
 bang_two b c w = rw (not_one (length w)) refl
 
 bang_in_braces_two : (b c : ℕ) (w : Text) → bang_in_braces (b ∷ c ∷ w) ≡ cond (c == 126) (Ok (T_NEQ_REGEX, 2)) (cond (c == 61) (Ok (T_NEQ, 2)) (Err (AfterBangInBraces, 1)))
 bang_in_braces_two b c w = rw (not_one (length w)) refl
 
-sign_keeps : (depth b : ℕ) (w r : Text) (t : ℕ × ℕ) → stops_sign (b ∷ w) r ≡ true → sign depth (b ∷ w) ≡ Ok t → sign depth ((b ∷ w) ++ r) ≡ Ok t
-unfolding sign
-sign_keeps depth b [] r t apart =
+punctuator_keeps : (depth b : ℕ) (w r : Text) (t : ℕ × ℕ) → stops_punctuator (b ∷ w) r ≡ true → punctuator depth (b ∷ w) ≡ Ok t → punctuator depth ((b ∷ w) ++ r) ≡ Ok t
+unfolding punctuator
+punctuator_keeps depth b [] r t apart =
     let c = get_or r 0 0 in
     keeps (b == 46) _ _ _ _ t (λ _ is. absurd (dot_never (b ∷ []) t is)) (λ _.
     keeps (b == 61) _ _ _ _ t
@@ -174,7 +174,7 @@ sign_keeps depth b [] r t apart =
     keeps (b == 62) _ _ _ _ t
     (λ e is. let a = alone b r ((λ i. (n61 i || n60 i) || e i)) apart in ap (λ x. cond x (Ok (28, 2)) (Ok (29, 1))) a.equal ∙ is) (λ _.
     keeps (b == 33) _ _ _ _ t (λ _ is. cc) (λ _ is. is)))))
-sign_keeps depth b (c ∷ w) r t apart =
+punctuator_keeps depth b (c ∷ w) r t apart =
     keeps (b == 46) _ _ _ _ t (λ _ is. absurd (dot_never (b ∷ c ∷ w) t is)) (λ _.
     keeps (b == 61) _ _ _ _ t (λ _ is. is) (λ _.
     keeps (b == 60) _ _ _ _ t (λ _ is. is) (λ _.
@@ -185,7 +185,7 @@ sign_keeps depth b (c ∷ w) r t apart =
 
 -- what follows a token makes no numeral of it
 begins_same : (depth b : ℕ) (w r : Text) (t : ℕ × ℕ) → outside depth (b ∷ w) ≡ Ok t → begins_numeral ((b ∷ w) ++ r) ≡ begins_numeral (b ∷ w)
-unfolding outside sign
+unfolding outside punctuator
 begins_same depth b (c ∷ w) r t is = refl
 begins_same depth b [] r t is =
     by_bool (b == 46)
@@ -198,7 +198,7 @@ outside_keeps depth b w r id apart is =
     let t : ℕ × ℕ = (id, suc (length w)) in
     let z : Text = b ∷ (w ++ r) in
     let word_first = is_letter b || (b == 58) in
-    ap (λ x. cond x (numeral z) (cond word_first (word z) (cond (is_quote b) (string z) (sign depth z)))) (begins_same depth b w r t is)
+    ap (λ x. cond x (numeral z) (cond word_first (word z) (cond (is_quote b) (string z) (punctuator depth z)))) (begins_same depth b w r t is)
     ∙ keeps (begins_numeral (b ∷ w)) _ _ _ _ t
     (λ n is. numeral_keeps b w r t (arm_true (begins_numeral (b ∷ w)) _ _ n apart) is) (λ no_n.
     let apart2 = arm_false (begins_numeral (b ∷ w)) _ _ no_n apart in
@@ -206,12 +206,12 @@ outside_keeps depth b w r id apart is =
     (λ first is. word_keeps (b ∷ w) r id (arm_true word_first _ _ first apart2) is) (λ no_word.
     let apart3 = arm_false word_first _ _ no_word apart2 in
     keeps (is_quote b) _ _ _ _ t (λ _ is. string_keeps b w r t is)
-    (λ no_quote is. sign_keeps depth b w r t (arm_false (is_quote b) _ _ no_quote apart3) is))) is
+    (λ no_quote is. punctuator_keeps depth b w r t (arm_false (is_quote b) _ _ no_quote apart3) is))) is
 
 abbrev equal_arm : ℕ → Scanned
 equal_arm next = cond (next == 126) (Ok (T_EQL_REGEX, 2)) (Ok (T_EQL, 1))
 
-equal_keeps : (w r : Text) (t : ℕ × ℕ) → stops_sign (61 ∷ w) r ≡ true → equal_arm (get_or (61 ∷ w) 1 0) ≡ Ok t → equal_arm (get_or (61 ∷ (w ++ r)) 1 0) ≡ Ok t
+equal_keeps : (w r : Text) (t : ℕ × ℕ) → stops_punctuator (61 ∷ w) r ≡ true → equal_arm (get_or (61 ∷ w) 1 0) ≡ Ok t → equal_arm (get_or (61 ∷ (w ++ r)) 1 0) ≡ Ok t
 equal_keeps [] r t apart is =
     let arm : Bool → Scanned = λ x. cond x (Ok (T_EQL_REGEX, 2)) (Ok (T_EQL, 1)) in
     ap arm (alone 61 r refl apart).tilde ∙ is
@@ -273,8 +273,8 @@ joins_word depth (b ∷ w) r is stop =
     let z : Text = b ∷ (w ++ r) in
     let id = word_id (b ∷ w) r in
     let reads : outside depth z ≡ Ok (id, suc (length w)) =
-    ap (λ x. cond x (numeral z) (cond (is_letter b || (b == 58)) (word z) (cond (is_quote b) (string z) (sign depth z)))) (no_numeral b (get_or (w ++ r) 0 0) first)
-    ∙ ap (λ x. cond x (word z) (cond (is_quote b) (string z) (sign depth z))) first ∙ word_beside (b ∷ w) r all stop in
+    ap (λ x. cond x (numeral z) (cond (is_letter b || (b == 58)) (word z) (cond (is_quote b) (string z) (punctuator depth z)))) (no_numeral b (get_or (w ++ r) 0 0) first)
+    ∙ ap (λ x. cond x (word z) (cond (is_quote b) (string z) (punctuator depth z))) first ∙ word_beside (b ∷ w) r all stop in
     steps state b w r id reads ∙ ap (λ s. Ok (id, b ∷ w) ∷ pieces s r) (after_outside depth id (word_plain (b ∷ w) r))
 
 pub letter_apart : (b n : ℕ) → is_letter b ≡ true → is_letter n ≡ false → (b == n) ≡ false

@@ -15,8 +15,8 @@ use Rattle.promql_token.specs.declared.state.Mode.TheVariants as mode
 use Rattle.promql_token.specs.declared.state.State.{State}
 use Rattle.promql_text.specs.Texts.{Text}
 use Rattle.promql_token.specs.Classes.{is_in, is_letter, end_of_run}
-use Rattle.promql_token.specs.TokenScanning.{Scanned, word, word_in_braces, is_hex, digits, past_whole, past_point, past_sign, past_exponent, number_end, units, numeral, is_quote, is_escape, string_from, string, equal_sign, or_equal, bang_sign, dot_sign, single, sign, begins_numeral, outside, bang_in_braces, in_braces, colon_sign, in_brackets, end_in, scan_in_mode, scan_token}
-use Rattle.promql_token.proofs.Places.{Ends, front, behind_low, low_eq, IsAsciiRun, run_ends, no_run, past_run, one_more, past_moves}
+use Rattle.promql_token.specs.TokenScanning.{Scanned, word, word_in_braces, is_hex, digits, past_whole, past_point, past_sign, past_exponent, number_end, units, numeral, is_quote, is_escape, string_from, string, equal_token, or_equal, bang_token, dot_token, single, punctuator, begins_numeral, outside, bang_in_braces, in_braces, colon_token, in_brackets, end_in, scan_in_mode, scan_token}
+use Rattle.promql_token.proofs.Places.{Ends, front, ends_after_low, low_eq, IsAsciiRun, run_ends, no_run, past_run, one_more, past_moves}
 
 abbrev pub PieceEnds : Text → Scanned → Type 0
 PieceEnds z (Ok t) = Ends z t.1 × (t.0 ≢ 6 → 0 < t.1)
@@ -132,8 +132,8 @@ digit_begins z digit = ap (λ b. b || ((get_or z 0 0 == 46) && is_ascii_digit (g
 step : (z rest : Text) (at b : ℕ) → drop at z ≡ b ∷ rest → (at < length z) × (get_or z at 0 ≡ b) × (drop (at + 1) z ≡ rest)
 step z rest at b is = (omega (arith, length-drop at z, ap length is), sym (ap (λ i. get_or z i 0) (add-zero at)) ∙ sym (get_or-drop at z 0 0) ∙ ap (λ l. get_or l 0 0) is, sym (drop-drop 1 at z) ∙ ap (drop 1) is)
 
-behind : (z : Text) (at b : ℕ) → at < length z → get_or z at 0 ≡ b → b < 128 → Ends z (at + 1)
-behind z at b h is low = behind_low z at h (omega arith)
+ends_after : (z : Text) (at b : ℕ) → at < length z → get_or z at 0 ≡ b → b < 128 → Ends z (at + 1)
+ends_after z at b h is low = ends_after_low z at h (omega arith)
 
 same_low : (b quote : ℕ) → (b == quote) ≡ true → quote < 128 → b < 128
 same_low b quote h low = let e = eqb-true _ _ h in omega arith
@@ -148,8 +148,8 @@ string_from_ends quote true z (b ∷ rest) at low is h =
 string_from_ends quote false z (b ∷ rest) at low is h =
     let s = step z rest at b is in
     cond_both (b == quote) _ _ (PieceEnds z)
-    (λ same. (behind z at b s.0 s.1 (same_low b quote same low), λ _. omega arith))
-    (λ _. string_from_ends quote ((b == 92) && not (quote == 96)) z rest (at + 1) low s.2 (λ slash. behind z at b s.0 s.1 (low_eq b 92 (and_left _ _ slash) (lit< tt))))
+    (λ same. (ends_after z at b s.0 s.1 (same_low b quote same low), λ _. omega arith))
+    (λ _. string_from_ends quote ((b == 92) && not (quote == 96)) z rest (at + 1) low s.2 (λ slash. ends_after z at b s.0 s.1 (low_eq b 92 (and_left _ _ slash) (lit< tt))))
 
 quote_low : (b : ℕ) → is_quote b ≡ true → b < 128
 quote_low b h = grind (arith, common_steps)
@@ -158,7 +158,7 @@ string_ends : (z : Text) → is_quote (get_or z 0 0) ≡ true → PieceEnds z (s
 unfolding string
 string_ends z quote = string_from_ends (get_or z 0 0) false z (drop 1 z) 1 (quote_low _ quote) refl (λ (no : false ≡ true). cc)
 
--- ---- signs
+-- ---- punctuators
 
 -- the first byte, where it is this one
 pub record FirstIs (z : Text) (n : ℕ) : Type 0 where
@@ -181,7 +181,7 @@ two z n is some low =
 two_piece : (z : Text) (n id : ℕ) → (get_or z 1 0 == n) ≡ true → 0 < n → n < 128 → PieceEnds z (Ok (id, 2))
 two_piece z n id is some low = (two z n is some low, λ _. omega arith)
 
-equal_ends : (z : Text) → FirstIs z 61 → PieceEnds z (equal_sign (get_or z 1 0))
+equal_ends : (z : Text) → FirstIs z 61 → PieceEnds z (equal_token (get_or z 1 0))
 equal_ends z f =
     cond_both (get_or z 1 0 == 61) _ _ (PieceEnds z) (λ e. two_piece z 61 _ e (lit< tt) (lit< tt)) (λ _.
     cond_both (get_or z 1 0 == 126) _ _ (PieceEnds z) (λ _. one z 61 f) (λ _. one_piece z 61 _ f))
@@ -189,12 +189,12 @@ equal_ends z f =
 or_equal_ends : (z : Text) (n long short : ℕ) → FirstIs z n → PieceEnds z (or_equal (get_or z 1 0) long short)
 or_equal_ends z n long short f = cond_both (get_or z 1 0 == 61) _ _ (PieceEnds z) (λ e. two_piece z 61 _ e (lit< tt) (lit< tt)) (λ _. one_piece z n _ f)
 
-bang_ends : (z : Text) → FirstIs z 33 → PieceEnds z (bang_sign z)
+bang_ends : (z : Text) → FirstIs z 33 → PieceEnds z (bang_token z)
 bang_ends z f =
     cond_both (length z == 1) _ _ (PieceEnds z) (λ _. one z 33 f) (λ _.
     cond_both (get_or z 1 0 == 61) _ _ (PieceEnds z) (λ e. two_piece z 61 _ e (lit< tt) (lit< tt)) (λ _. one z 33 f))
 
-dot_ends : (z : Text) → FirstIs z 46 → PieceEnds z (dot_sign z)
+dot_ends : (z : Text) → FirstIs z 46 → PieceEnds z (dot_token z)
 dot_ends z f = cond_both (length z == 1) _ _ (PieceEnds z) (λ _. front z) (λ _. one z 46 f)
 
 single_ends : (depth : ℕ) (z : Text) → 0 < length z → PieceEnds z (single depth (get_or z 0 0))
@@ -216,9 +216,9 @@ single_ends depth z h =
     cond_both (b == 125) _ _ (PieceEnds z) (λ _. front z) (λ _.
     cond_both (b == 93) _ _ (PieceEnds z) (λ _. front z) (λ _. front z))))))))))))))
 
-sign_ends : (depth : ℕ) (z : Text) → 0 < length z → PieceEnds z (sign depth z)
-unfolding sign
-sign_ends depth z h =
+punctuator_ends : (depth : ℕ) (z : Text) → 0 < length z → PieceEnds z (punctuator depth z)
+unfolding punctuator
+punctuator_ends depth z h =
     let b = get_or z 0 0 in
     let this : (n : ℕ) → n < 128 → (b == n) ≡ true → FirstIs z n = λ n low is. record { some = h; is = is; low = low } in
     cond_both (b == 46) _ _ (PieceEnds z) (λ e. dot_ends z (this 46 (lit< tt) e)) (λ _.
@@ -235,7 +235,7 @@ outside_ends depth z h =
     let b = get_or z 0 0 in
     cond_both (begins_numeral z) _ _ (PieceEnds z) (λ n. numeral_ends z h n) (λ _.
     cond_both (is_letter b || (b == 58)) _ _ (PieceEnds z) (λ w. (class_ends class.Word z, λ _. past_moves class.Word z h (word_first b w))) (λ _.
-    cond_both (is_quote b) _ _ (PieceEnds z) (λ q. string_ends z q) (λ _. sign_ends depth z h)))
+    cond_both (is_quote b) _ _ (PieceEnds z) (λ q. string_ends z q) (λ _. punctuator_ends depth z h)))
 
 bang_in_braces_ends : (z : Text) → FirstIs z 33 → PieceEnds z (bang_in_braces z)
 bang_in_braces_ends z f =
@@ -257,7 +257,7 @@ in_braces_ends z h =
     cond_both (is_letter b) _ _ (PieceEnds z) (λ w. (class_ends class.Name z, λ _. past_moves class.Name z h (name_first b w))) (λ _.
     cond_both (is_quote b) _ _ (PieceEnds z) (λ q. string_ends z q) (λ _. front z)))))))
 
-colon_ends : (inside : Bracket) (z : Text) → FirstIs z 58 → PieceEnds z (colon_sign inside)
+colon_ends : (inside : Bracket) (z : Text) → FirstIs z 58 → PieceEnds z (colon_token inside)
 colon_ends bracket.Nothing z f = front z
 colon_ends bracket.Something z f = one_piece z 58 _ f
 colon_ends bracket.Colon z f = front z

@@ -18,9 +18,9 @@ use Rattle.promql_token.specs.Begins.{IsNumeral}
 use Rattle.promql_token.specs.Classes.{is_in, is_letter}
 use Rattle.promql_token.specs.FaultPlaces.{IsEscaping, IsFault, Meets, Misses, NoNumeral, is_among}
 use Rattle.promql_token.specs.Vocabulary.{next}
-use Rattle.promql_token.specs.TokenScanning.{Scanned, begins_numeral, in_braces, in_brackets, is_quote, numeral, outside, scan_token, sign, string, word}
+use Rattle.promql_token.specs.TokenScanning.{Scanned, begins_numeral, in_braces, in_brackets, is_quote, numeral, outside, scan_token, punctuator, string, word}
 use Rattle.promql_token.specs.Printed.{holds_strings, concat_texts}
-use Rattle.promql_token.proofs.Choices.{not_one, not_zero, or_false}
+use Rattle.promql_token.proofs.TestsAndCounts.{not_one, not_zero, or_false}
 use Rattle.promql_token.proofs.Numerals.{NumeralSays, numeral_says}
 use Rattle.promql_token.proofs.ReadBeginnings.{digit_first, string_first}
 use Rattle.promql_token.proofs.Strings.{body_quote, escaping_quote, string_at_end, string_unclosed, string_unknown}
@@ -55,37 +55,37 @@ unfolding scan_token
 unclosed_paren_at_end depth u v h = subst (λ u. HasFault UnclosedParen mode.Outside (suc depth) u v) (sym h.0) (subst (λ v. HasFault UnclosedParen mode.Outside (suc depth) [] v) (sym h.1) (rw (not_zero depth) refl))
 
 equal_at : (depth : ℕ) (y : Text) → HasFault AfterEqual mode.Outside depth (codes "=") (126 ∷ y)
-unfolding scan_token outside sign
+unfolding scan_token outside punctuator
 equal_at depth y = refl
 
 bang_at : (depth c : ℕ) (y : Text) → (c == 61) ≡ false → HasFault AfterBang mode.Outside depth (codes "!") (c ∷ y)
-unfolding scan_token outside sign
+unfolding scan_token outside punctuator
 bang_at depth c y h = rw (not_one (length y), h) refl
 
 bang_end : (m : Mode) (depth : ℕ) → holds_strings m ≡ true → HasFault BangAtEnd m depth (codes "!") []
-unfolding scan_token outside sign in_braces
+unfolding scan_token outside punctuator in_braces
 bang_end mode.Outside depth h = refl
 bang_end mode.Braces depth h = refl
 bang_end (mode.Brackets inside) depth h = absurd (cc)
 
 dot_at : (depth c : ℕ) (y : Text) → is_ascii_digit c ≡ false → HasFault AfterDot mode.Outside depth (codes ".") (c ∷ y)
-unfolding scan_token outside sign
+unfolding scan_token outside punctuator
 dot_at depth c y h = rw (h, not_one (length y)) refl
 
 dot_end : (depth : ℕ) → HasFault DotAtEnd mode.Outside depth [] (codes ".")
-unfolding scan_token outside sign
+unfolding scan_token outside punctuator
 dot_end depth = refl
 
 right_paren_at : (y : Text) → HasFault RightParen mode.Outside zero [] (41 ∷ y)
-unfolding scan_token outside sign
+unfolding scan_token outside punctuator
 right_paren_at y = refl
 
 right_brace_at : (depth : ℕ) (y : Text) → HasFault RightBrace mode.Outside depth [] (125 ∷ y)
-unfolding scan_token outside sign
+unfolding scan_token outside punctuator
 right_brace_at depth y = refl
 
 right_bracket_at : (depth : ℕ) (y : Text) → HasFault RightBracket mode.Outside depth [] (93 ∷ y)
-unfolding scan_token outside sign
+unfolding scan_token outside punctuator
 right_bracket_at depth y = refl
 
 no_digit : (b : ℕ) → is_in class.Word b ≡ false → is_ascii_digit b ≡ false
@@ -94,9 +94,9 @@ no_digit b h = grind (arith, common_steps)
 no_letter : (b : ℕ) → is_in class.Word b ≡ false → (is_letter b || (b == 58)) ≡ false
 no_letter b h = grind (arith, common_steps)
 
-other_sign : (depth b : ℕ) (y : Text) → is_among (codes ".@,*/%+-^{[()}]=!<>") b ≡ false → sign depth (b ∷ y) ≡ Err (Character, 0)
-unfolding sign
-other_sign depth b y h =
+other_punctuator : (depth b : ℕ) (y : Text) → is_among (codes ".@,*/%+-^{[()}]=!<>") b ≡ false → punctuator depth (b ∷ y) ≡ Err (Character, 0)
+unfolding punctuator
+other_punctuator depth b y h =
     let no : (i k : ℕ) → slice_get (codes ".@,*/%+-^{[()}]=!<>") i ≡ Some k → (b == k) ≡ false = λ i k is. none_of (codes ".@,*/%+-^{[()}]=!<>") b i k h is in
     rw (no 0 46 refl, no 1 64 refl, no 2 44 refl, no 3 42 refl, no 4 47 refl, no 5 37 refl, no 6 43 refl, no 7 45 refl, no 8 94 refl, no 9 123 refl, no 10 91 refl, no 11 40 refl, no 12 41 refl, no 13 125 refl, no 14 93 refl, no 15 61 refl, no 16 33 refl, no 17 60 refl, no 18 62 refl) refl
 
@@ -108,8 +108,8 @@ character_at depth b y h =
     let n46 = none_of (codes ".@,*/%+-^{[()}]=!<>") b 0 46 c.1 refl in
     let z : Text = b ∷ y in
     let begins : begins_numeral z ≡ false = λ i. no_digit b a.0 i || (n46 i && is_ascii_digit (next y)) in
-    ap (λ x. cond x (numeral z) (cond (is_letter b || (b == 58)) (word z) (cond (is_quote b) (string z) (sign depth z)))) begins
-    ∙ ap (λ x. cond x (word z) (cond (is_quote b) (string z) (sign depth z))) (no_letter b a.0) ∙ ap (λ x. cond x (string z) (sign depth z)) c.0 ∙ other_sign depth b y c.1
+    ap (λ x. cond x (numeral z) (cond (is_letter b || (b == 58)) (word z) (cond (is_quote b) (string z) (punctuator depth z)))) begins
+    ∙ ap (λ x. cond x (word z) (cond (is_quote b) (string z) (punctuator depth z))) (no_letter b a.0) ∙ ap (λ x. cond x (string z) (punctuator depth z)) c.0 ∙ other_punctuator depth b y c.1
 
 -- ---- numerals
 
@@ -126,7 +126,7 @@ numeral_at depth u [] begins h = absurd (cc)
 numeral_at depth u (b ∷ y) begins h =
     let z : Text = b ∷ y in
     subst (λ u. HasFault Numeral mode.Outside depth u z) (sym h.0)
-    (ap (λ x. cond x (numeral z) (cond (is_letter b || (b == 58)) (word z) (cond (is_quote b) (string z) (sign depth z)))) begins ∙ no_numeral z begins h.1)
+    (ap (λ x. cond x (numeral z) (cond (is_letter b || (b == 58)) (word z) (cond (is_quote b) (string z) (punctuator depth z)))) begins ∙ no_numeral z begins h.1)
 
 numeral_in_brackets : (inside : Bracket) (depth : ℕ) (u v : Text) → is_ascii_digit (next v) ≡ true → NoNumeral u v → HasFault Numeral (mode.Brackets inside) depth u v
 unfolding scan_token

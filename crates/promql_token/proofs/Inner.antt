@@ -16,7 +16,7 @@ use Rattle.promql_text.specs.Texts.{Text}
 use Rattle.promql_token.specs.Classes.{is_letter, end_of_run}
 use Rattle.promql_token.specs.Ids.{lookup, keywords, keyword_in_any_case, same_word}
 use Rattle.promql_token.specs.declared.ids.Case.TheVariants as case
-use Rattle.promql_token.specs.TokenScanning.{Scanned, is_fill, opens, name_id, word_id, word, braces_id, word_in_braces, number_end, units, numeral, is_quote, is_escape, string_from, string, equal_sign, bang_sign, single, sign, begins_numeral, outside, bang_in_braces, in_braces, colon_sign, in_brackets, scan_in_mode, after}
+use Rattle.promql_token.specs.TokenScanning.{Scanned, is_fill, opens, name_id, word_id, word, braces_id, word_in_braces, number_end, units, numeral, is_quote, is_escape, string_from, string, equal_token, bang_token, single, punctuator, begins_numeral, outside, bang_in_braces, in_braces, colon_token, in_brackets, scan_in_mode, after}
 use Rattle.promql_token.proofs.Ends.{and_left, and_right}
 
 -- ---- ids that open, close and end nothing
@@ -96,10 +96,10 @@ string_inner : (depth : ℕ) (z : Text) → Inner depth (string z)
 unfolding string
 string_inner depth z = string_from_inner depth (get_or z 0 0) false 1 (drop 1 z)
 
-equal_inner : (depth c : ℕ) → Inner depth (equal_sign c)
+equal_inner : (depth c : ℕ) → Inner depth (equal_token c)
 equal_inner depth c = cond_both (c == 61) _ _ (Inner depth) (λ _. (refl, λ (no : false ≡ true). absurd (cc))) (λ _. cond_both (c == 126) _ _ (Inner depth) (λ _. tt) (λ _. (refl, λ (no : false ≡ true). absurd (cc))))
 
-bang_inner : (depth : ℕ) (z : Text) → Inner depth (bang_sign z)
+bang_inner : (depth : ℕ) (z : Text) → Inner depth (bang_token z)
 bang_inner depth z = cond_both (length z == 1) _ _ (Inner depth) (λ _. tt) (λ _. cond_both (get_or z 1 0 == 61) _ _ (Inner depth) (λ _. (refl, λ (no : false ≡ true). absurd (cc))) (λ _. tt))
 
 single_inner : (depth b : ℕ) → Inner depth (single depth b)
@@ -119,9 +119,9 @@ single_inner depth b =
     cond_both (b == 125) _ _ (Inner depth) (λ _. tt) (λ _.
     cond_both (b == 93) _ _ (Inner depth) (λ _. tt) (λ _. tt))))))))))))))
 
-sign_inner : (depth : ℕ) (z : Text) → Inner depth (sign depth z)
-unfolding sign
-sign_inner depth z =
+punctuator_inner : (depth : ℕ) (z : Text) → Inner depth (punctuator depth z)
+unfolding punctuator
+punctuator_inner depth z =
     let b = get_or z 0 0 in
     cond_both (b == 46) _ _ (Inner depth) (λ _. cond_both (length z == 1) _ _ (Inner depth) (λ _. tt) (λ _. tt)) (λ _.
     cond_both (b == 61) _ _ (Inner depth) (λ _. equal_inner depth (get_or z 1 0)) (λ _.
@@ -135,7 +135,7 @@ outside_inner depth z =
     let b = get_or z 0 0 in
     cond_both (begins_numeral z) _ _ (Inner depth) (λ _. numeral_inner depth z) (λ _.
     cond_both (is_letter b || (b == 58)) _ _ (Inner depth) (λ _. let n = end_of_run class.Word z 0 in plain_inner depth _ (word_plain (take n z) (drop n z))) (λ _.
-    cond_both (is_quote b) _ _ (Inner depth) (λ _. string_inner depth z) (λ _. sign_inner depth z)))
+    cond_both (is_quote b) _ _ (Inner depth) (λ _. string_inner depth z) (λ _. punctuator_inner depth z)))
 
 bang_in_braces_inner : (depth : ℕ) (z : Text) → Inner depth (bang_in_braces z)
 bang_in_braces_inner depth z =
@@ -155,7 +155,7 @@ in_braces_inner depth z =
     cond_both (is_letter b) _ _ (Inner depth) (λ _. let n = end_of_run class.Name z 0 in plain_inner depth _ (braces_plain (take n z) (drop n z))) (λ _.
     cond_both (is_quote b) _ _ (Inner depth) (λ _. string_inner depth z) (λ _. tt)))))))
 
-colon_inner : (depth : ℕ) (inside : Bracket) → Inner depth (colon_sign inside)
+colon_inner : (depth : ℕ) (inside : Bracket) → Inner depth (colon_token inside)
 colon_inner depth bracket.Nothing = tt
 colon_inner depth bracket.Something = (refl, λ (no : false ≡ true). absurd (cc))
 colon_inner depth bracket.Colon = tt

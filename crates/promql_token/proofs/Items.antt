@@ -37,8 +37,8 @@ here text bytes at state state2 g p u b same trivia_is state_is piece_is = recor
 }
 
 module _ {text : Text} {at : ℕ} {state : State} {g : ℕ} {p : Scanned} (h : Here text at state g p) where
-  pub behind_here : IsCharBoundary text (at + g)
-  behind_here = ends_at text at g h.utf8 h.place (subst (Ends (drop at text)) (sym h.trivia_is) (trivia_len_ends state.mode (drop at text)))
+  pub ends_here : IsCharBoundary text (at + g)
+  ends_here = ends_at text at g h.utf8 h.place (subst (Ends (drop at text)) (sym h.trivia_is) (trivia_len_ends state.mode (drop at text)))
 
   ends : PieceEnds (drop (at + g) text) p
   ends = subst (PieceEnds (drop (at + g) text)) (sym h.piece_is) (piece_ends (after_trivia g state) (drop (at + g) text))
@@ -56,10 +56,10 @@ module _ {text : Text} {at : ℕ} {state : State} {g : ℕ} {p : Scanned} (h : H
   token_ends id len is = subst (PieceEnds (drop (at + g) text)) is ends
 
   pub token_place : (id len : ℕ) → p ≡ Ok (id, len) → IsCharBoundary text (at + g + len)
-  token_place id len is = ends_at text (at + g) len h.utf8 behind_here (token_ends id len is).0
+  token_place id len is = ends_at text (at + g) len h.utf8 ends_here (token_ends id len is).0
 
   pub fault_place : (kind : LexFaultKind) (offset : ℕ) → p ≡ Err (kind, offset) → IsCharBoundary text (at + g + offset)
-  fault_place kind offset is = ends_at text (at + g) offset h.utf8 behind_here (subst (PieceEnds (drop (at + g) text)) is ends)
+  fault_place kind offset is = ends_at text (at + g) offset h.utf8 ends_here (subst (PieceEnds (drop (at + g) text)) is ends)
 
   pub token_value : (id len : ℕ) → p ≡ Ok (id, len) → Ok (record { id = id; start = at + g; len = len }) ≡ first at (found state (drop at text))
   token_value id len is =

@@ -16,11 +16,11 @@ use Rattle.promql_token.specs.FaultPlaces.{NoNumeral}
 use Rattle.promql_token.specs.Vocabulary.{next}
 use Rattle.promql_token.specs.TokenScanning.{Scanned, begins_numeral, is_unit, number_end, numeral, part_len, parts_from, unit_len, units}
 use Rattle.promql_token.specs.Printed.{is_part, parts_text}
-use Rattle.promql_token.proofs.Choices.{same_number, by_bool}
-use Rattle.promql_token.proofs.Durations.{front_byte, joined_names, parts_all, parts_names, parts_no_s, unit_byte, unit_text, units_all}
+use Rattle.promql_token.proofs.TestsAndCounts.{same_number, by_bool}
+use Rattle.promql_token.proofs.DurationTokens.{front_byte, joined_names, parts_all, parts_names, parts_no_s, unit_byte, unit_text, units_all}
 use Rattle.promql_token.proofs.Ends.{and_left, and_right}
-use Rattle.promql_token.proofs.Numbers.{Front, IsApart, byte_at, front_of, number_is, past_at, run_of}
-use Rattle.promql_token.proofs.Parts.{parts_go}
+use Rattle.promql_token.proofs.NumberParts.{Front, IsApart, byte_at, front_of, number_is, past_at, run_of}
+use Rattle.promql_token.proofs.LaterDurationParts.{parts_go}
 
 -- ---- units and parts
 
@@ -68,10 +68,10 @@ part_front : (z : Text) → (part_len z == 0) ≡ false → PartFront z
 part_front z some =
     let k = run_of is_ascii_digit z refl in
     let count : end_of_run class.Digit z 0 ≡ length k.run = past_at class.Digit z [] k.run k.rest 0 k.is refl k.all k.stop ∙ zero-add (length k.run) in
-    let behind : drop (length k.run) z ≡ k.rest = ap (drop (length k.run)) k.is ∙ drop-append_seam k.run k.rest in
+    let after_number : drop (length k.run) z ≡ k.rest = ap (drop (length k.run)) k.is ∙ drop-append_seam k.run k.rest in
     let n = length k.run in
     let f : ℕ → ℕ → ℕ = λ count unit. cond ((count == 0) || (unit == 0)) 0 (count + unit) in
-    let len : part_len z ≡ f n (unit_len false k.rest) = ap (λ n. f n (unit_len false (drop n z))) count ∙ ap (λ t. f n (unit_len false t)) behind in
+    let len : part_len z ≡ f n (unit_len false k.rest) = ap (λ n. f n (unit_len false (drop n z))) count ∙ ap (λ t. f n (unit_len false t)) after_number in
     by_bool (n == 0) (λ none. let never = ap (λ x. x == 0) (len ∙ ap (λ c. cond (c || (unit_len false k.rest == 0)) 0 (n + unit_len false k.rest)) none) in absurd (cc)) (λ counted.
     by_bool (unit_len false k.rest == 0)
     (λ none. let never = ap (λ x. x == 0) (len ∙ (λ i. cond (counted i || none i) 0 (n + unit_len false k.rest))) in absurd (cc))
@@ -103,8 +103,8 @@ parts_of (suc fuel) (b ∷ z) fits h =
     let whole : length (b ∷ z) ≡ length p.digits + (length p.unit + length p.rest) = ap length p.is ∙ length-append p.digits (p.unit ++ p.rest) ∙ ap (λ k. length p.digits + k) (length-append p.unit p.rest) in
     let u : Text = p.digits ++ p.unit in
     let is : b ∷ z ≡ u ++ p.rest = p.is ∙ sym (append_assoc p.digits p.unit p.rest) in
-    let behind : drop n (b ∷ z) ≡ p.rest = (λ i. drop (sym (length-append p.digits p.unit) i) (is i)) ∙ drop-append_seam u p.rest in
-    let more = parts_of fuel p.rest (omega arith) (ap (parts_from 0) (sym behind) ∙ sym (parts_go (b ∷ z) n (sym p.len) (omega arith) (omega arith)) ∙ h) in
+    let after_number : drop n (b ∷ z) ≡ p.rest = (λ i. drop (sym (length-append p.digits p.unit) i) (is i)) ∙ drop-append_seam u p.rest in
+    let more = parts_of fuel p.rest (omega arith) (ap (parts_from 0) (sym after_number) ∙ sym (parts_go (b ∷ z) n (sym p.len) (omega arith) (omega arith)) ∙ h) in
     ((p.digits, p.unit) ∷ more.0, p.is ∙ ap (λ t. p.digits ++ (p.unit ++ t)) more.1, λ i. p.part i && more.2 i))
 
 -- what follows the number of a duration
@@ -115,8 +115,8 @@ units_of z h =
     (λ none. let never : units z ≡ false = ap (λ c. cond c false (parts_from 0 (drop (unit_len true z) z))) none in absurd (cc))
     (λ some.
     let f = unit_front true z some in
-    let behind : drop (unit_len true z) z ≡ f.rest = (λ i. drop (f.len i) (f.is i)) ∙ drop-append_seam f.unit f.rest in
-    let all : parts_from 0 f.rest ≡ true = ap (parts_from 0) (sym behind) ∙ sym (ap (λ c. cond c false (parts_from 0 (drop (unit_len true z) z))) some) ∙ h in
+    let after_number : drop (unit_len true z) z ≡ f.rest = (λ i. drop (f.len i) (f.is i)) ∙ drop-append_seam f.unit f.rest in
+    let all : parts_from 0 f.rest ≡ true = ap (parts_from 0) (sym after_number) ∙ sym (ap (λ c. cond c false (parts_from 0 (drop (unit_len true z) z))) some) ∙ h in
     let ps = parts_of (length f.rest) f.rest (omega arith) all in
     (f.unit, ps.0, f.is ∙ ap (λ t. f.unit ++ t) ps.1, f.text, ps.2))
 
@@ -229,8 +229,8 @@ duration_says z f end run len r h =
     let whole : z ≡ f.number ++ (k.run ++ k.rest) = f.is ∙ ap (λ t. f.number ++ t) k.is in
     let run_is : run ≡ end + length k.run = sym r ∙ past_at class.Name z f.number k.run k.rest end whole len k.all k.stop in
     let back : run - end ≡ length k.run = omega arith in
-    let behind : drop end z ≡ k.run ++ k.rest = (λ i. drop (len i) (whole i)) ∙ drop-append_seam f.number (k.run ++ k.rest) in
-    let tail : take (run - end) (drop end z) ≡ k.run = (λ i. take (back i) (behind i)) ∙ take-append_seam k.run k.rest in
+    let after_number : drop end z ≡ k.run ++ k.rest = (λ i. drop (len i) (whole i)) ∙ drop-append_seam f.number (k.run ++ k.rest) in
+    let tail : take (run - end) (drop end z) ≡ k.run = (λ i. take (back i) (after_number i)) ∙ take-append_seam k.run k.rest in
     let u = units_of k.run (ap units (sym tail) ∙ h) in
     let w : Text = f.number ++ k.run in
     let is : z ≡ w ++ k.rest = whole ∙ sym (append_assoc f.number k.run k.rest) in

@@ -33,8 +33,8 @@ boundary z n u e =
 pub front : (z : Text) → Ends z 0
 front z = record { within = omega arith; last = inl refl }
 
-pub behind_low : (z : Text) (at : ℕ) → at < length z → get_or z at 0 < 128 → Ends z (at + 1)
-behind_low z at h low = record { within = omega arith; last = inr (inr (at, add-one at, low)) }
+pub ends_after_low : (z : Text) (at : ℕ) → at < length z → get_or z at 0 < 128 → Ends z (at + 1)
+ends_after_low z at h low = record { within = omega arith; last = inr (inr (at, add-one at, low)) }
 
 pub low_eq : (b n : ℕ) → (b == n) ≡ true → n < 128 → b < 128
 low_eq b n h low = grind (arith, common_steps)

@@ -19,7 +19,7 @@ use Rattle.promql_token.specs.Laws.{parts, stops_numeral}
 use Rattle.promql_token.specs.Lexing.{pieces}
 use Rattle.promql_token.specs.TokenScanning.{Scanned, begins_numeral, is_hex, past_whole, past_point, past_sign, past_exponent, number_end, digits, units, is_quote, is_escape, string, string_from, numeral, outside, in_braces, in_brackets, scan_token, after}
 use Rattle.promql_token.specs.Printed.{holds_strings, is_spelling, concat_texts, quote_parts, JoinsString, holds_numerals, are_digits, decimal, JoinsNumber}
-use Rattle.promql_token.proofs.Choices.{same_number}
+use Rattle.promql_token.proofs.TestsAndCounts.{same_number}
 use Rattle.promql_token.proofs.Ends.{and_left, and_right, or_cases}
 use Rattle.promql_token.proofs.Concatenation.{joins}
 use Rattle.promql_token.proofs.Steps.{not_true}
@@ -129,8 +129,8 @@ prefix_all p (b ∷ w) r h stop =
     ap (λ c. cond c (1 + prefix_len p (w ++ r)) 0) (and_left (p b) (list_all p w) h) ∙ ap (λ n. 1 + n) e ∙ same
 
 -- a run after a front
-pub past_behind : (c : Class) (u w r : Text) → list_all (is_in c) w ≡ true → is_in c (get_or r 0 0) ≡ false → end_of_run c (u ++ (w ++ r)) (length u) ≡ length u + length w
-past_behind c u w r h stop = ap (λ z. length u + prefix_len (is_in c) z) (drop-append_seam u (w ++ r)) ∙ ap (λ n. length u + n) (prefix_all (is_in c) w r h stop)
+pub past_middle : (c : Class) (u w r : Text) → list_all (is_in c) w ≡ true → is_in c (get_or r 0 0) ≡ false → end_of_run c (u ++ (w ++ r)) (length u) ≡ length u + length w
+past_middle c u w r h stop = ap (λ z. length u + prefix_len (is_in c) z) (drop-append_seam u (w ++ r)) ∙ ap (λ n. length u + n) (prefix_all (is_in c) w r h stop)
 
 pub past_front : (c : Class) (w r : Text) → list_all (is_in c) w ≡ true → is_in c (get_or r 0 0) ≡ false → end_of_run c (w ++ r) 0 ≡ length w
 past_front c w r h stop = zero-add (prefix_len (is_in c) (w ++ r)) ∙ prefix_all (is_in c) w r h stop
@@ -216,9 +216,9 @@ decimal_end whole (b ∷ fraction) some h h2 =
     let r : Text = 46 ∷ digits2 in
     let z : Text = whole ++ r in
     let n = length whole in
-    let behind_point : drop (n + 1) z ≡ digits2 = sym (drop-drop 1 n z) ∙ ap (drop 1) (drop-append_seam whole r) in
+    let after_point : drop (n + 1) z ≡ digits2 = sym (drop-drop 1 n z) ∙ ap (drop 1) (drop-append_seam whole r) in
     let len : n + 1 + suc (length fraction) ≡ length z = omega (arith, length-append whole r) in
-    let fraction_end : end_of_run class.Digit z (n + 1) ≡ length z = ap (λ q. n + 1 + prefix_len is_ascii_digit q) behind_point ∙ ap (λ k. n + 1 + k) (prefix_whole is_ascii_digit digits2 h2) ∙ len in
+    let fraction_end : end_of_run class.Digit z (n + 1) ≡ length z = ap (λ q. n + 1 + prefix_len is_ascii_digit q) after_point ∙ ap (λ k. n + 1 + k) (prefix_whole is_ascii_digit digits2 h2) ∙ len in
     let past_end : get_or z (length z) 0 ≡ 0 = get_or_past z (length z) 0 (omega arith) in
     number_point z n (length z) (no_hex whole r some h refl) (whole_is whole r some h refl refl) (ap (λ x. x == 46) (at_seam whole r)) fraction_end (ap (λ x. (x == 101) || (x == 69)) past_end)
 

@@ -9,33 +9,33 @@ use Rattle.promql_token.specs.declared.state.Bracket.TheVariants as bracket
 use Rattle.promql_token.specs.declared.state.Mode.{Mode}
 use Rattle.promql_token.specs.declared.state.Mode.TheVariants as mode
 use Rattle.promql_text.specs.Texts.{Text}
-use Rattle.promql_token.specs.Begins.{IsName, IsNumeral, IsOneOf, IsString, IsWord, MayBegin, Sign, signs, signs_outside}
+use Rattle.promql_token.specs.Begins.{IsName, IsNumeral, IsOneOf, IsString, IsWord, MayBegin, Punctuator, punctuators, punctuators_outside}
 use Rattle.promql_token.specs.Classes.{is_letter, end_of_run}
 use Rattle.promql_token.specs.Vocabulary.{next}
-use Rattle.promql_token.specs.TokenScanning.{Scanned, begins_numeral, scan_in_mode, in_braces, in_brackets, is_quote, numeral, outside, sign, string, word}
+use Rattle.promql_token.specs.TokenScanning.{Scanned, begins_numeral, scan_in_mode, in_braces, in_brackets, is_quote, numeral, outside, punctuator, string, word}
 use Rattle.promql_token.specs.Printed.{holds_strings}
 use Rattle.promql_token.proofs.Beside.{word_beside, word_in_braces_beside}
-use Rattle.promql_token.proofs.Choices.{not_one, not_zero, or_false}
+use Rattle.promql_token.proofs.TestsAndCounts.{not_one, not_zero, or_false}
 use Rattle.promql_token.proofs.Ends.{PieceEnds, and_left, and_right, numeral_ends}
 use Rattle.promql_token.proofs.Concatenation.{letter_apart, no_numeral}
 use Rattle.promql_token.proofs.Numerals.{numeral_begins, numeral_read}
 use Rattle.promql_token.proofs.PrintedForms.{digit_apart, quote_apart, quote_no_letter, quote_no_word, quote_outside}
 use Rattle.promql_token.proofs.Strings.{body_quote, string_closed}
 
--- ---- signs
+-- ---- punctuators
 
 -- each row is read, where none of its bytes follows
-abbrev AreRead : (Text → Scanned) → List Sign → Type 0
+abbrev AreRead : (Text → Scanned) → List Punctuator → Type 0
 AreRead f [] = Unit {0}
 AreRead f (s ∷ ss) = ((r : Text) → list_any (λ b. next r == b) s.2 ≡ false → f (s.0 ++ r) ≡ Ok (s.1, length s.0)) × AreRead f ss
 
-sign_read : (f : Text → Scanned) (ss : List Sign) (id : ℕ) (w r : Text) → AreRead f ss → IsOneOf ss id w r → f (w ++ r) ≡ Ok (id, length w)
-sign_read f [] id w r rows h = absurd h
-sign_read f (s ∷ ss) id w r rows (inl h) = ap (λ w. f (w ++ r)) h.0 ∙ rows.0 r h.2 ∙ (λ i. Ok (sym h.1 i, length (sym h.0 i)))
-sign_read f (s ∷ ss) id w r rows (inr h) = sign_read f ss id w r rows.1 h
+punctuator_read : (f : Text → Scanned) (ss : List Punctuator) (id : ℕ) (w r : Text) → AreRead f ss → IsOneOf ss id w r → f (w ++ r) ≡ Ok (id, length w)
+punctuator_read f [] id w r rows h = absurd h
+punctuator_read f (s ∷ ss) id w r rows (inl h) = ap (λ w. f (w ++ r)) h.0 ∙ rows.0 r h.2 ∙ (λ i. Ok (sym h.1 i, length (sym h.0 i)))
+punctuator_read f (s ∷ ss) id w r rows (inr h) = punctuator_read f ss id w r rows.1 h
 
-outside_rows : (depth : ℕ) → AreRead (outside depth) signs_outside
-unfolding outside sign
+outside_rows : (depth : ℕ) → AreRead (outside depth) punctuators_outside
+unfolding outside punctuator
 outside_rows depth = (
   λ r h. refl,
   (
@@ -86,30 +86,30 @@ outside_rows depth = (
   ),
 )
 
-all_outside_rows : (depth : ℕ) → AreRead (outside depth) (signs mode.Outside depth)
-unfolding outside sign
+all_outside_rows : (depth : ℕ) → AreRead (outside depth) (punctuators mode.Outside depth)
+unfolding outside punctuator
 all_outside_rows zero = outside_rows zero
 all_outside_rows (suc depth) = (λ r h. rw (not_zero depth) refl, outside_rows (suc depth))
 
-braces_rows : (depth : ℕ) → AreRead in_braces (signs mode.Braces depth)
+braces_rows : (depth : ℕ) → AreRead in_braces (punctuators mode.Braces depth)
 unfolding in_braces
 braces_rows depth = (λ r h. refl, (λ r h. let no = or_false (next r == 126) false h in rw no.0 refl, (λ r h. rw (not_one (length r)) refl, (λ r h. refl, (λ r h. rw (not_one (length r)) refl, (λ r h. refl, tt))))))
 
-brackets_rows : (inside : Bracket) (depth : ℕ) → AreRead (in_brackets inside) (signs (mode.Brackets inside) depth)
+brackets_rows : (inside : Bracket) (depth : ℕ) → AreRead (in_brackets inside) (punctuators (mode.Brackets inside) depth)
 unfolding in_brackets
 brackets_rows bracket.Nothing depth = (λ r h. refl, tt)
 brackets_rows bracket.Something depth = (λ r h. refl, (λ r h. refl, tt))
 brackets_rows bracket.Colon depth = (λ r h. refl, tt)
 
--- signs are not empty
-abbrev AreSome : List Sign → Type 0
+-- punctuators are not empty
+abbrev AreSome : List Punctuator → Type 0
 AreSome [] = Unit {0}
 AreSome (s ∷ ss) = (0 < length s.0) × AreSome ss
 
-sign_some : (ss : List Sign) (id : ℕ) (w r : Text) → AreSome ss → IsOneOf ss id w r → 0 < length w
-sign_some [] id w r rows h = absurd h
-sign_some (s ∷ ss) id w r rows (inl h) = subst (λ w. 0 < length w) (sym h.0) rows.0
-sign_some (s ∷ ss) id w r rows (inr h) = sign_some ss id w r rows.1 h
+punctuator_some : (ss : List Punctuator) (id : ℕ) (w r : Text) → AreSome ss → IsOneOf ss id w r → 0 < length w
+punctuator_some [] id w r rows h = absurd h
+punctuator_some (s ∷ ss) id w r rows (inl h) = subst (λ w. 0 < length w) (sym h.0) rows.0
+punctuator_some (s ∷ ss) id w r rows (inr h) = punctuator_some ss id w r rows.1 h
 
 one : 0 < 1
 one = omega arith
@@ -117,16 +117,16 @@ one = omega arith
 two : 0 < 2
 two = omega arith
 
-outside_some : AreSome signs_outside
+outside_some : AreSome punctuators_outside
 outside_some = (one, (one, (one, (one, (one, (one, (one, (one, (one, (one, (one, (one, (two, (two, (one, (two, (one, (two, tt))))))))))))))))))
 
-some_signs : (m : Mode) (depth : ℕ) → AreSome (signs m depth)
-some_signs mode.Outside zero = outside_some
-some_signs mode.Outside (suc depth) = (one, outside_some)
-some_signs mode.Braces depth = (one, (one, (two, (two, (two, (one, tt))))))
-some_signs (mode.Brackets bracket.Nothing) depth = (one, tt)
-some_signs (mode.Brackets bracket.Something) depth = (one, (one, tt))
-some_signs (mode.Brackets bracket.Colon) depth = (one, tt)
+some_punctuators : (m : Mode) (depth : ℕ) → AreSome (punctuators m depth)
+some_punctuators mode.Outside zero = outside_some
+some_punctuators mode.Outside (suc depth) = (one, outside_some)
+some_punctuators mode.Braces depth = (one, (one, (two, (two, (two, (one, tt))))))
+some_punctuators (mode.Brackets bracket.Nothing) depth = (one, tt)
+some_punctuators (mode.Brackets bracket.Something) depth = (one, (one, tt))
+some_punctuators (mode.Brackets bracket.Colon) depth = (one, tt)
 
 -- ---- words
 
@@ -137,8 +137,8 @@ word_read depth id (b ∷ w) r h =
     let z : Text = b ∷ (w ++ r) in
     let first = and_left (is_letter b || (b == 58)) (end_of_run class.Word (b ∷ w) 0 == suc (length w)) h.0 in
     let all = eqb-true (end_of_run class.Word (b ∷ w) 0) (suc (length w)) (and_right (is_letter b || (b == 58)) _ h.0) in (
-      ap (λ x. cond x (numeral z) (cond (is_letter b || (b == 58)) (word z) (cond (is_quote b) (string z) (sign depth z)))) (no_numeral b (next (w ++ r)) first)
-          ∙ ap (λ x. cond x (word z) (cond (is_quote b) (string z) (sign depth z))) first ∙ word_beside (b ∷ w) r all h.1 ∙ ap (λ id. Ok (id, suc (length w))) (sym h.2),
+      ap (λ x. cond x (numeral z) (cond (is_letter b || (b == 58)) (word z) (cond (is_quote b) (string z) (punctuator depth z)))) (no_numeral b (next (w ++ r)) first)
+          ∙ ap (λ x. cond x (word z) (cond (is_quote b) (string z) (punctuator depth z))) first ∙ word_beside (b ∷ w) r all h.1 ∙ ap (λ id. Ok (id, suc (length w))) (sym h.2),
       omega arith,
     )
 
@@ -190,7 +190,7 @@ unfolding outside
 numeral_outside depth id w r h =
     let z : Text = w ++ r in
     let b = get_or z 0 0 in
-    ap (λ x. cond x (numeral z) (cond (is_letter b || (b == 58)) (word z) (cond (is_quote b) (string z) (sign depth z)))) (numeral_begins id w r h) ∙ numeral_read id w r h
+    ap (λ x. cond x (numeral z) (cond (is_letter b || (b == 58)) (word z) (cond (is_quote b) (string z) (punctuator depth z)))) (numeral_begins id w r h) ∙ numeral_read id w r h
 
 -- at a digit in brackets a numeral is read
 pub digit_first : (inside : Bracket) (b : ℕ) (y : Text) → is_ascii_digit b ≡ true → in_brackets inside (b ∷ y) ≡ numeral (b ∷ y)
@@ -204,13 +204,13 @@ numeral_in_brackets inside id (b ∷ w) r digit h = digit_first inside b (w ++ r
 -- ---- modes
 
 pub begun_read : (m : Mode) (depth id : ℕ) (w r : Text) → MayBegin m depth id w r → (scan_in_mode m depth (w ++ r) ≡ Ok (id, length w)) × (0 < length w)
-begun_read mode.Outside depth id w r (inl h) = (sign_read (outside depth) (signs mode.Outside depth) id w r (all_outside_rows depth) h, sign_some (signs mode.Outside depth) id w r (some_signs mode.Outside depth) h)
+begun_read mode.Outside depth id w r (inl h) = (punctuator_read (outside depth) (punctuators mode.Outside depth) id w r (all_outside_rows depth) h, punctuator_some (punctuators mode.Outside depth) id w r (some_punctuators mode.Outside depth) h)
 begun_read mode.Outside depth id w r (inr (inl h)) = word_read depth id w r h
 begun_read mode.Outside depth id w r (inr (inr (inl h))) = (numeral_outside depth id w r h, numeral_some id w r h)
 begun_read mode.Outside depth id w r (inr (inr (inr h))) = string_read mode.Outside depth id w r refl h
-begun_read mode.Braces depth id w r (inl h) = (sign_read in_braces (signs mode.Braces depth) id w r (braces_rows depth) h, sign_some (signs mode.Braces depth) id w r (some_signs mode.Braces depth) h)
+begun_read mode.Braces depth id w r (inl h) = (punctuator_read in_braces (punctuators mode.Braces depth) id w r (braces_rows depth) h, punctuator_some (punctuators mode.Braces depth) id w r (some_punctuators mode.Braces depth) h)
 begun_read mode.Braces depth id w r (inr (inl h)) = name_read id w r h
 begun_read mode.Braces depth id w r (inr (inr h)) = string_read mode.Braces depth id w r refl h
 begun_read (mode.Brackets inside) depth id w r (inl h) =
-    (sign_read (in_brackets inside) (signs (mode.Brackets inside) depth) id w r (brackets_rows inside depth) h, sign_some (signs (mode.Brackets inside) depth) id w r (some_signs (mode.Brackets inside) depth) h)
+    (punctuator_read (in_brackets inside) (punctuators (mode.Brackets inside) depth) id w r (brackets_rows inside depth) h, punctuator_some (punctuators (mode.Brackets inside) depth) id w r (some_punctuators (mode.Brackets inside) depth) h)
 begun_read (mode.Brackets inside) depth id w r (inr h) = (numeral_in_brackets inside id w r h.0 h.1, numeral_some id w r h.1)

@@ -17,12 +17,12 @@ use Rattle.promql_token.specs.Classes.{is_in, is_letter, end_of_run}
 use Rattle.promql_token.specs.Vocabulary.{next}
 use Rattle.promql_token.specs.TokenScanning.{Scanned, begins_numeral, scan_in_mode, braces_id, in_braces, in_brackets, is_quote, numeral, outside, string, word, word_id, word_in_braces}
 use Rattle.promql_token.specs.Printed.{holds_strings}
-use Rattle.promql_token.proofs.Choices.{and_both, or_false, by_bool}
+use Rattle.promql_token.proofs.TestsAndCounts.{and_both, or_false, by_bool}
 use Rattle.promql_token.proofs.Ends.{PieceEnds, digit_begins, numeral_ends}
-use Rattle.promql_token.proofs.Numbers.{in_none}
+use Rattle.promql_token.proofs.NumberParts.{in_none}
 use Rattle.promql_token.proofs.Numerals.{NumeralSays, numeral_says}
 use Rattle.promql_token.proofs.Places.{past_moves}
-use Rattle.promql_token.proofs.SignRows.{Says, bang_in_braces_says, colon_says, comma_in_braces_says, equal_in_braces_says, right_brace_says, right_bracket_says, sign_says}
+use Rattle.promql_token.proofs.PunctuatorRows.{Says, bang_in_braces_says, colon_says, comma_in_braces_says, equal_in_braces_says, right_brace_says, right_bracket_says, punctuator_says}
 use Rattle.promql_token.proofs.SpelledTokens.{first_byte, prefix_whole}
 use Rattle.promql_token.proofs.Strings.{StringSays, string_says}
 
@@ -123,7 +123,7 @@ outside_said depth b y =
     cond_both (is_letter b || (b == 58)) _ _ P (λ letter. inr (inl (word_said b y letter))) (λ letter.
     cond_both (is_quote b) _ _ P (λ quote. string_outside depth b y quote) (λ quote.
     let no = or_false (is_ascii_digit b) ((b == 46) && is_ascii_digit (next y)) begins in
-    sign_says depth b y (no_word_byte b no.0 letter) quote (λ point. sym (ap (λ c. c && is_ascii_digit (next y)) point) ∙ no.1))))
+    punctuator_says depth b y (no_word_byte b no.0 letter) quote (λ point. sym (ap (λ c. c && is_ascii_digit (next y)) point) ∙ no.1))))
 
 in_braces_said : (depth b : ℕ) (y : Text) → Says mode.Braces depth (b ∷ y) (in_braces (b ∷ y))
 unfolding in_braces word_in_braces

@@ -10,12 +10,12 @@ use Rattle.promql_text.specs.Texts.{Text}
 use Rattle.promql_token.specs.Begins.{Begins, MayBegin}
 use Rattle.promql_token.specs.FaultPlaces.{Faults, IsFault}
 use Rattle.promql_token.specs.TokenScanning.{Scanned, scan_in_mode, end_in, scan_token}
-use Rattle.promql_token.proofs.Choices.{not_zero}
+use Rattle.promql_token.proofs.TestsAndCounts.{not_zero}
 use Rattle.promql_token.proofs.FaultsRead.{fault_read}
 use Rattle.promql_token.proofs.Inner.{Inner, begun_inner}
 use Rattle.promql_token.proofs.ReadBeginnings.{begun_read}
 use Rattle.promql_token.proofs.ScannedBeginnings.{begun_said}
-use Rattle.promql_token.proofs.SignRows.{Says}
+use Rattle.promql_token.proofs.PunctuatorRows.{Says}
 
 -- T_EOF aside, a token may begin there, and a fault is there
 abbrev PieceSays : Mode → ℕ → Text → Scanned → Type 0

@@ -17,9 +17,9 @@ use Rattle.promql_text.specs.Texts.{Text}
 use Rattle.promql_token.specs.Classes.{is_in, is_letter, end_of_run}
 use Rattle.promql_token.specs.Laws.{is_word}
 use Rattle.promql_token.specs.Lexing.{ScannedText, found, scanned_text, goes_on, state_after_scan, len_of, pieces, start, lex, result_texts, slice_texts}
-use Rattle.promql_token.specs.TokenScanning.{Scanned, word, number_end, units, numeral, is_quote, is_escape, string_from, string, sign, begins_numeral, outside, colon_sign, in_brackets, end_in, scan_in_mode, scan_token, trivia_len, after_trivia, after, mode_after, mode_after_something, mode_after_colon}
+use Rattle.promql_token.specs.TokenScanning.{Scanned, word, number_end, units, numeral, is_quote, is_escape, string_from, string, punctuator, begins_numeral, outside, colon_token, in_brackets, end_in, scan_in_mode, scan_token, trivia_len, after_trivia, after, mode_after, mode_after_something, mode_after_colon}
 use Rattle.promql_token.specs.TokenSpelling.{IsSpelled, AreSpelled, Spelled, begins_unsigned, in_braces_after, is_no_word}
-use Rattle.promql_token.proofs.Choices.{and_both}
+use Rattle.promql_token.proofs.TestsAndCounts.{and_both}
 use Rattle.promql_token.proofs.Ends.{and_left, number_moves, or_cases}
 use Rattle.promql_token.proofs.Places.{past_moves}
 use Rattle.promql_token.proofs.Spans.{spans}
@@ -113,9 +113,9 @@ string_spelled : (z : Text) → SpelledPiece z (string z)
 unfolding string
 string_spelled z = string_from_spelled (get_or z 0 0) false 1 z (drop 1 z)
 
-sign_spelled : (depth : ℕ) (z : Text) → SpelledPiece z (sign depth z)
-unfolding sign
-sign_spelled depth z =
+punctuator_spelled : (depth : ℕ) (z : Text) → SpelledPiece z (punctuator depth z)
+unfolding punctuator
+punctuator_spelled depth z =
     let b = get_or z 0 0 in
     let c = get_or z 1 0 in
     let P = SpelledPiece z in
@@ -147,9 +147,9 @@ outside_spelled depth z some =
     let b = get_or z 0 0 in
     cond_both (begins_numeral z) _ _ (SpelledPiece z) (λ begins. numeral_spelled z some begins) (λ _.
     cond_both (is_letter b || (b == 58)) _ _ (SpelledPiece z) (λ first. word_spelled z some first) (λ _.
-    cond_both (is_quote b) _ _ (SpelledPiece z) (λ _. string_spelled z) (λ _. sign_spelled depth z)))
+    cond_both (is_quote b) _ _ (SpelledPiece z) (λ _. string_spelled z) (λ _. punctuator_spelled depth z)))
 
-colon_spelled : (inside : Bracket) (z : Text) → SpelledPiece z (colon_sign inside)
+colon_spelled : (inside : Bracket) (z : Text) → SpelledPiece z (colon_token inside)
 colon_spelled bracket.Nothing z = tt
 colon_spelled bracket.Something z = no_word 2 _ refl refl
 colon_spelled bracket.Colon z = tt

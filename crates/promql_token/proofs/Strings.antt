@@ -13,7 +13,7 @@ use Rattle.promql_token.specs.FaultPlaces.{IsEscaping}
 use Rattle.promql_token.specs.Vocabulary.{next}
 use Rattle.promql_token.specs.TokenScanning.{Scanned, is_escape, is_quote, string, string_from}
 use Rattle.promql_token.specs.Printed.{is_spelling, concat_texts}
-use Rattle.promql_token.proofs.Choices.{same_number, by_bool}
+use Rattle.promql_token.proofs.TestsAndCounts.{same_number, by_bool}
 use Rattle.promql_token.proofs.Ends.{and_left, and_right, or_cases}
 use Rattle.promql_token.proofs.Steps.{not_true}
 

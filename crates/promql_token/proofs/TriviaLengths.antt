@@ -13,7 +13,7 @@ use Rattle.promql_token.specs.Trivia.{is_line, IsComment, AreBlank, IsTriviaIn}
 use Rattle.promql_token.specs.Vocabulary.{next}
 use Rattle.promql_token.specs.TokenScanning.{trivia_len, trivia_from, is_line_end}
 use Rattle.promql_token.specs.Printed.{concat_texts}
-use Rattle.promql_token.proofs.Choices.{by_bool}
+use Rattle.promql_token.proofs.TestsAndCounts.{by_bool}
 use Rattle.promql_token.proofs.Ends.{and_left, and_right}
 use Rattle.promql_token.proofs.PrintedForms.{past_front}
 

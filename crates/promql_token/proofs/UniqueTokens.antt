@@ -15,7 +15,7 @@ use Rattle.promql_text.specs.Texts.{Text}
 use Rattle.promql_token.specs.Cut.{count_of, is_bound, mode_by, mode_at, state_at, ids_after, IsCut, CutOnce, EndsOnce}
 use Rattle.promql_token.specs.Lexing.{ScannedText, Found, found, scanned_text, len_of, goes_on, state_after_scan, cut, pieces, start, lex, place_items, collect_items, item}
 use Rattle.promql_token.specs.TokenScanning.{Scanned, scan_in_mode, end_in, scan_token, after_trivia, after, depth_after, mode_after, mode_after_something, mode_after_colon, trivia_len}
-use Rattle.promql_token.proofs.Choices.{by_bool}
+use Rattle.promql_token.proofs.TestsAndCounts.{by_bool}
 use Rattle.promql_token.proofs.Inner.{Inner, begun_inner}
 use Rattle.promql_token.proofs.Spans.{front_ok}
 use Rattle.promql_token.proofs.Steps.{cut_is, pieces_are, found_fits}
@@ -183,10 +183,10 @@ is_cut [] before state z h is = let head = pieces_are state z in absurd (cc)
 is_cut (w ∷ ws) before state z h is =
     let s = splits before state z w ws h is in
     let at = next_at before state z w h (sym (s.first ∙ ap (λ s. (found s z).scanned_text) (sym (is_state before state h)))) in
-    let behind_it : Text = drop ((found (state_at before) z).trivia + len_of w) z in (
+    let after_it : Text = drop ((found (state_at before) z).trivia + len_of w) z in (
       s.first,
-      elim (goes_on w) as (λ b. ws ≡ cond b (pieces (state_after_scan state w) behind_it) [] → MatchBool b (IsCut (ids_after before w) behind_it ws) (ws ≡ [])) [
-        | true ↦ λ e. is_cut ws (ids_after before w) (state_after_scan state w) behind_it at (sym e)
+      elim (goes_on w) as (λ b. ws ≡ cond b (pieces (state_after_scan state w) after_it) [] → MatchBool b (IsCut (ids_after before w) after_it ws) (ws ≡ [])) [
+        | true ↦ λ e. is_cut ws (ids_after before w) (state_after_scan state w) after_it at (sym e)
         | false ↦ λ e. e
       ] s.rest,
     )
@@ -198,10 +198,10 @@ only_cut (w ∷ ws) before state z h c =
     let f = found state z in
     let first : w ≡ f.scanned_text = c.0 ∙ ap (λ s. (found s z).scanned_text) (sym same) in
     let at = next_at before state z w h (sym first) in
-    let behind_it : Text = drop ((found (state_at before) z).trivia + len_of w) z in
-    let rest : ws ≡ cond (goes_on w) (pieces (state_after_scan state w) behind_it) [] =
-    elim (goes_on w) as (λ b. MatchBool b (IsCut (ids_after before w) behind_it ws) (ws ≡ []) → ws ≡ cond b (pieces (state_after_scan state w) behind_it) []) [
-      | true ↦ λ more. only_cut ws (ids_after before w) (state_after_scan state w) behind_it at more
+    let after_it : Text = drop ((found (state_at before) z).trivia + len_of w) z in
+    let rest : ws ≡ cond (goes_on w) (pieces (state_after_scan state w) after_it) [] =
+    elim (goes_on w) as (λ b. MatchBool b (IsCut (ids_after before w) after_it ws) (ws ≡ []) → ws ≡ cond b (pieces (state_after_scan state w) after_it) []) [
+      | true ↦ λ more. only_cut ws (ids_after before w) (state_after_scan state w) after_it at more
       | false ↦ λ e. e
     ] c.1 in
     (λ i. first i ∷ (rest ∙ (λ j. cond (goes_on (first j)) (pieces (state_after_scan state (first j)) (drop ((found (sym same j) z).trivia + len_of (first j)) z)) [])) i)

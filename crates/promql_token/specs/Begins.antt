@@ -16,28 +16,28 @@ use Rattle.promql_token.specs.Classes.{is_in, is_label}
 use Rattle.promql_token.specs.TokenScanning.{scan_token}
 use Rattle.promql_token.specs.Vocabulary.{are_digits, braces_id, is_exponent, is_part, is_sign, is_spelling, is_unit, is_word, concat_texts, next, parts_text, word_id}
 
--- ---- signs
+-- ---- punctuators
 
--- a sign's text and id, and the bytes that may not follow it
-abbrev pub Sign : Type 0
-Sign = Text × ℕ × Text
+-- a punctuator's text and id, and the bytes that may not follow it
+abbrev pub Punctuator : Type 0
+Punctuator = Text × ℕ × Text
 
-abbrev pub signs_outside : List Sign
-signs_outside =
+abbrev pub punctuators_outside : List Punctuator
+punctuators_outside =
     (codes "@", T_AT, []) ∷ (codes ",", T_COMMA, []) ∷ (codes "*", T_MUL, []) ∷ (codes "/", T_DIV, []) ∷ (codes "%", T_MOD, []) ∷ (codes "+", T_ADD, []) ∷ (codes "-", T_SUB, [])
     ∷ (codes "^", T_POW, []) ∷ (codes "{", T_LEFT_BRACE, []) ∷ (codes "[", T_LEFT_BRACKET, []) ∷ (codes "(", T_LEFT_PAREN, []) ∷ (codes "=", T_EQL, codes "=~") ∷ (codes "==", T_EQLC, [])
     ∷ (codes "!=", T_NEQ, []) ∷ (codes "<", T_LSS, codes "=") ∷ (codes "<=", T_LTE, []) ∷ (codes ">", T_GTR, codes "=") ∷ (codes ">=", T_GTE, []) ∷ []
 
--- the signs of a mode, with this many parentheses open
-abbrev pub signs : Mode → ℕ → List Sign
-signs mode.Outside zero = signs_outside
-signs mode.Outside (suc depth) = (codes ")", T_RIGHT_PAREN, []) ∷ signs_outside
-signs mode.Braces depth =
+-- the punctuators of a mode, with this many parentheses open
+abbrev pub punctuators : Mode → ℕ → List Punctuator
+punctuators mode.Outside zero = punctuators_outside
+punctuators mode.Outside (suc depth) = (codes ")", T_RIGHT_PAREN, []) ∷ punctuators_outside
+punctuators mode.Braces depth =
     (codes ",", T_COMMA, []) ∷ (codes "=", T_EQL, codes "~") ∷ (codes "!=", T_NEQ, []) ∷ (codes "=~", T_EQL_REGEX, []) ∷ (codes "!~", T_NEQ_REGEX, []) ∷ (codes "}", T_RIGHT_BRACE, []) ∷ []
-signs (mode.Brackets bracket.Something) depth = (codes "]", T_RIGHT_BRACKET, []) ∷ (codes ":", T_COLON, []) ∷ []
-signs (mode.Brackets inside) depth = (codes "]", T_RIGHT_BRACKET, []) ∷ []
+punctuators (mode.Brackets bracket.Something) depth = (codes "]", T_RIGHT_BRACKET, []) ∷ (codes ":", T_COLON, []) ∷ []
+punctuators (mode.Brackets inside) depth = (codes "]", T_RIGHT_BRACKET, []) ∷ []
 
-abbrev pub IsOneOf : List Sign → ℕ → Text → Text → Type 0
+abbrev pub IsOneOf : List Punctuator → ℕ → Text → Text → Type 0
 IsOneOf [] id w r = ⊥
 IsOneOf (s ∷ ss) id w r = ((w ≡ s.0) × (id ≡ s.1) × (list_any (λ b. next r == b) s.2 ≡ false)) ⊎ IsOneOf ss id w r
 
@@ -108,9 +108,9 @@ IsString id w = (id ≡ T_STRING) × (quote : ℕ) × (body : Text) × IsBody qu
 
 -- in brackets a numeral begins with a digit
 abbrev pub MayBegin : Mode → ℕ → ℕ → Text → Text → Type 0
-MayBegin mode.Outside depth id w r = IsOneOf (signs mode.Outside depth) id w r ⊎ (IsWord id w r ⊎ (IsNumeral id w r ⊎ IsString id w))
-MayBegin mode.Braces depth id w r = IsOneOf (signs mode.Braces depth) id w r ⊎ (IsName id w r ⊎ IsString id w)
-MayBegin (mode.Brackets inside) depth id w r = IsOneOf (signs (mode.Brackets inside) depth) id w r ⊎ ((is_ascii_digit (next w) ≡ true) × IsNumeral id w r)
+MayBegin mode.Outside depth id w r = IsOneOf (punctuators mode.Outside depth) id w r ⊎ (IsWord id w r ⊎ (IsNumeral id w r ⊎ IsString id w))
+MayBegin mode.Braces depth id w r = IsOneOf (punctuators mode.Braces depth) id w r ⊎ (IsName id w r ⊎ IsString id w)
+MayBegin (mode.Brackets inside) depth id w r = IsOneOf (punctuators (mode.Brackets inside) depth) id w r ⊎ ((is_ascii_digit (next w) ≡ true) × IsNumeral id w r)
 
 -- what a text begins with in a state is a token exactly if it may begin there
 abbrev pub Begins : Type 0

@@ -62,9 +62,9 @@ stops_numeral w r =
     let c = slice_index r 0 in
     not (is_in class.Name c) && not (c == point) && not (is_sign c && is_exponent (slice_index w (length w - 1)))
 
--- nor with a sign that may be longer
-abbrev pub stops_sign : Text → Text → Bool
-stops_sign w r =
+-- nor with a punctuator that may be longer
+abbrev pub stops_punctuator : Text → Text → Bool
+stops_punctuator w r =
     let b = slice_index w 0 in
     let c = slice_index r 0 in
     not (length w == 1 && (b == equal || b == less || b == greater) && (c == equal || c == tilde))
@@ -75,14 +75,14 @@ parts_outside w r =
     let b = slice_index w 0 in
     if begins_numeral w then stops_numeral w r
     else (if is_letter b || b == colon then not (is_in class.Word (slice_index r 0)) && word_id w r == word_id w []
-    else (if is_quote b then true else stops_sign w r))
+    else (if is_quote b then true else stops_punctuator w r))
 
 -- nor in braces; `or` stays what it is
 abbrev pub parts_in_braces : Text → Text → Bool
 parts_in_braces w r =
     let b = slice_index w 0 in
     if is_letter b then not (is_in class.Name (slice_index r 0)) && braces_id w r == braces_id w []
-    else (if is_quote b then true else stops_sign w r)
+    else (if is_quote b then true else stops_punctuator w r)
 
 -- nor in brackets
 abbrev pub parts_in_brackets : Text → Text → Bool

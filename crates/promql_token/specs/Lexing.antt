@@ -11,7 +11,7 @@ use Rattle.promql_token.specs.declared.fault.LexError.TheVariants as errors
 use Rattle.promql_token.specs.declared.state.Mode.TheVariants as mode
 use Rattle.promql_token.specs.declared.state.State.{State}
 use Rattle.promql_text.specs.Texts.{Text}
-use Rattle.promql_token.specs.Faults.{has_char}
+use Rattle.promql_token.specs.LexicalFaults.{has_char}
 use Rattle.promql_token.specs.TokenScanning.{Scanned, trivia_len, scan_token, after_trivia, after}
 
 -- a token's id and text; or a fault, how far it is from the piece's front, and the character there, for the kinds that show it

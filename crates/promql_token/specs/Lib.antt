@@ -3,7 +3,7 @@ pub mod Classes
 pub mod Cursor
 pub mod Cut
 pub mod FaultPlaces
-pub mod Faults
+pub mod LexicalFaults
 pub mod Trivia
 pub mod Ids
 pub mod IsFirst
@@ -13,7 +13,7 @@ pub mod Lexing
 pub mod TokenScanning
 pub mod Printed
 pub mod PrintedValues
-pub mod Rows
+pub mod TokenRows
 pub mod Scan
 pub mod TokenSpelling
 pub mod States

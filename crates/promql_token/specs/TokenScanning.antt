@@ -114,23 +114,23 @@ string_from quote false at (b ∷ z) =
 unfoldable pub string : Text → Scanned
 string z = string_from (slice_index z 0) false 1 (drop 1 z)
 
--- ---- outside, where signs of two bytes come before those of one
+-- ---- outside, where punctuators of two bytes come before those of one
 
 -- `=`, by the byte after it
-abbrev pub equal_sign : ℕ → Scanned
-equal_sign next = if next == equal then Ok (T_EQLC, 2) else (if next == tilde then Err (AfterEqual, 1) else Ok (T_EQL, 1))
+abbrev pub equal_token : ℕ → Scanned
+equal_token next = if next == equal then Ok (T_EQLC, 2) else (if next == tilde then Err (AfterEqual, 1) else Ok (T_EQL, 1))
 
--- the sign `short`, or `long` with an equal sign after it
+-- `short` alone, or `long` with a `=` after it
 abbrev pub or_equal : ℕ → ℕ → ℕ → Scanned
 or_equal next long short = if next == equal then Ok (long, 2) else Ok (short, 1)
 
-abbrev pub bang_sign : Text → Scanned
-bang_sign z = if length z == 1 then Err (BangAtEnd, 1) else (if slice_index z 1 == equal then Ok (T_NEQ, 2) else Err (AfterBang, 1))
+abbrev pub bang_token : Text → Scanned
+bang_token z = if length z == 1 then Err (BangAtEnd, 1) else (if slice_index z 1 == equal then Ok (T_NEQ, 2) else Err (AfterBang, 1))
 
-abbrev pub dot_sign : Text → Scanned
-dot_sign z = if length z == 1 then Err (DotAtEnd, 0) else Err (AfterDot, 1)
+abbrev pub dot_token : Text → Scanned
+dot_token z = if length z == 1 then Err (DotAtEnd, 0) else Err (AfterDot, 1)
 
--- the signs of one byte; `)` needs an open parenthesis
+-- the punctuators of one byte; `)` needs an open parenthesis
 abbrev pub single : ℕ → ℕ → Scanned
 single depth b =
     if b == at_sign then Ok (T_AT, 1)
@@ -149,15 +149,15 @@ single depth b =
     else (if b == right_bracket then Err (RightBracket, 0)
     else Err (Character, 0))))))))))))))
 
-unfoldable pub sign : ℕ → Text → Scanned
-sign depth z =
+unfoldable pub punctuator : ℕ → Text → Scanned
+punctuator depth z =
     let b = slice_index z 0 in
     let next = slice_index z 1 in
-    if b == point then dot_sign z
-    else (if b == equal then equal_sign next
+    if b == point then dot_token z
+    else (if b == equal then equal_token next
     else (if b == less then or_equal next T_LTE T_LSS
     else (if b == greater then or_equal next T_GTE T_GTR
-    else (if b == bang then bang_sign z
+    else (if b == bang then bang_token z
     else single depth b))))
 
 unfoldable pub outside : ℕ → Text → Scanned
@@ -165,7 +165,7 @@ outside depth z =
     let b = slice_index z 0 in
     if begins_numeral z then numeral z
     else (if is_letter b || b == colon then word z
-    else (if is_quote b then string z else sign depth z))
+    else (if is_quote b then string z else punctuator depth z))
 
 -- ---- in braces
 
@@ -190,15 +190,15 @@ in_braces z =
 -- ---- in brackets
 
 -- one colon, and none directly after the bracket
-abbrev pub colon_sign : Bracket → Scanned
-colon_sign bracket.Nothing = Err (FirstColon, 0)
-colon_sign bracket.Something = Ok (T_COLON, 1)
-colon_sign bracket.Colon = Err (SecondColon, 0)
+abbrev pub colon_token : Bracket → Scanned
+colon_token bracket.Nothing = Err (FirstColon, 0)
+colon_token bracket.Something = Ok (T_COLON, 1)
+colon_token bracket.Colon = Err (SecondColon, 0)
 
 unfoldable pub in_brackets : Bracket → Text → Scanned
 in_brackets inside z =
     let b = slice_index z 0 in
-    if b == colon then colon_sign inside
+    if b == colon then colon_token inside
     else (if b == right_bracket then Ok (T_RIGHT_BRACKET, 1)
     else (if b == left_bracket then Err (BracketInBrackets, 0)
     else (if is_ascii_digit b then numeral z else Err (InBrackets, 0))))

@@ -10,7 +10,7 @@ use Rattle.promql_token.specs.Laws.{is_word}
 use Rattle.promql_token.specs.Lexing.{tokens}
 use Rattle.promql_token.specs.TokenScanning.{word_id}
 
--- the ids of signs, numerals, strings and the end
+-- the ids of punctuators, numerals, strings and the end
 abbrev pub no_words : List ℕ
 no_words =
     T_EQL ∷ T_COLON ∷ T_COMMA ∷ T_DURATION ∷ T_EOF ∷ T_LEFT_BRACE ∷ T_LEFT_BRACKET ∷ T_LEFT_PAREN ∷ T_NUMBER ∷ T_RIGHT_BRACKET ∷ T_RIGHT_PAREN ∷ T_STRING

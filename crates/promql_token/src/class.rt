@@ -18,7 +18,7 @@ pub enum Class {
     Word,
 }
 
-/// The byte at a place, and 0 past the end: no class and no sign has it, and with an `Option` each
+/// The byte at a place, and 0 past the end: no class and no punctuator has it, and with an `Option` each
 /// byte that is looked at would cost a test more.
 pub fn byte(z: &[u8], at: usize) -> u8
     ensures value { result ≡ slice_index z.now at }

@@ -1,7 +1,7 @@
 //! Lexical faults and their messages.
 
 ghost use Rattle.std.specs.Prelude.{◌≡◌, map};
-ghost use Rattle.promql_token.specs.Faults as spec;
+ghost use Rattle.promql_token.specs.LexicalFaults as spec;
 
 use std::alloc::{AllocError, AllocFailed};
 use std::error::Error;
@@ -117,7 +117,7 @@ const MESSAGES: [(LexFaultKind, &str); 23] = [
 
 impl LexFaultKind {
     /// What comes before the character in a message, or the whole message.
-    #[tactic(auto, unfolding(crate::specs::Faults::words))]
+    #[tactic(auto, unfolding(crate::specs::LexicalFaults::words))]
     fn message(self) -> &'static str
         ensures { result.now ≡ spec.words self }
     {

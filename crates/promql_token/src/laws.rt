@@ -11,7 +11,7 @@ ghost use Rattle.promql_token.specs.Laws as spec;
 ghost use Rattle.promql_token.specs.Lexing.{lex};
 ghost use Rattle.promql_token.specs.Printed as printed_forms_are_tokens;
 ghost use Rattle.promql_token.specs.PrintedValues as values;
-ghost use Rattle.promql_token.specs.Rows as rows;
+ghost use Rattle.promql_token.specs.TokenRows as rows;
 ghost use Rattle.promql_token.specs.TokenSpelling as spelling;
 ghost use Rattle.promql_token.specs.TokenLists as lists;
 ghost use Rattle.promql_token.specs.Tokens.{id_and_text};

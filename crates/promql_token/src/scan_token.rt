@@ -13,7 +13,7 @@ use crate::string::{is_quote, string};
 use crate::word::{word, word_in_braces};
 
 fn equal(next: u8) -> Scanned
-    ensures { result ≡ spec.equal_sign next }
+    ensures { result ≡ spec.equal_token next }
 {
     match next {
         b'=' => Ok((T_EQLC, 2)),
@@ -22,7 +22,7 @@ fn equal(next: u8) -> Scanned
     }
 }
 
-// `short` alone, or `long` with an equal sign after it.
+// `short` alone, or `long` with a `=` after it.
 fn or_equal(next: u8, long: TokenId, short: TokenId) -> Scanned
     ensures { result ≡ spec.or_equal next long short }
 {
@@ -34,7 +34,7 @@ fn or_equal(next: u8, long: TokenId, short: TokenId) -> Scanned
 }
 
 fn bang(z: &[u8]) -> Scanned
-    ensures { result ≡ spec.bang_sign z.now }
+    ensures { result ≡ spec.bang_token z.now }
 {
     if z.len() == 1 {
         Err((LexFaultKind::BangAtEnd, 1))
@@ -46,7 +46,7 @@ fn bang(z: &[u8]) -> Scanned
 }
 
 #[inline(always)]
-#[tactic(auto, unfolding(crate::specs::TokenScanning::outside, crate::specs::TokenScanning::sign))]
+#[tactic(auto, unfolding(crate::specs::TokenScanning::outside, crate::specs::TokenScanning::punctuator))]
 fn outside(depth: usize, z: &[u8]) -> Scanned
     requires { 0 < length z.now }
     ensures { result ≡ spec.outside depth z.now }
@@ -114,7 +114,7 @@ fn in_braces(z: &[u8]) -> Scanned
 
 // One colon may be in brackets, and not directly after the bracket.
 fn colon(bracket: Bracket) -> Scanned
-    ensures { result ≡ spec.colon_sign bracket }
+    ensures { result ≡ spec.colon_token bracket }
 {
     match bracket {
         Bracket::Nothing => Err((LexFaultKind::FirstColon, 0)),

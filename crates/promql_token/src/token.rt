@@ -1,6 +1,6 @@
 //! Tokens, and the classes of their ids.
 
-ghost use Rattle.std.specs.Prelude.{◌≡◌, IfOk, string_bytes, codes};
+ghost use Rattle.std.specs.Prelude.{◌≡◌, IfOk, string_bytes};
 ghost use Rattle.promql_token.specs.Classes as classes;
 ghost use Rattle.promql_token.specs.Ids as spec;
 

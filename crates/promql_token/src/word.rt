@@ -1,6 +1,6 @@
 //! Words.
 
-ghost use Rattle.std.specs.Prelude.{◌≡◌, length};
+ghost use Rattle.std.specs.Prelude.{◌≡◌};
 ghost use Rattle.promql_token.specs.TokenScanning as spec;
 
 use crate::class::{Class, byte, end_of_run};

@@ -24,7 +24,7 @@ fn prints<T: Display>(rt: &impl Abort, alloc: Global, value: &T, want: &str) -> 
 }
 
 /// What was built as it prints, or the message of its rejection.
-fn shown(alloc: Global, built: Result<Expr, CheckError>) -> Result<String, AllocError> {
+fn display_text(alloc: Global, built: Result<Expr, CheckError>) -> Result<String, AllocError> {
     match built {
         Ok(expr) => expr.to_string(alloc),
         Err(error) => error.to_string(alloc),
@@ -38,7 +38,7 @@ fn shows(
     built: Result<Expr, CheckError>,
     want: &str,
 ) -> Result<(), Fail> {
-    let found = shown(alloc, built)?;
+    let found = display_text(alloc, built)?;
     assert_eq!(rt; found.as_str(), want);
     Ok(())
 }

@@ -46,6 +46,6 @@ fn json(expr: &Expr, alloc: Global) -> Result<String, JsonError> {
 }
 
 /// The error of a text that has no tree.
-fn refusal(alloc: Global, text: &str) -> Option<ParseError> {
+fn error_of(alloc: Global, text: &str) -> Option<ParseError> {
     parse(alloc, text).err()
 }

@@ -1,7 +1,7 @@
 pub mod Changed
 pub mod FaultOrder
-pub mod Forms
+pub mod FormsAndChildren
 pub mod JsonLists
 pub mod NoFloat
-pub mod SameErrors
+pub mod SameJsonErrors
 pub mod Walks

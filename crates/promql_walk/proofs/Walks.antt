@@ -4,20 +4,20 @@ use Rattle.promql_ast.specs.Tree.{Tree}
 use Rattle.promql_ast.specs.View.{tree_of, trees_of, children_of}
 use Rattle.promql_ast.specs.declared.expr.Expr.{Expr}
 use Rattle.promql_walk.specs.Events.{Event, before, after, events, inner_events, all_events}
-use Rattle.promql_walk.specs.Walked.{IfGoesOn, Visit, Walked}
+use Rattle.promql_walk.specs.WalkSteps.{IfGoesOn, Visit, WalksAlong}
 
 -- z is a result that ends a walk
 abbrev pub IsEnd : {E : Type 0} → Result Bool E → Type 0
 IsEnd z = IfGoesOn z ⊥ (Unit {0})
 
 module _ {X S E : Type 0} (step : X → S → Result Bool E → S → Type 0) where
-  pub walked_one : (x : X) (s : S) (r : Result Bool E) (t : S) → step x s r t → Walked step (x ∷ []) s r t
-  walked_one x s (Ok true) t h = (Ok true, (t, (h, (refl, refl))))
-  walked_one x s (Ok false) t h = (Ok false, (t, (h, (refl, refl))))
-  walked_one x s (Err e) t h = (Err e, (t, (h, (refl, refl))))
+  pub walks_one : (x : X) (s : S) (r : Result Bool E) (t : S) → step x s r t → WalksAlong step (x ∷ []) s r t
+  walks_one x s (Ok true) t h = (Ok true, (t, (h, (refl, refl))))
+  walks_one x s (Ok false) t h = (Ok false, (t, (h, (refl, refl))))
+  walks_one x s (Err e) t h = (Err e, (t, (h, (refl, refl))))
 
-  join : (xs ys : List X) (s : S) (a : Result Bool E) (u : S) (r : Result Bool E) (t : S) → a ≡ Ok true → u ≡ s → IfGoesOn a (Walked step ys u r t) ((r ≡ a) × (t ≡ u)) → Walked step ys s r t
-  join xs ys s (Ok true) u r t e f h = subst (λ w. Walked step ys w r t) f h
+  join : (xs ys : List X) (s : S) (a : Result Bool E) (u : S) (r : Result Bool E) (t : S) → a ≡ Ok true → u ≡ s → IfGoesOn a (WalksAlong step ys u r t) ((r ≡ a) × (t ≡ u)) → WalksAlong step ys s r t
+  join xs ys s (Ok true) u r t e f h = subst (λ w. WalksAlong step ys w r t) f h
   join xs ys s (Ok false) u r t e f h = cc
   join xs ys s (Err x) u r t e f h = cc
 
@@ -28,38 +28,38 @@ module _ {X S E : Type 0} (step : X → S → Result Bool E → S → Type 0) wh
   end_or_go_on (Ok true) u r t (Ok false) P ends e k = cc
   end_or_go_on (Ok true) u r t (Err x) P ends e k = cc
 
-  pub walked_append : (xs ys : List X) (s : S) (a : Result Bool E) (u : S) (r : Result Bool E) (t : S) → Walked step xs s a u → IfGoesOn a (Walked step ys u r t) ((r ≡ a) × (t ≡ u)) → Walked step (xs ++ ys) s r t
+  pub walked_append : (xs ys : List X) (s : S) (a : Result Bool E) (u : S) (r : Result Bool E) (t : S) → WalksAlong step xs s a u → IfGoesOn a (WalksAlong step ys u r t) ((r ≡ a) × (t ≡ u)) → WalksAlong step (xs ++ ys) s r t
   walked_append [] ys s a u r t h k = join [] ys s a u r t h.0 h.1 k
   walked_append (x ∷ xs) ys s a u r t (Ok true, (v, (st, more))) k = (Ok true, (v, (st, walked_append xs ys v a u r t more k)))
   walked_append (x ∷ xs) ys s a u r t (Ok false, (v, (st, more))) k = let end = end_or_go_on a u r t (Ok false) _ tt more.0 k in (Ok false, (v, (st, (end.0 ∙ more.0, end.1 ∙ more.1))))
   walked_append (x ∷ xs) ys s a u r t (Err e, (v, (st, more))) k = let end = end_or_go_on a u r t (Err e) _ tt more.0 k in (Err e, (v, (st, (end.0 ∙ more.0, end.1 ∙ more.1))))
 
-  pub walked_both : (xs ys : List X) (s : S) (a : Result Bool E) (u : S) (r : Result Bool E) (t : S) → a ≡ Ok true → Walked step xs s a u → Walked step ys u r t → Walked step (xs ++ ys) s r t
-  walked_both xs ys s a u r t is h k = walked_append xs ys s (Ok true) u r t (subst (λ b. Walked step xs s b u) is h) k
+  pub walked_both : (xs ys : List X) (s : S) (a : Result Bool E) (u : S) (r : Result Bool E) (t : S) → a ≡ Ok true → WalksAlong step xs s a u → WalksAlong step ys u r t → WalksAlong step (xs ++ ys) s r t
+  walked_both xs ys s a u r t is h k = walked_append xs ys s (Ok true) u r t (subst (λ b. WalksAlong step xs s b u) is h) k
 
-  pub walked_stops : (xs ys : List X) (s : S) (a : Result Bool E) (u : S) (b : Result Bool E) → IsEnd b → a ≡ b → Walked step xs s a u → Walked step (xs ++ ys) s b u
-  walked_stops xs ys s a u (Ok false) ends is h = walked_append xs ys s (Ok false) u (Ok false) u (subst (λ b. Walked step xs s b u) is h) (refl, refl)
-  walked_stops xs ys s a u (Err e) ends is h = walked_append xs ys s (Err e) u (Err e) u (subst (λ b. Walked step xs s b u) is h) (refl, refl)
+  pub walked_stops : (xs ys : List X) (s : S) (a : Result Bool E) (u : S) (b : Result Bool E) → IsEnd b → a ≡ b → WalksAlong step xs s a u → WalksAlong step (xs ++ ys) s b u
+  walked_stops xs ys s a u (Ok false) ends is h = walked_append xs ys s (Ok false) u (Ok false) u (subst (λ b. WalksAlong step xs s b u) is h) (refl, refl)
+  walked_stops xs ys s a u (Err e) ends is h = walked_append xs ys s (Err e) u (Err e) u (subst (λ b. WalksAlong step xs s b u) is h) (refl, refl)
   walked_stops xs ys s a u (Ok true) ends is h = absurd ends
 
 module _ {S E : Type 0} (pre post : S → Tree → Result Bool E → S → Type 0) where
   abbrev W : List Event → S → Result Bool E → S → Type 0
-  W = Walked (Visit pre post)
+  W = WalksAlong (Visit pre post)
 
   -- all of a node: before it, its children, after it
   pub whole : (e : Tree) (s u v : S) (a b r : Result Bool E) (t : S) → pre s e a u → a ≡ Ok true → W (inner_events e) u b v → b ≡ Ok true → post v e r t → W (events e) s r t
   whole e s u v a b r t p pe i ie q =
-      walked_both (Visit pre post) (before e ∷ []) (inner_events e ++ after e ∷ []) s a u r t pe (walked_one (Visit pre post) (before e) s a u p)
-      (walked_both (Visit pre post) (inner_events e) (after e ∷ []) u b v r t ie i (walked_one (Visit pre post) (after e) v r t q))
+      walked_both (Visit pre post) (before e ∷ []) (inner_events e ++ after e ∷ []) s a u r t pe (walks_one (Visit pre post) (before e) s a u p)
+      (walked_both (Visit pre post) (inner_events e) (after e ∷ []) u b v r t ie i (walks_one (Visit pre post) (after e) v r t q))
 
   pub ends_inside : (e : Tree) (s u v : S) (a b z : Result Bool E) → pre s e a u → a ≡ Ok true → W (inner_events e) u b v → IsEnd z → b ≡ z → W (events e) s z v
   ends_inside e s u v a b z p pe i ends is =
-      walked_both (Visit pre post) (before e ∷ []) (inner_events e ++ after e ∷ []) s a u z v pe (walked_one (Visit pre post) (before e) s a u p)
+      walked_both (Visit pre post) (before e ∷ []) (inner_events e ++ after e ∷ []) s a u z v pe (walks_one (Visit pre post) (before e) s a u p)
       (walked_stops (Visit pre post) (inner_events e) (after e ∷ []) u b v z ends is i)
 
   pub ends_before : (e : Tree) (s u : S) (a z : Result Bool E) → pre s e a u → IsEnd z → a ≡ z → W (events e) s z u
   ends_before e s u a z p ends is =
-      walked_stops (Visit pre post) (before e ∷ []) (inner_events e ++ after e ∷ []) s a u z ends is (walked_one (Visit pre post) (before e) s a u p)
+      walked_stops (Visit pre post) (before e ∷ []) (inner_events e ++ after e ∷ []) s a u z ends is (walks_one (Visit pre post) (before e) s a u p)
 
   -- the same walk of an expression that was reached by another way
   pub walked_as : (d e : Expr) (s : S) (r : Result Bool E) (t : S) → d ≡ e → W (events (tree_of d)) s r t → W (events (tree_of e)) s r t

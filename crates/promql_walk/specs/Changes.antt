@@ -2,7 +2,7 @@
 use Rattle.std.specs.Prelude.{◌≡◌, ◌⊎◌, Bool, true, Result, Ok}
 use Rattle.promql_ast.specs.Tree.{Tree, Trees, no_trees, first_tree}
 use Rattle.promql_walk.specs.Children.{children, with_children}
-use Rattle.promql_walk.specs.Walked.{IfGoesOn}
+use Rattle.promql_walk.specs.WalkSteps.{IfGoesOn}
 
 -- what a call of a visitor may do: the visitor and the node before, the result, both after
 abbrev pub Edit : Type 0 → Type 0 → Type 1

@@ -4,4 +4,4 @@ pub mod Events
 pub mod Json
 pub mod JsonFaults
 pub mod JsonParts
-pub mod Walked
+pub mod WalkSteps

@@ -291,7 +291,7 @@ fn with_type(
 
 /// The object of an expression.
 #[cycle(json)]
-#[tactic(auto, using(promql_ast::proofs::Views::tree_of_call, promql_ast::proofs::Views::tree_of_extension, promql_ast::proofs::Views::tree_of_aggregate))]
+#[tactic(auto, using(promql_ast::proofs::NodeParts::tree_of_call, promql_ast::proofs::NodeParts::tree_of_extension, promql_ast::proofs::NodeParts::tree_of_aggregate))]
 pub(crate) fn expr_json(alloc: Global, expr: &Expr) -> Result<Value, JsonError>
     ensures ok { IfOk result (λ v. view v ≡ json_value (tree_of expr.now)) }
     ensures fits { IfOk result (λ _. json_fault (tree_of expr.now) ≡ None) }

@@ -4,7 +4,7 @@ ghost use Rattle.std.specs.Prelude.{◌≡◌, ◌≢◌, Err, IfErr, IfOk, Ok, 
 ghost use Rattle.serde_json.specs.Data.{Data};
 ghost use Rattle.serde_json.specs.View.{view};
 ghost use Rattle.promql_kind.specs.Functions.{signature_of};
-ghost use Rattle.promql_kind.specs.Views.{cardinality_of, fills_of};
+ghost use Rattle.promql_kind.specs.ModifierViews.{cardinality_of, fills_of};
 ghost use Rattle.promql_ast.specs.Tree.{number, string};
 ghost use Rattle.promql_ast.specs.View.{aggregate_tree, binary_tree, call_tree, matrix_tree, paren_tree, subquery_tree, tree_of, trees_of, unary_tree, vector_tree};
 ghost use Rattle.promql_walk.specs.Json as spec;

@@ -4,7 +4,7 @@ ghost use Rattle.std.specs.Prelude.{Bool, Result};
 ghost use Rattle.promql_ast.specs.Tree.{Tree};
 ghost use Rattle.promql_ast.specs.View.{children_of, option_tree, tree_of, trees_of};
 ghost use Rattle.promql_walk.specs.Events.{all_events, events, inner_events, param_events};
-ghost use Rattle.promql_walk.specs.Walked.{IdlesOr, Visit, Walked};
+ghost use Rattle.promql_walk.specs.WalkSteps.{IdlesOr, Visit, WalksAlong};
 
 use promql_ast::Expr;
 
@@ -46,7 +46,7 @@ pub trait ExprVisitor {
 /// What a call of the visitor failed with.
 #[cycle(walk)]
 pub fn walk_expr<V: ExprVisitor>(visitor: &mut V, expr: &Expr) -> Result<bool, V::Error>
-    ensures { Walked (Visit V.pre_gives (IdlesOr V.post_gives))
+    ensures { WalksAlong (Visit V.pre_gives (IdlesOr V.post_gives))
         (events (tree_of expr.now)) visitor.old result visitor.new }
 {
     match visitor.pre_visit(expr) {
@@ -62,7 +62,7 @@ pub fn walk_expr<V: ExprVisitor>(visitor: &mut V, expr: &Expr) -> Result<bool, V
 
 #[cycle(walk)]
 fn walk_children<V: ExprVisitor>(visitor: &mut V, expr: &Expr) -> Result<bool, V::Error>
-    ensures { Walked (Visit V.pre_gives (IdlesOr V.post_gives))
+    ensures { WalksAlong (Visit V.pre_gives (IdlesOr V.post_gives))
         (inner_events (tree_of expr.now)) visitor.old result visitor.new }
 {
     match expr {
@@ -90,7 +90,7 @@ fn walk_children<V: ExprVisitor>(visitor: &mut V, expr: &Expr) -> Result<bool, V
 
 #[cycle(walk)]
 fn walk_param<V: ExprVisitor>(visitor: &mut V, param: &Option<Box<Expr>>) -> Result<bool, V::Error>
-    ensures { Walked (Visit V.pre_gives (IdlesOr V.post_gives))
+    ensures { WalksAlong (Visit V.pre_gives (IdlesOr V.post_gives))
         (param_events (option_tree param.now)) visitor.old result visitor.new }
 {
     match param {
@@ -101,7 +101,7 @@ fn walk_param<V: ExprVisitor>(visitor: &mut V, param: &Option<Box<Expr>>) -> Res
 
 #[cycle(walk)]
 fn walk_args<V: ExprVisitor>(visitor: &mut V, args: &[Box<Expr>]) -> Result<bool, V::Error>
-    ensures { Walked (Visit V.pre_gives (IdlesOr V.post_gives))
+    ensures { WalksAlong (Visit V.pre_gives (IdlesOr V.post_gives))
         (all_events (trees_of args.now)) visitor.old result visitor.new }
 {
     for arg in args {
@@ -116,7 +116,7 @@ fn walk_args<V: ExprVisitor>(visitor: &mut V, args: &[Box<Expr>]) -> Result<bool
 
 #[cycle(walk)]
 fn walk_nodes<V: ExprVisitor>(visitor: &mut V, nodes: &[Expr]) -> Result<bool, V::Error>
-    ensures { Walked (Visit V.pre_gives (IdlesOr V.post_gives))
+    ensures { WalksAlong (Visit V.pre_gives (IdlesOr V.post_gives))
         (all_events (children_of nodes.now)) visitor.old result visitor.new }
 {
     for node in nodes {

@@ -2,32 +2,32 @@
 
 ghost use Rattle.std.specs.Prelude.{◌≡◌, ◌++◌, ◌∷◌, Bool, List, false, length};
 ghost use Rattle.std.specs.Slice.Iter.{iter_rest};
-ghost use Rattle.promql_ast.specs.Decisions.{decided, decision, later};
+ghost use Rattle.promql_ast.specs.Decisions.{node_decisions, decision, later};
 
 use std::slice;
 
-/// Keeps a node's decision at a place, and what follows if the node is split.
-pub fn decide(decisions: &mut Vec<bool>, place: usize, longer: bool)
-    ensures { (front parts : List Bool) → place ≡ length front
+/// Keeps a node's decision at an index, and what follows if the node is split.
+pub fn decide(decisions: &mut Vec<bool>, index: usize, longer: bool)
+    ensures { (front parts : List Bool) → index ≡ length front
         → decisions.old.items ≡ front ++ false ∷ parts
-        → decisions.new.items ≡ front ++ decided longer parts }
+        → decisions.new.items ≡ front ++ node_decisions longer parts }
 {
     if longer {
-        if place < decisions.len() {
-            decisions[place] = true;
+        if index < decisions.len() {
+            decisions[index] = true;
         }
-    } else if place < decisions.len() {
-        decisions.truncate(place + 1);
+    } else if index < decisions.len() {
+        decisions.truncate(index + 1);
     }
 }
 
-/// Drops the decisions from a place on.
-pub fn forget(decisions: &mut Vec<bool>, place: usize)
-    ensures { (front parts : List Bool) → place ≡ length front
+/// Drops the decisions from an index on.
+pub fn forget(decisions: &mut Vec<bool>, index: usize)
+    ensures { (front parts : List Bool) → index ≡ length front
         → decisions.old.items ≡ front ++ parts → decisions.new.items ≡ front }
 {
-    if place < decisions.len() {
-        decisions.truncate(place);
+    if index < decisions.len() {
+        decisions.truncate(index);
     }
 }
 

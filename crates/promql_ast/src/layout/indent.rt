@@ -1,7 +1,7 @@
 //! Indentation of two spaces a level.
 
 ghost use Rattle.std.specs.Prelude.{◌≡◌, ◌++◌, ◌+◌, ◌<◌, ◌≤◌, ◌*◌, ◌==◌, if◌then◌else◌, [], Err, IfOk, OnOk, IfSome, string_bytes, codes};
-ghost use Rattle.promql_ast.specs.Layout.{trimmed};
+ghost use Rattle.promql_ast.specs.Layout.{without_indent};
 ghost use Rattle.promql_ast.specs.Lines.{indent, Keeps};
 ghost use Rattle.promql_text.specs.PrintedLen.{usize_max};
 
@@ -38,7 +38,11 @@ pub fn push_indent(out: &mut String, level: usize) -> Result<(), PrettyError>
 }
 
 /// A value on a line of its own, indented.
-pub fn indented<T: Display>(value: &T, alloc: Global, level: usize) -> Result<String, PrettyError>
+pub fn indented_line<T: Display>(
+    value: &T,
+    alloc: Global,
+    level: usize,
+) -> Result<String, PrettyError>
     ensures ok { IfSome (T.output value.now) (λ t. IfOk result
         (λ s. string_bytes s ≡ indent level ++ t)) }
     ensures keeps { Keeps (T.output value.now) result }
@@ -52,7 +56,7 @@ pub fn indented<T: Display>(value: &T, alloc: Global, level: usize) -> Result<St
 }
 
 /// Appends what a value displays.
-pub fn push_shown<T: Display>(value: &T, out: &mut String) -> Result<(), PrettyError>
+pub fn push_display<T: Display>(value: &T, out: &mut String) -> Result<(), PrettyError>
     ensures ok { IfSome (T.output value.now) (λ t. OnOk result
         (string_bytes out.new ≡ string_bytes out.old ++ t)) }
     ensures memory { result ≡ Err PrettyError.IndentTooWide → ⊥ }
@@ -62,7 +66,7 @@ pub fn push_shown<T: Display>(value: &T, out: &mut String) -> Result<(), PrettyE
 }
 
 /// Appends a value's one line, indented.
-#[tactic(auto, using(crate::proofs::Pushes::pushed))]
+#[tactic(auto, using(crate::proofs::Pushes::two_pushes))]
 pub fn push_line<T: Display>(value: &T, level: usize, out: &mut String) -> Result<(), PrettyError>
     ensures ok { IfSome (T.output value.now) (λ t. OnOk result
         (string_bytes out.new ≡ string_bytes out.old ++ (indent level ++ t))) }
@@ -75,15 +79,15 @@ pub fn push_line<T: Display>(value: &T, level: usize, out: &mut String) -> Resul
 }
 
 /// Appends a text without the spaces in its front.
-#[tactic(auto, using(crate::proofs::Pushes::trimmed_matches))]
-pub fn push_trimmed(text: &str, out: &mut String) -> Result<(), AllocError>
-    ensures { OnOk result (string_bytes out.new ≡ string_bytes out.old ++ trimmed text.now) }
+#[tactic(auto, using(crate::proofs::Pushes::without_indent_matches))]
+pub fn push_without_indent(text: &str, out: &mut String) -> Result<(), AllocError>
+    ensures { OnOk result (string_bytes out.new ≡ string_bytes out.old ++ without_indent text.now) }
 {
     out.push_str(text.trim_start_matches(" "))?;
     Ok(())
 }
 
-/// Appends what comes before the argument at a place.
+/// Appends what comes before the argument at an index.
 pub fn push_comma(at: usize, out: &mut String) -> Result<(), AllocError>
     ensures { OnOk result (string_bytes out.new
         ≡ string_bytes out.old ++ (if at == 0 then [] else codes ",\n")) }
@@ -95,7 +99,7 @@ pub fn push_comma(at: usize, out: &mut String) -> Result<(), AllocError>
 }
 
 /// Appends a line feed, an indentation and a text.
-#[tactic(auto, using(crate::proofs::Pushes::pushed))]
+#[tactic(auto, using(crate::proofs::Pushes::two_pushes))]
 pub fn push_below(out: &mut String, level: usize, text: &str) -> Result<(), PrettyError>
     ensures ok { OnOk result (string_bytes out.new
         ≡ string_bytes out.old ++ (codes "\n" ++ (indent level ++ text.now))) }

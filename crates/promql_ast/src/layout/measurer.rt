@@ -56,10 +56,10 @@ impl Measurer {
         if !node.can_split() {
             return self.measure_operands(node, max);
         }
-        let place = self.decisions.len();
+        let index = self.decisions.len();
         self.decisions.push(false)?;
         let len = self.measure_operands(node, max)?;
-        decide(&mut self.decisions, place, max < len);
+        decide(&mut self.decisions, index, max < len);
         Ok(len)
     }
 
@@ -96,9 +96,9 @@ impl Measurer {
                 Ok(call_len(e.func.name, args))
             }
             Node::Extension(e) => {
-                let place = self.decisions.len();
+                let index = self.decisions.len();
                 let children = self.measure_children(e.children.as_slice(), max)?;
-                forget(&mut self.decisions, place);
+                forget(&mut self.decisions, index);
                 Ok(call_len(e.name.as_str(), children))
             }
         }

@@ -42,7 +42,7 @@ pub enum Node<'a> {
 
 impl Expr {
     /// The node at the root.
-    #[tactic(auto, using(crate::proofs::Views::tree_of_call, crate::proofs::Views::tree_of_extension, crate::proofs::Views::tree_of_aggregate))]
+    #[tactic(auto, using(crate::proofs::NodeParts::tree_of_call, crate::proofs::NodeParts::tree_of_extension, crate::proofs::NodeParts::tree_of_aggregate))]
     pub fn node(&self) -> Node<'_>
         ensures { tree_of_node result ≡ tree_of self.now }
     {

@@ -1,12 +1,11 @@
 //! The layout of any value that displays: docs/reference/printing.md, "The trait".
 
-ghost use Rattle.std.specs.Prelude.{◌≡◌, ◌⊎◌, ℕ, Bool, Result, String, IfOk, IfSome, IsSome, IsTrue};
+ghost use Rattle.std.specs.Prelude.{◌≡◌, ◌⊎◌, ℕ, Bool, Result, String, IfSome, IsSome, IsTrue};
 ghost use Rattle.std.specs.declared.alloc.Global.{Global};
 ghost use Rattle.promql_ast.specs.Lines.{is_longer, IsLine, Keeps};
-ghost use Rattle.promql_text.specs.PrintedLen.{printed_len};
 
 use crate::layout::display_len::is_too_long;
-use crate::layout::indent::indented;
+use crate::layout::indent::indented_line;
 use std::alloc::{AllocError, Global};
 use std::fmt::Display;
 use thiserror::Error;
@@ -63,7 +62,7 @@ pub trait Prettier: Display {
         if self.needs_split(max) {
             self.format(alloc, level, max)
         } else {
-            indented(self, alloc, level)
+            indented_line(self, alloc, level)
         }
     }
 
@@ -80,7 +79,7 @@ pub trait Prettier: Display {
             ⊎ own_format self.now level max result }
     {
         let _ = max;
-        indented(self, alloc, level)
+        indented_line(self, alloc, level)
     }
 
     /// Whether the one line has more than `max` bytes. Bytes past the greatest `usize` are not counted.

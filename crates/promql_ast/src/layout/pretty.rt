@@ -1,8 +1,8 @@
 //! Layouts of nodes, of expressions and of lists of arguments: docs/reference/printing.md, "Nodes over several lines".
 
 ghost use Rattle.std.specs.Prelude.{◌≡◌, ◌≤◌, ◌+◌, ◌++◌, ◌<◌, ◌*◌, ◌⊎◌, ◌&&◌, not, codes, ⊤, Err, Some, IfOk, OnOk, IfSome, IsTrue, string_bytes};
-ghost use Rattle.promql_ast.specs.Layout.{args_laid, deepest, deepests, is_leaf, laid, lines, lines_deepest};
-ghost use Rattle.promql_ast.specs.Lines.{indent, is_longer, IsLine, Keeps};
+ghost use Rattle.promql_ast.specs.Layout.{args_layout_of, deepest, deepests, is_leaf, layout_of, lines, lines_deepest};
+ghost use Rattle.promql_ast.specs.Lines.{indent, is_longer, Keeps};
 ghost use Rattle.promql_ast.specs.NodeView.{tree_of_node};
 ghost use Rattle.promql_ast.specs.Nodes.{nodes};
 ghost use Rattle.promql_ast.specs.Text.{text, texts};
@@ -13,7 +13,7 @@ ghost use Rattle.promql_text.specs.PrintedLen.{usize_max, cap_usize};
 
 use crate::call::FunctionArgs;
 use crate::expr::Expr;
-use crate::layout::indent::indented;
+use crate::layout::indent::indented_line;
 use crate::layout::measurer::Measurer;
 use crate::layout::node::{Node, args_len};
 use crate::layout::prettier::{Prettier, PrettyError};
@@ -32,7 +32,8 @@ impl Node<'_> {
         max: usize,
         tally: &mut Tally,
     ) -> Result<String, PrettyError>
-        ensures text { IfOk result (λ s. string_bytes s ≡ laid (tree_of_node self.entry) level max) }
+        ensures text { IfOk result
+            (λ s. string_bytes s ≡ layout_of (tree_of_node self.entry) level max) }
         ensures wide { result ≡ Err PrettyError.IndentTooWide
             → usize_max < 2 * deepest (tree_of_node self.entry) level max }
         ensures fits { IfOk result (λ s. 2 * deepest (tree_of_node self.entry) level max ≤ usize_max) }
@@ -89,7 +90,7 @@ impl<T: LayoutNode> Prettier for T {
 
     fn pretty(&self, alloc: Global, level: usize, max: usize) -> Result<String, PrettyError>
         ensures keeps { Keeps (T.output self.now) result }
-        ensures text { IfOk result (λ s. string_bytes s ≡ laid (T.tree self.now) level max) }
+        ensures text { IfOk result (λ s. string_bytes s ≡ layout_of (T.tree self.now) level max) }
         ensures wide { result ≡ Err PrettyError.IndentTooWide
             → usize_max < 2 * deepest (T.tree self.now) level max }
         ensures fits { IfOk result (λ s. 2 * deepest (T.tree self.now) level max ≤ usize_max) }
@@ -132,7 +133,7 @@ impl Expr {
         max: usize,
         tally: &mut Tally,
     ) -> Result<String, PrettyError>
-        ensures text { IfOk result (λ s. string_bytes s ≡ laid (tree_of self.now) level max) }
+        ensures text { IfOk result (λ s. string_bytes s ≡ layout_of (tree_of self.now) level max) }
         ensures wide { result ≡ Err PrettyError.IndentTooWide
             → usize_max < 2 * deepest (tree_of self.now) level max }
         ensures fits { IfOk result
@@ -151,7 +152,7 @@ impl Expr {
     ///
     /// Those of `pretty`.
     pub fn prettify(&self, alloc: Global) -> Result<String, PrettyError>
-        ensures text { IfOk result (λ s. string_bytes s ≡ laid (tree_of self.now) 0 100) }
+        ensures text { IfOk result (λ s. string_bytes s ≡ layout_of (tree_of self.now) 0 100) }
         ensures wide { result ≡ Err PrettyError.IndentTooWide
             → usize_max < 2 * deepest (tree_of self.now) 0 100 }
         ensures fits { IfOk result
@@ -171,7 +172,7 @@ impl Prettier for Expr {
     #[tactic(auto, using(crate::proofs::Layouts::keeps_alike, crate::proofs::Layouts::laid_alike))]
     fn pretty(&self, alloc: Global, level: usize, max: usize) -> Result<String, PrettyError>
         ensures keeps { Keeps (Some (text (tree_of self.now))) result }
-        ensures text { IfOk result (λ s. string_bytes s ≡ laid (tree_of self.now) level max) }
+        ensures text { IfOk result (λ s. string_bytes s ≡ layout_of (tree_of self.now) level max) }
         ensures wide { result ≡ Err PrettyError.IndentTooWide
             → usize_max < 2 * deepest (tree_of self.now) level max }
         ensures fits { IfOk result (λ s. 2 * deepest (tree_of self.now) level max ≤ usize_max) }
@@ -187,7 +188,7 @@ impl Prettier for Expr {
         ensures fits { IfOk result (λ s. 2 * level ≤ usize_max) }
     {
         let _ = max;
-        indented(self, alloc, level)
+        indented_line(self, alloc, level)
     }
 
     fn needs_split(&self, max: usize) -> bool
@@ -210,7 +211,7 @@ impl Prettier for FunctionArgs {
         ensures keeps { Keeps (Some (joined_text (codes ", ") (texts
             (trees_of self.now.args.items)))) result }
         ensures text { IfOk result
-            (λ s. string_bytes s ≡ args_laid (trees_of self.now.args.items) level max) }
+            (λ s. string_bytes s ≡ args_layout_of (trees_of self.now.args.items) level max) }
         ensures wide { result ≡ Err PrettyError.IndentTooWide
             → usize_max < 2 * deepests (trees_of self.now.args.items) level max }
         ensures fits { IfOk result
@@ -233,7 +234,7 @@ impl Prettier for FunctionArgs {
         ensures fits { IfOk result (λ s. 2 * level ≤ usize_max) }
     {
         let _ = max;
-        indented(self, alloc, level)
+        indented_line(self, alloc, level)
     }
 
     fn needs_split(&self, max: usize) -> bool

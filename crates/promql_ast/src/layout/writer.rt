@@ -14,7 +14,7 @@ use crate::binary::ModifierDisplay;
 use crate::expr::Expr;
 use crate::layout::decisions::next_decision;
 use crate::layout::indent::{
-    deeper, push_below, push_comma, push_indent, push_line, push_shown, push_trimmed,
+    deeper, push_below, push_comma, push_display, push_indent, push_line, push_without_indent,
 };
 use crate::layout::node::Node;
 use crate::layout::prettier::PrettyError;
@@ -69,21 +69,21 @@ impl LayoutWriter<'_> {
                 let before = mem::replace(&mut self.out, String::new(self.alloc));
                 self.write_layout(e.expr.node(), level)?;
                 let operand = mem::replace(&mut self.out, before);
-                push_trimmed(operand.as_str(), &mut self.out)?;
+                push_without_indent(operand.as_str(), &mut self.out)?;
                 Ok(())
             }
             Node::Binary(e) => push_line(e, level, &mut self.out),
             Node::Paren(e) => push_line(e, level, &mut self.out),
             Node::Subquery(e) => {
                 self.write_layout(e.expr.node(), level)?;
-                push_shown(&Suffix(e), &mut self.out)
+                push_display(&Suffix(e), &mut self.out)
             }
             Node::NumberLiteral(e) => push_line(e, level, &mut self.out),
             Node::StringLiteral(e) => push_line(e, level, &mut self.out),
             Node::VectorSelector(e) => push_line(e, level, &mut self.out),
             Node::MatrixSelector(e) => push_line(e, level, &mut self.out),
             Node::Call(e) => push_line(e, level, &mut self.out),
-            Node::Extension(e) => push_shown(e, &mut self.out),
+            Node::Extension(e) => push_display(e, &mut self.out),
         }
     }
 
@@ -104,7 +104,7 @@ impl LayoutWriter<'_> {
         match node {
             Node::Aggregate(e) => {
                 push_indent(&mut self.out, level)?;
-                push_shown(&Head(e), &mut self.out)?;
+                push_display(&Head(e), &mut self.out)?;
                 self.out.push_str("(\n")?;
                 self.write_param(&e.param, inner)?;
                 self.write_layout(e.expr.node(), inner)?;
@@ -114,7 +114,7 @@ impl LayoutWriter<'_> {
             Node::Binary(e) => {
                 self.write_layout(e.lhs.node(), inner)?;
                 push_below(&mut self.out, level, token_display(e.op.id()))?;
-                push_shown(&ModifierDisplay(&e.modifier), &mut self.out)?;
+                push_display(&ModifierDisplay(&e.modifier), &mut self.out)?;
                 self.out.push_str("\n")?;
                 self.write_layout(e.rhs.node(), inner)
             }

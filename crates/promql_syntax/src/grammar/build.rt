@@ -9,12 +9,10 @@ ghost use Rattle.promql_grammar.specs.Grammar as grammar;
 ghost use Rattle.promql_grammar.specs.GrammarParts as part;
 ghost use Rattle.promql_grammar.specs.Results.{◌then◌};
 ghost use Rattle.promql_grammar.specs.declared.token_kinds.TokenKind as kinds;
-ghost use Rattle.promql_label.specs.Views.{plain_matchers_of};
 ghost use Rattle.promql_syntax.specs.BuildErrors.{build_error_of, view_result};
-ghost use Rattle.promql_syntax.specs.ParsesPart.{IsBuiltBy};
 ghost use Rattle.promql_syntax.specs.ParsesExpr.{AreArgsOf, EndsIn, IsExprOf, tree_result, clause_in, append_derivation, modifier_of, outcome};
-ghost use Rattle.promql_syntax.specs.PartBuilding.{braces_value, clause_value, modifier_value};
-ghost use Rattle.promql_kind.specs.Views.{clause_of};
+ghost use Rattle.promql_syntax.specs.PartBuilding.{clause_value, modifier_value};
+ghost use Rattle.promql_kind.specs.ModifierViews.{clause_of};
 ghost use Rattle.promql_syntax.specs.Asking.{◌giving◌, known};
 ghost use Rattle.promql_syntax.specs.Building.{from_verdict};
 ghost use Rattle.promql_syntax.specs.Postfixes.{IsPostfixOf, change_of, apply_change};
@@ -49,11 +47,18 @@ pub fn parsed_error(
     ensures value { IfOk result (λ parsed. tree_result parsed ≡ Err (build_error_of error)) }
     ensures tall { IfOk result (λ parsed. parsed.height ≡ height) }
 {
-    let error = Box::new(alloc, error)?;
-    Ok(ParsedExpr {
+    Ok(part_error(Box::new(alloc, error)?, height))
+}
+
+/// The error of a part, in place of the node that the part belongs to.
+fn part_error(error: Box<BuildError>, height: usize) -> ParsedExpr
+    ensures value { tree_result result ≡ Err (build_error_of error.value) }
+    ensures tall { result.height ≡ height }
+{
+    ParsedExpr {
         height,
         value: Err(error),
-    })
+    }
 }
 
 /// The result of a builder that allocates nothing.
@@ -125,10 +130,7 @@ pub fn build_paren(alloc: Global, inner: ParsedExpr) -> Result<ParsedExpr, Alloc
             let expr = Box::new(alloc, Expr::Paren(ParenExpr { expr }))?;
             Ok(parsed_node(expr, height))
         }
-        Err(error) => Ok(ParsedExpr {
-            height,
-            value: Err(error),
-        }),
+        Err(error) => Ok(part_error(error, height)),
     }
 }
 
@@ -154,10 +156,7 @@ pub fn build_unary(
             let expr = Box::into_inner(expr);
             check_result(alloc, Expr::new_unary_expr(alloc, expr), height)
         }
-        Err(error) => Ok(ParsedExpr {
-            height,
-            value: Err(error),
-        }),
+        Err(error) => Ok(part_error(error, height)),
     }
 }
 
@@ -189,21 +188,11 @@ pub fn build_binary(
     let height = left_height.max(right_height) + 1;
     let lhs = match left {
         Ok(expr) => expr,
-        Err(error) => {
-            return Ok(ParsedExpr {
-                height,
-                value: Err(error),
-            });
-        }
+        Err(error) => return Ok(part_error(error, height)),
     };
     let rhs = match right {
         Ok(expr) => expr,
-        Err(error) => {
-            return Ok(ParsedExpr {
-                height,
-                value: Err(error),
-            });
-        }
+        Err(error) => return Ok(part_error(error, height)),
     };
     let op = TokenType::new(op);
     match modifier {
@@ -266,12 +255,7 @@ pub fn build_call(alloc: Global, name: &str, args: ParsedArgs) -> Result<ParsedE
     let height = height + 1;
     let args = match value {
         Ok(args) => args,
-        Err(error) => {
-            return Ok(ParsedExpr {
-                height,
-                value: Err(error),
-            });
-        }
+        Err(error) => return Ok(part_error(error, height)),
     };
     match get_function(alloc, name)? {
         Some(func) => {
@@ -304,12 +288,7 @@ pub fn build_aggregate(
     let height = height + 1;
     let args = match value {
         Ok(args) => args,
-        Err(error) => {
-            return Ok(ParsedExpr {
-                height,
-                value: Err(error),
-            });
-        }
+        Err(error) => return Ok(part_error(error, height)),
     };
     match unbox_grouping(clause) {
         Ok(clause) => {
@@ -395,10 +374,7 @@ pub fn build_postfix(
     let height = height + added_height;
     match value {
         Ok(expr) => apply_postfix(alloc, expr, postfix, height),
-        Err(error) => Ok(ParsedExpr {
-            height,
-            value: Err(error),
-        }),
+        Err(error) => Ok(part_error(error, height)),
     }
 }
 

@@ -4,7 +4,7 @@ ghost use Rattle.std.specs.Prelude.{◌≡◌, None, Some, IfOk};
 ghost use Rattle.promql_grammar.specs.Grammar as grammar;
 ghost use Rattle.promql_grammar.specs.GrammarParts as part;
 ghost use Rattle.promql_grammar.specs.declared.token_kinds.TokenKind as kinds;
-ghost use Rattle.promql_label.specs.Views.{plain_matchers_of};
+ghost use Rattle.promql_label.specs.MatcherViews.{plain_matchers_of};
 ghost use Rattle.promql_syntax.specs.ParsesExpr.{IsExprOf};
 ghost use Rattle.promql_syntax.specs.ParsesPart.{IsBuiltBy};
 ghost use Rattle.promql_syntax.specs.PartBuilding.{braces_value};

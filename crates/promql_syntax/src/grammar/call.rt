@@ -1,6 +1,6 @@
 //! The rules `call` and `arguments`.
 
-ghost use Rattle.std.specs.Prelude.{◌≡◌, ℕ, ◌+◌, ◌≤◌, length, IfOk, MatchResult, OnOk};
+ghost use Rattle.std.specs.Prelude.{◌+◌, ◌≤◌, length, IfOk, MatchResult, OnOk};
 ghost use Rattle.promql_grammar.specs.Parsing.{parse_arguments, parse_call, parse_expression};
 ghost use Rattle.promql_syntax.specs.SymbolsLeft.{symbols_left};
 ghost use Rattle.promql_syntax.specs.ParsesExpr.{ParsesArgs, Fails, FailsBase, ParsesBase};

@@ -4,7 +4,7 @@ ghost use Rattle.std.specs.Prelude.{◌≡◌, ◌≤◌, length, option_map, So
 ghost use Rattle.promql_grammar.specs.Parsing as parsing;
 ghost use Rattle.promql_label.specs.Labels.{labels_of};
 ghost use Rattle.promql_kind.specs.Modifiers.{excluding, including};
-ghost use Rattle.promql_kind.specs.Views.{clause_of};
+ghost use Rattle.promql_kind.specs.ModifierViews.{clause_of};
 ghost use Rattle.promql_syntax.specs.SymbolsLeft.{symbols_left};
 ghost use Rattle.promql_syntax.specs.BuildErrors.{view_result};
 ghost use Rattle.promql_syntax.specs.ParsesPart.{ParsesPart};

@@ -17,7 +17,7 @@ use crate::grammar::string::string_value;
 use crate::tokens::Tokens;
 use promql_grammar::{ReadError, TokenKind};
 use promql_label::Labels;
-use std::alloc::{AllocError, Global};
+use std::alloc::Global;
 
 /// Parses labels in parentheses.
 pub fn parse_labels(alloc: Global, tokens: &mut Tokens<'_>) -> Parsed<Labels>

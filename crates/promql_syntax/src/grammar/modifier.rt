@@ -8,7 +8,7 @@ ghost use Rattle.promql_grammar.specs.Results.{◌then◌};
 ghost use Rattle.promql_grammar.specs.Parsing as parsing;
 ghost use Rattle.promql_label.specs.Labels.{labels_of};
 ghost use Rattle.promql_kind.specs.Modifiers as spec;
-ghost use Rattle.promql_kind.specs.Views.{cardinality_of, fills_of, matching_of};
+ghost use Rattle.promql_kind.specs.ModifierViews.{cardinality_of, fills_of, matching_of};
 ghost use Rattle.promql_syntax.specs.SymbolsLeft.{symbols_left};
 ghost use Rattle.promql_syntax.specs.BuildErrors.{view_result};
 ghost use Rattle.promql_syntax.specs.ParsesPart.{ParsesPart};

@@ -10,8 +10,7 @@ use crate::tokens::Tokens;
 use promql_grammar::TokenKind;
 use promql_token::TokenId;
 use promql_token::ids::{
-    T_ADD, T_ATAN2, T_DIV, T_EQLC, T_GTE, T_GTR, T_LAND, T_LOR, T_LSS, T_LTE, T_LUNLESS, T_MOD,
-    T_MUL, T_NEQ, T_POW, T_SUB,
+    T_ADD, T_EQLC, T_GTE, T_GTR, T_LAND, T_LOR, T_LSS, T_LTE, T_LUNLESS, T_NEQ, T_POW, T_SUB,
 };
 
 /// The lowest precedence of an operator.

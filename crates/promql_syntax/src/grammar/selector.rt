@@ -4,7 +4,7 @@ ghost use Rattle.std.specs.Prelude.{◌≡◌, ◌<◌, ◌≤◌, List, ℕ, op
 ghost use Rattle.promql_grammar.specs.GrammarParts as part;
 ghost use Rattle.promql_grammar.specs.Parsing as parsing;
 ghost use Rattle.promql_label.specs.Answers.{Allows, built, rejected};
-ghost use Rattle.promql_label.specs.Views.{operator_of, plain_matcher_of, plain_matchers_of};
+ghost use Rattle.promql_label.specs.MatcherViews.{operator_of, plain_matcher_of, plain_matchers_of};
 ghost use Rattle.promql_syntax.specs.SymbolsLeft.{symbols_left};
 ghost use Rattle.promql_syntax.specs.BuildErrors as spec;
 ghost use Rattle.promql_syntax.specs.BuildErrors.{build_error_of, view_result};

@@ -1,7 +1,7 @@
 //! Errors of texts that are rejected, with their kinds and places. docs/reference/grammar.md and
 //! docs/reference/tokens.md have the rules.
 
-use super::{refusal, repeated};
+use super::{error_of, repeated};
 use promql_parser::parser::lex::{LexFault, LexFaultKind};
 use promql_parser::parser::{CheckFault, NodeFault, ParseError, parse};
 use promql_text::{DurationFault, NumberFault};
@@ -30,7 +30,7 @@ fn has_fault(
     kind: LexFaultKind,
     at: usize,
 ) -> Result<(), Fail> {
-    let Some(ParseError::Lex(fault)) = refusal(alloc, text) else {
+    let Some(ParseError::Lex(fault)) = error_of(alloc, text) else {
         return Err(Fail::new("no lexical fault"));
     };
     assert!(rt; fault.kind == kind && fault.at == at, "{fault} at {at}");
@@ -76,7 +76,7 @@ fn the_first_token_decides_without_memory(rt: HostRuntime) {
 
 /// The text is rejected with this error.
 fn has_error(rt: &impl Abort, alloc: Global, text: &str, want: ParseError) -> Result<(), Fail> {
-    let Some(found) = refusal(alloc, text) else {
+    let Some(found) = error_of(alloc, text) else {
         return Err(Fail::new("accepted"));
     };
     assert!(rt; found == want, "at {text:?}: {found}");

@@ -1,8 +1,8 @@
 use Rattle.std.proofs.Common.{◌∙◌}
-use Rattle.promql_kind.specs.Views.{clause_of}
+use Rattle.promql_kind.specs.ModifierViews.{clause_of}
 use Rattle.promql_kind.proofs.Equal.{clause_Decides}
-use Rattle.promql_kind.proofs.Same.{clause_eq-Decides}
-use Rattle.promql_ast.proofs.Choices.{same_test}
+use Rattle.promql_kind.proofs.SameModifiersDecide.{clause_eq-Decides}
+use Rattle.promql_ast.proofs.SameTests.{same_test}
 use Rattle.promql_ast.proofs.aggregate.is_same_clause.Goals as goal
 
 pub returns : goal.returns

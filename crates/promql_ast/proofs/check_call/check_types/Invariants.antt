@@ -1,6 +1,6 @@
 use Rattle.std.proofs.Common.{◌≡◌, ◌<◌, drop, length}
 use Rattle.promql_ast.specs.View.{trees_of}
-use Rattle.promql_ast.specs.check.Call.{types_fault}
+use Rattle.promql_ast.specs.check.CallChecks.{types_fault}
 use Rattle.promql_ast.proofs.check_call.check_types.Given as goal
 
 abbrev pub invariant-loop-arg : goal.invariant-loop-arg

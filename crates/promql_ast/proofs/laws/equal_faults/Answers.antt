@@ -1,9 +1,9 @@
-use Rattle.promql_ast.proofs.SameFaults.{place_Decides, node_Decides, fault_Decides, error_Decides, at_Decides}
+use Rattle.promql_ast.proofs.SameFaults.{context_Decides, node_Decides, fault_Decides, error_Decides, at_Decides}
 use Rattle.promql_ast.proofs.laws.equal_faults.Goals as goal
 
 pub returns : goal.returns
 returns c = record {
-  places = place_Decides;
+  contexts = context_Decides;
   nodes = node_Decides;
   checks = fault_Decides;
   errors = error_Decides;

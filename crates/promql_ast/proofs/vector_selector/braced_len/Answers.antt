@@ -1,5 +1,5 @@
 use Rattle.std.proofs.Common.{◌∙◌, sym}
-use Rattle.promql_label.specs.Views.{plain_matchers_of}
+use Rattle.promql_label.specs.MatcherViews.{plain_matchers_of}
 use Rattle.promql_ast.proofs.BracedLens.{braced_len_is}
 use Rattle.promql_ast.proofs.vector_selector.braced_len.Goals as goal
 

@@ -1,6 +1,6 @@
 use Rattle.std.proofs.Common.{refl, sym, ◌∙◌}
 use Rattle.std.proofs.Output.{has_written_append, has_written_of_eq}
-use Rattle.promql_label.specs.Views.{plain_matchers_of}
+use Rattle.promql_label.specs.MatcherViews.{plain_matchers_of}
 use Rattle.promql_ast.proofs.Blank.{braced_text}
 use Rattle.promql_ast.proofs.vector_selector.write_braced.Goals as goal
 

@@ -1,6 +1,6 @@
-use Rattle.promql_label.proofs.MatcherRows.{worked_lists}
+use Rattle.promql_label.proofs.WorkedMatchers.{worked_lists}
 use Rattle.promql_label.proofs.PrintedTokens.{matchers_read, texts_sorted}
-use Rattle.promql_label.proofs.ReadMatchers.{alike, matchers_again, parts_built}
+use Rattle.promql_label.proofs.MatchersReadBack.{alike, matchers_again, parts_built}
 use Rattle.promql_label.proofs.ReadTokens.{nothing_else}
 use Rattle.promql_label.proofs.laws.printed_matchers_read_back.Goals as goal
 

@@ -1,5 +1,5 @@
 use Rattle.std.proofs.Common.{◌≡◌, ◌++◌, map}
-use Rattle.promql_label.specs.Views.{plain_matcher_of}
+use Rattle.promql_label.specs.MatcherViews.{plain_matcher_of}
 use Rattle.promql_label.proofs.MatcherSearch.{rest_from}
 use Rattle.promql_label.proofs.matchers.copy_matchers.Given as goal
 

@@ -1,7 +1,7 @@
 use Rattle.std.proofs.Common.{◌≡◌, [], map}
 use Rattle.std.specs.List.{list_all}
 use Rattle.promql_label.specs.PlainMatchers.{holds}
-use Rattle.promql_label.specs.Views.{plain_matcher_of}
+use Rattle.promql_label.specs.MatcherViews.{plain_matcher_of}
 use Rattle.promql_label.proofs.MatcherSearch.{rest_from}
 use Rattle.promql_label.proofs.matchers.match_empty.Given as goal
 

@@ -1,6 +1,6 @@
 use Rattle.std.proofs.Common.{map}
 use Rattle.promql_label.specs.PlainMatchers.{group_text}
-use Rattle.promql_label.specs.Views.{plain_matcher_of}
+use Rattle.promql_label.specs.MatcherViews.{plain_matcher_of}
 use Rattle.promql_label.proofs.matchers.write_groups.Goals as goal
 
 pub returns : goal.returns

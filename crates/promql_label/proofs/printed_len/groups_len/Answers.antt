@@ -4,7 +4,7 @@ use Rattle.promql_text.specs.PrintedLen.{printed_len}
 use Rattle.promql_text.proofs.Joins.{join_end}
 use Rattle.promql_text.proofs.PrintedLengths.{joined_len_next}
 use Rattle.promql_label.specs.PlainMatchers.{group_text, matcher_text}
-use Rattle.promql_label.specs.Views.{plain_matcher_of}
+use Rattle.promql_label.specs.MatcherViews.{plain_matcher_of}
 use Rattle.promql_label.specs.declared.matcher.Matcher.{Matcher}
 use Rattle.promql_label.proofs.printed_len.groups_len.Goals as goal
 

@@ -4,7 +4,7 @@ use Rattle.promql_text.proofs.Joins.{join_end_of}
 use Rattle.promql_text.proofs.PrintedLengths.{joined_len_next}
 use Rattle.promql_label.specs.NextText.{text_of}
 use Rattle.promql_label.specs.PlainMatchers.{matcher_text}
-use Rattle.promql_label.specs.Views.{plain_matcher_of}
+use Rattle.promql_label.specs.MatcherViews.{plain_matcher_of}
 use Rattle.promql_label.proofs.printed_len.row_len.Goals as goal
 
 pub loop-i-preserved : goal.loop-i-preserved

@@ -1,7 +1,7 @@
 use Rattle.std.proofs.Common.{◌++◌, ◌∷◌, [], sym, ap, ◌∙◌, subst, map, take}
 use Rattle.std.proofs.lemmas.List.{map_more}
 use Rattle.promql_label.specs.NextText.{IsLeast, text_of, text_of_some}
-use Rattle.promql_label.proofs.NextText.{least_step}
+use Rattle.promql_label.proofs.LeastText.{least_step}
 use Rattle.promql_label.proofs.sorted.next_greater.Goals as goal
 
 pub search-preserved : goal.search-preserved

@@ -2,7 +2,7 @@ use Rattle.std.proofs.Common.{refl, sym, ap, ◌∙◌, map, false}
 use Rattle.std.specs.List.{filter}
 use Rattle.promql_label.specs.NextText.{copies, is_above, text_of, text_of_some, texts_after, times}
 use Rattle.promql_label.specs.SortedTexts.{sorted_texts}
-use Rattle.promql_label.proofs.NextText.{filter_all, fewer}
+use Rattle.promql_label.proofs.LeastText.{filter_all, fewer}
 use Rattle.promql_label.proofs.PrintedTexts.{joined_is, texts_after_sorted, nothing_left}
 use Rattle.promql_text.proofs.Writing.{writing_plain, writing_more, writing_start, writing_end}
 use Rattle.promql_label.proofs.sorted.write_sorted.Goals as goal

@@ -104,14 +104,14 @@ fn modifier(alloc: Global, case: &Case) -> Result<BinModifier, AllocError> {
 }
 
 /// How the modifier prints.
-fn shown(alloc: Global, case: &Case) -> Result<String, AllocError> {
+fn display_text(alloc: Global, case: &Case) -> Result<String, AllocError> {
     modifier(alloc, case)?.to_string(alloc)
 }
 
 #[test]
 fn modifiers_print_their_parts(rt: HostRuntime) -> Result<(), Fail> {
     for case in &PRINTED {
-        prints(&rt, shown(rt.alloc(), case), case.5)?;
+        prints(&rt, display_text(rt.alloc(), case), case.5)?;
     }
     Ok(())
 }

@@ -46,14 +46,14 @@ fn list(alloc: Global, labels: &[&str]) -> Result<Labels, AllocError> {
     Labels::new(alloc, labels.to_vec(alloc)?)
 }
 
-fn shown(alloc: Global, labels: &[&str]) -> Result<String, AllocError> {
+fn display_text(alloc: Global, labels: &[&str]) -> Result<String, AllocError> {
     list(alloc, labels)?.to_string(alloc)
 }
 
 #[test]
 fn labels_print(rt: HostRuntime) -> Result<(), Fail> {
     for (labels, text) in &PRINTED {
-        prints(&rt, shown(rt.alloc(), labels), text)?;
+        prints(&rt, display_text(rt.alloc(), labels), text)?;
     }
     Ok(())
 }

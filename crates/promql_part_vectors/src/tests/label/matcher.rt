@@ -36,7 +36,7 @@ const PRINTED: [(TokenId, &str, &str, &str); 6] = [
 ];
 
 /// How the matcher prints, or why there is none.
-fn shown(alloc: Global, id: TokenId, name: &str, value: &str) -> Result<String, AllocError> {
+fn display_text(alloc: Global, id: TokenId, name: &str, value: &str) -> Result<String, AllocError> {
     match made(alloc, id, name, value) {
         Ok(matcher) => matcher.to_string(alloc),
         Err(error) => error.to_string(alloc),
@@ -46,7 +46,7 @@ fn shown(alloc: Global, id: TokenId, name: &str, value: &str) -> Result<String, 
 #[test]
 fn matchers_print(rt: HostRuntime) -> Result<(), Fail> {
     for (id, name, value, want) in &PRINTED {
-        prints(&rt, shown(rt.alloc(), *id, name, value), want)?;
+        prints(&rt, display_text(rt.alloc(), *id, name, value), want)?;
     }
     Ok(())
 }
@@ -61,7 +61,7 @@ const REJECTED: [(TokenId, &str, &str); 3] = [
 #[test]
 fn other_matchers_are_rejected(rt: HostRuntime) -> Result<(), Fail> {
     for (id, value, want) in &REJECTED {
-        prints(&rt, shown(rt.alloc(), *id, "a", value), want)?;
+        prints(&rt, display_text(rt.alloc(), *id, "a", value), want)?;
     }
     prints(
         &rt,
@@ -143,14 +143,14 @@ fn another_text_is_not_matched(rt: HostRuntime) -> Result<(), Fail> {
 }
 
 /// The matcher of a metric's name, as it prints.
-fn shown_name(alloc: Global, name: &str) -> Result<String, AllocError> {
+fn name_text(alloc: Global, name: &str) -> Result<String, AllocError> {
     let name = String::from_str(alloc, name)?;
     Matcher::new_metric_name_matcher(alloc, name)?.to_string(alloc)
 }
 
 #[test]
 fn metric_names(rt: HostRuntime) -> Result<(), Fail> {
-    prints(&rt, shown_name(rt.alloc(), "up"), "__name__=\"up\"")
+    prints(&rt, name_text(rt.alloc(), "up"), "__name__=\"up\"")
 }
 
 /// The operators of matchers, with their texts.
@@ -209,14 +209,14 @@ fn matchers_differ_by_each_part(rt: HostRuntime) -> Result<(), Fail> {
 }
 
 /// The operator of a matcher, as it prints.
-fn shown_operator(alloc: Global, id: TokenId) -> Result<String, Fail> {
+fn operator_text(alloc: Global, id: TokenId) -> Result<String, Fail> {
     Ok(made(alloc, id, "a", "b")?.op.to_string(alloc)?)
 }
 
 #[test]
 fn operators_print(rt: HostRuntime) -> Result<(), Fail> {
     for (id, want) in &OPERATORS {
-        let found = shown_operator(rt.alloc(), *id)?;
+        let found = operator_text(rt.alloc(), *id)?;
         holds(&rt, found.as_str() == *want, want);
     }
     Ok(())

@@ -21,16 +21,16 @@ fn pattern(alloc: Global, name: &str, value: &str) -> Result<Matcher, MatcherErr
 }
 
 /// How the matchers print, each after a space, and `|` before each group.
-fn shown(alloc: Global, list: &Matchers) -> Result<String, AllocError> {
-    let mut text = shown_all(alloc, &list.matchers)?;
+fn display_text(alloc: Global, list: &Matchers) -> Result<String, AllocError> {
+    let mut text = display_texts(alloc, &list.matchers)?;
     for group in &list.or_matchers {
         text.push_str(" |")?;
-        text.push_str(shown_all(alloc, group)?.as_str())?;
+        text.push_str(display_texts(alloc, group)?.as_str())?;
     }
     Ok(text)
 }
 
-fn shown_all(alloc: Global, matchers: &[Matcher]) -> Result<String, AllocError> {
+fn display_texts(alloc: Global, matchers: &[Matcher]) -> Result<String, AllocError> {
     let mut text = String::new(alloc);
     for matcher in matchers {
         text.push(' ')?;
@@ -92,7 +92,7 @@ type Growth = (
     &'static str,
 );
 
-const BEHIND_ONE: [Growth; 2] = [
+const AFTER_ONE: [Growth; 2] = [
     (
         &[("or", "b", "2"), ("and", "c", "3")],
         " | a=\"1\" | b=\"2\" c=\"3\"",
@@ -103,12 +103,12 @@ const BEHIND_ONE: [Growth; 2] = [
     ),
 ];
 
-const BEHIND_A_GROUP: [Growth; 2] = [
+const AFTER_A_GROUP: [Growth; 2] = [
     (&[], " a=\"1\" | b=\"2\""),
     (&[("and", "c", "3")], " a=\"1\" | b=\"2\" c=\"3\""),
 ];
 
-const BEHIND_NONE: [Growth; 2] = [
+const AFTER_NONE: [Growth; 2] = [
     (&[("and", "a", "1")], " a=\"1\""),
     (&[("or", "a", "1")], " | a=\"1\""),
 ];
@@ -116,9 +116,9 @@ const BEHIND_NONE: [Growth; 2] = [
 #[test]
 fn or_begins_groups(rt: HostRuntime) -> Result<(), Fail> {
     let alloc = rt.alloc();
-    for (rows, want) in &BEHIND_ONE {
+    for (rows, want) in &AFTER_ONE {
         let list = grown(alloc, one_equal(alloc, "a", "1")?, rows)?;
-        prints(&rt, shown(alloc, &list), want)?;
+        prints(&rt, display_text(alloc, &list), want)?;
     }
     Ok(())
 }
@@ -132,9 +132,9 @@ fn beside_a_group(alloc: Global) -> Result<Matchers, AllocError> {
 #[test]
 fn groups_beside_plain_ones_grow(rt: HostRuntime) -> Result<(), Fail> {
     let alloc = rt.alloc();
-    for (rows, want) in &BEHIND_A_GROUP {
+    for (rows, want) in &AFTER_A_GROUP {
         let list = grown(alloc, beside_a_group(alloc)?, rows)?;
-        prints(&rt, shown(alloc, &list), want)?;
+        prints(&rt, display_text(alloc, &list), want)?;
     }
     Ok(())
 }
@@ -142,9 +142,9 @@ fn groups_beside_plain_ones_grow(rt: HostRuntime) -> Result<(), Fail> {
 #[test]
 fn empty_lists_grow(rt: HostRuntime) -> Result<(), Fail> {
     let alloc = rt.alloc();
-    for (rows, want) in &BEHIND_NONE {
+    for (rows, want) in &AFTER_NONE {
         let list = grown(alloc, Matchers::empty(alloc), rows)?;
-        prints(&rt, shown(alloc, &list), want)?;
+        prints(&rt, display_text(alloc, &list), want)?;
     }
     Ok(())
 }
@@ -159,16 +159,16 @@ fn with_a_twice(alloc: Global) -> Result<Matchers, AllocError> {
 }
 
 /// The matchers of a name, as they print.
-fn shown_found(alloc: Global, list: &Matchers, name: &str) -> Result<String, AllocError> {
-    shown_all(alloc, &list.find_matchers(alloc, name)?)
+fn found_text(alloc: Global, list: &Matchers, name: &str) -> Result<String, AllocError> {
+    display_texts(alloc, &list.find_matchers(alloc, name)?)
 }
 
 #[test]
 fn finds_in_groups_too(rt: HostRuntime) -> Result<(), Fail> {
     let alloc = rt.alloc();
     let list = with_a_twice(alloc)?;
-    prints(&rt, shown_found(alloc, &list, "a"), " a=\"1\" a=\"3\"")?;
-    prints(&rt, shown_found(alloc, &list, "z"), "")
+    prints(&rt, found_text(alloc, &list, "a"), " a=\"1\" a=\"3\"")?;
+    prints(&rt, found_text(alloc, &list, "z"), "")
 }
 
 #[test]

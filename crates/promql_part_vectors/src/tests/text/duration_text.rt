@@ -25,14 +25,14 @@ const PRINTED: [(u64, &str); 11] = [
 ];
 
 /// The text of so many nanoseconds.
-fn shown(alloc: Global, nanos: u64) -> Result<String, AllocError> {
+fn display_text(alloc: Global, nanos: u64) -> Result<String, AllocError> {
     display_duration(alloc, &Duration::from_nanos(nanos))
 }
 
 #[test]
 fn durations_print(rt: HostRuntime) -> Result<(), Fail> {
     for (nanos, want) in &PRINTED {
-        prints(&rt, shown(rt.alloc(), *nanos), want)?;
+        prints(&rt, display_text(rt.alloc(), *nanos), want)?;
     }
     Ok(())
 }

@@ -1,4 +1,4 @@
-use Rattle.promql_run.proofs.SameErrors.{error_Decides}
+use Rattle.promql_run.proofs.SameRunErrors.{error_Decides}
 use Rattle.promql_run.proofs.laws.equal_errors.Goals as goal
 
 pub returns : goal.returns

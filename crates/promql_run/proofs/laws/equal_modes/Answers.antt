@@ -1,4 +1,4 @@
-use Rattle.promql_run.proofs.SameErrors.{mode_Decides}
+use Rattle.promql_run.proofs.SameRunErrors.{mode_Decides}
 use Rattle.promql_run.proofs.laws.equal_modes.Goals as goal
 
 pub returns : goal.returns

@@ -1,5 +1,5 @@
 use Rattle.promql_ast.specs.View.{tree_of}
-use Rattle.promql_run.proofs.Extensions.{answers_are_plain}
+use Rattle.promql_run.proofs.NoExtensions.{answers_are_plain}
 use Rattle.promql_run.proofs.LineAnswers.{fails_of_rendering}
 use Rattle.promql_run.proofs.line.evaluate_query.Goals as goal
 

@@ -1,5 +1,5 @@
 use Rattle.std.proofs.Common.{sym, ◌∙◌}
-use Rattle.promql_run.proofs.Requests.{known_keys, object_asks}
+use Rattle.promql_run.proofs.RequestMembers.{known_keys, object_asks}
 use Rattle.promql_run.proofs.request.may_ask.Goals as goal
 
 pub returns-in-Object : goal.returns-in-Object

@@ -1,4 +1,4 @@
-use Rattle.std.proofs.Common.{◌≡◌, sym, ◌∙◌, ap, subst}
+use Rattle.std.proofs.Common.{◌≡◌, sym, ◌∙◌, subst}
 use Rattle.std.specs.Prelude.{Result, Ok, Err, IfErr, IfOk, String, string_bytes}
 use Rattle.std.specs.declared.alloc.Global.{Global}
 use Rattle.promql_text.specs.Texts.{Text}
@@ -7,22 +7,22 @@ use Rattle.promql_run.specs.Running.{IsModeLine, IsPrinted}
 use Rattle.promql_run.specs.declared.run.Mode.{Mode}
 use Rattle.promql_run.specs.declared.run.RunError.{RunError}
 use Rattle.std.proofs.lemmas.Result.{err_from_is_err_and}
-use Rattle.promql_run.specs.declared.run.RunError.TheVariants.{Parse, Json}
+use Rattle.promql_run.specs.declared.run.RunError.TheVariants.{Parse}
 use Rattle.promql_syntax.specs.ParseAnswers.{IsAnswerTo, plain_error_of}
 use Rattle.promql_ast.specs.View.{tree_of}
 use Rattle.promql_run.specs.StepErrors.{IsShowError}
-use Rattle.promql_run.proofs.Extensions.{answers_are_plain}
-use Rattle.promql_run.proofs.Refusals.{raised_own}
+use Rattle.promql_run.proofs.NoExtensions.{answers_are_plain}
+use Rattle.promql_run.proofs.Rejections.{raised_own}
 use Rattle.promql_run.proofs.run.render_query.Goals as goal
 
 pub returns-in_err-expr-clause-parse : goal.returns-in_err-expr-clause-parse
 returns-in_err-expr-clause-parse c = λ e is.
-    let refusal = c.in_err-expr.ensures in
+    let rejection = c.in_err-expr.ensures in
     let same = err_from_is_err_and c.from_residual.result c.from_residual.ensures.1 in
     let raised : Err same.0 ≡ Err (Parse e) = sym same.1 ∙ is in
     let own : same.0 ≡ Parse e = cc in
     let parsed = raised_own c.in_err-expr.field-0.0 same.0 same.2 e own in
-    (subst (λ f. IsAnswerTo c.args.text.now (Err (plain_error_of f))) parsed.0 refusal, parsed.1)
+    (subst (λ f. IsAnswerTo c.args.text.now (Err (plain_error_of f))) parsed.0 rejection, parsed.1)
 
 pub render_line-line-requires-clause-plain : goal.render_line-line-requires-clause-plain
 render_line-line-requires-clause-plain c = answers_are_plain c.args.text.now (tree_of c.in_ok-expr.expr) c.in_ok-expr.ensures

@@ -3,7 +3,7 @@ use Rattle.std.specs.Prelude.{Err}
 use Rattle.std.specs.Str.{IsUtf8}
 use Rattle.std.proofs.lemmas.Result.{err_from_is_err_and}
 use Rattle.promql_run.specs.declared.run.RunError.TheVariants.{Parse, Json}
-use Rattle.promql_run.proofs.Refusals.{rejected_of, too_wide_of}
+use Rattle.promql_run.proofs.Rejections.{rejected_of, too_wide_of}
 use Rattle.promql_run.proofs.run.run.Goals as goal
 
 pub returns-in_err-answer-clause-parse : goal.returns-in_err-answer-clause-parse

@@ -1,10 +1,10 @@
 use Rattle.std.proofs.Common.{arith}
-use Rattle.promql_text.proofs.Points.{all_behind, power_fits}
+use Rattle.promql_text.proofs.Points.{all_after_point, power_fits}
 use Rattle.promql_text.proofs.Tens.{ten_pos}
 use Rattle.promql_text.proofs.display.split_at_point.Goals as goal
 
 pub returns-then-places-ge38 : goal.returns-then-places-ge38
-returns-then-places-ge38 c = all_behind c.args.digits c.args.places c.requires c.if-places-ge38.true
+returns-then-places-ge38 c = all_after_point c.args.digits c.args.places c.requires c.if-places-ge38.true
 
 pub pow-power-requires : goal.pow-power-requires
 pow-power-requires c = power_fits c.from.result (omega arith)

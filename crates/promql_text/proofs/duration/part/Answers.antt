@@ -5,18 +5,18 @@ use Rattle.promql_text.specs.Texts.{Text}
 use Rattle.promql_text.specs.DecimalForm.{past_run}
 use Rattle.promql_text.specs.Durations.{is_no_digit, nanos_of, parts_nanos, word_run, past_word}
 use Rattle.promql_text.specs.DurationReaders.{cap_u128, seek}
-use Rattle.promql_text.proofs.Parts.{parts-no_digit, parts-no_unit, takes_part, part_shorter}
+use Rattle.promql_text.proofs.SaturatingParts.{parts-no_digit, parts-no_unit, takes_part, part_shorter}
 use Rattle.promql_text.proofs.duration.part.Goals as goal
 
 pub returns-in_err-count : goal.returns-in_err-count
 returns-in_err-count c = rw c.from_residual.ensures (parts-no_digit c.args.units.now c.args.text.now c.requires c.in_err-count.ensures)
 
 -- the word that the code cuts off, and what comes after it
-word_is : (behind word s : Text) (len : ℕ) → behind ≡ past_run s → word ≡ take len behind → len ≡ prefix_len is_no_digit behind → word ≡ word_run (past_run s)
-word_is behind word s len at is n = is ∙ ap (λ k. take k behind) n ∙ ap word_run at
+word_is : (after_run word s : Text) (len : ℕ) → after_run ≡ past_run s → word ≡ take len after_run → len ≡ prefix_len is_no_digit after_run → word ≡ word_run (past_run s)
+word_is after_run word s len at is n = is ∙ ap (λ k. take k after_run) n ∙ ap word_run at
 
-rest_is : (behind rest s : Text) (len : ℕ) → behind ≡ past_run s → rest ≡ drop len behind → len ≡ prefix_len is_no_digit behind → rest ≡ past_word (past_run s)
-rest_is behind rest s len at is n = is ∙ ap (λ k. drop k behind) n ∙ ap past_word at
+rest_is : (after_run rest s : Text) (len : ℕ) → after_run ≡ past_run s → rest ≡ drop len after_run → len ≡ prefix_len is_no_digit after_run → rest ≡ past_word (past_run s)
+rest_is after_run rest s len at is n = is ∙ ap (λ k. drop k after_run) n ∙ ap past_word at
 
 pub returns-in_err-unit : goal.returns-in_err-unit
 returns-in_err-unit c =

@@ -1,5 +1,5 @@
 use Rattle.std.proofs.Common.{rules}
-use Rattle.promql_token.proofs.Items.{Here, here, token_ends, behind_here, token_place, fault_place, token_value, fault_value}
+use Rattle.promql_token.proofs.Items.{Here, here, token_ends, ends_here, token_place, fault_place, token_value, fault_value}
 use Rattle.promql_token.proofs.cursor.token_at.Goals as goal
 use Rattle.promql_token.proofs.cursor.token_at.Goals.{After-scan_token}
 
@@ -13,7 +13,7 @@ pub returns-in-Ok-clause-value : goal.returns-in-Ok-clause-value
 returns-in-Ok-clause-value c = token_value (facts (goal.at.returns-in-Ok-clause-value c).After-scan_token) _ _ c.in-Ok.is
 
 pub returns-in-Ok-clause-front : goal.returns-in-Ok-clause-front
-returns-in-Ok-clause-front c = behind_here (facts (goal.at.returns-in-Ok-clause-front c).After-scan_token)
+returns-in-Ok-clause-front c = ends_here (facts (goal.at.returns-in-Ok-clause-front c).After-scan_token)
 
 pub returns-in-Ok-clause-place : goal.returns-in-Ok-clause-place
 returns-in-Ok-clause-place c = token_place (facts (goal.at.returns-in-Ok-clause-place c).After-scan_token) _ _ c.in-Ok.is

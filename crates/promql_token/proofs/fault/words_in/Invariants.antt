@@ -1,5 +1,5 @@
 use Rattle.std.proofs.Common.{◌≡◌, drop, map}
-use Rattle.promql_token.specs.Faults as spec
+use Rattle.promql_token.specs.LexicalFaults as spec
 use Rattle.promql_token.proofs.fault.words_in.Given as goal
 
 abbrev pub invariant-loop-row : goal.invariant-loop-row

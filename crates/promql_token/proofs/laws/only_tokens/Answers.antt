@@ -1,4 +1,4 @@
-use Rattle.promql_token.proofs.TokenLists.{only_fault, only_items, only_texts, only_tokens, only_pieces}
+use Rattle.promql_token.proofs.OneReading.{only_fault, only_items, only_texts, only_tokens, only_pieces}
 use Rattle.promql_token.proofs.laws.only_tokens.Goals as goal
 
 pub returns : goal.returns

@@ -1,4 +1,4 @@
-use Rattle.promql_token.proofs.Durations.{joins_duration}
+use Rattle.promql_token.proofs.DurationTokens.{joins_duration}
 use Rattle.promql_token.proofs.PrintedForms.{joins_number, joins_string}
 use Rattle.promql_token.proofs.laws.printed_forms_are_tokens.Goals as goal
 

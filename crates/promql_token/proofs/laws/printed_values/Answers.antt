@@ -1,4 +1,4 @@
-use Rattle.promql_token.proofs.PrintedValues.{joins_number_text, joins_quoted, joins_time}
+use Rattle.promql_token.proofs.ValueTokens.{joins_number_text, joins_quoted, joins_time}
 use Rattle.promql_token.proofs.laws.printed_values.Goals as goal
 
 pub returns : goal.returns

@@ -72,11 +72,11 @@ fn errors(rt: HostRuntime) -> Result<(), Fail> {
 
 #[test]
 fn modes(rt: HostRuntime) {
-    assert_eq!(rt; Mode::named("pretty"), Some(Mode::Pretty));
-    assert_eq!(rt; Mode::named("line"), Some(Mode::Line));
-    assert_eq!(rt; Mode::named("json"), Some(Mode::Json));
-    assert_eq!(rt; Mode::named("Line"), None);
-    assert_eq!(rt; Mode::named(""), None);
+    assert_eq!(rt; Mode::from_name("pretty"), Some(Mode::Pretty));
+    assert_eq!(rt; Mode::from_name("line"), Some(Mode::Line));
+    assert_eq!(rt; Mode::from_name("json"), Some(Mode::Json));
+    assert_eq!(rt; Mode::from_name("Line"), None);
+    assert_eq!(rt; Mode::from_name(""), None);
 }
 
 // What a run in the mode prints of the text.
@@ -134,9 +134,9 @@ fn padded(alloc: Global, front: &str, count: usize, back: &str) -> Result<String
     Ok(made)
 }
 
-// The input is read in pieces of 4,096 bytes.
+// The input is read in blocks of 4,096 bytes.
 #[test]
-fn inputs_of_many_pieces(rt: HostRuntime) -> Result<(), Fail> {
+fn inputs_of_many_blocks(rt: HostRuntime) -> Result<(), Fail> {
     let alloc = rt.alloc();
     for len in [
         1, 13, 14, 4_094, 4_095, 4_096, 4_097, 8_191, 8_192, 8_193, 1_000_000,
@@ -152,7 +152,7 @@ fn inputs_of_many_pieces(rt: HostRuntime) -> Result<(), Fail> {
 }
 
 #[test]
-fn characters_across_pieces(rt: HostRuntime) -> Result<(), Fail> {
+fn characters_across_blocks(rt: HostRuntime) -> Result<(), Fail> {
     let alloc = rt.alloc();
     for before in 4_088..4_096 {
         for back in ["é\n+ 2", "€\n+ 2", "\u{1f600}\n+ 2"] {

@@ -1,6 +1,6 @@
 use Rattle.std.proofs.Common.{◌≡◌, map, take}
 use Rattle.serde_json.specs.View.{view}
-use Rattle.promql_label.specs.Views.{plain_matcher_of}
+use Rattle.promql_label.specs.MatcherViews.{plain_matcher_of}
 use Rattle.promql_walk.specs.JsonParts.{group_json}
 use Rattle.promql_walk.proofs.json_parts.groups_json.Given as goal
 

@@ -1,7 +1,7 @@
 use Rattle.std.proofs.Common.{◌≡◌, ◌<◌, ◌∙◌, List, [], ◌∷◌, Vec, Global, length, map, codes, ap, refl, arith}
 use Rattle.serde_json.specs.Data.{Members, put}
 use Rattle.serde_json.specs.View.{members_view}
-use Rattle.promql_label.specs.Views.{plain_matcher_of}
+use Rattle.promql_label.specs.MatcherViews.{plain_matcher_of}
 use Rattle.promql_label.specs.declared.matcher.Matcher.{Matcher}
 use Rattle.promql_walk.specs.JsonParts as spec
 use Rattle.promql_walk.proofs.json_parts.put_groups.Goals as goal

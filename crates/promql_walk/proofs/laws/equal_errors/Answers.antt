@@ -1,4 +1,4 @@
-use Rattle.promql_walk.proofs.SameErrors.{error_Decides}
+use Rattle.promql_walk.proofs.SameJsonErrors.{error_Decides}
 use Rattle.promql_walk.proofs.laws.equal_errors.Goals as goal
 
 pub returns : goal.returns

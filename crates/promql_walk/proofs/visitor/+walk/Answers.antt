@@ -1,9 +1,9 @@
 use Rattle.std.proofs.Common.{true, Ok, refl, ap, ◌∙◌, sym, subst}
 use Rattle.std.proofs.lemmas.List.{drop_all}
 use Rattle.promql_ast.specs.View.{tree_of, option_tree, trees_of, children_of, aggregate_tree, call_tree, extension_tree}
-use Rattle.promql_ast.proofs.Views.{tree_of_aggregate, tree_of_call, tree_of_extension}
+use Rattle.promql_ast.proofs.NodeParts.{tree_of_aggregate, tree_of_call, tree_of_extension}
 use Rattle.promql_walk.specs.Events.{events, param_events, all_events}
-use Rattle.promql_walk.specs.Walked.{IdlesOr, Visit, Walked}
+use Rattle.promql_walk.specs.WalkSteps.{IdlesOr, Visit, WalksAlong}
 use Rattle.promql_walk.proofs.Walks.{whole, ends_inside, ends_before, walked_both, walked_stops, walked_as, walked_below, next_goes, next_ends, drop_step, args_events, nodes_events}
 use Rattle.promql_walk.proofs.visitor.+walk.Goals as goal
 
@@ -77,16 +77,16 @@ walk_children-returns-in-Err g t c =
 pub walk_children-returns-in-Call : goal.walk_children-returns-in-Call
 walk_children-returns-in-Call g t c =
     walked_below g.V.ExprVisitor.pre_gives (IdlesOr g.V.ExprVisitor.post_gives) c.args.expr.now (call_tree c.in-Call.e) _ _ _ (ap tree_of c.in-Call.is ∙ tree_of_call c.in-Call.e)
-    (subst (λ bs. Walked (Visit g.V.ExprVisitor.pre_gives (IdlesOr g.V.ExprVisitor.post_gives)) (all_events (trees_of bs)) c.args.visitor.now c.walk_args.result c.walk_args.new.visitor) c.as_slice.ensures.value c.walk_args.ensures)
+    (subst (λ bs. WalksAlong (Visit g.V.ExprVisitor.pre_gives (IdlesOr g.V.ExprVisitor.post_gives)) (all_events (trees_of bs)) c.args.visitor.now c.walk_args.result c.walk_args.new.visitor) c.as_slice.ensures.value c.walk_args.ensures)
 
 pub walk_children-returns-in-Extension : goal.walk_children-returns-in-Extension
 walk_children-returns-in-Extension g t c =
     walked_below g.V.ExprVisitor.pre_gives (IdlesOr g.V.ExprVisitor.post_gives) c.args.expr.now (extension_tree c.in-Extension.e) _ _ _ (ap tree_of c.in-Extension.is ∙ tree_of_extension c.in-Extension.e)
-    (subst (λ es. Walked (Visit g.V.ExprVisitor.pre_gives (IdlesOr g.V.ExprVisitor.post_gives)) (all_events (children_of es)) c.args.visitor.now c.walk_nodes.result c.walk_nodes.new.visitor) c.as_slice-in-Extension.ensures.value c.walk_nodes.ensures)
+    (subst (λ es. WalksAlong (Visit g.V.ExprVisitor.pre_gives (IdlesOr g.V.ExprVisitor.post_gives)) (all_events (children_of es)) c.args.visitor.now c.walk_nodes.result c.walk_nodes.new.visitor) c.as_slice-in-Extension.ensures.value c.walk_nodes.ensures)
 
 pub walk_args-returns : goal.walk_args-returns
 walk_args-returns g t c =
-    c.loop-arg.invariant _ _ (subst (λ bs. Walked (Visit g.V.ExprVisitor.pre_gives (IdlesOr g.V.ExprVisitor.post_gives)) (all_events (trees_of bs)) c.loop-arg.visitor (Ok true) c.loop-arg.visitor) (sym (drop_all c.loop-arg.arg-index c.args.args.now c.loop-arg-test.false)) (refl, refl))
+    c.loop-arg.invariant _ _ (subst (λ bs. WalksAlong (Visit g.V.ExprVisitor.pre_gives (IdlesOr g.V.ExprVisitor.post_gives)) (all_events (trees_of bs)) c.loop-arg.visitor (Ok true) c.loop-arg.visitor) (sym (drop_all c.loop-arg.arg-index c.args.args.now c.loop-arg-test.false)) (refl, refl))
 
 pub walk_args-loop-arg-preserved : goal.walk_args-loop-arg-preserved
 walk_args-loop-arg-preserved g t c =
@@ -108,7 +108,7 @@ walk_args-returns-in-Err g t c =
 
 pub walk_nodes-returns : goal.walk_nodes-returns
 walk_nodes-returns g t c =
-    c.loop-node.invariant _ _ (subst (λ es. Walked (Visit g.V.ExprVisitor.pre_gives (IdlesOr g.V.ExprVisitor.post_gives)) (all_events (children_of es)) c.loop-node.visitor (Ok true) c.loop-node.visitor) (sym (drop_all c.loop-node.node-index c.args.nodes.now c.loop-node-test.false)) (refl, refl))
+    c.loop-node.invariant _ _ (subst (λ es. WalksAlong (Visit g.V.ExprVisitor.pre_gives (IdlesOr g.V.ExprVisitor.post_gives)) (all_events (children_of es)) c.loop-node.visitor (Ok true) c.loop-node.visitor) (sym (drop_all c.loop-node.node-index c.args.nodes.now c.loop-node-test.false)) (refl, refl))
 
 pub walk_nodes-loop-node-preserved : goal.walk_nodes-loop-node-preserved
 walk_nodes-loop-node-preserved g t c =

@@ -3,12 +3,12 @@ use Rattle.std.proofs.lemmas.List.{drop-set-lt, with_items_is}
 use Rattle.std.proofs.lemmas.Grind.{drop_more_same}
 use Rattle.std.specs.Duration.{as_nanos}
 use Rattle.promql_kind.specs.Functions.{signature_of}
-use Rattle.promql_kind.specs.Views.{clause_of}
+use Rattle.promql_kind.specs.ModifierViews.{clause_of}
 use Rattle.promql_ast.specs.Shifts.{shift_of, moment_of}
 use Rattle.promql_ast.specs.Height.{height, greatest_height}
 use Rattle.promql_ast.specs.Tree.{aggregate, unary, paren, subquery, call, extension, first_tree, no_trees}
 use Rattle.promql_ast.specs.View.{tree_of, trees_of, children_of, option_tree, aggregate_tree, binary_tree, call_tree, extension_tree}
-use Rattle.promql_ast.proofs.Views.{tree_of_aggregate, tree_of_call, tree_of_extension}
+use Rattle.promql_ast.proofs.NodeParts.{tree_of_aggregate, tree_of_call, tree_of_extension}
 use Rattle.promql_walk.specs.Changes.{EditsOr}
 use Rattle.promql_walk.proofs.Changed.{before_as, below_as, through_as, one, on_as, here_as, leaf_as, same, same_below, same_each, from_below, one_no_higher, each_more, each_ends, each_all}
 use Rattle.promql_walk.proofs.visitor_mut.+change.Goals as goal

@@ -1,6 +1,6 @@
 use Rattle.std.proofs.Common.{◌∙◌, ap, sym, option_map}
 use Rattle.promql_token.specs.Ids.{is_aggregator_with_param}
-use Rattle.promql_kind.specs.Views.{clause_of}
+use Rattle.promql_kind.specs.ModifierViews.{clause_of}
 use Rattle.promql_ast.specs.Arguments.{count}
 use Rattle.promql_ast.specs.View.{tree_of, trees_of}
 use Rattle.promql_ast.proofs.ArgCounts.{miscounted_alone, miscounted_with}

@@ -8,7 +8,7 @@ use Rattle.promql_ast.specs.Text.{text}
 use Rattle.promql_ast.specs.Tree.{Tree}
 use Rattle.promql_ast.specs.View.{tree_of}
 use Rattle.promql_ast.specs.declared.expr.Expr.{Expr}
-use Rattle.promql_ast.proofs.Rows.{nodes_of_one, len_all}
+use Rattle.promql_ast.proofs.ExpressionLists.{nodes_of_one, len_all}
 use Rattle.promql_ast.proofs.layout.node.+printed_len.Goals as goal
 
 pub args_len-printed_len-requires : goal.args_len-printed_len-requires

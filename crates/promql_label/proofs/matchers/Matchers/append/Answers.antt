@@ -3,7 +3,7 @@ use Rattle.std.specs.Prelude.{Vec}
 use Rattle.std.specs.declared.alloc.Global.{Global}
 use Rattle.std.proofs.lemmas.List.{map-append}
 use Rattle.promql_label.specs.declared.matcher.Matcher.{Matcher}
-use Rattle.promql_label.specs.Views.{plain_matcher_of, plain_matchers_of}
+use Rattle.promql_label.specs.MatcherViews.{plain_matcher_of, plain_matchers_of}
 use Rattle.promql_label.proofs.Groups.{appended_set, appended_none}
 use Rattle.promql_label.proofs.matchers.Matchers.append.Goals.{in-Some+in_ok-push-in-Some, in-None+in_ok-push-in-None}
 use Rattle.promql_label.proofs.matchers.Matchers.append.Goals as goal

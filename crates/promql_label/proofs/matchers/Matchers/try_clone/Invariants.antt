@@ -1,5 +1,5 @@
 use Rattle.std.proofs.Common.{◌≡◌, map, take}
-use Rattle.promql_label.specs.Views.{plain_matcher_of}
+use Rattle.promql_label.specs.MatcherViews.{plain_matcher_of}
 use Rattle.promql_label.proofs.matchers.Matchers.try_clone.Given as goal
 
 abbrev pub invariant-loop-group : goal.invariant-loop-group

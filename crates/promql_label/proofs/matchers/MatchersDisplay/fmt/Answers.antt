@@ -4,7 +4,7 @@ use Rattle.std.proofs.lemmas.Simd.{map-map}
 use Rattle.promql_label.specs.PlainMatchers.{PlainMatcher, plain_matchers, matcher_text, matchers_text}
 use Rattle.promql_label.specs.NextText.{text_of}
 use Rattle.promql_label.specs.SortedTexts.{sorted_texts}
-use Rattle.promql_label.specs.Views.{plain_matcher_of}
+use Rattle.promql_label.specs.MatcherViews.{plain_matcher_of}
 use Rattle.promql_label.specs.declared.matcher.Matcher.{Matcher}
 use Rattle.promql_text.specs.Texts.{joined_text}
 use Rattle.promql_label.proofs.PrintedMatchers.{text_without_groups, text_of_groups}

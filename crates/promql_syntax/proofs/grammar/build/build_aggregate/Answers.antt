@@ -1,4 +1,4 @@
-use Rattle.std.proofs.Common.{◌≡◌, refl, ◌∙◌, arith, List, ℕ}
+use Rattle.std.proofs.Common.{◌≡◌, ◌∙◌, arith, List, ℕ}
 use Rattle.promql_ast.specs.Builds.{aggregate_args}
 use Rattle.promql_ast.specs.View.{trees_of}
 use Rattle.promql_grammar.specs.Grammar as grammar
@@ -13,7 +13,7 @@ use Rattle.promql_syntax.proofs.grammar.build.build_aggregate.Goals as goal
 
 pub returns-in-Err-clause-built : goal.returns-in-Err-clause-built
 returns-in-Err-clause-built c = λ text cl ds clause args.
-    is_expr_of _ (grammar.aggregate c.args.op text cl ds) _ _ refl refl (let same = args.tall in omega arith)
+    is_expr_of _ (grammar.aggregate c.args.op text cl ds) _ _ c.part_error.ensures.value c.part_error.ensures.tall (let same = args.tall in omega arith)
     (then_fault (build_all ds) (λ ts. known (clause_value cl) giving λ m. from_checked_verdict (aggregate_args c.args.op m ts)) _ (with_no_trees c.args.args (build_all ds) c.in-Err.error c.in-Err.is args.built))
 
 pub returns-in-Ok-unbox_grouping-clause-built : goal.returns-in-Ok-unbox_grouping-clause-built

@@ -1,4 +1,4 @@
-use Rattle.std.proofs.Common.{refl, ◌∙◌, ap, arith}
+use Rattle.std.proofs.Common.{◌∙◌, ap, arith}
 use Rattle.promql_ast.specs.View.{tree_of, trees_of}
 use Rattle.promql_grammar.specs.Grammar as grammar
 use Rattle.promql_grammar.specs.declared.token_kinds.TokenKind.{TokenKind}
@@ -11,7 +11,7 @@ use Rattle.promql_syntax.proofs.grammar.build.build_call.Goals as goal
 
 pub returns-in-Err-clause-built : goal.returns-in-Err-clause-built
 returns-in-Err-clause-built c = λ kind ds args.
-    is_expr_of _ (grammar.call kind c.args.name.now ds) _ _ refl refl (let same = args.tall in omega arith)
+    is_expr_of _ (grammar.call kind c.args.name.now ds) _ _ c.part_error.ensures.value c.part_error.ensures.tall (let same = args.tall in omega arith)
     (then_fault (build_all ds) (λ ts. build_call c.args.name.now (function_named c.args.name.now) ts) _ (with_no_trees c.args.args (build_all ds) c.in-Err.error c.in-Err.is args.built))
 
 pub returns-in_ok-expr-in-Some-clause-built : goal.returns-in_ok-expr-in-Some-clause-built

@@ -3,7 +3,7 @@ use Rattle.promql_ast.specs.Checked.{check_tree}
 use Rattle.promql_ast.specs.Tree as tree
 use Rattle.promql_ast.specs.View.{tree_of}
 use Rattle.promql_grammar.specs.GrammarParts as part
-use Rattle.promql_kind.specs.Views.{matching_of}
+use Rattle.promql_kind.specs.ModifierViews.{matching_of}
 use Rattle.promql_syntax.specs.Asking.{Asking, known, ◌giving◌}
 use Rattle.promql_syntax.specs.Building.{from_verdict}
 use Rattle.promql_syntax.specs.BuildErrors.{view_result}

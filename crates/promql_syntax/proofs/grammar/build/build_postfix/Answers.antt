@@ -1,4 +1,4 @@
-use Rattle.std.proofs.Common.{refl, arith}
+use Rattle.std.proofs.Common.{arith}
 use Rattle.promql_ast.specs.View.{tree_of}
 use Rattle.promql_grammar.specs.Grammar as grammar
 use Rattle.promql_grammar.specs.GrammarParts as part
@@ -19,5 +19,5 @@ returns-in-Ok-clause-built c =
 
 pub returns-in-Err-clause-built : goal.returns-in-Err-clause-built
 returns-in-Err-clause-built c = λ d p base held.
-    is_expr_of _ (grammar.postfixed d p) _ _ refl refl (let same = base.tall in let adds = held.adds in omega arith)
+    is_expr_of _ (grammar.postfixed d p) _ _ c.part_error.ensures.value c.part_error.ensures.tall (let same = base.tall in let adds = held.adds in omega arith)
     (then_fault (build d) (λ t. build_postfix t p) _ (with_fault c.args.base (build d) c.in-Err.error c.in-Err.is base.built))

@@ -4,7 +4,7 @@ use Rattle.promql_grammar.specs.Grammar as grammar
 use Rattle.promql_grammar.specs.GrammarParts as part
 use Rattle.promql_syntax.specs.ParsesPart.{IsBuiltBy}
 use Rattle.promql_syntax.specs.ParsesExpr.{IsExprOf}
-use Rattle.promql_label.specs.Views.{plain_matchers_of}
+use Rattle.promql_label.specs.MatcherViews.{plain_matchers_of}
 use Rattle.promql_syntax.specs.Building.{selector_tree}
 use Rattle.promql_syntax.specs.PartBuilding.{braces_value}
 use Rattle.promql_syntax.proofs.Ending.{ends_held, then_value, then_fault}

@@ -1,7 +1,7 @@
 use Rattle.std.proofs.lemmas.Result.{err_from_is_err_and}
 use Rattle.promql_grammar.specs.declared.token_kinds.TokenKind.TheVariants as kind
 use Rattle.promql_syntax.specs.SymbolsLeft.{symbols_left}
-use Rattle.promql_syntax.proofs.ModifierReading.{at_word, group_left_read, group_right_read, group_fails, group_piece}
+use Rattle.promql_syntax.proofs.ModifierReading.{at_word, group_left_read, group_right_read, group_fails, group_part}
 use Rattle.promql_syntax.proofs.grammar.modifier.parse_group.Goals as goal
 
 pub returns-in_err-labels-in-GroupLeft-clause-gives :
@@ -31,7 +31,7 @@ returns-in_ok-labels-in-GroupLeft-clause-gives c =
     let us = symbols_left c.bump.new.self in
     let text = c.in-Some.field-0-1.now in
     let read = group_left_read ts us text (at_word ts us c.in-Some.kind kind.GroupLeft text c.in-Some.ensures c.in-GroupLeft.is c.bump.ensures) in
-    group_piece ts us kind.GroupLeft text read _ _ _ c.in_ok-labels-in-GroupLeft.ensures.gives c.build_group_left.ensures
+    group_part ts us kind.GroupLeft text read _ _ _ c.in_ok-labels-in-GroupLeft.ensures.gives c.build_group_left.ensures
 
 pub returns-in_ok-labels-in-GroupRight-clause-gives :
     goal.returns-in_ok-labels-in-GroupRight-clause-gives
@@ -40,4 +40,4 @@ returns-in_ok-labels-in-GroupRight-clause-gives c =
     let us = symbols_left c.bump-in-GroupRight.new.self in
     let text = c.in-Some.field-0-1.now in
     let read = group_right_read ts us text (at_word ts us c.in-Some.kind kind.GroupRight text c.in-Some.ensures c.in-GroupRight.is c.bump-in-GroupRight.ensures) in
-    group_piece ts us kind.GroupRight text read _ _ _ c.in_ok-labels-in-GroupRight.ensures.gives c.build_group_right.ensures
+    group_part ts us kind.GroupRight text read _ _ _ c.in_ok-labels-in-GroupRight.ensures.gives c.build_group_right.ensures

@@ -1,4 +1,4 @@
-use Rattle.std.proofs.Common.{◌≡◌, ◌+◌, ◌++◌, map, ap, ◌∙◌, codes, arith, Global}
+use Rattle.std.proofs.Common.{◌≡◌, ◌+◌, ◌++◌, ap, ◌∙◌, codes, arith, Global}
 use Rattle.std.specs.declared.boxed.Box.{Box}
 use Rattle.promql_text.specs.PrintedLen.{cap_usize, printed_len}
 use Rattle.promql_text.proofs.PrintedLengths.{joined_len_next}
@@ -9,7 +9,7 @@ use Rattle.promql_ast.specs.Text.{text}
 use Rattle.promql_ast.specs.Tree.{Tree}
 use Rattle.promql_ast.specs.View.{children_of, tree_of, trees_of}
 use Rattle.promql_ast.specs.declared.expr.Expr.{Expr}
-use Rattle.promql_ast.proofs.Rows.{decisions_step, nodes_step, nodes_end, nodes_of_one, len_all}
+use Rattle.promql_ast.proofs.ExpressionLists.{decisions_step, nodes_step, nodes_of_one, len_all}
 use Rattle.promql_ast.proofs.layout.measurer.Measurer.+measure.Goals as goal
 
 pub measure_args-measure-requires : goal.measure_args-measure-requires

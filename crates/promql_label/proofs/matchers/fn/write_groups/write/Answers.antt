@@ -2,7 +2,7 @@ use Rattle.std.proofs.Common.{◌∙◌, codes, map, refl, sym, ap}
 use Rattle.std.proofs.Output.{has_written_of_eq}
 use Rattle.std.proofs.lemmas.Simd.{map-map}
 use Rattle.promql_label.specs.PlainMatchers.{matcher_text}
-use Rattle.promql_label.specs.Views.{plain_matcher_of}
+use Rattle.promql_label.specs.MatcherViews.{plain_matcher_of}
 use Rattle.promql_label.specs.NextText.{text_of}
 use Rattle.promql_text.specs.Texts.{joined_text}
 use Rattle.promql_label.proofs.matchers.fn.write_groups.write.Goals as goal

@@ -20,7 +20,7 @@ use Rattle.promql_token.specs.Lexing.{Found, ScannedText, state_after_scan, coll
 use Rattle.promql_token.specs.TokenScanning.{Scanned, scan_token, after_trivia, after, end_in, trivia_len}
 use Rattle.promql_token.specs.TokenLists.{Step, state_after, IsRead, IsEnd, EndsIn, places, to_end, OnlyTokens, OnlyFault, OnlyTexts, OnlyPieces, OnlyItems}
 use Rattle.promql_token.proofs.ScannedForms.{begins_piece, faults, piece_begins}
-use Rattle.promql_token.proofs.Choices.{by_bool}
+use Rattle.promql_token.proofs.TestsAndCounts.{by_bool}
 use Rattle.promql_token.proofs.Ends.{PieceEnds, piece_ends}
 use Rattle.promql_token.proofs.TriviaLengths.{trivia_passed, is_trivia}
 use Rattle.promql_token.proofs.Inner.{Inner, begun_inner}
@@ -74,20 +74,20 @@ unfolding after_trivia
 trivia_depth n state = cond_both (n == 0) _ _ (λ (s : State). s.depth ≡ state.depth) (λ _. refl) (λ _. refl)
 
 -- what is after a trivia of n bytes, and the trivia
-record Behind (before : List ℕ) (state : State) (z : Text) (n : ℕ) : Type 0 where
+record AfterTrivia (before : List ℕ) (state : State) (z : Text) (n : ℕ) : Type 0 where
   at : IsAt before state
   fits : n ≤ length z
   trivia : IsTriviaIn (mode_at before) (take n z) (drop n z)
 
-behind_trivia : (before : List ℕ) (state : State) (z : Text) → IsAt before state → Behind before state z (trivia_len state.mode z)
-behind_trivia before state z h = record {
+after_own_trivia : (before : List ℕ) (state : State) (z : Text) → IsAt before state → AfterTrivia before state z (trivia_len state.mode z)
+after_own_trivia before state z h = record {
   at = h;
   fits = (trivia_len_ends state.mode z).within;
   trivia = subst (λ m. IsTriviaIn m (take (trivia_len state.mode z) z) (drop (trivia_len state.mode z) z)) h.mode (is_trivia state.mode z);
 }
 
 -- the end
-told_end : (before : List ℕ) (state : State) (at : ℕ) (z : Text) (n : ℕ) (t : ℕ × ℕ) → Behind before state z n → scan_token (after_trivia n state) (drop n z) ≡ Ok t → (t.0 == 6) ≡ true
+told_end : (before : List ℕ) (state : State) (at : ℕ) (z : Text) (n : ℕ) (t : ℕ × ℕ) → AfterTrivia before state z n → scan_token (after_trivia n state) (drop n z) ≡ Ok t → (t.0 == 6) ≡ true
     → IsTold before at z (Ok (record { id = t.0; start = at + n; len = length (take t.1 (drop n z)) }) ∷ [])
 told_end before state at z n t k is six =
     let e = at_end (after_trivia n state) (drop n z) t is six in
@@ -109,7 +109,7 @@ told_end before state at z n t k is six =
     nil (suc k) = refl
 
 -- a fault
-told_fault : (before : List ℕ) (state : State) (at : ℕ) (z : Text) (n : ℕ) (f : LexFaultKind × ℕ) → Behind before state z n → scan_token (after_trivia n state) (drop n z) ≡ Err f
+told_fault : (before : List ℕ) (state : State) (at : ℕ) (z : Text) (n : ℕ) (f : LexFaultKind × ℕ) → AfterTrivia before state z n → scan_token (after_trivia n state) (drop n z) ≡ Err f
     → IsTold before at z (Err (record { kind = f.0; at = at + n + f.1; ch = fault_char f.0 (drop f.1 (drop n z)) }) ∷ [])
 told_fault before state at z n f k is =
     let rest = drop n z in
@@ -135,7 +135,7 @@ told_fault before state at z n f k is =
     )
 
 -- a token, and what is read after it
-told_token : (before : List ℕ) (state : State) (at : ℕ) (z : Text) (n : ℕ) (t : ℕ × ℕ) (rs : List (Result Lexeme LexFault)) → Behind before state z n → scan_token (after_trivia n state) (drop n z) ≡ Ok t → (t.0 == 6) ≡ false
+told_token : (before : List ℕ) (state : State) (at : ℕ) (z : Text) (n : ℕ) (t : ℕ × ℕ) (rs : List (Result Lexeme LexFault)) → AfterTrivia before state z n → scan_token (after_trivia n state) (drop n z) ≡ Ok t → (t.0 == 6) ≡ false
     → let w = take t.1 (drop n z) in IsTold (t.0 ∷ before) (at + n + length w) (drop (n + length w) z) rs
     → IsTold before at z (Ok (record { id = t.0; start = at + n; len = length w }) ∷ rs)
 told_token before state at z n t rs k is more rest_told =
@@ -153,7 +153,7 @@ told_token before state at z n t rs k is more rest_told =
     let g_len : length g ≡ n = length-take-le n z fits in
     let same : s ≡ state_after before g = trivia_state before state g n k.at (sym g_len) in
     let begins = subst (λ (s : State). MayBegin s.mode s.depth t.0 w r) same (piece_begins s t.0 w r reads more) in
-    let behind_it : drop (n + length w) z ≡ r = sym (drop-drop (length w) n z) ∙ ap (λ n. drop n rest) (sym len) in
+    let after_it : drop (n + length w) z ≡ r = sym (drop-drop (length w) n z) ∙ ap (λ n. drop n rest) (sym len) in
     let total : at + n + length w + length r ≡ at + length z = omega (arith, length-drop t.1 rest, length-drop n z) in
     let whole : z ≡ g ++ (w ++ r) = sym (take-append-drop n z) ∙ ap (λ r. g ++ r) seam in
     let trivia : IsTriviaIn (mode_at before) g (w ++ r) = subst (IsTriviaIn (mode_at before) g) seam k.trivia in
@@ -173,9 +173,9 @@ told_token before state at z n t rs k is more rest_told =
       ap (λ rs. Ok (record { id = t.0; start = at + n; len = length w }) ∷ rs) e.3
           ∙ (λ i. Ok (record { id = t.0; start = at + sym g_len i; len = length w }) ∷ (map (λ x. Ok x) (places (sym from i) e.1) ++ Err e.0 ∷ [])),
     ))
-    (subst (λ r. IsTold (t.0 ∷ before) (at + n + length w) r rs) behind_it rest_told)
+    (subst (λ r. IsTold (t.0 ∷ before) (at + n + length w) r rs) after_it rest_told)
 
-told_piece : (before : List ℕ) (state : State) (at : ℕ) (z : Text) (n : ℕ) (p : Scanned) (fs : List Found) → Behind before state z n → scan_token (after_trivia n state) (drop n z) ≡ p
+told_piece : (before : List ℕ) (state : State) (at : ℕ) (z : Text) (n : ℕ) (p : Scanned) (fs : List Found) → AfterTrivia before state z n → scan_token (after_trivia n state) (drop n z) ≡ p
     → (goes_on (scanned_text p (drop n z)) ≡ false → fs ≡ [])
     → (goes_on (scanned_text p (drop n z)) ≡ true → IsTold (ids_after before (scanned_text p (drop n z))) (at + n + len_of (scanned_text p (drop n z))) (drop (n + len_of (scanned_text p (drop n z))) z) (place_items (at + n + len_of (scanned_text p (drop n z))) fs))
     → IsTold before at z (place_items at (record { trivia = n; scanned_text = scanned_text p (drop n z) } ∷ fs))
@@ -199,7 +199,7 @@ cut_matches_relation (f ∷ fs) before state at z h is =
     let rest : fs ≡ cond (goes_on w) (cut (state_after_scan state w) (drop (n + len_of w) z)) [] = cc in
     let next = next_at before state z w h refl in
     subst (λ f. IsTold before at z (place_items at (f ∷ fs))) (sym first)
-    (told_piece before state at z n p fs (behind_trivia before state z h) refl
+    (told_piece before state at z n p fs (after_own_trivia before state z h) refl
     (λ stops. rest ∙ ap (λ b. cond b (cut (state_after_scan state w) (drop (n + len_of w) z)) []) stops)
     (λ goes. cut_matches_relation fs (ids_after before w) (state_after_scan state w) (at + n + len_of w) (drop (n + len_of w) z) next (sym (rest ∙ ap (λ b. cond b (cut (state_after_scan state w) (drop (n + len_of w) z)) []) goes))))
 
@@ -405,9 +405,9 @@ sliced_steps Rest s (t ∷ ts) before at z is read =
     let w = t.2 in
     let r = read.0 in
     let here : drop (at + length g) s ≡ w ++ r = sym (drop-drop (length g) at s) ∙ ap (drop (length g)) (is ∙ read.1) ∙ drop-append_seam g (w ++ r) in
-    let behind_it : drop (at + length g + length w) s ≡ r = sym (drop-drop (length w) (at + length g) s) ∙ ap (drop (length w)) here ∙ drop-append_seam w r in
+    let after_it : drop (at + length g + length w) s ≡ r = sym (drop-drop (length w) (at + length g) s) ∙ ap (drop (length w)) here ∙ drop-append_seam w r in
     let text : take (length w) (drop (at + length g) s) ≡ w = ap (take (length w)) here ∙ take-append_seam w r in
-    λ i. (t.1, text i) ∷ sliced_steps Rest s ts (t.1 ∷ before) (at + length g + length w) r behind_it read.4 i
+    λ i. (t.1, text i) ∷ sliced_steps Rest s ts (t.1 ∷ before) (at + length g + length w) r after_it read.4 i
 
 sliced_end : (s : Text) (xs : List Lexeme) (n : ℕ) → slice_texts s (xs ++ record { id = 6; start = n; len = 0 } ∷ []) ≡ slice_texts s xs ++ (6, []) ∷ []
 sliced_end s [] n = refl

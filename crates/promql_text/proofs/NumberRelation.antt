@@ -1,7 +1,7 @@
 -- The number of a text is what the text means.
 use Rattle.std.proofs.Common.{◌≡◌, ⊎_elim, inl, inr, Bool, Result, Err, refl, sym, ◌∙◌, subst}
 use Rattle.promql_text.specs.Texts.{Text}
-use Rattle.promql_text.specs.DecimalForm.{Reading, NotANumber, Infinite, Signed}
+use Rattle.promql_text.specs.DecimalForm.{Reading, NotANumber, Infinite}
 use Rattle.promql_text.specs.DecimalForm as form
 use Rattle.promql_text.specs.NumberForms.{Meaning, Whole, Decimal, Means, GivesReading, Gives, IsNumberText, NumbersMatchRelation}
 use Rattle.promql_text.specs.NumberText.{without_whitespace, number_of, apply_sign}

@@ -8,7 +8,7 @@ use Rattle.promql_kind.specs.Functions.{Signature, signature, function_named}
 use Rattle.promql_kind.specs.Modifiers.{Clause}
 use Rattle.promql_label.specs.Answers.{Answer}
 use Rattle.promql_grammar.specs.Grammar as grammar
-use Rattle.promql_grammar.specs.GrammarParts as piece
+use Rattle.promql_grammar.specs.GrammarParts as part
 use Rattle.promql_ast.specs.Arguments.{count}
 use Rattle.promql_ast.specs.Builds.{minus, with_range, at_given, offset_given, mode_given, aggregate_args, aggregated_alone, aggregated_with}
 use Rattle.promql_ast.specs.Checked.{check_tree}
@@ -18,10 +18,10 @@ use Rattle.promql_ast.specs.Selectors.{selector}
 use Rattle.promql_ast.specs.Shifts.{Shift, Moment}
 use Rattle.promql_ast.specs.Tree.{Tree, aggregate, unary, binary, paren, subquery, number, string, vector, matrix, call, extension, Trees, no_trees, first_tree}
 use Rattle.promql_ast.specs.Types.{type_of}
-use Rattle.promql_ast.specs.check.Aggregate.{aggregate_fault, maybe_type}
-use Rattle.promql_ast.specs.check.Binary.{operator_fault, label_fault, set_fault, side_fault}
-use Rattle.promql_ast.specs.check.Call.{arity_fault, typing_fault}
-use Rattle.promql_ast.specs.check.Vector.{selector_fault}
+use Rattle.promql_ast.specs.check.AggregateChecks.{aggregate_fault, maybe_type}
+use Rattle.promql_ast.specs.check.BinaryChecks.{operator_fault, label_fault, set_fault, side_fault}
+use Rattle.promql_ast.specs.check.CallChecks.{arity_fault, typing_fault}
+use Rattle.promql_ast.specs.check.VectorChecks.{selector_fault}
 use Rattle.promql_ast.specs.declared.range_mode.RangeMode.{RangeMode}
 use Rattle.promql_ast.specs.declared.range_mode.RangeMode.TheVariants.{Plain, Smoothed, Anchored}
 use Rattle.promql_syntax.specs.ParseAnswers.{IsAnswerTo}
@@ -160,19 +160,19 @@ called_plain : (name : Text) (f : Option Signature) (ts : Trees) → NoneInEach 
 called_plain name None ts plain = tt
 called_plain name (Some f) ts plain = passing_plain (check_tree (call f ts)) (checked_plain (call f ts) plain)
 
-postfix_plain : (t : Tree) (p : piece.Postfix) → HasNoExtension t → EachGives HasNoExtension (build_postfix t p)
-postfix_plain t (piece.range r) plain =
+postfix_plain : (t : Tree) (p : part.Postfix) → HasNoExtension t → EachGives HasNoExtension (build_postfix t p)
+postfix_plain t (part.range r) plain =
     gives_then Whatever HasNoExtension (known (time_value r)) _ (gives_whatever _) (λ n _. passing_plain (with_range t n) (ranged_plain t n))
-postfix_plain t (piece.subquery r s) plain =
+postfix_plain t (part.subquery r s) plain =
     gives_then Whatever HasNoExtension (known (time_value r)) _ (gives_whatever _) (λ n _.
     gives_then Whatever HasNoExtension (known (step_value s)) _ (gives_whatever _) (λ m _.
     passing_plain (check_tree (subquery t None None n m)) (checked_plain (subquery t None None n m) plain)))
-postfix_plain t (piece.at_number s text) plain =
+postfix_plain t (part.at_number s text) plain =
     gives_then Whatever HasNoExtension (known (moment_value s text)) _ (gives_whatever _) (λ m _. passing_plain (at_given t m) (at_plain t m plain))
-postfix_plain t (piece.at_bound k text) plain = passing_plain (at_given t (bound_moment k)) (at_plain t (bound_moment k) plain)
-postfix_plain t (piece.offset text s r) plain =
+postfix_plain t (part.at_bound k text) plain = passing_plain (at_given t (bound_moment k)) (at_plain t (bound_moment k) plain)
+postfix_plain t (part.offset text s r) plain =
     gives_then Whatever HasNoExtension (known (shift_value s r)) _ (gives_whatever _) (λ x _. passing_plain (offset_given t x) (offset_plain t x plain))
-postfix_plain t (piece.mode k text) plain = passing_plain (mode_given t (range_mode k)) (mode_plain t (range_mode k))
+postfix_plain t (part.mode k text) plain = passing_plain (mode_given t (range_mode k)) (mode_plain t (range_mode k))
 
 either_gives : (b : Bool) (q r : Asking Tree) → EachGives HasNoExtension q → EachGives HasNoExtension r → EachGives HasNoExtension (if b then q else r)
 either_gives true q r first second = first

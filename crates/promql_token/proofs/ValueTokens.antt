@@ -32,11 +32,11 @@ use Rattle.promql_token.specs.Laws.{stops_numeral}
 use Rattle.promql_token.specs.Lexing.{pieces}
 use Rattle.promql_token.specs.TokenScanning.{after, word_id}
 use Rattle.promql_token.specs.Printed as printed
-use Rattle.promql_token.specs.Printed.{are_digits, holds_numerals, holds_strings, is_part, is_spelling, concat_texts, parts_text, quote_parts}
+use Rattle.promql_token.specs.Printed.{are_digits, holds_numerals, is_part, is_spelling, concat_texts, parts_text, quote_parts}
 use Rattle.promql_token.specs.PrintedValues.{JoinsNumberText, JoinsQuoted, JoinsTime, time_id}
 use Rattle.promql_token.proofs.Beside.{stops}
-use Rattle.promql_token.proofs.Choices.{and_both}
-use Rattle.promql_token.proofs.Durations.{joins_duration}
+use Rattle.promql_token.proofs.TestsAndCounts.{and_both}
+use Rattle.promql_token.proofs.DurationTokens.{joins_duration}
 use Rattle.promql_token.proofs.Ends.{and_left, and_right}
 use Rattle.promql_token.proofs.Concatenation.{joins_word}
 use Rattle.promql_token.proofs.PrintedForms.{joins_number, joins_string}

@@ -4,7 +4,7 @@ use Rattle.std.specs.Prelude.{◌==◌, nat_lt}
 use Rattle.std.proofs.lemmas.Bool.{cond_both, cond-false, eqb-true, ne_eqb, le-ltb}
 use Rattle.std.proofs.lemmas.Bool.Decides.{nat_tests}
 use Rattle.promql_text.specs.Texts.{Text}
-use Rattle.promql_text.specs.DecimalForm.{numeral, Numeral, reading, Reading, NotANumber, Signed, decimal_form}
+use Rattle.promql_text.specs.DecimalForm.{numeral, reading, Reading, NotANumber, Signed, decimal_form}
 use Rattle.promql_text.specs.DecimalForm as form
 use Rattle.promql_text.specs.Durations.{units, parts_nanos, second_nanos, in_range, of_seconds, of_parts, duration_of}
 use Rattle.promql_text.specs.DurationForms.{Part, IsParts, Meaning, Nanos, Negative, Infinite, Means, IsDuration, DurationsMatchRelation, parts_text}
@@ -13,7 +13,7 @@ use Rattle.promql_text.specs.declared.duration.DurationFault.{DurationFault}
 use Rattle.promql_text.specs.declared.duration.DurationFault.TheVariants.{Empty, NotPositive, Invalid, Overflow}
 use Rattle.promql_text.proofs.DurationParts.{units_read, parts_form, parts_long, parts_found}
 use Rattle.promql_text.proofs.Nearest.{seconds_are, seconds_one}
-use Rattle.promql_text.proofs.Parts.{duration-empty, duration-form}
+use Rattle.promql_text.proofs.SaturatingParts.{duration-empty, duration-form}
 use Rattle.promql_text.proofs.ReadsDuration.{in_range_is}
 use Rattle.promql_text.proofs.SpelledForms.{form_spelled, spelled_form}
 use Rattle.promql_text.proofs.TextForms.{signed_of}

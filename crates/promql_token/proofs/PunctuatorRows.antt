@@ -1,4 +1,4 @@
--- Signs by their table, and the faults at them.
+-- Punctuators by their table, and the faults at them.
 use Rattle.std.proofs.Common.{◌≡◌, ℕ, zero, suc, ◌<◌, true, false, cond, List, [], ◌∷◌, length, take, drop, Some, Ok, Err, refl, ap, subst, inl, inr, arith, eqb-true}
 use Rattle.std.specs.Prelude.{◌==◌, ◌||◌, slice_get}
 use Rattle.std.specs.Char.{is_ascii_digit}
@@ -12,12 +12,12 @@ use Rattle.promql_token.specs.declared.state.Bracket.TheVariants as bracket
 use Rattle.promql_token.specs.declared.state.Mode.{Mode}
 use Rattle.promql_token.specs.declared.state.Mode.TheVariants as mode
 use Rattle.promql_text.specs.Texts.{Text}
-use Rattle.promql_token.specs.Begins.{Sign, signs, signs_outside, IsOneOf, MayBegin}
+use Rattle.promql_token.specs.Begins.{Punctuator, punctuators, punctuators_outside, IsOneOf, MayBegin}
 use Rattle.promql_token.specs.Classes.{is_in}
 use Rattle.promql_token.specs.FaultPlaces.{IsFault}
 use Rattle.promql_token.specs.Vocabulary.{next}
-use Rattle.promql_token.specs.TokenScanning.{Scanned, is_quote, bang_in_braces, bang_sign, colon_sign, dot_sign, equal_sign, or_equal, sign}
-use Rattle.promql_token.proofs.Choices.{not_one}
+use Rattle.promql_token.specs.TokenScanning.{Scanned, is_quote, bang_in_braces, bang_token, colon_token, dot_token, equal_token, or_equal, punctuator}
+use Rattle.promql_token.proofs.TestsAndCounts.{not_one}
 
 -- what a piece says of its text
 abbrev pub Says : Mode → ℕ → Text → Scanned → Type 0
@@ -26,15 +26,15 @@ Says m depth z (Err f) = IsFault f.0 m depth (take f.1 z) (drop f.1 z)
 
 -- ---- rows
 
-abbrev IsRow : Sign → ℕ → Text → Text → Type 0
+abbrev IsRow : Punctuator → ℕ → Text → Text → Type 0
 IsRow s id w r = (w ≡ s.0) × (id ≡ s.1) × (list_any (λ b. next r == b) s.2 ≡ false)
 
-pub row_at : (k : ℕ) (ss : List Sign) (s : Sign) (id : ℕ) (w r : Text) → slice_get ss k ≡ Some s → IsRow s id w r → IsOneOf ss id w r
+pub row_at : (k : ℕ) (ss : List Punctuator) (s : Punctuator) (id : ℕ) (w r : Text) → slice_get ss k ≡ Some s → IsRow s id w r → IsOneOf ss id w r
 row_at k [] s id w r is row = absurd (cc)
 row_at zero (t ∷ ss) s id w r is row = let same : s ≡ t = cc in inl (subst (λ s. IsRow s id w r) same row)
 row_at (suc k) (t ∷ ss) s id w r is row = inr (row_at k ss s id w r is row)
 
-pub row_outside : (depth id : ℕ) (w r : Text) → IsOneOf signs_outside id w r → IsOneOf (signs mode.Outside depth) id w r
+pub row_outside : (depth id : ℕ) (w r : Text) → IsOneOf punctuators_outside id w r → IsOneOf (punctuators mode.Outside depth) id w r
 row_outside zero id w r h = h
 row_outside (suc depth) id w r h = inr h
 
@@ -51,16 +51,16 @@ two_bytes b n m y e f some = let s = second m y f some in (λ i. take 2 (eqb-tru
 
 -- ---- outside
 
--- a sign of the table, at its row
-outside_row : (depth k : ℕ) (s : Sign) (id n : ℕ) (z : Text) → slice_get signs_outside k ≡ Some s → IsRow s id (take n z) (drop n z) → MayBegin mode.Outside depth id (take n z) (drop n z)
-outside_row depth k s id n z is row = inl (row_outside depth id (take n z) (drop n z) (row_at k signs_outside s id (take n z) (drop n z) is row))
+-- a punctuator of the table, at its row
+outside_row : (depth k : ℕ) (s : Punctuator) (id n : ℕ) (z : Text) → slice_get punctuators_outside k ≡ Some s → IsRow s id (take n z) (drop n z) → MayBegin mode.Outside depth id (take n z) (drop n z)
+outside_row depth k s id n z is row = inl (row_outside depth id (take n z) (drop n z) (row_at k punctuators_outside s id (take n z) (drop n z) is row))
 
-dot_says : (depth b : ℕ) (y : Text) → (b == 46) ≡ true → is_ascii_digit (next y) ≡ false → Says mode.Outside depth (b ∷ y) (dot_sign (b ∷ y))
+dot_says : (depth b : ℕ) (y : Text) → (b == 46) ≡ true → is_ascii_digit (next y) ≡ false → Says mode.Outside depth (b ∷ y) (dot_token (b ∷ y))
 dot_says depth b [] is digit = (refl, byte_is b 46 is)
 dot_says depth b (c ∷ y) is digit =
     cond_both (length (b ∷ c ∷ y) == 1) _ _ (Says mode.Outside depth (b ∷ c ∷ y)) (λ one. let never = not_one (length y) in absurd (cc)) (λ _. (byte_is b 46 is, omega arith, digit))
 
-equal_says : (depth b : ℕ) (y : Text) → (b == 61) ≡ true → Says mode.Outside depth (b ∷ y) (equal_sign (next y))
+equal_says : (depth b : ℕ) (y : Text) → (b == 61) ≡ true → Says mode.Outside depth (b ∷ y) (equal_token (next y))
 equal_says depth b y is =
     cond_both (next y == 61) _ _ (Says mode.Outside depth (b ∷ y)) (λ e. outside_row depth 12 _ 26 2 (b ∷ y) refl (two_bytes b 61 61 y is e (omega arith), refl, refl)) (λ no_equal.
     cond_both (next y == 126) _ _ (Says mode.Outside depth (b ∷ y)) (λ e. (byte_is b 61 is, e)) (λ no_tilde.
@@ -76,7 +76,7 @@ greater_says depth b y is =
     cond_both (next y == 61) _ _ (Says mode.Outside depth (b ∷ y)) (λ e. outside_row depth 17 _ 28 2 (b ∷ y) refl (two_bytes b 62 61 y is e (omega arith), refl, refl))
     (λ no_equal. outside_row depth 16 _ 29 1 (b ∷ y) refl (byte_is b 62 is, refl, (λ i. no_equal i || false)))
 
-bang_says : (depth b : ℕ) (y : Text) → (b == 33) ≡ true → Says mode.Outside depth (b ∷ y) (bang_sign (b ∷ y))
+bang_says : (depth b : ℕ) (y : Text) → (b == 33) ≡ true → Says mode.Outside depth (b ∷ y) (bang_token (b ∷ y))
 bang_says depth b [] is = (refl, byte_is b 33 is, refl)
 bang_says depth b (c ∷ y) is =
     cond_both (length (b ∷ c ∷ y) == 1) _ _ (Says mode.Outside depth (b ∷ c ∷ y)) (λ one. let never = not_one (length y) in absurd (cc)) (λ _.
@@ -87,11 +87,11 @@ right_says : (depth b : ℕ) (y : Text) → (b == 41) ≡ true → Says mode.Out
 right_says zero b y is = (refl, is)
 right_says (suc depth) b y is = cond_both (suc depth == 0) _ _ (Says mode.Outside (suc depth) (b ∷ y)) (λ none. absurd (grind (arith, common_steps))) (λ _. inl (inl (byte_is b 41 is, refl, refl)))
 
-pub sign_says : (depth b : ℕ) (y : Text) → is_in class.Word b ≡ false → is_quote b ≡ false → ((b == 46) ≡ true → is_ascii_digit (next y) ≡ false) → Says mode.Outside depth (b ∷ y) (sign depth (b ∷ y))
-unfolding sign
-sign_says depth b y no_word no_quote no_digit =
+pub punctuator_says : (depth b : ℕ) (y : Text) → is_in class.Word b ≡ false → is_quote b ≡ false → ((b == 46) ≡ true → is_ascii_digit (next y) ≡ false) → Says mode.Outside depth (b ∷ y) (punctuator depth (b ∷ y))
+unfolding punctuator
+punctuator_says depth b y no_word no_quote no_digit =
     let P = Says mode.Outside depth (b ∷ y) in
-    let row : (k n id : ℕ) → slice_get signs_outside k ≡ Some (n ∷ [], id, []) → (b == n) ≡ true → MayBegin mode.Outside depth id (b ∷ []) y = λ k n id is e. outside_row depth k (n ∷ [], id, []) id 1 (b ∷ y) is (byte_is b n e, refl, refl) in
+    let row : (k n id : ℕ) → slice_get punctuators_outside k ≡ Some (n ∷ [], id, []) → (b == n) ≡ true → MayBegin mode.Outside depth id (b ∷ []) y = λ k n id is e. outside_row depth k (n ∷ [], id, []) id 1 (b ∷ y) is (byte_is b n e, refl, refl) in
     cond_both (b == 46) _ _ P (λ e. dot_says depth b y e (no_digit e)) (λ n46.
     cond_both (b == 61) _ _ P (λ e. equal_says depth b y e) (λ n61.
     cond_both (b == 60) _ _ P (λ e. less_says depth b y e) (λ n60.
@@ -119,8 +119,8 @@ sign_says depth b y no_word no_quote no_digit =
 
 -- ---- in braces
 
-braces_row : (depth k : ℕ) (s : Sign) (id n : ℕ) (z : Text) → slice_get (signs mode.Braces depth) k ≡ Some s → IsRow s id (take n z) (drop n z) → MayBegin mode.Braces depth id (take n z) (drop n z)
-braces_row depth k s id n z is row = inl (row_at k (signs mode.Braces depth) s id (take n z) (drop n z) is row)
+braces_row : (depth k : ℕ) (s : Punctuator) (id n : ℕ) (z : Text) → slice_get (punctuators mode.Braces depth) k ≡ Some s → IsRow s id (take n z) (drop n z) → MayBegin mode.Braces depth id (take n z) (drop n z)
+braces_row depth k s id n z is row = inl (row_at k (punctuators mode.Braces depth) s id (take n z) (drop n z) is row)
 
 pub comma_in_braces_says : (depth b : ℕ) (y : Text) → (b == 44) ≡ true → Says mode.Braces depth (b ∷ y) (Ok (3, 1))
 comma_in_braces_says depth b y is = braces_row depth 0 _ 3 1 (b ∷ y) refl (byte_is b 44 is, refl, refl)
@@ -144,7 +144,7 @@ right_brace_says depth b y is = braces_row depth 5 _ 16 1 (b ∷ y) refl (byte_i
 
 -- ---- in brackets
 
-pub colon_says : (inside : Bracket) (depth b : ℕ) (y : Text) → (b == 58) ≡ true → Says (mode.Brackets inside) depth (b ∷ y) (colon_sign inside)
+pub colon_says : (inside : Bracket) (depth b : ℕ) (y : Text) → (b == 58) ≡ true → Says (mode.Brackets inside) depth (b ∷ y) (colon_token inside)
 colon_says bracket.Nothing depth b y is = (refl, is)
 colon_says bracket.Something depth b y is = inl (inr (inl (byte_is b 58 is, refl, refl)))
 colon_says bracket.Colon depth b y is = (refl, is)

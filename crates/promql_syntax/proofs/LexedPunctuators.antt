@@ -4,7 +4,7 @@ use Rattle.std.specs.Prelude.{◌==◌}
 use Rattle.std.proofs.lemmas.Grind.{common_steps}
 use Rattle.promql_text.specs.Texts.{Text}
 use Rattle.promql_token.specs.Lexing.{pieces}
-use Rattle.promql_token.specs.TokenScanning.{after, outside, scan_token, sign}
+use Rattle.promql_token.specs.TokenScanning.{after, outside, scan_token, punctuator}
 use Rattle.promql_token.proofs.Concatenation.{joins}
 use Rattle.promql_syntax.proofs.Lexes.{at_depth}
 
@@ -12,21 +12,21 @@ above_zero : (n : ℕ) → (suc n == 0) ≡ false
 above_zero n = grind (arith, common_steps)
 
 pub open_lex : (depth : ℕ) (r : Text) → pieces (at_depth depth) (40 ∷ r) ≡ Ok (11, 40 ∷ []) ∷ pieces (at_depth (suc depth)) r
-unfolding scan_token outside sign after
+unfolding scan_token outside punctuator after
 open_lex depth r =
     let deeper : depth + 1 ≡ suc depth = omega arith in
     joins (at_depth depth) (40 ∷ []) r 11 (omega arith) refl refl ∙ ap (λ n. Ok (11, 40 ∷ []) ∷ pieces (at_depth n) r) deeper
 
 pub comma_lex : (depth : ℕ) (r : Text) → pieces (at_depth depth) (44 ∷ r) ≡ Ok (3, 44 ∷ []) ∷ pieces (at_depth depth) r
-unfolding scan_token outside sign after
+unfolding scan_token outside punctuator after
 comma_lex depth r = joins (at_depth depth) (44 ∷ []) r 3 (omega arith) refl refl
 
 pub minus_lex : (depth : ℕ) (r : Text) → pieces (at_depth depth) (45 ∷ r) ≡ Ok (40, 45 ∷ []) ∷ pieces (at_depth depth) r
-unfolding scan_token outside sign after
+unfolding scan_token outside punctuator after
 minus_lex depth r = joins (at_depth depth) (45 ∷ []) r 40 (omega arith) refl refl
 
 pub close_lex : (depth : ℕ) (r : Text) → pieces (at_depth (suc depth)) (41 ∷ r) ≡ Ok (18, 41 ∷ []) ∷ pieces (at_depth depth) r
-unfolding scan_token outside sign after
+unfolding scan_token outside punctuator after
 close_lex depth r =
     let back : suc depth - 1 ≡ depth = omega arith in
     joins (at_depth (suc depth)) (41 ∷ []) r 18 (omega arith) (rw (above_zero depth) refl) refl ∙ ap (λ n. Ok (18, 41 ∷ []) ∷ pieces (at_depth n) r) back

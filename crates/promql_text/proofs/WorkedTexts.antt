@@ -17,8 +17,8 @@ use Rattle.promql_text.specs.declared.number.Number.{Number}
 use Rattle.promql_text.specs.declared.number.Number.TheVariants as number
 use Rattle.promql_text.specs.declared.number.NumberFault.{NumberFault}
 use Rattle.promql_text.specs.declared.number.NumberFault.TheVariants.{NotANumber, OutOfRange, TooManyDigits}
-use Rattle.promql_text.proofs.DurationForms.{durations_told}
-use Rattle.promql_text.proofs.NumberForms.{numbers_told}
+use Rattle.promql_text.proofs.DurationRelation.{durations_told}
+use Rattle.promql_text.proofs.NumberRelation.{numbers_told}
 
 row : (s : Text) (r : Result ℕ DurationFault) → duration_of s ≡ r → IsDuration s r
 row s r is = (durations_told s r).0 is

@@ -12,7 +12,7 @@ use Rattle.promql_token.specs.Lexing.{ScannedText, pieces}
 use Rattle.promql_token.specs.declared.ids.TheConstants.{T_COMMA, T_IDENTIFIER, T_LOR, T_STRING}
 use Rattle.promql_label.specs.Operators.{IsMatcherOf}
 use Rattle.promql_label.specs.PlainMatchers.{Operator, equal, not_equal, matches, matches_not, PlainMatcher, plain_matcher, PlainMatchers, plain_matchers, matchers_text, operator_text}
-use Rattle.promql_label.specs.ReadMatchers.{Token, inside, sorted_matchers, printed_groups, name_token, sign_id, matcher_tokens, group_tokens, matchers_tokens, parts_of, read_name, read_sign, read_matcher, all_or_none, read_group, read_groups}
+use Rattle.promql_label.specs.ReadMatchers.{Token, inside, sorted_matchers, printed_groups, name_token, operator_id, matcher_tokens, group_tokens, matchers_tokens, parts_of, read_name, read_operator, read_matcher, all_or_none, read_group, read_groups}
 use Rattle.promql_label.proofs.PrintedTokens.{matchers_read}
 
 name_again : (name : Text) → read_name (name_token name) ≡ Some name
@@ -22,17 +22,17 @@ name_again name = go (is_label name)
     go true = refl
     go false = unquoted_text-quoted name
 
-sign_again : (op : Operator) → read_sign (sign_id op, operator_text op) ≡ Some (sign_id op)
-sign_again equal = refl
-sign_again not_equal = refl
-sign_again (matches w) = refl
-sign_again (matches_not w) = refl
+operator_again : (op : Operator) → read_operator (operator_id op, operator_text op) ≡ Some (operator_id op)
+operator_again equal = refl
+operator_again not_equal = refl
+operator_again (matches w) = refl
+operator_again (matches_not w) = refl
 
 matcher_again : (c : PlainMatcher) → read_matcher (matcher_tokens c) ≡ Some (parts_of c)
 matcher_again (plain_matcher op name value) = λ i.
     option_and_then (λ n.
     option_and_then (λ s.
-    option_map (λ v. record { sign = s; name = n; value = v }) (unquoted_text-quoted value i)) (sign_again op i)) (name_again name i)
+    option_map (λ v. record { operator = s; name = n; value = v }) (unquoted_text-quoted value i)) (operator_again op i)) (name_again name i)
 
 all_again : {X A Y : Type 0} (f : A → Option Y) (g : X → A) (h : X → Y) → ((x : X) → f (g x) ≡ Some (h x)) → (xs : List X) → all_or_none (map f (map g xs)) ≡ Some (map h xs)
 all_again f g h each [] = refl
@@ -48,35 +48,35 @@ split_joined p g t is each x (y ∷ ys) = slice_split_at p (g x) t (join_by g (t
 abbrev IsNo : ℕ → Token → Type 0
 IsNo id k = (k.0 == id) ≡ false
 
-matcher_without : (id : ℕ) → ((b : Bool) → (cond b T_IDENTIFIER T_STRING == id) ≡ false) → ((op : Operator) → (sign_id op == id) ≡ false) → (c : PlainMatcher) → All (IsNo id) (matcher_tokens c)
-matcher_without id names signs (plain_matcher op name value) =
-    All-from_recursion (IsNo id) (matcher_tokens (plain_matcher op name value)) (names (is_label name), (signs op, (names false, tt)))
+matcher_without : (id : ℕ) → ((b : Bool) → (cond b T_IDENTIFIER T_STRING == id) ≡ false) → ((op : Operator) → (operator_id op == id) ≡ false) → (c : PlainMatcher) → All (IsNo id) (matcher_tokens c)
+matcher_without id names operators (plain_matcher op name value) =
+    All-from_recursion (IsNo id) (matcher_tokens (plain_matcher op name value)) (names (is_label name), (operators op, (names false, tt)))
 
 matcher_without_comma : (c : PlainMatcher) → All (IsNo T_COMMA) (matcher_tokens c)
-matcher_without_comma = matcher_without T_COMMA names signs
+matcher_without_comma = matcher_without T_COMMA names operators
   where
     names : (b : Bool) → (cond b T_IDENTIFIER T_STRING == T_COMMA) ≡ false
     names true = refl
     names false = refl
 
-    signs : (op : Operator) → (sign_id op == T_COMMA) ≡ false
-    signs equal = refl
-    signs not_equal = refl
-    signs (matches w) = refl
-    signs (matches_not w) = refl
+    operators : (op : Operator) → (operator_id op == T_COMMA) ≡ false
+    operators equal = refl
+    operators not_equal = refl
+    operators (matches w) = refl
+    operators (matches_not w) = refl
 
 matcher_without_or : (c : PlainMatcher) → All (IsNo T_LOR) (matcher_tokens c)
-matcher_without_or = matcher_without T_LOR names signs
+matcher_without_or = matcher_without T_LOR names operators
   where
     names : (b : Bool) → (cond b T_IDENTIFIER T_STRING == T_LOR) ≡ false
     names true = refl
     names false = refl
 
-    signs : (op : Operator) → (sign_id op == T_LOR) ≡ false
-    signs equal = refl
-    signs not_equal = refl
-    signs (matches w) = refl
-    signs (matches_not w) = refl
+    operators : (op : Operator) → (operator_id op == T_LOR) ≡ false
+    operators equal = refl
+    operators not_equal = refl
+    operators (matches w) = refl
+    operators (matches_not w) = refl
 
 group_without_or : (cs : List PlainMatcher) → All (IsNo T_LOR) (group_tokens cs)
 group_without_or [] = All-nil (IsNo T_LOR)
@@ -107,11 +107,11 @@ matchers_again (plain_matchers plain []) = groups_again (sorted_matchers plain) 
 matchers_again (plain_matchers plain (g ∷ gs)) = groups_again g gs
 
 -- a matcher that was built of an id, a name and a value has these parts
-pub parts_built : (id : ℕ) (name value : Text) (c : PlainMatcher) → IsMatcherOf id name value c → parts_of c ≡ record { sign = id; name = name; value = value }
-parts_built id name value (plain_matcher equal n v) h = λ i. record { sign = sym h.0 i; name = h.1 i; value = h.2 i }
-parts_built id name value (plain_matcher not_equal n v) h = λ i. record { sign = sym h.0 i; name = h.1 i; value = h.2 i }
-parts_built id name value (plain_matcher (matches w) n v) h = λ i. record { sign = sym h.0.0 i; name = h.1 i; value = h.2 i }
-parts_built id name value (plain_matcher (matches_not w) n v) h = λ i. record { sign = sym h.0.0 i; name = h.1 i; value = h.2 i }
+pub parts_built : (id : ℕ) (name value : Text) (c : PlainMatcher) → IsMatcherOf id name value c → parts_of c ≡ record { operator = id; name = name; value = value }
+parts_built id name value (plain_matcher equal n v) h = λ i. record { operator = sym h.0 i; name = h.1 i; value = h.2 i }
+parts_built id name value (plain_matcher not_equal n v) h = λ i. record { operator = sym h.0 i; name = h.1 i; value = h.2 i }
+parts_built id name value (plain_matcher (matches w) n v) h = λ i. record { operator = sym h.0.0 i; name = h.1 i; value = h.2 i }
+parts_built id name value (plain_matcher (matches_not w) n v) h = λ i. record { operator = sym h.0.0 i; name = h.1 i; value = h.2 i }
 
 abbrev tokens_of : List ScannedText → List Token
 tokens_of [] = []

@@ -15,7 +15,7 @@ use Rattle.promql_token.specs.Classes.{is_in, end_of_run}
 use Rattle.promql_token.specs.TokenScanning.{Scanned, is_unit, unit_len, part_len, parts_from, units, numeral}
 use Rattle.promql_token.specs.Printed.{are_digits, is_part, parts_text, JoinsDuration}
 use Rattle.promql_token.proofs.Ends.{and_left, and_right}
-use Rattle.promql_token.proofs.Parts.{parts_go}
+use Rattle.promql_token.proofs.LaterDurationParts.{parts_go}
 use Rattle.promql_token.proofs.PrintedForms.{number_whole, whole_is, at_seam, prefix_whole, digits_first, joins_numeral, digit_name, past_front}
 
 -- a unit with its `s`, before a text that begins with no `s`
@@ -122,8 +122,8 @@ pub front_byte : (u rest : Text) → 0 < length u → get_or (u ++ rest) 0 0 ≡
 front_byte [] rest some = absurd (omega arith)
 front_byte (b ∷ u) rest some = refl
 
-behind_both : (d u rest : Text) → drop (length d + length u) (d ++ (u ++ rest)) ≡ rest
-behind_both d u rest = sym (drop-drop (length u) (length d) (d ++ (u ++ rest))) ∙ ap (drop (length u)) (drop-append_seam d (u ++ rest)) ∙ drop-append_seam u rest
+after_both : (d u rest : Text) → drop (length d + length u) (d ++ (u ++ rest)) ≡ rest
+after_both d u rest = sym (drop-drop (length u) (length d) (d ++ (u ++ rest))) ∙ ap (drop (length u)) (drop-append_seam d (u ++ rest)) ∙ drop-append_seam u rest
 
 -- the length of a part at the front
 part_front : (d u rest : Text) → IsPart false d u rest → part_len (d ++ (u ++ rest)) ≡ length d + length u
@@ -150,7 +150,7 @@ parts_all (p ∷ ps) h =
     let some = part.count in
     let z : Text = p.0 ++ (p.1 ++ parts_text ps) in
     parts_go z (length p.0 + length p.1) (sym (part_front p.0 p.1 (parts_text ps) part)) (omega arith) (omega (arith, length-append p.0 (p.1 ++ parts_text ps), length-append p.1 (parts_text ps)))
-    ∙ ap (parts_from 0) (behind_both p.0 p.1 (parts_text ps)) ∙ parts_all ps rest
+    ∙ ap (parts_from 0) (after_both p.0 p.1 (parts_text ps)) ∙ parts_all ps rest
 
 -- ---- the whole
 

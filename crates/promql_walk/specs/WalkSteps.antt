@@ -11,10 +11,10 @@ IfGoesOn (Err e) P Q = Q
 
 -- One step for each of these, in order, up to the first whose result is not `Ok true`. The state was s and is t, and r is
 -- that result, or `Ok true` where there is none.
-abbrev pub Walked : {X S E : Type 0} → (X → S → Result Bool E → S → Type 0) → List X → S → Result Bool E → S → Type 0
-Walked step [] s r t = (r ≡ Ok true) × (t ≡ s)
-Walked {X} {S} {E} step (x ∷ xs) s r t =
-    (a : Result Bool E) × ((u : S) × (step x s a u × IfGoesOn a (Walked step xs u r t) ((r ≡ a) × (t ≡ u))))
+abbrev pub WalksAlong : {X S E : Type 0} → (X → S → Result Bool E → S → Type 0) → List X → S → Result Bool E → S → Type 0
+WalksAlong step [] s r t = (r ≡ Ok true) × (t ≡ s)
+WalksAlong {X} {S} {E} step (x ∷ xs) s r t =
+    (a : Result Bool E) × ((u : S) × (step x s a u × IfGoesOn a (WalksAlong step xs u r t) ((r ≡ a) × (t ≡ u))))
 
 -- what a call that does nothing and goes on does, or what `gives` allows
 abbrev pub IdlesOr : {S E : Type 0} → (S → Tree → Result Bool E → S → Type 0) → S → Tree → Result Bool E → S → Type 0

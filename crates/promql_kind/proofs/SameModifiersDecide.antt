@@ -12,7 +12,7 @@ use Rattle.promql_text.specs.declared.number.Number.TheVariants.{Finite, Inf, Ne
 use Rattle.promql_text.specs.Texts.{Text}
 use Rattle.promql_kind.specs.Functions.{Signature, signature}
 use Rattle.promql_kind.specs.Modifiers.{Clause, including, excluding, Cardinality, one_to_one, many_to_one, one_to_many, many_to_many, Fills, fills, Matching, matching, exact_eq, number_eq}
-use Rattle.promql_kind.specs.Same.{texts_eq, clause_eq, cardinality_eq, fills_eq, matching_eq, signature_eq}
+use Rattle.promql_kind.specs.SameModifiers.{texts_eq, clause_eq, cardinality_eq, fills_eq, matching_eq, signature_eq}
 use Rattle.promql_kind.specs.ValueTypes.{type_eq}
 use Rattle.promql_kind.specs.declared.value.ValueType.{ValueType}
 use Rattle.promql_kind.specs.declared.value.ValueType.TheVariants as kind

@@ -13,9 +13,9 @@ use Rattle.promql_token.specs.Vocabulary.{next}
 use Rattle.promql_token.specs.Laws.{is_exponent, is_sign}
 use Rattle.promql_token.specs.TokenScanning.{begins_numeral, digits, is_hex, number_end, past_exponent, past_point, past_sign, past_whole}
 use Rattle.promql_token.specs.Printed.{are_digits}
-use Rattle.promql_token.proofs.Choices.{not_one, by_bool}
+use Rattle.promql_token.proofs.TestsAndCounts.{not_one, by_bool}
 use Rattle.promql_token.proofs.Ends.{and_left, and_right, or_cases}
-use Rattle.promql_token.proofs.PrintedForms.{at_seam, no_hex, past_behind, past_front}
+use Rattle.promql_token.proofs.PrintedForms.{at_seam, no_hex, past_middle, past_front}
 
 -- ---- runs
 
@@ -40,7 +40,7 @@ in_none class.Name = refl
 in_none class.Word = refl
 
 pub past_at : (c : Class) (z u w r : Text) (n : ℕ) → z ≡ u ++ (w ++ r) → n ≡ length u → list_all (is_in c) w ≡ true → is_in c (next r) ≡ false → end_of_run c z n ≡ n + length w
-past_at c z u w r n is len all stop = (λ i. end_of_run c (is i) (len i)) ∙ past_behind c u w r all stop ∙ ap (λ n. n + length w) (sym len)
+past_at c z u w r n is len all stop = (λ i. end_of_run c (is i) (len i)) ∙ past_middle c u w r all stop ∙ ap (λ n. n + length w) (sym len)
 
 pub byte_at : (z u r : Text) (n : ℕ) → z ≡ u ++ r → n ≡ length u → get_or z n 0 ≡ next r
 byte_at z u r n is len = (λ i. get_or (is i) (len i) 0) ∙ at_seam u r

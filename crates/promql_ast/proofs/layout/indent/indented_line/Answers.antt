@@ -3,7 +3,7 @@ use Rattle.promql_ast.specs.Lines.{indent}
 use Rattle.promql_ast.specs.declared.layout.prettier.PrettyError.{PrettyError}
 use Rattle.promql_ast.proofs.Counted.{some_weaker}
 use Rattle.promql_ast.proofs.Indents.{keeps_indented}
-use Rattle.promql_ast.proofs.layout.indent.indented.Goals as goal
+use Rattle.promql_ast.proofs.layout.indent.indented_line.Goals as goal
 
 pub returns-clause-keeps : goal.returns-clause-keeps
 returns-clause-keeps g c =

@@ -17,8 +17,8 @@ ends_count end = slice_index end 0 == 125 || slice_index end 0 == 44 && slice_in
 
 -- ---- the test passes before a count
 
-behind : (n r : Text) → list_all is_ascii_digit n ≡ true → is_ascii_digit (get_or r 0 0) ≡ false → after_digits (n ++ r) ≡ r
-behind n r digits stop = ap (λ k. drop k (n ++ r)) (prefix_all is_ascii_digit n r digits stop) ∙ drop-append_seam n r
+after_digits_is : (n r : Text) → list_all is_ascii_digit n ≡ true → is_ascii_digit (get_or r 0 0) ≡ false → after_digits (n ++ r) ≡ r
+after_digits_is n r digits stop = ap (λ k. drop k (n ++ r)) (prefix_all is_ascii_digit n r digits stop) ∙ drop-append_seam n r
 
 begins : (n r : Text) → IsNumeral n → is_ascii_digit (slice_index (n ++ r) 0) ≡ true
 begins [] r numeral = absurd (omega (arith, numeral.some))
@@ -27,14 +27,14 @@ begins (b ∷ n) r numeral = and_left (is_ascii_digit b) (list_all is_ascii_digi
 count_after : (n r : Text) → IsNumeral n → is_ascii_digit (get_or r 0 0) ≡ false → ends_count r ≡ true → opens_count (n ++ r) ≡ true
 count_after n r numeral stop ends =
     ap (λ digit. digit && ends_count (after_digits (n ++ r))) (begins n r numeral)
-    ∙ ap ends_count (behind n r numeral.digits stop) ∙ ends
+    ∙ ap ends_count (after_digits_is n r numeral.digits stop) ∙ ends
 
 pub opens_count_of_relation : (z : Text) → OpensCount z → opens_count z ≡ true
 opens_count_of_relation _ (exactly n z numeral) = count_after n (125 ∷ z) numeral refl refl
 opens_count_of_relation _ (at_least n z numeral) = count_after n (44 ∷ 125 ∷ z) numeral refl refl
 opens_count_of_relation _ (between n m z numeral more) =
     count_after n (44 ∷ (m ++ 125 ∷ z)) numeral refl
-    (ap (λ e. slice_index e 0 == 125) (behind m (125 ∷ z) more.digits refl))
+    (ap (λ e. slice_index e 0 == 125) (after_digits_is m (125 ∷ z) more.digits refl))
 
 -- ---- where the test passes there is a count
 
@@ -67,8 +67,8 @@ front : (b : ℕ) (e : Text) → (slice_index e 0 == suc b) ≡ true → (z : Te
 front b [] h = let zero_is : 0 ≡ suc b = eqb-true 0 (suc b) h in absurd (omega arith)
 front b (c ∷ z) h = (z, ap (λ k. k ∷ z) (eqb-true c (suc b) h))
 
-behind_comma : (n z : Text) → IsNumeral n → (slice_index (after_digits z) 0 == 125) ≡ true → OpensCount (n ++ 44 ∷ z)
-behind_comma n z numeral h =
+after_comma : (n z : Text) → IsNumeral n → (slice_index (after_digits z) 0 == 125) ≡ true → OpensCount (n ++ 44 ∷ z)
+after_comma n z numeral h =
     let brace = front 124 (after_digits z) h in
     let m = take (prefix_len is_ascii_digit z) z in
     ⊎_elim
@@ -81,14 +81,14 @@ behind_comma n z numeral h =
     true_or_false true = inl refl
     true_or_false false = inr refl
 
-behind_numeral : (n e : Text) → IsNumeral n → ends_count e ≡ true → OpensCount (n ++ e)
-behind_numeral n e numeral ends =
+after_numeral : (n e : Text) → IsNumeral n → ends_count e ≡ true → OpensCount (n ++ e)
+after_numeral n e numeral ends =
     ⊎_elim
     (λ last. let brace = front 124 e last in subst (λ t. OpensCount (n ++ t)) (sym brace.1) (exactly n brace.0 numeral))
     (λ more. let comma = front 43 e (and_left (slice_index e 0 == 44) _ more) in
     let last = and_right (slice_index e 0 == 44) (slice_index (after_digits (drop 1 e)) 0 == 125) more in
     subst (λ t. OpensCount (n ++ t)) (sym comma.1)
-    (behind_comma n comma.0 numeral (subst (λ t. (slice_index (after_digits (drop 1 t)) 0 == 125) ≡ true) comma.1 last)))
+    (after_comma n comma.0 numeral (subst (λ t. (slice_index (after_digits (drop 1 t)) 0 == 125) ≡ true) comma.1 last)))
     (or_cases (slice_index e 0 == 125) _ ends)
 
 pub count_of : (z : Text) → opens_count z ≡ true → OpensCount z
@@ -96,4 +96,4 @@ count_of z h =
     let k = prefix_len is_ascii_digit z in
     let digit = and_left (is_ascii_digit (slice_index z 0)) (ends_count (after_digits z)) h in
     let ends = and_right (is_ascii_digit (slice_index z 0)) (ends_count (after_digits z)) h in
-    subst OpensCount (take-append-drop k z) (behind_numeral (take k z) (after_digits z) (taken_numeral z digit) ends)
+    subst OpensCount (take-append-drop k z) (after_numeral (take k z) (after_digits z) (taken_numeral z digit) ends)

@@ -5,7 +5,7 @@ use Rattle.std.specs.List.{flat_map, join_by}
 use Rattle.std.proofs.lemmas.Bool.{ne_eqb}
 use Rattle.std.proofs.lemmas.List.{drop_more, drop_all}
 use Rattle.promql_text.specs.Texts.{Text, joined_text}
-use Rattle.promql_text.specs.PrintedLen.{cap_usize, usize_max, printed_len}
+use Rattle.promql_text.specs.PrintedLen.{cap_usize, printed_len}
 use Rattle.promql_ast.specs.Nodes.{nodes, all_nodes}
 use Rattle.promql_ast.specs.Decisions.{decisions, all_decisions}
 use Rattle.promql_ast.specs.Text.{text, texts}
