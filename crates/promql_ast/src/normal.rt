@@ -4,7 +4,7 @@ ghost use Rattle.std.specs.Prelude.{◌≡◌, if◌then◌else◌, IfOk, None, 
 ghost use Rattle.promql_ast.specs.Normal.{maybe_normal, normal, normal_clause, normal_matched, normal_matching, normal_selector, unless_default};
 ghost use Rattle.promql_ast.specs.View.{aggregate_tree, binary_tree, call_tree, extension_tree, matrix_tree, option_tree, selector_of, subquery_tree, tree_of};
 ghost use Rattle.promql_kind.specs.Modifiers.{is_grouping};
-ghost use Rattle.promql_kind.specs.Views.{cardinality_of, clause_of, matching_of};
+ghost use Rattle.promql_kind.specs.ModifierViews.{cardinality_of, clause_of, matching_of};
 
 use crate::aggregate::AggregateExpr;
 use crate::binary::BinaryExpr;
@@ -28,7 +28,7 @@ impl Expr {
     ///
     /// `AllocError` where an allocation failed.
     #[cycle(normal)]
-    #[tactic(auto, using(crate::proofs::Views::tree_of_call, crate::proofs::Views::tree_of_extension, crate::proofs::Views::tree_of_aggregate))]
+    #[tactic(auto, using(crate::proofs::NodeParts::tree_of_call, crate::proofs::NodeParts::tree_of_extension, crate::proofs::NodeParts::tree_of_aggregate))]
     pub fn normalized(&self, alloc: Global) -> Result<Expr, AllocError>
         ensures { IfOk result (λ e. tree_of e ≡ normal (tree_of self.now)) }
     {

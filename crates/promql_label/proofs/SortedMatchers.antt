@@ -9,7 +9,7 @@ use Rattle.promql_label.specs.NextText.{text_of}
 use Rattle.promql_label.specs.PlainMatchers.{PlainMatcher, matcher_text}
 use Rattle.promql_label.specs.ReadMatchers.{insert_matcher, sorted_matchers}
 use Rattle.promql_label.specs.SortedTexts.{text_order}
-use Rattle.promql_label.specs.Views.{plain_matcher_of}
+use Rattle.promql_label.specs.MatcherViews.{plain_matcher_of}
 use Rattle.promql_label.specs.declared.matcher.Matcher.{Matcher}
 use Rattle.promql_label.proofs.StableSort.{insert_item, insertion_sort, stable_sort_inserts}
 
