@@ -3,7 +3,6 @@ use Rattle.std.proofs.Common.{◌≡◌, None, Err, refl, sym, subst, ℕ}
 use Rattle.promql_ast.specs.Builds.{at_given, minus, mode_given, negate_tree, offset_given, with_range, scalar_value}
 use Rattle.promql_ast.specs.Faults.{Gives, Verdict, passes, rejected, node}
 use Rattle.promql_ast.specs.Shifts.{Moment, Shift}
-use Rattle.promql_ast.specs.Tree.{unary}
 use Rattle.promql_ast.specs.View.{tree_of}
 use Rattle.promql_ast.specs.declared.expr.Expr.{Expr, Subquery, Subquery', NumberLiteral, StringLiteral, VectorSelector, MatrixSelector}
 use Rattle.promql_ast.specs.declared.fault.CheckError.{CheckError}
@@ -19,10 +18,6 @@ rejects e f v is same = subst (λ x. Gives (Err x) v) (sym is) same
 pub no_scalar : (e : Expr) → ((x : _) → e ≡ NumberLiteral x → ⊥) → None ≡ scalar_value (tree_of e)
 no_scalar (NumberLiteral x) h = absurd (h x refl)
 no_scalar _ h = refl
-
-pub negated_other : (e : Expr) → ((x : _) → e ≡ NumberLiteral x → ⊥) → unary (tree_of e) ≡ negate_tree (tree_of e)
-negated_other (NumberLiteral x) h = absurd (h x refl)
-negated_other _ h = refl
 
 pub minus_other : (e : Expr) → ((x : _) → e ≡ StringLiteral x → ⊥) → ((x : _) → e ≡ MatrixSelector x → ⊥)
     → minus (tree_of e) ≡ passes (negate_tree (tree_of e))

@@ -1,0 +1,5 @@
+use Rattle.promql_ast.proofs.Fallbacks.{mode_other}
+use Rattle.promql_ast.proofs.expr.Expr.set_mode.Goals as goal
+
+pub returns-in_default : goal.returns-in_default
+returns-in_default c = mode_other c.args.self.now _ c.in_default.not-MatrixSelector
