@@ -9,7 +9,7 @@ ghost use Rattle.promql_kind.specs.ModifierViews.{cardinality_of, clause_of, mat
 use crate::aggregate::AggregateExpr;
 use crate::binary::BinaryExpr;
 use crate::call::{Call, FunctionArgs};
-use crate::expr::Expr;
+use crate::expr::{Expr, new_box};
 use crate::extension::Extension;
 use crate::matrix_selector::MatrixSelector;
 use crate::paren::ParenExpr;
@@ -33,23 +33,23 @@ impl Expr {
         ensures { IfOk result (λ e. tree_of e ≡ normal (tree_of self.now)) }
     {
         match self {
-            Expr::Aggregate(e) => Ok(Expr::Aggregate(normal_aggregate(alloc, e)?)),
+            Expr::Aggregate(e) => normal_aggregate(alloc, e).map(Expr::Aggregate),
             Expr::Unary(e) => {
                 let expr = normal_box(alloc, &e.expr)?;
                 Ok(Expr::Unary(UnaryExpr { expr }))
             }
-            Expr::Binary(e) => Ok(Expr::Binary(normal_binary(alloc, e)?)),
+            Expr::Binary(e) => normal_binary(alloc, e).map(Expr::Binary),
             Expr::Paren(e) => {
                 let expr = normal_box(alloc, &e.expr)?;
                 Ok(Expr::Paren(ParenExpr { expr }))
             }
-            Expr::Subquery(e) => Ok(Expr::Subquery(normal_subquery(alloc, e)?)),
+            Expr::Subquery(e) => normal_subquery(alloc, e).map(Expr::Subquery),
             Expr::NumberLiteral(e) => Ok(Expr::NumberLiteral(*e)),
-            Expr::StringLiteral(e) => Ok(Expr::StringLiteral(e.try_clone(alloc)?)),
-            Expr::VectorSelector(e) => Ok(Expr::VectorSelector(normal_vector(alloc, e)?)),
-            Expr::MatrixSelector(e) => Ok(Expr::MatrixSelector(normal_matrix(alloc, e)?)),
-            Expr::Call(e) => Ok(Expr::Call(normal_call(alloc, e)?)),
-            Expr::Extension(e) => Ok(Expr::Extension(normal_extension(alloc, e)?)),
+            Expr::StringLiteral(e) => e.try_clone(alloc).map(Expr::StringLiteral),
+            Expr::VectorSelector(e) => normal_vector(alloc, e).map(Expr::VectorSelector),
+            Expr::MatrixSelector(e) => normal_matrix(alloc, e).map(Expr::MatrixSelector),
+            Expr::Call(e) => normal_call(alloc, e).map(Expr::Call),
+            Expr::Extension(e) => normal_extension(alloc, e).map(Expr::Extension),
         }
     }
 }
@@ -58,7 +58,7 @@ impl Expr {
 fn normal_box(alloc: Global, expr: &Expr) -> Result<Box<Expr>, AllocError>
     ensures { IfOk result (λ b. tree_of b.value ≡ normal (tree_of expr.now)) }
 {
-    Ok(Box::new(alloc, expr.normalized(alloc)?)?)
+    new_box(alloc, expr.normalized(alloc)?)
 }
 
 #[cycle(normal)]
