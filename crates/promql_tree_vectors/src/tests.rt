@@ -5,6 +5,7 @@ mod builders;
 mod checks;
 mod layout;
 mod memory;
+mod options;
 mod parts;
 mod printing;
 mod trees;

@@ -2,6 +2,7 @@
 
 mod calls;
 mod canonical;
+mod dashboards;
 mod facade;
 mod faults;
 mod layouts;

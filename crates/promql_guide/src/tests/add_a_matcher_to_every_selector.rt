@@ -47,14 +47,16 @@ fn for_tenant(alloc: Global, expr: &mut Expr) -> Result<String, AllocError> {
     expr.to_string(alloc)
 }
 
-const QUERY: &str = "rate(a[5m]) / {b='1' or c='2'}";
+const QUERY: &str = "topk(scalar(k), sum(rate(a{b='1'}[5m])) / {c='2' or d='3'})";
+
+const CHANGED: &str =
+    r#"topk(scalar(k{tenant="t1"}), sum(rate(a{b="1",tenant="t1"}[5m])) / {c="2", tenant="t1" or d="3", tenant="t1"})"#;
 
 #[test]
 fn every_selector_has_the_tenant(rt: HostRuntime) -> Result<(), Fail> {
-    let changed = for_tenant(rt.alloc(), &mut parse(rt.alloc(), QUERY)?)?;
-    assert_eq!(rt;
-        changed.as_str(),
-        r#"rate(a{tenant="t1"}[5m]) / {b="1", tenant="t1" or c="2", tenant="t1"}"#
-    );
+    let mut expr = parse(rt.alloc(), QUERY)?;
+    let changed = for_tenant(rt.alloc(), &mut expr);
+    drop(expr);
+    assert_eq!(rt; changed?.as_str(), CHANGED);
     Ok(())
 }

@@ -50,13 +50,17 @@ fn metric_names(alloc: Global, expr: &Expr) -> Result<Vec<String>, AllocError> {
     Ok(found.names)
 }
 
-const QUERY: &str = "topk(scalar(k), a / {'b c'}) or max_over_time(d[1h:])";
+const QUERY: &str =
+    "topk(scalar(k), a + {'b c'} / sum by (l) (rate(d[5m]) or max_over_time(e[1h:])))";
 
 #[test]
 fn names_in_order(rt: HostRuntime) -> Result<(), Fail> {
-    let names = metric_names(rt.alloc(), &parse(rt.alloc(), QUERY)?)?;
-    assert_eq!(rt; names.len(), 4);
-    for (name, want) in names.iter().zip(&["k", "a", "b c", "d"]) {
+    let expr = parse(rt.alloc(), QUERY)?;
+    let found = metric_names(rt.alloc(), &expr);
+    drop(expr);
+    let names = found?;
+    assert_eq!(rt; names.len(), 5);
+    for (name, want) in names.iter().zip(&["k", "a", "b c", "d", "e"]) {
         assert_eq!(rt; name.as_str(), *want);
     }
     Ok(())

@@ -18,7 +18,9 @@ const LAID_OUT: &str = "  sum by (job) (rate(errors_total[5m]))
 
 #[test]
 fn a_long_query_over_several_lines(rt: HostRuntime) -> Result<(), Fail> {
-    let laid_out = in_lines(rt.alloc(), &parse(rt.alloc(), QUERY)?)?;
-    assert_eq!(rt; laid_out.as_str(), LAID_OUT);
+    let expr = parse(rt.alloc(), QUERY)?;
+    let laid_out = in_lines(rt.alloc(), &expr);
+    drop(expr);
+    assert_eq!(rt; laid_out?.as_str(), LAID_OUT);
     Ok(())
 }

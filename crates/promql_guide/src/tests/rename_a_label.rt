@@ -90,9 +90,11 @@ const QUERY: &str = "sum by (job) (a{job='x'}) * on (job) b";
 
 #[test]
 fn every_label_is_renamed(rt: HostRuntime) -> Result<(), Fail> {
-    let changed = renamed(rt.alloc(), &mut parse(rt.alloc(), QUERY)?)?;
+    let mut expr = parse(rt.alloc(), QUERY)?;
+    let changed = renamed(rt.alloc(), &mut expr);
+    drop(expr);
     assert_eq!(rt;
-        changed.as_str(),
+        changed?.as_str(),
         r#"sum by (service) (a{service="x"}) * on (service) b"#
     );
     Ok(())

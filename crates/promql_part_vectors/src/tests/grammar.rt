@@ -1,6 +1,6 @@
 //! Kinds of tokens.
 
-use crate::tests::rows::holds;
+use crate::tests::holds;
 use promql_grammar::{TokenKind, token_kind};
 use promql_token::TokenType;
 use promql_token::ids::*;

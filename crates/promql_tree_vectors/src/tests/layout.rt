@@ -3,7 +3,7 @@
 ghost use Rattle.std.specs.Prelude.{Some};
 
 use super::prints;
-use super::trees::{EXTENSION, KINDS, arguments, kind};
+use super::trees::{EXTENSION, KINDS, arguments, is_read, kind};
 use promql_ast::{EvalStmt, Expr, FunctionArgs, Prettier, PrettyError, Tally};
 use promql_parser::parser::parse;
 use promql_text::{minute_duration, second_duration};
@@ -13,7 +13,7 @@ use std::process::Abort;
 use std::test::Fail;
 
 /// An expression that is split in lines of 17 bytes, and not in lines of 18.
-pub const SHARE: &str = "sum by (b) (a) / c";
+const SHARE: &str = "sum by (b) (a) / c";
 
 /// A value at level 1, at a width where its line or a part of it is too long and at one where it is not; then the value
 /// over several lines, and the least width that its line fits.
@@ -192,22 +192,50 @@ fn a_line_that_fits_is_kept(rt: HostRuntime) -> Result<(), Fail> {
     Ok(())
 }
 
-/// `a` at each 15 seconds of the first 1.5.
-fn statement(expr: Expr) -> EvalStmt {
+/// The expression at each 15 seconds from the first time to the last.
+pub fn statement(expr: Expr, start: i64, end: i64) -> EvalStmt {
     EvalStmt {
         expr,
-        start: 0,
-        end: 1500,
+        start,
+        end,
         interval: second_duration() * 15,
         lookback_delta: minute_duration() * 5,
     }
 }
 
+/// The first time and the last of a statement of `a`, and how it prints.
+const STATEMENTS: [(i64, i64, &str); 4] = [
+    (0, 1500, "[a] @ [0.000, 1.500, 15s, 5m]"),
+    (-1500, -1, "[a] @ [-1.500, -0.001, 15s, 5m]"),
+    (
+        -62_135_596_800_000,
+        -1_000,
+        "[a] @ [-62135596800.000, -1.000, 15s, 5m]",
+    ),
+    (
+        i64::MIN,
+        i64::MAX,
+        "[a] @ [-9223372036854775.808, 9223372036854775.807, 15s, 5m]",
+    ),
+];
+
+/// A statement of `a` prints this text.
+fn check_statement(
+    rt: &impl Abort,
+    alloc: Global,
+    start: i64,
+    end: i64,
+    text: &str,
+) -> Result<(), Fail> {
+    prints(rt, alloc, &statement(parse(alloc, "a")?, start, end), text)
+}
+
 #[test]
 fn statements_print_their_times(rt: HostRuntime) -> Result<(), Fail> {
-    let alloc = rt.alloc();
-    let text = "[a] @ [0.000, 1.500, 15s, 5m]";
-    prints(&rt, alloc, &statement(parse(alloc, "a")?), text)
+    for (start, end, text) in &STATEMENTS {
+        check_statement(&rt, rt.alloc(), *start, *end, text)?;
+    }
+    Ok(())
 }
 
 /// A copy of the statement prints this text.
@@ -224,7 +252,7 @@ fn check_copy(
 fn copies_of_statements_print_alike(rt: HostRuntime) -> Result<(), Fail> {
     let alloc = rt.alloc();
     let text = "[a] @ [0.000, 1.500, 15s, 5m]";
-    check_copy(&rt, alloc, &statement(parse(alloc, "a")?), text)
+    check_copy(&rt, alloc, &statement(parse(alloc, "a")?, 0, 1500), text)
 }
 
 /// A sum of 512 ones.
@@ -274,6 +302,18 @@ fn too_wide_indentations_are_rejected(rt: HostRuntime) -> Result<(), Fail> {
         let expr = parse(alloc, text)?;
         assert!(rt; is_too_wide(&expr.pretty(alloc, usize::MAX, 0)));
     }
+    Ok(())
+}
+
+/// Whether the expression is too wide for the greatest level, and is then what it was.
+fn is_left_too_wide(alloc: Global, expr: &Expr) -> bool {
+    is_too_wide(&expr.pretty(alloc, usize::MAX, 0)) && is_read(alloc, expr, SHARE) == Ok(true)
+}
+
+#[test]
+fn a_failed_layout_leaves_the_expression(rt: HostRuntime) -> Result<(), Fail> {
+    let found = is_left_too_wide(rt.alloc(), &parse(rt.alloc(), SHARE)?);
+    assert!(rt; found);
     Ok(())
 }
 

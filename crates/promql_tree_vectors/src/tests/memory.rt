@@ -1,7 +1,6 @@
 //! Allocations that fail: bin/test_memory makes each fail in turn. Then a call runs out of memory or does what it does with
 //! memory, and what it was called on is what it was.
 
-use super::layout::SHARE;
 use super::trees::{call, equal, five_minutes, grouped, include, is_read, name};
 use promql_ast::{CheckError, Expr, FunctionArgs};
 use promql_label::{Labels, Matchers};
@@ -9,7 +8,6 @@ use promql_parser::parser::{ParseError, Prettier, PrettyError, parse};
 use promql_token::ids::{T_ADD, T_SUM};
 use promql_walk::{JsonError, ToJson};
 use std::alloc::{AllocError, Global};
-use std::test::Fail;
 
 const TEXT: &str = r#"foo{a="1"} + on (a) group_left (b) sum by (c) (rate(x[5m]))"#;
 
@@ -23,12 +21,12 @@ fn foo(alloc: Global) -> Result<Expr, CheckError> {
 fn sum_of_rate(alloc: Global) -> Result<Expr, CheckError> {
     let rate = call(alloc, "rate", five_minutes(name(alloc, "x")?)?)?;
     let args = FunctionArgs::new_args(alloc, rate)?;
-    Expr::new_aggregate_expr(alloc, T_SUM, Some(include(alloc, "c")?), args)
+    Expr::new_aggregate_expr(alloc, T_SUM, Some(include(alloc, &["c"])?), args)
 }
 
 /// The expression of `TEXT`.
 fn built(alloc: Global) -> Result<Expr, CheckError> {
-    let modifier = grouped(alloc, "a", "b")?;
+    let modifier = grouped(alloc, &["a"], &["b"])?;
     let foo = foo(alloc)?;
     let sum = sum_of_rate(alloc)?;
     Expr::checked(
@@ -233,17 +231,4 @@ fn intersecting_labels_leaves_them(rt: HostRuntime) {
     if let Ok(is_left) = intersects_well(rt.alloc()) {
         assert!(rt; is_left);
     }
-}
-
-/// Whether the expression is too wide for the greatest level, and is then what it was.
-fn is_left_too_wide(alloc: Global, expr: &Expr) -> bool {
-    let laid = expr.pretty(alloc, usize::MAX, 0);
-    laid == Err(PrettyError::IndentTooWide) && is_read_again(alloc, expr, SHARE)
-}
-
-#[test]
-fn a_failed_layout_leaves_the_expression(rt: HostRuntime) -> Result<(), Fail> {
-    let found = is_left_too_wide(rt.alloc(), &parse(rt.alloc(), SHARE)?);
-    assert!(rt; found);
-    Ok(())
 }

@@ -19,9 +19,12 @@ fn binary(expr: Expr) -> Result<BinaryExpr, Fail> {
     }
 }
 
-/// `a + on (l) group_left (l) b`, which no check accepts.
+/// Labels of both lists of an operator.
+const BOTH: [&str; 11] = ["a", "b", "c", "d", "e", "f", "g", "h", "i", "j", "k"];
+
+/// `a + on (LABELS) group_left (LABELS) b`, which no check accepts.
 fn joint_sum(alloc: Global) -> Result<Expr, CheckError> {
-    let modifier = grouped(alloc, "l", "l")?;
+    let modifier = grouped(alloc, &BOTH, &BOTH)?;
     let a = name(alloc, "a")?;
     let b = name(alloc, "b")?;
     Ok(Expr::new_binary_expr(alloc, a, T_ADD, Some(modifier), b)?)
@@ -35,7 +38,12 @@ fn labels_on_both_sides_are_joint(rt: HostRuntime) -> Result<(), Fail> {
     assert!(rt; sum.is_labels_joint() && !sum.return_bool());
     let both = sum.intersect_labels(alloc)?;
     let both = both.expect(&rt, "both sides have labels");
-    assert!(rt; both.len() == 1 && both[0].as_str() == "l");
+    assert_eq!(rt; both.len(), BOTH.len());
+    assert!(rt;
+        both.iter()
+            .zip(&BOTH)
+            .all(|(label, want)| label.as_str() == *want)
+    );
     Ok(())
 }
 

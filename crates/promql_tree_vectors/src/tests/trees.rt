@@ -112,20 +112,20 @@ pub fn call(alloc: Global, name: &str, arg: Expr) -> Result<Expr, CheckError> {
     Ok(Expr::new_call(function, FunctionArgs::new_args(alloc, arg)?))
 }
 
-/// `by (l)`, or `on (l)`
-pub fn include(alloc: Global, l: &str) -> Result<LabelModifier, AllocError> {
-    LabelModifier::include(alloc, [l].to_vec(alloc)?)
+/// `by`, or `on`, with these labels.
+pub fn include(alloc: Global, labels: &[&str]) -> Result<LabelModifier, AllocError> {
+    LabelModifier::include(alloc, labels.to_vec(alloc)?)
 }
 
-/// `group_left (k)`
-fn many_to_one(alloc: Global, k: &str) -> Result<VectorMatchCardinality, AllocError> {
-    VectorMatchCardinality::many_to_one(alloc, [k].to_vec(alloc)?)
+/// `group_left` with these labels.
+fn many_to_one(alloc: Global, labels: &[&str]) -> Result<VectorMatchCardinality, AllocError> {
+    VectorMatchCardinality::many_to_one(alloc, labels.to_vec(alloc)?)
 }
 
-/// `on (l) group_left (k)`
-pub fn grouped(alloc: Global, l: &str, k: &str) -> Result<BinModifier, AllocError> {
-    let on = include(alloc, l)?;
-    let card = many_to_one(alloc, k)?;
+/// `on` and `group_left`, each with its labels.
+pub fn grouped(alloc: Global, on: &[&str], left: &[&str]) -> Result<BinModifier, AllocError> {
+    let on = include(alloc, on)?;
+    let card = many_to_one(alloc, left)?;
     Ok(
         BinModifier::default()
             .with_card(card)
@@ -137,7 +137,7 @@ pub fn grouped(alloc: Global, l: &str, k: &str) -> Result<BinModifier, AllocErro
 fn topk_by(alloc: Global) -> Result<Expr, CheckError> {
     let five = FunctionArgs::new_args(alloc, Expr::from(number("5")))?;
     let args = five.append_args(alloc, name(alloc, "a")?)?;
-    Expr::new_aggregate_expr(alloc, T_TOPK, Some(include(alloc, "l")?), args)
+    Expr::new_aggregate_expr(alloc, T_TOPK, Some(include(alloc, &["l"])?), args)
 }
 
 /// `-a`
@@ -147,7 +147,7 @@ fn negative(alloc: Global) -> Result<Expr, CheckError> {
 
 /// `a + on (l) group_left (k) b`
 fn grouped_sum(alloc: Global) -> Result<Expr, CheckError> {
-    let modifier = grouped(alloc, "l", "k")?;
+    let modifier = grouped(alloc, &["l"], &["k"])?;
     let a = name(alloc, "a")?;
     let b = name(alloc, "b")?;
     Ok(Expr::new_binary_expr(alloc, a, T_ADD, Some(modifier), b)?)

@@ -1,9 +1,7 @@
 //! Printed texts are read again: as one line and laid out, each gives the tree of the line and prints the line.
 
-mod dashboards;
-
+use super::dashboards::QUERIES;
 use super::repeated;
-use dashboards::QUERIES;
 use promql_parser::parser::{Expr, Prettier, parse};
 use std::alloc::{AllocError, Global};
 use std::process::Abort;

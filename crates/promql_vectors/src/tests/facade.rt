@@ -1,8 +1,9 @@
 //! Each public name at its path in the facade: docs/API.md.
 
-use promql_parser::label;
 use promql_parser::parser::{MAX_DEPTH, function, lex, token};
-use promql_parser::util::duration;
+use promql_parser::util::{duration, number};
+use promql_parser::{label, util};
+use std::process::Abort;
 use std::test::Fail;
 use std::time::Duration;
 
@@ -209,6 +210,35 @@ fn units_of_time(rt: HostRuntime) {
     ] {
         assert!(rt; unit == Duration::from_millis(millis), "{millis}");
     }
+}
+
+/// The call made this text.
+fn makes<E: Drop>(rt: &impl Abort, made: Result<String, E>, want: &str) {
+    match made {
+        Ok(text) => assert_eq!(rt; text.as_str(), want),
+        Err(_) => assert!(rt; false, "{want}"),
+    }
+}
+
+#[test]
+fn texts_of_calls(rt: HostRuntime) {
+    let alloc = rt.alloc();
+    makes(&rt, util::escape_string(alloc, "\"{"), "\\\"{");
+    makes(&rt, label::escape_repeats(alloc, "\"{"), "\"\\{");
+    makes(&rt, util::unquote_string(alloc, "'\"{'"), "\"{");
+    let hour = Duration::from_secs(3_600);
+    makes(&rt, util::display_duration(alloc, &hour), "1h");
+    makes(&rt, duration::display_duration(alloc, &hour), "1h");
+}
+
+#[test]
+fn values_of_texts(rt: HostRuntime) {
+    let hour = Ok(Duration::from_secs(3_600));
+    assert!(rt; util::parse_duration("1h") == hour);
+    assert!(rt; duration::parse_duration("1h") == hour);
+    let ten = Ok(number::Number::from_i64(10));
+    assert!(rt; util::parse_str_radix("0xA") == ten);
+    assert!(rt; number::parse_str_radix("0xA") == ten);
 }
 
 #[test]

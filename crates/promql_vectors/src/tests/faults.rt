@@ -2,8 +2,8 @@
 //! docs/reference/tokens.md have the rules.
 
 use super::{error_of, repeated};
-use promql_parser::parser::lex::{LexFault, LexFaultKind};
-use promql_parser::parser::{CheckFault, NodeFault, ParseError, parse};
+use promql_parser::parser::lex::{LexError, LexFault, LexFaultKind};
+use promql_parser::parser::{CheckFault, NodeFault, ParseError, lexer};
 use promql_text::{DurationFault, NumberFault};
 use std::alloc::Global;
 use std::process::Abort;
@@ -34,6 +34,7 @@ fn has_fault(
         return Err(Fail::new("no lexical fault"));
     };
     assert!(rt; fault.kind == kind && fault.at == at, "{fault} at {at}");
+    assert!(rt; lexer(alloc, text) == Err(LexError::Fault(fault)));
     Ok(())
 }
 
@@ -67,11 +68,10 @@ const FIRST_TOKENS: [&str; 5] = ["* 1", ") 1 + (", "bool", "on (a) b", ", a"];
 #[test]
 fn the_first_token_decides_without_memory(rt: HostRuntime) {
     for text in FIRST_TOKENS {
-        let found = parse(rt.alloc(), text);
-        assert!(rt; !matches!(found, Err(ParseError::Memory)), "{text}");
+        let found = error_of(rt.alloc(), text);
+        assert!(rt; found != Some(ParseError::Memory), "{text}");
     }
-    let found = parse(rt.alloc(), "* 1");
-    assert!(rt; matches!(found, Err(ParseError::Syntax)));
+    assert!(rt; error_of(rt.alloc(), "* 1") == Some(ParseError::Syntax));
 }
 
 /// The text is rejected with this error.

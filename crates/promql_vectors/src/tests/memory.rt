@@ -4,6 +4,7 @@ use super::json;
 use promql_parser::parser::{ParseError, parse};
 use promql_walk::JsonError;
 use std::alloc::Global;
+use std::fmt::Display;
 use std::test::Fail;
 
 const QUERY: &str =
@@ -50,12 +51,17 @@ const ROWS: [(&str, &str); 6] = [
     ),
 ];
 
+/// Whether the value prints this text, unless an allocation failed.
+fn has_text<T: Display>(alloc: Global, value: &T, want: &str) -> Result<bool, ParseError> {
+    Ok(value.to_string(alloc)?.as_str() == want)
+}
+
 /// Whether the text has this answer, unless an allocation failed.
 fn has_answer(alloc: Global, text: &str, want: &str) -> Result<bool, ParseError> {
     match parse(alloc, text) {
-        Ok(expr) => Ok(expr.to_string(alloc)?.as_str() == want),
+        Ok(expr) => has_text(alloc, &expr, want),
         Err(ParseError::Memory) => Err(ParseError::Memory),
-        Err(error) => Ok(error.to_string(alloc)?.as_str() == want),
+        Err(error) => has_text(alloc, &error, want),
     }
 }
 

@@ -1,13 +1,15 @@
 //! The example of the README.
 
-use promql_parser::parser::{Expr, ParseError, parse};
+use promql_parser::parser::{ParseError, parse};
 use std::alloc::Global;
 use std::test::Fail;
 
 /// The query on one line, as it is printed.
 fn canonical(alloc: Global, query: &str) -> Result<String, ParseError> {
-    let expr: Expr = parse(alloc, query)?;
-    Ok(format!(in alloc; "{expr}")?)
+    let expr = parse(alloc, query)?;
+    let line = format!(in alloc; "{expr}");
+    drop(expr);
+    Ok(line?)
 }
 
 #[test]

@@ -1,6 +1,11 @@
 //! The table of functions, against the rows of docs/reference/functions.md.
 
-use crate::tests::rows::{holds, is_so};
+ghost use Rattle.std.specs.Prelude.{◌≡◌, find};
+ghost use Rattle.promql_kind.specs.Functions.{function_named, is_named};
+ghost use Rattle.promql_part_vectors.specs.Tables as tables;
+ghost use Rattle.promql_text.specs.Texts.{Text};
+
+use crate::tests::{holds, is_so};
 use promql_kind::ValueType::{Matrix, Scalar, String, Vector};
 use promql_kind::{Function, ValueType, get_function};
 use std::alloc::{AllocError, Global};
@@ -126,8 +131,14 @@ fn each_name_has_its_row(rt: HostRuntime) -> Result<(), Fail> {
     Ok(())
 }
 
+/// A name has the function that the table of docs/reference/functions.md gives it, and none where that table has none.
+fn has_these_functions()
+    ensures { (name : Text) → function_named name ≡ find (is_named name) tables.functions }
+{}
+
 #[test]
 fn there_are_89_names(rt: HostRuntime) {
+    has_these_functions();
     let mut names = 0usize;
     for row in &ROWS {
         for _ in row.0.split(' ') {

@@ -1,6 +1,6 @@
 //! Modifiers: their text, their labels and their copies.
 
-use crate::tests::rows::{holds, is_so, prints};
+use crate::tests::{holds, is_so, prints};
 use promql_kind::{BinModifier, LabelModifier, VectorMatchCardinality, VectorMatchFillValues};
 use promql_text::{Number, parse_str_radix};
 use std::alloc::{AllocError, Global};

@@ -1,6 +1,6 @@
 //! Lists of labels.
 
-use crate::tests::rows::{holds, is_so, prints};
+use crate::tests::{holds, is_so, prints};
 use promql_label::Labels;
 use std::alloc::{AllocError, Global};
 use std::test::Fail;
@@ -30,7 +30,7 @@ const PRINTED: [(&[&str], &str); 14] = [
 ];
 
 // Two lists, and their common labels as they print.
-const COMMON: [(&[&str], &[&str], &str); 9] = [
+const COMMON: [(&[&str], &[&str], &str); 11] = [
     (&["foo"], &["bar"], ""),
     (&["foo"], &["foo", "bar"], "foo"),
     (&["foo", "bar", "foo"], &["bar", "foo"], "foo, bar"),
@@ -40,6 +40,16 @@ const COMMON: [(&[&str], &[&str], &str); 9] = [
     (&["", "a"], &["", ""], r#""""#),
     (&[], &["a"], ""),
     (&["a"], &[], ""),
+    (
+        &["a", "b", "c", "d", "e", "f", "g", "h", "i", "j", "k"],
+        &["k", "j", "i", "h", "g", "f", "e", "d", "c", "b", "a"],
+        "a, b, c, d, e, f, g, h, i, j, k",
+    ),
+    (
+        &["a", "b", "c", "d", "e", "f", "g", "h", "i", "j", "k", "h"],
+        &["l", "k", "m", "n", "o", "p", "q", "h"],
+        "h, k",
+    ),
 ];
 
 fn list(alloc: Global, labels: &[&str]) -> Result<Labels, AllocError> {

@@ -1,6 +1,6 @@
 //! Matchers and their operators.
 
-use crate::tests::rows::{holds, is_so, prints};
+use crate::tests::{holds, is_so, prints};
 use promql_label::{
     ALERT_NAME, BUCKET_LABEL, INSTANCE_NAME, METRIC_NAME, MatchOp, Matcher, MatcherError, Pattern,
 };
@@ -99,6 +99,31 @@ fn matchers_match(rt: HostRuntime) -> Result<(), Fail> {
     for (id, value, text, want) in &MATCHED {
         let found = is_match(rt.alloc(), *id, value, text)?;
         holds(&rt, found == *want, text);
+    }
+    Ok(())
+}
+
+/// An operator and a value, what is 10,000 times in a text, and whether the matcher matches the text.
+const LONG: [(TokenId, &str, &str, bool); 6] = [
+    (T_EQL, "ab", "ab", false),
+    (T_NEQ, "ab", "ab", true),
+    (T_EQL_REGEX, "[ab]*", "ab", true),
+    (T_EQL_REGEX, "(ab)*a", "ab", false),
+    (T_NEQ_REGEX, "é*", "é", false),
+    (T_NEQ_REGEX, "a*", "é", true),
+];
+
+/// Whether the matcher matches the text of so many pieces.
+fn is_long_match(alloc: Global, id: TokenId, value: &str, piece: &str) -> Result<bool, Fail> {
+    let text = piece.repeat(alloc, 10_000)?;
+    is_match(alloc, id, value, text.as_str())
+}
+
+#[test]
+fn long_texts_are_matched(rt: HostRuntime) -> Result<(), Fail> {
+    for (id, value, piece, want) in &LONG {
+        let found = is_long_match(rt.alloc(), *id, value, piece)?;
+        holds(&rt, found == *want, value);
     }
     Ok(())
 }

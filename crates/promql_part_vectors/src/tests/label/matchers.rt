@@ -1,6 +1,6 @@
 //! Lists of matchers and their groups.
 
-use crate::tests::rows::{holds, is_so, prints};
+use crate::tests::{holds, is_so, prints};
 use promql_label::{MatchOp, Matcher, MatcherError, Matchers};
 use promql_token::ids::T_EQL_REGEX;
 use std::alloc::{AllocError, Global};
@@ -169,6 +169,24 @@ fn finds_in_groups_too(rt: HostRuntime) -> Result<(), Fail> {
     let list = with_a_twice(alloc)?;
     prints(&rt, found_text(alloc, &list, "a"), " a=\"1\" a=\"3\"")?;
     prints(&rt, found_text(alloc, &list, "z"), "")
+}
+
+/// Groups with the name `a` in each but one, and twice in the last.
+const GROUPS: [(&str, &str, &str); 6] = [
+    ("or", "a", "2"),
+    ("or", "b", "3"),
+    ("or", "a", "4"),
+    ("or", "a", "5"),
+    ("or", "a", "6"),
+    ("and", "a", "7"),
+];
+
+#[test]
+fn finds_in_many_groups(rt: HostRuntime) -> Result<(), Fail> {
+    let alloc = rt.alloc();
+    let list = grown(alloc, one_equal(alloc, "a", "1")?, &GROUPS)?;
+    let want = r#" a="1" a="2" a="4" a="5" a="6" a="7""#;
+    prints(&rt, shown_found(alloc, &list, "a"), want)
 }
 
 #[test]

@@ -1,6 +1,6 @@
 //! Patterns that `regex` reads, what they match, and those that it rejects.
 
-use crate::tests::rows::{holds, is_so, prints};
+use crate::tests::{holds, is_so, prints};
 use promql_label::{MatchOp, Matcher, Pattern, PatternFault};
 use std::alloc::{AllocError, Global};
 use std::test::Fail;

@@ -1,6 +1,6 @@
 //! Escaped repetitions.
 
-use crate::tests::rows::prints;
+use crate::tests::prints;
 use promql_label::escape_repeats;
 use std::test::Fail;
 

@@ -1,6 +1,6 @@
 //! Texts of durations, and their faults.
 
-use crate::tests::rows::{holds, prints};
+use crate::tests::{holds, prints};
 use promql_text::{DurationFault, parse_duration};
 use std::alloc::{AllocError, Global};
 use std::test::Fail;

@@ -1,6 +1,6 @@
 //! Durations as they print, and the units.
 
-use crate::tests::rows::{holds, prints};
+use crate::tests::{holds, prints};
 use promql_text::{
     day_duration, display_duration, hour_duration, milli_duration, minute_duration, parse_duration,
     second_duration, week_duration, year_duration,

@@ -1,6 +1,6 @@
 //! Numbers and kinds of faults that are equal, and those that are not.
 
-use crate::tests::rows::{holds, prints};
+use crate::tests::{holds, prints};
 use promql_text::duration::Unit;
 use promql_text::{DurationFault, Number, NumberFault, QuoteError, parse_str_radix};
 use std::alloc::{AllocError, Global};

@@ -1,6 +1,6 @@
 //! Numbers of texts, and the texts, milliseconds and seconds of numbers.
 
-use crate::tests::rows::prints;
+use crate::tests::prints;
 use promql_text::{Number, NumberFault, parse_str_radix};
 use std::alloc::{AllocError, Global};
 use std::test::Fail;

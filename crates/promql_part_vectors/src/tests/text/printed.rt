@@ -1,6 +1,6 @@
 //! Quoted texts: joined, and byte by byte.
 
-use crate::tests::rows::{is_so, prints};
+use crate::tests::{is_so, prints};
 use promql_text::{Quoted, QuotedBytes, write_joined};
 use std::alloc::{AllocError, Global};
 use std::fmt;

@@ -1,6 +1,6 @@
 //! Escaped texts, and quoted texts that are read.
 
-use crate::tests::rows::{holds, prints};
+use crate::tests::{holds, prints};
 use promql_text::{QuoteError, escape_string, unquote_string};
 use std::alloc::Global;
 use std::test::Fail;

@@ -4,7 +4,7 @@ ghost use Rattle.std.specs.Prelude.{◌≡◌, map};
 ghost use Rattle.promql_part_vectors.specs.Tables as tables;
 ghost use Rattle.promql_token.specs.Ids.{keywords};
 
-use crate::tests::rows::{holds, is_so, prints};
+use crate::tests::{holds, is_so, prints};
 use promql_token::ids::*;
 use promql_token::{TokenType, get_keyword_token, lexer, token_display};
 use std::alloc::{AllocError, Global};

@@ -74,19 +74,19 @@ fn a_reader_that_fails(rt: HostRuntime) -> Result<(), Fail> {
 fn a_writer_that_fails(rt: HostRuntime) -> Result<(), Fail> {
     let alloc = rt.alloc();
     let want = b"{\"ok\":\"1\"}\n{\"code\":7,\"error\":\"line is not a request\"}\n";
-    for fails_at in 1..=30 {
+    // 10 bytes and 42 are 18 writes, their line feeds two, and the flush is one more.
+    for fails_at in 1..=22 {
         let mut reader: &[u8] = b"\"1\"\n1\n";
         let mut writer = Ended::new(FlakyWriter::new(alloc, fails_at, 0));
         let answer = run_batch(alloc, Mode::Line, &mut reader, &mut writer);
-        let is_failed = writer.has_failed();
-        assert_eq!(rt;
-            answer,
-            if is_failed {
-                Err(RunError::Write)
-            } else {
-                Ok(false)
-            }
-        );
+        let want_answer = if fails_at <= 21 {
+            Err(RunError::Write)
+        } else {
+            Ok(false)
+        };
+        assert_eq!(rt; answer, want_answer, "at {fails_at}");
+        assert_eq!(rt; writer.has_failed(), fails_at <= 21);
+        assert_eq!(rt; writer.inner().calls, fails_at.min(21));
         assert!(rt;
             want.starts_with(writer.inner().held.as_slice()),
             "at {fails_at}"

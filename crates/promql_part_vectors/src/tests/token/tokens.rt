@@ -1,0 +1,80 @@
+//! Tokens and their types, and which texts are labels.
+
+use crate::tests::holds;
+use promql_token::ids::*;
+use promql_token::{Token, TokenType, is_label};
+use std::alloc::{AllocError, Global};
+use std::test::Fail;
+
+fn token(alloc: Global, id: TokenId, text: &str) -> Result<Token, AllocError> {
+    Ok(Token::new(id, String::from_str(alloc, text)?))
+}
+
+// What a token of the string `'é'` differs from.
+const OTHERS: [(TokenId, &str); 2] = [(T_STRING, "'e'"), (T_NUMBER, "'é'")];
+
+/// Whether the other token was made, and is the same.
+fn is_equal(one: &Token, other: Result<Token, AllocError>) -> bool {
+    match other {
+        Ok(other) => *one == other,
+        Err(_) => false,
+    }
+}
+
+#[test]
+fn tokens_compare(rt: HostRuntime) -> Result<(), Fail> {
+    let one = token(rt.alloc(), T_STRING, "'é'")?;
+    for (id, text) in &OTHERS {
+        holds(&rt, !is_equal(&one, token(rt.alloc(), *id, text)), text);
+    }
+    Ok(())
+}
+
+#[test]
+fn tokens_have_copies(rt: HostRuntime) -> Result<(), Fail> {
+    let one = token(rt.alloc(), T_STRING, "'é'")?;
+    holds(&rt, is_equal(&one, one.try_clone(rt.alloc())), "a copy");
+    holds(&rt, one.id() == T_STRING, "its id");
+    Ok(())
+}
+
+#[test]
+fn token_types_have_classes(rt: HostRuntime) {
+    let topk = TokenType::new(T_TOPK);
+    holds(
+        &rt,
+        topk.is_aggregator() && topk.is_aggregator_with_param(),
+        "topk",
+    );
+    holds(&rt, !topk.is_operator() && topk.id() == T_TOPK, "topk");
+    let atan2 = TokenType::new(T_ATAN2);
+    holds(
+        &rt,
+        atan2.is_operator() && !atan2.is_set_operator(),
+        "atan2",
+    );
+    holds(&rt, TokenType::new(T_LUNLESS).is_set_operator(), "unless");
+    holds(&rt, TokenType::new(T_GTE).is_comparison_operator(), ">=");
+    holds(
+        &rt,
+        TokenType::new(T_STRING) != TokenType::new(T_NUMBER),
+        "two",
+    );
+}
+
+// A text, and whether it is a label.
+const LABELS: [(&str, bool); 6] = [
+    ("", false),
+    ("_", true),
+    ("a1_B", true),
+    ("1a", false),
+    ("a:b", false),
+    ("é", false),
+];
+
+#[test]
+fn labels_are_letters_and_digits(rt: HostRuntime) {
+    for (text, wanted) in &LABELS {
+        holds(&rt, is_label(text) == *wanted, text);
+    }
+}
