@@ -186,7 +186,7 @@ fn finds_in_many_groups(rt: HostRuntime) -> Result<(), Fail> {
     let alloc = rt.alloc();
     let list = grown(alloc, one_equal(alloc, "a", "1")?, &GROUPS)?;
     let want = r#" a="1" a="2" a="4" a="5" a="6" a="7""#;
-    prints(&rt, shown_found(alloc, &list, "a"), want)
+    prints(&rt, found_text(alloc, &list, "a"), want)
 }
 
 #[test]
