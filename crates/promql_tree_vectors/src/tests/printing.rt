@@ -109,3 +109,40 @@ fn powers_and_selectors_are_negated(rt: HostRuntime) -> Result<(), Fail> {
     assert_eq!(rt; selector.to_string(alloc)?.as_str(), "-a");
     Ok(())
 }
+
+/// Texts of trees that are not normal, with the lines that they print.
+const NOT_NORMAL: [(&str, &str); 7] = [
+    (r#"a{c="1",b="2"}"#, r#"a{b="2",c="1"}"#),
+    (r#"a{c="1",b="2"}[5m]"#, r#"a{b="2",c="1"}[5m]"#),
+    ("sum by () (a)", "sum(a)"),
+    ("topk by () (2, sum by () (a))", "topk(2, sum(a))"),
+    ("a + ignoring () b", "a + b"),
+    (
+        r#"(rate(a{c="1",b="2"}[5m]))"#,
+        r#"(rate(a{b="2",c="1"}[5m]))"#,
+    ),
+    ("-(sum by () (a))", "-(sum(a))"),
+];
+
+/// Whether the expression's normal form is the text's tree.
+fn is_normal_form(alloc: Global, expr: &Expr, text: &str) -> Result<bool, ParseError> {
+    is_read(alloc, &expr.normalized(alloc)?, text)
+}
+
+#[test]
+fn normal_forms_are_read_of_printed_lines(rt: HostRuntime) -> Result<(), Fail> {
+    for (text, line) in &NOT_NORMAL {
+        let is_normal = is_normal_form(rt.alloc(), &parse(rt.alloc(), text)?, line)?;
+        assert!(rt; is_normal, "{text}");
+        assert!(rt; !is_same(rt.alloc(), text, line)?, "{text}");
+    }
+    Ok(())
+}
+
+#[test]
+fn trees_are_shown_field_by_field(rt: HostRuntime) -> Result<(), Fail> {
+    let shown = format!(in rt.alloc(); "{:?}", parse(rt.alloc(), r#"("a")"#)?)?;
+    let want = r#"Paren(ParenExpr { expr: StringLiteral(StringLiteral { val: "a" }) })"#;
+    assert_eq!(rt; shown.as_str(), want);
+    Ok(())
+}
