@@ -4,7 +4,6 @@ ghost use Rattle.std.specs.Prelude.{◌≡◌, ◌⊎◌, ◌↔◌, false, true
 ghost use Rattle.std.specs.Io.KnownBytes.{Appends};
 ghost use Rattle.promql_run.specs.ProgramArguments.{batch_command};
 ghost use Rattle.promql_run.specs.Batch.{AnswersBefore, AnswersLines, IsCutShort};
-ghost use Rattle.promql_run.specs.declared.batch_program.Command as commands;
 ghost use Rattle.promql_run.specs.declared.run.Mode as modes;
 
 use crate::batch::run_batch;
