@@ -6,7 +6,6 @@ use Rattle.std.specs.Ordering.{ordering_reverse}
 use Rattle.std.proofs.lemmas.Cmp.{nat_list_cmp_total}
 use Rattle.std.proofs.lemmas.List.Sorted.{ranks_by}
 use Rattle.promql_label.specs.NextText.{text_of}
-use Rattle.promql_label.specs.PlainMatchers.{PlainMatcher, matcher_text}
 use Rattle.promql_label.specs.ReadMatchers.{insert_matcher, sorted_matchers}
 use Rattle.promql_label.specs.SortedTexts.{text_order}
 use Rattle.promql_label.specs.MatcherViews.{plain_matcher_of}

@@ -1,4 +1,4 @@
-use Rattle.std.proofs.Common.{◌≡◌, ap, map, refl, is_lt}
+use Rattle.std.proofs.Common.{ap, map, is_lt}
 use Rattle.std.proofs.lemmas.List.Sorted.{answers_always}
 use Rattle.std.proofs.lemmas.Result.{on_ok_weaker}
 use Rattle.promql_label.specs.PlainMatchers.{plain_matchers}
