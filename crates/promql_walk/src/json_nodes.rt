@@ -60,7 +60,6 @@ pub(crate) fn selector_members(
     ensures fits { IfOk result (λ _. selector_fault (selector_of node.now) ≡ None) }
     ensures err { IfErr result (λ e. e ≢ Memory → selector_fault (selector_of node.now) ≡ Some e) }
 {
-    let offset = whole_json(millis(node.offset))?;
     let mut members = Map::new(alloc);
     put(&mut members, alloc, "name", name_json(alloc, &node.name)?)?;
     put(
@@ -69,7 +68,12 @@ pub(crate) fn selector_members(
         "matchers",
         group_json(alloc, &node.matchers.matchers)?,
     )?;
-    put(&mut members, alloc, "offset", offset)?;
+    put(
+        &mut members,
+        alloc,
+        "offset",
+        whole_json(millis(node.offset))?,
+    )?;
     put(
         &mut members,
         alloc,
@@ -105,12 +109,15 @@ pub(crate) fn aggregate_members(
     ensures fits { IfOk result (λ _. json_fault (aggregate_tree node.now) ≡ None) }
     ensures err { IfErr result (λ e. e ≢ Memory → json_fault (aggregate_tree node.now) ≡ Some e) }
 {
-    let param = param_json(alloc, &node.param)?;
-    let expr = expr_json(alloc, &node.expr)?;
     let mut members = Map::new(alloc);
     put(&mut members, alloc, "op", token_type_json(alloc, node.op)?)?;
-    put(&mut members, alloc, "expr", expr)?;
-    put(&mut members, alloc, "param", param)?;
+    put(
+        &mut members,
+        alloc,
+        "param",
+        param_json(alloc, &node.param)?,
+    )?;
+    put(&mut members, alloc, "expr", expr_json(alloc, &node.expr)?)?;
     put(
         &mut members,
         alloc,
@@ -147,10 +154,9 @@ pub(crate) fn unary_members(
     ensures fits { IfOk result (λ _. json_fault (unary_tree node.now) ≡ None) }
     ensures err { IfErr result (λ e. e ≢ Memory → json_fault (unary_tree node.now) ≡ Some e) }
 {
-    let expr = expr_json(alloc, &node.expr)?;
     let mut members = Map::new(alloc);
     put(&mut members, alloc, "op", Value::try_from_str(alloc, "-")?)?;
-    put(&mut members, alloc, "expr", expr)?;
+    put(&mut members, alloc, "expr", expr_json(alloc, &node.expr)?)?;
     Ok(members)
 }
 
@@ -163,12 +169,10 @@ pub(crate) fn binary_members(
     ensures fits { IfOk result (λ _. json_fault (binary_tree node.now) ≡ None) }
     ensures err { IfErr result (λ e. e ≢ Memory → json_fault (binary_tree node.now) ≡ Some e) }
 {
-    let lhs = expr_json(alloc, &node.lhs)?;
-    let rhs = expr_json(alloc, &node.rhs)?;
     let mut members = Map::new(alloc);
     put(&mut members, alloc, "op", token_type_json(alloc, node.op)?)?;
-    put(&mut members, alloc, "lhs", lhs)?;
-    put(&mut members, alloc, "rhs", rhs)?;
+    put(&mut members, alloc, "lhs", expr_json(alloc, &node.lhs)?)?;
+    put(&mut members, alloc, "rhs", expr_json(alloc, &node.rhs)?)?;
     put(&mut members, alloc, "bool", Value::Bool(node.return_bool()))?;
     put(
         &mut members,
@@ -188,9 +192,8 @@ pub(crate) fn paren_members(
     ensures fits { IfOk result (λ _. json_fault (paren_tree node.now) ≡ None) }
     ensures err { IfErr result (λ e. e ≢ Memory → json_fault (paren_tree node.now) ≡ Some e) }
 {
-    let expr = expr_json(alloc, &node.expr)?;
     let mut members = Map::new(alloc);
-    put(&mut members, alloc, "expr", expr)?;
+    put(&mut members, alloc, "expr", expr_json(alloc, &node.expr)?)?;
     Ok(members)
 }
 
@@ -203,13 +206,13 @@ pub(crate) fn subquery_members(
     ensures fits { IfOk result (λ _. json_fault (subquery_tree node.now) ≡ None) }
     ensures err { IfErr result (λ e. e ≢ Memory → json_fault (subquery_tree node.now) ≡ Some e) }
 {
-    let offset = whole_json(millis(node.offset))?;
-    let range = length_json(node.range)?;
-    let step = step_json(node.step)?;
-    let expr = expr_json(alloc, &node.expr)?;
     let mut members = Map::new(alloc);
-    put(&mut members, alloc, "expr", expr)?;
-    put(&mut members, alloc, "offset", offset)?;
+    put(
+        &mut members,
+        alloc,
+        "offset",
+        whole_json(millis(node.offset))?,
+    )?;
     put(
         &mut members,
         alloc,
@@ -217,8 +220,9 @@ pub(crate) fn subquery_members(
         start_or_end_json(alloc, node.at)?,
     )?;
     put(&mut members, alloc, "timestamp", timestamp_json(node.at))?;
-    put(&mut members, alloc, "range", range)?;
-    put(&mut members, alloc, "step", step)?;
+    put(&mut members, alloc, "range", length_json(node.range)?)?;
+    put(&mut members, alloc, "step", step_json(node.step)?)?;
+    put(&mut members, alloc, "expr", expr_json(alloc, &node.expr)?)?;
     Ok(members)
 }
 
@@ -228,7 +232,6 @@ pub(crate) fn call_members(alloc: Global, node: &Call) -> Result<Map<String, Val
     ensures fits { IfOk result (λ _. json_fault (call_tree node.now) ≡ None) }
     ensures err { IfErr result (λ e. e ≢ Memory → json_fault (call_tree node.now) ≡ Some e) }
 {
-    let args = args_json(alloc, node.args.args.as_slice())?;
     let mut members = Map::new(alloc);
     put(
         &mut members,
@@ -236,6 +239,7 @@ pub(crate) fn call_members(alloc: Global, node: &Call) -> Result<Map<String, Val
         "func",
         function_json(alloc, &node.func)?,
     )?;
+    let args = args_json(alloc, node.args.args.as_slice())?;
     put(&mut members, alloc, "args", Value::Array(args))?;
     Ok(members)
 }
@@ -275,9 +279,10 @@ fn with_type(
     alloc: Global,
     type_name: &str,
     members: Map<String, Value>,
-) -> Result<Value, AllocError>
-    ensures { IfOk result (λ v. view v
+) -> Result<Value, JsonError>
+    ensures ok { IfOk result (λ v. view v
         ≡ object (with_member (codes "type") (text type_name.now) (members_view members.entries))) }
+    ensures err { IfErr result (λ e. e ≡ Memory) }
 {
     let mut members = members;
     put(
@@ -298,20 +303,18 @@ pub(crate) fn expr_json(alloc: Global, expr: &Expr) -> Result<Value, JsonError>
     ensures err { IfErr result (λ e. e ≢ Memory → json_fault (tree_of expr.now) ≡ Some e) }
 {
     match expr {
-        Expr::Aggregate(e) => Ok(with_type(alloc, "aggregation", aggregate_members(alloc, e)?)?),
-        Expr::Unary(e) => Ok(with_type(alloc, "unaryExpr", unary_members(alloc, e)?)?),
-        Expr::Binary(e) => Ok(with_type(alloc, "binaryExpr", binary_members(alloc, e)?)?),
-        Expr::Paren(e) => Ok(with_type(alloc, "parenExpr", paren_members(alloc, e)?)?),
-        Expr::Subquery(e) => Ok(with_type(alloc, "subquery", subquery_members(alloc, e)?)?),
-        Expr::NumberLiteral(e) => Ok(with_type(alloc, "numberLiteral", number_members(alloc, e)?)?),
-        Expr::StringLiteral(e) => Ok(with_type(alloc, "stringLiteral", string_members(alloc, e)?)?),
+        Expr::Aggregate(e) => with_type(alloc, "aggregation", aggregate_members(alloc, e)?),
+        Expr::Unary(e) => with_type(alloc, "unaryExpr", unary_members(alloc, e)?),
+        Expr::Binary(e) => with_type(alloc, "binaryExpr", binary_members(alloc, e)?),
+        Expr::Paren(e) => with_type(alloc, "parenExpr", paren_members(alloc, e)?),
+        Expr::Subquery(e) => with_type(alloc, "subquery", subquery_members(alloc, e)?),
+        Expr::NumberLiteral(e) => with_type(alloc, "numberLiteral", number_members(alloc, e)?),
+        Expr::StringLiteral(e) => with_type(alloc, "stringLiteral", string_members(alloc, e)?),
         Expr::VectorSelector(e) => {
-            Ok(with_type(alloc, "vectorSelector", selector_members(alloc, e)?)?)
+            with_type(alloc, "vectorSelector", selector_members(alloc, e)?)
         }
-        Expr::MatrixSelector(e) => {
-            Ok(with_type(alloc, "matrixSelector", matrix_members(alloc, e)?)?)
-        }
-        Expr::Call(e) => Ok(with_type(alloc, "call", call_members(alloc, e)?)?),
+        Expr::MatrixSelector(e) => { with_type(alloc, "matrixSelector", matrix_members(alloc, e)?) }
+        Expr::Call(e) => with_type(alloc, "call", call_members(alloc, e)?),
         Expr::Extension(_) => Err(JsonError::Extension),
     }
 }
