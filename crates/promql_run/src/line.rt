@@ -1,9 +1,11 @@
 //! The answer to one line of a batch: docs/reference/programs.md, "Answers".
 
-ghost use Rattle.std.specs.Prelude.{◌≡◌, Ok, IfOk, IfErr, false, option_map, string_bytes};
+ghost use Rattle.std.specs.Prelude.{◌≡◌, Some, Ok, IfOk, IfErr, false, option_map, string_bytes};
+ghost use Rattle.std.specs.Str.{IsUtf8};
 ghost use Rattle.serde_json.specs.Read.{read};
 ghost use Rattle.serde_json.specs.View.{view};
 ghost use Rattle.serde_json.specs.Written.{compact_text, has_float};
+ghost use Rattle.promql_text.specs.Texts.{Text};
 ghost use Rattle.promql_run.specs.Batch.{FailsOnQuery, FailsWith, HasQueryValue, HasValue, IsErrorText, IsLineAnswer, error_object, line_error_number, ok_object};
 
 use crate::rendering::render_value;
@@ -64,7 +66,29 @@ fn evaluate_query(alloc: Global, format: Format, query: &str) -> Result<Value, R
     ensures err { IfErr result (FailsOnQuery query.now format) }
 {
     let expr = parse(alloc, query)?;
-    render_value(alloc, format, &expr)
+    let value = render_value(alloc, format, &expr);
+    drop(expr);
+    value
+}
+
+/// What the query of a line's value is in its format.
+fn evaluate_value(alloc: Global, mode: Mode, asked: &Value) -> Result<Value, LineError>
+    ensures ok { (line : Text) → IsUtf8 line → read line ≡ Some (view asked.now)
+        → IfOk result (λ v. HasValue mode line (view v)) }
+    ensures finite { IfOk result (λ v. has_float (view v) ≡ false) }
+    ensures err { (line : Text) → IsUtf8 line → read line ≡ Some (view asked.now)
+        → IfErr result (FailsWith mode line) }
+{
+    let Some(query) = query_in(asked) else {
+        return Err(LineError::NotARequest);
+    };
+    let Some(format) = format_in(mode, asked) else {
+        return Err(LineError::NotARequest);
+    };
+    match evaluate_query(alloc, format, query) {
+        Ok(value) => Ok(value),
+        Err(error) => Err(LineError::Run(error)),
+    }
 }
 
 /// What a line's query is in its format.
@@ -76,20 +100,14 @@ fn evaluate(alloc: Global, mode: Mode, line: &[u8]) -> Result<Value, LineError>
     let Ok(text) = str::from_utf8(line) else {
         return Err(LineError::Run(RunError::NotUtf8));
     };
-    let value = match read_value(alloc, text) {
-        Ok(Some(value)) => value,
-        Ok(None) => return Err(LineError::NotARequest),
-        Err(_) => return Err(LineError::Run(RunError::Memory)),
-    };
-    let Some(query) = query_in(&value) else {
-        return Err(LineError::NotARequest);
-    };
-    let Some(format) = format_in(mode, &value) else {
-        return Err(LineError::NotARequest);
-    };
-    match evaluate_query(alloc, format, query) {
-        Ok(value) => Ok(value),
-        Err(error) => Err(LineError::Run(error)),
+    match read_value(alloc, text) {
+        Ok(Some(asked)) => {
+            let value = evaluate_value(alloc, mode, &asked);
+            drop(asked);
+            value
+        }
+        Ok(None) => Err(LineError::NotARequest),
+        Err(_) => Err(LineError::Run(RunError::Memory)),
     }
 }
 
@@ -113,7 +131,9 @@ fn ok_text(alloc: Global, value: Value) -> Result<String, AllocError>
     ensures { IfOk result (λ s. string_bytes s ≡ compact_text (ok_object (view value))) }
 {
     let object = ok_value(alloc, value)?;
-    object.to_string(alloc)
+    let text = object.to_string(alloc);
+    drop(object);
+    text
 }
 
 /// The text of an object of the error.
@@ -122,7 +142,9 @@ fn error_text(alloc: Global, error: &LineError) -> Result<String, AllocError>
 {
     let message = error.to_string(alloc)?;
     let object = error_value(alloc, error.number(), message.as_str())?;
-    object.to_string(alloc)
+    let text = object.to_string(alloc);
+    drop(object);
+    text
 }
 
 /// The answer to a line: an object with the member `ok`, or with `code` and `error`.

@@ -8,11 +8,11 @@ use Rattle.promql_run.proofs.line.error_text.Goals as goal
 
 pub returns : goal.returns
 returns c =
-    IfOk-weaker c.to_string-2.result _ _
+    IfOk-weaker c.to_string-text.result _ _
     (λ s text. (
       c.as_str.result.now,
       text (error_is_finite (view c.in_ok-object.object) c.number.result c.as_str.result.now c.in_ok-object.ensures)
           ∙ ap compact_text c.in_ok-object.ensures
           ∙ ap (λ code. compact_text (error_object code c.as_str.result.now)) c.number.ensures,
     ))
-    c.to_string-2.ensures.text
+    c.to_string-text.ensures.text

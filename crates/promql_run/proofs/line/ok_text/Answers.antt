@@ -7,6 +7,6 @@ use Rattle.promql_run.proofs.line.ok_text.Goals as goal
 
 pub returns : goal.returns
 returns c =
-    IfOk-weaker c.to_string.result _ _
+    IfOk-weaker c.to_string-text.result _ _
     (λ s text. text (ok_is_finite (view c.in_ok-object.object) (view c.args.value) c.in_ok-object.ensures c.requires) ∙ ap compact_text c.in_ok-object.ensures)
-    c.to_string.ensures.text
+    c.to_string-text.ensures.text
