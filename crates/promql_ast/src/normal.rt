@@ -33,23 +33,23 @@ impl Expr {
         ensures { IfOk result (λ e. tree_of e ≡ normal (tree_of self.now)) }
     {
         match self {
-            Expr::Aggregate(e) => normal_aggregate(alloc, e).map(Expr::Aggregate),
+            Expr::Aggregate(e) => Ok(Expr::Aggregate(normal_aggregate(alloc, e)?)),
             Expr::Unary(e) => {
                 let expr = normal_box(alloc, &e.expr)?;
                 Ok(Expr::Unary(UnaryExpr { expr }))
             }
-            Expr::Binary(e) => normal_binary(alloc, e).map(Expr::Binary),
+            Expr::Binary(e) => Ok(Expr::Binary(normal_binary(alloc, e)?)),
             Expr::Paren(e) => {
                 let expr = normal_box(alloc, &e.expr)?;
                 Ok(Expr::Paren(ParenExpr { expr }))
             }
-            Expr::Subquery(e) => normal_subquery(alloc, e).map(Expr::Subquery),
+            Expr::Subquery(e) => Ok(Expr::Subquery(normal_subquery(alloc, e)?)),
             Expr::NumberLiteral(e) => Ok(Expr::NumberLiteral(*e)),
-            Expr::StringLiteral(e) => e.try_clone(alloc).map(Expr::StringLiteral),
-            Expr::VectorSelector(e) => normal_vector(alloc, e).map(Expr::VectorSelector),
-            Expr::MatrixSelector(e) => normal_matrix(alloc, e).map(Expr::MatrixSelector),
-            Expr::Call(e) => normal_call(alloc, e).map(Expr::Call),
-            Expr::Extension(e) => normal_extension(alloc, e).map(Expr::Extension),
+            Expr::StringLiteral(e) => Ok(Expr::StringLiteral(e.try_clone(alloc)?)),
+            Expr::VectorSelector(e) => Ok(Expr::VectorSelector(normal_vector(alloc, e)?)),
+            Expr::MatrixSelector(e) => Ok(Expr::MatrixSelector(normal_matrix(alloc, e)?)),
+            Expr::Call(e) => Ok(Expr::Call(normal_call(alloc, e)?)),
+            Expr::Extension(e) => Ok(Expr::Extension(normal_extension(alloc, e)?)),
         }
     }
 }
