@@ -1,7 +1,7 @@
 //! docs/guide/cookbook.md, "Write JSON".
 
-use promql_parser::parser::{Expr, parse};
 use promql_parser::json::{JsonError, ToJson};
+use promql_parser::parser::{Expr, parse};
 use std::alloc::Global;
 use std::test::Fail;
 

@@ -141,8 +141,8 @@ fn normal_forms_are_read_of_printed_lines(rt: HostRuntime) -> Result<(), Fail> {
 
 #[test]
 fn trees_are_shown_field_by_field(rt: HostRuntime) -> Result<(), Fail> {
-    let shown = format!(in rt.alloc(); "{:?}", parse(rt.alloc(), r#"("a")"#)?)?;
+    let display_text = format!(in rt.alloc(); "{:?}", parse(rt.alloc(), r#"("a")"#)?)?;
     let want = r#"Paren(ParenExpr { expr: StringLiteral(StringLiteral { val: "a" }) })"#;
-    assert_eq!(rt; shown.as_str(), want);
+    assert_eq!(rt; display_text.as_str(), want);
     Ok(())
 }
