@@ -20,9 +20,9 @@ use promql_kind::{BinModifier, LabelModifier, VectorMatchCardinality};
 use std::alloc::{AllocError, Global};
 
 impl Expr {
-    /// A copy in the normal form: matchers in the order in which they print, and no list or modifier that says nothing. It
-    /// is the tree that the expression's text is read as, so two expressions print alike exactly if
-    /// their normal forms are equal.
+    /// A copy in the normal form: matchers in the order in which they print, and no list or modifier that says nothing. Of
+    /// an expression that `parse` returned it is the tree that its text is read as, and two of these print alike exactly if
+    /// their normal forms are equal. (A tree that was built may print as another one does: a negated `1` and the number `-1`.)
     ///
     /// # Errors
     ///

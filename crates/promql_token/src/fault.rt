@@ -135,7 +135,7 @@ impl LexFaultKind {
         }
     }
 
-    /// Whether a fault of this kind has_char the character.
+    /// Whether a fault of this kind shows the character.
     pub(crate) fn has_char(self) -> bool
         ensures { result ≡ spec.has_char self }
     {

@@ -37,9 +37,8 @@ pub trait ExprVisitor {
 }
 
 /// Calls the visitor before each node and after its children, in the order of docs/reference/walks.md, "Order". It
-/// returns
-/// `Ok(true)` if each call did, and else what the first other call returned; no call comes after that one. Nothing is
-/// allocated beside what the visitor allocates.
+/// returns `Ok(true)` if each call did, and else what the first other call returned; no call comes after that one. Nothing
+/// is allocated beside what the visitor allocates.
 ///
 /// # Errors
 ///
