@@ -1,5 +1,6 @@
 //! Each public name at its path in the facade: docs/API.md.
 
+use promql_parser::parser::value::{Value, ValueType};
 use promql_parser::parser::{MAX_DEPTH, function, lex, token};
 use promql_parser::util::{duration, number};
 use promql_parser::{label, util};
@@ -251,4 +252,24 @@ fn words_of_the_language(rt: HostRuntime) -> Result<(), Fail> {
     };
     assert_eq!(rt; rate.name, "rate");
     Ok(())
+}
+
+/// A value of a caller's own.
+#[derive(Drop)]
+struct Sample(u64);
+
+impl Value for Sample {
+    ghost use Rattle.promql_kind.specs.declared.value.ValueType.TheVariants.{Scalar};
+
+    ghost type_of = { λ _. Scalar };
+
+    fn vtype(&self) -> ValueType {
+        ValueType::Scalar
+    }
+}
+
+#[test]
+fn values_have_types(rt: HostRuntime) {
+    let sample = Sample(7);
+    assert!(rt; sample.0 == 7 && sample.vtype() == ValueType::Scalar);
 }

@@ -4,13 +4,13 @@ use super::extension;
 use promql_ast::{CheckError, Expr, FunctionArgs};
 use promql_kind::{ValueType, VectorMatchCardinality, VectorMatchFillValues, get_function};
 use promql_label::{Labels, MatchOp, Matcher, Matchers};
+use promql_parser::json::{
+    JsonError, ToJson, labels_json, match_op_json, matcher_json, matchers_json, token_type_json,
+};
 use promql_parser::parser::parse;
 use promql_text::Number;
 use promql_token::TokenType;
 use promql_token::ids::{T_ADD, T_TOPK};
-use promql_walk::{
-    JsonError, ToJson, labels_json, match_op_json, matcher_json, matchers_json, token_type_json,
-};
 use serde_json::Value;
 use std::alloc::{AllocError, Global};
 use std::process::Abort;
