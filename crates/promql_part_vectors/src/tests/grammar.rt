@@ -4,8 +4,6 @@ use crate::tests::holds;
 use promql_grammar::{TokenKind, token_kind};
 use promql_token::TokenType;
 use promql_token::ids::*;
-use std::alloc::{AllocError, Global};
-use std::test::Fail;
 
 // Kinds with their ids, from docs/reference/grammar.md.
 const TOKEN_KINDS: [(TokenId, TokenKind); 32] = [
@@ -60,25 +58,12 @@ fn wanted(id: TokenId) -> TokenKind {
     }
 }
 
-// Whether the kind of an id is the wanted one; kinds are told apart by their names.
-fn has_kind(alloc: Global, id: TokenId) -> Result<bool, AllocError> {
-    let found = format!(in alloc; "{:?}", token_kind(id))?;
-    match format!(in alloc; "{:?}", wanted(id)) {
-        Ok(want) => Ok(found == want),
-        Err(error) => Err(error),
-    }
-}
-
+// `==` tells kinds apart: the law `equal_token_kinds`.
 #[test]
-fn kinds_of_tokens(rt: HostRuntime) -> Result<(), Fail> {
+fn kinds_of_tokens(rt: HostRuntime) {
     for id in 0..100u16 {
-        let found = format!(in rt.alloc(); "{:?}", token_kind(id))?;
-        assert!(rt;
-            found == format!(in rt.alloc(); "{:?}", wanted(id))?,
-            "{id}"
-        );
+        assert!(rt; token_kind(id) == wanted(id), "{id}");
     }
-    Ok(())
 }
 
 // Kinds that may be names of metrics.
