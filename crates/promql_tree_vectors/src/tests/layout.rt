@@ -264,30 +264,34 @@ fn ones(alloc: Global) -> Result<Expr, Fail> {
     Ok(parse(alloc, text.as_str())?)
 }
 
-/// The layout of the expression in lines of no byte has more bytes than this, and takes so many widths.
+/// The layout of the expression in lines of `max` bytes has more bytes than this, and takes so many widths.
 fn check_widths(
     rt: &impl Abort,
     alloc: Global,
     expr: &Expr,
+    max: usize,
     widths: usize,
     least: usize,
 ) -> Result<(), Fail> {
     let mut tally = Tally::default();
-    let laid = expr.pretty_counted(alloc, 0, 0, &mut tally)?;
+    let laid = expr.pretty_counted(alloc, 0, max, &mut tally)?;
     assert_eq!(rt; tally.widths(), widths);
     assert!(rt; laid.as_str().len() > least);
-    assert!(rt; laid == expr.pretty(alloc, 0, 0)?);
+    assert!(rt; laid == expr.pretty(alloc, 0, max)?);
     Ok(())
 }
 
 #[test]
 fn each_node_has_one_width(rt: HostRuntime) -> Result<(), Fail> {
-    check_widths(&rt, rt.alloc(), &parse(rt.alloc(), SHARE)?, 4, 20)
+    for max in [0, 10] {
+        check_widths(&rt, rt.alloc(), &parse(rt.alloc(), SHARE)?, max, 4, 20)?;
+    }
+    Ok(())
 }
 
 #[test]
 fn each_node_of_a_long_sum_has_one_width(rt: HostRuntime) -> Result<(), Fail> {
-    check_widths(&rt, rt.alloc(), &ones(rt.alloc())?, 1023, 100_000)
+    check_widths(&rt, rt.alloc(), &ones(rt.alloc())?, 0, 1023, 100_000)
 }
 
 /// Whether a layout failed since its indentation is wider than a `usize` counts.

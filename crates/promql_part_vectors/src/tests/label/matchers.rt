@@ -123,10 +123,19 @@ fn or_begins_groups(rt: HostRuntime) -> Result<(), Fail> {
     Ok(())
 }
 
+/// These matchers, and a group beside them.
+fn beside(
+    alloc: Global,
+    plain: &[(&str, &str)],
+    group: &[(&str, &str)],
+) -> Result<Matchers, AllocError> {
+    let plain = Matchers::new(alloc, all_equal(alloc, plain)?);
+    with_group(alloc, plain, group)
+}
+
 /// A matcher, and a group beside it.
 fn beside_a_group(alloc: Global) -> Result<Matchers, AllocError> {
-    let plain = Matchers::new(alloc, all_equal(alloc, &[("a", "1")])?);
-    with_group(alloc, plain, &[("b", "2")])
+    beside(alloc, &[("a", "1")], &[("b", "2")])
 }
 
 #[test]
@@ -331,6 +340,12 @@ fn prints_groups_alone(rt: HostRuntime) -> Result<(), Fail> {
 fn what_is_beside_groups_is_not_printed(rt: HostRuntime) -> Result<(), Fail> {
     let list = beside_a_group(rt.alloc())?;
     prints(&rt, list.to_string(rt.alloc()), r#"b="2""#)
+}
+
+#[test]
+fn a_label_of_a_group_may_begin_as_or(rt: HostRuntime) -> Result<(), Fail> {
+    let list = beside(rt.alloc(), &[("x", "1")], &[("order", "1")])?;
+    prints(&rt, list.to_string(rt.alloc()), r#"order="1""#)
 }
 
 #[test]
