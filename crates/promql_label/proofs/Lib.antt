@@ -7,6 +7,9 @@ pub mod Groups
 pub mod WorkedMatchers
 pub mod LeastText
 pub mod OneOrder
+pub mod PatternSizes
+pub mod PlacesSet
+pub mod PlainPatternsRead
 pub mod PrintedMatchers
 pub mod PrintedTexts
 pub mod PrintedTokens
@@ -16,6 +19,7 @@ pub mod ReadTokens
 pub mod Reading
 pub mod EscapedPlaces
 pub mod SameMatchers
+pub mod SmallPatterns
 pub mod SortedMatchers
 pub mod StableSort
 pub mod LabelPrintedLen

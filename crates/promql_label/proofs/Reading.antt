@@ -1,11 +1,16 @@
 -- What the forms of a value that were tried say of its answer.
-use Rattle.std.proofs.Common.{◌≡◌, ◌≢◌, ◌≤◌, Option, Some, None, subst, sym}
-use Rattle.std.specs.Prelude.{IsCharBoundary}
-use Rattle.regex.specs.Patterns.{default_config, Refuses}
-use Rattle.regex.specs.declared.error.Error.TheVariants.{Syntax}
-use Rattle.regex_syntax.specs.declared.error.Error as parser
+use Rattle.std.proofs.Common.{◌≡◌, ◌≢◌, ◌<◌, ◌≤◌, true, false, Option, Some, None, option_map, unwrap_or, chars, subst, sym, refl, ap, ⊎_elim, Bool, le-leb, leb-true, arith}
+use Rattle.std.specs.Prelude.{IfSome, nat_le}
+use Rattle.std.specs.Option.{IsSomeAnd}
+use Rattle.regex_syntax.specs.Brackets.{Nested}
+use Rattle.regex_syntax.specs.Grammar.{Names, read}
+use Rattle.regex_syntax.specs.declared.error.ErrorKind.{ErrorKind}
 use Rattle.regex_syntax.specs.declared.error.ErrorKind.TheVariants as kind
-use Rattle.promql_label.specs.Answers.{Allows, as_it_is, built, by_escaping, IsTried, MayReject, MayRejectPair, neither, rejected}
+use Rattle.regex.specs.Patterns.{Re, Reads, Refuses, default_config}
+use Rattle.regex.specs.Names.{names_of}
+use Rattle.regex.specs.Strings.{regex_source}
+use Rattle.regex.specs.declared.string.regex.Regex.{Regex}
+use Rattle.promql_label.specs.Answers.{Allows, as_it_is, built, by_escaping, is_read, IsCompiledFrom, IsTried, MayRejectPair, neither, rejected}
 use Rattle.promql_label.specs.Repeats.{escaped_repeats}
 use Rattle.promql_text.specs.Texts.{Text}
 
@@ -25,11 +30,37 @@ read_escaped v u w o rejects form is tried =
 pub rejected_twice : (v u : Text) (o : Option Text) → MayRejectPair v → u ≡ escaped_repeats v → o ≡ None → IsTried u o → Allows v rejected
 rejected_twice v u o rejects form is tried = neither v rejects (tried_as u (escaped_repeats v) o None is form tried)
 
--- an error of the grammar but for memory is one that `regex` may give
-pub rejected_by_grammar : (w : Text) (given : parser.Error) → given.kind ≢ kind.OutOfMemory → Refuses default_config w given.kind
-    → (given.span.start ≤ given.span.end) × IsCharBoundary w given.span.start × IsCharBoundary w given.span.end → MayReject w
-rejected_by_grammar w given known rejects span =
-    (Syntax given, (λ e. cc), ((λ e is. subst (λ (x : parser.Error). Refuses default_config w x.kind) (same is) rejects), known, (λ e is. subst (λ (x : parser.Error). (x.span.start ≤ x.span.end) × IsCharBoundary w x.span.start × IsCharBoundary w x.span.end) (same is) span)))
+-- what the grammar reads is nested no deeper than its limit
+pub read_within_limit : (w : Text) (P : Nested Re × Names → Type 0) → ((p : Nested Re × Names) → P p → p.0.depth ≤ default_config.nest_limit)
+    → IsSomeAnd (read default_config (chars w)) P → is_read w ≡ true
+read_within_limit w P bound h = go (read default_config (chars w)) h
   where
-    same : {x y : parser.Error} → Syntax x ≡ Syntax y → x ≡ y
-    same e = cc
+    go : (o : Option (Nested Re × Names)) → IsSomeAnd o P → unwrap_or (option_map (λ p. nat_le p.0.depth default_config.nest_limit) o) false ≡ true
+    go None h = absurd h
+    go (Some p) h = le-leb _ _ (bound p h)
+
+-- what is compiled is read
+pub compiled_is_read : (w : Text) (r : Regex) → IsCompiledFrom w r → is_read w ≡ true
+unfolding Reads
+compiled_is_read w r (source, config, reads) =
+    subst (λ v. is_read v ≡ true) source
+    (read_within_limit (regex_source r) _ (λ p h. h.0) (subst (λ n. Reads n (regex_source r) r.pattern.program.hir (names_of r.pattern.names.items)) config reads))
+
+past_limit : (o : Option (Nested Re × Names)) → IfSome o (λ p. default_config.nest_limit < p.0.depth) → unwrap_or (option_map (λ p. nat_le p.0.depth default_config.nest_limit) o) false ≡ false
+past_limit None h = refl
+past_limit (Some p) h = go (nat_le p.0.depth default_config.nest_limit) refl
+  where
+    go : (b : Bool) → nat_le p.0.depth default_config.nest_limit ≡ b → nat_le p.0.depth default_config.nest_limit ≡ false
+    go true e = absurd (omega (arith, leb-true p.0.depth default_config.nest_limit e, h))
+    go false e = e
+
+-- an error of the grammar but for memory says that it doesn't read the text
+pub rejected_by_grammar : (w : Text) (k : ErrorKind) → k ≢ kind.OutOfMemory → Refuses default_config w k → is_read w ≡ false
+unfolding Refuses
+rejected_by_grammar w k known refuses = ⊎_elim
+    (λ memory. absurd (known memory))
+    (λ other. ⊎_elim
+    (λ none. ap (λ o. unwrap_or (option_map (λ (p : Nested Re × Names). nat_le p.0.depth default_config.nest_limit) o) false) none)
+    (λ deep. past_limit (read default_config (chars w)) deep.1)
+    other)
+    refuses

@@ -1,37 +1,38 @@
 -- What `regex` may return for a pattern: docs/reference/matchers.md, "Patterns".
-use Rattle.std.specs.Prelude.{◌≡◌, ◌≢◌, ◌⊎◌, Bool, false, ◌++◌, Option, Some, None, is_some, option_map, unwrap_or, codes, chars}
-use Rattle.regex.specs.Failures.{IsPattern}
-use Rattle.regex.specs.Strings.{regex_source, regex_config, IsReadFromSource, IsDefaultFailure}
+use Rattle.std.specs.Prelude.{◌≡◌, ◌⊎◌, Bool, true, false, not, ◌&&◌, if◌then◌else◌, ◌++◌, Option, Some, None, is_some, option_map, unwrap_or, codes, chars, nat_le}
+use Rattle.regex.specs.Strings.{regex_source, regex_config, IsReadFromSource}
 use Rattle.regex.specs.Patterns.{default_config, find_str}
-use Rattle.regex.specs.declared.error.Error.{Error}
 use Rattle.regex.specs.declared.string.regex.Regex.{Regex}
-use Rattle.regex.specs.declared.error.Error.TheVariants.{OutOfMemory}
 use Rattle.regex_syntax.specs.Grammar.{read}
 use Rattle.promql_text.specs.Texts.{Text}
+use Rattle.promql_label.specs.PatternSize.{is_large}
 use Rattle.promql_label.specs.Repeats.{escaped_repeats}
 
 -- "Anchoring": the text that is built of a pattern
 abbrev pub anchor : Text → Text
 anchor u = codes "^(?:" ++ (u ++ codes ")$")
 
--- the grammar of `regex` reads the text
-abbrev pub IsRead : Text → Type 0
-IsRead = IsPattern default_config
+-- the grammar of `regex` reads the text, which is nested no deeper than it allows
+abbrev pub is_read : Text → Bool
+is_read w = unwrap_or (option_map (λ p. nat_le p.0.depth default_config.nest_limit) (read default_config (chars w))) false
 
--- `regex` may reject the text for another cause than memory
+abbrev pub IsRead : Text → Type 0
+IsRead w = is_read w ≡ true
+
+-- `regex` may reject the text: its grammar doesn't read it, or what is compiled of it may be too large
 abbrev pub MayReject : Text → Type 0
-MayReject w = (e : Error) × (e ≢ OutOfMemory) × IsDefaultFailure w e
+MayReject w = (is_read w ≡ false) ⊎ (is_large w ≡ true)
 
 -- what is compiled is the text
 abbrev pub IsCompiledFrom : Text → Regex → Type 0
 IsCompiledFrom w r = (regex_source r ≡ w) × (regex_config r ≡ default_config) × IsReadFromSource r
 
--- a form of a pattern is read, or rejected, by itself or anchored
+-- a form of a pattern is read by itself and anchored; it may be rejected by itself, or anchored
 abbrev pub IsReadPair : Text → Type 0
 IsReadPair u = IsRead u × IsRead (anchor u)
 
 abbrev pub MayRejectPair : Text → Type 0
-MayRejectPair u = MayReject u ⊎ MayReject (anchor u)
+MayRejectPair u = (is_read u ≡ false) ⊎ MayReject (anchor u)
 
 -- what becomes of a form that is tried: its anchored text, or nothing
 abbrev pub IsTried : Text → Option Text → Type 0
@@ -48,6 +49,19 @@ pub data Allows : Text → Answer → Type 0 where
   as_it_is : (v : Text) → IsReadPair v → Allows v (built (anchor v))
   by_escaping : (v : Text) → MayRejectPair v → IsReadPair (escaped_repeats v) → Allows v (built (anchor (escaped_repeats v)))
   neither : (v : Text) → MayRejectPair v → MayRejectPair (escaped_repeats v) → Allows v rejected
+
+-- "Answers": the one answer for a pattern that is small
+abbrev pub is_read_pair : Text → Bool
+is_read_pair u = is_read u && is_read (anchor u)
+
+abbrev pub pattern_answer : Text → Answer
+pattern_answer v =
+    if is_read_pair v then built (anchor v)
+    else (if is_read_pair (escaped_repeats v) then built (anchor (escaped_repeats v)) else rejected)
+
+-- neither text that is built of the value is large
+abbrev pub is_small : Text → Bool
+is_small v = not (is_large (anchor v)) && not (is_large (anchor (escaped_repeats v)))
 
 -- "Matching by a pattern": whether `regex` finds the pattern of a built text in a text
 abbrev pub finds : Text → Text → Bool

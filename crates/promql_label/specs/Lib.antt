@@ -9,6 +9,8 @@ pub mod Operators
 pub mod PlainMatchers
 pub mod ReadMatchers
 pub mod PatternRejections
+pub mod PatternSize
+pub mod PlainPatterns
 pub mod RepeatPlaces
 pub mod Repeats
 pub mod SortedTexts

@@ -1,12 +1,14 @@
 //! Laws on the definitions alone. Each is the contract of a function that does nothing.
 
-ghost use Rattle.std.specs.Prelude.{◌≡◌, ◌≢◌, ◌↔◌, ◌<◌, ◌++◌, ℕ, [], List, IsTrue, Ok, Some, codes, false, length, map};
+ghost use Rattle.std.specs.Prelude.{◌≡◌, ◌≢◌, ◌↔◌, ◌<◌, ◌++◌, ℕ, [], List, IsTrue, Ok, Some, codes, false, length, map, true};
 ghost use Rattle.std.specs.List.{list_any, AllPairs, Contains};
 ghost use Rattle.promql_text.specs.Texts.{Text};
+ghost use Rattle.promql_label.specs.Answers.{Allows, Answer, IsReadPair, is_small, pattern_answer};
 ghost use Rattle.promql_label.specs.Labels.{common, is_among, is_number_word, label_text, labels_of};
 ghost use Rattle.promql_label.specs.LabelLaws.{first_index, label_of};
 ghost use Rattle.promql_label.specs.MatcherRows.{WorkedLists};
 ghost use Rattle.promql_label.specs.Operators.{IsMatcherOf};
+ghost use Rattle.promql_label.specs.PlainPatterns.{is_plain};
 ghost use Rattle.promql_label.specs.PlainMatchers.{PlainMatcher, PlainMatchers, matcher_text, matchers_text, name_text};
 ghost use Rattle.promql_label.specs.ReadMatchers.{Parts, Token, inside, matchers_tokens, parts_of, printed_groups, read_groups, sorted_matchers};
 ghost use Rattle.promql_label.specs.Repeats.{escaped_repeats, opens_count, OpensCount};
@@ -125,6 +127,18 @@ pub fn equal_matcher_lists()
 pub fn equal_patterns()
     ensures same { IsSameBy (λ (p : Text). p) ⟦<Pattern as PartialEq>⟧.eq }
     ensures hashed { HashesAlike (λ (p : Text). p) ⟦<Pattern as Hash>⟧.hash_input }
+{}
+
+/// A pattern that is small has one answer, which is computed; a large one may have it, or be rejected for its size.
+pub fn small_patterns_have_one_answer()
+    ensures small { (v : Text) → is_small v ≡ true → (a : Answer) → Allows v a
+        → a ≡ pattern_answer v }
+    ensures allowed { (v : Text) → Allows v (pattern_answer v) }
+{}
+
+/// Plain patterns are read, by themselves and anchored.
+pub fn plain_patterns_are_read()
+    ensures { (v : Text) → is_plain v ≡ true → IsReadPair v }
 {}
 
 /// Faults of patterns are equal exactly if they are of one kind and have one value.

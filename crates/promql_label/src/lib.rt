@@ -22,6 +22,8 @@ pub mod laws;
 pub mod matcher;
 pub mod matchers;
 pub mod pattern;
+mod pattern_size;
+mod plain;
 mod printed_len;
 pub mod repeats;
 mod sorted;

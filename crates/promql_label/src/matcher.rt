@@ -41,6 +41,17 @@ impl MatchOp {
         })
     }
 
+    /// Compiles the pattern, if there is one.
+    fn prepare(&mut self, alloc: Global) -> Result<(), AllocError>
+        ensures { operator_of self.new ≡ operator_of self.old }
+    {
+        match self {
+            MatchOp::Equal | MatchOp::NotEqual => Ok(()),
+            MatchOp::Re(pattern) => pattern.prepare(alloc),
+            MatchOp::NotRe(pattern) => pattern.prepare(alloc),
+        }
+    }
+
     /// The operator as it prints.
     pub(crate) fn text(&self) -> &'static str
         ensures { result.now ≡ operator_text (operator_of self.now) }
@@ -89,8 +100,19 @@ impl Matcher {
         })
     }
 
+    /// Compiles the pattern, if there is one ([`Pattern::prepare`]), so that each match after it only searches.
+    ///
+    /// # Errors
+    ///
+    /// `AllocError` if an allocation fails; the matcher is then as it was.
+    pub fn prepare(&mut self, alloc: Global) -> Result<(), AllocError>
+        ensures { plain_matcher_of self.new ≡ plain_matcher_of self.old }
+    {
+        self.op.prepare(alloc)
+    }
+
     /// Whether the matcher matches a text. Each call on a pattern allocates what the search needs,
-    /// and frees it; the only error is that memory ran out.
+    /// and frees it, and compiles a pattern that is not prepared; the only error is that memory ran out.
     pub fn is_match(&self, alloc: Global, text: &str) -> Result<bool, AllocError>
         ensures { IfOk result (λ b. b ≡ holds (plain_matcher_of self.now) text.now) }
     {

@@ -154,6 +154,18 @@ impl Matchers {
         self.matchers.sort_by(compare)
     }
 
+    /// Compiles the patterns of all matchers, so that each match after it only searches.
+    ///
+    /// # Errors
+    ///
+    /// `AllocError` if an allocation fails; some patterns may then be compiled. The matchers are the same in any case.
+    pub fn prepare(&mut self, alloc: Global) -> Result<(), AllocError>
+        ensures { plain_matchers_of self.new ≡ plain_matchers_of self.old }
+    {
+        prepare_all(alloc, &mut self.matchers)?;
+        prepare_groups(alloc, &mut self.or_matchers)
+    }
+
     /// The same list.
     pub fn try_clone(&self, alloc: Global) -> Result<Matchers, AllocError>
         ensures { IfOk result (λ m. plain_matchers_of m ≡ plain_matchers_of self.now) }
@@ -167,6 +179,26 @@ impl Matchers {
             or_matchers,
         })
     }
+}
+
+/// Compiles the patterns of a list's matchers.
+fn prepare_all(alloc: Global, matchers: &mut [Matcher]) -> Result<(), AllocError>
+    ensures { map plain_matcher_of matchers.new ≡ map plain_matcher_of matchers.old }
+{
+    'matchers: for matcher in matchers.iter_mut() {
+        matcher.prepare(alloc)?;
+    }
+    Ok(())
+}
+
+/// Compiles the patterns of all groups.
+fn prepare_groups(alloc: Global, groups: &mut [Vec<Matcher>]) -> Result<(), AllocError>
+    ensures { map (λ g. map plain_matcher_of g.items) groups.new ≡ map (λ g. map plain_matcher_of g.items) groups.old }
+{
+    'groups: for group in groups.iter_mut() {
+        prepare_all(alloc, group)?;
+    }
+    Ok(())
 }
 
 impl fmt::Display for Matchers {

@@ -1,11 +1,14 @@
 //! Patterns: docs/reference/matchers.md, "Patterns".
 
-ghost use Rattle.std.specs.Prelude.{◌≡◌, true, false, IfOk, IfErr, IfSome, IfNone};
+ghost use Rattle.std.specs.Prelude.{◌≡◌, IfOk, IfErr, IfSome, IfNone, string_bytes};
 ghost use Rattle.regex.specs.Patterns.{default_config};
 ghost use Rattle.regex.specs.Strings.{regex_config, regex_source, IsReadFromSource};
 ghost use Rattle.promql_label.specs.PatternRejections.{IsRejected};
-ghost use Rattle.promql_label.specs.Answers.{Allows, built, finds, IsCompiledFrom, IsRead, IsTried, MayReject, MayRejectPair, rejected};
+ghost use Rattle.promql_label.specs.Answers as spec;
+ghost use Rattle.promql_label.specs.Answers.{Allows, built, finds, IsCompiledFrom, IsRead, IsReadPair, IsTried, MayReject, MayRejectPair, rejected};
 
+use crate::pattern_size::is_large;
+use crate::plain::is_plain;
 use crate::repeats::escape_repeats;
 use regex::Regex;
 use regex_syntax::{Config, ErrorKind};
@@ -16,23 +19,33 @@ use std::marker::Model;
 use std::sync::Arc;
 use thiserror::Error;
 
-/// A pattern that `regex` has read. Contracts see its built text.
+/// A text that the grammar of `regex` reads, and what was compiled of it, if that was asked for.
+#[derive(Drop)]
+struct Source {
+    text: String,
+    regex: Option<Regex>,
+}
+
+/// A pattern that the grammar of `regex` reads. Contracts see its built text.
+///
+/// It is compiled where it could be too large, and else when it matches or is prepared: most patterns are read, compared and
+/// printed, and never match.
 #[derive(Drop)]
 pub struct Pattern {
-    regex: Arc<Regex>,
+    source: Arc<Source>,
 }
 
 impl Model for Pattern {
-    ghost use Rattle.std.specs.Prelude.{◌≡◌, ℕ, List};
-    ghost use Rattle.regex.specs.Patterns.{default_config};
-    ghost use Rattle.regex.specs.Strings.{regex_source, regex_config, IsReadFromSource};
+    ghost use Rattle.std.specs.Prelude.{List, ℕ, IfSome, string_bytes};
+    ghost use Rattle.promql_label.specs.Answers as spec;
+    ghost use Rattle.promql_label.specs.Answers.{IsCompiledFrom, IsRead};
 
     ghost Value = { List ℕ };
 
-    ghost view = { λ p. regex_source p.regex.value };
+    ghost view = { λ p. string_bytes p.source.value.text };
 
-    ghost invariant = { λ p. (regex_config p.regex.value ≡ default_config)
-        × IsReadFromSource p.regex.value };
+    ghost invariant = { λ p. IsRead (string_bytes p.source.value.text)
+        × IfSome p.source.value.regex (IsCompiledFrom (string_bytes p.source.value.text)) };
 }
 
 /// Why no pattern is built.
@@ -57,11 +70,9 @@ impl From<AllocError> for PatternFault {
     }
 }
 
-/// What `regex` makes of a text: the compiled text, nothing where it rejects the text, or that
-/// memory ran out.
+/// The compiled text; None where `regex` rejects it.
 fn compile(alloc: Global, text: &str) -> Result<Option<Regex>, AllocError>
-    ensures read { IfOk result (λ o. IfSome o (IsCompiledFrom text.now)) }
-    ensures rejected { IfOk result (λ o. IfNone o (MayReject text.now)) }
+    ensures { IfOk result (λ o. IfSome o (IsCompiledFrom text.now)) }
 {
     match Regex::new(alloc, text) {
         Ok(regex) => Ok(Some(regex)),
@@ -72,8 +83,7 @@ fn compile(alloc: Global, text: &str) -> Result<Option<Regex>, AllocError>
 
 /// Whether the grammar of `regex` reads a text.
 fn is_read(alloc: Global, text: &str) -> Result<bool, AllocError>
-    ensures read { IfOk result (λ is_read. is_read ≡ true → IsRead text.now) }
-    ensures rejected { IfOk result (λ is_read. is_read ≡ false → MayReject text.now) }
+    ensures { IfOk result (λ is. is ≡ spec.is_read text.now) }
 {
     match regex_syntax::parse(alloc, text, &Config::default()) {
         Ok(_parsed) => Ok(true),
@@ -84,17 +94,53 @@ fn is_read(alloc: Global, text: &str) -> Result<bool, AllocError>
     }
 }
 
-/// The pattern of a form of a value, if `regex` reads that form by itself and anchored.
-fn compile_anchored(alloc: Global, form: &str) -> Result<Option<Pattern>, AllocError>
+/// The pattern of a text as it is, if `regex` takes it: compiled only where it could be too large.
+fn take(alloc: Global, text: String) -> Result<Option<Pattern>, AllocError>
+    ensures read { IfOk result (λ o. IfSome o (λ p. (p ≡ string_bytes text) × IsRead (string_bytes text))) }
+    ensures rejected { IfOk result (λ o. IfNone o (MayReject (string_bytes text))) }
+{
+    if is_large(&text) {
+        match compile(alloc, &text)? {
+            Some(regex) => Ok(Some(Pattern::new(alloc, text, Some(regex))?)),
+            None => Ok(None),
+        }
+    } else if is_read(alloc, &text)? {
+        Ok(Some(Pattern::new(alloc, text, None)?))
+    } else {
+        Ok(None)
+    }
+}
+
+/// The text that is built of a form of a value.
+fn anchor(alloc: Global, form: &str) -> Result<String, AllocError>
+    ensures { IfOk result (λ text. string_bytes text ≡ spec.anchor form.now) }
+{
+    format!(in alloc; "^(?:{form})$")
+}
+
+/// The pattern of a form that is known to be read by itself and anchored.
+fn take_known(alloc: Global, form: &str) -> Result<Option<Pattern>, AllocError>
+    requires { IsReadPair form.now }
     ensures { IfOk result (IsTried form.now) }
 {
-    if !is_read(alloc, form)? {
-        return Ok(None);
+    let text = anchor(alloc, form)?;
+    if is_large(&text) {
+        take(alloc, text)
+    } else {
+        Ok(Some(Pattern::new(alloc, text, None)?))
     }
-    let text = format!(in alloc; "^(?:{form})$")?;
-    match compile(alloc, text.as_str())? {
-        Some(regex) => Ok(Some(Pattern::new(alloc, regex)?)),
-        None => Ok(None),
+}
+
+/// The pattern of a form of a value, if `regex` reads that form by itself and takes it anchored.
+fn take_anchored(alloc: Global, form: &str) -> Result<Option<Pattern>, AllocError>
+    ensures { IfOk result (IsTried form.now) }
+{
+    if is_plain(form) {
+        take_known(alloc, form)
+    } else if is_read(alloc, form)? {
+        take(alloc, anchor(alloc, form)?)
+    } else {
+        Ok(None)
     }
 }
 
@@ -112,7 +158,7 @@ impl Pattern {
         ensures built { IfOk result (λ p. Allows value.now (built p)) }
         ensures rejected { IfErr result (IsRejected value.now (Allows value.now rejected)) }
     {
-        match compile_anchored(alloc, value)? {
+        match take_anchored(alloc, value)? {
             Some(pattern) => Ok(pattern),
             None => Pattern::read_escaped(alloc, value),
         }
@@ -127,8 +173,8 @@ impl Pattern {
         ensures built { IfOk result (λ p. (p ≡ text.now) × IsRead text.now) }
         ensures rejected { IfErr result (IsRejected text.now (MayReject text.now)) }
     {
-        match compile(alloc, text)? {
-            Some(regex) => Ok(Pattern::new(alloc, regex)?),
+        match take(alloc, String::from_str(alloc, text)?)? {
+            Some(pattern) => Ok(pattern),
             None => Err(PatternFault::Refused(String::from_str(alloc, text)?)),
         }
     }
@@ -140,19 +186,19 @@ impl Pattern {
         ensures rejected { IfErr result (IsRejected value.now (Allows value.now rejected)) }
     {
         let escaped = escape_repeats(alloc, value)?;
-        match compile_anchored(alloc, escaped.as_str())? {
+        match take_anchored(alloc, escaped.as_str())? {
             Some(pattern) => Ok(pattern),
             None => Err(PatternFault::Refused(String::from_str(alloc, value)?)),
         }
     }
 
-    fn new(alloc: Global, regex: Regex) -> Result<Pattern, AllocError>
-        requires config { regex_config regex ≡ default_config }
-        requires read { IsReadFromSource regex }
-        ensures { IfOk result (λ p. p ≡ regex_source regex) }
+    fn new(alloc: Global, text: String, regex: Option<Regex>) -> Result<Pattern, AllocError>
+        requires read { IsRead (string_bytes text) }
+        requires compiled { IfSome regex (IsCompiledFrom (string_bytes text)) }
+        ensures { IfOk result (λ p. p ≡ string_bytes text) }
     {
         Ok(Pattern {
-            regex: Arc::new(alloc, regex)?,
+            source: Arc::new(alloc, Source { text, regex })?,
         })
     }
 
@@ -160,15 +206,40 @@ impl Pattern {
     pub fn as_str(&self) -> &str
         ensures { result.now ≡ self.now }
     {
-        self.regex.as_str()
+        self.source.text.as_str()
     }
 
-    /// Whether the pattern matches a text. Each call allocates what the search needs.
+    /// Compiles the pattern, if that was not done yet, so that each match after it only searches. Copies made after it share
+    /// what was compiled. A pattern that `regex` takes for too large stays as it was.
+    ///
+    /// # Errors
+    ///
+    /// `AllocError` if an allocation fails; the pattern is then as it was.
+    pub fn prepare(&mut self, alloc: Global) -> Result<(), AllocError>
+        ensures { self.new ≡ self.old }
+    {
+        if self.source.regex.is_some() {
+            return Ok(());
+        }
+        if let Some(regex) = compile(alloc, self.as_str())? {
+            let text = String::from_str(alloc, self.as_str())?;
+            *self = Pattern::new(alloc, text, Some(regex))?;
+        }
+        Ok(())
+    }
+
+    /// Whether the pattern matches a text. Each call allocates what the search needs, and compiles a pattern that is not
+    /// prepared; it fails for memory too where `regex` takes a pattern for too large that isn't.
     pub(crate) fn is_match(&self, alloc: Global, text: &str) -> Result<bool, AllocError>
         ensures { IfOk result (λ found. found ≡ finds self.now text.now) }
     {
-        let mut matcher = self.regex.matcher(alloc)?;
-        Ok(matcher.is_match(text))
+        match &self.source.regex {
+            Some(regex) => search(alloc, regex, text),
+            None => match compile(alloc, self.as_str())? {
+                Some(regex) => search(alloc, &regex, text),
+                None => Err(AllocError),
+            },
+        }
     }
 
     /// The same pattern, which shares what was compiled.
@@ -176,9 +247,19 @@ impl Pattern {
         ensures { IfOk result (λ p. p ≡ self.now) }
     {
         Ok(Pattern {
-            regex: self.regex.clone()?,
+            source: self.source.clone()?,
         })
     }
+}
+
+/// Whether the compiled pattern is found in a text.
+fn search(alloc: Global, regex: &Regex, text: &str) -> Result<bool, AllocError>
+    requires config { regex_config regex.now ≡ default_config }
+    requires read { IsReadFromSource regex.now }
+    ensures { IfOk result (λ found. found ≡ finds (regex_source regex.now) text.now) }
+{
+    let mut matcher = regex.matcher(alloc)?;
+    Ok(matcher.is_match(text))
 }
 
 impl PartialEq for Pattern {

@@ -1,0 +1,5 @@
+use Rattle.promql_label.proofs.PlainPatternsRead.{plain_pair_is_read}
+use Rattle.promql_label.proofs.laws.plain_patterns_are_read.Goals as goal
+
+pub returns : goal.returns
+returns c = plain_pair_is_read
