@@ -1,5 +1,5 @@
 -- Lists of expressions, one by one: what is left of them.
-use Rattle.std.proofs.Common.{◌≡◌, ℕ, zero, suc, ◌+◌, ◌<◌, ◌≤◌, List, [], ◌∷◌, ◌++◌, Bool, length, get_or, drop, take, map, codes, refl, sym, ap, ◌∙◌, add-one, append_assoc, arith}
+use Rattle.std.proofs.Common.{◌≡◌, ℕ, zero, suc, ◌+◌, ◌<◌, ◌≤◌, List, [], ◌∷◌, ◌++◌, Bool, length, get_or, drop, take, map, codes, refl, sym, ap, ◌∙◌, add-one, append_assoc, arith, set}
 use Rattle.std.specs.Prelude.{◌==◌, if◌then◌else◌}
 use Rattle.std.specs.List.{flat_map, join_by}
 use Rattle.std.proofs.lemmas.Bool.{ne_eqb}
@@ -19,6 +19,13 @@ drop_next xs i y h e = drop_more xs i y h ∙ ap (λ z. z ∷ drop (i + 1) xs) (
 pub trees_next : {X : Type 0} (f : X → Tree) (xs : List X) (i : ℕ) (y : X) → i < length xs → y ≡ get_or xs i y
     → map f (drop i xs) ≡ f y ∷ map f (drop (i + 1) xs)
 trees_next f xs i y h e = ap (map f) (drop_next xs i y h e)
+
+-- the trees of a list in which one place was set to what has the same tree
+pub trees_after_set : {X : Type 0} (f : X → Tree) (xs : List X) (i : ℕ) (y z : X) → i < length xs → f z ≡ f (get_or xs i y)
+    → map f (set xs i z) ≡ map f xs
+trees_after_set f [] i y z h e = absurd (omega (arith, h))
+trees_after_set f (x ∷ xs) zero y z h e = ap (λ t. t ∷ map f xs) e
+trees_after_set f (x ∷ xs) (suc i) y z h e = ap (λ ts. f x ∷ ts) (trees_after_set f xs i y z (omega (arith, h)) e)
 
 -- texts from the one at i on, with their separators
 abbrev pub row_from : Text → ℕ → List Text → Text
