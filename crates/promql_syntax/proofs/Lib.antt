@@ -1,5 +1,6 @@
 pub mod AnswerLemmas
 pub mod Asked
+pub mod AskedPatterns
 pub mod Bases
 pub mod Booleans
 pub mod Canonical
@@ -54,6 +55,7 @@ pub mod PrintedTimesAndLabels
 pub mod PrintedWords
 pub mod SameParseErrors
 pub mod SingleAnswers
+pub mod SmallAnswers
 pub mod SpelledWords
 pub mod UnsignedNumbers
 pub mod QueryAnswers

@@ -1,5 +1,6 @@
 pub mod SourceTokens
 pub mod SymbolsLeft
+pub mod TreePatterns
 pub mod BuildErrors
 pub mod Asking
 pub mod PartBuilding
