@@ -3,7 +3,7 @@
 ghost use Rattle.std.specs.Prelude.{◌≡◌, ◌≢◌, ◌↔◌, ◌++◌, ◌∷◌, ◌&&◌, [], not, IfOk, IsTrue, map, string_bytes};
 ghost use Rattle.promql_token.specs.Classes.{is_label};
 ghost use Rattle.std.specs.List.{list_any};
-ghost use Rattle.std.specs.Fmt.{WritesOnOk};
+ghost use Rattle.std.specs.Fmt.{WritesStyledOnOk};
 ghost use Rattle.promql_label.specs.Labels.{common, is_among, is_number_word, label_text, labels_of};
 
 use promql_text::{Quoted, write_joined_by};
@@ -109,6 +109,8 @@ impl fmt::Display for Labels {
 
     ghost output = { λ x. Some (labels_text (labels_of x)) };
 
+    ghost styled_output = { λ x _. Some (labels_text (labels_of x)) };
+
     fn fmt<W: fmt::Write>(&self, f: &mut fmt::Formatter<W>) -> fmt::Result {
         write_joined_by(&self.labels, ", ", f, write_label::<W>)
     }
@@ -116,7 +118,7 @@ impl fmt::Display for Labels {
 
 /// Writes a label: docs/reference/matchers.md, "Printed labels".
 fn write_label<W: fmt::Write>(label: &Label, f: &mut fmt::Formatter<W>) -> fmt::Result
-    ensures { WritesOnOk W.write_str_gives f.old result
+    ensures { WritesStyledOnOk W.write_str_gives f.old result
         (label_text (string_bytes label.now)) f.new }
 {
     let label = label.as_str();

@@ -1,7 +1,8 @@
 //! Matchers: docs/reference/matchers.md, "Matchers".
 
 ghost use Rattle.std.specs.Prelude.{◌≡◌, ◌↔◌, false, true, IfOk, IfErr, IsOk, IsErrOf, codes, string_bytes};
-ghost use Rattle.promql_label.specs.PlainMatchers.{plain_matcher, equal, holds, operator_text};
+ghost use Rattle.std.specs.Fmt.{WritesStyledOnOk};
+ghost use Rattle.promql_label.specs.PlainMatchers.{plain_matcher, equal, holds, name_text, operator_text};
 ghost use Rattle.promql_label.specs.MatcherErrors.{IsFaultOf};
 ghost use Rattle.promql_label.specs.Operators.{IsMatcherOf, is_operator_id, is_text_id};
 ghost use Rattle.promql_label.specs.MatcherViews.{plain_matcher_of, operator_of};
@@ -13,6 +14,7 @@ use promql_token::ids::{T_EQL, T_EQL_REGEX, T_NEQ, T_NEQ_REGEX};
 use promql_token::{TokenId, TokenType, is_label};
 use std::alloc::{AllocError, Global};
 use std::fmt;
+use std::fmt::Display;
 use thiserror::Error;
 
 /// How a matcher compares.
@@ -71,6 +73,8 @@ impl fmt::Display for MatchOp {
     ghost use Rattle.promql_label.specs.MatcherViews.{operator_of};
 
     ghost output = { λ op. Some (operator_text (operator_of op)) };
+
+    ghost styled_output = { λ op _. Some (operator_text (operator_of op)) };
 
     fn fmt<W: fmt::Write>(&self, f: &mut fmt::Formatter<W>) -> fmt::Result {
         f.write_str(self.text())
@@ -180,16 +184,24 @@ impl fmt::Display for Matcher {
 
     ghost output = { λ m. Some (matcher_text (plain_matcher_of m)) };
 
+    ghost styled_output = { λ m _. Some (matcher_text (plain_matcher_of m)) };
+
+    #[tactic(auto, using(promql_text::proofs::AllOptions::styled))]
     fn fmt<W: fmt::Write>(&self, f: &mut fmt::Formatter<W>) -> fmt::Result {
-        let name = self.name.as_str();
-        let op = &self.op;
-        let value = Quoted(&self.value);
-        if is_label(name) {
-            write!(f, "{name}{op}{value}")
-        } else {
-            let name = Quoted(name);
-            write!(f, "{name}{op}{value}")
-        }
+        write_name(&self.name, f)?;
+        self.op.fmt(f)?;
+        Quoted(&self.value).fmt(f)
+    }
+}
+
+/// Writes the name: docs/reference/matchers.md, "Printed matchers".
+fn write_name<W: fmt::Write>(name: &str, f: &mut fmt::Formatter<W>) -> fmt::Result
+    ensures { WritesStyledOnOk W.write_str_gives f.old result (name_text name.now) f.new }
+{
+    if is_label(name) {
+        f.write_str(name)
+    } else {
+        Quoted(name).fmt(f)
     }
 }
 

@@ -1,7 +1,7 @@
 //! Lists of matchers: docs/reference/matchers.md, "Lists of matchers".
 
 ghost use Rattle.std.specs.Prelude.{◌≡◌, ◌≤◌, [], ◌∷◌, ◌++◌, IfOk, IsOk, OnErr, OnOk, codes, filter, find, length, map, option_map};
-ghost use Rattle.std.specs.Fmt.{WritesOnOk};
+ghost use Rattle.std.specs.Fmt.{WritesStyledOnOk};
 ghost use Rattle.std.specs.List.{list_all};
 ghost use Rattle.promql_label.specs.PlainMatchers.{all_match_empty, append_plain, appended_or, plain_matchers, find_plain, found_value, group_text, holds, is_of, value_of};
 ghost use Rattle.promql_label.specs.MatcherViews.{plain_matcher_of, plain_matchers_of};
@@ -207,6 +207,8 @@ impl fmt::Display for Matchers {
 
     ghost output = { λ m. Some (matchers_text (plain_matchers_of m)) };
 
+    ghost styled_output = { λ m _. Some (matchers_text (plain_matchers_of m)) };
+
     fn fmt<W: fmt::Write>(&self, f: &mut fmt::Formatter<W>) -> fmt::Result {
         let groups = self.or_matchers.as_slice();
         if groups.is_empty() {
@@ -218,13 +220,13 @@ impl fmt::Display for Matchers {
 }
 
 fn write_groups<W: fmt::Write>(groups: &[Vec<Matcher>], f: &mut fmt::Formatter<W>) -> fmt::Result
-    ensures { WritesOnOk W.write_str_gives f.old result
+    ensures { WritesStyledOnOk W.write_str_gives f.old result
         (joined_text (codes " or ")
         (map (λ g. group_text (map plain_matcher_of g.items)) groups.now))
         f.new }
 {
     let write = |group: &Vec<Matcher>, f: &mut fmt::Formatter<W>| -> fmt::Result
-        ensures { WritesOnOk W.write_str_gives f.old result
+        ensures { WritesStyledOnOk W.write_str_gives f.old result
             (group_text (map plain_matcher_of group.now.items)) f.new }
     { write_joined(group, ", ", f) };
     write_joined_by(groups, " or ", f, write)

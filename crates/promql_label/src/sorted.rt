@@ -4,7 +4,7 @@
 //! it. So it compares each matcher with each other one, but allocates nothing.
 
 ghost use Rattle.std.specs.Prelude.{◌≡◌, codes, map};
-ghost use Rattle.std.specs.Fmt.{WritesOnOk};
+ghost use Rattle.std.specs.Fmt.{WritesStyledOnOk};
 ghost use Rattle.std.specs.Iterator.{YieldsFirst, item_count};
 ghost use Rattle.promql_label.specs.MatcherBytes.{left_of, left_of_name};
 ghost use Rattle.promql_label.specs.NextText.{smaller_text, comma_after, copies, IsLeast, text_of, text_of_some, texts_after, times};
@@ -25,7 +25,7 @@ pub(crate) fn write_sorted<W: fmt::Write>(
     matchers: &[Matcher],
     f: &mut fmt::Formatter<W>,
 ) -> fmt::Result
-    ensures { WritesOnOk W.write_str_gives f.old result
+    ensures { WritesStyledOnOk W.write_str_gives f.old result
         (joined_text (codes ",") (sorted_texts (map text_of matchers.now))) f.new }
 {
     let mut last: Option<&Matcher> = None;
@@ -44,7 +44,7 @@ fn write_copies<W: fmt::Write>(
     f: &mut fmt::Formatter<W>,
 ) -> fmt::Result
     ensures { let text = text_of matcher.now in
-        WritesOnOk W.write_str_gives f.old result
+        WritesStyledOnOk W.write_str_gives f.old result
         (texts_after started (times (copies text (map text_of matchers.now)) text)) f.new }
 {
     let mut going = started;
@@ -59,7 +59,7 @@ fn write_copies<W: fmt::Write>(
 }
 
 fn write_comma<W: fmt::Write>(started: bool, f: &mut fmt::Formatter<W>) -> fmt::Result
-    ensures { WritesOnOk W.write_str_gives f.old result (comma_after started) f.new }
+    ensures { WritesStyledOnOk W.write_str_gives f.old result (comma_after started) f.new }
 {
     if started { f.write_str(",") } else { Ok(()) }
 }

@@ -1,3 +1,4 @@
+pub mod AllOptions
 pub mod DigitCounts
 pub mod DigitsRead
 pub mod DurationRelation

@@ -1,7 +1,7 @@
 -- Texts, and lists of them (docs/reference/texts.md, "Lists").
 use Rattle.std.specs.Prelude.{ℕ, List, Result}
 use Rattle.std.specs.Borrow.{Bor, MutBor}
-use Rattle.std.specs.Fmt.{WritesOnOk}
+use Rattle.std.specs.Fmt.{WritesOnOk, WritesStyledOnOk}
 use Rattle.std.specs.declared.fmt.Error.{Error}
 use Rattle.std.specs.declared.fmt.Formatter.{Formatter}
 use Rattle.std.specs.List.{join_by}
@@ -20,3 +20,10 @@ abbrev pub WritesTexts : {T W : Type 0} → (W → Text → W → Type 0)
     → (T → Text) → Type 0
 WritesTexts took called text = (item : _) (before : _) (r : _) (after : _)
     → called item before r after → WritesOnOk took before.now r (text item.now) after.now
+
+-- the same, whatever options the formatter has
+abbrev pub WritesStyledTexts : {T W : Type 0} → (W → Text → W → Type 0)
+    → (Bor T → MutBor (Formatter W) → Result (Unit {0}) Error → MutBor (Formatter W) → Type 0)
+    → (T → Text) → Type 0
+WritesStyledTexts took called text = (item : _) (before : _) (r : _) (after : _)
+    → called item before r after → WritesStyledOnOk took before.now r (text item.now) after.now

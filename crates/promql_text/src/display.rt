@@ -6,6 +6,7 @@ ghost use Rattle.promql_text.specs.NumberText.{number_text};
 
 use crate::decimal::{Decimal, digit_count};
 use crate::number::Number;
+use crate::without_options::write_plain;
 use std::fmt;
 
 /// So many zeros.
@@ -59,17 +60,22 @@ impl fmt::Display for Magnitude<'_> {
 impl fmt::Display for Decimal {
     ghost output = { λ d. Some (exact_text d) };
 
+    ghost styled_output = { λ d _. Some (exact_text d) };
+
+    #[tactic(auto, using(crate::proofs::AllOptions::styled))]
     fn fmt<W: fmt::Write>(&self, f: &mut fmt::Formatter<W>) -> fmt::Result {
         if self.is_negative {
             f.write_str("-")?;
         }
-        Magnitude(self).fmt(f)
+        write_plain(Magnitude(self), f)
     }
 }
 
 /// The number in plain positional form, without exponent; or `Inf`, `-Inf`, `NaN`.
 impl fmt::Display for Number {
     ghost output = { λ n. Some (number_text n) };
+
+    ghost styled_output = { λ n _. Some (number_text n) };
 
     fn fmt<W: fmt::Write>(&self, f: &mut fmt::Formatter<W>) -> fmt::Result {
         match self {

@@ -7,6 +7,7 @@ ghost use Rattle.promql_text.specs.Durations.{nanos_of};
 ghost use Rattle.promql_text.specs.DurationText as spec;
 
 use crate::duration::Unit;
+use crate::without_options::write_plain;
 use std::alloc::{AllocError, Global};
 use std::fmt;
 use std::time::Duration;
@@ -112,20 +113,21 @@ pub struct DurationText<'a>(pub &'a Duration);
 impl fmt::Display for DurationText<'_> {
     ghost output = { λ d. Some (spec.duration_text (as_nanos d.0.now)) };
 
+    ghost styled_output = { λ d _. Some (spec.duration_text (as_nanos d.0.now)) };
+
     #[tactic(auto, unfolding(crate::specs::DurationText::duration_text))]
     fn fmt<W: fmt::Write>(&self, f: &mut fmt::Formatter<W>) -> fmt::Result {
         let nanos = self.0.as_nanos();
         if nanos == 0 {
-            write!(f, "0s")
+            f.write_str("0s")
         } else if nanos % 1_000_000 == 0 {
-            let whole = Whole(nanos);
-            write!(f, "{whole}")
+            write_plain(Whole(nanos), f)
         } else {
             let seconds = self.0.as_secs();
             let fraction = Fraction {
                 nanos: self.0.subsec_nanos(),
             };
-            write!(f, "{seconds}.{fraction}")
+            write_plain(format_args!("{seconds}.{fraction}"), f)
         }
     }
 }

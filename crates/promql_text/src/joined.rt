@@ -2,9 +2,10 @@
 //! allocated.
 //!
 //! A printer calls `write_joined` where the items print as they are to, and cites its clause with
-//! the text of an item: `c.write_joined.ensures text_of (λ item. refl)`. Else it calls
+//! the text of an item: `c.write_joined.ensures.styled text_of (λ item options. refl)`. Else it calls
 //! `write_joined_by` with a function or a closure whose clause says what it writes of an item, and
-//! cites that clause: `c.write_joined_by.ensures text_of (λ _ _ _ _ writes. writes)`.
+//! cites that clause: `c.write_joined_by.ensures.styled text_of (λ _ _ _ _ writes. writes)`.
+//! `writes_at_plain` of `proofs/AllOptions` takes what holds under all options to a formatter without any.
 //!
 //! A recursive printer writes the loop itself, since a call through a type parameter has no proof
 //! in a cycle of calls:
@@ -21,8 +22,8 @@
 //! at the end.
 
 ghost use Rattle.std.specs.Prelude.{◌≡◌, ◌==◌, if◌then◌else◌, [], Some, map};
-ghost use Rattle.std.specs.Fmt.{DisplaysOnOk, WritesOnOk};
-ghost use Rattle.promql_text.specs.Texts.{Text, WritesTexts, joined_text};
+ghost use Rattle.std.specs.Fmt.{DisplaysOnOk, DisplaysStyledOnOk, WritesOnOk, WritesStyledOnOk, formatter_spec};
+ghost use Rattle.promql_text.specs.Texts.{Text, WritesStyledTexts, WritesTexts, joined_text};
 
 use std::fmt;
 use std::fmt::Display;
@@ -34,7 +35,7 @@ pub fn write_separator<W: fmt::Write>(
     at: usize,
     f: &mut fmt::Formatter<W>,
 ) -> fmt::Result
-    ensures { WritesOnOk W.write_str_gives f.old result
+    ensures { WritesStyledOnOk W.write_str_gives f.old result
         (if at == 0 then [] else separator.now) f.new }
 {
     if at == 0 {
@@ -50,12 +51,18 @@ pub fn write_joined<T: Display, W: fmt::Write>(
     separator: &str,
     f: &mut fmt::Formatter<W>,
 ) -> fmt::Result
-    ensures { (text : T → Text) → ((item : T) → T.output item ≡ Some (text item))
+    ensures writes { (text : T → Text) → ((item : T) → T.output item ≡ Some (text item))
         → WritesOnOk W.write_str_gives f.old result
+        (joined_text separator.now (map text items.now)) f.new }
+    ensures styled { (text : T → Text)
+        → ((item : T) (options : _) → T.styled_output item options ≡ Some (text item))
+        → WritesStyledOnOk W.write_str_gives f.old result
         (joined_text separator.now (map text items.now)) f.new }
 {
     let write = |item: &T, f: &mut fmt::Formatter<W>| -> fmt::Result
-        ensures { DisplaysOnOk W.write_str_gives f.old result (T.output item.now) f.new }
+        ensures writes { DisplaysOnOk W.write_str_gives f.old result (T.output item.now) f.new }
+        ensures styled { DisplaysStyledOnOk W.write_str_gives f.old result
+            (T.styled_output item.now (formatter_spec f.old)) f.new }
     { item.fmt(f) };
     write_joined_by(items, separator, f, write)
 }
@@ -68,8 +75,11 @@ pub fn write_joined_by<T, W: fmt::Write, F: Fn(&T, &mut fmt::Formatter<W>) -> fm
     write: F,
 ) -> fmt::Result
     requires { F.IsAlwaysCallable write }
-    ensures { (text : T → Text) → WritesTexts W.write_str_gives (F.post write) text
+    ensures writes { (text : T → Text) → WritesTexts W.write_str_gives (F.post write) text
         → WritesOnOk W.write_str_gives f.old result
+        (joined_text separator.now (map text items.now)) f.new }
+    ensures styled { (text : T → Text) → WritesStyledTexts W.write_str_gives (F.post write) text
+        → WritesStyledOnOk W.write_str_gives f.old result
         (joined_text separator.now (map text items.now)) f.new }
 {
     for (i, item) in items.iter().enumerate() {

@@ -26,6 +26,7 @@ pub mod quote;
 pub mod quoted;
 mod seconds;
 mod significand;
+pub mod without_options;
 
 pub use decimal::Decimal;
 pub use duration::{
@@ -41,3 +42,4 @@ pub use printed_len::{
 };
 pub use quote::{QuoteError, escape_string, unquote_string};
 pub use quoted::{Quoted, QuotedBytes};
+pub use without_options::write_plain;

@@ -2,7 +2,7 @@
 
 ghost use Rattle.std.specs.Prelude.{◌≡◌};
 ghost use Rattle.std.specs.Char.{encode_utf8};
-ghost use Rattle.std.specs.Fmt.{WritesOnOk};
+ghost use Rattle.std.specs.Fmt.{WritesStyledOnOk};
 ghost use Rattle.std.specs.Iterator.{YieldsFirst, item_count};
 ghost use Rattle.promql_text.specs.QuotedBytes.{bytes_left};
 ghost use Rattle.promql_text.specs.Quoting.{escaped_text, quoted_text};
@@ -21,6 +21,9 @@ impl fmt::Display for Quoted<'_> {
 
     ghost output = { λ text. Some (quoted_text text.0.now) };
 
+    ghost styled_output = { λ text _. Some (quoted_text text.0.now) };
+
+    #[tactic(auto, using(crate::proofs::AllOptions::styled))]
     fn fmt<W: fmt::Write>(&self, f: &mut fmt::Formatter<W>) -> fmt::Result {
         f.write_str("\"")?;
         write_escaped(self.0, f)?;
@@ -29,7 +32,7 @@ impl fmt::Display for Quoted<'_> {
 }
 
 fn write_escaped<W: fmt::Write>(text: &str, f: &mut fmt::Formatter<W>) -> fmt::Result
-    ensures { WritesOnOk W.write_str_gives f.old result (escaped_text text.now) f.new }
+    ensures { WritesStyledOnOk W.write_str_gives f.old result (escaped_text text.now) f.new }
 {
     for c in text.chars() {
         write_escaped_char(c, f)?;
@@ -38,7 +41,7 @@ fn write_escaped<W: fmt::Write>(text: &str, f: &mut fmt::Formatter<W>) -> fmt::R
 }
 
 fn write_escaped_char<W: fmt::Write>(c: char, f: &mut fmt::Formatter<W>) -> fmt::Result
-    ensures { WritesOnOk W.write_str_gives f.old result (escaped_text (encode_utf8 c)) f.new }
+    ensures { WritesStyledOnOk W.write_str_gives f.old result (escaped_text (encode_utf8 c)) f.new }
 {
     match escape_of(c) {
         Some(escape) => f.write_str(escape),

@@ -179,6 +179,9 @@ impl fmt::Display for LexFault {
 
     ghost output = { λ f. Some (spec.message f) };
 
+    ghost styled_output = { λ f _. Some (spec.message f) };
+
+    #[tactic(auto, using(promql_text::proofs::AllOptions::styled))]
     fn fmt<W: fmt::Write>(&self, f: &mut fmt::Formatter<W>) -> fmt::Result {
         f.write_str(self.kind.message())?;
         if let Some(ch) = self.ch {

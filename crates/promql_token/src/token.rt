@@ -88,6 +88,8 @@ impl fmt::Display for TokenType {
 
     ghost output = { λ t. Some (spec.text_of t) };
 
+    ghost styled_output = { λ t _. Some (spec.text_of t) };
+
     fn fmt<W: fmt::Write>(&self, f: &mut fmt::Formatter<W>) -> fmt::Result {
         f.write_str(token_display(self.0))
     }
