@@ -1,3 +1,4 @@
 pub mod Equal
 pub mod SameModifiersDecide
+pub mod FedModifiers
 pub mod NamedFunctions

@@ -4,3 +4,4 @@ pub mod ModifierViews
 pub mod ModifierText
 pub mod Functions
 pub mod SameModifiers
+pub mod ModifierFeeds

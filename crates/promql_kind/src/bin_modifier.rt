@@ -18,7 +18,7 @@ use std::fmt;
 use std::fmt::Display;
 
 /// How the sides of a binary expression match.
-#[derive(Debug, Drop, PartialEq)]
+#[derive(Debug, Drop, PartialEq, Eq, Hash)]
 pub struct BinModifier {
     /// How many elements match how many, where both sides are vectors.
     pub card: VectorMatchCardinality,

@@ -9,7 +9,7 @@ use promql_label::Labels;
 use std::alloc::{AllocError, Global};
 
 /// How many elements of the left side match one of the right, and the other way round.
-#[derive(Debug, Drop, PartialEq, Eq)]
+#[derive(Debug, Drop, PartialEq, Eq, Hash)]
 pub enum VectorMatchCardinality {
     /// One matches one.
     OneToOne,

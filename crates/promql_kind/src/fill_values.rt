@@ -9,7 +9,7 @@ use std::alloc::{AllocError, Global};
 
 /// The values that are in for a missing element of either side. Without a value, elements that match nothing are
 /// left out.
-#[derive(Clone, Copy, Debug, PartialEq)]
+#[derive(Clone, Copy, Debug, PartialEq, Eq, Hash)]
 pub struct VectorMatchFillValues {
     /// Stands in for an element of the right side.
     pub rhs: Option<Number>,

@@ -8,7 +8,7 @@ use crate::value::ValueType;
 use std::alloc::{AllocError, Global};
 
 /// A function's name, its arguments and the type of its value.
-#[derive(Debug, Drop, PartialEq, Eq)]
+#[derive(Debug, Drop, PartialEq, Eq, Hash)]
 pub struct Function {
     /// What a call names it by.
     pub name: &'static str,

@@ -9,7 +9,7 @@ use promql_label::Labels;
 use std::alloc::{AllocError, Global};
 
 /// The labels that count, after `by` and `on`, or that do not, after `without` and `ignoring`.
-#[derive(Debug, Drop, PartialEq, Eq)]
+#[derive(Debug, Drop, PartialEq, Eq, Hash)]
 pub enum LabelModifier {
     /// These labels alone.
     Include(Labels),

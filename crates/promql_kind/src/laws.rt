@@ -1,7 +1,9 @@
 //! Laws on the definitions alone. Each is the contract of a function that does nothing.
 
+ghost use Rattle.std.specs.Prelude.{◌≡◌};
 ghost use Rattle.promql_text.specs.Equalities.{ClonesKeep, IsSameBy};
 ghost use Rattle.promql_kind.specs.Functions.{signature_of};
+ghost use Rattle.promql_kind.specs.ModifierFeeds.{cardinality_feed, clause_feed, fills_feed, matching_feed, number_feed, signature_feed, type_feed};
 ghost use Rattle.promql_kind.specs.ModifierViews.{cardinality_of, clause_of, fills_of, matching_of};
 
 use crate::bin_modifier::BinModifier;
@@ -10,6 +12,8 @@ use crate::fill_values::VectorMatchFillValues;
 use crate::function::Function;
 use crate::label_modifier::LabelModifier;
 use crate::value::ValueType;
+use promql_text::Number;
+use std::hash::Hash;
 
 /// Value types are equal exactly if they are the same.
 pub fn equal_value_types()
@@ -45,4 +49,21 @@ pub fn equal_bin_modifiers()
 /// Functions are equal exactly if all their parts are.
 pub fn equal_functions()
     ensures { IsSameBy signature_of ⟦<Function as PartialEq>⟧.eq }
+{}
+
+/// What is fed to a hasher: of each value all its parts in order, of a variant its index first.
+pub fn hash_inputs()
+    ensures numbers { (n : Number) → ⟦<Number as Hash>⟧.hash_input n ≡ number_feed n }
+    ensures value_types { (t : ValueType) → ⟦<ValueType as Hash>⟧.hash_input t ≡ type_feed t }
+    ensures label_modifiers { (m : LabelModifier)
+        → ⟦<LabelModifier as Hash>⟧.hash_input m ≡ clause_feed (clause_of m) }
+    ensures cardinalities { (card : VectorMatchCardinality)
+        → ⟦<VectorMatchCardinality as Hash>⟧.hash_input card
+        ≡ cardinality_feed (cardinality_of card) }
+    ensures fill_values { (values : VectorMatchFillValues)
+        → ⟦<VectorMatchFillValues as Hash>⟧.hash_input values ≡ fills_feed (fills_of values) }
+    ensures bin_modifiers { (m : BinModifier)
+        → ⟦<BinModifier as Hash>⟧.hash_input m ≡ matching_feed (matching_of m) }
+    ensures functions { (f : Function)
+        → ⟦<Function as Hash>⟧.hash_input f ≡ signature_feed (signature_of f) }
 {}

@@ -20,6 +20,8 @@ pub mod Reading
 pub mod EscapedPlaces
 pub mod SameMatchers
 pub mod SmallPatterns
+pub mod FedLists
+pub mod FedMatchers
 pub mod SortedMatchers
 pub mod StableSort
 pub mod LabelPrintedLen

@@ -3,6 +3,7 @@ pub mod LabelLaws
 pub mod Labels
 pub mod MatcherBytes
 pub mod MatcherErrors
+pub mod MatcherFeeds
 pub mod MatcherRows
 pub mod NextText
 pub mod Operators

@@ -17,7 +17,7 @@ use std::fmt::Display;
 pub type Label = String;
 
 /// A list of labels.
-#[derive(Debug, Drop, PartialEq, Eq)]
+#[derive(Debug, Drop, PartialEq, Eq, Hash)]
 pub struct Labels {
     pub labels: Vec<Label>,
 }

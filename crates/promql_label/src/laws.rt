@@ -17,6 +17,7 @@ ghost use Rattle.promql_label.specs.SortedTexts.{sorted_texts};
 ghost use Rattle.promql_token.specs.Lexing.{pieces};
 ghost use Rattle.promql_text.specs.Equalities.{HashesAlike, IsSameBy};
 ghost use Rattle.promql_label.specs.MatcherErrors.{plain_error_of};
+ghost use Rattle.promql_label.specs.MatcherFeeds.{labels_feed, matcher_feed, matchers_feed, operator_feed};
 ghost use Rattle.promql_label.specs.PatternRejections.{rejected_value};
 ghost use Rattle.promql_label.specs.MatcherViews.{plain_matcher_of, plain_matchers_of, operator_of};
 
@@ -139,6 +140,18 @@ pub fn small_patterns_have_one_answer()
 /// Plain patterns are read, by themselves and anchored.
 pub fn plain_patterns_are_read()
     ensures { (v : Text) → is_plain v ≡ true → IsReadPair v }
+{}
+
+/// What is fed to a hasher: of labels their texts, of matchers their operators, names and values, of a
+/// list its matchers and groups.
+pub fn hash_inputs()
+    ensures labels { (x : Labels) → ⟦<Labels as Hash>⟧.hash_input x ≡ labels_feed (labels_of x) }
+    ensures operators { (op : MatchOp)
+        → ⟦<MatchOp as Hash>⟧.hash_input op ≡ operator_feed (operator_of op) }
+    ensures matchers { (m : Matcher)
+        → ⟦<Matcher as Hash>⟧.hash_input m ≡ matcher_feed (plain_matcher_of m) }
+    ensures lists { (m : Matchers)
+        → ⟦<Matchers as Hash>⟧.hash_input m ≡ matchers_feed (plain_matchers_of m) }
 {}
 
 /// Faults of patterns are equal exactly if they are of one kind and have one value.

@@ -15,7 +15,7 @@ use std::alloc::{AllocError, Global};
 use std::{fmt, mem};
 
 /// Matchers that all have to hold, and groups of which one has to.
-#[derive(Debug, Drop, PartialEq, Eq)]
+#[derive(Debug, Drop, PartialEq, Eq, Hash)]
 pub struct Matchers {
     /// The matchers beside the groups.
     pub matchers: Vec<Matcher>,
