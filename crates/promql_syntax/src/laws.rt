@@ -4,13 +4,14 @@ ghost use Rattle.std.specs.Prelude.{◌≡◌, ◌↔◌, ℕ, List, Result, Ok}
 ghost use Rattle.promql_text.specs.Equalities.{IsSameBy};
 ghost use Rattle.promql_grammar.specs.Grammar.{Derivation, IsWellFormed, yield};
 ghost use Rattle.promql_text.specs.Texts.{Text};
-ghost use Rattle.promql_label.specs.Answers.{Answer};
+ghost use Rattle.promql_label.specs.Answers.{Answer, pattern_answer};
 ghost use Rattle.promql_ast.specs.Layout.{layout_of};
 ghost use Rattle.promql_ast.specs.Normal.{normal};
 ghost use Rattle.promql_ast.specs.Text.{text};
 ghost use Rattle.promql_ast.specs.Tree.{Tree};
 ghost use Rattle.promql_syntax.specs.ParseAnswers.{HasTree, IsServed, PlainParseError, plain_error_of};
 ghost use Rattle.promql_syntax.specs.Asking.{AreAnswersOf, Asked};
+ghost use Rattle.promql_syntax.specs.TreePatterns.{HasSmallPatterns};
 
 use crate::parser::ParseError;
 
@@ -52,3 +53,37 @@ pub fn prints_alike()
     ensures { (g : Text → Answer) (first second : Text) (s t : Tree)
         → HasTree g first s → HasTree g second t → (text s ≡ text t) ↔ (normal s ≡ normal t) }
 {}
+
+/// Where a tree's patterns are small, nothing is assumed of `regex`: the answer to a text is such a tree
+/// exactly if the text has it, each pattern with its computed answer. The patterns of its normal form are
+/// small too, so the same holds of its printed texts.
+pub fn small_patterns_need_no_premise()
+    ensures has { (source : Text) (answers : List Asked) (t : Tree)
+        → IsServed source answers (Ok t) → HasSmallPatterns t → HasTree pattern_answer source t }
+    ensures is { (source : Text) (answers : List Asked) (answer : Result Tree PlainParseError) (t : Tree)
+        → IsServed source answers answer → HasTree pattern_answer source t → HasSmallPatterns t
+        → answer ≡ Ok t }
+    ensures normal { (t : Tree) → HasSmallPatterns t → HasSmallPatterns (normal t) }
+{
+    promql_label::laws::small_patterns_have_one_answer();
+}
+
+/// A printed query with small patterns means the query that was read, with no premise on `regex`: where a
+/// text was answered by such a tree, each answer to the tree's text, on one line or laid out at any level
+/// and width, that is not for memory is its normal form; and two such texts print alike exactly if the
+/// normal forms of their trees are equal.
+pub fn small_patterns_read_back()
+    ensures line { (source : Text) (answers again : List Asked) (t : Tree)
+        (answer : Result Tree PlainParseError) → IsServed source answers (Ok t) → HasSmallPatterns t
+        → IsServed (text t) again answer → answer ≡ Ok (normal t) }
+    ensures lines { (source : Text) (answers again : List Asked) (t : Tree)
+        (answer : Result Tree PlainParseError) → IsServed source answers (Ok t) → HasSmallPatterns t
+        → (level most : ℕ) → IsServed (layout_of t level most) again answer → answer ≡ Ok (normal t) }
+    ensures alike { (first second : Text) (answers others : List Asked) (s t : Tree)
+        → IsServed first answers (Ok s) → IsServed second others (Ok t)
+        → HasSmallPatterns s → HasSmallPatterns t → (text s ≡ text t) ↔ (normal s ≡ normal t) }
+{
+    small_patterns_need_no_premise();
+    laid_reads_back();
+    prints_alike();
+}
