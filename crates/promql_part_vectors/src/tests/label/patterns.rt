@@ -127,6 +127,50 @@ fn patterns_match_whole_texts(rt: HostRuntime) -> Result<(), Fail> {
     Ok(())
 }
 
+/// Small patterns that take as much to compile as any: a piece so many times, the middle, and another piece as often; then
+/// a text that it matches, a piece so many times.
+const DENSE: [(&str, usize, &str, &str, &str, usize); 8] = [
+    (r"\w", 497, "", "", "é", 497),
+    (r"\pL", 331, "", "", "é", 331),
+    (r"\PL", 331, "", "", "1", 331),
+    ("(?i)k", 198, "", "", "K", 198),
+    ("[^a]", 248, "", "", "é", 248),
+    (r"\w{82}", 1, "", "", "a", 82),
+    (r"(\w{7}){6}", 1, "", "", "a", 42),
+    ("(", 200, "a", ")", "a", 1),
+];
+
+#[test]
+fn dense_small_patterns_compile(rt: HostRuntime) -> Result<(), Fail> {
+    for (open, count, middle, close, piece, times) in &DENSE {
+        let alloc = rt.alloc();
+        let open = open.repeat(alloc, *count)?;
+        let close = close.repeat(alloc, *count)?;
+        let value = format!(in alloc; "{open}{middle}{close}")?;
+        let text = piece.repeat(alloc, *times)?;
+        holds(&rt, is_found(alloc, &value, &text)?, &value);
+        holds(&rt, !is_found(alloc, &value, "\n")?, &value);
+    }
+    Ok(())
+}
+
+/// Whether a pattern of this value matches the text once it is prepared, and a copy of it does as well.
+fn is_found_prepared(alloc: Global, value: &str, text: &str) -> Result<bool, Fail> {
+    let mut prepared = matcher(alloc, value)?;
+    prepared.prepare(alloc)?;
+    let copy = prepared.try_clone(alloc)?;
+    Ok(prepared.is_match(alloc, text)? && copy.is_match(alloc, text)? && prepared == copy)
+}
+
+#[test]
+fn prepared_patterns_match_alike(rt: HostRuntime) -> Result<(), Fail> {
+    for (value, text, want) in &MATCHED {
+        let found = is_found_prepared(rt.alloc(), value, text)?;
+        holds(&rt, found == *want, text);
+    }
+    Ok(())
+}
+
 #[test]
 fn a_text_that_is_no_pattern_is_rejected(rt: HostRuntime) {
     let found = Pattern::of_text(rt.alloc(), "(");
