@@ -1,7 +1,7 @@
 //! Modifiers of binary expressions: docs/reference/tree.md, "Modifiers", and docs/reference/printing.md, "Modifiers".
 
 ghost use Rattle.std.specs.Prelude.{◌≡◌, ◌++◌, [], Some, None, IfOk, codes, if◌then◌else◌, map, option_map, string_bytes};
-ghost use Rattle.std.specs.Fmt.{WritesOnOk};
+ghost use Rattle.std.specs.Fmt.{WritesStyledOnOk};
 ghost use Rattle.promql_text.specs.NumberText.{number_text};
 ghost use Rattle.promql_label.specs.Labels.{labels_of, labels_text};
 ghost use Rattle.promql_kind.specs.Modifiers as spec;
@@ -180,6 +180,9 @@ fn clone_label_modifier(
 impl fmt::Display for BinModifier {
     ghost output = { λ m. Some (modifier_text (matching_of m)) };
 
+    ghost styled_output = { λ m _. Some (modifier_text (matching_of m)) };
+
+    #[tactic(auto, using(promql_text::proofs::AllOptions::styled))]
     fn fmt<W: fmt::Write>(&self, f: &mut fmt::Formatter<W>) -> fmt::Result {
         write_bool(self.return_bool, f)?;
         write_matched(self.card.is_grouping(), &self.matching, f)?;
@@ -189,7 +192,7 @@ impl fmt::Display for BinModifier {
 }
 
 fn write_bool<W: fmt::Write>(return_bool: bool, f: &mut fmt::Formatter<W>) -> fmt::Result
-    ensures { WritesOnOk W.write_str_gives f.old result (bool_text return_bool) f.new }
+    ensures { WritesStyledOnOk W.write_str_gives f.old result (bool_text return_bool) f.new }
 {
     if return_bool {
         f.write_str(" bool")
@@ -204,7 +207,7 @@ fn write_matched<W: fmt::Write>(
     matching: &Option<LabelModifier>,
     f: &mut fmt::Formatter<W>,
 ) -> fmt::Result
-    ensures { WritesOnOk W.write_str_gives f.old result
+    ensures { WritesStyledOnOk W.write_str_gives f.old result
         (matched_text is_grouping (option_map clause_of matching.now)) f.new }
 {
     match matching {
@@ -224,7 +227,7 @@ fn write_grouping<W: fmt::Write>(
     card: &VectorMatchCardinality,
     f: &mut fmt::Formatter<W>,
 ) -> fmt::Result
-    ensures { WritesOnOk W.write_str_gives f.old result
+    ensures { WritesStyledOnOk W.write_str_gives f.old result
         (grouping_text (cardinality_of card.now)) f.new }
 {
     match card {
@@ -235,12 +238,13 @@ fn write_grouping<W: fmt::Write>(
     }
 }
 
+#[tactic(auto, using(promql_text::proofs::AllOptions::styled))]
 fn write_labels<W: fmt::Write>(
     before: &str,
     labels: &Labels,
     f: &mut fmt::Formatter<W>,
 ) -> fmt::Result
-    ensures { WritesOnOk W.write_str_gives f.old result
+    ensures { WritesStyledOnOk W.write_str_gives f.old result
         (before.now ++ (labels_text (labels_of labels.now) ++ codes ")")) f.new }
 {
     f.write_str(before)?;
@@ -249,12 +253,13 @@ fn write_labels<W: fmt::Write>(
 }
 
 /// Writes the fill values: one clause if they are equal, else one for each that is there.
+#[tactic(auto, using(promql_text::proofs::AllOptions::styled))]
 fn write_fills<W: fmt::Write>(
     lhs: &Option<Number>,
     rhs: &Option<Number>,
     f: &mut fmt::Formatter<W>,
 ) -> fmt::Result
-    ensures { WritesOnOk W.write_str_gives f.old result
+    ensures { WritesStyledOnOk W.write_str_gives f.old result
         (fills_text (spec.fills rhs.now lhs.now)) f.new }
 {
     match lhs {
@@ -276,12 +281,13 @@ fn write_fills<W: fmt::Write>(
     }
 }
 
+#[tactic(auto, using(promql_text::proofs::AllOptions::styled))]
 fn write_fill<W: fmt::Write>(
     before: &str,
     number: &Number,
     f: &mut fmt::Formatter<W>,
 ) -> fmt::Result
-    ensures { WritesOnOk W.write_str_gives f.old result
+    ensures { WritesStyledOnOk W.write_str_gives f.old result
         (before.now ++ (number_text number.now ++ codes ")")) f.new }
 {
     f.write_str(before)?;

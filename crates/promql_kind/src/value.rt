@@ -23,6 +23,8 @@ impl fmt::Display for ValueType {
 
     ghost output = { λ t. Some (type_text t) };
 
+    ghost styled_output = { λ t _. Some (type_text t) };
+
     fn fmt<W: fmt::Write>(&self, f: &mut fmt::Formatter<W>) -> fmt::Result {
         f.write_str(match self {
             ValueType::Vector => "vector",
