@@ -1,4 +1,4 @@
-//! Texts of a query, and walks over its tree.
+//! Texts of a query, places in them, and walks over its tree.
 
 pub mod duration;
 pub mod number;
@@ -6,5 +6,5 @@ pub mod visitor;
 
 pub use duration::{display_duration, parse_duration};
 pub use number::parse_str_radix;
-pub use promql_text::{QuoteError, escape_string, unquote_string};
+pub use promql_text::{Location, QuoteError, escape_string, unquote_string};
 pub use visitor::{ExprVisitor, walk_expr};

@@ -1,4 +1,5 @@
 pub mod AllOptions
+pub mod Columns
 pub mod DigitCounts
 pub mod DigitsRead
 pub mod DurationRelation

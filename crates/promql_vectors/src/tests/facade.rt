@@ -84,6 +84,7 @@ type Types<'a> = (
     promql_parser::label::Matchers,
     promql_parser::label::Pattern,
     promql_parser::label::PatternFault,
+    promql_parser::util::Location,
     promql_parser::util::QuoteError,
     promql_parser::util::duration::DurationFault,
     promql_parser::util::duration::DurationText<'a>,

@@ -1,0 +1,38 @@
+-- Lines and columns of a text (docs/reference/texts.md, "Lines and columns"). A text is its characters here.
+use Rattle.std.specs.Prelude.{ℕ, ◌+◌, ◌-◌, Bool, ◌==◌, ◌||◌, nat_lt, if◌then◌else◌, [], ◌∷◌, ◌++◌, length}
+use Rattle.std.specs.Char.{len_utf8}
+use Rattle.std.specs.Fmt.{decimal}
+use Rattle.std.specs.List.{count_by, list_any, sum_by}
+use Rattle.promql_text.specs.Bytes.{colon, line_feed}
+use Rattle.promql_text.specs.Texts.{Text}
+use Rattle.promql_text.specs.declared.location.Location.{Location}
+
+-- the characters that end at this byte or before it
+abbrev pub characters_before : Text → ℕ → Text
+characters_before [] offset = []
+characters_before (c ∷ cs) offset = if nat_lt offset (len_utf8 c) then [] else c ∷ characters_before cs (offset - len_utf8 c)
+
+abbrev pub is_line_feed : ℕ → Bool
+is_line_feed c = c == line_feed
+
+-- what follows the last line feed, or all where there is none
+abbrev pub last_line : Text → Text
+last_line [] = []
+last_line (c ∷ cs) = if is_line_feed c || list_any is_line_feed cs then last_line cs else c ∷ cs
+
+-- how many units a character takes in UTF-16
+abbrev pub len_utf16 : ℕ → ℕ
+len_utf16 c = if nat_lt c 0x1_0000 then 1 else 2
+
+abbrev pub line_of : Text → ℕ → ℕ
+line_of cs offset = 1 + count_by is_line_feed (characters_before cs offset)
+
+abbrev pub column_of : Text → ℕ → ℕ
+column_of cs offset = 1 + length (last_line (characters_before cs offset))
+
+abbrev pub column_utf16_of : Text → ℕ → ℕ
+column_utf16_of cs offset = 1 + sum_by len_utf16 (last_line (characters_before cs offset))
+
+-- the line, a colon, the column
+abbrev pub location_text : Location → Text
+location_text place = decimal place.line ++ colon ∷ decimal place.column
