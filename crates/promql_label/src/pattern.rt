@@ -1,9 +1,10 @@
 //! Patterns: docs/reference/matchers.md, "Patterns".
 
-ghost use Rattle.std.specs.Prelude.{◌≡◌, IfOk, IfErr, IfSome, IfNone, string_bytes};
+ghost use Rattle.std.specs.Prelude.{◌≡◌, true, IfOk, IfErr, IfSome, IfNone, IsSome, string_bytes};
 ghost use Rattle.regex.specs.Patterns.{default_config};
 ghost use Rattle.regex.specs.Strings.{regex_config, regex_source, IsReadFromSource};
 ghost use Rattle.promql_label.specs.PatternRejections.{IsRejected};
+ghost use Rattle.promql_label.specs.PatternSize as size;
 ghost use Rattle.promql_label.specs.Answers as spec;
 ghost use Rattle.promql_label.specs.Answers.{Allows, built, finds, IsCompiledFrom, IsRead, IsReadPair, IsTried, MayReject, MayRejectPair, rejected};
 
@@ -36,16 +37,17 @@ pub struct Pattern {
 }
 
 impl Model for Pattern {
-    ghost use Rattle.std.specs.Prelude.{List, ℕ, IfSome, string_bytes};
-    ghost use Rattle.promql_label.specs.Answers as spec;
+    ghost use Rattle.std.specs.Prelude.{◌≡◌, List, ℕ, true, IfSome, IsSome, string_bytes};
     ghost use Rattle.promql_label.specs.Answers.{IsCompiledFrom, IsRead};
+    ghost use Rattle.promql_label.specs.PatternSize.{is_large};
 
     ghost Value = { List ℕ };
 
     ghost view = { λ p. string_bytes p.source.value.text };
 
     ghost invariant = { λ p. IsRead (string_bytes p.source.value.text)
-        × IfSome p.source.value.regex (IsCompiledFrom (string_bytes p.source.value.text)) };
+        × IfSome p.source.value.regex (IsCompiledFrom (string_bytes p.source.value.text))
+        × (is_large (string_bytes p.source.value.text) ≡ true → IsSome p.source.value.regex) };
 }
 
 /// Why no pattern is built.
@@ -195,6 +197,7 @@ impl Pattern {
     fn new(alloc: Global, text: String, regex: Option<Regex>) -> Result<Pattern, AllocError>
         requires read { IsRead (string_bytes text) }
         requires compiled { IfSome regex (IsCompiledFrom (string_bytes text)) }
+        requires large { size.is_large (string_bytes text) ≡ true → IsSome regex }
         ensures { IfOk result (λ p. p ≡ string_bytes text) }
     {
         Ok(Pattern {

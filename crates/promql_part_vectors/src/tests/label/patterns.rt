@@ -29,6 +29,50 @@ fn patterns_are_anchored(rt: HostRuntime) {
     }
 }
 
+/// Ends of long patterns, and what is built of them.
+const LONG_ENDS: [(&str, &str); 4] = [
+    ("|y", "|y"),
+    ("[{]", "[{]"),
+    (r"\b{start}y", r"\b{start}y"),
+    (r"\d{b}", r"\d\{b}"),
+];
+
+const LENGTHS: [usize; 6] = [35, 41, 95, 101, 257, 990];
+
+/// Whether the pattern of so many letters before this end is built with that end.
+fn is_long_built(alloc: Global, length: usize, end: &str, want: &str) -> Result<bool, Fail> {
+    let letters = "x".repeat(alloc, length)?;
+    let value = format!(in alloc; "{letters}{end}")?;
+    let built = format!(in alloc; "^(?:{letters}{want})$")?;
+    Ok(is_built_as(&Pattern::read(alloc, &value), &built))
+}
+
+#[test]
+fn long_patterns_are_built(rt: HostRuntime) -> Result<(), Fail> {
+    for length in &LENGTHS {
+        for (end, want) in &LONG_ENDS {
+            holds(&rt, is_long_built(rt.alloc(), *length, end, want)?, end);
+        }
+    }
+    Ok(())
+}
+
+/// Whether so many letters before a parenthesis that nothing closes are rejected.
+fn is_long_rejected(alloc: Global, length: usize) -> Result<bool, Fail> {
+    let letters = "x".repeat(alloc, length)?;
+    let value = format!(in alloc; "{letters}(")?;
+    Ok(is_rejected(&Pattern::read(alloc, &value), &value)
+        && is_rejected(&Pattern::of_text(alloc, &value), &value))
+}
+
+#[test]
+fn long_texts_are_rejected(rt: HostRuntime) -> Result<(), Fail> {
+    for length in &LENGTHS {
+        holds(&rt, is_long_rejected(rt.alloc(), *length)?, "(");
+    }
+    Ok(())
+}
+
 /// Texts that are no patterns. The last is rejected for the size of what it would compile to.
 const REJECTED: [&str; 7] = ["a)|(?:b", r"b\", "(", "[", "*", r"\", r"\w{1000}"];
 
