@@ -9,7 +9,7 @@ ghost use Rattle.promql_text.specs.PrintedLen.{printed_len};
 use std::fmt;
 
 /// How samples are taken at the ends of a matrix selector's range.
-#[derive(Clone, Copy, Debug, PartialEq, Eq)]
+#[derive(Clone, Copy, Debug, PartialEq, Eq, Hash)]
 pub enum RangeMode {
     /// As they are.
     Plain,

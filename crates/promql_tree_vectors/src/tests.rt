@@ -3,6 +3,7 @@
 
 mod builders;
 mod checks;
+mod hashes;
 mod layout;
 mod memory;
 mod options;
