@@ -5,7 +5,9 @@ pub mod Finding
 pub mod MatcherSearch
 pub mod Groups
 pub mod WorkedMatchers
-pub mod LeastText
+pub mod RisingTexts
+pub mod TextRows
+pub mod TextOrders
 pub mod OneOrder
 pub mod PatternSizes
 pub mod PlacesSet
