@@ -7,7 +7,7 @@ ghost use Rattle.promql_ast.specs.View.{tree_of};
 
 use crate::at_modifier::Seconds;
 use crate::expr::Expr;
-use promql_text::DurationText;
+use promql_text::{DurationText, write_plain};
 use std::alloc::{AllocError, Global};
 use std::fmt;
 use std::fmt::Display;
@@ -55,12 +55,18 @@ impl fmt::Display for EvalStmt {
     ghost output = { λ s. Some (statement_text (tree_of s.expr) s.start s.end
         (as_nanos s.interval) (as_nanos s.lookback_delta)) };
 
+    ghost styled_output = { λ s _. Some (statement_text (tree_of s.expr) s.start s.end
+        (as_nanos s.interval) (as_nanos s.lookback_delta)) };
+
     fn fmt<W: fmt::Write>(&self, f: &mut fmt::Formatter<W>) -> fmt::Result {
         let expr = &self.expr;
         let start = Seconds(self.start);
         let end = Seconds(self.end);
         let interval = DurationText(&self.interval);
         let lookback = DurationText(&self.lookback_delta);
-        write!(f, "[{expr}] @ [{start}, {end}, {interval}, {lookback}]")
+        write_plain(
+            format_args!("[{expr}] @ [{start}, {end}, {interval}, {lookback}]"),
+            f,
+        )
     }
 }

@@ -1,7 +1,7 @@
 //! Range modes: docs/reference/tree.md, "Range modes".
 
 ghost use Rattle.std.specs.Prelude.{◌≡◌};
-ghost use Rattle.std.specs.Fmt.{WritesOnOk};
+ghost use Rattle.std.specs.Fmt.{WritesStyledOnOk};
 ghost use Rattle.promql_ast.specs.Same.{mode_eq};
 ghost use Rattle.promql_ast.specs.node.Matrix.{mode_text};
 ghost use Rattle.promql_text.specs.PrintedLen.{printed_len};
@@ -32,7 +32,7 @@ impl Default for RangeMode {
 
 /// Writes the mode's word with a space before it; nothing for `Plain`.
 pub(crate) fn write_mode<W: fmt::Write>(mode: RangeMode, f: &mut fmt::Formatter<W>) -> fmt::Result
-    ensures { WritesOnOk W.write_str_gives f.old result (mode_text mode) f.new }
+    ensures { WritesStyledOnOk W.write_str_gives f.old result (mode_text mode) f.new }
 {
     match mode {
         RangeMode::Plain => Ok(()),

@@ -2,6 +2,7 @@
 
 mod batch;
 mod failures;
+mod options;
 mod program;
 mod runs;
 mod streams;

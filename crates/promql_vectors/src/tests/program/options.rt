@@ -1,0 +1,32 @@
+//! Widths, precisions and flags of a placeholder, which no error of a run or of a line heeds.
+
+use promql_parser::parser::ParseError;
+use promql_run::line::LineError;
+use promql_run::run::RunError;
+use std::alloc::Global;
+use std::fmt::Display;
+use std::process::Abort;
+use std::test::Fail;
+
+/// The error prints this text in each placeholder.
+fn heeds_none<T: Display>(
+    rt: &impl Abort,
+    alloc: Global,
+    error: &T,
+    text: &str,
+) -> Result<(), Fail> {
+    let found = format!(in alloc; "{error:*>40}|{error:<40}|{error:#}|{error:.1}|{error:+09.1}")?;
+    let want = format!(in alloc; "{text}|{text}|{text}|{text}|{text}")?;
+    assert!(rt; found == want, "{text}");
+    Ok(())
+}
+
+#[test]
+fn errors_heed_no_option(rt: HostRuntime) -> Result<(), Fail> {
+    let alloc = rt.alloc();
+    let syntax = RunError::Parse(ParseError::Syntax);
+    heeds_none(&rt, alloc, &syntax, "invalid promql query")?;
+    heeds_none(&rt, alloc, &RunError::Read, "read failed")?;
+    heeds_none(&rt, alloc, &LineError::Run(syntax), "invalid promql query")?;
+    heeds_none(&rt, alloc, &LineError::NotARequest, "line is not a request")
+}
