@@ -192,10 +192,16 @@ fn dense_small_patterns_compile(rt: HostRuntime) -> Result<(), Fail> {
         let close = close.repeat(alloc, *count)?;
         let value = format!(in alloc; "{open}{middle}{close}")?;
         let text = piece.repeat(alloc, *times)?;
-        holds(&rt, is_found(alloc, &value, &text)?, &value);
-        holds(&rt, !is_found(alloc, &value, "\n")?, &value);
+        holds(&rt, is_compiled(alloc, &value, &text)?, &value);
     }
     Ok(())
+}
+
+/// Whether a prepared pattern matches the text, and does not match a line feed.
+fn is_compiled(alloc: Global, value: &str, text: &str) -> Result<bool, Fail> {
+    let mut matcher = matcher(alloc, value)?;
+    matcher.prepare(alloc)?;
+    Ok(matcher.is_match(alloc, text)? && !matcher.is_match(alloc, "\n")?)
 }
 
 /// Whether a pattern of this value matches the text once it is prepared, and a copy of it does as well.
