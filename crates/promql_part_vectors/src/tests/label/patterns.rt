@@ -57,12 +57,42 @@ fn long_patterns_are_built(rt: HostRuntime) -> Result<(), Fail> {
     Ok(())
 }
 
+/// Ends of long patterns, ends of texts, and whether the one matches the other.
+const LONG_MATCHES: [(&str, &str, bool); 5] = [
+    ("[{]", "{", true),
+    ("[{]", "x", false),
+    (r"\d{b}", "1{b}", true),
+    (r"\d{b}", "1bb", false),
+    ("{y}|z", "{y}", true),
+];
+
+/// Whether the pattern of so many letters before this end matches as many letters before that end.
+fn is_long_found(alloc: Global, length: usize, end: &str, tail: &str) -> Result<bool, Fail> {
+    let letters = "x".repeat(alloc, length)?;
+    let value = format!(in alloc; "{letters}{end}")?;
+    let text = format!(in alloc; "{letters}{tail}")?;
+    is_found(alloc, &value, &text)
+}
+
+#[test]
+fn long_patterns_match(rt: HostRuntime) -> Result<(), Fail> {
+    for length in &LENGTHS {
+        for (end, tail, want) in &LONG_MATCHES {
+            let found = is_long_found(rt.alloc(), *length, end, tail)?;
+            holds(&rt, found == *want, tail);
+        }
+    }
+    Ok(())
+}
+
 /// Whether so many letters before a parenthesis that nothing closes are rejected.
 fn is_long_rejected(alloc: Global, length: usize) -> Result<bool, Fail> {
     let letters = "x".repeat(alloc, length)?;
     let value = format!(in alloc; "{letters}(")?;
-    Ok(is_rejected(&Pattern::read(alloc, &value), &value)
-        && is_rejected(&Pattern::of_text(alloc, &value), &value))
+    Ok(
+        is_rejected(&Pattern::read(alloc, &value), &value)
+            && is_rejected(&Pattern::of_text(alloc, &value), &value),
+    )
 }
 
 #[test]
