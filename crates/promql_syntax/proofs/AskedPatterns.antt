@@ -385,6 +385,7 @@ module _ (is_such : Text → Bool) where
 
   mutual
     unfolding aggregated sides
+
     built_such : (d : grammar.Derivation) → AsksSuch (TreePatterns is_such) (build d)
     built_such (grammar.number text) = known_then (number_value text) _ (λ n. gives_such (TreePatterns is_such) (number n))
     built_such (grammar.duration text) = known_then (duration_value text) _ (λ n. gives_such (TreePatterns is_such) (number (from_nanos n)))
