@@ -4,12 +4,11 @@ use Rattle.std.specs.Prelude.{Ok, Err, if◌then◌else◌}
 use Rattle.promql_text.specs.Texts.{Text}
 use Rattle.promql_grammar.specs.declared.token_kinds.TokenKind.{TokenKind}
 use Rattle.promql_grammar.specs.declared.token_kinds.TokenKind.TheVariants as kind
-use Rattle.promql_grammar.specs.declared.read_error.ReadError.TheVariants.{Syntax}
 use Rattle.promql_grammar.specs.Results.{◌then◌}
 use Rattle.promql_grammar.specs.Symbols.{Symbol, punct, word, begins, may_be_label}
 use Rattle.promql_grammar.specs.GrammarParts.{seconds, duration, Signed, unsigned, signed, Names, last, last_comma, next, Labels, no_label, labels, Group, no_group, bare, listed, Matching, no_matching, matching, FillValue, Fills, no_fill, both, left, right, left_right, right_left, Modifier, equal, not_equal, equal_regex, not_equal_regex, Item, matcher, lone, comma, or, Items, last_item, last_item_comma, next_item, Braces, no_item, items, Postfix, range, subquery, at_number, at_bound, offset, mode, yield_signed, yield_names, yield_labels, yield_group, yield_matching, yield_value, yield_fills, yield_flag, yield_modifier, yield_item, yield_items, yield_separator, yield_any_braces, yield_postfix, IsSigned, AreLabels, IsLabels, IsGroup, IsMatching, IsFills, IsModifier, IsItem, AreItems, IsBraces, IsAnyBraces, IsPostfix}
 use Rattle.promql_grammar.specs.Grammar.{OpensNoParen, FitsGroup, FitsMatching}
-use Rattle.promql_grammar.specs.Parsing.{Read, parse_time, eat_sign, parse_number, parse_fill_value_end, parse_fill_value, parse_label_names, parse_label_list, parse_labels, parse_group_labels, parse_group, parse_matching_after, parse_matching, parse_fills, parse_fill_right, parse_fill_left, parse_flag, with_fills, with_matching, parse_modifier, parse_match_operator, parse_after_string, parse_item, parse_after_item, parse_items, parse_braces, parse_optional_braces, parse_postfix}
+use Rattle.promql_grammar.specs.Parsing.{misfit, Read, parse_time, eat_sign, parse_number, parse_fill_value_end, parse_fill_value, parse_label_names, parse_label_list, parse_labels, parse_group_labels, parse_group, parse_matching_after, parse_matching, parse_fills, parse_fill_right, parse_fill_left, parse_flag, with_fills, with_matching, parse_modifier, parse_match_operator, parse_after_string, parse_item, parse_after_item, parse_items, parse_braces, parse_optional_braces, parse_postfix}
 use Rattle.promql_grammar.proofs.GrammarChoices.{if_true}
 
 signed_number : (s : Signed) (t : Text) (rest : List Symbol) → IsSigned s → eat_sign (yield_signed s ++ word kind.Number t ∷ rest) ≡ Ok (s, word kind.Number t ∷ rest)
@@ -34,7 +33,7 @@ names_begin (last k t) rest = tt
 names_begin (last_comma k t) rest = tt
 names_begin (next k t names) rest = tt
 
-names_next : (k : TokenKind) (t : Text) (ts : List Symbol) → ClosesNoParen ts → parse_label_names (word k t ∷ (punct kind.Comma ∷ ts)) ≡ (if may_be_label k then (parse_label_names ts then λ y. Ok (next k t y.0, y.1)) else Err Syntax)
+names_next : (k : TokenKind) (t : Text) (ts : List Symbol) → ClosesNoParen ts → parse_label_names (word k t ∷ (punct kind.Comma ∷ ts)) ≡ (if may_be_label k then (parse_label_names ts then λ y. Ok (next k t y.0, y.1)) else Err (misfit (word k t ∷ (punct kind.Comma ∷ ts))))
 names_next k t (punct kind.RightParen ∷ ts) h = absurd h
 names_next k t ts h = refl
 

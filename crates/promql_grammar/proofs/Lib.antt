@@ -8,3 +8,7 @@ pub mod SoundParts
 pub mod Sound
 pub mod Unique
 pub mod Within
+pub mod Prefixes
+pub mod PartPrefixes
+pub mod ExpressionPrefixes
+pub mod NoneFit

@@ -5,12 +5,11 @@ use Rattle.std.proofs.lemmas.Bool.{cases_lt, cond_below, cond_above}
 use Rattle.promql_text.specs.Texts.{Text}
 use Rattle.promql_grammar.specs.declared.token_kinds.TokenKind.{TokenKind}
 use Rattle.promql_grammar.specs.declared.token_kinds.TokenKind.TheVariants as kind
-use Rattle.promql_grammar.specs.declared.read_error.ReadError.TheVariants.{Memory, Syntax, TooDeep}
 use Rattle.promql_grammar.specs.Results.{◌then◌}
 use Rattle.promql_grammar.specs.Symbols.{Symbol, punct, word, may_be_name, may_be_called, is_plus_or_minus}
 use Rattle.promql_grammar.specs.GrammarParts.{Grouping, by, without, Clause, no_clause, before, after, bare, Matching, matching, Fills, no_fill, Modifier, Braces, Postfix, range, subquery, at_number, at_bound, offset, mode, yield_labels, yield_grouping, yield_before, yield_after, yield_modifier, yield_braces, yield_any_braces, yield_postfix, IsLabels, IsGrouping, IsClause, IsBraces, IsAnyBraces}
 use Rattle.promql_grammar.specs.Grammar.{Derivation, number, duration, string, selector, nameless, paren, call, aggregate, postfixed, unary, binary, Arguments, none, more, yield, yield_arguments, yield_rest, precedence, openness, height, greatest_height, added_height, IsWellFormed, AreWellFormed, IsBase, OpensNoParen, FitsLeft, FitsMatching}
-use Rattle.promql_grammar.specs.Parsing.{Read, Reader, right_precedence, parse_labels, parse_grouping, parse_modifier, parse_optional_braces, parse_braces, parse_postfix, parse_more_postfixes, parse_postfixes, parse_paren_end, parse_more_arguments, parse_arguments, parse_selector, parse_call, parse_grouped_aggregate, parse_aggregate, parse_unary, parse_operators, parse_expression}
+use Rattle.promql_grammar.specs.Parsing.{misfit, too_high, Read, Reader, right_precedence, parse_labels, parse_grouping, parse_modifier, parse_optional_braces, parse_braces, parse_postfix, parse_more_postfixes, parse_postfixes, parse_paren_end, parse_more_arguments, parse_arguments, parse_selector, parse_call, parse_grouped_aggregate, parse_aggregate, parse_unary, parse_operators, parse_expression}
 use Rattle.promql_grammar.proofs.Complete.{tall}
 use Rattle.promql_grammar.proofs.Precedences.{Root, Stops, After, after_right, after_sign, after_base, right_root, sign_root, root_base}
 use Rattle.promql_grammar.proofs.SoundParts.{Took, IsAfter, IsModifierBefore, Takes, yield_any_postfix, IsAnyPostfix, labels_taken, clause_taken, modifier_taken, braces_in_taken, braces_taken, postfix_taken}
@@ -59,12 +58,11 @@ pub record IsRead (n m : ℕ) (ts : List Symbol) (d : Derivation) (rest : List S
   pub stops : Stops m rest
   pub spells : ts ≡ yield d ++ rest
 
--- what parsing returns is right: a derivation, or TooDeep for an expression that is higher
+-- what parsing returns is right: a derivation, or too high for an expression that is higher
 abbrev pub Good : ℕ → ℕ → List Symbol → Read Derivation → Type 0
 Good n m ts (Ok x) = IsRead n m ts x.0 x.1
-Good n m ts (Err TooDeep) = n ≤ length ts
-Good n m ts (Err Syntax) = Unit {0}
-Good n m ts (Err Memory) = ⊥
+Good n m ts (Err too_high) = n ≤ length ts
+Good n m ts (Err (misfit bad)) = Unit {0}
 
 pub record Sound (r : Reader) (n : ℕ) : Type 0 where
   pub by : (m : ℕ) (ts : List Symbol) → Good n m ts (r m ts)
@@ -79,9 +77,8 @@ record IsFirst (n : ℕ) (ts : List Symbol) (d : Derivation) (rest : List Symbol
 
 abbrev Firsts : ℕ → List Symbol → Read Derivation → Type 0
 Firsts n ts (Ok x) = IsFirst n ts x.0 x.1
-Firsts n ts (Err TooDeep) = n ≤ length ts
-Firsts n ts (Err Syntax) = Unit {0}
-Firsts n ts (Err Memory) = ⊥
+Firsts n ts (Err too_high) = n ≤ length ts
+Firsts n ts (Err (misfit bad)) = Unit {0}
 
 record AreArguments (n : ℕ) (ts us : List Symbol) (ds : Arguments) : Type 0 where
   formed : AreWellFormed ds
@@ -90,9 +87,8 @@ record AreArguments (n : ℕ) (ts us : List Symbol) (ds : Arguments) : Type 0 wh
 
 abbrev ReadsArguments : (Arguments → List Symbol) → ℕ → List Symbol → Read Arguments → Type 0
 ReadsArguments spells n ts (Ok y) = AreArguments n ts (spells y.0 ++ y.1) y.0
-ReadsArguments spells n ts (Err TooDeep) = n ≤ length ts
-ReadsArguments spells n ts (Err Syntax) = Unit {0}
-ReadsArguments spells n ts (Err Memory) = ⊥
+ReadsArguments spells n ts (Err too_high) = n ≤ length ts
+ReadsArguments spells n ts (Err (misfit bad)) = Unit {0}
 
 -- a shorter rest
 shorter : (ts : List Symbol) (d : Derivation) (rest : List Symbol) → ts ≡ yield d ++ rest → length rest ≤ length ts
@@ -112,9 +108,8 @@ fits_less m f ts us l h = tt
 first_then : {A : Type 0} (n : ℕ) (spells : A → List Symbol) (holds : A → Type 0) (ts all : List Symbol) (o : Read A) (f : A × List Symbol → Read Derivation)
     → Took spells holds ts o → ((x : A) (us : List Symbol) → ts ≡ spells x ++ us → holds x → Firsts n all (f (x, us))) → Firsts n all (o then f)
 first_then n s h ts all (Ok x) f t k = k x.0 x.1 t.0 t.1
-first_then n s h ts all (Err Syntax) f t k = tt
-first_then n s h ts all (Err Memory) f t k = absurd t
-first_then n s h ts all (Err TooDeep) f t k = absurd t
+first_then n s h ts all (Err (misfit bad)) f t k = tt
+first_then n s h ts all (Err too_high) f t k = absurd t
 
 module _ (n : ℕ) where
   base_first : (d : Derivation) (ts all : List Symbol) → IsWellFormed d → IsBase d → height d ≤ suc n → all ≡ yield d ++ ts → Firsts (suc n) all (Ok (d, ts))
@@ -126,8 +121,8 @@ module _ (n : ℕ) where
   postfix_sound : (k : ℕ) (d : Derivation) (p : Option Postfix) (ts us all : List Symbol) → Postfixes k → IsWellFormed d → IsBase d → height d ≤ suc n → all ≡ yield d ++ ts → ts ≡ yield_any_postfix p ++ us → IsAnyPostfix p → Firsts (suc n) all (parse_more_postfixes (parse_postfixes k (suc n)) (suc n) d p us)
   postfix_sound k d None ts us all ih h b l e f i = base_first d us all h b l (e ∙ ap (λ x. yield d ++ x) f)
   postfix_sound k d (Some p) ts us all ih h b l e f i =
-      ⊎_elim (λ lt. let q : suc n ≤ length all = omega (arith, height_yield d, added_tokens p, ap length e, ap length f, length-append (yield d) ts, length-append (yield_postfix p) us) in subst (Firsts (suc n) all) (cond_below (suc n) (height (postfixed d p)) (Err TooDeep) _ lt) q)
-      (λ le. subst (Firsts (suc n) all) (cond_above (suc n) (height (postfixed d p)) (Err TooDeep) _ _ le refl) (ih (postfixed d p) us all (h, b, i) tt le (e ∙ ap (λ x. yield d ++ x) f ∙ sym (append_assoc (yield d) (yield_postfix p) us))))
+      ⊎_elim (λ lt. let q : suc n ≤ length all = omega (arith, height_yield d, added_tokens p, ap length e, ap length f, length-append (yield d) ts, length-append (yield_postfix p) us) in subst (Firsts (suc n) all) (cond_below (suc n) (height (postfixed d p)) (Err too_high) _ lt) q)
+      (λ le. subst (Firsts (suc n) all) (cond_above (suc n) (height (postfixed d p)) (Err too_high) _ _ le refl) (ih (postfixed d p) us all (h, b, i) tt le (e ∙ ap (λ x. yield d ++ x) f ∙ sym (append_assoc (yield d) (yield_postfix p) us))))
       (cases_lt (suc n) (height (postfixed d p)))
 
   postfixes_sound : (k : ℕ) → Postfixes k
@@ -143,7 +138,7 @@ module _ (n : ℕ) where
   named_sound : (k : ℕ) (w : TokenKind) (t : Text) (ts : List Symbol) → Firsts (suc n) (word w t ∷ ts) (parse_selector k (suc n) w t ts)
   named_sound k w t ts = go (may_be_name w) refl
     where
-      go : (b : Bool) → may_be_name w ≡ b → Firsts (suc n) (word w t ∷ ts) (if b then (parse_optional_braces ts then λ b. parse_postfixes k (suc n) (selector w t b.0) b.1) else Err Syntax)
+      go : (b : Bool) → may_be_name w ≡ b → Firsts (suc n) (word w t ∷ ts) (if b then (parse_optional_braces ts then λ b. parse_postfixes k (suc n) (selector w t b.0) b.1) else Err (misfit (word w t ∷ ts)))
       go true h =
           first_then (suc n) yield_any_braces IsAnyBraces ts (word w t ∷ ts) (parse_optional_braces ts) (λ b. parse_postfixes k (suc n) (selector w t b.0) b.1) (braces_taken ts)
           (λ b us e i. postfixes_sound k (selector w t b) us (word w t ∷ ts) (h, i) tt (omega arith) (ap (λ l. word w t ∷ l) e))
@@ -152,15 +147,13 @@ module _ (n : ℕ) where
   module _ (r : Reader) (sound : Sound r n) where
     more_sound : (spells : Arguments → List Symbol) (front : List Symbol) (d : Derivation) (us ts : List Symbol) (o : Read Arguments) → ((ds : Arguments) → spells (more d ds) ≡ front ++ (yield d ++ yield_rest ds)) → IsWellFormed d → height d ≤ n → ts ≡ yield d ++ us → ReadsArguments yield_rest n us o → ReadsArguments spells n (front ++ ts) (o then λ y. Ok (more d y.0, y.1))
     more_sound spells front d us ts (Ok y) s h l e g = record { formed = (h, g.formed); low = let k = g.low in omega arith; spells = ap (λ l. front ++ l) (e ∙ ap (λ l. yield d ++ l) g.spells ∙ sym (append_assoc (yield d) (yield_rest y.0) y.1)) ∙ sym (append_assoc front (yield d ++ yield_rest y.0) y.1) ∙ ap (λ l. l ++ y.1) (sym (s y.0)) }
-    more_sound spells front d us ts (Err TooDeep) s h l e g = omega (arith, shorter ts d us e, length-append front ts)
-    more_sound spells front d us ts (Err Syntax) s h l e g = tt
-    more_sound spells front d us ts (Err Memory) s h l e g = absurd g
+    more_sound spells front d us ts (Err too_high) s h l e g = omega (arith, shorter ts d us e, length-append front ts)
+    more_sound spells front d us ts (Err (misfit bad)) s h l e g = tt
 
     rest_comma : (k : ℕ) (ts : List Symbol) (o : Read Derivation) → ((us : List Symbol) → ReadsArguments yield_rest n us (parse_more_arguments r k us)) → Good n 0 ts o → ReadsArguments yield_rest n (punct kind.Comma ∷ ts) (o then λ x. parse_more_arguments r k x.1 then λ y. Ok (more x.0 y.0, y.1))
     rest_comma k ts (Ok x) ih g = more_sound yield_rest (punct kind.Comma ∷ []) x.0 x.1 ts (parse_more_arguments r k x.1) (λ ds. refl) g.formed g.low g.spells (ih x.1)
-    rest_comma k ts (Err TooDeep) ih g = omega arith
-    rest_comma k ts (Err Syntax) ih g = tt
-    rest_comma k ts (Err Memory) ih g = absurd g
+    rest_comma k ts (Err too_high) ih g = omega arith
+    rest_comma k ts (Err (misfit bad)) ih g = tt
 
     rest_sound : (k : ℕ) (ts : List Symbol) → ReadsArguments yield_rest n ts (parse_more_arguments r k ts)
     rest_sound zero ts = tt
@@ -170,9 +163,8 @@ module _ (n : ℕ) where
 
     arguments_first : (ts : List Symbol) (o : Read Derivation) → Good n 0 ts o → ReadsArguments yield_arguments n ts (o then λ x. parse_more_arguments r (length ts) x.1 then λ y. Ok (more x.0 y.0, y.1))
     arguments_first ts (Ok x) g = more_sound yield_arguments [] x.0 x.1 ts (parse_more_arguments r (length ts) x.1) (λ ds. refl) g.formed g.low g.spells (rest_sound (length ts) x.1)
-    arguments_first ts (Err TooDeep) g = g
-    arguments_first ts (Err Syntax) g = tt
-    arguments_first ts (Err Memory) g = absurd g
+    arguments_first ts (Err too_high) g = g
+    arguments_first ts (Err (misfit bad)) g = tt
 
     arguments_sound : (ts : List Symbol) → ReadsArguments yield_arguments n ts (parse_arguments r ts)
     arguments_sound (punct kind.RightParen ∷ ts) = record { formed = tt; low = omega arith; spells = refl }
@@ -182,9 +174,8 @@ module _ (n : ℕ) where
     first_arguments : (front ts : List Symbol) (o : Read Arguments) (f : Arguments × List Symbol → Read Derivation) → 1 ≤ length front → ReadsArguments yield_arguments n ts o
         → ((ds : Arguments) (us : List Symbol) → AreWellFormed ds → greatest_height ds ≤ n → ts ≡ yield_arguments ds ++ us → Firsts (suc n) (front ++ ts) (f (ds, us))) → Firsts (suc n) (front ++ ts) (o then f)
     first_arguments front ts (Ok y) f l g k = k y.0 y.1 g.formed g.low g.spells
-    first_arguments front ts (Err TooDeep) f l g k = omega (arith, length-append front ts)
-    first_arguments front ts (Err Syntax) f l g k = tt
-    first_arguments front ts (Err Memory) f l g k = absurd g
+    first_arguments front ts (Err too_high) f l g k = omega (arith, length-append front ts)
+    first_arguments front ts (Err (misfit bad)) f l g k = tt
 
     called_sound : (k : ℕ) (w : TokenKind) (t : Text) (ts : List Symbol) → may_be_called w ≡ true → Firsts (suc n) (word w t ∷ ts) (parse_call r k (suc n) w t ts)
     called_sound k w t (punct kind.LeftParen ∷ ts) h =
@@ -226,18 +217,16 @@ module _ (n : ℕ) where
 
     paren_sound : (k : ℕ) (ts : List Symbol) (o : Read Derivation) → Good n 0 ts o → Firsts (suc n) (punct kind.LeftParen ∷ ts) (o then λ x. parse_paren_end k (suc n) x.0 x.1)
     paren_sound k ts (Ok x) g = closing_sound k x.0 x.1 ts g.formed g.low g.spells
-    paren_sound k ts (Err TooDeep) g = omega arith
-    paren_sound k ts (Err Syntax) g = tt
-    paren_sound k ts (Err Memory) g = absurd g
+    paren_sound k ts (Err too_high) g = omega arith
+    paren_sound k ts (Err (misfit bad)) g = tt
 
     abbrev signs : ℕ → Text → Derivation × List Symbol → Read Derivation
     signs op t x = Ok (unary op t x.0, x.1)
 
     unary_sound : (op : ℕ) (t : Text) (ts : List Symbol) (o : Read Derivation) → is_plus_or_minus op ≡ true → Good n 6 ts o → Firsts (suc n) (word (kind.Operator op) t ∷ ts) (o then signs op t)
     unary_sound op t ts (Ok x) h g = record { formed = (h, g.formed, sign_root x.0 g.root); low = let k = g.low in omega arith; root = λ m. tt; after = after_sign (openness x.0) x.1 g.after g.stops; spells = ap (λ l. word (kind.Operator op) t ∷ l) g.spells }
-    unary_sound op t ts (Err TooDeep) h g = omega arith
-    unary_sound op t ts (Err Syntax) h g = tt
-    unary_sound op t ts (Err Memory) h g = absurd g
+    unary_sound op t ts (Err too_high) h g = omega arith
+    unary_sound op t ts (Err (misfit bad)) h g = tt
 
     operator_sound : (k op : ℕ) (t : Text) (ts : List Symbol) (b : Bool) → is_plus_or_minus op ≡ b → Firsts (suc n) (word (kind.Operator op) t ∷ ts) (if b then (r 6 ts then signs op t) else parse_selector k (suc n) (kind.Operator op) t ts)
     operator_sound k op t ts true h = unary_sound op t ts (r 6 ts) h (sound.by 6 ts)
@@ -273,15 +262,13 @@ module _ (n : ℕ) where
         ih (binary op t w d x.0) x.1 all (h, g.formed, fits.0, f, right_root op x.0 g.root, fits') (omega arith) le (after_right op (openness x.0) x.1 g.after g.stops)
         (e ∙ ap (λ l. yield d ++ word (kind.Operator op) t ∷ l) (q ∙ ap (λ l. yield_modifier w ++ l) g.spells ∙ sym (append_assoc (yield_modifier w) (yield x.0) x.1)) ∙ sym (append_assoc (yield d) (word (kind.Operator op) t ∷ (yield_modifier w ++ yield x.0)) x.1))
         (omega (arith, ap length q, length-append (yield_modifier w) us))
-    climb_on m k op t w d ts us all h l le f e q fits len ih (Err TooDeep) g = omega (arith, ap length e, length-append (yield d) (word (kind.Operator op) t ∷ ts), ap length q, length-append (yield_modifier w) us)
-    climb_on m k op t w d ts us all h l le f e q fits len ih (Err Syntax) g = tt
-    climb_on m k op t w d ts us all h l le f e q fits len ih (Err Memory) g = absurd g
+    climb_on m k op t w d ts us all h l le f e q fits len ih (Err too_high) g = omega (arith, ap length e, length-append (yield d) (word (kind.Operator op) t ∷ ts), ap length q, length-append (yield_modifier w) us)
+    climb_on m k op t w d ts us all h l le f e q fits len ih (Err (misfit bad)) g = tt
 
     climb_modifier : (m k op : ℕ) (t : Text) (d : Derivation) (ts all : List Symbol) → IsWellFormed d → height d ≤ n → m ≤ precedence op → FitsLeft op (openness d) → all ≡ yield d ++ word (kind.Operator op) t ∷ ts → length ts ≤ k → Climbs m k → (o : Read Modifier) → Takes yield_modifier IsModifierBefore ts o → Good (suc n) m all (o then λ y. r (right_precedence op) y.1 then λ x. parse_operators r k n m (binary op t y.0 d x.0) x.1)
     climb_modifier m k op t d ts all h l le f e len ih (Ok y) q = climb_on m k op t y.0 d ts y.1 all h l le f e q.0 q.1 len ih (r (right_precedence op) y.1) (sound.by (right_precedence op) y.1)
-    climb_modifier m k op t d ts all h l le f e len ih (Err Syntax) q = tt
-    climb_modifier m k op t d ts all h l le f e len ih (Err TooDeep) q = absurd q
-    climb_modifier m k op t d ts all h l le f e len ih (Err Memory) q = absurd q
+    climb_modifier m k op t d ts all h l le f e len ih (Err (misfit bad)) q = tt
+    climb_modifier m k op t d ts all h l le f e len ih (Err too_high) q = absurd q
 
     climb_sound : (m k : ℕ) → Climbs m k
     climb_sound m zero d [] all h l t a e len = read_here m d [] all h l t a tt e
@@ -289,17 +276,16 @@ module _ (n : ℕ) where
     climb_sound m (suc k) d (word (kind.Operator op) t ∷ ts) all h l w a e len =
         ⊎_elim (λ lt. subst (Good (suc n) m all) (cond_below (precedence op) m (Ok (d, word (kind.Operator op) t ∷ ts)) _ lt) (read_here m d (word (kind.Operator op) t ∷ ts) all h l w a lt e))
         (λ ge. subst (Good (suc n) m all) (cond_above (precedence op) m (Ok (d, word (kind.Operator op) t ∷ ts)) _ _ ge refl)
-        (⊎_elim (λ lt. let q : suc n ≤ length all = omega (arith, height_yield d, ap length e, length-append (yield d) (word (kind.Operator op) t ∷ ts)) in subst (Good (suc n) m all) (cond_below n (height d) (Err TooDeep) _ lt) q)
-        (λ le. subst (Good (suc n) m all) (cond_above n (height d) (Err TooDeep) _ _ le refl) (climb_modifier m k op t d ts all h le ge a e (omega arith) (climb_sound m k) (parse_modifier ts) (modifier_taken ts)))
+        (⊎_elim (λ lt. let q : suc n ≤ length all = omega (arith, height_yield d, ap length e, length-append (yield d) (word (kind.Operator op) t ∷ ts)) in subst (Good (suc n) m all) (cond_below n (height d) (Err too_high) _ lt) q)
+        (λ le. subst (Good (suc n) m all) (cond_above n (height d) (Err too_high) _ _ le refl) (climb_modifier m k op t d ts all h le ge a e (omega arith) (climb_sound m k) (parse_modifier ts) (modifier_taken ts)))
         (cases_lt n (height d))))
         (cases_lt (precedence op) m)
     climb_sound m (suc k) d ts all h l t a e len = read_here m d ts all h l t a tt e
 
     next_sound : (m : ℕ) (ts : List Symbol) (o : Read Derivation) → Firsts (suc n) ts o → Good (suc n) m ts (o then λ x. parse_operators r (length ts) n m x.0 x.1)
     next_sound m ts (Ok x) g = climb_sound m (length ts) x.0 x.1 ts g.formed g.low (g.root m) g.after g.spells (shorter ts x.0 x.1 g.spells)
-    next_sound m ts (Err TooDeep) g = g
-    next_sound m ts (Err Syntax) g = tt
-    next_sound m ts (Err Memory) g = absurd g
+    next_sound m ts (Err too_high) g = g
+    next_sound m ts (Err (misfit bad)) g = tt
 
 pub expression_sound : (n : ℕ) → Sound (parse_expression n) n
 unfolding parse_expression

@@ -6,18 +6,17 @@ use Rattle.promql_text.specs.Texts.{Text}
 use Rattle.promql_token.specs.declared.ids.TheConstants.{T_NEQ, T_LOR}
 use Rattle.promql_grammar.specs.declared.token_kinds.TokenKind.{TokenKind}
 use Rattle.promql_grammar.specs.declared.token_kinds.TokenKind.TheVariants as kind
-use Rattle.promql_grammar.specs.declared.read_error.ReadError.TheVariants.{Memory, Syntax, TooDeep}
 use Rattle.promql_grammar.specs.Results.{◌then◌}
 use Rattle.promql_grammar.specs.Symbols.{Symbol, punct, word, is_plus_or_minus, may_be_label}
 use Rattle.promql_grammar.specs.GrammarParts.{Time, Signed, unsigned, signed, last, last_comma, next, labels, by, without, Clause, no_clause, before, after, Group, bare, listed, Matching, no_matching, matching, FillValue, Fills, no_fill, both, left_right, right_left, Modifier, MatchOperator, not_equal, Item, matcher, comma, or, Items, next_item, items, Postfix, at_number, offset, yield_time, yield_signed, yield_names, yield_labels, yield_before, yield_after, yield_group, yield_matching, yield_value, yield_fills, yield_flag, yield_modifier, yield_match_operator, yield_item, yield_items, yield_braces, yield_any_braces, yield_postfix, IsSigned, AreLabels, IsLabels, IsGrouping, IsGroup, IsMatching, IsFills, IsModifier, IsItem, AreItems, IsBraces, IsAnyBraces, IsPostfix, is_group_word, is_matching_word, is_matcher_name, is_bound_word}
 use Rattle.promql_grammar.specs.Grammar.{OpensNoParen, FitsMatching}
-use Rattle.promql_grammar.specs.Parsing.{Read, parse_time, eat_sign, parse_number, parse_string, parse_fill_value_end, parse_fill_value, parse_label_names, parse_label_list, parse_labels, parse_grouping, parse_group_labels, parse_group, parse_matching_after, parse_matching, parse_fills, parse_fill_right, parse_fill_left, parse_flag, with_fills, with_matching, parse_modifier, parse_match_operator, parse_matcher_value, parse_after_name, parse_after_string, parse_item, parse_after_item, parse_items, parse_braces, parse_optional_braces, parse_step_end, parse_step, parse_range_end, parse_at_bound, parse_at_modifier, parse_offset_postfix, parse_postfix}
+use Rattle.promql_grammar.specs.Parsing.{misfit, too_high, Read, parse_time, eat_sign, parse_number, parse_string, parse_fill_value_end, parse_fill_value, parse_label_names, parse_label_list, parse_labels, parse_grouping, parse_group_labels, parse_group, parse_matching_after, parse_matching, parse_fills, parse_fill_right, parse_fill_left, parse_flag, with_fills, with_matching, parse_modifier, parse_match_operator, parse_matcher_value, parse_after_name, parse_after_string, parse_item, parse_after_item, parse_items, parse_braces, parse_optional_braces, parse_step_end, parse_step, parse_range_end, parse_at_bound, parse_at_modifier, parse_offset_postfix, parse_postfix}
 
 -- the tokens start with those of a part, and this holds of it and of the tokens after it
 abbrev pub Takes : {A : Type 0} → (A → List Symbol) → (A → List Symbol → Type 0) → List Symbol → Read A → Type 0
 Takes spells holds ts (Ok x) = (ts ≡ spells x.0 ++ x.1) × holds x.0 x.1
-Takes spells holds ts (Err Syntax) = Unit {0}
-Takes spells holds ts (Err e) = ⊥
+Takes spells holds ts (Err (misfit bad)) = Unit {0}
+Takes spells holds ts (Err too_high) = ⊥
 
 abbrev pub Took : {A : Type 0} → (A → List Symbol) → (A → Type 0) → List Symbol → Read A → Type 0
 Took spells holds ts o = Takes spells (λ x us. holds x) ts o
@@ -26,17 +25,16 @@ Took spells holds ts o = Takes spells (λ x us. holds x) ts o
 pub takes_then : {A B : Type 0} (spells : A → List Symbol) (holds : A → List Symbol → Type 0) (ts : List Symbol) (spells' : B → List Symbol) (holds' : B → List Symbol → Type 0) (ts' : List Symbol) (o : Read A) (f : A × List Symbol → Read B)
     → Takes spells holds ts o → ((x : A) (us : List Symbol) → ts ≡ spells x ++ us → holds x us → Takes spells' holds' ts' (f (x, us))) → Takes spells' holds' ts' (o then f)
 takes_then s h ts s' h' ts' (Ok x) f t k = k x.0 x.1 t.0 t.1
-takes_then s h ts s' h' ts' (Err Syntax) f t k = tt
-takes_then s h ts s' h' ts' (Err Memory) f t k = absurd t
-takes_then s h ts s' h' ts' (Err TooDeep) f t k = absurd t
+takes_then s h ts s' h' ts' (Err (misfit bad)) f t k = tt
+takes_then s h ts s' h' ts' (Err too_high) f t k = absurd t
 
 pub took_then : {A B : Type 0} (spells : A → List Symbol) (holds : A → Type 0) (ts : List Symbol) (spells' : B → List Symbol) (holds' : B → Type 0) (ts' : List Symbol) (o : Read A) (f : A × List Symbol → Read B)
     → Took spells holds ts o → ((x : A) (us : List Symbol) → ts ≡ spells x ++ us → holds x → Took spells' holds' ts' (f (x, us))) → Took spells' holds' ts' (o then f)
 took_then s h ts s' h' ts' o f t k = takes_then s (λ x us. h x) ts s' (λ x us. h' x) ts' o f t k
 
-took_if : {A : Type 0} (spells : A → List Symbol) (holds : A → Type 0) (ts : List Symbol) (b : Bool) (o : Read A) → (b ≡ true → Took spells holds ts o) → Took spells holds ts (if b then o else Err Syntax)
-took_if s h ts true o t = t refl
-took_if s h ts false o t = tt
+took_if : {A : Type 0} (spells : A → List Symbol) (holds : A → Type 0) (ts : List Symbol) (b : Bool) (o : Read A) (bad : List Symbol) → (b ≡ true → Took spells holds ts o) → Took spells holds ts (if b then o else Err (misfit bad))
+took_if s h ts true o bad t = t refl
+took_if s h ts false o bad t = tt
 
 abbrev AnyTime : Time → Type 0
 AnyTime t = Unit {0}
@@ -86,12 +84,13 @@ value_taken (punct kind.LeftParen ∷ ts) =
 value_taken ts = tt
 
 names_taken : (ts : List Symbol) → Took yield_names AreLabels ts (parse_label_names ts)
-names_taken (word k t ∷ (punct kind.RightParen ∷ ts)) = took_if yield_names AreLabels _ (may_be_label k) (Ok (last k t, ts)) (λ h. (refl, h))
-names_taken (word k t ∷ (punct kind.Comma ∷ (punct kind.RightParen ∷ ts))) = took_if yield_names AreLabels _ (may_be_label k) (Ok (last_comma k t, ts)) (λ h. (refl, h))
+names_taken (word k t ∷ (punct kind.RightParen ∷ ts)) = took_if yield_names AreLabels _ (may_be_label k) (Ok (last k t, ts)) _ (λ h. (refl, h))
+names_taken (word k t ∷ (punct kind.Comma ∷ (punct kind.RightParen ∷ ts))) = took_if yield_names AreLabels _ (may_be_label k) (Ok (last_comma k t, ts)) _ (λ h. (refl, h))
 names_taken (word k t ∷ (punct kind.Comma ∷ ts)) =
-    took_if yield_names AreLabels (word k t ∷ (punct kind.Comma ∷ ts)) (may_be_label k) (parse_label_names ts then λ y. Ok (next k t y.0, y.1))
+    took_if yield_names AreLabels (word k t ∷ (punct kind.Comma ∷ ts)) (may_be_label k) (parse_label_names ts then λ y. Ok (next k t y.0, y.1)) _
     (λ h. took_then yield_names AreLabels ts yield_names AreLabels (word k t ∷ (punct kind.Comma ∷ ts)) (parse_label_names ts) (λ y. Ok (next k t y.0, y.1)) (names_taken ts)
     (λ names us e i. (ap (λ l. word k t ∷ (punct kind.Comma ∷ l)) e, (h, i))))
+names_taken (word k t ∷ ts) = took_if yield_names AreLabels (word k t ∷ ts) (may_be_label k) (Err (misfit ts)) _ (λ h. tt)
 names_taken ts = tt
 
 labels_in_taken : (ts : List Symbol) → Took yield_labels IsLabels (punct kind.LeftParen ∷ ts) (parse_label_list ts)
@@ -238,7 +237,7 @@ after_item_taken r ih i ts (punct kind.Comma ∷ us) h e =
     took_then yield_items AreItems us yield_items AreItems ts (r us) (λ y. Ok (next_item i comma y.0, y.1)) (ih us)
     (λ is vs f j. (e ∙ ap (λ l. yield_item i ++ punct kind.Comma ∷ l) f ∙ sym (append_assoc (yield_item i) (punct kind.Comma ∷ yield_items is) vs), (h, j)))
 after_item_taken r ih i ts (word (kind.Operator op) t ∷ us) h e =
-    took_if yield_items AreItems ts (op == T_LOR) (r us then λ y. Ok (next_item i (or t) y.0, y.1))
+    took_if yield_items AreItems ts (op == T_LOR) (r us then λ y. Ok (next_item i (or t) y.0, y.1)) _
     (λ q. took_then yield_items AreItems us yield_items AreItems ts (r us) (λ y. Ok (next_item i (or t) y.0, y.1)) (ih us)
     (λ is vs f j. (e ∙ ap (λ o. yield_item i ++ word (kind.Operator o) t ∷ us) (eqb-true op T_LOR q) ∙ ap (λ l. yield_item i ++ word (kind.Operator T_LOR) t ∷ l) f ∙ sym (append_assoc (yield_item i) (word (kind.Operator T_LOR) t ∷ yield_items is) vs), (h, j))))
 after_item_taken r ih i ts us h e = tt

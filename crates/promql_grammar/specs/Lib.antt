@@ -3,3 +3,4 @@ pub mod GrammarParts
 pub mod Parsing
 pub mod Results
 pub mod Symbols
+pub mod Misfits

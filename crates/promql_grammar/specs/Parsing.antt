@@ -4,17 +4,20 @@ use Rattle.promql_text.specs.Texts.{Text}
 use Rattle.promql_token.specs.declared.ids.TheConstants.{T_POW, T_NEQ, T_LOR}
 use Rattle.promql_grammar.specs.declared.token_kinds.TokenKind.{TokenKind}
 use Rattle.promql_grammar.specs.declared.token_kinds.TokenKind.TheVariants as kind
-use Rattle.promql_grammar.specs.declared.read_error.ReadError.{ReadError}
-use Rattle.promql_grammar.specs.declared.read_error.ReadError.TheVariants.{Syntax, TooDeep}
 use Rattle.promql_grammar.specs.Results.{◌then◌}
 use Rattle.promql_grammar.specs.Symbols.{Symbol, punct, word, is_plus_or_minus, may_be_name, may_be_label}
 use Rattle.promql_grammar.specs.GrammarParts.{Time, seconds, duration, Signed, unsigned, signed, Names, last, last_comma, next, Labels, no_label, labels, Grouping, by, without, Clause, no_clause, before, after, Group, no_group, bare, listed, Matching, no_matching, matching, FillValue, Fills, no_fill, both, left, right, left_right, right_left, Modifier, MatchOperator, equal, not_equal, equal_regex, not_equal_regex, Item, matcher, lone, comma, or, Items, last_item, last_item_comma, next_item, Braces, no_item, items, Postfix, range, subquery, at_number, at_bound, offset, mode}
 use Rattle.promql_grammar.specs.Grammar.{Derivation, number, string, selector, nameless, paren, call, aggregate, postfixed, unary, binary, Arguments, none, more, precedence, height}
 use Rattle.promql_grammar.specs.Grammar as grammar
 
+-- why there is no part: a token that does not fit, with those after it, or the end where one is missing; or the height
+pub data Stop : Type 0 where
+  misfit : List Symbol → Stop
+  too_high : Stop
+
 -- a part and the tokens after it, or why there is none
 abbrev pub Read : Type 0 → Type 0
-Read A = Result (A × List Symbol) ReadError
+Read A = Result (A × List Symbol) Stop
 
 -- what parses an expression, from the lowest precedence of its operators and the tokens
 abbrev pub Reader : Type 0
@@ -27,7 +30,7 @@ right_precedence op = if op == T_POW then 6 else precedence op + 1
 abbrev pub parse_time : List Symbol → Read Time
 parse_time (word kind.Number t ∷ ts) = Ok (seconds t, ts)
 parse_time (word kind.Duration t ∷ ts) = Ok (duration t, ts)
-parse_time ts = Err Syntax
+parse_time ts = Err (misfit ts)
 
 abbrev pub eat_sign : List Symbol → Read Signed
 eat_sign (word (kind.Operator op) t ∷ ts) = if is_plus_or_minus op then Ok (signed op t, ts) else Ok (unsigned, word (kind.Operator op) t ∷ ts)
@@ -35,18 +38,21 @@ eat_sign ts = Ok (unsigned, ts)
 
 abbrev pub parse_number : List Symbol → Read Text
 parse_number (word kind.Number t ∷ ts) = Ok (t, ts)
-parse_number ts = Err Syntax
+parse_number ts = Err (misfit ts)
 
 abbrev pub parse_string : List Symbol → Read Text
 parse_string (word kind.String t ∷ ts) = Ok (t, ts)
-parse_string ts = Err Syntax
+parse_string ts = Err (misfit ts)
 
 -- labels after an opening parenthesis
 abbrev pub parse_label_names : List Symbol → Read Names
-parse_label_names (word k t ∷ (punct kind.RightParen ∷ ts)) = if may_be_label k then Ok (last k t, ts) else Err Syntax
-parse_label_names (word k t ∷ (punct kind.Comma ∷ (punct kind.RightParen ∷ ts))) = if may_be_label k then Ok (last_comma k t, ts) else Err Syntax
-parse_label_names (word k t ∷ (punct kind.Comma ∷ ts)) = if may_be_label k then (parse_label_names ts then λ y. Ok (next k t y.0, y.1)) else Err Syntax
-parse_label_names ts = Err Syntax
+parse_label_names (word k t ∷ (punct kind.RightParen ∷ ts)) = if may_be_label k then Ok (last k t, ts) else Err (misfit (word k t ∷ (punct kind.RightParen ∷ ts)))
+parse_label_names (word k t ∷ (punct kind.Comma ∷ (punct kind.RightParen ∷ ts))) =
+    if may_be_label k then Ok (last_comma k t, ts) else Err (misfit (word k t ∷ (punct kind.Comma ∷ (punct kind.RightParen ∷ ts))))
+parse_label_names (word k t ∷ (punct kind.Comma ∷ ts)) =
+    if may_be_label k then (parse_label_names ts then λ y. Ok (next k t y.0, y.1)) else Err (misfit (word k t ∷ (punct kind.Comma ∷ ts)))
+parse_label_names (word k t ∷ ts) = if may_be_label k then Err (misfit ts) else Err (misfit (word k t ∷ ts))
+parse_label_names ts = Err (misfit ts)
 
 abbrev pub parse_label_list : List Symbol → Read Labels
 parse_label_list (punct kind.RightParen ∷ ts) = Ok (no_label, ts)
@@ -54,7 +60,7 @@ parse_label_list ts = parse_label_names ts then λ y. Ok (labels y.0, y.1)
 
 abbrev pub parse_labels : List Symbol → Read Labels
 parse_labels (punct kind.LeftParen ∷ ts) = parse_label_list ts
-parse_labels ts = Err Syntax
+parse_labels ts = Err (misfit ts)
 
 -- a grouping after arguments, if there is one
 abbrev pub parse_grouping : List Symbol → Read Clause
@@ -81,11 +87,11 @@ parse_matching ts = Ok (no_matching, ts)
 
 abbrev pub parse_fill_value_end : Signed → Text → List Symbol → Read FillValue
 parse_fill_value_end s n (punct kind.RightParen ∷ ts) = Ok (record { sign = s; number = n }, ts)
-parse_fill_value_end s n ts = Err Syntax
+parse_fill_value_end s n ts = Err (misfit ts)
 
 abbrev pub parse_fill_value : List Symbol → Read FillValue
 parse_fill_value (punct kind.LeftParen ∷ ts) = eat_sign ts then λ s. parse_number s.1 then λ n. parse_fill_value_end s.0 n.0 n.1
-parse_fill_value ts = Err Syntax
+parse_fill_value ts = Err (misfit ts)
 
 abbrev pub parse_fill_right : Text → FillValue → List Symbol → Read Fills
 parse_fill_right t v (word kind.FillRight u ∷ ts) = parse_fill_value ts then λ w. Ok (left_right t v u w.0, w.1)
@@ -127,7 +133,7 @@ parse_matcher_value k t s ts = parse_string ts then λ v. Ok (matcher k t s v.0,
 
 abbrev pub parse_after_name : Text → Option MatchOperator × List Symbol → Read Item
 parse_after_name t (Some s, ts) = parse_matcher_value kind.Identifier t s ts
-parse_after_name t (None, ts) = Err Syntax
+parse_after_name t (None, ts) = Err (misfit ts)
 
 abbrev pub parse_after_string : Text → Option MatchOperator × List Symbol → Read Item
 parse_after_string t (Some s, ts) = parse_matcher_value kind.String t s ts
@@ -136,17 +142,17 @@ parse_after_string t (None, ts) = Ok (lone t, ts)
 abbrev pub parse_item : List Symbol → Read Item
 parse_item (word kind.Identifier t ∷ ts) = parse_match_operator ts then parse_after_name t
 parse_item (word kind.String t ∷ ts) = parse_match_operator ts then parse_after_string t
-parse_item ts = Err Syntax
+parse_item ts = Err (misfit ts)
 
 abbrev pub parse_after_item : (List Symbol → Read Items) → Item → List Symbol → Read Items
 parse_after_item r i (punct kind.RightBrace ∷ ts) = Ok (last_item i, ts)
 parse_after_item r i (punct kind.Comma ∷ (punct kind.RightBrace ∷ ts)) = Ok (last_item_comma i, ts)
 parse_after_item r i (punct kind.Comma ∷ ts) = r ts then λ y. Ok (next_item i comma y.0, y.1)
-parse_after_item r i (word (kind.Operator op) t ∷ ts) = if op == T_LOR then (r ts then λ y. Ok (next_item i (or t) y.0, y.1)) else Err Syntax
-parse_after_item r i ts = Err Syntax
+parse_after_item r i (word (kind.Operator op) t ∷ ts) = if op == T_LOR then (r ts then λ y. Ok (next_item i (or t) y.0, y.1)) else Err (misfit (word (kind.Operator op) t ∷ ts))
+parse_after_item r i ts = Err (misfit ts)
 
 abbrev pub parse_items : ℕ → List Symbol → Read Items
-parse_items zero ts = Err Syntax
+parse_items zero ts = Err (misfit ts)
 parse_items (suc k) ts = parse_item ts then λ i. parse_after_item (parse_items k) i.0 i.1
 
 -- matchers after an opening brace
@@ -160,7 +166,7 @@ parse_optional_braces ts = Ok (None, ts)
 
 abbrev pub parse_step_end : Time → Time → List Symbol → Read (Option Postfix)
 parse_step_end t s (punct kind.RightBracket ∷ ts) = Ok (Some (subquery t (Some s)), ts)
-parse_step_end t s ts = Err Syntax
+parse_step_end t s ts = Err (misfit ts)
 
 abbrev pub parse_step : Time → List Symbol → Read (Option Postfix)
 parse_step t (punct kind.RightBracket ∷ ts) = Ok (Some (subquery t None), ts)
@@ -169,11 +175,12 @@ parse_step t ts = parse_time ts then λ s. parse_step_end t s.0 s.1
 abbrev pub parse_range_end : Time → List Symbol → Read (Option Postfix)
 parse_range_end t (punct kind.RightBracket ∷ ts) = Ok (Some (range t), ts)
 parse_range_end t (punct kind.Colon ∷ ts) = parse_step t ts
-parse_range_end t ts = Err Syntax
+parse_range_end t ts = Err (misfit ts)
 
 abbrev pub parse_at_bound : TokenKind → Text → List Symbol → Read (Option Postfix)
 parse_at_bound k t (punct kind.LeftParen ∷ (punct kind.RightParen ∷ ts)) = Ok (Some (at_bound k t), ts)
-parse_at_bound k t ts = Err Syntax
+parse_at_bound k t (punct kind.LeftParen ∷ ts) = Err (misfit ts)
+parse_at_bound k t ts = Err (misfit ts)
 
 abbrev pub parse_at_modifier : List Symbol → Read (Option Postfix)
 parse_at_modifier (word kind.Start t ∷ ts) = parse_at_bound kind.Start t ts
@@ -194,7 +201,7 @@ parse_postfix ts = Ok (None, ts)
 
 abbrev pub parse_more_postfixes : (Derivation → List Symbol → Read Derivation) → ℕ → Derivation → Option Postfix → List Symbol → Read Derivation
 parse_more_postfixes go n d None ts = Ok (d, ts)
-parse_more_postfixes go n d (Some p) ts = if nat_lt n (height (postfixed d p)) then Err TooDeep else go (postfixed d p) ts
+parse_more_postfixes go n d (Some p) ts = if nat_lt n (height (postfixed d p)) then Err too_high else go (postfixed d p) ts
 
 -- the postfixes of a base, where the whole is of height at most n
 abbrev pub parse_postfixes : ℕ → ℕ → Derivation → List Symbol → Read Derivation
@@ -203,20 +210,20 @@ parse_postfixes (suc k) n d ts = parse_postfix ts then λ p. parse_more_postfixe
 
 abbrev pub parse_paren_end : ℕ → ℕ → Derivation → List Symbol → Read Derivation
 parse_paren_end k n d (punct kind.RightParen ∷ ts) = parse_postfixes k n (paren d) ts
-parse_paren_end k n d ts = Err Syntax
+parse_paren_end k n d ts = Err (misfit ts)
 
 abbrev pub parse_more_arguments : Reader → ℕ → List Symbol → Read Arguments
-parse_more_arguments r zero ts = Err Syntax
+parse_more_arguments r zero ts = Err (misfit ts)
 parse_more_arguments r (suc k) (punct kind.RightParen ∷ ts) = Ok (none, ts)
 parse_more_arguments r (suc k) (punct kind.Comma ∷ ts) = r 0 ts then λ x. parse_more_arguments r k x.1 then λ y. Ok (more x.0 y.0, y.1)
-parse_more_arguments r (suc k) ts = Err Syntax
+parse_more_arguments r (suc k) ts = Err (misfit ts)
 
 abbrev pub parse_arguments : Reader → List Symbol → Read Arguments
 parse_arguments r (punct kind.RightParen ∷ ts) = Ok (none, ts)
 parse_arguments r ts = r 0 ts then λ x. parse_more_arguments r (length ts) x.1 then λ y. Ok (more x.0 y.0, y.1)
 
 abbrev pub parse_selector : ℕ → ℕ → TokenKind → Text → List Symbol → Read Derivation
-parse_selector k n w t ts = if may_be_name w then (parse_optional_braces ts then λ b. parse_postfixes k n (selector w t b.0) b.1) else Err Syntax
+parse_selector k n w t ts = if may_be_name w then (parse_optional_braces ts then λ b. parse_postfixes k n (selector w t b.0) b.1) else Err (misfit (word w t ∷ ts))
 
 abbrev pub parse_call : Reader → ℕ → ℕ → TokenKind → Text → List Symbol → Read Derivation
 parse_call r k n w t (punct kind.LeftParen ∷ ts) = parse_arguments r ts then λ y. parse_postfixes k n (call w t y.0) y.1
@@ -224,7 +231,7 @@ parse_call r k n w t ts = parse_selector k n w t ts
 
 abbrev pub parse_grouped_aggregate : Reader → ℕ → ℕ → ℕ → Text → Grouping → List Symbol → Read Derivation
 parse_grouped_aggregate r k n op t g (punct kind.LeftParen ∷ ts) = parse_arguments r ts then λ y. parse_postfixes k n (aggregate op t (before g) y.0) y.1
-parse_grouped_aggregate r k n op t g ts = Err Syntax
+parse_grouped_aggregate r k n op t g ts = Err (misfit ts)
 
 abbrev pub parse_aggregate : Reader → ℕ → ℕ → ℕ → Text → List Symbol → Read Derivation
 parse_aggregate r k n op t (punct kind.LeftParen ∷ ts) = parse_arguments r ts then λ y. parse_grouping y.1 then λ c. parse_postfixes k n (aggregate op t c.0 y.0) c.1
@@ -246,18 +253,18 @@ parse_unary r k n (word kind.End t ∷ ts) = parse_call r k n kind.End t ts
 parse_unary r k n (word w t ∷ ts) = parse_selector k n w t ts
 parse_unary r k n (punct kind.LeftParen ∷ ts) = r 0 ts then λ x. parse_paren_end k n x.0 x.1
 parse_unary r k n (punct kind.LeftBrace ∷ ts) = parse_braces ts then λ b. parse_postfixes k n (nameless b.0) b.1
-parse_unary r k n ts = Err Syntax
+parse_unary r k n ts = Err (misfit ts)
 
 -- at most k operators of at least precedence m after d, and their right sides, of height at most n
 abbrev pub parse_operators : Reader → ℕ → ℕ → ℕ → Derivation → List Symbol → Read Derivation
 parse_operators r zero n m d ts = Ok (d, ts)
 parse_operators r (suc k) n m d (word (kind.Operator op) t ∷ ts) =
     if nat_lt (precedence op) m then Ok (d, word (kind.Operator op) t ∷ ts)
-    else (if nat_lt n (height d) then Err TooDeep
+    else (if nat_lt n (height d) then Err too_high
     else (parse_modifier ts then λ y. r (right_precedence op) y.1 then λ x. parse_operators r k n m (binary op t y.0 d x.0) x.1))
 parse_operators r (suc k) n m d ts = Ok (d, ts)
 
 -- an expression of height at most n, whose operators outside are of at least precedence m
 unfoldable pub parse_expression : ℕ → Reader
-parse_expression zero m ts = Err TooDeep
+parse_expression zero m ts = Err too_high
 parse_expression (suc n) m ts = parse_unary (parse_expression n) (length ts) (suc n) ts then λ x. parse_operators (parse_expression n) (length ts) n m x.0 x.1

@@ -1,10 +1,10 @@
 //! Laws of the grammar.
 
-ghost use Rattle.std.specs.Prelude.{◌≡◌, ℕ, ◌≤◌, ◌++◌, [], List, Ok, Err, nat_lt, if◌then◌else◌, length};
+ghost use Rattle.std.specs.Prelude.{◌≡◌, ℕ, ◌≤◌, ◌++◌, [], ◌∷◌, List, Ok, Err, nat_lt, if◌then◌else◌, length};
 ghost use Rattle.promql_text.specs.Equalities.{IsSameBy};
-ghost use Rattle.promql_grammar.specs.declared.read_error.ReadError.TheVariants.{TooDeep};
 ghost use Rattle.promql_grammar.specs.Grammar.{Derivation, IsWellFormed, height, yield};
-ghost use Rattle.promql_grammar.specs.Parsing.{parse_expression};
+ghost use Rattle.promql_grammar.specs.Misfits.{AreMisfits};
+ghost use Rattle.promql_grammar.specs.Parsing.{misfit, parse_expression, too_high};
 ghost use Rattle.promql_grammar.specs.Symbols.{Symbol, ids_of_kinds};
 ghost use Rattle.promql_token.specs.Ids.{count_up};
 
@@ -34,7 +34,7 @@ pub fn heights()
 /// is too deep, which a list without enough tokens never is.
 pub fn parsing_is_sound_and_complete()
     ensures complete { (n : ℕ) (d : Derivation) → IsWellFormed d
-        → parse_expression n 0 (yield d) ≡ (if nat_lt n (height d) then Err TooDeep else Ok
+        → parse_expression n 0 (yield d) ≡ (if nat_lt n (height d) then Err too_high else Ok
         (d, [])) }
     ensures formed { (n : ℕ) (ts rest : List Symbol) (d : Derivation)
         → parse_expression n 0 ts ≡ Ok (d, rest)
@@ -44,6 +44,15 @@ pub fn parsing_is_sound_and_complete()
     ensures spells { (n : ℕ) (ts rest : List Symbol) (d : Derivation)
         → parse_expression n 0 ts ≡ Ok (d, rest)
         → ts ≡ yield d ++ rest }
-    ensures too_deep { (n : ℕ) (ts : List Symbol) → parse_expression n 0 ts ≡ Err TooDeep
+    ensures too_deep { (n : ℕ) (ts : List Symbol) → parse_expression n 0 ts ≡ Err too_high
         → n ≤ length ts }
+{}
+
+/// Where parsing stops at a token, within any height, or goes no further before it, that token is the first that does not
+/// fit: no well formed derivation begins with the tokens up to and with it.
+pub fn misfits_are_first()
+    ensures stops { (n : ℕ) (ts rest : List Symbol) → parse_expression n 0 ts ≡ Err (misfit rest)
+        → AreMisfits ts rest }
+    ensures goes_on { (n : ℕ) (ts rest : List Symbol) (x : Symbol) (d : Derivation)
+        → parse_expression n 0 ts ≡ Ok (d, x ∷ rest) → AreMisfits ts (x ∷ rest) }
 {}

@@ -14,6 +14,7 @@ use Rattle.promql_grammar.specs.Symbols.{Symbol, symbol, symbol_of, token_kind, 
 use Rattle.promql_grammar.specs.GrammarParts.{no_item}
 use Rattle.promql_grammar.specs.Grammar.{Derivation, number, duration, string, selector, nameless, paren, postfixed, unary, yield, height, IsWellFormed}
 use Rattle.promql_grammar.proofs.KnownKinds.{last_is_known}
+use Rattle.promql_grammar.proofs.NoneFit.{none_spells}
 use Rattle.promql_grammar.proofs.Unique.{one_derivation}
 use Rattle.promql_grammar.proofs.Sound.{height_yield}
 use Rattle.promql_ast.specs.Height.{height as tree_height}
@@ -22,12 +23,13 @@ use Rattle.promql_ast.specs.Typed.{Typed}
 use Rattle.promql_syntax.specs.ParseAnswers.{PlainParseError, memory, lexical, empty, syntax, too_deep, fault, plain_error_of, Derives, BeginsNone, IsBuilt, IsServed, IsAnswerTo, built_answer}
 use Rattle.promql_syntax.specs.Asking.{Ends}
 use Rattle.promql_syntax.specs.Building.{build}
-use Rattle.promql_syntax.specs.BuildErrors.{BuildError, build_error_of}
+use Rattle.promql_syntax.specs.BuildErrors.{BuildError, build_error_of, build_fault_of}
 use Rattle.promql_syntax.specs.SymbolsLeft.{fault_symbol}
-use Rattle.promql_syntax.specs.ParseErrors.{error_of, error_of_build, first_error}
+use Rattle.promql_syntax.specs.ParseErrors.{error_of, error_of_build, error_of_fault, first_error}
 use Rattle.promql_syntax.specs.declared.parser.ParseError.{ParseError}
 use Rattle.promql_syntax.specs.declared.grammar.build_error.BuildError as code
-use Rattle.promql_syntax.specs.declared.grammar.build_error.BuildError.TheVariants as variant
+use Rattle.promql_syntax.specs.declared.grammar.build_error.BuildFault.{BuildFault}
+use Rattle.promql_syntax.specs.declared.grammar.build_error.BuildFault.TheVariants as variant
 use Rattle.promql_syntax.specs.SourceTokens.{Token, tokens, has_any}
 use Rattle.promql_syntax.specs.ParsesQuery.{ParsesQuery, IsQueryValue}
 use Rattle.promql_syntax.proofs.CanonicalTexts.{text_reads_back}
@@ -217,14 +219,17 @@ module _ (text : Text) (list : List Token) (is : tokens text ≡ Ok list) (some 
   }
 
   -- the same, as an error of the parser
+  build_fault_answer : (f : BuildFault) → IsQueryValue 512 ts (Err (build_fault_of f)) → IsAnswerTo text (Err (plain_error_of (error_of_fault f)))
+  build_fault_answer (variant.Number f) whole = building_answer _ whole
+  build_fault_answer variant.Quoted whole = building_answer _ whole
+  build_fault_answer (variant.Duration f) whole = building_answer _ whole
+  build_fault_answer (variant.At f) whole = building_answer _ whole
+  build_fault_answer (variant.Pattern value) whole = building_answer _ whole
+  build_fault_answer (variant.UnknownFunction name) whole = building_answer _ whole
+  build_fault_answer (variant.Check f) whole = building_answer _ whole
+
   pub build_error_answer : (f : code.BuildError) → IsQueryValue 512 ts (Err (build_error_of f)) → IsAnswerTo text (Err (plain_error_of (error_of_build f)))
-  build_error_answer (variant.Number f) whole = building_answer _ whole
-  build_error_answer variant.Quoted whole = building_answer _ whole
-  build_error_answer (variant.Duration f) whole = building_answer _ whole
-  build_error_answer (variant.At f) whole = building_answer _ whole
-  build_error_answer (variant.Pattern value) whole = building_answer _ whole
-  build_error_answer (variant.UnknownFunction name) whole = building_answer _ whole
-  build_error_answer (variant.Check f) whole = building_answer _ whole
+  build_error_answer f whole = build_fault_answer f.fault whole
 
   -- nothing that is low enough has the tokens
   none_served : (e : PlainParseError) → ((f : BuildError) → e ≢ fault f) → ((d : Derivation) → IsWellFormed d → height d ≤ 512 → ¬ (yield d ≡ ts)) → IsServed text [] (Err e)
@@ -240,8 +245,8 @@ module _ (text : Text) (list : List Token) (is : tokens text ≡ Ok list) (some 
       none_built e build_errors (Ok t) same = cc
       none_built e build_errors (Err f) same = let one : e ≡ fault f = cc in absurd (build_errors f one)
 
-  pub read_error_answer : (error : ReadError) → ParsesQuery 512 ts (Err error) → (error ≡ read_errors.Memory → begins ts ≡ true) → IsAnswerTo text (Err (plain_error_of (error_of error)))
-  read_error_answer read_errors.Memory whole begun = record {
+  pub read_error_answer : (rest : List Symbol) (error : ReadError) → ParsesQuery 512 ts rest (Err error) → (error ≡ read_errors.Memory → begins ts ≡ true) → IsAnswerTo text (Err (plain_error_of (error_of error)))
+  read_error_answer rest read_errors.Memory whole begun = record {
     served = λ own. absurd (own refl);
     syntax = λ same. cc;
     too_deep = λ same. cc;
@@ -251,9 +256,9 @@ module _ (text : Text) (list : List Token) (is : tokens text ≡ Ok list) (some 
     typed = λ t same. cc;
     low = λ t same. cc;
   }
-  read_error_answer read_errors.Syntax whole begun = record {
-    served = λ own. ([], none_served syntax (λ f same. cc) (λ d formed low. whole d formed));
-    syntax = λ same d derives. whole d derives.formed (yield_is d derives);
+  read_error_answer rest read_errors.Syntax whole begun = record {
+    served = λ own. ([], none_served syntax (λ f same. cc) (λ d formed low. none_spells ts rest whole d formed));
+    syntax = λ same d derives. none_spells ts rest whole d derives.formed (yield_is d derives);
     too_deep = λ same. cc;
     empty = (λ same. cc, λ none. absurd (not_empty none));
     lexical = λ f. (λ same. cc, λ faulty. absurd (no_fault f faulty));
@@ -261,7 +266,7 @@ module _ (text : Text) (list : List Token) (is : tokens text ≡ Ok list) (some 
     typed = λ t same. cc;
     low = λ t same. cc;
   }
-  read_error_answer read_errors.TooDeep whole begun = record {
+  read_error_answer rest read_errors.TooDeep whole begun = record {
     served = λ own. ([], none_served too_deep (λ f same. cc) whole.1);
     syntax = λ same. cc;
     too_deep = λ same. (

@@ -1,17 +1,16 @@
 -- What building asks about are patterns of the tree that it builds.
-use Rattle.std.proofs.Common.{◌≡◌, ℕ, Bool, true, false, not, cond, List, [], ◌∷◌, ◌++◌, Option, Some, None, Result, Ok, Err, refl, sym, ap, ◌∙◌, subst, codes}
+use Rattle.std.proofs.Common.{◌≡◌, ℕ, Bool, true, false, not, cond, List, [], ◌∷◌, ◌++◌, Option, Some, None, Result, Ok, Err, refl, sym, ap, subst, codes}
 use Rattle.std.specs.Prelude.{◌==◌}
 use Rattle.promql_text.specs.Texts.{Text}
 use Rattle.promql_text.specs.Values.{from_nanos}
 use Rattle.promql_token.specs.declared.ids.TheConstants.{T_SUB}
-use Rattle.promql_grammar.specs.declared.token_kinds.TokenKind.{TokenKind}
 use Rattle.promql_grammar.specs.Grammar as grammar
 use Rattle.promql_grammar.specs.GrammarParts as part
 use Rattle.promql_label.specs.Answers.{Answer, built, rejected}
-use Rattle.promql_label.specs.PlainMatchers.{matcher_text, Operator, equal, not_equal, matches, matches_not, PlainMatcher, plain_matcher, PlainMatchers, plain_matchers, append_plain, appended_or, grown}
+use Rattle.promql_label.specs.PlainMatchers.{matcher_text, Operator, equal, not_equal, matches, matches_not, PlainMatcher, plain_matcher, PlainMatchers, plain_matchers, grown}
 use Rattle.std.specs.Ordering.{is_gt}
 use Rattle.promql_label.specs.SortedTexts.{text_order}
-use Rattle.promql_label.specs.ReadMatchers.{insert_matcher, sorted_matchers, normal_matchers}
+use Rattle.promql_label.specs.ReadMatchers.{insert_matcher, sorted_matchers}
 use Rattle.promql_kind.specs.Functions.{Signature, function_named}
 use Rattle.promql_kind.specs.Modifiers.{Clause}
 use Rattle.promql_ast.specs.Builds.{aggregate_args, at_given, minus, mode_given, offset_given, with_range}
@@ -22,17 +21,16 @@ use Rattle.promql_ast.specs.check.BinaryChecks.{settle_matching}
 use Rattle.promql_ast.specs.check.VectorChecks.{selector_fault}
 use Rattle.promql_ast.specs.Shifts.{Moment, Shift}
 use Rattle.promql_ast.specs.declared.range_mode.RangeMode.{RangeMode}
-use Rattle.promql_ast.specs.declared.range_mode.RangeMode.TheVariants.{Anchored, Plain, Smoothed}
+use Rattle.promql_ast.specs.declared.range_mode.RangeMode.TheVariants.{Plain}
 use Rattle.promql_ast.specs.Faults.{Fault, subquery_type, Verdict, passes, rejected as rejects}
 use Rattle.promql_ast.specs.Normal.{normal, maybe_normal, all_normal, normal_selector}
 use Rattle.promql_ast.specs.Selectors.{Selector, selector}
-use Rattle.promql_ast.specs.Tree as tree
 use Rattle.promql_ast.specs.Tree.{Tree, aggregate, unary, binary, paren, subquery, number, string, vector, matrix, call, extension, MaybeTree, absent, present, Trees, no_trees, first_tree}
 use Rattle.promql_syntax.specs.Asking.{Asking, gives, fails, asks, ◌giving◌, known, Asked, Ends}
-use Rattle.promql_syntax.specs.Building.{bound_moment, build, build_all, build_call, from_verdict, from_checked_verdict, range_mode, selector_tree, build_postfix, build_unary}
+use Rattle.promql_syntax.specs.Building.{bound_moment, build, build_all, build_call, from_verdict, from_checked_verdict, range_mode, build_postfix}
 use Rattle.promql_syntax.specs.BuildErrors.{BuildError, check, pattern, unknown_function}
 use Rattle.promql_syntax.specs.PartBuilding.{any_braces_value, append_matcher, braces_value, clause_value, duration_value, item_value, items_value, label_value, modifier_value, moment_value, number_value, operator_value, pattern_operator, shift_value, step_value, string_value, time_value}
-use Rattle.promql_syntax.proofs.CheckedAgain.{Aggregates, aggregate_again, aggregates, arguments, call_again, same_tree, unary_again}
+use Rattle.promql_syntax.proofs.CheckedAgain.{aggregate_again, aggregates, arguments, call_again, same_tree, unary_again}
 use Rattle.promql_syntax.proofs.PrintedModifiers.{binary_checked}
 use Rattle.promql_syntax.specs.TreePatterns.{AllPatterns, GroupsPatterns, HasSuchPattern, ListPatterns, MatcherPattern, MatchersPatterns, MaybePatterns, SelectorPatterns, TreePatterns}
 

@@ -1,25 +1,25 @@
 -- Bases without expressions in them.
-use Rattle.std.proofs.Common.{◌≡◌, ℕ, true, false, cond, refl, ◌∙◌, ap, List, ◌∷◌, Some, None}
+use Rattle.std.proofs.Common.{◌≡◌, ℕ, true, false, cond, refl, sym, ◌∙◌, ap, List, ◌∷◌, Some, None}
 use Rattle.std.specs.Prelude.{Result, Ok, Err}
+use Rattle.std.proofs.lemmas.Bool.{cond-true, cond-false}
 use Rattle.promql_text.specs.Texts.{Text}
 use Rattle.promql_grammar.specs.declared.token_kinds.TokenKind.{TokenKind}
 use Rattle.promql_grammar.specs.declared.token_kinds.TokenKind.TheVariants as kind
-use Rattle.promql_grammar.specs.declared.read_error.ReadError.{ReadError}
 use Rattle.promql_grammar.specs.declared.read_error.ReadError.TheVariants.{Syntax}
 use Rattle.promql_grammar.specs.Results.{◌then◌}
-use Rattle.promql_grammar.specs.Symbols.{Symbol, punct, may_be_name}
+use Rattle.promql_grammar.specs.Symbols.{Symbol, punct, word, symbol, may_be_name}
 use Rattle.promql_grammar.specs.Grammar as grammar
 use Rattle.promql_grammar.specs.GrammarParts.{Braces}
-use Rattle.promql_grammar.specs.Parsing.{parse_optional_braces, parse_braces, parse_selector, parse_postfixes}
+use Rattle.promql_grammar.specs.Parsing.{parse_optional_braces, parse_braces, parse_selector, parse_postfixes, misfit}
 use Rattle.promql_label.specs.MatcherViews.{plain_matchers_of}
 use Rattle.promql_label.specs.declared.matchers.Matchers.{Matchers}
 use Rattle.promql_syntax.specs.declared.grammar.build_error.BuildError as code
 use Rattle.promql_syntax.specs.declared.grammar.parsed.ParsedExpr.{ParsedExpr}
 use Rattle.promql_syntax.specs.ParsesPart.{ParsesAskedPart, IsBuiltBy}
-use Rattle.promql_syntax.specs.ParsesExpr.{IsExprOf, ParsesBase, Fails, FailsBase}
+use Rattle.promql_syntax.specs.ParsesExpr.{IsExprOf, ParsesBase, Fails, FailsBase, Failure}
 use Rattle.promql_syntax.specs.PartBuilding.{braces_value}
 use Rattle.promql_syntax.specs.PartTokens.{HasNo}
-use Rattle.promql_syntax.specs.Atoms.{parse_atom, parse_selector_braces}
+use Rattle.promql_syntax.specs.Atoms.{parse_atom, parse_named, parse_selector_braces}
 use Rattle.promql_syntax.proofs.ReadErrorSteps.{fails_first}
 use Rattle.promql_syntax.proofs.ResultSteps.{then_then}
 
@@ -37,7 +37,7 @@ module _ (w : TokenKind) (text : Text) (ts : List Symbol) where
   pub string_base : (parsed : ParsedExpr) → w ≡ kind.String → IsExprOf parsed (grammar.string text) → ParsesBase parsed ts (λ k n. parse_atom k n w text ts)
   string_base parsed is built = record { derivation = grammar.string text; is = λ k n. ap (λ v. parse_atom k n v text ts) is; built = built }
 
-  pub nameless_fails : (e : ReadError) → w ≡ kind.LeftBrace → Fails e (parse_braces ts) → FailsBase e (λ k n. parse_atom k n w text ts)
+  pub nameless_fails : (e : Failure) → w ≡ kind.LeftBrace → Fails e (parse_braces ts) → FailsBase e (λ k n. parse_atom k n w text ts)
   nameless_fails e is fails = λ k n. fails_first e (parse_braces ts) (λ b. parse_postfixes k n (grammar.nameless b.0) b.1) _ (ap (λ v. parse_atom k n v text ts) is) fails
 
   pub nameless_base : (matchers : Result Matchers code.BuildError) (us : List Symbol) (parsed : ParsedExpr) → w ≡ kind.LeftBrace → ParsesAskedPart plain_matchers_of braces_value matchers us (parse_braces ts)
@@ -48,11 +48,8 @@ module _ (w : TokenKind) (text : Text) (ts : List Symbol) where
     built = built read.part read.built;
   }
 
-  pub not_named : may_be_name w ≡ false → FailsBase Syntax (λ k n. parse_selector k n w text ts)
-  not_named other = λ k n. ap (λ b. cond b (parse_optional_braces ts then λ x. parse_postfixes k n (grammar.selector w text x.0) x.1) (Err Syntax)) other
-
   named_read : (k n : ℕ) → may_be_name w ≡ true → parse_selector k n w text ts ≡ (parse_optional_braces ts then λ x. parse_postfixes k n (grammar.selector w text x.0) x.1)
-  named_read k n may = ap (λ b. cond b (parse_optional_braces ts then λ x. parse_postfixes k n (grammar.selector w text x.0) x.1) (Err Syntax)) may
+  named_read k n may = ap (λ b. cond b (parse_optional_braces ts then λ x. parse_postfixes k n (grammar.selector w text x.0) x.1) (Err (misfit (word w text ∷ ts)))) may
 
   -- a name without braces
   pub bare_base : (parsed : ParsedExpr) → may_be_name w ≡ true → HasNo kind.LeftBrace ts → ((v : TokenKind) → IsExprOf parsed (grammar.selector v text None)) → ParsesBase parsed ts (λ k n. parse_selector k n w text ts)
@@ -62,7 +59,7 @@ module _ (w : TokenKind) (text : Text) (ts : List Symbol) where
     built = built w;
   }
 
-  pub selected_fails : (e : ReadError) → Fails e (parse_braces ts) → FailsBase e (λ k n. parse_selector_braces k n w text ts)
+  pub selected_fails : (e : Failure) → Fails e (parse_braces ts) → FailsBase e (λ k n. parse_selector_braces k n w text ts)
   selected_fails e fails = λ k n. fails_first e (parse_braces ts) (λ b. parse_postfixes k n (grammar.selector w text (Some b.0)) b.1) _ refl fails
 
   pub selected_base : (matchers : Result Matchers code.BuildError) (us : List Symbol) (parsed : ParsedExpr) → ParsesAskedPart plain_matchers_of braces_value matchers us (parse_braces ts)
@@ -73,13 +70,20 @@ module _ (w : TokenKind) (text : Text) (ts : List Symbol) where
     built = built w read.part read.built;
   }
 
+-- a token that is no name, and one that is
+pub not_named : (w : TokenKind) (text : Text) (all ts : List Symbol) → may_be_name w ≡ false → all ≡ symbol w text ∷ ts → FailsBase (Syntax, all) (λ k n. parse_named k n w text ts)
+not_named w text all ts other front = λ k n. cond-false (may_be_name w) _ _ other ∙ ap (λ l. Err (misfit l)) (sym front)
+
+pub named_selector : (w : TokenKind) (text : Text) (ts us : List Symbol) (k n : ℕ) → may_be_name w ≡ true → us ≡ ts → parse_named k n w text ts ≡ parse_selector k n w text us
+named_selector w text ts us k n may same = cond-true (may_be_name w) _ _ may ∙ ap (parse_selector k n w text) (sym same)
+
 -- a name before an opening brace
 pub named_selected : (k n : ℕ) (w : TokenKind) (text : Text) (ts us : List Symbol) → may_be_name w ≡ true → ts ≡ punct kind.LeftBrace ∷ us → parse_selector k n w text ts ≡ parse_selector_braces k n w text us
 named_selected k n w text ts us may front =
     named_read w text ts k n may ∙ ap (λ l. parse_optional_braces l then λ x. parse_postfixes k n (grammar.selector w text x.0) x.1) front
     ∙ then_then (parse_braces us) (λ b. Ok (Some b.0, b.1)) (λ x. parse_postfixes k n (grammar.selector w text x.0) x.1)
 
-pub leaf_named : (k n : ℕ) (w : TokenKind) (text : Text) (ts : List Symbol) → ¬ (w ≡ kind.Number) → ¬ (w ≡ kind.Duration) → ¬ (w ≡ kind.String) → ¬ (w ≡ kind.LeftBrace) → parse_atom k n w text ts ≡ parse_selector k n w text ts
+pub leaf_named : (k n : ℕ) (w : TokenKind) (text : Text) (ts : List Symbol) → ¬ (w ≡ kind.Number) → ¬ (w ≡ kind.Duration) → ¬ (w ≡ kind.String) → ¬ (w ≡ kind.LeftBrace) → parse_atom k n w text ts ≡ parse_named k n w text ts
 leaf_named k n kind.Number text ts number duration str brace = absurd (number refl)
 leaf_named k n kind.Duration text ts number duration str brace = absurd (duration refl)
 leaf_named k n kind.String text ts number duration str brace = absurd (str refl)

@@ -10,11 +10,11 @@ use Rattle.promql_grammar.specs.Results.{◌then◌}
 use Rattle.promql_grammar.specs.Symbols.{Symbol, punct, word, symbol}
 use Rattle.promql_grammar.specs.Grammar as grammar
 use Rattle.promql_grammar.specs.GrammarParts as part
-use Rattle.promql_grammar.specs.Parsing.{Read, Reader, parse_unary, parse_paren_end, parse_call, parse_selector, parse_aggregate, parse_grouped_aggregate, parse_arguments, parse_labels, parse_grouping, parse_postfixes}
+use Rattle.promql_grammar.specs.Parsing.{Read, Reader, parse_unary, parse_paren_end, parse_call, parse_selector, parse_aggregate, parse_grouped_aggregate, parse_arguments, parse_labels, parse_grouping, parse_postfixes, misfit}
 use Rattle.promql_syntax.specs.declared.grammar.parsed.ParsedExpr.{ParsedExpr}
 use Rattle.promql_syntax.specs.declared.grammar.parsed.ParsedArgs.{ParsedArgs}
 use Rattle.promql_syntax.specs.OperatorTokens.{EatsUnaryOperator}
-use Rattle.promql_syntax.specs.ParsesExpr.{IsExprOf, AreArgsOf, ParsesExpr, ParsesArgs, ParsesBase, Fails, FailsBase, ParsesGrouping, clause_in}
+use Rattle.promql_syntax.specs.ParsesExpr.{IsExprOf, AreArgsOf, ParsesExpr, ParsesArgs, ParsesBase, Fails, FailsBase, ParsesGrouping, clause_in, Failure}
 use Rattle.promql_syntax.specs.PartBuilding.{clause_value}
 use Rattle.promql_syntax.specs.PartTokens.{HasNo, HasNoGrouping, StartsGrouping}
 use Rattle.promql_syntax.proofs.ReadErrorSteps.{fails_same, fails_first}
@@ -25,16 +25,16 @@ base_same : (parsed : ParsedExpr) (rest : List Symbol) (read other : ℕ → ℕ
 base_same parsed rest read other same base = record { derivation = base.derivation; is = λ k n. same k n ∙ base.is k n; built = base.built }
 
 pub bases_same : (result : Result ParsedExpr ReadError) (rest : List Symbol) (read other : ℕ → ℕ → Read grammar.Derivation) → ((k n : ℕ) → other k n ≡ read k n)
-    → MatchResult result (λ parsed. ParsesBase parsed rest read) (λ e. FailsBase e read) → MatchResult result (λ parsed. ParsesBase parsed rest other) (λ e. FailsBase e other)
+    → MatchResult result (λ parsed. ParsesBase parsed rest read) (λ e. FailsBase (e, rest) read) → MatchResult result (λ parsed. ParsesBase parsed rest other) (λ e. FailsBase (e, rest) other)
 bases_same (Ok parsed) rest read other same base = base_same parsed rest read other same base
-bases_same (Err e) rest read other same fails = λ k n. fails_same e (read k n) (other k n) (same k n) (fails k n)
+bases_same (Err e) rest read other same fails = λ k n. fails_same (e, rest) (read k n) (other k n) (same k n) (fails k n)
 
 -- a base, and its postfixes
 pub postfixed_given : (result : Result ParsedExpr ReadError) (base : ParsedExpr) (rest new : List Symbol) (read : ℕ → ℕ → Read grammar.Derivation) (k n : ℕ) → ParsesBase base rest read → length rest ≤ k
-    → ((d : grammar.Derivation) (j : ℕ) → IsExprOf base d → length rest ≤ j → MatchResult result (λ parsed. ParsesExpr parsed new (parse_postfixes j n d rest)) (λ e. Fails e (parse_postfixes j n d rest)))
-    → MatchResult result (λ parsed. ParsesExpr parsed new (read k n)) (λ e. Fails e (read k n))
+    → ((d : grammar.Derivation) (j : ℕ) → IsExprOf base d → length rest ≤ j → MatchResult result (λ parsed. ParsesExpr parsed new (parse_postfixes j n d rest)) (λ e. Fails (e, new) (parse_postfixes j n d rest)))
+    → MatchResult result (λ parsed. ParsesExpr parsed new (read k n)) (λ e. Fails (e, new) (read k n))
 postfixed_given result base rest new read k n is enough gives =
-    subst (λ r. MatchResult result (λ parsed. ParsesExpr parsed new r) (λ e. Fails e r)) (sym (is.is k n)) (gives is.derivation k is.built enough)
+    subst (λ r. MatchResult result (λ parsed. ParsesExpr parsed new r) (λ e. Fails (e, new) r)) (sym (is.is k n)) (gives is.derivation k is.built enough)
 
 -- ---- unary operators
 
@@ -42,7 +42,7 @@ sign_read : (r : Reader) (k n op : ℕ) (ts us : List Symbol) (takes : EatsUnary
 sign_read r k n op ts us takes =
     ap (parse_unary r k n) takes.first ∙ ap (λ b. cond b (r 6 us then λ x. Ok (grammar.unary op takes.text x.0, x.1)) (parse_selector k n (kind.Operator op) takes.text us)) takes.is_unary
 
-pub sign_fails : (r : Reader) (k n op : ℕ) (ts us : List Symbol) (e : ReadError) → EatsUnaryOperator op ts us → Fails e (r 6 us) → Fails e (parse_unary r k n ts)
+pub sign_fails : (r : Reader) (k n op : ℕ) (ts us : List Symbol) (e : Failure) → EatsUnaryOperator op ts us → Fails e (r 6 us) → Fails e (parse_unary r k n ts)
 sign_fails r k n op ts us e takes fails = fails_first e (r 6 us) (λ x. Ok (grammar.unary op takes.text x.0, x.1)) (parse_unary r k n ts) (sign_read r k n op ts us takes) fails
 
 pub sign_given : (r : Reader) (k n op : ℕ) (ts us vs : List Symbol) (operand made : ParsedExpr) → EatsUnaryOperator op ts us → ParsesExpr operand vs (r 6 us)
@@ -55,7 +55,7 @@ sign_given r k n op ts us vs operand made takes given built = record {
 
 -- ---- parentheses
 
-closing_none : (k n : ℕ) (d : grammar.Derivation) (us : List Symbol) → HasNo kind.RightParen us → parse_paren_end k n d us ≡ Err Syntax
+closing_none : (k n : ℕ) (d : grammar.Derivation) (us : List Symbol) → HasNo kind.RightParen us → parse_paren_end k n d us ≡ Err (misfit us)
 closing_none k n d (punct kind.RightParen ∷ us) none = absurd (none refl)
 closing_none k n d us none = refl
 
@@ -63,10 +63,10 @@ module _ (r : Reader) (text : Text) (all ts : List Symbol) (front : all ≡ symb
   paren_read : (k n : ℕ) → parse_unary r k n all ≡ (r 0 ts then λ x. parse_paren_end k n x.0 x.1)
   paren_read k n = ap (parse_unary r k n) front
 
-  pub paren_fails : (e : ReadError) → Fails e (r 0 ts) → FailsBase e (λ k n. parse_unary r k n all)
+  pub paren_fails : (e : Failure) → Fails e (r 0 ts) → FailsBase e (λ k n. parse_unary r k n all)
   paren_fails e fails = λ k n. fails_first e (r 0 ts) (λ x. parse_paren_end k n x.0 x.1) (parse_unary r k n all) (paren_read k n) fails
 
-  pub paren_open : (inner : ParsedExpr) (us : List Symbol) → ParsesExpr inner us (r 0 ts) → HasNo kind.RightParen us → FailsBase Syntax (λ k n. parse_unary r k n all)
+  pub paren_open : (inner : ParsedExpr) (us : List Symbol) → ParsesExpr inner us (r 0 ts) → HasNo kind.RightParen us → FailsBase (Syntax, us) (λ k n. parse_unary r k n all)
   paren_open inner us given none = λ k n. paren_read k n ∙ ap (λ o. o then λ x. parse_paren_end k n x.0 x.1) given.is ∙ closing_none k n given.derivation us none
 
   pub paren_base : (inner made : ParsedExpr) (us vs : List Symbol) → ParsesExpr inner us (r 0 ts) → us ≡ punct kind.RightParen ∷ vs → ((d : grammar.Derivation) → IsExprOf inner d → IsExprOf made (grammar.paren d))
@@ -83,7 +83,7 @@ module _ (r : Reader) (w : TokenKind) (text : Text) (all ts : List Symbol) (fron
   called_read : (k n : ℕ) → parse_call r k n w text all ≡ (parse_arguments r ts then λ y. parse_postfixes k n (grammar.call w text y.0) y.1)
   called_read k n = ap (parse_call r k n w text) front
 
-  pub call_fails : (e : ReadError) → Fails e (parse_arguments r ts) → FailsBase e (λ k n. parse_call r k n w text all)
+  pub call_fails : (e : Failure) → Fails e (parse_arguments r ts) → FailsBase e (λ k n. parse_call r k n w text all)
   call_fails e fails = λ k n. fails_first e (parse_arguments r ts) (λ y. parse_postfixes k n (grammar.call w text y.0) y.1) (parse_call r k n w text all) (called_read k n) fails
 
   pub call_base : (args : ParsedArgs) (made : ParsedExpr) (us : List Symbol) → ParsesArgs args us (parse_arguments r ts) → ((v : TokenKind) (ds : grammar.Arguments) → AreArgsOf args ds → IsExprOf made (grammar.call v text ds))
@@ -107,14 +107,14 @@ module _ (r : Reader) (op : ℕ) (text : Text) (all ts : List Symbol) (front : a
   after_read : (k n : ℕ) → parse_aggregate r k n op text all ≡ (parse_arguments r ts then λ y. parse_grouping y.1 then λ c. parse_postfixes k n (grammar.aggregate op text c.0 y.0) c.1)
   after_read k n = ap (parse_aggregate r k n op text) front
 
-  pub after_fails : (e : ReadError) → Fails e (parse_arguments r ts) → FailsBase e (λ k n. parse_aggregate r k n op text all)
+  pub after_fails : (e : Failure) → Fails e (parse_arguments r ts) → FailsBase e (λ k n. parse_aggregate r k n op text all)
   after_fails e fails = λ k n. fails_first e (parse_arguments r ts) (λ y. parse_grouping y.1 then λ c. parse_postfixes k n (grammar.aggregate op text c.0 y.0) c.1) (parse_aggregate r k n op text all) (after_read k n) fails
 
   module _ (args : ParsedArgs) (us : List Symbol) (given : ParsesArgs args us (parse_arguments r ts)) where
     after_given : (k n : ℕ) → parse_aggregate r k n op text all ≡ (parse_grouping us then λ c. parse_postfixes k n (grammar.aggregate op text c.0 given.derivations) c.1)
     after_given k n = after_read k n ∙ ap (λ o. o then λ y. parse_grouping y.1 then λ c. parse_postfixes k n (grammar.aggregate op text c.0 y.0) c.1) given.is
 
-    pub after_clause_fails : (e : ReadError) → Fails e (parse_grouping us) → FailsBase e (λ k n. parse_aggregate r k n op text all)
+    pub after_clause_fails : (e : Failure) → Fails e (parse_grouping us) → FailsBase e (λ k n. parse_aggregate r k n op text all)
     after_clause_fails e fails = λ k n. fails_first e (parse_grouping us) (λ c. parse_postfixes k n (grammar.aggregate op text c.0 given.derivations) c.1) (parse_aggregate r k n op text all) (after_given k n) fails
 
     pub after_base : (held : _) (vs : List Symbol) (made : ParsedExpr) → ParsesGrouping held vs (parse_grouping us)
@@ -153,30 +153,30 @@ before_read r op text (word kind.By u ∷ ts) us c begins is = by_before r op te
 before_read r op text (word kind.Without u ∷ ts) us c begins is = by_before r op text (word kind.Without u ∷ ts) us c (parse_labels ts) (λ l. part.without u l) is (λ k n. refl)
 before_read r op text ts us c begins is = absurd begins
 
-labels_fail : (e : ReadError) (o : Read part.Labels) (g : part.Labels → part.Clause) → Fails {A = part.Clause × List Symbol} e (◌then◌ {B = part.Clause × List Symbol} o (λ l. Ok (g l.0, l.1))) → Fails e o
-labels_fail Memory o g fails = tt
-labels_fail Syntax (Ok l) g fails = cc
-labels_fail Syntax (Err d) g fails = cc
-labels_fail TooDeep (Ok l) g fails = cc
-labels_fail TooDeep (Err d) g fails = cc
+labels_fail : (e : Failure) (o : Read part.Labels) (g : part.Labels → part.Clause) → Fails {A = part.Clause × List Symbol} e (◌then◌ {B = part.Clause × List Symbol} o (λ l. Ok (g l.0, l.1))) → Fails e o
+labels_fail (Memory, rest) o g fails = tt
+labels_fail (Syntax, rest) (Ok l) g fails = cc
+labels_fail (Syntax, rest) (Err d) g fails = cc
+labels_fail (TooDeep, rest) (Ok l) g fails = cc
+labels_fail (TooDeep, rest) (Err d) g fails = cc
 
-pub before_fails : (r : Reader) (op : ℕ) (text : Text) (ts : List Symbol) (e : ReadError) → StartsGrouping ts → Fails e (parse_grouping ts) → FailsBase e (λ k n. parse_aggregate r k n op text ts)
+pub before_fails : (r : Reader) (op : ℕ) (text : Text) (ts : List Symbol) (e : Failure) → StartsGrouping ts → Fails e (parse_grouping ts) → FailsBase e (λ k n. parse_aggregate r k n op text ts)
 before_fails r op text (word kind.By u ∷ ts) e begins fails = λ k n. fails_first e (parse_labels ts) (λ l. parse_grouped_aggregate r k n op text (part.by u l.0) l.1) _ refl (labels_fail e (parse_labels ts) (λ l. part.after (part.by u l)) fails)
 before_fails r op text (word kind.Without u ∷ ts) e begins fails = λ k n. fails_first e (parse_labels ts) (λ l. parse_grouped_aggregate r k n op text (part.without u l.0) l.1) _ refl (labels_fail e (parse_labels ts) (λ l. part.after (part.without u l)) fails)
 before_fails r op text ts e begins fails = absurd begins
 
-grouped_none : (r : Reader) (k n op : ℕ) (text : Text) (g : part.Grouping) (us : List Symbol) → HasNo kind.LeftParen us → parse_grouped_aggregate r k n op text g us ≡ Err Syntax
+grouped_none : (r : Reader) (k n op : ℕ) (text : Text) (g : part.Grouping) (us : List Symbol) → HasNo kind.LeftParen us → parse_grouped_aggregate r k n op text g us ≡ Err (misfit us)
 grouped_none r k n op text g (punct kind.LeftParen ∷ us) none = absurd (none refl)
 grouped_none r k n op text g us none = refl
 
 module _ (r : Reader) (op : ℕ) (text : Text) (ts us : List Symbol) (begins : StartsGrouping ts) (held : _) (clause : ParsesGrouping held us (parse_grouping ts)) where
-  pub before_open : HasNo kind.LeftParen us → FailsBase Syntax (λ k n. parse_aggregate r k n op text ts)
+  pub before_open : HasNo kind.LeftParen us → FailsBase (Syntax, us) (λ k n. parse_aggregate r k n op text ts)
   before_open none = λ k n.
       let before = before_read r op text ts us clause.part begins clause.is in
       before.is k n ∙ grouped_none r k n op text before.grouping us none
 
   module _ (vs : List Symbol) (front : us ≡ punct kind.LeftParen ∷ vs) where
-    pub before_arguments_fail : (e : ReadError) → Fails e (parse_arguments r vs) → FailsBase e (λ k n. parse_aggregate r k n op text ts)
+    pub before_arguments_fail : (e : Failure) → Fails e (parse_arguments r vs) → FailsBase e (λ k n. parse_aggregate r k n op text ts)
     before_arguments_fail e fails = λ k n.
         let before = before_read r op text ts us clause.part begins clause.is in
         fails_first e (parse_arguments r vs) (λ y. parse_postfixes k n (grammar.aggregate op text (part.before before.grouping) y.0) y.1) _ (before.is k n ∙ ap (parse_grouped_aggregate r k n op text before.grouping) front) fails

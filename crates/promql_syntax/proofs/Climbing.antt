@@ -4,16 +4,14 @@ use Rattle.std.specs.Prelude.{Ok, Err}
 use Rattle.std.proofs.lemmas.Bool.{cond_above, cond_below}
 use Rattle.promql_text.specs.Texts.{Text}
 use Rattle.promql_grammar.specs.declared.token_kinds.TokenKind.TheVariants as kind
-use Rattle.promql_grammar.specs.declared.read_error.ReadError.{ReadError}
-use Rattle.promql_grammar.specs.declared.read_error.ReadError.TheVariants.{TooDeep}
 use Rattle.promql_grammar.specs.Results.{◌then◌}
 use Rattle.promql_grammar.specs.Symbols.{Symbol, word}
 use Rattle.promql_grammar.specs.GrammarParts.{Modifier}
 use Rattle.promql_grammar.specs.Grammar.{Derivation, binary, precedence, height}
-use Rattle.promql_grammar.specs.Parsing.{Reader, right_precedence, parse_modifier, parse_unary, parse_operators, parse_expression}
+use Rattle.promql_grammar.specs.Parsing.{Reader, right_precedence, parse_modifier, parse_unary, parse_operators, parse_expression, too_high}
 use Rattle.promql_syntax.specs.declared.grammar.parsed.ParsedExpr.{ParsedExpr}
 use Rattle.promql_syntax.specs.OperatorTokens.{HasNoOperator, EatsOperator}
-use Rattle.promql_syntax.specs.ParsesExpr.{IsExprOf, ParsesExpr, Fails}
+use Rattle.promql_syntax.specs.ParsesExpr.{IsExprOf, ParsesExpr, Fails, Failure}
 use Rattle.promql_syntax.proofs.ReadErrorSteps.{fails_first}
 
 expression_suc : (n m : ℕ) (ts : List Symbol) → parse_expression (suc n) m ts ≡ (parse_unary (parse_expression n) (length ts) (suc n) ts then λ x. parse_operators (parse_expression n) (length ts) n m x.0 x.1)
@@ -26,11 +24,11 @@ expression_at max_height below m ts under =
     let same : suc below ≡ below + 1 = omega arith in
     ap (λ n. parse_expression n m ts) next ∙ expression_suc below m ts ∙ ap (λ i. parse_unary (parse_expression below) (length ts) i ts then λ x. parse_operators (parse_expression below) (length ts) below m x.0 x.1) same
 
-pub expression_zero : (max_height m : ℕ) (ts : List Symbol) → max_height ≡ 0 → parse_expression max_height m ts ≡ Err TooDeep
+pub expression_zero : (max_height m : ℕ) (ts : List Symbol) → max_height ≡ 0 → parse_expression max_height m ts ≡ Err too_high
 unfolding parse_expression
 expression_zero max_height m ts none = ap (λ n. parse_expression n m ts) none
 
-pub expression_fails : (max_height below m : ℕ) (ts : List Symbol) (e : ReadError) → max_height ≡ below + 1 → Fails e (parse_unary (parse_expression below) (length ts) (below + 1) ts) → Fails e (parse_expression max_height m ts)
+pub expression_fails : (max_height below m : ℕ) (ts : List Symbol) (e : Failure) → max_height ≡ below + 1 → Fails e (parse_unary (parse_expression below) (length ts) (below + 1) ts) → Fails e (parse_expression max_height m ts)
 expression_fails max_height below m ts e under fails =
     fails_first e (parse_unary (parse_expression below) (length ts) (below + 1) ts) (λ x. parse_operators (parse_expression below) (length ts) below m x.0 x.1) (parse_expression max_height m ts) (expression_at max_height below m ts under) fails
 
@@ -64,10 +62,10 @@ climbing_stops max_height below m all ts left climbing stop = record {
   built = climbing.built;
 }
 
-climb_deep : (r : Reader) (k n m op : ℕ) (d : Derivation) (ts us : List Symbol) → EatsOperator m op ts us → length ts ≤ k → n < height d → parse_operators r k n m d ts ≡ Err TooDeep
+climb_deep : (r : Reader) (k n m op : ℕ) (d : Derivation) (ts us : List Symbol) → EatsOperator m op ts us → length ts ≤ k → n < height d → parse_operators r k n m d ts ≡ Err too_high
 climb_deep r zero n m op d ts us takes turns high = absurd (omega (arith, ap length takes.first))
 climb_deep r (suc k) n m op d ts us takes turns high =
-    ap (parse_operators r (suc k) n m d) takes.first ∙ sym (cond_above (precedence op) m (Ok (d, word (kind.Operator op) takes.text ∷ us)) _ _ takes.least refl) ∙ sym (cond_below n (height d) (Err TooDeep) _ high)
+    ap (parse_operators r (suc k) n m d) takes.first ∙ sym (cond_above (precedence op) m (Ok (d, word (kind.Operator op) takes.text ∷ us)) _ _ takes.least refl) ∙ sym (cond_below n (height d) (Err too_high) _ high)
 
 climb_on : (r : Reader) (k n m op : ℕ) (d : Derivation) (ts us : List Symbol) (takes : EatsOperator m op ts us) → length ts ≤ k → height d ≤ n
     → (j : ℕ) × (length us ≤ j) × (parse_operators r k n m d ts ≡ (parse_modifier us then λ y. r (right_precedence op) y.1 then λ x. parse_operators r j n m (binary op takes.text y.0 d x.0) x.1))
@@ -75,19 +73,19 @@ climb_on r zero n m op d ts us takes turns low = absurd (omega (arith, ap length
 climb_on r (suc k) n m op d ts us takes turns low = (
   k,
   omega (arith, ap length takes.first),
-  ap (parse_operators r (suc k) n m d) takes.first ∙ sym (cond_above (precedence op) m (Ok (d, word (kind.Operator op) takes.text ∷ us)) _ _ takes.least refl) ∙ sym (cond_above n (height d) (Err TooDeep) _ _ low refl),
+  ap (parse_operators r (suc k) n m d) takes.first ∙ sym (cond_above (precedence op) m (Ok (d, word (kind.Operator op) takes.text ∷ us)) _ _ takes.least refl) ∙ sym (cond_above n (height d) (Err too_high) _ _ low refl),
 )
 
 module _ (max_height below m : ℕ) (all ts : List Symbol) (left : ParsedExpr) (climbing : Climbing max_height below m all left ts) (op : ℕ) (us : List Symbol) (takes : EatsOperator m op ts us) where
   -- what is before the operator is too high
-  pub climbing_deep : below < left.height → parse_expression max_height m all ≡ Err TooDeep
+  pub climbing_deep : below < left.height → parse_expression max_height m all ≡ Err too_high
   climbing_deep high =
       let so_far = climbing.built in
       let tall = so_far.tall in
       climbing.goes ∙ climb_deep (parse_expression below) climbing.turns below m op climbing.derivation ts us takes climbing.enough (omega arith)
 
   -- the modifier fails
-  pub climbing_unmodified : (e : ReadError) → left.height ≤ below → Fails e (parse_modifier us) → Fails e (parse_expression max_height m all)
+  pub climbing_unmodified : (e : Failure) → left.height ≤ below → Fails e (parse_modifier us) → Fails e (parse_expression max_height m all)
   climbing_unmodified e low fails =
       let so_far = climbing.built in
       let tall = so_far.tall in
@@ -96,7 +94,7 @@ module _ (max_height below m : ℕ) (all ts : List Symbol) (left : ParsedExpr) (
 
   module _ (modifier : Modifier) (vs : List Symbol) (modified : parse_modifier us ≡ Ok (modifier, vs)) where
     -- the right side fails
-    pub climbing_fails : (e : ReadError) → left.height ≤ below → Fails e (parse_expression below (right_precedence op) vs) → Fails e (parse_expression max_height m all)
+    pub climbing_fails : (e : Failure) → left.height ≤ below → Fails e (parse_expression below (right_precedence op) vs) → Fails e (parse_expression max_height m all)
     climbing_fails e low fails =
         let so_far = climbing.built in
         let tall = so_far.tall in

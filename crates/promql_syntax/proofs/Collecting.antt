@@ -2,15 +2,13 @@
 use Rattle.std.proofs.Common.{◌≡◌, ℕ, zero, suc, ◌≤◌, refl, sym, ◌∙◌, ap, arith, List, ◌∷◌, length}
 use Rattle.std.specs.Prelude.{Ok, Err}
 use Rattle.promql_grammar.specs.declared.token_kinds.TokenKind.TheVariants as kind
-use Rattle.promql_grammar.specs.declared.read_error.ReadError.{ReadError}
-use Rattle.promql_grammar.specs.declared.read_error.ReadError.TheVariants.{Syntax}
 use Rattle.promql_grammar.specs.Results.{◌then◌}
 use Rattle.promql_grammar.specs.Symbols.{Symbol, punct}
 use Rattle.promql_grammar.specs.Grammar as grammar
-use Rattle.promql_grammar.specs.Parsing.{Read, Reader, parse_arguments, parse_more_arguments}
+use Rattle.promql_grammar.specs.Parsing.{Read, Reader, parse_arguments, parse_more_arguments, misfit}
 use Rattle.promql_syntax.specs.declared.grammar.parsed.ParsedArgs.{ParsedArgs}
 use Rattle.promql_syntax.specs.declared.grammar.parsed.ParsedExpr.{ParsedExpr}
-use Rattle.promql_syntax.specs.ParsesExpr.{IsExprOf, AreArgsOf, ParsesExpr, ParsesArgs, Fails, append_derivation}
+use Rattle.promql_syntax.specs.ParsesExpr.{IsExprOf, AreArgsOf, ParsesExpr, ParsesArgs, Fails, append_derivation, Failure}
 use Rattle.promql_syntax.specs.PartTokens.{HasNo}
 use Rattle.promql_syntax.proofs.ReadErrorSteps.{fails_bind, fails_first}
 
@@ -51,7 +49,7 @@ arguments_open r (punct kind.RightParen ∷ ts) none = absurd (none refl)
 arguments_open r ts none = refl
 
 -- the first argument fails
-pub arguments_fail : (r : Reader) (ts : List Symbol) (e : ReadError) → HasNo kind.RightParen ts → Fails e (r 0 ts) → Fails e (parse_arguments r ts)
+pub arguments_fail : (r : Reader) (ts : List Symbol) (e : Failure) → HasNo kind.RightParen ts → Fails e (r 0 ts) → Fails e (parse_arguments r ts)
 arguments_fail r ts e none fails =
     fails_first e (r 0 ts) (λ x. parse_more_arguments r (length ts) x.1 then λ y. Ok (grammar.more x.0 y.0, y.1)) (parse_arguments r ts) (arguments_open r ts none) fails
 
@@ -76,14 +74,14 @@ rest_close : (r : Reader) (k : ℕ) (ts us : List Symbol) → ts ≡ punct kind.
 rest_close r zero ts us is turns = absurd (omega (arith, ap length is))
 rest_close r (suc k) ts us is turns = ap (parse_more_arguments r (suc k)) is
 
-rest_none : (r : Reader) (k : ℕ) (ts : List Symbol) → HasNo kind.Comma ts → HasNo kind.RightParen ts → parse_more_arguments r k ts ≡ Err Syntax
+rest_none : (r : Reader) (k : ℕ) (ts : List Symbol) → HasNo kind.Comma ts → HasNo kind.RightParen ts → parse_more_arguments r k ts ≡ Err (misfit ts)
 rest_none r zero ts no_comma no_paren = refl
 rest_none r (suc k) (punct kind.RightParen ∷ ts) no_comma no_paren = absurd (no_paren refl)
 rest_none r (suc k) (punct kind.Comma ∷ ts) no_comma no_paren = absurd (no_comma refl)
 rest_none r (suc k) ts no_comma no_paren = refl
 
 module _ (r : Reader) (all ts : List Symbol) (args : ParsedArgs) (collecting : Collecting r all args ts) where
-  pub collecting_fails : (us : List Symbol) (e : ReadError) → ts ≡ punct kind.Comma ∷ us → Fails e (r 0 us) → Fails e (parse_arguments r all)
+  pub collecting_fails : (us : List Symbol) (e : Failure) → ts ≡ punct kind.Comma ∷ us → Fails e (r 0 us) → Fails e (parse_arguments r all)
   collecting_fails us e is fails =
       let step = rest_comma r collecting.turns ts us is collecting.enough in
       fails_first e (r 0 us then λ x. parse_more_arguments r step.0 x.1 then λ y. Ok (grammar.more x.0 y.0, y.1)) (λ y. Ok (join collecting.derivations y.0, y.1)) (parse_arguments r all)
@@ -104,7 +102,7 @@ module _ (r : Reader) (all ts : List Symbol) (args : ParsedArgs) (collecting : C
             ∙ joined_more collecting.derivations given.derivation (parse_more_arguments r step.0 vs);
       }
 
-  pub collecting_none : HasNo kind.Comma ts → HasNo kind.RightParen ts → parse_arguments r all ≡ Err Syntax
+  pub collecting_none : HasNo kind.Comma ts → HasNo kind.RightParen ts → parse_arguments r all ≡ Err (misfit ts)
   collecting_none no_comma no_paren = collecting.goes ∙ ap (joined_arguments collecting.derivations) (rest_none r collecting.turns ts no_comma no_paren)
 
   pub collecting_ends : (us : List Symbol) → ts ≡ punct kind.RightParen ∷ us → ParsesArgs args us (parse_arguments r all)

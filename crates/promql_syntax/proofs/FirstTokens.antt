@@ -1,19 +1,18 @@
 -- What the first token of a base leads to.
-use Rattle.std.proofs.Common.{◌≡◌, ℕ, Bool, true, false, cond, refl, sym, ap, subst, List, [], ◌∷◌}
+use Rattle.std.proofs.Common.{◌≡◌, ℕ, Bool, true, false, cond, refl, sym, ◌∙◌, ap, subst, List, [], ◌∷◌}
 use Rattle.std.specs.Prelude.{◌||◌, Ok, Err}
 use Rattle.promql_text.specs.Texts.{Text}
 use Rattle.promql_grammar.specs.declared.token_kinds.TokenKind.{TokenKind}
 use Rattle.promql_grammar.specs.declared.token_kinds.TokenKind.TheVariants as kind
-use Rattle.promql_grammar.specs.declared.read_error.ReadError.TheVariants.{Syntax}
 use Rattle.promql_grammar.specs.Results.{◌then◌}
 use Rattle.promql_grammar.specs.Symbols.{Symbol, punct, word, symbol, begins, may_be_name, may_be_called, is_plus_or_minus, is_word_operator}
 use Rattle.promql_grammar.specs.Grammar.{Derivation, selector, unary}
-use Rattle.promql_grammar.specs.Parsing.{Read, Reader, parse_unary, parse_selector, parse_call, parse_optional_braces, parse_postfixes}
+use Rattle.promql_grammar.specs.Parsing.{Read, Reader, parse_unary, parse_selector, parse_call, parse_optional_braces, parse_postfixes, misfit}
 use Rattle.promql_syntax.specs.declared.grammar.parsed.ParsedExpr.{ParsedExpr}
 use Rattle.promql_syntax.specs.ParsesExpr.{ParsesBase, ParsesExpr}
 use Rattle.promql_syntax.specs.OperatorTokens.{HasNoUnaryOperator}
 use Rattle.promql_syntax.specs.PartTokens.{HasNo}
-use Rattle.promql_syntax.specs.Atoms.{parse_atom}
+use Rattle.promql_syntax.specs.Atoms.{parse_atom, parse_named}
 
 or_second : (a b : Bool) → b ≡ true → (a || b) ≡ true
 or_second true b is = refl
@@ -36,6 +35,14 @@ called_first r k n kind.Start text ts may = refl
 called_first r k n kind.End text ts may = refl
 called_first r k n w text ts may = cc
 
+-- a word that is a name, or does not fit
+named_word : (k n : ℕ) (w : TokenKind) (text : Text) (ts : List Symbol) → symbol w text ≡ word w text → parse_named k n w text ts ≡ parse_selector k n w text ts
+named_word k n w text ts is = same (may_be_name w) _ (ap (λ s. Err (misfit (s ∷ ts))) is)
+  where
+    same : {A : Type 0} (b : Bool) (x : A) {y z : A} → y ≡ z → cond b (cond b x z) y ≡ cond b x z
+    same true x e = refl
+    same false x e = e
+
 -- a base without expressions in it
 pub leaf_first : (r : Reader) (k n : ℕ) (w : TokenKind) (text : Text) (ts : List Symbol) → may_be_called w ≡ false → ¬ (w ≡ kind.LeftParen) → ((op : ℕ) → ¬ (w ≡ kind.Aggregator op))
     → HasNoUnaryOperator (symbol w text ∷ ts) → parse_unary r k n (symbol w text ∷ ts) ≡ parse_atom k n w text ts
@@ -46,6 +53,7 @@ leaf_first r k n kind.LeftParen text ts none paren aggregator no_sign = absurd (
 leaf_first r k n (kind.Aggregator op) text ts none paren aggregator no_sign = absurd (aggregator op refl)
 leaf_first r k n (kind.Operator op) text ts none paren aggregator no_sign =
     ap (λ b. cond b (r 6 ts then λ x. Ok (unary op text x.0, x.1)) (parse_selector k n (kind.Operator op) text ts)) no_sign
+    ∙ sym (named_word k n (kind.Operator op) text ts refl)
 leaf_first r k n w text ts none paren aggregator no_sign = refl
 
 -- a word that isn't called
@@ -58,7 +66,7 @@ abbrev IsOkRead : Read Derivation → Type 0
 IsOkRead (Ok x) = Unit {0}
 IsOkRead (Err e) = ⊥
 
-named_begins : (k n : ℕ) (w : TokenKind) (text : Text) (ts : List Symbol) (may : Bool) → may_be_name w ≡ may → IsOkRead (cond may (parse_optional_braces ts then λ b. parse_postfixes k n (selector w text b.0) b.1) (Err Syntax)) → may_be_name w ≡ true
+named_begins : (k n : ℕ) (w : TokenKind) (text : Text) (ts : List Symbol) (may : Bool) → may_be_name w ≡ may → IsOkRead (cond may (parse_optional_braces ts then λ b. parse_postfixes k n (selector w text b.0) b.1) (Err (misfit (word w text ∷ ts)))) → may_be_name w ≡ true
 named_begins k n w text ts true is ok = is
 named_begins k n w text ts false is ok = absurd ok
 

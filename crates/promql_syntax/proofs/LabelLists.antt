@@ -5,18 +5,16 @@ use Rattle.std.proofs.lemmas.Bool.{cond-true, cond-false}
 use Rattle.promql_text.specs.Texts.{Text}
 use Rattle.promql_grammar.specs.declared.token_kinds.TokenKind.{TokenKind}
 use Rattle.promql_grammar.specs.declared.token_kinds.TokenKind.TheVariants as kind
-use Rattle.promql_grammar.specs.declared.read_error.ReadError.{ReadError}
-use Rattle.promql_grammar.specs.declared.read_error.ReadError.TheVariants.{Syntax}
 use Rattle.promql_grammar.specs.Results.{◌then◌}
 use Rattle.promql_grammar.specs.Symbols.{Symbol, punct, word, may_be_label}
 use Rattle.promql_grammar.specs.GrammarParts.{Names, last, last_comma, next, labels}
-use Rattle.promql_grammar.specs.Parsing.{Read, parse_label_names, parse_label_list}
+use Rattle.promql_grammar.specs.Parsing.{Read, parse_label_names, parse_label_list, misfit}
 use Rattle.promql_label.specs.Labels.{labels_of}
 use Rattle.promql_label.specs.declared.labels.Labels as code
 use Rattle.promql_syntax.specs.declared.grammar.build_error.BuildError as build_errors
 use Rattle.promql_syntax.specs.BuildErrors.{BuildError, view_result}
 use Rattle.promql_syntax.specs.ParsesPart.{ParsesPart}
-use Rattle.promql_syntax.specs.ParsesExpr.{Fails}
+use Rattle.promql_syntax.specs.ParsesExpr.{Fails, Failure}
 use Rattle.promql_syntax.specs.PartBuilding.{label_value, label_values, name_values}
 use Rattle.promql_syntax.specs.PartTokens.{HasNo, HasNoLabel, EatsLabel, LabelEnd, closes, comma_closes, comma, parse_label_end, is_last_label, ParsesLabelEnd}
 use Rattle.promql_syntax.proofs.ResultSteps.{fails_then, fails_same, then_then, then_ok}
@@ -31,12 +29,13 @@ names_step : (k : TokenKind) (t : Text) (ts : List Symbol) → may_be_label k �
 names_step k t (punct kind.RightParen ∷ ts) may = cond-true (may_be_label k) _ _ may
 names_step k t (punct kind.Comma ∷ (punct kind.RightParen ∷ ts)) may = cond-true (may_be_label k) _ _ may
 names_step k t (punct kind.Comma ∷ ts) may = cond-true (may_be_label k) _ _ may
-names_step k t ts may = refl
+names_step k t ts may = cond-true (may_be_label k) _ _ may
 
-no_name : (ts : List Symbol) → HasNoLabel ts → parse_label_names ts ≡ Err Syntax
+no_name : (ts : List Symbol) → HasNoLabel ts → parse_label_names ts ≡ Err (misfit ts)
 no_name (word k t ∷ (punct kind.RightParen ∷ ts)) none = cond-false (may_be_label k) _ _ none
 no_name (word k t ∷ (punct kind.Comma ∷ (punct kind.RightParen ∷ ts))) none = cond-false (may_be_label k) _ _ none
 no_name (word k t ∷ (punct kind.Comma ∷ ts)) none = cond-false (may_be_label k) _ _ none
+no_name (word k t ∷ ts) none = cond-false (may_be_label k) _ _ none
 no_name ts none = refl
 
 some_names : (ts : List Symbol) → HasNo kind.RightParen ts → parse_label_list ts ≡ (parse_label_names ts then λ y. Ok (labels y.0, y.1))
@@ -84,10 +83,10 @@ module _ (all rest : List Symbol) (held : Result (List Text) BuildError) (naming
   step k t us takes =
       naming.goes ∙ ap (λ o. o then λ y. Ok (labels (naming.whole y.0), y.1)) (ap parse_label_names takes.first ∙ names_step k t us takes.may)
 
-  pub naming_none : HasNoLabel rest → parse_label_list all ≡ Err Syntax
+  pub naming_none : HasNoLabel rest → parse_label_list all ≡ Err (misfit rest)
   naming_none none = naming.goes ∙ ap (λ o. o then λ y. Ok (labels (naming.whole y.0), y.1)) (no_name rest none)
 
-  pub naming_fails : (e : ReadError) (k : TokenKind) (t : Text) (us : List Symbol) → EatsLabel k t rest us → Fails e (parse_label_end us) → Fails e (parse_label_list all)
+  pub naming_fails : (e : Failure) (k : TokenKind) (t : Text) (us : List Symbol) → EatsLabel k t rest us → Fails e (parse_label_end us) → Fails e (parse_label_list all)
   naming_fails e k t us takes fails =
       fails_same e _ _ (step k t us takes) (fails_then e (parse_label_end us then names_after k t) (λ y. Ok (labels (naming.whole y.0), y.1)) (fails_then e (parse_label_end us) (names_after k t) fails))
 

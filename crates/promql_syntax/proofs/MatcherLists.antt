@@ -2,12 +2,11 @@
 use Rattle.std.proofs.Common.{◌≡◌, ℕ, suc, zero, ◌-◌, ◌<◌, ◌≤◌, refl, sym, ◌∙◌, ap, subst, arith, Bool, true, false, List, [], ◌∷◌, ◌++◌, append_assoc, append-nil, length, Some, None}
 use Rattle.std.specs.Prelude.{Result, Ok, Err, ◌==◌, if◌then◌else◌}
 use Rattle.promql_grammar.specs.declared.token_kinds.TokenKind.TheVariants as kind
-use Rattle.promql_grammar.specs.declared.read_error.ReadError.{ReadError}
 use Rattle.promql_grammar.specs.declared.read_error.ReadError.TheVariants.{Memory, Syntax, TooDeep}
 use Rattle.promql_grammar.specs.Results.{◌then◌}
 use Rattle.promql_grammar.specs.Symbols.{Symbol, punct, word}
 use Rattle.promql_grammar.specs.GrammarParts.{Item, Items, last_item, last_item_comma, next_item, items, Separator, comma, or}
-use Rattle.promql_grammar.specs.Parsing.{Read, parse_item, parse_items, parse_after_item, parse_braces}
+use Rattle.promql_grammar.specs.Parsing.{Read, parse_item, parse_items, parse_after_item, parse_braces, Stop, misfit}
 use Rattle.promql_label.specs.PlainMatchers.{PlainMatchers, plain_matchers}
 use Rattle.promql_label.specs.MatcherViews.{plain_matchers_of}
 use Rattle.promql_label.specs.declared.matchers.Matchers as code
@@ -16,7 +15,7 @@ use Rattle.promql_syntax.specs.Asking.{◌giving◌, Asked, AreAllowed, Ends}
 use Rattle.promql_syntax.specs.BuildErrors.{BuildError, view_result}
 use Rattle.promql_syntax.specs.ParsesPart.{ParsesAskedPart}
 use Rattle.promql_syntax.specs.MatcherItems.{ItemEnd, closes, comma_closes, joins, parse_item_end, is_or, next_group, ParsesItemEnd, ItemEnds, ItemsEnd, AddsItem}
-use Rattle.promql_syntax.specs.ParsesExpr.{Fails}
+use Rattle.promql_syntax.specs.ParsesExpr.{Fails, Failure}
 use Rattle.promql_syntax.specs.PartBuilding.{braces_value, item_value, items_value, append_matcher}
 use Rattle.promql_syntax.specs.PartTokens.{HasNo}
 use Rattle.promql_syntax.proofs.Asked.{allowed_all, ends_on, ends_fails}
@@ -28,15 +27,15 @@ items_after r i (closes, ts) = Ok (last_item i, ts)
 items_after r i (comma_closes, ts) = Ok (last_item_comma i, ts)
 items_after r i (joins s, ts) = r ts then λ y. Ok (next_item i s y.0, y.1)
 
-choice_then : {A B : Type 0} (b : Bool) (x : A) (f : A → Result B ReadError) → (if b then f x else Err Syntax) ≡ ((if b then Ok x else Err Syntax) then f)
-choice_then true x f = refl
-choice_then false x f = refl
+choice_then : {A B : Type 0} (b : Bool) (x : A) (f : A → Result B Stop) (bad : List Symbol) → (if b then f x else Err (misfit bad)) ≡ ((if b then Ok x else Err (misfit bad)) then f)
+choice_then true x f bad = refl
+choice_then false x f bad = refl
 
 after_step : (r : List Symbol → Read Items) (i : Item) (ts : List Symbol) → parse_after_item r i ts ≡ (parse_item_end ts then items_after r i)
 after_step r i (punct kind.RightBrace ∷ ts) = refl
 after_step r i (punct kind.Comma ∷ (punct kind.RightBrace ∷ ts)) = refl
 after_step r i (punct kind.Comma ∷ ts) = refl
-after_step r i (word (kind.Operator op) t ∷ ts) = choice_then (op == 31) (joins (or t), ts) (items_after r i)
+after_step r i (word (kind.Operator op) t ∷ ts) = choice_then (op == 31) (joins (or t), ts) (items_after r i) (word (kind.Operator op) t ∷ ts)
 after_step r i ts = refl
 
 -- a comma that no closing brace follows joins the next matcher
@@ -102,14 +101,14 @@ items_end_comma : (held after : Result PlainMatchers BuildError) (s : Separator)
 items_end_comma (Ok cs) after s i xs ends = ends
 items_end_comma (Err f) after s i xs ends = ends
 
-fails_items : (e : ReadError) → Fails {A = Item × List Symbol} e (Err Syntax) → Fails {A = Items × List Symbol} e (Err Syntax)
-fails_items Memory fails = tt
-fails_items Syntax fails = refl
-fails_items TooDeep fails = cc
+fails_items : (e : Failure) (bad : List Symbol) → Fails {A = Item × List Symbol} e (Err (misfit bad)) → Fails {A = Items × List Symbol} e (Err (misfit bad))
+fails_items (Memory, rest) bad fails = tt
+fails_items (Syntax, rest) bad fails = cc
+fails_items (TooDeep, rest) bad fails = cc
 
 -- no matcher follows
-item_none : (n : ℕ) (e : ReadError) (ts : List Symbol) → Fails e (parse_item ts) → length ts ≤ n → Fails e (parse_items n ts)
-item_none zero e [] fails enough = fails_items e fails
+item_none : (n : ℕ) (e : Failure) (ts : List Symbol) → Fails e (parse_item ts) → length ts ≤ n → Fails e (parse_items n ts)
+item_none zero e [] fails enough = fails_items e [] fails
 item_none zero e (t ∷ ts) fails enough = absurd (omega arith)
 item_none (suc n) e ts fails enough = fails_then e (parse_item ts) (λ x. parse_after_item (parse_items n) x.0 x.1) fails
 
@@ -130,10 +129,10 @@ module _ (all rest : List Symbol) (held : Result PlainMatchers BuildError) (by_o
       let enough = selecting.enough in
       selecting.goes ∙ ap (λ o. o then λ y. Ok (items (selecting.whole y.0), y.1)) (turn selecting.turns rest us i (omega arith) is)
 
-  pub selecting_none : (e : ReadError) → Fails e (parse_item rest) → Fails e (parse_braces all)
+  pub selecting_none : (e : Failure) → Fails e (parse_item rest) → Fails e (parse_braces all)
   selecting_none e fails = fails_same e _ _ selecting.goes (fails_then e (parse_items selecting.turns rest) (λ y. Ok (items (selecting.whole y.0), y.1)) (item_none selecting.turns e rest fails selecting.enough))
 
-  pub selecting_fails : (i : Item) (us : List Symbol) (e : ReadError) → 0 < length rest → parse_item rest ≡ Ok (i, us) → Fails e (parse_item_end us) → Fails e (parse_braces all)
+  pub selecting_fails : (i : Item) (us : List Symbol) (e : Failure) → 0 < length rest → parse_item rest ≡ Ok (i, us) → Fails e (parse_item_end us) → Fails e (parse_braces all)
   selecting_fails i us e some is fails =
       fails_same e _ _ (step i us some is)
       (fails_then e (parse_item_end us then items_after (parse_items (selecting.turns - 1)) i) (λ y. Ok (items (selecting.whole y.0), y.1))

@@ -5,7 +5,6 @@ use Rattle.promql_text.specs.Texts.{Text}
 use Rattle.promql_text.specs.declared.number.Number.{Number}
 use Rattle.promql_grammar.specs.declared.token_kinds.TokenKind.{TokenKind}
 use Rattle.promql_grammar.specs.declared.token_kinds.TokenKind.TheVariants as kind
-use Rattle.promql_grammar.specs.declared.read_error.ReadError.{ReadError}
 use Rattle.promql_grammar.specs.Results.{◌then◌}
 use Rattle.promql_grammar.specs.Symbols.{Symbol, punct, word, symbol}
 use Rattle.promql_grammar.specs.GrammarParts as part
@@ -22,7 +21,7 @@ use Rattle.promql_syntax.specs.declared.grammar.modifier.Matching as parts
 use Rattle.promql_syntax.specs.BuildErrors.{BuildError, view_result}
 use Rattle.promql_syntax.specs.ParsesPart.{ParsesPart}
 use Rattle.promql_syntax.specs.ModifierParts.{ParsesFlag, list_in, list_value, matching_parts, modifier_of}
-use Rattle.promql_syntax.specs.ParsesExpr.{Fails}
+use Rattle.promql_syntax.specs.ParsesExpr.{Fails, Failure}
 use Rattle.promql_syntax.specs.PartTokens.{Eats, HasNo}
 use Rattle.promql_syntax.specs.PartBuilding.{label_values, cardinality, group_value, matching_value, matching_clause, fill_value, fills_value, modifier_value}
 use Rattle.promql_syntax.proofs.ResultSteps.{fails_then, fails_same, then_then}
@@ -66,7 +65,7 @@ grouped_value k t None = refl
 grouped_value k t (Some ls) = refl
 
 module _ (ts us : List Symbol) (k : TokenKind) (t : Text) (read : parse_group ts ≡ (list_in us then λ l. Ok (group_of_labels k t l.0, l.1))) where
-  pub group_fails : (e : ReadError) → Fails e (list_in us) → Fails e (parse_group ts)
+  pub group_fails : (e : Failure) → Fails e (list_in us) → Fails e (parse_group ts)
   group_fails e fails = fails_same e _ _ read (fails_then e (list_in us) (λ l. Ok (group_of_labels k t l.0, l.1)) fails)
 
   pub group_part : (rest : List Symbol) (labels : Result code.Labels build_errors.BuildError) (card : Result VectorMatchCardinality build_errors.BuildError) → ParsesPart labels_of list_value labels rest (list_in us)

@@ -5,52 +5,57 @@ use Rattle.promql_text.specs.Texts.{Text}
 use Rattle.promql_text.specs.declared.number.Number.{Number}
 use Rattle.promql_grammar.specs.declared.token_kinds.TokenKind.{TokenKind}
 use Rattle.promql_grammar.specs.declared.token_kinds.TokenKind.TheVariants as kind
-use Rattle.promql_grammar.specs.declared.read_error.ReadError.{ReadError}
-use Rattle.promql_grammar.specs.declared.read_error.ReadError.TheVariants.{Syntax}
 use Rattle.promql_grammar.specs.Results.{◌then◌}
 use Rattle.promql_grammar.specs.Symbols.{Symbol, punct, symbol}
-use Rattle.promql_grammar.specs.GrammarParts.{Time, Signed, at_number}
-use Rattle.promql_grammar.specs.Parsing.{Read, eat_sign, parse_number, parse_time, parse_fill_value, parse_fill_value_end, parse_step, parse_step_end, parse_at_modifier}
+use Rattle.promql_grammar.specs.GrammarParts.{Time, Signed, at_number, offset}
+use Rattle.promql_grammar.specs.Parsing.{Read, eat_sign, parse_number, parse_time, parse_fill_value, parse_fill_value_end, parse_step, parse_step_end, parse_postfix, parse_at_modifier, Stop, misfit}
 use Rattle.promql_ast.specs.AtTimes.{at_of_number}
 use Rattle.promql_syntax.specs.declared.grammar.build_error.BuildError as build_errors
 use Rattle.promql_syntax.specs.declared.grammar.postfix.ParsedPostfix.{ParsedPostfix}
 use Rattle.promql_syntax.specs.declared.grammar.postfix.Postfix as code
 use Rattle.promql_syntax.specs.BuildErrors.{view_result}
+use Rattle.promql_syntax.specs.ParsesExpr.{Failure, Fails}
 use Rattle.promql_syntax.specs.ParsesPart.{ParsesPart}
 use Rattle.promql_syntax.specs.PartBuilding.{at_fault, signed_number}
-use Rattle.promql_syntax.specs.PartTokens.{HasNo, parse_signed_number}
+use Rattle.promql_syntax.specs.PartTokens.{HasNo, parse_offset, parse_signed_number}
 use Rattle.promql_syntax.specs.Postfixes.{change_of, to_moment, ParsesPostfix}
-use Rattle.promql_syntax.proofs.ResultSteps.{then_then}
+use Rattle.promql_syntax.proofs.ResultSteps.{fails_same, fails_then, then_then}
 
 -- a number with its sign, and what follows
 abbrev with_number : Signed → Text × List Symbol → Read (Signed × Text)
 with_number s n = Ok ((s, n.0), n.1)
 
-number_then : {B : Type 0} (r : Read Signed) (f : Signed → Text → List Symbol → Result B ReadError)
+number_then : {B : Type 0} (r : Read Signed) (f : Signed → Text → List Symbol → Result B Stop)
     → (r then λ s. parse_number s.1 then λ n. f s.0 n.0 n.1) ≡ ((r then λ s. parse_number s.1 then with_number s.0) then λ x. f x.0.0 x.0.1 x.1)
 number_then (Ok s) f = sym (then_then (parse_number s.1) (with_number s.0) (λ x. f x.0.0 x.0.1 x.1))
 number_then (Err e) f = refl
 
-no_value_end : (s : Signed) (n : Text) (ts : List Symbol) → HasNo kind.RightParen ts → parse_fill_value_end s n ts ≡ Err Syntax
+no_value_end : (s : Signed) (n : Text) (ts : List Symbol) → HasNo kind.RightParen ts → parse_fill_value_end s n ts ≡ Err (misfit ts)
 no_value_end s n (punct kind.RightParen ∷ ts) none = absurd (none refl)
 no_value_end s n ts none = refl
 
 -- no parenthesis closes a fill value
-pub value_open : (ts us vs : List Symbol) (p : Signed × Text) → ts ≡ punct kind.LeftParen ∷ us → parse_signed_number us ≡ Ok (p, vs) → HasNo kind.RightParen vs → parse_fill_value ts ≡ Err Syntax
+pub value_open : (ts us vs : List Symbol) (p : Signed × Text) → ts ≡ punct kind.LeftParen ∷ us → parse_signed_number us ≡ Ok (p, vs) → HasNo kind.RightParen vs → parse_fill_value ts ≡ Err (misfit vs)
 value_open ts us vs p opens reads none =
     ap parse_fill_value opens ∙ number_then (eat_sign us) (λ s n rest. parse_fill_value_end s n rest)
     ∙ ap (λ o. o then λ x. parse_fill_value_end x.0.0 x.0.1 x.1) reads ∙ no_value_end p.0 p.1 vs none
+
+-- no number in a fill value
+pub value_fails : (e : Failure) (ts us : List Symbol) → ts ≡ punct kind.LeftParen ∷ us → Fails e (parse_signed_number us) → Fails e (parse_fill_value ts)
+value_fails e ts us opens fails =
+    fails_same e _ _ (ap parse_fill_value opens ∙ number_then (eat_sign us) (λ s n rest. parse_fill_value_end s n rest))
+    (fails_then e (parse_signed_number us) (λ x. parse_fill_value_end x.0.0 x.0.1 x.1) fails)
 
 some_step : (t : Time) (ts : List Symbol) → HasNo kind.RightBracket ts → parse_step t ts ≡ (parse_time ts then λ s. parse_step_end t s.0 s.1)
 some_step t (punct kind.RightBracket ∷ ts) none = absurd (none refl)
 some_step t ts none = refl
 
-no_step_end : (t s : Time) (ts : List Symbol) → HasNo kind.RightBracket ts → parse_step_end t s ts ≡ Err Syntax
+no_step_end : (t s : Time) (ts : List Symbol) → HasNo kind.RightBracket ts → parse_step_end t s ts ≡ Err (misfit ts)
 no_step_end t s (punct kind.RightBracket ∷ ts) none = absurd (none refl)
 no_step_end t s ts none = refl
 
 -- no bracket closes a subquery
-pub step_open : (t : Time) (ts us : List Symbol) (s : Time) → HasNo kind.RightBracket ts → parse_time ts ≡ Ok (s, us) → HasNo kind.RightBracket us → parse_step t ts ≡ Err Syntax
+pub step_open : (t : Time) (ts us : List Symbol) (s : Time) → HasNo kind.RightBracket ts → parse_time ts ≡ Ok (s, us) → HasNo kind.RightBracket us → parse_step t ts ≡ Err (misfit us)
 step_open t ts us s none reads next = some_step t ts none ∙ ap (λ o. o then λ x. parse_step_end t x.0 x.1) reads ∙ no_step_end t s us next
 
 moment_number : (k : TokenKind) (t : Text) (us : List Symbol) → ¬ (k ≡ kind.Start) → ¬ (k ≡ kind.End)
@@ -58,6 +63,27 @@ moment_number : (k : TokenKind) (t : Text) (us : List Symbol) → ¬ (k ≡ kind
 moment_number kind.Start t us start end = absurd (start refl)
 moment_number kind.End t us start end = absurd (end refl)
 moment_number k t us start end = refl
+
+-- no number follows `@`
+pub number_fails : (e : Failure) (ts us : List Symbol) (k : TokenKind) (t : Text) → ts ≡ symbol k t ∷ us → ¬ (k ≡ kind.Start) → ¬ (k ≡ kind.End) → Fails e (parse_signed_number ts) → Fails e (parse_at_modifier ts)
+number_fails e ts us k t front start end fails =
+    let whole : parse_at_modifier ts ≡ (eat_sign ts then λ s. parse_number s.1 then λ n. Ok (Some (at_number s.0 n.0), n.1)) =
+    ap parse_at_modifier front ∙ moment_number k t us start end ∙ ap (λ l. eat_sign l then λ s. parse_number s.1 then λ n. Ok (Some (at_number s.0 n.0), n.1)) (sym front) in
+    fails_same e _ _ (whole ∙ number_then (eat_sign ts) (λ s n rest. Ok (Some (at_number s n), rest))) (fails_then e (parse_signed_number ts) (λ x. Ok (Some (at_number x.0.0 x.0.1), x.1)) fails)
+
+-- a time with its sign, and what follows
+abbrev with_time : Signed → Time × List Symbol → Read (Signed × Time)
+with_time s u = Ok ((s, u.0), u.1)
+
+time_then : {B : Type 0} (r : Read Signed) (f : Signed → Time → List Symbol → Result B Stop)
+    → (r then λ s. parse_time s.1 then λ u. f s.0 u.0 u.1) ≡ ((r then λ s. parse_time s.1 then with_time s.0) then λ x. f x.0.0 x.0.1 x.1)
+time_then (Ok s) f = sym (then_then (parse_time s.1) (with_time s.0) (λ x. f x.0.0 x.0.1 x.1))
+time_then (Err e) f = refl
+
+-- no time follows `offset`
+pub offset_fails : (e : Failure) (t : Text) (ts us : List Symbol) → ts ≡ symbol kind.Offset t ∷ us → Fails e (parse_offset us) → Fails e (parse_postfix ts)
+offset_fails e t ts us front fails =
+    fails_same e _ _ (ap parse_postfix front ∙ time_then (eat_sign us) (λ s u rest. Ok (Some (offset t s u), rest))) (fails_then e (parse_offset us) (λ x. Ok (Some (offset t x.0.0 x.0.1), x.1)) fails)
 
 -- a number after `@` was read
 pub number_held : (ts us rest : List Symbol) (k : TokenKind) (t : Text) (seconds : Result Number build_errors.BuildError) (value : Result code.Postfix build_errors.BuildError) (held : ParsedPostfix)

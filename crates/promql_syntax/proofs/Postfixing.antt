@@ -5,15 +5,14 @@ use Rattle.std.proofs.lemmas.Bool.{cond_above, cond_below}
 use Rattle.promql_text.specs.Texts.{Text}
 use Rattle.promql_grammar.specs.declared.token_kinds.TokenKind.{TokenKind}
 use Rattle.promql_grammar.specs.declared.token_kinds.TokenKind.TheVariants as kind
-use Rattle.promql_grammar.specs.declared.read_error.ReadError.{ReadError}
 use Rattle.promql_grammar.specs.declared.read_error.ReadError.TheVariants.{Memory, Syntax, TooDeep}
 use Rattle.promql_grammar.specs.Results.{◌then◌}
 use Rattle.promql_grammar.specs.Symbols.{Symbol, symbol}
 use Rattle.promql_grammar.specs.GrammarParts.{Postfix, subquery}
 use Rattle.promql_grammar.specs.Grammar.{Derivation, postfixed, height, added_height}
-use Rattle.promql_grammar.specs.Parsing.{Read, parse_postfix, parse_postfixes, parse_more_postfixes}
+use Rattle.promql_grammar.specs.Parsing.{Read, parse_postfix, parse_postfixes, parse_more_postfixes, too_high}
 use Rattle.promql_syntax.specs.declared.grammar.parsed.ParsedExpr.{ParsedExpr}
-use Rattle.promql_syntax.specs.ParsesExpr.{IsExprOf, ParsesExpr, Fails}
+use Rattle.promql_syntax.specs.ParsesExpr.{IsExprOf, ParsesExpr, Fails, Failure}
 use Rattle.promql_syntax.specs.declared.grammar.postfix.ParsedPostfix.{ParsedPostfix}
 use Rattle.promql_syntax.specs.Postfixes.{IsPostfixOf, starts_postfix}
 use Rattle.promql_syntax.proofs.ReadErrorSteps.{fails_first, fails_same}
@@ -39,17 +38,17 @@ postfixes_none zero n d [] us enough none = let same : [] ≡ us = ap rest_of no
 postfixes_none zero n d (t ∷ ts) us enough none = absurd (omega arith)
 postfixes_none (suc k) n d ts us enough none = ap (λ o. o then λ p. parse_more_postfixes (parse_postfixes k n) n d p.0 p.1) none
 
-postfixes_fail : (k n : ℕ) (d : Derivation) (ts : List Symbol) (e : ReadError) → length ts ≤ k → Fails e (parse_postfix ts) → Fails e (parse_postfixes k n d ts)
-postfixes_fail zero n d [] Memory enough fails = tt
-postfixes_fail zero n d [] Syntax enough fails = cc
-postfixes_fail zero n d [] TooDeep enough fails = cc
+postfixes_fail : (k n : ℕ) (d : Derivation) (ts : List Symbol) (e : Failure) → length ts ≤ k → Fails e (parse_postfix ts) → Fails e (parse_postfixes k n d ts)
+postfixes_fail zero n d [] (Memory, rest) enough fails = tt
+postfixes_fail zero n d [] (Syntax, rest) enough fails = cc
+postfixes_fail zero n d [] (TooDeep, rest) enough fails = cc
 postfixes_fail zero n d (t ∷ ts) e enough fails = absurd (omega arith)
 postfixes_fail (suc k) n d ts e enough fails = fails_first e (parse_postfix ts) (λ p. parse_more_postfixes (parse_postfixes k n) n d p.0 p.1) (parse_postfixes (suc k) n d ts) refl fails
 
-postfixes_deep : (k n : ℕ) (d : Derivation) (ts us : List Symbol) (p : Postfix) → length us < length ts → length ts ≤ k → parse_postfix ts ≡ Ok (Some p, us) → n < height (postfixed d p) → parse_postfixes k n d ts ≡ Err TooDeep
+postfixes_deep : (k n : ℕ) (d : Derivation) (ts us : List Symbol) (p : Postfix) → length us < length ts → length ts ≤ k → parse_postfix ts ≡ Ok (Some p, us) → n < height (postfixed d p) → parse_postfixes k n d ts ≡ Err too_high
 postfixes_deep zero n d ts us p short enough some high = absurd (omega arith)
 postfixes_deep (suc k) n d ts us p short enough some high =
-    ap (λ o. o then λ q. parse_more_postfixes (parse_postfixes k n) n d q.0 q.1) some ∙ sym (cond_below n (height (postfixed d p)) (Err TooDeep) _ high)
+    ap (λ o. o then λ q. parse_more_postfixes (parse_postfixes k n) n d q.0 q.1) some ∙ sym (cond_below n (height (postfixed d p)) (Err too_high) _ high)
 
 postfixes_on : (k n : ℕ) (d : Derivation) (ts us : List Symbol) (p : Postfix) → length us < length ts → length ts ≤ k → parse_postfix ts ≡ Ok (Some p, us) → height (postfixed d p) ≤ n
     → (j : ℕ) × (length us ≤ j) × (parse_postfixes k n d ts ≡ parse_postfixes j n (postfixed d p) us)
@@ -57,7 +56,7 @@ postfixes_on zero n d ts us p short enough some low = absurd (omega arith)
 postfixes_on (suc k) n d ts us p short enough some low = (
   k,
   omega arith,
-  ap (λ o. o then λ q. parse_more_postfixes (parse_postfixes k n) n d q.0 q.1) some ∙ sym (cond_above n (height (postfixed d p)) (Err TooDeep) _ _ low refl),
+  ap (λ o. o then λ q. parse_more_postfixes (parse_postfixes k n) n d q.0 q.1) some ∙ sym (cond_above n (height (postfixed d p)) (Err too_high) _ _ low refl),
 )
 
 module _ (k n : ℕ) (d : Derivation) (all ts : List Symbol) (parsed : ParsedExpr) (postfixing : Postfixing k n d all parsed ts) where
@@ -68,11 +67,11 @@ module _ (k n : ℕ) (d : Derivation) (all ts : List Symbol) (parsed : ParsedExp
     built = postfixing.built;
   }
 
-  pub postfixing_fails : (e : ReadError) → Fails e (parse_postfix ts) → Fails e (parse_postfixes k n d all)
+  pub postfixing_fails : (e : Failure) → Fails e (parse_postfix ts) → Fails e (parse_postfixes k n d all)
   postfixing_fails e fails = fails_same e _ _ postfixing.goes (postfixes_fail postfixing.turns n postfixing.derivation ts e postfixing.enough fails)
 
   module _ (us : List Symbol) (short : length us < length ts) (held : ParsedPostfix) (p : Postfix) (some : parse_postfix ts ≡ Ok (Some p, us)) (holds : IsPostfixOf held p) where
-    pub postfixing_deep : n < parsed.height + held.added_height → parse_postfixes k n d all ≡ Err TooDeep
+    pub postfixing_deep : n < parsed.height + held.added_height → parse_postfixes k n d all ≡ Err too_high
     postfixing_deep high =
         let so_far = postfixing.built in
         let tall = so_far.tall in

@@ -1,8 +1,7 @@
 -- Where each pattern of a tree has one allowed answer, these are the answers that were given.
-use Rattle.std.proofs.Common.{◌≡◌, Bool, true, List, [], ◌∷◌, Result, Ok, Err, refl, sym, ap, ◌∙◌, subst}
+use Rattle.std.proofs.Common.{◌≡◌, Bool, true, List, [], ◌∷◌, Result, Ok, refl, sym, ap, ◌∙◌, subst}
 use Rattle.promql_text.specs.Texts.{Text}
 use Rattle.promql_label.specs.Answers.{Allows, Answer}
-use Rattle.promql_grammar.specs.Grammar.{Derivation}
 use Rattle.promql_ast.specs.Tree.{Tree}
 use Rattle.promql_syntax.specs.Asking.{AreAllowed, AreAnswersOf, Asked, Asking, asks, Ends, fails, gives, under}
 use Rattle.promql_syntax.specs.Building.{build}

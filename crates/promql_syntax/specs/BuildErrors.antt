@@ -6,7 +6,8 @@ use Rattle.promql_text.specs.declared.duration.DurationFault.{DurationFault}
 use Rattle.promql_ast.specs.declared.at_modifier.AtFault.{AtFault}
 use Rattle.promql_ast.specs.Faults as trees
 use Rattle.promql_syntax.specs.declared.grammar.build_error.BuildError as code
-use Rattle.promql_syntax.specs.declared.grammar.build_error.BuildError.TheVariants as build_errors
+use Rattle.promql_syntax.specs.declared.grammar.build_error.BuildFault.{BuildFault}
+use Rattle.promql_syntax.specs.declared.grammar.build_error.BuildFault.TheVariants as faults
 
 pub data BuildError : Type 0 where
   number : NumberFault → BuildError
@@ -17,14 +18,18 @@ pub data BuildError : Type 0 where
   unknown_function : Text → BuildError
   check : trees.Fault → BuildError
 
+abbrev pub build_fault_of : BuildFault → BuildError
+build_fault_of (faults.Number f) = number f
+build_fault_of faults.Quoted = quoted
+build_fault_of (faults.Duration f) = duration f
+build_fault_of (faults.At f) = at f
+build_fault_of (faults.Pattern value) = pattern (string_bytes value)
+build_fault_of (faults.UnknownFunction name) = unknown_function (string_bytes name)
+build_fault_of (faults.Check f) = check (trees.fault_of f)
+
+-- without its place
 abbrev pub build_error_of : code.BuildError → BuildError
-build_error_of (build_errors.Number f) = number f
-build_error_of build_errors.Quoted = quoted
-build_error_of (build_errors.Duration f) = duration f
-build_error_of (build_errors.At f) = at f
-build_error_of (build_errors.Pattern value) = pattern (string_bytes value)
-build_error_of (build_errors.UnknownFunction name) = unknown_function (string_bytes name)
-build_error_of (build_errors.Check f) = check (trees.fault_of f)
+build_error_of e = build_fault_of e.fault
 
 -- a value or an error, as plain data
 abbrev pub view_result : {V A : Type 0} → (V → A) → Result V code.BuildError → Result A BuildError

@@ -16,3 +16,5 @@ pub mod ParsesExpr
 pub mod ParsesQuery
 pub mod ParseAnswers
 pub mod ParseErrors
+pub mod ErrorPlaces
+pub mod Findings

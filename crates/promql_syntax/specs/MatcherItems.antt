@@ -4,10 +4,9 @@ use Rattle.promql_text.specs.Texts.{Text}
 use Rattle.promql_token.specs.declared.ids.TheConstants.{T_LOR, T_NEQ}
 use Rattle.promql_grammar.specs.declared.token_kinds.TokenKind.{TokenKind}
 use Rattle.promql_grammar.specs.declared.token_kinds.TokenKind.TheVariants as kind
-use Rattle.promql_grammar.specs.declared.read_error.ReadError.TheVariants.{Syntax}
 use Rattle.promql_grammar.specs.Symbols.{Symbol, punct, word}
 use Rattle.promql_grammar.specs.GrammarParts as part
-use Rattle.promql_grammar.specs.Parsing.{Read}
+use Rattle.promql_grammar.specs.Parsing.{Read, misfit}
 use Rattle.promql_label.specs.PlainMatchers.{PlainMatchers}
 use Rattle.promql_syntax.specs.declared.grammar.selector.Item.{Item}
 use Rattle.promql_syntax.specs.declared.grammar.selector.MatchOperator.{MatchOperator}
@@ -66,8 +65,8 @@ abbrev pub parse_item_end : List Symbol → Read ItemEnd
 parse_item_end (punct kind.RightBrace ∷ ts) = Ok (closes, ts)
 parse_item_end (punct kind.Comma ∷ (punct kind.RightBrace ∷ ts)) = Ok (comma_closes, ts)
 parse_item_end (punct kind.Comma ∷ ts) = Ok (joins part.comma, ts)
-parse_item_end (word (kind.Operator op) t ∷ ts) = if op == T_LOR then Ok (joins (part.or t), ts) else Err Syntax
-parse_item_end ts = Err Syntax
+parse_item_end (word (kind.Operator op) t ∷ ts) = if op == T_LOR then Ok (joins (part.or t), ts) else Err (misfit (word (kind.Operator op) t ∷ ts))
+parse_item_end ts = Err (misfit ts)
 
 abbrev pub is_or : part.Separator → Bool
 is_or part.comma = false

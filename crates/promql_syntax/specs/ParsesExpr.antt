@@ -13,9 +13,9 @@ use Rattle.promql_kind.specs.declared.label_modifier.LabelModifier.{LabelModifie
 use Rattle.promql_grammar.specs.GrammarParts as part
 use Rattle.promql_grammar.specs.GrammarParts.{Modifier}
 use Rattle.promql_grammar.specs.declared.read_error.ReadError.{ReadError}
-use Rattle.promql_grammar.specs.declared.read_error.ReadError.TheVariants.{Memory}
+use Rattle.promql_grammar.specs.declared.read_error.ReadError.TheVariants.{Memory, Syntax, TooDeep}
 use Rattle.promql_grammar.specs.Grammar as grammar
-use Rattle.promql_grammar.specs.Parsing.{Read, parse_modifier, parse_postfixes}
+use Rattle.promql_grammar.specs.Parsing.{Read, Stop, misfit, parse_modifier, parse_postfixes, too_high}
 use Rattle.promql_grammar.specs.Symbols.{Symbol}
 use Rattle.promql_syntax.specs.declared.grammar.parsed.ParsedArgs.{ParsedArgs}
 use Rattle.promql_syntax.specs.declared.grammar.parsed.ParsedExpr.{ParsedExpr}
@@ -79,18 +79,23 @@ pub record ParsesBase (parsed : ParsedExpr) (rest : List Symbol) (read : ℕ →
   pub is : (k n : ℕ) → read k n ≡ parse_postfixes k n derivation rest
   pub built : IsExprOf parsed derivation
 
--- parsing fails in this way, or memory ran out
-abbrev pub Fails : {A : Type 0} → ReadError → Result A ReadError → Type 0
-Fails Memory read = Unit {0}
-Fails error read = read ≡ Err error
+-- an error, and the tokens that are left: of Syntax those from the first that does not fit
+abbrev pub Failure : Type 0
+Failure = ReadError × List Symbol
 
-abbrev pub FailsBase : ReadError → (ℕ → ℕ → Read grammar.Derivation) → Type 0
-FailsBase error read = (k n : ℕ) → Fails error (read k n)
+-- parsing fails in this way, or memory ran out
+abbrev pub Fails : {A : Type 0} → Failure → Result A Stop → Type 0
+Fails (Memory, rest) read = Unit {0}
+Fails (Syntax, rest) read = read ≡ Err (misfit rest)
+Fails (TooDeep, rest) read = read ≡ Err too_high
+
+abbrev pub FailsBase : Failure → (ℕ → ℕ → Read grammar.Derivation) → Type 0
+FailsBase failure read = (k n : ℕ) → Fails failure (read k n)
 
 -- the postfixes of a base were parsed, where the whole is of height at most n
 abbrev pub ParsesPostfixes : ℕ → ParsedExpr → List Symbol → List Symbol → Result ParsedExpr ReadError → Type 0
 ParsesPostfixes n base ts rest result =
-    (d : grammar.Derivation) (k : ℕ) → IsExprOf base d → length ts ≤ k → MatchResult result (λ parsed. ParsesExpr parsed rest (parse_postfixes k n d ts)) (λ e. Fails e (parse_postfixes k n d ts))
+    (d : grammar.Derivation) (k : ℕ) → IsExprOf base d → length ts ≤ k → MatchResult result (λ parsed. ParsesExpr parsed rest (parse_postfixes k n d ts)) (λ e. Fails (e, rest) (parse_postfixes k n d ts))
 
 -- ---- what waits in a box: nothing, or a value or error
 
@@ -109,7 +114,7 @@ pub record ParsesModifier (boxed : Option (Box (Result BinModifier code.BuildErr
   pub built : modifier_of boxed ≡ modifier_value part
 
 abbrev pub GivesModifier : List Symbol → List Symbol → Result (Option (Box (Result BinModifier code.BuildError) Global)) ReadError → Type 0
-GivesModifier ts rest result = MatchResult result (λ boxed. ParsesModifier boxed rest (parse_modifier ts)) (λ e. Fails e (parse_modifier ts))
+GivesModifier ts rest result = MatchResult result (λ boxed. ParsesModifier boxed rest (parse_modifier ts)) (λ e. Fails (e, rest) (parse_modifier ts))
 
 -- a grouping was parsed, or none
 pub record ParsesGrouping (boxed : Option (Box (Result LabelModifier code.BuildError) Global)) (rest : List Symbol) (read : Read part.Clause) : Type 0 where

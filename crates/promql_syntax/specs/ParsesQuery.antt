@@ -7,6 +7,7 @@ use Rattle.promql_ast.specs.declared.expr.Expr.{Expr}
 use Rattle.promql_grammar.specs.declared.read_error.ReadError.{ReadError}
 use Rattle.promql_grammar.specs.declared.read_error.ReadError.TheVariants.{Memory, Syntax, TooDeep}
 use Rattle.promql_grammar.specs.Grammar.{Derivation, yield, height, IsWellFormed}
+use Rattle.promql_grammar.specs.Misfits.{AreMisfits}
 use Rattle.promql_grammar.specs.Symbols.{Symbol}
 use Rattle.promql_syntax.specs.declared.grammar.build_error.BuildError as code
 use Rattle.promql_syntax.specs.Building.{build}
@@ -24,9 +25,10 @@ pub record IsQueryValue (n : ℕ) (ts : List Symbol) (value : Result Tree BuildE
   pub allowed : AreAllowed answers
   pub is : Ends (build derivation) answers value
 
--- a value was built of a derivation of the tokens within the height, or there is none
-abbrev pub ParsesQuery : ℕ → List Symbol → Result (Result (Box Expr Global) (Box code.BuildError Global)) ReadError → Type 0
-ParsesQuery n ts (Ok value) = IsQueryValue n ts (view_boxed value)
-ParsesQuery n ts (Err Memory) = Unit {0}
-ParsesQuery n ts (Err Syntax) = (d : Derivation) → IsWellFormed d → ¬ (yield d ≡ ts)
-ParsesQuery n ts (Err TooDeep) = (n < length ts + 1) × ((d : Derivation) → IsWellFormed d → height d ≤ n → ¬ (yield d ≡ ts))
+-- a value was built of a derivation of the tokens within the height, or there is none; of Syntax the tokens that are left are those
+-- from the first that does not fit
+abbrev pub ParsesQuery : ℕ → List Symbol → List Symbol → Result (Result (Box Expr Global) (Box code.BuildError Global)) ReadError → Type 0
+ParsesQuery n ts rest (Ok value) = IsQueryValue n ts (view_boxed value)
+ParsesQuery n ts rest (Err Memory) = Unit {0}
+ParsesQuery n ts rest (Err Syntax) = AreMisfits ts rest
+ParsesQuery n ts rest (Err TooDeep) = (n < length ts + 1) × ((d : Derivation) → IsWellFormed d → height d ≤ n → ¬ (yield d ≡ ts))

@@ -4,11 +4,10 @@ use Rattle.promql_text.specs.Texts.{Text}
 use Rattle.promql_token.specs.declared.ids.TheConstants.{T_ADD, T_SUB}
 use Rattle.promql_grammar.specs.declared.token_kinds.TokenKind.{TokenKind}
 use Rattle.promql_grammar.specs.declared.token_kinds.TokenKind.TheVariants as kind
-use Rattle.promql_grammar.specs.declared.read_error.ReadError.TheVariants.{Syntax}
 use Rattle.promql_grammar.specs.Results.{◌then◌}
 use Rattle.promql_grammar.specs.Symbols.{Symbol, punct, word, symbol, may_be_label}
 use Rattle.promql_grammar.specs.GrammarParts as part
-use Rattle.promql_grammar.specs.Parsing.{Read, eat_sign, parse_number, parse_time}
+use Rattle.promql_grammar.specs.Parsing.{Read, eat_sign, misfit, parse_number, parse_time}
 use Rattle.promql_syntax.specs.PartBuilding.{is_minus}
 
 -- the first token is of this kind, and the rest
@@ -72,7 +71,7 @@ abbrev pub parse_label_end : List Symbol → Read LabelEnd
 parse_label_end (punct kind.RightParen ∷ ts) = Ok (closes, ts)
 parse_label_end (punct kind.Comma ∷ (punct kind.RightParen ∷ ts)) = Ok (comma_closes, ts)
 parse_label_end (punct kind.Comma ∷ ts) = Ok (comma, ts)
-parse_label_end ts = Err Syntax
+parse_label_end ts = Err (misfit ts)
 
 abbrev pub is_last_label : LabelEnd → Bool
 is_last_label comma = false

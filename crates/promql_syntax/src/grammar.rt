@@ -12,6 +12,7 @@ pub mod grouping;
 pub mod labels;
 pub mod modifier;
 pub mod parsed;
+pub mod place;
 pub mod postfix;
 pub mod precedence;
 pub mod selector;

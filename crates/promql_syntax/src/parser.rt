@@ -5,7 +5,7 @@ ghost use Rattle.promql_syntax.specs.ParseAnswers.{IsAnswerTo, answer_of};
 ghost use Rattle.promql_syntax.specs.ParseErrors.{error_of_build, first_error};
 ghost use Rattle.promql_syntax.specs.SourceTokens.{tokens, has_any};
 
-use crate::grammar::build_error::BuildError;
+use crate::grammar::build_error::{BuildError, BuildFault};
 use crate::grammar::expression::parse_query;
 use crate::tokens::{Tokens, has_tokens};
 use promql_ast::{AtFault, CheckFault, Expr};
@@ -97,21 +97,21 @@ impl From<ReadError> for ParseError {
     }
 }
 
-impl From<BuildError> for ParseError {
+impl From<BuildFault> for ParseError {
     ghost use Rattle.std.specs.Prelude.{◌≡◌};
-    ghost use Rattle.promql_syntax.specs.ParseErrors.{error_of_build};
+    ghost use Rattle.promql_syntax.specs.ParseErrors.{error_of_fault};
 
-    ghost from_gives = { λ error e. e ≡ error_of_build error };
+    ghost from_gives = { λ fault e. e ≡ error_of_fault fault };
 
-    fn from(error: BuildError) -> ParseError {
-        match error {
-            BuildError::Number(fault) => ParseError::Number(fault),
-            BuildError::Quoted => ParseError::Quoted,
-            BuildError::Duration(fault) => ParseError::Duration(fault),
-            BuildError::At(fault) => ParseError::At(fault),
-            BuildError::Pattern(value) => ParseError::Pattern(value),
-            BuildError::UnknownFunction(name) => ParseError::UnknownFunction(name),
-            BuildError::Check(fault) => ParseError::Check(fault),
+    fn from(fault: BuildFault) -> ParseError {
+        match fault {
+            BuildFault::Number(fault) => ParseError::Number(fault),
+            BuildFault::Quoted => ParseError::Quoted,
+            BuildFault::Duration(fault) => ParseError::Duration(fault),
+            BuildFault::At(fault) => ParseError::At(fault),
+            BuildFault::Pattern(value) => ParseError::Pattern(value),
+            BuildFault::UnknownFunction(name) => ParseError::UnknownFunction(name),
+            BuildFault::Check(fault) => ParseError::Check(fault),
         }
     }
 }
@@ -124,7 +124,8 @@ pub fn parse(alloc: Global, text: &str) -> Result<Expr, ParseError>
     ensures { IsAnswerTo text.now (answer_of result) }
 {
     promql_ast::laws::checked_trees_are_typed();
-    match parse_query(alloc, MAX_DEPTH, Tokens::new(text)) {
+    let mut tokens = Tokens::new(text);
+    match parse_query(alloc, MAX_DEPTH, &mut tokens) {
         Ok(Ok(expr)) => Ok(Box::into_inner(expr)),
         Ok(Err(error)) => Err(first_error(text, parse_error_of(error))),
         Err(error) => Err(first_error(text, ParseError::from(error))),
@@ -134,12 +135,13 @@ pub fn parse(alloc: Global, text: &str) -> Result<Expr, ParseError>
 fn parse_error_of(error: Box<BuildError>) -> ParseError
     ensures { result ≡ error_of_build error.value }
 {
-    ParseError::from(Box::into_inner(error))
+    let BuildError { fault, place: _ } = Box::into_inner(error);
+    ParseError::from(fault)
 }
 
 /// The first error of a text: its lexical fault, or that it has no token, comes before what parsing
 /// found.
-fn first_error(text: &str, found: ParseError) -> ParseError
+pub(crate) fn first_error(text: &str, found: ParseError) -> ParseError
     ensures { result ≡ first_error (has_any (tokens text.now)) found }
 {
     match has_tokens(text) {

@@ -1,6 +1,6 @@
 //! The tokens of a text before its end, or its lexical fault.
 
-ghost use Rattle.std.specs.Prelude.{◌≡◌, ◌==◌, List, [], ◌∷◌, ◌++◌, false, length, drop, Ok, Err, map, IfErr, IfOk, MatchBool, MatchOption};
+ghost use Rattle.std.specs.Prelude.{◌≡◌, ◌==◌, ◌<◌, ◌^◌, List, [], ◌∷◌, ◌++◌, false, length, drop, Ok, Err, map, IfErr, IfOk, MatchBool, MatchOption, OnErr};
 ghost use Rattle.promql_syntax.specs.SourceTokens.{Token, tokens, has_any};
 ghost use Rattle.promql_grammar.specs.Symbols.{Symbol, symbol, symbol_of};
 ghost use Rattle.promql_grammar.specs.declared.read_error.ReadError.TheVariants.{Syntax};
@@ -43,6 +43,8 @@ pub enum Lookahead<'a> {
 pub struct Tokens<'a> {
     lookahead: Lookahead<'a>,
     rest: Cursor<'a>,
+    /// How many were taken.
+    index: usize,
 }
 
 impl<'a> Tokens<'a> {
@@ -56,6 +58,7 @@ impl<'a> Tokens<'a> {
         let mut tokens = Tokens {
             lookahead: Lookahead::End,
             rest: Cursor::new(text),
+            index: 0,
         };
         tokens.fill();
         tokens
@@ -70,6 +73,24 @@ impl<'a> Tokens<'a> {
             None if self.rest.is_at_fault() => self.lookahead = Lookahead::Fault,
             None => self.lookahead = Lookahead::End,
         }
+    }
+
+    /// The index of the first token in the text.
+    pub fn index(&self) -> usize {
+        self.index
+    }
+
+    /// How many are left, a lexical fault counted as one. It lexes them.
+    pub fn count(&self) -> usize
+        ensures { length (symbols_left self.now) < 2 ^ 64 → result ≡ length (symbols_left self.now) }
+    {
+        let mut rest = *self;
+        let mut count: usize = 0;
+        while !rest.is_empty() {
+            rest.bump();
+            count = count.saturating_add(1);
+        }
+        count
     }
 
     /// Whether no token is left.
@@ -95,6 +116,7 @@ impl<'a> Tokens<'a> {
     pub fn bump(&mut self)
         ensures { symbols_left self.new ≡ drop 1 (symbols_left self.old) }
     {
+        self.index = self.index.saturating_add(1);
         match self.lookahead {
             Lookahead::Token(..) => self.fill(),
             Lookahead::Fault | Lookahead::End => self.lookahead = Lookahead::End,
@@ -135,6 +157,7 @@ impl<'a> Tokens<'a> {
         ensures gives { IfOk result (λ _.
             Eats kind (symbols_left self.old) (symbols_left self.new)) }
         ensures fails { IfErr result (λ e. (e ≡ Syntax) × HasNo kind (symbols_left self.old)) }
+        ensures stays { OnErr result (symbols_left self.new ≡ symbols_left self.old) }
     {
         if !self.eat(kind) {
             return Err(ReadError::Syntax);

@@ -10,6 +10,7 @@ use crate::grammar::build::build_aggregate;
 use crate::grammar::call::parse_arguments;
 use crate::grammar::grouping::{parse_grouping, starts_grouping};
 use crate::grammar::parsed::{ParsedExpr, Pending};
+use crate::grammar::place::Extent;
 use crate::parser::MAX_DEPTH;
 use crate::tokens::Tokens;
 use promql_grammar::{ReadError, TokenKind};
@@ -24,6 +25,7 @@ pub fn parse_aggregate(
     max_height: usize,
     op: TokenId,
     name: &str,
+    start: usize,
     tokens: &mut Tokens<'_>,
 ) -> Result<ParsedExpr, ReadError>
     requires { max_height ≤ MAX_DEPTH }
@@ -31,7 +33,7 @@ pub fn parse_aggregate(
         (λ parsed. ParsesBase parsed (symbols_left tokens.new)
         (λ k n. parse_aggregate (parse_expression max_height) k n op name.now
         (symbols_left tokens.old)))
-        (λ e. FailsBase e
+        (λ e. FailsBase (e, symbols_left tokens.new)
         (λ k n. parse_aggregate (parse_expression max_height) k n op name.now
         (symbols_left tokens.old))) }
     ensures low { IfOk result (λ parsed. parsed.height ≤ max_height + 1) }
@@ -41,15 +43,17 @@ pub fn parse_aggregate(
     if tokens.eat(TokenKind::LeftParen) {
         let args = parse_arguments(alloc, max_height, tokens)?;
         let grouping = parse_boxed_grouping(alloc, tokens)?;
-        return Ok(build_aggregate(alloc, op, grouping, args)?);
+        let extent = Extent::atom(start, tokens.index());
+        return Ok(build_aggregate(alloc, op, grouping, args, extent)?);
     }
     if !starts_grouping(tokens) {
-        return parse_selector(alloc, TokenKind::Aggregator(op), name, tokens);
+        return parse_selector(alloc, TokenKind::Aggregator(op), name, start, tokens);
     }
     let grouping = parse_boxed_grouping(alloc, tokens)?;
     tokens.expect(TokenKind::LeftParen)?;
     let args = parse_arguments(alloc, max_height, tokens)?;
-    Ok(build_aggregate(alloc, op, grouping, args)?)
+    let extent = Extent::atom(start, tokens.index());
+    Ok(build_aggregate(alloc, op, grouping, args, extent)?)
 }
 
 /// Parses a grouping, if there is one, into a box: it may wait for the arguments.
@@ -61,7 +65,7 @@ fn parse_boxed_grouping(
     ensures gives { MatchResult result
         (λ held. ParsesGrouping held (symbols_left tokens.new)
         (parse_grouping (symbols_left tokens.old)))
-        (λ e. Fails e (parse_grouping (symbols_left tokens.old))) }
+        (λ e. Fails (e, symbols_left tokens.new) (parse_grouping (symbols_left tokens.old))) }
     ensures short { OnOk result
         (length (symbols_left tokens.new) ≤ length (symbols_left tokens.old)) }
 {

@@ -1,23 +1,24 @@
 //! Operands that hold no expression: numbers, durations, strings and selectors.
 
-ghost use Rattle.std.specs.Prelude.{◌≡◌, ◌∷◌, ◌<◌, ◌≤◌, true, length, IfOk, IsErrOf, MatchResult, OnOk};
+ghost use Rattle.std.specs.Prelude.{◌≡◌, ◌∷◌, ◌<◌, ◌≤◌, true, drop, length, IfOk, IsErrOf, MatchResult, OnOk};
 ghost use Rattle.promql_grammar.specs.Parsing.{parse_selector};
 ghost use Rattle.promql_grammar.specs.Symbols.{begins, may_be_name, symbol};
 ghost use Rattle.promql_grammar.specs.declared.token_kinds.TokenKind as kinds;
 ghost use Rattle.promql_syntax.specs.SymbolsLeft.{symbols_left};
 ghost use Rattle.promql_syntax.specs.ParsesExpr.{FailsBase, ParsesBase};
-ghost use Rattle.promql_syntax.specs.Atoms.{parse_atom, parse_selector_braces};
+ghost use Rattle.promql_syntax.specs.Atoms.{parse_atom, parse_named, parse_selector_braces};
 
 use crate::grammar::build_atom::{
     build_braces, build_duration, build_name, build_number, build_selector, build_string,
 };
 use crate::grammar::parsed::ParsedExpr;
+use crate::grammar::place::Extent;
 use crate::grammar::selector::parse_braces;
 use crate::tokens::Tokens;
 use promql_grammar::{ReadError, TokenKind};
 use std::alloc::Global;
 
-/// Parses a number, a duration, a string or a selector, after its first token.
+/// Parses a number, a duration, a string or a selector, which begins with the token that is left first.
 #[inline(never)]
 pub fn parse_atom(
     alloc: Global,
@@ -25,40 +26,54 @@ pub fn parse_atom(
     text: &str,
     tokens: &mut Tokens<'_>,
 ) -> Result<ParsedExpr, ReadError>
+    requires { symbols_left tokens.now ≡ symbol kind text.now ∷ drop 1 (symbols_left tokens.now) }
     ensures gives { MatchResult result
         (λ parsed. ParsesBase parsed (symbols_left tokens.new)
-        (λ k n. parse_atom k n kind text.now (symbols_left tokens.old)))
-        (λ e. FailsBase e (λ k n. parse_atom k n kind text.now (symbols_left tokens.old))) }
+        (λ k n. parse_atom k n kind text.now (drop 1 (symbols_left tokens.old))))
+        (λ e. FailsBase (e, symbols_left tokens.new)
+        (λ k n. parse_atom k n kind text.now (drop 1 (symbols_left tokens.old)))) }
     ensures low { IfOk result (λ parsed. parsed.height ≡ 1) }
     ensures short { OnOk result
         (length (symbols_left tokens.new) ≤ length (symbols_left tokens.old)) }
-    ensures memory { IsErrOf result ReadError.Memory
-        → begins (symbol kind text.now ∷ symbols_left tokens.old) ≡ true }
+    ensures memory { IsErrOf result ReadError.Memory → begins (symbols_left tokens.old) ≡ true }
 {
+    let start = tokens.index();
     match kind {
-        TokenKind::Number => Ok(build_number(alloc, text)?),
-        TokenKind::Duration => Ok(build_duration(alloc, text)?),
-        TokenKind::String => Ok(build_string(alloc, text)?),
-        TokenKind::LeftBrace => {
-            let matchers = parse_braces(alloc, tokens)?;
-            Ok(build_braces(alloc, matchers)?)
+        TokenKind::Number => {
+            tokens.bump();
+            Ok(build_number(alloc, text, start)?)
         }
-        _ => parse_selector(alloc, kind, text, tokens),
+        TokenKind::Duration => {
+            tokens.bump();
+            Ok(build_duration(alloc, text, start)?)
+        }
+        TokenKind::String => {
+            tokens.bump();
+            Ok(build_string(alloc, text, start)?)
+        }
+        TokenKind::LeftBrace => {
+            tokens.bump();
+            let matchers = parse_braces(alloc, tokens)?;
+            let extent = Extent::atom(start, tokens.index());
+            Ok(build_braces(alloc, matchers, extent)?)
+        }
+        _ => parse_named(alloc, kind, text, tokens),
     }
 }
 
-/// Parses a selector, after its name.
-#[inline(never)]
-pub fn parse_selector(
+/// Parses a selector, which begins with the token that is left first, if that is a name.
+fn parse_named(
     alloc: Global,
     kind: TokenKind,
     name: &str,
     tokens: &mut Tokens<'_>,
 ) -> Result<ParsedExpr, ReadError>
+    requires { symbols_left tokens.now ≡ symbol kind name.now ∷ drop 1 (symbols_left tokens.now) }
     ensures gives { MatchResult result
         (λ parsed. ParsesBase parsed (symbols_left tokens.new)
-        (λ k n. parse_selector k n kind name.now (symbols_left tokens.old)))
-        (λ e. FailsBase e (λ k n. parse_selector k n kind name.now (symbols_left tokens.old))) }
+        (λ k n. parse_named k n kind name.now (drop 1 (symbols_left tokens.old))))
+        (λ e. FailsBase (e, symbols_left tokens.new)
+        (λ k n. parse_named k n kind name.now (drop 1 (symbols_left tokens.old)))) }
     ensures low { IfOk result (λ parsed. parsed.height ≡ 1) }
     ensures short { OnOk result
         (length (symbols_left tokens.new) ≤ length (symbols_left tokens.old)) }
@@ -67,8 +82,31 @@ pub fn parse_selector(
     if !kind.may_be_name() {
         return Err(ReadError::Syntax);
     }
+    let start = tokens.index();
+    tokens.bump();
+    parse_selector(alloc, kind, name, start, tokens)
+}
+
+/// Parses a selector, after its name, whose first token has the index `start`.
+#[inline(never)]
+pub fn parse_selector(
+    alloc: Global,
+    kind: TokenKind,
+    name: &str,
+    start: usize,
+    tokens: &mut Tokens<'_>,
+) -> Result<ParsedExpr, ReadError>
+    requires { may_be_name kind ≡ true }
+    ensures gives { MatchResult result
+        (λ parsed. ParsesBase parsed (symbols_left tokens.new)
+        (λ k n. parse_selector k n kind name.now (symbols_left tokens.old)))
+        (λ e. FailsBase (e, symbols_left tokens.new) (λ k n. parse_selector k n kind name.now (symbols_left tokens.old))) }
+    ensures low { IfOk result (λ parsed. parsed.height ≡ 1) }
+    ensures short { OnOk result
+        (length (symbols_left tokens.new) ≤ length (symbols_left tokens.old)) }
+{
     if tokens.eat(TokenKind::LeftBrace) {
-        return parse_selector_braces(alloc, name, tokens);
+        return parse_selector_braces(alloc, name, start, tokens);
     }
     Ok(build_name(alloc, name)?)
 }
@@ -78,17 +116,19 @@ pub fn parse_selector(
 fn parse_selector_braces(
     alloc: Global,
     name: &str,
+    start: usize,
     tokens: &mut Tokens<'_>,
 ) -> Result<ParsedExpr, ReadError>
     ensures gives { (kind : kinds.TokenKind) → MatchResult result
         (λ parsed. ParsesBase parsed (symbols_left tokens.new)
         (λ k n. parse_selector_braces k n kind name.now (symbols_left tokens.old)))
-        (λ e. FailsBase e (λ k n. parse_selector_braces k n kind name.now
+        (λ e. FailsBase (e, symbols_left tokens.new) (λ k n. parse_selector_braces k n kind name.now
         (symbols_left tokens.old))) }
     ensures low { IfOk result (λ parsed. parsed.height ≡ 1) }
     ensures short { OnOk result
         (length (symbols_left tokens.new) < length (symbols_left tokens.old)) }
 {
     let matchers = parse_braces(alloc, tokens)?;
-    Ok(build_selector(alloc, name, matchers)?)
+    let extent = Extent::atom(start, tokens.index());
+    Ok(build_selector(alloc, name, matchers, extent)?)
 }

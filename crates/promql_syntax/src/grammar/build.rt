@@ -2,7 +2,7 @@
 
 ghost use Rattle.std.specs.Prelude.{◌≡◌, ℕ, ◌+◌, ◌≤◌, max, List, Option, None, Some, Ok, Err, IfOk, option_map};
 ghost use Rattle.promql_ast.specs.Checked.{check_tree};
-ghost use Rattle.promql_ast.specs.Faults.{Gives, GivesOrMemory, Verdict};
+ghost use Rattle.promql_ast.specs.Faults.{Gives, GivesOrMemory, Verdict, fault_of, rejected};
 ghost use Rattle.promql_ast.specs.Tree.{binary};
 ghost use Rattle.promql_ast.specs.View.{tree_of};
 ghost use Rattle.promql_grammar.specs.Grammar as grammar;
@@ -17,11 +17,12 @@ ghost use Rattle.promql_syntax.specs.Asking.{◌giving◌, known};
 ghost use Rattle.promql_syntax.specs.Building.{from_verdict};
 ghost use Rattle.promql_syntax.specs.Postfixes.{IsPostfixOf, change_of, apply_change};
 
-use crate::grammar::build_error::BuildError;
+use crate::grammar::build_error::{BuildError, BuildFault};
 use crate::grammar::parsed::{ParsedArgs, ParsedExpr, Pending};
+use crate::grammar::place::{Extent, Place};
 use crate::grammar::postfix::{ParsedPostfix, Postfix};
 use crate::parser::MAX_DEPTH;
-use promql_ast::{BinaryExpr, CheckError, Expr, FunctionArgs, ParenExpr, SubqueryExpr};
+use promql_ast::{BinaryExpr, CheckError, CheckFault, Expr, FunctionArgs, ParenExpr, SubqueryExpr};
 use promql_kind::{BinModifier, LabelModifier, get_function};
 use promql_token::ids::T_SUB;
 use promql_token::{TokenId, TokenType};
@@ -61,11 +62,30 @@ fn part_error(error: Box<BuildError>, height: usize) -> ParsedExpr
     }
 }
 
+/// A fault of a check in place of a node.
+fn check_error(
+    alloc: Global,
+    fault: CheckFault,
+    height: usize,
+    place: Place,
+) -> Result<ParsedExpr, AllocError>
+    ensures value { IfOk result (λ parsed. tree_result parsed ≡ outcome (rejected
+        (fault_of fault))) }
+    ensures tall { IfOk result (λ parsed. parsed.height ≡ height) }
+{
+    let error = BuildError {
+        fault: BuildFault::Check(fault),
+        place,
+    };
+    parsed_error(alloc, error, height)
+}
+
 /// The result of a builder that allocates nothing.
 fn parsed_result(
     alloc: Global,
     built: Result<Expr, CheckError>,
     height: usize,
+    place: Place,
 ) -> Result<ParsedExpr, AllocError>
     ensures value { IfOk result (λ parsed. (verdict : Verdict) → Gives built verdict
         → tree_result parsed ≡ outcome verdict) }
@@ -77,12 +97,17 @@ fn parsed_result(
             Ok(parsed_node(expr, height))
         }
         Err(CheckError::Memory) => Err(AllocError),
-        Err(CheckError::Check(error)) => parsed_error(alloc, BuildError::Check(error), height),
+        Err(CheckError::Check(fault)) => check_error(alloc, fault, height, place),
     }
 }
 
 /// A node, if no check of its root fails. It is checked in its box.
-pub fn check_node(alloc: Global, expr: Box<Expr>, height: usize) -> Result<ParsedExpr, AllocError>
+pub fn check_node(
+    alloc: Global,
+    expr: Box<Expr>,
+    height: usize,
+    extent: Extent,
+) -> Result<ParsedExpr, AllocError>
     ensures value { IfOk result (λ parsed. tree_result parsed ≡ outcome (check_tree
         (tree_of expr.value))) }
     ensures tall { IfOk result (λ parsed. parsed.height ≡ height) }
@@ -91,7 +116,10 @@ pub fn check_node(alloc: Global, expr: Box<Expr>, height: usize) -> Result<Parse
     match expr.check(alloc) {
         Ok(()) => Ok(parsed_node(expr, height)),
         Err(CheckError::Memory) => Err(AllocError),
-        Err(CheckError::Check(error)) => parsed_error(alloc, BuildError::Check(error), height),
+        Err(CheckError::Check(fault)) => {
+            let place = extent.place_of(&fault, &expr);
+            check_error(alloc, fault, height, place)
+        }
     }
 }
 
@@ -100,6 +128,7 @@ fn check_result(
     alloc: Global,
     built: Result<Expr, CheckError>,
     height: usize,
+    extent: Extent,
 ) -> Result<ParsedExpr, AllocError>
     ensures value { IfOk result (λ parsed. (verdict : Verdict) → GivesOrMemory built verdict
         → tree_result parsed ≡ (outcome verdict then λ t. outcome (check_tree t))) }
@@ -108,10 +137,10 @@ fn check_result(
     match built {
         Ok(expr) => {
             let expr = Box::new(alloc, expr)?;
-            check_node(alloc, expr, height)
+            check_node(alloc, expr, height, extent)
         }
         Err(CheckError::Memory) => Err(AllocError),
-        Err(CheckError::Check(error)) => parsed_error(alloc, BuildError::Check(error), height),
+        Err(CheckError::Check(fault)) => check_error(alloc, fault, height, extent.right()),
     }
 }
 
@@ -140,6 +169,7 @@ pub fn build_unary(
     alloc: Global,
     op: TokenId,
     operand: ParsedExpr,
+    extent: Extent,
 ) -> Result<ParsedExpr, AllocError>
     requires { operand.height ≤ MAX_DEPTH }
     ensures built { IfOk result (λ parsed. (text : List ℕ) (d : grammar.Derivation)
@@ -154,7 +184,7 @@ pub fn build_unary(
                 return Ok(parsed_node(expr, height));
             }
             let expr = Box::into_inner(expr);
-            check_result(alloc, Expr::new_unary_expr(alloc, expr), height)
+            check_result(alloc, Expr::new_unary_expr(alloc, expr), height, extent)
         }
         Err(error) => Ok(part_error(error, height)),
     }
@@ -168,6 +198,7 @@ pub fn build_binary(
     left: ParsedExpr,
     modifier: Pending<BinModifier>,
     right: ParsedExpr,
+    extent: Extent,
 ) -> Result<ParsedExpr, AllocError>
     requires low_left { left.height ≤ MAX_DEPTH }
     requires low_right { right.height ≤ MAX_DEPTH }
@@ -196,7 +227,7 @@ pub fn build_binary(
     };
     let op = TokenType::new(op);
     match modifier {
-        Some(modifier) => build_modified_binary(alloc, op, lhs, rhs, modifier, height),
+        Some(modifier) => build_modified_binary(alloc, op, lhs, rhs, modifier, height, extent),
         None => {
             let node = BinaryExpr {
                 op,
@@ -205,7 +236,7 @@ pub fn build_binary(
                 modifier: None,
             };
             let expr = Box::new(alloc, Expr::Binary(node))?;
-            check_node(alloc, expr, height)
+            check_node(alloc, expr, height, extent)
         }
     }
 }
@@ -220,6 +251,7 @@ fn build_modified_binary(
     rhs: Box<Expr>,
     modifier: Box<Result<BinModifier, BuildError>>,
     height: usize,
+    extent: Extent,
 ) -> Result<ParsedExpr, AllocError>
     ensures value { IfOk result (λ parsed. (m : part.Modifier)
         → modifier_of (Some modifier) ≡ modifier_value m
@@ -237,7 +269,7 @@ fn build_modified_binary(
                 modifier: Some(modifier),
             };
             let expr = Box::new(alloc, Expr::Binary(node))?;
-            check_node(alloc, expr, height)
+            check_node(alloc, expr, height, extent)
         }
         Err(error) => parsed_error(alloc, error, height),
     }
@@ -245,7 +277,12 @@ fn build_modified_binary(
 
 /// Builds a call. Its name is looked up after its arguments.
 #[inline(never)]
-pub fn build_call(alloc: Global, name: &str, args: ParsedArgs) -> Result<ParsedExpr, AllocError>
+pub fn build_call(
+    alloc: Global,
+    name: &str,
+    args: ParsedArgs,
+    extent: Extent,
+) -> Result<ParsedExpr, AllocError>
     requires { args.height ≤ MAX_DEPTH }
     ensures built { IfOk result (λ parsed. (kind : kinds.TokenKind) (ds : grammar.Arguments)
         → AreArgsOf args ds → IsExprOf parsed (grammar.call kind name.now ds)) }
@@ -260,11 +297,15 @@ pub fn build_call(alloc: Global, name: &str, args: ParsedArgs) -> Result<ParsedE
     match get_function(alloc, name)? {
         Some(func) => {
             let expr = Box::new(alloc, Expr::new_call(func, args))?;
-            check_node(alloc, expr, height)
+            check_node(alloc, expr, height, extent)
         }
         None => {
             let name = String::from_str(alloc, name)?;
-            parsed_error(alloc, BuildError::UnknownFunction(name), height)
+            let error = BuildError {
+                fault: BuildFault::UnknownFunction(name),
+                place: Place::token(extent.start),
+            };
+            parsed_error(alloc, error, height)
         }
     }
 }
@@ -276,6 +317,7 @@ pub fn build_aggregate(
     op: TokenId,
     clause: Pending<LabelModifier>,
     args: ParsedArgs,
+    extent: Extent,
 ) -> Result<ParsedExpr, AllocError>
     requires { args.height ≤ MAX_DEPTH }
     ensures built { IfOk result (λ parsed. (text : List ℕ) (c : part.Clause)
@@ -293,7 +335,7 @@ pub fn build_aggregate(
     match unbox_grouping(clause) {
         Ok(clause) => {
             let built = Expr::new_aggregate_expr(alloc, op, clause, args);
-            check_result(alloc, built, height)
+            check_result(alloc, built, height, extent)
         }
         Err(error) => parsed_error(alloc, error, height),
     }
@@ -359,6 +401,7 @@ pub fn build_postfix(
     alloc: Global,
     base: ParsedExpr,
     postfix: ParsedPostfix,
+    extent: Extent,
 ) -> Result<ParsedExpr, AllocError>
     requires low_base { base.height ≤ MAX_DEPTH + 1 }
     requires low_postfix { postfix.added_height ≤ 1 }
@@ -373,7 +416,7 @@ pub fn build_postfix(
     } = postfix;
     let height = height + added_height;
     match value {
-        Ok(expr) => apply_postfix(alloc, expr, postfix, height),
+        Ok(expr) => apply_postfix(alloc, expr, postfix, height, extent),
         Err(error) => Ok(part_error(error, height)),
     }
 }
@@ -384,15 +427,17 @@ fn apply_postfix(
     expr: Box<Expr>,
     postfix: Result<Postfix, BuildError>,
     height: usize,
+    extent: Extent,
 ) -> Result<ParsedExpr, AllocError>
     ensures built { IfOk result (λ parsed. EndsIn (known (view_result change_of postfix) giving
         λ c. apply_change (tree_of expr.value) c) (tree_result parsed)) }
     ensures tall { IfOk result (λ parsed. parsed.height ≡ height) }
 {
+    let place = extent.after_base();
     match postfix {
         Ok(Postfix::Range(range)) => {
             let expr = Box::into_inner(expr);
-            parsed_result(alloc, Expr::new_matrix_selector(expr, range), height)
+            parsed_result(alloc, Expr::new_matrix_selector(expr, range), height, place)
         }
         Ok(Postfix::Subquery { range, step }) => {
             let node = SubqueryExpr {
@@ -403,16 +448,25 @@ fn apply_postfix(
                 step,
             };
             let expr = Box::new(alloc, Expr::Subquery(node))?;
-            check_node(alloc, expr, height)
+            check_node(alloc, expr, height, extent)
         }
-        Ok(Postfix::At(at)) => parsed_result(alloc, Box::into_inner(expr).at_expr(at), height),
-        Ok(Postfix::Offset(offset)) => {
-            parsed_result(alloc, Box::into_inner(expr).offset_expr(offset), height)
-        }
+        Ok(Postfix::At(at)) => parsed_result(
+            alloc,
+            Box::into_inner(expr).at_expr(at),
+            height,
+            place,
+        ),
+        Ok(Postfix::Offset(offset)) => parsed_result(
+            alloc,
+            Box::into_inner(expr).offset_expr(offset),
+            height,
+            place,
+        ),
         Ok(Postfix::Mode(mode)) => parsed_result(
             alloc,
             Box::into_inner(expr).mode_expr(mode),
             height,
+            place,
         ),
         Err(error) => parsed_error(alloc, error, height),
     }

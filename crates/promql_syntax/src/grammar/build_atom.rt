@@ -10,8 +10,9 @@ ghost use Rattle.promql_syntax.specs.ParsesPart.{IsBuiltBy};
 ghost use Rattle.promql_syntax.specs.PartBuilding.{braces_value};
 
 use crate::grammar::build::{check_node, parsed_error, parsed_node};
-use crate::grammar::build_error::BuildError;
+use crate::grammar::build_error::{BuildError, BuildFault};
 use crate::grammar::parsed::ParsedExpr;
+use crate::grammar::place::{Extent, Place};
 use crate::grammar::string::string_value;
 use crate::grammar::time::duration_value;
 use promql_ast::Expr;
@@ -20,7 +21,7 @@ use promql_text::{Number, parse_str_radix};
 use std::alloc::{AllocError, Global};
 
 /// Builds a number.
-pub fn build_number(alloc: Global, text: &str) -> Result<ParsedExpr, AllocError>
+pub fn build_number(alloc: Global, text: &str, index: usize) -> Result<ParsedExpr, AllocError>
     ensures built { IfOk result (λ parsed. IsExprOf parsed (grammar.number text.now)) }
     ensures low { IfOk result (λ parsed. parsed.height ≡ 1) }
 {
@@ -29,17 +30,23 @@ pub fn build_number(alloc: Global, text: &str) -> Result<ParsedExpr, AllocError>
             let expr = Box::new(alloc, Expr::from(number))?;
             Ok(parsed_node(expr, 1))
         }
-        Err(error) => parsed_error(alloc, BuildError::Number(error), 1),
+        Err(fault) => {
+            let error = BuildError {
+                fault: BuildFault::Number(fault),
+                place: Place::token(index),
+            };
+            parsed_error(alloc, error, 1)
+        }
     }
 }
 
 /// Builds a duration: its number of seconds.
 #[inline(never)]
-pub fn build_duration(alloc: Global, text: &str) -> Result<ParsedExpr, AllocError>
+pub fn build_duration(alloc: Global, text: &str, index: usize) -> Result<ParsedExpr, AllocError>
     ensures built { IfOk result (λ parsed. IsExprOf parsed (grammar.duration text.now)) }
     ensures low { IfOk result (λ parsed. parsed.height ≡ 1) }
 {
-    match duration_value(text) {
+    match duration_value(text, index) {
         Ok(duration) => {
             let expr = Box::new(alloc, Expr::from(Number::of_duration(&duration)))?;
             Ok(parsed_node(expr, 1))
@@ -50,11 +57,11 @@ pub fn build_duration(alloc: Global, text: &str) -> Result<ParsedExpr, AllocErro
 
 /// Builds a string.
 #[inline(never)]
-pub fn build_string(alloc: Global, text: &str) -> Result<ParsedExpr, AllocError>
+pub fn build_string(alloc: Global, text: &str, index: usize) -> Result<ParsedExpr, AllocError>
     ensures built { IfOk result (λ parsed. IsExprOf parsed (grammar.string text.now)) }
     ensures low { IfOk result (λ parsed. parsed.height ≡ 1) }
 {
-    match string_value(alloc, text)? {
+    match string_value(alloc, text, index)? {
         Ok(val) => {
             let expr = Box::new(alloc, Expr::from(val))?;
             Ok(parsed_node(expr, 1))
@@ -80,6 +87,7 @@ pub fn build_selector(
     alloc: Global,
     name: &str,
     matchers: Result<Matchers, BuildError>,
+    extent: Extent,
 ) -> Result<ParsedExpr, AllocError>
     ensures built { IfOk result (λ parsed. (kind : kinds.TokenKind) (braces : part.Braces)
         → IsBuiltBy plain_matchers_of matchers (braces_value braces)
@@ -90,7 +98,7 @@ pub fn build_selector(
         Ok(matchers) => {
             let name = String::from_str(alloc, name)?;
             let expr = Box::new(alloc, Expr::new_vector_selector(Some(name), matchers))?;
-            check_node(alloc, expr, 1)
+            check_node(alloc, expr, 1, extent)
         }
         Err(error) => parsed_error(alloc, error, 1),
     }
@@ -100,6 +108,7 @@ pub fn build_selector(
 pub fn build_braces(
     alloc: Global,
     matchers: Result<Matchers, BuildError>,
+    extent: Extent,
 ) -> Result<ParsedExpr, AllocError>
     ensures built { IfOk result (λ parsed. (braces : part.Braces)
         → IsBuiltBy plain_matchers_of matchers (braces_value braces)
@@ -109,7 +118,7 @@ pub fn build_braces(
     match matchers {
         Ok(matchers) => {
             let expr = Box::new(alloc, Expr::new_vector_selector(None, matchers))?;
-            check_node(alloc, expr, 1)
+            check_node(alloc, expr, 1, extent)
         }
         Err(error) => parsed_error(alloc, error, 1),
     }

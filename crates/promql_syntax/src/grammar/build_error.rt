@@ -1,12 +1,19 @@
 //! Why nothing is built of tokens that are an expression.
 
+use crate::grammar::place::Place;
 use promql_ast::{AtFault, CheckFault};
 use promql_text::{DurationFault, NumberFault};
 
-/// Why tokens that are an expression build no tree: the first fault in the order of
-/// docs/reference/grammar.md, "Building". It is held until all tokens are read.
+/// Why tokens that are an expression build no tree, and where. It is held until all tokens are read.
 #[derive(Drop)]
-pub enum BuildError {
+pub struct BuildError {
+    pub fault: BuildFault,
+    pub place: Place,
+}
+
+/// The first fault in the order of docs/reference/grammar.md, "Building".
+#[derive(Drop)]
+pub enum BuildFault {
     /// A number has no value that can be held.
     Number(NumberFault),
     /// A string has a raw line feed, or an escape of no character.
@@ -15,7 +22,7 @@ pub enum BuildError {
     Duration(DurationFault),
     /// A number after `@` is no moment.
     At(AtFault),
-    /// `regex` rejects the pattern.
+    /// `regex` rejects this pattern.
     Pattern(String),
     /// There is no function of this name.
     UnknownFunction(String),

@@ -1,7 +1,8 @@
 //! The rules `call` and `arguments`.
 
-ghost use Rattle.std.specs.Prelude.{◌+◌, ◌≤◌, length, IfOk, MatchResult, OnOk};
+ghost use Rattle.std.specs.Prelude.{◌≡◌, ◌+◌, ◌≤◌, true, length, IfOk, MatchResult, OnOk};
 ghost use Rattle.promql_grammar.specs.Parsing.{parse_arguments, parse_call, parse_expression};
+ghost use Rattle.promql_grammar.specs.Symbols.{may_be_called};
 ghost use Rattle.promql_syntax.specs.SymbolsLeft.{symbols_left};
 ghost use Rattle.promql_syntax.specs.ParsesExpr.{ParsesArgs, Fails, FailsBase, ParsesBase};
 
@@ -9,6 +10,7 @@ use crate::grammar::atom::parse_selector;
 use crate::grammar::build::{append_argument, build_call, empty_arguments};
 use crate::grammar::expression::parse_expression;
 use crate::grammar::parsed::{ParsedArgs, ParsedExpr};
+use crate::grammar::place::Extent;
 use crate::grammar::precedence::MIN_PRECEDENCE;
 use crate::parser::MAX_DEPTH;
 use crate::tokens::Tokens;
@@ -22,14 +24,16 @@ pub fn parse_call(
     max_height: usize,
     kind: TokenKind,
     name: &str,
+    start: usize,
     tokens: &mut Tokens<'_>,
 ) -> Result<ParsedExpr, ReadError>
     requires max_height { max_height ≤ MAX_DEPTH }
+    requires called { may_be_called kind ≡ true }
     ensures gives { MatchResult result
         (λ parsed. ParsesBase parsed (symbols_left tokens.new)
         (λ k n. parse_call (parse_expression max_height) k n kind name.now
         (symbols_left tokens.old)))
-        (λ e. FailsBase e
+        (λ e. FailsBase (e, symbols_left tokens.new)
         (λ k n. parse_call (parse_expression max_height) k n kind name.now
         (symbols_left tokens.old))) }
     ensures low { IfOk result (λ parsed. parsed.height ≤ max_height + 1) }
@@ -37,10 +41,11 @@ pub fn parse_call(
         (length (symbols_left tokens.new) ≤ length (symbols_left tokens.old)) }
 {
     if !tokens.eat(TokenKind::LeftParen) {
-        return parse_selector(alloc, kind, name, tokens);
+        return parse_selector(alloc, kind, name, start, tokens);
     }
     let args = parse_arguments(alloc, max_height, tokens)?;
-    Ok(build_call(alloc, name, args)?)
+    let extent = Extent::atom(start, tokens.index());
+    Ok(build_call(alloc, name, args, extent)?)
 }
 
 /// Parses arguments, after the opening parenthesis.
@@ -54,7 +59,7 @@ pub fn parse_arguments(
     ensures gives { MatchResult result
         (λ args. ParsesArgs args (symbols_left tokens.new)
         (parse_arguments (parse_expression max_height) (symbols_left tokens.old)))
-        (λ e. Fails e (parse_arguments (parse_expression max_height) (symbols_left tokens.old))) }
+        (λ e. Fails (e, symbols_left tokens.new) (parse_arguments (parse_expression max_height) (symbols_left tokens.old))) }
     ensures low { IfOk result (λ args. args.height ≤ max_height) }
     ensures short { OnOk result
         (length (symbols_left tokens.new) ≤ length (symbols_left tokens.old)) }

@@ -15,6 +15,7 @@ use crate::grammar::build_error::BuildError;
 use crate::grammar::call::parse_call;
 use crate::grammar::modifier::{parse_modifier, starts_modifier};
 use crate::grammar::parsed::{ParsedExpr, Pending};
+use crate::grammar::place::Extent;
 use crate::grammar::postfix::{parse_postfix, starts_postfix};
 use crate::grammar::precedence::{
     MIN_PRECEDENCE, UNARY_PRECEDENCE, eat_operator, eat_unary_operator, right_precedence,
@@ -39,7 +40,7 @@ pub fn parse_expression(
     ensures gives { MatchResult result
         (λ parsed. ParsesExpr parsed (symbols_left tokens.new)
         (parse_expression max_height min_precedence (symbols_left tokens.old)))
-        (λ e. Fails e (parse_expression max_height min_precedence (symbols_left tokens.old))) }
+        (λ e. Fails (e, symbols_left tokens.new) (parse_expression max_height min_precedence (symbols_left tokens.old))) }
     ensures low { IfOk result (λ parsed. parsed.height ≤ max_height) }
     ensures short { OnOk result
         (length (symbols_left tokens.new) ≤ length (symbols_left tokens.old)) }
@@ -49,14 +50,26 @@ pub fn parse_expression(
         return Err(ReadError::TooDeep);
     }
     let below = max_height - 1;
+    let start = tokens.index();
     let mut left = parse_unary(alloc, below, tokens)?;
+    let mut operator = tokens.index();
     while let Some(op) = eat_operator(tokens, min_precedence) {
         if below < left.height {
             return Err(ReadError::TooDeep);
         }
+        let modifier_start = tokens.index();
         let modifier = parse_optional_modifier(alloc, tokens)?;
+        let right_start = tokens.index();
         let right = parse_expression(alloc, below, right_precedence(op), tokens)?;
-        left = build_binary(alloc, op, left, modifier, right)?;
+        let extent = Extent {
+            start,
+            operator,
+            modifier: modifier_start,
+            right: right_start,
+            end: tokens.index(),
+        };
+        left = build_binary(alloc, op, left, modifier, right, extent)?;
+        operator = extent.end;
     }
     Ok(left)
 }
@@ -73,19 +86,22 @@ fn parse_unary(
     ensures gives { (k : ℕ) → length (symbols_left tokens.old) ≤ k → MatchResult result
         (λ parsed. ParsesExpr parsed (symbols_left tokens.new)
         (parse_unary (parse_expression max_height) k (max_height + 1) (symbols_left tokens.old)))
-        (λ e. Fails e (parse_unary (parse_expression max_height) k (max_height + 1)
+        (λ e. Fails (e, symbols_left tokens.new) (parse_unary (parse_expression max_height) k (max_height + 1)
         (symbols_left tokens.old))) }
     ensures low { IfOk result (λ parsed. parsed.height ≤ max_height + 1) }
     ensures short { OnOk result
         (length (symbols_left tokens.new) ≤ length (symbols_left tokens.old)) }
     ensures memory { IsErrOf result ReadError.Memory → begins (symbols_left tokens.old) ≡ true }
 {
+    let start = tokens.index();
     if let Some(op) = eat_unary_operator(tokens) {
+        let operand_start = tokens.index();
         let operand = parse_expression(alloc, max_height, UNARY_PRECEDENCE, tokens)?;
-        return Ok(build_unary(alloc, op, operand)?);
+        let extent = Extent::sign(start, operand_start, tokens.index());
+        return Ok(build_unary(alloc, op, operand, extent)?);
     }
     let base = parse_postfix_base(alloc, max_height, tokens)?;
-    parse_postfixes(alloc, max_height + 1, base, tokens)
+    parse_postfixes(alloc, max_height + 1, base, start, tokens)
 }
 
 /// Parses an operand without unary operators, up to its postfixes.
@@ -100,26 +116,32 @@ fn parse_postfix_base(
     ensures gives { MatchResult result
         (λ parsed. ParsesBase parsed (symbols_left tokens.new)
         (λ k n. parse_unary (parse_expression max_height) k n (symbols_left tokens.old)))
-        (λ e. FailsBase e (λ k n. parse_unary (parse_expression max_height) k n
+        (λ e. FailsBase (e, symbols_left tokens.new) (λ k n. parse_unary (parse_expression max_height) k n
         (symbols_left tokens.old))) }
     ensures low { IfOk result (λ parsed. parsed.height ≤ max_height + 1) }
     ensures short { OnOk result
         (length (symbols_left tokens.new) ≤ length (symbols_left tokens.old)) }
     ensures memory { IsErrOf result ReadError.Memory → begins (symbols_left tokens.old) ≡ true }
 {
-    let Some((kind, text)) = tokens.next() else {
+    let Some((kind, text)) = tokens.peek() else {
         return Err(ReadError::Syntax);
     };
+    let start = tokens.index();
     if kind.may_be_called() {
-        return parse_call(alloc, max_height, kind, text, tokens);
+        tokens.bump();
+        return parse_call(alloc, max_height, kind, text, start, tokens);
     }
     match kind {
         TokenKind::LeftParen => {
+            tokens.bump();
             let inner = parse_expression(alloc, max_height, MIN_PRECEDENCE, tokens)?;
             tokens.expect(TokenKind::RightParen)?;
             Ok(build_paren(alloc, inner)?)
         }
-        TokenKind::Aggregator(op) => parse_aggregate(alloc, max_height, op, text, tokens),
+        TokenKind::Aggregator(op) => {
+            tokens.bump();
+            parse_aggregate(alloc, max_height, op, text, start, tokens)
+        }
         _ => parse_atom(alloc, kind, text, tokens),
     }
 }
@@ -157,11 +179,12 @@ fn parse_boxed_modifier(
     }
 }
 
-/// Parses the postfixes of a base. The whole is of height at most `max_height`.
+/// Parses the postfixes of a base, whose first token has the index `start`. The whole is of height at most `max_height`.
 fn parse_postfixes(
     alloc: Global,
     max_height: usize,
     base: ParsedExpr,
+    start: usize,
     tokens: &mut Tokens<'_>,
 ) -> Result<ParsedExpr, ReadError>
     requires max_height { max_height ≤ MAX_DEPTH + 1 }
@@ -175,7 +198,7 @@ fn parse_postfixes(
 {
     match tokens.peek() {
         Some((kind, _)) if starts_postfix(kind) => parse_some_postfixes(
-            alloc, max_height, base, tokens,
+            alloc, max_height, base, start, tokens,
         ),
         _ => Ok(base),
     }
@@ -187,6 +210,7 @@ fn parse_some_postfixes(
     alloc: Global,
     max_height: usize,
     base: ParsedExpr,
+    start: usize,
     tokens: &mut Tokens<'_>,
 ) -> Result<ParsedExpr, ReadError>
     requires max_height { max_height ≤ MAX_DEPTH + 1 }
@@ -199,28 +223,32 @@ fn parse_some_postfixes(
         (length (symbols_left tokens.new) ≤ length (symbols_left tokens.old)) }
 {
     let mut parsed = base;
+    let mut postfix_start = tokens.index();
     while let Some(postfix) = parse_postfix(tokens)? {
         if max_height < parsed.height + postfix.added_height {
             return Err(ReadError::TooDeep);
         }
-        parsed = build_postfix(alloc, parsed, postfix)?;
+        let extent = Extent::postfix(start, postfix_start, tokens.index());
+        parsed = build_postfix(alloc, parsed, postfix, extent)?;
+        postfix_start = extent.end;
     }
     Ok(parsed)
 }
 
-/// Parses all tokens as one expression of height at most `max_height`.
+/// Parses all tokens as one expression of height at most `max_height`. Where it fails with `Syntax`, those from the first
+/// that does not fit are left.
 pub fn parse_query(
     alloc: Global,
     max_height: usize,
-    tokens: Tokens<'_>,
+    tokens: &mut Tokens<'_>,
 ) -> Result<Result<Box<Expr>, Box<BuildError>>, ReadError>
     requires { max_height ≤ MAX_DEPTH }
-    ensures whole { ParsesQuery max_height (symbols_left tokens.entry) result }
-    ensures memory { IsErrOf result ReadError.Memory → begins (symbols_left tokens.entry) ≡ true }
+    ensures whole { ParsesQuery max_height (symbols_left tokens.old) (symbols_left tokens.new)
+        result }
+    ensures memory { IsErrOf result ReadError.Memory → begins (symbols_left tokens.old) ≡ true }
 {
-    let mut rest = tokens;
-    let parsed = parse_expression(alloc, max_height, MIN_PRECEDENCE, &mut rest)?;
-    if !rest.is_empty() {
+    let parsed = parse_expression(alloc, max_height, MIN_PRECEDENCE, tokens)?;
+    if !tokens.is_empty() {
         return Err(ReadError::Syntax);
     }
     let ParsedExpr { height: _, value } = parsed;

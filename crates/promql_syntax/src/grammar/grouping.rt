@@ -34,7 +34,7 @@ pub fn parse_grouping(alloc: Global, tokens: &mut Tokens<'_>) -> Parsed<Option<L
     ensures gives { MatchResult result
         (λ value. ParsesPart (option_map clause_of) clause_value value (symbols_left tokens.new)
         (parsing.parse_grouping (symbols_left tokens.old)))
-        (λ e. Fails e (parsing.parse_grouping (symbols_left tokens.old))) }
+        (λ e. Fails (e, symbols_left tokens.new) (parsing.parse_grouping (symbols_left tokens.old))) }
     ensures short { OnOk result
         (length (symbols_left tokens.new) ≤ length (symbols_left tokens.old)) }
 {

@@ -24,7 +24,7 @@ pub fn parse_labels(alloc: Global, tokens: &mut Tokens<'_>) -> Parsed<Labels>
     ensures gives { MatchResult result
         (λ value. ParsesPart labels_of label_values value (symbols_left tokens.new)
         (parsing.parse_labels (symbols_left tokens.old)))
-        (λ e. Fails e (parsing.parse_labels (symbols_left tokens.old))) }
+        (λ e. Fails (e, symbols_left tokens.new) (parsing.parse_labels (symbols_left tokens.old))) }
     ensures short { OnOk result
         (length (symbols_left tokens.new) < length (symbols_left tokens.old)) }
 {
@@ -37,7 +37,7 @@ pub fn parse_label_list(alloc: Global, tokens: &mut Tokens<'_>) -> Parsed<Labels
     ensures gives { MatchResult result
         (λ value. ParsesPart labels_of label_values value (symbols_left tokens.new)
         (parsing.parse_label_list (symbols_left tokens.old)))
-        (λ e. Fails e (parsing.parse_label_list (symbols_left tokens.old))) }
+        (λ e. Fails (e, symbols_left tokens.new) (parsing.parse_label_list (symbols_left tokens.old))) }
     ensures short { OnOk result
         (length (symbols_left tokens.new) < length (symbols_left tokens.old)) }
 {
@@ -47,18 +47,21 @@ pub fn parse_label_list(alloc: Global, tokens: &mut Tokens<'_>) -> Parsed<Labels
     if tokens.eat(TokenKind::RightParen) {
         return Ok(labels);
     }
+    let mut index = tokens.index();
     while let Some((kind, text)) = eat_label(tokens) {
-        labels = append_label(alloc, labels, kind, text)?;
+        labels = append_label(alloc, labels, kind, text, index)?;
         if parse_label_end(tokens)? {
             return Ok(labels);
         }
+        index = tokens.index();
     }
     Err(ReadError::Syntax)
 }
 
 /// Takes a label, if it is the first token: its kind and text.
 fn eat_label<'a>(tokens: &mut Tokens<'a>) -> Option<(TokenKind, &'a str)>
-    ensures { MatchOption result (HasNoLabel (symbols_left tokens.old))
+    ensures { MatchOption result
+        ((symbols_left tokens.new ≡ symbols_left tokens.old) × HasNoLabel (symbols_left tokens.old))
         (λ x. EatsLabel x.0 x.1.now (symbols_left tokens.old) (symbols_left tokens.new)) }
 {
     let (kind, text) = tokens.peek()?;
@@ -74,7 +77,7 @@ fn parse_label_end(tokens: &mut Tokens<'_>) -> Result<bool, ReadError>
     ensures gives { MatchResult result
         (λ ended. ParsesLabelEnd ended (symbols_left tokens.new)
         (parse_label_end (symbols_left tokens.old)))
-        (λ e. Fails e (parse_label_end (symbols_left tokens.old))) }
+        (λ e. Fails (e, symbols_left tokens.new) (parse_label_end (symbols_left tokens.old))) }
     ensures short { OnOk result
         (length (symbols_left tokens.new) < length (symbols_left tokens.old)) }
 {
@@ -94,6 +97,7 @@ fn append_label(
     labels: Result<Labels, BuildError>,
     kind: TokenKind,
     text: &str,
+    index: usize,
 ) -> Built<Labels>
     ensures { IfOk result (λ value. view_result labels_of value ≡ (view_result labels_of labels then
         λ ls. label_value kind text.now then λ l. Ok (ls ++ l ∷ []))) }
@@ -102,18 +106,18 @@ fn append_label(
         Ok(labels) => labels,
         Err(error) => return Ok(Err(error)),
     };
-    match label_value(alloc, kind, text)? {
+    match label_value(alloc, kind, text, index)? {
         Ok(label) => Ok(Ok(labels.append(label)?)),
         Err(error) => Ok(Err(error)),
     }
 }
 
-/// The label of a token.
-pub fn label_value(alloc: Global, kind: TokenKind, text: &str) -> Built<String>
+/// The label of the token with this index.
+pub fn label_value(alloc: Global, kind: TokenKind, text: &str, index: usize) -> Built<String>
     ensures { IfOk result (λ value. view_result string_bytes value ≡ label_value kind text.now) }
 {
     match kind {
-        TokenKind::String => string_value(alloc, text),
+        TokenKind::String => string_value(alloc, text, index),
         _ => Ok(Ok(String::from_str(alloc, text)?)),
     }
 }

@@ -54,7 +54,7 @@ pub fn parse_modifier(alloc: Global, tokens: &mut Tokens<'_>) -> Parsed<Option<B
     ensures gives { MatchResult result
         (λ value. ParsesPart (option_map matching_of) modifier_value value (symbols_left tokens.new)
         (parsing.parse_modifier (symbols_left tokens.old)))
-        (λ e. Fails e (parsing.parse_modifier (symbols_left tokens.old))) }
+        (λ e. Fails (e, symbols_left tokens.new) (parsing.parse_modifier (symbols_left tokens.old))) }
     ensures short { OnOk result
         (length (symbols_left tokens.new) ≤ length (symbols_left tokens.old)) }
 {
@@ -78,7 +78,7 @@ fn parse_matching(alloc: Global, tokens: &mut Tokens<'_>) -> Parsed<Matching>
     ensures gives { MatchResult result
         (λ value. ParsesPart matching_parts matching_value value (symbols_left tokens.new)
         (parsing.parse_matching (symbols_left tokens.old)))
-        (λ e. Fails e (parsing.parse_matching (symbols_left tokens.old))) }
+        (λ e. Fails (e, symbols_left tokens.new) (parsing.parse_matching (symbols_left tokens.old))) }
     ensures short { OnOk result
         (length (symbols_left tokens.new) ≤ length (symbols_left tokens.old)) }
 {
@@ -144,7 +144,7 @@ fn parse_group(alloc: Global, tokens: &mut Tokens<'_>) -> Parsed<VectorMatchCard
     ensures gives { MatchResult result
         (λ value. ParsesPart cardinality_of group_value value (symbols_left tokens.new)
         (parsing.parse_group (symbols_left tokens.old)))
-        (λ e. Fails e (parsing.parse_group (symbols_left tokens.old))) }
+        (λ e. Fails (e, symbols_left tokens.new) (parsing.parse_group (symbols_left tokens.old))) }
     ensures short { OnOk result
         (length (symbols_left tokens.new) ≤ length (symbols_left tokens.old)) }
 {
@@ -189,7 +189,7 @@ fn parse_group_labels(alloc: Global, tokens: &mut Tokens<'_>) -> Parsed<Labels>
     ensures gives { MatchResult result
         (λ value. ParsesPart labels_of list_value value (symbols_left tokens.new)
         (list_in (symbols_left tokens.old)))
-        (λ e. Fails e (list_in (symbols_left tokens.old))) }
+        (λ e. Fails (e, symbols_left tokens.new) (list_in (symbols_left tokens.old))) }
     ensures short { OnOk result
         (length (symbols_left tokens.new) ≤ length (symbols_left tokens.old)) }
 {
@@ -206,7 +206,7 @@ fn parse_fills(tokens: &mut Tokens<'_>) -> Parsed<VectorMatchFillValues>
     ensures gives { MatchResult result
         (λ value. ParsesPart fills_of fills_value value (symbols_left tokens.new)
         (parsing.parse_fills (symbols_left tokens.old)))
-        (λ e. Fails e (parsing.parse_fills (symbols_left tokens.old))) }
+        (λ e. Fails (e, symbols_left tokens.new) (parsing.parse_fills (symbols_left tokens.old))) }
     ensures short { OnOk result
         (length (symbols_left tokens.new) ≤ length (symbols_left tokens.old)) }
 {
@@ -242,7 +242,7 @@ fn parse_fill_right(
         → view_result (λ (n : numbers.Number). n) left ≡ fill_value v → MatchResult result
         (λ value. ParsesPart fills_of fills_value value (symbols_left tokens.new)
         (parsing.parse_fill_right t v (symbols_left tokens.old)))
-        (λ e. Fails e (parsing.parse_fill_right t v (symbols_left tokens.old))) }
+        (λ e. Fails (e, symbols_left tokens.new) (parsing.parse_fill_right t v (symbols_left tokens.old))) }
     ensures short { OnOk result
         (length (symbols_left tokens.new) ≤ length (symbols_left tokens.old)) }
 {
@@ -262,7 +262,7 @@ fn parse_fill_left(
         → view_result (λ (n : numbers.Number). n) right ≡ fill_value v → MatchResult result
         (λ value. ParsesPart fills_of fills_value value (symbols_left tokens.new)
         (parsing.parse_fill_left t v (symbols_left tokens.old)))
-        (λ e. Fails e (parsing.parse_fill_left t v (symbols_left tokens.old))) }
+        (λ e. Fails (e, symbols_left tokens.new) (parsing.parse_fill_left t v (symbols_left tokens.old))) }
     ensures short { OnOk result
         (length (symbols_left tokens.new) ≤ length (symbols_left tokens.old)) }
 {
@@ -278,7 +278,7 @@ fn parse_fill_value(tokens: &mut Tokens<'_>) -> Parsed<Number>
     ensures gives { MatchResult result
         (λ value. ParsesPart (λ (n : numbers.Number). n) fill_value value (symbols_left tokens.new)
         (parsing.parse_fill_value (symbols_left tokens.old)))
-        (λ e. Fails e (parsing.parse_fill_value (symbols_left tokens.old))) }
+        (λ e. Fails (e, symbols_left tokens.new) (parsing.parse_fill_value (symbols_left tokens.old))) }
     ensures short { OnOk result
         (length (symbols_left tokens.new) < length (symbols_left tokens.old)) }
 {

@@ -17,7 +17,8 @@ ghost use Rattle.promql_syntax.specs.ParsesExpr.{Fails};
 ghost use Rattle.promql_syntax.specs.PartBuilding.{at_fault, time_value};
 ghost use Rattle.promql_syntax.specs.Postfixes.{ParsesPostfix, ParsesOptionalPostfix, starts_postfix, by_shift, change_of, parse_range, subquery_change, to_moment, to_range};
 
-use crate::grammar::build_error::BuildError;
+use crate::grammar::build_error::{BuildError, BuildFault};
+use crate::grammar::place::Place;
 use crate::grammar::time::{parse_offset, parse_signed_number, parse_time};
 use crate::tokens::Tokens;
 use promql_ast::{AtModifier, Offset, RangeMode};
@@ -69,7 +70,7 @@ pub fn parse_postfix(tokens: &mut Tokens<'_>) -> Result<Option<ParsedPostfix>, R
     ensures gives { MatchResult result
         (λ found. ParsesOptionalPostfix found (symbols_left tokens.new)
         (parsing.parse_postfix (symbols_left tokens.old)))
-        (λ e. Fails e (parsing.parse_postfix (symbols_left tokens.old))) }
+        (λ e. Fails (e, symbols_left tokens.new) (parsing.parse_postfix (symbols_left tokens.old))) }
     ensures short { OnOk result
         (length (symbols_left tokens.new) ≤ length (symbols_left tokens.old)) }
     ensures taken { IfOk result (λ found. IfSome found (λ _.
@@ -110,17 +111,23 @@ fn parse_range(tokens: &mut Tokens<'_>) -> Result<ParsedPostfix, ReadError>
     ensures gives { MatchResult result
         (λ held. ParsesPostfix held (symbols_left tokens.new)
         (parse_range (symbols_left tokens.old)))
-        (λ e. Fails e (parse_range (symbols_left tokens.old))) }
+        (λ e. Fails (e, symbols_left tokens.new) (parse_range (symbols_left tokens.old))) }
     ensures short { OnOk result
         (length (symbols_left tokens.new) < length (symbols_left tokens.old)) }
 {
     let range = parse_time(tokens)?;
-    let Some((kind, _)) = tokens.next() else {
+    let Some((kind, _)) = tokens.peek() else {
         return Err(ReadError::Syntax);
     };
     match kind {
-        TokenKind::RightBracket => Ok(same_height(build_range(range))),
-        TokenKind::Colon => parse_step(tokens, range),
+        TokenKind::RightBracket => {
+            tokens.bump();
+            Ok(same_height(build_range(range)))
+        }
+        TokenKind::Colon => {
+            tokens.bump();
+            parse_step(tokens, range)
+        }
         _ => Err(ReadError::Syntax),
     }
 }
@@ -133,7 +140,7 @@ fn parse_step(
     ensures gives { (t : part.Time) → view_result as_nanos range ≡ time_value t → MatchResult result
         (λ held. ParsesPostfix held (symbols_left tokens.new)
         (parsing.parse_step t (symbols_left tokens.old)))
-        (λ e. Fails e (parsing.parse_step t (symbols_left tokens.old))) }
+        (λ e. Fails (e, symbols_left tokens.new) (parsing.parse_step t (symbols_left tokens.old))) }
     ensures short { OnOk result
         (length (symbols_left tokens.new) < length (symbols_left tokens.old)) }
 {
@@ -151,7 +158,7 @@ fn parse_at_modifier(tokens: &mut Tokens<'_>) -> Result<ParsedPostfix, ReadError
     ensures gives { MatchResult result
         (λ held. ParsesPostfix held (symbols_left tokens.new)
         (parsing.parse_at_modifier (symbols_left tokens.old)))
-        (λ e. Fails e (parsing.parse_at_modifier (symbols_left tokens.old))) }
+        (λ e. Fails (e, symbols_left tokens.new) (parsing.parse_at_modifier (symbols_left tokens.old))) }
     ensures short { OnOk result
         (length (symbols_left tokens.new) < length (symbols_left tokens.old)) }
 {
@@ -168,8 +175,10 @@ fn parse_at_modifier(tokens: &mut Tokens<'_>) -> Result<ParsedPostfix, ReadError
             parse_at_bound(tokens, AtModifier::End)
         }
         _ => {
+            let start = tokens.index();
             let seconds = parse_signed_number(tokens)?;
-            Ok(same_height(build_at_modifier(seconds)))
+            let place = Place::tokens(start, tokens.index());
+            Ok(same_height(build_at_modifier(seconds, place)))
         }
     }
 }
@@ -180,7 +189,7 @@ fn parse_at_bound(tokens: &mut Tokens<'_>, at: AtModifier) -> Result<ParsedPostf
         → MatchResult result
         (λ held. ParsesPostfix held (symbols_left tokens.new)
         (parsing.parse_at_bound k t (symbols_left tokens.old)))
-        (λ e. Fails e (parsing.parse_at_bound k t (symbols_left tokens.old))) }
+        (λ e. Fails (e, symbols_left tokens.new) (parsing.parse_at_bound k t (symbols_left tokens.old))) }
     ensures short { OnOk result
         (length (symbols_left tokens.new) < length (symbols_left tokens.old)) }
 {
@@ -214,14 +223,20 @@ fn build_offset(offset: Result<Offset, BuildError>) -> Result<Postfix, BuildErro
     offset.map(Postfix::Offset)
 }
 
-/// The moment of a number of seconds.
-fn build_at_modifier(seconds: Result<Number, BuildError>) -> Result<Postfix, BuildError>
+/// The moment of a number of seconds, whose tokens are at this place.
+fn build_at_modifier(
+    seconds: Result<Number, BuildError>,
+    place: Place,
+) -> Result<Postfix, BuildError>
     ensures { view_result change_of result ≡ (view_result (λ (n : numbers.Number). n) seconds then
         λ n. at_fault (at_of_number n) then λ m. Ok (to_moment m)) }
 {
     match AtModifier::try_from(seconds?) {
         Ok(at) => Ok(Postfix::At(at)),
-        Err(error) => Err(BuildError::At(error)),
+        Err(fault) => Err(BuildError {
+            fault: BuildFault::At(fault),
+            place,
+        }),
     }
 }
 

@@ -13,9 +13,10 @@ ghost use Rattle.promql_syntax.specs.MatcherItems.{AddsItem, ParsesItemEnd, Pars
 ghost use Rattle.promql_syntax.specs.ParsesExpr.{Fails};
 ghost use Rattle.promql_syntax.specs.PartBuilding.{braces_value, item_value, operator_value};
 
-use crate::grammar::build_error::BuildError;
+use crate::grammar::build_error::{BuildError, BuildFault};
 use crate::grammar::labels::label_value;
 use crate::grammar::parsed::{Built, Parsed};
+use crate::grammar::place::Place;
 use crate::grammar::string::string_value;
 use crate::tokens::Tokens;
 use promql_grammar::{ReadError, TokenKind};
@@ -32,12 +33,15 @@ enum MatchOperator {
     NotEqualRegex,
 }
 
-/// A matcher's tokens: its name, and its operator and value, or none for a lone string.
+/// A matcher's tokens: its name, and its operator and value, or none for a lone string; and where the name and the
+/// value begin.
 #[derive(Clone, Copy)]
 struct Item<'a> {
     kind: TokenKind,
     name: &'a str,
     value: Option<(MatchOperator, &'a str)>,
+    name_index: usize,
+    value_index: usize,
 }
 
 /// Parses matchers after an opening brace, and the closing one.
@@ -45,7 +49,7 @@ pub fn parse_braces(alloc: Global, tokens: &mut Tokens<'_>) -> Parsed<Matchers>
     ensures gives { MatchResult result
         (λ value. ParsesAskedPart plain_matchers_of braces_value value (symbols_left tokens.new)
         (parsing.parse_braces (symbols_left tokens.old)))
-        (λ e. Fails e (parsing.parse_braces (symbols_left tokens.old))) }
+        (λ e. Fails (e, symbols_left tokens.new) (parsing.parse_braces (symbols_left tokens.old))) }
     ensures short { OnOk result
         (length (symbols_left tokens.new) < length (symbols_left tokens.old)) }
 {
@@ -69,58 +73,70 @@ fn parse_item<'a>(tokens: &mut Tokens<'a>) -> Result<Item<'a>, ReadError>
     ensures gives { MatchResult result
         (λ item. ParsesItem item (symbols_left tokens.new) (parsing.parse_item
         (symbols_left tokens.old)))
-        (λ e. Fails e (parsing.parse_item (symbols_left tokens.old))) }
+        (λ e. Fails (e, symbols_left tokens.new) (parsing.parse_item (symbols_left tokens.old))) }
     ensures short { OnOk result
         (length (symbols_left tokens.new) < length (symbols_left tokens.old)) }
 {
-    let Some((kind, name)) = tokens.next() else {
+    let Some((kind, name)) = tokens.peek() else {
         return Err(ReadError::Syntax);
     };
+    let start = tokens.index();
     match kind {
         TokenKind::Identifier => {
+            tokens.bump();
             let Some(operator) = eat_match_operator(tokens) else {
                 return Err(ReadError::Syntax);
             };
-            parse_matcher_value(tokens, kind, name, operator)
+            parse_matcher_value(tokens, kind, name, start, operator)
         }
         TokenKind::String => {
+            tokens.bump();
             let Some(operator) = eat_match_operator(tokens) else {
                 return Ok(Item {
                     kind,
                     name,
                     value: None,
+                    name_index: start,
+                    value_index: start,
                 });
             };
-            parse_matcher_value(tokens, kind, name, operator)
+            parse_matcher_value(tokens, kind, name, start, operator)
         }
         _ => Err(ReadError::Syntax),
     }
 }
 
-/// Parses the value after a matcher's name and operator.
+/// Parses the value after a matcher's name, whose index is `name_index`, and its operator.
 fn parse_matcher_value<'a>(
     tokens: &mut Tokens<'a>,
     kind: TokenKind,
     name: &'a str,
+    name_index: usize,
     operator: MatchOperator,
 ) -> Result<Item<'a>, ReadError>
     ensures gives { (s : part.MatchOperator) → operator ≡ operator_of_part s → MatchResult result
         (λ item. ParsesItem item (symbols_left tokens.new)
         (parsing.parse_matcher_value kind name.entry.now s (symbols_left tokens.old)))
-        (λ e. Fails e (parsing.parse_matcher_value kind name.entry.now s
+        (λ e. Fails (e, symbols_left tokens.new) (parsing.parse_matcher_value kind name.entry.now s
         (symbols_left tokens.old))) }
     ensures short { OnOk result
         (length (symbols_left tokens.new) < length (symbols_left tokens.old)) }
 {
-    let Some((value_kind, value)) = tokens.next() else {
+    let Some((value_kind, value)) = tokens.peek() else {
         return Err(ReadError::Syntax);
     };
     match value_kind {
-        TokenKind::String => Ok(Item {
-            kind,
-            name,
-            value: Some((operator, value)),
-        }),
+        TokenKind::String => {
+            let value_index = tokens.index();
+            tokens.bump();
+            Ok(Item {
+                kind,
+                name,
+                value: Some((operator, value)),
+                name_index,
+                value_index,
+            })
+        }
         _ => Err(ReadError::Syntax),
     }
 }
@@ -160,23 +176,30 @@ fn parse_item_end(tokens: &mut Tokens<'_>) -> Result<Option<bool>, ReadError>
     ensures gives { MatchResult result
         (λ next. ParsesItemEnd next (symbols_left tokens.new) (parse_item_end
         (symbols_left tokens.old)))
-        (λ e. Fails e (parse_item_end (symbols_left tokens.old))) }
+        (λ e. Fails (e, symbols_left tokens.new) (parse_item_end (symbols_left tokens.old))) }
     ensures short { OnOk result
         (length (symbols_left tokens.new) < length (symbols_left tokens.old)) }
 {
-    let Some((kind, _)) = tokens.next() else {
+    let Some((kind, _)) = tokens.peek() else {
         return Err(ReadError::Syntax);
     };
     match kind {
-        TokenKind::RightBrace => Ok(None),
+        TokenKind::RightBrace => {
+            tokens.bump();
+            Ok(None)
+        }
         TokenKind::Comma => {
+            tokens.bump();
             if tokens.eat(TokenKind::RightBrace) {
                 Ok(None)
             } else {
                 Ok(Some(false))
             }
         }
-        TokenKind::Operator(T_LOR) => Ok(Some(true)),
+        TokenKind::Operator(T_LOR) => {
+            tokens.bump();
+            Ok(Some(true))
+        }
         _ => Err(ReadError::Syntax),
     }
 }
@@ -212,51 +235,59 @@ fn build_matcher(alloc: Global, item: Item<'_>) -> Built<Matcher>
     ensures { IfOk result (λ value. (i : part.Item) → parts_of item.entry ≡ item_parts i
         → IsBuiltBy plain_matcher_of value (item_value i)) }
 {
-    let name = match label_value(alloc, item.kind, item.name)? {
+    let name = match label_value(alloc, item.kind, item.name, item.name_index)? {
         Ok(name) => name,
         Err(error) => return Ok(Err(error)),
     };
     let Some((operator, value)) = item.value else {
         return Ok(Ok(Matcher::new_metric_name_matcher(alloc, name)?));
     };
-    let value = match string_value(alloc, value)? {
+    let value = match string_value(alloc, value, item.value_index)? {
         Ok(value) => value,
         Err(error) => return Ok(Err(error)),
     };
-    match build_match_op(alloc, operator, &value)? {
+    match build_match_op(alloc, operator, &value, item.value_index)? {
         Ok(op) => Ok(Ok(Matcher { op, name, value })),
         Err(error) => Ok(Err(error)),
     }
 }
 
-/// How a matcher compares, with the pattern that its value is.
-fn build_match_op(alloc: Global, operator: MatchOperator, value: &str) -> Built<MatchOp>
+/// How a matcher compares, with the pattern that its value is, the token with this index.
+fn build_match_op(
+    alloc: Global,
+    operator: MatchOperator,
+    value: &str,
+    index: usize,
+) -> Built<MatchOp>
     ensures { IfOk result (λ op. (s : part.MatchOperator) → operator ≡ operator_of_part s
         → IsBuiltBy operator_of op (operator_value s value.now)) }
 {
     match operator {
         MatchOperator::Equal => Ok(Ok(MatchOp::Equal)),
         MatchOperator::NotEqual => Ok(Ok(MatchOp::NotEqual)),
-        MatchOperator::EqualRegex => match build_pattern(alloc, value)? {
+        MatchOperator::EqualRegex => match build_pattern(alloc, value, index)? {
             Ok(pattern) => Ok(Ok(MatchOp::Re(pattern))),
             Err(error) => Ok(Err(error)),
         },
-        MatchOperator::NotEqualRegex => match build_pattern(alloc, value)? {
+        MatchOperator::NotEqualRegex => match build_pattern(alloc, value, index)? {
             Ok(pattern) => Ok(Ok(MatchOp::NotRe(pattern))),
             Err(error) => Ok(Err(error)),
         },
     }
 }
 
-/// The pattern of a matcher's value.
-fn build_pattern(alloc: Global, value: &str) -> Built<Pattern>
+/// The pattern of a matcher's value, the token with this index.
+fn build_pattern(alloc: Global, value: &str, index: usize) -> Built<Pattern>
     ensures { IfOk result (λ pattern. MatchResult pattern
         (λ p. Allows value.now (built p))
         (λ e. (build_error_of e ≡ spec.pattern value.now) × Allows value.now rejected)) }
 {
     match Pattern::read(alloc, value) {
         Ok(pattern) => Ok(Ok(pattern)),
-        Err(PatternFault::Refused(value)) => Ok(Err(BuildError::Pattern(value))),
+        Err(PatternFault::Refused(value)) => Ok(Err(BuildError {
+            fault: BuildFault::Pattern(value),
+            place: Place::token(index),
+        })),
         Err(PatternFault::Memory) => Err(AllocError),
     }
 }

@@ -13,8 +13,9 @@ ghost use Rattle.promql_syntax.specs.ParsesExpr.{Fails};
 ghost use Rattle.promql_syntax.specs.PartBuilding.{duration_value, number_value, shift_value, signed_number, time_value};
 ghost use Rattle.promql_syntax.specs.PartTokens.{ParsesSign, minus_sign, parse_offset, parse_signed_number};
 
-use crate::grammar::build_error::BuildError;
+use crate::grammar::build_error::{BuildError, BuildFault};
 use crate::grammar::parsed::Parsed;
+use crate::grammar::place::Place;
 use crate::tokens::Tokens;
 use promql_ast::Offset;
 use promql_grammar::{ReadError, TokenKind};
@@ -55,15 +56,19 @@ pub fn parse_number(tokens: &mut Tokens<'_>) -> Parsed<Number>
         (λ value. ParsesPart (λ (n : numbers.Number). n) number_value value
         (symbols_left tokens.new)
         (parsing.parse_number (symbols_left tokens.old)))
-        (λ e. Fails e (parsing.parse_number (symbols_left tokens.old))) }
+        (λ e. Fails (e, symbols_left tokens.new) (parsing.parse_number (symbols_left tokens.old))) }
     ensures short { OnOk result
         (length (symbols_left tokens.new) < length (symbols_left tokens.old)) }
 {
-    let Some((kind, text)) = tokens.next() else {
+    let Some((kind, text)) = tokens.peek() else {
         return Err(ReadError::Syntax);
     };
     match kind {
-        TokenKind::Number => Ok(number_value(text)),
+        TokenKind::Number => {
+            let index = tokens.index();
+            tokens.bump();
+            Ok(number_value(text, index))
+        }
         _ => Err(ReadError::Syntax),
     }
 }
@@ -73,7 +78,7 @@ pub fn parse_signed_number(tokens: &mut Tokens<'_>) -> Parsed<Number>
     ensures gives { MatchResult result
         (λ value. ParsesPart (λ (n : numbers.Number). n) (λ p. signed_number p.0 p.1) value
         (symbols_left tokens.new) (parse_signed_number (symbols_left tokens.old)))
-        (λ e. Fails e (parse_signed_number (symbols_left tokens.old))) }
+        (λ e. Fails (e, symbols_left tokens.new) (parse_signed_number (symbols_left tokens.old))) }
     ensures short { OnOk result
         (length (symbols_left tokens.new) < length (symbols_left tokens.old)) }
 {
@@ -87,16 +92,24 @@ pub fn parse_time(tokens: &mut Tokens<'_>) -> Parsed<Duration>
     ensures gives { MatchResult result
         (λ value. ParsesPart as_nanos time_value value (symbols_left tokens.new)
         (parsing.parse_time (symbols_left tokens.old)))
-        (λ e. Fails e (parsing.parse_time (symbols_left tokens.old))) }
+        (λ e. Fails (e, symbols_left tokens.new) (parsing.parse_time (symbols_left tokens.old))) }
     ensures short { OnOk result
         (length (symbols_left tokens.new) < length (symbols_left tokens.old)) }
 {
-    let Some((kind, text)) = tokens.next() else {
+    let Some((kind, text)) = tokens.peek() else {
         return Err(ReadError::Syntax);
     };
     match kind {
-        TokenKind::Number => Ok(duration_value(text)),
-        TokenKind::Duration => Ok(duration_value(text)),
+        TokenKind::Number => {
+            let index = tokens.index();
+            tokens.bump();
+            Ok(duration_value(text, index))
+        }
+        TokenKind::Duration => {
+            let index = tokens.index();
+            tokens.bump();
+            Ok(duration_value(text, index))
+        }
         _ => Err(ReadError::Syntax),
     }
 }
@@ -106,7 +119,7 @@ pub fn parse_offset(tokens: &mut Tokens<'_>) -> Parsed<Offset>
     ensures gives { MatchResult result
         (λ value. ParsesPart shift_of (λ p. shift_value p.0 p.1) value (symbols_left tokens.new)
         (parse_offset (symbols_left tokens.old)))
-        (λ e. Fails e (parse_offset (symbols_left tokens.old))) }
+        (λ e. Fails (e, symbols_left tokens.new) (parse_offset (symbols_left tokens.old))) }
     ensures short { OnOk result
         (length (symbols_left tokens.new) < length (symbols_left tokens.old)) }
 {
@@ -115,18 +128,30 @@ pub fn parse_offset(tokens: &mut Tokens<'_>) -> Parsed<Offset>
     Ok(signed_offset(is_minus, duration))
 }
 
-/// The value of a number's text.
-pub fn number_value(text: &str) -> Result<Number, BuildError>
+/// The value of a number's text, the token with this index.
+pub fn number_value(text: &str, index: usize) -> Result<Number, BuildError>
     ensures { view_result (λ (n : numbers.Number). n) result ≡ number_value text.now }
 {
-    parse_str_radix(text).map_err(BuildError::Number)
+    match parse_str_radix(text) {
+        Ok(number) => Ok(number),
+        Err(fault) => Err(BuildError {
+            fault: BuildFault::Number(fault),
+            place: Place::token(index),
+        }),
+    }
 }
 
-/// The value of a duration's text.
-pub fn duration_value(text: &str) -> Result<Duration, BuildError>
+/// The value of a duration's text, the token with this index.
+pub fn duration_value(text: &str, index: usize) -> Result<Duration, BuildError>
     ensures { view_result as_nanos result ≡ duration_value text.now }
 {
-    parse_duration(text).map_err(BuildError::Duration)
+    match parse_duration(text) {
+        Ok(duration) => Ok(duration),
+        Err(fault) => Err(BuildError {
+            fault: BuildFault::Duration(fault),
+            place: Place::token(index),
+        }),
+    }
 }
 
 /// The number with its sign.

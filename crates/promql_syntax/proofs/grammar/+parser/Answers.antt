@@ -3,6 +3,7 @@ use Rattle.std.proofs.lemmas.Result.{err_from_is_err_and}
 use Rattle.promql_grammar.specs.declared.token_kinds.TokenKind.TheVariants as kind
 use Rattle.promql_grammar.specs.Parsing.{parse_expression, parse_unary, parse_call, parse_aggregate, parse_selector}
 use Rattle.promql_syntax.specs.SymbolsLeft.{symbols_left}
+use Rattle.promql_syntax.proofs.ModifierReading.{at_word}
 use Rattle.promql_syntax.proofs.FirstTokens.{called_first, called_none, leaf_first, base_begins, given_begins}
 use Rattle.promql_syntax.proofs.Bases.{bases_same, postfixed_given, sign_fails, sign_given, paren_open, call_fails, call_base, aggregated_none, after_fails, after_clause_fails, after_base, before_fails, before_open, before_arguments_fail, before_base}
 use Rattle.promql_syntax.proofs.Climbing.{expression_zero, expression_fails, climbing_first, climbing_stops, climbing_deep, climbing_unmodified, climbing_fails, climbing_on}
@@ -95,18 +96,19 @@ expression::parse_unary-returns-clause-memory t c = λ is. base_begins (parse_ex
 pub expression::parse_postfix_base-returns-then-may_be_called-clause-gives : goal.expression::parse_postfix_base-returns-then-may_be_called-clause-gives
 expression::parse_postfix_base-returns-then-may_be_called-clause-gives t c =
     bases_same _ _ _ (λ k n. parse_unary (parse_expression c.args.max_height) k n (symbols_left c.args.tokens.now))
-    (λ k n. ap (parse_unary (parse_expression c.args.max_height) k n) c.in-Some.ensures ∙ called_first (parse_expression c.args.max_height) k n c.in-Some.kind c.in-Some.text.now _ (sym c.if-may_be_called.ensures)) c.parse_call.ensures.gives
+    (λ k n. ap (parse_unary (parse_expression c.args.max_height) k n) c.in-Some.ensures ∙ called_first (parse_expression c.args.max_height) k n c.in-Some.kind c.in-Some.text.now _ (sym c.if-may_be_called.ensures) ∙ ap (parse_call (parse_expression c.args.max_height) k n c.in-Some.kind c.in-Some.text.now) (sym c.bump.ensures)) c.parse_call.ensures.gives
 
 pub expression::parse_postfix_base-returns-in_err-expect-in-LeftParen-clause-gives : goal.expression::parse_postfix_base-returns-in_err-expect-in-LeftParen-clause-gives
 expression::parse_postfix_base-returns-in_err-expect-in-LeftParen-clause-gives t c =
     let same = err_from_is_err_and c.from_residual-in_err-expect-in-LeftParen.result c.from_residual-in_err-expect-in-LeftParen.ensures.1 in
     let fails = c.in_err-expect-in-LeftParen.ensures.fails in
-    rw (same.1, same.2, fails.0) (paren_open (parse_expression c.args.max_height) c.in-Some.text.now _ _ (rw c.in-LeftParen.is at c.in-Some.ensures) c.in_ok-inner-in-LeftParen.inner _ c.in_ok-inner-in-LeftParen.ensures.gives fails.1)
+    let stays = c.in_err-expect-in-LeftParen.ensures.stays in
+    rw (same.1, same.2, fails.0, stays) (paren_open (parse_expression c.args.max_height) c.in-Some.text.now _ _ (at_word _ _ c.in-Some.kind kind.LeftParen c.in-Some.text.now c.in-Some.ensures c.in-LeftParen.is c.bump-in-LeftParen.ensures) c.in_ok-inner-in-LeftParen.inner _ c.in_ok-inner-in-LeftParen.ensures.gives fails.1)
 
 pub expression::parse_postfix_base-returns-in-Aggregator-clause-gives : goal.expression::parse_postfix_base-returns-in-Aggregator-clause-gives
 expression::parse_postfix_base-returns-in-Aggregator-clause-gives t c =
     bases_same _ _ _ (λ k n. parse_unary (parse_expression c.args.max_height) k n (symbols_left c.args.tokens.now))
-    (λ k n. ap (parse_unary (parse_expression c.args.max_height) k n) (rw c.in-Aggregator.is at c.in-Some.ensures)) c.parse_aggregate.ensures.gives
+    (λ k n. ap (parse_unary (parse_expression c.args.max_height) k n) (at_word _ _ c.in-Some.kind (kind.Aggregator c.in-Aggregator.op) c.in-Some.text.now c.in-Some.ensures c.in-Aggregator.is c.bump-in-Aggregator.ensures)) c.parse_aggregate.ensures.gives
 
 pub expression::parse_postfix_base-returns-in_default-kind-clause-gives : goal.expression::parse_postfix_base-returns-in_default-kind-clause-gives
 expression::parse_postfix_base-returns-in_default-kind-clause-gives t c =
@@ -164,7 +166,8 @@ pub call::parse_arguments-returns-in_err-expect-clause-gives : goal.call::parse_
 call::parse_arguments-returns-in_err-expect-clause-gives t c =
     let same = err_from_is_err_and c.from_residual-in_err-expect.result c.from_residual-in_err-expect.ensures.1 in
     let fails = c.in_err-expect.ensures.fails in
-    rw (same.1, same.2, fails.0) (collecting_none (parse_expression c.args.max_height) _ _ c.loop-alloc.args c.loop-alloc.invariant.goes c.loop-alloc-test.ensures.gives (rw (c.loop-alloc-test.ensures.stays refl) at fails.1))
+    let stays = c.in_err-expect.ensures.stays ∙ c.loop-alloc-test.ensures.stays refl in
+    rw (same.1, same.2, fails.0, stays) (collecting_none (parse_expression c.args.max_height) _ _ c.loop-alloc.args c.loop-alloc.invariant.goes c.loop-alloc-test.ensures.gives (rw (c.loop-alloc-test.ensures.stays refl) at fails.1))
 
 pub call::parse_arguments-returns-clause-gives : goal.call::parse_arguments-returns-clause-gives
 call::parse_arguments-returns-clause-gives t c =
@@ -203,7 +206,8 @@ aggregate::parse_aggregate-returns-in_err-expect-clause-gives t c =
     let same = err_from_is_err_and c.from_residual-in_err-expect.result c.from_residual-in_err-expect.ensures.1 in
     let fails = c.in_err-expect.ensures.fails in
     let stays = c.if-eat.ensures.stays refl in
-    rw (same.1, same.2, fails.0) (before_open (parse_expression c.args.max_height) c.args.op c.args.name.now _ _ (rw stays at c.if-not-starts_grouping.ensures) c.in_ok-grouping-2.grouping (rw stays at c.in_ok-grouping-2.ensures.gives) fails.1)
+    let left = c.in_err-expect.ensures.stays in
+    rw (same.1, same.2, fails.0, left) (before_open (parse_expression c.args.max_height) c.args.op c.args.name.now _ _ (rw stays at c.if-not-starts_grouping.ensures) c.in_ok-grouping-2.grouping (rw stays at c.in_ok-grouping-2.ensures.gives) fails.1)
 
 pub aggregate::parse_aggregate-returns-in_err-args-2-clause-gives : goal.aggregate::parse_aggregate-returns-in_err-args-2-clause-gives
 aggregate::parse_aggregate-returns-in_err-args-2-clause-gives t c =

@@ -1,7 +1,8 @@
+use Rattle.std.proofs.lemmas.Result.{err_from_is_err_and}
 use Rattle.std.proofs.Common.{ap, sym, subst, refl, arith, length, map, string_bytes, List, Ok}
 use Rattle.promql_text.specs.Texts.{Text}
 use Rattle.promql_syntax.specs.SymbolsLeft.{symbols_left}
-use Rattle.promql_syntax.proofs.LabelLists.{Naming, naming_starts, naming_none, naming_last, naming_more}
+use Rattle.promql_syntax.proofs.LabelLists.{Naming, naming_starts, naming_none, naming_last, naming_more, naming_fails}
 use Rattle.promql_syntax.proofs.grammar.labels.parse_label_list.Goals as goal
 
 pub loop-kind-init : goal.loop-kind-init
@@ -29,4 +30,9 @@ loop-kind-preserved c =
     }
 
 pub returns-clause-gives : goal.returns-clause-gives
-returns-clause-gives c = naming_none _ _ _ c.loop-kind.invariant.goes c.in_default.ensures
+returns-clause-gives c = rw c.in_default.ensures.0 (naming_none _ _ _ c.loop-kind.invariant.goes c.in_default.ensures.1)
+
+pub returns-in_err-parse_label_end-clause-gives : goal.returns-in_err-parse_label_end-clause-gives
+returns-in_err-parse_label_end-clause-gives c =
+    let same = err_from_is_err_and c.from_residual-in_err-parse_label_end.result c.from_residual-in_err-parse_label_end.ensures.1 in
+    rw (same.1, same.2) (naming_fails _ _ _ c.loop-kind.invariant.goes _ _ _ _ c.in-Some.ensures c.in_err-parse_label_end.ensures.gives)

@@ -1,0 +1,26 @@
+//! Laws of spans.
+
+ghost use Rattle.std.specs.Prelude.{◌≤◌, length};
+ghost use Rattle.promql_text.specs.Equalities.{ClonesKeep, HashesAlike, IsSameBy};
+ghost use Rattle.promql_text.specs.Texts.{Text};
+ghost use Rattle.promql_span.specs.PlacedTokens.{PiecesArePlaced, TokensArePlaced, placed_tokens};
+ghost use Rattle.promql_span.specs.declared.span.Span.{Span};
+
+use crate::span::Span;
+use std::hash::Hash;
+
+/// Spans are equal exactly if their starts and their ends are. A clone is the span, and equal spans
+/// are hashed alike.
+pub fn equal_spans()
+    ensures same { IsSameBy (λ (s : Span). s) ⟦<Span as PartialEq>⟧.eq }
+    ensures clones { ClonesKeep (λ (s : Span). s) ⟦<Span as Clone>⟧.is_clone }
+    ensures hashed { HashesAlike (λ (s : Span). s) ⟦<Span as Hash>⟧.hash_input }
+{}
+
+/// The tokens with their places are the tokens of the text, also where a lexical fault comes after
+/// them, and they are no more than its bytes.
+pub fn tokens_are_placed()
+    ensures whole { TokensArePlaced }
+    ensures pieces { PiecesArePlaced }
+    ensures few { (s : Text) → length (placed_tokens s) ≤ length s }
+{}

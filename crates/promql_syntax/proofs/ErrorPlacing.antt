@@ -1,0 +1,148 @@
+-- From what parsing finds to the place of an error.
+use Rattle.std.proofs.Common.{◌≡◌, ◌≢◌, ℕ, ◌<◌, ◌≤◌, ◌-◌, inl, inr, ◌⊎◌, ⊎_elim, List, [], ◌∷◌, length, map, drop, refl, sym, ap, ◌∙◌, subst, arith}
+use Rattle.std.specs.Prelude.{Result, Ok, Err, Some, not}
+use Rattle.std.proofs.lemmas.Bool.{cases_lt}
+use Rattle.std.proofs.lemmas.List.{drop-map, drop_all, length-map, length-append}
+use Rattle.std.proofs.Math.Seq.{drop-append_seam}
+use Rattle.promql_text.specs.Texts.{Text}
+use Rattle.promql_token.specs.declared.fault.LexFault.{LexFault}
+use Rattle.promql_token.specs.declared.fault.LexFaultKind.{LexFaultKind}
+use Rattle.promql_token.specs.declared.fault.LexFaultKind.TheVariants.{UnclosedParen}
+use Rattle.promql_token.specs.Lexing as lexing
+use Rattle.promql_token.specs.Lexing.{slice_texts}
+use Rattle.promql_grammar.specs.declared.read_error.ReadError.{ReadError}
+use Rattle.promql_grammar.specs.declared.read_error.ReadError.TheVariants as read_errors
+use Rattle.promql_grammar.specs.Misfits.{AreMisfits}
+use Rattle.promql_grammar.specs.Symbols.{Symbol, symbol_of}
+use Rattle.promql_span.specs.PlacedTokens.{TokensArePlaced, end_of, first_span, last_tokens, placed_tokens, symbols_at}
+use Rattle.promql_span.specs.TokenSpans.{IsAtTokens}
+use Rattle.promql_span.specs.declared.span.Span.{Span}
+use Rattle.promql_syntax.specs.declared.diagnosis.Finding.{Finding}
+use Rattle.promql_syntax.specs.declared.diagnosis.Finding.TheVariants.{Misfit, Fault}
+use Rattle.promql_syntax.specs.declared.grammar.build_error.BuildFault.{BuildFault}
+use Rattle.promql_syntax.specs.declared.grammar.build_error.BuildFault.TheVariants as faults
+use Rattle.promql_syntax.specs.declared.grammar.place.Place.{Place}
+use Rattle.promql_syntax.specs.declared.parser.ParseError.{ParseError}
+use Rattle.promql_syntax.specs.declared.parser.ParseError.TheVariants as errors
+use Rattle.promql_syntax.specs.ErrorPlaces.{IsAtFault, IsCharOrEnd, IsPlaceOf}
+use Rattle.promql_syntax.specs.Findings.{HasFault, IsFindingOf, IsFound, IsFoundAt, IsMisfit}
+use Rattle.promql_syntax.specs.ParseErrors.{error_of, error_of_fault, first_error}
+use Rattle.promql_syntax.specs.SourceTokens.{Token, tokens, has_any}
+use Rattle.promql_syntax.proofs.Listing.{some_zero, whole_list}
+
+-- ---- the tokens of a text with their places
+
+module _ (law : TokensArePlaced) (s : Text) (list : List Token) (is : tokens s ≡ Ok list) where
+  placed_symbols : symbols_at s (placed_tokens s) ≡ map symbol_of list
+  placed_symbols =
+      let whole = whole_list (lexing.tokens s) list is in
+      ap (map symbol_of) (sym (law s whole.0 whole.1) ∙ whole.2)
+
+  placed_length : length (placed_tokens s) ≡ length list
+  placed_length =
+      sym (length-map (slice_texts s (placed_tokens s)) symbol_of ∙ length-map (placed_tokens s) _) ∙ ap length placed_symbols ∙ length-map list symbol_of
+
+  pub placed_some : 0 < length list → 0 < length (placed_tokens s)
+  placed_some some = let same = placed_length in omega arith
+
+-- tokens that do not fit are the last ones
+dropped_rest : (ts rest : List Symbol) → AreMisfits ts rest → drop (length ts - length rest) ts ≡ rest
+dropped_rest ts rest misfits =
+    let lengths = ap length misfits.splits ∙ length-append misfits.front rest in
+    let front : length ts - length rest ≡ length misfits.front = omega arith in
+    ap (λ k. drop k ts) front ∙ ap (drop (length misfits.front)) misfits.splits ∙ drop-append_seam misfits.front rest
+
+dropped_symbols : (s : Text) (k : ℕ) → symbols_at s (drop k (placed_tokens s)) ≡ drop k (symbols_at s (placed_tokens s))
+dropped_symbols s k = sym (ap (map symbol_of) (drop-map _ k (placed_tokens s))) ∙ sym (drop-map symbol_of k (slice_texts s (placed_tokens s)))
+
+module _ (law : TokensArePlaced) (s : Text) (list : List Token) (is : tokens s ≡ Ok list) (rest : List Symbol) (misfits : AreMisfits (map symbol_of list) rest) where
+  left_symbols : symbols_at s (last_tokens (length rest) (placed_tokens s)) ≡ rest
+  left_symbols =
+      let many : length (placed_tokens s) ≡ length (map symbol_of list) = placed_length law s list is ∙ sym (length-map list symbol_of) in
+      ap (λ n. symbols_at s (drop (n - length rest) (placed_tokens s))) many
+      ∙ dropped_symbols s (length (map symbol_of list) - length rest)
+      ∙ ap (drop (length (map symbol_of list) - length rest)) (placed_symbols law s list is)
+      ∙ dropped_rest (map symbol_of list) rest misfits
+
+  -- no more are left than there are
+  pub rest_short : length rest ≤ length (placed_tokens s)
+  rest_short =
+      let lengths = ap length misfits.splits ∙ length-append misfits.front rest in
+      let many = placed_length law s list is ∙ sym (length-map list symbol_of) in
+      omega arith
+
+  pub misfit_found : (left : ℕ) → left ≡ length rest → IsMisfit s (Misfit left)
+  misfit_found left is_left =
+      let symbols = ap (λ n. symbols_at s (last_tokens n (placed_tokens s))) is_left ∙ left_symbols in
+      subst (λ ts. AreMisfits ts (symbols_at s (last_tokens left (placed_tokens s)))) (sym (placed_symbols law s list is)) (subst (AreMisfits (map symbol_of list)) (sym symbols) misfits)
+
+-- ---- what was found tells the place
+
+fault_found : (s : Text) (f : BuildFault) (place : Place) → 0 < length (placed_tokens s) → IsFound s (error_of_fault f) (Fault place)
+fault_found s (faults.Number f) place some = some
+fault_found s faults.Quoted place some = some
+fault_found s (faults.Duration f) place some = some
+fault_found s (faults.At f) place some = some
+fault_found s (faults.Pattern value) place some = some
+fault_found s (faults.UnknownFunction name) place some = some
+fault_found s (faults.Check f) place some = some
+
+pub building_found : TokensArePlaced → (s : Text) (f : BuildFault) (place : Place) → IsFound s (first_error (has_any (tokens s)) (error_of_fault f)) (Fault place)
+building_found law s f place = by_tokens (tokens s) refl
+  where
+    by_tokens : (r : Result (List Token) LexFault) → tokens s ≡ r → IsFound s (first_error (has_any r) (error_of_fault f)) (Fault place)
+    by_tokens (Ok []) is = tt
+    by_tokens (Ok (t ∷ ts)) is =
+        subst (λ b. IsFound s (first_error (Ok b) (error_of_fault f)) (Fault place)) (sym (ap not (some_zero (length ts))))
+        (fault_found s f place (placed_some law s (t ∷ ts) is (omega arith)))
+    by_tokens (Err e) is = tt
+
+error_found : (s : Text) (e : ReadError) (found : Finding) → IsFindingOf s e found → IsFound s (error_of e) found
+error_found s read_errors.Memory found finding = tt
+error_found s read_errors.Syntax found finding = finding
+error_found s read_errors.TooDeep found finding = finding
+
+pub reading_found : (s : Text) (e : ReadError) (found : Finding) → ((list : List Token) → tokens s ≡ Ok list → 0 < length list → IsFindingOf s e found)
+    → IsFound s (first_error (has_any (tokens s)) (error_of e)) found
+reading_found s e found finding = by_tokens (tokens s) refl
+  where
+    by_tokens : (r : Result (List Token) LexFault) → tokens s ≡ r → IsFound s (first_error (has_any r) (error_of e)) found
+    by_tokens (Ok []) is = tt
+    by_tokens (Ok (t ∷ ts)) is =
+        subst (λ b. IsFound s (first_error (Ok b) (error_of e)) found) (sym (ap not (some_zero (length ts)))) (error_found s e found (finding (t ∷ ts) is (omega arith)))
+    by_tokens (Err f) is = tt
+
+pub fault_place : (s : Text) (found : Finding) (span : Span) → HasFault s found → IsFoundAt s found span → IsAtTokens s span
+fault_place s (Misfit left) span has at = absurd has
+fault_place s (Fault place) span has at = at has
+
+pub found_place : (s : Text) (e : ParseError) (found : Finding) (span : Span) → e ≢ errors.Memory → ((f : LexFault) → e ≢ errors.Lex f) → e ≢ errors.Empty
+    → IsFound s e found → IsFoundAt s found span → IsPlaceOf s e (Some span)
+found_place s errors.Memory found span memory lexical empty is at = absurd (memory refl)
+found_place s (errors.Lex f) found span memory lexical empty is at = absurd (lexical f refl)
+found_place s errors.Empty found span memory lexical empty is at = absurd (empty refl)
+found_place s errors.Syntax (Misfit left) span memory lexical empty is at = record { left = left; misfits = is; is = at }
+found_place s errors.Syntax (Fault place) span memory lexical empty is at = absurd is
+found_place s errors.TooDeep found span memory lexical empty is at = fault_place s found span is at
+found_place s (errors.Number f) found span memory lexical empty is at = fault_place s found span is at
+found_place s errors.Quoted found span memory lexical empty is at = fault_place s found span is at
+found_place s (errors.Duration f) found span memory lexical empty is at = fault_place s found span is at
+found_place s (errors.At f) found span memory lexical empty is at = fault_place s found span is at
+found_place s (errors.Pattern value) found span memory lexical empty is at = fault_place s found span is at
+found_place s (errors.UnknownFunction name) found span memory lexical empty is at = fault_place s found span is at
+found_place s (errors.Check f) found span memory lexical empty is at = fault_place s found span is at
+
+-- ---- lexical faults
+
+pub char_fault : (s : Text) (at : ℕ) (kind : LexFaultKind) (span : Span) → kind ≢ UnclosedParen → IsCharOrEnd s at span → IsAtFault s at kind span
+char_fault s at UnclosedParen span other is = absurd (other refl)
+char_fault s at kind span other is = is
+
+-- the first of the last tokens, or the end
+pub token_or_end : (s : Text) (left : ℕ) (span : Span) → span ≡ first_span s (last_tokens left (placed_tokens s)) → (0 < left → 0 < length (placed_tokens s) → IsAtTokens s span)
+    → IsAtTokens s span ⊎ (span ≡ end_of s)
+token_or_end s left span is at =
+    ⊎_elim
+    (λ some. ⊎_elim (λ has. inl (at some has)) (λ none. inr (is ∙ ap (first_span s) (drop_all (length (placed_tokens s) - left) (placed_tokens s) (omega arith)))) (cases_lt 0 (length (placed_tokens s))))
+    (λ none. inr (is ∙ ap (first_span s) (drop_all (length (placed_tokens s) - left) (placed_tokens s) (omega arith))))
+    (cases_lt 0 left)

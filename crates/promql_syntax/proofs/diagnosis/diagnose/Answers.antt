@@ -1,0 +1,18 @@
+use Rattle.std.proofs.Common.{ap, ◌∙◌}
+use Rattle.std.specs.Prelude.{Err}
+use Rattle.promql_syntax.proofs.AnswerLemmas.{drawn_answer, build_error_answer, read_error_answer, rejection_answer}
+use Rattle.promql_syntax.proofs.diagnosis.diagnose.Goals as goal
+
+pub returns-in-Ok-Ok-clause-answer : goal.returns-in-Ok-Ok-clause-answer
+returns-in-Ok-Ok-clause-answer c =
+    rw (c.into_inner.ensures, c.in-Ok-Ok.expr-is) (drawn_answer c.checked_trees_are_typed.ensures c.args.text.now _ c.new-tokens.ensures.whole c.new-tokens.ensures.fault _ (rw c.in-Ok-Ok.field-0-is at rw c.in-Ok-Ok.is at c.parse_query.ensures.whole))
+
+pub returns-in-Ok-Err-clause-answer : goal.returns-in-Ok-Err-clause-answer
+returns-in-Ok-Err-clause-answer c =
+    rw (c.diagnose_building.ensures.error, c.in-Ok-Err.error-is) (rejection_answer c.args.text.now _ (λ list is some.
+    build_error_answer c.args.text.now list is some _ (c.new-tokens.ensures.whole list is) c.in-Ok-Err.error.value (rw c.in-Ok-Err.field-0-is at rw c.in-Ok-Err.is at c.parse_query.ensures.whole)))
+
+pub returns-in-Err-clause-answer : goal.returns-in-Err-clause-answer
+returns-in-Err-clause-answer c =
+    rw c.diagnose_reading.ensures.error (rejection_answer c.args.text.now _ (λ list is some.
+    read_error_answer c.args.text.now list is some _ (c.new-tokens.ensures.whole list is) _ c.in-Err.error (rw c.in-Err.is at c.parse_query.ensures.whole) (λ none. c.parse_query.ensures.memory (c.in-Err.is ∙ ap Err none))))

@@ -1,0 +1,214 @@
+//! The error of a text, with its place: docs/reference/grammar.md, "Places of errors".
+
+ghost use Rattle.std.specs.Prelude.{◌≡◌, ◌⊎◌, ◌<◌, List, [], Ok, IfErr, IfOk, MatchOption, chars, encode_utf8_all, length, map, string_bytes};
+ghost use Rattle.promql_grammar.specs.Misfits.{AreMisfits};
+ghost use Rattle.promql_grammar.specs.Symbols.{symbol_of};
+ghost use Rattle.promql_grammar.specs.declared.read_error.ReadError.TheVariants as read_errors;
+ghost use Rattle.promql_span.specs.PlacedTokens.{end_of};
+ghost use Rattle.promql_span.specs.Snippets.{snippet_text};
+ghost use Rattle.promql_span.specs.TokenSpans.{IsAtTokens};
+ghost use Rattle.promql_syntax.specs.ErrorPlaces.{IsAtFault, IsPlaceOf, diagnosed_answer};
+ghost use Rattle.promql_syntax.specs.Findings.{IsFindingOf, IsFound, IsFoundAt};
+ghost use Rattle.promql_syntax.specs.ParseAnswers.{IsAnswerTo};
+ghost use Rattle.promql_syntax.specs.ParseErrors.{error_of, error_of_build, first_error};
+ghost use Rattle.promql_syntax.specs.SourceTokens.{Token, has_any, tokens};
+ghost use Rattle.promql_syntax.specs.SymbolsLeft.{symbols_left};
+
+use crate::grammar::build_error::BuildError;
+use crate::grammar::expression::parse_query;
+use crate::grammar::place::{Place, TokenRange};
+use crate::parser::{MAX_DEPTH, ParseError, first_error};
+use crate::tokens::Tokens;
+use promql_ast::Expr;
+use promql_grammar::ReadError;
+use promql_span::{
+    PlacedTokens, Span, argument_span, char_span, end_of_text, snippet, span_between, token_left,
+};
+use promql_text::Location;
+use promql_token::{LexFault, LexFaultKind};
+use std::alloc::{AllocError, Global};
+use std::fmt;
+
+/// Why a text has no tree, and where.
+#[derive(PartialEq, Eq, Debug, Drop)]
+pub struct Diagnosis {
+    /// The error, as `parse` returns it.
+    pub error: ParseError,
+    /// The part of the text that it is about, empty at the end of the text; `None` where an allocation failed.
+    pub span: Option<Span>,
+}
+
+/// The tree of a text, or its error with the place (docs/reference/grammar.md, "Places of errors").
+///
+/// # Errors
+///
+/// Those of `parse`, when it has them. The text is lexed a few times more then, without an allocation.
+pub fn diagnose(alloc: Global, text: &str) -> Result<Expr, Diagnosis>
+    ensures answer { IsAnswerTo text.now (diagnosed_answer result) }
+    ensures place { IfErr result (λ d. IsPlaceOf text.now d.error d.span) }
+{
+    promql_ast::laws::checked_trees_are_typed();
+    let mut tokens = Tokens::new(text);
+    match parse_query(alloc, MAX_DEPTH, &mut tokens) {
+        Ok(Ok(expr)) => Ok(Box::into_inner(expr)),
+        Ok(Err(error)) => Err(diagnose_building(text, error)),
+        Err(error) => Err(diagnose_reading(text, error, tokens)),
+    }
+}
+
+/// What parsing found to be wrong.
+#[derive(Clone, Copy)]
+enum Finding {
+    /// So many tokens are left, of which the first does not fit; a lexical fault is counted as one.
+    Misfit(usize),
+    /// Tokens that are too high, or build nothing.
+    Fault(Place),
+}
+
+/// The error of tokens that are an expression, and build no tree.
+fn diagnose_building(text: &str, error: Box<BuildError>) -> Diagnosis
+    ensures error { result.error
+        ≡ first_error (has_any (tokens text.now)) (error_of_build error.value) }
+    ensures place { IsPlaceOf text.now result.error result.span }
+{
+    promql_span::laws::tokens_are_placed();
+    let BuildError { fault, place } = Box::into_inner(error);
+    let error = first_error(text, ParseError::from(fault));
+    let span = span_of(text, &error, Finding::Fault(place));
+    Diagnosis { error, span }
+}
+
+/// The error of tokens that are no expression, where these are left.
+fn diagnose_reading(text: &str, error: ReadError, left: Tokens<'_>) -> Diagnosis
+    requires { error ≡ read_errors.Syntax → (list : List Token) → tokens text.now ≡ Ok list
+        → AreMisfits (map symbol_of list) (symbols_left left) }
+    ensures error { result.error ≡ first_error (has_any (tokens text.now)) (error_of error) }
+    ensures place { IsPlaceOf text.now result.error result.span }
+{
+    let found = reading_finding(text, error, left);
+    let error = first_error(text, ParseError::from(error));
+    let span = span_of(text, &error, found);
+    Diagnosis { error, span }
+}
+
+/// What parsing found to be wrong, where these tokens are left.
+fn reading_finding(text: &str, error: ReadError, left: Tokens<'_>) -> Finding
+    requires { error ≡ read_errors.Syntax → (list : List Token) → tokens text.now ≡ Ok list
+        → AreMisfits (map symbol_of list) (symbols_left left) }
+    ensures { (list : List Token) → tokens text.now ≡ Ok list → 0 < length list
+        → IsFindingOf text.now error result }
+{
+    promql_span::laws::tokens_are_placed();
+    match error {
+        ReadError::Syntax => Finding::Misfit(left.count()),
+        ReadError::Memory | ReadError::TooDeep => {
+            Finding::Fault(Place::token(left.index().saturating_sub(1)))
+        }
+    }
+}
+
+/// The place of a text's error, where parsing found this.
+fn span_of(text: &str, error: &ParseError, found: Finding) -> Option<Span>
+    requires { IsFound text.now error.now found }
+    ensures { IsPlaceOf text.now error.now result }
+{
+    match error {
+        ParseError::Memory => None,
+        ParseError::Lex(fault) => Some(lexical_span(text, *fault, found)),
+        ParseError::Empty => Some(end_of_text(text)),
+        _ => Some(found_span(text, found)),
+    }
+}
+
+/// The place of a lexical fault: its character, or the end.
+fn lexical_span(text: &str, fault: LexFault, found: Finding) -> Span
+    ensures { IsAtFault text.now fault.at fault.kind result }
+{
+    match fault.kind {
+        LexFaultKind::UnclosedParen => unclosed_span(text, found),
+        _ => char_span(text, fault.at),
+    }
+}
+
+/// The place of a parenthesis that is not closed. The lexer finds it at the end of the text; it may be missing before
+/// the first token that does not fit.
+fn unclosed_span(text: &str, found: Finding) -> Span
+    ensures { IsAtTokens text.now result ⊎ (result ≡ end_of text.now) }
+{
+    match found {
+        Finding::Misfit(left) => token_left(text, left.saturating_sub(1)),
+        Finding::Fault(_) => end_of_text(text),
+    }
+}
+
+/// The tokens that parsing found to be wrong.
+fn found_span(text: &str, found: Finding) -> Span
+    ensures { IsFoundAt text.now found result }
+{
+    match found {
+        Finding::Misfit(left) => token_left(text, left),
+        Finding::Fault(Place::Tokens(range)) => span_between(text, part_of(text, range)),
+        Finding::Fault(Place::Argument(range, index)) => {
+            argument_span(text, part_of(text, range), index)
+        }
+    }
+}
+
+/// The part of the text that these tokens take, and what is between them and the next one.
+fn part_of(text: &str, range: TokenRange) -> Span {
+    Span {
+        start: token_start(text, range.start),
+        end: token_start(text, range.end),
+    }
+}
+
+/// Where the token with this index begins, or the end of the text.
+fn token_start(text: &str, index: usize) -> usize {
+    match PlacedTokens::new(text).nth(index) {
+        Some(token) => token.start,
+        None => text.len(),
+    }
+}
+
+impl Diagnosis {
+    /// The error with its line and column before it, as `3:14: invalid promql query`. `text` is the text that it is of.
+    pub fn display<'a>(&'a self, text: &'a str) -> DiagnosisDisplay<'a> {
+        DiagnosisDisplay {
+            diagnosis: self,
+            text,
+        }
+    }
+
+    /// The line of the text with the place, and `^~~~` below it (docs/reference/grammar.md, "Places of errors"); an
+    /// empty string where there is no place. `text` is the text that it is of.
+    ///
+    /// # Errors
+    ///
+    /// `AllocError` where an allocation failed.
+    pub fn snippet(&self, alloc: Global, text: &str) -> Result<String, AllocError>
+        ensures { IfOk result (λ shown. MatchOption self.now.span (string_bytes shown ≡ [])
+            (λ span. string_bytes shown ≡ encode_utf8_all (snippet_text (chars text.now) span))) }
+    {
+        match self.span {
+            Some(span) => snippet(alloc, text, span),
+            None => Ok(String::new(alloc)),
+        }
+    }
+}
+
+/// An error with its line and column, for people.
+#[derive(Clone, Copy)]
+pub struct DiagnosisDisplay<'a> {
+    diagnosis: &'a Diagnosis,
+    text: &'a str,
+}
+
+impl fmt::Display for DiagnosisDisplay<'_> {
+    fn fmt<W: fmt::Write>(&self, f: &mut fmt::Formatter<W>) -> fmt::Result {
+        if let Some(span) = self.diagnosis.span {
+            let location = Location::line_column(self.text, span.start);
+            write!(f, "{location}: ")?;
+        }
+        self.diagnosis.error.fmt(f)
+    }
+}
