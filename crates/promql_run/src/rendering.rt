@@ -62,8 +62,12 @@ fn json_text(alloc: Global, expr: &Expr) -> Result<String, RunError>
         mode_text Mode.Json (tree_of expr.now) ≡ Err NumberTooWide }
     ensures errors { IfErr result IsShowError }
 {
-    let value = json_value(alloc, expr)?;
-    Ok(value.to_string(alloc)?)
+    match promql_walk::json_text(alloc, expr) {
+        Ok(text) => Ok(text),
+        Err(JsonError::Memory) => Err(RunError::Memory),
+        Err(JsonError::NumberTooWide) => Err(RunError::Json),
+        Err(JsonError::Extension) => unreachable!(),
+    }
 }
 
 /// The text of an expression in a mode.

@@ -14,7 +14,7 @@ mod trees;
 mod visitors;
 
 use promql_parser::parser::{Expr, ParseError, parse};
-use promql_walk::{JsonError, ToJson};
+use promql_walk::{JsonError, json_text};
 use std::alloc::{AllocError, Global};
 
 /// What is printed of the text's tree, or the message of its rejection.
@@ -43,7 +43,7 @@ fn repeated(
 
 /// The JSON form of a tree, without a space.
 fn json(expr: &Expr, alloc: Global) -> Result<String, JsonError> {
-    Ok(expr.to_json(alloc)?.to_string(alloc)?)
+    json_text(alloc, expr)
 }
 
 /// The error of a text that has no tree.

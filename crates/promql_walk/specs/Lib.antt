@@ -4,4 +4,5 @@ pub mod Events
 pub mod Json
 pub mod JsonFaults
 pub mod JsonParts
+pub mod JsonTokens
 pub mod WalkSteps

@@ -5,7 +5,8 @@ use promql_ast::{CheckError, Expr, FunctionArgs};
 use promql_kind::{ValueType, VectorMatchCardinality, VectorMatchFillValues, get_function};
 use promql_label::{Labels, MatchOp, Matcher, Matchers};
 use promql_parser::json::{
-    JsonError, ToJson, labels_json, match_op_json, matcher_json, matchers_json, token_type_json,
+    JsonError, ToJson, json_text, labels_json, match_op_json, matcher_json, matchers_json,
+    token_type_json,
 };
 use promql_parser::parser::parse;
 use promql_text::Number;
@@ -80,6 +81,21 @@ fn nodes_by_themselves_have_no_type(rt: HostRuntime) -> Result<(), Fail> {
     for (text, object) in &NODES {
         let found = node_line(alloc, &parse(alloc, text)?)?;
         assert_eq!(rt; found.as_str(), *object);
+    }
+    Ok(())
+}
+
+/// The text is that of the value.
+fn has_text_of_form(rt: &impl Abort, alloc: Global, expr: &Expr) -> Result<(), Fail> {
+    let text = json_text(alloc, expr)?;
+    has_line(rt, alloc, expr, text.as_str())
+}
+
+#[test]
+fn texts_are_those_of_the_forms(rt: HostRuntime) -> Result<(), Fail> {
+    let alloc = rt.alloc();
+    for (text, _) in &NODES {
+        has_text_of_form(&rt, alloc, &parse(alloc, text)?)?;
     }
     Ok(())
 }
@@ -185,12 +201,22 @@ fn answer(alloc: Global, expr: &Expr) -> Result<String, AllocError> {
     }
 }
 
+/// The JSON text of an expression, or the message of what it has instead.
+fn text_answer(alloc: Global, expr: &Expr) -> Result<String, AllocError> {
+    match json_text(alloc, expr) {
+        Ok(text) => Ok(text),
+        Err(error) => error.to_string(alloc),
+    }
+}
+
 /// A range of 2^64 milliseconds.
 const TOO_LONG: &str = "foo[18446744073709551.616]";
 
-/// What was built has no object, but this message.
+/// What was built has no object and no text, but this message.
 fn has_no_form(rt: &impl Abort, alloc: Global, expr: &Expr, message: &str) -> Result<(), Fail> {
     let found = answer(alloc, expr)?;
+    assert_eq!(rt; found.as_str(), message);
+    let found = text_answer(alloc, expr)?;
     assert_eq!(rt; found.as_str(), message);
     Ok(())
 }
