@@ -10,18 +10,18 @@ use Rattle.promql_text.specs.Texts.{Text}
 use Rattle.promql_ast.specs.Layout.{layout_of}
 use Rattle.promql_ast.specs.Text as one_line
 use Rattle.promql_ast.specs.Tree.{Tree}
-use Rattle.promql_syntax.specs.ParseAnswers.{IsAnswerTo, plain_error_of}
-use Rattle.promql_syntax.specs.declared.parser.ParseError.TheVariants as parse_errors
+use Rattle.promql_syntax.specs.ParseAnswers.{IsAnswerTo}
 use Rattle.promql_walk.specs.Json.{json}
 use Rattle.promql_walk.specs.declared.json_error.JsonError.{JsonError}
 use Rattle.promql_walk.specs.declared.json_error.JsonError.TheVariants.{NumberTooWide}
 use Rattle.promql_run.specs.declared.line.LineError.{LineError}
-use Rattle.promql_run.specs.declared.line.LineError.TheVariants.{Run, NotARequest}
+use Rattle.promql_run.specs.declared.line.LineError.TheVariants.{Run, Rejected, NotARequest}
+use Rattle.promql_run.specs.declared.rejection.Rejection.{Rejection}
 use Rattle.promql_run.specs.declared.request.Format.{Format}
 use Rattle.promql_run.specs.declared.request.Format.TheVariants.{Pretty, Line, Json}
 use Rattle.promql_run.specs.declared.run.Mode.{Mode}
-use Rattle.promql_run.specs.declared.run.RunError.{RunError}
 use Rattle.promql_run.specs.declared.run.RunError.TheVariants as error
+use Rattle.promql_run.specs.Rejecting.{IsRejection}
 use Rattle.promql_run.specs.Requests.{query_in, format_in}
 use Rattle.promql_run.specs.Running.{error_number}
 
@@ -54,10 +54,10 @@ pub record HasQueryValue (query : Text) (format : Format) (value : Result Data J
   pub gives : format_value format tree ≡ value
 
 -- when a query has this error
-abbrev pub FailsOnQuery : Text → Format → RunError → Type 0
-FailsOnQuery query format error.Memory = Unit {0}
-FailsOnQuery query format (error.Parse e) = IsAnswerTo query (Err (plain_error_of e)) × (e ≢ parse_errors.Memory)
-FailsOnQuery query format error.Json = HasQueryValue query format (Err NumberTooWide)
+abbrev pub FailsOnQuery : Text → Format → LineError → Type 0
+FailsOnQuery query format (Run error.Memory) = Unit {0}
+FailsOnQuery query format (Rejected rejection) = IsRejection query rejection
+FailsOnQuery query format (Run error.Json) = HasQueryValue query format (Err NumberTooWide)
 FailsOnQuery query format _ = ⊥
 
 -- the line asks for a query that has this value
@@ -68,7 +68,7 @@ pub record HasValue (mode : Mode) (line : Text) (value : Data) : Type 0 where
   pub has : HasQueryValue query format (Ok value)
 
 -- the line asks for a query that has this error
-pub record AsksInVain (mode : Mode) (line : Text) (e : RunError) : Type 0 where
+pub record AsksInVain (mode : Mode) (line : Text) (e : LineError) : Type 0 where
   pub query : Text
   pub format : Format
   pub asks : Asks mode line query format
@@ -76,6 +76,7 @@ pub record AsksInVain (mode : Mode) (line : Text) (e : RunError) : Type 0 where
 
 abbrev pub line_error_number : LineError → ℕ
 line_error_number (Run e) = error_number e
+line_error_number (Rejected rejection) = 4
 line_error_number NotARequest = 7
 
 -- "Errors": when a line has this error
@@ -83,7 +84,7 @@ abbrev pub FailsWith : Mode → Text → LineError → Type 0
 FailsWith mode line NotARequest = IsUtf8 line × AsksNothing mode line
 FailsWith mode line (Run error.NotUtf8) = ¬ IsUtf8 line
 FailsWith mode line (Run error.Memory) = Unit {0}
-FailsWith mode line (Run e) = AsksInVain mode line e
+FailsWith mode line e = AsksInVain mode line e
 
 abbrev pub ok_object : Data → Data
 ok_object value = object (member (codes "ok") value no_members)
@@ -92,14 +93,29 @@ abbrev pub error_object : ℕ → Text → Data
 error_object code message =
     object (member (codes "code") (number (unsigned code)) (member (codes "error") (string message) no_members))
 
+-- the same with the place of the error in the query
+abbrev pub rejection_object : ℕ → Text → Rejection → Data
+rejection_object code message r =
+    object (member (codes "code") (number (unsigned code))
+    (member (codes "column") (number (unsigned r.location.column))
+    (member (codes "end") (number (unsigned r.span.end))
+    (member (codes "error") (string message)
+    (member (codes "line") (number (unsigned r.location.line))
+    (member (codes "start") (number (unsigned r.span.start)) no_members))))))
+
+abbrev pub line_error_object : LineError → Text → Data
+line_error_object (Rejected rejection) message = rejection_object 4 message rejection
+line_error_object (Run e) message = error_object (error_number e) message
+line_error_object NotARequest message = error_object 7 message
+
 pub record IsOkLine (mode : Mode) (line printed : Text) : Type 0 where
   pub value : Data
   pub has : HasValue mode line value
   pub is : printed ≡ compact_text (ok_object value)
 
--- the error's number and some message
+-- the error's number, some message and, of a query that is rejected, the place
 abbrev pub IsErrorText : LineError → Text → Type 0
-IsErrorText fault printed = (message : Text) × (printed ≡ compact_text (error_object (line_error_number fault) message))
+IsErrorText fault printed = (message : Text) × (printed ≡ compact_text (line_error_object fault message))
 
 pub record IsErrorLine (mode : Mode) (line printed : Text) : Type 0 where
   pub fault : LineError

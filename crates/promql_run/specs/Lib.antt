@@ -1,7 +1,9 @@
 pub mod Batch
 pub mod BatchSteps
+pub mod Checking
 pub mod Ended
 pub mod Extensions
+pub mod Rejecting
 pub mod Requests
 pub mod Running
 pub mod StepErrors

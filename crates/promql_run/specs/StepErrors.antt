@@ -7,6 +7,12 @@ IsReadError error.Memory = Unit {0}
 IsReadError error.Read = Unit {0}
 IsReadError _ = ⊥
 
+abbrev pub IsInputError : RunError → Type 0
+IsInputError error.Memory = Unit {0}
+IsInputError error.Read = Unit {0}
+IsInputError error.NotUtf8 = Unit {0}
+IsInputError _ = ⊥
+
 abbrev pub IsShowError : RunError → Type 0
 IsShowError error.Memory = Unit {0}
 IsShowError error.Json = Unit {0}

@@ -4,10 +4,12 @@
 
 pub mod batch;
 pub mod batch_program;
+pub mod check;
 pub mod ended;
 pub mod laws;
 pub mod line;
 pub mod program;
+pub mod rejection;
 mod rendering;
 pub mod request;
 pub mod run;

@@ -6,12 +6,12 @@ ghost use Rattle.serde_json.specs.Read.{read};
 ghost use Rattle.serde_json.specs.View.{view};
 ghost use Rattle.serde_json.specs.Written.{compact_text, has_float};
 ghost use Rattle.promql_text.specs.Texts.{Text};
-ghost use Rattle.promql_run.specs.Batch.{FailsOnQuery, FailsWith, HasQueryValue, HasValue, IsErrorText, IsLineAnswer, error_object, line_error_number, ok_object};
+ghost use Rattle.promql_run.specs.Batch.{FailsOnQuery, FailsWith, HasQueryValue, HasValue, IsErrorText, IsLineAnswer, error_object, line_error_number, line_error_object, ok_object, rejection_object};
 
+use crate::rejection::{Rejection, read_query};
 use crate::rendering::render_value;
 use crate::request::{Format, format_in, query_in};
 use crate::run::{Mode, RunError};
-use promql_syntax::parser::parse;
 use serde_json::{Category, Value, json};
 use std::alloc::{AllocError, Global};
 use thiserror::Error;
@@ -22,6 +22,9 @@ pub enum LineError {
     /// An error that a run on the query has, too.
     #[error("{0}")]
     Run(RunError),
+    /// The parser rejects the query.
+    #[error("{0}")]
+    Rejected(Rejection),
     /// The line is not a JSON string, nor an object that asks for a query.
     #[error("line is not a request")]
     NotARequest,
@@ -34,6 +37,7 @@ impl LineError {
     {
         match self {
             LineError::Run(error) => error.number(),
+            LineError::Rejected(_) => 4,
             LineError::NotARequest => 7,
         }
     }
@@ -60,15 +64,22 @@ fn read_value(alloc: Global, line: &str) -> Result<Option<Value>, AllocError>
 }
 
 /// What a query is in a format.
-fn evaluate_query(alloc: Global, format: Format, query: &str) -> Result<Value, RunError>
+fn evaluate_query(alloc: Global, format: Format, query: &str) -> Result<Value, LineError>
     ensures ok { IfOk result (λ v. HasQueryValue query.now format (Ok (view v))) }
     ensures finite { IfOk result (λ v. has_float (view v) ≡ false) }
     ensures err { IfErr result (FailsOnQuery query.now format) }
 {
-    let expr = parse(alloc, query)?;
+    let expr = match read_query(alloc, query) {
+        Ok(Ok(expr)) => expr,
+        Ok(Err(rejection)) => return Err(LineError::Rejected(rejection)),
+        Err(_) => return Err(LineError::Run(RunError::Memory)),
+    };
     let value = render_value(alloc, format, &expr);
     drop(expr);
-    value
+    match value {
+        Ok(value) => Ok(value),
+        Err(error) => Err(LineError::Run(error)),
+    }
 }
 
 /// What the query of a line's value is in its format.
@@ -85,10 +96,7 @@ fn evaluate_value(alloc: Global, mode: Mode, asked: &Value) -> Result<Value, Lin
     let Some(format) = format_in(mode, asked) else {
         return Err(LineError::NotARequest);
     };
-    match evaluate_query(alloc, format, query) {
-        Ok(value) => Ok(value),
-        Err(error) => Err(LineError::Run(error)),
-    }
+    evaluate_query(alloc, format, query)
 }
 
 /// What a line's query is in its format.
@@ -125,6 +133,36 @@ fn error_value(alloc: Global, code: u8, message: &str) -> Result<Value, AllocErr
     json!(in alloc; {"code": code, "error": message})
 }
 
+/// An object of an error's number and its message, with the place of a rejection.
+fn rejection_value(
+    alloc: Global,
+    code: u8,
+    message: &str,
+    rejection: &Rejection,
+) -> Result<Value, AllocError>
+    ensures { IfOk result (λ v. view v ≡ rejection_object code message.now rejection.now) }
+{
+    json!(in alloc; {
+        "code": code,
+        "column": rejection.location.column,
+        "end": rejection.span.end,
+        "error": message,
+        "line": rejection.location.line,
+        "start": rejection.span.start
+    })
+}
+
+/// An object of an error of a line and its message.
+fn line_error_value(alloc: Global, error: &LineError, message: &str) -> Result<Value, AllocError>
+    ensures { IfOk result (λ v. view v ≡ line_error_object error.now message.now) }
+{
+    let code = error.number();
+    match error {
+        LineError::Rejected(rejection) => rejection_value(alloc, code, message, rejection),
+        LineError::Run(_) | LineError::NotARequest => error_value(alloc, code, message),
+    }
+}
+
 /// The text of an object of the value.
 fn ok_text(alloc: Global, value: Value) -> Result<String, AllocError>
     requires { has_float (view value) ≡ false }
@@ -141,13 +179,14 @@ fn error_text(alloc: Global, error: &LineError) -> Result<String, AllocError>
     ensures { IfOk result (λ s. IsErrorText error.now (string_bytes s)) }
 {
     let message = error.to_string(alloc)?;
-    let object = error_value(alloc, error.number(), message.as_str())?;
+    let object = line_error_value(alloc, error, message.as_str())?;
     let text = object.to_string(alloc);
     drop(object);
     text
 }
 
-/// The answer to a line: an object with the member `ok`, or with `code` and `error`.
+/// The answer to a line: an object with the member `ok`, or with `code`, `error` and, for a query that is rejected, its
+/// place.
 pub fn answer_line(alloc: Global, mode: Mode, line: &[u8]) -> Result<LineAnswer, AllocError>
     ensures { IfOk result (λ a. IsLineAnswer mode line.now (string_bytes a.text) a.is_ok) }
 {

@@ -104,7 +104,7 @@ impl From<ParseError> for RunError {
 }
 
 /// Reads all that the reader has. Each read but the last adds a byte, so an endless input ends in `Memory`.
-fn read_input<R: Read>(alloc: Global, reader: &mut Ended<R>) -> Result<Vec<u8>, RunError>
+pub(crate) fn read_input<R: Read>(alloc: Global, reader: &mut Ended<R>) -> Result<Vec<u8>, RunError>
     ensures read { IfOk result (λ bytes. HasRead (R.remaining reader.old.inner)
         (R.remaining reader.new.inner) bytes.items) }
     ensures quiet { MatchResult result (λ _. reader.new.failed ≡ reader.old.failed)

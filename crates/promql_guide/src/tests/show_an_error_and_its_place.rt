@@ -1,15 +1,17 @@
 //! docs/guide/cookbook.md, "Show an error and its place".
 
-use promql_parser::parser::{ParseError, parse};
+use promql_parser::parser::diagnose;
 use std::alloc::{AllocError, Global};
 use std::test::Fail;
 
-/// What is wrong with the query, with the byte of a lexical fault; nothing where it is accepted.
+/// What is wrong with the query and where, and its line with a mark below; nothing where it is accepted.
 fn complaint(alloc: Global, query: &str) -> Result<String, AllocError> {
-    match parse(alloc, query) {
+    match diagnose(alloc, query) {
         Ok(_) => Ok(String::new(alloc)),
-        Err(ParseError::Lex(fault)) => format!(in alloc; "byte {}: {fault}", fault.at),
-        Err(error) => error.to_string(alloc),
+        Err(diagnosis) => {
+            let snippet = diagnosis.snippet(alloc, query)?;
+            format!(in alloc; "{}\n{snippet}", diagnosis.display(query))
+        }
     }
 }
 
@@ -19,13 +21,16 @@ fn messages(rt: HostRuntime) -> Result<(), Fail> {
         ("rate(foo[5m])", ""),
         (
             "foo{a=\"b\"",
-            "byte 9: unexpected end of input inside braces",
+            "1:10: unexpected end of input inside braces\nfoo{a=\"b\"\n         ^",
         ),
-        ("foo +", "invalid promql query"),
-        ("foo{a=~\"(\"}", "illegal regex for ("),
+        ("foo +", "1:6: invalid promql query\nfoo +\n     ^"),
         (
-            "rate(foo)",
-            "expected type matrix in call to function 'rate', got vector",
+            "foo{a=~\"(\"}",
+            "1:8: illegal regex for (\nfoo{a=~\"(\"}\n       ^~~",
+        ),
+        (
+            "2 *\nrate(foo)",
+            "2:6: expected type matrix in call to function 'rate', got vector\nrate(foo)\n     ^~~",
         ),
     ] {
         assert_eq!(rt; complaint(rt.alloc(), query)?.as_str(), want);

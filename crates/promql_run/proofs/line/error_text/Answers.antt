@@ -2,7 +2,6 @@ use Rattle.std.proofs.Common.{ap, ◌∙◌}
 use Rattle.std.proofs.lemmas.Result.{IfOk-weaker}
 use Rattle.serde_json.specs.View.{view}
 use Rattle.serde_json.specs.Written.{compact_text}
-use Rattle.promql_run.specs.Batch.{error_object}
 use Rattle.promql_run.proofs.LineAnswers.{error_is_finite}
 use Rattle.promql_run.proofs.line.error_text.Goals as goal
 
@@ -11,8 +10,7 @@ returns c =
     IfOk-weaker c.to_string-text.result _ _
     (λ s text. (
       c.as_str.result.now,
-      text (error_is_finite (view c.in_ok-object.object) c.number.result c.as_str.result.now c.in_ok-object.ensures)
-          ∙ ap compact_text c.in_ok-object.ensures
-          ∙ ap (λ code. compact_text (error_object code c.as_str.result.now)) c.number.ensures,
+      text (error_is_finite (view c.in_ok-object.object) c.args.error.now c.as_str.result.now c.in_ok-object.ensures)
+          ∙ ap compact_text c.in_ok-object.ensures,
     ))
     c.to_string-text.ensures.text
