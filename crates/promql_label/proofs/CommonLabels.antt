@@ -21,7 +21,7 @@ use Rattle.promql_label.proofs.OneOrder.{one_order}
 same : (l k : Text) → bytes_eq l k ≡ true → l ≡ k
 same l k e = (bytes_eq-Decides l k).0 e
 
-list_any-map : {X : Type 0} (p : Text → Bool) (f : X → Text) (xs : List X) → list_any p (map f xs) ≡ list_any (λ x. p (f x)) xs
+pub list_any-map : {X : Type 0} (p : Text → Bool) (f : X → Text) (xs : List X) → list_any p (map f xs) ≡ list_any (λ x. p (f x)) xs
 list_any-map p f [] = refl
 list_any-map p f (x ∷ xs) = ap (λ b. p (f x) || b) (list_any-map p f xs)
 

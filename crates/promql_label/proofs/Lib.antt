@@ -1,4 +1,6 @@
 pub mod CommonLabels
+pub mod LabelRows
+pub mod LabelSets
 pub mod RepeatCounts
 pub mod Escaping
 pub mod Finding

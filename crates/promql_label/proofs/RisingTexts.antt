@@ -114,7 +114,7 @@ all_insert P t (u ∷ us) p h = step (is_gt (text_order t u)) (all_insert P t us
     step false more = (p, h)
 
 -- what is no less than u is no less than t
-follows_through : (t u : Text) (us : List Text) → is_less u t ≡ false → Follows (Some u) us → Follows (Some t) us
+pub follows_through : (t u : Text) (us : List Text) → is_less u t ≡ false → Follows (Some u) us → Follows (Some t) us
 follows_through t u [] e h = tt
 follows_through t u (x ∷ xs) e h = (less_ranks.chain x u t h.0 e, follows_through t u xs e h.1)
 
@@ -139,7 +139,7 @@ both_hold true true e = (refl, refl)
 both_hold true false e = absurd (true≢false (sym e))
 both_hold false b e = absurd (true≢false (sym e))
 
-holds_not : (a : Bool) → not a ≡ true → a ≡ false
+pub holds_not : (a : Bool) → not a ≡ true → a ≡ false
 holds_not true e = absurd (true≢false (sym e))
 holds_not false e = refl
 

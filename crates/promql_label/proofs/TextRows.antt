@@ -1,6 +1,6 @@
 -- Rows of the least texts: where a text goes in a row, and what is left after one.
 use Rattle.std.proofs.Common.{◌≡◌, ℕ, zero, suc, ◌+◌, ◌-◌, ◌<◌, ◌≤◌, ◌≢◌, Bool, true, false, cond, leb, leb-true, leb-false, min, set, List, [], ◌∷◌, ◌++◌, Option, Some, None, length, take, drop, map, get_or, refl, sym, ap, ap₂, subst, ◌∙◌, append_assoc, append-nil, true≢false, arith}
-use Rattle.std.specs.Prelude.{insert}
+use Rattle.std.specs.Prelude.{◌↔◌, IsTrue, insert, not}
 use Rattle.std.specs.List.{filter, AllWithin}
 use Rattle.std.specs.List.Sorted.{IsPartitionedBy}
 use Rattle.std.specs.Ordering.{is_lt, is_gt}
@@ -13,7 +13,7 @@ use Rattle.std.proofs.Math.ListN.{length-append}
 use Rattle.promql_text.specs.Texts.{Text}
 use Rattle.promql_label.specs.NextText.{Each, Follows, Rises, again, is_above, is_less, last_of, times}
 use Rattle.promql_label.specs.SortedTexts.{text_order, insert_text, sorted_texts}
-use Rattle.promql_label.proofs.RisingTexts.{less_ranks, same, exact, greater_is_less, insert_above, insert_here, above_up, sorted_rises, sorted_more, kept, left_out}
+use Rattle.promql_label.proofs.RisingTexts.{less_ranks, same, exact, greater_is_less, insert_above, insert_here, follows_through, holds_not, above_up, sorted_rises, sorted_more, kept, left_out}
 
 -- ---- where a text goes
 
@@ -67,6 +67,24 @@ end_is f xs last t h some is below =
   where
     at_any : (d : _) → is_less (f (get_or xs (length xs - 1) last)) t ≡ true → is_less (f (get_or xs (length xs - 1) d)) t ≡ true
     at_any d e = ap (λ x. is_less (f x) t) (get_or_default xs (length xs - 1) d last (omega arith)) ∙ e
+
+-- no text of a row in order is less than t exactly if the first isn't
+pub first_goes : {X : Type 0} (f : X → Text) (xs : List X) (first : X) (t : Text) → Rises (map f xs)
+    → 0 < length xs → first ≡ get_or xs 0 first → IsTrue (not (is_less (f first) t)) ↔ Follows (Some t) (map f xs)
+first_goes f [] first t h some is = absurd (omega arith)
+first_goes f (x ∷ xs) first t h some is =
+    let as_first : is_less (f first) t ≡ is_less (f x) t = ap (λ z. is_less (f z) t) is in (
+      λ e. let least : is_less (f x) t ≡ false = sym as_first ∙ holds_not (is_less (f first) t) e in (least, follows_through t (f x) (map f xs) least h.0),
+      λ follows. ap not (as_first ∙ follows.0),
+    )
+
+pub none_goes : {X : Type 0} (f : X → Text) (xs : List X) (t : Text) → length xs ≤ 0 → IsTrue true ↔ Follows (Some t) (map f xs)
+none_goes f [] t none = (λ _. tt, λ _. refl)
+none_goes f (x ∷ xs) t none = absurd (omega arith)
+
+pub front_is : (t : Text) (us : List Text) → Follows (Some t) us → insert_text t us ≡ insert us 0 t
+front_is t [] h = refl
+front_is t (u ∷ us) h = insert_here t u us (greater_is_less t u ∙ h.0)
 
 -- ---- the first texts of a sorted list
 

@@ -1,5 +1,7 @@
 pub mod Answers
 pub mod LabelLaws
+pub mod LabelRows
+pub mod LabelSets
 pub mod Labels
 pub mod MatcherBytes
 pub mod MatcherErrors

@@ -6,6 +6,7 @@ ghost use Rattle.std.specs.List.{list_any};
 ghost use Rattle.std.specs.Fmt.{WritesStyledOnOk};
 ghost use Rattle.promql_label.specs.Labels.{common, is_among, is_number_word, label_text, labels_of};
 
+use crate::common_labels::{find_common, is_any_among};
 use promql_text::{Quoted, write_joined_by};
 use promql_token::is_label;
 use std::alloc::{AllocError, Global};
@@ -15,6 +16,9 @@ use std::fmt::Display;
 
 /// A label's name.
 pub type Label = String;
+
+/// Two lists are compared label by label where one of them has up to so many.
+const FEW: usize = 16;
 
 /// A list of labels.
 #[derive(Debug, Drop, PartialEq, Eq, Hash)]
@@ -53,6 +57,15 @@ impl Labels {
         ensures value { result ≡ list_any (is_among (labels_of other.now)) (labels_of self.now) }
         ensures common { IsTrue result ↔ (common (labels_of self.now) (labels_of other.now) ≢ []) }
     {
+        self.has_any_of(other)
+    }
+
+    fn has_any_of(&self, other: &Labels) -> bool
+        ensures { result ≡ list_any (is_among (labels_of other.now)) (labels_of self.now) }
+    {
+        if self.labels.len().min(other.labels.len()) > FEW {
+            return is_any_among(&self.labels, &other.labels);
+        }
         self.labels
             .iter()
             .any(|label| other.contains(label.as_str()))
@@ -64,6 +77,11 @@ impl Labels {
         ensures { IfOk result (λ x.
             labels_of x ≡ common (labels_of self.now) (labels_of other.now)) }
     {
+        if self.labels.len().min(other.labels.len()) > FEW {
+            return Ok(Labels {
+                labels: find_common(alloc, &self.labels, &other.labels)?,
+            });
+        }
         let mut both = Labels {
             labels: Vec::new(alloc),
         };

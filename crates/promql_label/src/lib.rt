@@ -17,6 +17,7 @@ pub use matchers::Matchers;
 pub use pattern::{Pattern, PatternFault};
 pub use repeats::escape_repeats;
 
+mod common_labels;
 pub mod labels;
 pub mod laws;
 pub mod matcher;

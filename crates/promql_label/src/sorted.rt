@@ -3,11 +3,11 @@
 //! A list that is in order is printed straight through. Of any other list, each pass finds the least
 //! matchers above those that were printed, as many as a row on the stack holds, and prints them.
 
-ghost use Rattle.std.specs.Prelude.{◌≡◌, ◌≤◌, ◌<◌, ◌-◌, ◌++◌, ◌∷◌, [], List, None, IfSome, codes, filter, insert, length, map, take, true};
+ghost use Rattle.std.specs.Prelude.{◌≡◌, ◌↔◌, ◌≤◌, ◌<◌, ◌-◌, ◌++◌, ◌∷◌, [], List, None, Some, IfSome, IsTrue, codes, filter, insert, length, map, take, true};
 ghost use Rattle.std.specs.Fmt.{WritesStyledOnOk};
 ghost use Rattle.std.specs.Iterator.{YieldsFirst, item_count};
 ghost use Rattle.promql_label.specs.MatcherBytes.{left_of, left_of_name, left_of_test, test_text};
-ghost use Rattle.promql_label.specs.NextText.{Rises, again, comma_after, is_above, is_below, is_rising, last_of, row_texts, text_of, text_of_some, texts_after, times};
+ghost use Rattle.promql_label.specs.NextText.{Follows, Rises, again, comma_after, is_above, is_below, is_rising, last_of, row_texts, text_of, text_of_some, texts_after, times};
 ghost use Rattle.promql_label.specs.PlainMatchers.{name_text};
 ghost use Rattle.promql_label.specs.SortedTexts.{insert_text, sorted_texts, text_order};
 ghost use Rattle.promql_text.specs.Texts.{Text, joined_text};
@@ -23,7 +23,7 @@ use std::str::Bytes;
 /// The matchers that a row holds, for a short list and for a long one.
 const FEW: usize = 16;
 
-const MANY: usize = 512;
+const MANY: usize = 2048;
 
 /// Prints the matchers in the byte order of their texts, with `,` between each two.
 pub(crate) fn write_sorted<W: fmt::Write>(
@@ -201,7 +201,21 @@ fn place_in(row: &[&Matcher], matcher: &Matcher) -> usize
             return row.len();
         }
     }
+    if goes_first(row, matcher) {
+        return 0;
+    }
     row.partition_point(|other| compare(*other, matcher).is_lt())
+}
+
+/// Whether no text of a row in order is less than the matcher's.
+fn goes_first(row: &[&Matcher], matcher: &Matcher) -> bool
+    requires { Rises (row_texts row.now) }
+    ensures { IsTrue result ↔ Follows (Some (text_of matcher.now)) (row_texts row.now) }
+{
+    match row.first() {
+        Some(first) => !compare(*first, matcher).is_lt(),
+        None => true,
+    }
 }
 
 /// The last of the row, or `last` where the row is empty.

@@ -1,14 +1,17 @@
 use Rattle.std.proofs.Common.{◌≡◌, length, sym, ap, ◌∙◌, arith, rules}
 use Rattle.std.specs.Ordering.{is_lt}
 use Rattle.std.proofs.lemmas.List.Sorted.{IsPartitionPoint-from_clause}
-use Rattle.promql_label.specs.NextText.{is_less, text_of}
-use Rattle.promql_label.proofs.TextRows.{end_is, place_is, rising_is_parted}
+use Rattle.promql_label.specs.NextText.{is_less, row_texts, text_of}
+use Rattle.promql_label.proofs.TextRows.{end_is, front_is, place_is, rising_is_parted}
 use Rattle.promql_label.proofs.sorted.place_in.Goals as goal
 
 pub returns-then-is_lt-clause-place : goal.returns-then-is_lt-clause-place
 returns-then-is_lt-clause-place c =
     end_is (λ m. text_of m.now) c.args.row.now c.in-Some.last.now (text_of c.args.matcher.now) c.requires (search rules) (search rules)
     (ap is_lt (sym c.compare.ensures) ∙ sym c.is_lt.ensures ∙ c.if-is_lt.true)
+
+pub returns-then-goes_first-clause-place : goal.returns-then-goes_first-clause-place
+returns-then-goes_first-clause-place c = front_is (text_of c.args.matcher.now) (row_texts c.args.row.now) (c.goes_first.ensures.0 c.if-goes_first.true)
 
 pub returns-clause-place : goal.returns-clause-place
 returns-clause-place c =

@@ -30,7 +30,7 @@ const PRINTED: [(&[&str], &str); 14] = [
 ];
 
 // Two lists, and their common labels as they print.
-const COMMON: [(&[&str], &[&str], &str); 11] = [
+const COMMON: [(&[&str], &[&str], &str); 13] = [
     (&["foo"], &["bar"], ""),
     (&["foo"], &["foo", "bar"], "foo"),
     (&["foo", "bar", "foo"], &["bar", "foo"], "foo, bar"),
@@ -49,6 +49,27 @@ const COMMON: [(&[&str], &[&str], &str); 11] = [
         &["a", "b", "c", "d", "e", "f", "g", "h", "i", "j", "k", "h"],
         &["l", "k", "m", "n", "o", "p", "q", "h"],
         "h, k",
+    ),
+    (
+        &[
+            "a", "b", "c", "d", "e", "f", "g", "h", "i", "j", "k", "l", "m", "n", "o", "p", "q",
+            "b", "a",
+        ],
+        &[
+            "A", "q", "C", "D", "E", "F", "G", "H", "I", "J", "K", "L", "M", "b", "O", "P", "Q",
+            "q", "",
+        ],
+        "b, q",
+    ),
+    (
+        &[
+            "a", "b", "c", "d", "e", "f", "g", "h", "i", "j", "k", "l", "m", "n", "o", "p", "q",
+        ],
+        &[
+            "aa", "ab", "ac", "ad", "ae", "af", "ag", "ah", "ai", "aj", "ak", "al", "am", "an",
+            "ao", "ap", "",
+        ],
+        "",
     ),
 ];
 
