@@ -1,0 +1,11 @@
+pub mod EnforcedChecks
+pub mod EnforcedLists
+pub mod EnforcedMatchers
+pub mod EnforcedSelectors
+pub mod EnforcedTexts
+pub mod EnforcedTrees
+pub mod EnforcedTwice
+pub mod EnforcedTypes
+pub mod Rejections
+pub mod SameMatchers
+pub mod TreeRows

@@ -1,0 +1,25 @@
+-- An error of the parser that is passed on as a rejection is that error, and not of memory.
+use Rattle.std.proofs.Common.{◌≡◌, sym, ◌∙◌}
+use Rattle.std.specs.Prelude.{◌≢◌}
+use Rattle.promql_syntax.specs.declared.parser.ParseError.{ParseError}
+use Rattle.promql_syntax.specs.declared.parser.ParseError.TheVariants as parse_errors
+use Rattle.promql_rewrite.specs.EnforceErrors.{IsPassedOn}
+use Rattle.promql_rewrite.specs.FaithfulErrors.{IsRaised}
+use Rattle.promql_rewrite.specs.declared.enforcing.EnforceError.{EnforceError}
+use Rattle.promql_rewrite.specs.declared.enforcing.EnforceError.TheVariants as enforcing
+use Rattle.promql_rewrite.specs.declared.faithful.NotFaithful.{NotFaithful}
+use Rattle.promql_rewrite.specs.declared.faithful.NotFaithful.TheVariants.{Memory, Rejected}
+
+pub raised_own : (f : ParseError) (r : NotFaithful) → IsRaised f r → (e : ParseError) → r ≡ Rejected e → (f ≡ e) × (e ≢ parse_errors.Memory)
+raised_own parse_errors.Memory r raised e is = let both : Rejected e ≡ Memory = sym is ∙ raised in cc
+raised_own f r raised e is =
+    let both : Rejected f ≡ Rejected e = sym raised ∙ is in
+    let own : f ≡ e = cc in
+    (own, λ memory. let same : f ≡ parse_errors.Memory = own ∙ memory in cc)
+
+pub passed_own : (f : ParseError) (r : EnforceError) → IsPassedOn f r → (e : ParseError) → r ≡ enforcing.Parse e → (f ≡ e) × (e ≢ parse_errors.Memory)
+passed_own parse_errors.Memory r raised e is = let both : enforcing.Parse e ≡ enforcing.Memory = sym is ∙ raised in cc
+passed_own f r raised e is =
+    let both : enforcing.Parse f ≡ enforcing.Parse e = sym raised ∙ is in
+    let own : f ≡ e = cc in
+    (own, λ memory. let same : f ≡ parse_errors.Memory = own ∙ memory in cc)

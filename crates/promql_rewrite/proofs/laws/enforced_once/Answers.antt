@@ -1,0 +1,5 @@
+use Rattle.promql_rewrite.proofs.EnforcedTwice.{enforced_twice}
+use Rattle.promql_rewrite.proofs.laws.enforced_once.Goals as goal
+
+pub returns : goal.returns
+returns c = enforced_twice

@@ -1,0 +1,28 @@
+-- How errors are passed on where a matcher is enforced. Private: nothing rests on believing it.
+use Rattle.std.specs.Prelude.{◌≡◌}
+use Rattle.promql_syntax.specs.declared.parser.ParseError.{ParseError}
+use Rattle.promql_syntax.specs.declared.parser.ParseError.TheVariants as parse
+use Rattle.promql_rewrite.specs.declared.enforcing.EnforceError.{EnforceError}
+use Rattle.promql_rewrite.specs.declared.enforcing.EnforceError.TheVariants as error
+use Rattle.promql_rewrite.specs.declared.faithful.NotFaithful.{NotFaithful}
+use Rattle.promql_rewrite.specs.declared.faithful.NotFaithful.TheVariants as faithful
+
+abbrev pub IsPassedOn : ParseError → EnforceError → Type 0
+IsPassedOn parse.Memory e = e ≡ error.Memory
+IsPassedOn other e = e ≡ error.Parse other
+
+abbrev pub IsUnfaithful : NotFaithful → EnforceError → Type 0
+IsUnfaithful faithful.Memory e = e ≡ error.Memory
+IsUnfaithful other e = e ≡ error.Unfaithful other
+
+-- an error of a tree alone
+abbrev pub IsOfTrees : EnforceError → Type 0
+IsOfTrees error.Memory = Unit {0}
+IsOfTrees error.MetricName = Unit {0}
+IsOfTrees _ = ⊥
+
+-- an error of the line of a tree
+abbrev pub IsOfLine : EnforceError → Type 0
+IsOfLine error.Memory = Unit {0}
+IsOfLine (error.Unfaithful e) = Unit {0}
+IsOfLine _ = ⊥

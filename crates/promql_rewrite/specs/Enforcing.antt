@@ -1,0 +1,49 @@
+-- A matcher in every selector (docs/guide/rewriting.md, "Enforcing").
+use Rattle.std.specs.Prelude.{if◌then◌else◌, List, [], ◌∷◌, ◌++◌, map, codes}
+use Rattle.std.specs.List.{list_any}
+use Rattle.std.specs.Str.{bytes_eq}
+use Rattle.promql_label.specs.PlainMatchers.{PlainMatcher, PlainMatchers, plain_matchers}
+use Rattle.promql_kind.specs.Functions.{name_of}
+use Rattle.promql_ast.specs.Same.{matcher_eq}
+use Rattle.promql_ast.specs.Selectors.{Selector, selector}
+use Rattle.promql_ast.specs.Tree.{Tree, aggregate, unary, binary, paren, subquery, number, string, vector, matrix, call, extension, MaybeTree, absent, present, Trees, no_trees, first_tree}
+
+-- the list with the matcher at its end, unless an equal one is there
+abbrev pub with_matcher : PlainMatcher → List PlainMatcher → List PlainMatcher
+with_matcher c cs = if list_any (matcher_eq c) cs then cs else cs ++ c ∷ []
+
+-- in each or-group, and beside the groups unless they are all
+abbrev pub enforced_matchers : PlainMatcher → PlainMatchers → PlainMatchers
+enforced_matchers c (plain_matchers cs []) = plain_matchers (with_matcher c cs) []
+enforced_matchers c (plain_matchers cs (g ∷ gs)) = plain_matchers cs (map (with_matcher c) (g ∷ gs))
+
+abbrev pub enforced_selector : PlainMatcher → Selector → Selector
+enforced_selector c (selector name cs offset at) = selector name (enforced_matchers c cs) offset at
+
+module _ (c : PlainMatcher) where
+  abbrev mutual
+    pub enforced : Tree → Tree
+    enforced (aggregate op e p m) = aggregate op (enforced e) (maybe_enforced p) m
+    enforced (unary e) = unary (enforced e)
+    enforced (binary op l r m) = binary op (enforced l) (enforced r) m
+    enforced (paren e) = paren (enforced e)
+    enforced (subquery e offset at range step) = subquery (enforced e) offset at range step
+    enforced (number n) = number n
+    enforced (string s) = string s
+    enforced (vector s) = vector (enforced_selector c s)
+    enforced (matrix s range mode) = matrix (enforced_selector c s) range mode
+    enforced (call f args) = call f (if bytes_eq (name_of f) (codes "info") then first_enforced args else all_enforced args)
+    enforced (extension name gives es) = extension name gives (all_enforced es)
+
+    pub maybe_enforced : MaybeTree → MaybeTree
+    maybe_enforced absent = absent
+    maybe_enforced (present e) = present (enforced e)
+
+    pub all_enforced : Trees → Trees
+    all_enforced no_trees = no_trees
+    all_enforced (first_tree e es) = first_tree (enforced e) (all_enforced es)
+
+    -- the second argument of `info` selects labels, and no series
+    pub first_enforced : Trees → Trees
+    first_enforced no_trees = no_trees
+    first_enforced (first_tree e es) = first_tree (enforced e) es

@@ -1,0 +1,7 @@
+pub mod Answered
+pub mod EnforceErrors
+pub mod Enforced
+pub mod Enforcing
+pub mod Faithful
+pub mod FaithfulErrors
+pub mod Selecting

@@ -1,0 +1,331 @@
+//! A matcher in every selector: docs/guide/rewriting.md, "Enforcing".
+
+ghost use Rattle.std.specs.Prelude.{◌≡◌, ◌≢◌, ◌↔◌, Err, IfErr, IfOk, IsErrOf, OnOk, codes, map, string_bytes};
+ghost use Rattle.std.specs.List.{list_any};
+ghost use Rattle.promql_ast.specs.Same.{matcher_eq};
+ghost use Rattle.promql_ast.specs.View.{aggregate_tree, binary_tree, call_tree, children_of, extension_tree, tree_of, trees_of};
+ghost use Rattle.promql_label.specs.MatcherViews.{plain_matcher_of, plain_matchers_of};
+ghost use Rattle.promql_label.specs.PlainMatchers.{name_of};
+ghost use Rattle.promql_syntax.specs.ParseAnswers.{IsAnswerTo, plain_error_of};
+ghost use Rattle.promql_syntax.specs.declared.parser.ParseError.{ParseError};
+ghost use Rattle.promql_rewrite.specs.Enforced.{IsEnforced, IsLineOther, IsLineRejected};
+ghost use Rattle.promql_rewrite.specs.EnforceErrors.{IsOfLine, IsOfTrees};
+ghost use Rattle.promql_rewrite.specs.Faithful.{IsLineOf, MeansOther};
+ghost use Rattle.promql_ast.specs.Text.{text as line_text};
+ghost use Rattle.promql_rewrite.specs.Enforcing.{all_enforced, enforced, enforced_matchers, first_enforced, with_matcher};
+ghost use Rattle.promql_rewrite.specs.declared.faithful.NotFaithful.{NotFaithful};
+
+use crate::faithful::{NotFaithful, faithful_line};
+use promql_ast::{AggregateExpr, BinaryExpr, Call, Expr, Extension};
+use promql_label::{METRIC_NAME, Matcher, Matchers};
+use promql_syntax::parser::{ParseError, parse};
+use std::alloc::{AllocError, Global};
+use thiserror::Error;
+
+/// The function whose second argument selects labels of another series, and no series of its own.
+const INFO: &str = "info";
+
+/// Why a matcher was not enforced.
+#[derive(PartialEq, Eq, Debug, Drop, Error)]
+pub enum EnforceError {
+    /// An allocation failed.
+    #[error("out of memory")]
+    Memory,
+    /// The matcher is of the metric's name, which a selector has before its braces.
+    #[error("a matcher of the metric name cannot be enforced")]
+    MetricName,
+    /// The parser rejects the query.
+    #[error("{0}")]
+    Parse(ParseError),
+    /// The line of the enforced tree does not mean it.
+    #[error("{0}")]
+    Unfaithful(NotFaithful),
+}
+
+impl From<AllocError> for EnforceError {
+    ghost use Rattle.std.specs.Prelude.{◌≡◌};
+    ghost use Rattle.promql_rewrite.specs.declared.enforcing.EnforceError.TheVariants.{Memory};
+
+    ghost from_gives = { λ _ e. e ≡ Memory };
+
+    fn from(_e: AllocError) -> EnforceError {
+        EnforceError::Memory
+    }
+}
+
+impl From<ParseError> for EnforceError {
+    ghost use Rattle.promql_rewrite.specs.EnforceErrors.{IsPassedOn};
+
+    ghost from_gives = { IsPassedOn };
+
+    fn from(error: ParseError) -> EnforceError {
+        match error {
+            ParseError::Memory => EnforceError::Memory,
+            own => EnforceError::Parse(own),
+        }
+    }
+}
+
+impl From<NotFaithful> for EnforceError {
+    ghost use Rattle.promql_rewrite.specs.EnforceErrors.{IsUnfaithful};
+
+    ghost from_gives = { IsUnfaithful };
+
+    fn from(error: NotFaithful) -> EnforceError {
+        match error {
+            NotFaithful::Memory => EnforceError::Memory,
+            own => EnforceError::Unfaithful(own),
+        }
+    }
+}
+
+/// The expression with the matcher in every selector, and in each of its or-groups, wherever selectors stand. Where an equal
+/// matcher is there already, nothing is added. The labels that the second argument of `info` selects are left alone.
+///
+/// Each selector then selects exactly the series that it selected and the matcher allows (law
+/// `enforced_selectors_select`); nothing else changes.
+///
+/// # Errors
+///
+/// `MetricName` exactly where the matcher is of the label `__name__`; `Memory` where an allocation failed.
+pub fn enforce(alloc: Global, expr: Expr, matcher: &Matcher) -> Result<Expr, EnforceError>
+    ensures ok { IfOk result (λ e.
+        tree_of e ≡ enforced (plain_matcher_of matcher.now) (tree_of expr)) }
+    ensures name { IsErrOf result EnforceError.MetricName
+        ↔ (name_of (plain_matcher_of matcher.now) ≡ codes "__name__") }
+    ensures errors { IfErr result IsOfTrees }
+{
+    if matcher.name.as_str() == METRIC_NAME {
+        drop(expr);
+        return Err(EnforceError::MetricName);
+    }
+    let mut expr = expr;
+    match enforce_expr(alloc, &mut expr, matcher) {
+        Ok(()) => Ok(expr),
+        Err(error) => {
+            drop(expr);
+            Err(EnforceError::from(error))
+        }
+    }
+}
+
+/// The query with the matcher in every selector, on one line. The text that is returned is read again before, and means the
+/// enforced tree of the query.
+///
+/// # Errors
+///
+/// `MetricName` exactly where the matcher is of the label `__name__`, before the query is looked at; `Parse` where the parser
+/// rejects the query; `Unfaithful` where the text would not mean the enforced tree; `Memory` where an allocation failed.
+pub fn enforce_query(alloc: Global, query: &str, matcher: &Matcher) -> Result<String, EnforceError>
+    ensures ok { IfOk result (λ line.
+        IsEnforced query.now (plain_matcher_of matcher.now) (string_bytes line)) }
+    ensures name { IsErrOf result EnforceError.MetricName
+        ↔ (name_of (plain_matcher_of matcher.now) ≡ codes "__name__") }
+    ensures parse { (e : ParseError) → IsErrOf result (EnforceError.Parse e)
+        → IsAnswerTo query.now (Err (plain_error_of e)) × (e ≢ ParseError.Memory) }
+    ensures rejected { (e : ParseError)
+        → IsErrOf result (EnforceError.Unfaithful (NotFaithful.Rejected e))
+        → IsLineRejected query.now (plain_matcher_of matcher.now) e }
+    ensures other { IsErrOf result (EnforceError.Unfaithful NotFaithful.OtherTree)
+        → IsLineOther query.now (plain_matcher_of matcher.now) }
+{
+    if matcher.name.as_str() == METRIC_NAME {
+        return Err(EnforceError::MetricName);
+    }
+    let mut expr = parse(alloc, query)?;
+    let line = enforced_line(alloc, &mut expr, matcher);
+    drop(expr);
+    line
+}
+
+/// Puts the matcher into every selector, and returns the line of the expression.
+fn enforced_line(alloc: Global, expr: &mut Expr, matcher: &Matcher) -> Result<String, EnforceError>
+    ensures ok { IfOk result (λ s. IsLineOf
+        (enforced (plain_matcher_of matcher.now) (tree_of expr.old)) (string_bytes s)) }
+    ensures rejected { (e : ParseError)
+        → IsErrOf result (EnforceError.Unfaithful (NotFaithful.Rejected e)) → IsAnswerTo
+        (line_text (enforced (plain_matcher_of matcher.now) (tree_of expr.old)))
+        (Err (plain_error_of e)) }
+    ensures other { IsErrOf result (EnforceError.Unfaithful NotFaithful.OtherTree) → MeansOther
+        (line_text (enforced (plain_matcher_of matcher.now) (tree_of expr.old)))
+        (enforced (plain_matcher_of matcher.now) (tree_of expr.old)) }
+    ensures errors { IfErr result IsOfLine }
+{
+    match enforce_expr(alloc, expr, matcher) {
+        Ok(()) => {}
+        Err(error) => return Err(EnforceError::from(error)),
+    }
+    match faithful_line(alloc, expr) {
+        Ok(line) => Ok(line),
+        Err(error) => Err(EnforceError::from(error)),
+    }
+}
+
+/// Puts the matcher into every selector. Where an allocation fails, some selectors may have it.
+#[cycle(enforce)]
+#[tactic(auto, using(promql_ast::proofs::NodeParts::tree_of_call, promql_ast::proofs::NodeParts::tree_of_extension, promql_ast::proofs::NodeParts::tree_of_aggregate))]
+fn enforce_expr(alloc: Global, expr: &mut Expr, matcher: &Matcher) -> Result<(), AllocError>
+    ensures { OnOk result
+        (tree_of expr.new ≡ enforced (plain_matcher_of matcher.now) (tree_of expr.old)) }
+{
+    match expr {
+        Expr::Aggregate(e) => enforce_aggregate(alloc, e, matcher),
+        Expr::Unary(e) => enforce_expr(alloc, &mut e.expr, matcher),
+        Expr::Binary(e) => enforce_binary(alloc, e, matcher),
+        Expr::Paren(e) => enforce_expr(alloc, &mut e.expr, matcher),
+        Expr::Subquery(e) => enforce_expr(alloc, &mut e.expr, matcher),
+        Expr::NumberLiteral(_) => Ok(()),
+        Expr::StringLiteral(_) => Ok(()),
+        Expr::VectorSelector(e) => enforce_matchers(alloc, &mut e.matchers, matcher),
+        Expr::MatrixSelector(e) => enforce_matchers(alloc, &mut e.vs.matchers, matcher),
+        Expr::Call(e) => enforce_call(alloc, e, matcher),
+        Expr::Extension(e) => enforce_extension(alloc, e, matcher),
+    }
+}
+
+#[cycle(enforce)]
+fn enforce_aggregate(
+    alloc: Global,
+    node: &mut AggregateExpr,
+    matcher: &Matcher,
+) -> Result<(), AllocError>
+    ensures { OnOk result (aggregate_tree node.new
+        ≡ enforced (plain_matcher_of matcher.now) (aggregate_tree node.old)) }
+{
+    if let Some(param) = &mut node.param {
+        enforce_expr(alloc, param, matcher)?;
+    }
+    enforce_expr(alloc, &mut node.expr, matcher)
+}
+
+#[cycle(enforce)]
+fn enforce_binary(alloc: Global, node: &mut BinaryExpr, matcher: &Matcher) -> Result<(), AllocError>
+    ensures { OnOk result (binary_tree node.new
+        ≡ enforced (plain_matcher_of matcher.now) (binary_tree node.old)) }
+{
+    enforce_expr(alloc, &mut node.lhs, matcher)?;
+    enforce_expr(alloc, &mut node.rhs, matcher)
+}
+
+#[cycle(enforce)]
+fn enforce_call(alloc: Global, node: &mut Call, matcher: &Matcher) -> Result<(), AllocError>
+    ensures { OnOk result (call_tree node.new
+        ≡ enforced (plain_matcher_of matcher.now) (call_tree node.old)) }
+{
+    let args = node.args.args.as_mut_slice();
+    if node.func.name == INFO {
+        enforce_first(alloc, args, matcher)
+    } else {
+        enforce_args(alloc, args, matcher)
+    }
+}
+
+#[cycle(enforce)]
+fn enforce_first(alloc: Global, args: &mut [Box<Expr>], matcher: &Matcher) -> Result<(), AllocError>
+    ensures { OnOk result (trees_of args.new
+        ≡ first_enforced (plain_matcher_of matcher.now) (trees_of args.old)) }
+{
+    if !args.is_empty() {
+        enforce_expr(alloc, &mut args[0], matcher)?;
+    }
+    Ok(())
+}
+
+#[cycle(enforce)]
+fn enforce_args(alloc: Global, args: &mut [Box<Expr>], matcher: &Matcher) -> Result<(), AllocError>
+    ensures { OnOk result (map (λ b. tree_of b.value) args.new
+        ≡ map (λ b. enforced (plain_matcher_of matcher.now) (tree_of b.value)) args.old) }
+{
+    for i in 0..args.len() {
+        enforce_expr(alloc, &mut args[i], matcher)?;
+    }
+    Ok(())
+}
+
+#[cycle(enforce)]
+fn enforce_extension(
+    alloc: Global,
+    node: &mut Extension,
+    matcher: &Matcher,
+) -> Result<(), AllocError>
+    ensures { OnOk result (extension_tree node.new
+        ≡ enforced (plain_matcher_of matcher.now) (extension_tree node.old)) }
+{
+    enforce_children(alloc, node.children.as_mut_slice(), matcher)
+}
+
+#[cycle(enforce)]
+fn enforce_children(
+    alloc: Global,
+    children: &mut [Expr],
+    matcher: &Matcher,
+) -> Result<(), AllocError>
+    ensures { OnOk result (map tree_of children.new
+        ≡ map (λ e. enforced (plain_matcher_of matcher.now) (tree_of e)) children.old) }
+{
+    for i in 0..children.len() {
+        enforce_expr(alloc, &mut children[i], matcher)?;
+    }
+    Ok(())
+}
+
+/// Puts the matcher into each or-group, or where there is none beside the groups.
+fn enforce_matchers(
+    alloc: Global,
+    matchers: &mut Matchers,
+    matcher: &Matcher,
+) -> Result<(), AllocError>
+    ensures { OnOk result (plain_matchers_of matchers.new
+        ≡ enforced_matchers (plain_matcher_of matcher.now) (plain_matchers_of matchers.old)) }
+{
+    if matchers.or_matchers.is_empty() {
+        enforce_list(alloc, &mut matchers.matchers, matcher)
+    } else {
+        enforce_groups(alloc, &mut matchers.or_matchers, matcher)
+    }
+}
+
+/// Puts the matcher into each group.
+fn enforce_groups(
+    alloc: Global,
+    groups: &mut [Vec<Matcher>],
+    matcher: &Matcher,
+) -> Result<(), AllocError>
+    ensures { OnOk result (map (λ g. map plain_matcher_of g.items) groups.new
+        ≡ map (λ g. with_matcher (plain_matcher_of matcher.now) (map plain_matcher_of g.items)) groups.old) }
+{
+    for i in 0..groups.len() {
+        enforce_list(alloc, &mut groups[i], matcher)?;
+    }
+    Ok(())
+}
+
+/// Appends the matcher, unless an equal one is there.
+fn enforce_list(
+    alloc: Global,
+    matchers: &mut Vec<Matcher>,
+    matcher: &Matcher,
+) -> Result<(), AllocError>
+    ensures { OnOk result (map plain_matcher_of matchers.new.items
+        ≡ with_matcher (plain_matcher_of matcher.now) (map plain_matcher_of matchers.old.items)) }
+{
+    if has_matcher(matchers, matcher) {
+        return Ok(());
+    }
+    matchers.push(matcher.try_clone(alloc)?)?;
+    Ok(())
+}
+
+/// Whether an equal matcher is among these.
+fn has_matcher(matchers: &[Matcher], matcher: &Matcher) -> bool
+    ensures { result ≡ list_any (matcher_eq (plain_matcher_of matcher.now)) (map plain_matcher_of matchers.now) }
+{
+    matchers.iter().any(|own| is_same(matcher, own))
+}
+
+fn is_same(one: &Matcher, other: &Matcher) -> bool
+    ensures { result ≡ matcher_eq (plain_matcher_of one.now) (plain_matcher_of other.now) }
+{
+    promql_label::laws::equal_matchers();
+    one == other
+}

@@ -1,0 +1,186 @@
+//! A matcher in every selector.
+
+use promql_label::{MatchOp, Matcher};
+use promql_rewrite::{EnforceError, enforce_query};
+use std::alloc::{AllocError, Global};
+use std::test::Fail;
+
+/// Each query with its line once `namespace="team-a"` is enforced, or the message of its rejection.
+const ROWS: [(&str, &str); 27] = [
+    ("foo", r#"foo{namespace="team-a"}"#),
+    ("foo{}", r#"foo{namespace="team-a"}"#),
+    ("a + b", r#"a{namespace="team-a"} + b{namespace="team-a"}"#),
+    (
+        r#"sum by (job) (rate(a{b="c"}[5m])) / on (job) d offset 1h"#,
+        r#"sum by (job) (rate(a{b="c",namespace="team-a"}[5m])) / on (job) d{namespace="team-a"} offset 1h"#,
+    ),
+    ("absent(a)", r#"absent(a{namespace="team-a"})"#),
+    (
+        "max_over_time(rate(a[5m])[1h:1m] @ start())",
+        r#"max_over_time(rate(a{namespace="team-a"}[5m])[1h:1m] @ start())"#,
+    ),
+    (
+        "topk(scalar(k), a)",
+        r#"topk(scalar(k{namespace="team-a"}), a{namespace="team-a"})"#,
+    ),
+    ("-a ^ 2", r#"-a{namespace="team-a"} ^ 2"#),
+    (
+        "(a) offset 5m",
+        "offset modifier must be preceded by an vector selector or matrix selector or a subquery",
+    ),
+    ("a[5m] anchored", r#"a{namespace="team-a"}[5m] anchored"#),
+    ("1 + 2", "1 + 2"),
+    (
+        r#"label_replace(a, "b", "c", "d", "e")"#,
+        r#"label_replace(a{namespace="team-a"}, "b", "c", "d", "e")"#,
+    ),
+    // Groups: the matcher in each, unless it is there.
+    (
+        r#"{a="1" or b="2"}"#,
+        r#"{a="1", namespace="team-a" or b="2", namespace="team-a"}"#,
+    ),
+    (
+        r#"{a="1" or namespace="team-a" or b="2"}"#,
+        r#"{a="1", namespace="team-a" or namespace="team-a" or b="2", namespace="team-a"}"#,
+    ),
+    // Matchers of the same label: only an equal one makes a difference.
+    (r#"a{namespace="team-a"}"#, r#"a{namespace="team-a"}"#),
+    (
+        r#"a{namespace="team-a",b="c"}"#,
+        r#"a{b="c",namespace="team-a"}"#,
+    ),
+    (
+        r#"a{namespace="team-b"}"#,
+        r#"a{namespace="team-a",namespace="team-b"}"#,
+    ),
+    (
+        r#"a{namespace!="team-a"}"#,
+        r#"a{namespace!="team-a",namespace="team-a"}"#,
+    ),
+    (
+        r#"a{namespace=~"team-a"}"#,
+        r#"a{namespace="team-a",namespace=~"team-a"}"#,
+    ),
+    (
+        r#"a{namespace=""}"#,
+        r#"a{namespace="",namespace="team-a"}"#,
+    ),
+    // Quoted names, and a name among the matchers.
+    (
+        r#"{"a.b", "c d"="e"}"#,
+        r#"{"c d"="e",__name__="a.b",namespace="team-a"}"#,
+    ),
+    (
+        r#"{__name__=~"a|b"}"#,
+        r#"{__name__=~"a|b",namespace="team-a"}"#,
+    ),
+    // The second argument of `info` selects labels.
+    (
+        r#"info(a, {b="c"})"#,
+        r#"info(a{namespace="team-a"}, {b="c"})"#,
+    ),
+    ("info(a)", r#"info(a{namespace="team-a"})"#),
+    // Rejected queries.
+    (
+        "{}",
+        "vector selector must contain at least one non-empty matcher",
+    ),
+    ("a +", "invalid promql query"),
+    (
+        "rate(a)",
+        "expected type matrix in call to function 'rate', got vector",
+    ),
+];
+
+fn tenant(alloc: Global) -> Result<Matcher, AllocError> {
+    Matcher::new(alloc, MatchOp::Equal, "namespace", "team-a")
+}
+
+/// The line of the query once the matcher is enforced, or the message of the error.
+fn enforced(alloc: Global, query: &str, matcher: &Matcher) -> Result<String, AllocError> {
+    match enforce_query(alloc, query, matcher) {
+        Ok(line) => Ok(line),
+        Err(error) => error.to_string(alloc),
+    }
+}
+
+#[test]
+fn each_selector_has_the_matcher(rt: HostRuntime) -> Result<(), Fail> {
+    let alloc = rt.alloc();
+    let matcher = tenant(alloc)?;
+    for (query, want) in ROWS {
+        let line = enforced(alloc, query, &matcher)?;
+        assert!(rt; line.as_str() == want, "{query}: {line}");
+    }
+    Ok(())
+}
+
+/// The text so many times, between two others.
+fn repeated(
+    alloc: Global,
+    front: &str,
+    text: &str,
+    times: usize,
+    back: &str,
+) -> Result<String, AllocError> {
+    let mut made = String::from_str(alloc, front)?;
+    for _ in 0..times {
+        made.push_str(text)?;
+    }
+    made.push_str(back)?;
+    Ok(made)
+}
+
+#[test]
+fn long_queries_too(rt: HostRuntime) -> Result<(), Fail> {
+    let alloc = rt.alloc();
+    let matcher = tenant(alloc)?;
+    let sum = repeated(alloc, "a", " + a", 500, "")?;
+    let sum_line = repeated(
+        alloc,
+        r#"a{namespace="team-a"}"#,
+        r#" + a{namespace="team-a"}"#,
+        500,
+        "",
+    )?;
+    assert!(rt; enforced(alloc, &sum, &matcher)? == sum_line);
+    let groups = repeated(alloc, r#"{a="1""#, r#" or b="2""#, 300, "}")?;
+    let groups_line = repeated(
+        alloc,
+        r#"{a="1", namespace="team-a""#,
+        r#" or b="2", namespace="team-a""#,
+        300,
+        "}",
+    )?;
+    assert!(rt; enforced(alloc, &groups, &matcher)? == groups_line);
+    let list = repeated(alloc, r#"a{b="1""#, r#",b="1""#, 600, "}")?;
+    let list_line = repeated(
+        alloc,
+        r#"a{b="1""#,
+        r#",b="1""#,
+        600,
+        r#",namespace="team-a"}"#,
+    )?;
+    assert!(rt; enforced(alloc, &list, &matcher)? == list_line);
+    Ok(())
+}
+
+#[test]
+fn the_metric_name_is_rejected(rt: HostRuntime) -> Result<(), Fail> {
+    let alloc = rt.alloc();
+    let matcher = Matcher::new(alloc, MatchOp::Equal, "__name__", "a")?;
+    assert!(rt;
+        matches!(
+            enforce_query(alloc, "b", &matcher),
+            Err(EnforceError::MetricName)
+        )
+    );
+    // Before the query is looked at.
+    assert!(rt;
+        matches!(
+            enforce_query(alloc, "b +", &matcher),
+            Err(EnforceError::MetricName)
+        )
+    );
+    Ok(())
+}
