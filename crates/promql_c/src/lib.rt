@@ -1,0 +1,74 @@
+//! What bindings/c/promql.c calls, once it has looked at the pointers: the calls of `promql_calls`, and no more.
+#![tactic(auto)]
+
+ghost use Rattle.std.specs.Prelude.{Some, Ok};
+ghost use Rattle.promql_run.specs.declared.request.Format.TheVariants.{Line};
+ghost use Rattle.promql_calls.specs.CallResults.{Shows, ShowsSome};
+ghost use Rattle.promql_calls.specs.Calls.{IsCheckOf, IsPrintOf, IsSnippetOf};
+ghost use Rattle.promql_calls.specs.Formats.{format_numbered};
+ghost use Rattle.promql_calls.specs.declared.calls.TheConstants.{CALLS_VERSION};
+
+use promql_calls::CallResult;
+use std::alloc::Global;
+
+/// `promql_calls::print`.
+#[unsafe(no_mangle)]
+pub extern "C" fn call_print(
+    alloc: Global,
+    query: &[u8],
+    mode: u32,
+    level: u32,
+    width: usize,
+    buffer: &mut [u8],
+    shown: &mut CallResult,
+)
+    ensures { ShowsSome (IsPrintOf query.now (format_numbered mode level width))
+        shown.new buffer.old buffer.new }
+{
+    *shown = promql_calls::print(alloc, query, mode, level, width, buffer);
+}
+
+/// `promql_calls::canonical`.
+#[unsafe(no_mangle)]
+pub extern "C" fn call_canonical(
+    alloc: Global,
+    query: &[u8],
+    buffer: &mut [u8],
+    shown: &mut CallResult,
+)
+    ensures { ShowsSome (IsPrintOf query.now (Some Line)) shown.new buffer.old buffer.new }
+{
+    *shown = promql_calls::canonical(alloc, query, buffer);
+}
+
+/// `promql_calls::check`.
+#[unsafe(no_mangle)]
+pub extern "C" fn call_check(alloc: Global, query: &[u8], buffer: &mut [u8], shown: &mut CallResult)
+    ensures { ShowsSome (IsCheckOf query.now) shown.new buffer.old buffer.new }
+{
+    *shown = promql_calls::check(alloc, query, buffer);
+}
+
+/// `promql_calls::snippet`.
+#[unsafe(no_mangle)]
+pub extern "C" fn call_snippet(
+    alloc: Global,
+    query: &[u8],
+    start: usize,
+    end: usize,
+    buffer: &mut [u8],
+    shown: &mut CallResult,
+)
+    ensures { ShowsSome (IsSnippetOf query.now (record { start = start; end = end }))
+        shown.new buffer.old buffer.new }
+{
+    *shown = promql_calls::snippet(alloc, query, start, end, buffer);
+}
+
+/// `promql_calls::version`.
+#[unsafe(no_mangle)]
+pub extern "C" fn call_version(buffer: &mut [u8], shown: &mut CallResult)
+    ensures { Shows (Ok CALLS_VERSION.now) shown.new buffer.old buffer.new }
+{
+    *shown = promql_calls::version(buffer);
+}

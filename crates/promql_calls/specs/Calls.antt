@@ -1,0 +1,50 @@
+-- What each call makes of a query (docs/guide/bindings.md, "Calls").
+use Rattle.std.specs.Prelude.{◌≡◌, [], Option, Some, None, Result, Ok, Err}
+use Rattle.std.specs.Str.{IsUtf8}
+use Rattle.promql_text.specs.Texts.{Text}
+use Rattle.promql_span.specs.declared.span.Span.{Span}
+use Rattle.promql_ast.specs.Tree.{Tree}
+use Rattle.promql_syntax.specs.ParseAnswers.{IsAnswerTo}
+use Rattle.promql_walk.specs.declared.json_error.JsonError.{JsonError}
+use Rattle.promql_walk.specs.declared.json_error.JsonError.TheVariants as json_errors
+use Rattle.promql_run.specs.Checking.{marked_line}
+use Rattle.promql_run.specs.Rejecting.{IsRejection}
+use Rattle.promql_run.specs.declared.request.Format.{Format}
+use Rattle.promql_calls.specs.declared.call_error.CallError.{CallError}
+use Rattle.promql_calls.specs.declared.call_error.CallError.TheVariants as errors
+use Rattle.promql_calls.specs.Formats.{format_text}
+
+-- the query has a tree, and this is its text in the format, or why it has none
+pub record HasText (query : Text) (format : Format) (made : Result Text JsonError) : Type 0 where
+  pub utf8 : IsUtf8 query
+  pub tree : Tree
+  pub parsed : IsAnswerTo query (Ok tree)
+  pub gives : format_text format tree ≡ made
+
+-- an allocation failed, or the query is not valid UTF-8
+abbrev pub IsUnread : Text → CallError → Type 0
+IsUnread query errors.Memory = Unit {0}
+IsUnread query errors.NotUtf8 = ¬ IsUtf8 query
+IsUnread query _ = ⊥
+
+-- or the parser rejects it
+abbrev pub HasNoTree : Text → CallError → Type 0
+HasNoTree query (errors.Rejected r) = IsUtf8 query × IsRejection query r
+HasNoTree query e = IsUnread query e
+
+-- "print": the text in the format, if one was asked for
+abbrev pub IsPrintOf : Text → Option Format → Result Text CallError → Type 0
+IsPrintOf query None made = made ≡ Err errors.UnknownMode
+IsPrintOf query (Some format) (Ok text) = HasText query format (Ok text)
+IsPrintOf query (Some format) (Err errors.NumberTooWide) = HasText query format (Err json_errors.NumberTooWide)
+IsPrintOf query (Some format) (Err e) = HasNoTree query e
+
+-- "check": an empty text where the query has a tree
+abbrev pub IsCheckOf : Text → Result Text CallError → Type 0
+IsCheckOf query (Ok text) = (text ≡ []) × IsUtf8 query × ((t : Tree) × IsAnswerTo query (Ok t))
+IsCheckOf query (Err e) = HasNoTree query e
+
+-- "snippet": the line where the span begins, with its mark below
+abbrev pub IsSnippetOf : Text → Span → Result Text CallError → Type 0
+IsSnippetOf query span (Ok text) = IsUtf8 query × (text ≡ marked_line query span)
+IsSnippetOf query span (Err e) = IsUnread query e

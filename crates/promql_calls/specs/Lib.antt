@@ -1,0 +1,4 @@
+pub mod CallResults
+pub mod Calls
+pub mod Formats
+pub mod PrintErrors

@@ -1,0 +1,54 @@
+//! Why a call gives no text.
+
+ghost use Rattle.std.specs.Prelude.{◌≡◌};
+ghost use Rattle.promql_calls.specs.CallResults.{error_status};
+
+use promql_run::rejection::Rejection;
+use std::alloc::AllocError;
+use thiserror::Error;
+
+/// Why a call gives no text (docs/guide/bindings.md, "Statuses").
+#[derive(Debug, Drop, Error)]
+pub enum CallError {
+    /// An allocation failed.
+    #[error("out of memory")]
+    Memory,
+    /// The query is not valid UTF-8.
+    #[error("input is not UTF-8")]
+    NotUtf8,
+    /// The parser rejects the query.
+    #[error("{0}")]
+    Rejected(Rejection),
+    /// The query has no JSON form: a number of milliseconds is too wide.
+    #[error("number too wide for JSON")]
+    NumberTooWide,
+    /// There is no mode of this number, or the level of a layout is above 65,535.
+    #[error("unknown mode")]
+    UnknownMode,
+}
+
+impl CallError {
+    /// The status of a call with this error.
+    pub fn status(&self) -> u32
+        ensures { result ≡ error_status self.now }
+    {
+        match self {
+            CallError::Memory => 1,
+            CallError::NotUtf8 => 3,
+            CallError::Rejected(_) => 4,
+            CallError::NumberTooWide => 6,
+            CallError::UnknownMode => 9,
+        }
+    }
+}
+
+impl From<AllocError> for CallError {
+    ghost use Rattle.std.specs.Prelude.{◌≡◌};
+    ghost use Rattle.promql_calls.specs.declared.call_error.CallError.TheVariants.{Memory};
+
+    ghost from_gives = { λ _ e. e ≡ Memory };
+
+    fn from(_e: AllocError) -> CallError {
+        CallError::Memory
+    }
+}

@@ -1,0 +1,71 @@
+//! The calls: from the bytes of a query into a caller's buffer. docs/guide/bindings.md, "Calls", has the rules.
+
+ghost use Rattle.std.specs.Prelude.{Some, Ok};
+ghost use Rattle.promql_calls.specs.CallResults.{Shows, ShowsSome};
+ghost use Rattle.promql_calls.specs.Calls.{IsCheckOf, IsPrintOf, IsSnippetOf};
+ghost use Rattle.promql_calls.specs.Formats.{format_numbered};
+
+use crate::call_result::{CallResult, show, show_text};
+use crate::printing::{check_query, format_of, mark_query, print_query};
+use promql_run::request::Format;
+use promql_span::Span;
+use std::alloc::Global;
+
+/// The version of the calls: a new call, or a new status of one, has a new version.
+pub const CALLS_VERSION: &str = "0.1.0";
+
+/// Prints a query in the mode of this number: 0 on one line, 1 laid out, 2 as JSON. `level` counts indentations of two
+/// spaces, at most 65,535, and `width` is the most bytes that a line has, its indentation not counted; both are for a
+/// layout alone.
+pub fn print(
+    alloc: Global,
+    query: &[u8],
+    mode: u32,
+    level: u32,
+    width: usize,
+    buffer: &mut [u8],
+) -> CallResult
+    ensures { ShowsSome (IsPrintOf query.now (format_numbered mode level width))
+        result buffer.old buffer.new }
+{
+    let made = print_query(alloc, format_of(mode, level, width), query);
+    show(alloc, made, buffer)
+}
+
+/// Prints a query on one line, which is the line of its normal form too: the key of a cache (docs/guide/cache.md).
+pub fn canonical(alloc: Global, query: &[u8], buffer: &mut [u8]) -> CallResult
+    ensures { ShowsSome (IsPrintOf query.now (Some Format.Line)) result buffer.old buffer.new }
+{
+    let made = print_query(alloc, Some(Format::Line), query);
+    show(alloc, made, buffer)
+}
+
+/// Checks a query: an empty text where it is accepted, and else the error and its place.
+pub fn check(alloc: Global, query: &[u8], buffer: &mut [u8]) -> CallResult
+    ensures { ShowsSome (IsCheckOf query.now) result buffer.old buffer.new }
+{
+    let made = check_query(alloc, query);
+    show(alloc, made, buffer)
+}
+
+/// Shows the line of a query where the part from `start` up to `end` begins, with a mark below it, as `promql_check` does.
+pub fn snippet(
+    alloc: Global,
+    query: &[u8],
+    start: usize,
+    end: usize,
+    buffer: &mut [u8],
+) -> CallResult
+    ensures { ShowsSome (IsSnippetOf query.now (record { start = start; end = end }))
+        result buffer.old buffer.new }
+{
+    let made = mark_query(alloc, query, Span { start, end });
+    show(alloc, made, buffer)
+}
+
+/// Shows `CALLS_VERSION`.
+pub fn version(buffer: &mut [u8]) -> CallResult
+    ensures { Shows (Ok CALLS_VERSION.now) result buffer.old buffer.new }
+{
+    show_text(CALLS_VERSION, buffer)
+}

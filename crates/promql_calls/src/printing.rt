@@ -1,0 +1,152 @@
+//! What a call makes of a query: its text in a format, nothing where it is accepted, or its line with a mark.
+
+ghost use Rattle.std.specs.Prelude.{◌≡◌, ◌≤◌, Some, Ok, Err, IfOk, IfErr, IsErrOf, string_bytes};
+ghost use Rattle.promql_grammar.specs.Results.{on_result};
+ghost use Rattle.promql_ast.specs.Height.{height};
+ghost use Rattle.promql_ast.specs.Layout.{layout_of};
+ghost use Rattle.promql_ast.specs.View.{tree_of};
+ghost use Rattle.promql_syntax.specs.declared.parser.TheConstants.{MAX_DEPTH};
+ghost use Rattle.promql_walk.specs.declared.json_error.JsonError.TheVariants.{NumberTooWide};
+ghost use Rattle.promql_run.specs.Extensions.{HasNoExtension};
+ghost use Rattle.promql_calls.specs.Calls.{IsCheckOf, IsPrintOf, IsSnippetOf};
+ghost use Rattle.promql_calls.specs.Formats.{format_numbered, format_text};
+ghost use Rattle.promql_calls.specs.PrintErrors.{IsPrintError};
+
+use crate::call_error::CallError;
+use promql_ast::{Expr, Prettier, PrettyError};
+use promql_run::rejection::read_query;
+use promql_run::request::{Format, Layout};
+use promql_span::Span;
+use promql_walk::JsonError;
+use std::alloc::{AllocError, Global};
+
+/// The greatest level of a layout.
+const MAX_LEVEL: u32 = 65_535;
+
+/// The format of a mode's number; `None` where there is none. Only a layout has a level and a width.
+pub(crate) fn format_of(mode: u32, level: u32, width: usize) -> Option<Format>
+    ensures { result ≡ format_numbered mode level width }
+{
+    match mode {
+        0 => Some(Format::Line),
+        1 => {
+            if level > MAX_LEVEL {
+                return None;
+            }
+            let level = level as u16;
+            Some(Format::Pretty(Layout { level, width }))
+        }
+        2 => Some(Format::Json),
+        _ => None,
+    }
+}
+
+/// The expression, laid out. An expression that was read is low enough for each indentation.
+fn layout_text(alloc: Global, level: u16, width: usize, expr: &Expr) -> Result<String, AllocError>
+    requires { height (tree_of expr.now) ≤ MAX_DEPTH }
+    ensures { IfOk result (λ s. string_bytes s ≡ layout_of (tree_of expr.now) level width) }
+{
+    match expr.pretty(alloc, level as usize, width) {
+        Ok(text) => Ok(text),
+        Err(PrettyError::Memory) => Err(AllocError),
+        Err(PrettyError::IndentTooWide) => unreachable!(),
+    }
+}
+
+/// The JSON form of the expression, without a space. An expression that was read has no extension.
+fn json_form(alloc: Global, expr: &Expr) -> Result<String, CallError>
+    requires { HasNoExtension (tree_of expr.now) }
+    ensures ok { IfOk result (λ s. format_text Format.Json (tree_of expr.now)
+        ≡ Ok (string_bytes s)) }
+    ensures json { IsErrOf result CallError.NumberTooWide →
+        format_text Format.Json (tree_of expr.now) ≡ Err NumberTooWide }
+    ensures errors { IfErr result IsPrintError }
+{
+    match promql_walk::json_text(alloc, expr) {
+        Ok(text) => Ok(text),
+        Err(JsonError::Memory) => Err(CallError::Memory),
+        Err(JsonError::NumberTooWide) => Err(CallError::NumberTooWide),
+        Err(JsonError::Extension) => unreachable!(),
+    }
+}
+
+/// The text of an expression in a format.
+fn expr_text(alloc: Global, format: Format, expr: &Expr) -> Result<String, CallError>
+    requires low { height (tree_of expr.now) ≤ MAX_DEPTH }
+    requires plain { HasNoExtension (tree_of expr.now) }
+    ensures ok { IfOk result (λ s. format_text format (tree_of expr.now) ≡ Ok (string_bytes s)) }
+    ensures json { IsErrOf result CallError.NumberTooWide →
+        format_text format (tree_of expr.now) ≡ Err NumberTooWide }
+    ensures errors { IfErr result IsPrintError }
+{
+    match format {
+        Format::Pretty(layout) => Ok(layout_text(alloc, layout.level, layout.width, expr)?),
+        Format::Line => Ok(expr.to_string(alloc)?),
+        Format::Json => json_form(alloc, expr),
+    }
+}
+
+/// The text of a query's tree in a format.
+fn print_text(alloc: Global, format: Format, text: &str) -> Result<String, CallError>
+    ensures { IsPrintOf text.now (Some format) (on_result (λ s. string_bytes s) result) }
+{
+    let expr = match read_query(alloc, text) {
+        Ok(Ok(expr)) => expr,
+        Ok(Err(rejection)) => return Err(CallError::Rejected(rejection)),
+        Err(_) => return Err(CallError::Memory),
+    };
+    let printed = expr_text(alloc, format, &expr);
+    drop(expr);
+    printed
+}
+
+/// The text of a query's tree in the format that was asked for.
+pub(crate) fn print_query(
+    alloc: Global,
+    asked: Option<Format>,
+    query: &[u8],
+) -> Result<String, CallError>
+    ensures { IsPrintOf query.now asked (on_result (λ s. string_bytes s) result) }
+{
+    let Some(format) = asked else {
+        return Err(CallError::UnknownMode);
+    };
+    let Ok(text) = str::from_utf8(query) else {
+        return Err(CallError::NotUtf8);
+    };
+    print_text(alloc, format, text)
+}
+
+/// Nothing where a query is accepted.
+fn check_text(alloc: Global, text: &str) -> Result<String, CallError>
+    ensures { IsCheckOf text.now (on_result (λ s. string_bytes s) result) }
+{
+    match read_query(alloc, text) {
+        Ok(Ok(_)) => Ok(String::new(alloc)),
+        Ok(Err(rejection)) => Err(CallError::Rejected(rejection)),
+        Err(_) => Err(CallError::Memory),
+    }
+}
+
+/// Nothing where a query is accepted.
+pub(crate) fn check_query(alloc: Global, query: &[u8]) -> Result<String, CallError>
+    ensures { IsCheckOf query.now (on_result (λ s. string_bytes s) result) }
+{
+    let Ok(text) = str::from_utf8(query) else {
+        return Err(CallError::NotUtf8);
+    };
+    check_text(alloc, text)
+}
+
+/// The line of a query where a part of it begins, with a mark below it.
+pub(crate) fn mark_query(alloc: Global, query: &[u8], span: Span) -> Result<String, CallError>
+    ensures { IsSnippetOf query.now span (on_result (λ s. string_bytes s) result) }
+{
+    let Ok(text) = str::from_utf8(query) else {
+        return Err(CallError::NotUtf8);
+    };
+    match promql_span::snippet(alloc, text, span) {
+        Ok(marked) => Ok(marked),
+        Err(_) => Err(CallError::Memory),
+    }
+}
