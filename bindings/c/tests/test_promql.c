@@ -1,0 +1,468 @@
+/* Tests of promql.h:
+ *
+ *     test_promql                          each call, by cases that are typed here
+ *     test_promql rows FILE [THREADS]      makes the calls of a file and prints what each gives (bindings/rows.py has the format);
+ *                                          with THREADS, that many threads make all of them again and get the same
+ *     test_promql random FILE COUNT SEED   makes COUNT broken texts of the queries of such a file, and calls with each
+ *
+ * Without `rows` the last line is 'N passed, M failed'. */
+#include "promql.h"
+
+#include <pthread.h>
+#include <stdio.h>
+#include <stdlib.h>
+#include <string.h>
+
+static long passed, failed;
+
+static void check_at(int holds, const char *what, int line)
+{
+    if (holds) {
+        passed++;
+    } else {
+        failed++;
+        printf("FAILED %s:%d: %s\n", __FILE__, line, what);
+    }
+}
+
+#define CHECK(condition) check_at((condition) != 0, #condition, __LINE__)
+
+static void *allocate(size_t size)
+{
+    void *start = malloc(size != 0 ? size : 1);
+    if (start == NULL)
+        abort();
+    return start;
+}
+
+/* A call with its arguments. */
+enum call { CALL_PRINT, CALL_CANONICAL, CALL_CHECK, CALL_SNIPPET };
+
+struct request {
+    enum call call;
+    uint32_t mode, level;
+    size_t width, start, end;
+    const char *query;
+    size_t length;
+};
+
+static uint32_t make_call(const struct request *r, char *buffer, size_t size, struct promql_result *result)
+{
+    switch (r->call) {
+    case CALL_PRINT:
+        return promql_print(r->query, r->length, r->mode, r->level, r->width, buffer, size, result);
+    case CALL_CANONICAL:
+        return promql_canonical(r->query, r->length, buffer, size, result);
+    case CALL_CHECK:
+        return promql_check(r->query, r->length, buffer, size, result);
+    default:
+        return promql_snippet(r->query, r->length, r->start, r->end, buffer, size, result);
+    }
+}
+
+/* What a call gives, with its text in memory of its own. */
+struct answer {
+    struct promql_result result;
+    char *text;
+};
+
+#define GUARD 16
+
+/* Calls with a buffer of this size that has a guard after it, and returns whether nothing but the text was written. */
+static int call_guarded(const struct request *r, size_t size, struct answer *answer)
+{
+    char *buffer = allocate(size + GUARD);
+    memset(buffer, '\xaa', size + GUARD);
+    memset(&answer->result, '\xaa', sizeof answer->result);
+    int is_good = make_call(r, buffer, size, &answer->result) == answer->result.status;
+    size_t written = answer->result.length <= size ? answer->result.length : 0;
+    for (size_t i = written; i < size + GUARD; i++)
+        is_good = is_good && buffer[i] == '\xaa';
+    answer->text = buffer;
+    return is_good;
+}
+
+/* Calls with a buffer that is likely to be too small, then with one that is just large enough. */
+static int call_whole(const struct request *r, struct answer *answer)
+{
+    int is_good = call_guarded(r, 24, answer);
+    if (answer->result.length <= 24)
+        return is_good && answer->result.status != PROMQL_BUFFER_TOO_SMALL;
+    struct promql_result first = answer->result;
+    free(answer->text);
+    is_good = is_good && call_guarded(r, first.length, answer);
+    /* (an error keeps its status, a text that does not fit has one of its own) */
+    if (first.status == PROMQL_BUFFER_TOO_SMALL)
+        first.status = PROMQL_OK;
+    return is_good && first.status == answer->result.status && first.length == answer->result.length
+        && first.start == answer->result.start && first.end == answer->result.end
+        && first.line == answer->result.line && first.column == answer->result.column;
+}
+
+static int is_same(const struct answer *a, const struct answer *b)
+{
+    return a->result.status == b->result.status && a->result.length == b->result.length
+        && a->result.start == b->result.start && a->result.end == b->result.end && a->result.line == b->result.line
+        && a->result.column == b->result.column && memcmp(a->text, b->text, a->result.length) == 0;
+}
+
+/* ---- cases */
+
+static struct request of_query(enum call call, const char *query)
+{
+    struct request r = {call, PROMQL_LINE, 0, 0, 0, 0, query, strlen(query)};
+    return r;
+}
+
+/* Whether the call gives this status and this text. */
+static int gives(struct request r, uint32_t status, const char *text)
+{
+    struct answer answer;
+    int is_good = call_whole(&r, &answer) && answer.result.status == status && answer.result.length == strlen(text)
+        && memcmp(answer.text, text, strlen(text)) == 0;
+    if (!is_good)
+        printf("status %u, text %.*s\n", (unsigned)answer.result.status, (int)answer.result.length, answer.text);
+    free(answer.text);
+    return is_good;
+}
+
+static int has_place(struct request r, size_t start, size_t end, size_t line, size_t column)
+{
+    struct answer answer;
+    int is_good = call_whole(&r, &answer) && answer.result.start == start && answer.result.end == end
+        && answer.result.line == line && answer.result.column == column;
+    free(answer.text);
+    return is_good;
+}
+
+static struct request in_mode(uint32_t mode, uint32_t level, size_t width, const char *query)
+{
+    struct request r = of_query(CALL_PRINT, query);
+    r.mode = mode;
+    r.level = level;
+    r.width = width;
+    return r;
+}
+
+static struct request marking(const char *query, size_t start, size_t end)
+{
+    struct request r = of_query(CALL_SNIPPET, query);
+    r.start = start;
+    r.end = end;
+    return r;
+}
+
+static void test_texts(void)
+{
+    CHECK(gives(of_query(CALL_CANONICAL, "sum(foo{b='1',a=\"2\"}) > .50"), PROMQL_OK, "sum(foo{a=\"2\",b=\"1\"}) > 0.5"));
+    CHECK(gives(in_mode(PROMQL_LINE, 7, 7, "1+2"), PROMQL_OK, "1 + 2"));
+    CHECK(gives(in_mode(PROMQL_PRETTY, 0, 8, "sum(a)/sum(b)"), PROMQL_OK, "  sum(a)\n/\n  sum(b)"));
+    CHECK(gives(in_mode(PROMQL_PRETTY, 1, 100, "1+2"), PROMQL_OK, "  1 + 2"));
+    CHECK(gives(in_mode(PROMQL_JSON, 0, 0, "1"), PROMQL_OK, "{\"type\":\"numberLiteral\",\"val\":\"1\"}"));
+    CHECK(gives(of_query(CALL_CHECK, "foo"), PROMQL_OK, ""));
+    CHECK(gives(marking("a +\n  * b", 6, 7), PROMQL_OK, "  * b\n  ^"));
+    CHECK(gives(marking("a", 90, 80), PROMQL_OK, "a\n ^"));
+}
+
+static void test_errors(void)
+{
+    enum call calls[] = {CALL_PRINT, CALL_CANONICAL, CALL_CHECK};
+    for (size_t i = 0; i < sizeof calls / sizeof *calls; i++) {
+        struct request r = of_query(calls[i], "sum(\n  rate(foo))");
+        CHECK(gives(r, PROMQL_REJECTED, "expected type matrix in call to function 'rate', got vector"));
+        CHECK(has_place(r, 12, 15, 2, 8));
+        CHECK(gives(of_query(calls[i], ""), PROMQL_REJECTED, "no expression found in input"));
+        CHECK(has_place(of_query(calls[i], "1 +"), 3, 3, 1, 4));
+        CHECK(gives(of_query(calls[i], "\xff"), PROMQL_NOT_UTF8, "input is not UTF-8"));
+        CHECK(has_place(of_query(calls[i], "\xff"), 0, 0, 0, 0));
+    }
+    CHECK(gives(marking("\xff", 0, 1), PROMQL_NOT_UTF8, "input is not UTF-8"));
+    const char *wide = "a[18446744073709551616ms]";
+    CHECK(gives(in_mode(PROMQL_JSON, 0, 0, wide), PROMQL_NUMBER_TOO_WIDE, "number too wide for JSON"));
+    CHECK(gives(of_query(CALL_CHECK, wide), PROMQL_OK, ""));
+    CHECK(gives(in_mode(3, 0, 0, "1"), PROMQL_UNKNOWN_MODE, "unknown mode"));
+    CHECK(gives(in_mode(UINT32_MAX, 0, 0, "\xff"), PROMQL_UNKNOWN_MODE, "unknown mode"));
+    CHECK(gives(in_mode(PROMQL_PRETTY, 65536, 0, "1"), PROMQL_UNKNOWN_MODE, "unknown mode"));
+    CHECK(gives(in_mode(PROMQL_LINE, 65536, 0, "1"), PROMQL_OK, "1"));
+    struct answer answer;
+    struct request deep = in_mode(PROMQL_PRETTY, 65535, SIZE_MAX, "1");
+    CHECK(call_whole(&deep, &answer) && answer.result.status == PROMQL_OK && answer.result.length == 2 * 65535 + 1);
+    free(answer.text);
+}
+
+static int is_empty(const struct promql_result *result, uint32_t status, size_t length)
+{
+    return result->status == status && result->length == length && result->start == 0 && result->end == 0
+        && result->line == 0 && result->column == 0;
+}
+
+static void test_pointers(void)
+{
+    struct promql_result result;
+    char buffer[8];
+    CHECK(promql_check(NULL, 1, buffer, sizeof buffer, &result) == PROMQL_BAD_POINTER);
+    CHECK(is_empty(&result, PROMQL_BAD_POINTER, 0));
+    CHECK(promql_check("1", 1, NULL, 1, &result) == PROMQL_BAD_POINTER);
+    CHECK(promql_check("1", SIZE_MAX, buffer, sizeof buffer, &result) == PROMQL_BAD_POINTER);
+    CHECK(promql_check("1", 1, buffer, SIZE_MAX, &result) == PROMQL_BAD_POINTER);
+    CHECK(promql_print("1", 1, PROMQL_LINE, 0, 0, buffer, sizeof buffer, NULL) == PROMQL_BAD_POINTER);
+    CHECK(promql_print(NULL, 1, PROMQL_LINE, 0, 0, buffer, sizeof buffer, &result) == PROMQL_BAD_POINTER);
+    CHECK(promql_canonical(NULL, 1, buffer, sizeof buffer, &result) == PROMQL_BAD_POINTER);
+    CHECK(promql_snippet(NULL, 1, 0, 0, buffer, sizeof buffer, &result) == PROMQL_BAD_POINTER);
+    CHECK(promql_version(NULL, 1, &result) == PROMQL_BAD_POINTER);
+    CHECK(promql_version(buffer, sizeof buffer, NULL) == PROMQL_BAD_POINTER);
+    CHECK(promql_check(NULL, 0, NULL, 0, &result) == PROMQL_REJECTED);
+    CHECK(result.length == strlen("no expression found in input"));
+    CHECK(promql_check("1", 1, NULL, 0, &result) == PROMQL_OK && is_empty(&result, PROMQL_OK, 0));
+    CHECK(promql_canonical("1", 1, NULL, 0, &result) == PROMQL_BUFFER_TOO_SMALL);
+    CHECK(is_empty(&result, PROMQL_BUFFER_TOO_SMALL, 1));
+    CHECK(promql_canonical("1", 1, buffer, 1, &result) == PROMQL_OK && buffer[0] == '1');
+}
+
+static void test_version(void)
+{
+    struct promql_result result;
+    char buffer[16];
+    CHECK(promql_version(buffer, sizeof buffer, &result) == PROMQL_OK && result.length == strlen(PROMQL_VERSION)
+          && memcmp(buffer, PROMQL_VERSION, result.length) == 0);
+    CHECK(promql_version(buffer, 2, &result) == PROMQL_BUFFER_TOO_SMALL && result.length == strlen(PROMQL_VERSION));
+}
+
+/* ---- calls of a file */
+
+struct requests {
+    struct request *items;
+    size_t count;
+};
+
+static char *read_whole(const char *path, size_t *size)
+{
+    FILE *file = fopen(path, "rb");
+    if (file == NULL || fseek(file, 0, SEEK_END) != 0)
+        abort();
+    *size = (size_t)ftell(file);
+    rewind(file);
+    char *bytes = allocate(*size + 1);
+    if (fread(bytes, 1, *size, file) != *size)
+        abort();
+    bytes[*size] = '\0';
+    fclose(file);
+    return bytes;
+}
+
+/* Reads lines of numbers, 'CALL MODE LEVEL WIDTH START END LENGTH', each with so many bytes and a line feed after it. */
+static struct requests read_requests(const char *bytes, size_t size)
+{
+    struct requests all = {NULL, 0};
+    size_t room = 0;
+    for (const char *at = bytes; at < bytes + size;) {
+        size_t numbers[7];
+        for (size_t i = 0; i < 7; i++) {
+            char *next;
+            numbers[i] = (size_t)strtoull(at, &next, 10);
+            at = next + 1;
+        }
+        if (all.count == room) {
+            room = 2 * room + 1024;
+            all.items = realloc(all.items, room * sizeof *all.items);
+            if (all.items == NULL)
+                abort();
+        }
+        struct request r = {(enum call)numbers[0], (uint32_t)numbers[1], (uint32_t)numbers[2], numbers[3], numbers[4],
+                            numbers[5], at, numbers[6]};
+        all.items[all.count++] = r;
+        at += r.length + 1;
+    }
+    return all;
+}
+
+static void print_answer(const struct answer *answer)
+{
+    const struct promql_result *r = &answer->result;
+    printf("%u %zu %zu %zu %zu %zu\n", (unsigned)r->status, r->start, r->end, r->line, r->column, r->length);
+    fwrite(answer->text, 1, r->length, stdout);
+    putchar('\n');
+}
+
+struct work {
+    const struct requests *requests;
+    const struct answer *answers;
+    long different;
+};
+
+static void *repeat_all(void *argument)
+{
+    struct work *work = argument;
+    for (size_t i = 0; i < work->requests->count; i++) {
+        struct answer again;
+        if (!call_whole(&work->requests->items[i], &again) || !is_same(&again, &work->answers[i]))
+            work->different++;
+        free(again.text);
+    }
+    return NULL;
+}
+
+/* Returns how many calls of threads beside each other give something else. */
+static long repeat_in_threads(const struct requests *requests, const struct answer *answers, size_t count)
+{
+    pthread_t *threads = allocate(count * sizeof *threads);
+    struct work *works = allocate(count * sizeof *works);
+    long different = 0;
+    for (size_t i = 0; i < count; i++) {
+        works[i] = (struct work){requests, answers, 0};
+        if (pthread_create(&threads[i], NULL, repeat_all, &works[i]) != 0)
+            abort();
+    }
+    for (size_t i = 0; i < count; i++) {
+        pthread_join(threads[i], NULL);
+        different += works[i].different;
+    }
+    free(works);
+    free(threads);
+    return different;
+}
+
+static int run_rows(const char *path, size_t threads)
+{
+    size_t size;
+    char *bytes = read_whole(path, &size);
+    struct requests requests = read_requests(bytes, size);
+    struct answer *answers = allocate(requests.count * sizeof *answers);
+    long wrong = 0;
+    for (size_t i = 0; i < requests.count; i++) {
+        wrong += !call_whole(&requests.items[i], &answers[i]);
+        print_answer(&answers[i]);
+    }
+    long different = repeat_in_threads(&requests, answers, threads);
+    for (size_t i = 0; i < requests.count; i++)
+        free(answers[i].text);
+    free(answers);
+    free(requests.items);
+    free(bytes);
+    if (wrong != 0 || different != 0)
+        fprintf(stderr, "%ld calls wrote past their text, %ld gave something else in a thread\n", wrong, different);
+    return wrong != 0 || different != 0;
+}
+
+/* ---- broken texts */
+
+static uint64_t random_state;
+
+static size_t next_random(size_t bound)
+{
+    random_state ^= random_state << 13;
+    random_state ^= random_state >> 7;
+    random_state ^= random_state << 17;
+    return (size_t)(random_state % bound);
+}
+
+/* Makes a broken text: random bytes, or a query cut short or changed at some bytes. Returns its length, of at most `room`. */
+static size_t make_broken(const struct requests *from, char *text, size_t room)
+{
+    const struct request *r = &from->items[next_random(from->count)];
+    size_t length = r->length < room ? r->length : room;
+    if (next_random(4) == 0) {
+        length = next_random(64);
+        for (size_t i = 0; i < length; i++)
+            text[i] = (char)next_random(256);
+        return length;
+    }
+    memcpy(text, r->query, length);
+    if (length != 0 && next_random(3) == 0)
+        length = next_random(length);
+    static const char signs[] = "(){}[]\"'`,=!~+-*/@ \n#\\";
+    for (size_t n = next_random(4); n > 0 && length != 0; n--) {
+        char any = (char)next_random(256), sign = signs[next_random(sizeof signs - 1)];
+        text[next_random(length)] = next_random(2) ? any : sign;
+    }
+    return length;
+}
+
+static int is_status(uint32_t status, enum call call)
+{
+    switch (status) {
+    case PROMQL_OK:
+    case PROMQL_NOT_UTF8:
+        return 1;
+    case PROMQL_REJECTED:
+        return call != CALL_SNIPPET;
+    case PROMQL_NUMBER_TOO_WIDE:
+        return call == CALL_PRINT;
+    default:
+        return 0;
+    }
+}
+
+static void test_broken(const char *text, size_t length)
+{
+    struct answer answers[6];
+    struct request calls[6] = {
+        {CALL_CHECK, 0, 0, 0, 0, 0, text, length},
+        {CALL_CANONICAL, 0, 0, 0, 0, 0, text, length},
+        {CALL_PRINT, PROMQL_LINE, 0, 0, 0, 0, text, length},
+        {CALL_PRINT, PROMQL_PRETTY, 1, 20, 0, 0, text, length},
+        {CALL_PRINT, PROMQL_JSON, 0, 0, 0, 0, text, length},
+        {CALL_SNIPPET, 0, 0, 0, next_random(2 * length + 1), next_random(2 * length + 1), text, length},
+    };
+    int is_good = 1;
+    for (size_t i = 0; i < 6; i++)
+        is_good = call_whole(&calls[i], &answers[i]) && is_status(answers[i].result.status, calls[i].call) && is_good;
+    is_good = is_good && is_same(&answers[1], &answers[2]);
+    is_good = is_good && answers[0].result.status == answers[1].result.status
+        && answers[1].result.status == answers[3].result.status;
+    if (answers[1].result.status == PROMQL_OK) {
+        /* (what is printed is accepted, and prints itself) */
+        struct request again = {CALL_CANONICAL, 0, 0, 0, 0, 0, answers[1].text, answers[1].result.length};
+        struct answer same;
+        is_good = call_whole(&again, &same) && is_same(&same, &answers[1]) && is_good;
+        free(same.text);
+    } else {
+        is_good = is_good && is_same(&answers[0], &answers[1]) && is_same(&answers[0], &answers[3])
+            && is_same(&answers[0], &answers[4]) && answers[0].result.start <= answers[0].result.end
+            && answers[0].result.end <= length;
+    }
+    if (!is_good) {
+        printf("a broken text of %zu bytes:", length);
+        for (size_t i = 0; i < length; i++)
+            printf(" %02x", (unsigned char)text[i]);
+        putchar('\n');
+    }
+    CHECK(is_good);
+    for (size_t i = 0; i < 6; i++)
+        free(answers[i].text);
+}
+
+static void test_random(const char *path, long count, uint64_t seed)
+{
+    size_t size;
+    char *bytes = read_whole(path, &size);
+    struct requests requests = read_requests(bytes, size);
+    random_state = 2 * seed + 1;
+    for (long i = 0; i < count; i++) {
+        /* (of just that size, so that valgrind sees each byte past it) */
+        char room[4096];
+        size_t length = make_broken(&requests, room, sizeof room);
+        char *text = allocate(length);
+        memcpy(text, room, length);
+        test_broken(text, length);
+        free(text);
+    }
+    free(requests.items);
+    free(bytes);
+}
+
+int main(int argc, char **argv)
+{
+    if (argc >= 3 && strcmp(argv[1], "rows") == 0)
+        return run_rows(argv[2], argc > 3 ? (size_t)atol(argv[3]) : 0);
+    if (argc == 5 && strcmp(argv[1], "random") == 0) {
+        test_random(argv[2], atol(argv[3]), (uint64_t)atol(argv[4]));
+    } else {
+        test_texts();
+        test_errors();
+        test_pointers();
+        test_version();
+    }
+    printf("%ld passed, %ld failed\n", passed, failed);
+    return failed != 0;
+}

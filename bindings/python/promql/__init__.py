@@ -1,0 +1,113 @@
+"""PromQL, the query language of Prometheus: parse, check, print and lay out queries.
+
+>>> import promql
+>>> promql.canonical("sum(rate(foo[5m]))by(job)")
+'sum by (job) (rate(foo[5m]))'
+>>> promql.parse("1")
+{'type': 'numberLiteral', 'val': '1'}
+
+Each function raises QueryError where the query is rejected, MemoryError where an allocation failed, and UnicodeEncodeError where
+the query has a surrogate. Any thread may call any of them at any time.
+"""
+
+from __future__ import annotations
+
+import json
+from typing import Any, Dict, Tuple
+
+from . import _library
+from ._library import Mode, Result, Status
+
+__all__ = ["Error", "NumberTooWideError", "QueryError", "canonical", "check", "format", "parse", "version"]
+__version__ = "0.1.0"
+
+_MAX_LEVEL = 65_535
+_MAX_WIDTH = 2**64 - 1
+
+
+class Error(ValueError):
+    """Why a function returns nothing for a query."""
+
+
+class NumberTooWideError(Error):
+    """The query has no JSON form: a number of milliseconds is below -2^63 or above 2^64 - 1."""
+
+
+class QueryError(Error):
+    """The query is rejected.
+
+    `query[start:end]` is the part that the error is about, empty at the query's end. `line` and `column` are those of `start`,
+    from 1; a column is a character.
+    """
+
+    def __init__(self, message: str, query: str, start: int, end: int, line: int, column: int) -> None:
+        super().__init__(message, query, start, end, line, column)
+        self.message = message
+        self.query = query
+        self.start = start
+        self.end = end
+        self.line = line
+        self.column = column
+
+    def __str__(self) -> str:
+        return f"{self.line}:{self.column}: {self.message}"
+
+    def snippet(self) -> str:
+        """The line of the query where the part begins, and a mark below that part."""
+        start, end = (len(self.query[:at].encode()) for at in (self.start, self.end))
+        return _text(self.query, _library.snippet(self.query.encode(), start, end))
+
+
+def parse(query: str) -> Dict[str, Any]:
+    """The tree of a query in its JSON form (docs/reference/json.md), as dictionaries and lists.
+
+    Raises NumberTooWideError where the query has no JSON form. A tree that is nested more deeply than Python's recursion limit
+    allows raises RecursionError; a query is nested at most 512 times.
+    """
+    tree: Dict[str, Any] = json.loads(_text(query, _library.print_query(query.encode(), Mode.JSON)))
+    return tree
+
+
+def format(query: str, *, width: int = 100, level: int = 0) -> str:
+    """The query, laid out over several lines where one would have more than `width` bytes.
+
+    Each line begins with `level` indentations of two spaces, which `width` does not count.
+    """
+    _look_at("level", level, _MAX_LEVEL)
+    _look_at("width", width, _MAX_WIDTH)
+    return _text(query, _library.print_query(query.encode(), Mode.PRETTY, level, width))
+
+
+def canonical(query: str) -> str:
+    """The query on one line. Queries that differ in nothing that means something have one line: the key of a cache."""
+    return _text(query, _library.canonical(query.encode()))
+
+
+def check(query: str) -> None:
+    """Returns where the query is accepted, and else raises QueryError."""
+    _text(query, _library.check(query.encode()))
+
+
+def version() -> str:
+    """The version of the library."""
+    return _text("", _library.version())
+
+
+def _look_at(name: str, number: int, most: int) -> None:
+    if not 0 <= number <= most:
+        raise ValueError(f"{name} is not from 0 to {most}: {number}")
+
+
+def _text(query: str, answer: Tuple[bytes, Result]) -> str:
+    """Returns the text of a call, or raises its error."""
+    text, result = answer[0].decode(), answer[1]
+    if result.status == Status.OK:
+        return text
+    if result.status == Status.REJECTED:
+        start, end = (len(query.encode()[:at].decode()) for at in (result.start, result.end))
+        raise QueryError(text, query, start, end, result.line, result.column)
+    if result.status == Status.NUMBER_TOO_WIDE:
+        raise NumberTooWideError(text)
+    if result.status == Status.OUT_OF_MEMORY:
+        raise MemoryError(text)
+    raise Error(text)

@@ -1,0 +1,168 @@
+"""Tests of the package promql: python3 -m unittest discover -s tests, where Python finds the package."""
+
+import os
+import pickle
+import random
+import threading
+import unittest
+from pathlib import Path
+
+import promql
+from promql import _library
+from promql._library import Mode, Status
+
+HERE = Path(__file__).resolve().parent
+QUERIES = (
+    "1 +",
+    "sum by (job) (rate(http_requests_total{code=~'5..'}[5m])) / on (job) group_left up offset -5m",
+    'label_replace(a, "b", "$1", "c", `d\\.(.*)`) and ignoring (e) -(f ^ 2) unless g + fill (0) rate(h[1m] anchored)',
+    "a[1h:5m] @ end() # a comment\n or {b!~\"c|d\"}",
+    '"é€🦀" + 0x1F',
+)
+# How many broken texts are tried.
+BROKEN = int(os.environ.get("PROMQL_BROKEN", "10000"))
+# Where the version is written once more.
+VERSIONS = {
+    "c/promql.h": '#define PROMQL_VERSION "{}"\n',
+    "c/CMakeLists.txt": "project(promql VERSION {} ",
+    "c/promql.pc": "Version: {}\n",
+    "python/pyproject.toml": 'version = "{}"\n',
+}
+# A query, the line and the column of its error, its message, and the line of the query with its mark.
+REJECTED = (
+    ("sum(rate(foo[5m]) by (job)", 1, 19, "unclosed left parenthesis", "sum(rate(foo[5m]) by (job)\n" + " " * 18 + "^~"),
+    ("1 +", 1, 4, "invalid promql query", "1 +\n   ^"),
+    ("", 1, 1, "no expression found in input", "\n^"),
+    ("sum by (job) (\n  rate(foo[5m]) +\n  * bar\n)", 3, 3, "invalid promql query", "  * bar\n  ^"),
+    ('"é€🦀" + b"c"', 1, 10, "invalid promql query", '"é€🦀" + b"c"\n         ^~~'),
+    ("1 + é", 1, 5, "unexpected character: 'é'", "1 + é\n    ^"),
+    ("rate(foo)", 1, 6, "expected type matrix in call to function 'rate', got vector", "rate(foo)\n     ^~~"),
+)
+
+
+class Texts(unittest.TestCase):
+    def test_canonical(self):
+        self.assertEqual(promql.canonical("sum(foo{b='1',a=\"2\"}) > .50"), 'sum(foo{a="2",b="1"}) > 0.5')
+        self.assertEqual(promql.canonical("{a='é'}or b"), '{a="é"} or b')
+
+    def test_format(self):
+        self.assertEqual(promql.format("sum(a)/sum(b)", width=8), "  sum(a)\n/\n  sum(b)")
+        self.assertEqual(promql.format("1+2", level=1), "  1 + 2")
+        self.assertEqual(promql.format("1+2", width=2**64 - 1, level=65_535), "  " * 65_535 + "1 + 2")
+        for wrong in ({"level": -1}, {"level": 65_536}, {"width": -1}, {"width": 2**64}):
+            with self.assertRaises(ValueError):
+                promql.format("1", **wrong)
+
+    def test_parse(self):
+        selector = {"matchers": [], "name": "foo", "offset": -300000, "startOrEnd": None, "timestamp": None}
+        self.assertEqual(promql.parse("foo offset -5m"), {**selector, "type": "vectorSelector"})
+        with self.assertRaises(promql.NumberTooWideError) as raised:
+            promql.parse("a[18446744073709551616ms]")
+        self.assertEqual(str(raised.exception), "number too wide for JSON")
+
+    def test_long_texts(self):
+        query = "+".join(["x"] * 500)
+        self.assertEqual(promql.canonical(query), " + ".join(["x"] * 500))
+        self.assertGreater(len(promql.format(query, width=1)), _library.FIRST_SIZE)
+        name = "x" * 3_000_000
+        self.assertEqual(promql.canonical(name), name)
+
+    def test_version(self):
+        self.assertEqual(promql.version(), promql.__version__)
+        for path, line in VERSIONS.items():
+            text = (HERE.parents[1] / path).read_text(encoding="utf-8")
+            self.assertIn(line.format(promql.__version__), text, path)
+
+
+class Errors(unittest.TestCase):
+    def test_places(self):
+        for query, line, column, message, snippet in REJECTED:
+            for call in promql.check, promql.canonical, promql.format, promql.parse:
+                with self.assertRaises(promql.QueryError) as raised:
+                    call(query)
+                error = raised.exception
+                self.assertEqual((error.line, error.column, error.message), (line, column, message))
+                self.assertEqual(str(error), f"{line}:{column}: {message}")
+                self.assertEqual(error.snippet(), snippet)
+                before = query[: error.start]
+                self.assertEqual((before.count("\n") + 1, len(before.split("\n")[-1]) + 1), (line, column))
+
+    def test_parts(self):
+        for query, part in (("'🦀' or rate(foo)", "foo"), ("1 +", ""), ("a{b=~'('}", "'('")):
+            with self.assertRaises(promql.QueryError) as raised:
+                promql.check(query)
+            self.assertEqual(query[raised.exception.start : raised.exception.end], part)
+
+    def test_pickle(self):
+        with self.assertRaises(promql.QueryError) as raised:
+            promql.check("1 +")
+        again = pickle.loads(pickle.dumps(raised.exception))
+        self.assertEqual((str(again), again.query, again.start), (str(raised.exception), "1 +", 3))
+
+    def test_accepted(self):
+        self.assertIsNone(promql.check("a[18446744073709551616ms]"))
+
+    def test_surrogates(self):
+        with self.assertRaises(UnicodeEncodeError):
+            promql.canonical("\ud800")
+
+    def test_statuses(self):
+        self.assertEqual(_library.canonical(b"\xff")[1].status, Status.NOT_UTF8)
+        self.assertEqual(_library.call("promql_print", b"1", 1, 3, 0, 0)[1].status, Status.UNKNOWN_MODE)
+        self.assertEqual(_library.call("promql_check", None, 1)[1].status, Status.BAD_POINTER)
+        self.assertEqual(_library.call("promql_check", None, 0)[1].status, Status.REJECTED)
+
+
+def broken(generator):
+    """A text of random bytes, or a query that was cut short or changed at some bytes."""
+    if generator.random() < 0.25:
+        return bytes(generator.randrange(256) for _ in range(generator.randrange(64)))
+    text = bytearray(generator.choice(QUERIES).encode())
+    if generator.random() < 0.3:
+        del text[generator.randrange(len(text)) :]
+    for _ in range(generator.randrange(4)):
+        if text:
+            at = generator.randrange(len(text))
+            text[at : at + generator.randrange(2)] = generator.choice((b"\xff", b"(", b")", b'"', b"{", b"\n", b"@", b"5", b" "))
+    return bytes(text)
+
+
+class Broken(unittest.TestCase):
+    def test_broken_texts(self):
+        generator = random.Random(7)
+        for _ in range(BROKEN):
+            text = broken(generator)
+            checked, line = _library.check(text), _library.canonical(text)
+            layout, tree = _library.print_query(text, Mode.PRETTY, 1, 20), _library.print_query(text, Mode.JSON)
+            status = line[1].status
+            self.assertIn(status, (Status.OK, Status.NOT_UTF8, Status.REJECTED), text)
+            self.assertEqual((checked[1].status, layout[1].status), (status, status), text)
+            if status == Status.OK:
+                self.assertEqual(_library.canonical(line[0])[0], line[0], text)
+                self.assertEqual(layout[0].translate(None, b" \n"), line[0].translate(None, b" \n"), text)
+                self.assertIn(tree[1].status, (Status.OK, Status.NUMBER_TOO_WIDE), text)
+            else:
+                self.assertEqual((checked[0], layout[0], tree[0]), (line[0],) * 3, text)
+                self.assertLessEqual(line[1].start, line[1].end, text)
+                self.assertLessEqual(line[1].end, len(text), text)
+
+
+class Threads(unittest.TestCase):
+    def test_threads(self):
+        queries = [f"sum(a{n}) + {n}" for n in range(400)]
+        wanted = [promql.canonical(query) for query in queries]
+        found = []
+
+        def work():
+            found.append([promql.canonical(query) for query in queries])
+
+        threads = [threading.Thread(target=work) for _ in range(8)]
+        for thread in threads:
+            thread.start()
+        for thread in threads:
+            thread.join()
+        self.assertEqual(found, [wanted] * 8)
+
+
+if __name__ == "__main__":
+    unittest.main()

@@ -1,0 +1,202 @@
+#!/usr/bin/env python3
+"""Runs the rows through a binding, and compares what it gives with the stored answers of promql_batch, byte by byte.
+
+usage: bindings/rows.py c PROGRAM [THREADS]   through bindings/c/tests/test_promql.c, built as PROGRAM
+       bindings/rows.py python [THREADS]      through the package promql, where Python finds it
+       bindings/rows.py write FILE [COUNT]    writes the calls of COUNT rows, spread evenly, or of all
+Where THREADS are given, each makes all calls again beside the others, and is to get the same.
+
+The rows are the lines of crates/promql_batch/stdin with those of stdout. Each that asks for a query is printed in its mode, and
+checked; one that asks for a line is also printed by `canonical`. A line that is no request is no call, and is left out; a
+line that is not UTF-8 is passed on as the query. The last line is 'N passed, M failed'.
+
+A file of calls has for each a line 'CALL MODE LEVEL WIDTH START END LENGTH' of numbers, and then so many bytes and a line feed.
+"""
+
+import json
+import subprocess
+import sys
+import tempfile
+import threading
+from pathlib import Path
+from typing import NamedTuple
+
+ROOT = Path(__file__).resolve().parent.parent
+RUN = ROOT / "crates" / "promql_batch"
+# The numbers of the calls in a file, and of the modes in promql.h.
+PRINT, CANONICAL, CHECK = range(3)
+MODES = {"line": 0, "pretty": 1, "json": 2}
+ACCEPTED = b'{"ok":""}'
+
+sys.setrecursionlimit(100_000)  # JSON of high trees
+
+
+class Call(NamedTuple):
+    """A call with the answer that is wanted, as promql_batch writes it."""
+
+    place: str
+    call: int
+    mode: str
+    level: int
+    width: int
+    query: bytes
+    wanted: bytes
+
+    def numbers(self):
+        return f"{self.call} {MODES[self.mode]} {self.level} {self.width} 0 0 {len(self.query)}\n".encode()
+
+
+class Answer(NamedTuple):
+    status: int
+    start: int
+    end: int
+    line: int
+    column: int
+    text: bytes
+
+    def reply(self, mode):
+        """The answer as promql_batch writes it."""
+        if self.status == 0:
+            return b'{"ok":%s}' % (self.text if mode == "json" else compact(self.text.decode()))
+        members = {"code": self.status, "error": self.text.decode()}
+        if self.status == 4:
+            members.update(start=self.start, end=self.end, line=self.line, column=self.column)
+        elif (self.start, self.end, self.line, self.column) != (0, 0, 0, 0):
+            return b"an error without a place has one"
+        return compact(members)
+
+
+def compact(value):
+    """JSON without spaces, its keys in order."""
+    return json.dumps(value, ensure_ascii=False, separators=(",", ":"), sort_keys=True).encode()
+
+
+def calls_of_row(place, asked, reply):
+    """Yields the calls for a line of standard input, which promql_batch answers so."""
+    code = json.loads(reply).get("code", 0)
+    if code == 7:
+        return
+    mode, level, width, query = "line", 0, 100, asked
+    if code != 3:
+        value = json.loads(asked)
+        if isinstance(value, dict):
+            mode = value.get("mode", mode)
+            level = value.get("level", level)
+            width = value.get("width", width)
+            value = value["query"]
+        query = value.encode()
+    yield Call(place, PRINT, mode, level, width, query, reply)
+    if mode == "line":
+        yield Call(place, CANONICAL, mode, 0, 0, query, reply)
+    yield Call(place, CHECK, "line", 0, 0, query, reply if code in (3, 4) else ACCEPTED)
+
+
+def all_calls():
+    asked, replies = ((RUN / name).read_bytes().split(b"\n")[:-1] for name in ("stdin", "stdout"))
+    assert len(asked) == len(replies)
+    for number, (line, reply) in enumerate(zip(asked, replies), 1):
+        yield from calls_of_row(f"crates/promql_batch/stdin:{number}", line, reply)
+
+
+def write_calls(calls, path):
+    path.write_bytes(b"".join(it.numbers() + it.query + b"\n" for it in calls))
+
+
+def answers_of(output):
+    """Reads what `test_promql rows` prints."""
+    at = 0
+    while at < len(output):
+        end = output.index(b"\n", at)
+        *numbers, length = map(int, output[at:end].split())
+        yield Answer(*numbers, output[end + 1 : end + 1 + length])
+        at = end + length + 2
+
+
+def compare(calls, answers):
+    """Prints each call whose answer is not the one that is wanted. Returns how many there are."""
+    failed = 0
+    for call, answer in zip(calls, answers):
+        found = answer.reply(call.mode)
+        if found != call.wanted:
+            failed += 1
+            print(f"FAILED {call.place}, call {call.call}: wanted {call.wanted[:500]}, got {found[:500]}")
+    return failed
+
+
+def run_c(program, threads):
+    calls = list(all_calls())
+    with tempfile.TemporaryDirectory() as folder:
+        path = Path(folder) / "calls"
+        write_calls(calls, path)
+        ran = subprocess.run([program, "rows", path, str(threads)], stdout=subprocess.PIPE, timeout=240)
+    answers = list(answers_of(ran.stdout))
+    failed = compare(calls, answers)
+    if ran.returncode or len(answers) != len(calls):
+        failed += 1
+        print(f"FAILED {program}: status {ran.returncode}, {len(answers)} answers to {len(calls)} calls")
+    return len(calls) - failed, failed
+
+
+def python_answer(call):
+    """Makes the call by the public functions of the package, and returns its answer as that of the library."""
+    import promql
+
+    query = call.query.decode(errors="surrogateescape")
+    try:
+        if call.call == CHECK:
+            promql.check(query)
+            text = ""
+        elif call.call == CANONICAL or call.mode == "line":
+            text = promql.canonical(query)
+        elif call.mode == "pretty":
+            text = promql.format(query, width=call.width, level=call.level)
+        else:
+            text = compact(promql.parse(query)).decode()
+        return Answer(0, 0, 0, 0, 0, text.encode())
+    except promql.QueryError as error:
+        start, end = (len(query[:at].encode()) for at in (error.start, error.end))
+        return Answer(4, start, end, error.line, error.column, error.message.encode())
+    except promql.NumberTooWideError as error:
+        return Answer(6, 0, 0, 0, 0, str(error).encode())
+    except UnicodeEncodeError:
+        return Answer(3, 0, 0, 0, 0, b"input is not UTF-8")
+
+
+def run_python(threads):
+    calls = list(all_calls())
+    answers = [python_answer(it) for it in calls]
+    failed = compare(calls, answers)
+    different = []
+
+    def repeat():
+        different.extend(call.place for call, answer in zip(calls, answers) if python_answer(call) != answer)
+
+    workers = [threading.Thread(target=repeat) for _ in range(threads)]
+    for it in workers:
+        it.start()
+    for it in workers:
+        it.join()
+    for place in different:
+        print(f"FAILED {place}: another answer in a thread")
+    failed += len(different)
+    return len(calls) - min(failed, len(calls)), failed
+
+
+def main(words):
+    if words[:1] == ["write"] and 2 <= len(words) <= 3:
+        calls = list(all_calls())
+        step = max(1, len(calls) // int(words[2])) if len(words) == 3 else 1
+        write_calls(calls[::step], Path(words[1]))
+        return 0
+    if words[:1] == ["c"] and 2 <= len(words) <= 3:
+        passed, failed = run_c(words[1], int(words[2]) if len(words) == 3 else 0)
+    elif words[:1] == ["python"] and len(words) <= 2:
+        passed, failed = run_python(int(words[1]) if len(words) == 2 else 0)
+    else:
+        sys.exit(__doc__)
+    print(f"{passed} passed, {failed} failed")
+    return 1 if failed else 0
+
+
+if __name__ == "__main__":
+    sys.exit(main(sys.argv[1:]))

@@ -1,0 +1,205 @@
+#!/usr/bin/env bash
+# bindings/test.sh   builds the bindings for C and for Python against dist/ and tests them, in some minutes and without rt. Says
+#                    what it could not try here. The last line is 'N passed, M failed'
+set -u
+here=$(cd "$(dirname "$0")" && pwd)
+root=${here%/*}
+dist=$root/dist
+# shellcheck source=bin/lib.sh
+. "$root/bin/lib.sh"
+passed=0
+failed=0
+work=$(mktemp -d)
+trap 'rm -rf "$work"' EXIT
+export here dist work PYTHONDONTWRITEBYTECODE=1
+
+# limited COMMAND..: runs a command, or one of the functions that are exported below, which ends in four minutes at the latest.
+limited() {
+    timeout 240 bash -c '"$@"' limited "$@" >"$work/said" 2>&1
+}
+
+# try NAME COMMAND..: counts whether the command ends with 0, and prints what it said where it does not.
+try() {
+    local name=$1 status
+    shift
+    limited "$@"
+    status=$?
+    if [ "$status" = 0 ]; then
+        passed=$((passed + 1))
+    else
+        failed=$((failed + 1))
+        printf 'FAILED %s, status %s:\n' "$name" "$status"
+        tail -n 20 "$work/said"
+    fi
+}
+
+# add NAME COMMAND..: runs a command whose last line is 'N passed, M failed', and adds what it came to.
+add() {
+    local name=$1 last status lost=0
+    shift
+    limited "$@"
+    status=$?
+    last=$(tail -n 1 "$work/said")
+    if [[ $last =~ ^([0-9]+)\ passed,\ ([0-9]+)\ failed$ ]]; then
+        passed=$((passed + BASH_REMATCH[1]))
+        lost=${BASH_REMATCH[2]}
+        echo "$name: $last"
+    fi
+    if [ "$status" != 0 ] || [ "$lost" != 0 ]; then
+        failed=$((failed + (lost > 0 ? lost : 1)))
+        printf 'FAILED %s, status %s:\n' "$name" "$status"
+        head -n 20 "$work/said"
+    fi
+}
+
+# has COMMAND WHAT: whether there is such a command; says what is not tried where there is none.
+has() {
+    if command -v "$1" >/dev/null; then return; fi
+    echo "not tried: $2: there is no $1 here"
+    return 1
+}
+
+# has_module NAME WHAT: the same for a module of Python.
+has_module() {
+    if python3 -c "import $1" 2>/dev/null; then return; fi
+    echo "not tried: $2: Python has no $1 here"
+    return 1
+}
+
+# ---- what dist/ shows
+
+# The names that nm prints all begin with promql_, and there are some.
+shows_own_names() {
+    local names
+    names=$(nm --extern-only --defined-only "$@" | awk 'NF > 2 { print $3 }')
+    printf '%s\n' "$names"
+    grep -q '^promql_print$' <<<"$names" && ! grep -qv '^promql_' <<<"$names"
+}
+
+test_names() {
+    has nm 'the names that the libraries show' || return
+    try 'the names of libpromql.so' shows_own_names --dynamic "$dist/libpromql.so"
+    try 'the names of libpromql.a' shows_own_names "$dist/libpromql.a"
+}
+
+# ---- C
+
+build_c() {
+    local cc=${CC:-cc}
+    local -a flags=(-O2 -Wall -Wextra -Wpedantic -Werror -I"$dist") tests=("$here/c/tests/test_promql.c" -pthread)
+    "$cc" -std=c11 "${flags[@]}" -o "$work/test_static" "${tests[@]}" "$dist/libpromql.a" &&
+        "$cc" -std=c11 "${flags[@]}" -o "$work/test_shared" "${tests[@]}" -L"$dist" -lpromql -Wl,-rpath,"$dist" &&
+        "$cc" -std=c11 "${flags[@]}" -o "$work/test_memory" "$here/c/tests/test_memory.c" "$dist/libpromql.a" \
+            -Wl,--wrap=malloc,--wrap=realloc &&
+        "$cc" -std=c99 "${flags[@]}" -o "$work/example" "$here/c/example.c" "$dist/libpromql.a"
+}
+
+example_prints() {
+    local said wanted
+    said=$("$work/example" '1+2' 'rate(foo)' 'a  or b' 2>&1)
+    wanted=$(printf '%s\n' '1 + 2' "1:6: expected type matrix in call to function 'rate', got vector" 'rate(foo)' '     ^~~' 'a or b')
+    printf '%s\n' "$said"
+    [ "$(sort <<<"$said")" = "$(sort <<<"$wanted")" ]
+}
+
+under_valgrind() {
+    valgrind --quiet --error-exitcode=99 --leak-check=full --errors-for-leak-kinds=all "$@"
+}
+
+# The project of CMakeLists.txt, and what it installs.
+build_project() {
+    cmake -S "$here/c" -B "$work/build" -DCMAKE_BUILD_TYPE=Release && cmake --build "$work/build" -j 2 &&
+        (cd "$work/build" && ctest --output-on-failure) && cmake --install "$work/build" --prefix "$work/usr"
+}
+
+# The example, with the library that pkg-config finds where the project was installed.
+find_installed() {
+    local -a flags
+    read -r -a flags <<<"$(PKG_CONFIG_PATH=$work/usr/lib/pkgconfig pkg-config --cflags --libs promql)"
+    "${CC:-cc}" -o "$work/found" "$here/c/example.c" "${flags[@]}" &&
+        [ "$(LD_LIBRARY_PATH=$work/usr/lib "$work/found" '1+2')" = '1 + 2' ]
+}
+
+test_c() {
+    has "${CC:-cc}" 'the binding for C' || return
+    try 'building the tests and the example for C' build_c
+    [ -x "$work/example" ] || return
+    add 'C, linked to libpromql.a' "$work/test_static"
+    add 'C, linked to libpromql.so' "$work/test_shared"
+    add 'failing allocations in C' "$work/test_memory"
+    try 'the example for C' example_prints
+    if has g++ 'the header as C++'; then
+        try 'the header as C++' g++ -Wall -Wextra -Wpedantic -Werror -fsyntax-only -x c++ "$dist/promql.h"
+    fi
+    if has python3 'rows and broken texts for C'; then test_rows_in_c; fi
+    has cmake 'the project of CMakeLists.txt' || return
+    try 'the project of CMakeLists.txt' build_project
+    has pkg-config 'the file promql.pc' || return
+    try 'the file promql.pc' find_installed
+}
+
+test_rows_in_c() {
+    add 'rows for C, and again in eight threads' python3 "$here/rows.py" c "$work/test_static" 8
+    try 'the calls of the rows' python3 "$here/rows.py" write "$work/calls"
+    try 'the calls of some rows' python3 "$here/rows.py" write "$work/some" 400
+    add 'broken texts for C' "$work/test_static" random "$work/calls" 10000 1
+    has valgrind 'the tests for C under valgrind' || return
+    add 'C under valgrind' under_valgrind "$work/test_static"
+    add 'failing allocations in C under valgrind' under_valgrind "$work/test_memory"
+    add 'broken texts for C under valgrind' under_valgrind "$work/test_static" random "$work/some" 300 2
+    try 'some rows for C under valgrind, and again in two threads' under_valgrind "$work/test_static" rows "$work/some" 2
+}
+
+# ---- Python
+
+# The package as pip installs it, in a folder of its own.
+install_wheel() {
+    python3 -m pip wheel --quiet --no-deps --no-index --wheel-dir "$work/wheels" "$here/python" &&
+        python3 -m pip install --quiet --no-deps --no-index --target "$work/site" "$work"/wheels/promql-*.whl
+}
+
+# in_python FOLDER ARGUMENT..: Python, which finds the package in this folder.
+in_python() {
+    local folder=$1
+    shift
+    (cd "$work" && PYTHONPATH=$folder exec python3 "$@")
+}
+
+# unit_tests FOLDER: the tests of the package in this folder, with 'N passed, M failed' as the last line.
+unit_tests() {
+    local said ran lost
+    said=$(in_python "$1" -m unittest discover -s "$here/python/tests" 2>&1)
+    printf '%s\n' "$said"
+    ran=$(sed -n 's/^Ran \([0-9]*\) tests\{0,1\} .*/\1/p' <<<"$said")
+    lost=$(grep -cE '^(FAIL|ERROR): ' <<<"$said")
+    echo "$((${ran:-0} - lost)) passed, $lost failed"
+    [ "${ran:-0}" -gt 0 ] && [ "$lost" = 0 ]
+}
+
+test_python() {
+    has python3 'the binding for Python' || return
+    add 'Python' unit_tests "$here/python"
+    if has_module pytest 'the tests for Python by pytest'; then
+        try 'the tests for Python by pytest' in_python "$here/python" -m pytest -q -p no:cacheprovider "$here/python/tests"
+    fi
+    if has_module mypy 'the types of the package'; then
+        try 'the types of the package' in_python "$here/python" -m mypy --strict --cache-dir "$work/mypy" "$here/python/promql"
+    fi
+    add 'rows for Python, and again in eight threads' in_python "$here/python" "$here/rows.py" python 8
+    has_module pip 'the wheel' || return
+    try 'the wheel' install_wheel
+    if [ -d "$work/site" ]; then PROMQL_BROKEN=1000 add 'Python, as pip installs it' unit_tests "$work/site"; fi
+}
+
+export -f shows_own_names build_c example_prints under_valgrind build_project find_installed install_wheel in_python unit_tests
+
+stale=$(why_library_stale "$(kit_line)")
+if [ -n "$stale" ]; then
+    printf '%s\n' "######## libpromql: $stale." \
+        "######## What follows says nothing of the sources here. bin/release makes the release anew."
+fi
+test_names
+test_c
+test_python
+echo "$passed passed, $failed failed"
+[ "$failed" = 0 ]
