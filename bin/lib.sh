@@ -11,6 +11,11 @@ program_names() {
     done
 }
 
+# The crates of crates.txt that are static libraries: promql_c, of which the library for C is made.
+library_names() {
+    awk -F: '!/^#/ && NF && split($1, words, " ") > 1 && words[2] == "staticlib" { print words[1] }' "$root/crates.txt"
+}
+
 # crate_lines CRATE..: these crates and those of the repository below them, lowest first, as 'NAME: DEP ..', where each DEP
 # is a crate of the repository.
 crate_lines() {
@@ -61,12 +66,32 @@ fingerprint() {
     ) | sha256sum | cut -d' ' -f1
 }
 
+# library_fingerprint KIT: the checksum of what the library for C is made from: its crate, as above, and its files of bindings/c.
+library_fingerprint() {
+    local sum
+    local -a crates
+    mapfile -t crates < <(library_names)
+    sum=$(fingerprint "$1" "${crates[@]}") || return
+    (
+        cd "$root" || exit
+        printf '%s\n' "$sum"
+        sha256sum bindings/c/promql.c bindings/c/promql.h bindings/c/promql.map
+    ) | sha256sum | cut -d' ' -f1
+}
+
+# The folder of the kit that has the command rt.
+kit_folder() {
+    local rt
+    rt=$(command -v rt) || return
+    rt=$(readlink -f "$rt")
+    printf '%s\n' "${rt%/*/*}"
+}
+
 # The kit's line, or nothing where there is no rt. The file beside rt is read where it is there: rt itself takes half a second.
 kit_line() {
-    local rt
-    rt=$(command -v rt) || return 0
-    rt=$(readlink -f "$rt")
-    cat "${rt%/*}/../KIT-ID" 2>/dev/null || rt version
+    local kit
+    kit=$(kit_folder) || return 0
+    cat "$kit/KIT-ID" 2>/dev/null || rt version
 }
 
 # write_made_from FILE KIT PROGRAM-FILE..: what these programs were made from: the checksum, the kit's line, and a line with
@@ -76,34 +101,62 @@ write_made_from() {
     local -a names=()
     shift 2
     for program in "$@"; do names+=("${program##*/}"); done
-    {
-        fingerprint "$kit" "${names[@]}"
-        printf '%s\n' "$kit"
-        for program in "$@"; do
-            printf '%s  %s\n' "$(file_sum "$program")" "${program##*/}"
-        done
-    } >"$file.new" && mv -f "$file.new" "$file"
+    write_sums "$file" "$(fingerprint "$kit" "${names[@]}")" "$kit" "$@"
+}
+
+# write_library_made_from FILE KIT LIBRARY-FILE..: the same for the files of the library for C.
+write_library_made_from() {
+    local file=$1 kit=$2
+    shift 2
+    write_sums "$file" "$(library_fingerprint "$kit")" "$kit" "$@"
+}
+
+# write_sums FILE SUM KIT MADE-FILE..: the two lines, and a line with the checksum of each file that was made.
+write_sums() {
+    local file=$1 made
+    printf '%s\n' "$2" "$3" >"$file.new"
+    shift 3
+    for made in "$@"; do
+        printf '%s  %s\n' "$(file_sum "$made")" "${made##*/}" >>"$file.new"
+    done
+    mv -f "$file.new" "$file"
 }
 
 file_sum() {
     sha256sum <"$1" | cut -d' ' -f1
 }
 
-# why_stale FILE PROGRAM-FILE KIT CRATE..: why the program isn't what FILE says was made from these crates as they are
-# here, or nothing where it is. KIT is the kit's line of this machine, or empty where there is no rt.
-why_stale() {
-    local file=$1 program=$2 kit=$3 name=${2##*/}
+# why_other FILE KIT FUNCTION WORD..: why FILE isn't about what the sources here make, or nothing where it is. KIT is the kit's
+# line of this machine, or empty where there is no rt; `FUNCTION KIT WORD..` prints the checksum of the sources.
+why_other() {
+    local file=$1 kit=$2 sum=$3
     local -a lines=()
     shift 3
     if [ -f "$file" ]; then mapfile -t lines <"$file"; fi
-    if [ "${#lines[@]}" -lt 3 ] || ! [ -x "$program" ]; then
+    if [ "${#lines[@]}" -lt 3 ]; then
         echo "there is no release of it here"
     elif [ -n "$kit" ] && [ "$kit" != "${lines[1]}" ]; then
         echo "the kit is another one than the release was made with"
-    elif [ "$(fingerprint "${lines[1]}" "$@")" != "${lines[0]}" ]; then
+    elif [ "$("$sum" "${lines[1]}" "$@")" != "${lines[0]}" ]; then
         echo "the sources are newer than the release"
-    elif ! printf '%s\n' "${lines[@]:2}" | grep -qxF "$(file_sum "$program")  $name"; then
-        echo "$name is not the program that was released"
+    fi
+}
+
+# is_listed FILE MADE-FILE: whether FILE has the checksum of this file.
+is_listed() {
+    tail -n +3 "$1" | grep -qxF "$(file_sum "$2")  ${2##*/}"
+}
+
+# why_stale FILE PROGRAM-FILE KIT CRATE..: why the program isn't what FILE says was made from these crates as they are
+# here, or nothing where it is. KIT is the kit's line of this machine, or empty where there is no rt.
+why_stale() {
+    local file=$1 program=$2 kit=$3 why="there is no release of it here"
+    shift 3
+    if [ -x "$program" ]; then why=$(why_other "$file" "$kit" fingerprint "$@"); fi
+    if [ -n "$why" ]; then
+        echo "$why"
+    elif ! is_listed "$file" "$program"; then
+        echo "${program##*/} is not the program that was released"
     fi
 }
 
@@ -112,4 +165,16 @@ why_release_stale() {
     local -a programs
     mapfile -t programs < <(program_names)
     why_stale "$root/dist/MADE_FROM" "$root/dist/$1" "$2" "${programs[@]}"
+}
+
+# why_library_stale KIT: the same for the library for C of dist/.
+why_library_stale() {
+    local made=$root/dist/libpromql.made_from name why
+    why=$(why_other "$made" "$1" library_fingerprint)
+    for name in libpromql.a libpromql.so promql.h; do
+        if [ -z "$why" ] && ! { [ -f "$root/dist/$name" ] && is_listed "$made" "$root/dist/$name"; }; then
+            why="$name is not the file that was released"
+        fi
+    done
+    printf '%s' "$why"
 }
