@@ -1,0 +1,87 @@
+/* PromQL, the query language of Prometheus: print, check and lay out queries.
+ *
+ * Each call reads its query, writes a text to the start of its buffer, and says in `result` what it did; it returns the
+ * status. A query is UTF-8 and need not end with a 0; no 0 is written after a text. A call keeps nothing and shares nothing,
+ * so any thread may make any call at any time.
+ *
+ *     char buffer[1024];
+ *     struct promql_result result;
+ *     if (promql_canonical("1+2", 3, buffer, sizeof buffer, &result) == PROMQL_OK)
+ *         printf("%.*s\n", (int)result.length, buffer);
+ *
+ * Where the buffer has fewer than `result.length` bytes it is left as it was: call again with one that has as many. Bytes past
+ * `result.length` are never written.
+ *
+ * The caller sees to this: `buffer` and `*result` lie in nothing else that the call is given; malloc, realloc and free come
+ * from one allocator; no call is made from a signal handler, or in the child of a fork of a process with threads.
+ */
+#ifndef PROMQL_H
+#define PROMQL_H
+
+#include <stddef.h>
+#include <stdint.h>
+
+#ifdef __cplusplus
+extern "C" {
+#endif
+
+/* The version of this header; promql_version has that of the library. */
+#define PROMQL_VERSION "0.1.0"
+
+/* How promql_print prints. */
+enum promql_mode {
+    PROMQL_LINE = 0,   /* on one line */
+    PROMQL_PRETTY = 1, /* laid out over several lines where one is too long */
+    PROMQL_JSON = 2    /* the JSON form, without a space */
+};
+
+/* 0, or why the buffer does not have what was asked for. With 1 to 6 and with 9 the text is the message of the error. */
+enum promql_status {
+    PROMQL_OK = 0,
+    PROMQL_OUT_OF_MEMORY = 1,
+    PROMQL_NOT_UTF8 = 3,
+    PROMQL_REJECTED = 4,         /* the query is rejected: the result has the place */
+    PROMQL_NUMBER_TOO_WIDE = 6,  /* PROMQL_JSON: a number of milliseconds is below -2^63 or above 2^64 - 1 */
+    PROMQL_BUFFER_TOO_SMALL = 8, /* the text has more bytes than the buffer: `length` */
+    PROMQL_UNKNOWN_MODE = 9,     /* or a level above 65535 */
+    PROMQL_BAD_POINTER = 10      /* a pointer is NULL though its length is not 0, a length is above PTRDIFF_MAX, or the
+                                    result is NULL; there is no text */
+};
+
+struct promql_result {
+    uint32_t status;
+    size_t length; /* bytes of the text */
+    /* Of a query that is rejected, else 0: the part that the error is about, in bytes from 0, and empty at the query's end; and
+     * the line and the column where it begins, from 1, the column in characters. */
+    size_t start;
+    size_t end;
+    size_t line;
+    size_t column;
+};
+
+/* Prints a query. `level` counts indentations of two spaces, and `width` is the most bytes that a line has after them; both
+ * are for PROMQL_PRETTY alone. */
+uint32_t promql_print(const char *query, size_t query_length, uint32_t mode, uint32_t level, size_t width, char *buffer,
+                      size_t buffer_size, struct promql_result *result);
+
+/* Prints a query on one line. Two queries have one line exactly if they differ in nothing that means something, so the line
+ * is the key of a cache (docs/guide/cache.md). */
+uint32_t promql_canonical(const char *query, size_t query_length, char *buffer, size_t buffer_size,
+                          struct promql_result *result);
+
+/* Checks a query. The text is empty where it is accepted. */
+uint32_t promql_check(const char *query, size_t query_length, char *buffer, size_t buffer_size,
+                      struct promql_result *result);
+
+/* Shows the line of a query where the part from `start` up to `end` begins, a line feed, and a mark below that part. */
+uint32_t promql_snippet(const char *query, size_t query_length, size_t start, size_t end, char *buffer,
+                        size_t buffer_size, struct promql_result *result);
+
+/* The version of the library. */
+uint32_t promql_version(char *buffer, size_t buffer_size, struct promql_result *result);
+
+#ifdef __cplusplus
+}
+#endif
+
+#endif
