@@ -1,18 +1,22 @@
 -- `==` of faults and errors holds exactly of one kind with the same data.
-use Rattle.std.proofs.Common.{◌≡◌, true, false, Option, Some, None, refl, ap, string_bytes}
+use Rattle.std.proofs.Common.{◌≡◌, ℕ, eqb, IsTrue, true, false, Option, Some, None, refl, ap, string_bytes}
+use Rattle.std.specs.Prelude.{◌↔◌}
 use Rattle.std.specs.Bool.{Decides}
 use Rattle.promql_kind.specs.declared.value.ValueType.{ValueType}
+use Rattle.std.proofs.lemmas.Bool.{eq-eqb}
 use Rattle.std.proofs.lemmas.Bool.Decides.{Decides-like, Decides-and, Decides-eqb}
 use Rattle.std.proofs.lemmas.Slice.Eq.{bytes_eq-Decides}
 use Rattle.promql_text.specs.Equalities.{IsSameBy}
 use Rattle.promql_kind.proofs.Equal.{number_Decides, type_Decides}
-use Rattle.promql_ast.specs.Faults.{context_of, in_call, fault_of, binary_operator, label_twice, set_on_scalar, no_grouping, aggregator_expected, unary_type, subquery_type, node, error_fault}
+use Rattle.promql_ast.specs.Faults.{Fault, context_of, in_call, fault_of, binary_operator, bool_modifier, scalar_comparison, label_twice, set_on_scalar, no_grouping, binary_types, vector_matching, aggregator_expected, type_expected, arity_exact, arity_least, arity_most, unary_type, subquery_type, name_twice, empty_selector, node, error_fault}
 use Rattle.promql_ast.specs.contracts.fault.TypeContextPartialEq.TheImpl as contexts
 use Rattle.promql_ast.specs.contracts.fault.NodeFaultPartialEq.TheImpl as nodes
 use Rattle.promql_ast.specs.contracts.fault.CheckFaultPartialEq.TheImpl as faults
 use Rattle.promql_ast.specs.contracts.fault.CheckErrorPartialEq.TheImpl as errors
 use Rattle.promql_ast.specs.contracts.at_modifier.AtFaultPartialEq.TheImpl as times
 use Rattle.promql_ast.specs.declared.fault.TypeContext.TheVariants.{Aggregation, CallOf}
+use Rattle.promql_ast.specs.declared.fault.CheckFault.{CheckFault}
+use Rattle.promql_ast.specs.declared.fault.NodeFault.{NodeFault}
 use Rattle.promql_ast.specs.declared.fault.NodeFault.TheVariants.{UnaryLiteral, OffsetBeforeRange, AtBeforeRange, RangeBase, AtTwice, AtBase, OffsetTwice, OffsetBase, NoArguments, ArgumentCount, ModeTwice, ModeBase}
 use Rattle.promql_ast.specs.declared.fault.CheckFault.TheVariants.{BinaryOperator, BoolModifier, ScalarComparison, LabelTwice, SetOnScalar, NoGrouping, BinaryTypes, VectorMatching, AggregatorExpected, TypeExpected, ArityExact, ArityLeast, ArityMost, UnaryType, SubqueryType, NameTwice, EmptySelector, Node}
 use Rattle.promql_ast.specs.declared.fault.CheckError.TheVariants.{Memory, Check}
@@ -23,7 +27,45 @@ context_Decides Aggregation Aggregation = ((λ _. refl), (λ _. refl))
 context_Decides (CallOf a) (CallOf b) = Decides-like _ (λ e. ap in_call e) (λ e. cc) (bytes_eq-Decides a.now b.now)
 context_Decides _ _ = ((λ h. cc), (λ h. cc))
 
+-- the number of the variant, by which other variants are told apart at once
+node_rank : NodeFault → ℕ
+node_rank (UnaryLiteral a) = 0
+node_rank OffsetBeforeRange = 1
+node_rank AtBeforeRange = 2
+node_rank RangeBase = 3
+node_rank AtTwice = 4
+node_rank AtBase = 5
+node_rank OffsetTwice = 6
+node_rank OffsetBase = 7
+node_rank (NoArguments a) = 8
+node_rank (ArgumentCount a b) = 9
+node_rank ModeTwice = 10
+node_rank ModeBase = 11
+
+node_apart : (a b : NodeFault) → eqb (node_rank a) (node_rank b) ≡ false → nodes.ghosts.eq a b ≡ false
+unfolding node_rank
+node_apart (UnaryLiteral a) (UnaryLiteral c) apart = cc
+node_apart OffsetBeforeRange OffsetBeforeRange apart = cc
+node_apart AtBeforeRange AtBeforeRange apart = cc
+node_apart RangeBase RangeBase apart = cc
+node_apart AtTwice AtTwice apart = cc
+node_apart AtBase AtBase apart = cc
+node_apart OffsetTwice OffsetTwice apart = cc
+node_apart OffsetBase OffsetBase apart = cc
+node_apart (NoArguments a) (NoArguments c) apart = cc
+node_apart (ArgumentCount a b) (ArgumentCount c d) apart = cc
+node_apart ModeTwice ModeTwice apart = cc
+node_apart ModeBase ModeBase apart = cc
+node_apart _ _ apart = refl
+
+node_apart_Decides : (a b : NodeFault) → eqb (node_rank a) (node_rank b) ≡ false → IsTrue (nodes.ghosts.eq a b) ↔ (a ≡ b)
+node_apart_Decides a b apart = (
+  λ yes. let no = node_apart a b apart in cc,
+  λ same. let one = eq-eqb (node_rank a) (node_rank b) (ap node_rank same) in cc,
+)
+
 pub node_Decides : IsSameBy (λ f. f) nodes.ghosts.eq
+unfolding node_rank
 node_Decides (UnaryLiteral a) (UnaryLiteral b) = Decides-like _ (λ e. ap UnaryLiteral e) (λ e. cc) (type_Decides a b)
 node_Decides OffsetBeforeRange OffsetBeforeRange = ((λ _. refl), (λ _. refl))
 node_Decides AtBeforeRange AtBeforeRange = ((λ _. refl), (λ _. refl))
@@ -38,7 +80,7 @@ node_Decides (ArgumentCount a b) (ArgumentCount c d) =
     (Decides-and _ _ (Decides-eqb a c) (Decides-eqb b d))
 node_Decides ModeTwice ModeTwice = ((λ _. refl), (λ _. refl))
 node_Decides ModeBase ModeBase = ((λ _. refl), (λ _. refl))
-node_Decides _ _ = ((λ h. cc), (λ h. cc))
+node_Decides a b = node_apart_Decides a b refl
 
 nothing : ◌≡◌ {A = Option ValueType} None None
 nothing = refl
@@ -52,7 +94,56 @@ none_some g = ((λ h. cc), (λ h. cc))
 some_none : (f : ValueType) → Decides false (Some f ≡ None)
 some_none f = ((λ h. cc), (λ h. cc))
 
+rank : Fault → ℕ
+rank (binary_operator a) = 0
+rank bool_modifier = 1
+rank scalar_comparison = 2
+rank (label_twice a) = 3
+rank (set_on_scalar a) = 4
+rank (no_grouping a) = 5
+rank binary_types = 6
+rank vector_matching = 7
+rank (aggregator_expected a) = 8
+rank (type_expected a p k) = 9
+rank (arity_exact a n k) = 10
+rank (arity_least a n k) = 11
+rank (arity_most a n k) = 12
+rank (unary_type a) = 13
+rank (subquery_type a) = 14
+rank (name_twice n v) = 15
+rank empty_selector = 16
+rank (node a) = 17
+
+fault_apart : (a b : CheckFault) → eqb (rank (fault_of a)) (rank (fault_of b)) ≡ false → faults.ghosts.eq a b ≡ false
+unfolding rank
+fault_apart (BinaryOperator a) (BinaryOperator c) apart = cc
+fault_apart BoolModifier BoolModifier apart = cc
+fault_apart ScalarComparison ScalarComparison apart = cc
+fault_apart (LabelTwice a) (LabelTwice c) apart = cc
+fault_apart (SetOnScalar a) (SetOnScalar c) apart = cc
+fault_apart (NoGrouping a) (NoGrouping c) apart = cc
+fault_apart BinaryTypes BinaryTypes apart = cc
+fault_apart VectorMatching VectorMatching apart = cc
+fault_apart (AggregatorExpected a) (AggregatorExpected c) apart = cc
+fault_apart (TypeExpected a p k) (TypeExpected c q j) apart = cc
+fault_apart (ArityExact a n k) (ArityExact c m j) apart = cc
+fault_apart (ArityLeast a n k) (ArityLeast c m j) apart = cc
+fault_apart (ArityMost a n k) (ArityMost c m j) apart = cc
+fault_apart (UnaryType a) (UnaryType c) apart = cc
+fault_apart (SubqueryType a) (SubqueryType c) apart = cc
+fault_apart (NameTwice n v) (NameTwice m w) apart = cc
+fault_apart EmptySelector EmptySelector apart = cc
+fault_apart (Node a) (Node c) apart = cc
+fault_apart _ _ apart = refl
+
+fault_apart_Decides : (a b : CheckFault) → eqb (rank (fault_of a)) (rank (fault_of b)) ≡ false → IsTrue (faults.ghosts.eq a b) ↔ (fault_of a ≡ fault_of b)
+fault_apart_Decides a b apart = (
+  λ yes. let no = fault_apart a b apart in cc,
+  λ same. let one = eq-eqb (rank (fault_of a)) (rank (fault_of b)) (ap rank same) in cc,
+)
+
 pub fault_Decides : IsSameBy fault_of faults.ghosts.eq
+unfolding rank
 fault_Decides (BinaryOperator a) (BinaryOperator b) = Decides-like _ (λ e. ap binary_operator e) (λ e. cc) (Decides-eqb a b)
 fault_Decides BoolModifier BoolModifier = ((λ _. refl), (λ _. refl))
 fault_Decides ScalarComparison ScalarComparison = ((λ _. refl), (λ _. refl))
@@ -90,7 +181,7 @@ fault_Decides (NameTwice n v) (NameTwice m w) =
     (Decides-and _ _ (bytes_eq-Decides (string_bytes n) (string_bytes m)) (bytes_eq-Decides (string_bytes v) (string_bytes w)))
 fault_Decides EmptySelector EmptySelector = ((λ _. refl), (λ _. refl))
 fault_Decides (Node a) (Node b) = Decides-like _ (λ e. ap node e) (λ e. cc) (node_Decides a b)
-fault_Decides _ _ = ((λ h. cc), (λ h. cc))
+fault_Decides a b = fault_apart_Decides a b refl
 
 pub error_Decides : IsSameBy error_fault errors.ghosts.eq
 error_Decides Memory Memory = ((λ _. refl), (λ _. refl))
