@@ -1,3 +1,4 @@
+pub mod BuiltTrees
 pub mod EnforcedChecks
 pub mod EnforcedLists
 pub mod EnforcedMatchers
@@ -6,6 +7,11 @@ pub mod EnforcedTexts
 pub mod EnforcedTrees
 pub mod EnforcedTwice
 pub mod EnforcedTypes
+pub mod ParsedPrintable
+pub mod PrintableParts
+pub mod PrintablePlaces
+pub mod PrintableTexts
 pub mod Rejections
 pub mod SameMatchers
 pub mod TreeRows
+pub mod TypedChecks

@@ -2,6 +2,7 @@
 use Rattle.std.specs.Prelude.{◌≡◌}
 use Rattle.promql_syntax.specs.declared.parser.ParseError.{ParseError}
 use Rattle.promql_syntax.specs.declared.parser.ParseError.TheVariants as parse
+use Rattle.promql_rewrite.specs.Enforced.{IsOfLine}
 use Rattle.promql_rewrite.specs.declared.enforcing.EnforceError.{EnforceError}
 use Rattle.promql_rewrite.specs.declared.enforcing.EnforceError.TheVariants as error
 use Rattle.promql_rewrite.specs.declared.faithful.NotFaithful.{NotFaithful}
@@ -15,14 +16,8 @@ abbrev pub IsUnfaithful : NotFaithful → EnforceError → Type 0
 IsUnfaithful faithful.Memory e = e ≡ error.Memory
 IsUnfaithful other e = e ≡ error.Unfaithful other
 
--- an error of a tree alone
-abbrev pub IsOfTrees : EnforceError → Type 0
-IsOfTrees error.Memory = Unit {0}
-IsOfTrees error.MetricName = Unit {0}
-IsOfTrees _ = ⊥
-
--- an error of the line of a tree
-abbrev pub IsOfLine : EnforceError → Type 0
-IsOfLine error.Memory = Unit {0}
-IsOfLine (error.Unfaithful e) = Unit {0}
-IsOfLine _ = ⊥
+-- an error of the line of an enforced tree
+abbrev pub IsOfEnforced : EnforceError → Type 0
+IsOfEnforced error.Memory = Unit {0}
+IsOfEnforced (error.Unfaithful f) = IsOfLine f
+IsOfEnforced _ = ⊥

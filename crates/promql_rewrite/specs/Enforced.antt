@@ -1,12 +1,17 @@
 -- What enforcing a matcher on a query does (docs/guide/rewriting.md, "Enforcing").
-use Rattle.std.specs.Prelude.{◌≡◌, Ok, Err}
+use Rattle.std.specs.Prelude.{◌≡◌, ◌≢◌, Ok, Err}
 use Rattle.promql_text.specs.Texts.{Text}
 use Rattle.promql_label.specs.PlainMatchers.{PlainMatcher}
 use Rattle.promql_ast.specs.Text.{text as line_text}
 use Rattle.promql_ast.specs.Tree.{Tree}
 use Rattle.promql_syntax.specs.ParseAnswers.{IsAnswerTo, plain_error_of}
 use Rattle.promql_syntax.specs.declared.parser.ParseError.{ParseError}
+use Rattle.promql_syntax.specs.declared.parser.ParseError.TheVariants as parse
 use Rattle.promql_rewrite.specs.Enforcing.{enforced}
+use Rattle.promql_rewrite.specs.declared.enforcing.EnforceError.{EnforceError}
+use Rattle.promql_rewrite.specs.declared.enforcing.EnforceError.TheVariants as error
+use Rattle.promql_rewrite.specs.declared.faithful.NotFaithful.{NotFaithful}
+use Rattle.promql_rewrite.specs.declared.faithful.NotFaithful.TheVariants as faithful
 use Rattle.promql_rewrite.specs.Faithful.{Means, MeansOther}
 
 -- the query has a tree, and the text is the line of the enforced tree, and means it
@@ -27,3 +32,21 @@ pub record IsLineOther (query : Text) (c : PlainMatcher) : Type 0 where
   pub tree : Tree
   pub parsed : IsAnswerTo query (Ok tree)
   pub other : MeansOther (line_text (enforced c tree)) (enforced c tree)
+
+-- an error of a tree alone
+abbrev pub IsOfTrees : EnforceError → Type 0
+IsOfTrees error.Memory = Unit {0}
+IsOfTrees error.MetricName = Unit {0}
+IsOfTrees _ = ⊥
+
+-- why a line is not faithful: no allocation is a reason, and no line is indented
+abbrev pub IsOfLine : NotFaithful → Type 0
+IsOfLine faithful.Memory = ⊥
+IsOfLine faithful.IndentTooWide = ⊥
+IsOfLine (faithful.Rejected e) = e ≢ parse.Memory
+IsOfLine faithful.OtherTree = Unit {0}
+
+-- an error of a query: where it is of a line, why that is not faithful
+abbrev pub IsOfQuery : EnforceError → Type 0
+IsOfQuery (error.Unfaithful f) = IsOfLine f
+IsOfQuery _ = Unit {0}

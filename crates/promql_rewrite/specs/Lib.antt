@@ -4,4 +4,5 @@ pub mod Enforced
 pub mod Enforcing
 pub mod Faithful
 pub mod FaithfulErrors
+pub mod PrintableTrees
 pub mod Selecting

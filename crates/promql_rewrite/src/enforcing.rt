@@ -8,8 +8,8 @@ ghost use Rattle.promql_label.specs.MatcherViews.{plain_matcher_of, plain_matche
 ghost use Rattle.promql_label.specs.PlainMatchers.{name_of};
 ghost use Rattle.promql_syntax.specs.ParseAnswers.{IsAnswerTo, plain_error_of};
 ghost use Rattle.promql_syntax.specs.declared.parser.ParseError.{ParseError};
-ghost use Rattle.promql_rewrite.specs.Enforced.{IsEnforced, IsLineOther, IsLineRejected};
-ghost use Rattle.promql_rewrite.specs.EnforceErrors.{IsOfLine, IsOfTrees};
+ghost use Rattle.promql_rewrite.specs.Enforced.{IsEnforced, IsLineOther, IsLineRejected, IsOfQuery, IsOfTrees};
+ghost use Rattle.promql_rewrite.specs.EnforceErrors.{IsOfEnforced};
 ghost use Rattle.promql_rewrite.specs.Faithful.{IsLineOf, MeansOther};
 ghost use Rattle.promql_ast.specs.Text.{text as line_text};
 ghost use Rattle.promql_rewrite.specs.Enforcing.{all_enforced, enforced, enforced_matchers, first_enforced, with_matcher};
@@ -128,6 +128,7 @@ pub fn enforce_query(alloc: Global, query: &str, matcher: &Matcher) -> Result<St
         → IsLineRejected query.now (plain_matcher_of matcher.now) e }
     ensures other { IsErrOf result (EnforceError.Unfaithful NotFaithful.OtherTree)
         → IsLineOther query.now (plain_matcher_of matcher.now) }
+    ensures errors { IfErr result IsOfQuery }
 {
     if matcher.name.as_str() == METRIC_NAME {
         return Err(EnforceError::MetricName);
@@ -149,7 +150,7 @@ fn enforced_line(alloc: Global, expr: &mut Expr, matcher: &Matcher) -> Result<St
     ensures other { IsErrOf result (EnforceError.Unfaithful NotFaithful.OtherTree) → MeansOther
         (line_text (enforced (plain_matcher_of matcher.now) (tree_of expr.old)))
         (enforced (plain_matcher_of matcher.now) (tree_of expr.old)) }
-    ensures errors { IfErr result IsOfLine }
+    ensures errors { IfErr result IsOfEnforced }
 {
     match enforce_expr(alloc, expr, matcher) {
         Ok(()) => {}

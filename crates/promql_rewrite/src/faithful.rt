@@ -1,7 +1,8 @@
 //! Texts that mean the tree that they were printed of: docs/guide/rewriting.md, "Faithful texts".
 
-ghost use Rattle.std.specs.Prelude.{◌≡◌, ◌≢◌, ◌↔◌, Err, IfOk, IsErrOf, IsTrue, OnOk, string_bytes};
-ghost use Rattle.promql_ast.specs.Layout.{layout_of};
+ghost use Rattle.std.specs.Prelude.{◌≡◌, ◌≢◌, ◌↔◌, ◌<◌, ◌*◌, Err, IfOk, IsErrOf, IsTrue, OnOk, string_bytes};
+ghost use Rattle.promql_text.specs.PrintedLen.{usize_max};
+ghost use Rattle.promql_ast.specs.Layout.{deepest, layout_of};
 ghost use Rattle.promql_ast.specs.Normal.{normal};
 ghost use Rattle.promql_ast.specs.Text.{text as line_text};
 ghost use Rattle.promql_ast.specs.View.{tree_of};
@@ -107,6 +108,8 @@ pub fn faithful_pretty(
         → IsAnswerTo (layout_of (tree_of expr.now) level width) (Err (plain_error_of e)) × (e ≢ ParseError.Memory) }
     ensures other { IsErrOf result NotFaithful.OtherTree
         → MeansOther (layout_of (tree_of expr.now) level width) (tree_of expr.now) }
+    ensures wide { IsErrOf result NotFaithful.IndentTooWide
+        → usize_max < 2 * deepest (tree_of expr.now) level width }
 {
     let laid = expr.pretty(alloc, level, width)?;
     match reads_back(alloc, &laid, expr) {

@@ -15,6 +15,7 @@ ghost use Rattle.promql_ast.specs.Types.{type_of};
 ghost use Rattle.promql_syntax.specs.ParseAnswers.{HasTree};
 ghost use Rattle.promql_rewrite.specs.Answered.{IsAnswered};
 ghost use Rattle.promql_rewrite.specs.Enforcing.{enforced, enforced_selector};
+ghost use Rattle.promql_rewrite.specs.PrintableTrees.{IsPrintable};
 ghost use Rattle.promql_rewrite.specs.Selecting.{Series, allows, selects};
 
 /// Where a matcher is enforced, a selector selects exactly the series that it selected before and that the matcher allows.
@@ -46,3 +47,18 @@ pub fn enforced_queries_read_back()
         → IsAnswered g c → name_of c ≢ codes "__name__" → (level most : ℕ)
         → HasTree g (layout_of (enforced c t) level most) (normal (enforced c t)) }
 {}
+
+/// With one answer for each pattern, the texts of a printable tree, on one line or laid out at any level and width, have the
+/// tree's normal form, whoever built the tree.
+pub fn printable_trees_read_back()
+    ensures line { (g : Text → Answer) (t : Tree) → IsPrintable g t → HasTree g (text t) (normal t) }
+    ensures lines { (g : Text → Answer) (t : Tree) → IsPrintable g t
+        → (level most : ℕ) → HasTree g (layout_of t level most) (normal t) }
+{}
+
+/// With one answer for each pattern, the tree of a text is printable.
+pub fn parsed_trees_are_printable()
+    ensures { (g : Text → Answer) (source : Text) (t : Tree) → HasTree g source t → IsPrintable g t }
+{
+    promql_ast::laws::checked_trees_are_typed();
+}
