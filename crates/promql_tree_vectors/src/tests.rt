@@ -13,24 +13,17 @@ mod trees;
 mod writers;
 
 use promql_ast::{CheckError, Expr};
-use std::alloc::{AllocError, Global};
+use std::alloc::Global;
 use std::fmt::Display;
 use std::process::Abort;
 use std::test::Fail;
+use trees::new_box;
 
 /// The value prints this text.
 fn prints<T: Display>(rt: &impl Abort, alloc: Global, value: &T, want: &str) -> Result<(), Fail> {
     let found = value.to_string(alloc)?;
     assert_eq!(rt; found.as_str(), want);
     Ok(())
-}
-
-/// What was built as it prints, or the message of its rejection.
-fn display_text(alloc: Global, built: Result<Expr, CheckError>) -> Result<String, AllocError> {
-    match built {
-        Ok(expr) => expr.to_string(alloc),
-        Err(error) => error.to_string(alloc),
-    }
 }
 
 /// What was built prints this text, or was rejected with this message.
@@ -40,7 +33,8 @@ fn shows(
     built: Result<Expr, CheckError>,
     want: &str,
 ) -> Result<(), Fail> {
-    let found = display_text(alloc, built)?;
-    assert_eq!(rt; found.as_str(), want);
-    Ok(())
+    match built {
+        Ok(expr) => prints(rt, alloc, &*new_box(alloc, expr)?, want),
+        Err(error) => prints(rt, alloc, &error, want),
+    }
 }

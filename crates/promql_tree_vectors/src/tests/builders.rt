@@ -1,16 +1,17 @@
 //! What builders make and reject.
 
 use super::shows;
-use super::trees::{KINDS, arguments, built, is_kind, kind, number};
+use super::trees::{KINDS, arguments, built, is_kind, kind, new_box, number};
 use promql_ast::{AtModifier, Expr, FunctionArgs, Offset, RangeMode};
 use promql_text::minute_duration;
 use std::test::Fail;
 
 #[test]
 fn built_nodes_are_those_of_texts(rt: HostRuntime) -> Result<(), Fail> {
+    let alloc = rt.alloc();
     for (i, text) in KINDS.iter().enumerate() {
-        let found = is_kind(rt.alloc(), &built(rt.alloc(), i)?, text)?;
-        assert!(rt; found, "{text}");
+        let expr = new_box(alloc, built(alloc, i)?)?;
+        assert!(rt; is_kind(alloc, &expr, text)?, "{text}");
     }
     Ok(())
 }
@@ -53,7 +54,7 @@ const MODIFIED: [(&str, &str, &str); 12] = [
 fn times_are_set_once(rt: HostRuntime) -> Result<(), Fail> {
     let alloc = rt.alloc();
     for (text, (timed, _, _)) in KINDS.iter().zip(MODIFIED.iter()) {
-        let at = kind(alloc, text)?.at_expr(AtModifier::End);
+        let at = Box::into_inner(kind(alloc, text)?).at_expr(AtModifier::End);
         shows(&rt, alloc, at, timed)?;
     }
     Ok(())
@@ -63,8 +64,9 @@ fn times_are_set_once(rt: HostRuntime) -> Result<(), Fail> {
 fn offsets_are_set_once(rt: HostRuntime) -> Result<(), Fail> {
     let alloc = rt.alloc();
     for (text, (_, shifted, _)) in KINDS.iter().zip(MODIFIED.iter()) {
-        let offset = kind(alloc, text)?.offset_expr(Offset::Pos(minute_duration() * 3));
-        shows(&rt, alloc, offset, shifted)?;
+        let expr = Box::into_inner(kind(alloc, text)?);
+        let three_minutes = Offset::Pos(minute_duration() * 3);
+        shows(&rt, alloc, expr.offset_expr(three_minutes), shifted)?;
     }
     Ok(())
 }
@@ -73,7 +75,7 @@ fn offsets_are_set_once(rt: HostRuntime) -> Result<(), Fail> {
 fn modes_are_set_once(rt: HostRuntime) -> Result<(), Fail> {
     let alloc = rt.alloc();
     for (text, (_, _, smoothed)) in KINDS.iter().zip(MODIFIED.iter()) {
-        let mode = kind(alloc, text)?.mode_expr(RangeMode::Smoothed);
+        let mode = Box::into_inner(kind(alloc, text)?).mode_expr(RangeMode::Smoothed);
         shows(&rt, alloc, mode, smoothed)?;
     }
     Ok(())
@@ -89,13 +91,14 @@ fn no_arguments_are_lent(rt: HostRuntime) {
 
 #[test]
 fn arguments_are_counted_and_lent(rt: HostRuntime) -> Result<(), Fail> {
-    let two = arguments(rt.alloc(), &["1", "2"])?;
+    let alloc = rt.alloc();
+    let two = arguments(alloc, &["1", "2"])?;
     assert!(rt; !two.is_empty());
     assert_eq!(rt; two.len(), 2);
     let first = two.first().expect(&rt, "there is a first argument");
-    assert!(rt; *first == Expr::from(number("1")));
+    assert!(rt; *first == *new_box(alloc, Expr::from(number("1")))?);
     let last = two.last().expect(&rt, "there is a last argument");
-    assert!(rt; *last == Expr::from(number("2")));
+    assert!(rt; *last == *new_box(alloc, Expr::from(number("2")))?);
     Ok(())
 }
 

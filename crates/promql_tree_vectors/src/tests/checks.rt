@@ -1,7 +1,7 @@
 //! What the checks of a node say of children that its builder takes.
 
 use super::shows;
-use super::trees::{KINDS, arguments, is_kind, kind, name};
+use super::trees::{KINDS, arguments, is_kind, kind, name, new_box, operation};
 use promql_ast::{AggregateExpr, CheckError, Expr, FunctionArgs};
 use promql_kind::{BinModifier, Function, ValueType, VectorMatchCardinality};
 use promql_token::ids::{T_ADD, T_LAND, T_NUMBER, T_TOPK};
@@ -21,24 +21,19 @@ fn checks(
 }
 
 /// The node of one of the kinds, as it is after its check.
-fn checked_kind(alloc: Global, text: &str) -> Result<Expr, Fail> {
-    Ok(Expr::checked(alloc, kind(alloc, text)?)?)
+fn checked_kind(alloc: Global, text: &str) -> Result<Box<Expr>, Fail> {
+    let expr = Box::into_inner(kind(alloc, text)?);
+    Ok(new_box(alloc, Expr::checked(alloc, expr)?)?)
 }
 
 #[test]
 fn well_typed_nodes_pass(rt: HostRuntime) -> Result<(), Fail> {
+    let alloc = rt.alloc();
     for text in &KINDS {
-        let found = is_kind(rt.alloc(), &checked_kind(rt.alloc(), text)?, text)?;
-        assert!(rt; found, "{text}");
+        let expr = checked_kind(alloc, text)?;
+        assert!(rt; is_kind(alloc, &expr, text)?, "{text}");
     }
     Ok(())
-}
-
-/// `a` and `b` with this token and modifier between them.
-fn both(alloc: Global, op: TokenId, modifier: Option<BinModifier>) -> Result<Expr, CheckError> {
-    let a = name(alloc, "a")?;
-    let b = name(alloc, "b")?;
-    Ok(Expr::new_binary_expr(alloc, a, op, modifier, b)?)
 }
 
 /// An aggregation of `a` with this token in place of the aggregator.
@@ -53,7 +48,7 @@ fn other_tokens_are_rejected(rt: HostRuntime) -> Result<(), Fail> {
     checks(
         &rt,
         alloc,
-        both(alloc, T_NUMBER, None),
+        operation(alloc, T_NUMBER, None),
         "binary expression does not support operator '{Num}'",
     )?;
     checks(
@@ -64,21 +59,22 @@ fn other_tokens_are_rejected(rt: HostRuntime) -> Result<(), Fail> {
     )
 }
 
-/// Whether the expression is `a and b` that matches many with many.
-fn is_many_to_many(alloc: Global, expr: &Expr) -> Result<bool, CheckError> {
+/// `a and b` that matches many with many.
+fn many_to_many(alloc: Global) -> Result<Box<Expr>, CheckError> {
     let many = BinModifier::default().with_card(VectorMatchCardinality::ManyToMany);
-    Ok(both(alloc, T_LAND, Some(many))? == *expr)
+    Ok(new_box(alloc, operation(alloc, T_LAND, Some(many))?)?)
 }
 
 /// `a and b` as it is after its check.
 fn checked_and(alloc: Global) -> Result<Expr, CheckError> {
-    Expr::checked(alloc, both(alloc, T_LAND, None)?)
+    Expr::checked(alloc, operation(alloc, T_LAND, None)?)
 }
 
 #[test]
 fn set_operators_match_many_to_many(rt: HostRuntime) -> Result<(), Fail> {
-    let found = is_many_to_many(rt.alloc(), &checked_and(rt.alloc())?)?;
-    assert!(rt; found);
+    let alloc = rt.alloc();
+    let expr = new_box(alloc, checked_and(alloc)?)?;
+    assert!(rt; *expr == *many_to_many(alloc)?);
     Ok(())
 }
 

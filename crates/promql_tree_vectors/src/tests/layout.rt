@@ -3,7 +3,7 @@
 ghost use Rattle.std.specs.Prelude.{Some};
 
 use super::prints;
-use super::trees::{EXTENSION, KINDS, arguments, is_read, kind};
+use super::trees::{EXTENSION, KINDS, arguments, is_read, kind, read};
 use promql_ast::{EvalStmt, Expr, FunctionArgs, Prettier, PrettyError, Tally};
 use promql_parser::parser::parse;
 use promql_text::{minute_duration, second_duration};
@@ -114,10 +114,20 @@ const LEAVES: [(&str, &str); 4] = [
     ("a[5m] anchored offset 1m", "  a[5m] anchored offset 1m"),
 ];
 
+/// The value was laid out as this text.
+fn check_layout(
+    rt: &impl Abort,
+    laid: Result<String, PrettyError>,
+    want: &str,
+) -> Result<(), Fail> {
+    assert_eq!(rt; laid?.as_str(), want);
+    Ok(())
+}
+
 fn check<T: Prettier>(rt: &impl Abort, alloc: Global, value: &T, row: &Row) -> Result<(), Fail> {
-    assert_eq!(rt; value.pretty(alloc, 1, row.max)?.as_str(), row.split);
-    assert_eq!(rt; value.pretty(alloc, 1, 100)?.as_str(), row.line);
-    assert_eq!(rt; value.format(alloc, 1, 100)?.as_str(), row.format);
+    check_layout(rt, value.pretty(alloc, 1, row.max), row.split)?;
+    check_layout(rt, value.pretty(alloc, 1, 100), row.line)?;
+    check_layout(rt, value.format(alloc, 1, 100), row.format)?;
     assert!(rt; !value.needs_split(row.fits));
     assert!(rt; row.fits == 0 || value.needs_split(row.fits - 1));
     Ok(())
@@ -142,7 +152,7 @@ fn check_node(rt: &impl Abort, alloc: Global, expr: &Expr, row: &Row) -> Result<
 
 /// The node of a text, as a value of its own.
 fn check_text(rt: &impl Abort, alloc: Global, text: &str, row: &Row) -> Result<(), Fail> {
-    check_node(rt, alloc, &parse(alloc, text)?, row)
+    check_node(rt, alloc, &*read(alloc, text)?, row)
 }
 
 #[test]
@@ -176,9 +186,8 @@ fn arguments_have_a_line_each(rt: HostRuntime) -> Result<(), Fail> {
 fn no_arguments_have_no_line(rt: HostRuntime) -> Result<(), Fail> {
     let alloc = rt.alloc();
     let none = FunctionArgs::empty_args(alloc);
-    assert_eq!(rt; none.pretty(alloc, 1, 0)?.as_str(), "");
-    assert_eq!(rt; none.format(alloc, 1, 0)?.as_str(), "  ");
-    Ok(())
+    check_layout(&rt, none.pretty(alloc, 1, 0), "")?;
+    check_layout(&rt, none.format(alloc, 1, 0), "  ")
 }
 
 #[test]
@@ -186,21 +195,22 @@ fn a_line_that_fits_is_kept(rt: HostRuntime) -> Result<(), Fail> {
     let alloc = rt.alloc();
     for line in &KINDS {
         let expr = kind(alloc, line)?;
-        assert_eq!(rt; expr.pretty(alloc, 0, line.len())?.as_str(), *line);
-        assert_eq!(rt; expr.format(alloc, 0, 0)?.as_str(), *line);
+        check_layout(&rt, expr.pretty(alloc, 0, line.len()), line)?;
+        check_layout(&rt, expr.format(alloc, 0, 0), line)?;
     }
     Ok(())
 }
 
-/// The expression at each 15 seconds from the first time to the last.
-pub fn statement(expr: Expr, start: i64, end: i64) -> EvalStmt {
-    EvalStmt {
-        expr,
+/// `a` at each 15 seconds from the first time to the last.
+pub fn statement(alloc: Global, start: i64, end: i64) -> Result<Box<EvalStmt>, Fail> {
+    let statement = EvalStmt {
+        expr: parse(alloc, "a")?,
         start,
         end,
         interval: second_duration() * 15,
         lookback_delta: minute_duration() * 5,
-    }
+    };
+    Ok(Box::new(alloc, statement)?)
 }
 
 /// The first time and the last of a statement of `a`, and how it prints.
@@ -219,49 +229,29 @@ const STATEMENTS: [(i64, i64, &str); 4] = [
     ),
 ];
 
-/// A statement of `a` prints this text.
-fn check_statement(
-    rt: &impl Abort,
-    alloc: Global,
-    start: i64,
-    end: i64,
-    text: &str,
-) -> Result<(), Fail> {
-    prints(rt, alloc, &statement(parse(alloc, "a")?, start, end), text)
-}
-
 #[test]
 fn statements_print_their_times(rt: HostRuntime) -> Result<(), Fail> {
+    let alloc = rt.alloc();
     for (start, end, text) in &STATEMENTS {
-        check_statement(&rt, rt.alloc(), *start, *end, text)?;
+        prints(&rt, alloc, &*statement(alloc, *start, *end)?, text)?;
     }
     Ok(())
-}
-
-/// A copy of the statement prints this text.
-fn check_copy(
-    rt: &impl Abort,
-    alloc: Global,
-    statement: &EvalStmt,
-    text: &str,
-) -> Result<(), Fail> {
-    prints(rt, alloc, &statement.try_clone(alloc)?, text)
 }
 
 #[test]
 fn copies_of_statements_print_alike(rt: HostRuntime) -> Result<(), Fail> {
     let alloc = rt.alloc();
-    let text = "[a] @ [0.000, 1.500, 15s, 5m]";
-    check_copy(&rt, alloc, &statement(parse(alloc, "a")?, 0, 1500), text)
+    let copy = Box::new(alloc, statement(alloc, 0, 1500)?.try_clone(alloc)?)?;
+    prints(&rt, alloc, &*copy, "[a] @ [0.000, 1.500, 15s, 5m]")
 }
 
 /// A sum of 512 ones.
-fn ones(alloc: Global) -> Result<Expr, Fail> {
+fn ones(alloc: Global) -> Result<Box<Expr>, Fail> {
     let mut text = String::from_str(alloc, "1")?;
     for _ in 1..512 {
         text.push_str("+1")?;
     }
-    Ok(parse(alloc, text.as_str())?)
+    Ok(read(alloc, text.as_str())?)
 }
 
 /// The layout of the expression in lines of `max` bytes has more bytes than this, and takes so many widths.
@@ -284,14 +274,14 @@ fn check_widths(
 #[test]
 fn each_node_has_one_width(rt: HostRuntime) -> Result<(), Fail> {
     for max in [0, 10] {
-        check_widths(&rt, rt.alloc(), &parse(rt.alloc(), SHARE)?, max, 4, 20)?;
+        check_widths(&rt, rt.alloc(), &*read(rt.alloc(), SHARE)?, max, 4, 20)?;
     }
     Ok(())
 }
 
 #[test]
 fn each_node_of_a_long_sum_has_one_width(rt: HostRuntime) -> Result<(), Fail> {
-    check_widths(&rt, rt.alloc(), &ones(rt.alloc())?, 0, 1023, 100_000)
+    check_widths(&rt, rt.alloc(), &*ones(rt.alloc())?, 0, 1023, 100_000)
 }
 
 /// Whether a layout failed since its indentation is wider than a `usize` counts.
@@ -303,30 +293,26 @@ fn is_too_wide(laid: &Result<String, PrettyError>) -> bool {
 fn too_wide_indentations_are_rejected(rt: HostRuntime) -> Result<(), Fail> {
     let alloc = rt.alloc();
     for text in [SHARE, "1"] {
-        let expr = parse(alloc, text)?;
+        let expr = read(alloc, text)?;
         assert!(rt; is_too_wide(&expr.pretty(alloc, usize::MAX, 0)));
     }
     Ok(())
 }
 
-/// Whether the expression is too wide for the greatest level, and is then what it was.
-fn is_left_too_wide(alloc: Global, expr: &Expr) -> bool {
-    is_too_wide(&expr.pretty(alloc, usize::MAX, 0)) && is_read(alloc, expr, SHARE) == Ok(true)
-}
-
 #[test]
 fn a_failed_layout_leaves_the_expression(rt: HostRuntime) -> Result<(), Fail> {
-    let found = is_left_too_wide(rt.alloc(), &parse(rt.alloc(), SHARE)?);
-    assert!(rt; found);
+    let alloc = rt.alloc();
+    let expr = read(alloc, SHARE)?;
+    assert!(rt; is_too_wide(&expr.pretty(alloc, usize::MAX, 0)));
+    assert!(rt; is_read(alloc, &expr, SHARE)?);
     Ok(())
 }
 
 #[test]
 fn an_extension_is_not_indented(rt: HostRuntime) -> Result<(), Fail> {
     let alloc = rt.alloc();
-    let laid = kind(alloc, EXTENSION)?.pretty(alloc, usize::MAX, 0)?;
-    assert_eq!(rt; laid.as_str(), EXTENSION);
-    Ok(())
+    let laid = kind(alloc, EXTENSION)?.pretty(alloc, usize::MAX, 0);
+    check_layout(&rt, laid, EXTENSION)
 }
 
 /// A type that has its one line and nothing of its own for a layout.
@@ -356,10 +342,9 @@ fn a_type_without_bodies_is_one_line(rt: HostRuntime) -> Result<(), Fail> {
         text: "demo_again.",
     };
     assert!(rt; long.needs_split(10));
-    assert_eq!(rt; long.pretty(alloc, 1, 10)?.as_str(), "  demo_again.");
-    assert_eq!(rt; long.format(alloc, 1, 10)?.as_str(), "  demo_again.");
+    check_layout(&rt, long.pretty(alloc, 1, 10), "  demo_again.")?;
+    check_layout(&rt, long.format(alloc, 1, 10), "  demo_again.")?;
     let short = Note { text: "demo" };
     assert!(rt; !short.needs_split(10));
-    assert_eq!(rt; short.pretty(alloc, 1, 10)?.as_str(), "  demo");
-    Ok(())
+    check_layout(&rt, short.pretty(alloc, 1, 10), "  demo")
 }

@@ -1,10 +1,12 @@
 //! Allocations that fail: bin/test_memory makes each fail in turn. Then a call runs out of memory or does what it does with
 //! memory, and what it was called on is what it was.
 
-use super::trees::{call, equal, five_minutes, grouped, include, is_read, name};
-use promql_ast::{CheckError, Expr, FunctionArgs};
+use super::trees::{
+    call, equal, five_minutes, grouped, include, is_copy, is_read, name, new_box, read,
+};
+use promql_ast::{CheckError, Expr, FunctionArgs, VectorSelector};
 use promql_label::{Labels, Matchers};
-use promql_parser::parser::{ParseError, Prettier, PrettyError, parse};
+use promql_parser::parser::{ParseError, Prettier, PrettyError};
 use promql_token::ids::{T_ADD, T_SUM};
 use promql_walk::{JsonError, ToJson};
 use std::alloc::{AllocError, Global};
@@ -12,9 +14,9 @@ use std::alloc::{AllocError, Global};
 const TEXT: &str = r#"foo{a="1"} + on (a) group_left (b) sum by (c) (rate(x[5m]))"#;
 
 /// `foo{a="1"}`
-fn foo(alloc: Global) -> Result<Expr, CheckError> {
+fn foo(alloc: Global) -> Result<VectorSelector, CheckError> {
     let matchers = Matchers::one(alloc, equal(alloc, "a", "1")?)?;
-    Ok(Expr::new_vector_selector(Some(String::from_str(alloc, "foo")?), matchers))
+    Ok(VectorSelector::new(Some(String::from_str(alloc, "foo")?), matchers))
 }
 
 /// `sum by (c) (rate(x[5m]))`
@@ -25,14 +27,12 @@ fn sum_of_rate(alloc: Global) -> Result<Expr, CheckError> {
 }
 
 /// The expression of `TEXT`.
-fn built(alloc: Global) -> Result<Expr, CheckError> {
+fn built(alloc: Global) -> Result<Box<Expr>, CheckError> {
     let modifier = grouped(alloc, &["a"], &["b"])?;
     let foo = foo(alloc)?;
     let sum = sum_of_rate(alloc)?;
-    Expr::checked(
-        alloc,
-        Expr::new_binary_expr(alloc, foo, T_ADD, Some(modifier), sum)?,
-    )
+    let expr = Expr::new_binary_expr(alloc, Expr::from(foo), T_ADD, Some(modifier), sum)?;
+    Ok(new_box(alloc, Expr::checked(alloc, expr)?)?)
 }
 
 /// Whether the expression prints `TEXT`, or there is no memory to print it.
@@ -45,10 +45,7 @@ fn is_printed(alloc: Global, expr: &Expr) -> bool {
 
 /// Whether a copy is the expression, or there is no memory for one.
 fn is_copied(alloc: Global, expr: &Expr) -> bool {
-    match expr.try_clone(alloc) {
-        Ok(copy) => copy == *expr,
-        Err(_) => true,
-    }
+    is_copy(expr, expr.try_clone(alloc)).unwrap_or(true)
 }
 
 #[test]
@@ -66,7 +63,7 @@ fn building_runs_out_of_memory_or_gives_the_tree(rt: HostRuntime) {
 
 /// The expression over lines of so many bytes; None if an allocation failed.
 fn layout(alloc: Global, text: &str, max: usize) -> Result<Option<String>, PrettyError> {
-    match parse(alloc, text) {
+    match read(alloc, text) {
         Ok(expr) => Ok(Some(expr.pretty(alloc, 0, max)?)),
         Err(ParseError::Memory) => Ok(None),
         Err(_) => Err(PrettyError::IndentTooWide),
@@ -100,7 +97,7 @@ const TOPK: &str =
 
 /// The compact JSON of a text's expression, `Memory` where there is none.
 fn form(alloc: Global, text: &str) -> Result<String, JsonError> {
-    match parse(alloc, text) {
+    match read(alloc, text) {
         Ok(expr) => Ok(expr.to_json(alloc)?.to_string(alloc)?),
         Err(_) => Err(JsonError::Memory),
     }
@@ -143,12 +140,9 @@ fn is_read_again(alloc: Global, expr: &Expr, text: &str) -> bool {
 }
 
 /// Whether copying and laying out give what they should or run out of memory, and leave the expression of the text.
-fn is_left_by_calls(alloc: Global, expr: &Expr, text: &str) -> bool {
-    is_copied(alloc, expr) && is_laid_out(alloc, expr) && is_read_again(alloc, expr, text)
-}
-
 fn is_left(alloc: Global, text: &str) -> Result<bool, ParseError> {
-    Ok(is_left_by_calls(alloc, &parse(alloc, text)?, text))
+    let expr = read(alloc, text)?;
+    Ok(is_copied(alloc, &expr) && is_laid_out(alloc, &expr) && is_read_again(alloc, &expr, text))
 }
 
 #[test]
@@ -186,7 +180,7 @@ const TWICE: &str = r#"{a="1",b="2" or c!="3",a=~"4|5"}"#;
 #[test]
 fn finding_matchers_leaves_them(rt: HostRuntime) {
     let alloc = rt.alloc();
-    match parse(alloc, TWICE) {
+    match read(alloc, TWICE) {
         Ok(expr) => {
             assert!(rt; finds_both(alloc, &expr));
             assert!(rt; is_read_again(alloc, &expr, TWICE));

@@ -1,14 +1,14 @@
 //! Widths, precisions and flags of a placeholder, which no value heeds: it prints its text, and no space beside it.
 
 use super::layout::statement;
-use super::trees::{KINDS, arguments, kind, number};
+use super::trees::{KINDS, arguments, kind, number, read};
 use promql_ast::{
-    AtFault, AtModifier, BinaryExpr, CheckError, CheckFault, EvalStmt, Expr, FunctionArgs,
-    NodeFault, Offset, PrettyError, TypeContext,
+    AtFault, AtModifier, BinaryExpr, CheckError, CheckFault, Expr, NodeFault, Offset, PrettyError,
+    TypeContext,
 };
 use promql_kind::{BinModifier, ValueType};
 use promql_label::{Matcher, MatcherError, Matchers, PatternFault};
-use promql_parser::parser::{ParseError, parse};
+use promql_parser::parser::ParseError;
 use promql_text::{DurationFault, DurationText, NumberFault, QuoteError, Quoted, minute_duration};
 use promql_token::ids::{T_LAND, T_STEP, T_TOPK};
 use promql_token::{LexError, LexFault, LexFaultKind, TokenType};
@@ -49,14 +49,10 @@ fn check_node(rt: &impl Abort, alloc: Global, expr: &Expr, text: &str) -> Result
     }
 }
 
-fn check_kind(rt: &impl Abort, alloc: Global, text: &str) -> Result<(), Fail> {
-    check_node(rt, alloc, &kind(alloc, text)?, text)
-}
-
 #[test]
 fn nodes_heed_no_option(rt: HostRuntime) -> Result<(), Fail> {
     for text in &KINDS {
-        check_kind(&rt, rt.alloc(), text)?;
+        check_node(&rt, rt.alloc(), &*kind(rt.alloc(), text)?, text)?;
     }
     Ok(())
 }
@@ -128,26 +124,20 @@ fn check_sum(rt: &impl Abort, alloc: Global, expr: &Expr) -> Result<(), Fail> {
 #[test]
 fn lists_heed_no_option(rt: HostRuntime) -> Result<(), Fail> {
     let alloc = rt.alloc();
-    check_sum(&rt, alloc, &parse(alloc, "{a=~'b'} + on (a, 'b c') d")?)
-}
-
-fn check_arguments(rt: &impl Abort, alloc: Global, args: &FunctionArgs) -> Result<(), Fail> {
-    heeds_none(rt, alloc, args, "1, a")
+    check_sum(&rt, alloc, &*read(alloc, "{a=~'b'} + on (a, 'b c') d")?)
 }
 
 #[test]
 fn arguments_heed_no_option(rt: HostRuntime) -> Result<(), Fail> {
-    check_arguments(&rt, rt.alloc(), &arguments(rt.alloc(), &["1", "a"])?)
-}
-
-fn check_statement(rt: &impl Abort, alloc: Global, statement: &EvalStmt) -> Result<(), Fail> {
-    heeds_none(rt, alloc, statement, "[a] @ [-1.500, 0.000, 15s, 5m]")
+    let alloc = rt.alloc();
+    heeds_none(&rt, alloc, &arguments(alloc, &["1", "a"])?, "1, a")
 }
 
 #[test]
 fn statements_heed_no_option(rt: HostRuntime) -> Result<(), Fail> {
     let alloc = rt.alloc();
-    check_statement(&rt, alloc, &statement(parse(alloc, "a")?, -1500, 0))
+    let text = "[a] @ [-1.500, 0.000, 15s, 5m]";
+    heeds_none(&rt, alloc, &*statement(alloc, -1500, 0)?, text)
 }
 
 const CHARACTER: LexFault = LexFault {

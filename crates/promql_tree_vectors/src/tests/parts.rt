@@ -1,7 +1,7 @@
 //! What nodes and their parts say of themselves, and a copy of each node by itself.
 
 use super::prints;
-use super::trees::{KINDS, grouped, kind, name, number};
+use super::trees::{KINDS, grouped, is_copy, kind, new_box, number, operation, read};
 use promql_ast::{BinaryExpr, CheckError, Expr, NumberLiteral, Offset, RangeMode, VectorSelector};
 use promql_kind::ValueType;
 use promql_label::Matchers;
@@ -12,7 +12,7 @@ use std::alloc::{AllocError, Global};
 use std::test::Fail;
 
 /// The operator of an expression.
-fn binary(expr: Expr) -> Result<BinaryExpr, Fail> {
+fn binary(expr: &Expr) -> Result<&BinaryExpr, Fail> {
     match expr {
         Expr::Binary(e) => Ok(e),
         _ => Err(Fail::new("no operator")),
@@ -23,17 +23,16 @@ fn binary(expr: Expr) -> Result<BinaryExpr, Fail> {
 const BOTH: [&str; 11] = ["a", "b", "c", "d", "e", "f", "g", "h", "i", "j", "k"];
 
 /// `a + on (LABELS) group_left (LABELS) b`, which no check accepts.
-fn joint_sum(alloc: Global) -> Result<Expr, CheckError> {
+fn joint_sum(alloc: Global) -> Result<Box<Expr>, CheckError> {
     let modifier = grouped(alloc, &BOTH, &BOTH)?;
-    let a = name(alloc, "a")?;
-    let b = name(alloc, "b")?;
-    Ok(Expr::new_binary_expr(alloc, a, T_ADD, Some(modifier), b)?)
+    Ok(new_box(alloc, operation(alloc, T_ADD, Some(modifier))?)?)
 }
 
 #[test]
 fn labels_on_both_sides_are_joint(rt: HostRuntime) -> Result<(), Fail> {
     let alloc = rt.alloc();
-    let sum = binary(joint_sum(alloc)?)?;
+    let expr = joint_sum(alloc)?;
+    let sum = binary(&expr)?;
     assert!(rt; sum.is_matching_on() && sum.is_matching_labels_not_empty());
     assert!(rt; sum.is_labels_joint() && !sum.return_bool());
     let both = sum.intersect_labels(alloc)?;
@@ -50,7 +49,8 @@ fn labels_on_both_sides_are_joint(rt: HostRuntime) -> Result<(), Fail> {
 #[test]
 fn operators_without_labels(rt: HostRuntime) -> Result<(), Fail> {
     let alloc = rt.alloc();
-    let compared = binary(parse(alloc, "a == bool b")?)?;
+    let expr = read(alloc, "a == bool b")?;
+    let compared = binary(&expr)?;
     assert!(rt; compared.return_bool() && !compared.is_labels_joint());
     assert!(rt; !compared.is_matching_on() && !compared.is_matching_labels_not_empty());
     assert!(rt; compared.intersect_labels(alloc)?.is_none());
@@ -91,9 +91,9 @@ const NEGATED: [(&str, &str); 3] = [("1.5", "-1.5"), ("a", "-a"), ("(a)", "-(a)"
 fn expressions_are_negated(rt: HostRuntime) -> Result<(), Fail> {
     let alloc = rt.alloc();
     for (text, want) in &NEGATED {
-        let negated = parse(alloc, text)?.negated(alloc)?;
+        let negated = new_box(alloc, parse(alloc, text)?.negated(alloc)?)?;
         assert!(rt; negated.scalar_value().is_some() == (*text == "1.5"));
-        prints(&rt, alloc, &negated, want)?;
+        prints(&rt, alloc, &*negated, want)?;
     }
     let literal = -NumberLiteral::new(number("2"));
     assert!(rt; literal.val == number("-2"));
@@ -119,14 +119,6 @@ fn times_and_modes_print(rt: HostRuntime) -> Result<(), Fail> {
     prints(&rt, alloc, &Offset::Neg(minute), "-1m")?;
     assert!(rt; RangeMode::default() == RangeMode::Plain);
     Ok(())
-}
-
-/// Whether the copy was made and is the value.
-fn is_copy<T: PartialEq + Drop>(
-    value: &T,
-    copy: Result<T, AllocError>,
-) -> Result<bool, AllocError> {
-    Ok(copy? == *value)
 }
 
 /// Whether the copy of the node by itself is the node.

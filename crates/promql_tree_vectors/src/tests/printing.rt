@@ -1,6 +1,6 @@
 //! One-line texts, copies and equality.
 
-use super::trees::{KINDS, is_kind, is_read, kind};
+use super::trees::{KINDS, is_kind, is_read, kind, new_box, read};
 use super::{prints, shows};
 use promql_ast::{CheckError, Expr, VectorSelector};
 use promql_label::Matchers;
@@ -22,13 +22,10 @@ fn check_copy(
     prints(rt, alloc, copy, text)
 }
 
-/// The expression and a copy of it are equal, and print this text.
-fn check_copied(rt: &impl Abort, alloc: Global, expr: &Expr, text: &str) -> Result<(), Fail> {
-    check_copy(rt, alloc, expr, &expr.try_clone(alloc)?, text)
-}
-
 fn check_kind(rt: &impl Abort, alloc: Global, text: &str) -> Result<(), Fail> {
-    check_copied(rt, alloc, &kind(alloc, text)?, text)
+    let expr = kind(alloc, text)?;
+    let copy = new_box(alloc, expr.try_clone(alloc)?)?;
+    check_copy(rt, alloc, &expr, &copy, text)
 }
 
 #[test]
@@ -39,16 +36,12 @@ fn copies_are_equal_and_print_alike(rt: HostRuntime) -> Result<(), Fail> {
     Ok(())
 }
 
-/// Whether two kinds are one.
-fn is_same_kind(alloc: Global, one: &str, other: &str) -> Result<bool, Fail> {
-    is_kind(alloc, &kind(alloc, one)?, other)
-}
-
 #[test]
 fn kinds_are_not_equal(rt: HostRuntime) -> Result<(), Fail> {
     for (i, one) in KINDS.iter().enumerate() {
+        let expr = kind(rt.alloc(), one)?;
         for (j, other) in KINDS.iter().enumerate() {
-            let is_same = is_same_kind(rt.alloc(), one, other)?;
+            let is_same = is_kind(rt.alloc(), &expr, other)?;
             assert_eq!(rt; is_same, i == j, "{one} and {other}");
         }
     }
@@ -68,7 +61,7 @@ const DIFFERENT: [(&str, &str); 7] = [
 
 /// Whether both texts give one tree.
 fn is_same(alloc: Global, one: &str, other: &str) -> Result<bool, ParseError> {
-    is_read(alloc, &parse(alloc, one)?, other)
+    is_read(alloc, &*read(alloc, one)?, other)
 }
 
 #[test]
@@ -81,9 +74,9 @@ fn each_part_tells_selectors_apart(rt: HostRuntime) -> Result<(), Fail> {
 
 #[test]
 fn a_name_tells_selectors_apart(rt: HostRuntime) -> Result<(), Fail> {
-    let nameless = Expr::from(VectorSelector::empty(rt.alloc()));
-    let found = is_read(rt.alloc(), &nameless, "a");
-    assert!(rt; found == Ok(false));
+    let alloc = rt.alloc();
+    let nameless = new_box(alloc, Expr::from(VectorSelector::empty(alloc)))?;
+    assert!(rt; !is_read(alloc, &nameless, "a")?);
     Ok(())
 }
 
@@ -124,16 +117,16 @@ const NOT_NORMAL: [(&str, &str); 7] = [
     ("-(sum by () (a))", "-(sum(a))"),
 ];
 
-/// Whether the expression's normal form is the text's tree.
-fn is_normal_form(alloc: Global, expr: &Expr, text: &str) -> Result<bool, ParseError> {
-    is_read(alloc, &expr.normalized(alloc)?, text)
+/// Whether the normal form of a text's tree is the tree of this line.
+fn is_normal_form(alloc: Global, text: &str, line: &str) -> Result<bool, ParseError> {
+    let normal = new_box(alloc, read(alloc, text)?.normalized(alloc)?)?;
+    is_read(alloc, &normal, line)
 }
 
 #[test]
 fn normal_forms_are_read_of_printed_lines(rt: HostRuntime) -> Result<(), Fail> {
     for (text, line) in &NOT_NORMAL {
-        let is_normal = is_normal_form(rt.alloc(), &parse(rt.alloc(), text)?, line)?;
-        assert!(rt; is_normal, "{text}");
+        assert!(rt; is_normal_form(rt.alloc(), text, line)?, "{text}");
         assert!(rt; !is_same(rt.alloc(), text, line)?, "{text}");
     }
     Ok(())
@@ -141,7 +134,8 @@ fn normal_forms_are_read_of_printed_lines(rt: HostRuntime) -> Result<(), Fail> {
 
 #[test]
 fn trees_are_shown_field_by_field(rt: HostRuntime) -> Result<(), Fail> {
-    let display_text = format!(in rt.alloc(); "{:?}", parse(rt.alloc(), r#"("a")"#)?)?;
+    let expr = read(rt.alloc(), r#"("a")"#)?;
+    let display_text = format!(in rt.alloc(); "{:?}", *expr)?;
     let want = r#"Paren(ParenExpr { expr: StringLiteral(StringLiteral { val: "a" }) })"#;
     assert_eq!(rt; display_text.as_str(), want);
     Ok(())

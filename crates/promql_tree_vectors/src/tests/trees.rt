@@ -1,4 +1,7 @@
 //! Trees and their parts, from texts and by hand.
+//!
+//! A tree that a test looks at is in a box. Where a function ends, the drop of a box is one step of its proof, and the drop
+//! of an expression is one for each kind of node.
 
 use promql_ast::{
     AtModifier, CheckError, Expr, Extension, FunctionArgs, Offset, RangeMode, VectorSelector,
@@ -9,6 +12,7 @@ use promql_kind::{
 use promql_label::{MatchOp, Matcher, Matchers};
 use promql_parser::parser::{ParseError, parse};
 use promql_text::{Number, minute_duration, parse_str_radix};
+use promql_token::TokenId;
 use promql_token::ids::{T_ADD, T_TOPK};
 use std::alloc::{AllocError, Global};
 use std::test::Fail;
@@ -32,36 +36,59 @@ pub const KINDS: [&str; 12] = [
 /// How the node prints that the language lacks.
 pub const EXTENSION: &str = "ext(a, 2)";
 
+/// The expression in a box.
+pub fn new_box(alloc: Global, expr: Expr) -> Result<Box<Expr>, AllocError> {
+    Ok(Box::new(alloc, expr)?)
+}
+
+/// The tree of a text.
+pub fn read(alloc: Global, text: &str) -> Result<Box<Expr>, ParseError> {
+    Ok(new_box(alloc, parse(alloc, text)?)?)
+}
+
 /// The node of one of the kinds.
-pub fn kind(alloc: Global, text: &str) -> Result<Expr, Fail> {
+pub fn kind(alloc: Global, text: &str) -> Result<Box<Expr>, Fail> {
     if text == EXTENSION {
-        return extension(alloc, "a", "2");
+        return extension(alloc, &["a", "2"]);
     }
-    Ok(parse(alloc, text)?)
+    Ok(read(alloc, text)?)
 }
 
 /// Whether the text gives this expression.
 pub fn is_read(alloc: Global, expr: &Expr, text: &str) -> Result<bool, ParseError> {
-    Ok(parse(alloc, text)? == *expr)
+    Ok(*read(alloc, text)? == *expr)
 }
 
 /// Whether the expression is the node of this kind.
 pub fn is_kind(alloc: Global, expr: &Expr, text: &str) -> Result<bool, Fail> {
-    Ok(kind(alloc, text)? == *expr)
+    Ok(*kind(alloc, text)? == *expr)
 }
 
-/// `ext(FIRST, SECOND)`, which no text gives.
-pub fn extension(alloc: Global, first: &str, second: &str) -> Result<Expr, Fail> {
-    let first = parse(alloc, first)?;
-    let second = parse(alloc, second)?;
-    Ok(extension_of(alloc, first, second)?)
+/// Whether the copy was made and is the value.
+pub fn is_copy<T: PartialEq + Drop>(
+    value: &T,
+    copy: Result<T, AllocError>,
+) -> Result<bool, AllocError> {
+    Ok(copy? == *value)
 }
 
-/// The extension of two children.
-pub fn extension_of(alloc: Global, first: Expr, second: Expr) -> Result<Expr, CheckError> {
-    let mut children = Vec::new(alloc);
-    children.push(first)?;
-    children.push(second)?;
+/// The trees of texts.
+fn read_each(alloc: Global, texts: &[&str]) -> Result<Vec<Expr>, Fail> {
+    let mut trees = Vec::new(alloc);
+    for text in texts {
+        trees.push(parse(alloc, text)?)?;
+    }
+    Ok(trees)
+}
+
+/// `ext(TEXTS)`, which no text gives.
+pub fn extension(alloc: Global, texts: &[&str]) -> Result<Box<Expr>, Fail> {
+    let children = read_each(alloc, texts)?;
+    Ok(new_box(alloc, extension_of(alloc, children)?)?)
+}
+
+/// The extension of these children.
+fn extension_of(alloc: Global, children: Vec<Expr>) -> Result<Expr, CheckError> {
     let name = String::from_str(alloc, "ext")?;
     Ok(Expr::Extension(Extension {
         name,
@@ -74,8 +101,7 @@ pub fn extension_of(alloc: Global, first: Expr, second: Expr) -> Result<Expr, Ch
 pub fn arguments(alloc: Global, texts: &[&str]) -> Result<FunctionArgs, Fail> {
     let mut args = Vec::new(alloc);
     for text in texts {
-        let arg = parse(alloc, text)?;
-        args.push(Box::new(alloc, arg)?)?;
+        args.push(read(alloc, text)?)?;
     }
     Ok(FunctionArgs { args })
 }
@@ -108,8 +134,8 @@ pub fn function(alloc: Global, name: &str) -> Result<Function, CheckError> {
 
 /// The call of a function with one argument.
 pub fn call(alloc: Global, name: &str, arg: Expr) -> Result<Expr, CheckError> {
-    let function = function(alloc, name)?;
-    Ok(Expr::new_call(function, FunctionArgs::new_args(alloc, arg)?))
+    let args = FunctionArgs::new_args(alloc, arg)?;
+    Ok(Expr::new_call(function(alloc, name)?, args))
 }
 
 /// `by`, or `on`, with these labels.
@@ -133,6 +159,17 @@ pub fn grouped(alloc: Global, on: &[&str], left: &[&str]) -> Result<BinModifier,
     )
 }
 
+/// `a` and `b` with this token and modifier between them.
+pub fn operation(
+    alloc: Global,
+    op: TokenId,
+    modifier: Option<BinModifier>,
+) -> Result<Expr, CheckError> {
+    let a = VectorSelector::of_str(alloc, "a")?;
+    let b = VectorSelector::of_str(alloc, "b")?;
+    Ok(Expr::new_binary_expr(alloc, Expr::from(a), op, modifier, Expr::from(b))?)
+}
+
 /// `topk by (l) (5, a)`
 fn topk_by(alloc: Global) -> Result<Expr, CheckError> {
     let five = FunctionArgs::new_args(alloc, Expr::from(number("5")))?;
@@ -140,22 +177,9 @@ fn topk_by(alloc: Global) -> Result<Expr, CheckError> {
     Expr::new_aggregate_expr(alloc, T_TOPK, Some(include(alloc, &["l"])?), args)
 }
 
-/// `-a`
-fn negative(alloc: Global) -> Result<Expr, CheckError> {
-    Expr::new_unary_expr(alloc, name(alloc, "a")?)
-}
-
 /// `a + on (l) group_left (k) b`
 fn grouped_sum(alloc: Global) -> Result<Expr, CheckError> {
-    let modifier = grouped(alloc, &["l"], &["k"])?;
-    let a = name(alloc, "a")?;
-    let b = name(alloc, "b")?;
-    Ok(Expr::new_binary_expr(alloc, a, T_ADD, Some(modifier), b)?)
-}
-
-/// `(a)`
-fn in_parentheses(alloc: Global) -> Result<Expr, CheckError> {
-    Ok(Expr::new_paren_expr(alloc, name(alloc, "a")?)?)
+    operation(alloc, T_ADD, Some(grouped(alloc, &["l"], &["k"])?))
 }
 
 /// `a[5m:1m] @ start() offset -1m`
@@ -164,11 +188,6 @@ fn subquery_at_start(alloc: Global) -> Result<Expr, CheckError> {
     Expr::new_subquery_expr(alloc, name(alloc, "a")?, minute_duration() * 5, step)?
         .at_expr(AtModifier::Start)?
         .offset_expr(Offset::Neg(minute_duration()))
-}
-
-/// `"a\"b"`
-fn quoted(alloc: Global) -> Result<Expr, CheckError> {
-    Ok(Expr::of_str(alloc, "a\"b")?)
 }
 
 /// `a{b="1"} @ 1.000 offset 1m`
@@ -194,19 +213,20 @@ fn rate(alloc: Global) -> Result<Expr, CheckError> {
 
 /// `ext(a, 2)`
 fn extended(alloc: Global) -> Result<Expr, CheckError> {
-    extension_of(alloc, name(alloc, "a")?, Expr::from(number("2")))
+    let children = vec![in alloc; name(alloc, "a")?, Expr::from(number("2"))]?;
+    extension_of(alloc, children)
 }
 
 /// The kind of this number by the builders.
 pub fn built(alloc: Global, number_of_kind: usize) -> Result<Expr, CheckError> {
     match number_of_kind {
         0 => topk_by(alloc),
-        1 => negative(alloc),
+        1 => Expr::new_unary_expr(alloc, name(alloc, "a")?),
         2 => grouped_sum(alloc),
-        3 => in_parentheses(alloc),
+        3 => Ok(Expr::new_paren_expr(alloc, name(alloc, "a")?)?),
         4 => subquery_at_start(alloc),
         5 => Ok(Expr::from(number("1.5"))),
-        6 => quoted(alloc),
+        6 => Ok(Expr::of_str(alloc, "a\"b")?),
         7 => selector_at_a_second(alloc),
         8 => anchored_range(alloc),
         9 => rate(alloc),
