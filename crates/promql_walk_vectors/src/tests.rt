@@ -4,31 +4,35 @@ mod changes;
 mod json;
 mod walks;
 
-use promql_ast::{CheckError, Expr, Extension};
+use promql_ast::{Expr, Extension};
 use promql_kind::ValueType;
-use promql_parser::parser::{ParseError, parse};
+use promql_parser::parser::parse;
 use std::alloc::Global;
 use std::process::Abort;
 use std::test::Fail;
 
-/// The extension of two children.
-fn extension_of(alloc: Global, first: Expr, second: Expr) -> Result<Expr, CheckError> {
-    let mut children = Vec::new(alloc);
-    children.push(first)?;
-    children.push(second)?;
-    let name = String::from_str(alloc, "ext")?;
-    Ok(Expr::Extension(Extension {
-        name,
-        value_type: ValueType::Vector,
-        children,
-    }))
+/// The tree of a text.
+fn read(alloc: Global, text: &str) -> Result<Box<Expr>, Fail> {
+    Ok(Box::new(alloc, parse(alloc, text)?)?)
+}
+
+/// The trees of two texts.
+fn read_both(alloc: Global, first: &str, second: &str) -> Result<Vec<Expr>, Fail> {
+    let mut trees = Vec::new(alloc);
+    trees.push(parse(alloc, first)?)?;
+    trees.push(parse(alloc, second)?)?;
+    Ok(trees)
 }
 
 /// `ext(FIRST, SECOND)`, which no text gives.
-fn extension(alloc: Global, first: &str, second: &str) -> Result<Expr, Fail> {
-    let first = parse(alloc, first)?;
-    let second = parse(alloc, second)?;
-    Ok(extension_of(alloc, first, second)?)
+fn extension(alloc: Global, first: &str, second: &str) -> Result<Box<Expr>, Fail> {
+    let children = read_both(alloc, first, second)?;
+    let node = Extension {
+        name: String::from_str(alloc, "ext")?,
+        value_type: ValueType::Vector,
+        children,
+    };
+    Ok(Box::new(alloc, Expr::Extension(node))?)
 }
 
 /// The expression prints this text.
@@ -39,6 +43,6 @@ fn prints(rt: &impl Abort, alloc: Global, expr: &Expr, want: &str) -> Result<(),
 }
 
 /// Whether the text gives this expression.
-fn is_read(alloc: Global, expr: &Expr, text: &str) -> Result<bool, ParseError> {
-    Ok(parse(alloc, text)? == *expr)
+fn is_read(alloc: Global, expr: &Expr, text: &str) -> Result<bool, Fail> {
+    Ok(*read(alloc, text)? == *expr)
 }

@@ -1,7 +1,7 @@
 //! Visitors that change nodes, stop, and fail.
 
 use super::walks::{ENDED, Log, chain, log_up_to, sum};
-use super::{extension, is_read, prints};
+use super::{extension, is_read, prints, read};
 use promql_ast::Expr;
 use promql_label::{MatchOp, Matcher, Matchers};
 use promql_parser::parser::parse;
@@ -9,7 +9,6 @@ use promql_text::Number;
 use promql_walk::{ExprVisitorMut, walk_expr_mut};
 use std::alloc::{AllocError, Global};
 use std::mem;
-use std::process::Abort;
 use std::test::Fail;
 
 /// Adds `env="prod"` to a selector, and stops there if it is to.
@@ -148,7 +147,7 @@ const WRAPPED: [(&str, usize, bool, usize, &str); 2] = [
 fn nodes_may_grow_after_their_children(rt: HostRuntime) -> Result<(), Fail> {
     let alloc = rt.alloc();
     for (text, nodes, end, left, want) in &WRAPPED {
-        let mut expr = parse(alloc, text)?;
+        let mut expr = read(alloc, text)?;
         let mut wrap = Wrap {
             alloc,
             left: *nodes,
@@ -173,7 +172,7 @@ fn nodes_left(alloc: Global, expr: &mut Expr) -> usize {
 fn high_trees_without_a_sum_are_unchanged(rt: HostRuntime) -> Result<(), Fail> {
     let mut expr = chain(rt.alloc())?;
     assert_eq!(rt; nodes_left(rt.alloc(), &mut expr), 500);
-    assert!(rt; expr == chain(rt.alloc())?);
+    assert!(rt; *expr == *chain(rt.alloc())?);
     Ok(())
 }
 
@@ -181,7 +180,7 @@ fn high_trees_without_a_sum_are_unchanged(rt: HostRuntime) -> Result<(), Fail> {
 fn high_sums_are_changed(rt: HostRuntime) -> Result<(), Fail> {
     let mut expr = sum(rt.alloc())?;
     assert_eq!(rt; nodes_left(rt.alloc(), &mut expr), 1);
-    assert!(rt; matches!(expr, Expr::Paren(_)));
+    assert!(rt; matches!(*expr, Expr::Paren(_)));
     Ok(())
 }
 
@@ -213,7 +212,7 @@ impl ExprVisitorMut for Cut {
 #[test]
 fn what_was_replaced_is_not_walked(rt: HostRuntime) -> Result<(), Fail> {
     let alloc = rt.alloc();
-    let mut expr = parse(alloc, "topk(5, a) + b")?;
+    let mut expr = read(alloc, "topk(5, a) + b")?;
     let mut cut = Cut(0);
     assert!(rt; walk_expr_mut(&mut cut, &mut expr) == Ok(true));
     assert_eq!(rt; cut.0, 2);
@@ -242,17 +241,14 @@ fn is_walked(log: Log, expr: &mut Expr, end: Result<bool, &'static str>, calls: 
     walk_expr_mut(&mut log, expr) == end && log.text.as_str() == calls
 }
 
-/// The walks end so, and leave the expression as it was read.
-fn check_ended(rt: &impl Abort, alloc: Global, expr: &mut Expr) -> Result<(), Fail> {
-    for (last, fails, end, calls) in &ENDED {
-        let log = log_up_to(alloc, *last, *fails);
-        assert!(rt; is_walked(log, expr, *end, calls), "{calls}");
-    }
-    assert!(rt; is_read(alloc, expr, "topk(5, a) + b")?);
-    Ok(())
-}
-
 #[test]
 fn a_changing_walk_that_ends_leaves_the_expression(rt: HostRuntime) -> Result<(), Fail> {
-    check_ended(&rt, rt.alloc(), &mut parse(rt.alloc(), "topk(5, a) + b")?)
+    let alloc = rt.alloc();
+    let mut expr = read(alloc, "topk(5, a) + b")?;
+    for (last, fails, end, calls) in &ENDED {
+        let log = log_up_to(alloc, *last, *fails);
+        assert!(rt; is_walked(log, &mut expr, *end, calls), "{calls}");
+    }
+    assert!(rt; is_read(alloc, &expr, "topk(5, a) + b")?);
+    Ok(())
 }

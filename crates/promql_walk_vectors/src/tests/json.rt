@@ -1,7 +1,7 @@
 //! The JSON form of each kind of node, of nodes and parts by themselves, and what has none.
 
-use super::extension;
-use promql_ast::{CheckError, Expr, FunctionArgs};
+use super::{extension, read};
+use promql_ast::{Expr, FunctionArgs};
 use promql_kind::{ValueType, VectorMatchCardinality, VectorMatchFillValues, get_function};
 use promql_label::{Labels, MatchOp, Matcher, Matchers};
 use promql_parser::json::{
@@ -20,7 +20,10 @@ use std::time::Duration;
 
 /// The compact JSON of a value that has one.
 fn line<T: ToJson>(alloc: Global, value: &T) -> Result<String, JsonError> {
-    Ok(value.to_json(alloc)?.to_string(alloc)?)
+    let json = value.to_json(alloc)?;
+    let text = json.to_string(alloc);
+    drop(json);
+    Ok(text?)
 }
 
 /// Nodes by themselves and their objects, in the order of the variants of `Expr`.
@@ -79,23 +82,20 @@ fn node_line(alloc: Global, expr: &Expr) -> Result<String, JsonError> {
 fn nodes_by_themselves_have_no_type(rt: HostRuntime) -> Result<(), Fail> {
     let alloc = rt.alloc();
     for (text, object) in &NODES {
-        let found = node_line(alloc, &parse(alloc, text)?)?;
+        let expr = read(alloc, text)?;
+        let found = node_line(alloc, &expr)?;
         assert_eq!(rt; found.as_str(), *object);
     }
     Ok(())
-}
-
-/// The text is that of the value.
-fn has_text_of_form(rt: &impl Abort, alloc: Global, expr: &Expr) -> Result<(), Fail> {
-    let text = json_text(alloc, expr)?;
-    has_line(rt, alloc, expr, text.as_str())
 }
 
 #[test]
 fn texts_are_those_of_the_forms(rt: HostRuntime) -> Result<(), Fail> {
     let alloc = rt.alloc();
     for (text, _) in &NODES {
-        has_text_of_form(&rt, alloc, &parse(alloc, text)?)?;
+        let expr = read(alloc, text)?;
+        let found = json_text(alloc, &expr)?;
+        has_line(&rt, alloc, Box::into_inner(expr), found.as_str())?;
     }
     Ok(())
 }
@@ -107,8 +107,10 @@ fn prints(
     value: Result<Value, AllocError>,
     want: &str,
 ) -> Result<(), Fail> {
-    let found = value?.to_string(alloc)?;
-    assert_eq!(rt; found.as_str(), want);
+    let value = value?;
+    let found = value.to_string(alloc);
+    drop(value);
+    assert_eq!(rt; found?.as_str(), want);
     Ok(())
 }
 
@@ -138,9 +140,9 @@ fn matchers_are_objects(rt: HostRuntime) -> Result<(), Fail> {
 
 /// `{a="1" or b!="2"}`
 fn groups(alloc: Global) -> Result<Matchers, AllocError> {
-    let equal = Matcher::new(alloc, MatchOp::Equal, "a", "1")?;
+    let equal = Matchers::one(alloc, Matcher::new(alloc, MatchOp::Equal, "a", "1")?)?;
     let not_equal = Matcher::new(alloc, MatchOp::NotEqual, "b", "2")?;
-    Matchers::one(alloc, equal)?.append_or(alloc, not_equal)
+    equal.append_or(alloc, not_equal)
 }
 
 #[test]
@@ -156,8 +158,13 @@ fn groups_are_listed(rt: HostRuntime) -> Result<(), Fail> {
 }
 
 /// The value has this form.
-fn has_line<T: ToJson>(rt: &impl Abort, alloc: Global, value: &T, want: &str) -> Result<(), Fail> {
-    let found = line(alloc, value)?;
+fn has_line<T: Drop + ToJson>(
+    rt: &impl Abort,
+    alloc: Global,
+    value: T,
+    want: &str,
+) -> Result<(), Fail> {
+    let found = line(alloc, &value)?;
     assert_eq!(rt; found.as_str(), want);
     Ok(())
 }
@@ -165,45 +172,55 @@ fn has_line<T: ToJson>(rt: &impl Abort, alloc: Global, value: &T, want: &str) ->
 #[test]
 fn types_functions_and_arguments_have_forms(rt: HostRuntime) -> Result<(), Fail> {
     let alloc = rt.alloc();
-    has_line(&rt, alloc, &ValueType::Matrix, r#""matrix""#)?;
+    has_line(&rt, alloc, ValueType::Matrix, r#""matrix""#)?;
     let label_join = get_function(alloc, "label_join")?;
     let label_join = label_join.expect(&rt, "the function is in the table");
     let signature =
         r#"{"argTypes":["vector","string","string","string"],"experimental":false,"name":"label_join","returnType":"vector","variadic":-1}"#;
-    has_line(&rt, alloc, &label_join, signature)?;
+    has_line(&rt, alloc, label_join, signature)?;
     let args = FunctionArgs::new_args(alloc, parse(alloc, "1")?)?;
     let list = r#"{"args":[{"type":"numberLiteral","val":"1"}]}"#;
-    has_line(&rt, alloc, &args, list)
+    has_line(&rt, alloc, args, list)
+}
+
+/// `group_right` with the label `k`.
+fn one_to_many(alloc: Global) -> Result<VectorMatchCardinality, AllocError> {
+    VectorMatchCardinality::one_to_many(alloc, ["k"].to_vec(alloc)?)
 }
 
 #[test]
-fn parts_of_modifiers_have_forms(rt: HostRuntime) -> Result<(), Fail> {
+fn cardinalities_have_forms(rt: HostRuntime) -> Result<(), Fail> {
     let alloc = rt.alloc();
-    let one = VectorMatchCardinality::OneToOne;
-    has_line(&rt, alloc, &one, r#""one-to-one""#)?;
-    let group = VectorMatchCardinality::one_to_many(alloc, ["k"].to_vec(alloc)?)?;
-    has_line(&rt, alloc, &group, r#"{"one-to-many":["k"]}"#)?;
-    let many = VectorMatchCardinality::ManyToMany;
-    has_line(&rt, alloc, &many, r#""many-to-many""#)?;
+    has_line(
+        &rt,
+        alloc,
+        VectorMatchCardinality::OneToOne,
+        r#""one-to-one""#,
+    )?;
+    has_line(&rt, alloc, one_to_many(alloc)?, r#"{"one-to-many":["k"]}"#)?;
+    has_line(
+        &rt,
+        alloc,
+        VectorMatchCardinality::ManyToMany,
+        r#""many-to-many""#,
+    )
+}
+
+#[test]
+fn fill_values_have_forms(rt: HostRuntime) -> Result<(), Fail> {
     let fills = VectorMatchFillValues::new(Number::Inf, Number::from_i64(16));
-    has_line(&rt, alloc, &fills, r#"{"lhs":"Inf","rhs":"16"}"#)
+    let found = line(rt.alloc(), &fills)?;
+    assert_eq!(rt; found.as_str(), r#"{"lhs":"Inf","rhs":"16"}"#);
+    Ok(())
 }
 
 const WIDE: &str = "number too wide for JSON";
 
 const NONE: &str = "extension has no JSON form";
 
-/// The compact JSON of an expression, or the message of what it has instead.
-fn answer(alloc: Global, expr: &Expr) -> Result<String, AllocError> {
-    match line(alloc, expr) {
-        Ok(text) => Ok(text),
-        Err(error) => error.to_string(alloc),
-    }
-}
-
-/// The JSON text of an expression, or the message of what it has instead.
-fn text_answer(alloc: Global, expr: &Expr) -> Result<String, AllocError> {
-    match json_text(alloc, expr) {
+/// The form, or the message why there is none.
+fn answer(alloc: Global, form: Result<String, JsonError>) -> Result<String, AllocError> {
+    match form {
         Ok(text) => Ok(text),
         Err(error) => error.to_string(alloc),
     }
@@ -213,42 +230,44 @@ fn text_answer(alloc: Global, expr: &Expr) -> Result<String, AllocError> {
 const TOO_LONG: &str = "foo[18446744073709551.616]";
 
 /// What was built has no object and no text, but this message.
-fn has_no_form(rt: &impl Abort, alloc: Global, expr: &Expr, message: &str) -> Result<(), Fail> {
-    let found = answer(alloc, expr)?;
+fn has_no_form(rt: &impl Abort, alloc: Global, expr: Box<Expr>, message: &str) -> Result<(), Fail> {
+    let found = answer(alloc, line(alloc, &*expr))?;
     assert_eq!(rt; found.as_str(), message);
-    let found = text_answer(alloc, expr)?;
+    let found = answer(alloc, json_text(alloc, &expr))?;
     assert_eq!(rt; found.as_str(), message);
     Ok(())
 }
 
+/// The sum of two expressions.
+fn sum(alloc: Global, lhs: Box<Expr>, rhs: Box<Expr>) -> Result<Box<Expr>, AllocError> {
+    let (lhs, rhs) = (Box::into_inner(lhs), Box::into_inner(rhs));
+    Ok(Box::new(alloc, Expr::new_binary_expr(alloc, lhs, T_ADD, None, rhs)?)?)
+}
+
 /// A range that is too wide, and an extension after it.
-fn wide_first(alloc: Global) -> Result<Expr, Fail> {
-    let wide = parse(alloc, TOO_LONG)?;
-    Ok(Expr::new_binary_expr(alloc, wide, T_ADD, None, extension(alloc, "a", "a")?)?)
+fn wide_first(alloc: Global) -> Result<Box<Expr>, Fail> {
+    let wide = read(alloc, TOO_LONG)?;
+    Ok(sum(alloc, wide, extension(alloc, "a", "a")?)?)
 }
 
 /// An extension, and a range after it that is too wide.
-fn extension_first(alloc: Global) -> Result<Expr, Fail> {
-    let wide = parse(alloc, TOO_LONG)?;
-    Ok(Expr::new_binary_expr(alloc, extension(alloc, "a", "a")?, T_ADD, None, wide)?)
+fn extension_first(alloc: Global) -> Result<Box<Expr>, Fail> {
+    let wide = read(alloc, TOO_LONG)?;
+    Ok(sum(alloc, extension(alloc, "a", "a")?, wide)?)
 }
 
-/// An expression in a subquery whose range is too wide.
-fn wide_outside(alloc: Global, expr: Expr) -> Result<Expr, CheckError> {
+/// An extension and a range, in a subquery whose own range is too wide.
+fn wide_outside(alloc: Global) -> Result<Box<Expr>, Fail> {
+    let inside = Box::into_inner(extension_first(alloc)?);
     let range = Duration::from_secs(u64::MAX);
-    Ok(Expr::new_subquery_expr(alloc, expr, range, None)?)
+    Ok(Box::new(alloc, Expr::new_subquery_expr(alloc, inside, range, None)?)?)
 }
 
 #[test]
 fn the_first_node_without_a_form_counts(rt: HostRuntime) -> Result<(), Fail> {
     let alloc = rt.alloc();
-    has_no_form(&rt, alloc, &extension(alloc, TOO_LONG, "1")?, NONE)?;
-    has_no_form(&rt, alloc, &wide_first(alloc)?, WIDE)?;
-    has_no_form(&rt, alloc, &extension_first(alloc)?, NONE)?;
-    has_no_form(
-        &rt,
-        alloc,
-        &wide_outside(alloc, extension_first(alloc)?)?,
-        WIDE,
-    )
+    has_no_form(&rt, alloc, extension(alloc, TOO_LONG, "1")?, NONE)?;
+    has_no_form(&rt, alloc, wide_first(alloc)?, WIDE)?;
+    has_no_form(&rt, alloc, extension_first(alloc)?, NONE)?;
+    has_no_form(&rt, alloc, wide_outside(alloc)?, WIDE)
 }

@@ -1,17 +1,15 @@
 //! The order of a walk, and where it ends.
 
-use super::{extension, is_read};
+use super::{extension, is_read, read};
 use promql_ast::Expr;
 use promql_label::{MatchOp, Matchers};
-use promql_parser::parser::parse;
 use promql_walk::{ExprVisitor, walk_expr};
 use std::alloc::{AllocError, Global};
 use std::fmt::Write;
-use std::process::Abort;
 use std::test::Fail;
 
 /// 499 pairs of parentheses round a number: 500 nodes, one below the other.
-pub fn chain(alloc: Global) -> Result<Expr, Fail> {
+pub fn chain(alloc: Global) -> Result<Box<Expr>, Fail> {
     let mut text = String::new(alloc);
     for _ in 0..499 {
         text.push_str("(")?;
@@ -20,16 +18,16 @@ pub fn chain(alloc: Global) -> Result<Expr, Fail> {
     for _ in 0..499 {
         text.push_str(")")?;
     }
-    Ok(parse(alloc, text.as_str())?)
+    read(alloc, text.as_str())
 }
 
 /// A sum of 500 numbers, from left to right.
-pub fn sum(alloc: Global) -> Result<Expr, Fail> {
+pub fn sum(alloc: Global) -> Result<Box<Expr>, Fail> {
     let mut text = String::from_str(alloc, "0")?;
     for _ in 1..500 {
         text.push_str(" + 1")?;
     }
-    Ok(parse(alloc, text.as_str())?)
+    read(alloc, text.as_str())
 }
 
 /// Writes down each call. From the call of this number on it stops or fails.
@@ -120,7 +118,7 @@ const CALLS: [&str; 6] = [
 #[test]
 fn a_walk_ends_at_the_first_other_result(rt: HostRuntime) -> Result<(), Fail> {
     let alloc = rt.alloc();
-    let expr = parse(alloc, "topk(5, a)")?;
+    let expr = read(alloc, "topk(5, a)")?;
     for (last, calls) in (1..10).zip(&CALLS) {
         let stops = log_up_to(alloc, last, false);
         assert!(rt; is_walked(stops, &expr, Ok(false), calls), "{last}");
@@ -132,7 +130,7 @@ fn a_walk_ends_at_the_first_other_result(rt: HostRuntime) -> Result<(), Fail> {
 
 #[test]
 fn a_walk_goes_on_to_its_end(rt: HostRuntime) -> Result<(), Fail> {
-    let expr = parse(rt.alloc(), "topk(5, a)")?;
+    let expr = read(rt.alloc(), "topk(5, a)")?;
     let log = log_up_to(rt.alloc(), 7, true);
     assert!(rt; is_walked(log, &expr, Ok(true), CALLS[5]));
     Ok(())
@@ -155,19 +153,16 @@ pub const ENDED: [(usize, bool, Result<bool, &str>, &str); 2] = [
     ),
 ];
 
-/// The walks end so, and leave the expression as it was read.
-fn check_ended(rt: &impl Abort, alloc: Global, expr: &Expr) -> Result<(), Fail> {
-    for (last, fails, end, calls) in &ENDED {
-        let log = log_up_to(alloc, *last, *fails);
-        assert!(rt; is_walked(log, expr, *end, calls), "{calls}");
-    }
-    assert!(rt; is_read(alloc, expr, "topk(5, a) + b")?);
-    Ok(())
-}
-
 #[test]
 fn a_walk_that_ends_leaves_the_expression(rt: HostRuntime) -> Result<(), Fail> {
-    check_ended(&rt, rt.alloc(), &parse(rt.alloc(), "topk(5, a) + b")?)
+    let alloc = rt.alloc();
+    let expr = read(alloc, "topk(5, a) + b")?;
+    for (last, fails, end, calls) in &ENDED {
+        let log = log_up_to(alloc, *last, *fails);
+        assert!(rt; is_walked(log, &expr, *end, calls), "{calls}");
+    }
+    assert!(rt; is_read(alloc, &expr, "topk(5, a) + b")?);
+    Ok(())
 }
 
 /// Whether each selector has the matcher `namespace="s"` beside its groups, and no number or string is met.
@@ -220,7 +215,7 @@ const NAMESPACES: [(&str, bool); 5] = [
 fn selectors_are_in_a_namespace(rt: HostRuntime) -> Result<(), Fail> {
     let alloc = rt.alloc();
     for (text, is_in) in &NAMESPACES {
-        let expr = parse(alloc, text)?;
+        let expr = read(alloc, text)?;
         assert!(rt; walk_expr(&mut Namespace, &expr) == Ok(*is_in), "{text}");
     }
     Ok(())
@@ -252,7 +247,7 @@ fn node_count(expr: &Expr) -> usize {
 
 #[test]
 fn high_trees_are_walked(rt: HostRuntime) -> Result<(), Fail> {
-    assert_eq!(rt; node_count(&chain(rt.alloc())?), 500);
-    assert_eq!(rt; node_count(&sum(rt.alloc())?), 999);
+    assert_eq!(rt; node_count(&*chain(rt.alloc())?), 500);
+    assert_eq!(rt; node_count(&*sum(rt.alloc())?), 999);
     Ok(())
 }
