@@ -14,15 +14,19 @@ mod trees;
 mod visitors;
 
 use promql_parser::parser::{Expr, ParseError, parse};
-use promql_walk::{JsonError, json_text};
 use std::alloc::{AllocError, Global};
+use std::fmt::Debug;
+use std::process::Abort;
+use std::test::Fail;
 
-/// What is printed of the text's tree, or the message of its rejection.
-fn line(alloc: Global, text: &str) -> Result<String, AllocError> {
-    match parse(alloc, text) {
-        Ok(expr) => expr.to_string(alloc),
-        Err(error) => error.to_string(alloc),
-    }
+/// The value is the wanted one, at this row.
+fn check_value<T: Debug + Drop + PartialEq>(rt: &impl Abort, found: T, want: T, row: &impl Debug) {
+    assert_eq!(rt; found, want, "at {row:?}");
+}
+
+/// The tree of a text.
+fn read(alloc: Global, text: &str) -> Result<Box<Expr>, Fail> {
+    Ok(Box::new(alloc, parse(alloc, text)?)?)
 }
 
 /// The text, so many times, between two others.
@@ -39,11 +43,6 @@ fn repeated(
     }
     made.push_str(back)?;
     Ok(made)
-}
-
-/// The JSON form of a tree, without a space.
-fn json(expr: &Expr, alloc: Global) -> Result<String, JsonError> {
-    json_text(alloc, expr)
 }
 
 /// The error of a text that has no tree.

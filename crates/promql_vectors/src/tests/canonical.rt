@@ -1,25 +1,15 @@
 //! Printed texts are read again: as one line and laid out, each gives the tree of the line and prints the line.
 
 use super::dashboards::QUERIES;
-use super::repeated;
-use promql_parser::parser::{Expr, Prettier, parse};
-use std::alloc::{AllocError, Global};
+use super::{read, repeated};
+use promql_parser::parser::{Expr, Prettier};
+use std::alloc::Global;
 use std::process::Abort;
 use std::test::Fail;
 
 const LEVELS: [usize; 2] = [0, 3];
 
 const WIDTHS: [usize; 3] = [0, 10, 100];
-
-/// Whether the expression is this tree, and prints this line.
-fn is_tree(alloc: Global, expr: &Expr, tree: &Expr, line: &str) -> Result<bool, AllocError> {
-    Ok(*expr == *tree && expr.to_string(alloc)?.as_str() == line)
-}
-
-/// Whether the text gives this tree, and prints this line.
-fn reads_back(alloc: Global, text: &str, tree: &Expr, line: &str) -> Result<bool, Fail> {
-    Ok(is_tree(alloc, &parse(alloc, text)?, tree, line)?)
-}
 
 /// The text gives this tree, and prints this line.
 fn check_text(
@@ -29,7 +19,9 @@ fn check_text(
     tree: &Expr,
     line: &str,
 ) -> Result<(), Fail> {
-    assert!(rt; reads_back(alloc, text, tree, line)?, "at {text:?}");
+    let expr = read(alloc, text)?;
+    let printed = expr.to_string(alloc)?;
+    assert!(rt; *expr == *tree && printed.as_str() == line, "at {text:?}");
     Ok(())
 }
 
@@ -50,31 +42,18 @@ fn check_layouts(
     Ok(())
 }
 
-/// The line, and what is laid out of the expression, are read as this tree with this line.
-fn check_tree(
-    rt: &impl Abort,
-    alloc: Global,
-    expr: &Expr,
-    tree: &Expr,
-    line: &str,
-) -> Result<(), Fail> {
-    check_text(rt, alloc, line, tree, line)?;
-    check_layouts(rt, alloc, expr, tree, line)
-}
-
-/// The line of the expression, and what is laid out of it, are read as one tree with one line.
-fn check_expr(rt: &impl Abort, alloc: Global, expr: &Expr) -> Result<(), Fail> {
-    let line = expr.to_string(alloc)?;
-    check_line(rt, alloc, expr, line.as_str())
-}
-
+/// The line, and what is laid out of the expression, are read as one tree with this line.
 fn check_line(rt: &impl Abort, alloc: Global, expr: &Expr, line: &str) -> Result<(), Fail> {
-    check_tree(rt, alloc, expr, &parse(alloc, line)?, line)
+    let tree = read(alloc, line)?;
+    check_text(rt, alloc, line, &tree, line)?;
+    check_layouts(rt, alloc, expr, &tree, line)
 }
 
 /// What is printed of the text's tree, at each level and width, is read as one tree with one line.
 fn check_printed(rt: &impl Abort, alloc: Global, text: &str) -> Result<(), Fail> {
-    check_expr(rt, alloc, &parse(alloc, text)?)
+    let expr = read(alloc, text)?;
+    let line = expr.to_string(alloc)?;
+    check_line(rt, alloc, &expr, line.as_str())
 }
 
 #[test]

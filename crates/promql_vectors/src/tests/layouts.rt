@@ -1,6 +1,7 @@
 //! Which texts are split, and a user's own type that is laid out.
 
-use promql_parser::parser::{Prettier, parse};
+use super::read;
+use promql_parser::parser::Prettier;
 use std::fmt;
 use std::fmt::{Display, Write};
 use std::test::Fail;
@@ -10,7 +11,7 @@ const SHARE: &str = "sum by (b) (a) / c";
 #[test]
 fn a_line_is_split_where_it_is_too_long(rt: HostRuntime) -> Result<(), Fail> {
     let alloc = rt.alloc();
-    let share = parse(alloc, SHARE)?;
+    let share = read(alloc, SHARE)?;
     assert!(rt; share.needs_split(17) && !share.needs_split(18));
     assert_eq!(rt; share.prettify(alloc)?.as_str(), SHARE);
     Ok(())

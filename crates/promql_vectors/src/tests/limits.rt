@@ -1,6 +1,6 @@
 //! Texts of many tokens.
 
-use super::line;
+use super::read;
 use promql_parser::parser::lexer;
 use std::alloc::{AllocError, Global};
 use std::test::Fail;
@@ -23,7 +23,8 @@ fn texts_of_many_tokens(rt: HostRuntime) -> Result<(), Fail> {
             return Err(Fail::new("a lexical fault"));
         };
         assert!(rt; least < lexemes.len());
-        assert!(rt; line(alloc, text.as_str())? == text, "at {levels}");
+        let expr = read(alloc, text.as_str())?;
+        assert!(rt; expr.to_string(alloc)? == text, "at {levels}");
     }
     Ok(())
 }

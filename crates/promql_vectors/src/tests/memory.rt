@@ -1,10 +1,11 @@
 //! Allocations that fail: bin/test_memory makes each fail in turn.
 
-use super::json;
-use promql_parser::parser::{ParseError, parse};
-use promql_walk::JsonError;
+use super::check_value;
+use promql_parser::parser::{Expr, ParseError, parse};
+use promql_walk::{JsonError, json_text};
 use std::alloc::Global;
 use std::fmt::Display;
+use std::process::Abort;
 use std::test::Fail;
 
 const QUERY: &str =
@@ -13,15 +14,23 @@ const QUERY: &str =
 const JSON: &str =
     r#"{"expr":{"bool":false,"lhs":{"expr":{"args":[{"matchers":[{"name":"b","type":"=~","value":"c|d"},{"name":"e","type":"!=","value":"f"}],"name":"a","offset":0,"range":300000,"startOrEnd":null,"timestamp":null,"type":"matrixSelector"}],"func":{"argTypes":["matrix"],"experimental":false,"name":"rate","returnType":"vector","variadic":0},"type":"call"},"grouping":["l"],"op":"sum","param":null,"type":"aggregation","without":false},"matching":{"card":{"many-to-one":["m"]},"fillValues":{"lhs":null,"rhs":null},"include":[],"labels":["l"],"on":true},"op":"+","rhs":{"matchers":[],"name":"g","offset":0,"startOrEnd":null,"timestamp":null,"type":"vectorSelector"},"type":"binaryExpr"},"grouping":[],"op":"topk","param":{"type":"numberLiteral","val":"5"},"type":"aggregation","without":false}"#;
 
+/// The expression has this JSON form, unless an allocation failed.
+fn has_json(rt: &impl Abort, alloc: Global, expr: &Expr, want: &str) {
+    match json_text(alloc, expr) {
+        Ok(text) => assert_eq!(rt; text.as_str(), want),
+        Err(error) => assert!(rt; error == JsonError::Memory),
+    }
+}
+
 #[test]
 fn a_text_runs_out_of_memory_or_has_its_form(rt: HostRuntime) -> Result<(), Fail> {
     let alloc = rt.alloc();
     match parse(alloc, QUERY) {
-        Ok(expr) => match json(&expr, alloc) {
-            Ok(text) => assert_eq!(rt; text.as_str(), JSON),
-            Err(error) => assert!(rt; error == JsonError::Memory),
-        },
-        Err(error) => assert!(rt; error == ParseError::Memory),
+        Ok(expr) => {
+            has_json(&rt, alloc, &expr, JSON);
+            drop(expr);
+        }
+        Err(error) => check_value(&rt, error, ParseError::Memory, &QUERY),
     }
     Ok(())
 }
@@ -59,9 +68,17 @@ fn has_text<T: Display>(alloc: Global, value: &T, want: &str) -> Result<bool, Pa
 /// Whether the text has this answer, unless an allocation failed.
 fn has_answer(alloc: Global, text: &str, want: &str) -> Result<bool, ParseError> {
     match parse(alloc, text) {
-        Ok(expr) => has_text(alloc, &expr, want),
+        Ok(expr) => {
+            let has_line = has_text(alloc, &expr, want);
+            drop(expr);
+            has_line
+        }
         Err(ParseError::Memory) => Err(ParseError::Memory),
-        Err(error) => has_text(alloc, &error, want),
+        Err(error) => {
+            let has_message = has_text(alloc, &error, want);
+            drop(error);
+            has_message
+        }
     }
 }
 

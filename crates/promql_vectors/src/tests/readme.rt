@@ -1,5 +1,6 @@
 //! The example of the README.
 
+use super::check_value;
 use promql_parser::parser::{ParseError, parse};
 use std::alloc::Global;
 use std::test::Fail;
@@ -17,7 +18,7 @@ fn the_example(rt: HostRuntime) -> Result<(), Fail> {
     let alloc = rt.alloc();
     assert_eq!(rt; canonical(alloc, "1+(foo-2)")?.as_str(), "1 + (foo - 2)");
     let error = canonical(alloc, "1 +");
-    assert!(rt; error == Err(ParseError::Syntax));
+    check_value(&rt, error, Err(ParseError::Syntax), &"1 +");
     assert_eq!(rt;
         ParseError::Syntax.to_string(alloc)?.as_str(),
         "invalid promql query"

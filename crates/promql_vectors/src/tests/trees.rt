@@ -1,6 +1,7 @@
 //! Texts that have one tree.
 
-use promql_parser::parser::{Expr, ParseError, parse};
+use super::{check_value, read};
+use promql_parser::parser::{ParseError, parse};
 use std::alloc::Global;
 use std::test::Fail;
 
@@ -18,14 +19,9 @@ const PAIRS: [(&str, &str, bool); 2] = [
     ),
 ];
 
-/// Whether the text gives this tree.
-fn is_read(alloc: Global, tree: &Expr, text: &str) -> Result<bool, ParseError> {
-    Ok(parse(alloc, text)? == *tree)
-}
-
 /// Whether the texts give one tree.
-fn is_same(alloc: Global, one: &str, other: &str) -> Result<bool, ParseError> {
-    is_read(alloc, &parse(alloc, one)?, other)
+fn is_same(alloc: Global, one: &str, other: &str) -> Result<bool, Fail> {
+    Ok(*read(alloc, one)? == *read(alloc, other)?)
 }
 
 #[test]
@@ -38,5 +34,6 @@ fn equal_trees(rt: HostRuntime) -> Result<(), Fail> {
 
 #[test]
 fn rejections_are_equal(rt: HostRuntime) {
-    assert!(rt; parse(rt.alloc(), "1 -") == Err(ParseError::Syntax));
+    let found = parse(rt.alloc(), "1 -");
+    check_value(&rt, found, Err(ParseError::Syntax), &"1 -");
 }

@@ -1,6 +1,7 @@
 //! A visitor that a user writes, over a text that is read. promql_guide has others.
 
-use promql_parser::parser::{Expr, parse};
+use super::read;
+use promql_parser::parser::Expr;
 use promql_parser::util::{ExprVisitor, walk_expr};
 use std::fmt::Write;
 use std::test::Fail;
@@ -34,7 +35,7 @@ impl ExprVisitor for Log {
 #[test]
 fn the_order_of_a_walk(rt: HostRuntime) -> Result<(), Fail> {
     let alloc = rt.alloc();
-    let expr = parse(alloc, "topk(5, a)")?;
+    let expr = read(alloc, "topk(5, a)")?;
     let mut log = Log(String::new(alloc));
     assert!(rt; walk_expr(&mut log, &expr) == Ok(true));
     assert_eq!(rt;

@@ -1,6 +1,8 @@
 //! Batches over readers and writers in memory, and over some that fail.
 
 use super::streams::{FlakyReader, FlakyWriter};
+use super::texts;
+use crate::tests::check_value;
 use promql_run::batch::run_batch;
 use promql_run::batch_program::{BATCH_HELP, BATCH_USAGE, batch_program};
 use promql_run::ended::Ended;
@@ -25,7 +27,7 @@ fn lines_and_their_answers(rt: HostRuntime) -> Result<(), Fail> {
     let alloc = rt.alloc();
     let mut writer = Ended::new(Vec::new(alloc));
     let answer = run_batch(alloc, Mode::Line, &mut { LINES }, &mut writer);
-    assert_eq!(rt; answer, Ok(false));
+    check_value(&rt, answer, Ok(false), &LINES);
     assert!(rt; writer.inner().as_slice() == ANSWERS && !writer.is_pending());
     Ok(())
 }
@@ -35,7 +37,7 @@ fn check_batch(rt: &impl Abort, alloc: Global, input: &[u8], want: &[u8], all_ok
     let mut reader = input;
     let mut writer = Ended::new(Vec::new(alloc));
     let answer = run_batch(alloc, Mode::Line, &mut reader, &mut writer);
-    assert_eq!(rt; answer, Ok(all_ok));
+    check_value(rt, answer, Ok(all_ok), &input);
     assert!(rt; writer.inner().as_slice() == want, "at {input:?}");
 }
 
@@ -64,7 +66,7 @@ fn a_reader_that_fails(rt: HostRuntime) -> Result<(), Fail> {
         let mut writer = Ended::new(Vec::new(alloc));
         // The fake error is an interruption, after which the read is made again.
         let answer = run_batch(alloc, Mode::Line, &mut reader, &mut writer);
-        assert_eq!(rt; answer, Ok(true));
+        check_value(&rt, answer, Ok(true), &fails_at);
         assert!(rt; writer.inner().as_slice() == b"{\"ok\":\"1\"}\n{\"ok\":\"2\"}\n".as_slice());
     }
     Ok(())
@@ -84,7 +86,7 @@ fn a_writer_that_fails(rt: HostRuntime) -> Result<(), Fail> {
         } else {
             Ok(false)
         };
-        assert_eq!(rt; answer, want_answer, "at {fails_at}");
+        check_value(&rt, answer, want_answer, &fails_at);
         assert_eq!(rt; writer.has_failed(), fails_at <= 21);
         assert_eq!(rt; writer.inner().calls, fails_at.min(21));
         assert!(rt;
@@ -93,14 +95,6 @@ fn a_writer_that_fails(rt: HostRuntime) -> Result<(), Fail> {
         );
     }
     Ok(())
-}
-
-fn texts(alloc: Global, words: &[&str]) -> Result<Vec<String>, AllocError> {
-    let mut texts = Vec::new(alloc);
-    for word in words {
-        texts.push(String::from_str(alloc, word)?)?;
-    }
-    Ok(texts)
 }
 
 /// The status of the program with a word after its name, and what it writes to its two outputs.

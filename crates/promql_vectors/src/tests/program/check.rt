@@ -1,19 +1,12 @@
 //! The program that checks a query, over its arguments, its input and its outputs.
 
 use super::streams::{FlakyReader, FlakyWriter};
+use super::texts;
 use promql_run::check::{CHECK_HELP, CHECK_USAGE, check_program};
 use promql_run::ended::Ended;
-use std::alloc::{AllocError, Global};
+use std::alloc::Global;
 use std::process::Abort;
 use std::test::Fail;
-
-fn texts(alloc: Global, words: &[&str]) -> Result<Vec<String>, AllocError> {
-    let mut texts = Vec::new(alloc);
-    for word in words {
-        texts.push(String::from_str(alloc, word)?)?;
-    }
-    Ok(texts)
-}
 
 /// Arguments, input, status, standard output, standard error.
 type Row = (

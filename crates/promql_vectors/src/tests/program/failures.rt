@@ -1,6 +1,7 @@
 //! Runs over readers and writers that fail, and with allocations that fail.
 
 use super::streams::{FlakyReader, FlakyWriter};
+use crate::tests::check_value;
 use promql_run::ended::Ended;
 use promql_run::run::{Mode, RunError, run};
 use std::test::Fail;
@@ -18,11 +19,11 @@ fn a_reader_that_fails(rt: HostRuntime) -> Result<(), Fail> {
         let mut writer = Ended::new(Vec::new(alloc));
         let answer = run(alloc, Mode::Line, &mut reader, &mut writer);
         if fails_at <= 8 {
-            assert_eq!(rt; answer, Err(RunError::Read), "at {fails_at}");
+            check_value(&rt, answer, Err(RunError::Read), &fails_at);
             assert!(rt; reader.has_failed() && !writer.has_failed() && writer.inner().is_empty());
             assert_eq!(rt; reader.inner().calls, fails_at);
         } else {
-            assert_eq!(rt; answer, Ok(()));
+            check_value(&rt, answer, Ok(()), &fails_at);
             assert!(rt;
                 !reader.has_failed() && writer.inner().as_slice() == b"1 + (foo - 2)\n".as_slice()
             );
@@ -45,7 +46,7 @@ fn a_writer_that_fails(rt: HostRuntime) -> Result<(), Fail> {
         } else {
             Ok(())
         };
-        assert_eq!(rt; answer, want, "at {fails_at}");
+        check_value(&rt, answer, want, &fails_at);
         assert_eq!(rt; writer.has_failed(), fails_at <= 6);
         assert!(rt;
             !reader.has_failed() && b"1 + (foo - 2)\n".starts_with(writer.inner().held.as_slice())
@@ -63,7 +64,7 @@ fn a_writer_that_takes_nothing(rt: HostRuntime) -> Result<(), Fail> {
         let mut reader = Ended::new(input);
         let mut writer = Ended::new(FlakyWriter::new(alloc, 0, takes_none_at));
         let answer = run(alloc, Mode::Line, &mut reader, &mut writer);
-        assert_eq!(rt; answer, Err(RunError::Write), "at {takes_none_at}");
+        check_value(&rt, answer, Err(RunError::Write), &takes_none_at);
         assert!(rt; writer.has_failed());
         assert_eq!(rt; writer.inner().calls, takes_none_at);
     }
@@ -93,7 +94,7 @@ fn one_row_for_failing_allocations(rt: HostRuntime) -> Result<(), Fail> {
         match answer {
             Ok(()) => assert!(rt; held.starts_with(want.as_bytes())),
             Err(error) => {
-                assert_eq!(rt; error, RunError::Memory);
+                check_value(&rt, error, RunError::Memory, &input);
                 assert_eq!(rt; held, [0u8; 128]);
             }
         }

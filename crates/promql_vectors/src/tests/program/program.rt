@@ -1,21 +1,14 @@
 //! The program over its arguments, its input and its outputs.
 
 use super::streams::FlakyWriter;
+use super::texts;
 use promql_run::ended::Ended;
 use promql_run::program::program;
-use std::alloc::{AllocError, Global};
+use std::alloc::Global;
 use std::process::Abort;
 use std::test::Fail;
 
 const USAGE: &str = "usage: promql pretty|line|json\n";
-
-fn texts(alloc: Global, words: &[&str]) -> Result<Vec<String>, AllocError> {
-    let mut texts = Vec::new(alloc);
-    for word in words {
-        texts.push(String::from_str(alloc, word)?)?;
-    }
-    Ok(texts)
-}
 
 /// Arguments, input, status, standard output, standard error.
 type Row = (

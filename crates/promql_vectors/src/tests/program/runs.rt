@@ -1,5 +1,6 @@
 //! Runs over readers and writers in memory.
 
+use crate::tests::check_value;
 use promql_parser::parser::ParseError;
 use promql_run::ended::Ended;
 use promql_run::run::{Mode, RunError, run};
@@ -17,24 +18,26 @@ const SUM_LINES: &str = "  sum by (code, job) (rate(http_requests_total{code=~\"
   sum by (job) (rate(http_requests_total[5m]))
 ";
 
+/// Inputs, and their lines or why they have none.
+const ROWS: [(&[u8], Result<&[u8], RunError>); 6] = [
+    (b"1 + (foo - 2)", Ok(b"1 + (foo - 2)\n")),
+    (b"1-2-3\n", Ok(b"1 - 2 - 3\n")),
+    (b"", Err(RunError::Parse(ParseError::Empty))),
+    (b"a b", Err(RunError::Parse(ParseError::Syntax))),
+    (b"1 + \xff", Err(RunError::NotUtf8)),
+    (b"+ \xff", Err(RunError::NotUtf8)),
+];
+
 #[test]
 fn bytes_in_and_out(rt: HostRuntime) -> Result<(), Fail> {
     let alloc = rt.alloc();
-    let rows: [(&[u8], Result<&[u8], RunError>); 6] = [
-        (b"1 + (foo - 2)", Ok(b"1 + (foo - 2)\n")),
-        (b"1-2-3\n", Ok(b"1 - 2 - 3\n")),
-        (b"", Err(RunError::Parse(ParseError::Empty))),
-        (b"a b", Err(RunError::Parse(ParseError::Syntax))),
-        (b"1 + \xff", Err(RunError::NotUtf8)),
-        (b"+ \xff", Err(RunError::NotUtf8)),
-    ];
-    for (input, want) in &rows {
+    for (input, want) in &ROWS {
         let mut reader = Ended::new(*input);
         let mut writer = Ended::new(Vec::new(alloc));
         let answer = run(alloc, Mode::Line, &mut reader, &mut writer);
         match want {
             Ok(bytes) => {
-                assert_eq!(rt; answer, Ok(()));
+                check_value(&rt, answer, Ok(()), input);
                 assert!(rt; writer.inner().as_slice() == *bytes, "at {input:?}");
             }
             Err(error) => {
@@ -47,22 +50,24 @@ fn bytes_in_and_out(rt: HostRuntime) -> Result<(), Fail> {
     Ok(())
 }
 
+/// Errors, their numbers and their messages.
+const ERRORS: [(RunError, u8, &str); 6] = [
+    (RunError::Memory, 1, "out of memory"),
+    (RunError::Read, 2, "read failed"),
+    (RunError::NotUtf8, 3, "input is not UTF-8"),
+    (
+        RunError::Parse(ParseError::Syntax),
+        4,
+        "invalid promql query",
+    ),
+    (RunError::Write, 5, "write failed"),
+    (RunError::Json, 6, "number too wide for JSON"),
+];
+
 #[test]
 fn errors(rt: HostRuntime) -> Result<(), Fail> {
     let alloc = rt.alloc();
-    let rows = [
-        (RunError::Memory, 1, "out of memory"),
-        (RunError::Read, 2, "read failed"),
-        (RunError::NotUtf8, 3, "input is not UTF-8"),
-        (
-            RunError::Parse(ParseError::Syntax),
-            4,
-            "invalid promql query",
-        ),
-        (RunError::Write, 5, "write failed"),
-        (RunError::Json, 6, "number too wide for JSON"),
-    ];
-    for (error, number, message) in &rows {
+    for (error, number, message) in &ERRORS {
         assert_eq!(rt; error.number(), *number);
         let found = format!(in alloc; "{error}")?;
         assert_eq!(rt; found.as_str(), *message);
@@ -87,19 +92,13 @@ fn answer(alloc: Global, mode: Mode, text: &str) -> Result<Vec<u8>, RunError> {
     Ok(written)
 }
 
-fn printed(alloc: Global, text: &str) -> Result<Vec<u8>, RunError> {
-    answer(alloc, Mode::Line, text)
-}
-
 #[test]
 fn laid_out(rt: HostRuntime) -> Result<(), Fail> {
     let alloc = rt.alloc();
     let found = answer(alloc, Mode::Pretty, SUM)?;
     assert!(rt; found.as_slice() == SUM_LINES.as_bytes());
-    assert_eq!(rt;
-        answer(alloc, Mode::Pretty, "a b"),
-        Err(RunError::Parse(ParseError::Syntax))
-    );
+    let syntax = RunError::Parse(ParseError::Syntax);
+    check_value(&rt, answer(alloc, Mode::Pretty, "a b"), Err(syntax), &"a b");
     Ok(())
 }
 
@@ -116,11 +115,14 @@ fn as_json(rt: HostRuntime) -> Result<(), Fail> {
         let found = answer(alloc, Mode::Json, text)?;
         assert!(rt; found.as_slice() == want.as_bytes(), "{text}");
     }
-    assert_eq!(rt; answer(alloc, Mode::Json, WIDE), Err(RunError::Json));
-    assert_eq!(rt;
-        answer(alloc, Mode::Json, ""),
-        Err(RunError::Parse(ParseError::Empty))
+    check_value(
+        &rt,
+        answer(alloc, Mode::Json, WIDE),
+        Err(RunError::Json),
+        &WIDE,
     );
+    let empty = RunError::Parse(ParseError::Empty);
+    check_value(&rt, answer(alloc, Mode::Json, ""), Err(empty), &"");
     Ok(())
 }
 
@@ -143,10 +145,8 @@ fn inputs_of_many_blocks(rt: HostRuntime) -> Result<(), Fail> {
     ] {
         let name = padded(alloc, "", len, "")?;
         let want = padded(alloc, "", len, "\n")?;
-        assert!(rt;
-            printed(alloc, name.as_str())?.as_slice() == want.as_bytes(),
-            "at {len}"
-        );
+        let line = answer(alloc, Mode::Line, name.as_str())?;
+        assert!(rt; line.as_slice() == want.as_bytes(), "at {len}");
     }
     Ok(())
 }
@@ -157,7 +157,7 @@ fn characters_across_blocks(rt: HostRuntime) -> Result<(), Fail> {
     for before in 4_088..4_096 {
         for back in ["é\n+ 2", "€\n+ 2", "\u{1f600}\n+ 2"] {
             let text = padded(alloc, "1 # ", before, back)?;
-            let line = printed(alloc, text.as_str())?;
+            let line = answer(alloc, Mode::Line, text.as_str())?;
             assert!(rt; line.as_slice() == b"1 + 2\n".as_slice(), "at {before}");
         }
     }
