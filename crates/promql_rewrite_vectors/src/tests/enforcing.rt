@@ -92,15 +92,20 @@ const ROWS: [(&str, &str); 27] = [
     ),
 ];
 
-fn tenant(alloc: Global) -> Result<Matcher, AllocError> {
-    Matcher::new(alloc, MatchOp::Equal, "namespace", "team-a")
+fn tenant(alloc: Global) -> Result<Box<Matcher>, AllocError> {
+    let matcher = Matcher::new(alloc, MatchOp::Equal, "namespace", "team-a")?;
+    Ok(Box::new(alloc, matcher)?)
 }
 
 /// The line of the query once the matcher is enforced, or the message of the error.
 fn enforced(alloc: Global, query: &str, matcher: &Matcher) -> Result<String, AllocError> {
     match enforce_query(alloc, query, matcher) {
         Ok(line) => Ok(line),
-        Err(error) => error.to_string(alloc),
+        Err(error) => {
+            let message = error.to_string(alloc);
+            drop(error);
+            message
+        }
     }
 }
 
@@ -115,14 +120,38 @@ fn each_selector_has_the_matcher(rt: HostRuntime) -> Result<(), Fail> {
     Ok(())
 }
 
-/// The text so many times, between two others.
-fn repeated(
-    alloc: Global,
-    front: &str,
-    text: &str,
-    times: usize,
-    back: &str,
-) -> Result<String, AllocError> {
+/// A text that is repeated between two others: the front, the text and the back.
+type Parts = (&'static str, &'static str, &'static str);
+
+/// Long queries and their lines once `namespace="team-a"` is enforced, with how often the text in the middle is repeated.
+const LONG_ROWS: [(usize, Parts, Parts); 3] = [
+    (
+        500,
+        ("a", " + a", ""),
+        (
+            r#"a{namespace="team-a"}"#,
+            r#" + a{namespace="team-a"}"#,
+            "",
+        ),
+    ),
+    (
+        300,
+        (r#"{a="1""#, r#" or b="2""#, "}"),
+        (
+            r#"{a="1", namespace="team-a""#,
+            r#" or b="2", namespace="team-a""#,
+            "}",
+        ),
+    ),
+    (
+        600,
+        (r#"a{b="1""#, r#",b="1""#, "}"),
+        (r#"a{b="1""#, r#",b="1""#, r#",namespace="team-a"}"#),
+    ),
+];
+
+fn repeated(alloc: Global, parts: &Parts, times: usize) -> Result<String, AllocError> {
+    let (front, text, back) = *parts;
     let mut made = String::from_str(alloc, front)?;
     for _ in 0..times {
         made.push_str(text)?;
@@ -135,52 +164,28 @@ fn repeated(
 fn long_queries_too(rt: HostRuntime) -> Result<(), Fail> {
     let alloc = rt.alloc();
     let matcher = tenant(alloc)?;
-    let sum = repeated(alloc, "a", " + a", 500, "")?;
-    let sum_line = repeated(
-        alloc,
-        r#"a{namespace="team-a"}"#,
-        r#" + a{namespace="team-a"}"#,
-        500,
-        "",
-    )?;
-    assert!(rt; enforced(alloc, &sum, &matcher)? == sum_line);
-    let groups = repeated(alloc, r#"{a="1""#, r#" or b="2""#, 300, "}")?;
-    let groups_line = repeated(
-        alloc,
-        r#"{a="1", namespace="team-a""#,
-        r#" or b="2", namespace="team-a""#,
-        300,
-        "}",
-    )?;
-    assert!(rt; enforced(alloc, &groups, &matcher)? == groups_line);
-    let list = repeated(alloc, r#"a{b="1""#, r#",b="1""#, 600, "}")?;
-    let list_line = repeated(
-        alloc,
-        r#"a{b="1""#,
-        r#",b="1""#,
-        600,
-        r#",namespace="team-a"}"#,
-    )?;
-    assert!(rt; enforced(alloc, &list, &matcher)? == list_line);
+    for (times, query, want) in &LONG_ROWS {
+        let query = repeated(alloc, query, *times)?;
+        let line = enforced(alloc, query.as_str(), &matcher)?;
+        assert!(rt; line == repeated(alloc, want, *times)?, "{times}");
+    }
     Ok(())
+}
+
+/// Whether the matcher is rejected, since it is of the metric's name.
+fn is_rejected(alloc: Global, query: &str, matcher: &Matcher) -> bool {
+    matches!(
+        enforce_query(alloc, query, matcher),
+        Err(EnforceError::MetricName)
+    )
 }
 
 #[test]
 fn the_metric_name_is_rejected(rt: HostRuntime) -> Result<(), Fail> {
     let alloc = rt.alloc();
     let matcher = Matcher::new(alloc, MatchOp::Equal, "__name__", "a")?;
-    assert!(rt;
-        matches!(
-            enforce_query(alloc, "b", &matcher),
-            Err(EnforceError::MetricName)
-        )
-    );
+    assert!(rt; is_rejected(alloc, "b", &matcher));
     // Before the query is looked at.
-    assert!(rt;
-        matches!(
-            enforce_query(alloc, "b +", &matcher),
-            Err(EnforceError::MetricName)
-        )
-    );
+    assert!(rt; is_rejected(alloc, "b +", &matcher));
     Ok(())
 }
