@@ -1,6 +1,7 @@
 #!/usr/bin/env bash
-# bindings/test.sh   builds the bindings for C and for Python against dist/ and tests them, in some minutes and without rt. Says
-#                    what it could not try here. The last line is 'N passed, M failed'
+# bindings/test.sh [--install]   builds the bindings for C, Python, Go and Rust against dist/ and tests them, in some minutes and
+#                                without rt. Says what it could not try here; --install first installs by apt-get what is
+#                                missing of Debian's packages. The last line is 'N passed, M failed'
 set -u
 here=$(cd "$(dirname "$0")" && pwd)
 root=${here%/*}
@@ -64,6 +65,17 @@ has_module() {
     if python3 -c "import $1" 2>/dev/null; then return; fi
     echo "not tried: $2: Python has no $1 here"
     return 1
+}
+
+# install_missing: installs the packages of Debian whose commands are missing here.
+install_missing() {
+    local -a missing=()
+    command -v go >/dev/null || missing+=(golang-go)
+    command -v cargo >/dev/null || missing+=(cargo)
+    command -v cc >/dev/null || missing+=(gcc libc6-dev)
+    command -v valgrind >/dev/null || missing+=(valgrind)
+    [ ${#missing[@]} = 0 ] && return
+    apt-get update -q && apt-get install -q -y --no-install-recommends "${missing[@]}"
 }
 
 # ---- what dist/ shows
@@ -191,7 +203,78 @@ test_python() {
     if [ -d "$work/site" ]; then PROMQL_BROKEN=1000 add 'Python, as pip installs it' unit_tests "$work/site"; fi
 }
 
+# ---- Rust
+
+in_cargo() {
+    CARGO_TARGET_DIR=$work/target cargo "$@" --offline --quiet --manifest-path "$here/rust/Cargo.toml"
+}
+
+# The tests of the crate and of its documents, with 'N passed, M failed' as the last line.
+cargo_tests() {
+    local said
+    said=$(in_cargo test 2>&1)
+    printf '%s\n' "$said"
+    awk '/^test result:/ { passed += $4; failed += $6 } END { print passed + 0 " passed, " failed + 0 " failed"; exit passed == 0 }' <<<"$said"
+}
+
+build_rust() {
+    in_cargo build --release --examples
+}
+
+cache_keys() {
+    [ "$("$work/target/release/examples/cache_key" '1+2' 'a  or b')" = $'1 + 2\na or b' ] &&
+        ! "$work/target/release/examples/cache_key" '1 +' 2>/dev/null
+}
+
+test_rust() {
+    has cargo 'the binding for Rust' || return
+    add 'Rust' cargo_tests
+    try 'the examples for Rust' build_rust
+    [ -x "$work/target/release/examples/rows" ] || return
+    try 'the example for Rust' cache_keys
+    has python3 'rows and broken texts for Rust' || return
+    add 'rows for Rust, and again in eight threads' python3 "$here/rows.py" c "$work/target/release/examples/rows" 8
+    try 'the calls of the rows' python3 "$here/rows.py" write "$work/calls"
+    add 'broken texts for Rust' "$work/target/release/examples/rows" random "$work/calls" 10000 1
+}
+
+# ---- Go
+
+# in_go FOLDER ARGUMENT..: go in this folder of the module, which fetches nothing.
+in_go() {
+    local folder=$1
+    shift
+    (cd "$here/go/$folder" && GOCACHE=$work/go GOFLAGS=-mod=readonly GOPROXY=off CGO_ENABLED=1 exec go "$@")
+}
+
+# The tests of the module, its examples among them, with 'N passed, M failed' as the last line.
+go_tests() {
+    local said passed lost
+    said=$(in_go . test -v ./... 2>&1)
+    printf '%s\n' "$said"
+    passed=$(grep -c '^--- PASS: ' <<<"$said")
+    lost=$(grep -cE '^--- FAIL: |^FAIL' <<<"$said")
+    echo "$passed passed, $lost failed"
+    [ "$passed" -gt 0 ] && [ "$lost" = 0 ]
+}
+
+test_go() {
+    has go 'the binding for Go' || return
+    try 'go vet' in_go . vet ./...
+    add 'Go' go_tests
+    try 'broken texts for Go by its fuzzer' in_go . test -run '^$' -fuzz FuzzQueries -fuzztime 10000x .
+    try 'the program of the rows for Go' in_go . build -o "$work/go_rows" ./internal/rows
+    [ -x "$work/go_rows" ] || return
+    has python3 'rows and broken texts for Go' || return
+    add 'rows for Go, and again in eight goroutines' python3 "$here/rows.py" c "$work/go_rows" 8
+    try 'the calls of the rows' python3 "$here/rows.py" write "$work/calls"
+    add 'broken texts for Go' "$work/go_rows" random "$work/calls" 10000 1
+}
+
 export -f shows_own_names build_c example_prints under_valgrind build_project find_installed install_wheel in_python unit_tests
+export -f in_cargo cargo_tests build_rust cache_keys in_go go_tests
+
+if [ "${1:-}" = --install ]; then install_missing; fi
 
 stale=$(why_library_stale "$(kit_line)")
 if [ -n "$stale" ]; then
@@ -201,5 +284,7 @@ fi
 test_names
 test_c
 test_python
+test_rust
+test_go
 echo "$passed passed, $failed failed"
 [ "$failed" = 0 ]

@@ -1,0 +1,172 @@
+// Package promql prints, checks and lays out PromQL, the query language of Prometheus, by a library that is proved.
+//
+//	key, err := promql.Canonical("sum(rate(foo[5m]))by(job)") // "sum by (job) (rate(foo[5m]))"
+//
+// A query that is rejected gives a *QueryError, which has the place. Any goroutine may call any function at any time. What is
+// proved of the calls, and what is not, is in docs/guide/bindings.md of the repository.
+package promql
+
+/*
+#cgo CFLAGS: -I${SRCDIR}/../../dist
+#cgo LDFLAGS: ${SRCDIR}/../../dist/libpromql.a
+#include "promql.h"
+*/
+import "C"
+
+import (
+	"errors"
+	"fmt"
+	"runtime"
+	"unsafe"
+)
+
+// Errors that have no place. Compare with errors.Is.
+var (
+	// ErrOutOfMemory says that an allocation of the library failed.
+	ErrOutOfMemory = errors.New("out of memory")
+	// ErrNotUTF8 says that the query is not UTF-8.
+	ErrNotUTF8 = errors.New("input is not UTF-8")
+	// ErrNumberTooWide says that a query has no JSON form: a number of milliseconds is below -2^63 or above 2^64 - 1.
+	ErrNumberTooWide = errors.New("number too wide for JSON")
+)
+
+// QueryError is why and where a query is rejected: at Query[Start:End], which is empty at the query's end. Line and Column are those
+// of Start, from 1; a column is a character.
+type QueryError struct {
+	Message string
+	Query   string
+	Start   int
+	End     int
+	Line    int
+	Column  int
+}
+
+func (e *QueryError) Error() string {
+	return fmt.Sprintf("%d:%d: %s", e.Line, e.Column, e.Message)
+}
+
+// Snippet returns the line of the query where the part begins, a line feed, and a mark below that part.
+func (e *QueryError) Snippet() string {
+	start, end := C.size_t(max(e.Start, 0)), C.size_t(max(e.End, 0))
+	text, _ := call(e.Query, func(query *C.char, length C.size_t, buffer *C.char, size C.size_t, result *C.struct_promql_result) {
+		C.promql_snippet(query, length, start, end, buffer, size, result)
+	})
+	return text
+}
+
+// Option is how Format lays a query out.
+type Option func(*layout)
+
+type layout struct {
+	width uint64
+	level uint16
+}
+
+// Width sets the most bytes that a line has after its indentation by Level, where that can be: 100 without this option.
+func Width(bytes uint) Option {
+	return func(l *layout) { l.width = uint64(bytes) }
+}
+
+// Level indents each line by so many times two spaces.
+func Level(level uint16) Option {
+	return func(l *layout) { l.level = level }
+}
+
+// Canonical returns the query on one line. Queries that differ in nothing that means something have one line: the key of a cache.
+func Canonical(query string) (string, error) {
+	return textOf(query, func(query *C.char, length C.size_t, buffer *C.char, size C.size_t, result *C.struct_promql_result) {
+		C.promql_canonical(query, length, buffer, size, result)
+	})
+}
+
+// Format returns the query, laid out over several lines where one would have more bytes than Width.
+func Format(query string, options ...Option) (string, error) {
+	made := layout{width: 100}
+	for _, set := range options {
+		set(&made)
+	}
+	return textOf(query, func(query *C.char, length C.size_t, buffer *C.char, size C.size_t, result *C.struct_promql_result) {
+		C.promql_print(query, length, C.PROMQL_PRETTY, C.uint32_t(made.level), C.size_t(made.width), buffer, size, result)
+	})
+}
+
+// JSON returns the tree of the query in its JSON form (docs/reference/json.md of the repository), without a space.
+func JSON(query string) ([]byte, error) {
+	text, err := textOf(query, func(query *C.char, length C.size_t, buffer *C.char, size C.size_t, result *C.struct_promql_result) {
+		C.promql_print(query, length, C.PROMQL_JSON, 0, 0, buffer, size, result)
+	})
+	if err != nil {
+		return nil, err
+	}
+	return []byte(text), nil
+}
+
+// Check returns nil where the query is accepted.
+func Check(query string) error {
+	_, err := textOf(query, func(query *C.char, length C.size_t, buffer *C.char, size C.size_t, result *C.struct_promql_result) {
+		C.promql_check(query, length, buffer, size, result)
+	})
+	return err
+}
+
+// Version returns the version of the library.
+func Version() string {
+	text, _ := call("", func(_ *C.char, _ C.size_t, buffer *C.char, size C.size_t, result *C.struct_promql_result) {
+		C.promql_version(buffer, size, result)
+	})
+	return text
+}
+
+// function is a call of the library: its query, its buffer and its result.
+type function func(query *C.char, length C.size_t, buffer *C.char, size C.size_t, result *C.struct_promql_result)
+
+// firstSize is the size of the first buffer: most texts of a query have fewer bytes.
+const firstSize = 1024
+
+// call makes a call with a buffer that is large enough, and returns the text and the result.
+func call(query string, f function) (string, C.struct_promql_result) {
+	bytes := append(make([]byte, 0, len(query)+1), query...)
+	first := (*C.char)(unsafe.Pointer(&bytes[:1][0]))
+	var result C.struct_promql_result
+	buffer := make([]byte, firstSize)
+	for {
+		f(first, C.size_t(len(bytes)), (*C.char)(unsafe.Pointer(&buffer[0])), C.size_t(len(buffer)), &result)
+		if int(result.length) <= len(buffer) {
+			runtime.KeepAlive(bytes)
+			return string(buffer[:result.length]), result
+		}
+		buffer = make([]byte, result.length)
+	}
+}
+
+// textOf makes a call and returns its text, or its error.
+func textOf(query string, f function) (string, error) {
+	text, result := call(query, f)
+	switch result.status {
+	case C.PROMQL_OK:
+		return text, nil
+	case C.PROMQL_OUT_OF_MEMORY:
+		return "", ErrOutOfMemory
+	case C.PROMQL_NOT_UTF8:
+		return "", ErrNotUTF8
+	case C.PROMQL_REJECTED:
+		return "", &QueryError{
+			Message: text,
+			Query:   query,
+			Start:   int(result.start),
+			End:     int(result.end),
+			Line:    int(result.line),
+			Column:  int(result.column),
+		}
+	case C.PROMQL_NUMBER_TOO_WIDE:
+		return "", ErrNumberTooWide
+	}
+	panic(fmt.Sprintf("promql: status %d: %s", result.status, text))
+}
+
+func max(a, b int) int {
+	if a > b {
+		return a
+	}
+	return b
+}

@@ -1,0 +1,182 @@
+package promql_test
+
+import (
+	"errors"
+	"fmt"
+	"promql"
+	"strings"
+	"sync"
+	"testing"
+	"unicode/utf8"
+)
+
+const long = `sum by (job) (rate(http_requests_total{code=~"5.."}[5m])) / on (job) up > 0.125`
+
+func ExampleCanonical() {
+	key, err := promql.Canonical("sum(rate(foo[5m]))by(job)")
+	fmt.Println(key, err)
+	// Output: sum by (job) (rate(foo[5m])) <nil>
+}
+
+func ExampleFormat() {
+	text, _ := promql.Format("sum(rate(foo[5m]))by(job)", promql.Width(20))
+	fmt.Println(text)
+	// Output:
+	// sum by (job) (
+	//   rate(foo[5m])
+	// )
+}
+
+func ExampleQueryError() {
+	var rejected *promql.QueryError
+	if errors.As(promql.Check("sum(rate(foo[5m]) by (job)"), &rejected) {
+		fmt.Println(rejected)
+		fmt.Println(rejected.Snippet())
+	}
+	// Output:
+	// 1:19: unclosed left parenthesis
+	// sum(rate(foo[5m]) by (job)
+	//                   ^~
+}
+
+func rejection(t *testing.T, query string) *promql.QueryError {
+	t.Helper()
+	var rejected *promql.QueryError
+	if err := promql.Check(query); !errors.As(err, &rejected) {
+		t.Fatalf("%q: %v", query, err)
+	}
+	return rejected
+}
+
+func TestLines(t *testing.T) {
+	for query, want := range map[string]string{
+		"1+(foo-2)":      "1 + (foo - 2)",
+		`{b="1",a='2'}`:  `{a="2",b="1"}`,
+		long:             long,
+		"a  # a comment": "a",
+		"foo offset 60s": "foo offset 1m",
+		strings.Repeat("(", 100) + "1" + strings.Repeat(")", 100): strings.Repeat("(", 100) + "1" + strings.Repeat(")", 100),
+	} {
+		if got, err := promql.Canonical(query); err != nil || got != want {
+			t.Errorf("%q: %q, %v", query, got, err)
+		}
+	}
+}
+
+func TestLongText(t *testing.T) {
+	query := strings.Repeat("foo", 10_000)
+	if got, err := promql.Canonical(query); err != nil || got != query {
+		t.Errorf("%d bytes, %v", len(got), err)
+	}
+}
+
+func TestFormat(t *testing.T) {
+	want := "  sum by (job) (\n    rate(foo[5m])\n  )"
+	if got, err := promql.Format("sum by (job) (rate(foo[5m]))", promql.Width(20), promql.Level(1)); err != nil || got != want {
+		t.Errorf("%q, %v", got, err)
+	}
+	if got, err := promql.Format(long); err != nil || got != long {
+		t.Errorf("%q, %v", got, err)
+	}
+}
+
+func TestJSON(t *testing.T) {
+	if got, err := promql.JSON("1"); err != nil || string(got) != `{"type":"numberLiteral","val":"1"}` {
+		t.Errorf("%s, %v", got, err)
+	}
+	if _, err := promql.JSON("foo[18446744073709551.616]"); !errors.Is(err, promql.ErrNumberTooWide) {
+		t.Error(err)
+	}
+}
+
+func TestPlaces(t *testing.T) {
+	query := "up +\n rate({'foö'})"
+	found := rejection(t, query)
+	if found.Query[found.Start:found.End] != "{'foö'}" || found.Line != 2 || found.Column != 7 {
+		t.Errorf("%+v", found)
+	}
+	if want := " rate({'foö'})\n      ^~~~~~~"; found.Snippet() != want {
+		t.Errorf("%q", found.Snippet())
+	}
+	if end := rejection(t, "1 +"); end.Start != 3 || end.End != 3 {
+		t.Errorf("%+v", end)
+	}
+	if empty := rejection(t, ""); empty.Start != 0 || empty.End != 0 {
+		t.Errorf("%+v", empty)
+	}
+}
+
+func TestPlaceOutsideOfTheQuery(t *testing.T) {
+	found := rejection(t, "1 +")
+	found.Start, found.End = -1, 90
+	found.Snippet()
+}
+
+func TestNotUTF8(t *testing.T) {
+	if err := promql.Check("foo\xff"); !errors.Is(err, promql.ErrNotUTF8) {
+		t.Error(err)
+	}
+}
+
+func TestVersion(t *testing.T) {
+	if got := promql.Version(); got != "0.1.0" {
+		t.Error(got)
+	}
+}
+
+func TestGoroutines(t *testing.T) {
+	want, err := promql.Format(long, promql.Width(30))
+	if err != nil {
+		t.Fatal(err)
+	}
+	var group sync.WaitGroup
+	for n := 0; n < 8; n++ {
+		group.Add(1)
+		go func() {
+			defer group.Done()
+			for i := 0; i < 500; i++ {
+				if got, err := promql.Format(long, promql.Width(30)); err != nil || got != want {
+					t.Errorf("%q, %v", got, err)
+				}
+			}
+		}()
+	}
+	group.Wait()
+}
+
+// What is printed is accepted again and prints itself; a query is rejected by each function or by none.
+func FuzzQueries(f *testing.F) {
+	for _, query := range []string{long, "", "1 +", "foo\xff", "{a=~'('}", `"\xff"`, "-(1)^2"} {
+		f.Add(query, uint(20), uint16(1))
+	}
+	f.Fuzz(func(t *testing.T, query string, width uint, level uint16) {
+		line, err := promql.Canonical(query)
+		if checked := promql.Check(query); (checked == nil) != (err == nil) {
+			t.Fatalf("%v, %v", checked, err)
+		}
+		if _, laid := promql.Format(query, promql.Width(width), promql.Level(level%100)); (laid == nil) != (err == nil) {
+			t.Fatalf("%v, %v", laid, err)
+		}
+		var rejected *promql.QueryError
+		switch {
+		case err == nil:
+			if again, err := promql.Canonical(line); err != nil || again != line {
+				t.Fatalf("%q, %q, %v", line, again, err)
+			}
+		case errors.As(err, &rejected):
+			if !utf8.ValidString(query[:rejected.Start]) || !utf8.ValidString(rejected.Snippet()) {
+				t.Fatalf("%+v", rejected)
+			}
+		case !errors.Is(err, promql.ErrNotUTF8):
+			t.Fatal(err)
+		}
+	})
+}
+
+func BenchmarkCanonical(b *testing.B) {
+	for i := 0; i < b.N; i++ {
+		if _, err := promql.Canonical(long); err != nil {
+			b.Fatal(err)
+		}
+	}
+}

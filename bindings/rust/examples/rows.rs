@@ -1,0 +1,133 @@
+//! For the tests of the bindings (bindings/rows.py has the format of the files):
+//!
+//!     rows rows FILE [THREADS]      makes the calls of a file and prints what each gives
+//!     rows random FILE COUNT SEED   makes COUNT broken texts of the queries of such a file, and calls with each
+//!
+//! In THREADS threads each call is made again, and is to give the same.
+
+use promql_proved::{Error, Layout, canonical, check, format, json};
+use std::io::{self, BufWriter, Write};
+use std::{env, fs, str, thread};
+
+struct Call<'a> {
+    call: u32,
+    mode: u32,
+    level: u16,
+    width: usize,
+    query: &'a [u8],
+}
+
+/// The calls of a file.
+fn calls(mut bytes: &[u8]) -> Vec<Call<'_>> {
+    let mut found = Vec::new();
+    while let Some(end) = bytes.iter().position(|byte| *byte == b'\n') {
+        let numbers = str::from_utf8(&bytes[..end]).expect("a line of numbers");
+        let numbers: Vec<usize> = numbers.split(' ').map(|word| word.parse().expect("a number")).collect();
+        let [call, mode, level, width, _, _, length] = numbers[..] else {
+            panic!("a line has {} numbers", numbers.len());
+        };
+        let (query, rest) = bytes[end + 1..].split_at(length);
+        found.push(Call { call: call as u32, mode: mode as u32, level: level as u16, width, query });
+        bytes = &rest[1..];
+    }
+    found
+}
+
+/// What a call gives, as `rows.py` reads it.
+fn answer(call: &Call<'_>) -> Vec<u8> {
+    let Ok(query) = str::from_utf8(call.query) else {
+        return line(3, [0; 4], "input is not UTF-8");
+    };
+    let text = match (call.call, call.mode) {
+        (2, _) => check(query).map(|()| String::new()),
+        (1, _) | (0, 0) => canonical(query),
+        (0, 1) => format(query, Layout { width: call.width, level: call.level }),
+        _ => json(query),
+    };
+    match text {
+        Ok(text) => line(0, [0; 4], &text),
+        Err(Error::Rejected(it)) => line(4, [it.range.start, it.range.end, it.line, it.column], &it.message),
+        Err(error @ Error::NumberTooWide) => line(6, [0; 4], &error.to_string()),
+        Err(error) => line(1, [0; 4], &error.to_string()),
+    }
+}
+
+fn line(status: u32, [start, end, line, column]: [usize; 4], text: &str) -> Vec<u8> {
+    format!("{status} {start} {end} {line} {column} {}\n{text}\n", text.len()).into_bytes()
+}
+
+fn rows(calls: &[Call<'_>], threads: usize) {
+    let answers: Vec<_> = calls.iter().map(answer).collect();
+    thread::scope(|scope| {
+        for _ in 0..threads {
+            scope.spawn(|| assert!(calls.iter().map(answer).eq(answers.iter().cloned()), "another answer in a thread"));
+        }
+    });
+    let mut out = BufWriter::new(io::stdout().lock());
+    for it in &answers {
+        out.write_all(it).expect("standard output takes the answers");
+    }
+    out.flush().expect("standard output takes the answers");
+}
+
+/// Numbers that look random, by shifts of 64 bits.
+struct Random(u64);
+
+impl Random {
+    fn next(&mut self, bound: usize) -> usize {
+        self.0 ^= self.0 << 13;
+        self.0 ^= self.0 >> 7;
+        self.0 ^= self.0 << 17;
+        (self.0 % bound as u64) as usize
+    }
+
+    /// Random bytes, or a query that is cut short or changed at some bytes.
+    fn broken(&mut self, calls: &[Call<'_>]) -> Vec<u8> {
+        let mut text = match self.next(4) {
+            0 => (0..self.next(64)).map(|_| self.next(256) as u8).collect(),
+            _ => calls[self.next(calls.len())].query.to_vec(),
+        };
+        if self.next(3) == 0 {
+            text.truncate(self.next(text.len() + 1));
+        }
+        for _ in 0..self.next(4) {
+            if !text.is_empty() {
+                let at = self.next(text.len());
+                text[at] = self.next(256) as u8;
+            }
+        }
+        text
+    }
+}
+
+fn random(calls: &[Call<'_>], count: usize, seed: u64) {
+    let mut random = Random(2 * seed + 1);
+    for _ in 0..count {
+        let text = random.broken(calls);
+        let query = String::from_utf8_lossy(&text);
+        match canonical(&query) {
+            Ok(line) => assert_eq!(canonical(&line).as_ref(), Ok(&line)),
+            Err(Error::Rejected(it)) => {
+                assert!(query.get(it.range.clone()).is_some(), "{query:?}: {it:?}");
+                it.snippet(&query);
+            }
+            Err(error) => panic!("{query:?}: {error}"),
+        }
+        let layout = Layout { width: random.next(100), level: random.next(10) as u16 };
+        assert_eq!(format(&query, layout).is_ok(), check(&query).is_ok(), "{query:?}");
+    }
+    println!("{count} passed, 0 failed");
+}
+
+fn main() {
+    let words: Vec<String> = env::args().skip(1).collect();
+    let words: Vec<&str> = words.iter().map(String::as_str).collect();
+    let number = |word: &str| word.parse().expect("a number");
+    let bytes = fs::read(words.get(1).expect("a file of calls")).expect("the file is read");
+    match words[..] {
+        ["rows", _] => rows(&calls(&bytes), 0),
+        ["rows", _, threads] => rows(&calls(&bytes), number(threads)),
+        ["random", _, count, seed] => random(&calls(&bytes), number(count), number(seed) as u64),
+        _ => panic!("unknown arguments"),
+    }
+}

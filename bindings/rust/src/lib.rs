@@ -1,0 +1,138 @@
+//! PromQL, the query language of Prometheus: print, check and lay out queries, by a library that is proved.
+//!
+//! ```
+//! assert_eq!(promql_proved::canonical("sum(rate(foo[5m]))by(job)")?, "sum by (job) (rate(foo[5m]))");
+//! # Ok::<(), promql_proved::Error>(())
+//! ```
+//!
+//! Any thread may call any function at any time. What is proved of the calls, and what is not, is in
+//! `docs/guide/bindings.md` of the repository.
+
+mod library;
+
+use library::{Answer, Mode};
+use std::error;
+use std::fmt;
+use std::ops::Range;
+
+/// Why a function returns nothing for a query.
+#[derive(Clone, Debug, PartialEq, Eq)]
+#[non_exhaustive]
+pub enum Error {
+    /// An allocation of the library failed.
+    OutOfMemory,
+    /// The query is rejected.
+    Rejected(Rejection),
+    /// The query has no JSON form: a number of milliseconds is below -2^63 or above 2^64 - 1.
+    NumberTooWide,
+}
+
+/// Why and where a query is rejected.
+#[derive(Clone, Debug, PartialEq, Eq)]
+pub struct Rejection {
+    /// What is wrong, without the place.
+    pub message: String,
+    /// The bytes of the query that the error is about, none at the query's end.
+    pub range: Range<usize>,
+    /// The line in which the range begins, from 1.
+    pub line: usize,
+    /// The column in which the range begins, from 1, in characters.
+    pub column: usize,
+}
+
+impl Rejection {
+    /// The line of the query where the range begins, a line feed, and a mark below the range.
+    pub fn snippet(&self, query: &str) -> String {
+        library::snippet(query, self.range.start, self.range.end).0
+    }
+}
+
+impl fmt::Display for Rejection {
+    fn fmt(&self, f: &mut fmt::Formatter<'_>) -> fmt::Result {
+        write!(f, "{}:{}: {}", self.line, self.column, self.message)
+    }
+}
+
+impl fmt::Display for Error {
+    fn fmt(&self, f: &mut fmt::Formatter<'_>) -> fmt::Result {
+        match self {
+            Error::OutOfMemory => f.write_str("out of memory"),
+            Error::Rejected(rejection) => rejection.fmt(f),
+            Error::NumberTooWide => f.write_str("number too wide for JSON"),
+        }
+    }
+}
+
+impl error::Error for Error {}
+
+/// How [`format`] lays a query out.
+#[derive(Clone, Copy, Debug, PartialEq, Eq)]
+pub struct Layout {
+    /// The most bytes that a line has after its indentation by the level, where that can be.
+    pub width: usize,
+    /// The indentations of two spaces before each line.
+    pub level: u16,
+}
+
+impl Default for Layout {
+    /// Lines of at most 100 bytes, not indented.
+    fn default() -> Layout {
+        Layout { width: 100, level: 0 }
+    }
+}
+
+/// The query on one line. Queries that differ in nothing that means something have one line: the key of a cache.
+///
+/// # Errors
+///
+/// `Rejected` where the query is rejected, `OutOfMemory` where an allocation failed.
+pub fn canonical(query: &str) -> Result<String, Error> {
+    text_of(library::canonical(query))
+}
+
+/// The query, laid out over several lines where one would have more bytes than the layout's width.
+///
+/// # Errors
+///
+/// Those of [`canonical`].
+pub fn format(query: &str, layout: Layout) -> Result<String, Error> {
+    text_of(library::print(query, Mode::Pretty, layout.level, layout.width))
+}
+
+/// The tree of the query in its JSON form (`docs/reference/json.md` of the repository), without a space.
+///
+/// # Errors
+///
+/// Those of [`canonical`], and `NumberTooWide` where the query has no JSON form.
+pub fn json(query: &str) -> Result<String, Error> {
+    text_of(library::print(query, Mode::Json, 0, 0))
+}
+
+/// Returns where the query is accepted.
+///
+/// # Errors
+///
+/// Those of [`canonical`].
+pub fn check(query: &str) -> Result<(), Error> {
+    text_of(library::check(query)).map(drop)
+}
+
+/// The version of the library.
+pub fn version() -> String {
+    library::version().0
+}
+
+fn text_of((text, answer): (String, Answer)) -> Result<String, Error> {
+    match answer.status {
+        library::OK => Ok(text),
+        library::OUT_OF_MEMORY => Err(Error::OutOfMemory),
+        library::REJECTED => Err(Error::Rejected(Rejection {
+            message: text,
+            range: answer.start..answer.end,
+            line: answer.line,
+            column: answer.column,
+        })),
+        library::NUMBER_TOO_WIDE => Err(Error::NumberTooWide),
+        status => unreachable!("status {status}: {text}"),
+    }
+}

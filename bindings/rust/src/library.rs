@@ -1,0 +1,119 @@
+//! The calls of libpromql: promql.h says what each does.
+
+use std::ptr;
+
+/// `struct promql_result`.
+#[repr(C)]
+#[derive(Default)]
+pub struct Answer {
+    pub status: u32,
+    pub length: usize,
+    pub start: usize,
+    pub end: usize,
+    pub line: usize,
+    pub column: usize,
+}
+
+pub const OK: u32 = 0;
+pub const OUT_OF_MEMORY: u32 = 1;
+pub const REJECTED: u32 = 4;
+pub const NUMBER_TOO_WIDE: u32 = 6;
+
+/// Those of `enum promql_mode` that have no call of their own.
+#[derive(Clone, Copy)]
+pub enum Mode {
+    Pretty = 1,
+    Json = 2,
+}
+
+// Most texts of a query have fewer bytes.
+const FIRST_SIZE: usize = 1024;
+
+extern "C" {
+    fn promql_print(
+        query: *const u8,
+        query_length: usize,
+        mode: u32,
+        level: u32,
+        width: usize,
+        buffer: *mut u8,
+        buffer_size: usize,
+        result: *mut Answer,
+    ) -> u32;
+    fn promql_canonical(
+        query: *const u8,
+        query_length: usize,
+        buffer: *mut u8,
+        buffer_size: usize,
+        result: *mut Answer,
+    ) -> u32;
+    fn promql_check(
+        query: *const u8,
+        query_length: usize,
+        buffer: *mut u8,
+        buffer_size: usize,
+        result: *mut Answer,
+    ) -> u32;
+    fn promql_snippet(
+        query: *const u8,
+        query_length: usize,
+        start: usize,
+        end: usize,
+        buffer: *mut u8,
+        buffer_size: usize,
+        result: *mut Answer,
+    ) -> u32;
+    fn promql_version(buffer: *mut u8, buffer_size: usize, result: *mut Answer) -> u32;
+}
+
+/// A call's buffer, its size and its result.
+type Buffer = (*mut u8, usize, *mut Answer);
+
+/// Makes a call with a buffer that is large enough, and returns the text and the result.
+fn call(function: impl Fn(Buffer)) -> (String, Answer) {
+    let mut text = Vec::with_capacity(FIRST_SIZE);
+    loop {
+        let mut answer = Answer::default();
+        function((text.as_mut_ptr(), text.capacity(), ptr::addr_of_mut!(answer)));
+        if answer.length <= text.capacity() {
+            // SAFETY: the call wrote that many bytes at the start of the buffer.
+            unsafe { text.set_len(answer.length) };
+            let text = String::from_utf8(text).expect("the library writes UTF-8");
+            return (text, answer);
+        }
+        text.reserve_exact(answer.length);
+    }
+}
+
+// SAFETY of each call below: the pointers are those of slices that live through the call, and the buffer and the result are
+// borrowed alone.
+
+pub fn print(query: &str, mode: Mode, level: u16, width: usize) -> (String, Answer) {
+    call(|(buffer, size, answer)| unsafe {
+        promql_print(query.as_ptr(), query.len(), mode as u32, level.into(), width, buffer, size, answer);
+    })
+}
+
+pub fn canonical(query: &str) -> (String, Answer) {
+    call(|(buffer, size, answer)| unsafe {
+        promql_canonical(query.as_ptr(), query.len(), buffer, size, answer);
+    })
+}
+
+pub fn check(query: &str) -> (String, Answer) {
+    call(|(buffer, size, answer)| unsafe {
+        promql_check(query.as_ptr(), query.len(), buffer, size, answer);
+    })
+}
+
+pub fn snippet(query: &str, start: usize, end: usize) -> (String, Answer) {
+    call(|(buffer, size, answer)| unsafe {
+        promql_snippet(query.as_ptr(), query.len(), start, end, buffer, size, answer);
+    })
+}
+
+pub fn version() -> (String, Answer) {
+    call(|(buffer, size, answer)| unsafe {
+        promql_version(buffer, size, answer);
+    })
+}

@@ -1,0 +1,96 @@
+//! Each function, its errors, and calls side by side.
+
+use promql_proved::{Error, Layout, Rejection, canonical, check, format, json, version};
+use std::thread;
+
+const LONG: &str = r#"sum by (job) (rate(http_requests_total{code=~"5.."}[5m])) / on (job) up > 0.125"#;
+
+fn rejection(query: &str) -> Rejection {
+    match check(query) {
+        Err(Error::Rejected(rejection)) => rejection,
+        other => panic!("{query}: {other:?}"),
+    }
+}
+
+#[test]
+fn queries_are_printed_on_one_line() {
+    assert_eq!(canonical("1+(foo-2)").as_deref(), Ok("1 + (foo - 2)"));
+    assert_eq!(canonical(r#"{b="1",a='2'}"#).as_deref(), Ok(r#"{a="2",b="1"}"#));
+}
+
+#[test]
+fn long_texts_fit() {
+    let query = "foo".repeat(10_000);
+    assert!(canonical(&query) == Ok(query));
+}
+
+#[test]
+fn queries_are_laid_out() {
+    let narrow = Layout { width: 20, level: 1 };
+    let wanted = "  sum by (job) (\n    rate(foo[5m])\n  )";
+    assert_eq!(format("sum by (job) (rate(foo[5m]))", narrow).as_deref(), Ok(wanted));
+    assert_eq!(format("a+b", Layout::default()).as_deref(), Ok("a + b"));
+}
+
+#[test]
+fn trees_have_a_json_form() {
+    assert_eq!(json("1").as_deref(), Ok(r#"{"type":"numberLiteral","val":"1"}"#));
+    assert_eq!(json("foo[18446744073709551.616]"), Err(Error::NumberTooWide));
+}
+
+#[test]
+fn accepted_queries_are_checked() {
+    assert_eq!(check(LONG), Ok(()));
+    assert_eq!(canonical(LONG).as_deref(), Ok(LONG));
+}
+
+#[test]
+fn errors_have_places() {
+    let query = "up +\n rate({'foö'})";
+    let found = rejection(query);
+    assert_eq!(&query[found.range.clone()], "{'foö'}");
+    assert_eq!((found.line, found.column), (2, 7));
+    assert_eq!(found.message, "expected type matrix in call to function 'rate', got vector");
+    assert_eq!(found.snippet(query), " rate({'foö'})\n      ^~~~~~~");
+    let error = canonical(query).unwrap_err();
+    assert_eq!(error.to_string(), format!("2:7: {}", found.message));
+}
+
+#[test]
+fn the_end_of_a_query_is_a_place() {
+    assert_eq!(rejection("1 +").range, 3..3);
+    assert_eq!(rejection("").range, 0..0);
+}
+
+#[test]
+fn a_part_outside_of_the_query_is_shown() {
+    let mut found = rejection("1 +");
+    found.range = 90..80;
+    found.snippet("1 +");
+}
+
+#[test]
+fn versions_agree() {
+    assert_eq!(version(), env!("CARGO_PKG_VERSION"));
+}
+
+#[test]
+fn threads_get_the_same() {
+    let wanted = format(LONG, Layout { width: 30, level: 0 });
+    thread::scope(|scope| {
+        for _ in 0..8 {
+            scope.spawn(|| {
+                for _ in 0..500 {
+                    assert_eq!(format(LONG, Layout { width: 30, level: 0 }), wanted);
+                    assert_eq!(rejection("rate(foo)").range, 5..8);
+                }
+            });
+        }
+    });
+}
+
+#[test]
+fn errors_are_sent_to_other_threads() {
+    fn is_sent<T: std::error::Error + Send + Sync + 'static>() {}
+    is_sent::<Error>();
+}
