@@ -44,7 +44,7 @@ pub fn parse_aggregate(
         let args = parse_arguments(alloc, max_height, tokens)?;
         let grouping = parse_boxed_grouping(alloc, tokens)?;
         let extent = Extent::atom(start, tokens.index());
-        return Ok(build_aggregate(alloc, op, grouping, args, extent)?);
+        return Ok(build_aggregate(alloc, op, grouping, args, &extent)?);
     }
     if !starts_grouping(tokens) {
         return parse_selector(alloc, TokenKind::Aggregator(op), name, start, tokens);
@@ -53,7 +53,7 @@ pub fn parse_aggregate(
     tokens.expect(TokenKind::LeftParen)?;
     let args = parse_arguments(alloc, max_height, tokens)?;
     let extent = Extent::atom(start, tokens.index());
-    Ok(build_aggregate(alloc, op, grouping, args, extent)?)
+    Ok(build_aggregate(alloc, op, grouping, args, &extent)?)
 }
 
 /// Parses a grouping, if there is one, into a box: it may wait for the arguments.

@@ -55,7 +55,7 @@ pub fn parse_atom(
             tokens.bump();
             let matchers = parse_braces(alloc, tokens)?;
             let extent = Extent::atom(start, tokens.index());
-            Ok(build_braces(alloc, matchers, extent)?)
+            Ok(build_braces(alloc, matchers, &extent)?)
         }
         _ => parse_named(alloc, kind, text, tokens),
     }
@@ -130,5 +130,5 @@ fn parse_selector_braces(
 {
     let matchers = parse_braces(alloc, tokens)?;
     let extent = Extent::atom(start, tokens.index());
-    Ok(build_selector(alloc, name, matchers, extent)?)
+    Ok(build_selector(alloc, name, matchers, &extent)?)
 }

@@ -106,7 +106,7 @@ pub fn check_node(
     alloc: Global,
     expr: Box<Expr>,
     height: usize,
-    extent: Extent,
+    extent: &Extent,
 ) -> Result<ParsedExpr, AllocError>
     ensures value { IfOk result (λ parsed. tree_result parsed ≡ outcome (check_tree
         (tree_of expr.value))) }
@@ -128,7 +128,7 @@ fn check_result(
     alloc: Global,
     built: Result<Expr, CheckError>,
     height: usize,
-    extent: Extent,
+    extent: &Extent,
 ) -> Result<ParsedExpr, AllocError>
     ensures value { IfOk result (λ parsed. (verdict : Verdict) → GivesOrMemory built verdict
         → tree_result parsed ≡ (outcome verdict then λ t. outcome (check_tree t))) }
@@ -169,7 +169,7 @@ pub fn build_unary(
     alloc: Global,
     op: TokenId,
     operand: ParsedExpr,
-    extent: Extent,
+    extent: &Extent,
 ) -> Result<ParsedExpr, AllocError>
     requires { operand.height ≤ MAX_DEPTH }
     ensures built { IfOk result (λ parsed. (text : List ℕ) (d : grammar.Derivation)
@@ -198,7 +198,7 @@ pub fn build_binary(
     left: ParsedExpr,
     modifier: Pending<BinModifier>,
     right: ParsedExpr,
-    extent: Extent,
+    extent: &Extent,
 ) -> Result<ParsedExpr, AllocError>
     requires low_left { left.height ≤ MAX_DEPTH }
     requires low_right { right.height ≤ MAX_DEPTH }
@@ -251,7 +251,7 @@ fn build_modified_binary(
     rhs: Box<Expr>,
     modifier: Box<Result<BinModifier, BuildError>>,
     height: usize,
-    extent: Extent,
+    extent: &Extent,
 ) -> Result<ParsedExpr, AllocError>
     ensures value { IfOk result (λ parsed. (m : part.Modifier)
         → modifier_of (Some modifier) ≡ modifier_value m
@@ -281,7 +281,7 @@ pub fn build_call(
     alloc: Global,
     name: &str,
     args: ParsedArgs,
-    extent: Extent,
+    extent: &Extent,
 ) -> Result<ParsedExpr, AllocError>
     requires { args.height ≤ MAX_DEPTH }
     ensures built { IfOk result (λ parsed. (kind : kinds.TokenKind) (ds : grammar.Arguments)
@@ -317,7 +317,7 @@ pub fn build_aggregate(
     op: TokenId,
     clause: Pending<LabelModifier>,
     args: ParsedArgs,
-    extent: Extent,
+    extent: &Extent,
 ) -> Result<ParsedExpr, AllocError>
     requires { args.height ≤ MAX_DEPTH }
     ensures built { IfOk result (λ parsed. (text : List ℕ) (c : part.Clause)
@@ -401,7 +401,7 @@ pub fn build_postfix(
     alloc: Global,
     base: ParsedExpr,
     postfix: ParsedPostfix,
-    extent: Extent,
+    extent: &Extent,
 ) -> Result<ParsedExpr, AllocError>
     requires low_base { base.height ≤ MAX_DEPTH + 1 }
     requires low_postfix { postfix.added_height ≤ 1 }
@@ -427,7 +427,7 @@ fn apply_postfix(
     expr: Box<Expr>,
     postfix: Result<Postfix, BuildError>,
     height: usize,
-    extent: Extent,
+    extent: &Extent,
 ) -> Result<ParsedExpr, AllocError>
     ensures built { IfOk result (λ parsed. EndsIn (known (view_result change_of postfix) giving
         λ c. apply_change (tree_of expr.value) c) (tree_result parsed)) }

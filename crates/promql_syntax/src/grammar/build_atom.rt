@@ -87,7 +87,7 @@ pub fn build_selector(
     alloc: Global,
     name: &str,
     matchers: Result<Matchers, BuildError>,
-    extent: Extent,
+    extent: &Extent,
 ) -> Result<ParsedExpr, AllocError>
     ensures built { IfOk result (λ parsed. (kind : kinds.TokenKind) (braces : part.Braces)
         → IsBuiltBy plain_matchers_of matchers (braces_value braces)
@@ -108,7 +108,7 @@ pub fn build_selector(
 pub fn build_braces(
     alloc: Global,
     matchers: Result<Matchers, BuildError>,
-    extent: Extent,
+    extent: &Extent,
 ) -> Result<ParsedExpr, AllocError>
     ensures built { IfOk result (λ parsed. (braces : part.Braces)
         → IsBuiltBy plain_matchers_of matchers (braces_value braces)

@@ -45,7 +45,7 @@ pub fn parse_call(
     }
     let args = parse_arguments(alloc, max_height, tokens)?;
     let extent = Extent::atom(start, tokens.index());
-    Ok(build_call(alloc, name, args, extent)?)
+    Ok(build_call(alloc, name, args, &extent)?)
 }
 
 /// Parses arguments, after the opening parenthesis.

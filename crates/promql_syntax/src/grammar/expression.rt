@@ -68,7 +68,7 @@ pub fn parse_expression(
             right: right_start,
             end: tokens.index(),
         };
-        left = build_binary(alloc, op, left, modifier, right, extent)?;
+        left = build_binary(alloc, op, left, modifier, right, &extent)?;
         operator = extent.end;
     }
     Ok(left)
@@ -98,7 +98,7 @@ fn parse_unary(
         let operand_start = tokens.index();
         let operand = parse_expression(alloc, max_height, UNARY_PRECEDENCE, tokens)?;
         let extent = Extent::sign(start, operand_start, tokens.index());
-        return Ok(build_unary(alloc, op, operand, extent)?);
+        return Ok(build_unary(alloc, op, operand, &extent)?);
     }
     let base = parse_postfix_base(alloc, max_height, tokens)?;
     parse_postfixes(alloc, max_height + 1, base, start, tokens)
@@ -229,7 +229,7 @@ fn parse_some_postfixes(
             return Err(ReadError::TooDeep);
         }
         let extent = Extent::postfix(start, postfix_start, tokens.index());
-        parsed = build_postfix(alloc, parsed, postfix, extent)?;
+        parsed = build_postfix(alloc, parsed, postfix, &extent)?;
         postfix_start = extent.end;
     }
     Ok(parsed)

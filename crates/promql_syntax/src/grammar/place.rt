@@ -83,34 +83,34 @@ impl Extent {
         }
     }
 
-    fn whole(self) -> TokenRange {
+    fn whole(&self) -> TokenRange {
         TokenRange {
             start: self.start,
             end: self.end,
         }
     }
 
-    fn left(self) -> Place {
+    fn left(&self) -> Place {
         Place::tokens(self.start, self.operator)
     }
 
-    fn modifier(self) -> Place {
+    fn modifier(&self) -> Place {
         Place::tokens(self.modifier, self.right)
     }
 
     /// The right operand, or a node without operands.
-    pub fn right(self) -> Place {
+    pub fn right(&self) -> Place {
         Place::tokens(self.right, self.end)
     }
 
     /// The postfix.
-    pub fn after_base(self) -> Place {
+    pub fn after_base(&self) -> Place {
         Place::tokens(self.operator, self.end)
     }
 
     /// The part of the node that a check rejects.
     #[inline(never)]
-    pub fn place_of(self, fault: &CheckFault, expr: &Expr) -> Place {
+    pub fn place_of(&self, fault: &CheckFault, expr: &Expr) -> Place {
         match expr {
             Expr::Call(call) if is_type_fault(fault) => {
                 Place::Argument(self.whole(), mistyped_argument(call))
@@ -125,7 +125,7 @@ impl Extent {
         }
     }
 
-    fn place_in_binary(self, fault: &CheckFault, binary: &BinaryExpr) -> Place {
+    fn place_in_binary(&self, fault: &CheckFault, binary: &BinaryExpr) -> Place {
         match fault {
             CheckFault::BoolModifier
             | CheckFault::LabelTwice(_)
