@@ -1,6 +1,6 @@
 //! Laws: the contracts of functions that do nothing.
 
-ghost use Rattle.std.specs.Prelude.{◌≡◌, ◌≢◌, ◌&&◌, ℕ, codes};
+ghost use Rattle.std.specs.Prelude.{◌≡◌, ◌≢◌, ◌↔◌, ◌&&◌, ◌*◌, ◌<◌, ◌≤◌, [], false, ℕ, List, codes, map, true};
 ghost use Rattle.promql_text.specs.Texts.{Text};
 ghost use Rattle.promql_label.specs.Answers.{Answer};
 ghost use Rattle.promql_label.specs.PlainMatchers.{PlainMatcher, name_of};
@@ -13,9 +13,16 @@ ghost use Rattle.promql_ast.specs.Tree.{Tree};
 ghost use Rattle.promql_ast.specs.Typed.{Typed};
 ghost use Rattle.promql_ast.specs.Types.{type_of};
 ghost use Rattle.promql_syntax.specs.ParseAnswers.{HasTree};
+ghost use Rattle.promql_syntax.specs.declared.parser.TheConstants.{MAX_DEPTH};
+ghost use Rattle.promql_rewrite.specs.AddedParens.{AddsParens};
 ghost use Rattle.promql_rewrite.specs.Answered.{IsAnswered};
+ghost use Rattle.promql_rewrite.specs.Collecting.{IsSetOf, called_functions, named_labels, named_metrics};
 ghost use Rattle.promql_rewrite.specs.Enforcing.{enforced, enforced_selector};
-ghost use Rattle.promql_rewrite.specs.PrintableTrees.{IsPrintable};
+ghost use Rattle.promql_rewrite.specs.Everywhere.{Everywhere};
+ghost use Rattle.promql_rewrite.specs.Parenthesizing.{parenthesized};
+ghost use Rattle.promql_rewrite.specs.PrintableConditions.{HasParts, IsPlaced, IsPrintableAlone, PatternsAnswered};
+ghost use Rattle.promql_rewrite.specs.PrintableTrees.{IsPrintable, printed_height};
+ghost use Rattle.promql_rewrite.specs.Renaming.{Renaming, clashes, is_name, of_label, of_metric, renamed, renamed_selector, replaced};
 ghost use Rattle.promql_rewrite.specs.Selecting.{Series, allows, selects};
 
 /// Where a matcher is enforced, a selector selects exactly the series that it selected before and that the matcher allows.
@@ -62,3 +69,92 @@ pub fn parsed_trees_are_printable()
 {
     promql_ast::laws::checked_trees_are_typed();
 }
+
+/// The texts of a list, each once, in byte order, are one list.
+pub fn sets_are_one_list()
+    ensures { (texts xs ys : List Text) → IsSetOf texts xs → IsSetOf texts ys → xs ≡ ys }
+{}
+
+/// A selector in which a label is renamed selects exactly the series that the selector selects where it reads the new label
+/// for the old one.
+pub fn renamed_selectors_select()
+    ensures { (from to : Text) (s : Selector) (series : Series) → from ≢ codes "__name__"
+        → selects (renamed_selector (of_label from to) s) series
+        ≡ selects s (λ l. series (replaced from to l)) }
+{}
+
+/// A tree keeps its type and its height where a metric or a label is renamed. It stays well typed where a metric gets a name
+/// that is not empty, as no name of a metric is, and where two labels that no list has both are renamed.
+pub fn renamed_trees_are_typed()
+    ensures types { (r : Renaming) (t : Tree) → type_of (renamed r t) ≡ type_of t }
+    ensures heights { (r : Renaming) (t : Tree) → height (renamed r t) ≡ height t }
+    ensures labels { (from to : Text) (t : Tree) → from ≢ codes "__name__" → to ≢ codes "__name__"
+        → clashes from to t ≡ false → Typed t → Typed (renamed (of_label from to) t) }
+    ensures metrics { (from to : Text) (t : Tree) → to ≢ [] → Typed t
+        → Typed (renamed (of_metric from to) t) }
+    ensures names { (name : Text) → is_name name ≡ true → name ≢ [] }
+{}
+
+/// A printable tree is printable where two labels that no list has both are renamed: its texts mean it.
+pub fn renamed_trees_are_printable()
+    ensures { (g : Text → Answer) (from to : Text) (t : Tree)
+        → from ≢ codes "__name__" → to ≢ codes "__name__" → clashes from to t ≡ false
+        → IsPrintable g t → IsPrintable g (renamed (of_label from to) t) }
+{}
+
+/// Where the new name is the old one, nothing changes.
+pub fn renamed_to_itself()
+    ensures labels { (name : Text) (t : Tree) → renamed (of_label name name) t ≡ t }
+    ensures metrics { (name : Text) (t : Tree) → renamed (of_metric name name) t ≡ t }
+{}
+
+/// With one answer for each pattern, a tree is printable exactly if its line has its normal form: the rules of printable trees
+/// ask for no more than is needed.
+pub fn printable_trees_are_those_that_read_back()
+    ensures { (g : Text → Answer) (t : Tree) → HasTree g (text t) (normal t) ↔ IsPrintable g t }
+{
+    promql_ast::laws::checked_trees_are_typed();
+}
+
+/// A tree is printable exactly if it is so by itself, and each of its patterns is the one of its value.
+pub fn printable_trees_come_apart()
+    ensures { (g : Text → Answer) (t : Tree)
+        → IsPrintable g t ↔ (IsPrintableAlone t × Everywhere (PatternsAnswered g) t) }
+{}
+
+/// With parentheses where it needs them, a well typed tree whose nodes have what is printed as it is read is printable, if it
+/// is not too high then. It keeps its type, it stays well typed, and its height less than doubles.
+pub fn parenthesized_trees_are_printable()
+    ensures alone { (t : Tree) → Typed t → Everywhere HasParts t
+        → printed_height (parenthesized t) ≤ MAX_DEPTH
+        → IsPrintableAlone (parenthesized t) }
+    ensures printable { (g : Text → Answer) (t : Tree) → Typed t → Everywhere HasParts t → Everywhere (PatternsAnswered g) t
+        → printed_height (parenthesized t) ≤ MAX_DEPTH
+        → IsPrintable g (parenthesized t) }
+    ensures types { (t : Tree) → type_of (parenthesized t) ≡ type_of t }
+    ensures typed { (t : Tree) → Typed t → Typed (parenthesized t) }
+    ensures heights { (t : Tree) → printed_height (parenthesized t) < 2 * printed_height t }
+{}
+
+/// With parentheses where it needs them, a tree is well placed, and without those that were added it is the tree. No well
+/// placed tree that has parentheses more than the tree has fewer of them, and no other tree is such; to a tree that is well
+/// placed none are added.
+pub fn parentheses_are_fewest()
+    ensures placed { (t : Tree) → Everywhere IsPlaced (parenthesized t) }
+    ensures added { (t : Tree) → AddsParens t (parenthesized t) }
+    ensures fewest { (t u : Tree) → AddsParens t u → Everywhere IsPlaced u → AddsParens (parenthesized t) u }
+    ensures only { (t u : Tree) → AddsParens t u → Everywhere IsPlaced u
+        → ((v : Tree) → AddsParens t v → Everywhere IsPlaced v → AddsParens u v)
+        → u ≡ parenthesized t }
+    ensures unchanged { (t : Tree) → Everywhere IsPlaced t → parenthesized t ≡ t }
+{}
+
+/// The names of a renamed tree are those of the tree, with the new name for the old one.
+pub fn renamed_names()
+    ensures labels { (from to : Text) (t : Tree) → from ≢ codes "__name__" → to ≢ codes "__name__"
+        → named_labels (renamed (of_label from to) t) ≡ map (replaced from to) (named_labels t) }
+    ensures metrics { (from to : Text) (t : Tree)
+        → named_metrics (renamed (of_metric from to) t) ≡ map (replaced from to) (named_metrics t) }
+    ensures functions { (r : Renaming) (t : Tree)
+        → called_functions (renamed r t) ≡ called_functions t }
+{}

@@ -1,5 +1,5 @@
-//! Queries that tools change and still can trust: a matcher in every selector, and texts that mean the tree they were
-//! printed of. The rules are in docs/guide/rewriting.md.
+//! Queries that tools change and still can trust: a matcher in every selector, other names, texts that mean the tree they
+//! were printed of, and what a query names. The rules are in docs/guide/rewriting.md.
 //!
 //! ```text
 //! let tenant = Matcher::new(alloc, MatchOp::Equal, "namespace", "team-a")?;
@@ -8,9 +8,21 @@
 //! ```
 #![tactic(auto)]
 
+pub use collecting::{Collected, CollectedSelector, collect};
 pub use enforcing::{EnforceError, enforce, enforce_query};
 pub use faithful::{NotFaithful, faithful_line, faithful_pretty};
+pub use matcher_text::{MatcherError, enforce_text, read_matcher};
+pub use parenthesizing::parenthesized;
+pub use printable::{NotPrintable, is_printable, why_not_printable};
+pub use renaming::{RenameLabelError, RenameMetricError, rename_label, rename_metric};
 
+mod clashing;
+pub mod collecting;
 pub mod enforcing;
 pub mod faithful;
 pub mod laws;
+pub mod matcher_text;
+pub mod parenthesizing;
+pub mod printable;
+mod reasons;
+pub mod renaming;

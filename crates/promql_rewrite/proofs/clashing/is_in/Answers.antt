@@ -1,0 +1,13 @@
+use Rattle.std.proofs.Common.{◌∙◌, string_bytes, rules, tests}
+use Rattle.std.specs.Str.{bytes_eq}
+use Rattle.std.proofs.lemmas.Iterator.{YieldsList-from_slice}
+use Rattle.std.proofs.lemmas.Iterator.Search.{any_from_yields_List}
+use Rattle.promql_label.proofs.CommonLabels.{list_any-texts}
+use Rattle.promql_rewrite.proofs.clashing.is_in.Goals as goal
+
+pub returns : goal.returns
+returns c =
+    let label = c.args.label.now in
+    let labels = c.args.labels.now in
+    any_from_yields_List (λ x. bytes_eq label (string_bytes x)) _ _ c.any.result c.any.ensures.ran (YieldsList-from_slice labels cc) (λ x b q k. search (rules, tests))
+    ∙ list_any-texts (bytes_eq label) labels

@@ -1,0 +1,11 @@
+use Rattle.std.proofs.Common.{◌≡◌, ◌++◌, filter, map, string_bytes}
+use Rattle.promql_label.specs.MatcherViews.{plain_matcher_of}
+use Rattle.promql_label.specs.PlainMatchers.{value_of}
+use Rattle.promql_label.proofs.MatcherSearch.{rest_from}
+use Rattle.promql_rewrite.specs.Collecting.{is_metric_name}
+use Rattle.promql_rewrite.proofs.collecting.push_values.Given as goal
+
+abbrev pub invariant-loop-matcher : goal.invariant-loop-matcher
+invariant-loop-matcher l =
+    map string_bytes l.names.items ++ map value_of (filter is_metric_name (rest_from l.matchers l.matcher-index))
+    ≡ map string_bytes l.initial.names.items ++ map value_of (filter is_metric_name (map plain_matcher_of l.matchers))

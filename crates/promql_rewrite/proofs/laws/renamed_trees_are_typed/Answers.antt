@@ -1,0 +1,7 @@
+use Rattle.promql_rewrite.proofs.RenamedTrees.{label_typed, metric_typed}
+use Rattle.promql_rewrite.proofs.RenamedTypes.{height_renamed, type_renamed}
+use Rattle.promql_rewrite.proofs.SomeNames.{some_name}
+use Rattle.promql_rewrite.proofs.laws.renamed_trees_are_typed.Goals as goal
+
+pub returns : goal.returns
+returns c = record { types = type_renamed; heights = height_renamed; labels = label_typed; metrics = metric_typed; names = some_name }

@@ -1,0 +1,6 @@
+use Rattle.promql_ast.specs.View.{tree_of}
+use Rattle.promql_rewrite.proofs.ReasonsFound.{found_is_reason}
+use Rattle.promql_rewrite.proofs.printable.other_reason.Goals as goal
+
+pub returns-in-Some : goal.returns-in-Some
+returns-in-Some c = found_is_reason c.in-Some.reason (tree_of c.args.expr.now) c.in-Some.ensures

@@ -1,0 +1,118 @@
+-- What a query names (docs/guide/rewriting.md, "Collecting").
+use Rattle.std.specs.Prelude.{◌↔◌, ℕ, Bool, false, not, List, [], ◌∷◌, ◌++◌, Option, Some, None, codes, filter, map, option_map, option_to_list, string_bytes, unwrap_or}
+use Rattle.std.specs.Duration.{as_nanos}
+use Rattle.std.specs.List.{Contains, flat_map}
+use Rattle.std.specs.List.Sorted.{IsStrictlySortedBy}
+use Rattle.std.specs.Str.{bytes_eq}
+use Rattle.promql_text.specs.Texts.{Text}
+use Rattle.promql_label.specs.PlainMatchers.{PlainMatcher, plain_matcher, equal, every, matchers_text, name_of, value_of}
+use Rattle.promql_label.specs.SortedTexts.{text_order}
+use Rattle.promql_kind.specs.Functions.{name_of as function_name}
+use Rattle.promql_kind.specs.Modifiers.{Matching, matching, clause_labels, grouping}
+use Rattle.promql_ast.specs.Selectors.{Selector, selector}
+use Rattle.promql_ast.specs.Shifts.{Shift, shift_of, Moment, moment_of}
+use Rattle.promql_ast.specs.Tree.{Tree, aggregate, unary, binary, paren, subquery, number, string, vector, matrix, call, extension, MaybeTree, absent, present, Trees, no_trees, first_tree}
+use Rattle.promql_rewrite.specs.declared.collecting.CollectedSelector.{CollectedSelector}
+
+-- exactly the texts of the list, each once, in byte order
+pub record IsSetOf (texts set : List Text) : Type 0 where
+  pub same : (t : Text) → Contains texts t ↔ Contains set t
+  pub rising : IsStrictlySortedBy text_order set
+
+-- ---- the nodes of a tree
+
+-- the nodes within a node, in the order of the text, each before those within it
+abbrev mutual
+  pub nodes_within : Tree → List Tree
+  nodes_within (aggregate op e p m) = maybe_nodes p ++ (e ∷ nodes_within e)
+  nodes_within (unary e) = e ∷ nodes_within e
+  nodes_within (binary op l r m) = (l ∷ nodes_within l) ++ (r ∷ nodes_within r)
+  nodes_within (paren e) = e ∷ nodes_within e
+  nodes_within (subquery e offset at range step) = e ∷ nodes_within e
+  nodes_within (number n) = []
+  nodes_within (string s) = []
+  nodes_within (vector s) = []
+  nodes_within (matrix s range mode) = []
+  nodes_within (call f args) = all_nodes args
+  nodes_within (extension name gives es) = all_nodes es
+
+  pub maybe_nodes : MaybeTree → List Tree
+  maybe_nodes absent = []
+  maybe_nodes (present e) = e ∷ nodes_within e
+
+  pub all_nodes : Trees → List Tree
+  all_nodes no_trees = []
+  all_nodes (first_tree e es) = (e ∷ nodes_within e) ++ all_nodes es
+
+-- a node, and those within it
+abbrev pub nodes_of : Tree → List Tree
+nodes_of t = t ∷ nodes_within t
+
+-- ---- what one node names
+
+-- an equal matcher of `__name__` names a metric
+abbrev pub is_metric_name : PlainMatcher → Bool
+is_metric_name (plain_matcher equal name value) = bytes_eq name (codes "__name__")
+is_metric_name _ = false
+
+abbrev pub is_label_matcher : PlainMatcher → Bool
+is_label_matcher c = not (bytes_eq (name_of c) (codes "__name__"))
+
+-- the name before the braces, if there is one, and the values of the matchers that name a metric
+abbrev pub selector_metrics : Selector → List Text
+selector_metrics (selector name cs offset at) = option_to_list name ++ map value_of (filter is_metric_name (every cs))
+
+abbrev pub own_metrics : Tree → List Text
+own_metrics (vector s) = selector_metrics s
+own_metrics (matrix s range mode) = selector_metrics s
+own_metrics _ = []
+
+-- the labels of the matchers, but `__name__`
+abbrev pub selector_labels : Selector → List Text
+selector_labels (selector name cs offset at) = map name_of (filter is_label_matcher (every cs))
+
+-- the labels after `on` or `ignoring`, then those after `group_left` or `group_right`
+abbrev pub matching_labels : Matching → List Text
+matching_labels (matching card clause return_bool values) = unwrap_or (option_map clause_labels clause) [] ++ unwrap_or (grouping card) []
+
+-- of an aggregation the labels after `by` or `without`
+abbrev pub own_labels : Tree → List Text
+own_labels (aggregate op e p m) = unwrap_or (option_map clause_labels m) []
+own_labels (binary op l r m) = unwrap_or (option_map matching_labels m) []
+own_labels (vector s) = selector_labels s
+own_labels (matrix s range mode) = selector_labels s
+own_labels _ = []
+
+abbrev pub own_functions : Tree → List Text
+own_functions (call f args) = function_name f ∷ []
+own_functions _ = []
+
+-- a selector as it is collected: the name before its braces, its matchers as they print, its range in nanoseconds, `offset` and `@`
+pub data Selection : Type 0 where
+  selected : Option Text → Text → Option ℕ → Option Shift → Option Moment → Selection
+
+abbrev pub selection : Selector → Option ℕ → Selection
+selection (selector name cs offset at) range = selected name (matchers_text cs) range offset at
+
+abbrev pub own_selectors : Tree → List Selection
+own_selectors (vector s) = selection s None ∷ []
+own_selectors (matrix s range mode) = selection s (Some range) ∷ []
+own_selectors _ = []
+
+-- what contracts see of a collected selector
+abbrev pub selected_of : CollectedSelector → Selection
+selected_of s = selected (option_map string_bytes s.name) (string_bytes s.matchers) (option_map as_nanos s.range) (option_map shift_of s.offset) (option_map moment_of s.at)
+
+-- ---- what a query names, node by node
+
+abbrev pub named_metrics : Tree → List Text
+named_metrics t = flat_map own_metrics (nodes_of t)
+
+abbrev pub named_labels : Tree → List Text
+named_labels t = flat_map own_labels (nodes_of t)
+
+abbrev pub called_functions : Tree → List Text
+called_functions t = flat_map own_functions (nodes_of t)
+
+abbrev pub found_selectors : Tree → List Selection
+found_selectors t = flat_map own_selectors (nodes_of t)

@@ -1,0 +1,132 @@
+//! Matchers that are given as texts: docs/guide/rewriting.md, "Matchers from texts".
+
+ghost use Rattle.std.specs.Prelude.{◌≡◌, ◌≢◌, IfErr, IfOk, codes, option_map, string_bytes};
+ghost use Rattle.promql_ast.specs.View.{tree_of};
+ghost use Rattle.promql_label.specs.MatcherViews.{plain_matcher_of};
+ghost use Rattle.promql_label.specs.PlainMatchers.{name_of};
+ghost use Rattle.promql_rewrite.specs.MatcherTexts.{HasMatcherAfter, IsCopyFault, IsEnforcedBy, IsMatcherFault, IsMatcherText, IsSecondMatcher, selector_around};
+
+use crate::enforcing::{EnforceError, enforce};
+use promql_ast::Expr;
+use promql_label::{METRIC_NAME, Matcher};
+use promql_syntax::parser::{ParseError, parse};
+use std::alloc::{AllocError, Global};
+use thiserror::Error;
+
+/// Why a text gives no matcher to enforce.
+#[derive(PartialEq, Eq, Debug, Drop, Error)]
+pub enum MatcherError {
+    /// An allocation failed.
+    #[error("out of memory")]
+    Memory,
+    /// The text is not one matcher as it stands between braces.
+    #[error("not a matcher")]
+    NotAMatcher,
+    /// The matcher is of the metric's name, which a selector has before its braces.
+    #[error("a matcher of the metric name cannot be enforced")]
+    MetricName,
+}
+
+impl From<AllocError> for MatcherError {
+    ghost use Rattle.std.specs.Prelude.{◌≡◌};
+    ghost use Rattle.promql_rewrite.specs.declared.matcher_text.MatcherError.TheVariants.{Memory};
+
+    ghost from_gives = { λ _ e. e ≡ Memory };
+
+    fn from(_e: AllocError) -> MatcherError {
+        MatcherError::Memory
+    }
+}
+
+/// The text between the braces of a selector, after a matcher: one that matches the empty text may not stand alone. The line feed
+/// ends a comment.
+fn selector_text(alloc: Global, text: &str) -> Result<String, AllocError>
+    ensures { IfOk result (λ s. string_bytes s ≡ selector_around text.now) }
+{
+    let mut selector = String::new(alloc);
+    selector.push_str("{x=\"y\",")?;
+    selector.push_str(text)?;
+    selector.push_str("\n}")?;
+    Ok(selector)
+}
+
+/// The second matcher of a selector that has two, without or-groups, `offset` and `@`.
+fn second_matcher(expr: &Expr) -> Option<&Matcher>
+    ensures { IsSecondMatcher (tree_of expr.now) (option_map (λ m. plain_matcher_of m.now) result) }
+{
+    let Expr::VectorSelector(selector) = expr else {
+        return None;
+    };
+    if selector.offset.is_some() || selector.at.is_some() {
+        return None;
+    }
+    if !selector.matchers.or_matchers.as_slice().is_empty() {
+        return None;
+    }
+    match selector.matchers.matchers.as_slice() {
+        [_, matcher] => Some(matcher),
+        _ => None,
+    }
+}
+
+/// The matcher that a text is, as it stands between the braces of a selector: `namespace="team-a"`, say.
+///
+/// # Errors
+///
+/// `NotAMatcher` where the text is not one matcher: several of them, none, or no such text at all; `MetricName` where it is one
+/// of the label `__name__`; `Memory` where an allocation failed.
+pub fn read_matcher(alloc: Global, text: &str) -> Result<Matcher, MatcherError>
+    ensures ok { IfOk result (λ m. IsMatcherText text.now (plain_matcher_of m)) }
+    ensures name { IfOk result (λ m. name_of (plain_matcher_of m) ≢ codes "__name__") }
+    ensures errors { IfErr result (λ e. e ≢ MatcherError.Memory → IsMatcherFault text.now e) }
+{
+    let selector = selector_text(alloc, text)?;
+    let expr = match parse(alloc, selector.as_str()) {
+        Ok(expr) => expr,
+        Err(ParseError::Memory) => return Err(MatcherError::Memory),
+        Err(_) => return Err(MatcherError::NotAMatcher),
+    };
+    let matcher = copied_matcher(alloc, &expr);
+    drop(expr);
+    matcher
+}
+
+/// A copy of the second matcher of a selector.
+fn copied_matcher(alloc: Global, expr: &Expr) -> Result<Matcher, MatcherError>
+    ensures ok { IfOk result (λ m. HasMatcherAfter (tree_of expr.now) (plain_matcher_of m)) }
+    ensures name { IfOk result (λ m. name_of (plain_matcher_of m) ≢ codes "__name__") }
+    ensures errors { IfErr result (IsCopyFault (tree_of expr.now)) }
+{
+    let Some(matcher) = second_matcher(expr) else {
+        return Err(MatcherError::NotAMatcher);
+    };
+    if matcher.name.as_str() == METRIC_NAME {
+        return Err(MatcherError::MetricName);
+    }
+    Ok(matcher.try_clone(alloc)?)
+}
+
+/// The expression with the matcher of a text in every selector, as [`enforce`] puts it there.
+///
+/// # Errors
+///
+/// Those of [`read_matcher`]; `Memory` where an allocation failed.
+pub fn enforce_text(alloc: Global, expr: Expr, text: &str) -> Result<Expr, MatcherError>
+    ensures ok { IfOk result (λ e. IsEnforcedBy text.now (tree_of expr) (tree_of e)) }
+    ensures errors { IfErr result (λ e. e ≢ MatcherError.Memory → IsMatcherFault text.now e) }
+{
+    let matcher = match read_matcher(alloc, text) {
+        Ok(matcher) => matcher,
+        Err(error) => {
+            drop(expr);
+            return Err(error);
+        }
+    };
+    match enforce(alloc, expr, &matcher) {
+        Ok(enforced) => Ok(enforced),
+        Err(EnforceError::Memory) => Err(MatcherError::Memory),
+        Err(EnforceError::MetricName | EnforceError::Parse(_) | EnforceError::Unfaithful(_)) => {
+            unreachable!()
+        }
+    }
+}

@@ -1,0 +1,521 @@
+//! A metric or a label by another name: docs/guide/rewriting.md, "Renaming".
+
+ghost use Rattle.std.specs.Prelude.{◌≡◌, ◌↔◌, ◌&&◌, ◌||◌, IfOk, IsErrOf, OnOk, false, map, not, option_map, string_bytes, true};
+ghost use Rattle.promql_token.specs.Cursor.{ends_in_fault, tokens_left};
+ghost use Rattle.promql_label.specs.Labels.{labels_of};
+ghost use Rattle.promql_label.specs.MatcherViews.{plain_matcher_of, plain_matchers_of};
+ghost use Rattle.promql_kind.specs.ModifierViews.{cardinality_of, clause_of, matching_of};
+ghost use Rattle.promql_ast.specs.View.{aggregate_tree, binary_tree, call_tree, extension_tree, selector_of, tree_of};
+ghost use Rattle.promql_rewrite.specs.Renaming.{clashes, is_metric_label, is_name, is_name_token, of_label, of_metric, renamed, renamed_cardinality, renamed_clause, renamed_labels, renamed_matcher, renamed_matchers, renamed_matching, renamed_name, renamed_selector, replaced};
+ghost use Rattle.promql_rewrite.specs.Renamings.{is_nothing, renaming_of};
+
+use crate::clashing::has_clash;
+use crate::collecting::is_metric_name;
+use promql_ast::{AggregateExpr, BinaryExpr, Call, Expr, Extension, VectorSelector};
+use promql_grammar::token_kind;
+use promql_kind::{BinModifier, LabelModifier, VectorMatchCardinality};
+use promql_label::{Labels, METRIC_NAME, Matcher, Matchers};
+use promql_token::TokenId;
+use promql_token::cursor::Cursor;
+use std::alloc::{AllocError, Global};
+use thiserror::Error;
+
+/// Why a label was not renamed.
+#[derive(PartialEq, Eq, Debug, Drop, Error)]
+pub enum RenameLabelError {
+    /// An allocation failed.
+    #[error("out of memory")]
+    Memory,
+    /// The old name or the new one is `__name__`, which names no label but the metric.
+    #[error("the label of the metric name cannot be renamed")]
+    MetricName,
+    /// Both names are in the matchers of one selector, or in the lists of one aggregation or of one operator.
+    #[error("both labels are in one list")]
+    Clash,
+}
+
+impl From<AllocError> for RenameLabelError {
+    ghost use Rattle.std.specs.Prelude.{◌≡◌};
+    ghost use Rattle.promql_rewrite.specs.declared.renaming.RenameLabelError.TheVariants.{Memory};
+
+    ghost from_gives = { λ _ e. e ≡ Memory };
+
+    fn from(_e: AllocError) -> RenameLabelError {
+        RenameLabelError::Memory
+    }
+}
+
+/// Why a metric was not renamed.
+#[derive(PartialEq, Eq, Debug, Drop, Error)]
+pub enum RenameMetricError {
+    /// An allocation failed.
+    #[error("out of memory")]
+    Memory,
+    /// The new name is no word that may be before braces.
+    #[error("the new name is no name of a metric")]
+    NotAName,
+}
+
+impl From<AllocError> for RenameMetricError {
+    ghost use Rattle.std.specs.Prelude.{◌≡◌};
+    ghost use Rattle.promql_rewrite.specs.declared.renaming.RenameMetricError.TheVariants.{Memory};
+
+    ghost from_gives = { λ _ e. e ≡ Memory };
+
+    fn from(_e: AllocError) -> RenameMetricError {
+        RenameMetricError::Memory
+    }
+}
+
+/// What is renamed.
+#[derive(Clone, Copy)]
+enum Named {
+    Metric,
+    Label,
+}
+
+/// The old name and the new one.
+#[derive(Clone, Copy)]
+struct Renaming<'a> {
+    named: Named,
+    from: &'a str,
+    to: &'a str,
+}
+
+/// The expression with another name for a label: in matchers and after `by`, `without`, `on`, `ignoring`, `group_left` and
+/// `group_right`. Strings stay as they are, also those that name labels, as in `label_replace`.
+///
+/// # Errors
+///
+/// `MetricName` exactly where one of the names is `__name__`; otherwise `Clash` exactly where the names differ, and both are
+/// in the matchers of one selector, after the `by` or `without` of one aggregation, or in the lists of one operator;
+/// `Memory` where an allocation failed.
+pub fn rename_label(
+    alloc: Global,
+    expr: Expr,
+    from: &str,
+    to: &str,
+) -> Result<Expr, RenameLabelError>
+    ensures ok { IfOk result (λ e.
+        tree_of e ≡ renamed (of_label from.now to.now) (tree_of expr)) }
+    ensures name { IsErrOf result RenameLabelError.MetricName
+        ↔ (is_metric_label from.now || is_metric_label to.now ≡ true) }
+    ensures clash { IsErrOf result RenameLabelError.Clash
+        ↔ ((is_metric_label from.now || is_metric_label to.now ≡ false)
+        × (clashes from.now to.now (tree_of expr) ≡ true)) }
+{
+    if from == METRIC_NAME || to == METRIC_NAME {
+        drop(expr);
+        return Err(RenameLabelError::MetricName);
+    }
+    if from != to && has_clash(&expr, from, to) {
+        drop(expr);
+        return Err(RenameLabelError::Clash);
+    }
+    let mut expr = expr;
+    let renaming = Renaming {
+        named: Named::Label,
+        from,
+        to,
+    };
+    match rename_expr(alloc, &mut expr, &renaming) {
+        Ok(()) => Ok(expr),
+        Err(error) => {
+            drop(expr);
+            Err(RenameLabelError::from(error))
+        }
+    }
+}
+
+/// The expression with another name for a metric: before braces, and in equal matchers of `__name__`. Patterns and unequal
+/// matchers of `__name__` stay as they are.
+///
+/// # Errors
+///
+/// `NotAName` exactly where the new name is no word that the grammar takes for the name of a metric, as `a.b` and `bool`;
+/// `Memory` where an allocation failed.
+pub fn rename_metric(
+    alloc: Global,
+    expr: Expr,
+    from: &str,
+    to: &str,
+) -> Result<Expr, RenameMetricError>
+    ensures ok { IfOk result (λ e.
+        tree_of e ≡ renamed (of_metric from.now to.now) (tree_of expr)) }
+    ensures name { IsErrOf result RenameMetricError.NotAName ↔ (is_name to.now ≡ false) }
+{
+    if !is_name(to) {
+        drop(expr);
+        return Err(RenameMetricError::NotAName);
+    }
+    let mut expr = expr;
+    let renaming = Renaming {
+        named: Named::Metric,
+        from,
+        to,
+    };
+    match rename_expr(alloc, &mut expr, &renaming) {
+        Ok(()) => Ok(expr),
+        Err(error) => {
+            drop(expr);
+            Err(RenameMetricError::from(error))
+        }
+    }
+}
+
+/// Whether the text is a word that may be before braces.
+fn is_name(text: &str) -> bool
+    ensures { result ≡ is_name text.now }
+{
+    let mut tokens = Cursor::new(text);
+    match tokens.next() {
+        Some((id, word)) => is_name_token(id, word, text) && is_at_end(&mut tokens),
+        None => false,
+    }
+}
+
+/// Whether the token is all of the text, and may be before braces.
+fn is_name_token(id: TokenId, word: &str, text: &str) -> bool
+    ensures { result ≡ is_name_token id word.now text.now }
+{
+    word == text && token_kind(id).may_be_name()
+}
+
+/// Whether neither a token nor a fault is left.
+fn is_at_end(tokens: &mut Cursor<'_>) -> bool
+    ensures { result ≡ (is_nothing (tokens_left tokens.old) && not (ends_in_fault tokens.old)) }
+{
+    match tokens.next() {
+        Some(_) => false,
+        None => !tokens.is_at_fault(),
+    }
+}
+
+/// Renames in every node. Where an allocation fails, some names may be the new one.
+#[cycle(rename)]
+#[tactic(auto, using(promql_ast::proofs::NodeParts::tree_of_call, promql_ast::proofs::NodeParts::tree_of_extension, promql_ast::proofs::NodeParts::tree_of_aggregate))]
+fn rename_expr(alloc: Global, expr: &mut Expr, renaming: &Renaming<'_>) -> Result<(), AllocError>
+    ensures { OnOk result
+        (tree_of expr.new ≡ renamed (renaming_of renaming.now) (tree_of expr.old)) }
+{
+    match expr {
+        Expr::Aggregate(e) => rename_aggregate(alloc, e, renaming),
+        Expr::Unary(e) => rename_expr(alloc, &mut e.expr, renaming),
+        Expr::Binary(e) => rename_binary(alloc, e, renaming),
+        Expr::Paren(e) => rename_expr(alloc, &mut e.expr, renaming),
+        Expr::Subquery(e) => rename_expr(alloc, &mut e.expr, renaming),
+        Expr::NumberLiteral(_) => Ok(()),
+        Expr::StringLiteral(_) => Ok(()),
+        Expr::VectorSelector(e) => rename_selector(alloc, e, renaming),
+        Expr::MatrixSelector(e) => rename_selector(alloc, &mut e.vs, renaming),
+        Expr::Call(e) => rename_call(alloc, e, renaming),
+        Expr::Extension(e) => rename_extension(alloc, e, renaming),
+    }
+}
+
+#[cycle(rename)]
+fn rename_aggregate(
+    alloc: Global,
+    node: &mut AggregateExpr,
+    renaming: &Renaming<'_>,
+) -> Result<(), AllocError>
+    ensures { OnOk result (aggregate_tree node.new
+        ≡ renamed (renaming_of renaming.now) (aggregate_tree node.old)) }
+{
+    rename_clause(alloc, &mut node.modifier, renaming)?;
+    if let Some(param) = &mut node.param {
+        rename_expr(alloc, param, renaming)?;
+    }
+    rename_expr(alloc, &mut node.expr, renaming)
+}
+
+#[cycle(rename)]
+fn rename_binary(
+    alloc: Global,
+    node: &mut BinaryExpr,
+    renaming: &Renaming<'_>,
+) -> Result<(), AllocError>
+    ensures { OnOk result (binary_tree node.new
+        ≡ renamed (renaming_of renaming.now) (binary_tree node.old)) }
+{
+    rename_modifier(alloc, &mut node.modifier, renaming)?;
+    rename_expr(alloc, &mut node.lhs, renaming)?;
+    rename_expr(alloc, &mut node.rhs, renaming)
+}
+
+#[cycle(rename)]
+fn rename_call(alloc: Global, node: &mut Call, renaming: &Renaming<'_>) -> Result<(), AllocError>
+    ensures { OnOk result (call_tree node.new
+        ≡ renamed (renaming_of renaming.now) (call_tree node.old)) }
+{
+    rename_args(alloc, node.args.args.as_mut_slice(), renaming)
+}
+
+#[cycle(rename)]
+fn rename_args(
+    alloc: Global,
+    args: &mut [Box<Expr>],
+    renaming: &Renaming<'_>,
+) -> Result<(), AllocError>
+    ensures { OnOk result (map (λ b. tree_of b.value) args.new
+        ≡ map (λ b. renamed (renaming_of renaming.now) (tree_of b.value)) args.old) }
+{
+    for i in 0..args.len() {
+        rename_expr(alloc, &mut args[i], renaming)?;
+    }
+    Ok(())
+}
+
+#[cycle(rename)]
+fn rename_extension(
+    alloc: Global,
+    node: &mut Extension,
+    renaming: &Renaming<'_>,
+) -> Result<(), AllocError>
+    ensures { OnOk result (extension_tree node.new
+        ≡ renamed (renaming_of renaming.now) (extension_tree node.old)) }
+{
+    rename_children(alloc, node.children.as_mut_slice(), renaming)
+}
+
+#[cycle(rename)]
+fn rename_children(
+    alloc: Global,
+    children: &mut [Expr],
+    renaming: &Renaming<'_>,
+) -> Result<(), AllocError>
+    ensures { OnOk result (map tree_of children.new
+        ≡ map (λ e. renamed (renaming_of renaming.now) (tree_of e)) children.old) }
+{
+    for i in 0..children.len() {
+        rename_expr(alloc, &mut children[i], renaming)?;
+    }
+    Ok(())
+}
+
+fn rename_selector(
+    alloc: Global,
+    selector: &mut VectorSelector,
+    renaming: &Renaming<'_>,
+) -> Result<(), AllocError>
+    ensures { OnOk result (selector_of selector.new
+        ≡ renamed_selector (renaming_of renaming.now) (selector_of selector.old)) }
+{
+    rename_name(alloc, &mut selector.name, renaming)?;
+    rename_matchers(alloc, &mut selector.matchers, renaming)
+}
+
+/// Renames the name before the braces, if a metric is renamed.
+fn rename_name(
+    alloc: Global,
+    name: &mut Option<String>,
+    renaming: &Renaming<'_>,
+) -> Result<(), AllocError>
+    ensures { OnOk result (option_map string_bytes name.new
+        ≡ renamed_name (renaming_of renaming.now) (option_map string_bytes name.old)) }
+{
+    match renaming.named {
+        Named::Metric => replace_optional(alloc, name, renaming),
+        Named::Label => Ok(()),
+    }
+}
+
+fn replace_optional(
+    alloc: Global,
+    name: &mut Option<String>,
+    renaming: &Renaming<'_>,
+) -> Result<(), AllocError>
+    ensures { OnOk result (option_map string_bytes name.new
+        ≡ option_map (replaced renaming.now.from.now renaming.now.to.now)
+        (option_map string_bytes name.old)) }
+{
+    match name {
+        Some(name) => replace(alloc, name, renaming),
+        None => Ok(()),
+    }
+}
+
+/// Puts the new name for the old one.
+fn replace(alloc: Global, name: &mut String, renaming: &Renaming<'_>) -> Result<(), AllocError>
+    ensures { OnOk result (string_bytes name.new
+        ≡ replaced renaming.now.from.now renaming.now.to.now (string_bytes name.old)) }
+{
+    if name.as_str() == renaming.from {
+        *name = String::from_str(alloc, renaming.to)?;
+    }
+    Ok(())
+}
+
+/// Renames in the list, and in each or-group.
+fn rename_matchers(
+    alloc: Global,
+    matchers: &mut Matchers,
+    renaming: &Renaming<'_>,
+) -> Result<(), AllocError>
+    ensures { OnOk result (plain_matchers_of matchers.new
+        ≡ renamed_matchers (renaming_of renaming.now) (plain_matchers_of matchers.old)) }
+{
+    rename_list(alloc, &mut matchers.matchers, renaming)?;
+    rename_groups(alloc, &mut matchers.or_matchers, renaming)
+}
+
+fn rename_groups(
+    alloc: Global,
+    groups: &mut [Vec<Matcher>],
+    renaming: &Renaming<'_>,
+) -> Result<(), AllocError>
+    ensures { OnOk result (map (λ g. map plain_matcher_of g.items) groups.new
+        ≡ map (λ g. map (renamed_matcher (renaming_of renaming.now))
+        (map plain_matcher_of g.items)) groups.old) }
+{
+    for i in 0..groups.len() {
+        rename_list(alloc, &mut groups[i], renaming)?;
+    }
+    Ok(())
+}
+
+fn rename_list(
+    alloc: Global,
+    matchers: &mut Vec<Matcher>,
+    renaming: &Renaming<'_>,
+) -> Result<(), AllocError>
+    ensures { OnOk result (map plain_matcher_of matchers.new.items
+        ≡ map (renamed_matcher (renaming_of renaming.now)) (map plain_matcher_of matchers.old.items)) }
+{
+    rename_each(alloc, matchers.as_mut_slice(), renaming)
+}
+
+fn rename_each(
+    alloc: Global,
+    matchers: &mut [Matcher],
+    renaming: &Renaming<'_>,
+) -> Result<(), AllocError>
+    ensures { OnOk result (map plain_matcher_of matchers.new
+        ≡ map (λ m. renamed_matcher (renaming_of renaming.now) (plain_matcher_of m)) matchers.old) }
+{
+    for i in 0..matchers.len() {
+        rename_matcher(alloc, &mut matchers[i], renaming)?;
+    }
+    Ok(())
+}
+
+/// Renames the value of a matcher that names a metric, or the label.
+fn rename_matcher(
+    alloc: Global,
+    matcher: &mut Matcher,
+    renaming: &Renaming<'_>,
+) -> Result<(), AllocError>
+    ensures { OnOk result (plain_matcher_of matcher.new
+        ≡ renamed_matcher (renaming_of renaming.now) (plain_matcher_of matcher.old)) }
+{
+    match renaming.named {
+        Named::Metric => {
+            if is_metric_name(matcher) {
+                replace(alloc, &mut matcher.value, renaming)
+            } else {
+                Ok(())
+            }
+        }
+        Named::Label => replace(alloc, &mut matcher.name, renaming),
+    }
+}
+
+/// Renames after `by`, `without`, `on` or `ignoring`, if there is one of them.
+fn rename_clause(
+    alloc: Global,
+    clause: &mut Option<LabelModifier>,
+    renaming: &Renaming<'_>,
+) -> Result<(), AllocError>
+    ensures { OnOk result (option_map clause_of clause.new
+        ≡ option_map (renamed_clause (renaming_of renaming.now)) (option_map clause_of clause.old)) }
+{
+    match clause {
+        Some(LabelModifier::Include(labels)) => rename_labels(alloc, labels, renaming),
+        Some(LabelModifier::Exclude(labels)) => rename_labels(alloc, labels, renaming),
+        None => Ok(()),
+    }
+}
+
+/// Renames in the modifier of an operator, if there is one.
+fn rename_modifier(
+    alloc: Global,
+    modifier: &mut Option<BinModifier>,
+    renaming: &Renaming<'_>,
+) -> Result<(), AllocError>
+    ensures { OnOk result (option_map matching_of modifier.new
+        ≡ option_map (renamed_matching (renaming_of renaming.now)) (option_map matching_of modifier.old)) }
+{
+    match modifier {
+        Some(modifier) => rename_matching(alloc, modifier, renaming),
+        None => Ok(()),
+    }
+}
+
+fn rename_matching(
+    alloc: Global,
+    modifier: &mut BinModifier,
+    renaming: &Renaming<'_>,
+) -> Result<(), AllocError>
+    ensures { OnOk result (matching_of modifier.new
+        ≡ renamed_matching (renaming_of renaming.now) (matching_of modifier.old)) }
+{
+    rename_clause(alloc, &mut modifier.matching, renaming)?;
+    rename_cardinality(alloc, &mut modifier.card, renaming)
+}
+
+/// Renames after `group_left` or `group_right`.
+fn rename_cardinality(
+    alloc: Global,
+    card: &mut VectorMatchCardinality,
+    renaming: &Renaming<'_>,
+) -> Result<(), AllocError>
+    ensures { OnOk result (cardinality_of card.new
+        ≡ renamed_cardinality (renaming_of renaming.now) (cardinality_of card.old)) }
+{
+    match card {
+        VectorMatchCardinality::OneToOne => Ok(()),
+        VectorMatchCardinality::ManyToOne(labels) => rename_labels(alloc, labels, renaming),
+        VectorMatchCardinality::OneToMany(labels) => rename_labels(alloc, labels, renaming),
+        VectorMatchCardinality::ManyToMany => Ok(()),
+    }
+}
+
+/// Renames in a list of labels, if a label is renamed.
+fn rename_labels(
+    alloc: Global,
+    labels: &mut Labels,
+    renaming: &Renaming<'_>,
+) -> Result<(), AllocError>
+    ensures { OnOk result (labels_of labels.new
+        ≡ renamed_labels (renaming_of renaming.now) (labels_of labels.old)) }
+{
+    match renaming.named {
+        Named::Metric => Ok(()),
+        Named::Label => replace_all(alloc, &mut labels.labels, renaming),
+    }
+}
+
+fn replace_all(
+    alloc: Global,
+    names: &mut Vec<String>,
+    renaming: &Renaming<'_>,
+) -> Result<(), AllocError>
+    ensures { OnOk result (map string_bytes names.new.items
+        ≡ map (replaced renaming.now.from.now renaming.now.to.now) (map string_bytes names.old.items)) }
+{
+    replace_each(alloc, names.as_mut_slice(), renaming)
+}
+
+fn replace_each(
+    alloc: Global,
+    names: &mut [String],
+    renaming: &Renaming<'_>,
+) -> Result<(), AllocError>
+    ensures { OnOk result (map string_bytes names.new
+        ≡ map (λ s. replaced renaming.now.from.now renaming.now.to.now (string_bytes s)) names.old) }
+{
+    for i in 0..names.len() {
+        replace(alloc, &mut names[i], renaming)?;
+    }
+    Ok(())
+}
