@@ -1,4 +1,4 @@
-//! The tests of queries that are changed.
+//! The tests of queries that are changed, and of what queries name.
 #![tactic(auto)]
 
 #[cfg(test)]

@@ -1,4 +1,9 @@
-//! Each query with its line once a matcher is enforced; texts that mean a tree, and trees that no text means.
+//! Each query with its line once a matcher is enforced, or a name is another one, and with what it names; texts that mean a tree, and
+//! trees that no text means; trees with parentheses where they need them.
 
+mod collecting;
 mod enforcing;
 mod faithful;
+mod parenthesizing;
+mod printable;
+mod renaming;
