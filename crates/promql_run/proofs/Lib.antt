@@ -1,4 +1,5 @@
 pub mod Batches
+pub mod EnforcedTrees
 pub mod NoExtensions
 pub mod JsonForms
 pub mod Indentations

@@ -14,15 +14,17 @@ use Rattle.promql_syntax.specs.ParseAnswers.{IsAnswerTo}
 use Rattle.promql_walk.specs.Json.{json}
 use Rattle.promql_walk.specs.declared.json_error.JsonError.{JsonError}
 use Rattle.promql_walk.specs.declared.json_error.JsonError.TheVariants.{NumberTooWide}
+use Rattle.promql_rewrite.specs.MatcherTexts.{IsEnforcedBy, IsMatcherFault}
+use Rattle.promql_rewrite.specs.declared.matcher_text.MatcherError.{MatcherError}
 use Rattle.promql_run.specs.declared.line.LineError.{LineError}
-use Rattle.promql_run.specs.declared.line.LineError.TheVariants.{Run, Rejected, NotARequest}
+use Rattle.promql_run.specs.declared.line.LineError.TheVariants.{Run, Rejected, NotARequest, Matcher}
 use Rattle.promql_run.specs.declared.rejection.Rejection.{Rejection}
 use Rattle.promql_run.specs.declared.request.Format.{Format}
 use Rattle.promql_run.specs.declared.request.Format.TheVariants.{Pretty, Line, Json}
 use Rattle.promql_run.specs.declared.run.Mode.{Mode}
 use Rattle.promql_run.specs.declared.run.RunError.TheVariants as error
 use Rattle.promql_run.specs.Rejecting.{IsRejection}
-use Rattle.promql_run.specs.Requests.{query_in, format_in}
+use Rattle.promql_run.specs.Requests.{query_in, matcher_in, format_in}
 use Rattle.promql_run.specs.Running.{error_number}
 
 -- ---- one line
@@ -33,12 +35,13 @@ format_value (Pretty layout) t = Ok (string (layout_of t layout.level layout.wid
 format_value Line t = Ok (string (one_line.text t))
 format_value Json t = json t
 
--- the line asks for this query in this format
-pub record Asks (mode : Mode) (line query : Text) (format : Format) : Type 0 where
+-- the line asks for this query in this format, with this matcher in its selectors if there is one
+pub record Asks (mode : Mode) (line query : Text) (matcher : Option Text) (format : Format) : Type 0 where
   pub utf8 : IsUtf8 line
   pub value : Data
   pub is : read line ≡ Some value
   pub query_is : query_in value ≡ Some query
+  pub matcher_is : matcher_in value ≡ matcher
   pub format_is : format_in mode value ≡ Some format
 
 -- the line is no JSON, or asks for no query or no format
@@ -47,37 +50,53 @@ AsksNothing mode line =
     (read line ≡ None)
     ⊎ ((value : Data) × (read line ≡ Some value) × ((query_in value ≡ None) ⊎ (format_in mode value ≡ None)))
 
--- the query has a tree, and this is its value in the format, or why it has none
-pub record HasQueryValue (query : Text) (format : Format) (value : Result Data JsonError) : Type 0 where
+-- "Requests": the second tree is what is printed where the first one was read
+abbrev pub IsAsked : Option Text → Tree → Tree → Type 0
+IsAsked None t u = u ≡ t
+IsAsked (Some matcher) t u = IsEnforcedBy matcher t u
+
+-- the query has a tree, and this is the value of what is printed of it in the format, or why that has none
+pub record HasQueryValue (query : Text) (matcher : Option Text) (format : Format) (value : Result Data JsonError) : Type 0 where
   pub tree : Tree
   pub parsed : IsAnswerTo query (Ok tree)
-  pub gives : format_value format tree ≡ value
+  pub printed : Tree
+  pub asked : IsAsked matcher tree printed
+  pub gives : format_value format printed ≡ value
+
+-- there is a matcher, and this is why it is none to enforce
+abbrev pub HasMatcherFault : Option Text → MatcherError → Type 0
+HasMatcherFault None e = ⊥
+HasMatcherFault (Some matcher) e = IsMatcherFault matcher e
 
 -- when a query has this error
-abbrev pub FailsOnQuery : Text → Format → LineError → Type 0
-FailsOnQuery query format (Run error.Memory) = Unit {0}
-FailsOnQuery query format (Rejected rejection) = IsRejection query rejection
-FailsOnQuery query format (Run error.Json) = HasQueryValue query format (Err NumberTooWide)
-FailsOnQuery query format _ = ⊥
+abbrev pub FailsOnQuery : Text → Option Text → Format → LineError → Type 0
+FailsOnQuery query matcher format (Run error.Memory) = Unit {0}
+FailsOnQuery query matcher format (Rejected rejection) = IsRejection query rejection
+FailsOnQuery query matcher format (Matcher e) = HasMatcherFault matcher e
+FailsOnQuery query matcher format (Run error.Json) = HasQueryValue query matcher format (Err NumberTooWide)
+FailsOnQuery query matcher format _ = ⊥
 
 -- the line asks for a query that has this value
 pub record HasValue (mode : Mode) (line : Text) (value : Data) : Type 0 where
   pub query : Text
+  pub matcher : Option Text
   pub format : Format
-  pub asks : Asks mode line query format
-  pub has : HasQueryValue query format (Ok value)
+  pub asks : Asks mode line query matcher format
+  pub has : HasQueryValue query matcher format (Ok value)
 
 -- the line asks for a query that has this error
 pub record AsksInVain (mode : Mode) (line : Text) (e : LineError) : Type 0 where
   pub query : Text
+  pub matcher : Option Text
   pub format : Format
-  pub asks : Asks mode line query format
-  pub fails : FailsOnQuery query format e
+  pub asks : Asks mode line query matcher format
+  pub fails : FailsOnQuery query matcher format e
 
 abbrev pub line_error_number : LineError → ℕ
 line_error_number (Run e) = error_number e
 line_error_number (Rejected rejection) = 4
 line_error_number NotARequest = 7
+line_error_number (Matcher e) = 11
 
 -- "Errors": when a line has this error
 abbrev pub FailsWith : Mode → Text → LineError → Type 0
@@ -107,6 +126,7 @@ abbrev pub line_error_object : LineError → Text → Data
 line_error_object (Rejected rejection) message = rejection_object 4 message rejection
 line_error_object (Run e) message = error_object (error_number e) message
 line_error_object NotARequest message = error_object 7 message
+line_error_object (Matcher e) message = error_object 11 message
 
 pub record IsOkLine (mode : Mode) (line printed : Text) : Type 0 where
   pub value : Data

@@ -3,10 +3,12 @@ use Rattle.std.specs.Prelude.{◌≢◌, ℕ, ◌++◌, List, [], ◌∷◌, All
 use Rattle.std.specs.Io.{StopsAt}
 use Rattle.std.specs.Io.KnownBytes.{Appends, Consumes}
 use Rattle.promql_text.specs.Texts.{Text}
-use Rattle.promql_run.specs.Batch.{IsAll, IsLineAnswer}
+use Rattle.promql_run.specs.Batch.{HasMatcherFault, IsAll, IsLineAnswer}
 use Rattle.promql_run.specs.Ended.{AppendsBeginning}
 use Rattle.promql_run.specs.declared.batch.LineEnd.{LineEnd}
 use Rattle.promql_run.specs.declared.batch.LineEnd.TheVariants.{Feed, Input}
+use Rattle.promql_run.specs.declared.line.LineError.{LineError}
+use Rattle.promql_run.specs.declared.line.LineError.TheVariants.{Run, Matcher}
 use Rattle.promql_run.specs.declared.run.Mode.{Mode}
 use Rattle.promql_run.specs.declared.run.RunError.{RunError}
 use Rattle.promql_run.specs.declared.run.RunError.TheVariants as error
@@ -35,6 +37,12 @@ abbrev pub IsPartlyAnswered : Mode → Text → Option (List ℕ) → Option (Li
 IsPartlyAnswered mode line held held_after =
     (answer : Text) × (is_ok : Bool) × IsLineAnswer mode line answer is_ok
     × AppendsBeginning held held_after (answer ++ 10 ∷ [])
+
+-- why the matcher is not enforced
+abbrev pub IsMatcherFaultOf : Option Text → LineError → Type 0
+IsMatcherFaultOf matcher (Run error.Memory) = Unit {0}
+IsMatcherFaultOf matcher (Matcher e) = HasMatcherFault matcher e
+IsMatcherFaultOf matcher _ = ⊥
 
 abbrev pub IsReadingError : RunError → Type 0
 IsReadingError error.Memory = Unit {0}

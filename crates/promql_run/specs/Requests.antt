@@ -1,5 +1,5 @@
 -- What a line of a batch asks for (docs/reference/programs.md, "Requests").
-use Rattle.std.specs.Prelude.{ℕ, ◌-◌, ◌^◌, Bool, true, false, Option, Some, None, ◌||◌, ◌&&◌, if◌then◌else◌, option_and_then, bytes_eq, codes, nat_le}
+use Rattle.std.specs.Prelude.{ℕ, ◌-◌, ◌^◌, Bool, true, false, Option, Some, None, ◌||◌, ◌&&◌, if◌then◌else◌, option_and_then, is_some, bytes_eq, codes, nat_le}
 use Rattle.serde_json.specs.Data.{Data, string, object, Members, no_members, member}
 use Rattle.serde_json.specs.Find.{as_number, as_str, as_u64, get}
 use Rattle.promql_text.specs.Texts.{Text}
@@ -12,6 +12,7 @@ use Rattle.promql_run.specs.Running.{mode_named}
 abbrev pub is_member_name : Text → Bool
 is_member_name key =
     bytes_eq key (codes "query") || bytes_eq key (codes "mode") || bytes_eq key (codes "level") || bytes_eq key (codes "width")
+    || bytes_eq key (codes "enforce")
 
 -- no member has another name
 abbrev pub are_known : Members → Bool
@@ -28,6 +29,15 @@ may_ask _ = false
 abbrev pub query_in : Data → Option Text
 query_in (string query) = Some query
 query_in d = option_and_then as_str (get (codes "query") d)
+
+-- the text of the matcher to enforce, if there is one
+abbrev pub matcher_in : Data → Option Text
+matcher_in d = option_and_then as_str (get (codes "enforce") d)
+
+-- a text, if there is such a member
+abbrev pub is_text : Option Data → Bool
+is_text None = true
+is_text (Some d) = is_some (as_str d)
 
 -- the member `mode`, or the mode of the command
 abbrev pub mode_in : Mode → Option Data → Option Mode
@@ -52,6 +62,6 @@ format_with level width other = None
 -- how the query is printed, where the command names this mode
 abbrev pub format_in : Mode → Data → Option Format
 format_in asked d =
-    if may_ask d
+    if may_ask d && is_text (get (codes "enforce") d)
     then option_and_then (format_with (get (codes "level") d) (get (codes "width") d)) (mode_in asked (get (codes "mode") d))
     else None

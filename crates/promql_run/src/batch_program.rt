@@ -27,7 +27,8 @@ for each to standard output, in order.
 
 A line is a JSON string, the query, or an object with the member \"query\" and,
 if wanted, \"mode\" (\"pretty\", \"line\" or \"json\"), \"level\" and \"width\" (of a
-layout: indentations before it, and the most bytes of a line).
+layout: indentations before it, and the most bytes of a line), and \"enforce\" (a
+matcher that is put into every selector of the query).
 An answer is {\"ok\":TEXT}, in mode json {\"ok\":VALUE}, or
 {\"code\":NUMBER,\"error\":MESSAGE}.
 

@@ -6,6 +6,8 @@ pub mod batch;
 pub mod batch_program;
 pub mod check;
 pub mod ended;
+pub mod enforce_program;
+pub mod enforced_line;
 pub mod laws;
 pub mod line;
 pub mod program;

@@ -6,12 +6,16 @@ ghost use Rattle.serde_json.specs.Read.{read};
 ghost use Rattle.serde_json.specs.View.{view};
 ghost use Rattle.serde_json.specs.Written.{compact_text, has_float};
 ghost use Rattle.promql_text.specs.Texts.{Text};
-ghost use Rattle.promql_run.specs.Batch.{FailsOnQuery, FailsWith, HasQueryValue, HasValue, IsErrorText, IsLineAnswer, error_object, line_error_number, line_error_object, ok_object, rejection_object};
+ghost use Rattle.promql_ast.specs.View.{tree_of};
+ghost use Rattle.promql_run.specs.BatchSteps.{IsMatcherFaultOf};
+ghost use Rattle.promql_run.specs.Batch.{FailsOnQuery, FailsWith, HasQueryValue, HasValue, IsAsked, IsErrorText, IsLineAnswer, error_object, line_error_number, line_error_object, ok_object, rejection_object};
 
 use crate::rejection::{Rejection, read_query};
 use crate::rendering::render_value;
-use crate::request::{Format, format_in, query_in};
+use crate::request::{Format, format_in, matcher_in, query_in};
 use crate::run::{Mode, RunError};
+use promql_ast::Expr;
+use promql_rewrite::{MatcherError, enforce_text};
 use serde_json::{Category, Value, json};
 use std::alloc::{AllocError, Global};
 use thiserror::Error;
@@ -28,6 +32,9 @@ pub enum LineError {
     /// The line is not a JSON string, nor an object that asks for a query.
     #[error("line is not a request")]
     NotARequest,
+    /// The line has a matcher to enforce that is none.
+    #[error("{0}")]
+    Matcher(MatcherError),
 }
 
 impl LineError {
@@ -39,6 +46,7 @@ impl LineError {
             LineError::Run(error) => error.number(),
             LineError::Rejected(_) => 4,
             LineError::NotARequest => 7,
+            LineError::Matcher(_) => 11,
         }
     }
 }
@@ -63,17 +71,40 @@ fn read_value(alloc: Global, line: &str) -> Result<Option<Value>, AllocError>
     }
 }
 
-/// What a query is in a format.
-fn evaluate_query(alloc: Global, format: Format, query: &str) -> Result<Value, LineError>
-    ensures ok { IfOk result (λ v. HasQueryValue query.now format (Ok (view v))) }
+/// The expression with the matcher of the text in every selector, if there is one.
+fn enforced(alloc: Global, expr: Expr, matcher: Option<&str>) -> Result<Expr, LineError>
+    ensures ok { IfOk result (λ e.
+        IsAsked (option_map (λ s. s.now) matcher.entry) (tree_of expr) (tree_of e)) }
+    ensures err { IfErr result (IsMatcherFaultOf (option_map (λ s. s.now) matcher.entry)) }
+{
+    let Some(text) = matcher else {
+        return Ok(expr);
+    };
+    match enforce_text(alloc, expr, text) {
+        Ok(enforced) => Ok(enforced),
+        Err(MatcherError::Memory) => Err(LineError::Run(RunError::Memory)),
+        Err(error) => Err(LineError::Matcher(error)),
+    }
+}
+
+/// What a query, with a matcher in its selectors if there is one, is in a format.
+fn evaluate_query(
+    alloc: Global,
+    format: Format,
+    query: &str,
+    matcher: Option<&str>,
+) -> Result<Value, LineError>
+    ensures ok { IfOk result (λ v.
+        HasQueryValue query.now (option_map (λ s. s.now) matcher.entry) format (Ok (view v))) }
     ensures finite { IfOk result (λ v. has_float (view v) ≡ false) }
-    ensures err { IfErr result (FailsOnQuery query.now format) }
+    ensures err { IfErr result (FailsOnQuery query.now (option_map (λ s. s.now) matcher.entry) format) }
 {
     let expr = match read_query(alloc, query) {
         Ok(Ok(expr)) => expr,
         Ok(Err(rejection)) => return Err(LineError::Rejected(rejection)),
         Err(_) => return Err(LineError::Run(RunError::Memory)),
     };
+    let expr = enforced(alloc, expr, matcher)?;
     let value = render_value(alloc, format, &expr);
     drop(expr);
     match value {
@@ -96,7 +127,7 @@ fn evaluate_value(alloc: Global, mode: Mode, asked: &Value) -> Result<Value, Lin
     let Some(format) = format_in(mode, asked) else {
         return Err(LineError::NotARequest);
     };
-    evaluate_query(alloc, format, query)
+    evaluate_query(alloc, format, query, matcher_in(asked))
 }
 
 /// What a line's query is in its format.
@@ -159,7 +190,9 @@ fn line_error_value(alloc: Global, error: &LineError, message: &str) -> Result<V
     let code = error.number();
     match error {
         LineError::Rejected(rejection) => rejection_value(alloc, code, message, rejection),
-        LineError::Run(_) | LineError::NotARequest => error_value(alloc, code, message),
+        LineError::Run(_) | LineError::NotARequest | LineError::Matcher(_) => {
+            error_value(alloc, code, message)
+        }
     }
 }
 

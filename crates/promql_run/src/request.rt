@@ -42,6 +42,23 @@ pub fn query_in(value: &Value) -> Option<&str>
     }
 }
 
+/// The text of the matcher to enforce on the query; `None` where there is none.
+pub fn matcher_in(value: &Value) -> Option<&str>
+    ensures { option_map (λ s. s.now) result ≡ spec.matcher_in (view value.now) }
+{
+    value.get("enforce").and_then(Value::as_str)
+}
+
+/// Whether a member is a text, if it is there.
+fn is_text(member: Option<&Value>) -> bool
+    ensures { result ≡ spec.is_text (option_map (λ v. view v.now) member.entry) }
+{
+    match member {
+        Some(value) => value.as_str().is_some(),
+        None => true,
+    }
+}
+
 /// The mode of the member, or the command's.
 fn mode_in(asked: Mode, member: Option<&Value>) -> Option<Mode>
     ensures { result ≡ spec.mode_in asked (option_map (λ v. view v.now) member.entry) }
@@ -86,7 +103,7 @@ fn format_with(level: Option<&Value>, width: Option<&Value>, mode: Mode) -> Opti
 fn is_member_name(key: &str) -> bool
     ensures { result ≡ spec.is_member_name key.now }
 {
-    matches!(key, "query" | "mode" | "level" | "width")
+    matches!(key, "query" | "mode" | "level" | "width" | "enforce")
 }
 
 /// Whether each member has a name that a request may have.
@@ -111,7 +128,7 @@ fn may_ask(value: &Value) -> bool
 pub fn format_in(asked: Mode, value: &Value) -> Option<Format>
     ensures { result ≡ spec.format_in asked (view value.now) }
 {
-    if may_ask(value) {
+    if may_ask(value) && is_text(value.get("enforce")) {
         let mode = mode_in(asked, value.get("mode"))?;
         format_with(value.get("level"), value.get("width"), mode)
     } else {
