@@ -8,7 +8,6 @@ mod faults;
 mod layouts;
 mod limits;
 mod memory;
-mod program;
 mod readme;
 mod trees;
 mod visitors;

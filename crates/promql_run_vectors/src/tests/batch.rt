@@ -1,8 +1,7 @@
 //! Batches over readers and writers in memory, and over some that fail.
 
 use super::streams::{FlakyReader, FlakyWriter};
-use super::texts;
-use crate::tests::check_value;
+use super::{check_value, texts};
 use promql_run::batch::run_batch;
 use promql_run::batch_program::{BATCH_HELP, BATCH_USAGE, batch_program};
 use promql_run::ended::Ended;

@@ -1,6 +1,6 @@
 //! Runs over readers and writers in memory.
 
-use crate::tests::check_value;
+use super::check_value;
 use promql_parser::parser::ParseError;
 use promql_run::ended::Ended;
 use promql_run::run::{Mode, RunError, run};

@@ -1,7 +1,7 @@
 //! Runs over readers and writers that fail, and with allocations that fail.
 
+use super::check_value;
 use super::streams::{FlakyReader, FlakyWriter};
-use crate::tests::check_value;
 use promql_run::ended::Ended;
 use promql_run::run::{Mode, RunError, run};
 use std::test::Fail;

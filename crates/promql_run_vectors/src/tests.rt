@@ -9,6 +9,13 @@ mod runs;
 mod streams;
 
 use std::alloc::{AllocError, Global};
+use std::fmt::Debug;
+use std::process::Abort;
+
+/// The value is the wanted one, at this row.
+fn check_value<T: Debug + Drop + PartialEq>(rt: &impl Abort, found: T, want: T, row: &impl Debug) {
+    assert_eq!(rt; found, want, "at {row:?}");
+}
 
 fn texts(alloc: Global, words: &[&str]) -> Result<Vec<String>, AllocError> {
     let mut texts = Vec::new(alloc);
