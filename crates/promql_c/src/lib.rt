@@ -4,7 +4,7 @@
 ghost use Rattle.std.specs.Prelude.{Some, Ok};
 ghost use Rattle.promql_run.specs.declared.request.Format.TheVariants.{Line};
 ghost use Rattle.promql_calls.specs.CallResults.{Shows, ShowsSome};
-ghost use Rattle.promql_calls.specs.Calls.{IsCheckOf, IsPrintOf, IsSnippetOf};
+ghost use Rattle.promql_calls.specs.Calls.{IsCheckOf, IsCollectOf, IsEnforceOf, IsPrintOf, IsSnippetOf};
 ghost use Rattle.promql_calls.specs.Formats.{format_numbered};
 ghost use Rattle.promql_calls.specs.declared.calls.TheConstants.{CALLS_VERSION};
 
@@ -39,6 +39,33 @@ pub extern "C" fn call_canonical(
     ensures { ShowsSome (IsPrintOf query.now (Some Line)) shown.new buffer.old buffer.new }
 {
     *shown = promql_calls::canonical(alloc, query, buffer);
+}
+
+/// `promql_calls::enforce`.
+#[unsafe(no_mangle)]
+pub extern "C" fn call_enforce(
+    alloc: Global,
+    query: &[u8],
+    matcher: &[u8],
+    buffer: &mut [u8],
+    shown: &mut CallResult,
+)
+    ensures { ShowsSome (IsEnforceOf query.now matcher.now) shown.new buffer.old buffer.new }
+{
+    *shown = promql_calls::enforce(alloc, query, matcher, buffer);
+}
+
+/// `promql_calls::collect`.
+#[unsafe(no_mangle)]
+pub extern "C" fn call_collect(
+    alloc: Global,
+    query: &[u8],
+    buffer: &mut [u8],
+    shown: &mut CallResult,
+)
+    ensures { ShowsSome (IsCollectOf query.now) shown.new buffer.old buffer.new }
+{
+    *shown = promql_calls::collect(alloc, query, buffer);
 }
 
 /// `promql_calls::check`.

@@ -1,5 +1,5 @@
 -- What each call makes of a query (docs/guide/bindings.md, "Calls").
-use Rattle.std.specs.Prelude.{◌≡◌, [], Option, Some, None, Result, Ok, Err}
+use Rattle.std.specs.Prelude.{◌≡◌, ◌⊎◌, [], Option, Some, None, Result, Ok, Err}
 use Rattle.std.specs.Str.{IsUtf8}
 use Rattle.promql_text.specs.Texts.{Text}
 use Rattle.promql_span.specs.declared.span.Span.{Span}
@@ -7,11 +7,15 @@ use Rattle.promql_ast.specs.Tree.{Tree}
 use Rattle.promql_syntax.specs.ParseAnswers.{IsAnswerTo}
 use Rattle.promql_walk.specs.declared.json_error.JsonError.{JsonError}
 use Rattle.promql_walk.specs.declared.json_error.JsonError.TheVariants as json_errors
+use Rattle.promql_rewrite.specs.MatcherTexts.{IsMatcherFault}
+use Rattle.promql_rewrite.specs.declared.matcher_text.MatcherError.TheVariants as matcher_error
 use Rattle.promql_run.specs.Checking.{marked_line}
+use Rattle.promql_run.specs.EnforcedLines.{IsEnforcedLine, IsUnfaithfulLine}
 use Rattle.promql_run.specs.Rejecting.{IsRejection}
 use Rattle.promql_run.specs.declared.request.Format.{Format}
 use Rattle.promql_calls.specs.declared.call_error.CallError.{CallError}
 use Rattle.promql_calls.specs.declared.call_error.CallError.TheVariants as errors
+use Rattle.promql_calls.specs.CollectedTexts.{IsCollectedText}
 use Rattle.promql_calls.specs.Formats.{format_text}
 
 -- the query has a tree, and this is its text in the format, or why it has none
@@ -38,6 +42,18 @@ IsPrintOf query None made = made ≡ Err errors.UnknownMode
 IsPrintOf query (Some format) (Ok text) = HasText query format (Ok text)
 IsPrintOf query (Some format) (Err errors.NumberTooWide) = HasText query format (Err json_errors.NumberTooWide)
 IsPrintOf query (Some format) (Err e) = HasNoTree query e
+
+-- "enforce": the line with the matcher in every selector
+abbrev pub IsEnforceOf : Text → Text → Result Text CallError → Type 0
+IsEnforceOf query matcher (Ok line) = IsUtf8 query × IsUtf8 matcher × IsEnforcedLine query matcher line
+IsEnforceOf query matcher (Err (errors.Matcher e)) = (¬ IsUtf8 matcher × (e ≡ matcher_error.NotAMatcher)) ⊎ IsMatcherFault matcher e
+IsEnforceOf query matcher (Err (errors.Unfaithful e)) = IsUnfaithfulLine query matcher e
+IsEnforceOf query matcher (Err e) = HasNoTree query e
+
+-- "collect": the JSON of what the query names
+abbrev pub IsCollectOf : Text → Result Text CallError → Type 0
+IsCollectOf query (Ok text) = IsUtf8 query × ((t : Tree) × IsAnswerTo query (Ok t) × IsCollectedText t text)
+IsCollectOf query (Err e) = HasNoTree query e
 
 -- "check": an empty text where the query has a tree
 abbrev pub IsCheckOf : Text → Result Text CallError → Type 0

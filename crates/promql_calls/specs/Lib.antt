@@ -1,4 +1,6 @@
 pub mod CallResults
 pub mod Calls
+pub mod CollectedJson
+pub mod CollectedTexts
 pub mod Formats
 pub mod PrintErrors

@@ -3,6 +3,7 @@
 ghost use Rattle.std.specs.Prelude.{◌≡◌};
 ghost use Rattle.promql_calls.specs.CallResults.{error_status};
 
+use promql_rewrite::{MatcherError, NotFaithful};
 use promql_run::rejection::Rejection;
 use std::alloc::AllocError;
 use thiserror::Error;
@@ -25,6 +26,12 @@ pub enum CallError {
     /// There is no mode of this number, or the level of a layout is above 65,535.
     #[error("unknown mode")]
     UnknownMode,
+    /// The matcher is none, or none to enforce.
+    #[error("{0}")]
+    Matcher(MatcherError),
+    /// The line that was made would not mean the enforced tree.
+    #[error("{0}")]
+    Unfaithful(NotFaithful),
 }
 
 impl CallError {
@@ -38,6 +45,8 @@ impl CallError {
             CallError::Rejected(_) => 4,
             CallError::NumberTooWide => 6,
             CallError::UnknownMode => 9,
+            CallError::Matcher(_) => 11,
+            CallError::Unfaithful(_) => 12,
         }
     }
 }

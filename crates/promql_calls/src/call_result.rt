@@ -72,7 +72,9 @@ fn result_of(error: &CallError, length: usize) -> CallResult
         CallError::Memory
         | CallError::NotUtf8
         | CallError::NumberTooWide
-        | CallError::UnknownMode => plain(error.status(), length),
+        | CallError::UnknownMode
+        | CallError::Matcher(_)
+        | CallError::Unfaithful(_) => plain(error.status(), length),
     }
 }
 

@@ -2,17 +2,19 @@
 
 ghost use Rattle.std.specs.Prelude.{Some, Ok};
 ghost use Rattle.promql_calls.specs.CallResults.{Shows, ShowsSome};
-ghost use Rattle.promql_calls.specs.Calls.{IsCheckOf, IsPrintOf, IsSnippetOf};
+ghost use Rattle.promql_calls.specs.Calls.{IsCheckOf, IsCollectOf, IsEnforceOf, IsPrintOf, IsSnippetOf};
 ghost use Rattle.promql_calls.specs.Formats.{format_numbered};
 
 use crate::call_result::{CallResult, show, show_text};
+use crate::collecting::collect_query;
+use crate::enforcing::enforce_query;
 use crate::printing::{check_query, format_of, mark_query, print_query};
 use promql_run::request::Format;
 use promql_span::Span;
 use std::alloc::Global;
 
 /// The version of the calls: a new call, or a new status of one, has a new version.
-pub const CALLS_VERSION: &str = "0.1.0";
+pub const CALLS_VERSION: &str = "0.2.0";
 
 /// Prints a query in the mode of this number: 0 on one line, 1 laid out, 2 as JSON. `level` counts indentations of two
 /// spaces, at most 65,535, and `width` is the most bytes that a line has, its indentation not counted; both are for a
@@ -37,6 +39,24 @@ pub fn canonical(alloc: Global, query: &[u8], buffer: &mut [u8]) -> CallResult
     ensures { ShowsSome (IsPrintOf query.now (Some Format.Line)) result buffer.old buffer.new }
 {
     let made = print_query(alloc, Some(Format::Line), query);
+    show(alloc, made, buffer)
+}
+
+/// Prints a query on one line with a matcher in every selector. The matcher is written as between the braces of a selector:
+/// `namespace="team-a"`, say. The line is read again before, and means the enforced query (docs/guide/rewriting.md).
+pub fn enforce(alloc: Global, query: &[u8], matcher: &[u8], buffer: &mut [u8]) -> CallResult
+    ensures { ShowsSome (IsEnforceOf query.now matcher.now) result buffer.old buffer.new }
+{
+    let made = enforce_query(alloc, query, matcher);
+    show(alloc, made, buffer)
+}
+
+/// Shows what a query names, as JSON: its functions, labels and metrics, and its selectors with their times
+/// (docs/guide/bindings.md, "What a query names").
+pub fn collect(alloc: Global, query: &[u8], buffer: &mut [u8]) -> CallResult
+    ensures { ShowsSome (IsCollectOf query.now) result buffer.old buffer.new }
+{
+    let made = collect_query(alloc, query);
     show(alloc, made, buffer)
 }
 

@@ -3,9 +3,11 @@
 
 pub use call_error::CallError;
 pub use call_result::CallResult;
-pub use calls::{CALLS_VERSION, canonical, check, print, snippet, version};
+pub use calls::{CALLS_VERSION, canonical, check, collect, enforce, print, snippet, version};
 
 mod call_error;
 mod call_result;
 mod calls;
+mod collecting;
+mod enforcing;
 mod printing;

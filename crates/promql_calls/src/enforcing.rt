@@ -1,0 +1,40 @@
+//! A query with a matcher in its selectors.
+
+ghost use Rattle.std.specs.Prelude.{string_bytes};
+ghost use Rattle.promql_grammar.specs.Results.{on_result};
+ghost use Rattle.promql_calls.specs.Calls.{IsEnforceOf};
+
+use crate::call_error::CallError;
+use promql_rewrite::MatcherError;
+use promql_run::enforced_line::{EnforcedLineError, enforced_line};
+use std::alloc::Global;
+
+/// The line of a text's query with the matcher of the other text in every selector.
+fn enforce_text(alloc: Global, query: &str, matcher: &str) -> Result<String, CallError>
+    ensures { IsEnforceOf query.now matcher.now (on_result (λ s. string_bytes s) result) }
+{
+    match enforced_line(alloc, query, matcher) {
+        Ok(line) => Ok(line),
+        Err(EnforcedLineError::Memory) => Err(CallError::Memory),
+        Err(EnforcedLineError::Rejected(rejection)) => Err(CallError::Rejected(rejection)),
+        Err(EnforcedLineError::Matcher(error)) => Err(CallError::Matcher(error)),
+        Err(EnforcedLineError::Unfaithful(error)) => Err(CallError::Unfaithful(error)),
+    }
+}
+
+/// The line of a query with the matcher in every selector.
+pub(crate) fn enforce_query(
+    alloc: Global,
+    query: &[u8],
+    matcher: &[u8],
+) -> Result<String, CallError>
+    ensures { IsEnforceOf query.now matcher.now (on_result (λ s. string_bytes s) result) }
+{
+    let Ok(query) = str::from_utf8(query) else {
+        return Err(CallError::NotUtf8);
+    };
+    let Ok(matcher) = str::from_utf8(matcher) else {
+        return Err(CallError::Matcher(MatcherError::NotAMatcher));
+    };
+    enforce_text(alloc, query, matcher)
+}
