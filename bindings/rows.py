@@ -8,10 +8,12 @@ usage: bindings/rows.py c PROGRAM [THREADS]   through bindings/c/tests/test_prom
 Where THREADS are given, each makes all calls again beside the others, and is to get the same.
 
 The rows are the lines of crates/promql_batch/stdin with those of stdout. Each that asks for a query is printed in its mode, and
-checked; one that asks for a line is also printed by `canonical`. A line that is no request is no call, and is left out; a
+checked; one that asks for a line is also printed by `canonical`. Of those with a matcher to enforce, each that asks for a line is one
+call. A line that is no request is no call, and is left out; a
 line that is not UTF-8 is passed on as the query. The last line is 'N passed, M failed'.
 
-A file of calls has for each a line 'CALL MODE LEVEL WIDTH START END LENGTH' of numbers, and then so many bytes and a line feed.
+A file of calls has for each a line 'CALL MODE LEVEL WIDTH START END LENGTH' of numbers, and then so many bytes and a line feed. Of
+those of a call that enforces, the last END are the matcher.
 """
 
 import json
@@ -25,7 +27,7 @@ from typing import NamedTuple
 ROOT = Path(__file__).resolve().parent.parent
 RUN = ROOT / "crates" / "promql_batch"
 # The numbers of the calls in a file, and of the modes in promql.h.
-PRINT, CANONICAL, CHECK = range(3)
+PRINT, CANONICAL, CHECK, _, ENFORCE = range(5)
 MODES = {"line": 0, "pretty": 1, "json": 2}
 ACCEPTED = b'{"ok":""}'
 
@@ -42,9 +44,13 @@ class Call(NamedTuple):
     width: int
     query: bytes
     wanted: bytes
+    matcher: bytes = b""
 
-    def numbers(self):
-        return f"{self.call} {MODES[self.mode]} {self.level} {self.width} 0 0 {len(self.query)}\n".encode()
+    def written(self):
+        """The call as a file has it."""
+        text = self.query + self.matcher
+        numbers = f"{self.call} {MODES[self.mode]} {self.level} {self.width} 0 {len(self.matcher)} {len(text)}\n"
+        return numbers.encode() + text + b"\n"
 
 
 class Answer(NamedTuple):
@@ -77,15 +83,20 @@ def calls_of_row(place, asked, reply):
     code = json.loads(reply).get("code", 0)
     if code == 7:
         return
-    mode, level, width, query = "line", 0, 100, asked
+    mode, level, width, query, matcher = "line", 0, 100, asked, None
     if code != 3:
         value = json.loads(asked)
         if isinstance(value, dict):
             mode = value.get("mode", mode)
             level = value.get("level", level)
             width = value.get("width", width)
+            matcher = value.get("enforce")
             value = value["query"]
         query = value.encode()
+    if matcher is not None:
+        if mode == "line":
+            yield Call(place, ENFORCE, mode, level, width, query, reply, matcher.encode())
+        return
     yield Call(place, PRINT, mode, level, width, query, reply)
     if mode == "line":
         yield Call(place, CANONICAL, mode, 0, 0, query, reply)
@@ -100,7 +111,7 @@ def all_calls():
 
 
 def write_calls(calls, path):
-    path.write_bytes(b"".join(it.numbers() + it.query + b"\n" for it in calls))
+    path.write_bytes(b"".join(it.written() for it in calls))
 
 
 def answers_of(output):
@@ -147,6 +158,8 @@ def python_answer(call):
         if call.call == CHECK:
             promql.check(query)
             text = ""
+        elif call.call == ENFORCE:
+            text = promql.enforce(query, call.matcher.decode())
         elif call.call == CANONICAL or call.mode == "line":
             text = promql.canonical(query)
         elif call.mode == "pretty":
@@ -159,6 +172,8 @@ def python_answer(call):
         return Answer(4, start, end, error.line, error.column, error.message.encode())
     except promql.NumberTooWideError as error:
         return Answer(6, 0, 0, 0, 0, str(error).encode())
+    except promql.MatcherError as error:
+        return Answer(11, 0, 0, 0, 0, str(error).encode())
     except UnicodeEncodeError:
         return Answer(3, 0, 0, 0, 0, b"input is not UTF-8")
 

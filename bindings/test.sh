@@ -6,13 +6,14 @@ set -u
 here=$(cd "$(dirname "$0")" && pwd)
 root=${here%/*}
 dist=$root/dist
+queries=$root/bench/queries/queries.txt
 # shellcheck source=bin/lib.sh
 . "$root/bin/lib.sh"
 passed=0
 failed=0
 work=$(mktemp -d)
 trap 'rm -rf "$work"' EXIT
-export here dist work PYTHONDONTWRITEBYTECODE=1
+export here dist queries work PYTHONDONTWRITEBYTECODE=1
 
 # limited COMMAND..: runs a command, or one of the functions that are exported below, which ends in four minutes at the latest.
 limited() {
@@ -67,6 +68,18 @@ has_module() {
     return 1
 }
 
+# python_with_yaml: prints which Python has a reader of YAML, the first one here or Debian's.
+python_with_yaml() {
+    local python
+    for python in python3 /usr/bin/python3; do
+        if "$python" -c 'import ruamel.yaml' 2>/dev/null; then
+            echo "$python"
+            return
+        fi
+    done
+    return 1
+}
+
 # install_missing: installs the packages of Debian whose commands are missing here.
 install_missing() {
     local -a missing=()
@@ -74,6 +87,11 @@ install_missing() {
     command -v cargo >/dev/null || missing+=(cargo)
     command -v cc >/dev/null || missing+=(gcc libc6-dev)
     command -v valgrind >/dev/null || missing+=(valgrind)
+    python_with_yaml >/dev/null || missing+=(python3-ruamel.yaml)
+    command -v chromium >/dev/null || missing+=(chromium)
+    command -v vim >/dev/null || missing+=(vim)
+    command -v parallel >/dev/null || missing+=(parallel)
+    /usr/bin/python3 -c 'import dask.distributed' 2>/dev/null || missing+=(python3-distributed)
     [ ${#missing[@]} = 0 ] && return
     apt-get update -q && apt-get install -q -y --no-install-recommends "${missing[@]}"
 }
@@ -103,7 +121,16 @@ build_c() {
         "$cc" -std=c11 "${flags[@]}" -o "$work/test_shared" "${tests[@]}" -L"$dist" -lpromql -Wl,-rpath,"$dist" &&
         "$cc" -std=c11 "${flags[@]}" -o "$work/test_memory" "$here/c/tests/test_memory.c" "$dist/libpromql.a" \
             -Wl,--wrap=malloc,--wrap=realloc &&
+        "$cc" -std=c11 "${flags[@]}" -o "$work/bench" "$here/c/bench.c" "$dist/libpromql.a" &&
         "$cc" -std=c99 "${flags[@]}" -o "$work/example" "$here/c/example.c" "$dist/libpromql.a"
+}
+
+# bench_prints COMMAND..: whether a program of bench.sh prints its four figures.
+bench_prints() {
+    local said
+    said=$("$@" "$queries" 1)
+    printf '%s\n' "$said"
+    [ "$(grep -cE '^(check|line) (plain|patterns) [1-9][0-9]*$' <<<"$said")" = 4 ]
 }
 
 example_prints() {
@@ -112,6 +139,29 @@ example_prints() {
     wanted=$(printf '%s\n' '1 + 2' "1:6: expected type matrix in call to function 'rate', got vector" 'rate(foo)' '     ^~~' 'a or b')
     printf '%s\n' "$said"
     [ "$(sort <<<"$said")" = "$(sort <<<"$wanted")" ]
+}
+
+# has_sanitizers WHAT: whether the C compiler links programs with AddressSanitizer; says what is not tried where it does not.
+has_sanitizers() {
+    if "${CC:-cc}" -fsanitize=address,undefined -x c -o "$work/sanitized" - <<<'int main(void) { return 0; }' 2>/dev/null &&
+        "$work/sanitized" 2>/dev/null; then return; fi
+    echo "not tried: $1: ${CC:-cc} has none here"
+    return 1
+}
+
+build_sanitized() {
+    local -a sanitized=("${CC:-cc}" -std=c11 -g -O1 "-fsanitize=address,undefined" -fno-sanitize-recover=all -I"$dist")
+    "${sanitized[@]}" -o "$work/sanitized_tests" "$here/c/tests/test_promql.c" -pthread "$dist/libpromql.a" &&
+        "${sanitized[@]}" -o "$work/sanitized_memory" "$here/c/tests/test_memory.c" "$dist/libpromql.a" \
+            -Wl,--wrap=malloc,--wrap=realloc &&
+        "${sanitized[@]}" -o "$work/sanitized_overrun" "$here/c/tests/test_overrun.c" "$dist/libpromql.a"
+}
+
+overrun_is_reported() {
+    local said
+    said=$("$work/sanitized_overrun" 2>&1) && return 1
+    printf '%s\n' "$said"
+    grep -q 'AddressSanitizer: heap-buffer-overflow' <<<"$said"
 }
 
 under_valgrind() {
@@ -140,10 +190,12 @@ test_c() {
     add 'C, linked to libpromql.so' "$work/test_shared"
     add 'failing allocations in C' "$work/test_memory"
     try 'the example for C' example_prints
+    try 'the bench for C' bench_prints "$work/bench"
     if has g++ 'the header as C++'; then
         try 'the header as C++' g++ -Wall -Wextra -Wpedantic -Werror -fsyntax-only -x c++ "$dist/promql.h"
     fi
     if has python3 'rows and broken texts for C'; then test_rows_in_c; fi
+    if has_sanitizers 'the tests for C with sanitizers'; then test_sanitized; fi
     has cmake 'the project of CMakeLists.txt' || return
     try 'the project of CMakeLists.txt' build_project
     has pkg-config 'the file promql.pc' || return
@@ -162,6 +214,18 @@ test_rows_in_c() {
     try 'some rows for C under valgrind, and again in two threads' under_valgrind "$work/test_static" rows "$work/some" 2
 }
 
+# The library is not instrumented: what is seen of it is told in docs/guide/bindings.md.
+test_sanitized() {
+    try 'building the tests for C with sanitizers' build_sanitized
+    [ -x "$work/sanitized_overrun" ] || return
+    try 'an overrun is reported' overrun_is_reported
+    add 'C with sanitizers' "$work/sanitized_tests"
+    add 'failing allocations in C with sanitizers' "$work/sanitized_memory"
+    [ -f "$work/calls" ] || return
+    add 'broken texts for C with sanitizers' "$work/sanitized_tests" random "$work/calls" 10000 3
+    try 'rows for C with sanitizers' "$work/sanitized_tests" rows "$work/calls"
+}
+
 # ---- Python
 
 # The package as pip installs it, in a folder of its own.
@@ -170,33 +234,49 @@ install_wheel() {
         python3 -m pip install --quiet --no-deps --no-index --target "$work/site" "$work"/wheels/promql-*.whl
 }
 
-# in_python FOLDER ARGUMENT..: Python, which finds the package in this folder.
+# in_python FOLDER ARGUMENT..: Python, or the one that the variable python names, which finds the package in this folder.
 in_python() {
     local folder=$1
     shift
-    (cd "$work" && PYTHONPATH=$folder exec python3 "$@")
+    (cd "$work" && PYTHONPATH=$folder exec "${python:-python3}" "$@")
 }
 
-# unit_tests FOLDER: the tests of the package in this folder, with 'N passed, M failed' as the last line.
+# unit_tests FOLDER [FILE]: the tests of the package in this folder, or those of one file that is not among them, with
+# 'N passed, M failed' as the last line.
 unit_tests() {
-    local said ran lost
-    said=$(in_python "$1" -m unittest discover -s "$here/python/tests" 2>&1)
+    local said ran lost skipped
+    said=$(in_python "$1" -m unittest discover -s "$here/python/tests" -p "${2:-test*.py}" 2>&1)
     printf '%s\n' "$said"
     ran=$(sed -n 's/^Ran \([0-9]*\) tests\{0,1\} .*/\1/p' <<<"$said")
     lost=$(grep -cE '^(FAIL|ERROR): ' <<<"$said")
-    echo "$((${ran:-0} - lost)) passed, $lost failed"
+    skipped=$(sed -n '$s/.*skipped=\([0-9]*\).*/\1/p' <<<"$said")
+    echo "$((${ran:-0} - lost - ${skipped:-0})) passed, $lost failed"
     [ "${ran:-0}" -gt 0 ] && [ "$lost" = 0 ]
+}
+
+# The tests of rule files, which those of Python skip where python3 has no reader of YAML.
+test_rule_files() {
+    local python
+    if ! python=$(python_with_yaml); then
+        echo 'not tried: rule files for Python: no Python here has ruamel.yaml'
+    elif [ "$python" != python3 ]; then
+        export python
+        add "rule files for Python, by $python" unit_tests "$here/python" test_rule_files.py
+    fi
 }
 
 test_python() {
     has python3 'the binding for Python' || return
     add 'Python' unit_tests "$here/python"
+    test_rule_files
     if has_module pytest 'the tests for Python by pytest'; then
         try 'the tests for Python by pytest' in_python "$here/python" -m pytest -q -p no:cacheprovider "$here/python/tests"
     fi
     if has_module mypy 'the types of the package'; then
         try 'the types of the package' in_python "$here/python" -m mypy --strict --cache-dir "$work/mypy" "$here/python/promql"
     fi
+    try 'the bench for Python' bench_prints in_python "$here/python" "$here/python/bench.py"
+    if has "${CHROMIUM:-chromium}" 'the page in Chromium'; then add 'the page in Chromium' unit_tests "$here/python" browser.py; fi
     add 'rows for Python, and again in eight threads' in_python "$here/python" "$here/rows.py" python 8
     has_module pip 'the wheel' || return
     try 'the wheel' install_wheel
@@ -232,6 +312,7 @@ test_rust() {
     try 'the examples for Rust' build_rust
     [ -x "$work/target/release/examples/rows" ] || return
     try 'the example for Rust' cache_keys
+    try 'the bench for Rust' bench_prints "$work/target/release/examples/bench"
     has python3 'rows and broken texts for Rust' || return
     add 'rows for Rust, and again in eight threads' python3 "$here/rows.py" c "$work/target/release/examples/rows" 8
     try 'the calls of the rows' python3 "$here/rows.py" write "$work/calls"
@@ -263,15 +344,41 @@ test_go() {
     try 'go vet' in_go . vet ./...
     add 'Go' go_tests
     try 'broken texts for Go by its fuzzer' in_go . test -run '^$' -fuzz FuzzQueries -fuzztime 10000x .
-    try 'the program of the rows for Go' in_go . build -o "$work/go_rows" ./internal/rows
-    [ -x "$work/go_rows" ] || return
+    try 'the programs for Go' in_go . build -o "$work/go_programs/" ./internal/rows ./internal/bench
+    [ -x "$work/go_programs/rows" ] || return
+    try 'the bench for Go' bench_prints "$work/go_programs/bench"
     has python3 'rows and broken texts for Go' || return
-    add 'rows for Go, and again in eight goroutines' python3 "$here/rows.py" c "$work/go_rows" 8
+    add 'rows for Go, and again in eight goroutines' python3 "$here/rows.py" c "$work/go_programs/rows" 8
     try 'the calls of the rows' python3 "$here/rows.py" write "$work/calls"
-    add 'broken texts for Go' "$work/go_rows" random "$work/calls" 10000 1
+    add 'broken texts for Go' "$work/go_programs/rows" random "$work/calls" 10000 1
 }
 
-export -f shows_own_names build_c example_prints under_valgrind build_project find_installed install_wheel in_python unit_tests
+# ---- examples
+
+test_examples() {
+    has python3 'the examples' || return
+    has vim 'the commands of docs/guide/formatter.md in vim'
+    add 'the commands of docs/guide/formatter.md' python3 "$here/editor.py"
+    if has parallel 'a log of queries by parallel'; then
+        add 'a log of queries by parallel' python3 "$root/examples/query_log/test_query_log.py" answer
+    fi
+    test_dask
+}
+
+# Debian has Dask for its own Python.
+test_dask() {
+    local python
+    for python in python3 /usr/bin/python3; do
+        if "$python" -c 'import dask.bag, dask.distributed' 2>/dev/null; then
+            add 'a log of queries by Dask' env PYTHONPATH="$here/python" "$python" "$root/examples/query_log/test_query_log.py" count
+            return
+        fi
+    done
+    echo "not tried: a log of queries by Dask: no Python has it here"
+}
+
+export -f shows_own_names build_c bench_prints example_prints build_sanitized overrun_is_reported under_valgrind build_project
+export -f find_installed install_wheel in_python unit_tests
 export -f in_cargo cargo_tests build_rust cache_keys in_go go_tests
 
 if [ "${1:-}" = --install ]; then install_missing; fi
@@ -286,5 +393,6 @@ test_c
 test_python
 test_rust
 test_go
+test_examples
 echo "$passed passed, $failed failed"
 [ "$failed" = 0 ]

@@ -6,6 +6,9 @@ void call_print(const void *query, size_t query_length, uint32_t mode, uint32_t 
                 size_t buffer_size, struct promql_result *result);
 void call_canonical(const void *query, size_t query_length, void *buffer, size_t buffer_size,
                     struct promql_result *result);
+void call_enforce(const void *query, size_t query_length, const void *matcher, size_t matcher_length, void *buffer,
+                  size_t buffer_size, struct promql_result *result);
+void call_collect(const void *query, size_t query_length, void *buffer, size_t buffer_size, struct promql_result *result);
 void call_check(const void *query, size_t query_length, void *buffer, size_t buffer_size, struct promql_result *result);
 void call_snippet(const void *query, size_t query_length, size_t start, size_t end, void *buffer, size_t buffer_size,
                   struct promql_result *result);
@@ -57,6 +60,24 @@ uint32_t promql_canonical(const char *query, size_t query_length, char *buffer, 
     if (!are_good(query, query_length, buffer, buffer_size, result))
         return bad_pointer(result);
     call_canonical(start_of(query), query_length, room_of(buffer), buffer_size, result);
+    return result->status;
+}
+
+uint32_t promql_enforce(const char *query, size_t query_length, const char *matcher, size_t matcher_length, char *buffer,
+                        size_t buffer_size, struct promql_result *result)
+{
+    if (!are_good(query, query_length, buffer, buffer_size, result) || !is_slice(matcher, matcher_length))
+        return bad_pointer(result);
+    call_enforce(start_of(query), query_length, start_of(matcher), matcher_length, room_of(buffer), buffer_size, result);
+    return result->status;
+}
+
+uint32_t promql_collect(const char *query, size_t query_length, char *buffer, size_t buffer_size,
+                        struct promql_result *result)
+{
+    if (!are_good(query, query_length, buffer, buffer_size, result))
+        return bad_pointer(result);
+    call_collect(start_of(query), query_length, room_of(buffer), buffer_size, result);
     return result->status;
 }
 

@@ -14,6 +14,7 @@ package promql
 import "C"
 
 import (
+	"encoding/json"
 	"errors"
 	"fmt"
 	"runtime"
@@ -26,6 +27,12 @@ var (
 	ErrOutOfMemory = errors.New("out of memory")
 	// ErrNotUTF8 says that the query is not UTF-8.
 	ErrNotUTF8 = errors.New("input is not UTF-8")
+	// ErrNotAMatcher says that a text is no matcher.
+	ErrNotAMatcher = errors.New("not a matcher")
+	// ErrMetricName says that a matcher is one of the metric's name, __name__, which cannot be enforced.
+	ErrMetricName = errors.New("a matcher of the metric name cannot be enforced")
+	// ErrUnfaithful says that the query that was made would not mean the changed query.
+	ErrUnfaithful = errors.New("the printed query does not mean the changed one")
 	// ErrNumberTooWide says that a query has no JSON form: a number of milliseconds is below -2^63 or above 2^64 - 1.
 	ErrNumberTooWide = errors.New("number too wide for JSON")
 )
@@ -101,6 +108,52 @@ func JSON(query string) ([]byte, error) {
 	return []byte(text), nil
 }
 
+// Enforce returns the query on one line with a matcher in every selector, in each of its or-groups: that of a tenant, say. The matcher is
+// written as between the braces of a selector: namespace="team-a". What is returned was read again, and means the changed query
+// (docs/guide/rewriting.md of the repository).
+func Enforce(query, matcher string) (string, error) {
+	bytes := append(make([]byte, 0, len(matcher)+1), matcher...)
+	first := (*C.char)(unsafe.Pointer(&bytes[:1][0]))
+	text, err := textOf(query, func(query *C.char, length C.size_t, buffer *C.char, size C.size_t, result *C.struct_promql_result) {
+		C.promql_enforce(query, length, first, C.size_t(len(bytes)), buffer, size, result)
+	})
+	runtime.KeepAlive(bytes)
+	return text, err
+}
+
+// Names is what a query names: its functions, labels and metrics, each once and in order, and its selectors.
+type Names struct {
+	Functions []string
+	Labels    []string
+	Metrics   []string
+	Selectors []Selector
+}
+
+// Selector is a selector of a query: its name before the braces, its matchers, and its times as they print. A pointer is nil where there is
+// none of it.
+type Selector struct {
+	Name     *string
+	Matchers string
+	Range    *string
+	Offset   *string
+	At       *string
+}
+
+// Collect returns what the query names (docs/guide/bindings.md of the repository, "What a query names").
+func Collect(query string) (*Names, error) {
+	text, err := textOf(query, func(query *C.char, length C.size_t, buffer *C.char, size C.size_t, result *C.struct_promql_result) {
+		C.promql_collect(query, length, buffer, size, result)
+	})
+	if err != nil {
+		return nil, err
+	}
+	var names Names
+	if err := json.Unmarshal([]byte(text), &names); err != nil {
+		return nil, err
+	}
+	return &names, nil
+}
+
 // Check returns nil where the query is accepted.
 func Check(query string) error {
 	_, err := textOf(query, func(query *C.char, length C.size_t, buffer *C.char, size C.size_t, result *C.struct_promql_result) {
@@ -160,6 +213,13 @@ func textOf(query string, f function) (string, error) {
 		}
 	case C.PROMQL_NUMBER_TOO_WIDE:
 		return "", ErrNumberTooWide
+	case C.PROMQL_BAD_MATCHER:
+		if text == ErrNotAMatcher.Error() {
+			return "", ErrNotAMatcher
+		}
+		return "", ErrMetricName
+	case C.PROMQL_UNFAITHFUL:
+		return "", fmt.Errorf("%w: %s", ErrUnfaithful, text)
 	}
 	panic(fmt.Sprintf("promql: status %d: %s", result.status, text))
 }

@@ -27,6 +27,12 @@ func ExampleFormat() {
 	// )
 }
 
+func ExampleEnforce() {
+	query, err := promql.Enforce("sum(rate(foo[5m])) / bar", `namespace="team-a"`)
+	fmt.Println(query, err)
+	// Output: sum(rate(foo{namespace="team-a"}[5m])) / bar{namespace="team-a"} <nil>
+}
+
 func ExampleQueryError() {
 	var rejected *promql.QueryError
 	if errors.As(promql.Check("sum(rate(foo[5m]) by (job)"), &rejected) {
@@ -89,6 +95,45 @@ func TestJSON(t *testing.T) {
 	}
 }
 
+func TestEnforce(t *testing.T) {
+	if got, err := promql.Enforce(`{a="1" or b="2"}`, "c=~'x'"); err != nil || got != `{a="1", c=~"x" or b="2", c=~"x"}` {
+		t.Errorf("%q, %v", got, err)
+	}
+	for matcher, want := range map[string]error{
+		"":                 promql.ErrNotAMatcher,
+		`a="1"} or {b="2"`: promql.ErrNotAMatcher,
+		"a=\"\xff\"":       promql.ErrNotAMatcher,
+		`__name__="up"`:    promql.ErrMetricName,
+	} {
+		if _, err := promql.Enforce("foo", matcher); !errors.Is(err, want) {
+			t.Errorf("%q: %v", matcher, err)
+		}
+	}
+	var rejected *promql.QueryError
+	if _, err := promql.Enforce("1 +", `a="1"`); !errors.As(err, &rejected) || rejected.Start != 3 {
+		t.Error(err)
+	}
+}
+
+func TestCollect(t *testing.T) {
+	names, err := promql.Collect("sum by (b) (rate(foo{a='1'}[5m])) / {__name__='bar'} offset 1h")
+	if err != nil {
+		t.Fatal(err)
+	}
+	if got := fmt.Sprint(names.Functions, names.Labels, names.Metrics); got != "[rate] [a b] [bar foo]" {
+		t.Error(got)
+	}
+	if first := names.Selectors[0]; *first.Name != "foo" || first.Matchers != `a="1"` || *first.Range != "5m" || first.Offset != nil {
+		t.Errorf("%+v", first)
+	}
+	if second := names.Selectors[1]; second.Name != nil || *second.Offset != "1h" || second.At != nil || len(names.Selectors) != 2 {
+		t.Errorf("%+v", second)
+	}
+	if _, err := promql.Collect("1 +"); err == nil {
+		t.Error("no error")
+	}
+}
+
 func TestPlaces(t *testing.T) {
 	query := "up +\n rate({'foö'})"
 	found := rejection(t, query)
@@ -119,7 +164,7 @@ func TestNotUTF8(t *testing.T) {
 }
 
 func TestVersion(t *testing.T) {
-	if got := promql.Version(); got != "0.1.0" {
+	if got := promql.Version(); got != "0.2.0" {
 		t.Error(got)
 	}
 }

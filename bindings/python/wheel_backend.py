@@ -14,13 +14,22 @@ HERE = Path(__file__).resolve().parent
 ROOT = HERE.parent.parent
 # What dist/ is made for: x86-64 Linux with glibc 2.34 or later.
 TAG = "py3-none-manylinux_2_34_x86_64"
-FILES = ("__init__.py", "_library.py", "py.typed")
 
 
 def _project():
     """The fields of pyproject.toml that are texts."""
     text = (HERE / "pyproject.toml").read_text(encoding="utf-8").split("[project]\n", 1)[1]
     return dict(re.findall(r'^([\w-]+) = "(.*)"$', text, re.M))
+
+
+def _extras():
+    """The fields for the optional dependencies, `NAME = ["PACKAGE", ..]`."""
+    text = (HERE / "pyproject.toml").read_text(encoding="utf-8").split("[project.optional-dependencies]\n", 1)[1]
+    fields = []
+    for name, packages in re.findall(r"^([\w-]+) = \[(.*)\]$", text, re.M):
+        fields.append(f"Provides-Extra: {name}\n")
+        fields += [f"Requires-Dist: {package} ; extra == '{name}'\n" for package in re.findall(r'"(.*?)"', packages)]
+    return "".join(fields)
 
 
 def _metadata(project):
@@ -31,6 +40,7 @@ def _metadata(project):
         f"Summary: {project['description']}\n"
         "License: Apache-2.0\n"
         f"Requires-Python: {project['requires-python']}\n"
+        f"{_extras()}"
         "Description-Content-Type: text/markdown\n\n"
         f"{(HERE / 'README.md').read_text(encoding='utf-8')}"
     )
@@ -39,8 +49,8 @@ def _metadata(project):
 def _contents(project, info):
     """Yields the name and the bytes of each file of the wheel but the last."""
     package = HERE / project["name"]
-    for name in FILES:
-        yield f"{project['name']}/{name}", (package / name).read_bytes()
+    for path in sorted([*package.glob("*.py"), package / "py.typed", *package.glob("static/*")]):
+        yield f"{project['name']}/{path.relative_to(package).as_posix()}", path.read_bytes()
     yield f"{project['name']}/libpromql.so", (ROOT / "dist" / "libpromql.so").read_bytes()
     yield f"{info}/METADATA", _metadata(project).encode()
     yield f"{info}/WHEEL", f"Wheel-Version: 1.0\nGenerator: wheel_backend\nRoot-Is-Purelib: false\nTag: {TAG}\n".encode()

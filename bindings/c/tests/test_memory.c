@@ -46,6 +46,12 @@ static void make_call(int call, const char *query, struct answer *answer)
         promql_canonical(query, length, answer->text, SIZE, &answer->result);
     else if (call == 4)
         promql_check(query, length, answer->text, SIZE, &answer->result);
+    else if (call == 5)
+        promql_enforce(query, length, "a=~'x|y'", 8, answer->text, SIZE, &answer->result);
+    else if (call == 6)
+        promql_enforce(query, length, "a", 1, answer->text, SIZE, &answer->result);
+    else if (call == 7)
+        promql_collect(query, length, answer->text, SIZE, &answer->result);
     else
         promql_snippet(query, length, 1, 3, answer->text, SIZE, &answer->result);
 }
@@ -77,7 +83,7 @@ int main(void)
     };
     long passed = 0, failed = 0;
     for (size_t i = 0; i < sizeof queries / sizeof *queries; i++) {
-        for (int call = 0; call < 6; call++) {
+        for (int call = 0; call < 9; call++) {
             struct answer ample, found;
             long number = 0, is_met = 1;
             make_call(call, queries[i], &ample);

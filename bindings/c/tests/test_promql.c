@@ -36,7 +36,7 @@ static void *allocate(size_t size)
 }
 
 /* A call with its arguments. */
-enum call { CALL_PRINT, CALL_CANONICAL, CALL_CHECK, CALL_SNIPPET };
+enum call { CALL_PRINT, CALL_CANONICAL, CALL_CHECK, CALL_SNIPPET, CALL_ENFORCE, CALL_COLLECT };
 
 struct request {
     enum call call;
@@ -55,6 +55,10 @@ static uint32_t make_call(const struct request *r, char *buffer, size_t size, st
         return promql_canonical(r->query, r->length, buffer, size, result);
     case CALL_CHECK:
         return promql_check(r->query, r->length, buffer, size, result);
+    case CALL_COLLECT:
+        return promql_collect(r->query, r->length, buffer, size, result);
+    case CALL_ENFORCE: /* (the last `end` bytes are the matcher) */
+        return promql_enforce(r->query, r->length - r->end, r->query + (r->length - r->end), r->end, buffer, size, result);
     default:
         return promql_snippet(r->query, r->length, r->start, r->end, buffer, size, result);
     }
@@ -144,6 +148,14 @@ static struct request in_mode(uint32_t mode, uint32_t level, size_t width, const
     return r;
 }
 
+/* The text is a query, and at its end a matcher of this many bytes. */
+static struct request enforcing(const char *text, size_t matcher_length)
+{
+    struct request r = of_query(CALL_ENFORCE, text);
+    r.end = matcher_length;
+    return r;
+}
+
 static struct request marking(const char *query, size_t start, size_t end)
 {
     struct request r = of_query(CALL_SNIPPET, query);
@@ -190,6 +202,34 @@ static void test_errors(void)
     free(answer.text);
 }
 
+static void test_enforcing(void)
+{
+    CHECK(gives(enforcing("sum(foo)a=\"1\"", 5), PROMQL_OK, "sum(foo{a=\"1\"})"));
+    CHECK(gives(enforcing("{b='2' or c='3'}a=~\"x|y\"", 8), PROMQL_OK, "{b=\"2\", a=~\"x|y\" or c=\"3\", a=~\"x|y\"}"));
+    CHECK(gives(enforcing("foo{a=\"1\"}a='1'", 5), PROMQL_OK, "foo{a=\"1\"}"));
+    CHECK(gives(enforcing("1 +a=\"1\"", 5), PROMQL_REJECTED, "invalid promql query"));
+    CHECK(has_place(enforcing("1 +a=\"1\"", 5), 3, 3, 1, 4));
+    CHECK(gives(enforcing("1 +a", 1), PROMQL_REJECTED, "invalid promql query"));
+    CHECK(gives(enforcing("\xff\xff", 1), PROMQL_NOT_UTF8, "input is not UTF-8"));
+    CHECK(gives(enforcing("foo", 0), PROMQL_BAD_MATCHER, "not a matcher"));
+    CHECK(gives(enforcing("fooa=\"1\"} or x{b=\"2\"", 18), PROMQL_BAD_MATCHER, "not a matcher"));
+    CHECK(gives(enforcing("foo\xff", 1), PROMQL_BAD_MATCHER, "not a matcher"));
+    CHECK(gives(enforcing("foo__name__=\"bar\"", 14), PROMQL_BAD_MATCHER, "a matcher of the metric name cannot be enforced"));
+    CHECK(gives(enforcing("\xff" "a=\"1\"", 5), PROMQL_NOT_UTF8, "input is not UTF-8"));
+}
+
+static void test_collecting(void)
+{
+    CHECK(gives(of_query(CALL_COLLECT, "1"), PROMQL_OK, "{\"functions\":[],\"labels\":[],\"metrics\":[],\"selectors\":[]}"));
+    CHECK(gives(of_query(CALL_COLLECT, "sum by (b) (rate(foo{a='1'}[5m] offset -1h)) / {__name__=\"bar\"} @ 1.5"), PROMQL_OK,
+                "{\"functions\":[\"rate\"],\"labels\":[\"a\",\"b\"],\"metrics\":[\"bar\",\"foo\"],\"selectors\":["
+                "{\"at\":null,\"matchers\":\"a=\\\"1\\\"\",\"name\":\"foo\",\"offset\":\"-1h\",\"range\":\"5m\"},"
+                "{\"at\":\"@ 1.500\",\"matchers\":\"__name__=\\\"bar\\\"\",\"name\":null,\"offset\":null,\"range\":null}]}"));
+    CHECK(gives(of_query(CALL_COLLECT, "1 +"), PROMQL_REJECTED, "invalid promql query"));
+    CHECK(has_place(of_query(CALL_COLLECT, "1 +"), 3, 3, 1, 4));
+    CHECK(gives(of_query(CALL_COLLECT, "\xff"), PROMQL_NOT_UTF8, "input is not UTF-8"));
+}
+
 static int is_empty(const struct promql_result *result, uint32_t status, size_t length)
 {
     return result->status == status && result->length == length && result->start == 0 && result->end == 0
@@ -209,6 +249,9 @@ static void test_pointers(void)
     CHECK(promql_print(NULL, 1, PROMQL_LINE, 0, 0, buffer, sizeof buffer, &result) == PROMQL_BAD_POINTER);
     CHECK(promql_canonical(NULL, 1, buffer, sizeof buffer, &result) == PROMQL_BAD_POINTER);
     CHECK(promql_snippet(NULL, 1, 0, 0, buffer, sizeof buffer, &result) == PROMQL_BAD_POINTER);
+    CHECK(promql_collect(NULL, 1, buffer, sizeof buffer, &result) == PROMQL_BAD_POINTER);
+    CHECK(promql_enforce(NULL, 1, "", 0, buffer, sizeof buffer, &result) == PROMQL_BAD_POINTER);
+    CHECK(promql_enforce("", 0, NULL, 1, buffer, sizeof buffer, &result) == PROMQL_BAD_POINTER);
     CHECK(promql_version(NULL, 1, &result) == PROMQL_BAD_POINTER);
     CHECK(promql_version(buffer, sizeof buffer, NULL) == PROMQL_BAD_POINTER);
     CHECK(promql_check(NULL, 0, NULL, 0, &result) == PROMQL_REJECTED);
@@ -460,6 +503,8 @@ int main(int argc, char **argv)
     } else {
         test_texts();
         test_errors();
+        test_enforcing();
+        test_collecting();
         test_pointers();
         test_version();
     }

@@ -18,8 +18,21 @@ from typing import Any, Dict, Tuple
 from . import _library
 from ._library import Mode, Result, Status
 
-__all__ = ["Error", "NumberTooWideError", "QueryError", "canonical", "check", "format", "parse", "version"]
-__version__ = "0.1.0"
+__all__ = [
+    "Error",
+    "MatcherError",
+    "NumberTooWideError",
+    "QueryError",
+    "UnfaithfulError",
+    "canonical",
+    "check",
+    "collect",
+    "enforce",
+    "format",
+    "parse",
+    "version",
+]
+__version__ = "0.2.0"
 
 _MAX_LEVEL = 65_535
 _MAX_WIDTH = 2**64 - 1
@@ -31,6 +44,14 @@ class Error(ValueError):
 
 class NumberTooWideError(Error):
     """The query has no JSON form: a number of milliseconds is below -2^63 or above 2^64 - 1."""
+
+
+class MatcherError(Error):
+    """A text is not one matcher, or is one of the metric's name, which cannot be enforced."""
+
+
+class UnfaithfulError(Error):
+    """The query that was made would not mean the changed query; there is none for which this was seen."""
 
 
 class QueryError(Error):
@@ -83,6 +104,22 @@ def canonical(query: str) -> str:
     return _text(query, _library.canonical(query.encode()))
 
 
+def enforce(query: str, matcher: str) -> str:
+    """The query on one line with a matcher in every selector, in each of its or-groups: that of a tenant, say.
+
+    The matcher is written as between the braces of a selector: `namespace="team-a"`. Raises MatcherError where it is none, or is one of
+    `__name__`. What is returned was read again, and means the changed query (docs/guide/rewriting.md).
+    """
+    return _text(query, _library.enforce(query.encode(), matcher.encode()))
+
+
+def collect(query: str) -> Dict[str, Any]:
+    """What a query names: `functions`, `labels` and `metrics`, lists of names in order, and `selectors`, dictionaries of `name`,
+    `matchers`, `range`, `offset` and `at`, as they print (docs/guide/bindings.md, "What a query names")."""
+    names: Dict[str, Any] = json.loads(_text(query, _library.collect(query.encode())))
+    return names
+
+
 def check(query: str) -> None:
     """Returns where the query is accepted, and else raises QueryError."""
     _text(query, _library.check(query.encode()))
@@ -108,6 +145,10 @@ def _text(query: str, answer: Tuple[bytes, Result]) -> str:
         raise QueryError(text, query, start, end, result.line, result.column)
     if result.status == Status.NUMBER_TOO_WIDE:
         raise NumberTooWideError(text)
+    if result.status == Status.BAD_MATCHER:
+        raise MatcherError(text)
+    if result.status == Status.UNFAITHFUL:
+        raise UnfaithfulError(text)
     if result.status == Status.OUT_OF_MEMORY:
         raise MemoryError(text)
     raise Error(text)

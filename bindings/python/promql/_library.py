@@ -21,6 +21,8 @@ class Status(IntEnum):
     BUFFER_TOO_SMALL = 8
     UNKNOWN_MODE = 9
     BAD_POINTER = 10
+    BAD_MATCHER = 11
+    UNFAITHFUL = 12
 
 
 class Mode(IntEnum):
@@ -63,6 +65,8 @@ _BUFFER = [ctypes.c_char_p, ctypes.c_size_t, ctypes.POINTER(Result)]
 _SIGNATURES = {
     "promql_print": [*_QUERY, ctypes.c_uint32, ctypes.c_uint32, ctypes.c_size_t, *_BUFFER],
     "promql_canonical": [*_QUERY, *_BUFFER],
+    "promql_enforce": [*_QUERY, *_QUERY, *_BUFFER],
+    "promql_collect": [*_QUERY, *_BUFFER],
     "promql_check": [*_QUERY, *_BUFFER],
     "promql_snippet": [*_QUERY, ctypes.c_size_t, ctypes.c_size_t, *_BUFFER],
     "promql_version": _BUFFER,
@@ -97,6 +101,14 @@ def print_query(query: bytes, mode: Mode, level: int = 0, width: int = 0) -> Tup
 
 def canonical(query: bytes) -> Tuple[bytes, Result]:
     return call("promql_canonical", query, len(query))
+
+
+def enforce(query: bytes, matcher: bytes) -> Tuple[bytes, Result]:
+    return call("promql_enforce", query, len(query), matcher, len(matcher))
+
+
+def collect(query: bytes) -> Tuple[bytes, Result]:
+    return call("promql_collect", query, len(query))
 
 
 def check(query: bytes) -> Tuple[bytes, Result]:

@@ -60,6 +60,32 @@ class Texts(unittest.TestCase):
             promql.parse("a[18446744073709551616ms]")
         self.assertEqual(str(raised.exception), "number too wide for JSON")
 
+    def test_enforce(self):
+        self.assertEqual(promql.enforce("sum(rate(foo[5m])) / bar", "a='1'"), 'sum(rate(foo{a="1"}[5m])) / bar{a="1"}')
+        self.assertEqual(promql.enforce("{a='é' or b='2'}", "c!~'x'"), '{a="é", c!~"x" or b="2", c!~"x"}')
+        for matcher in ("", "a", 'a="1"} or {b="2"', '__name__="up"'):
+            with self.assertRaises(promql.MatcherError):
+                promql.enforce("foo", matcher)
+        with self.assertRaises(promql.QueryError) as raised:
+            promql.enforce("1 +", "a='1'")
+        self.assertEqual((raised.exception.line, raised.exception.column), (1, 4))
+
+    def test_collect(self):
+        self.assertEqual(
+            promql.collect("sum by (b) (rate(foo{a='é'}[5m] offset -1h)) / {__name__='bar'} @ end()"),
+            {
+                "functions": ["rate"],
+                "labels": ["a", "b"],
+                "metrics": ["bar", "foo"],
+                "selectors": [
+                    {"name": "foo", "matchers": 'a="é"', "range": "5m", "offset": "-1h", "at": None},
+                    {"name": None, "matchers": '__name__="bar"', "range": None, "offset": None, "at": "@ end()"},
+                ],
+            },
+        )
+        with self.assertRaises(promql.QueryError):
+            promql.collect("1 +")
+
     def test_long_texts(self):
         query = "+".join(["x"] * 500)
         self.assertEqual(promql.canonical(query), " + ".join(["x"] * 500))

@@ -5,7 +5,7 @@
 //!
 //! In THREADS threads each call is made again, and is to give the same.
 
-use promql_proved::{Error, Layout, canonical, check, format, json};
+use promql_proved::{Error, Layout, canonical, check, enforce, format, json};
 use std::io::{self, BufWriter, Write};
 use std::{env, fs, str, thread};
 
@@ -15,6 +15,7 @@ struct Call<'a> {
     level: u16,
     width: usize,
     query: &'a [u8],
+    matcher: &'a [u8],
 }
 
 /// The calls of a file.
@@ -23,11 +24,12 @@ fn calls(mut bytes: &[u8]) -> Vec<Call<'_>> {
     while let Some(end) = bytes.iter().position(|byte| *byte == b'\n') {
         let numbers = str::from_utf8(&bytes[..end]).expect("a line of numbers");
         let numbers: Vec<usize> = numbers.split(' ').map(|word| word.parse().expect("a number")).collect();
-        let [call, mode, level, width, _, _, length] = numbers[..] else {
+        let [call, mode, level, width, _, matcher_length, length] = numbers[..] else {
             panic!("a line has {} numbers", numbers.len());
         };
-        let (query, rest) = bytes[end + 1..].split_at(length);
-        found.push(Call { call: call as u32, mode: mode as u32, level: level as u16, width, query });
+        let (text, rest) = bytes[end + 1..].split_at(length);
+        let (query, matcher) = text.split_at(length - matcher_length);
+        found.push(Call { call: call as u32, mode: mode as u32, level: level as u16, width, query, matcher });
         bytes = &rest[1..];
     }
     found
@@ -40,6 +42,7 @@ fn answer(call: &Call<'_>) -> Vec<u8> {
     };
     let text = match (call.call, call.mode) {
         (2, _) => check(query).map(|()| String::new()),
+        (4, _) => enforce(query, str::from_utf8(call.matcher).expect("a matcher of a row is UTF-8")),
         (1, _) | (0, 0) => canonical(query),
         (0, 1) => format(query, Layout { width: call.width, level: call.level }),
         _ => json(query),
@@ -48,6 +51,7 @@ fn answer(call: &Call<'_>) -> Vec<u8> {
         Ok(text) => line(0, [0; 4], &text),
         Err(Error::Rejected(it)) => line(4, [it.range.start, it.range.end, it.line, it.column], &it.message),
         Err(error @ Error::NumberTooWide) => line(6, [0; 4], &error.to_string()),
+        Err(error @ (Error::NotAMatcher | Error::MetricName)) => line(11, [0; 4], &error.to_string()),
         Err(error) => line(1, [0; 4], &error.to_string()),
     }
 }

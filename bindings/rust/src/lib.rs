@@ -25,6 +25,12 @@ pub enum Error {
     Rejected(Rejection),
     /// The query has no JSON form: a number of milliseconds is below -2^63 or above 2^64 - 1.
     NumberTooWide,
+    /// The matcher is none.
+    NotAMatcher,
+    /// The matcher is one of the metric's name, `__name__`, which cannot be enforced.
+    MetricName,
+    /// The query that was made would not mean the changed query: why.
+    Unfaithful(String),
 }
 
 /// Why and where a query is rejected.
@@ -59,11 +65,17 @@ impl fmt::Display for Error {
             Error::OutOfMemory => f.write_str("out of memory"),
             Error::Rejected(rejection) => rejection.fmt(f),
             Error::NumberTooWide => f.write_str("number too wide for JSON"),
+            Error::NotAMatcher => f.write_str(NOT_A_MATCHER),
+            Error::MetricName => f.write_str("a matcher of the metric name cannot be enforced"),
+            Error::Unfaithful(message) => f.write_str(message),
         }
     }
 }
 
 impl error::Error for Error {}
+
+/// The message of a text that is no matcher.
+const NOT_A_MATCHER: &str = "not a matcher";
 
 /// How [`format`] lays a query out.
 #[derive(Clone, Copy, Debug, PartialEq, Eq)]
@@ -108,6 +120,28 @@ pub fn json(query: &str) -> Result<String, Error> {
     text_of(library::print(query, Mode::Json, 0, 0))
 }
 
+/// The query on one line with a matcher in every selector, in each of its or-groups: that of a tenant, say. The matcher is written
+/// as between the braces of a selector: `namespace="team-a"`. What is returned was read again, and means the changed query
+/// (`docs/guide/rewriting.md` of the repository).
+///
+/// # Errors
+///
+/// Those of [`canonical`]; `NotAMatcher` and `MetricName` where the matcher is none to enforce; `Unfaithful` where the line would not
+/// mean the changed query.
+pub fn enforce(query: &str, matcher: &str) -> Result<String, Error> {
+    text_of(library::enforce(query, matcher))
+}
+
+/// What a query names, as JSON without a space: its functions, labels and metrics, and its selectors with their times
+/// (`docs/guide/bindings.md` of the repository, "What a query names").
+///
+/// # Errors
+///
+/// Those of [`canonical`].
+pub fn collect(query: &str) -> Result<String, Error> {
+    text_of(library::collect(query))
+}
+
 /// Returns where the query is accepted.
 ///
 /// # Errors
@@ -133,6 +167,9 @@ fn text_of((text, answer): (String, Answer)) -> Result<String, Error> {
             column: answer.column,
         })),
         library::NUMBER_TOO_WIDE => Err(Error::NumberTooWide),
+        library::BAD_MATCHER if text == NOT_A_MATCHER => Err(Error::NotAMatcher),
+        library::BAD_MATCHER => Err(Error::MetricName),
+        library::UNFAITHFUL => Err(Error::Unfaithful(text)),
         status => unreachable!("status {status}: {text}"),
     }
 }

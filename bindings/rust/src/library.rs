@@ -18,6 +18,8 @@ pub const OK: u32 = 0;
 pub const OUT_OF_MEMORY: u32 = 1;
 pub const REJECTED: u32 = 4;
 pub const NUMBER_TOO_WIDE: u32 = 6;
+pub const BAD_MATCHER: u32 = 11;
+pub const UNFAITHFUL: u32 = 12;
 
 /// Those of `enum promql_mode` that have no call of their own.
 #[derive(Clone, Copy)]
@@ -41,6 +43,22 @@ extern "C" {
         result: *mut Answer,
     ) -> u32;
     fn promql_canonical(
+        query: *const u8,
+        query_length: usize,
+        buffer: *mut u8,
+        buffer_size: usize,
+        result: *mut Answer,
+    ) -> u32;
+    fn promql_enforce(
+        query: *const u8,
+        query_length: usize,
+        matcher: *const u8,
+        matcher_length: usize,
+        buffer: *mut u8,
+        buffer_size: usize,
+        result: *mut Answer,
+    ) -> u32;
+    fn promql_collect(
         query: *const u8,
         query_length: usize,
         buffer: *mut u8,
@@ -97,6 +115,18 @@ pub fn print(query: &str, mode: Mode, level: u16, width: usize) -> (String, Answ
 pub fn canonical(query: &str) -> (String, Answer) {
     call(|(buffer, size, answer)| unsafe {
         promql_canonical(query.as_ptr(), query.len(), buffer, size, answer);
+    })
+}
+
+pub fn enforce(query: &str, matcher: &str) -> (String, Answer) {
+    call(|(buffer, size, answer)| unsafe {
+        promql_enforce(query.as_ptr(), query.len(), matcher.as_ptr(), matcher.len(), buffer, size, answer);
+    })
+}
+
+pub fn collect(query: &str) -> (String, Answer) {
+    call(|(buffer, size, answer)| unsafe {
+        promql_collect(query.as_ptr(), query.len(), buffer, size, answer);
     })
 }
 

@@ -1,6 +1,6 @@
 //! Each function, its errors, and calls side by side.
 
-use promql_proved::{Error, Layout, Rejection, canonical, check, format, json, version};
+use promql_proved::{Error, Layout, Rejection, canonical, check, collect, enforce, format, json, version};
 use std::thread;
 
 const LONG: &str = r#"sum by (job) (rate(http_requests_total{code=~"5.."}[5m])) / on (job) up > 0.125"#;
@@ -36,6 +36,22 @@ fn queries_are_laid_out() {
 fn trees_have_a_json_form() {
     assert_eq!(json("1").as_deref(), Ok(r#"{"type":"numberLiteral","val":"1"}"#));
     assert_eq!(json("foo[18446744073709551.616]"), Err(Error::NumberTooWide));
+}
+
+#[test]
+fn matchers_are_enforced() {
+    let enforced = enforce("sum(rate(foo[5m])) / bar", r#"namespace="team-a""#);
+    assert_eq!(enforced.as_deref(), Ok(r#"sum(rate(foo{namespace="team-a"}[5m])) / bar{namespace="team-a"}"#));
+    assert_eq!(enforce("foo", r#"a="1"} or {b="2""#), Err(Error::NotAMatcher));
+    assert_eq!(enforce("foo", r#"__name__="up""#), Err(Error::MetricName));
+    assert!(matches!(enforce("1 +", r#"a="1""#), Err(Error::Rejected(found)) if found.range == (3..3)));
+}
+
+#[test]
+fn names_are_collected() {
+    let names = r#"{"functions":["rate"],"labels":[],"metrics":["foo"],"selectors":[{"at":null,"matchers":"","name":"foo","offset":null,"range":"5m"}]}"#;
+    assert_eq!(collect("rate(foo[5m])").as_deref(), Ok(names));
+    assert!(matches!(collect("1 +"), Err(Error::Rejected(found)) if found.range == (3..3)));
 }
 
 #[test]

@@ -21,7 +21,7 @@ import (
 type call struct {
 	call, mode, level int
 	width             uint
-	query             string
+	query, matcher    string
 }
 
 // calls returns the calls of a file.
@@ -35,7 +35,8 @@ func calls(data []byte) []call {
 		if _, err := fmt.Sscan(line, &it.call, &it.mode, &it.level, &it.width, &start, &stop, &length); err != nil {
 			log.Fatalf("%q: %v", line, err)
 		}
-		it.query = string(data[end+1 : end+1+length])
+		it.query = string(data[end+1 : end+1+length-stop])
+		it.matcher = string(data[end+1+length-stop : end+1+length])
 		found = append(found, it)
 		data = data[end+length+2:]
 	}
@@ -49,6 +50,8 @@ func answer(it call) string {
 	switch {
 	case it.call == 2:
 		err = promql.Check(it.query)
+	case it.call == 4:
+		text, err = promql.Enforce(it.query, it.matcher)
 	case it.call == 1 || it.mode == 0:
 		text, err = promql.Canonical(it.query)
 	case it.mode == 1:
@@ -67,6 +70,8 @@ func answer(it call) string {
 			len(rejected.Message), rejected.Message)
 	case errors.Is(err, promql.ErrNotUTF8):
 		return fmt.Sprintf("3 0 0 0 0 %d\n%s\n", len(err.Error()), err)
+	case errors.Is(err, promql.ErrNotAMatcher), errors.Is(err, promql.ErrMetricName):
+		return fmt.Sprintf("11 0 0 0 0 %d\n%s\n", len(err.Error()), err)
 	case errors.Is(err, promql.ErrNumberTooWide):
 		return fmt.Sprintf("6 0 0 0 0 %d\n%s\n", len(err.Error()), err)
 	}

@@ -1,0 +1,39 @@
+"""Nanoseconds a query of `check` and of `canonical`, for the queries of a file, one a line, those without patterns and those with
+patterns apart: bench.py FILE [RUNS], where Python finds the package. bindings/bench.sh runs it beside those of the other languages.
+"""
+
+import sys
+import time
+from pathlib import Path
+
+import promql
+
+TIMES = 20
+
+
+def has_pattern(query):
+    return "=~" in query or "!~" in query
+
+
+def time_of_run(call, queries):
+    start = time.perf_counter_ns()
+    for _ in range(TIMES):
+        for query in queries:
+            call(query)
+    return time.perf_counter_ns() - start
+
+
+def measure(call, queries, runs):
+    """The least nanoseconds a query of all runs."""
+    return min(time_of_run(call, queries) for _ in range(runs)) // (TIMES * len(queries))
+
+
+def main(path, runs="60"):
+    lines = Path(path).read_text(encoding="utf-8").splitlines()
+    for kind, with_patterns in ("plain", False), ("patterns", True):
+        queries = [line for line in lines if has_pattern(line) == with_patterns]
+        for name, call in ("check", promql.check), ("line", promql.canonical):
+            print(name, kind, measure(call, queries, int(runs)))
+
+
+main(*sys.argv[1:])

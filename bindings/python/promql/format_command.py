@@ -1,0 +1,185 @@
+"""python -m promql format: lays out the queries of rule files and dashboards, and changes nothing else in them."""
+
+from __future__ import annotations
+
+import argparse
+import difflib
+import re
+import sys
+from dataclasses import dataclass
+from functools import partial
+from typing import Any, Callable, Dict, Iterator, List, Optional, Tuple
+
+import promql
+
+from .documents import Document, Status, read_document
+from .files import BLANKS, STDIN, FileError, write_file
+from .queries import Query, SameQuery, edited
+
+_COMMENT = "it has a comment, which would be lost"
+_LINE = re.compile(r"[^\n]*\n|[^\n]+")
+
+
+def add_parser(subparsers: Any) -> None:
+    parser = subparsers.add_parser("format", help="lay out the queries of rule files and dashboards", description=__doc__)
+    parser.add_argument("files", nargs="+", metavar="FILE", help="a rule file, a dashboard (.json), or - for standard input")
+    output = parser.add_mutually_exclusive_group()
+    output.add_argument("--check", action="store_true", help="print the names of the files that would change")
+    output.add_argument("--diff", action="store_true", help="print what would change")
+    output.add_argument("--write", action="store_true", help="change the files")
+    parser.add_argument("--dashboard", action="store_true", help="all files are dashboards")
+    parser.add_argument("--width", type=_width, default=100, help="columns of a line (100)")
+    parser.add_argument("--enforce", metavar="MATCHER", help="put a matcher, such as namespace='team-a', into every selector")
+    parser.set_defaults(run=_run)
+
+
+def _width(text: str) -> int:
+    if not text.isdecimal():
+        raise argparse.ArgumentTypeError(f"not a number of columns: {text!r}")
+    return min(int(text), sys.maxsize)
+
+
+@dataclass(frozen=True)
+class Printer:
+    """How a query is written."""
+
+    width: int
+    enforces: bool
+    # The query that is to be there: the same, or one with a matcher in it.
+    meant: Callable[[str], str]
+
+    def text(self, query: Query) -> str:
+        return promql.format(self.meant(query.text), width=query.spelling.room(self.width))
+
+    def means(self, new: str, old: str) -> bool:
+        """Whether a query is what the old one is to be."""
+        return promql.canonical(new) == promql.canonical(self.meant(old.rstrip(BLANKS)))
+
+
+def _enforcer(matcher: Optional[str]) -> Callable[[str], str]:
+    """What puts a matcher into a query, where there is one."""
+    if matcher is None:
+        return str
+    try:
+        promql.enforce("up", matcher)
+    except ValueError as error:
+        raise FileError(f"--enforce: {error}") from error
+    return partial(promql.enforce, matcher=matcher)
+
+
+def _run(arguments: argparse.Namespace) -> int:
+    try:
+        printer = Printer(arguments.width, arguments.enforce is not None, _enforcer(arguments.enforce))
+    except FileError as error:
+        print(error, file=sys.stderr)
+        return Status.FAILED
+    return max(_format_file(name, arguments, printer) for name in arguments.files)
+
+
+def _format_file(name: str, arguments: argparse.Namespace, printer: Printer) -> Status:
+    try:
+        document = read_document(name, arguments.dashboard)
+        text = _formatted(document, printer)
+        return _put_out(name, document, text, arguments)
+    except FileError as error:
+        print(error, file=sys.stderr)
+    except OSError as error:
+        print(f"{name}: {error.strerror}", file=sys.stderr)
+    return Status.FAILED
+
+
+def _formatted(document: Document, printer: Printer) -> str:
+    """The text of the file with its queries as they are to be."""
+    changes = _changes(document, printer)
+    if not changes:
+        return document.source.text
+    texts: Dict[str, List[str]] = {}
+    for query, text in changes:
+        texts.setdefault(query.value, []).append(text)
+
+    def same_query(old: str, new: str) -> bool:
+        return old == new or (new.rstrip(BLANKS) in texts.get(old, ()) and printer.means(new, old))
+
+    text = edited(document.source.text, (query.spelling.edit(text) for query, text in changes))
+    if not _reads_as(document, text, same_query):
+        raise FileError(f"{document.source.name}: left as it is: formatted, it would not be read as the same")
+    return text
+
+
+def _reads_as(document: Document, text: str, same_query: SameQuery) -> bool:
+    try:
+        return document.same(text, same_query)
+    except FileError:
+        return False
+
+
+def _changes(document: Document, printer: Printer) -> List[Tuple[Query, str]]:
+    """The queries that are to be written in another way, and how."""
+    source, faults, changes = document.source, list(document.faults), []
+    for query in document.queries:
+        try:
+            left = query.skipped or _why_kept(query)
+            text = query.value if left else printer.text(query)
+        except ValueError as error:
+            faults.append(query.rejected(error))
+            continue
+        if left and printer.enforces:
+            faults.append(query.whole(f"not enforced: {left}"))
+        elif left:
+            print(source.located(query.whole(f"warning: left as it is: {left}")), file=sys.stderr)
+        elif text != query.value.rstrip("\n"):
+            changes.append((query, text))
+    if faults:
+        raise FileError("\n".join(source.shown(fault) for fault in sorted(faults)))
+    return changes
+
+
+def _why_kept(query: Query) -> str:
+    """Why an accepted query is not formatted, or nothing."""
+    promql.check(query.text)
+    return query.kept or (_COMMENT if _has_comment(query.text) else "")
+
+
+def _has_comment(query: str) -> bool:
+    """Whether an accepted query has a comment.
+
+    A `#` is in a string or a comment. In a string a `;` may be as well, and outside of strings nowhere: so the first `#` of a
+    comment is where the library rejects the query that has a `;` instead.
+    """
+    places = (found.start() for found in re.finditer("#", query))
+    return any(_rejected_at(query[:at] + ";" + query[at + 1 :]) == at for at in places)
+
+
+def _rejected_at(query: str) -> Optional[int]:
+    try:
+        promql.check(query)
+    except promql.QueryError as error:
+        return error.start
+    return None
+
+
+def _put_out(name: str, document: Document, text: str, arguments: argparse.Namespace) -> Status:
+    """Does with the new text of a file what the options say."""
+    source = document.source
+    changed = text != source.text
+    if arguments.check or arguments.diff:
+        if changed:
+            _print(f"{source.name}\n" if arguments.check else "".join(_diff(source.name, source.text, text)))
+        return Status.FOUND if changed else Status.FINE
+    if not arguments.write or name == STDIN:
+        _print(source.mark + text)
+    elif changed:
+        write_file(name, (source.mark + text).encode())
+    return Status.FINE
+
+
+def _print(text: str) -> None:
+    """Writes a text to standard output, with its own line ends."""
+    sys.stdout.flush()
+    sys.stdout.buffer.write(text.encode("utf-8", "surrogateescape"))
+    sys.stdout.buffer.flush()
+
+
+def _diff(name: str, old: str, new: str) -> Iterator[str]:
+    for line in difflib.unified_diff(_LINE.findall(old), _LINE.findall(new), name, name):
+        yield line if line.endswith("\n") else f"{line}\n\\ No newline at end of file\n"

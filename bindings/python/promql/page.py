@@ -1,0 +1,212 @@
+"""A page to try queries in, served on this machine alone: `python -m promql serve`.
+
+`GET /` is the page. `POST /query` takes a JSON object with the member `query`, and returns what the page shows of that query
+(`describe`). Everything that a browser needs comes from the folder `static`.
+"""
+
+from __future__ import annotations
+
+import argparse
+import json
+import re
+import socket
+import socketserver
+import sys
+from http import HTTPStatus
+from http.server import BaseHTTPRequestHandler, ThreadingHTTPServer
+from pathlib import Path
+from typing import Any, Dict, List, Tuple
+
+from . import QueryError, _library, canonical, drawing, format
+
+ADDRESS = "127.0.0.1"
+DEFAULT_PORT = 8017
+MAX_BODY = 256 * 1024
+MAX_TEXT = 512 * 1024
+MAX_NODES = 250
+# How much of a longer body is read, so that a browser gets to the response.
+_MAX_SKIPPED = 16 * MAX_BODY
+
+_STATIC = Path(__file__).resolve().with_name("static")
+_FILES = {
+    "/": ("index.html", "text/html; charset=utf-8"),
+    "/icon.svg": ("icon.svg", "image/svg+xml"),
+    "/page.css": ("page.css", "text/css; charset=utf-8"),
+    "/page.js": ("page.js", "text/javascript; charset=utf-8"),
+}
+_METHODS: Dict[str, Tuple[str, ...]] = {**{path: ("GET", "HEAD") for path in _FILES}, "/query": ("POST",)}
+_HEADERS = {
+    "Cache-Control": "no-store",
+    "Content-Security-Policy": "default-src 'none'; script-src 'self'; style-src 'self'; connect-src 'self'; img-src 'self'; "
+    "base-uri 'none'; form-action 'none'; frame-ancestors 'none'",
+    "Cross-Origin-Resource-Policy": "same-origin",
+    "Referrer-Policy": "no-referrer",
+    "X-Content-Type-Options": "nosniff",
+}
+# A page elsewhere may let a name of its own stand for this machine's address, but not for these.
+_LOOPBACK = re.compile(r"(?:localhost|127\.0\.0\.1|\[::1\])(?::\d{1,5})?", re.IGNORECASE)
+# (in a text of the JSON form the quotes have backslashes before them, so these are members)
+_NODE = re.compile(rb'"type":"(?:aggregation|unaryExpr|binaryExpr|parenExpr|subquery|\w+Literal|\w+Selector|call)"')
+
+
+def describe(query: str) -> Dict[str, Any]:
+    """What the page shows of a query: its `line`, its layout `pretty` and its `drawing`, or an `error` with its place.
+
+    A text is None where it is too long to show; `note` says why there is no drawing.
+    """
+    try:
+        texts = {"line": canonical(query), "pretty": format(query)}
+    except QueryError as error:
+        return {"error": _error(error)}
+    return {**{name: text if len(text) <= MAX_TEXT else None for name, text in texts.items()}, **_drawing(query)}
+
+
+def _error(error: QueryError) -> Dict[str, Any]:
+    """The error, with the query in three parts: the second one is what it is about."""
+    start, end = error.start, error.end
+    parts = [error.query[:start], error.query[start:end], error.query[end:]]
+    return {"message": error.message, "line": error.line, "column": error.column, "parts": parts}
+
+
+def _drawing(query: str) -> Dict[str, Any]:
+    text, result = _library.print_query(query.encode(), _library.Mode.JSON)
+    if result.status != _library.Status.OK:
+        return {"drawing": None, "note": f"no tree to draw: {text.decode()}"}
+    nodes = sum(1 for _ in _NODE.finditer(text))
+    if nodes > MAX_NODES:
+        return {"drawing": None, "note": f"too large to draw: {nodes:,} nodes"}
+    return {"drawing": drawing.svg(json.loads(text)), "note": None}
+
+
+class _Rejection(Exception):
+    """Why a request is rejected, and with which status."""
+
+    def __init__(self, status: HTTPStatus, why: str) -> None:
+        super().__init__(why)
+        self.status = status
+
+
+class Handler(BaseHTTPRequestHandler):
+    """Responds to one request."""
+
+    server_version = "promql"
+    sys_version = ""
+    timeout = 10
+
+    def do_GET(self) -> None:
+        try:
+            self._look_at_host()
+            self._look_at_method()
+            if self.path == "/query":
+                self._send_json(HTTPStatus.OK, describe(self._query()))
+            else:
+                name, kind = _FILES[self.path]
+                self._send(HTTPStatus.OK, kind, (_STATIC / name).read_bytes())
+        except _Rejection as rejection:
+            self._send_json(rejection.status, {"rejected": str(rejection)})
+
+    do_HEAD = do_POST = do_PUT = do_PATCH = do_DELETE = do_OPTIONS = do_GET
+
+    def _look_at_host(self) -> None:
+        hosts: List[str] = self.headers.get_all("Host", [])
+        if len(hosts) != 1 or not _LOOPBACK.fullmatch(hosts[0]):
+            raise _Rejection(HTTPStatus.MISDIRECTED_REQUEST, "the host is not this machine")
+
+    def _look_at_method(self) -> None:
+        if self.path not in _METHODS:
+            raise _Rejection(HTTPStatus.NOT_FOUND, "there is nothing here")
+        if self.command not in _METHODS[self.path]:
+            raise _Rejection(HTTPStatus.METHOD_NOT_ALLOWED, f"the method is not {' or '.join(_METHODS[self.path])}")
+
+    def _query(self) -> str:
+        """The query of the body."""
+        if self.headers.get_content_type() != "application/json":
+            raise _Rejection(HTTPStatus.UNSUPPORTED_MEDIA_TYPE, "the body is not application/json")
+        try:
+            value = json.loads(self._body().decode())
+            query = value["query"]
+            query.encode()
+        except (ValueError, RecursionError, TypeError, KeyError, AttributeError):
+            raise _Rejection(HTTPStatus.BAD_REQUEST, "the body is not an object with a text `query`") from None
+        return str(query)
+
+    def _body(self) -> bytes:
+        length = self.headers.get("Content-Length")
+        if length is None:
+            raise _Rejection(HTTPStatus.LENGTH_REQUIRED, "the length of the body is missing")
+        if not re.fullmatch(r"[0-9]{1,18}", length):
+            raise _Rejection(HTTPStatus.BAD_REQUEST, "the length of the body is not a number")
+        body = self._read(min(int(length), _MAX_SKIPPED))
+        if int(length) > MAX_BODY:
+            raise _Rejection(HTTPStatus.REQUEST_ENTITY_TOO_LARGE, f"the body has more than {MAX_BODY:,} bytes")
+        return body
+
+    def _read(self, count: int) -> bytes:
+        try:
+            return self.rfile.read(count)
+        except socket.timeout:
+            raise _Rejection(HTTPStatus.REQUEST_TIMEOUT, "the body did not come in time") from None
+
+    def _send_json(self, status: HTTPStatus, value: Dict[str, Any]) -> None:
+        self._send(status, "application/json", json.dumps(value).encode())
+
+    def _send(self, status: HTTPStatus, kind: str, body: bytes) -> None:
+        self.send_response(status)
+        self.send_header("Content-Type", kind)
+        self.send_header("Content-Length", str(len(body)))
+        if status == HTTPStatus.METHOD_NOT_ALLOWED:
+            self.send_header("Allow", ", ".join(_METHODS[self.path]))
+        self.end_headers()
+        if self.command != "HEAD":
+            self.wfile.write(body)
+
+    def end_headers(self) -> None:
+        for name, value in _HEADERS.items():
+            self.send_header(name, value)
+        super().end_headers()
+
+    def log_message(self, format: str, *words: object) -> None:
+        """Says nothing: there is a request for each letter that is typed."""
+
+
+class Server(ThreadingHTTPServer):
+    request_queue_size = 64
+
+    def server_bind(self) -> None:
+        # (that of HTTPServer looks up the name of the address, perhaps in the network)
+        socketserver.TCPServer.server_bind(self)
+        self.server_name, self.server_port = ADDRESS, self.socket.getsockname()[1]
+
+    def handle_error(self, request: Any, client_address: Any) -> None:
+        # (a browser closes the connection where it no longer wants the response)
+        if not isinstance(sys.exc_info()[1], ConnectionError):
+            super().handle_error(request, client_address)
+
+
+def serve(port: int = DEFAULT_PORT) -> int:
+    """Serves the page until it is interrupted, on a free port for 0, and returns the status for the shell."""
+    try:
+        server = Server((ADDRESS, port), Handler)
+    except OSError as error:
+        print(f"port {port}: {error.strerror}", file=sys.stderr)
+        return 1
+    with server:
+        print(f"http://{ADDRESS}:{server.server_port}/", flush=True)
+        try:
+            server.serve_forever()
+        except KeyboardInterrupt:
+            pass
+    return 0
+
+
+def add_parser(subparsers: argparse._SubParsersAction[argparse.ArgumentParser]) -> None:
+    text = "serve a page to try queries in, on this machine alone"
+    parser = subparsers.add_parser("serve", help=text, description=text)
+    parser.add_argument("--port", type=_port, default=DEFAULT_PORT, help="the port (%(default)s); 0 for a free one")
+    parser.set_defaults(run=lambda options: serve(options.port))
+
+
+def _port(text: str) -> int:
+    if not re.fullmatch(r"[0-9]{1,5}", text) or int(text) > 65_535:
+        raise argparse.ArgumentTypeError("a port is a number from 0 to 65535")
+    return int(text)

@@ -1,0 +1,91 @@
+"""The queries of a file, with the place of each of their characters."""
+
+from __future__ import annotations
+
+from typing import Callable, Iterable, List, NamedTuple, Protocol, Sequence
+
+import promql
+
+from .files import BLANKS, Fault
+
+SameQuery = Callable[[str, str], bool]
+
+
+class Edit(NamedTuple):
+    """A text in place of the part `text[start:end]` of a file."""
+
+    start: int
+    end: int
+    text: str
+
+
+class PlacedText:
+    """A text that is put together of parts of a file, with the place of each character there."""
+
+    def __init__(self) -> None:
+        self.text = ""
+        self.offsets: List[int] = []
+
+    def put(self, text: str, offset: int) -> None:
+        """Adds a text which the file has at this place, character by character."""
+        self.text += text
+        self.offsets.extend(range(offset, offset + len(text)))
+
+    def put_all(self, text: str, offset: int) -> None:
+        """Adds a text whose characters all have the same place."""
+        self.text += text
+        self.offsets.extend([offset] * len(text))
+
+    def copy(self, other: PlacedText, start: int, end: int) -> None:
+        self.text += other.text[start:end]
+        self.offsets.extend(other.offsets[start:end])
+
+
+class Spelling(Protocol):
+    """How a file spells a query."""
+
+    def room(self, width: int) -> int:
+        """How wide the query may be in a file of this width."""
+
+    def edit(self, text: str) -> Edit:
+        """What writes this query there instead."""
+
+
+class Query(NamedTuple):
+    """A query of a file."""
+
+    value: str
+    # Of each character of the value, and of its end.
+    offsets: Sequence[int]
+    spelling: Spelling
+    # Why it is neither checked nor formatted, or why it is not formatted.
+    skipped: str = ""
+    kept: str = ""
+
+    @property
+    def text(self) -> str:
+        return self.value.rstrip(BLANKS)
+
+    def fault(self, start: int, end: int, message: str) -> Fault:
+        """A fault of the part `text[start:end]` of the query."""
+        return Fault(self.offsets[start], self.offsets[end], message)
+
+    def whole(self, message: str) -> Fault:
+        return self.fault(0, len(self.text), message)
+
+    def rejected(self, error: ValueError) -> Fault:
+        """The fault of a query for which a function of the package raised this."""
+        if isinstance(error, promql.QueryError):
+            return self.fault(error.start, error.end, error.message)
+        if isinstance(error, UnicodeEncodeError):
+            return self.fault(error.start, error.end, "half of a surrogate pair")
+        return self.whole(str(error))
+
+
+def edited(text: str, edits: Iterable[Edit]) -> str:
+    """A text with its parts replaced, none of which overlaps another."""
+    at, parts = 0, []
+    for edit in sorted(edits):
+        parts += [text[at : edit.start], edit.text]
+        at = edit.end
+    return "".join([*parts, text[at:]])

@@ -1,0 +1,199 @@
+"""How YAML writes a text: the place of each character of a scalar, and a scalar of another text in its stead."""
+
+from __future__ import annotations
+
+import re
+import sys
+from typing import Iterator, List, Match, NamedTuple, Optional, Tuple
+
+from .files import BLANKS, BREAK
+from .queries import Edit, PlacedText
+
+_BREAK = re.compile(BREAK)
+_LINE = re.compile(rf"([^\r\n]*)({BREAK}|\Z)")
+_FOLD = re.compile(rf"[ \t]*{BREAK}(?:[ \t]*{BREAK})*[ \t]*")
+_CONTINUATION = re.compile(rf"\\{BREAK}((?:[ \t]*{BREAK})*)[ \t]*")
+_ESCAPE = re.compile(r"\\(?:x([0-9A-Fa-f]{2})|u([0-9A-Fa-f]{4})|U([0-9A-Fa-f]{8})|(.))")
+_BELOW = re.compile(rf"[^\r\n]*(?:{BREAK}[ \t]*)*{BREAK}( *)#")
+# What an escape of one character means.
+_ESCAPES = dict(zip('0abt\tnvfre "/\\N_LP', '\0\a\b\t\t\n\v\f\r\x1b "/\\\x85\xa0\u2028\u2029'))
+_HEADER = re.compile(r"[|>]([-+1-9]*)([^\r\n]*)")
+# What only a double-quoted scalar can have, by an escape.
+_UNPRINTABLE = re.compile("[^\n\x20-\x7e\xa0-\u2027\u202a-\ud7ff\ue000-\ufefe\uff00-\ufffd\U00010000-\U0010ffff]")
+_PLAIN = re.compile(r"(?:[^-?:,\[\]{}#&*!|>'\"%@` ]|[-?:](?! |\Z))(?:(?!: | #|:\Z| \Z).)*")
+_NULLS = ("", "~", "null", "Null", "NULL")
+# The columns of the key with what follows it, and how much farther in than the key a block is.
+_KEY = len("expr: ")
+_STEP = 2
+
+
+class Scalar(NamedTuple):
+    """A scalar of a file, `source[start:end]`, without its anchor and its tag."""
+
+    source: str
+    start: int
+    end: int
+    # Where the token before it ends.
+    before: int
+    # A quote, `|` or `>`, or nothing for a plain scalar.
+    style: str
+    in_flow: bool
+    # The column of its key, from 0.
+    column: int
+
+    def offsets(self, value: str) -> Optional[List[int]]:
+        """The place of each character of this value, and of its end; or nothing, where it is read as another value here."""
+        for reading in _blocks(self) if self.is_block() else [_flow(self)]:
+            if reading.text == value:
+                return [*reading.offsets, self._content_end()]
+        return None
+
+    def room(self, width: int) -> int:
+        one_line = self.in_flow or self.has_comment_below()
+        return sys.maxsize if one_line else max(width - self.column - _KEY, 0)
+
+    def edit(self, text: str) -> Edit:
+        if self.is_block():
+            return self._edit_block(text)
+        if "\n" in text and not _UNPRINTABLE.search(text):
+            return self._edit_to_block(text)
+        return Edit(self.start, self.end, self._one_line(text))
+
+    def is_block(self) -> bool:
+        return self.style in ("|", ">")
+
+    def has_comment_below(self) -> bool:
+        """Whether the next line but blank ones is a comment as far in as the lines of a block, which would be of the block."""
+        below = _BELOW.match(self.source, self._content_end())
+        return below is not None and len(below[1]) >= self.column + _STEP
+
+    def _content_end(self) -> int:
+        """Where the text ends: before a quote, and in a block before the blank lines after it."""
+        if self.is_block():
+            return self.start + len(self.source[self.start : self.end].rstrip(BLANKS))
+        return self.end - len(self.style)
+
+    def _one_line(self, text: str) -> str:
+        if self.style == '"' or _UNPRINTABLE.search(text):
+            return _double_quoted(text)
+        if self.style == "'" or not _is_plain(text, self.in_flow):
+            return "'" + text.replace("'", "''") + "'"
+        return text
+
+    def _edit_block(self, text: str) -> Edit:
+        """A block of the same chomping, in the same place, with the comment that its first line has."""
+        header, last = _HEADER.match(self.source, self.start), _LINE.match(self.source, self._content_end())
+        assert header and last
+        if _UNPRINTABLE.search(text):
+            return Edit(self.start, last.end(1), _double_quoted(text) + header[2])
+        style = "|" if "\n" in text else self.style
+        return Edit(self.start, last.end(1), self._block(style, _chomping(header), header[2], text))
+
+    def _edit_to_block(self, text: str) -> Edit:
+        """A block in place of a scalar which is none, on the line of the key where nothing but blank lines is between."""
+        rest = _LINE.match(self.source, self.end)
+        assert rest
+        first = _LINE.match(self.source, self.before, self.start)
+        if first and first[2] and not self.source[first.end() : self.start].strip(BLANKS):
+            return Edit(self.before, rest.end(1), " " + self._block("|", "-", first[1] + rest[1], text))
+        return Edit(self.start, rest.end(1), self._block("|", "-", rest[1], text))
+
+    def _block(self, style: str, chomping: str, rest: str, text: str) -> str:
+        """A block scalar without its last line end. It says its indentation where its first line has more."""
+        indentation = str(_STEP) if text.startswith(" ") else ""
+        found = _BREAK.search(self.source, self.start) or _BREAK.search(self.source)
+        line_end = found[0] if found else "\n"
+        lines = [" " * (self.column + _STEP) + line for line in text.split("\n")]
+        return line_end.join([style + indentation + chomping + rest, *lines])
+
+
+def _flow(scalar: Scalar) -> PlacedText:
+    """What a scalar says that is no block: line ends are folded."""
+    quotes = len(scalar.style)
+    source, at, end, text = scalar.source, scalar.start + quotes, scalar.end - quotes, PlacedText()
+    while at < end:
+        fold = _FOLD.match(source, at, end)
+        if fold:
+            _fold(text, [found.start() for found in _BREAK.finditer(source, at, fold.end())])
+            at = fold.end()
+        elif scalar.style == '"' and source[at] == "\\":
+            at = _unescape(text, source, at, end)
+        else:
+            text.put(source[at], at)
+            at += 2 if scalar.style == "'" and source[at] == "'" else 1
+    return text
+
+
+def _fold(text: PlacedText, breaks: List[int]) -> None:
+    """Of line ends in a row the first is left out; one alone is a space."""
+    if len(breaks) == 1:
+        text.put(" ", breaks[0])
+    _keep(text, breaks[1:])
+
+
+def _keep(text: PlacedText, breaks: List[int]) -> None:
+    for offset in breaks:
+        text.put("\n", offset)
+
+
+def _unescape(text: PlacedText, source: str, at: int, end: int) -> int:
+    """Adds what an escape means, and returns where it ends."""
+    continuation = _CONTINUATION.match(source, at, end)
+    if continuation:
+        _keep(text, [found.start() for found in _BREAK.finditer(source, *continuation.span(1))])
+        return continuation.end()
+    escape = _ESCAPE.match(source, at, end)
+    if not escape:
+        return end
+    code = escape[1] or escape[2] or escape[3]
+    text.put(chr(int(code, 16)) if code else _ESCAPES.get(escape[4], ""), at)
+    return escape.end()
+
+
+def _blocks(scalar: Scalar) -> Iterator[PlacedText]:
+    """What a block says, by each indentation that its lines could have: the one that it has depends on what is around it."""
+    header = _HEADER.match(scalar.source, scalar.start)
+    first = _LINE.match(scalar.source, scalar.start)
+    assert header and first
+    lines = [found.span(1) for found in _LINE.finditer(scalar.source, first.end(), scalar.end) if found[0]]
+    texts = [scalar.source[slice(*span)] for span in lines]
+    depth = min((len(text) - len(text.lstrip(" ")) for text in texts if text.strip(" ")), default=1)
+    for indent in range(depth, 0, -1):
+        yield _block(scalar, lines, indent, _chomping(header))
+
+
+def _chomping(header: Match[str]) -> str:
+    return header[1].strip("123456789")
+
+
+def _block(scalar: Scalar, lines: List[Tuple[int, int]], indent: int, chomping: str) -> PlacedText:
+    """What a block of this indentation says."""
+    text, before = PlacedText(), " "
+    breaks: List[int] = []
+    for start, stop in lines:
+        content = scalar.source[start + indent : stop]
+        if content:
+            folds = scalar.style == ">" and before not in " \t" and content[0] not in " \t"
+            (_fold if folds else _keep)(text, breaks)
+            text.put(content, start + indent)
+            before, breaks = content[0], []
+        if stop < scalar.end:
+            breaks.append(stop)
+    _keep(text, breaks[: {"-": 0, "": 1}.get(chomping, len(breaks))])
+    return text
+
+
+def _is_plain(text: str, in_flow: bool) -> bool:
+    """Whether a text of one line may be a plain scalar."""
+    if text in _NULLS or (in_flow and re.search(r"[,:?\[\]{}]", text)):
+        return False
+    return bool(_PLAIN.fullmatch(text))
+
+
+def _double_quoted(text: str) -> str:
+    escaped = text.replace("\\", "\\\\").replace('"', '\\"').replace("\n", "\\n")
+    return '"' + _UNPRINTABLE.sub(lambda found: _escape(ord(found[0])), escaped) + '"'
+
+
+def _escape(code: int) -> str:
+    return f"\\x{code:02x}" if code < 0x100 else f"\\u{code:04x}" if code < 0x10000 else f"\\U{code:08x}"
