@@ -26,7 +26,7 @@ extern "C" {
 #endif
 
 /* The version of this header; promql_version has that of the library. */
-#define PROMQL_VERSION "0.1.0"
+#define PROMQL_VERSION "0.2.0"
 
 /* How promql_print prints. */
 enum promql_mode {
@@ -35,7 +35,7 @@ enum promql_mode {
     PROMQL_JSON = 2    /* the JSON form, without a space */
 };
 
-/* 0, or why the buffer does not have what was asked for. With 1 to 6 and with 9 the text is the message of the error. */
+/* 0, or why the buffer does not have what was asked for. With 1 to 6, 9, 11 and 12 the text is the message of the error. */
 enum promql_status {
     PROMQL_OK = 0,
     PROMQL_OUT_OF_MEMORY = 1,
@@ -44,8 +44,10 @@ enum promql_status {
     PROMQL_NUMBER_TOO_WIDE = 6,  /* PROMQL_JSON: a number of milliseconds is below -2^63 or above 2^64 - 1 */
     PROMQL_BUFFER_TOO_SMALL = 8, /* the text has more bytes than the buffer: `length` */
     PROMQL_UNKNOWN_MODE = 9,     /* or a level above 65535 */
-    PROMQL_BAD_POINTER = 10      /* a pointer is NULL though its length is not 0, a length is above PTRDIFF_MAX, or the
+    PROMQL_BAD_POINTER = 10,     /* a pointer is NULL though its length is not 0, a length is above PTRDIFF_MAX, or the
                                     result is NULL; there is no text */
+    PROMQL_BAD_MATCHER = 11,     /* the matcher is none, or is of the metric's name, __name__ */
+    PROMQL_UNFAITHFUL = 12       /* the text that was made would not mean the changed query */
 };
 
 struct promql_result {
@@ -68,6 +70,17 @@ uint32_t promql_print(const char *query, size_t query_length, uint32_t mode, uin
  * is the key of a cache (docs/guide/cache.md). */
 uint32_t promql_canonical(const char *query, size_t query_length, char *buffer, size_t buffer_size,
                           struct promql_result *result);
+
+/* Prints a query on one line with a matcher in every selector, in each of its or-groups: a tenant's, say. The matcher is written
+ * as between the braces of a selector, as in namespace="team-a". The text was read again, and means the changed query
+ * (docs/guide/rewriting.md). */
+uint32_t promql_enforce(const char *query, size_t query_length, const char *matcher, size_t matcher_length, char *buffer,
+                        size_t buffer_size, struct promql_result *result);
+
+/* Shows what a query names, as JSON: its functions, labels and metrics, and its selectors with their times
+ * (docs/guide/bindings.md, "What a query names"). */
+uint32_t promql_collect(const char *query, size_t query_length, char *buffer, size_t buffer_size,
+                        struct promql_result *result);
 
 /* Checks a query. The text is empty where it is accepted. */
 uint32_t promql_check(const char *query, size_t query_length, char *buffer, size_t buffer_size,
