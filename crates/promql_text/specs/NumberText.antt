@@ -19,6 +19,10 @@ use Rattle.promql_text.specs.declared.number.NumberFault.TheVariants as fault
 abbrev pub without_whitespace : Text → Text
 without_whitespace s = filter is_not_whitespace (chars s)
 
+-- a character of ASCII that is seen: neither white space nor a control character
+abbrev pub is_visible : ℕ → Bool
+is_visible c = nat_le 33 c && nat_le c 126
+
 -- ---- hexadecimal and octal texts
 
 abbrev pub is_x : ℕ → Bool

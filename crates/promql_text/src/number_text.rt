@@ -228,6 +228,18 @@ fn short_whole(text: &str) -> Option<u64>
     }
 }
 
+/// Whether the text is in visible characters of ASCII alone.
+fn is_visible(text: &str) -> bool
+    ensures { result ≡ list_all spec.is_visible text.now }
+{
+    for b in text.as_bytes() {
+        if !matches!(*b, b'!'..=b'~') {
+            return false;
+        }
+    }
+    true
+}
+
 /// The number of a text, in which white space counts for nothing: decimal with a point and an
 /// exponent, `inf`, `infinity` or `nan` in any case, hexadecimal after `0x`, or octal after `0`.
 ///
@@ -242,6 +254,7 @@ pub fn parse_str_radix(text: &str) -> Result<Number, NumberFault>
 {
     match short_whole(text) {
         Some(n) => Ok(Number::Finite(Decimal::whole(false, n))),
+        None if is_visible(text) => number_of(text.as_bytes()),
         None => number_of(WithoutWhitespace(text)),
     }
 }

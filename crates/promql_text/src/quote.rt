@@ -74,7 +74,8 @@ pub fn unquote_string(alloc: Global, s: &str) -> Result<String, QuoteError>
 {
     let mut rest = s.chars();
     let quote = opening(&mut rest).ok_or(QuoteError::InvalidSyntax)?;
-    let mut out = String::new(alloc);
+    // A character takes no more bytes than its spelling.
+    let mut out = String::with_capacity(alloc, s.len())?;
     while let Some(c) = rest.next() {
         if c == quote {
             return match rest.next() {
