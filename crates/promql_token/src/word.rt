@@ -34,7 +34,10 @@ fn name_id(word: &[u8]) -> TokenId
 fn word_id(word: &[u8], rest: &[u8]) -> TokenId
     ensures { result ≡ spec.word_id word.now rest.now }
 {
-    let id = keyword_in_any_case(word).unwrap_or(name_id(word));
+    let id = match keyword_in_any_case(word) {
+        Some(id) => id,
+        None => name_id(word),
+    };
     if is_fill(id) && !opens(rest) {
         T_IDENTIFIER
     } else {
