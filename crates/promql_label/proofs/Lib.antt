@@ -13,7 +13,12 @@ pub mod TextOrders
 pub mod OneOrder
 pub mod PatternSizes
 pub mod PlacesSet
+pub mod PlainAtoms
+pub mod PlainClasses
+pub mod PlainCounts
 pub mod PlainPatternsRead
+pub mod PlainRepetitions
+pub mod PlainScans
 pub mod PrintedMatchers
 pub mod PrintedTexts
 pub mod PrintedTokens

@@ -1,349 +1,101 @@
 -- The grammar of `regex` reads plain patterns, by themselves and anchored.
-use Rattle.std.proofs.Common.{◌≡◌, ◌⊎◌, ℕ, zero, suc, ◌+◌, ◌*◌, ◌<◌, ◌≤◌, max, Bool, true, false, not, ◌&&◌, ◌||◌, ◌==◌, cond, if◌then◌else◌, List, [], ◌∷◌, ◌++◌, length, drop, Option, Some, None, IsSomeAnd, codes, chars, refl, sym, ap, ap₂, ◌∙◌, append-nil, length-append, ne_eqb, subst, inl, inr, ⊎_elim, arith, nat_lt, true≢false}
-use Rattle.std.proofs.lemmas.Bool.{cases_lt, or_from, or_parts, or_right}
-use Rattle.std.proofs.lemmas.Bool.Decides.{eqb_tells, nat_tests}
+use Rattle.std.proofs.Common.{◌≡◌, ℕ, zero, suc, ◌+◌, ◌-◌, ◌*◌, ◌^◌, ◌<◌, ◌≤◌, Bool, true, false, not, ◌||◌, ◌==◌, if◌then◌else◌, List, [], ◌∷◌, ◌++◌, length, drop, Option, Some, None, IsSomeAnd, codes, refl, sym, ap, ◌∙◌, append-nil, length-append, subst, ⊎_elim, arith, nat_lt, true≢false}
+use Rattle.std.proofs.lemmas.Bool.{eqb-true, lt-ltb, or_cases, or_right}
+use Rattle.std.proofs.lemmas.List.{length_push}
 use Rattle.std.proofs.lemmas.Str.{chars-IsAscii, IsAscii-append}
 use Rattle.std.proofs.lemmas.Str.Ascii.{IsAscii-cons, IsAscii-nil}
 use Rattle.std.specs.Str.{IsAscii}
 use Rattle.regex_syntax.proofs.Written.{grammar}
-use Rattle.regex_syntax.specs.Brackets.{Nested, flat, join, deepest}
-use Rattle.regex_syntax.specs.Grammar.{Place, Names, atom, bounds, branches, item, items, join_parts, read, repetitions, with_repetitions}
-use Rattle.regex_syntax.specs.Reading.{◌>>=◌, ◌∈◌, is_at, is_empty}
-use Rattle.regex.specs.Patterns.{Re, alt_all, cat_all, default_config}
+use Rattle.regex_syntax.specs.Brackets.{Nested, deepest}
+use Rattle.regex_syntax.specs.Grammar.{Place, Names, atom, branches, item, items, join_parts, read, repetitions, with_repetitions}
+use Rattle.regex_syntax.specs.Reading.{◌>>=◌, ◌>>◌, ◌∈◌, first, is_at, is_empty, skip}
+use Rattle.regex.specs.Patterns.{Re, alt_all, cat_all, default_config, group as in_group}
 use Rattle.promql_text.specs.Texts.{Text}
 use Rattle.promql_label.specs.Answers.{anchor, IsRead, IsReadPair, is_read}
+use Rattle.promql_label.specs.declared.plain.After.TheVariants as after
+use Rattle.promql_label.specs.PlainPatterns.{is_plain, next}
 use Rattle.promql_label.proofs.Reading.{read_within_limit}
-use Rattle.promql_label.specs.PlainPatterns.{is_plain, is_plain_after, is_plain_byte, is_repetition}
+use Rattle.promql_label.proofs.PlainAtoms.{AtomRead, atom_up_to, byte_is_read, escape_is_read, not_empty}
+use Rattle.promql_label.proofs.PlainClasses.{at_most_one, class_is_read}
+use Rattle.promql_label.proofs.PlainRepetitions.{AfterItem, end_of_pattern, ends_pattern, repetition_is_read}
+use Rattle.promql_label.proofs.PlainScans.{Begins, group, close, branch, class, escape, byte, Plain, close_next, colon_next, escaped_next, group_goes_on, plain_ascii, start_begins, turned}
 
 then_some : {A B : Type 0} (o : Option A) (P : A → Type 0) (f : A → Option B) (Q : B → Type 0)
     → IsSomeAnd o P → ((a : A) → P a → IsSomeAnd (f a) Q) → IsSomeAnd (o >>= f) Q
 then_some None P f Q h next = absurd h
 then_some (Some a) P f Q h next = next a h
 
-both : (a b : Bool) → (a && b) ≡ true → (a ≡ true) × (b ≡ true)
-both true b h = (refl, h)
-both false b h = absurd (true≢false (sym h))
-
--- a byte that is tested as this is no operator and opens nothing
-abbrev is_ordinary : ℕ → Bool
-is_ordinary b = not (b ∈ "|)") && not (b ∈ "(") && not (b ∈ "?*+{") && not (b ∈ "[") && not (b ∈ "\\") && not (b ∈ "^") && not (b ∈ "$")
-
-abbrev plain_are_ordinary : ℕ → Bool
-plain_are_ordinary zero = true
-plain_are_ordinary (suc n) = (not (is_plain_byte n) || is_ordinary n) && plain_are_ordinary n
-
-ordinary_below : (n b : ℕ) → b < n → plain_are_ordinary n ≡ true → (not (is_plain_byte b) || is_ordinary b) ≡ true
-ordinary_below zero b less all = absurd (omega (arith, less))
-ordinary_below (suc n) b less all = ⊎_elim
-    (λ (below : b < n). ordinary_below n b below (both _ _ all).1)
-    (λ (past : n ≤ b). let last : n ≡ b = omega (arith, less, past) in
-    subst (λ m. (not (is_plain_byte m) || is_ordinary m) ≡ true) last (both _ _ all).0)
-    (cases_lt b n)
-
--- what the grammar tests a byte for
-record Ordinary (b : ℕ) : Type 0 where
-  ends : (b ∈ "|)") ≡ false
-  opens : (b ∈ "(") ≡ false
-  repeats : (b ∈ "?*+{") ≡ false
-  brackets : (b ∈ "[") ≡ false
-  escapes : (b ∈ "\\") ≡ false
-  starts : (b ∈ "^") ≡ false
-  finishes : (b ∈ "$") ≡ false
-
-not_true : (b : Bool) → not b ≡ true → b ≡ false
-not_true true h = absurd (true≢false (sym h))
-not_true false h = refl
-
-none_of : (a b c d e f g : Bool) → (not a && not b && not c && not d && not e && not f && not g) ≡ true
-    → (a ≡ false) × (b ≡ false) × (c ≡ false) × (d ≡ false) × (e ≡ false) × (f ≡ false) × (g ≡ false)
-none_of a b c d e f g h =
-    let to_f = both (not a && not b && not c && not d && not e && not f) (not g) h in
-    let to_e = both (not a && not b && not c && not d && not e) (not f) to_f.0 in
-    let to_d = both (not a && not b && not c && not d) (not e) to_e.0 in
-    let to_c = both (not a && not b && not c) (not d) to_d.0 in
-    let to_b = both (not a && not b) (not c) to_c.0 in
-    let to_a = both (not a) (not b) to_b.0 in
-    (not_true a to_a.0, not_true b to_a.1, not_true c to_b.1, not_true d to_c.1, not_true e to_d.1, not_true f to_e.1, not_true g to_f.1)
-
-tests_of : (b : ℕ) → is_ordinary b ≡ true → Ordinary b
-tests_of b h =
-    let (ends, opens, repeats, brackets, escapes, starts, finishes) = none_of (b ∈ "|)") (b ∈ "(") (b ∈ "?*+{") (b ∈ "[") (b ∈ "\\") (b ∈ "^") (b ∈ "$") h in
-    record {
-      ends = ends;
-      opens = opens;
-      repeats = repeats;
-      brackets = brackets;
-      escapes = escapes;
-      starts = starts;
-      finishes = finishes;
-    }
-
-plain_below : (b : ℕ) → is_plain_byte b ≡ true → b < 128
-plain_below b h = grind (arith, nat_tests)
-
-ordinary : (b : ℕ) → is_plain_byte b ≡ true → Ordinary b
-ordinary b h = tests_of b (subst (λ p. (not p || is_ordinary b) ≡ true) h (ordinary_below 128 b (plain_below b h) refl))
-
--- an item of a pattern is read up to this text, nested no deeper than so
-abbrev UpTo : ℕ → Text → Nested Re × Text → Type 0
-UpTo depth t read = (read.0.depth ≤ depth) × (read.1 ≡ t)
-
-atom_is_read : (b : ℕ) (t : Text) → is_plain_byte b ≡ true → IsSomeAnd (atom default_config (b ∷ t)) (UpTo 0 t)
-unfolding grammar
-atom_is_read b t h = go (b ∈ ".") refl
-  where
-    go : (dotted : Bool) → (b ∈ ".") ≡ dotted → IsSomeAnd (atom default_config (b ∷ t)) (UpTo 0 t)
-    go true e = rw ((ordinary b h).repeats, (ordinary b h).brackets, (ordinary b h).escapes, e) (omega arith, refl)
-    go false e = rw ((ordinary b h).repeats, (ordinary b h).brackets, (ordinary b h).escapes, (ordinary b h).starts, (ordinary b h).finishes, e) (omega arith, refl)
-
-repetition_below : (c : ℕ) → is_repetition c ≡ true → c < 128
-repetition_below c op = grind (arith, nat_tests)
-
-not_repeated : (n : ℕ) (sub : Nested Re) (t : Text) → is_at "?*+{" t ≡ false → repetitions default_config (suc n) sub t ≡ Some (sub, t)
-unfolding grammar
-not_repeated n sub t h = rw h refl
-
--- a byte that begins no repetition is no `?` either
-not_lazy : (t : Text) → is_at "?*+{" t ≡ false → is_at "?" t ≡ false
-unfolding grammar
-not_lazy [] h = refl
-not_lazy (b ∷ z) h = (or_parts (b == 63) _ h).0
-
--- an operator of repetition, after which no other comes
-Repeats : ℕ → Type 0
-Repeats c = (n : ℕ) (sub : Nested Re) (t : Text) → is_at "?*+{" t ≡ false
-    → IsSomeAnd (repetitions default_config (suc (suc n)) sub (c ∷ t)) (UpTo (sub.depth + 1) t)
-
-star_repeats : Repeats 42
-unfolding grammar Repeats
-star_repeats n sub t h = rw (not_lazy t h, h) (omega arith, refl)
-
-plus_repeats : Repeats 43
-unfolding grammar Repeats
-plus_repeats n sub t h = rw (not_lazy t h, h) (omega arith, refl)
-
-question_mark_repeats : Repeats 63
-unfolding grammar Repeats
-question_mark_repeats n sub t h = rw (not_lazy t h, h) (omega arith, refl)
-
-repeats : (c : ℕ) → is_repetition c ≡ true → Repeats c
-repeats c h = ⊎_elim
-    (λ star. subst Repeats (sym star.1) star_repeats)
-    (λ no_star. ⊎_elim
-    (λ plus. subst Repeats (sym plus.1) plus_repeats)
-    (λ no_plus. ⊎_elim
-    (λ mark. subst Repeats (sym mark.1) question_mark_repeats)
-    (λ none. absurd (true≢false (sym h ∙ or_from _ _ (or_from _ _ no_star.0 no_plus.0) none.0)))
-    (eqb_tells c 63))
-    (eqb_tells c 43))
-    (eqb_tells c 42)
-
--- what comes after a plain pattern: the end, `|` or `)`
-abbrev ends_branch : Text → Bool
-ends_branch r = is_empty r || is_at "|)" r
-
--- the rest of a plain pattern from its first `|` on
-abbrev from_bar : Text → Text
-from_bar [] = []
-from_bar (b ∷ z) = if b == 124 then b ∷ z else from_bar z
-
 abbrev place : Names → Text → Place
 place names t = record { config = default_config; names = names; text = t }
 
--- parts are read up to this text, nested no deeper than so
-abbrev Parts : ℕ → Names → Text → List (Nested Re) × Place → Type 0
-Parts depth names t read = (deepest read.0 ≤ depth) × (read.1 ≡ place names t)
+-- this text is left
+abbrev IsLeft : Text → Place → Type 0
+IsLeft t p = (names : Names) × (p ≡ place names t)
 
-ItemsAreRead : ℕ → Names → Text → Text → Type 0
-ItemsAreRead n names u r = IsSomeAnd (items n (place names (u ++ r))) (Parts 1 names (from_bar u ++ r))
+-- ---- counts of groups
 
-items_end : (n : ℕ) (names : Names) (r : Text) → ends_branch r ≡ true → ItemsAreRead (suc n) names [] r
-unfolding grammar ItemsAreRead
-items_end n names r h = rw h (omega arith, refl)
+-- each group that is closed was opened, there are few of them, and no more names
+record Counted (opened closed : ℕ) (names : Names) : Type 0 where
+  balanced : closed ≤ opened
+  few : opened ≤ 50
+  named : length names ≤ opened + 1
 
-not_empty : (b : ℕ) (t : Text) → is_empty (b ∷ t) ≡ false
-not_empty b t = ne_eqb (length (b ∷ t)) 0 (λ e. omega (arith, e))
+-- how deep the items are nested from a place on, after so many groups: each more makes four levels
+abbrev depth_after : ℕ → ℕ
+depth_after opened = 4 * (50 - opened) + 3
+
+-- ---- places
+
+-- a place before the rest of a plain pattern and r
+record Goes (r : Text) (stops : Text → Bool) (opened closed most : ℕ) (p : Place) : Type 0 where
+  now_opened : ℕ
+  now_closed : ℕ
+  names : Names
+  rest : Text
+  is : p ≡ place names (rest ++ r)
+  counted : Counted now_opened now_closed names
+  grows : opened ≤ now_opened
+  balance : now_opened + closed ≡ opened + now_closed
+  plain : Plain now_opened now_closed after.Start rest
+  short : length rest ≤ most
+  stop : stops rest ≡ true
+
+abbrev anywhere : Text → Bool
+anywhere t = true
+
+-- what comes after a branch: the end, `|` or `)`
+abbrev ends_branch : Text → Bool
+ends_branch r = is_empty r || is_at "|)" r
+
+moved : (r : Text) (stops : Text → Bool) (o c o' c' most more : ℕ) (p : Place) → o ≤ o' → o' + c ≡ o + c' → most ≤ more
+    → Goes r stops o' c' most p → Goes r stops o c more p
+moved r stops o c o' c' most more p grows balance le h = record {
+  now_opened = h.now_opened;
+  now_closed = h.now_closed;
+  names = h.names;
+  rest = h.rest;
+  is = h.is;
+  counted = h.counted;
+  grows = omega (arith, grows, h.grows);
+  balance = omega (arith, balance, h.balance);
+  plain = h.plain;
+  short = omega (arith, le, h.short);
+  stop = h.stop;
+}
+
+-- ---- items
 
 -- an item, and the items after it
-item_then : (n : ℕ) (names : Names) (b depth : ℕ) (t next end : Text) → (b ∈ "|)") ≡ false
-    → IsSomeAnd (item (λ inside. join_parts alt_all (branches n inside)) (place names (b ∷ t))) (λ (part, after). (part.depth ≤ depth) × (after ≡ place names next))
-    → IsSomeAnd (items n (place names next)) (Parts depth names end)
-    → IsSomeAnd (items (suc n) (place names (b ∷ t))) (Parts depth names end)
+item_then : (n : ℕ) (names : Names) (b depth : ℕ) (t : Text) (P Q : Place → Type 0) → (b ∈ "|)") ≡ false
+    → IsSomeAnd (item (λ inside. join_parts alt_all (branches n inside)) (place names (b ∷ t))) (λ (part, after). (part.depth ≤ depth) × P after)
+    → ((after : Place) → P after → IsSomeAnd (items n after) (λ (parts, rest). (deepest parts ≤ depth) × Q rest))
+    → IsSomeAnd (items (suc n) (place names (b ∷ t))) (λ (parts, rest). (deepest parts ≤ depth) × Q rest)
 unfolding grammar
-item_then n names b depth t next end goes_on one more = rw (goes_on, not_empty b t)
-    (then_some (item (λ inside. join_parts alt_all (branches n inside)) (place names (b ∷ t))) _ _ (Parts depth names end) one
-    (λ (part, after) h. rw h.1
-    (then_some (items n (place names next)) (Parts depth names end) _ (Parts depth names end) more
-    (λ (parts, rest) h'. (omega (arith, h.0, h'.0), h'.1)))))
-
-one_more : (n : ℕ) → n + 1 ≡ suc n
-one_more n = omega arith
-
--- an item that is a plain byte, before what repeats nothing
-byte_alone : (inner : Place → Option (Nested Re × Place)) (names : Names) (b : ℕ) (t : Text) → is_plain_byte b ≡ true → is_at "?*+{" t ≡ false
-    → IsSomeAnd (item inner (place names (b ∷ t))) (λ (part, after). (part.depth ≤ 1) × (after ≡ place names t))
-unfolding grammar
-byte_alone inner names b t plain h = rw (ordinary b plain).opens
-    (then_some (atom default_config (b ∷ t)) (UpTo 0 t) _ (λ (part, after). (part.depth ≤ 1) × (after ≡ place names t)) (atom_is_read b t plain)
-    (λ (sub, rest) read. rw (read.1, one_more (length t), not_repeated (length t) sub t h) (omega (arith, read.0), refl)))
-
--- an item that is a plain byte under an operator
-byte_repeated : (inner : Place → Option (Nested Re × Place)) (names : Names) (b c : ℕ) (t : Text) → is_plain_byte b ≡ true → is_repetition c ≡ true → is_at "?*+{" t ≡ false
-    → IsSomeAnd (item inner (place names (b ∷ c ∷ t))) (λ (part, after). (part.depth ≤ 1) × (after ≡ place names t))
-unfolding grammar Repeats
-byte_repeated inner names b c t plain op h = rw (ordinary b plain).opens
-    (then_some (atom default_config (b ∷ c ∷ t)) (UpTo 0 (c ∷ t)) _ (λ (part, after). (part.depth ≤ 1) × (after ≡ place names t)) (atom_is_read b (c ∷ t) plain)
-    (λ (sub, rest) read. rw (read.1, one_more (suc (length t)))
-    (then_some (repetitions default_config (suc (suc (length t))) sub (c ∷ t)) (UpTo (sub.depth + 1) t) _ (λ (part, after). (part.depth ≤ 1) × (after ≡ place names t))
-    (repeats c op (length t) sub t h)
-    (λ (whole, end) found. (omega (arith, read.0, found.0), ap (place names) found.1)))))
-
--- how a plain pattern goes on
-PlainNext : Bool → ℕ → Text → Type 0
-PlainNext repeatable b z = ((is_plain_byte b ≡ true) × (is_plain_after true z ≡ true))
-    ⊎ (((b ≡ 124) × (is_plain z ≡ true)) ⊎ ((repeatable ≡ true) × (is_repetition b ≡ true) × (is_plain z ≡ true)))
-
-plain_next : (repeatable : Bool) (b : ℕ) (z : Text) → is_plain_after repeatable (b ∷ z) ≡ true → PlainNext repeatable b z
-unfolding PlainNext
-plain_next repeatable b z h = by_byte (is_plain_byte b) refl
-  where
-    operator : Bool
-    operator = repeatable && is_repetition b && is_plain_after false z
-
-    -- an operator, where the byte is no `|`
-    by_operator : operator ≡ true → PlainNext repeatable b z
-    by_operator e =
-        let rest = both (repeatable && is_repetition b) (is_plain z) e in
-        let here = both repeatable (is_repetition b) rest.0 in
-        inr (inr (here.0, here.1, rest.1))
-
-    by_bar : (p : Bool) → (b == 124) ≡ p → cond p (is_plain z) operator ≡ true → PlainNext repeatable b z
-    by_bar true e rest = ⊎_elim (λ bar. inr (inl (bar.1, rest))) (λ other. absurd (true≢false (sym e ∙ other.0))) (eqb_tells b 124)
-    by_bar false e rest = by_operator rest
-
-    by_byte : (p : Bool) → is_plain_byte b ≡ p → PlainNext repeatable b z
-    by_byte true e = inl (e, subst (λ p. cond p (is_plain_after true z) (cond (b == 124) (is_plain z) operator) ≡ true) e h)
-    by_byte false e = by_bar (b == 124) refl (subst (λ p. cond p (is_plain_after true z) (cond (b == 124) (is_plain z) operator) ≡ true) e h)
-
--- what ends a plain pattern repeats nothing
-end_unrepeated : (r : Text) → ends_branch r ≡ true → is_at "?*+{" r ≡ false
-unfolding grammar
-end_unrepeated [] ends = refl
-end_unrepeated (c ∷ r) ends = ⊎_elim
-    (λ bar. subst (λ c. is_at "?*+{" (c ∷ r) ≡ false) (sym bar.1) refl)
-    (λ no_bar. ⊎_elim
-    (λ closed. subst (λ c. is_at "?*+{" (c ∷ r) ≡ false) (sym closed.1) refl)
-    (λ unclosed. absurd (true≢false (sym ends ∙ or_from _ _ (not_empty c r) (or_from _ _ no_bar.0 unclosed.0))))
-    (eqb_tells c 41))
-    (eqb_tells c 124)
-
--- nor does a plain pattern, before what ends it
-unrepeated : (u r : Text) → is_plain u ≡ true → ends_branch r ≡ true → is_at "?*+{" (u ++ r) ≡ false
-unfolding grammar PlainNext
-unrepeated [] r plain ends = end_unrepeated r ends
-unrepeated (b ∷ u) r plain ends = ⊎_elim
-    (λ byte. (ordinary b byte.0).repeats)
-    (λ other. ⊎_elim
-    (λ bar. subst (λ b. is_at "?*+{" (b ∷ (u ++ r)) ≡ false) (sym bar.0) refl)
-    (λ operator. absurd (true≢false (sym operator.0)))
-    other)
-    (plain_next false b u plain)
-
--- a plain pattern after a byte that can be repeated is one, but for an operator that comes first
-ByteNext : ℕ → Text → Type 0
-ByteNext n z = (is_plain z ≡ true) ⊎ (c : ℕ) × (y : Text) × (z ≡ c ∷ y) × (is_repetition c ≡ true) × (is_plain y ≡ true)
-
-byte_next : (n : ℕ) (z : Text) → is_plain_after true z ≡ true → ByteNext n z
-unfolding PlainNext ByteNext
-byte_next n [] h = inl refl
-byte_next n (c ∷ y) h = ⊎_elim
-    (λ byte. inl (rw byte.0 byte.1))
-    (λ other. ⊎_elim
-    (λ bar. inl (subst (λ c. is_plain (c ∷ y) ≡ true) (sym bar.0) bar.1))
-    (λ operator. inr (c, y, refl, operator.1, operator.2))
-    other)
-    (plain_next true c y h)
-
-no_bar : (b : ℕ) (z : Text) → (b == 124) ≡ false → from_bar (b ∷ z) ≡ from_bar z
-no_bar b z h = ap (λ p. cond p (b ∷ z) (from_bar z)) h
-
-plain_no_bar : (b : ℕ) → is_plain_byte b ≡ true → (b == 124) ≡ false
-plain_no_bar b plain = (or_parts (b == 124) (b == 41) (ordinary b plain).ends).0
-
-repetition_no_bar : (c : ℕ) → is_repetition c ≡ true → (c == 124) ≡ false
-repetition_no_bar c op = grind (arith, nat_tests)
-
-items_bar : (n : ℕ) (names : Names) (z r : Text) → ItemsAreRead (suc n) names (124 ∷ z) r
-unfolding grammar ItemsAreRead
-items_bar n names z r = rw (not_empty 124 (z ++ r)) (omega arith, refl)
-
-items_byte : (n : ℕ) (names : Names) (b : ℕ) (z r : Text) → is_plain_byte b ≡ true → is_plain z ≡ true → ends_branch r ≡ true
-    → ItemsAreRead n names z r → ItemsAreRead (suc n) names (b ∷ z) r
-unfolding ItemsAreRead
-items_byte n names b z r byte plain ends more =
-    subst (λ t. IsSomeAnd (items (suc n) (place names (b ∷ (z ++ r)))) (Parts 1 names (t ++ r))) (sym (no_bar b z (plain_no_bar b byte)))
-    (item_then n names b 1 (z ++ r) (z ++ r) (from_bar z ++ r) (ordinary b byte).ends
-    (byte_alone (λ inside. join_parts alt_all (branches n inside)) names b (z ++ r) byte (unrepeated z r plain ends))
-    more)
-
-items_repeated : (n : ℕ) (names : Names) (b c : ℕ) (y r : Text) → is_plain_byte b ≡ true → is_repetition c ≡ true → is_plain y ≡ true → ends_branch r ≡ true
-    → ItemsAreRead n names y r → ItemsAreRead (suc n) names (b ∷ c ∷ y) r
-unfolding ItemsAreRead
-items_repeated n names b c y r byte op plain ends more =
-    subst (λ t. IsSomeAnd (items (suc n) (place names (b ∷ c ∷ (y ++ r)))) (Parts 1 names (t ++ r)))
-    (sym (no_bar b (c ∷ y) (plain_no_bar b byte) ∙ no_bar c y (repetition_no_bar c op)))
-    (item_then n names b 1 (c ∷ (y ++ r)) (y ++ r) (from_bar y ++ r) (ordinary b byte).ends
-    (byte_repeated (λ inside. join_parts alt_all (branches n inside)) names b c (y ++ r) byte op (unrepeated y r plain ends))
-    more)
-
-items_are_read : (n : ℕ) (names : Names) (u r : Text) → length u < n → is_plain u ≡ true → ends_branch r ≡ true → ItemsAreRead n names u r
-unfolding PlainNext ByteNext
-items_are_read zero names u r short plain ends = absurd (omega (arith, short))
-items_are_read (suc n) names [] r short plain ends = items_end n names r ends
-items_are_read (suc n) names (b ∷ z) r short plain ends = ⊎_elim
-    (λ byte. ⊎_elim
-    (λ alone. items_byte n names b z r byte.0 alone ends (items_are_read n names z r (omega (arith, short)) alone ends))
-    (λ (c, y, is, op, rest). subst (λ z. ItemsAreRead (suc n) names (b ∷ z) r) (sym is)
-    (items_repeated n names b c y r byte.0 op rest ends (items_are_read n names y r (omega (arith, short, ap length is)) rest ends)))
-    (byte_next n z byte.1))
-    (λ other. ⊎_elim
-    (λ bar. subst (λ b. ItemsAreRead (suc n) names (b ∷ z) r) (sym bar.0) (items_bar n names z r))
-    (λ operator. absurd (true≢false (sym operator.0)))
-    other)
-    (plain_next false b z plain)
-
--- what is left from the first `|` on
-BarNext : Text → Type 0
-BarNext u = (from_bar u ≡ []) ⊎ (y : Text) × (from_bar u ≡ 124 ∷ y) × (length y < length u) × (is_plain y ≡ true)
-
-bar_next : (repeatable : Bool) (u : Text) → is_plain_after repeatable u ≡ true → BarNext u
-unfolding PlainNext BarNext
-bar_next repeatable [] plain = inl refl
-bar_next repeatable (b ∷ z) plain = ⊎_elim
-    (λ byte. later (plain_no_bar b byte.0) (bar_next true z byte.1))
-    (λ other. ⊎_elim
-    (λ bar. inr (z, ap (λ b. cond (b == 124) (b ∷ z) (from_bar z)) bar.0, omega arith, bar.1))
-    (λ operator. later (repetition_no_bar b operator.1) (bar_next false z operator.2))
-    other)
-    (plain_next repeatable b z plain)
-  where
-    later : (b == 124) ≡ false → BarNext z → BarNext (b ∷ z)
-    later here more = ⊎_elim
-        (λ none. inl (no_bar b z here ∙ none))
-        (λ (y, is, short, rest). inr (y, no_bar b z here ∙ is, omega (arith, short), rest))
-        more
-
--- what comes after a plain pattern as a whole: the end or `)`
-abbrev ends_pattern : Text → Bool
-ends_pattern r = is_empty r || is_at ")" r
-
-end_of_pattern : (P : Text → Type 0) → P [] → ((z : Text) → P (41 ∷ z)) → (r : Text) → ends_pattern r ≡ true → P r
-unfolding grammar
-end_of_pattern P at_end closed [] ends = at_end
-end_of_pattern P at_end closed (c ∷ z) ends = ⊎_elim
-    (λ is. subst (λ c. P (c ∷ z)) (sym is.1) (closed z))
-    (λ other. absurd (true≢false (sym ends ∙ or_from _ _ (not_empty c z) other.0)))
-    (eqb_tells c 41)
+item_then n names b depth t P Q goes_on one more = rw (goes_on, not_empty b t)
+    (then_some (item (λ inside. join_parts alt_all (branches n inside)) (place names (b ∷ t))) _ _ (λ (parts, rest). (deepest parts ≤ depth) × Q rest) one
+    (λ (part, after) h.
+    then_some (items n after) (λ (parts, rest). (deepest parts ≤ depth) × Q rest) _ (λ (parts, rest). (deepest parts ≤ depth) × Q rest) (more after h.1)
+    (λ (parts, rest) h'. (omega (arith, h.0, h'.0), h'.1))))
 
 pattern_end_no_bar : (r : Text) → ends_pattern r ≡ true → is_at "|" r ≡ false
 unfolding grammar
@@ -353,131 +105,386 @@ pattern_end_ends_branch : (r : Text) → ends_pattern r ≡ true → ends_branch
 unfolding grammar
 pattern_end_ends_branch = end_of_pattern (λ r. ends_branch r ≡ true) refl (λ z. or_right (is_empty (41 ∷ z)) true refl)
 
-at_most_one : (p : Bool) → cond p 1 0 ≤ 1
-at_most_one true = omega arith
-at_most_one false = omega arith
+one_more : (n : ℕ) → n + 1 ≡ suc n
+one_more n = omega arith
 
 -- parts that are joined are nested one deeper at most
-joined : (f : List Re → Re) (o : Option (List (Nested Re) × Place)) (depth : ℕ) (end : Place)
-    → IsSomeAnd o (λ read. (deepest read.0 ≤ depth) × (read.1 ≡ end))
-    → IsSomeAnd (join_parts f o) (λ (whole, rest). (whole.depth ≤ depth + 1) × (rest ≡ end))
+joined : (f : List Re → Re) (o : Option (List (Nested Re) × Place)) (depth : ℕ) (Q : Place → Type 0)
+    → IsSomeAnd o (λ (parts, rest). (deepest parts ≤ depth) × Q rest)
+    → IsSomeAnd (join_parts f o) (λ (whole, rest). (whole.depth ≤ depth + 1) × Q rest)
 unfolding grammar
-joined f None depth end h = absurd h
-joined f (Some (parts, rest)) depth end h = (omega (arith, h.0, at_most_one (nat_lt 1 (length parts))), h.1)
+joined f None depth Q h = absurd h
+joined f (Some (parts, rest)) depth Q h = (omega (arith, h.0, at_most_one (nat_lt 1 (length parts))), h.1)
 
-BranchesAreRead : ℕ → Names → Text → Text → Type 0
-BranchesAreRead n names u r = IsSomeAnd (branches n (place names (u ++ r))) (Parts 2 names r)
+module _ (r : Text) (ends : ends_pattern r ≡ true) where
+  -- an item is read, nested no deeper than so, before a shorter text
+  abbrev ItemRead : ℕ → ℕ → ℕ → Nested Re × Place → Type 0
+  ItemRead o c most read = (read.0.depth ≤ depth_after o) × Goes r anywhere o c most read.1
 
--- what comes after a branch, where this text is left
-AfterBranch : ℕ → Names → Text → Nested Re → Text → Type 0
-AfterBranch n names r branch t = IsSomeAnd
-    (if not (is_at "|" t) then Some (branch ∷ [], place names t)
-    else (branches n (place names (drop 1 t)) >>= λ (others, rest). Some (branch ∷ others, rest)))
-    (Parts 2 names r)
+  -- the rest of an item that is read up to this text
+  repeated_item : (o c most : ℕ) (names : Names) (sub : Nested Re) (y : Text) → Counted o c names → Plain o c after.Item y → length y ≤ most
+      → IsSomeAnd (with_repetitions sub (place names (y ++ r))) (λ (whole, p). (whole.depth ≤ sub.depth + 1) × Goes r anywhere o c most p)
+  unfolding grammar
+  repeated_item o c most names sub y counted plain short = rw (one_more (length (y ++ r)))
+      (then_some (repetitions default_config (suc (length (y ++ r))) sub (y ++ r)) (λ (whole, t). (whole.depth ≤ sub.depth + 1) × AfterItem r ends o c (length y) t) _
+      (λ (whole, p). (whole.depth ≤ sub.depth + 1) × Goes r anywhere o c most p)
+      (repetition_is_read r ends o c sub y plain)
+      (λ (whole, t) h. (
+        h.0,
+        record {
+          now_opened = o;
+          now_closed = c;
+          names = names;
+          rest = h.1.rest;
+          is = ap (place names) h.1.is;
+          counted = counted;
+          grows = omega arith;
+          balance = omega arith;
+          plain = h.1.plain;
+          short = omega (arith, short, h.1.short);
+          stop = refl;
+        },
+      )))
 
-last_branch : (n : ℕ) (names : Names) (r : Text) (branch : Nested Re) → branch.depth ≤ 2 → is_at "|" r ≡ false → AfterBranch n names r branch r
-unfolding AfterBranch
-last_branch n names r branch shallow no_bar = rw no_bar (omega (arith, shallow), refl)
+  deep_enough : (o c most : ℕ) (sub : Nested Re) → sub.depth ≤ 2 → (made : Option (Nested Re × Place))
+      → IsSomeAnd made (λ (whole, p). (whole.depth ≤ sub.depth + 1) × Goes r anywhere o c most p) → IsSomeAnd made (ItemRead o c most)
+  deep_enough o c most sub shallow None h = absurd h
+  deep_enough o c most sub shallow (Some (whole, p)) h = (omega (arith, shallow, h.0), h.1)
 
-one_more_branch : (n : ℕ) (names : Names) (y r : Text) (branch : Nested Re) → branch.depth ≤ 2 → BranchesAreRead n names y r → AfterBranch n names r branch (124 ∷ (y ++ r))
-unfolding grammar AfterBranch BranchesAreRead
-one_more_branch n names y r branch shallow more =
-    then_some (branches n (place names (y ++ r))) (Parts 2 names r) _ (Parts 2 names r) more
-    (λ (others, rest) read. (omega (arith, shallow, read.0), read.1))
+  -- an item that is no group
+  atom_item : (inner : Place → Option (Nested Re × Place)) (o c most : ℕ) (names : Names) (b : ℕ) (t : Text) → Counted o c names → (b == 40) ≡ false
+      → IsSomeAnd (atom default_config (b ∷ t)) (AtomRead r o c most) → IsSomeAnd (item inner (place names (b ∷ t))) (ItemRead o c most)
+  unfolding item first
+  atom_item inner o c most names b t counted no_group read = rw no_group
+      (then_some (atom default_config (b ∷ t)) (AtomRead r o c most) _ (ItemRead o c most) read
+      (λ (sub, rest) h. rw h.is
+      (deep_enough o c most sub h.shallow (with_repetitions sub (place names (h.rest ++ r))) (repeated_item o c most names sub h.rest counted h.plain h.short))))
 
-other_branches : (n : ℕ) (names : Names) (u r : Text) → BarNext u → ends_pattern r ≡ true
-    → ((y : Text) → length y < length u → is_plain y ≡ true → BranchesAreRead n names y r)
-    → (branch : Nested Re) → branch.depth ≤ 2 → AfterBranch n names r branch (from_bar u ++ r)
-unfolding BarNext
-other_branches n names u r next ends more branch shallow = ⊎_elim
-    (λ last. subst (λ t. AfterBranch n names r branch (t ++ r)) (sym last) (last_branch n names r branch shallow (pattern_end_no_bar r ends)))
-    (λ (y, is, short, plain). subst (λ t. AfterBranch n names r branch (t ++ r)) (sym is) (one_more_branch n names y r branch shallow (more y short plain)))
-    next
+  -- ---- groups
 
-branches_are_read : (n : ℕ) (names : Names) (u r : Text) → length u + 1 < n → is_plain u ≡ true → ends_pattern r ≡ true → BranchesAreRead n names u r
-unfolding grammar AfterBranch BranchesAreRead ItemsAreRead
-branches_are_read zero names u r short plain ends = absurd (omega (arith, short))
-branches_are_read (suc n) names u r short plain ends =
-    then_some (join_parts cat_all (items n (place names (u ++ r)))) (λ (branch, after). (branch.depth ≤ 2) × (after ≡ place names (from_bar u ++ r))) _ (Parts 2 names r)
-    (joined cat_all (items n (place names (u ++ r))) 1 (place names (from_bar u ++ r)) (items_are_read n names u r (omega (arith, short)) plain (pattern_end_ends_branch r ends)))
-    (λ (branch, after) h. rw h.1
-    (other_branches n names u r (bar_next false u plain) ends (λ y shorter rest. branches_are_read n names y r (omega (arith, short, shorter)) rest ends) branch h.0))
+  -- a group that is closed before this text, under its repetition
+  closed_group : (o c o' c' most : ℕ) (names : Names) (whole : Nested Re) (y : Text) → o < 50 → o + 1 ≤ o' → o' + c ≡ o + 1 + c' → c' < o' → Counted o' c' names
+      → whole.depth ≤ depth_after (o + 1) + 3 → Plain o' (c' + 1) after.Item y → length y ≤ most
+      → IsSomeAnd (with_repetitions whole (place names (y ++ r))) (ItemRead o c most)
+  closed_group o c o' c' most names whole y few grows balance some counted shallow plain short =
+      go (with_repetitions whole (place names (y ++ r)))
+      (repeated_item o' (c' + 1) most names whole y (record { balanced = omega (arith, some); few = counted.few; named = counted.named }) plain short)
+    where
+      go : (made : Option (Nested Re × Place)) → IsSomeAnd made (λ (all, p). (all.depth ≤ whole.depth + 1) × Goes r anywhere o' (c' + 1) most p) → IsSomeAnd made (ItemRead o c most)
+      go None h = absurd h
+      go (Some (all, p)) h = (
+        omega (arith, few, shallow, h.0),
+        moved r anywhere o c o' (c' + 1) most most p (omega (arith, grows)) (omega (arith, balance)) (omega arith) h.1,
+      )
 
--- a plain pattern has bytes of ASCII alone
-plain_ascii : (repeatable : Bool) (v : Text) → is_plain_after repeatable v ≡ true → IsAscii v
-unfolding PlainNext
-plain_ascii repeatable [] plain = IsAscii-nil
-plain_ascii repeatable (b ∷ z) plain = ⊎_elim
-    (λ byte. IsAscii-cons b z (plain_below b byte.0) (plain_ascii true z byte.1))
-    (λ other. ⊎_elim
-    (λ bar. IsAscii-cons b z (omega (arith, bar.0)) (plain_ascii false z bar.1))
-    (λ operator. IsAscii-cons b z (repetition_below b operator.1) (plain_ascii false z operator.2))
-    other)
-    (plain_next repeatable b z plain)
+  -- a group after what is inside it
+  after_inside : (o c most : ℕ) (make : Re → Re) (sub : Nested Re) (p : Place) → o < 50 → c ≤ o → sub.depth ≤ depth_after (o + 1) + 1 + 1 → Goes r ends_pattern (o + 1) c most p
+      → IsSomeAnd (is_at ")" p.text >> with_repetitions (record { value = make sub.value; depth = sub.depth + 1 }) (record p { config = default_config; text = drop 1 p.text })) (ItemRead o c most)
+  unfolding first
+  after_inside o c most make sub p few balanced shallow h = rw h.is (end_of_pattern AtEnd unclosed closes h.rest h.stop h.plain h.short)
+    where
+      whole : Nested Re
+      whole = record { value = make sub.value; depth = sub.depth + 1 }
+
+      AtEnd : Text → Type 0
+      AtEnd rest = Plain h.now_opened h.now_closed after.Start rest → length rest ≤ most
+          → IsSomeAnd (is_at ")" (rest ++ r) >> with_repetitions whole (place h.names (drop 1 (rest ++ r)))) (ItemRead o c most)
+
+      unclosed : AtEnd []
+      unclosed plain short = absurd (omega (arith, eqb-true h.now_opened h.now_closed plain, h.balance, balanced))
+
+      closes : (y : Text) → AtEnd (41 ∷ y)
+      closes y plain short =
+          let (some, rest) = close_next h.now_opened h.now_closed y plain in
+          closed_group o c h.now_opened h.now_closed most h.names whole y few h.grows h.balance some h.counted (omega (arith, shallow)) rest (omega (arith, short))
+
+  -- what a group has inside is read
+  InnerReads : (Place → Option (Nested Re × Place)) → ℕ → Type 0
+  InnerReads inner most = (o c : ℕ) (names : Names) (u : Text) → Counted o c names → Plain o c after.Start u → length u ≤ most
+      → IsSomeAnd (inner (place names (u ++ r))) (λ (whole, p). (whole.depth ≤ depth_after o + 1 + 1) × Goes r ends_pattern o c most p)
+
+  inside_group : (inner : Place → Option (Nested Re × Place)) (o c most : ℕ) (names : Names) (make : Re → Re) (u : Text) → InnerReads inner most → o < 50 → c ≤ o → Counted (o + 1) c names
+      → Plain (o + 1) c after.Start u → length u ≤ most
+      → IsSomeAnd (inner (place names (u ++ r)) >>= λ (sub, end). is_at ")" end.text >> with_repetitions (record { value = make sub.value; depth = sub.depth + 1 }) (record end { config = default_config; text = drop 1 end.text })) (ItemRead o c most)
+  unfolding InnerReads
+  inside_group inner o c most names make u reads few balanced counted plain short =
+      then_some (inner (place names (u ++ r))) (λ (whole, p). (whole.depth ≤ depth_after (o + 1) + 1 + 1) × Goes r ends_pattern (o + 1) c most p) _ (ItemRead o c most)
+      (reads (o + 1) c names u counted plain short)
+      (λ (sub, end) h. after_inside o c most make sub end few balanced h.0 h.1)
+
+  flag_group : (inner : Place → Option (Nested Re × Place)) (o c : ℕ) (names : Names) (y : Text) → InnerReads inner (length (63 ∷ y)) → Counted o c names → o < 50 → Plain (o + 1) c after.Question y
+      → IsSomeAnd (item inner (place names (40 ∷ 63 ∷ (y ++ r)))) (ItemRead o c (length (63 ∷ y)))
+  unfolding grammar
+  flag_group inner o c names [] reads counted few plain = absurd (true≢false (sym plain))
+  flag_group inner o c names (d ∷ x) reads counted few plain =
+      let (colon, inside) = colon_next (o + 1) c d x plain in
+      subst (λ d. IsSomeAnd (item inner (place names (40 ∷ 63 ∷ d ∷ (x ++ r)))) (ItemRead o c (length (63 ∷ d ∷ x)))) (sym colon)
+      (inside_group inner o c (length (63 ∷ 58 ∷ x)) names (λ re. re) x reads few counted.balanced
+      (record { balanced = omega (arith, counted.balanced); few = omega (arith, few); named = omega (arith, counted.named) }) inside (omega arith))
+
+  capture_group : (inner : Place → Option (Nested Re × Place)) (o c : ℕ) (names : Names) (e : ℕ) (y : Text) → InnerReads inner (length (e ∷ y)) → Counted o c names → o < 50 → (e == 63) ≡ false
+      → Plain (o + 1) c after.Start (e ∷ y) → IsSomeAnd (item inner (place names (40 ∷ e ∷ (y ++ r)))) (ItemRead o c (length (e ∷ y)))
+  unfolding grammar
+  capture_group inner o c names e y reads counted few no_flags plain =
+      let small : nat_lt (length names) (2 ^ 32) ≡ true = lt-ltb (length names) (2 ^ 32) (omega (arith, counted.named, few)) in
+      rw (turned e 63 no_flags, no_flags, small)
+      (inside_group inner o c (length (e ∷ y)) (names ++ None ∷ []) (in_group (length names)) (e ∷ y) reads few counted.balanced
+      (record { balanced = omega (arith, counted.balanced); few = omega (arith, few); named = omega (arith, counted.named, length_push names None) }) plain (omega arith))
+
+  group_item : (inner : Place → Option (Nested Re × Place)) (o c : ℕ) (names : Names) (z : Text) → InnerReads inner (length z) → Counted o c names → o < 50 → Plain (o + 1) c after.Paren z
+      → IsSomeAnd (item inner (place names (40 ∷ (z ++ r)))) (ItemRead o c (length z))
+  group_item inner o c names [] reads counted few plain = absurd (true≢false (sym plain))
+  group_item inner o c names (e ∷ y) reads counted few plain =
+      let read : Group e = ⊎_elim
+      (λ flags. subst Group (sym flags.0) (λ reads. flag_group inner o c names y reads counted few flags.1))
+      (λ none. λ reads. capture_group inner o c names e y reads counted few none.0 none.1)
+      (group_goes_on (o + 1) c e y plain) in
+      read reads
+    where
+      Group : ℕ → Type 0
+      Group e = InnerReads inner (length (e ∷ y)) → IsSomeAnd (item inner (place names (40 ∷ e ∷ (y ++ r)))) (ItemRead o c (length (e ∷ y)))
+
+  -- ---- items and branches
+
+  abbrev ItemsAreRead : ℕ → Type 0
+  ItemsAreRead n = (o c : ℕ) (names : Names) (u : Text) → Counted o c names → Plain o c after.Start u → 2 * length u < n
+      → IsSomeAnd (items n (place names (u ++ r))) (λ (parts, p). (deepest parts ≤ depth_after o) × Goes r ends_branch o c (length u) p)
+
+  abbrev BranchesAreRead : ℕ → Type 0
+  BranchesAreRead n = (o c : ℕ) (names : Names) (u : Text) → Counted o c names → Plain o c after.Start u → 2 * length u + 1 < n
+      → IsSomeAnd (branches n (place names (u ++ r))) (λ (parts, p). (deepest parts ≤ depth_after o + 1) × Goes r ends_pattern o c (length u) p)
+
+  -- parts that are read later
+  later : (stops : Text → Bool) (o c o' c' most more deep deeper : ℕ) → o ≤ o' → o' + c ≡ o + c' → most ≤ more → deep ≤ deeper → (made : Option (List (Nested Re) × Place))
+      → IsSomeAnd made (λ (parts, p). (deepest parts ≤ deep) × Goes r stops o' c' most p) → IsSomeAnd made (λ (parts, p). (deepest parts ≤ deeper) × Goes r stops o c more p)
+  later stops o c o' c' most more deep deeper grows balance le less None h = absurd h
+  later stops o c o' c' most more deep deeper grows balance le less (Some (parts, p)) h = (omega (arith, less, h.0), moved r stops o c o' c' most more p grows balance le h.1)
+
+  here : (stops : Text → Bool) (o c : ℕ) (names : Names) (u : Text) → Counted o c names → Plain o c after.Start u → stops u ≡ true → Goes r stops o c (length u) (place names (u ++ r))
+  here stops o c names u counted plain stop = record {
+    now_opened = o;
+    now_closed = c;
+    names = names;
+    rest = u;
+    is = refl;
+    counted = counted;
+    grows = omega arith;
+    balance = refl;
+    plain = plain;
+    short = omega arith;
+    stop = stop;
+  }
+
+  items_end : (n o c : ℕ) (names : Names) → Counted o c names → Plain o c after.Start []
+      → IsSomeAnd (items (suc n) (place names r)) (λ (parts, p). (deepest parts ≤ depth_after o) × Goes r ends_branch o c 0 p)
+  unfolding items skip first
+  items_end n o c names counted plain = rw (pattern_end_ends_branch r ends) (omega arith, here ends_branch o c names [] counted plain refl)
+
+  items_stop : (n o c : ℕ) (names : Names) (b : ℕ) (z : Text) → Counted o c names → Plain o c after.Start (b ∷ z) → (b ∈ "|)") ≡ true
+      → IsSomeAnd (items (suc n) (place names (b ∷ (z ++ r)))) (λ (parts, p). (deepest parts ≤ depth_after o) × Goes r ends_branch o c (length (b ∷ z)) p)
+  unfolding items skip first
+  items_stop n o c names b z counted plain stop =
+      rw (not_empty b (z ++ r), stop) (omega arith, here ends_branch o c names (b ∷ z) counted plain (or_right (is_empty (b ∷ z)) (b ∈ "|)") stop))
+
+  item_and_more : (n o c : ℕ) (names : Names) (b : ℕ) (z : Text) → (b ∈ "|)") ≡ false → 2 * length (b ∷ z) < suc n → ItemsAreRead n
+      → IsSomeAnd (item (λ inside. join_parts alt_all (branches n inside)) (place names (b ∷ (z ++ r)))) (ItemRead o c (length z))
+      → IsSomeAnd (items (suc n) (place names (b ∷ (z ++ r)))) (λ (parts, p). (deepest parts ≤ depth_after o) × Goes r ends_branch o c (length (b ∷ z)) p)
+  item_and_more n o c names b z goes_on short read one =
+      item_then n names b (depth_after o) (z ++ r) (Goes r anywhere o c (length z)) (Goes r ends_branch o c (length (b ∷ z))) goes_on one
+      (λ after h. rw h.is
+      (later ends_branch o c h.now_opened h.now_closed (length h.rest) (length (b ∷ z)) (depth_after h.now_opened) (depth_after o) h.grows h.balance
+      (omega (arith, h.short)) (omega (arith, h.grows)) (items n (place h.names (h.rest ++ r)))
+      (read h.now_opened h.now_closed h.names h.rest h.counted h.plain (omega (arith, short, h.short)))))
+
+  inner_reads : (n most : ℕ) → 2 * most + 1 < n → BranchesAreRead n → InnerReads (λ inside. join_parts alt_all (branches n inside)) most
+  unfolding InnerReads
+  inner_reads n most enough read o c names u counted plain short =
+      joined alt_all (branches n (place names (u ++ r))) (depth_after o + 1) (Goes r ends_pattern o c most)
+      (later ends_pattern o c o c (length u) most (depth_after o + 1) (depth_after o + 1) (omega arith) (omega arith) short (omega arith) (branches n (place names (u ++ r)))
+      (read o c names u counted plain (omega (arith, enough, short))))
+
+  after_backslash : (o c : ℕ) (z : Text) → Plain o c after.Backslash z → IsSomeAnd (atom default_config (92 ∷ (z ++ r))) (AtomRead r o c (length z))
+  after_backslash o c [] plain = absurd (true≢false (sym plain))
+  after_backslash o c (e ∷ y) plain =
+      let (one, rest) = escaped_next o c e y plain in
+      atom_up_to r o c (length (e ∷ y)) y (atom default_config (92 ∷ e ∷ (y ++ r))) rest (omega arith) (escape_is_read e (y ++ r) one)
+
+  items_from : (n : ℕ) → ItemsAreRead n → BranchesAreRead n → ItemsAreRead (suc n)
+  items_from n read_items read_branches o c names [] counted plain short = items_end n o c names counted plain
+  items_from n read_items read_branches o c names (b ∷ z) counted plain short = by_begin (start_begins o c b z plain)
+    where
+      Read : ℕ → Type 0
+      Read b = IsSomeAnd (items (suc n) (place names (b ∷ (z ++ r)))) (λ (parts, p). (deepest parts ≤ depth_after o) × Goes r ends_branch o c (length (b ∷ z)) p)
+
+      more : (b : ℕ) → (b ∈ "|)") ≡ false → IsSomeAnd (item (λ inside. join_parts alt_all (branches n inside)) (place names (b ∷ (z ++ r)))) (ItemRead o c (length z)) → Read b
+      more b goes_on one = item_and_more n o c names b z goes_on (omega (arith, short)) read_items one
+
+      inner : InnerReads (λ inside. join_parts alt_all (branches n inside)) (length z)
+      inner = inner_reads n (length z) (omega (arith, short)) read_branches
+
+      by_begin : Begins o c b z → Read b
+      by_begin (group is few h) = subst Read (sym is) (more 40 refl (group_item (λ inside. join_parts alt_all (branches n inside)) o c names z inner counted few h))
+      by_begin (close is _ _) = items_stop n o c names b z counted plain (ap (λ b. b ∈ "|)") is)
+      by_begin (branch is _) = items_stop n o c names b z counted plain (ap (λ b. b ∈ "|)") is)
+      by_begin (class is h) = subst Read (sym is) (more 91 refl (atom_item (λ inside. join_parts alt_all (branches n inside)) o c (length z) names 91 (z ++ r) counted refl (class_is_read r o c z h)))
+      by_begin (escape is h) = subst Read (sym is) (more 92 refl (atom_item (λ inside. join_parts alt_all (branches n inside)) o c (length z) names 92 (z ++ r) counted refl (after_backslash o c z h)))
+      by_begin (byte one h) = more b one.ends (atom_item (λ inside. join_parts alt_all (branches n inside)) o c (length z) names b (z ++ r) counted one.opens
+          (atom_up_to r o c (length z) z (atom default_config (b ∷ (z ++ r))) h (omega arith) (byte_is_read b (z ++ r) one)))
+
+  -- what comes after a branch, where this text is left
+  AfterBranch : ℕ → ℕ → ℕ → ℕ → Names → Nested Re → Text → Type 0
+  AfterBranch n o c most names part t = IsSomeAnd
+      (if not (is_at "|" t) then Some (part ∷ [], place names t)
+      else (branches n (place names (drop 1 t)) >>= λ (others, rest). Some (part ∷ others, rest)))
+      (λ (parts, p). (deepest parts ≤ depth_after o + 1) × Goes r ends_pattern o c most p)
+
+  last_branch : (n o c most : ℕ) (names : Names) (part : Nested Re) (t : Text) → part.depth ≤ depth_after o + 1 → is_at "|" t ≡ false → Goes r ends_pattern o c most (place names t)
+      → AfterBranch n o c most names part t
+  unfolding AfterBranch
+  last_branch n o c most names part t shallow no_bar goes = rw no_bar (omega (arith, shallow), goes)
+
+  one_more_branch : (n o c most : ℕ) (names : Names) (part : Nested Re) (t : Text) → part.depth ≤ depth_after o + 1
+      → IsSomeAnd (branches n (place names t)) (λ (parts, p). (deepest parts ≤ depth_after o + 1) × Goes r ends_pattern o c most p) → AfterBranch n o c most names part (124 ∷ t)
+  unfolding AfterBranch first
+  one_more_branch n o c most names part t shallow more =
+      then_some (branches n (place names t)) (λ (parts, p). (deepest parts ≤ depth_after o + 1) × Goes r ends_pattern o c most p) _ (λ (parts, p). (deepest parts ≤ depth_after o + 1) × Goes r ends_pattern o c most p) more
+      (λ (others, rest) read. (omega (arith, shallow, read.0), read.1))
+
+  bar_next : (o c : ℕ) (z : Text) → Plain o c after.Start (124 ∷ z) → Plain o c after.Start z
+  unfolding next
+  bar_next o c z h = h
+
+  after_bar : (n o c most : ℕ) (part : Nested Re) (p : Place) (y : Text) (h : Goes r ends_branch o c most p) → 2 * most < n → part.depth ≤ depth_after o + 1 → BranchesAreRead n
+      → length (124 ∷ y) ≤ most → Plain h.now_opened h.now_closed after.Start y → AfterBranch n o c most h.names part (124 ∷ (y ++ r))
+  after_bar n o c most part p y h enough shallow read short plain =
+      one_more_branch n o c most h.names part (y ++ r) shallow
+      (later ends_pattern o c h.now_opened h.now_closed (length y) most (depth_after h.now_opened + 1) (depth_after o + 1) h.grows h.balance (omega (arith, short)) (omega (arith, h.grows))
+      (branches n (place h.names (y ++ r))) (read h.now_opened h.now_closed h.names y h.counted plain (omega (arith, enough, short))))
+
+  -- the last branch is left by what ends a pattern
+  before_end : (n o c most : ℕ) (part : Nested Re) (p : Place) (rest : Text) (h : Goes r ends_branch o c most p) → part.depth ≤ depth_after o + 1 → is_at "|" (rest ++ r) ≡ false
+      → length rest ≤ most → Plain h.now_opened h.now_closed after.Start rest → ends_pattern rest ≡ true → AfterBranch n o c most h.names part (rest ++ r)
+  before_end n o c most part p rest h shallow no_bar short plain stop =
+      last_branch n o c most h.names part (rest ++ r) shallow no_bar
+      (moved r ends_pattern o c h.now_opened h.now_closed (length rest) most (place h.names (rest ++ r)) h.grows h.balance short
+      (here ends_pattern h.now_opened h.now_closed h.names rest h.counted plain stop))
+
+  other_branches : (n o c most : ℕ) (part : Nested Re) (p : Place) → 2 * most < n → part.depth ≤ depth_after o + 1 → BranchesAreRead n → (h : Goes r ends_branch o c most p)
+      → AfterBranch n o c most h.names part (h.rest ++ r)
+  unfolding first
+  other_branches n o c most part p enough shallow read h = go h.rest h.plain h.short h.stop
+    where
+      Left : Text → ℕ → Type 0
+      Left y b = Plain h.now_opened h.now_closed after.Start (b ∷ y) → AfterBranch n o c most h.names part (b ∷ (y ++ r))
+
+      go : (rest : Text) → Plain h.now_opened h.now_closed after.Start rest → length rest ≤ most → ends_branch rest ≡ true → AfterBranch n o c most h.names part (rest ++ r)
+      go [] plain short stop = before_end n o c most part p [] h shallow (pattern_end_no_bar r ends) short plain refl
+      go (b ∷ y) plain short stop =
+          let left : Left y b = ⊎_elim
+          (λ bar. subst (Left y) (sym (eqb-true b 124 bar)) (λ plain. after_bar n o c most part p y h enough shallow read short (bar_next h.now_opened h.now_closed y plain)))
+          (λ shut. subst (Left y) (sym (eqb-true b 41 shut)) (λ plain. before_end n o c most part p (41 ∷ y) h shallow refl short plain (or_right (is_empty (41 ∷ y)) true refl)))
+          (or_cases (b == 124) (b == 41) (subst (λ none. (none || b ∈ "|)") ≡ true) (not_empty b y) stop)) in
+          left plain
+
+  branches_from : (n : ℕ) → ItemsAreRead n → BranchesAreRead n → BranchesAreRead (suc n)
+  unfolding branches AfterBranch
+  branches_from n read_items read_branches o c names u counted plain short =
+      then_some (join_parts cat_all (items n (place names (u ++ r)))) (λ (part, p). (part.depth ≤ depth_after o + 1) × Goes r ends_branch o c (length u) p) _
+      (λ (parts, p). (deepest parts ≤ depth_after o + 1) × Goes r ends_pattern o c (length u) p)
+      (joined cat_all (items n (place names (u ++ r))) (depth_after o) (Goes r ends_branch o c (length u)) (read_items o c names u counted plain (omega (arith, short))))
+      (λ (part, p) h. rw h.1.is (other_branches n o c (length u) part p (omega (arith, short)) h.0 read_branches h.1))
+
+  all_read : (n : ℕ) → ItemsAreRead n × BranchesAreRead n
+  all_read zero = (λ o c names u counted plain short. absurd (omega (arith, short)), λ o c names u counted plain short. absurd (omega (arith, short)))
+  all_read (suc n) = let before = all_read n in (items_from n before.0 before.1, branches_from n before.0 before.1)
+
+  -- where a whole pattern ends, r is left
+  whole_left : (most : ℕ) (p : Place) → Goes r ends_pattern 0 0 most p → IsLeft r p
+  whole_left most p h = (
+    h.names,
+    h.is ∙ ap (λ rest. place h.names (rest ++ r)) (end_of_pattern (λ rest. Plain h.now_opened h.now_closed after.Start rest → rest ≡ []) (λ plain. refl)
+        (λ y plain. absurd (omega (arith, (close_next h.now_opened h.now_closed y plain).0, h.balance))) h.rest h.stop h.plain),
+  )
+
+  pattern_is_read : (n : ℕ) (names : Names) (v : Text) → length names ≤ 1 → is_plain v ≡ true → 2 * length v + 1 < n
+      → IsSomeAnd (join_parts alt_all (branches n (place names (v ++ r)))) (λ (whole, p). (whole.depth ≤ 205) × IsLeft r p)
+  pattern_is_read n names v named plain enough = ends_whole (join_parts alt_all (branches n (place names (v ++ r))))
+      (joined alt_all (branches n (place names (v ++ r))) 204 (Goes r ends_pattern 0 0 (length v))
+      ((all_read n).1 0 0 names v (record { balanced = omega arith; few = omega arith; named = omega (arith, named) }) plain enough))
+    where
+      ends_whole : (made : Option (Nested Re × Place)) → IsSomeAnd made (λ (whole, p). (whole.depth ≤ 205) × Goes r ends_pattern 0 0 (length v) p)
+          → IsSomeAnd made (λ (whole, p). (whole.depth ≤ 205) × IsLeft r p)
+      ends_whole None h = absurd h
+      ends_whole (Some (whole, p)) h = (h.0, whole_left (length v) p h.1)
+
+-- ---- a pattern by itself
 
 -- a text that is read whole, nested no deeper than so
 AreReadWhole : ℕ → Text → Type 0
-AreReadWhole depth t = IsSomeAnd (branches (2 * length t + 2) (place (None ∷ []) t)) (Parts depth (None ∷ []) [])
+AreReadWhole depth t = IsSomeAnd (join_parts alt_all (branches (2 * length t + 2) (place (None ∷ []) t))) (λ (whole, p). (whole.depth ≤ depth) × (p.text ≡ []))
 
-whole_is_read : (depth : ℕ) (v : Text) → depth < default_config.nest_limit → IsAscii v → AreReadWhole depth v → is_read v ≡ true
+whole_is_read : (depth : ℕ) (v : Text) → depth ≤ default_config.nest_limit → IsAscii v → AreReadWhole depth v → is_read v ≡ true
 unfolding grammar AreReadWhole
-whole_is_read depth v shallow ascii h = read_within_limit v (λ p. p.0.depth ≤ depth + 1) (λ p less. omega (arith, shallow, less))
+whole_is_read depth v shallow ascii h = read_within_limit v (λ p. p.0.depth ≤ depth) (λ p less. omega (arith, shallow, less))
     (rw (chars-IsAscii v ascii)
-    (then_some (join_parts alt_all (branches (2 * length v + 2) (place (None ∷ []) v))) (λ (whole, end). (whole.depth ≤ depth + 1) × (end ≡ place (None ∷ []) [])) _ (λ p. p.0.depth ≤ depth + 1)
-    (joined alt_all (branches (2 * length v + 2) (place (None ∷ []) v)) depth (place (None ∷ []) []) h)
+    (then_some (join_parts alt_all (branches (2 * length v + 2) (place (None ∷ []) v))) (λ (whole, p). (whole.depth ≤ depth) × (p.text ≡ [])) _ (λ p. p.0.depth ≤ depth) h
     (λ (whole, end) read. rw read.1 read.0)))
 
+text_left : (depth : ℕ) (r : Text) (made : Option (Nested Re × Place)) → IsSomeAnd made (λ (whole, p). (whole.depth ≤ depth) × IsLeft r p) → IsSomeAnd made (λ (whole, p). (whole.depth ≤ depth) × (p.text ≡ r))
+text_left depth r None h = absurd h
+text_left depth r (Some (whole, p)) h = (h.0, ap (λ (p : Place). p.text) h.1.1)
+
 plain_is_read : (v : Text) → is_plain v ≡ true → IsRead v
-unfolding AreReadWhole BranchesAreRead
-plain_is_read v plain = whole_is_read 2 v (omega arith) (plain_ascii false v plain)
-    (subst (λ t. IsSomeAnd (branches (2 * length v + 2) (place (None ∷ []) t)) (Parts 2 (None ∷ []) [])) (append-nil v)
-    (branches_are_read (2 * length v + 2) (None ∷ []) v [] (omega arith) plain refl))
+unfolding AreReadWhole
+plain_is_read v plain = whole_is_read 205 v (omega arith) (plain_ascii _ v plain)
+    (subst (λ t. IsSomeAnd (join_parts alt_all (branches (2 * length v + 2) (place (None ∷ []) t))) (λ (whole, p). (whole.depth ≤ 205) × (p.text ≡ []))) (append-nil v)
+    (text_left 205 [] (join_parts alt_all (branches (2 * length v + 2) (place (None ∷ []) (v ++ []))))
+    (pattern_is_read [] refl (2 * length v + 2) (None ∷ []) v (omega arith) plain (omega arith))))
+
+-- ---- an anchored pattern
 
 -- the group of an anchored pattern
-group_item : (inner : Place → Option (Nested Re × Place)) (names : Names) (v : Text)
-    → IsSomeAnd (inner (place names (v ++ codes ")$"))) (λ (whole, close). (whole.depth ≤ 3) × (close ≡ place names (codes ")$")))
-    → IsSomeAnd (item inner (place names (codes "(?:" ++ (v ++ codes ")$")))) (λ (part, after). (part.depth ≤ 4) × (after ≡ place names (codes "$")))
+anchored_group : (inner : Place → Option (Nested Re × Place)) (names : Names) (v : Text)
+    → IsSomeAnd (inner (place names (v ++ codes ")$"))) (λ (whole, p). (whole.depth ≤ 205) × IsLeft (codes ")$") p)
+    → IsSomeAnd (item inner (place names (codes "(?:" ++ (v ++ codes ")$")))) (λ (part, after). (part.depth ≤ 206) × IsLeft (codes "$") after)
 unfolding grammar
-group_item inner names v h =
-    then_some (inner (place names (v ++ codes ")$"))) (λ (whole, close). (whole.depth ≤ 3) × (close ≡ place names (codes ")$"))) _ (λ (part, after). (part.depth ≤ 4) × (after ≡ place names (codes "$"))) h
-    (λ (whole, close) read. rw read.1 (omega (arith, read.0), refl))
+anchored_group inner names v h =
+    then_some (inner (place names (v ++ codes ")$"))) (λ (whole, p). (whole.depth ≤ 205) × IsLeft (codes ")$") p) _ (λ (part, after). (part.depth ≤ 206) × IsLeft (codes "$") after) h
+    (λ (whole, end) read. rw read.1.1 (omega (arith, read.0), (read.1.0, refl)))
 
-start_item : (inner : Place → Option (Nested Re × Place)) (names : Names) (t : Text) → IsSomeAnd (item inner (place names (codes "^(" ++ t))) (λ (part, after). (part.depth ≤ 4) × (after ≡ place names (40 ∷ t)))
+start_item : (inner : Place → Option (Nested Re × Place)) (names : Names) (t : Text) → IsSomeAnd (item inner (place names (codes "^(" ++ t))) (λ (part, after). (part.depth ≤ 206) × (after ≡ place names (40 ∷ t)))
 unfolding grammar
 start_item inner names t = rw (one_more (suc (length t))) (omega arith, refl)
 
-end_item : (inner : Place → Option (Nested Re × Place)) (names : Names) → IsSomeAnd (item inner (place names (codes "$"))) (λ (part, after). (part.depth ≤ 4) × (after ≡ place names []))
+end_items : (n : ℕ) (names : Names) → IsSomeAnd (items (suc (suc n)) (place names (codes "$"))) (λ (parts, p). (deepest parts ≤ 206) × (p.text ≡ []))
 unfolding grammar
-end_item inner names = (omega arith, refl)
+end_items n names = (omega arith, refl)
 
--- the branches of an anchored pattern, where the numbers that bound the calls are enough
-anchored_branches : (n : ℕ) (names : Names) (v : Text) → is_plain v ≡ true → length v ≤ n
-    → IsSomeAnd (branches (suc (suc (suc (suc (suc n))))) (place names (anchor v))) (Parts 5 names [])
-unfolding grammar BranchesAreRead
-anchored_branches n names v plain enough =
-    then_some (join_parts cat_all (items (suc (suc (suc (suc n)))) (place names (anchor v)))) (λ (branch, after). (branch.depth ≤ 5) × (after ≡ place names [])) _ (Parts 5 names [])
-    (joined cat_all (items (suc (suc (suc (suc n)))) (place names (anchor v))) 4 (place names []) all_items)
-    (λ (branch, after) h. rw h.1 (omega (arith, h.0), refl))
+anchored_is_read : (n : ℕ) (v : Text) → is_plain v ≡ true → 2 * length v ≤ n
+    → IsSomeAnd (join_parts alt_all (branches (suc (suc (suc (suc (suc n))))) (place (None ∷ []) (anchor v)))) (λ (whole, p). (whole.depth ≤ 208) × (p.text ≡ []))
+unfolding branches first
+anchored_is_read n v plain enough =
+    joined alt_all (branches (suc (suc (suc (suc (suc n))))) (place (None ∷ []) (anchor v))) 207 (λ p. p.text ≡ [])
+    (then_some (join_parts cat_all (items (suc (suc (suc (suc n)))) (place (None ∷ []) (anchor v)))) (λ (part, p). (part.depth ≤ 207) × (p.text ≡ [])) _ (λ (parts, p). (deepest parts ≤ 207) × (p.text ≡ []))
+    (joined cat_all (items (suc (suc (suc (suc n)))) (place (None ∷ []) (anchor v))) 206 (λ p. p.text ≡ []) all_items)
+    (λ (part, p) h. rw h.1 (omega (arith, h.0), refl)))
   where
-    inside_group : Place → Option (Nested Re × Place)
-    inside_group inside = join_parts alt_all (branches (suc (suc n)) inside)
+    inside : Text
+    inside = codes "?:" ++ (v ++ codes ")$")
 
-    within : IsSomeAnd (inside_group (place names (v ++ codes ")$"))) (λ (whole, close). (whole.depth ≤ 3) × (close ≡ place names (codes ")$")))
-    within = joined alt_all (branches (suc (suc n)) (place names (v ++ codes ")$"))) 2 (place names (codes ")$"))
-        (branches_are_read (suc (suc n)) names v (codes ")$") (omega (arith, enough)) plain refl)
+    from_group : IsSomeAnd (items (suc (suc (suc n))) (place (None ∷ []) (40 ∷ inside))) (λ (parts, p). (deepest parts ≤ 206) × (p.text ≡ []))
+    from_group = item_then (suc (suc n)) (None ∷ []) 40 206 inside (λ after. IsLeft (codes "$") after) (λ p. p.text ≡ []) refl
+        (anchored_group (λ inside. join_parts alt_all (branches (suc (suc n)) inside)) (None ∷ []) v
+        (pattern_is_read (codes ")$") refl (suc (suc n)) (None ∷ []) v (omega arith) plain (omega (arith, enough))))
+        (λ after (left, is). rw is (end_items n left))
 
-    from_end : IsSomeAnd (items (suc (suc n)) (place names (codes "$"))) (Parts 4 names [])
-    from_end = (omega arith, refl)
-
-    from_group : IsSomeAnd (items (suc (suc (suc n))) (place names (codes "(?:" ++ (v ++ codes ")$")))) (Parts 4 names [])
-    from_group = item_then (suc (suc n)) names 40 4 (codes "?:" ++ (v ++ codes ")$")) (codes "$") [] refl (group_item inside_group names v within) from_end
-
-    all_items : IsSomeAnd (items (suc (suc (suc (suc n)))) (place names (anchor v))) (Parts 4 names [])
-    all_items = item_then (suc (suc (suc n))) names 94 4 (codes "(?:" ++ (v ++ codes ")$")) (codes "(?:" ++ (v ++ codes ")$")) [] refl
-        (start_item (λ inside. join_parts alt_all (branches (suc (suc (suc n))) inside)) names (codes "?:" ++ (v ++ codes ")$"))) from_group
+    all_items : IsSomeAnd (items (suc (suc (suc (suc n)))) (place (None ∷ []) (anchor v))) (λ (parts, p). (deepest parts ≤ 206) × (p.text ≡ []))
+    all_items = item_then (suc (suc (suc n))) (None ∷ []) 94 206 (40 ∷ inside) (λ after. after ≡ place (None ∷ []) (40 ∷ inside)) (λ p. p.text ≡ []) refl
+        (start_item (λ inside. join_parts alt_all (branches (suc (suc (suc n))) inside)) (None ∷ []) inside)
+        (λ after is. rw is from_group)
 
 anchored_ascii : (v : Text) → is_plain v ≡ true → IsAscii (anchor v)
-anchored_ascii v plain = IsAscii-append (codes "^(?:") (v ++ codes ")$") ascii_front (IsAscii-append v (codes ")$") (plain_ascii false v plain) ascii_end)
+anchored_ascii v plain = IsAscii-append (codes "^(?:") (v ++ codes ")$") ascii_front (IsAscii-append v (codes ")$") (plain_ascii _ v plain) ascii_end)
   where
     ascii_end : IsAscii (codes ")$")
     ascii_end = IsAscii-cons 41 (36 ∷ []) (omega arith) (IsAscii-cons 36 [] (omega arith) IsAscii-nil)
@@ -487,9 +494,9 @@ anchored_ascii v plain = IsAscii-append (codes "^(?:") (v ++ codes ")$") ascii_f
 
 plain_is_read_anchored : (v : Text) → is_plain v ≡ true → IsRead (anchor v)
 unfolding AreReadWhole
-plain_is_read_anchored v plain = whole_is_read 5 (anchor v) (omega arith) (anchored_ascii v plain)
-    (subst (λ n. IsSomeAnd (branches n (place (None ∷ []) (anchor v))) (Parts 5 (None ∷ []) [])) enough
-    (anchored_branches (2 * length v + 9) (None ∷ []) v plain (omega arith)))
+plain_is_read_anchored v plain = whole_is_read 208 (anchor v) (omega arith) (anchored_ascii v plain)
+    (subst (λ n. IsSomeAnd (join_parts alt_all (branches n (place (None ∷ []) (anchor v)))) (λ (whole, p). (whole.depth ≤ 208) × (p.text ≡ []))) enough
+    (anchored_is_read (2 * length v + 9) v plain (omega arith)))
   where
     longer : length (anchor v) ≡ length v + 6
     longer = omega (arith, length-append v (codes ")$"))
