@@ -5,3 +5,4 @@ pub mod ModifierText
 pub mod Functions
 pub mod SameModifiers
 pub mod ModifierFeeds
+pub mod FunctionRows

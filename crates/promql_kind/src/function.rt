@@ -1,7 +1,10 @@
 //! Functions of the language: docs/reference/functions.md.
 
-ghost use Rattle.std.specs.Prelude.{◌≡◌, IfOk, find, map, option_map};
-ghost use Rattle.promql_kind.specs.Functions.{function_named, is_named, signature, signature_of};
+ghost use Rattle.std.specs.Prelude.{◌≡◌, ◌≤◌, IfOk, drop, find, length, map, option_map, take, true};
+ghost use Rattle.std.specs.List.{list_all};
+ghost use Rattle.promql_kind.specs.FunctionRows.{begins_otherwise};
+ghost use Rattle.promql_kind.specs.Functions.{function_named, is_named, row_signature, signature, signature_of};
+ghost use Rattle.promql_kind.specs.declared.function_table.TheConstants.{FUNCTIONS};
 
 use crate::function_table::{FUNCTIONS, Row};
 use crate::value::ValueType;
@@ -70,7 +73,7 @@ impl Function {
 pub fn get_function(alloc: Global, name: &str) -> Result<Option<Function>, AllocError>
     ensures { IfOk result (λ found. option_map signature_of found ≡ function_named name.now) }
 {
-    match row_named(&FUNCTIONS, name) {
+    match row_named(&FUNCTIONS, first_row(name), name) {
         Some((name, arg_types, variadic, return_type, experimental)) => Ok(Some(Function::new(
             name,
             copy_types(alloc, arg_types)?,
@@ -82,13 +85,55 @@ pub fn get_function(alloc: Global, name: &str) -> Result<Option<Function>, Alloc
     }
 }
 
-/// The first row of this name.
-fn row_named(rows: &[Row<'static>], name: &str) -> Option<Row<'static>>
+/// Where the rows begin whose names begin as this one does; 0 where there are none. No row before them has this name.
+fn first_row(name: &str) -> usize
+    ensures within { result ≤ length FUNCTIONS }
+    ensures skipped { find (is_named name.now) (drop result (map row_signature FUNCTIONS))
+        ≡ function_named name.now }
+{
+    match name.as_bytes() {
+        [letter, ..] => first_row_of(*letter),
+        [] => 0,
+    }
+}
+
+/// The first row whose name begins with this letter; 0 where there is none.
+fn first_row_of(letter: u8) -> usize
+    ensures within { result ≤ length FUNCTIONS }
+    ensures skipped { list_all (begins_otherwise letter) (take result FUNCTIONS) ≡ true }
+{
+    match letter {
+        b'c' => 10,
+        b'd' => 18,
+        b'e' => 26,
+        b'f' => 28,
+        b'h' => 30,
+        b'i' => 39,
+        b'l' => 43,
+        b'm' => 49,
+        b'p' => 56,
+        b'q' => 59,
+        b'r' => 60,
+        b's' => 65,
+        b't' => 79,
+        b'v' => 87,
+        b'y' => 88,
+        _ => 0,
+    }
+}
+
+/// The first row of this name, which is none of those before `first`.
+fn row_named(rows: &[Row<'static>], first: usize, name: &str) -> Option<Row<'static>>
+    requires within { first ≤ length rows.now }
+    requires skipped { find (is_named name.now)
+        (drop first (map (λ row. signature row.0.now row.1.now row.2 row.3 row.4) rows.now))
+        ≡ find (is_named name.now)
+        (map (λ row. signature row.0.now row.1.now row.2 row.3 row.4) rows.now) }
     ensures { option_map (λ row. signature row.0.now row.1.now row.2 row.3 row.4) result
         ≡ find (is_named name.now)
         (map (λ row. signature row.0.now row.1.now row.2 row.3 row.4) rows.now) }
 {
-    for row in rows {
+    for row in &rows[first..] {
         if row.0 == name {
             return Some(*row);
         }
