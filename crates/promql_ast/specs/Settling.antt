@@ -1,4 +1,4 @@
--- What a step of a builder says (private: nothing rests on believing it).
+-- What a change of a tree in its place says.
 use Rattle.std.specs.Prelude.{◌≡◌, Result, Ok, Err}
 use Rattle.promql_ast.specs.Faults.{Verdict, passes, rejected, node}
 use Rattle.promql_ast.specs.Tree.{Tree}

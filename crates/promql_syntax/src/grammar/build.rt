@@ -2,7 +2,8 @@
 
 ghost use Rattle.std.specs.Prelude.{◌≡◌, ℕ, ◌+◌, ◌≤◌, max, List, Option, None, Some, Ok, Err, IfOk, option_map};
 ghost use Rattle.promql_ast.specs.Checked.{check_tree};
-ghost use Rattle.promql_ast.specs.Faults.{Gives, GivesOrMemory, Verdict, fault_of, rejected};
+ghost use Rattle.promql_ast.specs.Faults.{GivesOrMemory, Verdict, fault_of, rejected};
+ghost use Rattle.promql_ast.specs.Settling.{SettlesAtOnce};
 ghost use Rattle.promql_ast.specs.Tree.{binary};
 ghost use Rattle.promql_ast.specs.View.{tree_of};
 ghost use Rattle.promql_grammar.specs.Grammar as grammar;
@@ -22,7 +23,9 @@ use crate::grammar::parsed::{ParsedArgs, ParsedExpr, Pending};
 use crate::grammar::place::{Extent, Place};
 use crate::grammar::postfix::{ParsedPostfix, Postfix};
 use crate::parser::MAX_DEPTH;
-use promql_ast::{BinaryExpr, CheckError, CheckFault, Expr, FunctionArgs, ParenExpr, SubqueryExpr};
+use promql_ast::{
+    BinaryExpr, CheckError, CheckFault, Expr, FunctionArgs, NodeFault, ParenExpr, SubqueryExpr,
+};
 use promql_kind::{BinModifier, LabelModifier, get_function};
 use promql_token::ids::T_SUB;
 use promql_token::{TokenId, TokenType};
@@ -80,24 +83,24 @@ fn check_error(
     parsed_error(alloc, error, height)
 }
 
-/// The result of a builder that allocates nothing.
-fn parsed_result(
+/// A node that a postfix changed in its box, if nothing was against it.
+fn changed_node(
     alloc: Global,
-    built: Result<Expr, CheckError>,
+    expr: Box<Expr>,
+    change: Result<(), NodeFault>,
     height: usize,
-    place: Place,
+    extent: &Extent,
 ) -> Result<ParsedExpr, AllocError>
-    ensures value { IfOk result (λ parsed. (verdict : Verdict) → Gives built verdict
-        → tree_result parsed ≡ outcome verdict) }
+    ensures value { IfOk result (λ parsed. (verdict : Verdict)
+        → SettlesAtOnce change verdict (tree_of expr.value) → tree_result parsed ≡ outcome verdict) }
     ensures tall { IfOk result (λ parsed. parsed.height ≡ height) }
 {
-    match built {
-        Ok(expr) => {
-            let expr = Box::new(alloc, expr)?;
-            Ok(parsed_node(expr, height))
+    match change {
+        Ok(()) => Ok(parsed_node(expr, height)),
+        Err(fault) => {
+            drop(expr);
+            check_error(alloc, CheckFault::Node(fault), height, extent.after_base())
         }
-        Err(CheckError::Memory) => Err(AllocError),
-        Err(CheckError::Check(fault)) => check_error(alloc, fault, height, place),
     }
 }
 
@@ -433,11 +436,11 @@ fn apply_postfix(
         λ c. apply_change (tree_of expr.value) c) (tree_result parsed)) }
     ensures tall { IfOk result (λ parsed. parsed.height ≡ height) }
 {
-    let place = extent.after_base();
+    let mut expr = expr;
     match postfix {
         Ok(Postfix::Range(range)) => {
-            let expr = Box::into_inner(expr);
-            parsed_result(alloc, Expr::new_matrix_selector(expr, range), height, place)
+            let change = expr.set_range(alloc, range);
+            changed_node(alloc, expr, change, height, extent)
         }
         Ok(Postfix::Subquery { range, step }) => {
             let node = SubqueryExpr {
@@ -450,24 +453,18 @@ fn apply_postfix(
             let expr = Box::new(alloc, Expr::Subquery(node))?;
             check_node(alloc, expr, height, extent)
         }
-        Ok(Postfix::At(at)) => parsed_result(
-            alloc,
-            Box::into_inner(expr).at_expr(at),
-            height,
-            place,
-        ),
-        Ok(Postfix::Offset(offset)) => parsed_result(
-            alloc,
-            Box::into_inner(expr).offset_expr(offset),
-            height,
-            place,
-        ),
-        Ok(Postfix::Mode(mode)) => parsed_result(
-            alloc,
-            Box::into_inner(expr).mode_expr(mode),
-            height,
-            place,
-        ),
+        Ok(Postfix::At(at)) => {
+            let change = expr.set_at(at);
+            changed_node(alloc, expr, change, height, extent)
+        }
+        Ok(Postfix::Offset(offset)) => {
+            let change = expr.set_offset(offset);
+            changed_node(alloc, expr, change, height, extent)
+        }
+        Ok(Postfix::Mode(mode)) => {
+            let change = expr.set_mode(mode);
+            changed_node(alloc, expr, change, height, extent)
+        }
         Err(error) => parsed_error(alloc, error, height),
     }
 }

@@ -81,6 +81,26 @@ fn modes_are_set_once(rt: HostRuntime) -> Result<(), Fail> {
     Ok(())
 }
 
+/// What a range of five minutes makes of a text's expression where it stands: what is rejected stays.
+const RANGED: [(&str, &str); 4] = [
+    ("a", "a[5m]"),
+    ("a offset 3m", "a offset 3m"),
+    ("a @ end()", "a @ end()"),
+    ("a[1m]", "a[1m]"),
+];
+
+#[test]
+fn ranges_are_set_in_place(rt: HostRuntime) -> Result<(), Fail> {
+    let alloc = rt.alloc();
+    for (text, ranged) in RANGED.iter() {
+        let mut expr = kind(alloc, text)?;
+        let change = expr.set_range(alloc, minute_duration() * 5);
+        assert!(rt; change.is_ok() == (text != ranged), "{text}");
+        assert_eq!(rt; expr.to_string(alloc)?.as_str(), *ranged);
+    }
+    Ok(())
+}
+
 #[test]
 fn no_arguments_are_lent(rt: HostRuntime) {
     let none = FunctionArgs::empty_args(rt.alloc());

@@ -1,5 +1,6 @@
+use Rattle.std.proofs.Common.{refl}
 use Rattle.promql_ast.proofs.Fallbacks.{offset_other}
 use Rattle.promql_ast.proofs.expr.Expr.set_offset.Goals as goal
 
 pub returns-in_default : goal.returns-in_default
-returns-in_default c = offset_other c.args.self.now _ c.in_default.not-VectorSelector c.in_default.not-MatrixSelector c.in_default.not-Subquery
+returns-in_default c = record { given = offset_other c.args.self.now _ c.in_default.not-VectorSelector c.in_default.not-MatrixSelector c.in_default.not-Subquery; unchanged = refl }
