@@ -12,6 +12,10 @@ pub mod EnforcedTwice
 pub mod EnforcedTypes
 pub mod Judging
 pub mod ListedNodes
+pub mod MappedLists
+pub mod MappedTrees
+pub mod MappedTyped
+pub mod MapsSelectors
 pub mod NameTokens
 pub mod NoneEmptyGroups
 pub mod NormalMatchers

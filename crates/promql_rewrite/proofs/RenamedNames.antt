@@ -158,3 +158,83 @@ module _ (from to : Text) (old : from ≢ codes "__name__") (new : to ≢ codes 
       each (matrix s range mode) = selector_label s
       each (call f ts) = refl
       each (extension name gives ts) = refl
+
+-- ---- the metrics where a label is renamed
+
+module _ (from to : Text) (old : from ≢ codes "__name__") (new : to ≢ codes "__name__") where
+  kept_test : (c : PlainMatcher) → is_metric_name (renamed_matcher (of_label from to) c) ≡ is_metric_name c
+  kept_test (plain_matcher equal name value) = same_of from to old new (plain_matcher equal name value)
+  kept_test (plain_matcher not_equal name value) = refl
+  kept_test (plain_matcher (matches w) name value) = refl
+  kept_test (plain_matcher (matches_not w) name value) = refl
+
+  kept_value : (c : PlainMatcher) → is_metric_name c ≡ true → value_of (renamed_matcher (of_label from to) c) ≡ value_of c
+  kept_value (plain_matcher op name value) is = refl
+
+  kept_metrics : (s : Selector) → selector_metrics (renamed_selector (of_label from to) s) ≡ map (λ x. x) (selector_metrics s)
+  kept_metrics (selector name cs offset at) =
+      let values : List Text = map value_of (filter is_metric_name (every cs)) in
+      ap (λ xs. option_to_list name ++ xs)
+      (ap (λ ds. map value_of (filter is_metric_name ds)) (every_renamed (of_label from to) cs) ∙ picked (of_label from to) value_of is_metric_name (λ x. x) kept_test kept_value (every cs) ∙ map-id values)
+      ∙ sym (map-id (option_to_list name ++ values))
+
+  pub metrics_kept : (t : Tree) → named_metrics (renamed (of_label from to) t) ≡ named_metrics t
+  metrics_kept t = of_tree (of_label from to) own_metrics (λ x. x) each t ∙ map-id (named_metrics t)
+    where
+      each : (t : Tree) → own_metrics (renamed (of_label from to) t) ≡ map (λ x. x) (own_metrics t)
+      each (aggregate op e p m) = refl
+      each (unary e) = refl
+      each (binary op x y m) = refl
+      each (paren e) = refl
+      each (subquery e offset at range step) = refl
+      each (number n) = refl
+      each (string s) = refl
+      each (vector s) = kept_metrics s
+      each (matrix s range mode) = kept_metrics s
+      each (call f ts) = refl
+      each (extension name gives ts) = refl
+
+-- ---- the labels where a metric is renamed
+
+module _ (from to : Text) where
+  same_test : (c : PlainMatcher) → is_label_matcher (renamed_matcher (of_metric from to) c) ≡ is_label_matcher c
+  same_test (plain_matcher op name value) = refl
+
+  same_label : (c : PlainMatcher) → is_label_matcher c ≡ true → name_of (renamed_matcher (of_metric from to) c) ≡ name_of c
+  same_label (plain_matcher op name value) is = refl
+
+  kept_clause : (k : Option Clause) → unwrap_or (option_map clause_labels (option_map (renamed_clause (of_metric from to)) k)) [] ≡ map (λ x. x) (unwrap_or (option_map clause_labels k) [])
+  kept_clause None = refl
+  kept_clause (Some (including ls)) = sym (map-id ls)
+  kept_clause (Some (excluding ls)) = sym (map-id ls)
+
+  kept_card : (k : Cardinality) → unwrap_or (grouping (renamed_cardinality (of_metric from to) k)) [] ≡ map (λ x. x) (unwrap_or (grouping k) [])
+  kept_card one_to_one = refl
+  kept_card (many_to_one ls) = sym (map-id ls)
+  kept_card (one_to_many ls) = sym (map-id ls)
+  kept_card many_to_many = refl
+
+  kept_modifier : (m : Option Matching) → unwrap_or (option_map matching_labels (option_map (renamed_matching (of_metric from to)) m)) [] ≡ map (λ x. x) (unwrap_or (option_map matching_labels m) [])
+  kept_modifier None = refl
+  kept_modifier (Some (matching card clause return_bool values)) =
+      (λ i. kept_clause clause i ++ kept_card card i) ∙ sym (map-append (λ x. x) (unwrap_or (option_map clause_labels clause) []) (unwrap_or (grouping card) []))
+
+  kept_labels : (s : Selector) → selector_labels (renamed_selector (of_metric from to) s) ≡ map (λ x. x) (selector_labels s)
+  kept_labels (selector name cs offset at) =
+      ap (λ ds. map name_of (filter is_label_matcher ds)) (every_renamed (of_metric from to) cs) ∙ picked (of_metric from to) name_of is_label_matcher (λ x. x) same_test same_label (every cs)
+
+  pub labels_kept : (t : Tree) → named_labels (renamed (of_metric from to) t) ≡ named_labels t
+  labels_kept t = of_tree (of_metric from to) own_labels (λ x. x) each t ∙ map-id (named_labels t)
+    where
+      each : (t : Tree) → own_labels (renamed (of_metric from to) t) ≡ map (λ x. x) (own_labels t)
+      each (aggregate op e p m) = kept_clause m
+      each (unary e) = refl
+      each (binary op x y m) = kept_modifier m
+      each (paren e) = refl
+      each (subquery e offset at range step) = refl
+      each (number n) = refl
+      each (string s) = refl
+      each (vector s) = kept_labels s
+      each (matrix s range mode) = kept_labels s
+      each (call f ts) = refl
+      each (extension name gives ts) = refl

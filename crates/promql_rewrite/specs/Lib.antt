@@ -11,6 +11,8 @@ pub mod FaithfulErrors
 pub mod FirstWrong
 pub mod FoundReasons
 pub mod Judged
+pub mod MappedSelectors
+pub mod Mapping
 pub mod MatcherTexts
 pub mod Parenthesizing
 pub mod PrintableConditions

@@ -4,7 +4,7 @@ use Rattle.promql_text.specs.Texts.{Text}
 use Rattle.promql_label.specs.PlainMatchers.{PlainMatcher, plain_matchers, name_of}
 use Rattle.promql_ast.specs.Selectors.{selector}
 use Rattle.promql_ast.specs.Tree.{Tree, vector}
-use Rattle.promql_syntax.specs.ParseAnswers.{IsAnswerTo, PlainParseError}
+use Rattle.promql_syntax.specs.ParseAnswers.{IsAnswerTo, PlainParseError, memory}
 use Rattle.promql_rewrite.specs.Enforcing.{enforced}
 use Rattle.promql_rewrite.specs.declared.matcher_text.MatcherError.{MatcherError}
 use Rattle.promql_rewrite.specs.declared.matcher_text.MatcherError.TheVariants as error
@@ -25,7 +25,7 @@ IsMatcherText text c = (t : Tree) × IsAnswerTo (selector_around text) (Ok t) ×
 -- the text is no matcher: between braces it is rejected, or makes another tree
 abbrev pub IsNoMatcherText : Text → Type 0
 IsNoMatcherText text =
-    ((e : PlainParseError) × IsAnswerTo (selector_around text) (Err e))
+    ((e : PlainParseError) × IsAnswerTo (selector_around text) (Err e) × (e ≢ memory))
     ⊎ ((t : Tree) × IsAnswerTo (selector_around text) (Ok t) × ((c : PlainMatcher) → ¬ HasMatcherAfter t c))
 
 -- why the text gives no matcher to enforce

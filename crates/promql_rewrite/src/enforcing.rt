@@ -23,7 +23,7 @@ use std::alloc::{AllocError, Global};
 use thiserror::Error;
 
 /// The function whose second argument selects labels of another series, and no series of its own.
-const INFO: &str = "info";
+pub(crate) const INFO: &str = "info";
 
 /// Why a matcher was not enforced.
 #[derive(PartialEq, Eq, Debug, Drop, Error)]

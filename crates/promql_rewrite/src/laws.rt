@@ -1,6 +1,7 @@
 //! Laws: the contracts of functions that do nothing.
 
 ghost use Rattle.std.specs.Prelude.{◌≡◌, ◌≢◌, ◌↔◌, ◌&&◌, ◌*◌, ◌<◌, ◌≤◌, [], false, ℕ, List, codes, map, true};
+ghost use Rattle.std.specs.List.{AllByRecursion};
 ghost use Rattle.promql_text.specs.Texts.{Text};
 ghost use Rattle.promql_label.specs.Answers.{Answer};
 ghost use Rattle.promql_label.specs.PlainMatchers.{PlainMatcher, name_of};
@@ -10,7 +11,7 @@ ghost use Rattle.promql_ast.specs.Normal.{normal};
 ghost use Rattle.promql_ast.specs.Selectors.{Selector};
 ghost use Rattle.promql_ast.specs.Text.{text};
 ghost use Rattle.promql_ast.specs.Tree.{Tree};
-ghost use Rattle.promql_ast.specs.Typed.{Typed};
+ghost use Rattle.promql_ast.specs.Typed.{Typed, TypedSelector};
 ghost use Rattle.promql_ast.specs.Types.{type_of};
 ghost use Rattle.promql_syntax.specs.ParseAnswers.{HasTree};
 ghost use Rattle.promql_syntax.specs.declared.parser.TheConstants.{MAX_DEPTH};
@@ -19,6 +20,7 @@ ghost use Rattle.promql_rewrite.specs.Answered.{IsAnswered};
 ghost use Rattle.promql_rewrite.specs.Collecting.{IsSetOf, called_functions, named_labels, named_metrics};
 ghost use Rattle.promql_rewrite.specs.Enforcing.{enforced, enforced_selector};
 ghost use Rattle.promql_rewrite.specs.Everywhere.{Everywhere};
+ghost use Rattle.promql_rewrite.specs.Mapping.{KindedSelector, enforced_as, outline, selectors_of};
 ghost use Rattle.promql_rewrite.specs.Parenthesizing.{parenthesized};
 ghost use Rattle.promql_rewrite.specs.PrintableConditions.{HasParts, IsPlaced, IsPrintableAlone, PatternsAnswered};
 ghost use Rattle.promql_rewrite.specs.PrintableTrees.{IsPrintable, printed_height};
@@ -95,11 +97,14 @@ pub fn renamed_trees_are_typed()
     ensures names { (name : Text) → is_name name ≡ true → name ≢ [] }
 {}
 
-/// A printable tree is printable where two labels that no list has both are renamed: its texts mean it.
+/// A printable tree is printable where two labels that no list has both are renamed, and where a metric gets a name of metrics:
+/// its texts mean it.
 pub fn renamed_trees_are_printable()
-    ensures { (g : Text → Answer) (from to : Text) (t : Tree)
+    ensures labels { (g : Text → Answer) (from to : Text) (t : Tree)
         → from ≢ codes "__name__" → to ≢ codes "__name__" → clashes from to t ≡ false
         → IsPrintable g t → IsPrintable g (renamed (of_label from to) t) }
+    ensures metrics { (g : Text → Answer) (from to : Text) (t : Tree) → is_name to ≡ true
+        → IsPrintable g t → IsPrintable g (renamed (of_metric from to) t) }
 {}
 
 /// Where the new name is the old one, nothing changes.
@@ -149,7 +154,8 @@ pub fn parentheses_are_fewest()
     ensures unchanged { (t : Tree) → Everywhere IsPlaced t → parenthesized t ≡ t }
 {}
 
-/// The names of a renamed tree are those of the tree, with the new name for the old one.
+/// The names of a renamed tree are those of the tree, with the new name for the old one: labels change where a label is
+/// renamed, metrics where a metric is, and nothing else does.
 pub fn renamed_names()
     ensures labels { (from to : Text) (t : Tree) → from ≢ codes "__name__" → to ≢ codes "__name__"
         → named_labels (renamed (of_label from to) t) ≡ map (replaced from to) (named_labels t) }
@@ -157,4 +163,34 @@ pub fn renamed_names()
         → named_metrics (renamed (of_metric from to) t) ≡ map (replaced from to) (named_metrics t) }
     ensures functions { (r : Renaming) (t : Tree)
         → called_functions (renamed r t) ≡ called_functions t }
+    ensures other_metrics { (from to : Text) (t : Tree) → from ≢ codes "__name__"
+        → to ≢ codes "__name__" → named_metrics (renamed (of_label from to) t) ≡ named_metrics t }
+    ensures other_labels { (from to : Text) (t : Tree)
+        → named_labels (renamed (of_metric from to) t) ≡ named_labels t }
+{}
+
+/// Trees of one outline, as the tree before and the one that `map_selectors` returns, have one type, one height and as many
+/// selectors, each of the kind that it was. One is well typed where the other is and its own selectors are; with the same
+/// selectors they are one tree.
+pub fn mapped_trees()
+    ensures types { (t u : Tree) → outline t ≡ outline u → type_of t ≡ type_of u }
+    ensures heights { (t u : Tree) → outline t ≡ outline u → height t ≡ height u }
+    ensures kinds { (t u : Tree) → outline t ≡ outline u
+        → map (λ (x : KindedSelector). x.0) (selectors_of t)
+        ≡ map (λ (x : KindedSelector). x.0) (selectors_of u) }
+    ensures typed { (t u : Tree) → outline t ≡ outline u → Typed t
+        → AllByRecursion (λ (x : KindedSelector). TypedSelector x.1) (selectors_of u) → Typed u }
+    ensures same { (t u : Tree) → outline t ≡ outline u → selectors_of t ≡ selectors_of u → t ≡ u }
+{}
+
+/// Enforcing a matcher and renaming a metric change selectors alone: the first those of series, the second all.
+pub fn changes_of_selectors()
+    ensures enforced_outline { (c : PlainMatcher) (t : Tree) → outline (enforced c t) ≡ outline t }
+    ensures enforced { (c : PlainMatcher) (t : Tree) → selectors_of (enforced c t)
+        ≡ map (λ (x : KindedSelector). (x.0, enforced_as c x.0 x.1)) (selectors_of t) }
+    ensures renamed_outline { (from to : Text) (t : Tree)
+        → outline (renamed (of_metric from to) t) ≡ outline t }
+    ensures renamed { (from to : Text) (t : Tree) → selectors_of (renamed (of_metric from to) t)
+        ≡ map (λ (x : KindedSelector). (x.0, renamed_selector (of_metric from to) x.1))
+        (selectors_of t) }
 {}

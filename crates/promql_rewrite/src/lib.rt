@@ -11,6 +11,7 @@
 pub use collecting::{Collected, CollectedSelector, collect};
 pub use enforcing::{EnforceError, enforce, enforce_query};
 pub use faithful::{NotFaithful, faithful_line, faithful_pretty};
+pub use mapping::{SelectorKind, SelectorMapper, map_selectors};
 pub use matcher_text::{MatcherError, enforce_text, read_matcher};
 pub use parenthesizing::parenthesized;
 pub use printable::{NotPrintable, is_printable, why_not_printable};
@@ -21,6 +22,7 @@ pub mod collecting;
 pub mod enforcing;
 pub mod faithful;
 pub mod laws;
+pub mod mapping;
 pub mod matcher_text;
 pub mod parenthesizing;
 pub mod printable;

@@ -94,7 +94,7 @@ pub fn why_not_printable(alloc: Global, expr: &Expr) -> Result<Option<NotPrintab
             Ok(None)
         }
         Err(NotFaithful::Memory) => Err(AllocError),
-        Err(NotFaithful::IndentTooWide) => Ok(None),
+        Err(NotFaithful::IndentTooWide) => unreachable!(),
         Err(NotFaithful::Rejected(error)) => Ok(Some(reason_or(expr, error))),
         Err(NotFaithful::OtherTree) => Ok(Some(other_reason(expr))),
     }

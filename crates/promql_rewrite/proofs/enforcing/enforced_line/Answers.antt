@@ -1,4 +1,4 @@
-use Rattle.std.proofs.Common.{◌≡◌, ◌∙◌, ap}
+use Rattle.std.proofs.Common.{◌∙◌, ap}
 use Rattle.std.specs.Prelude.{Err}
 use Rattle.promql_rewrite.proofs.Rejections.{of_enforced}
 use Rattle.promql_rewrite.proofs.enforcing.enforced_line.Goals as goal

@@ -14,8 +14,8 @@ returns-in-Ok c =
       reason = tt;
     }
 
-pub returns-in-Err-IndentTooWide : goal.returns-in-Err-IndentTooWide
-returns-in-Err-IndentTooWide c = absurd (c.faithful_line.ensures.no_indent (c.in-Err-IndentTooWide.is ∙ ap Err c.in-Err-IndentTooWide.field-0-is))
+pub unreachable-requires : goal.unreachable-requires
+unreachable-requires c = c.faithful_line.ensures.no_indent (c.in-Err-IndentTooWide.is ∙ ap Err c.in-Err-IndentTooWide.field-0-is)
 
 pub reason_or-requires : goal.reason_or-requires
 reason_or-requires c = c.faithful_line.ensures.rejected c.in-Err-Rejected.error (c.in-Err-Rejected.is ∙ ap Err c.in-Err-Rejected.field-0-is)
