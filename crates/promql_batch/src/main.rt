@@ -1,7 +1,7 @@
 //! `promql_batch MODE`: reads a PromQL query from each line of standard input and prints an answer for each.
 #![tactic(auto)]
 
-use promql_run::batch_program::batch_program;
+use promql_lines::batch_program::batch_program;
 use promql_run::ended::Ended;
 use promql_run::program::arguments;
 use promql_run::run::RunError;

@@ -1,8 +1,8 @@
 //! `promql_enforce`: reads a PromQL query from standard input, and writes it with a matcher in every selector.
 #![tactic(auto)]
 
+use promql_lines::enforce_program::enforce_program;
 use promql_run::ended::Ended;
-use promql_run::enforce_program::enforce_program;
 use promql_run::program::arguments;
 use std::process::ExitCode;
 

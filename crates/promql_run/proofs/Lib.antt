@@ -1,13 +1,7 @@
-pub mod Batches
-pub mod EnforcedTrees
 pub mod NoExtensions
 pub mod JsonForms
 pub mod Indentations
 pub mod KnownBytes
-pub mod LineAnswers
-pub mod LinesRead
-pub mod MemoryAnswer
 pub mod Rejections
-pub mod RequestMembers
 pub mod SameRunErrors
 pub mod Statuses

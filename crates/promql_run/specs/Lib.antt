@@ -1,11 +1,7 @@
-pub mod Batch
-pub mod BatchSteps
 pub mod Checking
 pub mod Ended
-pub mod EnforcedLines
 pub mod Extensions
 pub mod Rejecting
-pub mod Requests
 pub mod Running
 pub mod StepErrors
 pub mod ProgramArguments

@@ -3,6 +3,7 @@ use Rattle.std.specs.Prelude.{◌≡◌, Some, Result, Ok, Err}
 use Rattle.std.specs.Str.{chars}
 use Rattle.promql_text.specs.Locations.{line_of, column_of}
 use Rattle.promql_text.specs.Texts.{Text}
+use Rattle.promql_ast.specs.Tree.{Tree}
 use Rattle.promql_ast.specs.View.{tree_of}
 use Rattle.promql_ast.specs.declared.expr.Expr.{Expr}
 use Rattle.promql_syntax.specs.ErrorPlaces.{IsPlaceOf}
@@ -16,6 +17,10 @@ pub record IsRejection (query : Text) (r : Rejection) : Type 0 where
   pub at : IsPlaceOf query r.error (Some r.span)
   pub line : r.location.line ≡ line_of (chars query) r.span.start
   pub column : r.location.column ≡ column_of (chars query) r.span.start
+
+-- the query has a tree
+abbrev pub IsParsed : Text → Type 0
+IsParsed query = (t : Tree) × IsAnswerTo query (Ok t)
 
 -- the query has this tree, or is rejected so
 abbrev pub IsReadAs : Text → Result Expr Rejection → Type 0

@@ -104,7 +104,11 @@ impl From<ParseError> for RunError {
 }
 
 /// Reads all that the reader has. Each read but the last adds a byte, so an endless input ends in `Memory`.
-pub(crate) fn read_input<R: Read>(alloc: Global, reader: &mut Ended<R>) -> Result<Vec<u8>, RunError>
+///
+/// # Errors
+///
+/// `Read` where a read failed, `Memory` where an allocation failed.
+pub fn read_input<R: Read>(alloc: Global, reader: &mut Ended<R>) -> Result<Vec<u8>, RunError>
     ensures read { IfOk result (λ bytes. HasRead (R.remaining reader.old.inner)
         (R.remaining reader.new.inner) bytes.items) }
     ensures quiet { MatchResult result (λ _. reader.new.failed ≡ reader.old.failed)

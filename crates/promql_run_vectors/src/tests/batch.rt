@@ -2,8 +2,8 @@
 
 use super::streams::{FlakyReader, FlakyWriter};
 use super::{check_value, texts};
-use promql_run::batch::run_batch;
-use promql_run::batch_program::{BATCH_HELP, BATCH_USAGE, batch_program};
+use promql_lines::batch::run_batch;
+use promql_lines::batch_program::{BATCH_HELP, BATCH_USAGE, batch_program};
 use promql_run::ended::Ended;
 use promql_run::run::{Mode, RunError};
 use std::alloc::{AllocError, Global};

@@ -1,7 +1,7 @@
 //! Widths, precisions and flags of a placeholder, which no error of a run or of a line heeds.
 
+use promql_lines::line::LineError;
 use promql_parser::parser::ParseError;
-use promql_run::line::LineError;
 use promql_run::run::RunError;
 use std::alloc::Global;
 use std::fmt::Display;

@@ -1,0 +1,6 @@
+pub mod Batches
+pub mod EnforcedTrees
+pub mod LineAnswers
+pub mod LinesRead
+pub mod MemoryAnswer
+pub mod RequestMembers

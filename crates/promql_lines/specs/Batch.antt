@@ -1,0 +1,244 @@
+-- What a batch answers to its lines (docs/reference/programs.md).
+use Rattle.std.specs.Prelude.{◌≡◌, ◌≢◌, ◌⊎◌, ℕ, ◌++◌, ◌&&◌, List, [], ◌∷◌, All, Bool, true, false, Option, Some, None, Result, Ok, Err, codes, map}
+use Rattle.std.specs.Str.{IsUtf8}
+use Rattle.std.specs.Io.{StopsAt}
+use Rattle.std.specs.Io.KnownBytes.{Appends, Consumes}
+use Rattle.serde_json.specs.Data.{Data, string, number, unsigned, object, no_members, member}
+use Rattle.serde_json.specs.Read.{read}
+use Rattle.serde_json.specs.Written.{compact_text}
+use Rattle.promql_text.specs.Texts.{Text}
+use Rattle.promql_ast.specs.Layout.{layout_of}
+use Rattle.promql_ast.specs.Text as one_line
+use Rattle.promql_ast.specs.Tree.{Tree}
+use Rattle.promql_syntax.specs.ParseAnswers.{IsAnswerTo}
+use Rattle.promql_walk.specs.Json.{json}
+use Rattle.promql_walk.specs.declared.json_error.JsonError.{JsonError}
+use Rattle.promql_walk.specs.declared.json_error.JsonError.TheVariants.{NumberTooWide}
+use Rattle.promql_rewrite.specs.MatcherTexts.{IsEnforcedBy, IsMatcherFault}
+use Rattle.promql_rewrite.specs.declared.matcher_text.MatcherError.{MatcherError}
+use Rattle.promql_run.specs.declared.rejection.Rejection.{Rejection}
+use Rattle.promql_run.specs.declared.run.Mode.{Mode}
+use Rattle.promql_run.specs.declared.run.RunError.TheVariants as error
+use Rattle.promql_run.specs.Rejecting.{IsParsed, IsRejection}
+use Rattle.promql_run.specs.Running.{error_number}
+use Rattle.promql_lines.specs.declared.line.LineError.{LineError}
+use Rattle.promql_lines.specs.declared.line.LineError.TheVariants.{Run, Rejected, NotARequest, Matcher}
+use Rattle.promql_lines.specs.declared.request.Format.{Format}
+use Rattle.promql_lines.specs.declared.request.Format.TheVariants.{Pretty, Line, Json}
+use Rattle.promql_lines.specs.Requests.{query_in, matcher_in, format_in}
+
+-- ---- one line
+
+-- "Answers": the value of a tree in a format, or why it has none
+abbrev pub format_value : Format → Tree → Result Data JsonError
+format_value (Pretty layout) t = Ok (string (layout_of t layout.level layout.width))
+format_value Line t = Ok (string (one_line.text t))
+format_value Json t = json t
+
+-- the line asks for this query in this format, with this matcher in its selectors if there is one
+pub record Asks (mode : Mode) (line query : Text) (matcher : Option Text) (format : Format) : Type 0 where
+  pub utf8 : IsUtf8 line
+  pub value : Data
+  pub is : read line ≡ Some value
+  pub query_is : query_in value ≡ Some query
+  pub matcher_is : matcher_in value ≡ matcher
+  pub format_is : format_in mode value ≡ Some format
+
+-- the line is no JSON, or asks for no query or no format
+abbrev pub AsksNothing : Mode → Text → Type 0
+AsksNothing mode line =
+    (read line ≡ None)
+    ⊎ ((value : Data) × (read line ≡ Some value) × ((query_in value ≡ None) ⊎ (format_in mode value ≡ None)))
+
+-- "Requests": the second tree is what is printed where the first one was read
+abbrev pub IsAsked : Option Text → Tree → Tree → Type 0
+IsAsked None t u = u ≡ t
+IsAsked (Some matcher) t u = IsEnforcedBy matcher t u
+
+-- the query has a tree, and this is the value of what is printed of it in the format, or why that has none
+pub record HasQueryValue (query : Text) (matcher : Option Text) (format : Format) (value : Result Data JsonError) : Type 0 where
+  pub tree : Tree
+  pub parsed : IsAnswerTo query (Ok tree)
+  pub printed : Tree
+  pub asked : IsAsked matcher tree printed
+  pub gives : format_value format printed ≡ value
+
+-- there is a matcher, and this is why it is none to enforce
+abbrev pub HasMatcherFault : Option Text → MatcherError → Type 0
+HasMatcherFault None e = ⊥
+HasMatcherFault (Some matcher) e = IsMatcherFault matcher e
+
+-- when a query has this error; the matcher counts only where the query has a tree
+abbrev pub FailsOnQuery : Text → Option Text → Format → LineError → Type 0
+FailsOnQuery query matcher format (Run error.Memory) = Unit {0}
+FailsOnQuery query matcher format (Rejected rejection) = IsRejection query rejection
+FailsOnQuery query matcher format (Matcher e) = IsParsed query × HasMatcherFault matcher e
+FailsOnQuery query matcher format (Run error.Json) = HasQueryValue query matcher format (Err NumberTooWide)
+FailsOnQuery query matcher format _ = ⊥
+
+-- the line asks for a query that has this value
+pub record HasValue (mode : Mode) (line : Text) (value : Data) : Type 0 where
+  pub query : Text
+  pub matcher : Option Text
+  pub format : Format
+  pub asks : Asks mode line query matcher format
+  pub has : HasQueryValue query matcher format (Ok value)
+
+-- the line asks for a query that has this error
+pub record AsksInVain (mode : Mode) (line : Text) (e : LineError) : Type 0 where
+  pub query : Text
+  pub matcher : Option Text
+  pub format : Format
+  pub asks : Asks mode line query matcher format
+  pub fails : FailsOnQuery query matcher format e
+
+abbrev pub line_error_number : LineError → ℕ
+line_error_number (Run e) = error_number e
+line_error_number (Rejected rejection) = 4
+line_error_number NotARequest = 7
+line_error_number (Matcher e) = 11
+
+-- "Errors": when a line has this error
+abbrev pub FailsWith : Mode → Text → LineError → Type 0
+FailsWith mode line NotARequest = IsUtf8 line × AsksNothing mode line
+FailsWith mode line (Run error.NotUtf8) = ¬ IsUtf8 line
+FailsWith mode line (Run error.Memory) = Unit {0}
+FailsWith mode line e = AsksInVain mode line e
+
+abbrev pub ok_object : Data → Data
+ok_object value = object (member (codes "ok") value no_members)
+
+abbrev pub error_object : ℕ → Text → Data
+error_object code message =
+    object (member (codes "code") (number (unsigned code)) (member (codes "error") (string message) no_members))
+
+-- the same with the place of the error in the query
+abbrev pub rejection_object : ℕ → Text → Rejection → Data
+rejection_object code message r =
+    object (member (codes "code") (number (unsigned code))
+    (member (codes "column") (number (unsigned r.location.column))
+    (member (codes "end") (number (unsigned r.span.end))
+    (member (codes "error") (string message)
+    (member (codes "line") (number (unsigned r.location.line))
+    (member (codes "start") (number (unsigned r.span.start)) no_members))))))
+
+abbrev pub line_error_object : LineError → Text → Data
+line_error_object (Rejected rejection) message = rejection_object 4 message rejection
+line_error_object (Run e) message = error_object (error_number e) message
+line_error_object NotARequest message = error_object 7 message
+line_error_object (Matcher e) message = error_object 11 message
+
+pub record IsOkLine (mode : Mode) (line printed : Text) : Type 0 where
+  pub value : Data
+  pub has : HasValue mode line value
+  pub is : printed ≡ compact_text (ok_object value)
+
+-- the error's number, some message and, of a query that is rejected, the place
+abbrev pub IsErrorText : LineError → Text → Type 0
+IsErrorText fault printed = (message : Text) × (printed ≡ compact_text (line_error_object fault message))
+
+pub record IsErrorLine (mode : Mode) (line printed : Text) : Type 0 where
+  pub fault : LineError
+  pub fails : FailsWith mode line fault
+  pub is : IsErrorText fault printed
+
+-- the line is answered with this text, and whether that is an `ok`
+abbrev pub IsLineAnswer : Mode → Text → Text → Bool → Type 0
+IsLineAnswer mode line printed true = IsOkLine mode line printed
+IsLineAnswer mode line printed false = IsErrorLine mode line printed
+
+-- ---- all lines
+
+-- each line with a line feed after it
+abbrev pub ended_lines : List Text → Text
+ended_lines [] = []
+ended_lines (line ∷ lines) = line ++ 10 ∷ ended_lines lines
+
+-- the text ends in another byte than a line feed
+abbrev pub IsOpen : Text → Type 0
+IsOpen text = (front : Text) × (b : ℕ) × (text ≡ front ++ b ∷ []) × (b ≢ 10)
+
+-- no line has a line feed in it
+abbrev pub HaveNoFeed : List Text → Type 0
+HaveNoFeed [] = Unit {0}
+HaveNoFeed (line ∷ lines) = All (λ b. b ≢ 10) line × HaveNoFeed lines
+
+-- "Lines": the lines of a text; the last may lack its line feed
+pub record AreLines (input : Text) (lines : List Text) : Type 0 where
+  pub single : HaveNoFeed lines
+  pub whole : (ended_lines lines ≡ input) ⊎ (IsOpen input × (ended_lines lines ≡ input ++ 10 ∷ []))
+
+-- a text, and whether it is an `ok`
+pub record Answer : Type 0 where
+  pub text : Text
+  pub is_ok : Bool
+
+-- each line has one answer, in order
+abbrev pub AnswerEach : Mode → List Text → List Answer → Type 0
+AnswerEach mode [] [] = Unit {0}
+AnswerEach mode (line ∷ lines) (answer ∷ answers) =
+    IsLineAnswer mode line answer.text answer.is_ok × AnswerEach mode lines answers
+AnswerEach mode lines answers = ⊥
+
+abbrev pub are_ok : List Answer → Bool
+are_ok [] = true
+are_ok (answer ∷ answers) = answer.is_ok && are_ok answers
+
+-- the lines are answered with this text, a line each; and whether each answer is an `ok`
+pub record AreAnswered (mode : Mode) (lines : List Text) (printed : Text) (all_ok : Bool) : Type 0 where
+  pub answers : List Answer
+  pub each : AnswerEach mode lines answers
+  pub is : printed ≡ ended_lines (map (λ answer. answer.text) answers)
+  pub ok : all_ok ≡ are_ok answers
+
+-- these are all the bytes that are left, where those are known
+abbrev pub IsAll : Option (List ℕ) → Text → Type 0
+IsAll None input = Unit {0}
+IsAll (Some bytes) input = bytes ≡ input
+
+-- all of the input was read, and each of its lines was answered
+pub record AnswersLines (mode : Mode) (left left_after held held_after : Option (List ℕ)) (all_ok : Bool) : Type 0 where
+  pub input : Text
+  pub all : IsAll left input
+  pub read : Consumes left left_after input
+  pub lines : List Text
+  pub are : AreLines input lines
+  pub printed : Text
+  pub answers : AreAnswered mode lines printed all_ok
+  pub written : Appends held held_after printed
+
+-- a read failed: the lines that were read whole are answered, and of one more a part may have been read
+pub record AnswersBefore (mode : Mode) (left left_after held held_after : Option (List ℕ)) : Type 0 where
+  pub lines : List Text
+  pub part : Text
+  pub read : Consumes left left_after (ended_lines lines ++ part)
+  pub single : HaveNoFeed lines
+  pub within : StopsAt part 10
+  pub printed : Text
+  pub all_ok : Bool
+  pub answers : AreAnswered mode lines printed all_ok
+  pub written : Appends held held_after printed
+
+-- a write failed: all lines that were read but the last are answered, and a beginning of its answer was written
+pub record BeginsToAnswer (mode : Mode) (left left_after held held_after : Option (List ℕ)) : Type 0 where
+  pub lines : List Text
+  pub line : Text
+  pub input : Text
+  pub read : Consumes left left_after input
+  pub are : AreLines input (lines ++ line ∷ [])
+  pub printed : Text
+  pub all_ok : Bool
+  pub answers : AreAnswered mode lines printed all_ok
+  pub answer : Text
+  pub is_ok : Bool
+  pub is : IsLineAnswer mode line answer is_ok
+  pub front : Text
+  pub rest : Text
+  pub whole : front ++ rest ≡ answer ++ 10 ∷ []
+  pub written : Appends held held_after (printed ++ front)
+
+-- what a failed write leaves: the answers up to one that was begun, or all of them, not flushed
+abbrev pub IsCutShort : Mode → Option (List ℕ) → Option (List ℕ) → Option (List ℕ) → Option (List ℕ) → Type 0
+IsCutShort mode left left_after held held_after =
+    BeginsToAnswer mode left left_after held held_after
+    ⊎ ((all_ok : Bool) × AnswersLines mode left left_after held held_after all_ok)

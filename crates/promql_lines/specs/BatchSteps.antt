@@ -1,0 +1,56 @@
+-- What each step of a batch does. Private: nothing rests on believing it.
+use Rattle.std.specs.Prelude.{◌≢◌, ℕ, ◌++◌, List, [], ◌∷◌, All, Bool, Option, Some, None}
+use Rattle.std.specs.Io.{StopsAt}
+use Rattle.std.specs.Io.KnownBytes.{Appends, Consumes}
+use Rattle.promql_text.specs.Texts.{Text}
+use Rattle.promql_run.specs.Ended.{AppendsBeginning}
+use Rattle.promql_run.specs.declared.run.Mode.{Mode}
+use Rattle.promql_run.specs.declared.run.RunError.{RunError}
+use Rattle.promql_run.specs.declared.run.RunError.TheVariants as error
+use Rattle.promql_lines.specs.Batch.{HasMatcherFault, IsAll, IsLineAnswer}
+use Rattle.promql_lines.specs.declared.batch.LineEnd.{LineEnd}
+use Rattle.promql_lines.specs.declared.batch.LineEnd.TheVariants.{Feed, Input}
+use Rattle.promql_lines.specs.declared.line.LineError.{LineError}
+use Rattle.promql_lines.specs.declared.line.LineError.TheVariants.{Run, Matcher}
+
+abbrev pub HasNoFeed : Text → Type 0
+HasNoFeed line = All (λ b. b ≢ 10) line
+
+-- the next line was read, or there was none
+abbrev pub IsLineRead : Option (List ℕ) → Option (List ℕ) → Text → Option LineEnd → Type 0
+IsLineRead left left_after line None = Consumes left left_after [] × IsAll left []
+IsLineRead left left_after line (Some Feed) = Consumes left left_after (line ++ 10 ∷ []) × HasNoFeed line
+IsLineRead left left_after line (Some Input) =
+    Consumes left left_after line × HasNoFeed line × IsAll left line × (line ≢ [])
+
+-- a part of a line was read
+abbrev pub IsPartRead : Option (List ℕ) → Option (List ℕ) → Type 0
+IsPartRead left left_after = (part : Text) × Consumes left left_after part × StopsAt part 10
+
+-- an answer to the line was written, with a line feed
+abbrev pub IsAnswered : Mode → Text → Option (List ℕ) → Option (List ℕ) → Bool → Type 0
+IsAnswered mode line held held_after is_ok =
+    (answer : Text) × IsLineAnswer mode line answer is_ok × Appends held held_after (answer ++ 10 ∷ [])
+
+-- a beginning of that was written
+abbrev pub IsPartlyAnswered : Mode → Text → Option (List ℕ) → Option (List ℕ) → Type 0
+IsPartlyAnswered mode line held held_after =
+    (answer : Text) × (is_ok : Bool) × IsLineAnswer mode line answer is_ok
+    × AppendsBeginning held held_after (answer ++ 10 ∷ [])
+
+-- why the matcher is not enforced
+abbrev pub IsMatcherFaultOf : Option Text → LineError → Type 0
+IsMatcherFaultOf matcher (Run error.Memory) = Unit {0}
+IsMatcherFaultOf matcher (Matcher e) = HasMatcherFault matcher e
+IsMatcherFaultOf matcher _ = ⊥
+
+abbrev pub IsReadingError : RunError → Type 0
+IsReadingError error.Memory = Unit {0}
+IsReadingError error.Read = Unit {0}
+IsReadingError _ = ⊥
+
+abbrev pub IsBatchError : RunError → Type 0
+IsBatchError error.Memory = Unit {0}
+IsBatchError error.Read = Unit {0}
+IsBatchError error.Write = Unit {0}
+IsBatchError _ = ⊥

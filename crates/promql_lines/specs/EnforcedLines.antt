@@ -1,0 +1,121 @@
+-- The line of a query with a matcher in its selectors (docs/guide/rewriting.md, "Enforcing"; docs/reference/programs.md, "One query,
+-- enforced").
+use Rattle.std.specs.Prelude.{◌≡◌, ◌≢◌, ◌⊎◌, ℕ, ◌++◌, List, [], ◌∷◌, Option, Some, None, Result, Ok, Err, String, string_bytes, codes, bytes_eq, if◌then◌else◌, option_map}
+use Rattle.std.specs.declared.alloc.Global.{Global}
+use Rattle.std.specs.Str.{IsUtf8}
+use Rattle.std.specs.Io.KnownBytes.{Appends}
+use Rattle.promql_text.specs.Texts.{Text}
+use Rattle.promql_ast.specs.Text.{text as line_text}
+use Rattle.promql_ast.specs.Tree.{Tree}
+use Rattle.promql_syntax.specs.ParseAnswers.{IsAnswerTo, plain_error_of}
+use Rattle.promql_syntax.specs.declared.parser.ParseError.TheVariants as parse
+use Rattle.promql_rewrite.specs.Faithful.{IsLineOf, MeansOther}
+use Rattle.promql_rewrite.specs.MatcherTexts.{IsEnforcedBy, IsMatcherFault}
+use Rattle.promql_rewrite.specs.declared.faithful.NotFaithful.{NotFaithful}
+use Rattle.promql_rewrite.specs.declared.faithful.NotFaithful.TheVariants as faithful
+use Rattle.promql_run.specs.Ended.{AppendsBeginning}
+use Rattle.promql_run.specs.Rejecting.{IsParsed, IsRejection}
+use Rattle.promql_run.specs.Running.{HasRead}
+use Rattle.promql_lines.specs.declared.enforced_line.EnforcedLineError.{EnforcedLineError}
+use Rattle.promql_lines.specs.declared.enforced_line.EnforcedLineError.TheVariants as error
+
+abbrev pub enforce_number : EnforcedLineError → ℕ
+enforce_number error.Memory = 1
+enforce_number (error.Rejected r) = 4
+enforce_number (error.Matcher e) = 11
+enforce_number (error.Unfaithful e) = 12
+
+-- this is the line of the tree with the matcher in every selector, and it means that tree
+abbrev pub ShowsEnforced : Tree → Text → Text → Type 0
+ShowsEnforced t matcher line = (u : Tree) × IsEnforcedBy matcher t u × IsLineOf u line
+
+-- the line of the tree is rejected, or means another tree
+abbrev pub IsUnfaithful : Tree → NotFaithful → Type 0
+IsUnfaithful u (faithful.Rejected e) = IsAnswerTo (line_text u) (Err (plain_error_of e)) × (e ≢ parse.Memory)
+IsUnfaithful u faithful.OtherTree = MeansOther (line_text u) u
+IsUnfaithful u _ = ⊥
+
+-- why there is no such line
+abbrev pub FailsToShow : Tree → Text → EnforcedLineError → Type 0
+FailsToShow t matcher error.Memory = Unit {0}
+FailsToShow t matcher (error.Rejected r) = ⊥
+FailsToShow t matcher (error.Matcher e) = IsMatcherFault matcher e
+FailsToShow t matcher (error.Unfaithful e) = (u : Tree) × IsEnforcedBy matcher t u × IsUnfaithful u e
+
+-- the query has a tree, and this is its line with the matcher in every selector
+abbrev pub IsEnforcedLine : Text → Text → Text → Type 0
+IsEnforcedLine query matcher line = (t : Tree) × IsAnswerTo query (Ok t) × ShowsEnforced t matcher line
+
+-- the query has a tree, and its line with the matcher in every selector does not mean the enforced tree
+abbrev pub IsUnfaithfulLine : Text → Text → NotFaithful → Type 0
+IsUnfaithfulLine query matcher e =
+    (t : Tree) × IsAnswerTo query (Ok t) × ((u : Tree) × IsEnforcedBy matcher t u × IsUnfaithful u e)
+
+-- why the query has no such line; the matcher counts only where the query has a tree
+abbrev pub FailsToEnforce : Text → Text → EnforcedLineError → Type 0
+FailsToEnforce query matcher error.Memory = Unit {0}
+FailsToEnforce query matcher (error.Rejected r) = IsRejection query r
+FailsToEnforce query matcher (error.Matcher e) = IsParsed query × IsMatcherFault matcher e
+FailsToEnforce query matcher (error.Unfaithful e) = IsUnfaithfulLine query matcher e
+
+-- ---- the program
+
+-- what the arguments ask for
+pub data Command : Type 0 where
+  help : Command
+  enforce : Text → Command
+
+-- the only argument after the program's own name
+abbrev pub sole_argument : List Text → Option Text
+sole_argument (own ∷ word ∷ []) = Some word
+sole_argument _ = None
+
+-- `--help` or a matcher
+abbrev pub asked_command : Text → Command
+asked_command word = if bytes_eq word (codes "--help") then help else enforce word
+
+abbrev pub enforce_command : List Text → Option Command
+enforce_command args = option_map asked_command (sole_argument args)
+
+-- the line and a line feed
+abbrev pub IsEnforcedAnswer : Text → Text → Text → Type 0
+IsEnforcedAnswer query matcher answer = (line : Text) × IsEnforcedLine query matcher line × (answer ≡ line ++ codes "\n")
+
+-- all of the input was read, it is a text, and the line of its query was written, with a line feed
+pub record Enforces (matcher : Text) (left left_after held held_after : Option (List ℕ)) : Type 0 where
+  pub query : Text
+  pub read : HasRead left left_after query
+  pub utf8 : IsUtf8 query
+  pub answer : Text
+  pub is : IsEnforcedAnswer query matcher answer
+  pub written : Appends held held_after answer
+
+-- the same, where a write failed: a beginning of that was written
+pub record BeginsToEnforce (matcher : Text) (left left_after held held_after : Option (List ℕ)) : Type 0 where
+  pub query : Text
+  pub read : HasRead left left_after query
+  pub utf8 : IsUtf8 query
+  pub answer : Text
+  pub is : IsEnforcedAnswer query matcher answer
+  pub begun : AppendsBeginning held held_after answer
+
+-- all of the input was read, it is a text, and this is why its query has no line
+pub record HasNoEnforcedLine (matcher : Text) (e : EnforcedLineError) (left left_after : Option (List ℕ)) : Type 0 where
+  pub query : Text
+  pub read : HasRead left left_after query
+  pub utf8 : IsUtf8 query
+  pub fails : FailsToEnforce query matcher e
+
+-- what became of the input
+abbrev pub IsInputAnswer : Text → Option (List ℕ) → Option (List ℕ) → Result (String Global) EnforcedLineError → Type 0
+IsInputAnswer matcher left left_after (Ok answer) =
+    (query : Text) × HasRead left left_after query × IsUtf8 query × IsEnforcedAnswer query matcher (string_bytes answer)
+IsInputAnswer matcher left left_after (Err e) = HasNoEnforcedLine matcher e left left_after
+
+-- the statuses of these errors
+abbrev pub IsLineStatus : ℕ → Type 0
+IsLineStatus status = (status ≡ 4) ⊎ (status ≡ 11) ⊎ (status ≡ 12)
+
+-- each status of a matcher
+abbrev pub IsEnforceStatus : ℕ → Type 0
+IsEnforceStatus status = (status ≡ 0) ⊎ (status ≡ 1) ⊎ (status ≡ 2) ⊎ (status ≡ 3) ⊎ IsLineStatus status ⊎ (status ≡ 5)

@@ -1,0 +1,5 @@
+pub mod Batch
+pub mod BatchArguments
+pub mod BatchSteps
+pub mod EnforcedLines
+pub mod Requests

@@ -1,0 +1,135 @@
+//! Many queries, a line each: docs/reference/programs.md.
+
+ghost use Rattle.std.specs.Prelude.{◌≡◌, ◌++◌, [], ◌∷◌, false, true, IfOk, OnOk, IfErr, OnErr, IsErrOf};
+ghost use Rattle.std.specs.Io.KnownBytes.{Appends};
+ghost use Rattle.promql_run.specs.Ended.{AppendsBeginning};
+ghost use Rattle.promql_run.specs.Running.{UnlessWrite};
+ghost use Rattle.promql_lines.specs.Batch.{AnswersBefore, AnswersLines, IsCutShort};
+ghost use Rattle.promql_lines.specs.BatchSteps.{IsLineRead, IsPartRead, IsAnswered, IsPartlyAnswered, IsReadingError, IsBatchError};
+
+use crate::line::answer_line;
+use promql_run::ended::Ended;
+use promql_run::run::{Mode, RunError, flush, write_whole};
+use std::alloc::Global;
+use std::io::{BufRead, ErrorKind, Write};
+
+/// The answer to a line for which an allocation failed.
+const MEMORY_ANSWER: &str = "{\"code\":1,\"error\":\"out of memory\"}";
+
+/// How a line that was read ends.
+#[derive(Clone, Copy, PartialEq, Eq, Debug)]
+pub(crate) enum LineEnd {
+    /// With a line feed.
+    Feed,
+    /// With the input.
+    Input,
+}
+
+/// Reads the next line into `line`, without its line feed; `None` at the end of the input.
+fn read_line<R: BufRead>(reader: &mut R, line: &mut Vec<u8>) -> Result<Option<LineEnd>, RunError>
+    ensures ok { IfOk result (IsLineRead (R.remaining reader.old) (R.remaining reader.new) line.new.items) }
+    ensures err { OnErr result (IsPartRead (R.remaining reader.old) (R.remaining reader.new)) }
+    ensures errors { IfErr result IsReadingError }
+{
+    line.clear();
+    match reader.read_until(b'\n', line) {
+        Ok(_) => match line.last() {
+            None => Ok(None),
+            Some(b'\n') => {
+                line.pop();
+                Ok(Some(LineEnd::Feed))
+            }
+            Some(_) => Ok(Some(LineEnd::Input)),
+        },
+        Err(error) if error.kind() == ErrorKind::OutOfMemory => Err(RunError::Memory),
+        Err(_) => Err(RunError::Read),
+    }
+}
+
+/// Writes a text and a line feed.
+fn write_line<W: Write>(writer: &mut Ended<W>, text: &str) -> Result<(), RunError>
+    ensures ok { OnOk result (Appends (W.contents writer.old.inner)
+        (W.contents writer.new.inner) (text.now ++ 10 ∷ [])) }
+    ensures quiet { OnOk result (writer.new.failed ≡ writer.old.failed) }
+    ensures begun { OnErr result (AppendsBeginning (W.contents writer.old.inner)
+        (W.contents writer.new.inner) (text.now ++ 10 ∷ [])) }
+    ensures failed { OnErr result (writer.new.failed ≡ true) }
+    ensures errors { IfErr result (λ e. e ≡ RunError.Write) }
+{
+    write_whole(writer, text)?;
+    write_whole(writer, "\n")
+}
+
+/// Writes the answer to a line and a line feed; returns whether the answer is an `ok`.
+fn write_answer<W: Write>(
+    alloc: Global,
+    mode: Mode,
+    line: &[u8],
+    writer: &mut Ended<W>,
+) -> Result<bool, RunError>
+    ensures ok { IfOk result (IsAnswered mode line.now (W.contents writer.old.inner)
+        (W.contents writer.new.inner)) }
+    ensures quiet { OnOk result (writer.new.failed ≡ writer.old.failed) }
+    ensures begun { OnErr result (IsPartlyAnswered mode line.now (W.contents writer.old.inner)
+        (W.contents writer.new.inner)) }
+    ensures failed { OnErr result (writer.new.failed ≡ true) }
+    ensures errors { IfErr result (λ e. e ≡ RunError.Write) }
+{
+    match answer_line(alloc, mode, line) {
+        Ok(answer) => {
+            write_line(writer, answer.text.as_str())?;
+            Ok(answer.is_ok)
+        }
+        Err(_) => {
+            write_line(writer, MEMORY_ANSWER)?;
+            Ok(false)
+        }
+    }
+}
+
+/// Reads lines until the input ends, and writes the answer to each, in order. Returns whether each answer is an `ok`.
+///
+/// # Errors
+///
+/// `Memory` where an allocation failed while a line was read, and `Read` where a read failed: the lines before were
+/// answered. `Write` where a call of the writer failed: then a beginning of the answers was written.
+pub fn run_batch<R: BufRead, W: Write>(
+    alloc: Global,
+    mode: Mode,
+    reader: &mut R,
+    writer: &mut Ended<W>,
+) -> Result<bool, RunError>
+    ensures ok { IfOk result (AnswersLines mode (R.remaining reader.old) (R.remaining reader.new)
+        (W.contents writer.old.inner) (W.contents writer.new.inner)) }
+    ensures flushed { OnOk result (writer.new.pending ≡ false) }
+    ensures quiet { OnOk result (writer.new.failed ≡ writer.old.failed) }
+    ensures before { IfErr result (λ e. UnlessWrite e (AnswersBefore mode (R.remaining reader.old)
+        (R.remaining reader.new) (W.contents writer.old.inner) (W.contents writer.new.inner))) }
+    ensures write { IsErrOf result RunError.Write → writer.new.failed ≡ true }
+    ensures begun { IsErrOf result RunError.Write → IsCutShort mode (R.remaining reader.old)
+        (R.remaining reader.new) (W.contents writer.old.inner) (W.contents writer.new.inner) }
+    ensures errors { IfErr result IsBatchError }
+{
+    let mut line = Vec::new(alloc);
+    let mut all_ok = true;
+    'lines: for _ in 0..u64::MAX {
+        let end = match read_line(reader, &mut line)? {
+            Some(end) => end,
+            None => {
+                flush(writer)?;
+                return Ok(all_ok);
+            }
+        };
+        let is_ok = write_answer(alloc, mode, line.as_slice(), writer)?;
+        all_ok = all_ok && is_ok;
+        match end {
+            LineEnd::Feed => {}
+            LineEnd::Input => {
+                flush(writer)?;
+                return Ok(all_ok);
+            }
+        }
+    }
+    // No input has so many lines.
+    Err(RunError::Read)
+}

@@ -1,0 +1,126 @@
+//! The program for batches, as a function of its arguments, its input and its two outputs.
+
+ghost use Rattle.std.specs.Prelude.{◌≡◌, ◌⊎◌, ◌↔◌, false, true, Some, None, map, string_bytes};
+ghost use Rattle.std.specs.Io.KnownBytes.{Appends};
+ghost use Rattle.promql_run.specs.declared.run.Mode as modes;
+ghost use Rattle.promql_lines.specs.Batch.{AnswersBefore, AnswersLines, IsCutShort};
+ghost use Rattle.promql_lines.specs.BatchArguments.{batch_command};
+
+use crate::batch::run_batch;
+use promql_run::ended::Ended;
+use promql_run::program::USAGE_STATUS;
+use promql_run::run::{Mode, write_text};
+use std::alloc::Global;
+use std::io::{BufRead, Write};
+
+/// The status where each line was read and some line has an error.
+pub const ERRORS_STATUS: u8 = 4;
+
+/// The line that is printed for wrong arguments, and the first of the help.
+pub const BATCH_USAGE: &str = "usage: promql_batch pretty|line|json\n";
+
+/// What `--help` prints.
+pub const BATCH_HELP: &str = "usage: promql_batch pretty|line|json
+
+Reads a PromQL query from each line of standard input, and writes a JSON object
+for each to standard output, in order.
+
+A line is a JSON string, the query, or an object with the member \"query\" and,
+if wanted, \"mode\" (\"pretty\", \"line\" or \"json\"), \"level\" and \"width\" (of a
+layout: indentations before it, and the most bytes of a line), and \"enforce\" (a
+matcher that is put into every selector of the query).
+An answer is {\"ok\":TEXT}, in mode json {\"ok\":VALUE}, or
+{\"code\":NUMBER,\"error\":MESSAGE}.
+
+Status: 0 each line was answered with ok, 4 some line has an error, 1 out of
+memory, 2 a read failed, 5 a write failed, 64 wrong arguments.
+";
+
+/// What the arguments ask for.
+#[derive(Clone, Copy, PartialEq, Eq, Debug)]
+pub enum Command {
+    /// The help.
+    Help,
+    /// A batch in this mode.
+    Batch(Mode),
+}
+
+/// What the arguments ask for, the program's own name first; `None` where that is nothing known.
+fn command_of(args: &[String]) -> Option<Command>
+    ensures { result ≡ batch_command (map string_bytes args.now) }
+{
+    match args {
+        [_, word] if word.as_str() == "--help" => Some(Command::Help),
+        [_, word] => Some(Command::Batch(Mode::from_name(word.as_str())?)),
+        _ => None,
+    }
+}
+
+/// Runs the program for batches, and returns its status (docs/reference/programs.md, "Statuses of a batch").
+///
+/// `args` begins with the program's own name. The message of an error and a line feed go to `errors`, without
+/// memory; a message that cannot be written is lost, and the status tells the error all the same.
+pub fn batch_program<R: BufRead, W: Write, E: Write>(
+    alloc: Global,
+    args: &[String],
+    reader: &mut R,
+    writer: &mut Ended<W>,
+    errors: &mut Ended<E>,
+) -> u8
+    // Other arguments than one known mode or `--help`: the usage line is all that happens.
+    ensures usage { (result ≡ USAGE_STATUS) ↔ (batch_command (map string_bytes args.now) ≡ None) }
+    ensures usage_reads_nothing { result ≡ USAGE_STATUS → reader.new ≡ reader.old }
+    ensures usage_writes_nothing { result ≡ USAGE_STATUS → writer.new ≡ writer.old }
+    ensures usage_line { result ≡ USAGE_STATUS → errors.new.failed ≡ false →
+        Appends (E.contents errors.old.inner) (E.contents errors.new.inner) BATCH_USAGE.now }
+    // `--help`: the help is printed, and nothing is read.
+    ensures help_reads_nothing { batch_command (map string_bytes args.now) ≡ Some Command.Help
+        → reader.new ≡ reader.old }
+    ensures help_text { batch_command (map string_bytes args.now) ≡ Some Command.Help → result ≡ 0
+        → Appends (W.contents writer.old.inner) (W.contents writer.new.inner) BATCH_HELP.now }
+    ensures help_status { batch_command (map string_bytes args.now) ≡ Some Command.Help
+        → (result ≡ 0) ⊎ (result ≡ 5) }
+    // A mode: each line is answered, and the status tells whether each with an `ok`.
+    ensures ok { (mode : modes.Mode) → batch_command (map string_bytes args.now)
+        ≡ Some (Command.Batch mode) → result ≡ 0 → AnswersLines mode (R.remaining reader.old)
+        (R.remaining reader.new) (W.contents writer.old.inner) (W.contents writer.new.inner) true }
+    ensures errors { (mode : modes.Mode) → batch_command (map string_bytes args.now)
+        ≡ Some (Command.Batch mode) → result ≡ ERRORS_STATUS → AnswersLines mode
+        (R.remaining reader.old) (R.remaining reader.new)
+        (W.contents writer.old.inner) (W.contents writer.new.inner) false }
+    ensures flushed { (result ≡ 0) ⊎ (result ≡ ERRORS_STATUS) → writer.new.pending ≡ false }
+    ensures silent { (result ≡ 0) ⊎ (result ≡ ERRORS_STATUS) → errors.new ≡ errors.old }
+    // Each other status is that of an error, under the conditions of `run_batch`.
+    ensures known { (result ≡ 0) ⊎ (result ≡ 1) ⊎ (result ≡ 2) ⊎ (result ≡ ERRORS_STATUS)
+        ⊎ (result ≡ 5) ⊎ (result ≡ USAGE_STATUS) }
+    ensures before { (mode : modes.Mode) → batch_command (map string_bytes args.now)
+        ≡ Some (Command.Batch mode) → (result ≡ 1) ⊎ (result ≡ 2) → AnswersBefore mode
+        (R.remaining reader.old) (R.remaining reader.new)
+        (W.contents writer.old.inner) (W.contents writer.new.inner) }
+    ensures write { result ≡ 5 → writer.new.failed ≡ true }
+    ensures begun { (mode : modes.Mode) → batch_command (map string_bytes args.now)
+        ≡ Some (Command.Batch mode) → result ≡ 5 → IsCutShort mode (R.remaining reader.old)
+        (R.remaining reader.new) (W.contents writer.old.inner) (W.contents writer.new.inner) }
+{
+    let mode = match command_of(args) {
+        Some(Command::Batch(mode)) => mode,
+        Some(Command::Help) => {
+            return match write_text(writer, BATCH_HELP) {
+                Ok(()) => 0,
+                Err(error) => error.number(),
+            };
+        }
+        None => {
+            let _ = write_text(errors, BATCH_USAGE);
+            return USAGE_STATUS;
+        }
+    };
+    match run_batch(alloc, mode, reader, writer) {
+        Ok(true) => 0,
+        Ok(false) => ERRORS_STATUS,
+        Err(error) => {
+            let _ = writeln!(errors, "{error}");
+            error.number()
+        }
+    }
+}

@@ -1,0 +1,192 @@
+//! The program that enforces a matcher on a query, as a function of its arguments, its input and its two outputs:
+//! docs/reference/programs.md, "One query, enforced".
+
+ghost use Rattle.std.specs.Prelude.{◌≡◌, ◌≢◌, ◌⊎◌, ◌↔◌, false, true, Some, None, IfOk, IfErr, IsErrOf, map, option_map, string_bytes};
+ghost use Rattle.std.specs.Io.KnownBytes.{Appends};
+ghost use Rattle.promql_text.specs.Texts.{Text};
+ghost use Rattle.promql_run.specs.Running.{IsNotUtf8};
+ghost use Rattle.promql_run.specs.StepErrors.{IsInputError};
+ghost use Rattle.promql_lines.specs.EnforcedLines.{BeginsToEnforce, Enforces, FailsToEnforce, HasNoEnforcedLine, IsEnforcedAnswer, IsEnforceStatus, IsInputAnswer, IsLineStatus, enforce_command, enforce_number};
+ghost use Rattle.promql_lines.specs.EnforcedLines as spec;
+ghost use Rattle.promql_lines.specs.declared.enforced_line.EnforcedLineError.{EnforcedLineError};
+
+use crate::enforced_line::{EnforcedLineError, enforced_line};
+use promql_run::ended::Ended;
+use promql_run::program::USAGE_STATUS;
+use promql_run::run::{RunError, read_input, write_text};
+use std::alloc::Global;
+use std::io::{Read, Write};
+
+/// The line that is printed for wrong arguments, and the first of the help.
+pub const ENFORCE_USAGE: &str = "usage: promql_enforce MATCHER\n";
+
+/// What `--help` prints.
+pub const ENFORCE_HELP: &str = "usage: promql_enforce MATCHER
+
+Reads a PromQL query from standard input, puts the matcher into every selector of
+it, and writes the query to standard output, on one line. MATCHER is written as
+between the braces of a selector: namespace=\"team-a\"
+
+Status: 0 the query was written, 4 the query is rejected, 11 MATCHER is not a
+matcher or is of the metric name, 12 the query that was made does not read back,
+1 out of memory, 2 a read failed, 3 the input is not UTF-8, 5 a write failed, 64
+wrong arguments.
+";
+
+/// The line of a query with the matcher in every selector, and a line feed.
+fn enforced_answer(alloc: Global, query: &str, matcher: &str) -> Result<String, EnforcedLineError>
+    ensures ok { IfOk result (λ s. IsEnforcedAnswer query.now matcher.now (string_bytes s)) }
+    ensures err { IfErr result (FailsToEnforce query.now matcher.now) }
+{
+    let mut line = enforced_line(alloc, query, matcher)?;
+    line.push_str("\n")?;
+    Ok(line)
+}
+
+/// Reads all of the input, and returns what is written of the query in it.
+fn enforce_input<R: Read>(
+    alloc: Global,
+    matcher: &str,
+    reader: &mut Ended<R>,
+) -> Result<Result<String, EnforcedLineError>, RunError>
+    ensures ok { IfOk result (IsInputAnswer matcher.now (R.remaining reader.old.inner) (R.remaining reader.new.inner)) }
+    ensures read { IsErrOf result RunError.Read → reader.new.failed ≡ true }
+    ensures not_utf8 { IsErrOf result RunError.NotUtf8
+        → IsNotUtf8 (R.remaining reader.old.inner) (R.remaining reader.new.inner) }
+    ensures errors { IfErr result IsInputError }
+{
+    let input = read_input(alloc, reader)?;
+    let Ok(query) = str::from_utf8(input.as_slice()) else {
+        return Err(RunError::NotUtf8);
+    };
+    Ok(enforced_answer(alloc, query, matcher))
+}
+
+/// The only argument, after the program's own name.
+fn sole_argument(args: &[String]) -> Option<&str>
+    ensures { option_map (λ s. s.now) result ≡ spec.sole_argument (map string_bytes args.now) }
+{
+    match args {
+        [_, word] => Some(word.as_str()),
+        _ => None,
+    }
+}
+
+/// Writes the help, and returns the status.
+fn write_help<W: Write>(writer: &mut Ended<W>) -> u8
+    ensures text { result ≡ 0
+        → Appends (W.contents writer.old.inner) (W.contents writer.new.inner) ENFORCE_HELP.now }
+    ensures flushed { result ≡ 0 → writer.new.pending ≡ false }
+    ensures known { (result ≡ 0) ⊎ (result ≡ 5) }
+    ensures write { result ≡ 5 → writer.new.failed ≡ true }
+{
+    match write_text(writer, ENFORCE_HELP) {
+        Ok(()) => 0,
+        Err(_) => 5,
+    }
+}
+
+/// Writes the query of the input with the matcher in every selector, and returns the status.
+fn enforce<R: Read, W: Write, E: Write>(
+    alloc: Global,
+    matcher: &str,
+    reader: &mut Ended<R>,
+    writer: &mut Ended<W>,
+    errors: &mut Ended<E>,
+) -> u8
+    ensures ok { result ≡ 0 → Enforces matcher.now
+        (R.remaining reader.old.inner) (R.remaining reader.new.inner)
+        (W.contents writer.old.inner) (W.contents writer.new.inner) }
+    ensures flushed { result ≡ 0 → writer.new.pending ≡ false }
+    ensures silent { result ≡ 0 → errors.new ≡ errors.old }
+    ensures none { IsLineStatus result → (e : EnforcedLineError) × (enforce_number e ≡ result)
+        × HasNoEnforcedLine matcher.now e
+        (R.remaining reader.old.inner) (R.remaining reader.new.inner) }
+    ensures unwritten { result ≢ 0 → result ≢ 5 → writer.new ≡ writer.old }
+    ensures known { IsEnforceStatus result }
+    ensures read { result ≡ 2 → reader.new.failed ≡ true }
+    ensures not_utf8 { result ≡ 3
+        → IsNotUtf8 (R.remaining reader.old.inner) (R.remaining reader.new.inner) }
+    ensures write { result ≡ 5 → writer.new.failed ≡ true }
+    ensures begun { result ≡ 5 → BeginsToEnforce matcher.now
+        (R.remaining reader.old.inner) (R.remaining reader.new.inner)
+        (W.contents writer.old.inner) (W.contents writer.new.inner) }
+{
+    let answer = match enforce_input(alloc, matcher, reader) {
+        Ok(Ok(answer)) => answer,
+        Ok(Err(error)) => {
+            let _ = writeln!(errors, "{error}");
+            return error.number();
+        }
+        Err(error) => {
+            let _ = writeln!(errors, "{error}");
+            return error.number();
+        }
+    };
+    let written = write_text(writer, answer.as_str());
+    drop(answer);
+    match written {
+        Ok(()) => 0,
+        Err(error) => {
+            let _ = writeln!(errors, "{error}");
+            5
+        }
+    }
+}
+
+/// Runs the program that enforces a matcher, and returns its status (docs/reference/programs.md, "One query, enforced").
+///
+/// `args` begins with the program's own name. The message of an error and a line feed go to `errors`; a message that cannot
+/// be written is lost, and the status tells the error all the same.
+pub fn enforce_program<R: Read, W: Write, E: Write>(
+    alloc: Global,
+    args: &[String],
+    reader: &mut Ended<R>,
+    writer: &mut Ended<W>,
+    errors: &mut Ended<E>,
+) -> u8
+    // Other arguments than one: the usage line is all that happens.
+    ensures usage { (result ≡ USAGE_STATUS) ↔ (enforce_command (map string_bytes args.now) ≡ None) }
+    ensures usage_reads_nothing { result ≡ USAGE_STATUS → reader.new ≡ reader.old }
+    ensures usage_writes_nothing { result ≡ USAGE_STATUS → writer.new ≡ writer.old }
+    ensures usage_line { result ≡ USAGE_STATUS → errors.new.failed ≡ false →
+        Appends (E.contents errors.old.inner) (E.contents errors.new.inner) ENFORCE_USAGE.now }
+    // `--help`: the help is printed, and nothing is read.
+    ensures help_reads_nothing { enforce_command (map string_bytes args.now) ≡ Some spec.help
+        → reader.new ≡ reader.old }
+    ensures help_text { enforce_command (map string_bytes args.now) ≡ Some spec.help → result ≡ 0
+        → Appends (W.contents writer.old.inner) (W.contents writer.new.inner) ENFORCE_HELP.now }
+    ensures help_status { enforce_command (map string_bytes args.now) ≡ Some spec.help
+        → (result ≡ 0) ⊎ (result ≡ 5) }
+    // A matcher: the query of the input is written with it in every selector, or nothing is written.
+    ensures ok { (matcher : Text) → enforce_command (map string_bytes args.now)
+        ≡ Some (spec.enforce matcher) → result ≡ 0 → Enforces matcher
+        (R.remaining reader.old.inner) (R.remaining reader.new.inner)
+        (W.contents writer.old.inner) (W.contents writer.new.inner) }
+    ensures flushed { result ≡ 0 → writer.new.pending ≡ false }
+    ensures silent { result ≡ 0 → errors.new ≡ errors.old }
+    ensures none { (matcher : Text) → enforce_command (map string_bytes args.now)
+        ≡ Some (spec.enforce matcher) → IsLineStatus result
+        → (e : EnforcedLineError) × (enforce_number e ≡ result) × HasNoEnforcedLine matcher e
+        (R.remaining reader.old.inner) (R.remaining reader.new.inner) }
+    ensures unwritten { result ≢ 0 → result ≢ 5 → writer.new ≡ writer.old }
+    // Each other status is that of an error.
+    ensures known { IsEnforceStatus result ⊎ (result ≡ USAGE_STATUS) }
+    ensures read { result ≡ 2 → reader.new.failed ≡ true }
+    ensures not_utf8 { result ≡ 3
+        → IsNotUtf8 (R.remaining reader.old.inner) (R.remaining reader.new.inner) }
+    ensures write { result ≡ 5 → writer.new.failed ≡ true }
+    ensures begun { (matcher : Text) → enforce_command (map string_bytes args.now)
+        ≡ Some (spec.enforce matcher) → result ≡ 5 → BeginsToEnforce matcher
+        (R.remaining reader.old.inner) (R.remaining reader.new.inner)
+        (W.contents writer.old.inner) (W.contents writer.new.inner) }
+{
+    let Some(word) = sole_argument(args) else {
+        let _ = write_text(errors, ENFORCE_USAGE);
+        return USAGE_STATUS;
+    };
+    if word == "--help" {
+        return write_help(writer);
+    }
+    enforce(alloc, word, reader, writer, errors)
+}

@@ -1,0 +1,94 @@
+//! The line of a query with a matcher in its selectors: docs/guide/rewriting.md, "Enforcing".
+
+ghost use Rattle.std.specs.Prelude.{◌≡◌, IfErr, IfOk, string_bytes};
+ghost use Rattle.promql_ast.specs.View.{tree_of};
+ghost use Rattle.promql_syntax.specs.ParseAnswers.{IsAnswerTo};
+ghost use Rattle.promql_lines.specs.EnforcedLines.{FailsToEnforce, FailsToShow, IsEnforcedLine, ShowsEnforced, enforce_number};
+
+use promql_ast::Expr;
+use promql_rewrite::{MatcherError, NotFaithful, enforce_text, faithful_line};
+use promql_run::rejection::{Rejection, read_query};
+use std::alloc::{AllocError, Global};
+use thiserror::Error;
+
+/// Why there is no line of a query with a matcher in its selectors.
+#[derive(PartialEq, Eq, Debug, Drop, Error)]
+pub enum EnforcedLineError {
+    /// An allocation failed.
+    #[error("out of memory")]
+    Memory,
+    /// The parser rejects the query.
+    #[error("{0}")]
+    Rejected(Rejection),
+    /// The matcher is none, or none to enforce.
+    #[error("{0}")]
+    Matcher(MatcherError),
+    /// The line would not mean the enforced tree.
+    #[error("{0}")]
+    Unfaithful(NotFaithful),
+}
+
+impl EnforcedLineError {
+    /// The error's number, with which the program ends.
+    pub fn number(&self) -> u8
+        ensures { result ≡ enforce_number self.now }
+    {
+        match self {
+            EnforcedLineError::Memory => 1,
+            EnforcedLineError::Rejected(_) => 4,
+            EnforcedLineError::Matcher(_) => 11,
+            EnforcedLineError::Unfaithful(_) => 12,
+        }
+    }
+}
+
+impl From<AllocError> for EnforcedLineError {
+    ghost use Rattle.std.specs.Prelude.{◌≡◌};
+    ghost use Rattle.promql_lines.specs.declared.enforced_line.EnforcedLineError.TheVariants.{Memory};
+
+    ghost from_gives = { λ _ e. e ≡ Memory };
+
+    fn from(_e: AllocError) -> EnforcedLineError {
+        EnforcedLineError::Memory
+    }
+}
+
+/// The line of an expression with the matcher in every selector. The line is read again, and means the enforced tree.
+fn show_enforced(alloc: Global, expr: Expr, matcher: &str) -> Result<String, EnforcedLineError>
+    ensures ok { IfOk result (λ s. ShowsEnforced (tree_of expr) matcher.now (string_bytes s)) }
+    ensures err { IfErr result (FailsToShow (tree_of expr) matcher.now) }
+{
+    let enforced = match enforce_text(alloc, expr, matcher) {
+        Ok(enforced) => enforced,
+        Err(MatcherError::Memory) => return Err(EnforcedLineError::Memory),
+        Err(error) => return Err(EnforcedLineError::Matcher(error)),
+    };
+    let line = faithful_line(alloc, &enforced);
+    drop(enforced);
+    match line {
+        Ok(line) => Ok(line),
+        Err(NotFaithful::Memory) => Err(EnforcedLineError::Memory),
+        Err(NotFaithful::IndentTooWide) => unreachable!(),
+        Err(NotFaithful::Rejected(error)) => {
+            Err(EnforcedLineError::Unfaithful(NotFaithful::Rejected(error)))
+        }
+        Err(NotFaithful::OtherTree) => Err(EnforcedLineError::Unfaithful(NotFaithful::OtherTree)),
+    }
+}
+
+/// The line of a query with a matcher, which is given as its text, in every selector. The line is read again, and means the
+/// enforced tree of the query.
+///
+/// # Errors
+///
+/// `Rejected` where the parser rejects the query; `Matcher` where the text is no matcher, or one of the metric's name;
+/// `Unfaithful` where the line would not mean the enforced tree; `Memory` where an allocation failed.
+pub fn enforced_line(alloc: Global, query: &str, matcher: &str) -> Result<String, EnforcedLineError>
+    ensures ok { IfOk result (λ s. IsEnforcedLine query.now matcher.now (string_bytes s)) }
+    ensures err { IfErr result (FailsToEnforce query.now matcher.now) }
+{
+    match read_query(alloc, query)? {
+        Ok(expr) => show_enforced(alloc, expr, matcher),
+        Err(rejection) => Err(EnforcedLineError::Rejected(rejection)),
+    }
+}

@@ -1,0 +1,11 @@
+//! Many queries in one run, a line each, and the line of a query with a matcher in its selectors, with the programs that write
+//! them. docs/reference/programs.md has the rules.
+#![tactic(auto)]
+
+mod answer_value;
+pub mod batch;
+pub mod batch_program;
+pub mod enforce_program;
+pub mod enforced_line;
+pub mod line;
+pub mod request;

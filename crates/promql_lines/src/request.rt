@@ -1,0 +1,137 @@
+//! What a line of a batch asks for: docs/reference/programs.md, "Requests".
+
+ghost use Rattle.std.specs.Prelude.{◌≡◌, option_map, string_bytes};
+ghost use Rattle.std.specs.List.{list_all};
+ghost use Rattle.serde_json.specs.View.{view};
+ghost use Rattle.std.specs.BTreeMap.{keys};
+ghost use Rattle.promql_lines.specs.Requests as spec;
+
+use promql_run::run::Mode;
+use serde_json::{Map, Value};
+
+/// The highest level of a layout.
+const MAX_LEVEL: u64 = 65_535;
+
+/// Where a query is laid out, and how wide.
+#[derive(Clone, Copy, PartialEq, Eq, Debug)]
+pub struct Layout {
+    /// Indentations of two spaces before its first line.
+    pub level: u16,
+    /// The most bytes that a line has, its indentation not counted.
+    pub width: usize,
+}
+
+/// How a query is printed.
+#[derive(Clone, Copy, PartialEq, Eq, Debug)]
+pub enum Format {
+    /// Laid out over several lines.
+    Pretty(Layout),
+    /// On one line.
+    Line,
+    /// As its JSON form.
+    Json,
+}
+
+/// The query that a line asks about; `None` where its value has none.
+pub fn query_in(value: &Value) -> Option<&str>
+    ensures { option_map (λ s. s.now) result ≡ spec.query_in (view value.now) }
+{
+    match value {
+        Value::String(query) => Some(query.as_str()),
+        _ => value.get("query").and_then(Value::as_str),
+    }
+}
+
+/// The text of the matcher to enforce on the query; `None` where there is none.
+pub fn matcher_in(value: &Value) -> Option<&str>
+    ensures { option_map (λ s. s.now) result ≡ spec.matcher_in (view value.now) }
+{
+    value.get("enforce").and_then(Value::as_str)
+}
+
+/// Whether a member is a text, if it is there.
+fn is_text(member: Option<&Value>) -> bool
+    ensures { result ≡ spec.is_text (option_map (λ v. view v.now) member.entry) }
+{
+    match member {
+        Some(value) => value.as_str().is_some(),
+        None => true,
+    }
+}
+
+/// The mode of the member, or the command's.
+fn mode_in(asked: Mode, member: Option<&Value>) -> Option<Mode>
+    ensures { result ≡ spec.mode_in asked (option_map (λ v. view v.now) member.entry) }
+{
+    match member {
+        Some(word) => Mode::from_name(word.as_str()?),
+        None => Some(asked),
+    }
+}
+
+/// A whole number of at most `most`, or the default.
+fn number_in(default: u64, most: u64, member: Option<&Value>) -> Option<u64>
+    ensures { result ≡ spec.number_in default most (option_map (λ v. view v.now) member.entry) }
+{
+    match member {
+        Some(number) => number.as_u64().filter(|n| *n <= most),
+        None => Some(default),
+    }
+}
+
+/// The format of a mode. Only a layout has a level and a width.
+fn format_with(level: Option<&Value>, width: Option<&Value>, mode: Mode) -> Option<Format>
+    ensures { result ≡ spec.format_with (option_map (λ v. view v.now) level.entry)
+        (option_map (λ v. view v.now) width.entry) mode }
+{
+    match (mode, level, width) {
+        (Mode::Pretty, level, width) => {
+            let level = number_in(0, MAX_LEVEL, level)?;
+            let width = number_in(100, u64::MAX, width)?;
+            Some(Format::Pretty(Layout {
+                level: level as u16,
+                width: width as usize,
+            }))
+        }
+        (Mode::Line, None, None) => Some(Format::Line),
+        (Mode::Json, None, None) => Some(Format::Json),
+        _ => None,
+    }
+}
+
+/// Whether a request may have a member of this name.
+fn is_member_name(key: &str) -> bool
+    ensures { result ≡ spec.is_member_name key.now }
+{
+    matches!(key, "query" | "mode" | "level" | "width" | "enforce")
+}
+
+/// Whether each member has a name that a request may have.
+fn are_known(members: &Map<String, Value>) -> bool
+    ensures { result ≡ list_all (λ key. spec.is_member_name (string_bytes key)) (keys members.now) }
+{
+    members.keys().all(|key| is_member_name(key.as_str()))
+}
+
+/// Whether the value is a string, or an object without a member of another name.
+fn may_ask(value: &Value) -> bool
+    ensures { result ≡ spec.may_ask (view value.now) }
+{
+    match value {
+        Value::String(_) => true,
+        Value::Object(members) => are_known(members),
+        _ => false,
+    }
+}
+
+/// How the query of a line is printed where the command names this mode; `None` where its value tells no format.
+pub fn format_in(asked: Mode, value: &Value) -> Option<Format>
+    ensures { result ≡ spec.format_in asked (view value.now) }
+{
+    if may_ask(value) && is_text(value.get("enforce")) {
+        let mode = mode_in(asked, value.get("mode"))?;
+        format_with(value.get("level"), value.get("width"), mode)
+    } else {
+        None
+    }
+}
