@@ -2,7 +2,7 @@
 #![tactic(auto)]
 
 ghost use Rattle.std.specs.Prelude.{Some, Ok};
-ghost use Rattle.promql_run.specs.declared.request.Format.TheVariants.{Line};
+ghost use Rattle.promql_lines.specs.declared.request.Format.TheVariants.{Line};
 ghost use Rattle.promql_calls.specs.CallResults.{Shows, ShowsSome};
 ghost use Rattle.promql_calls.specs.Calls.{IsCheckOf, IsCollectOf, IsEnforceOf, IsPrintOf, IsSnippetOf};
 ghost use Rattle.promql_calls.specs.Formats.{format_numbered};

@@ -8,11 +8,12 @@ use Rattle.promql_syntax.specs.ParseAnswers.{IsAnswerTo}
 use Rattle.promql_walk.specs.declared.json_error.JsonError.{JsonError}
 use Rattle.promql_walk.specs.declared.json_error.JsonError.TheVariants as json_errors
 use Rattle.promql_rewrite.specs.MatcherTexts.{IsMatcherFault}
+use Rattle.promql_rewrite.specs.declared.matcher_text.MatcherError.{MatcherError}
 use Rattle.promql_rewrite.specs.declared.matcher_text.MatcherError.TheVariants as matcher_error
 use Rattle.promql_run.specs.Checking.{marked_line}
-use Rattle.promql_run.specs.EnforcedLines.{IsEnforcedLine, IsUnfaithfulLine}
-use Rattle.promql_run.specs.Rejecting.{IsRejection}
-use Rattle.promql_run.specs.declared.request.Format.{Format}
+use Rattle.promql_run.specs.Rejecting.{IsParsed, IsRejection}
+use Rattle.promql_lines.specs.EnforcedLines.{IsEnforcedLine, IsUnfaithfulLine}
+use Rattle.promql_lines.specs.declared.request.Format.{Format}
 use Rattle.promql_calls.specs.declared.call_error.CallError.{CallError}
 use Rattle.promql_calls.specs.declared.call_error.CallError.TheVariants as errors
 use Rattle.promql_calls.specs.CollectedTexts.{IsCollectedText}
@@ -43,11 +44,15 @@ IsPrintOf query (Some format) (Ok text) = HasText query format (Ok text)
 IsPrintOf query (Some format) (Err errors.NumberTooWide) = HasText query format (Err json_errors.NumberTooWide)
 IsPrintOf query (Some format) (Err e) = HasNoTree query e
 
--- "enforce": the line with the matcher in every selector
+-- the matcher is not valid UTF-8, or this is why it is none to enforce
+abbrev pub IsBadMatcher : Text → MatcherError → Type 0
+IsBadMatcher matcher e = (¬ IsUtf8 matcher × (e ≡ matcher_error.NotAMatcher)) ⊎ (IsUtf8 matcher × IsMatcherFault matcher e)
+
+-- "enforce": the line with the matcher in every selector; the matcher counts only where the query has a tree
 abbrev pub IsEnforceOf : Text → Text → Result Text CallError → Type 0
 IsEnforceOf query matcher (Ok line) = IsUtf8 query × IsUtf8 matcher × IsEnforcedLine query matcher line
-IsEnforceOf query matcher (Err (errors.Matcher e)) = (¬ IsUtf8 matcher × (e ≡ matcher_error.NotAMatcher)) ⊎ IsMatcherFault matcher e
-IsEnforceOf query matcher (Err (errors.Unfaithful e)) = IsUnfaithfulLine query matcher e
+IsEnforceOf query matcher (Err (errors.Matcher e)) = IsUtf8 query × IsParsed query × IsBadMatcher matcher e
+IsEnforceOf query matcher (Err (errors.Unfaithful e)) = IsUtf8 query × IsUtf8 matcher × IsUnfaithfulLine query matcher e
 IsEnforceOf query matcher (Err e) = HasNoTree query e
 
 -- "collect": the JSON of what the query names
@@ -57,7 +62,7 @@ IsCollectOf query (Err e) = HasNoTree query e
 
 -- "check": an empty text where the query has a tree
 abbrev pub IsCheckOf : Text → Result Text CallError → Type 0
-IsCheckOf query (Ok text) = (text ≡ []) × IsUtf8 query × ((t : Tree) × IsAnswerTo query (Ok t))
+IsCheckOf query (Ok text) = (text ≡ []) × IsUtf8 query × IsParsed query
 IsCheckOf query (Err e) = HasNoTree query e
 
 -- "snippet": the line where the span begins, with its mark below

@@ -8,8 +8,8 @@ use Rattle.promql_ast.specs.Text as one_line
 use Rattle.promql_ast.specs.Tree.{Tree}
 use Rattle.promql_walk.specs.Json.{json}
 use Rattle.promql_walk.specs.declared.json_error.JsonError.{JsonError}
-use Rattle.promql_run.specs.declared.request.Format.{Format}
-use Rattle.promql_run.specs.declared.request.Format.TheVariants.{Pretty, Line, Json}
+use Rattle.promql_lines.specs.declared.request.Format.{Format}
+use Rattle.promql_lines.specs.declared.request.Format.TheVariants.{Pretty, Line, Json}
 
 -- the format of a mode's number, with the level and the width of a layout
 abbrev pub format_numbered : ℕ → ℕ → ℕ → Option Format

@@ -9,7 +9,7 @@ use crate::call_result::{CallResult, show, show_text};
 use crate::collecting::collect_query;
 use crate::enforcing::enforce_query;
 use crate::printing::{check_query, format_of, mark_query, print_query};
-use promql_run::request::Format;
+use promql_lines::request::Format;
 use promql_span::Span;
 use std::alloc::Global;
 

@@ -1,12 +1,15 @@
 //! A query with a matcher in its selectors.
 
-ghost use Rattle.std.specs.Prelude.{string_bytes};
+ghost use Rattle.std.specs.Prelude.{Err, string_bytes};
+ghost use Rattle.std.specs.Str.{IsUtf8};
+ghost use Rattle.promql_text.specs.Texts.{Text};
 ghost use Rattle.promql_grammar.specs.Results.{on_result};
 ghost use Rattle.promql_calls.specs.Calls.{IsEnforceOf};
 
 use crate::call_error::CallError;
+use promql_lines::enforced_line::{EnforcedLineError, enforced_line};
 use promql_rewrite::MatcherError;
-use promql_run::enforced_line::{EnforcedLineError, enforced_line};
+use promql_run::rejection::read_query;
 use std::alloc::Global;
 
 /// The line of a text's query with the matcher of the other text in every selector.
@@ -22,6 +25,17 @@ fn enforce_text(alloc: Global, query: &str, matcher: &str) -> Result<String, Cal
     }
 }
 
+/// Why a text's query has no line with a matcher that is not valid UTF-8: the query is read before its matcher.
+fn error_of_broken_matcher(alloc: Global, query: &str) -> CallError
+    ensures { (matcher : Text) → ¬ IsUtf8 matcher → IsEnforceOf query.now matcher (Err result) }
+{
+    match read_query(alloc, query) {
+        Ok(Ok(_)) => CallError::Matcher(MatcherError::NotAMatcher),
+        Ok(Err(rejection)) => CallError::Rejected(rejection),
+        Err(_) => CallError::Memory,
+    }
+}
+
 /// The line of a query with the matcher in every selector.
 pub(crate) fn enforce_query(
     alloc: Global,
@@ -33,8 +47,8 @@ pub(crate) fn enforce_query(
     let Ok(query) = str::from_utf8(query) else {
         return Err(CallError::NotUtf8);
     };
-    let Ok(matcher) = str::from_utf8(matcher) else {
-        return Err(CallError::Matcher(MatcherError::NotAMatcher));
-    };
-    enforce_text(alloc, query, matcher)
+    match str::from_utf8(matcher) {
+        Ok(matcher) => enforce_text(alloc, query, matcher),
+        Err(_) => Err(error_of_broken_matcher(alloc, query)),
+    }
 }

@@ -3,7 +3,6 @@
 ghost use Rattle.std.specs.Prelude.{◌≡◌, ◌≤◌, Some, Ok, Err, IfOk, IfErr, IsErrOf, string_bytes};
 ghost use Rattle.promql_grammar.specs.Results.{on_result};
 ghost use Rattle.promql_ast.specs.Height.{height};
-ghost use Rattle.promql_ast.specs.Layout.{layout_of};
 ghost use Rattle.promql_ast.specs.View.{tree_of};
 ghost use Rattle.promql_syntax.specs.declared.parser.TheConstants.{MAX_DEPTH};
 ghost use Rattle.promql_walk.specs.declared.json_error.JsonError.TheVariants.{NumberTooWide};
@@ -13,12 +12,12 @@ ghost use Rattle.promql_calls.specs.Formats.{format_numbered, format_text};
 ghost use Rattle.promql_calls.specs.PrintErrors.{IsPrintError};
 
 use crate::call_error::CallError;
-use promql_ast::{Expr, Prettier, PrettyError};
+use promql_ast::Expr;
+use promql_lines::request::{Format, Layout};
 use promql_run::rejection::read_query;
-use promql_run::request::{Format, Layout};
+use promql_run::rendering::{json_text, pretty_text};
 use promql_span::Span;
-use promql_walk::JsonError;
-use std::alloc::{AllocError, Global};
+use std::alloc::Global;
 
 /// The greatest level of a layout.
 const MAX_LEVEL: u32 = 65_535;
@@ -41,35 +40,6 @@ pub(crate) fn format_of(mode: u32, level: u32, width: usize) -> Option<Format>
     }
 }
 
-/// The expression, laid out. An expression that was read is low enough for each indentation.
-fn layout_text(alloc: Global, level: u16, width: usize, expr: &Expr) -> Result<String, AllocError>
-    requires { height (tree_of expr.now) ≤ MAX_DEPTH }
-    ensures { IfOk result (λ s. string_bytes s ≡ layout_of (tree_of expr.now) level width) }
-{
-    match expr.pretty(alloc, level as usize, width) {
-        Ok(text) => Ok(text),
-        Err(PrettyError::Memory) => Err(AllocError),
-        Err(PrettyError::IndentTooWide) => unreachable!(),
-    }
-}
-
-/// The JSON form of the expression, without a space. An expression that was read has no extension.
-fn json_form(alloc: Global, expr: &Expr) -> Result<String, CallError>
-    requires { HasNoExtension (tree_of expr.now) }
-    ensures ok { IfOk result (λ s. format_text Format.Json (tree_of expr.now)
-        ≡ Ok (string_bytes s)) }
-    ensures json { IsErrOf result CallError.NumberTooWide →
-        format_text Format.Json (tree_of expr.now) ≡ Err NumberTooWide }
-    ensures errors { IfErr result IsPrintError }
-{
-    match promql_walk::json_text(alloc, expr) {
-        Ok(text) => Ok(text),
-        Err(JsonError::Memory) => Err(CallError::Memory),
-        Err(JsonError::NumberTooWide) => Err(CallError::NumberTooWide),
-        Err(JsonError::Extension) => unreachable!(),
-    }
-}
-
 /// The text of an expression in a format.
 fn expr_text(alloc: Global, format: Format, expr: &Expr) -> Result<String, CallError>
     requires low { height (tree_of expr.now) ≤ MAX_DEPTH }
@@ -80,9 +50,9 @@ fn expr_text(alloc: Global, format: Format, expr: &Expr) -> Result<String, CallE
     ensures errors { IfErr result IsPrintError }
 {
     match format {
-        Format::Pretty(layout) => Ok(layout_text(alloc, layout.level, layout.width, expr)?),
+        Format::Pretty(layout) => Ok(pretty_text(alloc, layout.level, layout.width, expr)?),
         Format::Line => Ok(expr.to_string(alloc)?),
-        Format::Json => json_form(alloc, expr),
+        Format::Json => json_text(alloc, expr)?.ok_or(CallError::NumberTooWide),
     }
 }
 
