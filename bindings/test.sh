@@ -88,6 +88,8 @@ install_missing() {
     command -v cc >/dev/null || missing+=(gcc libc6-dev)
     command -v valgrind >/dev/null || missing+=(valgrind)
     python_with_yaml >/dev/null || missing+=(python3-ruamel.yaml)
+    python3 -c 'import pytest' 2>/dev/null || missing+=(python3-pytest)
+    python3 -c 'import mypy' 2>/dev/null || missing+=(mypy)
     command -v chromium >/dev/null || missing+=(chromium)
     command -v vim >/dev/null || missing+=(vim)
     command -v parallel >/dev/null || missing+=(parallel)

@@ -210,6 +210,8 @@ static void test_enforcing(void)
     CHECK(gives(enforcing("1 +a=\"1\"", 5), PROMQL_REJECTED, "invalid promql query"));
     CHECK(has_place(enforcing("1 +a=\"1\"", 5), 3, 3, 1, 4));
     CHECK(gives(enforcing("1 +a", 1), PROMQL_REJECTED, "invalid promql query"));
+    CHECK(gives(enforcing("1 +\xff", 1), PROMQL_REJECTED, "invalid promql query"));
+    CHECK(has_place(enforcing("1 +\xff", 1), 3, 3, 1, 4));
     CHECK(gives(enforcing("\xff\xff", 1), PROMQL_NOT_UTF8, "input is not UTF-8"));
     CHECK(gives(enforcing("foo", 0), PROMQL_BAD_MATCHER, "not a matcher"));
     CHECK(gives(enforcing("fooa=\"1\"} or x{b=\"2\"", 18), PROMQL_BAD_MATCHER, "not a matcher"));
