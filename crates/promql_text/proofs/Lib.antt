@@ -39,3 +39,6 @@ pub mod WorkedTexts
 pub mod TextsRead
 pub mod PrintedLengths
 pub mod Writing
+pub mod Ends
+pub mod PlainQuotes
+pub mod SinglePart

@@ -9,9 +9,10 @@ use Rattle.std.proofs.lemmas.Str.Parse.{digit_from_value, without_leading_plus_n
 use Rattle.std.proofs.Math.Nat.{pow-suc}
 use Rattle.std.proofs.lemmas.Bool.{cases_lt}
 use Rattle.promql_text.specs.Texts.{Text}
-use Rattle.promql_text.specs.DecimalForm.{front}
-use Rattle.promql_text.specs.NumberText.{read_number}
-use Rattle.promql_text.specs.Numbers.{Exact, IsExact, seconds_of, whole}
+use Rattle.std.specs.Str.{chars}
+use Rattle.promql_text.specs.DecimalForm.{decimal_form, front, numeral, reading}
+use Rattle.promql_text.specs.NumberText.{finite, number_of, read_number}
+use Rattle.promql_text.specs.Numbers.{Exact, IsExact, exact_zero, seconds_of, whole}
 use Rattle.promql_text.specs.declared.number.Number.TheVariants as number
 use Rattle.promql_text.proofs.Exacts.{seconds_value, whole_is, whole_value}
 use Rattle.promql_text.proofs.Plain.{plain_digits}
@@ -83,6 +84,11 @@ parsed_some {E = E} t u r o same leads parses is = subst (λ (x : Option ℕ). I
     by_result : (x : Result ℕ E) → ParsesUnsigned 64 10 t x → IfSome (result_ok x) (λ n. read_number t ≡ Ok (number.Finite (whole false n)))
     by_result (Ok n) read = parsed_number {E = E} t (Ok n) n (subst (λ w. 48 < front w) same leads) read refl
     by_result (Err e) read = tt
+
+-- `0` is read as 0
+pub zero_read : read_number (48 ∷ []) ≡ Ok (number.Finite exact_zero)
+unfolding chars number_of decimal_form reading numeral finite
+zero_read = refl
 
 -- the seconds of so many nanoseconds have their value
 pub seconds_exact : (n : ℕ) → n < 2 ^ 64 * 1_000_000_000 → (seconds_of n).digits * 10 ^ ((seconds_of n).zeros + 9) ≡ n * 10 ^ (seconds_of n).places

@@ -1,5 +1,5 @@
 -- How the code reads a quoted text from its start (private: nothing rests on believing it).
-use Rattle.std.specs.Prelude.{◌≡◌, ℕ, ◌+◌, true, ◌++◌, drop, Option, Some, None, option_map}
+use Rattle.std.specs.Prelude.{◌≡◌, ℕ, ◌+◌, Bool, not, ◌||◌, ◌==◌, true, ◌++◌, drop, Option, Some, None, option_map}
 use Rattle.std.specs.Char.{encode_utf8}
 use Rattle.promql_text.specs.Quoting.{escape, inside, is_quote, number, unquoted_text}
 use Rattle.promql_text.specs.Texts.{Text}
@@ -27,3 +27,7 @@ ReadsSpelling quote old (Some c) new = inside quote 0 old ≡ option_map (λ mor
 abbrev pub ReadsQuote : Text → Option ℕ → Text → Type 0
 ReadsQuote old None new = unquoted_text old ≡ None
 ReadsQuote old (Some quote) new = (is_quote quote ≡ true) × (unquoted_text old ≡ inside quote 0 new)
+
+-- between these quotes the byte is for itself, whatever is beside it
+abbrev pub is_plain_byte : ℕ → ℕ → Bool
+is_plain_byte quote b = not (b == quote || (b == 92 || b == 10))

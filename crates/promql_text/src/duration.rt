@@ -1,10 +1,13 @@
 //! The duration of a text: docs/reference/texts.md, "Durations".
 
-ghost use Rattle.std.specs.Prelude.{◌≡◌, ◌<◌, ◌≤◌, length, option_map};
+ghost use Rattle.std.specs.Prelude.{◌≡◌, ◌<◌, ◌≤◌, [], ◌∷◌, None, Some, IfSome, length, option_map};
 ghost use Rattle.std.specs.Duration.{as_nanos};
 ghost use Rattle.std.specs.List.{prefix_len};
+ghost use Rattle.std.specs.Str.Parse.{digits_value};
+ghost use Rattle.promql_text.specs.DecimalForm.{decimal_form};
 ghost use Rattle.promql_text.specs.DecimalParts.{reading_of};
 ghost use Rattle.promql_text.specs.DurationReaders as readers;
+ghost use Rattle.promql_text.specs.DurationForms.{IsCount};
 ghost use Rattle.promql_text.specs.Durations as spec;
 
 use crate::decimal_form::{DecimalForm, Reading, decimal_form, front, past_run};
@@ -152,6 +155,53 @@ fn parts(text: &[u8]) -> Option<u128>
     Some(total)
 }
 
+/// The unit whose word is one letter.
+fn unit_of(letter: u8) -> Option<Unit>
+    ensures { IfSome result (λ u. spec.word_of u ≡ letter ∷ []) }
+{
+    match letter {
+        b's' => Some(Unit::Second),
+        b'm' => Some(Unit::Minute),
+        b'h' => Some(Unit::Hour),
+        b'd' => Some(Unit::Day),
+        b'w' => Some(Unit::Week),
+        b'y' => Some(Unit::Year),
+        _ => None,
+    }
+}
+
+/// The number of one or more digits; None where it is 10^9 or greater.
+fn short_count(digits: &[u8]) -> Option<u64>
+    ensures counted { IfSome result (λ n. IsCount digits.now × (n ≡ digits_value 10 digits.now)) }
+    ensures short { IfSome result (λ n. n < 1_000_000_000) }
+{
+    if digits.is_empty() {
+        return None;
+    }
+    let mut count: u64 = 0;
+    for b in digits {
+        if !b.is_ascii_digit() || count >= 100_000_000 {
+            return None;
+        }
+        count = count * 10 + u64::from(*b - b'0');
+    }
+    Some(count)
+}
+
+/// The nanoseconds of digits and a unit's letter, as most durations are: they are one part, and no number of seconds. None
+/// where the text is of another form, or the digits are many.
+fn single_part(text: &[u8]) -> Option<u128>
+    ensures { IfSome result (λ n. (decimal_form text.now ≡ None)
+        × (spec.parts_nanos spec.units text.now ≡ Some n)) }
+{
+    let [digits @ .., letter] = text else {
+        return None;
+    };
+    let unit = unit_of(*letter)?;
+    let count = short_count(digits)?;
+    Some(u128::from(count) * u128::from(unit.nanos()))
+}
+
 /// The duration of so many nanoseconds, above zero and no more than the greatest.
 fn in_range(nanos: u128) -> Result<Duration, DurationFault>
     ensures { spec.GivesDuration result (spec.in_range nanos) }
@@ -202,6 +252,9 @@ pub fn parse_duration(ds: &str) -> Result<Duration, DurationFault>
     let text = ds.as_bytes();
     if text.is_empty() {
         return Err(DurationFault::Empty);
+    }
+    if let Some(nanos) = single_part(text) {
+        return in_range(nanos);
     }
     match decimal_form(text) {
         Some(form) => of_seconds(form),

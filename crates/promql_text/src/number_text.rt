@@ -217,12 +217,13 @@ fn number_of<S: Source>(text: S) -> Result<Number, NumberFault>
     }
 }
 
-/// The number of a text of digits that doesn't begin with 0, if 64 bits hold it. Such a text needs
+/// The number of a text of digits that is 0 or doesn't begin with 0, if 64 bits hold it. Such a text needs
 /// none of the other rules.
 fn short_whole(text: &str) -> Option<u64>
     ensures { IfSome result (λ n. spec.read_number text.now ≡ Ok (Number.Finite (whole false n))) }
 {
     match text.as_bytes() {
+        [first] if *first == b'0' => Some(0),
         [first, ..] if *first > b'0' => text.parse().ok(),
         _ => None,
     }

@@ -1,11 +1,12 @@
 //! Quoted strings: docs/reference/texts.md, "Strings".
 
-ghost use Rattle.std.specs.Prelude.{◌≡◌, ◌≢◌, ◌∷◌, [], ◌++◌, ◌<◌, ◌≤◌, ◌*◌, ◌+◌, ◌^◌, length, true, IfOk, MatchOption};
+ghost use Rattle.std.specs.Prelude.{◌≡◌, ◌≢◌, ◌∷◌, [], ◌++◌, ◌<◌, ◌≤◌, ◌*◌, ◌+◌, ◌^◌, length, true, IfOk, IfSome, MatchOption, Some};
 ghost use Rattle.std.specs.Char.{encode_utf8};
+ghost use Rattle.std.specs.List.{list_all};
 ghost use Rattle.std.specs.String.{string_bytes};
 ghost use Rattle.std.specs.Str.Iter.{chars_rest};
 ghost use Rattle.promql_text.specs.Quoting.{escaped_text, escaped_byte, hexadecimal, is_quote, letter, octal, unquoted_text, Unquotes};
-ghost use Rattle.promql_text.specs.QuoteReaders.{ReadsDigits, ReadsEscape, ReadsNumber, ReadsQuote, ReadsSpelling};
+ghost use Rattle.promql_text.specs.QuoteReaders.{is_plain_byte, ReadsDigits, ReadsEscape, ReadsNumber, ReadsQuote, ReadsSpelling};
 
 use std::alloc::{AllocError, Global};
 use std::str::Chars;
@@ -72,6 +73,9 @@ pub(crate) fn escape_of(c: char) -> Option<&'static str>
 pub fn unquote_string(alloc: Global, s: &str) -> Result<String, QuoteError>
     ensures { Unquotes string_bytes result (unquoted_text s.now) }
 {
+    if let Some(body) = plain_body(s) {
+        return Ok(String::from_str(alloc, body)?);
+    }
     let mut rest = s.chars();
     let quote = opening(&mut rest).ok_or(QuoteError::InvalidSyntax)?;
     // A character takes no more bytes than its spelling.
@@ -86,6 +90,31 @@ pub fn unquote_string(alloc: Global, s: &str) -> Result<String, QuoteError>
         out.push(read_spelling(quote, c, &mut rest).ok_or(QuoteError::InvalidSyntax)?)?;
     }
     Err(QuoteError::InvalidSyntax)
+}
+
+/// What stands between two quotes, where each of its bytes is for itself.
+fn plain_body(s: &str) -> Option<&str>
+    ensures { IfSome result (λ body. unquoted_text s.now ≡ Some body.now) }
+{
+    let [quote, body @ .., last] = s.as_bytes() else {
+        return None;
+    };
+    if last != quote || !is_quote(*quote as char) || !is_plain(*quote, body) {
+        return None;
+    }
+    s.get(1..1 + body.len())
+}
+
+/// Whether none of the bytes is the quote, a backslash or a line feed.
+fn is_plain(quote: u8, body: &[u8]) -> bool
+    ensures { result ≡ list_all (is_plain_byte quote) body.now }
+{
+    for b in body {
+        if *b == quote || matches!(*b, b'\\' | b'\n') {
+            return false;
+        }
+    }
+    true
 }
 
 /// The quote at the start.
