@@ -4,15 +4,15 @@ use Rattle.promql_text.specs.Texts.{Text}
 use Rattle.promql_kind.specs.Functions.{Signature, signature}
 use Rattle.promql_kind.specs.declared.value.ValueType.TheVariants.{Vector, Scalar, Matrix, String}
 
--- the keywords (docs/reference/tokens.md, "Keywords"), the shorter ones first
+-- the keywords (docs/reference/tokens.md, "Keywords"), by their first letter
 abbrev pub keywords : List Text
 keywords =
-    codes "or" ∷ codes "by" ∷ codes "on" ∷ codes "and" ∷ codes "avg" ∷ codes "max" ∷ codes "min" ∷
-    codes "sum" ∷ codes "end" ∷ codes "inf" ∷ codes "nan" ∷ codes "topk" ∷ codes "bool" ∷ codes "fill" ∷
-    codes "atan2" ∷ codes "count" ∷ codes "group" ∷ codes "start" ∷ codes "unless" ∷ codes "stddev" ∷
-    codes "stdvar" ∷ codes "limitk" ∷ codes "offset" ∷ codes "bottomk" ∷ codes "without" ∷ codes "quantile" ∷
-    codes "ignoring" ∷ codes "smoothed" ∷ codes "anchored" ∷ codes "fill_left" ∷ codes "group_left" ∷
-    codes "fill_right" ∷ codes "limit_ratio" ∷ codes "group_right" ∷ codes "count_values" ∷ []
+    codes "and" ∷ codes "avg" ∷ codes "atan2" ∷ codes "anchored" ∷ codes "by" ∷ codes "bool" ∷ codes "bottomk" ∷
+    codes "count" ∷ codes "count_values" ∷ codes "end" ∷ codes "fill" ∷ codes "fill_left" ∷ codes "fill_right" ∷
+    codes "group_left" ∷ codes "group_right" ∷ codes "group" ∷ codes "inf" ∷ codes "ignoring" ∷ codes "limitk" ∷
+    codes "limit_ratio" ∷ codes "max" ∷ codes "min" ∷ codes "nan" ∷ codes "on" ∷ codes "or" ∷ codes "offset" ∷
+    codes "quantile" ∷ codes "sum" ∷ codes "start" ∷ codes "stddev" ∷ codes "stdvar" ∷ codes "smoothed" ∷
+    codes "topk" ∷ codes "unless" ∷ codes "without" ∷ []
 
 -- the functions (docs/reference/functions.md, "The table"), in the order of their names: the types of the arguments, variadic (-1 is
 -- `negsuc 0`), the type of the value, whether it is experimental

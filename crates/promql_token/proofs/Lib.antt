@@ -31,3 +31,4 @@ pub mod Boundaries
 pub mod SameTokens
 pub mod Keywords
 pub mod WordRankTable
+pub mod Words

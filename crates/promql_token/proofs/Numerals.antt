@@ -13,14 +13,15 @@ use Rattle.promql_text.specs.Texts.{Text}
 use Rattle.promql_token.specs.Begins.{IsDuration, IsNumber, IsNumeral, is_unit_text}
 use Rattle.promql_token.specs.Classes.{is_in, end_of_run}
 use Rattle.promql_token.specs.FaultPlaces.{NoNumeral}
-use Rattle.promql_token.specs.Vocabulary.{next}
-use Rattle.promql_token.specs.TokenScanning.{Scanned, begins_numeral, is_unit, number_end, numeral, part_len, parts_from, unit_len, units}
+use Rattle.promql_token.specs.Vocabulary.{are_digits, is_exponent, next}
+use Rattle.promql_token.specs.TokenScanning.{Scanned, begins_numeral, is_unit, number_end, numeral, part_len, parts_from, past_whole, unit_len, units}
 use Rattle.promql_token.specs.Printed.{is_part, parts_text}
 use Rattle.promql_token.proofs.TestsAndCounts.{same_number, by_bool}
 use Rattle.promql_token.proofs.DurationTokens.{front_byte, joined_names, parts_all, parts_names, parts_no_s, unit_byte, unit_text, units_all}
 use Rattle.promql_token.proofs.Ends.{and_left, and_right}
 use Rattle.promql_token.proofs.NumberParts.{Front, IsApart, byte_at, front_of, number_is, past_at, run_of}
 use Rattle.promql_token.proofs.LaterDurationParts.{parts_go}
+use Rattle.promql_token.proofs.PrintedForms.{number_whole, past_front, whole_is}
 
 -- ---- units and parts
 
@@ -132,6 +133,25 @@ unfolding numeral
 by_ends z end run e r =
     let f : ℕ → ℕ → Scanned = λ end run. cond ((run == end) && not (get_or z end 0 == 46)) (Ok (T_NUMBER, end)) (cond (units (take (run - end) (drop end z))) (Ok (T_DURATION, run)) (Err (Numeral, 0))) in
     ap (λ e. f e (end_of_run class.Name z e)) e ∙ ap (f end) r
+
+-- a number of digits alone
+pub digits_alone : (z : Text) (n : ℕ) → n ≡ end_of_run class.Digit z 0
+    → (get_or z n 0 == 46) ≡ false → is_exponent (get_or z n 0) ≡ false → ((get_or z n 0 == 120) || (get_or z n 0 == 88)) ≡ false → number_end z ≡ n
+digits_alone z n is point exponent hex =
+    let k = run_of is_ascii_digit z refl in
+    let len : n ≡ length k.run = is ∙ ap (λ z. end_of_run class.Digit z 0) k.is ∙ past_front class.Digit k.run k.rest k.all k.stop in
+    let byte : next k.rest ≡ get_or z n 0 = sym (byte_at z k.run k.rest n k.is len) in
+    let whole : past_whole z ≡ n = ap past_whole k.is ∙ whole_of k.run k.rest k.all k.stop (ap (λ b. (b == 120) || (b == 88)) byte ∙ hex) ∙ sym len in
+    number_whole z n whole point exponent
+  where
+    no_zero : (b : ℕ) → is_ascii_digit b ≡ false → (b == 48) ≡ false
+    no_zero b h = grind (arith, common_steps)
+
+    whole_of : (w r : Text) → are_digits w ≡ true → is_ascii_digit (next r) ≡ false → ((next r == 120) || (next r == 88)) ≡ false → past_whole (w ++ r) ≡ length w
+    whole_of [] r all stop hex =
+        ap (λ x. end_of_run (cond x class.HexDigit class.Digit) r (cond x 2 0)) (ap (λ c. c && ((get_or r 1 0 == 120) || (get_or r 1 0 == 88))) (no_zero (next r) stop))
+        ∙ past_front class.Digit [] r refl stop
+    whole_of (b ∷ w) r all stop hex = whole_is (b ∷ w) r (omega arith) all stop hex
 
 number_read : (w r : Text) → is_in class.Name (next r) ≡ false → IsNumber w (next r) → (next r == 46) ≡ false → numeral (w ++ r) ≡ Ok (T_NUMBER, length w)
 number_read w r name h point =

@@ -116,6 +116,7 @@ impl<'a> Cursor<'a> {
     }
 
     /// The next token's id and text, if a token comes before the end or a fault. It moves past it.
+    #[inline(always)]
     pub fn next(&mut self) -> Option<(TokenId, &'a str)>
         ensures tokens { MatchOption result
             ((tokens_left self.old ≡ []) × (tokens_left self.new ≡ []))

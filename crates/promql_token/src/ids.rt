@@ -1,7 +1,11 @@
 //! The ids of tokens, their texts, and the words that are keywords.
 
-ghost use Rattle.std.specs.Prelude.{◌≡◌, ◌==◌, filter, length, map};
+ghost use Rattle.std.specs.Prelude.{◌≡◌, ◌==◌, filter, length, map, slice_index};
+ghost use Rattle.std.specs.Char.{to_ascii_lowercase};
+ghost use Rattle.std.specs.Str.{str_eq_ignore_ascii_case};
 ghost use Rattle.promql_token.specs.Ids as spec;
+
+use crate::class::byte;
 
 /// The number of a kind of token.
 pub type TokenId = u16;
@@ -286,43 +290,43 @@ pub fn token_display(id: TokenId) -> &'static str
     text_in(&TEXTS, id)
 }
 
-/// The words that are keywords, in lower case, the shorter ones first.
+/// The words that are keywords, in lower case, by their first letter, the commoner ones first.
 const KEYWORDS: [(&[u8], TokenId); 35] = [
-    (b"or", T_LOR),
-    (b"by", T_BY),
-    (b"on", T_ON),
     (b"and", T_LAND),
     (b"avg", T_AVG),
+    (b"atan2", T_ATAN2),
+    (b"anchored", T_ANCHORED),
+    (b"by", T_BY),
+    (b"bool", T_BOOL),
+    (b"bottomk", T_BOTTOMK),
+    (b"count", T_COUNT),
+    (b"count_values", T_COUNT_VALUES),
+    (b"end", T_END),
+    (b"fill", T_FILL),
+    (b"fill_left", T_FILL_LEFT),
+    (b"fill_right", T_FILL_RIGHT),
+    (b"group_left", T_GROUP_LEFT),
+    (b"group_right", T_GROUP_RIGHT),
+    (b"group", T_GROUP),
+    (b"inf", T_NUMBER),
+    (b"ignoring", T_IGNORING),
+    (b"limitk", T_LIMITK),
+    (b"limit_ratio", T_LIMIT_RATIO),
     (b"max", T_MAX),
     (b"min", T_MIN),
-    (b"sum", T_SUM),
-    (b"end", T_END),
-    (b"inf", T_NUMBER),
     (b"nan", T_NUMBER),
-    (b"topk", T_TOPK),
-    (b"bool", T_BOOL),
-    (b"fill", T_FILL),
-    (b"atan2", T_ATAN2),
-    (b"count", T_COUNT),
-    (b"group", T_GROUP),
+    (b"on", T_ON),
+    (b"or", T_LOR),
+    (b"offset", T_OFFSET),
+    (b"quantile", T_QUANTILE),
+    (b"sum", T_SUM),
     (b"start", T_START),
-    (b"unless", T_LUNLESS),
     (b"stddev", T_STDDEV),
     (b"stdvar", T_STDVAR),
-    (b"limitk", T_LIMITK),
-    (b"offset", T_OFFSET),
-    (b"bottomk", T_BOTTOMK),
-    (b"without", T_WITHOUT),
-    (b"quantile", T_QUANTILE),
-    (b"ignoring", T_IGNORING),
     (b"smoothed", T_SMOOTHED),
-    (b"anchored", T_ANCHORED),
-    (b"fill_left", T_FILL_LEFT),
-    (b"group_left", T_GROUP_LEFT),
-    (b"fill_right", T_FILL_RIGHT),
-    (b"limit_ratio", T_LIMIT_RATIO),
-    (b"group_right", T_GROUP_RIGHT),
-    (b"count_values", T_COUNT_VALUES),
+    (b"topk", T_TOPK),
+    (b"unless", T_LUNLESS),
+    (b"without", T_WITHOUT),
 ];
 
 /// How a word is looked up.
@@ -332,43 +336,66 @@ pub(crate) enum Case {
     Any,
 }
 
-/// The keywords of a length.
-fn keywords_of_length(len: usize) -> &'static [(&'static [u8], TokenId)]
+/// The keywords that begin with a letter, or with the same letter in the other case.
+#[inline(always)]
+fn keywords_of_letter(letter: u8) -> &'static [(&'static [u8], TokenId)]
     ensures { map (λ k. (k.0.now, k.1)) result.now
-        ≡ filter (λ k. length k.0 == len) spec.keywords }
+        ≡ filter (λ k. slice_index k.0 0 == to_ascii_lowercase letter) spec.keywords }
 {
-    match len {
-        0 | 1 => &[],
-        2 => &KEYWORDS[0..3],
-        3 => &KEYWORDS[3..11],
-        4 => &KEYWORDS[11..14],
-        5 => &KEYWORDS[14..18],
-        6 => &KEYWORDS[18..23],
-        7 => &KEYWORDS[23..25],
-        8 => &KEYWORDS[25..29],
-        9 => &KEYWORDS[29..30],
-        10 => &KEYWORDS[30..32],
-        11 => &KEYWORDS[32..34],
-        12 => &KEYWORDS[34..35],
-        13.. => &[],
+    match letter {
+        b'a' | b'A' => &KEYWORDS[0..4],
+        b'b' | b'B' => &KEYWORDS[4..7],
+        b'c' | b'C' => &KEYWORDS[7..9],
+        b'e' | b'E' => &KEYWORDS[9..10],
+        b'f' | b'F' => &KEYWORDS[10..13],
+        b'g' | b'G' => &KEYWORDS[13..16],
+        b'i' | b'I' => &KEYWORDS[16..18],
+        b'l' | b'L' => &KEYWORDS[18..20],
+        b'm' | b'M' => &KEYWORDS[20..22],
+        b'n' | b'N' => &KEYWORDS[22..23],
+        b'o' | b'O' => &KEYWORDS[23..26],
+        b'q' | b'Q' => &KEYWORDS[26..27],
+        b's' | b'S' => &KEYWORDS[27..32],
+        b't' | b'T' => &KEYWORDS[32..33],
+        b'u' | b'U' => &KEYWORDS[33..34],
+        b'w' | b'W' => &KEYWORDS[34..35],
+        _ => &[],
     }
 }
 
+// Of words of one length. Most words are written in lower case, so that few bytes differ.
+fn is_same_in_any_case(a: &[u8], b: &[u8]) -> bool
+    requires { length a.now ≡ length b.now }
+    ensures { result ≡ str_eq_ignore_ascii_case a.now b.now }
+{
+    let mut at = 0;
+    while at < a.len() {
+        if a[at] != b[at] && a[at].to_ascii_lowercase() != b[at].to_ascii_lowercase() {
+            return false;
+        }
+        at += 1;
+    }
+    true
+}
+
 fn is_same_word(case: Case, a: &[u8], b: &[u8]) -> bool
+    requires { length a.now ≡ length b.now }
     ensures { result ≡ spec.same_word case a.now b.now }
 {
     match case {
         Case::Lower => a == b,
-        Case::Any => a.eq_ignore_ascii_case(b),
+        Case::Any => is_same_in_any_case(a, b),
     }
 }
 
+// Most words differ from a keyword in length already, which costs less to see than a call.
+#[inline(always)]
 fn lookup(case: Case, mut table: &[(&[u8], TokenId)], word: &[u8]) -> Option<TokenId>
     ensures { result ≡ spec.lookup (spec.same_word case)
         (map (λ k. (k.0.now, k.1)) table.entry.now) word.now }
 {
     while let [row, rest @ ..] = table {
-        if is_same_word(case, row.0, word) {
+        if row.0.len() == word.len() && is_same_word(case, row.0, word) {
             return Some(row.1);
         }
         table = rest;
@@ -377,10 +404,11 @@ fn lookup(case: Case, mut table: &[(&[u8], TokenId)], word: &[u8]) -> Option<Tok
 }
 
 /// The keyword that a word is, in lower case or in any case of its letters.
+#[inline(always)]
 fn find_keyword(case: Case, word: &[u8]) -> Option<TokenId>
     ensures { result ≡ spec.lookup (spec.same_word case) spec.keywords word.now }
 {
-    lookup(case, keywords_of_length(word.len()), word)
+    lookup(case, keywords_of_letter(byte(word, 0)), word)
 }
 
 /// The keyword that a word in lower case is.

@@ -1,6 +1,8 @@
 //! Numbers and durations.
 
-ghost use Rattle.std.specs.Prelude.{◌≡◌, ◌≤◌, true, length};
+ghost use Rattle.std.specs.Prelude.{◌≡◌, ◌==◌, ◌≤◌, ◌||◌, true, length};
+ghost use Rattle.promql_text.specs.Bytes.{point};
+ghost use Rattle.promql_token.specs.Vocabulary.{is_exponent};
 ghost use Rattle.promql_token.specs.TokenScanning as spec;
 
 use crate::class::{Class, byte, end_of_run};
@@ -72,13 +74,35 @@ fn past_exponent(z: &[u8], at: usize) -> usize
     }
 }
 
-// Where the number that a numeral begins with ends.
+// Where a number ends that is hexadecimal, or has a fraction or an exponent.
+#[inline(never)]
 #[tactic(auto, unfolding(crate::specs::TokenScanning::number_end))]
-fn number_end(z: &[u8]) -> usize
+fn number_end_in_parts(z: &[u8]) -> usize
     ensures value { result ≡ spec.number_end z.now }
     ensures within { result ≤ length z.now }
 {
     past_exponent(z, past_point(digits(z), z, past_whole(z)))
+}
+
+// Whether a number may go on with the byte after digits: a point, an exponent's `e`, or the `x` of `0x`.
+fn may_go_on(b: u8) -> bool
+    ensures { result ≡ (b == point || (is_exponent b || (b == 120 || b == 88))) }
+{
+    matches!(b, b'.' | b'e' | b'E' | b'x' | b'X')
+}
+
+// Where the number that a numeral begins with ends. Most are digits alone.
+#[inline(always)]
+fn number_end(z: &[u8]) -> usize
+    ensures value { result ≡ spec.number_end z.now }
+    ensures within { result ≤ length z.now }
+{
+    let whole = end_of_run(Class::Digit, z, 0);
+    if may_go_on(byte(z, whole)) {
+        number_end_in_parts(z)
+    } else {
+        whole
+    }
 }
 
 fn is_unit(first: bool, b: u8) -> bool

@@ -3,7 +3,7 @@
 ghost use Rattle.std.specs.Prelude.{◌≡◌, ◌<◌, length};
 ghost use Rattle.promql_token.specs.TokenScanning as spec;
 
-use crate::class::{byte, is_letter};
+use crate::class::{Class, byte, is_in, is_letter};
 use crate::fault::LexFaultKind;
 use crate::ids::*;
 use crate::lexeme::Scanned;
@@ -54,7 +54,8 @@ fn outside(depth: usize, z: &[u8]) -> Scanned
     match byte(z, 0) {
         b'0'..=b'9' => numeral(z),
         b'.' if byte(z, 1).is_ascii_digit() => numeral(z),
-        b'a'..=b'z' | b'A'..=b'Z' | b'_' | b':' => word(z),
+        // A letter, `_` or `:`: the digits are above.
+        b if is_in(Class::Word, b) => word(z),
         b'"' | b'\'' | b'`' => string(z),
         b'.' if z.len() == 1 => Err((LexFaultKind::DotAtEnd, 0)),
         b'.' => Err((LexFaultKind::AfterDot, 1)),
@@ -94,6 +95,7 @@ fn bang_in_braces(z: &[u8]) -> Scanned
     }
 }
 
+#[inline(always)]
 #[tactic(auto, unfolding(crate::specs::TokenScanning::in_braces))]
 fn in_braces(z: &[u8]) -> Scanned
     requires { 0 < length z.now }
@@ -123,6 +125,7 @@ fn colon(bracket: Bracket) -> Scanned
     }
 }
 
+#[inline(always)]
 #[tactic(auto, unfolding(crate::specs::TokenScanning::in_brackets))]
 fn in_brackets(bracket: Bracket, z: &[u8]) -> Scanned
     requires { 0 < length z.now }

@@ -1,6 +1,8 @@
 //! Words.
 
-ghost use Rattle.std.specs.Prelude.{◌≡◌};
+ghost use Rattle.std.specs.Prelude.{◌≡◌, ◌==◌, false};
+ghost use Rattle.std.specs.List.{list_any};
+ghost use Rattle.promql_text.specs.Bytes.{colon};
 ghost use Rattle.promql_token.specs.TokenScanning as spec;
 
 use crate::class::{Class, byte, end_of_run};
@@ -20,28 +22,15 @@ fn opens(z: &[u8]) -> bool
     byte(z, end_of_run(Class::White, z, 0)) == b'('
 }
 
-fn name_id(word: &[u8]) -> TokenId
-    ensures { result ≡ spec.name_id word.now }
+// The id of a word without a colon. The fill words are keywords only before a parenthesis.
+fn word_id(name: &[u8], rest: &[u8]) -> TokenId
+    requires { list_any (λ b. b == colon) name.now ≡ false }
+    ensures { result ≡ spec.word_id name.now rest.now }
 {
-    if word.contains(&b':') {
-        T_METRIC_IDENTIFIER
-    } else {
-        T_IDENTIFIER
-    }
-}
-
-// The fill words are keywords only before a parenthesis.
-fn word_id(word: &[u8], rest: &[u8]) -> TokenId
-    ensures { result ≡ spec.word_id word.now rest.now }
-{
-    let id = match keyword_in_any_case(word) {
+    match keyword_in_any_case(name) {
+        Some(id) if is_fill(id) && !opens(rest) => T_IDENTIFIER,
         Some(id) => id,
-        None => name_id(word),
-    };
-    if is_fill(id) && !opens(rest) {
-        T_IDENTIFIER
-    } else {
-        id
+        None => T_IDENTIFIER,
     }
 }
 
@@ -51,8 +40,13 @@ fn word_id(word: &[u8], rest: &[u8]) -> TokenId
 pub fn word(z: &[u8]) -> Scanned
     ensures { result ≡ spec.word z.now }
 {
-    let len = end_of_run(Class::Word, z, 0);
-    Ok((word_id(&z[..len], &z[len..]), len))
+    let name = end_of_run(Class::Name, z, 0);
+    // No keyword has a colon.
+    if byte(z, name) == b':' {
+        Ok((T_METRIC_IDENTIFIER, end_of_run(Class::Word, z, name)))
+    } else {
+        Ok((word_id(&z[..name], &z[name..]), name))
+    }
 }
 
 // In braces `or` before a plain space is the operator.
@@ -67,6 +61,7 @@ fn braces_id(word: &[u8], rest: &[u8]) -> TokenId
 }
 
 /// The word at the front, in braces.
+#[inline(always)]
 #[tactic(auto, unfolding(crate::specs::TokenScanning::word_in_braces))]
 pub fn word_in_braces(z: &[u8]) -> Scanned
     ensures { result ≡ spec.word_in_braces z.now }
