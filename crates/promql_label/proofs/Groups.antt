@@ -1,5 +1,5 @@
 -- Writing the last group of a list is growing the list.
-use Rattle.std.proofs.Common.{arith, ◌≡◌, ℕ, suc, zero, ◌<◌, true, false, List, [], ◌∷◌, ◌++◌, length, get_or, set, map, ap, ◌∙◌}
+use Rattle.std.proofs.Common.{arith, ◌≡◌, ℕ, suc, zero, List, [], ◌∷◌, ◌++◌, length, get_or, set, map, ap, ◌∙◌}
 use Rattle.promql_label.specs.PlainMatchers.{PlainMatcher, plain_matchers, grown, append_plain}
 
 -- a list whose last group got one more is the grown list
@@ -18,10 +18,3 @@ pub appended_set : {G : Type 0} (f : G → List PlainMatcher) (plain : List Plai
     plain_matchers plain (map f (set gs i g)) ≡ append_plain (plain_matchers plain (map f gs)) c
 appended_set f plain [] i g old c e is more = cc
 appended_set f plain (x ∷ gs) i g old c e is more = ap (plain_matchers plain) (grown_set f (x ∷ gs) i g old c e is more)
-
--- where there are none, the list with one more beside them
-pub appended_none : {G : Type 0} (f : G → List PlainMatcher) (plain more : List PlainMatcher) (gs : List G) (c : PlainMatcher) →
-    (0 < length gs → false ≡ true) → more ≡ plain ++ c ∷ [] →
-    plain_matchers more (map f gs) ≡ append_plain (plain_matchers plain (map f gs)) c
-appended_none f plain more [] c none is = ap (λ p. plain_matchers p []) is
-appended_none f plain more (x ∷ gs) c none is = let no : false ≡ true = none (omega arith) in cc

@@ -186,7 +186,6 @@ impl fmt::Display for Matcher {
 
     ghost styled_output = { λ m _. Some (matcher_text (plain_matcher_of m)) };
 
-    #[tactic(auto, using(promql_text::proofs::AllOptions::styled))]
     fn fmt<W: fmt::Write>(&self, f: &mut fmt::Formatter<W>) -> fmt::Result {
         write_name(&self.name, f)?;
         self.op.fmt(f)?;

@@ -1,6 +1,6 @@
 //! Lists of matchers: docs/reference/matchers.md, "Lists of matchers".
 
-ghost use Rattle.std.specs.Prelude.{◌≡◌, ◌≤◌, [], ◌∷◌, ◌++◌, IfOk, IsOk, OnErr, OnOk, codes, filter, find, length, map, option_map};
+ghost use Rattle.std.specs.Prelude.{◌≡◌, ◌≤◌, [], ◌∷◌, ◌++◌, IfOk, IsOk, OnErr, OnOk, codes, false, filter, find, length, map, option_map, true};
 ghost use Rattle.std.specs.Fmt.{WritesStyledOnOk};
 ghost use Rattle.std.specs.List.{list_all};
 ghost use Rattle.promql_label.specs.PlainMatchers.{all_match_empty, append_plain, appended_or, plain_matchers, find_plain, found_value, group_text, holds, is_of, value_of};
@@ -8,7 +8,7 @@ ghost use Rattle.promql_label.specs.MatcherViews.{plain_matcher_of, plain_matche
 ghost use Rattle.promql_label.specs.ReadMatchers.{normal_matchers};
 ghost use Rattle.promql_text.specs.Texts.{joined_text};
 
-use crate::matcher::Matcher;
+use crate::matcher::{MatchOp, Matcher};
 use crate::sorted::{compare, write_sorted};
 use promql_text::{write_joined, write_joined_by};
 use std::alloc::{AllocError, Global};
@@ -69,11 +69,24 @@ impl Matchers {
         ensures { IfOk result (λ m.
             plain_matchers_of m ≡ append_plain (plain_matchers_of self) (plain_matcher_of matcher)) }
     {
+        self.push(matcher)?;
+        Ok(self)
+    }
+
+    /// Appends a matcher in place: to the last group if there is one, else beside the groups.
+    ///
+    /// # Errors
+    ///
+    /// `AllocError` if an allocation fails.
+    pub fn push(&mut self, matcher: Matcher) -> Result<(), AllocError>
+        ensures { OnOk result (plain_matchers_of self.new
+            ≡ append_plain (plain_matchers_of self.old) (plain_matcher_of matcher)) }
+    {
         match self.or_matchers.last_mut() {
             Some(group) => group.push(matcher)?,
             None => self.matchers.push(matcher)?,
         }
-        Ok(self)
+        Ok(())
     }
 
     /// The list with one more group, which has this matcher alone. Matchers beside the groups
@@ -82,6 +95,19 @@ impl Matchers {
         ensures { IfOk result (λ m. plain_matchers_of m
             ≡ appended_or (plain_matchers_of self) (plain_matcher_of matcher)) }
     {
+        self.push_or(alloc, matcher)?;
+        Ok(self)
+    }
+
+    /// Appends a group in place, which has this matcher alone. Matchers beside the groups become a group before it.
+    ///
+    /// # Errors
+    ///
+    /// `AllocError` if an allocation fails.
+    pub fn push_or(&mut self, alloc: Global, matcher: Matcher) -> Result<(), AllocError>
+        ensures { OnOk result (plain_matchers_of self.new
+            ≡ appended_or (plain_matchers_of self.old) (plain_matcher_of matcher)) }
+    {
         let mut group = Vec::new(alloc);
         group.push(matcher)?;
         if !self.matchers.is_empty() {
@@ -89,7 +115,7 @@ impl Matchers {
             self.or_matchers.push(plain)?;
         }
         self.or_matchers.push(group)?;
-        Ok(self)
+        Ok(())
     }
 
     /// Whether every matcher matches the empty text. The only error is that memory ran out.
@@ -232,17 +258,45 @@ fn write_groups<W: fmt::Write>(groups: &[Vec<Matcher>], f: &mut fmt::Formatter<W
     write_joined_by(groups, " or ", f, write)
 }
 
-/// Whether each matches the empty text.
+/// Whether each matches the empty text. Those without a pattern are asked first, since a pattern has to be compiled.
 fn match_empty(alloc: Global, matchers: &[Matcher]) -> Result<bool, AllocError>
     ensures { IfOk result (λ b.
         b ≡ list_all (λ c. holds c []) (map plain_matcher_of matchers.now)) }
 {
+    if is_one_filled(matchers) {
+        return Ok(false);
+    }
     for matcher in matchers {
         if !matcher.is_match(alloc, "")? {
             return Ok(false);
         }
     }
     Ok(true)
+}
+
+/// Whether one of them has no pattern and does not match the empty text.
+fn is_one_filled(matchers: &[Matcher]) -> bool
+    ensures { result ≡ true
+        → list_all (λ c. holds c []) (map plain_matcher_of matchers.now) ≡ false }
+{
+    for matcher in matchers {
+        if is_filled(matcher) {
+            return true;
+        }
+    }
+    false
+}
+
+/// Whether the matcher has no pattern and does not match the empty text.
+fn is_filled(matcher: &Matcher) -> bool
+    ensures { result ≡ true → holds (plain_matcher_of matcher.now) [] ≡ false }
+{
+    match &matcher.op {
+        MatchOp::Equal => !matcher.value.is_empty(),
+        MatchOp::NotEqual => matcher.value.is_empty(),
+        MatchOp::Re(_) => false,
+        MatchOp::NotRe(_) => false,
+    }
 }
 
 /// The value of the first of this name.

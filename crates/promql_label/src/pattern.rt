@@ -117,7 +117,11 @@ fn take(alloc: Global, text: String) -> Result<Option<Pattern>, AllocError>
 fn anchor(alloc: Global, form: &str) -> Result<String, AllocError>
     ensures { IfOk result (λ text. string_bytes text ≡ spec.anchor form.now) }
 {
-    format!(in alloc; "^(?:{form})$")
+    let mut text = String::with_capacity(alloc, form.len() + 6)?;
+    text.push_str("^(?:")?;
+    text.push_str(form)?;
+    text.push_str(")$")?;
+    Ok(text)
 }
 
 /// The pattern of a form that is known to be read by itself and anchored.
