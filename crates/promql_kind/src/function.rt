@@ -134,7 +134,8 @@ fn row_named(rows: &[Row<'static>], first: usize, name: &str) -> Option<Row<'sta
         (map (λ row. signature row.0.now row.1.now row.2 row.3 row.4) rows.now) }
 {
     for row in &rows[first..] {
-        if row.0 == name {
+        // Few names are as long, and the lengths tell without a call.
+        if row.0.len() == name.len() && row.0 == name {
             return Some(*row);
         }
     }
