@@ -24,7 +24,6 @@ use std::fmt::Display;
 
 impl Node<'_> {
     /// The node, laid out; `tally` counts the widths that are made.
-    #[tactic(auto, using(crate::proofs::LayoutsBy::laid_by, crate::proofs::LayoutsBy::deepest_all))]
     fn pretty(
         self,
         alloc: Global,
@@ -51,7 +50,6 @@ impl Node<'_> {
     }
 
     /// The node over several lines, if it has such a form, else its one line, indented.
-    #[tactic(auto, using(crate::proofs::LayoutsBy::lines_laid_by, crate::proofs::LayoutsBy::lines_deepest_all))]
     fn format(self, alloc: Global, level: usize, max: usize) -> Result<String, PrettyError>
         ensures text { IfOk result (λ s. string_bytes s ≡ lines (tree_of_node self.entry) level max) }
         ensures wide { result ≡ Err PrettyError.IndentTooWide

@@ -1,4 +1,5 @@
 use Rattle.std.proofs.Common.{◌≡◌, ℕ, ◌+◌, ◌++◌, ◌∷◌, max, Bool, List, drop, map, codes, string_bytes, ap, sym, ◌∙◌, arith, Global}
+use Rattle.std.proofs.lemmas.Grind.{common_steps}
 use Rattle.std.specs.Slice.Iter.{iter_rest}
 use Rattle.std.specs.declared.boxed.Box.{Box}
 use Rattle.promql_text.specs.Texts.{Text}
@@ -39,3 +40,50 @@ write_args-loop-i-preserved t c =
       wide = omega (arith, c.loop-i.invariant.wide, deeper, deepest);
       fits = omega (arith, c.loop-i.invariant.fits, deeper, deepest, c.in_ok-write_layout.ensures.fits, ap (λ x. deepest_by x level cs) here);
     }
+
+-- ---- a node's parts, one after the other
+
+pub write_lines-returns-in_ok-write_args-in-Call-clause-text : goal.write_lines-returns-in_ok-write_args-in-Call-clause-text
+write_lines-returns-in_ok-write_args-in-Call-clause-text t c = grind (arith, common_steps)
+
+pub write_lines-returns-in_ok-write_args-in-Call-clause-rest : goal.write_lines-returns-in_ok-write_args-in-Call-clause-rest
+write_lines-returns-in_ok-write_args-in-Call-clause-rest t c = grind (arith, common_steps)
+
+pub write_lines-returns-in_ok-write_args-in-Call-clause-fits : goal.write_lines-returns-in_ok-write_args-in-Call-clause-fits
+write_lines-returns-in_ok-write_args-in-Call-clause-fits t c = grind (arith, common_steps)
+
+pub write_lines-returns-in_ok-push_str-in-Binary-clause-text : goal.write_lines-returns-in_ok-push_str-in-Binary-clause-text
+write_lines-returns-in_ok-push_str-in-Binary-clause-text t c = grind (arith, common_steps)
+
+pub write_lines-returns-in_ok-push_str-in-Binary-clause-rest : goal.write_lines-returns-in_ok-push_str-in-Binary-clause-rest
+write_lines-returns-in_ok-push_str-in-Binary-clause-rest t c = grind (arith, common_steps)
+
+pub write_lines-returns-in_ok-push_str-in-Binary-clause-fits : goal.write_lines-returns-in_ok-push_str-in-Binary-clause-fits
+write_lines-returns-in_ok-push_str-in-Binary-clause-fits t c = grind (arith, common_steps)
+
+pub write_lines-returns-in_ok-write_layout-in-Paren-clause-text : goal.write_lines-returns-in_ok-write_layout-in-Paren-clause-text
+write_lines-returns-in_ok-write_layout-in-Paren-clause-text t c = grind (arith, common_steps)
+
+pub write_lines-returns-in_ok-write_layout-in-Paren-clause-rest : goal.write_lines-returns-in_ok-write_layout-in-Paren-clause-rest
+write_lines-returns-in_ok-write_layout-in-Paren-clause-rest t c = grind (arith, common_steps)
+
+pub write_lines-returns-in_ok-write_layout-in-Paren-clause-fits : goal.write_lines-returns-in_ok-write_layout-in-Paren-clause-fits
+write_lines-returns-in_ok-write_layout-in-Paren-clause-fits t c = grind (arith, common_steps)
+
+pub write_lines-returns-in_ok-write_layout-in-Aggregate-clause-text : goal.write_lines-returns-in_ok-write_layout-in-Aggregate-clause-text
+write_lines-returns-in_ok-write_layout-in-Aggregate-clause-text t c = grind (arith, common_steps)
+
+pub write_lines-returns-in_ok-write_layout-in-Aggregate-clause-rest : goal.write_lines-returns-in_ok-write_layout-in-Aggregate-clause-rest
+write_lines-returns-in_ok-write_layout-in-Aggregate-clause-rest t c = grind (arith, common_steps)
+
+pub write_lines-returns-in_ok-write_layout-in-Aggregate-clause-fits : goal.write_lines-returns-in_ok-write_layout-in-Aggregate-clause-fits
+write_lines-returns-in_ok-write_layout-in-Aggregate-clause-fits t c = grind (arith, common_steps)
+
+pub write_layout-returns-in_ok-push_without_indent-in-Unary-clause-text : goal.write_layout-returns-in_ok-push_without_indent-in-Unary-clause-text
+write_layout-returns-in_ok-push_without_indent-in-Unary-clause-text t c = grind (arith, common_steps)
+
+pub write_lines-returns-in_err-write_args-in-Call-clause-wide : goal.write_lines-returns-in_err-write_args-in-Call-clause-wide
+write_lines-returns-in_err-write_args-in-Call-clause-wide t c = grind (arith, common_steps)
+
+pub write_lines-returns-in_err-write_layout-in-Paren-clause-wide : goal.write_lines-returns-in_err-write_layout-in-Paren-clause-wide
+write_lines-returns-in_err-write_layout-in-Paren-clause-wide t c = grind (arith, common_steps)

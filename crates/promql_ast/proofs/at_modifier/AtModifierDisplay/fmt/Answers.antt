@@ -1,0 +1,9 @@
+use Rattle.std.proofs.Common.{arith}
+use Rattle.promql_text.proofs.AllOptions.{styled, writes_at_plain}
+use Rattle.promql_ast.proofs.at_modifier.AtModifierDisplay.fmt.Goals as goal
+
+pub returns-in_ok-write_str-in-At-clause-styled : goal.returns-in_ok-write_str-in-At-clause-styled
+returns-in_ok-write_str-in-At-clause-styled g c = grind (arith, styled)
+
+pub returns-in_ok-write_str-in-At-clause-writes : goal.returns-in_ok-write_str-in-At-clause-writes
+returns-in_ok-write_str-in-At-clause-writes g c = writes_at_plain g.W.Write.write_str_gives _ _ _ _ (returns-in_ok-write_str-in-At-clause-styled g c)
