@@ -1,5 +1,5 @@
 -- What the first token of a base leads to.
-use Rattle.std.proofs.Common.{◌≡◌, ℕ, Bool, true, false, cond, refl, sym, ◌∙◌, ap, subst, List, [], ◌∷◌}
+use Rattle.std.proofs.Common.{◌≡◌, ℕ, Bool, true, false, true≢false, cond, refl, sym, ◌∙◌, ap, subst, List, [], ◌∷◌}
 use Rattle.std.specs.Prelude.{◌||◌, Ok, Err}
 use Rattle.promql_text.specs.Texts.{Text}
 use Rattle.promql_grammar.specs.declared.token_kinds.TokenKind.{TokenKind}
@@ -33,7 +33,7 @@ pub called_first : (r : Reader) (k n : ℕ) (w : TokenKind) (text : Text) (ts : 
 called_first r k n kind.Identifier text ts may = refl
 called_first r k n kind.Start text ts may = refl
 called_first r k n kind.End text ts may = refl
-called_first r k n w text ts may = cc
+called_first r k n w text ts may = absurd (true≢false (sym may))
 
 -- a word that is a name, or does not fit
 named_word : (k n : ℕ) (w : TokenKind) (text : Text) (ts : List Symbol) → symbol w text ≡ word w text → parse_named k n w text ts ≡ parse_selector k n w text ts
@@ -46,9 +46,9 @@ named_word k n w text ts is = same (may_be_name w) _ (ap (λ s. Err (misfit (s �
 -- a base without expressions in it
 pub leaf_first : (r : Reader) (k n : ℕ) (w : TokenKind) (text : Text) (ts : List Symbol) → may_be_called w ≡ false → ¬ (w ≡ kind.LeftParen) → ((op : ℕ) → ¬ (w ≡ kind.Aggregator op))
     → HasNoUnaryOperator (symbol w text ∷ ts) → parse_unary r k n (symbol w text ∷ ts) ≡ parse_atom k n w text ts
-leaf_first r k n kind.Identifier text ts none paren aggregator no_sign = cc
-leaf_first r k n kind.Start text ts none paren aggregator no_sign = cc
-leaf_first r k n kind.End text ts none paren aggregator no_sign = cc
+leaf_first r k n kind.Identifier text ts none paren aggregator no_sign = absurd (true≢false none)
+leaf_first r k n kind.Start text ts none paren aggregator no_sign = absurd (true≢false none)
+leaf_first r k n kind.End text ts none paren aggregator no_sign = absurd (true≢false none)
 leaf_first r k n kind.LeftParen text ts none paren aggregator no_sign = absurd (paren refl)
 leaf_first r k n (kind.Aggregator op) text ts none paren aggregator no_sign = absurd (aggregator op refl)
 leaf_first r k n (kind.Operator op) text ts none paren aggregator no_sign =

@@ -1,5 +1,5 @@
 -- What the loop over postfixes keeps.
-use Rattle.std.proofs.Common.{◌≡◌, ℕ, zero, suc, ◌+◌, ◌<◌, ◌≤◌, false, refl, sym, ◌∙◌, ap, arith, List, [], ◌∷◌, length}
+use Rattle.std.proofs.Common.{◌≡◌, ℕ, zero, suc, ◌+◌, ◌<◌, ◌≤◌, false, refl, sym, ◌∙◌, ap, arith, List, [], ◌∷◌, length, true≢false}
 use Rattle.std.specs.Prelude.{Option, Some, None, Ok, Err}
 use Rattle.std.proofs.lemmas.Bool.{cond_above, cond_below}
 use Rattle.promql_text.specs.Texts.{Text}
@@ -99,11 +99,11 @@ added_low p = omega arith
 
 -- no postfix begins with the first token, or there is none
 other_front : (k : TokenKind) (t : Text) (ts : List Symbol) → starts_postfix k ≡ false → parse_postfix (symbol k t ∷ ts) ≡ Ok (None, symbol k t ∷ ts)
-other_front kind.LeftBracket t ts other = cc
-other_front kind.At t ts other = cc
-other_front kind.Offset t ts other = cc
-other_front kind.Smoothed t ts other = cc
-other_front kind.Anchored t ts other = cc
+other_front kind.LeftBracket t ts other = absurd (true≢false other)
+other_front kind.At t ts other = absurd (true≢false other)
+other_front kind.Offset t ts other = absurd (true≢false other)
+other_front kind.Smoothed t ts other = absurd (true≢false other)
+other_front kind.Anchored t ts other = absurd (true≢false other)
 other_front k t ts other = refl
 
 pub no_postfix_at : (ts us : List Symbol) (k : TokenKind) (t : Text) → ts ≡ symbol k t ∷ us → starts_postfix k ≡ false → parse_postfix ts ≡ Ok (None, ts)

@@ -132,6 +132,7 @@ pub fn parse(alloc: Global, text: &str) -> Result<Expr, ParseError>
     }
 }
 
+#[inline(never)]
 fn parse_error_of(error: Box<BuildError>) -> ParseError
     ensures { result ≡ error_of_build error.value }
 {
@@ -141,6 +142,7 @@ fn parse_error_of(error: Box<BuildError>) -> ParseError
 
 /// The first error of a text: its lexical fault, or that it has no token, comes before what parsing
 /// found.
+#[inline(never)]
 pub(crate) fn first_error(text: &str, found: ParseError) -> ParseError
     ensures { result ≡ first_error (has_any (tokens text.now)) found }
 {

@@ -14,7 +14,6 @@ use promql_token::ids::T_EOF;
 use promql_token::scan::Lexer;
 
 /// Whether the text has a token before its end, or its lexical fault. It allocates nothing.
-#[tactic(auto, using(crate::proofs::Listing::has_any_tokens))]
 pub fn has_tokens(text: &str) -> Result<bool, LexFault>
     ensures { has_any (tokens text.now) ≡ result }
 {
@@ -65,6 +64,7 @@ impl<'a> Tokens<'a> {
     }
 
     /// Lexes the next token into the lookahead.
+    #[inline(always)]
     fn fill(&mut self)
         ensures { symbols_left self.new ≡ cursor_symbols self.old.rest }
     {

@@ -60,7 +60,7 @@ pub fn parse_braces(alloc: Global, tokens: &mut Tokens<'_>) -> Parsed<Matchers>
     let mut by_or = false;
     loop {
         let item = parse_item(tokens)?;
-        matchers = append_item(alloc, matchers, by_or, item)?;
+        append_item(alloc, &mut matchers, by_or, item)?;
         match parse_item_end(tokens)? {
             Some(next_by_or) => by_or = next_by_or,
             None => return Ok(matchers),
@@ -171,7 +171,6 @@ fn match_operator(kind: TokenKind) -> Option<MatchOperator>
 }
 
 /// Parses what follows a matcher: whether the next one starts a group; `None` after the last.
-#[tactic(auto, using(crate::proofs::MatcherLists::comma_joins))]
 fn parse_item_end(tokens: &mut Tokens<'_>) -> Result<Option<bool>, ReadError>
     ensures gives { MatchResult result
         (λ next. ParsesItemEnd next (symbols_left tokens.new) (parse_item_end
@@ -204,30 +203,27 @@ fn parse_item_end(tokens: &mut Tokens<'_>) -> Result<Option<bool>, ReadError>
     }
 }
 
-/// The matchers with one more, in a group of its own or not, if there is no error yet.
+/// Appends a matcher, in a group of its own or not, if there is no error yet.
 fn append_item(
     alloc: Global,
-    matchers: Result<Matchers, BuildError>,
+    matchers: &mut Result<Matchers, BuildError>,
     by_or: bool,
     item: Item<'_>,
-) -> Built<Matchers>
-    ensures { IfOk result (λ value. (i : part.Item) (s : part.Separator)
+) -> Result<(), AllocError>
+    ensures { OnOk result ((i : part.Item) (s : part.Separator)
         → parts_of item.entry ≡ item_parts i → by_or ≡ is_or s
-        → AddsItem (view_result plain_matchers_of matchers) s i
-        (view_result plain_matchers_of value)) }
+        → AddsItem (view_result plain_matchers_of matchers.old) s i
+        (view_result plain_matchers_of matchers.new)) }
 {
-    let matchers = match matchers {
-        Ok(matchers) => matchers,
-        Err(error) => return Ok(Err(error)),
+    let Ok(list) = matchers else {
+        return Ok(());
     };
-    let matcher = match build_matcher(alloc, item)? {
-        Ok(matcher) => matcher,
-        Err(error) => return Ok(Err(error)),
-    };
-    if by_or {
-        return Ok(Ok(matchers.append_or(alloc, matcher)?));
+    match build_matcher(alloc, item)? {
+        Ok(matcher) if by_or => list.push_or(alloc, matcher)?,
+        Ok(matcher) => list.push(matcher)?,
+        Err(error) => *matchers = Err(error),
     }
-    Ok(Ok(matchers.append(matcher)?))
+    Ok(())
 }
 
 /// What the tokens of a matcher build: its name, then its value, then its pattern.

@@ -30,7 +30,7 @@ loop-matchers-preserved c =
     let so_far = c.loop-matchers.invariant in
     let read = c.in_ok-item.ensures.gives in
     let ends = rw c.in-Some.is at c.in_ok-next_by_or.ensures.gives in
-    let added = c.in_ok-matchers.ensures read.part so_far.goes.separator read.same so_far.goes.same in
+    let added = c.in_ok-append_item.ensures read.part so_far.goes.separator read.same so_far.goes.same in
     record {
       short = let before = so_far.short in let shorter = c.in_ok-item.ensures.short in let shortest = c.in_ok-next_by_or.ensures.short in omega arith;
       goes = selecting_more _ _ _ _ so_far.goes read.part _ _ _ _ read.is ends c.in_ok-item.ensures.short c.in_ok-next_by_or.ensures.short added;
@@ -41,6 +41,6 @@ returns-in-None-clause-gives c =
     let so_far = c.loop-matchers.invariant in
     let read = c.in_ok-item.ensures.gives in
     let ends = rw c.in-None.is at c.in_ok-next_by_or.ensures.gives in
-    let added = c.in_ok-matchers.ensures read.part so_far.goes.separator read.same so_far.goes.same in
+    let added = c.in_ok-append_item.ensures read.part so_far.goes.separator read.same so_far.goes.same in
     let some : 0 < length (symbols_left c.loop-matchers.tokens) = let short = c.in_ok-item.ensures.short in omega arith in
     selecting_last _ _ _ _ so_far.goes read.part _ _ _ read.is some ends added
