@@ -1,5 +1,5 @@
 -- Bytes that are read or written in turns.
-use Rattle.std.proofs.Common.{◌≡◌, ℕ, List, [], ◌∷◌, ◌++◌, length, take, drop, refl, sym, ap, ◌∙◌, append_assoc, append-nil, take-append-drop, subst, arith}
+use Rattle.std.proofs.Common.{◌≡◌, ℕ, List, [], ◌∷◌, ◌++◌, length, take, drop, refl, sym, ap, ◌∙◌, append_assoc, append-nil, take-append-drop, arith}
 use Rattle.std.specs.Prelude.{Bool, false, ◌==◌, ◌&&◌, ◌||◌, not, IfErr, OnErr, Option, Some, None, Result, Ok, Err}
 use Rattle.std.proofs.Math.Bool.{or-false}
 use Rattle.std.proofs.lemmas.Bool.Decides.{nat_tests}
@@ -38,28 +38,12 @@ pub record IsPartlyWritten (old new : Option (List ℕ)) (text rest : List ℕ) 
   pub whole : front ++ rest ≡ text
   pub appends : Appends old new front
 
--- what was written so far is a beginning, also after a call that writes nothing more
-pub beginning_keeps : (old mid new : Option (List ℕ)) (text rest : List ℕ) → IsPartlyWritten old mid text rest → Keeps mid new → AppendsBeginning old new text
-beginning_keeps old mid new text rest so_far same = record {
-  front = so_far.front;
-  rest = rest;
-  whole = so_far.whole;
-  appends = appends_keeps old mid new so_far.front so_far.appends same;
-}
-
-pub written_none : (o : Option (List ℕ)) (text rest : List ℕ) → rest ≡ text → IsPartlyWritten o o text rest
-written_none o text rest same = record { front = []; whole = same; appends = appends_none o }
-
 pub written_more : (old mid new : Option (List ℕ)) (text rest after : List ℕ) (n : ℕ) → IsPartlyWritten old mid text rest → Appends mid new (take n rest) → after ≡ drop n rest → IsPartlyWritten old new text after
 written_more old mid new text rest after n so_far appends back = record {
   front = so_far.front ++ take n rest;
   whole = append_assoc so_far.front (take n rest) after ∙ ap (λ l. so_far.front ++ l) (ap (λ l. take n rest ++ l) back ∙ take-append-drop n rest) ∙ so_far.whole;
   appends = appends_more old mid new so_far.front (take n rest) so_far.appends appends;
 }
-
-pub written_whole : (old mid new : Option (List ℕ)) (text rest : List ℕ) → IsPartlyWritten old mid text rest → length rest ≡ 0 → Keeps mid new → Appends old new text
-written_whole old mid new text [] so_far none same = appends_keeps old mid new text (let all : so_far.front ≡ text = sym (append-nil so_far.front) ∙ so_far.whole in subst (Appends old mid) all so_far.appends) same
-written_whole old mid new text (b ∷ rest) so_far none same = absurd (omega arith)
 
 -- a write that took bytes has not failed
 pub write_kept : (old new : Bool) (n : ℕ) (text : List ℕ) → new ≡ (old || (n == 0 && not (length text == 0))) → (n ≡ 0 → ⊥) → new ≡ old

@@ -1,4 +1,5 @@
-use Rattle.std.proofs.Common.{◌≡◌, sym, ◌∙◌, ap, subst}
+use Rattle.std.proofs.Common.{◌≡◌, sym, ◌∙◌, ap, subst, arith}
+use Rattle.std.proofs.lemmas.Grind.{common_steps}
 use Rattle.std.specs.Prelude.{Err}
 use Rattle.std.specs.Str.{IsUtf8}
 use Rattle.std.proofs.lemmas.Result.{err_from_is_err_and}
@@ -25,3 +26,9 @@ returns-in_err-answer-clause-json g c = λ is.
     too_wide_of c.args.mode _ _ c.in_ok-input.input.items c.in-Ok.text.now c.in_ok-input.ensures.read
     (text.0 ∙ c.as_slice.ensures.value) (subst IsUtf8 c.as_slice.ensures.value text.1)
     (c.in_err-answer.ensures.json (ap Err (sym same.2 ∙ own)))
+
+pub returns-in_default-clause-parse : goal.returns-in_default-clause-parse
+returns-in_default-clause-parse g c = grind (arith, common_steps)
+
+pub returns-in_default-clause-json : goal.returns-in_default-clause-json
+returns-in_default-clause-json g c = grind (arith, common_steps)
