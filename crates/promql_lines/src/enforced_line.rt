@@ -2,7 +2,6 @@
 
 ghost use Rattle.std.specs.Prelude.{◌≡◌, IfErr, IfOk, string_bytes};
 ghost use Rattle.promql_ast.specs.View.{tree_of};
-ghost use Rattle.promql_syntax.specs.ParseAnswers.{IsAnswerTo};
 ghost use Rattle.promql_lines.specs.EnforcedLines.{FailsToEnforce, FailsToShow, IsEnforcedLine, ShowsEnforced, enforce_number};
 
 use promql_ast::Expr;

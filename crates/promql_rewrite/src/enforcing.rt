@@ -3,7 +3,7 @@
 ghost use Rattle.std.specs.Prelude.{◌≡◌, ◌≢◌, ◌↔◌, Err, IfErr, IfOk, IsErrOf, OnOk, codes, map, string_bytes};
 ghost use Rattle.std.specs.List.{list_any};
 ghost use Rattle.promql_ast.specs.Same.{matcher_eq};
-ghost use Rattle.promql_ast.specs.View.{aggregate_tree, binary_tree, call_tree, children_of, extension_tree, tree_of, trees_of};
+ghost use Rattle.promql_ast.specs.View.{aggregate_tree, binary_tree, call_tree, extension_tree, tree_of, trees_of};
 ghost use Rattle.promql_label.specs.MatcherViews.{plain_matcher_of, plain_matchers_of};
 ghost use Rattle.promql_label.specs.PlainMatchers.{name_of};
 ghost use Rattle.promql_syntax.specs.ParseAnswers.{IsAnswerTo, plain_error_of};
@@ -12,7 +12,7 @@ ghost use Rattle.promql_rewrite.specs.Enforced.{IsEnforced, IsLineOther, IsLineR
 ghost use Rattle.promql_rewrite.specs.EnforceErrors.{IsOfEnforced};
 ghost use Rattle.promql_rewrite.specs.Faithful.{IsLineOf, MeansOther};
 ghost use Rattle.promql_ast.specs.Text.{text as line_text};
-ghost use Rattle.promql_rewrite.specs.Enforcing.{all_enforced, enforced, enforced_matchers, first_enforced, with_matcher};
+ghost use Rattle.promql_rewrite.specs.Enforcing.{enforced, enforced_matchers, first_enforced, with_matcher};
 ghost use Rattle.promql_rewrite.specs.declared.faithful.NotFaithful.{NotFaithful};
 
 use crate::faithful::{NotFaithful, faithful_line};
