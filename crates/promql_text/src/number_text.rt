@@ -99,7 +99,6 @@ fn all_digits<S: Source>(text: S, radix: u32) -> bool
 }
 
 /// The number of the digits, if it is at most 2^63 - 1.
-#[tactic(auto, using(crate::proofs::Radix::radix_value_ge))]
 fn magnitude<S: Source>(text: S, radix: u32) -> Option<u64>
     requires radix { (2 ≤ radix) × (radix ≤ 36) }
     requires digits { list_all (spec.is_digit_below radix) (S.left text) ≡ true }

@@ -86,7 +86,6 @@ impl Significand {
 
 /// The significand of the digits before, and after them those at the start of the text; None past
 /// 38 digits.
-#[tactic(auto, using(crate::proofs::Runs::digit_run_digit, crate::proofs::Runs::digit_run_other, crate::proofs::Tens::long_run))]
 pub fn read_digits<S: Source>(before: Significand, text: S) -> Option<Significand>
     requires { before.zeros ≤ 2 ^ 64 }
     ensures value { let n = digits_value_after 10 (before.digits * 10 ^ before.zeros)
@@ -107,7 +106,6 @@ pub fn read_digits<S: Source>(before: Significand, text: S) -> Option<Significan
 }
 
 /// How many digits are at the start of the text.
-#[tactic(auto, using(crate::proofs::Runs::digit_run_digit, crate::proofs::Runs::digit_run_other))]
 pub fn run_len<S: Source>(text: S) -> u128
     ensures value { result ≡ length (digit_run (S.left text)) }
     ensures small { result < 2 ^ 64 }
@@ -125,7 +123,6 @@ pub fn run_len<S: Source>(text: S) -> u128
 }
 
 /// The number of the digits at the start of the text; `u128::MAX` where it is greater.
-#[tactic(auto, using(crate::proofs::Runs::digit_run_other, crate::proofs::SaturatingParts::count_more, crate::proofs::SaturatingParts::capped_small))]
 pub fn number<S: Source>(text: S) -> u128
     ensures { result ≡ cap_u128 (digits_value 10 (digit_run (S.left text))) }
 {
