@@ -16,7 +16,7 @@ use Rattle.promql_token.proofs.CutSteps.{cut_goes, cut_stops}
 use Rattle.promql_token.proofs.Ends.{PieceEnds, piece_ends}
 use Rattle.promql_token.proofs.Places.{Ends, boundary, trivia_len_ends}
 
-ends_at : (t : Text) (i j : ℕ) → IsUtf8 t → IsCharBoundary t i → Ends (drop i t) j → IsCharBoundary t (i + j)
+pub ends_at : (t : Text) (i j : ℕ) → IsUtf8 t → IsCharBoundary t i → Ends (drop i t) j → IsCharBoundary t (i + j)
 ends_at t i j u b e = IsCharBoundary-from_rest t i j b.0 (boundary (drop i t) j (IsUtf8-drop t i u b) e)
 
 -- g bytes of trivia are at the place, and p is after them

@@ -5,6 +5,7 @@ pub mod CutSteps
 pub mod CursorTokens
 pub mod DurationTokens
 pub mod Ends
+pub mod FrontTokens
 pub mod FaultsRead
 pub mod TriviaLengths
 pub mod Inner

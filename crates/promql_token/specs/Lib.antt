@@ -3,6 +3,7 @@ pub mod Classes
 pub mod Cursor
 pub mod Cut
 pub mod FaultPlaces
+pub mod Front
 pub mod LexicalFaults
 pub mod Trivia
 pub mod Ids

@@ -1,11 +1,13 @@
 //! A place of a text between two tokens, from which the tokens are drawn one by one.
 
-ghost use Rattle.std.specs.Prelude.{◌≡◌, ◌≢◌, ◌<◌, ◌≤◌, ◌+◌, [], ◌∷◌, List, ℕ, true, false, filter, Ok, Err, IfOk, IfErr, OnErr, MatchOption};
+ghost use Rattle.std.specs.Prelude.{◌≡◌, ◌≢◌, ◌<◌, ◌≤◌, ◌+◌, [], ◌∷◌, List, ℕ, true, false, drop, filter, take, Ok, Err, IfOk, IfErr, OnErr, MatchOption};
 ghost use Rattle.std.specs.Str.{IsCharBoundary};
 ghost use Rattle.promql_token.specs.IsFirst.{IsFirst};
 ghost use Rattle.promql_token.specs.Lexing as spec;
 
+use crate::class::byte;
 use crate::fault::{LexFault, LexFaultKind};
+use crate::front::{front_word, single};
 use crate::ids::{T_EOF, TokenId};
 use crate::lexeme::Lexeme;
 use crate::scan_token::scan_token;
@@ -45,6 +47,7 @@ fn token_at(text: &str, at: usize, state: State) -> Result<Lexeme, (LexFaultKind
 
 impl<'a> Cursor<'a> {
     ghost use Rattle.promql_token.specs.Cursor.{tokens_left, is_before_end, ends_in_fault};
+    ghost use Rattle.promql_token.specs.Front.{pieces_left};
     ghost use Rattle.promql_token.specs.IsPast.{IsPast};
 
     /// The cursor before a text's first token.
@@ -131,6 +134,64 @@ impl<'a> Cursor<'a> {
             return None;
         }
         Some((token.id, &text[token.start..token.start + token.len]))
+    }
+
+    // Moves past a space, which changes nothing but directly after a bracket.
+    #[inline(always)]
+    fn skip_space(&mut self)
+        ensures text { self.new.text ≡ self.old.text }
+        ensures pieces { pieces_left self.new ≡ pieces_left self.old }
+    {
+        match self.state.mode {
+            Mode::Outside | Mode::Braces => {
+                if byte(&self.text.as_bytes()[self.at..], 0) == b' ' {
+                    self.at += 1;
+                }
+            }
+            Mode::Brackets(_) => {}
+        }
+    }
+
+    // Moves past this many bytes, and returns them.
+    #[inline(always)]
+    fn take(&mut self, len: usize) -> &'a str
+        requires { IsCharBoundary self.old.text.now (self.old.at + len) }
+        ensures taken { result.now ≡ take len (drop self.old.at self.old.text.now) }
+        ensures text { self.new.text ≡ self.old.text }
+        ensures at { self.new.at ≡ self.old.at + len }
+        ensures state { self.new.state ≡ self.old.state }
+    {
+        let text = self.text;
+        let start = self.at;
+        self.at = start + len;
+        &text[start..start + len]
+    }
+
+    /// The next token's id and text, if it is a punctuator of one byte, directly or after one space.
+    /// It moves past it. `None` says nothing of what comes next, and a space may be passed then.
+    #[inline(always)]
+    pub fn next_if_single(&mut self) -> Option<(TokenId, &'a str)>
+        ensures tokens { MatchOption result (tokens_left self.new ≡ tokens_left self.old)
+            (λ x. tokens_left self.old ≡ (x.0, x.1.now) ∷ tokens_left self.new) }
+        ensures fault { ends_in_fault self.new ≡ ends_in_fault self.old }
+    {
+        self.skip_space();
+        let (id, state) = single(self.state, &self.text.as_bytes()[self.at..])?;
+        let text = self.take(1);
+        self.state = state;
+        Some((id, text))
+    }
+
+    /// The next token's id and text, if it is a word with no trivia before it. It moves past it.
+    /// `None` says nothing of what comes next.
+    #[inline(always)]
+    pub fn next_if_word(&mut self) -> Option<(TokenId, &'a str)>
+        ensures tokens { MatchOption result (self.new ≡ self.old)
+            (λ x. tokens_left self.old ≡ (x.0, x.1.now) ∷ tokens_left self.new) }
+        ensures fault { ends_in_fault self.new ≡ ends_in_fault self.old }
+    {
+        let (id, len) = front_word(self.state, &self.text.as_bytes()[self.at..])?;
+        Some((id, self.take(len)))
     }
 
     /// Whether a fault comes next, where no token does.

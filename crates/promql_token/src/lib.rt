@@ -18,6 +18,7 @@ pub use token::{Token, TokenType, is_label};
 mod class;
 pub mod cursor;
 pub mod fault;
+mod front;
 pub mod ids;
 pub mod laws;
 pub mod lexeme;
