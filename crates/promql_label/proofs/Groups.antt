@@ -18,3 +18,14 @@ pub appended_set : {G : Type 0} (f : G → List PlainMatcher) (plain : List Plai
     plain_matchers plain (map f (set gs i g)) ≡ append_plain (plain_matchers plain (map f gs)) c
 appended_set f plain [] i g old c e is more = cc
 appended_set f plain (x ∷ gs) i g old c e is more = ap (plain_matchers plain) (grown_set f (x ∷ gs) i g old c e is more)
+
+same_set : {G : Type 0} (f : G → List PlainMatcher) (gs : List G) (i : ℕ) (g old : G)
+    → old ≡ get_or gs i old → f g ≡ f old → map f (set gs i g) ≡ map f gs
+same_set f [] i g old is same = cc
+same_set f (x ∷ gs) zero g old is same = ap (λ h. h ∷ map f gs) (same ∙ ap f is)
+same_set f (x ∷ gs) (suc i) g old is same = ap (λ hs. f x ∷ hs) (same_set f gs i g old is same)
+
+-- the list, where a group is set to one with the same matchers
+pub kept_set : {G : Type 0} (f : G → List PlainMatcher) (plain : List PlainMatcher) (gs : List G) (i : ℕ) (g old : G)
+    → old ≡ get_or gs i old → f g ≡ f old → plain_matchers plain (map f (set gs i g)) ≡ plain_matchers plain (map f gs)
+kept_set f plain gs i g old is same = ap (plain_matchers plain) (same_set f gs i g old is same)

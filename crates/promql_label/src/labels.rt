@@ -37,6 +37,7 @@ impl Labels {
     }
 
     /// The list with a label after it.
+    #[inline(always)]
     pub fn append(self, label: Label) -> Result<Labels, AllocError>
         ensures { IfOk result (λ x. labels_of x ≡ labels_of self ++ string_bytes label ∷ []) }
     {

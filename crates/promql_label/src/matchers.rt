@@ -77,10 +77,11 @@ impl Matchers {
     ///
     /// # Errors
     ///
-    /// `AllocError` if an allocation fails.
+    /// `AllocError` if an allocation fails; the matchers are then the same.
     pub fn push(&mut self, matcher: Matcher) -> Result<(), AllocError>
-        ensures { OnOk result (plain_matchers_of self.new
+        ensures appended { OnOk result (plain_matchers_of self.new
             ≡ append_plain (plain_matchers_of self.old) (plain_matcher_of matcher)) }
+        ensures unchanged { OnErr result (plain_matchers_of self.new ≡ plain_matchers_of self.old) }
     {
         match self.or_matchers.last_mut() {
             Some(group) => group.push(matcher)?,
@@ -103,13 +104,16 @@ impl Matchers {
     ///
     /// # Errors
     ///
-    /// `AllocError` if an allocation fails.
+    /// `AllocError` if an allocation fails; the matchers are then the same.
     pub fn push_or(&mut self, alloc: Global, matcher: Matcher) -> Result<(), AllocError>
-        ensures { OnOk result (plain_matchers_of self.new
+        ensures appended { OnOk result (plain_matchers_of self.new
             ≡ appended_or (plain_matchers_of self.old) (plain_matcher_of matcher)) }
+        ensures unchanged { OnErr result (plain_matchers_of self.new ≡ plain_matchers_of self.old) }
     {
         let mut group = Vec::new(alloc);
         group.push(matcher)?;
+        // With room for two groups no push below fails, so nothing is lost.
+        self.or_matchers.reserve(2)?;
         if !self.matchers.is_empty() {
             let plain = mem::replace(&mut self.matchers, Vec::new(alloc));
             self.or_matchers.push(plain)?;

@@ -18,3 +18,6 @@ pub loop-c-init : goal.loop-c-init
 loop-c-init c =
     let e = from_start c.args.pattern.now in
     grind (arith, common_steps, e)
+
+pub returns : goal.returns
+returns c = grind (arith, common_steps)

@@ -1,0 +1,9 @@
+use Rattle.std.proofs.Common.{arith}
+use Rattle.std.proofs.lemmas.Grind.{common_steps}
+use Rattle.promql_label.proofs.matchers.match_empty.Goals as goal
+
+pub loop-matcher-preserved : goal.loop-matcher-preserved
+loop-matcher-preserved c = grind (arith, common_steps)
+
+pub returns-then-not-branch : goal.returns-then-not-branch
+returns-then-not-branch c = grind (arith, common_steps)
