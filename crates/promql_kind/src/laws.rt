@@ -24,6 +24,7 @@ pub fn equal_value_types()
 pub fn equal_clones()
     ensures value_types { ClonesKeep (λ t. t) ⟦<ValueType as Clone>⟧.is_clone }
     ensures fill_values { ClonesKeep fills_of ⟦<VectorMatchFillValues as Clone>⟧.is_clone }
+    ensures functions { ClonesKeep signature_of ⟦<Function as Clone>⟧.is_clone }
 {}
 
 /// Lists of labels are equal exactly if both include or both exclude, and they have the same labels in the same order.
