@@ -28,7 +28,6 @@ impl Expr {
     ///
     /// `AllocError` where an allocation failed.
     #[cycle(normal)]
-    #[tactic(auto, using(crate::proofs::NodeParts::tree_of_call, crate::proofs::NodeParts::tree_of_extension, crate::proofs::NodeParts::tree_of_aggregate))]
     pub fn normalized(&self, alloc: Global) -> Result<Expr, AllocError>
         ensures { IfOk result (λ e. tree_of e ≡ normal (tree_of self.now)) }
     {
@@ -194,13 +193,12 @@ fn normal_matrix(alloc: Global, node: &MatrixSelector) -> Result<MatrixSelector,
 }
 
 #[cycle(normal)]
-#[tactic(auto, using(crate::proofs::NormalTrees::normal_trees))]
 fn normal_call(alloc: Global, node: &Call) -> Result<Call, AllocError>
     ensures { IfOk result (λ c. call_tree c ≡ normal (call_tree node.now)) }
 {
     let args = normal_args(alloc, &node.args.args)?;
     Ok(Call {
-        func: node.func.try_clone(alloc)?,
+        func: node.func,
         args: FunctionArgs { args },
     })
 }
@@ -218,7 +216,6 @@ fn normal_args(alloc: Global, args: &[Box<Expr>]) -> Result<Vec<Box<Expr>>, Allo
 }
 
 #[cycle(normal)]
-#[tactic(auto, using(crate::proofs::NormalTrees::normal_trees))]
 fn normal_extension(alloc: Global, node: &Extension) -> Result<Extension, AllocError>
     ensures { IfOk result (λ e. extension_tree e ≡ normal (extension_tree node.now)) }
 {

@@ -18,7 +18,6 @@ impl Expr {
     ///
     /// `AllocError` if an allocation fails; some patterns may then be compiled.
     #[cycle(prepare)]
-    #[tactic(auto, using(crate::proofs::NodeParts::tree_of_call, crate::proofs::NodeParts::tree_of_extension, crate::proofs::NodeParts::tree_of_aggregate))]
     pub fn prepare_patterns(&mut self, alloc: Global) -> Result<(), AllocError>
         ensures { tree_of self.new ≡ tree_of self.old }
     {

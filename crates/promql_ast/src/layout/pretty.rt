@@ -167,7 +167,6 @@ impl Prettier for Expr {
 
     ghost states = { λ e. Prim.search rules };
 
-    #[tactic(auto, using(crate::proofs::Layouts::keeps_alike, crate::proofs::Layouts::laid_alike))]
     fn pretty(&self, alloc: Global, level: usize, max: usize) -> Result<String, PrettyError>
         ensures keeps { Keeps (Some (text (tree_of self.now))) result }
         ensures text { IfOk result (λ s. string_bytes s ≡ layout_of (tree_of self.now) level max) }

@@ -1,4 +1,5 @@
-use Rattle.std.proofs.Common.{◌∙◌, ap, sym, option_map}
+use Rattle.std.proofs.Common.{◌∙◌, ap, sym, option_map, arith}
+use Rattle.std.proofs.lemmas.Grind.{common_steps}
 use Rattle.promql_token.specs.Ids.{is_aggregator_with_param}
 use Rattle.promql_kind.specs.ModifierViews.{clause_of}
 use Rattle.promql_ast.specs.Arguments.{count}
@@ -20,3 +21,6 @@ returns-then-found-expected c =
           miscounted_alone c.args.op (option_map clause_of c.args.modifier) (trees_of c.args.args.args.items) _ _ _ _ (ap is_aggregator_with_param (sym c.new-op.ensures) ∙ sym c.is_aggregator_with_param.ensures ∙ w.if-is_aggregator_with_param.false) w.expected-is counted some
           c.if-found-expected.true c.into-then-found-expected.ensures
     ]
+
+pub returns : goal.returns
+returns c = grind (arith, common_steps)

@@ -1,8 +1,9 @@
-use Rattle.std.proofs.Common.{◌≡◌, ◌+◌, ◌++◌, ap, ◌∙◌, codes, arith, Global}
+use Rattle.std.proofs.Common.{◌≡◌, ◌+◌, ◌++◌, ◌∷◌, [], length, true, false, nat_lt, ap, sym, ◌∙◌, append_assoc, codes, arith, Global}
 use Rattle.std.specs.declared.boxed.Box.{Box}
+use Rattle.std.proofs.lemmas.Grind.{common_steps}
 use Rattle.promql_text.specs.PrintedLen.{cap_usize, printed_len}
 use Rattle.promql_text.proofs.PrintedLengths.{joined_len_next}
-use Rattle.promql_ast.specs.Decisions.{decisions}
+use Rattle.promql_ast.specs.Decisions.{can_split, decisions, node_decisions, operand_decisions}
 use Rattle.promql_ast.specs.NodeView.{tree_of_node}
 use Rattle.promql_ast.specs.Nodes.{nodes, all_nodes}
 use Rattle.promql_ast.specs.Text.{text}
@@ -10,6 +11,7 @@ use Rattle.promql_ast.specs.Tree.{Tree}
 use Rattle.promql_ast.specs.View.{children_of, tree_of, trees_of}
 use Rattle.promql_ast.specs.declared.expr.Expr.{Expr}
 use Rattle.promql_ast.proofs.ExpressionLists.{decisions_step, nodes_step, nodes_of_one, len_all}
+use Rattle.promql_ast.proofs.LayoutsBy.{split_decisions}
 use Rattle.promql_ast.proofs.layout.measurer.Measurer.+measure.Goals as goal
 
 pub measure_args-measure-requires : goal.measure_args-measure-requires
@@ -56,3 +58,61 @@ measure_children-loop-i-preserved t c =
 
 pub measure_children-returns-clause-len : goal.measure_children-returns-clause-len
 measure_children-returns-clause-len t c = len_all tree_of c.args.children.now c.loop-i.i _ c.loop-i-test.false c.loop-i.invariant.len
+
+-- ---- a node's decision, before those of its operands
+
+pub measure-returns-clause-decisions : goal.measure-returns-clause-decisions
+measure-returns-clause-decisions t c =
+    let tree = tree_of_node c.args.node in
+    let before = c.args.self.now.decisions.items in
+    let parts = operand_decisions tree c.args.max in
+    let splits : can_split tree ≡ true = grind (arith, common_steps) in
+    let index : c.len-index.result ≡ length before = grind (arith, common_steps) in
+    let marked : c.measure_operands-2.new.self.decisions.items ≡ before ++ (false ∷ parts) =
+    c.in_ok-len.ensures.decisions ∙ ap (λ ds. ds ++ parts) c.in_ok-push.ensures.items ∙ append_assoc before (false ∷ []) parts in
+    c.decide.ensures before parts index marked
+    ∙ ap (λ ds. before ++ ds) (ap (λ n. node_decisions (nat_lt c.args.max n) parts) c.in_ok-len.ensures.len ∙ sym (split_decisions tree c.args.max splits))
+
+-- ---- a node's parts, one after the other
+
+pub measure_operands-returns-in_ok-inner-in-Aggregate-clause-len : goal.measure_operands-returns-in_ok-inner-in-Aggregate-clause-len
+measure_operands-returns-in_ok-inner-in-Aggregate-clause-len t c = grind (arith, common_steps)
+
+pub measure_operands-returns-in_ok-inner-in-Aggregate-clause-decisions : goal.measure_operands-returns-in_ok-inner-in-Aggregate-clause-decisions
+measure_operands-returns-in_ok-inner-in-Aggregate-clause-decisions t c = grind (arith, common_steps)
+
+pub measure_operands-returns-in_ok-inner-in-Aggregate-clause-counted : goal.measure_operands-returns-in_ok-inner-in-Aggregate-clause-counted
+measure_operands-returns-in_ok-inner-in-Aggregate-clause-counted t c = grind (arith, common_steps)
+
+pub measure_operands-returns-in_ok-right-in-Binary-clause-len : goal.measure_operands-returns-in_ok-right-in-Binary-clause-len
+measure_operands-returns-in_ok-right-in-Binary-clause-len t c = grind (arith, common_steps)
+
+pub measure_operands-returns-in_ok-right-in-Binary-clause-decisions : goal.measure_operands-returns-in_ok-right-in-Binary-clause-decisions
+measure_operands-returns-in_ok-right-in-Binary-clause-decisions t c = grind (arith, common_steps)
+
+pub measure_operands-returns-in_ok-right-in-Binary-clause-counted : goal.measure_operands-returns-in_ok-right-in-Binary-clause-counted
+measure_operands-returns-in_ok-right-in-Binary-clause-counted t c = grind (arith, common_steps)
+
+pub measure_operands-returns-in_ok-args-in-Call-clause-len : goal.measure_operands-returns-in_ok-args-in-Call-clause-len
+measure_operands-returns-in_ok-args-in-Call-clause-len t c = grind (arith, common_steps)
+
+pub measure_operands-returns-in_ok-args-in-Call-clause-counted : goal.measure_operands-returns-in_ok-args-in-Call-clause-counted
+measure_operands-returns-in_ok-args-in-Call-clause-counted t c = grind (arith, common_steps)
+
+pub measure_operands-returns-in_ok-children-in-Extension-clause-len : goal.measure_operands-returns-in_ok-children-in-Extension-clause-len
+measure_operands-returns-in_ok-children-in-Extension-clause-len t c = grind (arith, common_steps)
+
+pub measure_operands-returns-in_ok-children-in-Extension-clause-counted : goal.measure_operands-returns-in_ok-children-in-Extension-clause-counted
+measure_operands-returns-in_ok-children-in-Extension-clause-counted t c = grind (arith, common_steps)
+
+pub measure_args-returns-clause-decisions : goal.measure_args-returns-clause-decisions
+measure_args-returns-clause-decisions t c = grind (arith, common_steps)
+
+pub measure_args-returns-clause-counted : goal.measure_args-returns-clause-counted
+measure_args-returns-clause-counted t c = grind (arith, common_steps)
+
+pub measure_children-returns-clause-decisions : goal.measure_children-returns-clause-decisions
+measure_children-returns-clause-decisions t c = grind (arith, common_steps)
+
+pub measure_children-returns-clause-counted : goal.measure_children-returns-clause-counted
+measure_children-returns-clause-counted t c = grind (arith, common_steps)

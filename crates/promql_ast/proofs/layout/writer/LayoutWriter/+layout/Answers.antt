@@ -1,7 +1,7 @@
 use Rattle.std.proofs.Common.{◌≡◌, ℕ, ◌+◌, ◌++◌, ◌∷◌, max, Bool, List, drop, map, codes, string_bytes, ap, sym, ◌∙◌, arith, Global}
-use Rattle.std.proofs.lemmas.Grind.{common_steps}
 use Rattle.std.specs.Slice.Iter.{iter_rest}
 use Rattle.std.specs.declared.boxed.Box.{Box}
+use Rattle.std.proofs.lemmas.Grind.{common_steps}
 use Rattle.promql_text.specs.Texts.{Text}
 use Rattle.promql_ast.specs.Decisions.{all_deepest_by, all_rest, deepest_by, layout_by, layouts_by, rest}
 use Rattle.promql_ast.specs.NodeView.{tree_of_node}
@@ -87,3 +87,42 @@ write_lines-returns-in_err-write_args-in-Call-clause-wide t c = grind (arith, co
 
 pub write_lines-returns-in_err-write_layout-in-Paren-clause-wide : goal.write_lines-returns-in_err-write_layout-in-Paren-clause-wide
 write_lines-returns-in_err-write_layout-in-Paren-clause-wide t c = grind (arith, common_steps)
+
+pub write_lines-write_args-requires : goal.write_lines-write_args-requires
+write_lines-write_args-requires t c = grind (arith, common_steps)
+
+pub write_lines-write_layout-requires : goal.write_lines-write_layout-requires
+write_lines-write_layout-requires t c = grind (arith, common_steps)
+
+pub write_lines-write_param-requires : goal.write_lines-write_param-requires
+write_lines-write_param-requires t c = grind (arith, common_steps)
+
+pub write_lines-write_layout-requires-in-Binary-2 : goal.write_lines-write_layout-requires-in-Binary-2
+write_lines-write_layout-requires-in-Binary-2 t c = grind (arith, common_steps)
+
+pub write_lines-returns-in_ok-push_str-in-Binary-clause-wide : goal.write_lines-returns-in_ok-push_str-in-Binary-clause-wide
+write_lines-returns-in_ok-push_str-in-Binary-clause-wide t c = grind (arith, common_steps)
+
+pub write_lines-write_layout-requires-in-Paren : goal.write_lines-write_layout-requires-in-Paren
+write_lines-write_layout-requires-in-Paren t c = grind (arith, common_steps)
+
+pub write_lines-returns-in_ok-write_layout-in-Paren-clause-wide : goal.write_lines-returns-in_ok-write_layout-in-Paren-clause-wide
+write_lines-returns-in_ok-write_layout-in-Paren-clause-wide t c = grind (arith, common_steps)
+
+pub write_lines-returns-in_ok-write_args-in-Call-clause-wide : goal.write_lines-returns-in_ok-write_args-in-Call-clause-wide
+write_lines-returns-in_ok-write_args-in-Call-clause-wide t c = grind (arith, common_steps)
+
+pub write_layout-returns-in_ok-push_without_indent-in-Unary-clause-wide : goal.write_layout-returns-in_ok-push_without_indent-in-Unary-clause-wide
+write_layout-returns-in_ok-push_without_indent-in-Unary-clause-wide t c = grind (arith, common_steps)
+
+pub write_layout-returns-in_ok-push_without_indent-in-Unary-clause-fits : goal.write_layout-returns-in_ok-push_without_indent-in-Unary-clause-fits
+write_layout-returns-in_ok-push_without_indent-in-Unary-clause-fits t c = grind (arith, common_steps)
+
+pub write_layout-returns-in_ok-write_layout-in-Subquery-clause-text : goal.write_layout-returns-in_ok-write_layout-in-Subquery-clause-text
+write_layout-returns-in_ok-write_layout-in-Subquery-clause-text t c = grind (arith, common_steps)
+
+pub write_param-returns-in_ok-push_str-in-Some-clause-text : goal.write_param-returns-in_ok-push_str-in-Some-clause-text
+write_param-returns-in_ok-push_str-in-Some-clause-text t c = grind (arith, common_steps)
+
+pub write_args-returns-in_err-write_layout-clause-wide : goal.write_args-returns-in_err-write_layout-clause-wide
+write_args-returns-in_err-write_layout-clause-wide t c = grind (arith, common_steps)

@@ -1,0 +1,31 @@
+use Rattle.std.proofs.Common.{arith}
+use Rattle.std.proofs.lemmas.Grind.{common_steps}
+use Rattle.promql_ast.proofs.NodeParts.{tree_of_aggregate, tree_of_call, tree_of_extension}
+use Rattle.promql_ast.proofs.+copy.Goals as goal
+
+pub expr::Expr::try_clone-returns-in_ok-try_clone-in-Aggregate : goal.expr::Expr::try_clone-returns-in_ok-try_clone-in-Aggregate
+expr::Expr::try_clone-returns-in_ok-try_clone-in-Aggregate t c = grind (arith, tree_of_aggregate)
+
+pub expr::Expr::try_clone-returns-in_ok-try_clone-in-Call : goal.expr::Expr::try_clone-returns-in_ok-try_clone-in-Call
+expr::Expr::try_clone-returns-in_ok-try_clone-in-Call t c = grind (arith, tree_of_call)
+
+pub expr::Expr::try_clone-returns-in_ok-try_clone-in-Extension : goal.expr::Expr::try_clone-returns-in_ok-try_clone-in-Extension
+expr::Expr::try_clone-returns-in_ok-try_clone-in-Extension t c = grind (arith, tree_of_extension)
+
+pub aggregate::AggregateExpr::try_clone-returns : goal.aggregate::AggregateExpr::try_clone-returns
+aggregate::AggregateExpr::try_clone-returns t c = grind (arith, common_steps)
+
+pub binary::BinaryExpr::try_clone-returns : goal.binary::BinaryExpr::try_clone-returns
+binary::BinaryExpr::try_clone-returns t c = grind (arith, common_steps)
+
+pub call::Call::try_clone-returns : goal.call::Call::try_clone-returns
+call::Call::try_clone-returns t c = grind (arith, common_steps)
+
+pub call::FunctionArgs::try_clone-loop-arg-preserved : goal.call::FunctionArgs::try_clone-loop-arg-preserved
+call::FunctionArgs::try_clone-loop-arg-preserved t c = grind (arith, common_steps)
+
+pub extension::Extension::try_clone-returns : goal.extension::Extension::try_clone-returns
+extension::Extension::try_clone-returns t c = grind (arith, common_steps)
+
+pub extension::clone_children-loop-child-preserved : goal.extension::clone_children-loop-child-preserved
+extension::clone_children-loop-child-preserved t c = grind (arith, common_steps)
