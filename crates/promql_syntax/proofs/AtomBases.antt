@@ -2,6 +2,8 @@
 use Rattle.std.proofs.Common.{◌≡◌, ℕ, true, false, cond, refl, sym, ◌∙◌, ap, List, ◌∷◌, Some, None}
 use Rattle.std.specs.Prelude.{Result, Ok, Err}
 use Rattle.std.proofs.lemmas.Bool.{cond-true, cond-false}
+use Rattle.std.specs.declared.alloc.Global.{Global}
+use Rattle.std.specs.declared.boxed.Box.{Box}
 use Rattle.promql_text.specs.Texts.{Text}
 use Rattle.promql_grammar.specs.declared.token_kinds.TokenKind.{TokenKind}
 use Rattle.promql_grammar.specs.declared.token_kinds.TokenKind.TheVariants as kind
@@ -40,7 +42,7 @@ module _ (w : TokenKind) (text : Text) (ts : List Symbol) where
   pub nameless_fails : (e : Failure) → w ≡ kind.LeftBrace → Fails e (parse_braces ts) → FailsBase e (λ k n. parse_atom k n w text ts)
   nameless_fails e is fails = λ k n. fails_first e (parse_braces ts) (λ b. parse_postfixes k n (grammar.nameless b.0) b.1) _ (ap (λ v. parse_atom k n v text ts) is) fails
 
-  pub nameless_base : (matchers : Result Matchers code.BuildError) (us : List Symbol) (parsed : ParsedExpr) → w ≡ kind.LeftBrace → ParsesAskedPart plain_matchers_of braces_value matchers us (parse_braces ts)
+  pub nameless_base : (matchers : Result Matchers (Box code.BuildError Global)) (us : List Symbol) (parsed : ParsedExpr) → w ≡ kind.LeftBrace → ParsesAskedPart plain_matchers_of braces_value matchers us (parse_braces ts)
       → ((b : Braces) → IsBuiltBy plain_matchers_of matchers (braces_value b) → IsExprOf parsed (grammar.nameless b)) → ParsesBase parsed us (λ k n. parse_atom k n w text ts)
   nameless_base matchers us parsed is read built = record {
     derivation = grammar.nameless read.part;
@@ -62,7 +64,7 @@ module _ (w : TokenKind) (text : Text) (ts : List Symbol) where
   pub selected_fails : (e : Failure) → Fails e (parse_braces ts) → FailsBase e (λ k n. parse_selector_braces k n w text ts)
   selected_fails e fails = λ k n. fails_first e (parse_braces ts) (λ b. parse_postfixes k n (grammar.selector w text (Some b.0)) b.1) _ refl fails
 
-  pub selected_base : (matchers : Result Matchers code.BuildError) (us : List Symbol) (parsed : ParsedExpr) → ParsesAskedPart plain_matchers_of braces_value matchers us (parse_braces ts)
+  pub selected_base : (matchers : Result Matchers (Box code.BuildError Global)) (us : List Symbol) (parsed : ParsedExpr) → ParsesAskedPart plain_matchers_of braces_value matchers us (parse_braces ts)
       → ((v : TokenKind) (b : Braces) → IsBuiltBy plain_matchers_of matchers (braces_value b) → IsExprOf parsed (grammar.selector v text (Some b))) → ParsesBase parsed us (λ k n. parse_selector_braces k n w text ts)
   selected_base matchers us parsed read built = record {
     derivation = grammar.selector w text (Some read.part);

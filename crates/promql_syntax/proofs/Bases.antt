@@ -1,7 +1,8 @@
 -- Bases: what is read up to their postfixes, by their first token.
 use Rattle.std.proofs.Common.{◌≡◌, ℕ, ◌≤◌, cond, refl, sym, ◌∙◌, ap, subst, List, [], ◌∷◌, length}
-use Rattle.std.specs.Prelude.{Result, Ok, Err, MatchResult}
+use Rattle.std.specs.Prelude.{Result, Ok, Err, MatchResult, option_map}
 use Rattle.promql_text.specs.Texts.{Text}
+use Rattle.promql_kind.specs.ModifierViews.{clause_of}
 use Rattle.promql_grammar.specs.declared.token_kinds.TokenKind.{TokenKind}
 use Rattle.promql_grammar.specs.declared.token_kinds.TokenKind.TheVariants as kind
 use Rattle.promql_grammar.specs.declared.read_error.ReadError.{ReadError}
@@ -13,8 +14,10 @@ use Rattle.promql_grammar.specs.GrammarParts as part
 use Rattle.promql_grammar.specs.Parsing.{Read, Reader, parse_unary, parse_paren_end, parse_call, parse_selector, parse_aggregate, parse_grouped_aggregate, parse_arguments, parse_labels, parse_grouping, parse_postfixes, misfit}
 use Rattle.promql_syntax.specs.declared.grammar.parsed.ParsedExpr.{ParsedExpr}
 use Rattle.promql_syntax.specs.declared.grammar.parsed.ParsedArgs.{ParsedArgs}
+use Rattle.promql_syntax.specs.BuildErrors.{view_result}
 use Rattle.promql_syntax.specs.OperatorTokens.{EatsUnaryOperator}
-use Rattle.promql_syntax.specs.ParsesExpr.{IsExprOf, AreArgsOf, ParsesExpr, ParsesArgs, ParsesBase, Fails, FailsBase, ParsesGrouping, clause_in, Failure}
+use Rattle.promql_syntax.specs.ParsesExpr.{IsExprOf, AreArgsOf, ParsesExpr, ParsesArgs, ParsesBase, Fails, FailsBase, Failure}
+use Rattle.promql_syntax.specs.ParsesPart.{ParsesPart}
 use Rattle.promql_syntax.specs.PartBuilding.{clause_value}
 use Rattle.promql_syntax.specs.PartTokens.{HasNo, HasNoGrouping, StartsGrouping}
 use Rattle.promql_syntax.proofs.ReadErrorSteps.{fails_same, fails_first}
@@ -117,8 +120,8 @@ module _ (r : Reader) (op : ℕ) (text : Text) (all ts : List Symbol) (front : a
     pub after_clause_fails : (e : Failure) → Fails e (parse_grouping us) → FailsBase e (λ k n. parse_aggregate r k n op text all)
     after_clause_fails e fails = λ k n. fails_first e (parse_grouping us) (λ c. parse_postfixes k n (grammar.aggregate op text c.0 given.derivations) c.1) (parse_aggregate r k n op text all) (after_given k n) fails
 
-    pub after_base : (held : _) (vs : List Symbol) (made : ParsedExpr) → ParsesGrouping held vs (parse_grouping us)
-        → ((t : Text) (c : part.Clause) (ds : grammar.Arguments) → clause_in held ≡ clause_value c → AreArgsOf args ds → IsExprOf made (grammar.aggregate op t c ds)) → ParsesBase made vs (λ k n. parse_aggregate r k n op text all)
+    pub after_base : (held : _) (vs : List Symbol) (made : ParsedExpr) → ParsesPart (option_map clause_of) clause_value held vs (parse_grouping us)
+        → ((t : Text) (c : part.Clause) (ds : grammar.Arguments) → view_result (option_map clause_of) held ≡ clause_value c → AreArgsOf args ds → IsExprOf made (grammar.aggregate op t c ds)) → ParsesBase made vs (λ k n. parse_aggregate r k n op text all)
     after_base held vs made clause built = record {
       derivation = grammar.aggregate op text clause.part given.derivations;
       is = λ k n. after_given k n ∙ ap (λ o. o then λ c. parse_postfixes k n (grammar.aggregate op text c.0 given.derivations) c.1) clause.is;
@@ -169,7 +172,7 @@ grouped_none : (r : Reader) (k n op : ℕ) (text : Text) (g : part.Grouping) (us
 grouped_none r k n op text g (punct kind.LeftParen ∷ us) none = absurd (none refl)
 grouped_none r k n op text g us none = refl
 
-module _ (r : Reader) (op : ℕ) (text : Text) (ts us : List Symbol) (begins : StartsGrouping ts) (held : _) (clause : ParsesGrouping held us (parse_grouping ts)) where
+module _ (r : Reader) (op : ℕ) (text : Text) (ts us : List Symbol) (begins : StartsGrouping ts) (held : _) (clause : ParsesPart (option_map clause_of) clause_value held us (parse_grouping ts)) where
   pub before_open : HasNo kind.LeftParen us → FailsBase (Syntax, us) (λ k n. parse_aggregate r k n op text ts)
   before_open none = λ k n.
       let before = before_read r op text ts us clause.part begins clause.is in
@@ -182,7 +185,7 @@ module _ (r : Reader) (op : ℕ) (text : Text) (ts us : List Symbol) (begins : S
         fails_first e (parse_arguments r vs) (λ y. parse_postfixes k n (grammar.aggregate op text (part.before before.grouping) y.0) y.1) _ (before.is k n ∙ ap (parse_grouped_aggregate r k n op text before.grouping) front) fails
 
     pub before_base : (args : ParsedArgs) (ws : List Symbol) (made : ParsedExpr) → ParsesArgs args ws (parse_arguments r vs)
-        → ((t : Text) (c : part.Clause) (ds : grammar.Arguments) → clause_in held ≡ clause_value c → AreArgsOf args ds → IsExprOf made (grammar.aggregate op t c ds)) → ParsesBase made ws (λ k n. parse_aggregate r k n op text ts)
+        → ((t : Text) (c : part.Clause) (ds : grammar.Arguments) → view_result (option_map clause_of) held ≡ clause_value c → AreArgsOf args ds → IsExprOf made (grammar.aggregate op t c ds)) → ParsesBase made ws (λ k n. parse_aggregate r k n op text ts)
     before_base args ws made given built =
         let before = before_read r op text ts us clause.part begins clause.is in
         record {

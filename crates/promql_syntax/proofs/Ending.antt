@@ -1,6 +1,8 @@
 -- Building that asks: what follows a value, and what follows an error.
 use Rattle.std.proofs.Common.{◌≡◌, refl, ◌∙◌, ap, subst, List, [], ◌∷◌, ◌++◌}
 use Rattle.std.specs.Prelude.{Result, Ok, Err}
+use Rattle.std.specs.declared.alloc.Global.{Global}
+use Rattle.std.specs.declared.boxed.Box.{Box}
 use Rattle.promql_label.specs.Answers.{Answer}
 use Rattle.promql_text.specs.Texts.{Text}
 use Rattle.promql_syntax.specs.declared.grammar.build_error.BuildError as code
@@ -50,7 +52,7 @@ then_fault m f e before = record {
   ends = ends_failing m f before.answers e before.ends;
 }
 
-pub ends_held : {V A : Type 0} (view : V → A) (value : Result V code.BuildError) (m : Asking A) → IsBuiltBy view value m → EndsIn m (view_result view value)
+pub ends_held : {V A : Type 0} (view : V → A) (value : Result V (Box code.BuildError Global)) (m : Asking A) → IsBuiltBy view value m → EndsIn m (view_result view value)
 ends_held view value m built = record { answers = built.answers; allowed = built.allowed; ends = built.ends }
 
 -- ---- one answer for each pattern

@@ -2,6 +2,8 @@
 use Rattle.std.proofs.Common.{◌≡◌, refl, sym, ◌∙◌, ap, List, [], ◌∷◌, ◌++◌, append_assoc, true, false}
 use Rattle.std.specs.Prelude.{Result, Ok, Err}
 use Rattle.std.proofs.lemmas.Bool.{cond-true, cond-false}
+use Rattle.std.specs.declared.alloc.Global.{Global}
+use Rattle.std.specs.declared.boxed.Box.{Box}
 use Rattle.promql_text.specs.Texts.{Text}
 use Rattle.promql_grammar.specs.declared.token_kinds.TokenKind.{TokenKind}
 use Rattle.promql_grammar.specs.declared.token_kinds.TokenKind.TheVariants as kind
@@ -103,7 +105,7 @@ module _ (all rest : List Symbol) (held : Result (List Text) BuildError) (naming
         ∙ ap (λ h. h then λ ls. name_values names then λ ms. Ok (ls ++ ms)) (sym grows);
   }
 
-  pub naming_ends : (k : TokenKind) (t : Text) (us vs : List Symbol) (value : Result code.Labels build_errors.BuildError) (end : LabelEnd) → EatsLabel k t rest us → parse_label_end us ≡ Ok (end, vs) → ¬ (end ≡ comma) → view_result labels_of value ≡ with_label held k t
+  pub naming_ends : (k : TokenKind) (t : Text) (us vs : List Symbol) (value : Result code.Labels (Box build_errors.BuildError Global)) (end : LabelEnd) → EatsLabel k t rest us → parse_label_end us ≡ Ok (end, vs) → ¬ (end ≡ comma) → view_result labels_of value ≡ with_label held k t
       → ParsesPart labels_of label_values value vs (parse_label_list all)
   naming_ends k t us vs value closes takes ends other grows = record {
     part = labels (naming.whole (last k t));
@@ -117,7 +119,7 @@ module _ (all rest : List Symbol) (held : Result (List Text) BuildError) (naming
   }
   naming_ends k t us vs value comma takes ends other grows = absurd (other refl)
 
-  pub naming_last : (k : TokenKind) (t : Text) (us vs : List Symbol) (value : Result code.Labels build_errors.BuildError) → EatsLabel k t rest us → ParsesLabelEnd true vs (parse_label_end us) → view_result labels_of value ≡ with_label held k t → ParsesPart labels_of label_values value vs (parse_label_list all)
+  pub naming_last : (k : TokenKind) (t : Text) (us vs : List Symbol) (value : Result code.Labels (Box build_errors.BuildError Global)) → EatsLabel k t rest us → ParsesLabelEnd true vs (parse_label_end us) → view_result labels_of value ≡ with_label held k t → ParsesPart labels_of label_values value vs (parse_label_list all)
   naming_last k t us vs value takes ends grows = naming_ends k t us vs value ends.end takes ends.is (λ is. let same : true ≡ false = ends.ends ∙ ap is_last_label is in cc) grows
 
   pub naming_more : (k : TokenKind) (t : Text) (us vs : List Symbol) (next_held : Result (List Text) BuildError) → EatsLabel k t rest us → ParsesLabelEnd false vs (parse_label_end us) → next_held ≡ with_label held k t → Naming all vs next_held

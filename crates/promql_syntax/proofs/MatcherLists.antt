@@ -1,6 +1,8 @@
 -- How the matchers of a selector are read and built, one by one.
 use Rattle.std.proofs.Common.{◌≡◌, ℕ, suc, zero, ◌-◌, ◌<◌, ◌≤◌, refl, sym, ◌∙◌, ap, subst, arith, Bool, true, false, List, [], ◌∷◌, ◌++◌, append_assoc, append-nil, length, Some, None}
 use Rattle.std.specs.Prelude.{Result, Ok, Err, ◌==◌, if◌then◌else◌}
+use Rattle.std.specs.declared.alloc.Global.{Global}
+use Rattle.std.specs.declared.boxed.Box.{Box}
 use Rattle.promql_grammar.specs.declared.token_kinds.TokenKind.TheVariants as kind
 use Rattle.promql_grammar.specs.declared.read_error.ReadError.TheVariants.{Memory, Syntax, TooDeep}
 use Rattle.promql_grammar.specs.Results.{◌then◌}
@@ -157,7 +159,7 @@ module _ (all rest : List Symbol) (held : Result PlainMatchers BuildError) (by_o
         (selecting.built (next_item i s is) (added.answers ++ more) after (items_on held next selecting.separator s i is added.answers more after added.ends rest_ends));
   }
 
-  pub selecting_ends : (i : Item) (us vs : List Symbol) (value : Result code.Matchers build_errors.BuildError) (end : ItemEnd)
+  pub selecting_ends : (i : Item) (us vs : List Symbol) (value : Result code.Matchers (Box build_errors.BuildError Global)) (end : ItemEnd)
       → parse_item rest ≡ Ok (i, us) → 0 < length rest → parse_item_end us ≡ Ok (end, vs) → ¬ ((s : Separator) × (end ≡ joins s)) → AddsItem held selecting.separator i (view_result plain_matchers_of value) → ParsesAskedPart plain_matchers_of braces_value value vs (parse_braces all)
   selecting_ends i us vs value closes is some ends other added = record {
     part = items (selecting.whole (last_item i));
@@ -179,7 +181,7 @@ module _ (all rest : List Symbol) (held : Result PlainMatchers BuildError) (by_o
   }
   selecting_ends i us vs value (joins s) is some ends other added = absurd (other (s, refl))
 
-  pub selecting_last : (i : Item) (us vs : List Symbol) (value : Result code.Matchers build_errors.BuildError)
+  pub selecting_last : (i : Item) (us vs : List Symbol) (value : Result code.Matchers (Box build_errors.BuildError Global))
       → parse_item rest ≡ Ok (i, us) → 0 < length rest → ParsesItemEnd None vs (parse_item_end us) → AddsItem held selecting.separator i (view_result plain_matchers_of value) → ParsesAskedPart plain_matchers_of braces_value value vs (parse_braces all)
   selecting_last i us vs value is some ends added = selecting_ends i us vs value ends.end is some ends.is (last_end ends.end ends.same) added
 

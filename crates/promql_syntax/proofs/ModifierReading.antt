@@ -1,6 +1,8 @@
 -- How modifiers are read and built.
 use Rattle.std.proofs.Common.{◌≡◌, ◌≤◌, refl, sym, ◌∙◌, ap, arith, Bool, true, false, Option, Some, None, is_some, List, ◌∷◌, drop, length}
 use Rattle.std.specs.Prelude.{Result, Ok, Err, MatchBool, option_map}
+use Rattle.std.specs.declared.alloc.Global.{Global}
+use Rattle.std.specs.declared.boxed.Box.{Box}
 use Rattle.promql_text.specs.Texts.{Text}
 use Rattle.promql_text.specs.declared.number.Number.{Number}
 use Rattle.promql_grammar.specs.declared.token_kinds.TokenKind.{TokenKind}
@@ -68,7 +70,7 @@ module _ (ts us : List Symbol) (k : TokenKind) (t : Text) (read : parse_group ts
   pub group_fails : (e : Failure) → Fails e (list_in us) → Fails e (parse_group ts)
   group_fails e fails = fails_same e _ _ read (fails_then e (list_in us) (λ l. Ok (group_of_labels k t l.0, l.1)) fails)
 
-  pub group_part : (rest : List Symbol) (labels : Result code.Labels build_errors.BuildError) (card : Result VectorMatchCardinality build_errors.BuildError) → ParsesPart labels_of list_value labels rest (list_in us)
+  pub group_part : (rest : List Symbol) (labels : Result code.Labels (Box build_errors.BuildError Global)) (card : Result VectorMatchCardinality (Box build_errors.BuildError Global)) → ParsesPart labels_of list_value labels rest (list_in us)
       → view_result cardinality_of card ≡ (view_result labels_of labels then λ ls. Ok (cardinality k ls)) → ParsesPart cardinality_of group_value card rest (parse_group ts)
   group_part rest labels card list made = record {
     part = group_of_labels k t list.part;
@@ -130,7 +132,7 @@ abbrev of_matching : Result Fills BuildError → Bool → Cardinality × Option 
 of_matching f flag c = f then λ g. Ok (modifier_of flag c g)
 
 -- a flag, labels and fill values were read one after another
-pub modifier_part : (ts us vs rest : List Symbol) (given : Bool) (m : Result parts.Matching build_errors.BuildError) (f : Result VectorMatchFillValues build_errors.BuildError) (value : Result (Option BinModifier) build_errors.BuildError)
+pub modifier_part : (ts us vs rest : List Symbol) (given : Bool) (m : Result parts.Matching (Box build_errors.BuildError Global)) (f : Result VectorMatchFillValues (Box build_errors.BuildError Global)) (value : Result (Option BinModifier) (Box build_errors.BuildError Global))
     → ParsesFlag given us (parse_flag ts) → ParsesPart matching_parts matching_value m vs (parse_matching us) → ParsesPart fills_of fills_value f rest (parse_fills vs)
     → view_result (option_map matching_of) value ≡ (view_result matching_parts m then λ c. view_result fills_of f then λ g. Ok (modifier_of given c g))
     → ParsesPart (option_map matching_of) modifier_value value rest (parse_modifier ts)

@@ -1,6 +1,8 @@
 -- Parts that are parsed one after another, and ends that are missing.
 use Rattle.std.proofs.Common.{◌≡◌, refl, sym, ◌∙◌, ap, List, ◌∷◌, Some}
 use Rattle.std.specs.Prelude.{Result, Ok, Err}
+use Rattle.std.specs.declared.alloc.Global.{Global}
+use Rattle.std.specs.declared.boxed.Box.{Box}
 use Rattle.promql_text.specs.Texts.{Text}
 use Rattle.promql_text.specs.declared.number.Number.{Number}
 use Rattle.promql_grammar.specs.declared.token_kinds.TokenKind.{TokenKind}
@@ -25,7 +27,7 @@ use Rattle.promql_syntax.proofs.ResultSteps.{fails_same, fails_then, then_then}
 abbrev with_number : Signed → Text × List Symbol → Read (Signed × Text)
 with_number s n = Ok ((s, n.0), n.1)
 
-number_then : {B : Type 0} (r : Read Signed) (f : Signed → Text → List Symbol → Result B Stop)
+pub number_then : {B : Type 0} (r : Read Signed) (f : Signed → Text → List Symbol → Result B Stop)
     → (r then λ s. parse_number s.1 then λ n. f s.0 n.0 n.1) ≡ ((r then λ s. parse_number s.1 then with_number s.0) then λ x. f x.0.0 x.0.1 x.1)
 number_then (Ok s) f = sym (then_then (parse_number s.1) (with_number s.0) (λ x. f x.0.0 x.0.1 x.1))
 number_then (Err e) f = refl
@@ -46,7 +48,7 @@ value_fails e ts us opens fails =
     fails_same e _ _ (ap parse_fill_value opens ∙ number_then (eat_sign us) (λ s n rest. parse_fill_value_end s n rest))
     (fails_then e (parse_signed_number us) (λ x. parse_fill_value_end x.0.0 x.0.1 x.1) fails)
 
-some_step : (t : Time) (ts : List Symbol) → HasNo kind.RightBracket ts → parse_step t ts ≡ (parse_time ts then λ s. parse_step_end t s.0 s.1)
+pub some_step : (t : Time) (ts : List Symbol) → HasNo kind.RightBracket ts → parse_step t ts ≡ (parse_time ts then λ s. parse_step_end t s.0 s.1)
 some_step t (punct kind.RightBracket ∷ ts) none = absurd (none refl)
 some_step t ts none = refl
 
@@ -75,7 +77,7 @@ number_fails e ts us k t front start end fails =
 abbrev with_time : Signed → Time × List Symbol → Read (Signed × Time)
 with_time s u = Ok ((s, u.0), u.1)
 
-time_then : {B : Type 0} (r : Read Signed) (f : Signed → Time → List Symbol → Result B Stop)
+pub time_then : {B : Type 0} (r : Read Signed) (f : Signed → Time → List Symbol → Result B Stop)
     → (r then λ s. parse_time s.1 then λ u. f s.0 u.0 u.1) ≡ ((r then λ s. parse_time s.1 then with_time s.0) then λ x. f x.0.0 x.0.1 x.1)
 time_then (Ok s) f = sym (then_then (parse_time s.1) (with_time s.0) (λ x. f x.0.0 x.0.1 x.1))
 time_then (Err e) f = refl
@@ -86,7 +88,7 @@ offset_fails e t ts us front fails =
     fails_same e _ _ (ap parse_postfix front ∙ time_then (eat_sign us) (λ s u rest. Ok (Some (offset t s u), rest))) (fails_then e (parse_offset us) (λ x. Ok (Some (offset t x.0.0 x.0.1), x.1)) fails)
 
 -- a number after `@` was read
-pub number_held : (ts us rest : List Symbol) (k : TokenKind) (t : Text) (seconds : Result Number build_errors.BuildError) (value : Result code.Postfix build_errors.BuildError) (held : ParsedPostfix)
+pub number_held : (ts us rest : List Symbol) (k : TokenKind) (t : Text) (seconds : Result Number (Box build_errors.BuildError Global)) (value : Result code.Postfix (Box build_errors.BuildError Global)) (held : ParsedPostfix)
     → ts ≡ symbol k t ∷ us → ¬ (k ≡ kind.Start) → ¬ (k ≡ kind.End) → ParsesPart (λ (n : Number). n) (λ p. signed_number p.0 p.1) seconds rest (parse_signed_number ts)
     → view_result change_of value ≡ (view_result (λ (n : Number). n) seconds then λ n. at_fault (at_of_number n) then λ m. Ok (to_moment m))
     → view_result change_of held.value ≡ view_result change_of value → held.added_height ≡ 0 → ParsesPostfix held rest (parse_at_modifier ts)

@@ -1,5 +1,7 @@
 -- Errors of building, as plain data (docs/reference/grammar.md, "Building").
 use Rattle.std.specs.Prelude.{string_bytes, Result, Ok, Err}
+use Rattle.std.specs.declared.alloc.Global.{Global}
+use Rattle.std.specs.declared.boxed.Box.{Box}
 use Rattle.promql_text.specs.Texts.{Text}
 use Rattle.promql_text.specs.declared.number.NumberFault.{NumberFault}
 use Rattle.promql_text.specs.declared.duration.DurationFault.{DurationFault}
@@ -32,6 +34,6 @@ abbrev pub build_error_of : code.BuildError → BuildError
 build_error_of e = build_fault_of e.fault
 
 -- a value or an error, as plain data
-abbrev pub view_result : {V A : Type 0} → (V → A) → Result V code.BuildError → Result A BuildError
+abbrev pub view_result : {V A : Type 0} → (V → A) → Result V (Box code.BuildError Global) → Result A BuildError
 view_result view (Ok v) = Ok (view v)
-view_result view (Err f) = Err (build_error_of f)
+view_result view (Err f) = Err (build_error_of f.value)

@@ -6,11 +6,9 @@ use Rattle.promql_ast.specs.View.{tree_of, trees_of}
 use Rattle.promql_ast.specs.declared.expr.Expr.{Expr}
 use Rattle.std.specs.declared.alloc.Global.{Global}
 use Rattle.std.specs.declared.boxed.Box.{Box}
-use Rattle.promql_kind.specs.Modifiers.{Clause, Matching}
-use Rattle.promql_kind.specs.ModifierViews.{clause_of, matching_of}
+use Rattle.promql_kind.specs.Modifiers.{Matching}
+use Rattle.promql_kind.specs.ModifierViews.{matching_of}
 use Rattle.promql_kind.specs.declared.bin_modifier.BinModifier.{BinModifier}
-use Rattle.promql_kind.specs.declared.label_modifier.LabelModifier.{LabelModifier}
-use Rattle.promql_grammar.specs.GrammarParts as part
 use Rattle.promql_grammar.specs.GrammarParts.{Modifier}
 use Rattle.promql_grammar.specs.declared.read_error.ReadError.{ReadError}
 use Rattle.promql_grammar.specs.declared.read_error.ReadError.TheVariants.{Memory, Syntax, TooDeep}
@@ -22,7 +20,7 @@ use Rattle.promql_syntax.specs.declared.grammar.parsed.ParsedExpr.{ParsedExpr}
 use Rattle.promql_syntax.specs.Asking.{Asking, Asked, AreAllowed, Ends}
 use Rattle.promql_syntax.specs.Building.{build, build_all}
 use Rattle.promql_syntax.specs.BuildErrors.{BuildError, build_error_of, check, view_result}
-use Rattle.promql_syntax.specs.PartBuilding.{clause_value, modifier_value}
+use Rattle.promql_syntax.specs.PartBuilding.{modifier_value}
 use Rattle.promql_syntax.specs.declared.grammar.build_error.BuildError as code
 
 -- building ends in the result, with answers that are allowed
@@ -99,25 +97,15 @@ ParsesPostfixes n base ts rest result =
 
 -- ---- what waits in a box: nothing, or a value or error
 
-abbrev pub modifier_of : Option (Box (Result BinModifier code.BuildError) Global) → Result (Option Matching) BuildError
+abbrev pub modifier_of : Option (Box (Result BinModifier (Box code.BuildError Global)) Global) → Result (Option Matching) BuildError
 modifier_of None = Ok None
 modifier_of (Some m) = view_result (λ x. Some (matching_of x)) m.value
 
-abbrev pub clause_in : Option (Box (Result LabelModifier code.BuildError) Global) → Result (Option Clause) BuildError
-clause_in None = Ok None
-clause_in (Some c) = view_result (λ x. Some (clause_of x)) c.value
-
 -- a modifier was parsed
-pub record ParsesModifier (boxed : Option (Box (Result BinModifier code.BuildError) Global)) (rest : List Symbol) (read : Read Modifier) : Type 0 where
+pub record ParsesModifier (boxed : Option (Box (Result BinModifier (Box code.BuildError Global)) Global)) (rest : List Symbol) (read : Read Modifier) : Type 0 where
   pub part : Modifier
   pub is : read ≡ Ok (part, rest)
   pub built : modifier_of boxed ≡ modifier_value part
 
-abbrev pub GivesModifier : List Symbol → List Symbol → Result (Option (Box (Result BinModifier code.BuildError) Global)) ReadError → Type 0
+abbrev pub GivesModifier : List Symbol → List Symbol → Result (Option (Box (Result BinModifier (Box code.BuildError Global)) Global)) ReadError → Type 0
 GivesModifier ts rest result = MatchResult result (λ boxed. ParsesModifier boxed rest (parse_modifier ts)) (λ e. Fails (e, rest) (parse_modifier ts))
-
--- a grouping was parsed, or none
-pub record ParsesGrouping (boxed : Option (Box (Result LabelModifier code.BuildError) Global)) (rest : List Symbol) (read : Read part.Clause) : Type 0 where
-  pub part : part.Clause
-  pub is : read ≡ Ok (part, rest)
-  pub built : clause_in boxed ≡ clause_value part

@@ -1,5 +1,7 @@
 -- What the parser's functions for parts return. Private: nothing rests on believing it.
 use Rattle.std.specs.Prelude.{◌≡◌, List, Result, Ok}
+use Rattle.std.specs.declared.alloc.Global.{Global}
+use Rattle.std.specs.declared.boxed.Box.{Box}
 use Rattle.promql_grammar.specs.Symbols.{Symbol}
 use Rattle.promql_grammar.specs.Parsing.{Read}
 use Rattle.promql_syntax.specs.declared.grammar.build_error.BuildError as code
@@ -7,19 +9,19 @@ use Rattle.promql_syntax.specs.Asking.{Asking, Asked, AreAllowed, Ends}
 use Rattle.promql_syntax.specs.BuildErrors.{BuildError, view_result}
 
 -- the value is the end of building, with answers that are allowed
-pub record IsBuiltBy {V A : Type 0} (view : V → A) (value : Result V code.BuildError) (building : Asking A) : Type 0 where
+pub record IsBuiltBy {V A : Type 0} (view : V → A) (value : Result V (Box code.BuildError Global)) (building : Asking A) : Type 0 where
   pub answers : List Asked
   pub allowed : AreAllowed answers
   pub ends : Ends building answers (view_result view value)
 
 -- a part was parsed, these tokens are left, and the value is what it builds
-pub record ParsesPart {V A P : Type 0} (view : V → A) (builds : P → Result A BuildError) (value : Result V code.BuildError) (rest : List Symbol) (read : Read P) : Type 0 where
+pub record ParsesPart {V A P : Type 0} (view : V → A) (builds : P → Result A BuildError) (value : Result V (Box code.BuildError Global)) (rest : List Symbol) (read : Read P) : Type 0 where
   pub part : P
   pub is : read ≡ Ok (part, rest)
   pub built : view_result view value ≡ builds part
 
 -- the same for a part that asks about patterns
-pub record ParsesAskedPart {V A P : Type 0} (view : V → A) (builds : P → Asking A) (value : Result V code.BuildError) (rest : List Symbol) (read : Read P) : Type 0 where
+pub record ParsesAskedPart {V A P : Type 0} (view : V → A) (builds : P → Asking A) (value : Result V (Box code.BuildError Global)) (rest : List Symbol) (read : Read P) : Type 0 where
   pub part : P
   pub is : read ≡ Ok (part, rest)
   pub built : IsBuiltBy view value (builds part)

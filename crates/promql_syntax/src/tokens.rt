@@ -64,10 +64,14 @@ impl<'a> Tokens<'a> {
     }
 
     /// Lexes the next token into the lookahead.
-    #[inline(always)]
+    #[inline(never)]
     fn fill(&mut self)
         ensures { symbols_left self.new ≡ cursor_symbols self.old.rest }
     {
+        if let Some((id, text)) = self.rest.next_if_word() {
+            self.lookahead = Lookahead::Token(token_kind(id), text);
+            return;
+        }
         match self.rest.next() {
             Some((id, text)) => self.lookahead = Lookahead::Token(token_kind(id), text),
             None if self.rest.is_at_fault() => self.lookahead = Lookahead::Fault,
@@ -101,6 +105,7 @@ impl<'a> Tokens<'a> {
     }
 
     /// The first token's kind and text.
+    #[inline(always)]
     pub fn peek(&self) -> Option<(TokenKind, &'a str)>
         ensures { MatchOption result (symbols_left self.now ≡ [])
             (λ x. symbols_left self.now ≡ symbol x.0 x.1.now ∷ drop 1 (symbols_left self.now)) }
@@ -116,9 +121,12 @@ impl<'a> Tokens<'a> {
     pub fn bump(&mut self)
         ensures { symbols_left self.new ≡ drop 1 (symbols_left self.old) }
     {
-        self.index = self.index.saturating_add(1);
+        self.index = self.index.wrapping_add(1);
         match self.lookahead {
-            Lookahead::Token(..) => self.fill(),
+            Lookahead::Token(..) => match self.rest.next_if_single() {
+                Some((id, text)) => self.lookahead = Lookahead::Token(token_kind(id), text),
+                None => self.fill(),
+            },
             Lookahead::Fault | Lookahead::End => self.lookahead = Lookahead::End,
         }
     }
@@ -134,6 +142,7 @@ impl<'a> Tokens<'a> {
     }
 
     /// Takes the first token, if it is of this kind.
+    #[inline(always)]
     pub fn eat(&mut self, kind: TokenKind) -> bool
         ensures gives { MatchBool result (Eats kind (symbols_left self.old) (symbols_left self.new))
             (HasNo kind (symbols_left self.old)) }
@@ -153,6 +162,7 @@ impl<'a> Tokens<'a> {
     /// # Errors
     ///
     /// `Syntax` if there is no token left, or if the first is of another kind.
+    #[inline(always)]
     pub fn expect(&mut self, kind: TokenKind) -> Result<(), ReadError>
         ensures gives { IfOk result (λ _.
             Eats kind (symbols_left self.old) (symbols_left self.new)) }

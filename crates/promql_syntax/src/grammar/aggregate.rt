@@ -1,24 +1,24 @@
 //! The rule `aggregation`.
 
 ghost use Rattle.std.specs.Prelude.{◌+◌, ◌≤◌, length, IfOk, MatchResult, OnOk};
-ghost use Rattle.promql_grammar.specs.Parsing.{parse_aggregate, parse_grouping, parse_expression};
+ghost use Rattle.promql_grammar.specs.Parsing.{parse_aggregate, parse_expression};
 ghost use Rattle.promql_syntax.specs.SymbolsLeft.{symbols_left};
-ghost use Rattle.promql_syntax.specs.ParsesExpr.{Fails, FailsBase, ParsesBase, ParsesGrouping};
+ghost use Rattle.promql_syntax.specs.ParsesExpr.{FailsBase, ParsesBase};
 
 use crate::grammar::atom::parse_selector;
 use crate::grammar::build::build_aggregate;
 use crate::grammar::call::parse_arguments;
 use crate::grammar::grouping::{parse_grouping, starts_grouping};
-use crate::grammar::parsed::{ParsedExpr, Pending};
+use crate::grammar::parsed::ParsedExpr;
 use crate::grammar::place::Extent;
 use crate::parser::MAX_DEPTH;
 use crate::tokens::Tokens;
 use promql_grammar::{ReadError, TokenKind};
-use promql_kind::LabelModifier;
 use promql_token::TokenId;
 use std::alloc::Global;
 
 /// Parses an aggregation, or a selector of that name, after the aggregator.
+#[inline(always)]
 #[cycle(parser)]
 pub fn parse_aggregate(
     alloc: Global,
@@ -42,36 +42,16 @@ pub fn parse_aggregate(
 {
     if tokens.eat(TokenKind::LeftParen) {
         let args = parse_arguments(alloc, max_height, tokens)?;
-        let grouping = parse_boxed_grouping(alloc, tokens)?;
+        let grouping = parse_grouping(alloc, tokens)?;
         let extent = Extent::atom(start, tokens.index());
         return Ok(build_aggregate(alloc, op, grouping, args, &extent)?);
     }
     if !starts_grouping(tokens) {
         return parse_selector(alloc, TokenKind::Aggregator(op), name, start, tokens);
     }
-    let grouping = parse_boxed_grouping(alloc, tokens)?;
+    let grouping = parse_grouping(alloc, tokens)?;
     tokens.expect(TokenKind::LeftParen)?;
     let args = parse_arguments(alloc, max_height, tokens)?;
     let extent = Extent::atom(start, tokens.index());
     Ok(build_aggregate(alloc, op, grouping, args, &extent)?)
-}
-
-/// Parses a grouping, if there is one, into a box: it may wait for the arguments.
-#[inline(never)]
-fn parse_boxed_grouping(
-    alloc: Global,
-    tokens: &mut Tokens<'_>,
-) -> Result<Pending<LabelModifier>, ReadError>
-    ensures gives { MatchResult result
-        (λ held. ParsesGrouping held (symbols_left tokens.new)
-        (parse_grouping (symbols_left tokens.old)))
-        (λ e. Fails (e, symbols_left tokens.new) (parse_grouping (symbols_left tokens.old))) }
-    ensures short { OnOk result
-        (length (symbols_left tokens.new) ≤ length (symbols_left tokens.old)) }
-{
-    match parse_grouping(alloc, tokens)? {
-        Ok(None) => Ok(None),
-        Ok(Some(grouping)) => Ok(Some(Box::new(alloc, Ok(grouping))?)),
-        Err(error) => Ok(Some(Box::new(alloc, Err(error))?)),
-    }
 }

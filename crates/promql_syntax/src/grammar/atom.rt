@@ -88,7 +88,7 @@ fn parse_named(
 }
 
 /// Parses a selector, after its name, whose first token has the index `start`.
-#[inline(never)]
+#[inline(always)]
 pub fn parse_selector(
     alloc: Global,
     kind: TokenKind,

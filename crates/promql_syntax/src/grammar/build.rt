@@ -11,7 +11,7 @@ ghost use Rattle.promql_grammar.specs.GrammarParts as part;
 ghost use Rattle.promql_grammar.specs.Results.{◌then◌};
 ghost use Rattle.promql_grammar.specs.declared.token_kinds.TokenKind as kinds;
 ghost use Rattle.promql_syntax.specs.BuildErrors.{build_error_of, view_result};
-ghost use Rattle.promql_syntax.specs.ParsesExpr.{AreArgsOf, EndsIn, IsExprOf, tree_result, clause_in, append_derivation, modifier_of, outcome};
+ghost use Rattle.promql_syntax.specs.ParsesExpr.{AreArgsOf, EndsIn, IsExprOf, tree_result, append_derivation, modifier_of, outcome};
 ghost use Rattle.promql_syntax.specs.PartBuilding.{clause_value, modifier_value};
 ghost use Rattle.promql_kind.specs.ModifierViews.{clause_of};
 ghost use Rattle.promql_syntax.specs.Asking.{◌giving◌, known};
@@ -43,19 +43,7 @@ pub fn parsed_node(expr: Box<Expr>, height: usize) -> ParsedExpr
 }
 
 /// An error in place of a node.
-pub fn parsed_error(
-    alloc: Global,
-    error: BuildError,
-    height: usize,
-) -> Result<ParsedExpr, AllocError>
-    ensures value { IfOk result (λ parsed. tree_result parsed ≡ Err (build_error_of error)) }
-    ensures tall { IfOk result (λ parsed. parsed.height ≡ height) }
-{
-    Ok(part_error(Box::new(alloc, error)?, height))
-}
-
-/// The error of a part, in place of the node that the part belongs to.
-fn part_error(error: Box<BuildError>, height: usize) -> ParsedExpr
+pub fn parsed_error(error: Box<BuildError>, height: usize) -> ParsedExpr
     ensures value { tree_result result ≡ Err (build_error_of error.value) }
     ensures tall { result.height ≡ height }
 {
@@ -76,11 +64,8 @@ fn check_error(
         (fault_of fault))) }
     ensures tall { IfOk result (λ parsed. parsed.height ≡ height) }
 {
-    let error = BuildError {
-        fault: BuildFault::Check(fault),
-        place,
-    };
-    parsed_error(alloc, error, height)
+    let error = BuildError::boxed(alloc, BuildFault::Check(fault), place)?;
+    Ok(parsed_error(error, height))
 }
 
 /// A node that a postfix changed in its box, if nothing was against it.
@@ -127,6 +112,7 @@ pub fn check_node(
 }
 
 /// The result of a builder, if no check of it fails.
+#[inline(always)]
 fn check_result(
     alloc: Global,
     built: Result<Expr, CheckError>,
@@ -162,7 +148,7 @@ pub fn build_paren(alloc: Global, inner: ParsedExpr) -> Result<ParsedExpr, Alloc
             let expr = Box::new(alloc, Expr::Paren(ParenExpr { expr }))?;
             Ok(parsed_node(expr, height))
         }
-        Err(error) => Ok(part_error(error, height)),
+        Err(error) => Ok(parsed_error(error, height)),
     }
 }
 
@@ -189,12 +175,12 @@ pub fn build_unary(
             let expr = Box::into_inner(expr);
             check_result(alloc, Expr::new_unary_expr(alloc, expr), height, extent)
         }
-        Err(error) => Ok(part_error(error, height)),
+        Err(error) => Ok(parsed_error(error, height)),
     }
 }
 
 /// Builds a binary operator.
-#[inline(never)]
+#[inline(always)]
 pub fn build_binary(
     alloc: Global,
     op: TokenId,
@@ -222,11 +208,11 @@ pub fn build_binary(
     let height = left_height.max(right_height) + 1;
     let lhs = match left {
         Ok(expr) => expr,
-        Err(error) => return Ok(part_error(error, height)),
+        Err(error) => return Ok(parsed_error(error, height)),
     };
     let rhs = match right {
         Ok(expr) => expr,
-        Err(error) => return Ok(part_error(error, height)),
+        Err(error) => return Ok(parsed_error(error, height)),
     };
     let op = TokenType::new(op);
     match modifier {
@@ -252,7 +238,7 @@ fn build_modified_binary(
     op: TokenType,
     lhs: Box<Expr>,
     rhs: Box<Expr>,
-    modifier: Box<Result<BinModifier, BuildError>>,
+    modifier: Box<Result<BinModifier, Box<BuildError>>>,
     height: usize,
     extent: &Extent,
 ) -> Result<ParsedExpr, AllocError>
@@ -274,7 +260,7 @@ fn build_modified_binary(
             let expr = Box::new(alloc, Expr::Binary(node))?;
             check_node(alloc, expr, height, extent)
         }
-        Err(error) => parsed_error(alloc, error, height),
+        Err(error) => Ok(parsed_error(error, height)),
     }
 }
 
@@ -295,20 +281,18 @@ pub fn build_call(
     let height = height + 1;
     let args = match value {
         Ok(args) => args,
-        Err(error) => return Ok(part_error(error, height)),
+        Err(error) => return Ok(parsed_error(error, height)),
     };
-    match get_function(alloc, name)? {
+    match get_function(name) {
         Some(func) => {
             let expr = Box::new(alloc, Expr::new_call(func, args))?;
             check_node(alloc, expr, height, extent)
         }
         None => {
             let name = String::from_str(alloc, name)?;
-            let error = BuildError {
-                fault: BuildFault::UnknownFunction(name),
-                place: Place::token(extent.start),
-            };
-            parsed_error(alloc, error, height)
+            let fault = BuildFault::UnknownFunction(name);
+            let error = BuildError::boxed(alloc, fault, Place::token(extent.start))?;
+            Ok(parsed_error(error, height))
         }
     }
 }
@@ -318,14 +302,14 @@ pub fn build_call(
 pub fn build_aggregate(
     alloc: Global,
     op: TokenId,
-    clause: Pending<LabelModifier>,
+    clause: Result<Option<LabelModifier>, Box<BuildError>>,
     args: ParsedArgs,
     extent: &Extent,
 ) -> Result<ParsedExpr, AllocError>
     requires { args.height ≤ MAX_DEPTH }
     ensures built { IfOk result (λ parsed. (text : List ℕ) (c : part.Clause)
         (ds : grammar.Arguments)
-        → clause_in clause ≡ clause_value c → AreArgsOf args ds
+        → view_result (option_map clause_of) clause ≡ clause_value c → AreArgsOf args ds
         → IsExprOf parsed (grammar.aggregate op text c ds)) }
     ensures low { IfOk result (λ parsed. parsed.height ≡ args.height + 1) }
 {
@@ -333,22 +317,15 @@ pub fn build_aggregate(
     let height = height + 1;
     let args = match value {
         Ok(args) => args,
-        Err(error) => return Ok(part_error(error, height)),
+        Err(error) => return Ok(parsed_error(error, height)),
     };
-    match unbox_grouping(clause) {
+    match clause {
         Ok(clause) => {
             let built = Expr::new_aggregate_expr(alloc, op, clause, args);
             check_result(alloc, built, height, extent)
         }
-        Err(error) => parsed_error(alloc, error, height),
+        Err(error) => Ok(parsed_error(error, height)),
     }
-}
-
-/// The grouping out of its box.
-fn unbox_grouping(clause: Pending<LabelModifier>) -> Result<Option<LabelModifier>, BuildError>
-    ensures { view_result (option_map clause_of) result ≡ clause_in clause }
-{
-    clause.map(Box::into_inner).transpose()
 }
 
 /// No arguments.
@@ -363,7 +340,7 @@ pub fn empty_arguments(alloc: Global) -> ParsedArgs
 }
 
 /// The arguments with one more.
-#[inline(never)]
+#[inline(always)]
 pub fn append_argument(args: ParsedArgs, parsed: ParsedExpr) -> Result<ParsedArgs, AllocError>
     ensures built { IfOk result (λ more. (ds : grammar.Arguments) (d : grammar.Derivation)
         → AreArgsOf args ds → IsExprOf parsed d → AreArgsOf more (append_derivation ds d)) }
@@ -420,7 +397,7 @@ pub fn build_postfix(
     let height = height + added_height;
     match value {
         Ok(expr) => apply_postfix(alloc, expr, postfix, height, extent),
-        Err(error) => Ok(part_error(error, height)),
+        Err(error) => Ok(parsed_error(error, height)),
     }
 }
 
@@ -428,7 +405,7 @@ pub fn build_postfix(
 fn apply_postfix(
     alloc: Global,
     expr: Box<Expr>,
-    postfix: Result<Postfix, BuildError>,
+    postfix: Result<Postfix, Box<BuildError>>,
     height: usize,
     extent: &Extent,
 ) -> Result<ParsedExpr, AllocError>
@@ -465,6 +442,6 @@ fn apply_postfix(
             let change = expr.set_mode(mode);
             changed_node(alloc, expr, change, height, extent)
         }
-        Err(error) => parsed_error(alloc, error, height),
+        Err(error) => Ok(parsed_error(error, height)),
     }
 }

@@ -31,11 +31,9 @@ pub fn build_number(alloc: Global, text: &str, index: usize) -> Result<ParsedExp
             Ok(parsed_node(expr, 1))
         }
         Err(fault) => {
-            let error = BuildError {
-                fault: BuildFault::Number(fault),
-                place: Place::token(index),
-            };
-            parsed_error(alloc, error, 1)
+            let fault = BuildFault::Number(fault);
+            let error = BuildError::boxed(alloc, fault, Place::token(index))?;
+            Ok(parsed_error(error, 1))
         }
     }
 }
@@ -46,12 +44,12 @@ pub fn build_duration(alloc: Global, text: &str, index: usize) -> Result<ParsedE
     ensures built { IfOk result (λ parsed. IsExprOf parsed (grammar.duration text.now)) }
     ensures low { IfOk result (λ parsed. parsed.height ≡ 1) }
 {
-    match duration_value(text, index) {
+    match duration_value(alloc, text, index)? {
         Ok(duration) => {
             let expr = Box::new(alloc, Expr::from(Number::of_duration(&duration)))?;
             Ok(parsed_node(expr, 1))
         }
-        Err(error) => parsed_error(alloc, error, 1),
+        Err(error) => Ok(parsed_error(error, 1)),
     }
 }
 
@@ -66,7 +64,7 @@ pub fn build_string(alloc: Global, text: &str, index: usize) -> Result<ParsedExp
             let expr = Box::new(alloc, Expr::from(val))?;
             Ok(parsed_node(expr, 1))
         }
-        Err(error) => parsed_error(alloc, error, 1),
+        Err(error) => Ok(parsed_error(error, 1)),
     }
 }
 
@@ -86,7 +84,7 @@ pub fn build_name(alloc: Global, name: &str) -> Result<ParsedExpr, AllocError>
 pub fn build_selector(
     alloc: Global,
     name: &str,
-    matchers: Result<Matchers, BuildError>,
+    matchers: Result<Matchers, Box<BuildError>>,
     extent: &Extent,
 ) -> Result<ParsedExpr, AllocError>
     ensures built { IfOk result (λ parsed. (kind : kinds.TokenKind) (braces : part.Braces)
@@ -100,14 +98,14 @@ pub fn build_selector(
             let expr = Box::new(alloc, Expr::new_vector_selector(Some(name), matchers))?;
             check_node(alloc, expr, 1, extent)
         }
-        Err(error) => parsed_error(alloc, error, 1),
+        Err(error) => Ok(parsed_error(error, 1)),
     }
 }
 
 /// Builds a selector without a name.
 pub fn build_braces(
     alloc: Global,
-    matchers: Result<Matchers, BuildError>,
+    matchers: Result<Matchers, Box<BuildError>>,
     extent: &Extent,
 ) -> Result<ParsedExpr, AllocError>
     ensures built { IfOk result (λ parsed. (braces : part.Braces)
@@ -120,6 +118,6 @@ pub fn build_braces(
             let expr = Box::new(alloc, Expr::new_vector_selector(None, matchers))?;
             check_node(alloc, expr, 1, extent)
         }
-        Err(error) => parsed_error(alloc, error, 1),
+        Err(error) => Ok(parsed_error(error, 1)),
     }
 }

@@ -224,7 +224,7 @@ fn parse_some_postfixes(
 {
     let mut parsed = base;
     let mut postfix_start = tokens.index();
-    while let Some(postfix) = parse_postfix(tokens)? {
+    while let Some(postfix) = parse_postfix(alloc, tokens)? {
         if max_height < parsed.height + postfix.added_height {
             return Err(ReadError::TooDeep);
         }

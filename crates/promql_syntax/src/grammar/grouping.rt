@@ -29,7 +29,8 @@ pub fn starts_grouping(tokens: &Tokens<'_>) -> bool
     matches!(tokens.peek(), Some((TokenKind::By | TokenKind::Without, _)))
 }
 
-/// Parses a grouping, if there is one.
+/// Parses a grouping, if there is one. Its frame is kept out of those of aggregations.
+#[inline(never)]
 pub fn parse_grouping(alloc: Global, tokens: &mut Tokens<'_>) -> Parsed<Option<LabelModifier>>
     ensures gives { MatchResult result
         (λ value. ParsesPart (option_map clause_of) clause_value value (symbols_left tokens.new)
@@ -57,7 +58,9 @@ pub fn parse_grouping(alloc: Global, tokens: &mut Tokens<'_>) -> Parsed<Option<L
 }
 
 /// The grouping that keeps these labels.
-fn build_by(labels: Result<Labels, BuildError>) -> Result<Option<LabelModifier>, BuildError>
+fn build_by(
+    labels: Result<Labels, Box<BuildError>>,
+) -> Result<Option<LabelModifier>, Box<BuildError>>
     ensures { view_result (option_map clause_of) result
         ≡ view_result (λ ls. Some (including (labels_of ls))) labels }
 {
@@ -65,7 +68,9 @@ fn build_by(labels: Result<Labels, BuildError>) -> Result<Option<LabelModifier>,
 }
 
 /// The grouping that drops these labels.
-fn build_without(labels: Result<Labels, BuildError>) -> Result<Option<LabelModifier>, BuildError>
+fn build_without(
+    labels: Result<Labels, Box<BuildError>>,
+) -> Result<Option<LabelModifier>, Box<BuildError>>
     ensures { view_result (option_map clause_of) result
         ≡ view_result (λ ls. Some (excluding (labels_of ls))) labels }
 {

@@ -94,7 +94,7 @@ fn parse_label_end(tokens: &mut Tokens<'_>) -> Result<bool, ReadError>
 /// The labels with one more, if there is no error yet.
 fn append_label(
     alloc: Global,
-    labels: Result<Labels, BuildError>,
+    labels: Result<Labels, Box<BuildError>>,
     kind: TokenKind,
     text: &str,
     index: usize,

@@ -60,7 +60,7 @@ pub fn parse_modifier(alloc: Global, tokens: &mut Tokens<'_>) -> Parsed<Option<B
 {
     let return_bool = eat_bool(tokens);
     let matching = parse_matching(alloc, tokens)?;
-    let fills = parse_fills(tokens)?;
+    let fills = parse_fills(alloc, tokens)?;
     Ok(build_modifier(return_bool, matching, fills))
 }
 
@@ -112,9 +112,9 @@ fn no_matching() -> Matching
 }
 
 fn build_on(
-    labels: Result<Labels, BuildError>,
-    card: Result<VectorMatchCardinality, BuildError>,
-) -> Result<Matching, BuildError>
+    labels: Result<Labels, Box<BuildError>>,
+    card: Result<VectorMatchCardinality, Box<BuildError>>,
+) -> Result<Matching, Box<BuildError>>
     ensures { view_result matching_parts result ≡ (view_result labels_of labels then
         λ ls. view_result cardinality_of card then λ c. Ok (c, Some (spec.including ls))) }
 {
@@ -126,9 +126,9 @@ fn build_on(
 }
 
 fn build_ignoring(
-    labels: Result<Labels, BuildError>,
-    card: Result<VectorMatchCardinality, BuildError>,
-) -> Result<Matching, BuildError>
+    labels: Result<Labels, Box<BuildError>>,
+    card: Result<VectorMatchCardinality, Box<BuildError>>,
+) -> Result<Matching, Box<BuildError>>
     ensures { view_result matching_parts result ≡ (view_result labels_of labels then
         λ ls. view_result cardinality_of card then λ c. Ok (c, Some (spec.excluding ls))) }
 {
@@ -167,8 +167,8 @@ fn parse_group(alloc: Global, tokens: &mut Tokens<'_>) -> Parsed<VectorMatchCard
 }
 
 fn build_group_left(
-    labels: Result<Labels, BuildError>,
-) -> Result<VectorMatchCardinality, BuildError>
+    labels: Result<Labels, Box<BuildError>>,
+) -> Result<VectorMatchCardinality, Box<BuildError>>
     ensures { view_result cardinality_of result
         ≡ (view_result labels_of labels then λ ls. Ok (spec.many_to_one ls)) }
 {
@@ -176,8 +176,8 @@ fn build_group_left(
 }
 
 fn build_group_right(
-    labels: Result<Labels, BuildError>,
-) -> Result<VectorMatchCardinality, BuildError>
+    labels: Result<Labels, Box<BuildError>>,
+) -> Result<VectorMatchCardinality, Box<BuildError>>
     ensures { view_result cardinality_of result
         ≡ (view_result labels_of labels then λ ls. Ok (spec.one_to_many ls)) }
 {
@@ -202,7 +202,7 @@ fn parse_group_labels(alloc: Global, tokens: &mut Tokens<'_>) -> Parsed<Labels>
 }
 
 /// Parses fill values, if there are any.
-fn parse_fills(tokens: &mut Tokens<'_>) -> Parsed<VectorMatchFillValues>
+fn parse_fills(alloc: Global, tokens: &mut Tokens<'_>) -> Parsed<VectorMatchFillValues>
     ensures gives { MatchResult result
         (λ value. ParsesPart fills_of fills_value value (symbols_left tokens.new)
         (parsing.parse_fills (symbols_left tokens.old)))
@@ -216,18 +216,18 @@ fn parse_fills(tokens: &mut Tokens<'_>) -> Parsed<VectorMatchFillValues>
     match kind {
         TokenKind::Fill => {
             tokens.bump();
-            let value = parse_fill_value(tokens)?;
+            let value = parse_fill_value(alloc, tokens)?;
             Ok(build_fill(value))
         }
         TokenKind::FillLeft => {
             tokens.bump();
-            let left = parse_fill_value(tokens)?;
-            parse_fill_right(tokens, left)
+            let left = parse_fill_value(alloc, tokens)?;
+            parse_fill_right(alloc, tokens, left)
         }
         TokenKind::FillRight => {
             tokens.bump();
-            let right = parse_fill_value(tokens)?;
-            parse_fill_left(tokens, right)
+            let right = parse_fill_value(alloc, tokens)?;
+            parse_fill_left(alloc, tokens, right)
         }
         _ => Ok(Ok(VectorMatchFillValues::default())),
     }
@@ -235,8 +235,9 @@ fn parse_fills(tokens: &mut Tokens<'_>) -> Parsed<VectorMatchFillValues>
 
 /// Parses `fill_right` after `fill_left`, if it is there.
 fn parse_fill_right(
+    alloc: Global,
     tokens: &mut Tokens<'_>,
-    left: Result<Number, BuildError>,
+    left: Result<Number, Box<BuildError>>,
 ) -> Parsed<VectorMatchFillValues>
     ensures gives { (t : Text) (v : part.FillValue)
         → view_result (λ (n : numbers.Number). n) left ≡ fill_value v → MatchResult result
@@ -249,14 +250,15 @@ fn parse_fill_right(
     if !tokens.eat(TokenKind::FillRight) {
         return Ok(build_fill_left(left));
     }
-    let right = parse_fill_value(tokens)?;
+    let right = parse_fill_value(alloc, tokens)?;
     Ok(build_fill_left_right(left, right))
 }
 
 /// Parses `fill_left` after `fill_right`, if it is there.
 fn parse_fill_left(
+    alloc: Global,
     tokens: &mut Tokens<'_>,
-    right: Result<Number, BuildError>,
+    right: Result<Number, Box<BuildError>>,
 ) -> Parsed<VectorMatchFillValues>
     ensures gives { (t : Text) (v : part.FillValue)
         → view_result (λ (n : numbers.Number). n) right ≡ fill_value v → MatchResult result
@@ -269,12 +271,12 @@ fn parse_fill_left(
     if !tokens.eat(TokenKind::FillLeft) {
         return Ok(build_fill_right(right));
     }
-    let left = parse_fill_value(tokens)?;
+    let left = parse_fill_value(alloc, tokens)?;
     Ok(build_fill_right_left(right, left))
 }
 
 /// Parses a fill value: a number with its sign, in parentheses.
-fn parse_fill_value(tokens: &mut Tokens<'_>) -> Parsed<Number>
+fn parse_fill_value(alloc: Global, tokens: &mut Tokens<'_>) -> Parsed<Number>
     ensures gives { MatchResult result
         (λ value. ParsesPart (λ (n : numbers.Number). n) fill_value value (symbols_left tokens.new)
         (parsing.parse_fill_value (symbols_left tokens.old)))
@@ -283,12 +285,14 @@ fn parse_fill_value(tokens: &mut Tokens<'_>) -> Parsed<Number>
         (length (symbols_left tokens.new) < length (symbols_left tokens.old)) }
 {
     tokens.expect(TokenKind::LeftParen)?;
-    let number = parse_signed_number(tokens)?;
+    let number = parse_signed_number(alloc, tokens)?;
     tokens.expect(TokenKind::RightParen)?;
     Ok(number)
 }
 
-fn build_fill(value: Result<Number, BuildError>) -> Result<VectorMatchFillValues, BuildError>
+fn build_fill(
+    value: Result<Number, Box<BuildError>>,
+) -> Result<VectorMatchFillValues, Box<BuildError>>
     ensures { view_result fills_of result
         ≡ (view_result (λ (n : numbers.Number). n) value then λ n. Ok (spec.fills (Some n)
         (Some n))) }
@@ -303,14 +307,18 @@ fn fill_both_sides(value: &Number) -> VectorMatchFillValues
     VectorMatchFillValues::new(*value, *value)
 }
 
-fn build_fill_left(left: Result<Number, BuildError>) -> Result<VectorMatchFillValues, BuildError>
+fn build_fill_left(
+    left: Result<Number, Box<BuildError>>,
+) -> Result<VectorMatchFillValues, Box<BuildError>>
     ensures { view_result fills_of result
         ≡ (view_result (λ (n : numbers.Number). n) left then λ n. Ok (spec.fills None (Some n))) }
 {
     Ok(VectorMatchFillValues::default().with_lhs(left?))
 }
 
-fn build_fill_right(right: Result<Number, BuildError>) -> Result<VectorMatchFillValues, BuildError>
+fn build_fill_right(
+    right: Result<Number, Box<BuildError>>,
+) -> Result<VectorMatchFillValues, Box<BuildError>>
     ensures { view_result fills_of result
         ≡ (view_result (λ (n : numbers.Number). n) right then λ n. Ok (spec.fills (Some n) None)) }
 {
@@ -319,9 +327,9 @@ fn build_fill_right(right: Result<Number, BuildError>) -> Result<VectorMatchFill
 
 /// Both values; an error of the left one comes first.
 fn build_fill_left_right(
-    left: Result<Number, BuildError>,
-    right: Result<Number, BuildError>,
-) -> Result<VectorMatchFillValues, BuildError>
+    left: Result<Number, Box<BuildError>>,
+    right: Result<Number, Box<BuildError>>,
+) -> Result<VectorMatchFillValues, Box<BuildError>>
     ensures { view_result fills_of result ≡ (view_result (λ (n : numbers.Number). n) left then
         λ n. view_result (λ (n : numbers.Number). n) right then λ m. Ok (spec.fills (Some m)
         (Some n))) }
@@ -332,9 +340,9 @@ fn build_fill_left_right(
 
 /// Both values; an error of the right one comes first.
 fn build_fill_right_left(
-    right: Result<Number, BuildError>,
-    left: Result<Number, BuildError>,
-) -> Result<VectorMatchFillValues, BuildError>
+    right: Result<Number, Box<BuildError>>,
+    left: Result<Number, Box<BuildError>>,
+) -> Result<VectorMatchFillValues, Box<BuildError>>
     ensures { view_result fills_of result ≡ (view_result (λ (n : numbers.Number). n) right then
         λ n. view_result (λ (n : numbers.Number). n) left then λ m. Ok (spec.fills (Some n)
         (Some m))) }
@@ -346,9 +354,9 @@ fn build_fill_right_left(
 /// The modifier of these parts, or `None` if all of them are missing.
 fn build_modifier(
     return_bool: bool,
-    matching: Result<Matching, BuildError>,
-    fills: Result<VectorMatchFillValues, BuildError>,
-) -> Result<Option<BinModifier>, BuildError>
+    matching: Result<Matching, Box<BuildError>>,
+    fills: Result<VectorMatchFillValues, Box<BuildError>>,
+) -> Result<Option<BinModifier>, Box<BuildError>>
     ensures { view_result (option_map matching_of) result ≡
         (view_result matching_parts matching then
         λ m. view_result fills_of fills then λ f. Ok (modifier_of return_bool m f)) }

@@ -5,15 +5,17 @@ use promql_ast::{Expr, FunctionArgs};
 use promql_grammar::ReadError;
 use std::alloc::AllocError;
 
+// An error of building is in a box: most texts have none, and what is returned stays small.
+
 /// What was built of tokens that were read: a value, or the first fault in it, which is held until
 /// all tokens are read, since those after it may be no expression, and that error comes first.
-pub type Parsed<T> = Result<Result<T, BuildError>, ReadError>;
+pub type Parsed<T> = Result<Result<T, Box<BuildError>>, ReadError>;
 
 /// What is built of tokens that were read before. Only an allocation can fail.
-pub type Built<T> = Result<Result<T, BuildError>, AllocError>;
+pub type Built<T> = Result<Result<T, Box<BuildError>>, AllocError>;
 
 /// A part of an expression, if it has one, that waits in a box for the rest of the expression.
-pub type Pending<T> = Option<Box<Result<T, BuildError>>>;
+pub type Pending<T> = Option<Box<Result<T, Box<BuildError>>>>;
 
 // The types below stay small, since the functions that return them call one another at each level
 // of an expression.

@@ -18,12 +18,14 @@ ghost use Rattle.promql_syntax.specs.PartBuilding.{at_fault, time_value};
 ghost use Rattle.promql_syntax.specs.Postfixes.{ParsesPostfix, ParsesOptionalPostfix, starts_postfix, by_shift, change_of, parse_range, subquery_change, to_moment, to_range};
 
 use crate::grammar::build_error::{BuildError, BuildFault};
+use crate::grammar::parsed::Built;
 use crate::grammar::place::Place;
 use crate::grammar::time::{parse_offset, parse_signed_number, parse_time};
 use crate::tokens::Tokens;
 use promql_ast::{AtModifier, Offset, RangeMode};
 use promql_grammar::{ReadError, TokenKind};
 use promql_text::Number;
+use std::alloc::Global;
 use std::time::Duration;
 
 /// What follows a base.
@@ -47,7 +49,7 @@ pub enum Postfix {
 /// What was built of a postfix, and what it adds to the height of its base.
 #[derive(Drop)]
 pub struct ParsedPostfix {
-    pub value: Result<Postfix, BuildError>,
+    pub value: Result<Postfix, Box<BuildError>>,
     pub added_height: usize,
 }
 
@@ -66,7 +68,10 @@ pub fn starts_postfix(kind: TokenKind) -> bool
 }
 
 /// Parses a postfix, if there is one.
-pub fn parse_postfix(tokens: &mut Tokens<'_>) -> Result<Option<ParsedPostfix>, ReadError>
+pub fn parse_postfix(
+    alloc: Global,
+    tokens: &mut Tokens<'_>,
+) -> Result<Option<ParsedPostfix>, ReadError>
     ensures gives { MatchResult result
         (λ found. ParsesOptionalPostfix found (symbols_left tokens.new)
         (parsing.parse_postfix (symbols_left tokens.old)))
@@ -82,15 +87,15 @@ pub fn parse_postfix(tokens: &mut Tokens<'_>) -> Result<Option<ParsedPostfix>, R
     match kind {
         TokenKind::LeftBracket => {
             tokens.bump();
-            Ok(Some(parse_range(tokens)?))
+            Ok(Some(parse_range(alloc, tokens)?))
         }
         TokenKind::At => {
             tokens.bump();
-            Ok(Some(parse_at_modifier(tokens)?))
+            Ok(Some(parse_at_modifier(alloc, tokens)?))
         }
         TokenKind::Offset => {
             tokens.bump();
-            let offset = parse_offset(tokens)?;
+            let offset = parse_offset(alloc, tokens)?;
             Ok(Some(same_height(build_offset(offset))))
         }
         TokenKind::Smoothed => {
@@ -106,8 +111,8 @@ pub fn parse_postfix(tokens: &mut Tokens<'_>) -> Result<Option<ParsedPostfix>, R
 }
 
 /// Parses a range or the two times of a subquery, after the opening bracket.
-#[inline(never)]
-fn parse_range(tokens: &mut Tokens<'_>) -> Result<ParsedPostfix, ReadError>
+#[inline(always)]
+fn parse_range(alloc: Global, tokens: &mut Tokens<'_>) -> Result<ParsedPostfix, ReadError>
     ensures gives { MatchResult result
         (λ held. ParsesPostfix held (symbols_left tokens.new)
         (parse_range (symbols_left tokens.old)))
@@ -115,7 +120,7 @@ fn parse_range(tokens: &mut Tokens<'_>) -> Result<ParsedPostfix, ReadError>
     ensures short { OnOk result
         (length (symbols_left tokens.new) < length (symbols_left tokens.old)) }
 {
-    let range = parse_time(tokens)?;
+    let range = parse_time(alloc, tokens)?;
     let Some((kind, _)) = tokens.peek() else {
         return Err(ReadError::Syntax);
     };
@@ -126,7 +131,7 @@ fn parse_range(tokens: &mut Tokens<'_>) -> Result<ParsedPostfix, ReadError>
         }
         TokenKind::Colon => {
             tokens.bump();
-            parse_step(tokens, range)
+            parse_step(alloc, tokens, range)
         }
         _ => Err(ReadError::Syntax),
     }
@@ -134,8 +139,9 @@ fn parse_range(tokens: &mut Tokens<'_>) -> Result<ParsedPostfix, ReadError>
 
 /// Parses the step of a subquery, if it has one, and the closing bracket.
 fn parse_step(
+    alloc: Global,
     tokens: &mut Tokens<'_>,
-    range: Result<Duration, BuildError>,
+    range: Result<Duration, Box<BuildError>>,
 ) -> Result<ParsedPostfix, ReadError>
     ensures gives { (t : part.Time) → view_result as_nanos range ≡ time_value t → MatchResult result
         (λ held. ParsesPostfix held (symbols_left tokens.new)
@@ -147,14 +153,14 @@ fn parse_step(
     if tokens.eat(TokenKind::RightBracket) {
         return Ok(subquery_postfix(range, None));
     }
-    let step = parse_time(tokens)?;
+    let step = parse_time(alloc, tokens)?;
     tokens.expect(TokenKind::RightBracket)?;
     Ok(subquery_postfix(range, Some(step)))
 }
 
 /// Parses what follows `@`.
 #[inline(never)]
-fn parse_at_modifier(tokens: &mut Tokens<'_>) -> Result<ParsedPostfix, ReadError>
+fn parse_at_modifier(alloc: Global, tokens: &mut Tokens<'_>) -> Result<ParsedPostfix, ReadError>
     ensures gives { MatchResult result
         (λ held. ParsesPostfix held (symbols_left tokens.new)
         (parsing.parse_at_modifier (symbols_left tokens.old)))
@@ -176,9 +182,9 @@ fn parse_at_modifier(tokens: &mut Tokens<'_>) -> Result<ParsedPostfix, ReadError
         }
         _ => {
             let start = tokens.index();
-            let seconds = parse_signed_number(tokens)?;
+            let seconds = parse_signed_number(alloc, tokens)?;
             let place = Place::tokens(start, tokens.index());
-            Ok(same_height(build_at_modifier(seconds, place)))
+            Ok(same_height(build_at_modifier(alloc, seconds, place)?))
         }
     }
 }
@@ -199,7 +205,7 @@ fn parse_at_bound(tokens: &mut Tokens<'_>, at: AtModifier) -> Result<ParsedPostf
 }
 
 /// A postfix that adds nothing to the height of its base.
-fn same_height(value: Result<Postfix, BuildError>) -> ParsedPostfix
+fn same_height(value: Result<Postfix, Box<BuildError>>) -> ParsedPostfix
     ensures value { view_result change_of result.value ≡ view_result change_of value }
     ensures height { result.added_height ≡ 0 }
 {
@@ -209,14 +215,14 @@ fn same_height(value: Result<Postfix, BuildError>) -> ParsedPostfix
     }
 }
 
-fn build_range(range: Result<Duration, BuildError>) -> Result<Postfix, BuildError>
+fn build_range(range: Result<Duration, Box<BuildError>>) -> Result<Postfix, Box<BuildError>>
     ensures { view_result change_of result ≡ (view_result as_nanos range then λ n. Ok
         (to_range n)) }
 {
     range.map(Postfix::Range)
 }
 
-fn build_offset(offset: Result<Offset, BuildError>) -> Result<Postfix, BuildError>
+fn build_offset(offset: Result<Offset, Box<BuildError>>) -> Result<Postfix, Box<BuildError>>
     ensures { view_result change_of result ≡ (view_result shift_of offset then λ x. Ok
         (by_shift x)) }
 {
@@ -225,24 +231,27 @@ fn build_offset(offset: Result<Offset, BuildError>) -> Result<Postfix, BuildErro
 
 /// The moment of a number of seconds, whose tokens are at this place.
 fn build_at_modifier(
-    seconds: Result<Number, BuildError>,
+    alloc: Global,
+    seconds: Result<Number, Box<BuildError>>,
     place: Place,
-) -> Result<Postfix, BuildError>
-    ensures { view_result change_of result ≡ (view_result (λ (n : numbers.Number). n) seconds then
-        λ n. at_fault (at_of_number n) then λ m. Ok (to_moment m)) }
+) -> Built<Postfix>
+    ensures { IfOk result (λ value. view_result change_of value
+        ≡ (view_result (λ (n : numbers.Number). n) seconds then
+        λ n. at_fault (at_of_number n) then λ m. Ok (to_moment m))) }
 {
-    match AtModifier::try_from(seconds?) {
-        Ok(at) => Ok(Postfix::At(at)),
-        Err(fault) => Err(BuildError {
-            fault: BuildFault::At(fault),
-            place,
-        }),
+    let seconds = match seconds {
+        Ok(seconds) => seconds,
+        Err(error) => return Ok(Err(error)),
+    };
+    match AtModifier::try_from(seconds) {
+        Ok(at) => Ok(Ok(Postfix::At(at))),
+        Err(fault) => Ok(Err(BuildError::boxed(alloc, BuildFault::At(fault), place)?)),
     }
 }
 
 fn subquery_postfix(
-    range: Result<Duration, BuildError>,
-    step: Option<Result<Duration, BuildError>>,
+    range: Result<Duration, Box<BuildError>>,
+    step: Option<Result<Duration, Box<BuildError>>>,
 ) -> ParsedPostfix
     ensures value { view_result change_of result.value ≡ subquery_change
         (view_result as_nanos range)
@@ -256,9 +265,9 @@ fn subquery_postfix(
 }
 
 fn build_subquery(
-    range: Result<Duration, BuildError>,
-    step: Option<Result<Duration, BuildError>>,
-) -> Result<Postfix, BuildError>
+    range: Result<Duration, Box<BuildError>>,
+    step: Option<Result<Duration, Box<BuildError>>>,
+) -> Result<Postfix, Box<BuildError>>
     ensures { view_result change_of result ≡ subquery_change (view_result as_nanos range)
         (option_map (λ s. view_result as_nanos s) step) }
 {

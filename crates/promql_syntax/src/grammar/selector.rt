@@ -107,6 +107,7 @@ fn parse_item<'a>(tokens: &mut Tokens<'a>) -> Result<Item<'a>, ReadError>
 }
 
 /// Parses the value after a matcher's name, whose index is `name_index`, and its operator.
+#[inline(always)]
 fn parse_matcher_value<'a>(
     tokens: &mut Tokens<'a>,
     kind: TokenKind,
@@ -142,6 +143,7 @@ fn parse_matcher_value<'a>(
 }
 
 /// Takes the operator of a matcher, if it is the first token.
+#[inline(always)]
 fn eat_match_operator(tokens: &mut Tokens<'_>) -> Option<MatchOperator>
     ensures gives { ParsesMatchOperator result (symbols_left tokens.new)
         (parsing.parse_match_operator (symbols_left tokens.old)) }
@@ -206,7 +208,7 @@ fn parse_item_end(tokens: &mut Tokens<'_>) -> Result<Option<bool>, ReadError>
 /// Appends a matcher, in a group of its own or not, if there is no error yet.
 fn append_item(
     alloc: Global,
-    matchers: &mut Result<Matchers, BuildError>,
+    matchers: &mut Result<Matchers, Box<BuildError>>,
     by_or: bool,
     item: Item<'_>,
 ) -> Result<(), AllocError>
@@ -276,14 +278,14 @@ fn build_match_op(
 fn build_pattern(alloc: Global, value: &str, index: usize) -> Built<Pattern>
     ensures { IfOk result (λ pattern. MatchResult pattern
         (λ p. Allows value.now (built p))
-        (λ e. (build_error_of e ≡ spec.pattern value.now) × Allows value.now rejected)) }
+        (λ e. (build_error_of e.value ≡ spec.pattern value.now) × Allows value.now rejected)) }
 {
     match Pattern::read(alloc, value) {
         Ok(pattern) => Ok(Ok(pattern)),
-        Err(PatternFault::Refused(value)) => Ok(Err(BuildError {
-            fault: BuildFault::Pattern(value),
-            place: Place::token(index),
-        })),
+        Err(PatternFault::Refused(value)) => {
+            let fault = BuildFault::Pattern(value);
+            Ok(Err(BuildError::boxed(alloc, fault, Place::token(index))?))
+        }
         Err(PatternFault::Memory) => Err(AllocError),
     }
 }

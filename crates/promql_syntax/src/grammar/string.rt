@@ -16,10 +16,10 @@ pub fn string_value(alloc: Global, text: &str, index: usize) -> Built<String>
 {
     match unquote_string(alloc, text) {
         Ok(string) => Ok(Ok(string)),
-        Err(QuoteError::InvalidSyntax) => Ok(Err(BuildError {
-            fault: BuildFault::Quoted,
-            place: Place::token(index),
-        })),
+        Err(QuoteError::InvalidSyntax) => {
+            let place = Place::token(index);
+            Ok(Err(BuildError::boxed(alloc, BuildFault::Quoted, place)?))
+        }
         Err(QuoteError::Memory) => Err(AllocError),
     }
 }

@@ -1,6 +1,6 @@
 //! Numbers, times and their signs.
 
-ghost use Rattle.std.specs.Prelude.{◌≡◌, ◌<◌, ◌≤◌, if◌then◌else◌, length, MatchResult, OnOk};
+ghost use Rattle.std.specs.Prelude.{◌≡◌, ◌<◌, ◌≤◌, if◌then◌else◌, length, IfOk, MatchResult, OnOk};
 ghost use Rattle.std.specs.Duration.{as_nanos};
 ghost use Rattle.promql_text.specs.declared.number.Number as numbers;
 ghost use Rattle.promql_grammar.specs.Parsing as parsing;
@@ -14,13 +14,14 @@ ghost use Rattle.promql_syntax.specs.PartBuilding.{duration_value, number_value,
 ghost use Rattle.promql_syntax.specs.PartTokens.{ParsesSign, minus_sign, parse_offset, parse_signed_number};
 
 use crate::grammar::build_error::{BuildError, BuildFault};
-use crate::grammar::parsed::Parsed;
+use crate::grammar::parsed::{Built, Parsed};
 use crate::grammar::place::Place;
 use crate::tokens::Tokens;
 use promql_ast::Offset;
 use promql_grammar::{ReadError, TokenKind};
 use promql_text::{Number, parse_duration, parse_str_radix};
 use promql_token::ids::{T_ADD, T_SUB};
+use std::alloc::Global;
 use std::time::Duration;
 
 /// Takes the sign of a number, if there is one: whether it is a minus.
@@ -51,7 +52,7 @@ fn minus_sign(kind: TokenKind) -> Option<bool>
 }
 
 /// Parses a number.
-pub fn parse_number(tokens: &mut Tokens<'_>) -> Parsed<Number>
+pub fn parse_number(alloc: Global, tokens: &mut Tokens<'_>) -> Parsed<Number>
     ensures gives { MatchResult result
         (λ value. ParsesPart (λ (n : numbers.Number). n) number_value value
         (symbols_left tokens.new)
@@ -67,14 +68,14 @@ pub fn parse_number(tokens: &mut Tokens<'_>) -> Parsed<Number>
         TokenKind::Number => {
             let index = tokens.index();
             tokens.bump();
-            Ok(number_value(text, index))
+            Ok(number_value(alloc, text, index)?)
         }
         _ => Err(ReadError::Syntax),
     }
 }
 
 /// Parses a number with its sign, if it has one.
-pub fn parse_signed_number(tokens: &mut Tokens<'_>) -> Parsed<Number>
+pub fn parse_signed_number(alloc: Global, tokens: &mut Tokens<'_>) -> Parsed<Number>
     ensures gives { MatchResult result
         (λ value. ParsesPart (λ (n : numbers.Number). n) (λ p. signed_number p.0 p.1) value
         (symbols_left tokens.new) (parse_signed_number (symbols_left tokens.old)))
@@ -83,12 +84,13 @@ pub fn parse_signed_number(tokens: &mut Tokens<'_>) -> Parsed<Number>
         (length (symbols_left tokens.new) < length (symbols_left tokens.old)) }
 {
     let is_minus = eat_sign(tokens);
-    let number = parse_number(tokens)?;
+    let number = parse_number(alloc, tokens)?;
     Ok(apply_sign(is_minus, number))
 }
 
 /// Parses a time: a number of seconds, or a duration.
-pub fn parse_time(tokens: &mut Tokens<'_>) -> Parsed<Duration>
+#[inline(always)]
+pub fn parse_time(alloc: Global, tokens: &mut Tokens<'_>) -> Parsed<Duration>
     ensures gives { MatchResult result
         (λ value. ParsesPart as_nanos time_value value (symbols_left tokens.new)
         (parsing.parse_time (symbols_left tokens.old)))
@@ -103,19 +105,19 @@ pub fn parse_time(tokens: &mut Tokens<'_>) -> Parsed<Duration>
         TokenKind::Number => {
             let index = tokens.index();
             tokens.bump();
-            Ok(duration_value(text, index))
+            Ok(duration_value(alloc, text, index)?)
         }
         TokenKind::Duration => {
             let index = tokens.index();
             tokens.bump();
-            Ok(duration_value(text, index))
+            Ok(duration_value(alloc, text, index)?)
         }
         _ => Err(ReadError::Syntax),
     }
 }
 
 /// Parses the time of an `offset`, with its sign, if it has one.
-pub fn parse_offset(tokens: &mut Tokens<'_>) -> Parsed<Offset>
+pub fn parse_offset(alloc: Global, tokens: &mut Tokens<'_>) -> Parsed<Offset>
     ensures gives { MatchResult result
         (λ value. ParsesPart shift_of (λ p. shift_value p.0 p.1) value (symbols_left tokens.new)
         (parse_offset (symbols_left tokens.old)))
@@ -124,38 +126,43 @@ pub fn parse_offset(tokens: &mut Tokens<'_>) -> Parsed<Offset>
         (length (symbols_left tokens.new) < length (symbols_left tokens.old)) }
 {
     let is_minus = eat_sign(tokens);
-    let duration = parse_time(tokens)?;
+    let duration = parse_time(alloc, tokens)?;
     Ok(signed_offset(is_minus, duration))
 }
 
 /// The value of a number's text, the token with this index.
-pub fn number_value(text: &str, index: usize) -> Result<Number, BuildError>
-    ensures { view_result (λ (n : numbers.Number). n) result ≡ number_value text.now }
+pub fn number_value(alloc: Global, text: &str, index: usize) -> Built<Number>
+    ensures { IfOk result (λ value. view_result (λ (n : numbers.Number). n) value
+        ≡ number_value text.now) }
 {
     match parse_str_radix(text) {
-        Ok(number) => Ok(number),
-        Err(fault) => Err(BuildError {
-            fault: BuildFault::Number(fault),
-            place: Place::token(index),
-        }),
+        Ok(number) => Ok(Ok(number)),
+        Err(fault) => {
+            let fault = BuildFault::Number(fault);
+            Ok(Err(BuildError::boxed(alloc, fault, Place::token(index))?))
+        }
     }
 }
 
 /// The value of a duration's text, the token with this index.
-pub fn duration_value(text: &str, index: usize) -> Result<Duration, BuildError>
-    ensures { view_result as_nanos result ≡ duration_value text.now }
+#[inline(always)]
+pub fn duration_value(alloc: Global, text: &str, index: usize) -> Built<Duration>
+    ensures { IfOk result (λ value. view_result as_nanos value ≡ duration_value text.now) }
 {
     match parse_duration(text) {
-        Ok(duration) => Ok(duration),
-        Err(fault) => Err(BuildError {
-            fault: BuildFault::Duration(fault),
-            place: Place::token(index),
-        }),
+        Ok(duration) => Ok(Ok(duration)),
+        Err(fault) => {
+            let fault = BuildFault::Duration(fault);
+            Ok(Err(BuildError::boxed(alloc, fault, Place::token(index))?))
+        }
     }
 }
 
 /// The number with its sign.
-fn apply_sign(is_minus: bool, number: Result<Number, BuildError>) -> Result<Number, BuildError>
+fn apply_sign(
+    is_minus: bool,
+    number: Result<Number, Box<BuildError>>,
+) -> Result<Number, Box<BuildError>>
     ensures { view_result (λ (n : numbers.Number). n) result
         ≡ view_result (λ n. if is_minus then neg n else n) number }
 {
@@ -166,8 +173,8 @@ fn apply_sign(is_minus: bool, number: Result<Number, BuildError>) -> Result<Numb
 /// How far a time with its sign moves.
 fn signed_offset(
     is_minus: bool,
-    duration: Result<Duration, BuildError>,
-) -> Result<Offset, BuildError>
+    duration: Result<Duration, Box<BuildError>>,
+) -> Result<Offset, Box<BuildError>>
     ensures { view_result shift_of result
         ≡ view_result (λ d. if is_minus then ahead (as_nanos d) else back (as_nanos d)) duration }
 {

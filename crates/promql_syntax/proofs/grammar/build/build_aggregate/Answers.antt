@@ -1,9 +1,12 @@
-use Rattle.std.proofs.Common.{◌≡◌, ◌∙◌, arith, List, ℕ}
+use Rattle.std.proofs.Common.{◌≡◌, ◌∙◌, ap, sym, arith, List, ℕ}
+use Rattle.std.specs.Prelude.{option_map}
 use Rattle.promql_ast.specs.Builds.{aggregate_args}
 use Rattle.promql_ast.specs.View.{trees_of}
+use Rattle.promql_kind.specs.ModifierViews.{clause_of}
 use Rattle.promql_grammar.specs.Grammar as grammar
 use Rattle.promql_grammar.specs.GrammarParts as part
-use Rattle.promql_syntax.specs.ParsesExpr.{IsExprOf, AreArgsOf, clause_in}
+use Rattle.promql_syntax.specs.ParsesExpr.{IsExprOf, AreArgsOf}
+use Rattle.promql_syntax.specs.BuildErrors.{view_result}
 use Rattle.promql_syntax.specs.Asking.{known, ◌giving◌}
 use Rattle.promql_syntax.specs.Building.{build_all, from_checked_verdict}
 use Rattle.promql_syntax.specs.PartBuilding.{clause_value}
@@ -13,19 +16,18 @@ use Rattle.promql_syntax.proofs.grammar.build.build_aggregate.Goals as goal
 
 pub returns-in-Err-clause-built : goal.returns-in-Err-clause-built
 returns-in-Err-clause-built c = λ text cl ds clause args.
-    is_expr_of _ (grammar.aggregate c.args.op text cl ds) _ _ c.part_error.ensures.value c.part_error.ensures.tall (let same = args.tall in omega arith)
+    is_expr_of _ (grammar.aggregate c.args.op text cl ds) _ _ c.parsed_error.ensures.value c.parsed_error.ensures.tall (let same = args.tall in omega arith)
     (then_fault (build_all ds) (λ ts. known (clause_value cl) giving λ m. from_checked_verdict (aggregate_args c.args.op m ts)) _ (with_no_trees c.args.args (build_all ds) c.in-Err.error c.in-Err.is args.built))
 
-pub returns-in-Ok-unbox_grouping-clause-built : goal.returns-in-Ok-unbox_grouping-clause-built
-returns-in-Ok-unbox_grouping-clause-built c =
-    if_ok_both {R = λ parsed. (text : List ℕ) (cl : part.Clause) (ds : grammar.Arguments) → clause_in c.args.clause ≡ clause_value cl → AreArgsOf c.args.args ds → IsExprOf parsed (grammar.aggregate c.args.op text cl ds)} _ c.check_result.ensures.value c.check_result.ensures.tall (λ parsed value tall. λ text cl ds clause args.
+pub returns-in-Ok-clause-clause-built : goal.returns-in-Ok-clause-clause-built
+returns-in-Ok-clause-clause-built c =
+    if_ok_both {R = λ parsed. (text : List ℕ) (cl : part.Clause) (ds : grammar.Arguments) → view_result (option_map clause_of) c.args.clause ≡ clause_value cl → AreArgsOf c.args.args ds → IsExprOf parsed (grammar.aggregate c.args.op text cl ds)} _ c.check_result.ensures.value c.check_result.ensures.tall (λ parsed value tall. λ text cl ds clause args.
     is_expr_of parsed (grammar.aggregate c.args.op text cl ds) _ _ (value _ (gives_or_memory _ _ c.new_aggregate_expr-built.ensures)) tall (let same = args.tall in omega arith)
     (then_value (build_all ds) (λ ts. known (clause_value cl) giving λ m. from_checked_verdict (aggregate_args c.args.op m ts)) (trees_of c.in-Ok.args.args.items) _ (with_trees c.args.args (build_all ds) c.in-Ok.args c.in-Ok.is args.built)
-    (aggregate_ends c.args.op cl _ _ (c.in-Ok-unbox_grouping.ensures ∙ clause))))
+    (aggregate_ends c.args.op cl _ _ (ap (view_result (option_map clause_of)) (sym c.in-Ok-clause.is) ∙ clause))))
 
-pub returns-in-Err-unbox_grouping-clause-built : goal.returns-in-Err-unbox_grouping-clause-built
-returns-in-Err-unbox_grouping-clause-built c =
-    if_ok_both {R = λ parsed. (text : List ℕ) (cl : part.Clause) (ds : grammar.Arguments) → clause_in c.args.clause ≡ clause_value cl → AreArgsOf c.args.args ds → IsExprOf parsed (grammar.aggregate c.args.op text cl ds)} _ c.parsed_error.ensures.value c.parsed_error.ensures.tall (λ parsed value tall. λ text cl ds clause args.
-    is_expr_of parsed (grammar.aggregate c.args.op text cl ds) _ _ value tall (let same = args.tall in omega arith)
+pub returns-in-Err-clause-clause-built : goal.returns-in-Err-clause-clause-built
+returns-in-Err-clause-clause-built c = λ text cl ds clause args.
+    is_expr_of _ (grammar.aggregate c.args.op text cl ds) _ _ c.parsed_error-in-Err-clause.ensures.value c.parsed_error-in-Err-clause.ensures.tall (let same = args.tall in omega arith)
     (then_value (build_all ds) (λ ts. known (clause_value cl) giving λ m. from_checked_verdict (aggregate_args c.args.op m ts)) (trees_of c.in-Ok.args.args.items) _ (with_trees c.args.args (build_all ds) c.in-Ok.args c.in-Ok.is args.built)
-    (clause_fails c.args.op cl _ _ (c.in-Err-unbox_grouping.ensures ∙ clause))))
+    (clause_fails c.args.op cl _ _ (ap (view_result (option_map clause_of)) (sym c.in-Err-clause.is) ∙ clause)))

@@ -14,12 +14,12 @@ use Rattle.promql_syntax.proofs.grammar.build.build_binary.Goals as goal
 
 pub returns-in-Err-clause-built : goal.returns-in-Err-clause-built
 returns-in-Err-clause-built c = λ text m l r modifier left right.
-    is_expr_of _ (grammar.binary c.args.op text m l r) _ _ c.part_error.ensures.value c.part_error.ensures.tall (let one = left.tall in let other = right.tall in let high = c.max-height.ensures in omega arith)
+    is_expr_of _ (grammar.binary c.args.op text m l r) _ _ c.parsed_error.ensures.value c.parsed_error.ensures.tall (let one = left.tall in let other = right.tall in let high = c.max-height.ensures in omega arith)
     (then_fault (build l) (λ x. build r giving λ y. known (modifier_value m) giving λ z. from_verdict (check_tree (tree.binary c.args.op x y z))) _ (with_fault c.args.left (build l) c.in-Err.error c.in-Err.is left.built))
 
 pub returns-in-Err-right-clause-built : goal.returns-in-Err-right-clause-built
 returns-in-Err-right-clause-built c = λ text m l r modifier left right.
-    is_expr_of _ (grammar.binary c.args.op text m l r) _ _ c.part_error-in-Err-right.ensures.value c.part_error-in-Err-right.ensures.tall (let one = left.tall in let other = right.tall in let high = c.max-height.ensures in omega arith)
+    is_expr_of _ (grammar.binary c.args.op text m l r) _ _ c.parsed_error-in-Err-right.ensures.value c.parsed_error-in-Err-right.ensures.tall (let one = left.tall in let other = right.tall in let high = c.max-height.ensures in omega arith)
     (then_value (build l) (λ x. build r giving λ y. known (modifier_value m) giving λ z. from_verdict (check_tree (tree.binary c.args.op x y z))) (tree_of c.in-Ok.expr.value) _ (with_tree c.args.left (build l) c.in-Ok.expr c.in-Ok.is left.built)
     (then_fault (build r) (λ y. known (modifier_value m) giving λ z. from_verdict (check_tree (tree.binary c.args.op (tree_of c.in-Ok.expr.value) y z))) _ (with_fault c.args.right (build r) c.in-Err-right.error c.in-Err-right.is right.built)))
 

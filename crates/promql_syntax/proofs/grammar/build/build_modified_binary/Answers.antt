@@ -20,8 +20,7 @@ returns-in_ok-expr-in-Ok-clause-value c =
     (binary_ends c.args.op m (Some (matching_of c.in-Ok.modifier)) _ _ _ (ap (view_result (λ x. Some (matching_of x))) c.in-Ok.ensures ∙ modifier) (ap tree_of c.in_ok-expr-in-Ok.ensures.ok)))
 
 pub returns-in-Err-clause-value : goal.returns-in-Err-clause-value
-returns-in-Err-clause-value c =
-    let building : part.Modifier → Asking tree.Tree = λ m. known (modifier_value m) giving λ z. from_verdict (check_tree (tree.binary c.args.op (tree_of c.args.lhs.value) (tree_of c.args.rhs.value) z)) in
-    if_ok_both {R = λ parsed. (m : part.Modifier) → modifier_of (Some c.args.modifier) ≡ modifier_value m → EndsIn (building m) (tree_result parsed)} _ c.parsed_error.ensures.value c.parsed_error.ensures.tall (λ parsed value tall. λ m modifier.
-    subst (EndsIn (building m)) (sym value)
-    (modifier_fails c.args.op m _ (tree_of c.args.lhs.value) (tree_of c.args.rhs.value) (ap (view_result (λ x. Some (matching_of x))) c.in-Err.ensures ∙ modifier)))
+returns-in-Err-clause-value c = λ m modifier.
+    let building : Asking tree.Tree = known (modifier_value m) giving λ z. from_verdict (check_tree (tree.binary c.args.op (tree_of c.args.lhs.value) (tree_of c.args.rhs.value) z)) in
+    subst (EndsIn building) (sym c.parsed_error.ensures.value)
+    (modifier_fails c.args.op m _ (tree_of c.args.lhs.value) (tree_of c.args.rhs.value) (ap (view_result (λ x. Some (matching_of x))) c.in-Err.ensures ∙ modifier))

@@ -17,5 +17,5 @@ returns-in_ok-expr-in-Ok-clause-built c =
 
 pub returns-in-Err-clause-built : goal.returns-in-Err-clause-built
 returns-in-Err-clause-built c = λ d inner.
-    is_expr_of _ (grammar.paren d) _ _ c.part_error.ensures.value c.part_error.ensures.tall (let same = inner.tall in omega arith)
+    is_expr_of _ (grammar.paren d) _ _ c.parsed_error.ensures.value c.parsed_error.ensures.tall (let same = inner.tall in omega arith)
     (then_fault (build d) (λ t. gives (tree.paren t)) _ (with_fault c.args.inner (build d) c.in-Err.error c.in-Err.is inner.built))

@@ -19,5 +19,5 @@ returns-in-Ok-clause-built c =
 
 pub returns-in-Err-clause-built : goal.returns-in-Err-clause-built
 returns-in-Err-clause-built c = λ d p base held.
-    is_expr_of _ (grammar.postfixed d p) _ _ c.part_error.ensures.value c.part_error.ensures.tall (let same = base.tall in let adds = held.adds in omega arith)
+    is_expr_of _ (grammar.postfixed d p) _ _ c.parsed_error.ensures.value c.parsed_error.ensures.tall (let same = base.tall in let adds = held.adds in omega arith)
     (then_fault (build d) (λ t. build_postfix t p) _ (with_fault c.args.base (build d) c.in-Err.error c.in-Err.is base.built))

@@ -25,5 +25,5 @@ returns-else-op-ne-T_SUB-clause-built c =
 
 pub returns-in-Err-clause-built : goal.returns-in-Err-clause-built
 returns-in-Err-clause-built c = λ text d operand.
-    is_expr_of _ (grammar.unary c.args.op text d) _ _ c.part_error.ensures.value c.part_error.ensures.tall (let same = operand.tall in omega arith)
+    is_expr_of _ (grammar.unary c.args.op text d) _ _ c.parsed_error.ensures.value c.parsed_error.ensures.tall (let same = operand.tall in omega arith)
     (then_fault (build d) (λ t. build_unary c.args.op t) _ (with_fault c.args.operand (build d) c.in-Err.error c.in-Err.is operand.built))

@@ -23,7 +23,6 @@ returns-in_ok-expr-in-Ok-clause-built c =
     (selector_ends _ (Some c.args.name.now) _ (ap tree_of c.in_ok-expr-in-Ok.ensures.ok ∙ c.new_vector_selector.ensures ∙ ap (λ n. tree.vector (selector (Some n) (plain_matchers_of c.in-Ok.matchers) None None)) c.in_ok-name-in-Ok.ensures.ok))))
 
 pub returns-in-Err-clause-built : goal.returns-in-Err-clause-built
-returns-in-Err-clause-built c =
-    if_ok_both {R = λ parsed. (kind : TokenKind) (braces : part.Braces) → IsBuiltBy plain_matchers_of c.args.matchers (braces_value braces) → IsExprOf parsed (grammar.selector kind c.args.name.now (Some braces))} _ c.parsed_error.ensures.value c.parsed_error.ensures.tall (λ parsed value tall. λ kind braces matchers.
+returns-in-Err-clause-built c = λ kind braces matchers.
     let ends = rw c.in-Err.is at (ends_held plain_matchers_of _ (braces_value braces) matchers) in
-    is_expr_of parsed (grammar.selector kind c.args.name.now (Some braces)) _ _ value tall refl (then_fault (braces_value braces) (λ cs. selector_tree (Some c.args.name.now) cs) _ ends))
+    is_expr_of _ (grammar.selector kind c.args.name.now (Some braces)) _ _ c.parsed_error.ensures.value c.parsed_error.ensures.tall refl (then_fault (braces_value braces) (λ cs. selector_tree (Some c.args.name.now) cs) _ ends)

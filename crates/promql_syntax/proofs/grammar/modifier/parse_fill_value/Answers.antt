@@ -1,32 +1,22 @@
-use Rattle.std.proofs.Common.{◌≡◌, ◌∙◌, refl, sym, ap, List, ◌∷◌}
-use Rattle.std.specs.Prelude.{Ok, Err}
+use Rattle.std.proofs.Common.{◌≡◌, ◌∙◌, ap, List, ◌∷◌}
+use Rattle.std.specs.Prelude.{Ok}
 use Rattle.std.proofs.lemmas.Result.{err_from_is_err_and}
 use Rattle.promql_text.specs.Texts.{Text}
 use Rattle.promql_grammar.specs.declared.token_kinds.TokenKind.TheVariants as kind
-use Rattle.promql_grammar.specs.GrammarParts.{FillValue, Signed}
-use Rattle.promql_grammar.specs.Parsing.{Read, eat_sign, parse_number, parse_fill_value, parse_fill_value_end}
+use Rattle.promql_grammar.specs.GrammarParts.{Signed}
+use Rattle.promql_grammar.specs.Parsing.{eat_sign, parse_fill_value, parse_fill_value_end}
 use Rattle.promql_grammar.specs.Results.{◌then◌}
 use Rattle.promql_grammar.specs.Symbols.{Symbol, punct}
 use Rattle.promql_syntax.specs.PartTokens.{parse_signed_number}
-use Rattle.promql_syntax.proofs.PartSteps.{value_fails, value_open}
-use Rattle.promql_syntax.proofs.ResultSteps.{then_then}
+use Rattle.promql_syntax.proofs.PartSteps.{number_then, value_fails, value_open}
 use Rattle.promql_syntax.proofs.grammar.modifier.parse_fill_value.Goals as goal
-
-abbrev with_number : Signed → Text × List Symbol → Read (Signed × Text)
-with_number s n = Ok ((s, n.0), n.1)
-
-abbrev value_end : (Signed × Text) × List Symbol → Read FillValue
-value_end x = parse_fill_value_end x.0.0 x.0.1 x.1
-
-value_then : (r : Read Signed) → (r then λ s. parse_number s.1 then λ n. value_end ((s.0, n.0), n.1)) ≡ ((r then λ s. parse_number s.1 then with_number s.0) then value_end)
-value_then (Ok s) = sym (then_then (parse_number s.1) (with_number s.0) value_end)
-value_then (Err e) = refl
 
 -- a number with its sign, in parentheses
 value_read : (ts us vs rest : List Symbol) (p : Signed × Text) → ts ≡ punct kind.LeftParen ∷ us → parse_signed_number us ≡ Ok (p, vs) → vs ≡ punct kind.RightParen ∷ rest
     → parse_fill_value ts ≡ Ok (record { sign = p.0; number = p.1 }, rest)
 value_read ts us vs rest p opens reads closes =
-    ap parse_fill_value opens ∙ value_then (eat_sign us) ∙ ap (λ o. o then value_end) reads ∙ ap (parse_fill_value_end p.0 p.1) closes
+    ap parse_fill_value opens ∙ number_then (eat_sign us) (λ s n rest. parse_fill_value_end s n rest)
+    ∙ ap (λ o. o then λ x. parse_fill_value_end x.0.0 x.0.1 x.1) reads ∙ ap (parse_fill_value_end p.0 p.1) closes
 
 pub returns-in_err-expect-2-clause-gives :
     goal.returns-in_err-expect-2-clause-gives

@@ -1,33 +1,23 @@
-use Rattle.std.proofs.Common.{◌≡◌, ◌∙◌, refl, sym, ap, List, ◌∷◌, Option, Some}
-use Rattle.std.specs.Prelude.{Ok, Err}
+use Rattle.std.proofs.Common.{◌≡◌, ◌∙◌, ap, List, ◌∷◌, Some}
+use Rattle.std.specs.Prelude.{Ok}
 use Rattle.std.proofs.lemmas.Result.{err_from_is_err_and}
 use Rattle.promql_text.specs.Texts.{Text}
 use Rattle.promql_grammar.specs.declared.token_kinds.TokenKind.TheVariants as kind
-use Rattle.promql_grammar.specs.GrammarParts.{Postfix, Signed, Time, offset}
-use Rattle.promql_grammar.specs.Parsing.{Read, eat_sign, parse_time, parse_postfix}
+use Rattle.promql_grammar.specs.GrammarParts.{Signed, Time, offset}
+use Rattle.promql_grammar.specs.Parsing.{eat_sign, parse_postfix}
 use Rattle.promql_grammar.specs.Results.{◌then◌}
 use Rattle.promql_grammar.specs.Symbols.{Symbol, symbol}
 use Rattle.promql_syntax.specs.PartTokens.{parse_offset}
 use Rattle.promql_syntax.specs.Postfixes.{by_shift}
 use Rattle.promql_syntax.specs.SymbolsLeft.{symbols_left}
 use Rattle.promql_syntax.proofs.ModifierReading.{at_word}
-use Rattle.promql_syntax.proofs.PartSteps.{offset_fails}
-use Rattle.promql_syntax.proofs.ResultSteps.{then_then}
+use Rattle.promql_syntax.proofs.PartSteps.{offset_fails, time_then}
 use Rattle.promql_syntax.proofs.grammar.postfix.parse_postfix.Goals as goal
-
-abbrev with_time : Signed → Time × List Symbol → Read (Signed × Time)
-with_time s u = Ok ((s, u.0), u.1)
-
-abbrev offset_of : Text → (Signed × Time) × List Symbol → Read (Option Postfix)
-offset_of t x = Ok (Some (offset t x.0.0 x.0.1), x.1)
-
-offset_then : (t : Text) (r : Read Signed) → (r then λ s. parse_time s.1 then λ u. offset_of t ((s.0, u.0), u.1)) ≡ ((r then λ s. parse_time s.1 then with_time s.0) then offset_of t)
-offset_then t (Ok s) = sym (then_then (parse_time s.1) (with_time s.0) (offset_of t))
-offset_then t (Err e) = refl
 
 -- a time with its sign follows `offset`
 offset_read : (t : Text) (ts us rest : List Symbol) (p : Signed × Time) → ts ≡ symbol kind.Offset t ∷ us → parse_offset us ≡ Ok (p, rest) → parse_postfix ts ≡ Ok (Some (offset t p.0 p.1), rest)
-offset_read t ts us rest p front reads = ap parse_postfix front ∙ offset_then t (eat_sign us) ∙ ap (λ o. o then offset_of t) reads
+offset_read t ts us rest p front reads =
+    ap parse_postfix front ∙ time_then (eat_sign us) (λ s u rest. Ok (Some (offset t s u), rest)) ∙ ap (λ o. o then λ x. Ok (Some (offset t x.0.0 x.0.1), x.1)) reads
 
 pub returns-in_err-offset-in-Offset-clause-gives : goal.returns-in_err-offset-in-Offset-clause-gives
 returns-in_err-offset-in-Offset-clause-gives c =

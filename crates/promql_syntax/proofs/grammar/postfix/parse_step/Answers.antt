@@ -1,20 +1,16 @@
-use Rattle.std.proofs.Common.{◌≡◌, ◌∙◌, refl, ap, ap₂, List, ◌∷◌, Some}
+use Rattle.std.proofs.Common.{◌∙◌, refl, ap, ap₂, List, Some}
 use Rattle.std.proofs.lemmas.Result.{err_from_is_err_and}
 use Rattle.promql_grammar.specs.declared.token_kinds.TokenKind.TheVariants as kind
 use Rattle.promql_grammar.specs.GrammarParts.{Time, subquery}
 use Rattle.promql_grammar.specs.Parsing.{parse_step, parse_step_end, parse_time}
 use Rattle.promql_grammar.specs.Results.{◌then◌}
-use Rattle.promql_grammar.specs.Symbols.{Symbol, punct}
+use Rattle.promql_grammar.specs.Symbols.{Symbol}
 use Rattle.promql_syntax.specs.ParsesExpr.{Failure, Fails}
 use Rattle.promql_syntax.specs.PartTokens.{HasNo}
 use Rattle.promql_syntax.specs.Postfixes.{subquery_change}
-use Rattle.promql_syntax.proofs.PartSteps.{step_open}
+use Rattle.promql_syntax.proofs.PartSteps.{some_step, step_open}
 use Rattle.promql_syntax.proofs.ResultSteps.{fails_same, fails_then}
 use Rattle.promql_syntax.proofs.grammar.postfix.parse_step.Goals as goal
-
-some_step : (t : Time) (ts : List Symbol) → HasNo kind.RightBracket ts → parse_step t ts ≡ (parse_time ts then λ s. parse_step_end t s.0 s.1)
-some_step t (punct kind.RightBracket ∷ ts) none = absurd (none refl)
-some_step t ts none = refl
 
 -- no time is the step
 step_fails : (e : Failure) (t : Time) (ts : List Symbol) → HasNo kind.RightBracket ts → Fails e (parse_time ts) → Fails e (parse_step t ts)
