@@ -107,28 +107,27 @@ const ROWS: [Row; 22] = [
 /// Whether the function is as the row says.
 fn is_of_row(function: &Function, name: &str, row: &Row) -> bool {
     function.name == name
-        && function.arg_types.as_slice() == row.1
+        && function.arg_types == row.1
         && function.variadic == row.2
         && function.return_type == row.3
         && function.experimental == row.4
 }
 
 /// Whether the function of this name is as the row says.
-fn has_row(alloc: Global, name: &str, row: &Row) -> Result<bool, AllocError> {
-    match get_function(alloc, name)? {
-        Some(function) => Ok(is_of_row(&function, name, row)),
-        None => Ok(false),
+fn has_row(name: &str, row: &Row) -> bool {
+    match get_function(name) {
+        Some(function) => is_of_row(&function, name, row),
+        None => false,
     }
 }
 
 #[test]
-fn each_name_has_its_row(rt: HostRuntime) -> Result<(), Fail> {
+fn each_name_has_its_row(rt: HostRuntime) {
     for row in &ROWS {
         for name in row.0.split(' ') {
-            is_so(&rt, has_row(rt.alloc(), name, row), name)?;
+            holds(&rt, has_row(name, row), name);
         }
     }
-    Ok(())
 }
 
 /// A name has the function that the table of docs/reference/functions.md gives it, and none where that table has none.
@@ -151,21 +150,15 @@ fn there_are_89_names(rt: HostRuntime) {
 /// Names of no function.
 const UNKNOWN: [&str; 7] = ["", "nosuch", "RATE", "rat", "ratee", " rate", "sum"];
 
-fn is_unknown(alloc: Global, name: &str) -> Result<bool, AllocError> {
-    Ok(get_function(alloc, name)?.is_none())
-}
-
 #[test]
-fn other_names_have_no_row(rt: HostRuntime) -> Result<(), Fail> {
+fn other_names_have_no_row(rt: HostRuntime) {
     for name in &UNKNOWN {
-        is_so(&rt, is_unknown(rt.alloc(), name), name)?;
+        holds(&rt, get_function(name).is_none(), name);
     }
-    Ok(())
 }
 
-fn function(alloc: Global, row: &Row) -> Result<Function, AllocError> {
-    let types = row.1.to_vec(alloc)?;
-    Ok(Function::new(row.0, types, row.2, row.3, row.4))
+fn function(row: &Row) -> Function {
+    Function::new(row.0, row.1, row.2, row.3, row.4)
 }
 
 // What the functions below differ from, each in one part.
@@ -180,11 +173,8 @@ const OTHERS: [Row; 5] = [
 ];
 
 fn is_copied(alloc: Global, row: &Row) -> Result<bool, AllocError> {
-    let function = function(alloc, row)?;
-    match function.try_clone(alloc) {
-        Ok(copy) => Ok(copy == function),
-        Err(error) => Err(error),
-    }
+    let function = function(row);
+    Ok(function.try_clone(alloc)? == function)
 }
 
 #[test]
@@ -195,25 +185,14 @@ fn copies_are_equal(rt: HostRuntime) -> Result<(), Fail> {
     Ok(())
 }
 
-/// Whether the functions of two rows are equal.
-fn is_equal(alloc: Global, one: &Row, other: &Row) -> Result<bool, AllocError> {
-    let one = function(alloc, one)?;
-    match function(alloc, other) {
-        Ok(other) => Ok(one == other),
-        Err(error) => Err(error),
-    }
+#[test]
+fn functions_of_one_row_are_equal(rt: HostRuntime) {
+    holds(&rt, function(&ONE) == function(&ONE), "f");
 }
 
 #[test]
-fn functions_of_one_row_are_equal(rt: HostRuntime) -> Result<(), Fail> {
-    is_so(&rt, is_equal(rt.alloc(), &ONE, &ONE), "f")
-}
-
-#[test]
-fn functions_differ_by_each_part(rt: HostRuntime) -> Result<(), Fail> {
+fn functions_differ_by_each_part(rt: HostRuntime) {
     for row in &OTHERS {
-        let found = is_equal(rt.alloc(), &ONE, row)?;
-        holds(&rt, !found, row.0);
+        holds(&rt, function(&ONE) != function(row), row.0);
     }
-    Ok(())
 }
