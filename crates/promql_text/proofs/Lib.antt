@@ -29,6 +29,7 @@ pub mod ReadsBack
 pub mod ReadsDuration
 pub mod RoundedQuotients
 pub mod Runs
+pub mod ShortDecimals
 pub mod ShortNumbers
 pub mod SpelledNumerals
 pub mod SpelledForms

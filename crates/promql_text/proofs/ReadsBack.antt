@@ -7,7 +7,6 @@ use Rattle.std.specs.Fmt.{decimal, digits}
 use Rattle.std.specs.List.{list_any}
 use Rattle.std.specs.Str.{chars}
 use Rattle.std.specs.Str.Parse.{AllDigits, digits_value, digits_value_after}
-use Rattle.std.proofs.lemmas.Bool.Decides.{nat_tests}
 use Rattle.std.proofs.lemmas.Fmt.{decimal_is_IsNumeral_wide, decimal_by_steps_wide}
 use Rattle.std.proofs.Math.Nat.{pow-suc, zero-mul, div-le_self, mod-le}
 use Rattle.std.proofs.lemmas.Bool.{cases_lt, eq-eqb, ne_eqb}
@@ -24,6 +23,7 @@ use Rattle.promql_text.specs.declared.number.Number.{Number}
 use Rattle.promql_text.specs.declared.number.Number.TheVariants as number
 use Rattle.promql_text.specs.declared.number.NumberFault.{NumberFault}
 use Rattle.promql_text.specs.declared.number.NumberFault.TheVariants as fault
+use Rattle.promql_text.proofs.Exacts.{in_range}
 use Rattle.promql_text.proofs.Finites.{finite_short, all_digits_append}
 use Rattle.promql_text.proofs.Points.{part_count}
 use Rattle.promql_text.proofs.Tens.{times_one}
@@ -75,9 +75,6 @@ number_signed b t n digit plain decimal_text is =
 
 pub zero_is : (d : Exact) → IsExact d → d.digits ≡ 0 → exact_zero ≡ d
 zero_is d e none = sym (rw (e.no_minus_zero none, e.no_zeros none, e.no_places none, none) refl)
-
-in_range : (c up down : ℕ) → digit_count c + up ≤ 309 + down → down ≤ digit_count c + up + 323 → is_in_range c up down ≡ true
-in_range c up down below above = grind (arith, nat_tests)
 
 abbrev at_zeros : Exact → ℕ → ℕ → Exact
 at_zeros d z p = record { is_negative = d.is_negative; digits = d.digits; zeros = z; places = p }
@@ -140,7 +137,7 @@ false_both true true = refl
 false_both true false = refl
 false_both false y = refl
 
-not_octal_point : (b : Bool) (xs ys : Text) → is_octal (with_sign b (xs ++ (46 ∷ ys))) ≡ false
+pub not_octal_point : (b : Bool) (xs ys : Text) → is_octal (with_sign b (xs ++ (46 ∷ ys))) ≡ false
 not_octal_point b xs ys =
     let s : Text = with_sign b (xs ++ (46 ∷ ys)) in
     ap (λ x. (front (without_sign s) == 48) && (not (length (drop 1 (without_sign s)) == 0) && not x)) (point_signed b xs ys)

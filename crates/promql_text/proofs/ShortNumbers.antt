@@ -17,7 +17,7 @@ use Rattle.promql_text.specs.declared.number.Number.TheVariants as number
 use Rattle.promql_text.proofs.Exacts.{seconds_value, whole_is, whole_value}
 use Rattle.promql_text.proofs.Plain.{plain_digits}
 use Rattle.promql_text.proofs.ReadsBack.{finite_is, not_octal, number_signed}
-use Rattle.promql_text.proofs.Runs.{front_digit}
+use Rattle.promql_text.proofs.Runs.{digit_value_below, front_digit}
 use Rattle.promql_text.proofs.Tens.{times_both, times_one, times_ten, value_after_ge}
 use Rattle.promql_text.proofs.TextForms.{plain_numeral, reading_digits}
 
@@ -86,9 +86,23 @@ parsed_some {E = E} t u r o same leads parses is = subst (λ (x : Option ℕ). I
     by_result (Err e) read = tt
 
 -- `0` is read as 0
-pub zero_read : read_number (48 ∷ []) ≡ Ok (number.Finite exact_zero)
+zero_read : read_number (48 ∷ []) ≡ Ok (number.Finite exact_zero)
 unfolding chars number_of decimal_form reading numeral finite
 zero_read = refl
+
+-- a digit alone is read as its value
+pub digit_read : (c n : ℕ) → is_ascii_digit c ≡ true → n ≡ digit_value c → read_number (c ∷ []) ≡ Ok (number.Finite (whole false n))
+digit_read c n digit is =
+    let below : digit_value c < 10 = digit_value_below c digit in
+    ⊎_elim
+    (λ (leads : 48 < c).
+    let value : digits_value 10 (c ∷ []) ≡ n = omega (arith, is) in
+    short_number (c ∷ []) (omega arith) leads (below, tt) (omega arith) ∙ ap (λ m. Ok (number.Finite (whole false m))) value)
+    (λ (low : c ≤ 48).
+    let zero_digit : c ≡ 48 = (let h = digit_from_value c below in omega (arith, h)) in
+    let none : n ≡ 0 = is ∙ ap digit_value zero_digit in
+    ap (λ b. read_number (b ∷ [])) zero_digit ∙ zero_read ∙ ap (λ m. Ok (number.Finite (whole false m))) (sym none))
+    (cases_lt 48 c)
 
 -- the seconds of so many nanoseconds have their value
 pub seconds_exact : (n : ℕ) → n < 2 ^ 64 * 1_000_000_000 → (seconds_of n).digits * 10 ^ ((seconds_of n).zeros + 9) ≡ n * 10 ^ (seconds_of n).places

@@ -1,7 +1,7 @@
 //! Finite decimal numbers, exactly (docs/reference/texts.md, "Numbers").
 
-ghost use Rattle.std.specs.Prelude.{◌≡◌, ◌≢◌, ◌+◌, ◌-◌, ◌*◌, ◌^◌, ◌%◌, ◌<◌, ◌≤◌, false, ◌==◌, Option, Some, None};
-ghost use Rattle.promql_text.specs.Numbers.{Exact, IsExact, digit_count, exact_zero, negate, from_digits, seconds_of, whole};
+ghost use Rattle.std.specs.Prelude.{◌≡◌, ◌≢◌, ◌+◌, ◌-◌, ◌*◌, ◌/◌, ◌^◌, ◌%◌, ◌<◌, ◌≤◌, false, ◌==◌, Option, Some, None};
+ghost use Rattle.promql_text.specs.Numbers.{Exact, IsExact, digit_count, exact_zero, negate, from_digits, seconds_of, tens, whole};
 
 use crate::packed_u128::PackedU128;
 use std::marker::Model;
@@ -76,6 +76,21 @@ fn without_zeros(n: u128) -> (u128, u16)
     (digits, zeros)
 }
 
+/// `without_zeros` of a number of 64 bits.
+fn without_zeros_u64(n: u64) -> (u64, u16)
+    requires { 0 < n }
+    ensures value { result.0 * 10 ^ result.1 ≡ n }
+    ensures ends { result.0 % 10 ≢ 0 }
+{
+    let mut digits = n;
+    let mut zeros = 0;
+    while digits % 10 == 0 {
+        digits /= 10;
+        zeros += 1;
+    }
+    (digits, zeros)
+}
+
 impl Decimal {
     /// The digits with `up` zeros after them, divided by 10 to `down`; None where its first digit
     /// is out of range.
@@ -112,12 +127,29 @@ impl Decimal {
         if n == 0 {
             return Decimal::zero();
         }
-        let (digits, zeros) = without_zeros(u128::from(n));
+        let (digits, zeros) = without_zeros_u64(n);
         Decimal {
             is_negative,
-            digits: PackedU128::new(digits),
+            digits: PackedU128::new(u128::from(digits)),
             zeros,
             places: 0,
+        }
+    }
+
+    /// A whole number divided by 10 to `places`.
+    pub(crate) fn with_places(n: u64, places: u16) -> Decimal
+        requires { places < 324 }
+        ensures { let z = tens 20 n in Some result ≡ from_digits false (n / 10 ^ z) z places }
+    {
+        if n == 0 {
+            return Decimal::zero();
+        }
+        let (digits, zeros) = without_zeros_u64(n);
+        Decimal {
+            is_negative: false,
+            digits: PackedU128::new(u128::from(digits)),
+            zeros: zeros.saturating_sub(places),
+            places: places.saturating_sub(zeros),
         }
     }
 

@@ -2,8 +2,8 @@
 
 ghost use Rattle.std.specs.Prelude.{◌≡◌, ◌∷◌, [], ◌+◌, ◌*◌, ◌^◌, ◌<◌, ◌≤◌, true, false, length, Option, Some, None, MatchOption, IfSome, SomeIff};
 ghost use Rattle.std.specs.List.{list_all, list_any};
-ghost use Rattle.std.specs.Str.Parse.{digits_value};
-ghost use Rattle.promql_text.specs.DecimalForm.{digits_number, places};
+ghost use Rattle.std.specs.Str.Parse.{digits_value, digits_value_after};
+ghost use Rattle.promql_text.specs.DecimalForm.{digit_run, digits_number, past_run, places};
 ghost use Rattle.promql_text.specs.DecimalParts as parts;
 ghost use Rattle.promql_text.specs.NumberText as spec;
 ghost use Rattle.promql_text.specs.Numbers.{from_digits, whole};
@@ -222,10 +222,51 @@ fn short_whole(text: &str) -> Option<u64>
     ensures { IfSome result (λ n. spec.read_number text.now ≡ Ok (Number.Finite (whole false n))) }
 {
     match text.as_bytes() {
-        [first] if *first == b'0' => Some(0),
+        [first] if first.is_ascii_digit() => Some(u64::from(*first - b'0')),
         [first, ..] if *first > b'0' => text.parse().ok(),
         _ => None,
     }
+}
+
+/// The number of the digits before and, after them, those at the start of the text; and what comes after these.
+#[tactic(auto, using(crate::proofs::Runs::past_run_digit, crate::proofs::Runs::past_run_other))]
+fn digits_at_start<S: Source>(before: u64, text: S) -> (u64, S)
+    requires { (before + 1) * 10 ^ length (S.left text) ≤ 10 ^ 19 }
+    ensures value { result.0 ≡ digits_value_after 10 before (digit_run (S.left text)) }
+    ensures rest { S.left result.1 ≡ past_run (S.left text) }
+    ensures room { (result.0 + 1) * 10 ^ length (S.left result.1) ≤ 10 ^ 19 }
+{
+    let mut number = before;
+    let mut rest = text;
+    while let Some((c, more)) = rest.first() {
+        let Some(digit) = significand::decimal_digit(c) else {
+            break;
+        };
+        number = number * 10 + digit as u64;
+        rest = more;
+    }
+    (number, rest)
+}
+
+/// The number of one or more digits, a point, and further digits or none, in at most 19 bytes. Such a text needs none of
+/// the other rules.
+fn short_decimal(text: &str) -> Option<Decimal>
+    ensures { IfSome result (λ d. spec.read_number text.now ≡ Ok (Number.Finite d)) }
+{
+    let bytes = text.as_bytes();
+    if bytes.len() > 19 {
+        return None;
+    }
+    let (whole, after) = digits_at_start(0, bytes);
+    if after.len() == bytes.len() || front(after) != '.' {
+        return None;
+    }
+    let fraction = after_first(after);
+    let (digits, rest) = digits_at_start(whole, fraction);
+    if !rest.is_empty() {
+        return None;
+    }
+    Some(Decimal::with_places(digits, fraction.len() as u16))
 }
 
 /// Whether the text is in visible characters of ASCII alone.
@@ -252,9 +293,15 @@ fn is_visible(text: &str) -> bool
 pub fn parse_str_radix(text: &str) -> Result<Number, NumberFault>
     ensures { result ≡ spec.read_number text.now }
 {
-    match short_whole(text) {
-        Some(n) => Ok(Number::Finite(Decimal::whole(false, n))),
-        None if is_visible(text) => number_of(text.as_bytes()),
-        None => number_of(WithoutWhitespace(text)),
+    if let Some(n) = short_whole(text) {
+        return Ok(Number::Finite(Decimal::whole(false, n)));
+    }
+    if let Some(d) = short_decimal(text) {
+        return Ok(Number::Finite(d));
+    }
+    if is_visible(text) {
+        number_of(text.as_bytes())
+    } else {
+        number_of(WithoutWhitespace(text))
     }
 }

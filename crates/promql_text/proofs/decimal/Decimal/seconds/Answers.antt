@@ -1,5 +1,5 @@
 use Rattle.std.proofs.Common.{◌<◌, arith}
-use Rattle.promql_text.proofs.Exacts.{seconds_is, seconds_value}
+use Rattle.promql_text.proofs.Exacts.{seconds_value, with_places_is}
 use Rattle.promql_text.proofs.decimal.Decimal.seconds.Goals as goal
 
 pub invariant_of-result : goal.invariant_of-result
@@ -8,7 +8,7 @@ invariant_of-result c =
     let ends = made.ensures.ends in
     let some : 0 < made.result.0 = omega (arith, ends) in
     rw (c.new.ensures, c.saturating_sub.ensures, c.saturating_sub-2.ensures)
-    (seconds_is made.result.0 made.result.1 c.args.nanos made.ensures.value some ends c.requires)
+    (with_places_is made.result.0 made.result.1 c.args.nanos 9 made.ensures.value some ends c.requires (omega arith))
 
 pub returns : goal.returns
 returns c =
