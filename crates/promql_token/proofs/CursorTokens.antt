@@ -1,13 +1,14 @@
 -- The next token of a cursor, and what is left after it.
-use Rattle.std.proofs.Common.{◌≡◌, ◌≢◌, ℕ, ◌+◌, Bool, true, false, cond, List, [], ◌∷◌, length, take, drop, map, Result, Ok, Err, refl, sym, ap, ◌∙◌, arith}
+use Rattle.std.proofs.Common.{◌≡◌, ◌≢◌, ℕ, ◌+◌, ◌-◌, Bool, true, false, cond, List, [], ◌∷◌, length, take, drop, map, Result, Ok, Err, refl, sym, ap, ◌∙◌, arith}
 use denote.Bor.{Bor}
 use Rattle.std.specs.Prelude.{◌==◌, not, filter, MatchResult}
 use Rattle.std.specs.Result.{is_err}
 use Rattle.std.proofs.lemmas.Bool.{eqb-false, ne_eqb}
-use Rattle.std.proofs.lemmas.List.{drop-drop}
+use Rattle.std.proofs.lemmas.List.{drop-drop, take_rest}
 use Rattle.promql_token.specs.declared.fault.LexFault.{LexFault}
 use Rattle.promql_token.specs.declared.fault.LexFaultKind.{LexFaultKind}
 use Rattle.promql_token.specs.declared.lexeme.Lexeme.{Lexeme}
+use Rattle.promql_token.specs.declared.state.Mode.TheVariants as mode
 use Rattle.promql_token.specs.declared.state.State.{State}
 use Rattle.promql_text.specs.Texts.{Text}
 use Rattle.promql_token.specs.declared.cursor.Cursor as code
@@ -18,7 +19,7 @@ use Rattle.promql_token.specs.TokenScanning.{after}
 use Rattle.promql_token.proofs.Items.{is_token}
 use Rattle.promql_token.proofs.Items.{left_token as left_item}
 use Rattle.promql_token.proofs.Spans.{stands, spans}
-use Rattle.promql_token.proofs.Steps.{pieces_are}
+use Rattle.promql_token.proofs.Steps.{pieces_are, pieces_end}
 
 up_to_no_fault : (ts : List (ℕ × Text)) → up_to_fault (map (λ t. Ok t) ts) ≡ ts
 up_to_no_fault [] = refl
@@ -208,6 +209,19 @@ at_end c x is none =
 pub at_fault_or_end : (c : code.Cursor) (r : Result Lexeme (LexFaultKind × ℕ)) → IsFront c r → tokens_left c ≡ [] → is_err r ≡ ends_in_fault c
 at_fault_or_end c (Ok x) is none = at_end c x is none
 at_fault_or_end c (Err f) is none = at_fault c (fault_at c.text.now f.0 f.1) is
+
+no_bytes : (z : Text) → length z ≡ 0 → z ≡ []
+no_bytes [] h = refl
+no_bytes (b ∷ z) h = absurd (omega arith)
+
+-- at the end of a text, where nothing is open, as the code has it
+pub at_text_end : (bytes : Text) (c : code.Cursor) → bytes ≡ c.text.now → length (take (length bytes - c.at) (drop c.at bytes)) ≡ 0 → c.state.depth ≡ 0 → c.state.mode ≡ mode.Outside
+    → (tokens_left c ≡ []) × (ends_in_fault c ≡ false)
+at_text_end bytes c same none depth mode =
+    let rest : drop c.at c.text.now ≡ [] = ap (drop c.at) (sym same) ∙ sym (take_rest bytes c.at) ∙ no_bytes _ none in
+    let state : c.state ≡ start = λ i. record { depth = depth i; mode = mode i } in
+    let is : pieces c.state (drop c.at c.text.now) ≡ Ok (6, []) ∷ [] = (λ i. pieces (state i) (rest i)) ∙ pieces_end in
+    (ap (λ ws. filter is_before_end (up_to_fault ws)) is, ap has_fault is)
 
 -- the same with places
 pub left_past : (x : Lexeme) (old new : code.Cursor) → Ok x ≡ first old.at (found old.state (drop old.at old.text.now)) → IsPast x old new

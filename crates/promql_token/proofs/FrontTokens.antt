@@ -1,7 +1,7 @@
 -- A token at the front of a text, and what is left after it.
 use Rattle.std.proofs.Common.{◌≡◌, ◌≢◌, ℕ, suc, ◌+◌, ◌-◌, ◌<◌, ◌≤◌, true, false, cond, [], ◌∷◌, length, get_or, take, drop, IsUtf8, ⊎_elim, add-one, drop-cons, get_or-drop, Ok, refl, sym, ap, ◌∙◌, subst, arith, length-take-le}
 use Rattle.std.specs.Prelude.{◌==◌, filter, not, slice_index}
-use Rattle.std.specs.Char.{is_ascii_digit, is_ascii_whitespace}
+use Rattle.std.specs.Char.{is_ascii_whitespace}
 use Rattle.std.specs.Str.{IsCharBoundary}
 use Rattle.std.proofs.lemmas.Bool.{eqb-false, ne_eqb}
 use Rattle.std.proofs.lemmas.Grind.{common_steps}
@@ -13,7 +13,7 @@ use Rattle.promql_token.specs.declared.state.Mode.{Mode}
 use Rattle.promql_token.specs.declared.state.Mode.TheVariants as mode
 use Rattle.promql_token.specs.declared.state.State.{State}
 use Rattle.promql_text.specs.Texts.{Text}
-use Rattle.promql_token.specs.Classes.{is_in, is_letter, end_of_run}
+use Rattle.promql_token.specs.Classes.{is_letter, end_of_run}
 use Rattle.promql_token.specs.Cursor.{has_fault, is_before_end, up_to_fault}
 use Rattle.promql_token.specs.Front.{IsFront, IsFrontWord, begins_trivia}
 use Rattle.promql_token.specs.Lexing.{pieces}
@@ -63,39 +63,32 @@ front_token state m z id mode_is some is more begins = record {
 
 -- ---- words
 
-word_byte : (b : ℕ) → is_in class.Word b ≡ true → begins_trivia b ≡ false
-word_byte b h = grind (arith, common_steps)
-
 letter_byte : (b : ℕ) → is_letter b ≡ true → begins_trivia b ≡ false
 letter_byte b h = grind (arith, common_steps)
-
-some_word : (z : Text) → is_in class.Word (get_or z 0 0) ≡ true → 0 < length z
-some_word [] h = cc
-some_word (b ∷ z) h = omega arith
 
 some_letter : (z : Text) → is_letter (get_or z 0 0) ≡ true → 0 < length z
 some_letter [] h = cc
 some_letter (b ∷ z) h = omega arith
 
-word_outside : (depth : ℕ) (z : Text) → is_in class.Word (get_or z 0 0) ≡ true → is_ascii_digit (get_or z 0 0) ≡ false → outside depth z ≡ word z
+letter_outside : (depth : ℕ) (z : Text) → is_letter (get_or z 0 0) ≡ true → outside depth z ≡ word z
 unfolding outside
-word_outside depth z in_word no_digit = grind (arith, common_steps)
+letter_outside depth z letter = grind (arith, common_steps)
 
 letter_in_braces : (z : Text) → is_letter (get_or z 0 0) ≡ true → in_braces z ≡ word_in_braces z
 unfolding in_braces
 letter_in_braces z letter = grind (arith, common_steps)
 
-pub front_word_outside : (depth : ℕ) (z : Text) → is_in class.Word (get_or z 0 0) ≡ true → is_ascii_digit (get_or z 0 0) ≡ false
+pub front_word_outside : (depth : ℕ) (z : Text) → is_letter (get_or z 0 0) ≡ true
     → let state : State = record { depth = depth; mode = mode.Outside } in let n = end_of_run class.Word z 0 in IsFrontWord state z (word_id (take n z) (drop n z)) n
 unfolding word
-front_word_outside depth z in_word no_digit =
+front_word_outside depth z letter =
     let state : State = record { depth = depth; mode = mode.Outside } in
     let n = end_of_run class.Word z 0 in
     let plain = word_plain (take n z) (drop n z) in
     record {
       front = record {
-        trivia = no_trivia mode.Outside z (word_byte (get_or z 0 0) in_word);
-        scanned = scanned state z (some_word z in_word) ∙ word_outside depth z in_word no_digit;
+        trivia = no_trivia mode.Outside z (letter_byte (get_or z 0 0) letter);
+        scanned = scanned state z (some_letter z letter) ∙ letter_outside depth z letter;
         no_end = eqb-false _ _ (plain_no_end _ plain);
       };
       stays = after_outside depth _ plain;

@@ -11,6 +11,7 @@ pub mod TriviaLengths
 pub mod Inner
 pub mod Items
 pub mod Concatenation
+pub mod Names
 pub mod NumberParts
 pub mod Numerals
 pub mod LaterDurationParts
@@ -25,6 +26,7 @@ pub mod PunctuatorRows
 pub mod SpansToFault
 pub mod SpelledTokens
 pub mod Steps
+pub mod PlainStrings
 pub mod Strings
 pub mod OneReading
 pub mod UniqueTokens

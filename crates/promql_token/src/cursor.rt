@@ -194,6 +194,18 @@ impl<'a> Cursor<'a> {
         Some((id, self.take(len)))
     }
 
+    /// Whether the end comes next, with no trivia before it. `false` says nothing of what comes next.
+    #[inline(always)]
+    pub fn is_at_end(&self) -> bool
+        ensures tokens { result ≡ true → tokens_left self.now ≡ [] }
+        ensures fault { result ≡ true → ends_in_fault self.now ≡ false }
+    {
+        if !self.text.as_bytes()[self.at..].is_empty() {
+            return false;
+        }
+        self.state.depth == 0 && matches!(self.state.mode, Mode::Outside)
+    }
+
     /// Whether a fault comes next, where no token does.
     #[inline(never)]
     pub fn is_at_fault(&self) -> bool

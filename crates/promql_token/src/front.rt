@@ -4,10 +4,10 @@ ghost use Rattle.std.specs.Prelude.{◌≡◌, ◌==◌, ◌<◌, ◌≤◌, ◌
 ghost use Rattle.promql_token.specs.Front.{IsFront, IsFrontWord, begins_trivia};
 ghost use Rattle.promql_token.specs.TokenScanning as spec;
 
-use crate::class::{Class, byte, is_in, is_letter};
+use crate::class::{byte, is_letter, name_len};
 use crate::ids::*;
 use crate::state::{Mode, State, after};
-use crate::word::{word, word_in_braces};
+use crate::word::{braces_word_by_name, word_by_name};
 
 #[inline(always)]
 #[tactic(auto, unfolding(crate::specs::TokenScanning::outside, crate::specs::TokenScanning::punctuator))]
@@ -104,10 +104,12 @@ pub fn single(state: State, z: &[u8]) -> Option<(TokenId, State)>
 pub fn front_word(state: State, z: &[u8]) -> Option<(TokenId, usize)>
     ensures { IfSome result (λ x. IsFrontWord state z.now x.0 x.1) }
 {
-    let b = byte(z, 0);
+    if !is_letter(byte(z, 0)) {
+        return None;
+    }
     match state.mode {
-        Mode::Outside if is_in(Class::Word, b) && !b.is_ascii_digit() => word(z).ok(),
-        Mode::Braces if is_letter(b) => word_in_braces(z).ok(),
-        _ => None,
+        Mode::Outside => word_by_name(z, name_len(z)).ok(),
+        Mode::Braces => braces_word_by_name(z, name_len(z)).ok(),
+        Mode::Brackets(_) => None,
     }
 }

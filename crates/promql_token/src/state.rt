@@ -66,6 +66,7 @@ pub fn after_trivia(trivia: usize, state: State) -> State
     }
 }
 
+#[inline(always)]
 fn mode_after(mode: Mode, id: TokenId) -> Mode
     ensures { result ≡ spec.mode_after mode id }
 {
@@ -90,6 +91,7 @@ fn depth_after(depth: usize, id: TokenId) -> usize
 }
 
 /// The state after a token.
+#[inline(always)]
 #[tactic(auto, unfolding(crate::specs::TokenScanning::after))]
 pub fn after(state: State, id: TokenId) -> State
     requires { state.depth < 2 ^ 63 }

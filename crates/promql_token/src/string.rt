@@ -1,6 +1,6 @@
 //! Strings.
 
-ghost use Rattle.std.specs.Prelude.{◌≡◌, ◌<◌, length};
+ghost use Rattle.std.specs.Prelude.{◌≡◌, ◌<◌, ◌≤◌, drop, false, length};
 ghost use Rattle.promql_token.specs.TokenScanning as spec;
 
 use crate::class::byte;
@@ -28,6 +28,22 @@ fn is_escape(quote: u8, b: u8) -> bool
         )
 }
 
+// The first place past the opening quote whose byte is such a quote or a backslash. Few strings go on there.
+#[inline(always)]
+#[tactic(auto, using(crate::proofs::PlainStrings::plain_byte))]
+fn plain_end(quote: u8, z: &[u8]) -> usize
+    requires { 0 < length z.now }
+    ensures value { spec.string_from quote false result (drop result z.now)
+        ≡ spec.string_from quote false 1 (drop 1 z.now) }
+    ensures within { result ≤ length z.now }
+{
+    let mut at = 1;
+    while at < z.len() && z[at] != quote && z[at] != b'\\' {
+        at += 1;
+    }
+    at
+}
+
 /// The string whose opening quote is the first byte.
 #[inline(always)]
 #[tactic(auto, unfolding(crate::specs::TokenScanning::string))]
@@ -37,8 +53,8 @@ pub fn string(z: &[u8]) -> Scanned
 {
     let quote = byte(z, 0);
     let mut escaped = false;
-    let mut rest = &z[1..];
-    let mut at = 1;
+    let mut at = plain_end(quote, z);
+    let mut rest = &z[at..];
     while let [b, more @ ..] = rest {
         if escaped {
             if !is_escape(quote, *b) {

@@ -1,9 +1,11 @@
 //! Words.
 
-ghost use Rattle.std.specs.Prelude.{◌≡◌, ◌==◌, false};
+ghost use Rattle.std.specs.Prelude.{◌≡◌, ◌==◌, ◌≤◌, false, length};
 ghost use Rattle.std.specs.List.{list_any};
 ghost use Rattle.promql_text.specs.Bytes.{colon};
+ghost use Rattle.promql_token.specs.Classes.{end_of_run};
 ghost use Rattle.promql_token.specs.TokenScanning as spec;
+ghost use Rattle.promql_token.specs.declared.class.Class.TheVariants.{Name};
 
 use crate::class::{Class, byte, end_of_run};
 use crate::ids::*;
@@ -34,19 +36,28 @@ fn word_id(name: &[u8], rest: &[u8]) -> TokenId
     }
 }
 
-/// The word at the front, outside braces.
+/// The word at the front, outside braces, by the length of its run of letters, digits and `_`.
 #[inline(always)]
 #[tactic(auto, unfolding(crate::specs::TokenScanning::word))]
-pub fn word(z: &[u8]) -> Scanned
+pub fn word_by_name(z: &[u8], name: usize) -> Scanned
+    requires name { name ≡ end_of_run Name z.now 0 }
+    requires within { name ≤ length z.now }
     ensures { result ≡ spec.word z.now }
 {
-    let name = end_of_run(Class::Name, z, 0);
     // No keyword has a colon.
     if byte(z, name) == b':' {
         Ok((T_METRIC_IDENTIFIER, end_of_run(Class::Word, z, name)))
     } else {
         Ok((word_id(&z[..name], &z[name..]), name))
     }
+}
+
+/// The word at the front, outside braces.
+#[inline(always)]
+pub fn word(z: &[u8]) -> Scanned
+    ensures { result ≡ spec.word z.now }
+{
+    word_by_name(z, end_of_run(Class::Name, z, 0))
 }
 
 // In braces `or` before a plain space is the operator.
@@ -60,12 +71,21 @@ fn braces_id(word: &[u8], rest: &[u8]) -> TokenId
     }
 }
 
-/// The word at the front, in braces.
+/// The word at the front, in braces, by its length.
 #[inline(always)]
 #[tactic(auto, unfolding(crate::specs::TokenScanning::word_in_braces))]
+pub fn braces_word_by_name(z: &[u8], name: usize) -> Scanned
+    requires name { name ≡ end_of_run Name z.now 0 }
+    requires within { name ≤ length z.now }
+    ensures { result ≡ spec.word_in_braces z.now }
+{
+    Ok((braces_id(&z[..name], &z[name..]), name))
+}
+
+/// The word at the front, in braces.
+#[inline(always)]
 pub fn word_in_braces(z: &[u8]) -> Scanned
     ensures { result ≡ spec.word_in_braces z.now }
 {
-    let len = end_of_run(Class::Name, z, 0);
-    Ok((braces_id(&z[..len], &z[len..]), len))
+    braces_word_by_name(z, end_of_run(Class::Name, z, 0))
 }
