@@ -16,7 +16,7 @@ use Rattle.promql_text.specs.declared.duration.Unit.TheVariants.{Milli}
 use Rattle.promql_text.specs.declared.number.Number.{Number}
 use Rattle.promql_text.specs.declared.number.Number.TheVariants.{Finite, Inf, NegInf, NaN}
 use Rattle.promql_text.specs.declared.number.NumberFault.{NumberFault}
-use Rattle.promql_text.proofs.Exacts.{seconds_is, seconds_value}
+use Rattle.promql_text.proofs.Exacts.{seconds_value, with_places_is}
 use Rattle.promql_text.proofs.InForm.{read_in_form}
 use Rattle.promql_text.proofs.OneForm.{negated_in_form}
 use Rattle.promql_text.proofs.Quotes.{unquoted_text-quoted}
@@ -168,4 +168,4 @@ nanos_number n is =
     let parts = zeroless 29 n is.some (let less = is.less in omega arith) in
     let above : 0 < parts.digits = (let ends = parts.ends in omega (arith, ends)) in
     let P : Exact → Type 0 = λ d. IsExact d in
-    subst P (seconds_value parts.digits parts.zeros n parts.is above parts.ends is.less) (seconds_is parts.digits parts.zeros n parts.is above parts.ends is.less)
+    subst P (seconds_value parts.digits parts.zeros n parts.is above parts.ends is.less) (with_places_is parts.digits parts.zeros n 9 parts.is above parts.ends is.less (omega arith))

@@ -68,10 +68,22 @@ impl<'a> Tokens<'a> {
     fn fill(&mut self)
         ensures { symbols_left self.new ≡ cursor_symbols self.old.rest }
     {
+        if self.rest.is_at_end() {
+            self.lookahead = Lookahead::End;
+            return;
+        }
         if let Some((id, text)) = self.rest.next_if_word() {
             self.lookahead = Lookahead::Token(token_kind(id), text);
             return;
         }
+        self.fill_with_any();
+    }
+
+    // As `fill`, for what comes less often than the end and words, which save fewer registers without it.
+    #[inline(never)]
+    fn fill_with_any(&mut self)
+        ensures { symbols_left self.new ≡ cursor_symbols self.old.rest }
+    {
         match self.rest.next() {
             Some((id, text)) => self.lookahead = Lookahead::Token(token_kind(id), text),
             None if self.rest.is_at_fault() => self.lookahead = Lookahead::Fault,
