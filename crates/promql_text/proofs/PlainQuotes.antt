@@ -1,6 +1,6 @@
 -- Quoted texts in which each byte is for itself.
-use Rattle.std.proofs.Common.{◌≡◌, ℕ, ◌+◌, ◌-◌, Bool, true, false, [], ◌∷◌, ◌++◌, length, take, drop, get_or, Some, None, Option, refl, sym, ap, ◌∙◌, subst, arith, Bor}
-use Rattle.std.specs.Prelude.{not, ◌||◌, ◌==◌, ◌≤◌, option_and_then, option_map, IfSome, MatchOption, slice_range}
+use Rattle.std.proofs.Common.{◌≡◌, ℕ, ◌+◌, ◌-◌, Bool, true, false, [], ◌∷◌, ◌++◌, length, take, drop, get_or, Some, None, Option, refl, sym, ap, ◌∙◌, subst, Bor}
+use Rattle.std.specs.Prelude.{◌||◌, ◌==◌, ◌≤◌, option_and_then, option_map, IfSome, MatchOption, slice_range}
 use Rattle.std.specs.List.{list_all}
 use Rattle.std.proofs.lemmas.Bool.{cond-true, cond-false, cond_both, eq-eqb, not-true}
 use Rattle.promql_text.specs.Texts.{Text}

@@ -1,4 +1,4 @@
-use Rattle.std.proofs.Common.{◌≡◌, ℕ, ◌-◌, ◌*◌, ◌∷◌, [], List, None, Some, length, take, get_or, ap, sym, ◌∙◌, subst, arith}
+use Rattle.std.proofs.Common.{◌≡◌, ℕ, ◌-◌, ◌*◌, ◌∷◌, [], List, None, Some, length, take, get_or, ap, sym, ◌∙◌, subst}
 use Rattle.std.specs.Str.Parse.{digits_value}
 use Rattle.promql_text.specs.DecimalForm.{decimal_form}
 use Rattle.promql_text.specs.Durations.{nanos_of, parts_nanos, units}
