@@ -7,7 +7,7 @@ use Rattle.promql_text.specs.Texts.{Text}
 use Rattle.promql_grammar.specs.Results.{on_result}
 use Rattle.promql_ast.specs.Tree.{Tree}
 use Rattle.promql_syntax.specs.ParseAnswers.{IsAnswerTo}
-use Rattle.promql_walk.specs.declared.json_error.JsonError.TheVariants as json_errors
+use Rattle.promql_json.specs.declared.error.JsonError.TheVariants as json_errors
 use Rattle.promql_lines.specs.declared.request.Format.{Format}
 use Rattle.promql_calls.specs.Calls.{IsPrintOf}
 use Rattle.promql_calls.specs.Formats.{format_text}

@@ -5,13 +5,13 @@ use Rattle.promql_text.specs.Texts.{Text}
 use Rattle.promql_span.specs.declared.span.Span.{Span}
 use Rattle.promql_ast.specs.Tree.{Tree}
 use Rattle.promql_syntax.specs.ParseAnswers.{IsAnswerTo}
-use Rattle.promql_walk.specs.declared.json_error.JsonError.{JsonError}
-use Rattle.promql_walk.specs.declared.json_error.JsonError.TheVariants as json_errors
+use Rattle.promql_json.specs.declared.error.JsonError.{JsonError}
+use Rattle.promql_json.specs.declared.error.JsonError.TheVariants as json_errors
 use Rattle.promql_rewrite.specs.MatcherTexts.{IsMatcherFault}
 use Rattle.promql_rewrite.specs.declared.matcher_text.MatcherError.{MatcherError}
 use Rattle.promql_rewrite.specs.declared.matcher_text.MatcherError.TheVariants as matcher_error
-use Rattle.promql_run.specs.Checking.{marked_line}
-use Rattle.promql_run.specs.Rejecting.{IsParsed, IsRejection}
+use Rattle.promql_report.specs.Checking.{marked_line}
+use Rattle.promql_report.specs.Rejecting.{IsParsed, IsRejection}
 use Rattle.promql_lines.specs.EnforcedLines.{IsEnforcedLine, IsUnfaithfulLine}
 use Rattle.promql_lines.specs.declared.request.Format.{Format}
 use Rattle.promql_calls.specs.declared.call_error.CallError.{CallError}

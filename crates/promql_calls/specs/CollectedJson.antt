@@ -4,7 +4,7 @@ use Rattle.serde_json.specs.Data.{Data, null, string, object, no_members, member
 use Rattle.promql_text.specs.DurationText.{duration_text}
 use Rattle.promql_text.specs.Texts.{Text}
 use Rattle.promql_ast.specs.Shifts.{Shift, shift_text, Moment, moment_text}
-use Rattle.promql_walk.specs.JsonParts.{list, or_null}
+use Rattle.promql_json.specs.JsonParts.{list, or_null}
 use Rattle.promql_rewrite.specs.Collecting.{Selection, selected}
 
 abbrev pub texts : List Text → Data

@@ -6,8 +6,8 @@ use Rattle.promql_grammar.specs.Results.{on_result}
 use Rattle.promql_ast.specs.Layout.{layout_of}
 use Rattle.promql_ast.specs.Text as one_line
 use Rattle.promql_ast.specs.Tree.{Tree}
-use Rattle.promql_walk.specs.Json.{json}
-use Rattle.promql_walk.specs.declared.json_error.JsonError.{JsonError}
+use Rattle.promql_json.specs.Json.{json}
+use Rattle.promql_json.specs.declared.error.JsonError.{JsonError}
 use Rattle.promql_lines.specs.declared.request.Format.{Format}
 use Rattle.promql_lines.specs.declared.request.Format.TheVariants.{Pretty, Line, Json}
 

@@ -3,8 +3,8 @@
 ghost use Rattle.std.specs.Prelude.{◌≡◌};
 ghost use Rattle.promql_calls.specs.CallResults.{error_status};
 
+use promql_report::rejection::Rejection;
 use promql_rewrite::{MatcherError, NotFaithful};
-use promql_run::rejection::Rejection;
 use std::alloc::AllocError;
 use thiserror::Error;
 

@@ -14,8 +14,8 @@ ghost use Rattle.promql_calls.specs.CollectedTexts.{IsCollectedText};
 
 use crate::call_error::CallError;
 use promql_ast::{AtModifier, Expr, Offset};
+use promql_report::rejection::read_query;
 use promql_rewrite::{Collected, CollectedSelector, collect};
-use promql_run::rejection::read_query;
 use promql_text::display_duration;
 use serde_json::{Value, json};
 use std::alloc::{AllocError, Global};

@@ -8,8 +8,8 @@ ghost use Rattle.promql_calls.specs.Calls.{IsEnforceOf};
 
 use crate::call_error::CallError;
 use promql_lines::enforced_line::{EnforcedLineError, enforced_line};
+use promql_report::rejection::read_query;
 use promql_rewrite::MatcherError;
-use promql_run::rejection::read_query;
 use std::alloc::Global;
 
 /// The line of a text's query with the matcher of the other text in every selector.

@@ -1,7 +1,7 @@
 //! `promql_check`: reads a PromQL query from standard input, and says why and where it is rejected.
 #![tactic(auto)]
 
-use promql_run::check::check_program;
+use promql_report::check::check_program;
 use promql_run::ended::Ended;
 use promql_run::program::arguments;
 use std::process::ExitCode;

@@ -6,8 +6,8 @@ use Rattle.serde_json.specs.Written.{has_float}
 use Rattle.promql_text.specs.Texts.{Text}
 use Rattle.promql_ast.specs.Tree.{Tree}
 use Rattle.promql_syntax.specs.ParseAnswers.{IsAnswerTo}
-use Rattle.promql_walk.specs.declared.json_error.JsonError.TheVariants.{NumberTooWide}
-use Rattle.promql_run.specs.Rejecting.{IsParsed}
+use Rattle.promql_json.specs.declared.error.JsonError.TheVariants.{NumberTooWide}
+use Rattle.promql_report.specs.Rejecting.{IsParsed}
 use Rattle.promql_run.specs.StepErrors.{IsShowError}
 use Rattle.promql_run.specs.declared.run.Mode.{Mode}
 use Rattle.promql_run.specs.declared.run.RunError.{RunError}

@@ -11,15 +11,15 @@ use Rattle.promql_ast.specs.Layout.{layout_of}
 use Rattle.promql_ast.specs.Text as one_line
 use Rattle.promql_ast.specs.Tree.{Tree}
 use Rattle.promql_syntax.specs.ParseAnswers.{IsAnswerTo}
-use Rattle.promql_walk.specs.Json.{json}
-use Rattle.promql_walk.specs.declared.json_error.JsonError.{JsonError}
-use Rattle.promql_walk.specs.declared.json_error.JsonError.TheVariants.{NumberTooWide}
+use Rattle.promql_json.specs.Json.{json}
+use Rattle.promql_json.specs.declared.error.JsonError.{JsonError}
+use Rattle.promql_json.specs.declared.error.JsonError.TheVariants.{NumberTooWide}
 use Rattle.promql_rewrite.specs.MatcherTexts.{IsEnforcedBy, IsMatcherFault}
 use Rattle.promql_rewrite.specs.declared.matcher_text.MatcherError.{MatcherError}
-use Rattle.promql_run.specs.declared.rejection.Rejection.{Rejection}
+use Rattle.promql_report.specs.declared.rejection.Rejection.{Rejection}
 use Rattle.promql_run.specs.declared.run.Mode.{Mode}
 use Rattle.promql_run.specs.declared.run.RunError.TheVariants as error
-use Rattle.promql_run.specs.Rejecting.{IsParsed, IsRejection}
+use Rattle.promql_report.specs.Rejecting.{IsParsed, IsRejection}
 use Rattle.promql_run.specs.Running.{error_number}
 use Rattle.promql_lines.specs.declared.line.LineError.{LineError}
 use Rattle.promql_lines.specs.declared.line.LineError.TheVariants.{Run, Rejected, NotARequest, Matcher}

@@ -14,7 +14,7 @@ use Rattle.promql_rewrite.specs.MatcherTexts.{IsEnforcedBy, IsMatcherFault}
 use Rattle.promql_rewrite.specs.declared.faithful.NotFaithful.{NotFaithful}
 use Rattle.promql_rewrite.specs.declared.faithful.NotFaithful.TheVariants as faithful
 use Rattle.promql_run.specs.Ended.{AppendsBeginning}
-use Rattle.promql_run.specs.Rejecting.{IsParsed, IsRejection}
+use Rattle.promql_report.specs.Rejecting.{IsParsed, IsRejection}
 use Rattle.promql_run.specs.Running.{HasRead}
 use Rattle.promql_lines.specs.declared.enforced_line.EnforcedLineError.{EnforcedLineError}
 use Rattle.promql_lines.specs.declared.enforced_line.EnforcedLineError.TheVariants as error

@@ -5,8 +5,8 @@ ghost use Rattle.promql_ast.specs.View.{tree_of};
 ghost use Rattle.promql_lines.specs.EnforcedLines.{FailsToEnforce, FailsToShow, IsEnforcedLine, ShowsEnforced, enforce_number};
 
 use promql_ast::Expr;
+use promql_report::rejection::{Rejection, read_query};
 use promql_rewrite::{MatcherError, NotFaithful, enforce_text, faithful_line};
-use promql_run::rejection::{Rejection, read_query};
 use std::alloc::{AllocError, Global};
 use thiserror::Error;
 

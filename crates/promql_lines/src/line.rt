@@ -13,8 +13,8 @@ ghost use Rattle.promql_lines.specs.Batch.{FailsOnQuery, FailsWith, HasQueryValu
 use crate::answer_value::render_value;
 use crate::request::{Format, format_in, matcher_in, query_in};
 use promql_ast::Expr;
+use promql_report::rejection::{Rejection, read_query};
 use promql_rewrite::{MatcherError, enforce_text};
-use promql_run::rejection::{Rejection, read_query};
 use promql_run::run::{Mode, RunError};
 use serde_json::{Category, Value, json};
 use std::alloc::{AllocError, Global};

@@ -4,13 +4,13 @@ use Rattle.std.specs.Prelude.{Bool, true, false, if◌then◌else◌, Option, So
 use Rattle.serde_json.specs.Data.{Data}
 use Rattle.promql_ast.specs.Selectors.{Selector, selector}
 use Rattle.promql_ast.specs.Tree.{Tree, aggregate, unary, binary, paren, subquery, number, string, vector, matrix, call, extension, MaybeTree, absent, present, Trees, no_trees, first_tree}
-use Rattle.promql_walk.specs.declared.json_error.JsonError.{JsonError}
-use Rattle.promql_walk.specs.declared.json_error.JsonError.TheVariants.{Memory, NumberTooWide, Extension}
-use Rattle.promql_walk.specs.Events.{events}
-use Rattle.promql_walk.specs.Json.{is_wide, first_of, width_fault, step_fault, selector_fault, own_fault, first_fault, unless, json, json_value}
-use Rattle.promql_walk.specs.JsonFaults.{json_fault, param_fault, args_fault}
-use Rattle.promql_walk.specs.JsonParts.{millis, shift_millis}
-use Rattle.promql_walk.proofs.FaultOrder.{first_met}
+use Rattle.promql_json.specs.declared.error.JsonError.{JsonError}
+use Rattle.promql_json.specs.declared.error.JsonError.TheVariants.{Memory, NumberTooWide, Extension}
+use Rattle.promql_json.specs.Events.{events}
+use Rattle.promql_json.specs.Json.{is_wide, first_of, width_fault, step_fault, selector_fault, own_fault, first_fault, unless, json, json_value}
+use Rattle.promql_json.specs.JsonFaults.{json_fault, param_fault, args_fault}
+use Rattle.promql_json.specs.JsonParts.{millis, shift_millis}
+use Rattle.promql_json.proofs.FaultOrder.{first_met}
 use Rattle.promql_run.specs.Extensions.{HasNoExtension, NoneInParam, NoneInEach}
 
 abbrev IsNoExtension : Option JsonError → Type 0

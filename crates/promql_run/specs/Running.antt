@@ -10,9 +10,9 @@ use Rattle.promql_ast.specs.Layout.{layout_of}
 use Rattle.promql_ast.specs.Text as one_line
 use Rattle.promql_ast.specs.Tree.{Tree}
 use Rattle.promql_syntax.specs.ParseAnswers.{IsAnswerTo, PlainParseError, plain_error_of}
-use Rattle.promql_walk.specs.Json.{json}
-use Rattle.promql_walk.specs.declared.json_error.JsonError.{JsonError}
-use Rattle.promql_walk.specs.declared.json_error.JsonError.TheVariants.{NumberTooWide}
+use Rattle.promql_json.specs.Json.{json}
+use Rattle.promql_json.specs.declared.error.JsonError.{JsonError}
+use Rattle.promql_json.specs.declared.error.JsonError.TheVariants.{NumberTooWide}
 use Rattle.serde_json.specs.Written.{compact_text}
 use Rattle.promql_run.specs.Ended.{AppendsBeginning}
 use Rattle.promql_run.specs.declared.run.Mode.{Mode}

@@ -5,14 +5,14 @@ ghost use Rattle.promql_ast.specs.Height.{height};
 ghost use Rattle.promql_ast.specs.Layout.{layout_of};
 ghost use Rattle.promql_ast.specs.View.{tree_of};
 ghost use Rattle.promql_syntax.specs.declared.parser.TheConstants.{MAX_DEPTH};
-ghost use Rattle.promql_walk.specs.declared.json_error.JsonError.TheVariants.{NumberTooWide};
+ghost use Rattle.promql_json.specs.declared.error.JsonError.TheVariants.{NumberTooWide};
 ghost use Rattle.promql_run.specs.Extensions.{HasNoExtension};
 ghost use Rattle.promql_run.specs.Running.{IsModeLine, mode_text};
 ghost use Rattle.promql_run.specs.StepErrors.{IsShowError};
 
 use crate::run::{Mode, RunError};
 use promql_ast::{Expr, Prettier, PrettyError};
-use promql_walk::JsonError;
+use promql_json::JsonError;
 use std::alloc::{AllocError, Global};
 
 /// The most bytes of a line in the mode `pretty`.
@@ -53,7 +53,7 @@ pub fn json_text(alloc: Global, expr: &Expr) -> Result<Option<String>, AllocErro
     ensures wide { IfOk result (λ form.
         IfNone form (mode_text Mode.Json (tree_of expr.now) ≡ Err NumberTooWide)) }
 {
-    match promql_walk::json_text(alloc, expr) {
+    match promql_json::json_text(alloc, expr) {
         Ok(text) => Ok(Some(text)),
         Err(JsonError::Memory) => Err(AllocError),
         Err(JsonError::NumberTooWide) => Ok(None),

@@ -5,7 +5,7 @@ use Rattle.serde_json.specs.Data.{item}
 use Rattle.serde_json.specs.View.{items_of}
 use Rattle.promql_ast.specs.View.{tree_of, trees_of}
 use Rattle.promql_ast.specs.declared.expr.Expr.{Expr}
-use Rattle.promql_walk.specs.Json.{json_value, args_items}
+use Rattle.promql_json.specs.Json.{json_value, args_items}
 
 pub args_items_of : (bs : List (Box Expr Global)) → args_items (trees_of bs) ≡ items_of (map (λ b. json_value (tree_of b.value)) bs)
 args_items_of [] = refl

@@ -1,8 +1,4 @@
 pub mod Changed
-pub mod FaultOrder
-pub mod FormsAndChildren
 pub mod JsonLists
-pub mod JsonTokens
-pub mod NoFloat
-pub mod SameJsonErrors
+pub mod OwnChildren
 pub mod Walks

@@ -3,7 +3,7 @@ use Rattle.std.proofs.Common.{◌≡◌, ◌∙◌, ◌<◌, ℕ, zero, suc, ◌
 use Rattle.promql_ast.specs.Tree.{Tree}
 use Rattle.promql_ast.specs.View.{tree_of, trees_of, children_of}
 use Rattle.promql_ast.specs.declared.expr.Expr.{Expr}
-use Rattle.promql_walk.specs.Events.{Event, before, after, events, inner_events, all_events}
+use Rattle.promql_json.specs.Events.{Event, before, after, events, inner_events, all_events}
 use Rattle.promql_walk.specs.WalkSteps.{IfGoesOn, Visit, WalksAlong}
 
 -- z is a result that ends a walk

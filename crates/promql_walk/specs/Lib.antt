@@ -1,8 +1,3 @@
 pub mod Changes
 pub mod Children
-pub mod Events
-pub mod Json
-pub mod JsonFaults
-pub mod JsonParts
-pub mod JsonTokens
 pub mod WalkSteps

@@ -1,7 +1,7 @@
 -- What a visitor may have become along the events of a walk (docs/reference/walks.md, "Walks").
 use Rattle.std.specs.Prelude.{◌≡◌, ◌⊎◌, Bool, true, false, List, [], ◌∷◌, Result, Ok, Err}
 use Rattle.promql_ast.specs.Tree.{Tree}
-use Rattle.promql_walk.specs.Events.{Event, before, after}
+use Rattle.promql_json.specs.Events.{Event, before, after}
 
 -- P where the call went on, else Q
 abbrev pub IfGoesOn : {E : Type 0} → Result Bool E → Type 0 → Type 0 → Type 0

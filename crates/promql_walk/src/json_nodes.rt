@@ -5,20 +5,20 @@ ghost use Rattle.serde_json.specs.Data.{object, put as with_member, string as te
 ghost use Rattle.serde_json.specs.View.{items_view, members_view, view};
 ghost use Rattle.promql_ast.specs.Tree.{number, string};
 ghost use Rattle.promql_ast.specs.View.{aggregate_tree, binary_tree, call_tree, matrix_tree, option_tree, paren_tree, selector_of, subquery_tree, tree_of, trees_of, unary_tree};
-ghost use Rattle.promql_walk.specs.Json.{args_items, args_members as args_parts, json_value, node_members, param_json as param_value, selector_fault, selector_members as selector_parts};
-ghost use Rattle.promql_walk.specs.JsonFaults.{args_fault, json_fault, param_fault};
-ghost use Rattle.promql_walk.specs.declared.json_error.JsonError.TheVariants.{Memory};
+ghost use Rattle.promql_json.specs.Json.{args_items, args_members as args_parts, json_value, node_members, param_json as param_value, selector_fault, selector_members as selector_parts};
+ghost use Rattle.promql_json.specs.JsonFaults.{args_fault, json_fault, param_fault};
+ghost use Rattle.promql_json.specs.declared.error.JsonError.TheVariants.{Memory};
 
-use crate::json_error::JsonError;
 use crate::json_parts::{
-    function_json, group_json, is_without, length_json, millis, modifier_json, name_json,
-    number_json, optional_labels_json, put_groups, put_mode, start_or_end_json, step_json,
-    timestamp_json, token_type_json, whole_json,
+    function_json, group_json, length_json, modifier_json, name_json, number_json,
+    optional_labels_json, put_groups, put_mode, start_or_end_json, step_json, timestamp_json,
+    token_type_json, whole_json,
 };
 use promql_ast::{
     AggregateExpr, BinaryExpr, Call, Expr, FunctionArgs, MatrixSelector, NumberLiteral, ParenExpr,
     StringLiteral, SubqueryExpr, UnaryExpr, VectorSelector,
 };
+use promql_json::{JsonError, is_without, offset_millis};
 use serde_json::{Map, Value, put};
 use std::alloc::{AllocError, Global};
 
@@ -72,7 +72,7 @@ pub(crate) fn selector_members(
         &mut members,
         alloc,
         "offset",
-        whole_json(millis(node.offset))?,
+        whole_json(offset_millis(node.offset))?,
     )?;
     put(
         &mut members,
@@ -211,7 +211,7 @@ pub(crate) fn subquery_members(
         &mut members,
         alloc,
         "offset",
-        whole_json(millis(node.offset))?,
+        whole_json(offset_millis(node.offset))?,
     )?;
     put(
         &mut members,

@@ -8,12 +8,12 @@ ghost use Rattle.promql_label.specs.Labels.{labels_of};
 ghost use Rattle.promql_label.specs.MatcherViews.{operator_of, plain_matcher_of, plain_matchers_of};
 ghost use Rattle.promql_kind.specs.Functions.{signature_of};
 ghost use Rattle.promql_kind.specs.ModifierViews.{cardinality_of, clause_of, fills_of, matching_of};
-ghost use Rattle.promql_ast.specs.Shifts.{moment_of, shift_of};
-ghost use Rattle.promql_walk.specs.Json.{step_fault, width_fault};
-ghost use Rattle.promql_walk.specs.JsonParts as spec;
+ghost use Rattle.promql_ast.specs.Shifts.{moment_of};
+ghost use Rattle.promql_json.specs.Json.{step_fault, width_fault};
+ghost use Rattle.promql_json.specs.JsonParts as spec;
 
-use crate::json_error::JsonError;
-use promql_ast::{AtModifier, Offset, RangeMode};
+use promql_ast::{AtModifier, RangeMode};
+use promql_json::JsonError;
 use promql_kind::{
     BinModifier, Function, LabelModifier, ValueType, VectorMatchCardinality, VectorMatchFillValues,
 };
@@ -171,15 +171,6 @@ pub(crate) fn optional_labels_json(
     }
 }
 
-pub(crate) fn is_without(modifier: &Option<LabelModifier>) -> bool
-    ensures { result ≡ spec.is_excluding (option_map clause_of modifier.now) }
-{
-    match modifier {
-        Some(modifier) => !modifier.is_include(),
-        None => false,
-    }
-}
-
 pub(crate) fn cardinality_json(
     alloc: Global,
     card: &VectorMatchCardinality,
@@ -229,16 +220,6 @@ pub(crate) fn modifier_json(
     match modifier {
         Some(modifier) => matching_json(alloc, modifier),
         None => Ok(Value::Null),
-    }
-}
-
-pub(crate) fn millis(offset: Option<Offset>) -> i128
-    ensures { result ≡ spec.shift_millis (option_map shift_of offset) }
-{
-    match offset {
-        Some(Offset::Pos(back)) => back.as_millis() as i128,
-        Some(Offset::Neg(ahead)) => -(ahead.as_millis() as i128),
-        None => 0,
     }
 }
 

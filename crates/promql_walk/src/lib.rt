@@ -2,20 +2,15 @@
 //! The rules are in docs/reference/walks.md and docs/reference/json.md.
 #![tactic(auto)]
 
-pub use json_error::JsonError;
-pub use json_node_text::json_text;
 pub use json_parts::{labels_json, match_op_json, matcher_json, matchers_json, token_type_json};
+pub use promql_json::{JsonError, json_text};
 pub use to_json::ToJson;
 pub use visitor::{ExprVisitor, walk_expr};
 pub use visitor_mut::{ExprVisitorMut, walk_expr_mut};
 
-mod json_check;
 pub mod json_error;
-mod json_node_text;
 mod json_nodes;
-mod json_part_text;
 mod json_parts;
-mod json_writer;
 pub mod laws;
 mod to_json;
 pub mod visitor;

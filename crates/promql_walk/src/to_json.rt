@@ -7,12 +7,11 @@ ghost use Rattle.promql_kind.specs.Functions.{signature_of};
 ghost use Rattle.promql_kind.specs.ModifierViews.{cardinality_of, fills_of};
 ghost use Rattle.promql_ast.specs.Tree.{number, string};
 ghost use Rattle.promql_ast.specs.View.{aggregate_tree, binary_tree, call_tree, matrix_tree, paren_tree, subquery_tree, tree_of, trees_of, unary_tree, vector_tree};
-ghost use Rattle.promql_walk.specs.Json as spec;
-ghost use Rattle.promql_walk.specs.JsonParts.{cardinality_json as cardinality_value, fills_json as fills_value, function_json as function_value, type_json as type_value};
-ghost use Rattle.promql_walk.specs.declared.json_error.JsonError.{JsonError};
-ghost use Rattle.promql_walk.specs.declared.json_error.JsonError.TheVariants.{Memory};
+ghost use Rattle.promql_json.specs.Json as spec;
+ghost use Rattle.promql_json.specs.JsonParts.{cardinality_json as cardinality_value, fills_json as fills_value, function_json as function_value, type_json as type_value};
+ghost use Rattle.promql_json.specs.declared.error.JsonError.{JsonError};
+ghost use Rattle.promql_json.specs.declared.error.JsonError.TheVariants.{Memory};
 
-use crate::json_error::JsonError;
 use crate::json_nodes::{
     aggregate_members, args_members, binary_members, call_members, expr_json, matrix_members,
     number_members, paren_members, selector_members, string_members, subquery_members,
@@ -23,6 +22,7 @@ use promql_ast::{
     AggregateExpr, BinaryExpr, Call, Expr, FunctionArgs, MatrixSelector, NumberLiteral, ParenExpr,
     StringLiteral, SubqueryExpr, UnaryExpr, VectorSelector,
 };
+use promql_json::JsonError;
 use promql_kind::{Function, ValueType, VectorMatchCardinality, VectorMatchFillValues};
 use serde_json::Value;
 use std::alloc::Global;
@@ -47,7 +47,7 @@ pub trait ToJson {
 impl ToJson for Expr {
     ghost json = { λ e. spec.json (tree_of e) };
 
-    #[tactic(auto, using(crate::proofs::FaultOrder::first_met))]
+    #[tactic(auto, using(promql_json::proofs::FaultOrder::first_met))]
     fn to_json(&self, alloc: Global) -> Result<Value, JsonError> {
         expr_json(alloc, self)
     }
@@ -96,7 +96,7 @@ impl ToJson for SubqueryExpr {
 impl ToJson for NumberLiteral {
     ghost json = { λ e. spec.node_json (number e.val) };
 
-    #[tactic(auto, using(crate::proofs::FaultOrder::first_met))]
+    #[tactic(auto, using(promql_json::proofs::FaultOrder::first_met))]
     fn to_json(&self, alloc: Global) -> Result<Value, JsonError> {
         Ok(Value::Object(number_members(alloc, self)?))
     }
@@ -105,7 +105,7 @@ impl ToJson for NumberLiteral {
 impl ToJson for StringLiteral {
     ghost json = { λ e. spec.node_json (string (string_bytes e.val)) };
 
-    #[tactic(auto, using(crate::proofs::FaultOrder::first_met))]
+    #[tactic(auto, using(promql_json::proofs::FaultOrder::first_met))]
     fn to_json(&self, alloc: Global) -> Result<Value, JsonError> {
         Ok(Value::Object(string_members(alloc, self)?))
     }
@@ -114,7 +114,7 @@ impl ToJson for StringLiteral {
 impl ToJson for VectorSelector {
     ghost json = { λ e. spec.node_json (vector_tree e) };
 
-    #[tactic(auto, using(crate::proofs::FaultOrder::first_met))]
+    #[tactic(auto, using(promql_json::proofs::FaultOrder::first_met))]
     fn to_json(&self, alloc: Global) -> Result<Value, JsonError> {
         Ok(Value::Object(selector_members(alloc, self)?))
     }
@@ -123,7 +123,7 @@ impl ToJson for VectorSelector {
 impl ToJson for MatrixSelector {
     ghost json = { λ e. spec.node_json (matrix_tree e) };
 
-    #[tactic(auto, using(crate::proofs::FaultOrder::first_met))]
+    #[tactic(auto, using(promql_json::proofs::FaultOrder::first_met))]
     fn to_json(&self, alloc: Global) -> Result<Value, JsonError> {
         Ok(Value::Object(matrix_members(alloc, self)?))
     }

@@ -3,7 +3,7 @@
 ghost use Rattle.std.specs.Prelude.{Bool, Result};
 ghost use Rattle.promql_ast.specs.Tree.{Tree};
 ghost use Rattle.promql_ast.specs.View.{children_of, option_tree, tree_of, trees_of};
-ghost use Rattle.promql_walk.specs.Events.{all_events, events, inner_events, param_events};
+ghost use Rattle.promql_json.specs.Events.{all_events, events, inner_events, param_events};
 ghost use Rattle.promql_walk.specs.WalkSteps.{IdlesOr, Visit, WalksAlong};
 
 use promql_ast::Expr;

@@ -2,7 +2,7 @@
 
 use super::streams::{FlakyReader, FlakyWriter};
 use super::texts;
-use promql_run::check::{CHECK_HELP, CHECK_USAGE, check_program};
+use promql_report::check::{CHECK_HELP, CHECK_USAGE, check_program};
 use promql_run::ended::Ended;
 use std::alloc::Global;
 use std::process::Abort;

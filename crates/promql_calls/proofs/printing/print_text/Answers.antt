@@ -1,6 +1,6 @@
 use Rattle.std.proofs.Common.{subst}
 use Rattle.promql_ast.specs.View.{tree_of}
-use Rattle.promql_run.specs.Rejecting.{IsReadAs}
+use Rattle.promql_report.specs.Rejecting.{IsReadAs}
 use Rattle.promql_run.proofs.NoExtensions.{answers_are_plain}
 use Rattle.promql_calls.proofs.PrintLemmas.{print_of_tree}
 use Rattle.promql_calls.proofs.printing.print_text.Goals as goal

@@ -2,7 +2,7 @@ use Rattle.std.proofs.Common.{ap, refl, sym, ◌∙◌, subst}
 use Rattle.std.proofs.lemmas.Result.{err_from_is_err_and}
 use Rattle.std.specs.Prelude.{Err, IfErr, option_map}
 use Rattle.promql_ast.specs.View.{tree_of}
-use Rattle.promql_run.specs.Rejecting.{IsReadAs}
+use Rattle.promql_report.specs.Rejecting.{IsReadAs}
 use Rattle.promql_run.specs.StepErrors.{IsShowError}
 use Rattle.promql_run.proofs.NoExtensions.{answers_are_plain}
 use Rattle.promql_lines.proofs.EnforcedTrees.{asked_low, asked_plain}

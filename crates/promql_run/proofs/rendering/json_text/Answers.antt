@@ -1,7 +1,7 @@
 use Rattle.std.proofs.Common.{◌≡◌, ◌≢◌, ap, sym, ◌∙◌}
 use Rattle.std.specs.Prelude.{Err}
 use Rattle.promql_ast.specs.View.{tree_of}
-use Rattle.promql_walk.specs.declared.json_error.JsonError.TheVariants.{Memory, Extension}
+use Rattle.promql_json.specs.declared.error.JsonError.TheVariants.{Memory, Extension}
 use Rattle.promql_run.proofs.JsonForms.{is_no_extension}
 use Rattle.promql_run.proofs.rendering.json_text.Goals as goal
 

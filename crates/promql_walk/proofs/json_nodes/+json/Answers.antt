@@ -1,7 +1,7 @@
 use Rattle.std.proofs.Common.{map, take_all, sym, ap, ◌∙◌}
 use Rattle.serde_json.specs.View.{items_of}
 use Rattle.promql_ast.specs.View.{tree_of}
-use Rattle.promql_walk.specs.Json.{json_value}
+use Rattle.promql_json.specs.Json.{json_value}
 use Rattle.promql_walk.proofs.JsonLists.{args_items_of}
 use Rattle.promql_walk.proofs.json_nodes.+json.Goals as goal
 

@@ -1,8 +1,8 @@
 use Rattle.std.proofs.Common.{◌≡◌, map, take, drop}
 use Rattle.serde_json.specs.View.{view}
 use Rattle.promql_ast.specs.View.{tree_of, trees_of}
-use Rattle.promql_walk.specs.Json.{json_value}
-use Rattle.promql_walk.specs.JsonFaults.{args_fault}
+use Rattle.promql_json.specs.Json.{json_value}
+use Rattle.promql_json.specs.JsonFaults.{args_fault}
 use Rattle.promql_walk.proofs.json_nodes.+json.Given as goal
 
 abbrev pub invariant-args_json-loop-arg : goal.invariant-args_json-loop-arg

@@ -3,7 +3,7 @@ use Rattle.serde_json.specs.Data.{Members, put}
 use Rattle.serde_json.specs.View.{members_view}
 use Rattle.promql_label.specs.MatcherViews.{plain_matcher_of}
 use Rattle.promql_label.specs.declared.matcher.Matcher.{Matcher}
-use Rattle.promql_walk.specs.JsonParts as spec
+use Rattle.promql_json.specs.JsonParts as spec
 use Rattle.promql_walk.proofs.json_parts.put_groups.Goals as goal
 
 some_groups : (gs : List (Vec Matcher Global)) (ms : Members) → 0 < length gs →

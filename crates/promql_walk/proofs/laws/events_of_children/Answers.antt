@@ -1,4 +1,4 @@
-use Rattle.promql_walk.proofs.FormsAndChildren.{of_children}
+use Rattle.promql_walk.proofs.OwnChildren.{of_children}
 use Rattle.promql_walk.proofs.laws.events_of_children.Goals as goal
 
 pub returns : goal.returns

@@ -1,4 +1,4 @@
-use Rattle.promql_walk.proofs.FormsAndChildren.{own}
+use Rattle.promql_walk.proofs.OwnChildren.{own}
 use Rattle.promql_walk.proofs.laws.own_children.Goals as goal
 
 pub returns : goal.returns

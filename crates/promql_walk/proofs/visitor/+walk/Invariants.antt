@@ -1,6 +1,6 @@
 use Rattle.std.proofs.Common.{drop}
 use Rattle.promql_ast.specs.View.{children_of, trees_of}
-use Rattle.promql_walk.specs.Events.{all_events}
+use Rattle.promql_json.specs.Events.{all_events}
 use Rattle.promql_walk.specs.WalkSteps.{IdlesOr, Visit, WalksAlong}
 use Rattle.promql_walk.proofs.visitor.+walk.Given as goal
 

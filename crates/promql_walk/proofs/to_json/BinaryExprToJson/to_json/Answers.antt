@@ -1,9 +1,9 @@
 use Rattle.std.proofs.Common.{◌≡◌, ◌≢◌, ◌∙◌, Ok, Err, ap, sym, rules}
 use Rattle.serde_json.proofs.Views.{view-Object}
 use Rattle.promql_ast.specs.View.{binary_tree}
-use Rattle.promql_walk.specs.declared.json_error.JsonError.TheVariants.{Memory}
-use Rattle.promql_walk.specs.Json.{node_json}
-use Rattle.promql_walk.proofs.FaultOrder.{node_ok, node_err}
+use Rattle.promql_json.specs.declared.error.JsonError.TheVariants.{Memory}
+use Rattle.promql_json.specs.Json.{node_json}
+use Rattle.promql_json.proofs.FaultOrder.{node_ok, node_err}
 use Rattle.promql_walk.proofs.to_json.BinaryExprToJson.to_json.Goals as goal
 
 pub returns-in_err-binary_members-clause-err : goal.returns-in_err-binary_members-clause-err

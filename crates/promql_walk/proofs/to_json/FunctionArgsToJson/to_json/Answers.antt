@@ -1,9 +1,9 @@
 use Rattle.std.proofs.Common.{◌≡◌, ◌≢◌, ◌∙◌, Ok, Err, ap, sym, rules}
 use Rattle.serde_json.proofs.Views.{view-Object}
 use Rattle.promql_ast.specs.View.{trees_of}
-use Rattle.promql_walk.specs.declared.json_error.JsonError.TheVariants.{Memory}
-use Rattle.promql_walk.specs.Json.{args_json}
-use Rattle.promql_walk.proofs.FaultOrder.{args_ok, args_err}
+use Rattle.promql_json.specs.declared.error.JsonError.TheVariants.{Memory}
+use Rattle.promql_json.specs.Json.{args_json}
+use Rattle.promql_json.proofs.FaultOrder.{args_ok, args_err}
 use Rattle.promql_walk.proofs.to_json.FunctionArgsToJson.to_json.Goals as goal
 
 pub returns-in_err-args_members-clause-err : goal.returns-in_err-args_members-clause-err

@@ -1,0 +1,5 @@
+pub mod FaultOrder
+pub mod Forms
+pub mod JsonTokens
+pub mod NoFloat
+pub mod SameJsonErrors

@@ -1,0 +1,5 @@
+pub mod Events
+pub mod Json
+pub mod JsonFaults
+pub mod JsonParts
+pub mod JsonTokens

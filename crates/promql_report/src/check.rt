@@ -1,0 +1,169 @@
+//! The program that checks a query, as a function of its arguments, its input and its two outputs:
+//! docs/reference/programs.md, "One query, checked".
+
+ghost use Rattle.std.specs.Prelude.{◌≡◌, ◌⊎◌, ◌↔◌, false, true, Some, None, IfOk, IfErr, IsErrOf, map, string_bytes};
+ghost use Rattle.std.specs.Io.KnownBytes.{Appends};
+ghost use Rattle.promql_text.specs.Texts.{Text};
+ghost use Rattle.promql_report.specs.Checking.{IsAccepted, IsChecked, IsQueryIn, IsReport, IsReported, check_command};
+ghost use Rattle.promql_run.specs.Running.{IsNotUtf8};
+ghost use Rattle.promql_run.specs.StepErrors.{IsInputError};
+
+use crate::rejection::{Rejection, read_query};
+use promql_run::ended::Ended;
+use promql_run::program::USAGE_STATUS;
+use promql_run::run::{RunError, read_input, write_text};
+use promql_span::snippet;
+use std::alloc::{AllocError, Global};
+use std::io::{Read, Write};
+
+/// The status where the query is rejected.
+pub const REJECTED_STATUS: u8 = 4;
+
+/// The line that is printed for wrong arguments, and the first of the help.
+pub const CHECK_USAGE: &str = "usage: promql_check\n";
+
+/// What `--help` prints.
+pub const CHECK_HELP: &str = "usage: promql_check
+
+Reads a PromQL query from standard input. Prints nothing where it is accepted;
+otherwise, to standard error, the line and the column of the error, its message,
+and the line of the query with a mark below. A line feed at the end of the input
+is no part of the query.
+
+Status: 0 the query is accepted, 4 it is rejected, 1 out of memory, 2 a read
+failed, 3 the input is not UTF-8, 5 a write failed, 64 wrong arguments.
+";
+
+/// What the arguments ask for.
+#[derive(Clone, Copy, PartialEq, Eq, Debug)]
+pub enum CheckCommand {
+    /// The help.
+    Help,
+    /// A check of the input.
+    Check,
+}
+
+/// What the arguments ask for, the program's own name first; `None` where that is nothing known.
+fn command_of(args: &[String]) -> Option<CheckCommand>
+    ensures { result ≡ check_command (map string_bytes args.now) }
+{
+    match args {
+        [_] => Some(CheckCommand::Check),
+        [_, word] if word.as_str() == "--help" => Some(CheckCommand::Help),
+        _ => None,
+    }
+}
+
+/// Why and where the query is rejected, for people: the line and the column, the message, and the line of the query with
+/// its mark.
+fn report(alloc: Global, query: &str, rejection: &Rejection) -> Result<String, AllocError>
+    ensures { IfOk result (λ s. IsReport query.now rejection.now (string_bytes s)) }
+{
+    let mut report = rejection.location.to_string(alloc)?;
+    let message = rejection.error.to_string(alloc)?;
+    let marked = snippet(alloc, query, rejection.span)?;
+    report.push_str(": ")?;
+    report.push_str(message.as_str())?;
+    report.push_str("\n")?;
+    report.push_str(marked.as_str())?;
+    report.push_str("\n")?;
+    Ok(report)
+}
+
+/// The text without a line feed at its end.
+fn query_in(text: &str) -> &str
+    ensures { IsQueryIn text.now result.now }
+{
+    match text.strip_suffix('\n') {
+        Some(query) => query,
+        None => text,
+    }
+}
+
+/// Reads all of the input. Returns the report where the query in it is rejected, `None` where it is accepted.
+fn check_input<R: Read>(alloc: Global, reader: &mut Ended<R>) -> Result<Option<String>, RunError>
+    ensures ok { IfOk result (IsChecked (R.remaining reader.old.inner) (R.remaining reader.new.inner)) }
+    ensures read { IsErrOf result RunError.Read → reader.new.failed ≡ true }
+    ensures not_utf8 { IsErrOf result RunError.NotUtf8
+        → IsNotUtf8 (R.remaining reader.old.inner) (R.remaining reader.new.inner) }
+    ensures errors { IfErr result IsInputError }
+{
+    let input = read_input(alloc, reader)?;
+    let Ok(text) = str::from_utf8(input.as_slice()) else {
+        return Err(RunError::NotUtf8);
+    };
+    let query = query_in(text);
+    match read_query(alloc, query)? {
+        Ok(_) => Ok(None),
+        Err(rejection) => Ok(Some(report(alloc, query, &rejection)?)),
+    }
+}
+
+/// Runs the program that checks a query, and returns its status (docs/reference/programs.md, "One query, checked").
+///
+/// `args` begins with the program's own name. A report, or the message of another error and a line feed, go to `errors`;
+/// what cannot be written is lost, and the status tells the error all the same.
+pub fn check_program<R: Read, W: Write, E: Write>(
+    alloc: Global,
+    args: &[String],
+    reader: &mut Ended<R>,
+    writer: &mut Ended<W>,
+    errors: &mut Ended<E>,
+) -> u8
+    // Other arguments than none or `--help`: the usage line is all that happens.
+    ensures usage { (result ≡ USAGE_STATUS) ↔ (check_command (map string_bytes args.now) ≡ None) }
+    ensures usage_reads_nothing { result ≡ USAGE_STATUS → reader.new ≡ reader.old }
+    ensures usage_writes_nothing { result ≡ USAGE_STATUS → writer.new ≡ writer.old }
+    ensures usage_line { result ≡ USAGE_STATUS → errors.new.failed ≡ false →
+        Appends (E.contents errors.old.inner) (E.contents errors.new.inner) CHECK_USAGE.now }
+    // `--help`: the help is printed, and nothing is read.
+    ensures help_reads_nothing { check_command (map string_bytes args.now)
+        ≡ Some CheckCommand.Help → reader.new ≡ reader.old }
+    ensures help_text { check_command (map string_bytes args.now) ≡ Some CheckCommand.Help
+        → result ≡ 0
+        → Appends (W.contents writer.old.inner) (W.contents writer.new.inner) CHECK_HELP.now }
+    ensures help_status { check_command (map string_bytes args.now) ≡ Some CheckCommand.Help
+        → (result ≡ 0) ⊎ (result ≡ 5) }
+    // A check: nothing is written where the query is accepted, and the report where it is rejected.
+    ensures accepted { check_command (map string_bytes args.now) ≡ Some CheckCommand.Check
+        → result ≡ 0 → IsAccepted (R.remaining reader.old.inner) (R.remaining reader.new.inner) }
+    ensures rejected { result ≡ REJECTED_STATUS → (report : Text)
+        × IsReported (R.remaining reader.old.inner) (R.remaining reader.new.inner) report
+        × (errors.new.failed ≡ false
+        → Appends (E.contents errors.old.inner) (E.contents errors.new.inner) report) }
+    ensures unwritten { check_command (map string_bytes args.now) ≡ Some CheckCommand.Check
+        → writer.new ≡ writer.old }
+    ensures silent { result ≡ 0 → errors.new ≡ errors.old }
+    // Each other status is that of an error.
+    ensures known { (result ≡ 0) ⊎ (result ≡ 1) ⊎ (result ≡ 2) ⊎ (result ≡ 3)
+        ⊎ (result ≡ REJECTED_STATUS) ⊎ (result ≡ 5) ⊎ (result ≡ USAGE_STATUS) }
+    ensures read { result ≡ 2 → reader.new.failed ≡ true }
+    ensures not_utf8 { result ≡ 3
+        → IsNotUtf8 (R.remaining reader.old.inner) (R.remaining reader.new.inner) }
+    ensures write { result ≡ 5 → writer.new.failed ≡ true }
+{
+    match command_of(args) {
+        Some(CheckCommand::Check) => {}
+        Some(CheckCommand::Help) => {
+            return match write_text(writer, CHECK_HELP) {
+                Ok(()) => 0,
+                Err(error) => error.number(),
+            };
+        }
+        None => {
+            let _ = write_text(errors, CHECK_USAGE);
+            return USAGE_STATUS;
+        }
+    }
+    match check_input(alloc, reader) {
+        Ok(None) => 0,
+        Ok(Some(report)) => {
+            let _ = write_text(errors, report.as_str());
+            REJECTED_STATUS
+        }
+        Err(error) => {
+            let _ = writeln!(errors, "{error}");
+            error.number()
+        }
+    }
+}

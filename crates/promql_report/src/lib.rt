@@ -1,0 +1,5 @@
+//! Why and where a query is rejected, and the program that reports it to people. docs/reference/programs.md has the rules.
+#![tactic(auto)]
+
+pub mod check;
+pub mod rejection;

@@ -1,4 +1,0 @@
-use Rattle.promql_walk.proofs.json_part_text.write_cardinality.Goals as goal
-
-pub returns-in-OneToMany : goal.returns-in-OneToMany
-returns-in-OneToMany c = rw c.in-OneToMany.is c.write_grouped-in-OneToMany.ensures
