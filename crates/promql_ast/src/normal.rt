@@ -1,21 +1,16 @@
 //! Normal forms: docs/reference/printing.md, "Normal form".
 
-ghost use Rattle.std.specs.Prelude.{◌≡◌, if◌then◌else◌, IfOk, None, Some, map, option_map};
-ghost use Rattle.promql_ast.specs.Normal.{maybe_normal, normal, normal_clause, normal_matched, normal_matching, normal_selector, unless_default};
-ghost use Rattle.promql_ast.specs.View.{aggregate_tree, binary_tree, call_tree, extension_tree, matrix_tree, option_tree, selector_of, subquery_tree, tree_of};
+ghost use Rattle.std.specs.Prelude.{◌≡◌, if◌then◌else◌, IfOk, None, OnOk, Some, map, option_map};
+ghost use Rattle.promql_ast.specs.Normal.{normal, normal_clause, normal_matched, normal_matching, unless_default};
+ghost use Rattle.promql_ast.specs.View.{aggregate_tree, binary_tree, call_tree, extension_tree, tree_of};
 ghost use Rattle.promql_kind.specs.Modifiers.{is_grouping};
 ghost use Rattle.promql_kind.specs.ModifierViews.{cardinality_of, clause_of, matching_of};
 
 use crate::aggregate::AggregateExpr;
 use crate::binary::BinaryExpr;
-use crate::call::{Call, FunctionArgs};
-use crate::expr::{Expr, new_box};
+use crate::call::Call;
+use crate::expr::Expr;
 use crate::extension::Extension;
-use crate::matrix_selector::MatrixSelector;
-use crate::paren::ParenExpr;
-use crate::subquery::SubqueryExpr;
-use crate::unary::UnaryExpr;
-use crate::vector_selector::VectorSelector;
 use promql_kind::{BinModifier, LabelModifier, VectorMatchCardinality};
 use std::alloc::{AllocError, Global};
 
@@ -27,111 +22,79 @@ impl Expr {
     /// # Errors
     ///
     /// `AllocError` where an allocation failed.
-    #[cycle(normal)]
     pub fn normalized(&self, alloc: Global) -> Result<Expr, AllocError>
         ensures { IfOk result (λ e. tree_of e ≡ normal (tree_of self.now)) }
     {
+        let mut copy = self.try_clone(alloc)?;
+        copy.normalize()?;
+        Ok(copy)
+    }
+
+    /// Brings the expression into its normal form. Where an allocation fails, a part of it may be.
+    #[cycle(normal)]
+    fn normalize(&mut self) -> Result<(), AllocError>
+        ensures { OnOk result (tree_of self.new ≡ normal (tree_of self.old)) }
+    {
         match self {
-            Expr::Aggregate(e) => Ok(Expr::Aggregate(normal_aggregate(alloc, e)?)),
-            Expr::Unary(e) => {
-                let expr = normal_box(alloc, &e.expr)?;
-                Ok(Expr::Unary(UnaryExpr { expr }))
-            }
-            Expr::Binary(e) => Ok(Expr::Binary(normal_binary(alloc, e)?)),
-            Expr::Paren(e) => {
-                let expr = normal_box(alloc, &e.expr)?;
-                Ok(Expr::Paren(ParenExpr { expr }))
-            }
-            Expr::Subquery(e) => Ok(Expr::Subquery(normal_subquery(alloc, e)?)),
-            Expr::NumberLiteral(e) => Ok(Expr::NumberLiteral(*e)),
-            Expr::StringLiteral(e) => Ok(Expr::StringLiteral(e.try_clone(alloc)?)),
-            Expr::VectorSelector(e) => Ok(Expr::VectorSelector(normal_vector(alloc, e)?)),
-            Expr::MatrixSelector(e) => Ok(Expr::MatrixSelector(normal_matrix(alloc, e)?)),
-            Expr::Call(e) => Ok(Expr::Call(normal_call(alloc, e)?)),
-            Expr::Extension(e) => Ok(Expr::Extension(normal_extension(alloc, e)?)),
+            Expr::Aggregate(e) => normalize_aggregate(e),
+            Expr::Unary(e) => e.expr.normalize(),
+            Expr::Binary(e) => normalize_binary(e),
+            Expr::Paren(e) => e.expr.normalize(),
+            Expr::Subquery(e) => e.expr.normalize(),
+            Expr::NumberLiteral(_) => Ok(()),
+            Expr::StringLiteral(_) => Ok(()),
+            Expr::VectorSelector(e) => e.matchers.sort(),
+            Expr::MatrixSelector(e) => e.vs.matchers.sort(),
+            Expr::Call(e) => normalize_call(e),
+            Expr::Extension(e) => normalize_extension(e),
         }
     }
 }
 
 #[cycle(normal)]
-fn normal_box(alloc: Global, expr: &Expr) -> Result<Box<Expr>, AllocError>
-    ensures { IfOk result (λ b. tree_of b.value ≡ normal (tree_of expr.now)) }
+fn normalize_aggregate(node: &mut AggregateExpr) -> Result<(), AllocError>
+    ensures { OnOk result (aggregate_tree node.new ≡ normal (aggregate_tree node.old)) }
 {
-    new_box(alloc, expr.normalized(alloc)?)
-}
-
-#[cycle(normal)]
-fn normal_aggregate(alloc: Global, node: &AggregateExpr) -> Result<AggregateExpr, AllocError>
-    ensures { IfOk result (λ a. aggregate_tree a ≡ normal (aggregate_tree node.now)) }
-{
-    Ok(AggregateExpr {
-        op: node.op,
-        expr: normal_box(alloc, &node.expr)?,
-        param: normal_param(alloc, &node.param)?,
-        modifier: normal_grouping(alloc, &node.modifier)?,
-    })
-}
-
-#[cycle(normal)]
-fn normal_param(alloc: Global, param: &Option<Box<Expr>>) -> Result<Option<Box<Expr>>, AllocError>
-    ensures { IfOk result (λ p. option_tree p ≡ maybe_normal (option_tree param.now)) }
-{
-    match param {
-        Some(param) => Ok(Some(normal_box(alloc, param)?)),
-        None => Ok(None),
+    normalize_grouping(&mut node.modifier);
+    if let Some(param) = &mut node.param {
+        param.normalize()?;
     }
+    node.expr.normalize()
 }
 
-/// The grouping, but for an empty list after `by`.
-fn normal_grouping(
-    alloc: Global,
-    modifier: &Option<LabelModifier>,
-) -> Result<Option<LabelModifier>, AllocError>
-    ensures { IfOk result (λ m. option_map clause_of m
-        ≡ normal_clause (option_map clause_of modifier.now)) }
+/// Leaves out an empty list after `by`.
+fn normalize_grouping(modifier: &mut Option<LabelModifier>)
+    ensures { option_map clause_of modifier.new ≡ normal_clause (option_map clause_of modifier.old) }
 {
-    match modifier {
-        Some(modifier) => {
-            if modifier.is_include() && modifier.labels().is_empty() {
-                return Ok(None);
-            }
-            Ok(Some(modifier.try_clone(alloc)?))
+    if let Some(LabelModifier::Include(labels)) = modifier {
+        if labels.is_empty() {
+            *modifier = None;
         }
-        None => Ok(None),
     }
 }
 
 #[cycle(normal)]
-fn normal_binary(alloc: Global, node: &BinaryExpr) -> Result<BinaryExpr, AllocError>
-    ensures { IfOk result (λ b. binary_tree b ≡ normal (binary_tree node.now)) }
+fn normalize_binary(node: &mut BinaryExpr) -> Result<(), AllocError>
+    ensures { OnOk result (binary_tree node.new ≡ normal (binary_tree node.old)) }
 {
-    Ok(BinaryExpr {
-        op: node.op,
-        lhs: normal_box(alloc, &node.lhs)?,
-        rhs: normal_box(alloc, &node.rhs)?,
-        modifier: normal_modifier(alloc, &node.modifier)?,
-    })
+    normalize_modifier(&mut node.modifier);
+    node.lhs.normalize()?;
+    node.rhs.normalize()
 }
 
-/// The modifier, but for an empty list after `ignoring` where no grouping follows; none where it says nothing else.
-fn normal_modifier(
-    alloc: Global,
-    modifier: &Option<BinModifier>,
-) -> Result<Option<BinModifier>, AllocError>
-    ensures { IfOk result (λ m. option_map matching_of m
-        ≡ normal_matching (option_map matching_of modifier.now)) }
+/// Leaves out an empty list after `ignoring` where no grouping follows, and the modifier where it says nothing else.
+fn normalize_modifier(modifier: &mut Option<BinModifier>)
+    ensures { option_map matching_of modifier.new ≡ normal_matching (option_map matching_of modifier.old) }
 {
-    let Some(modifier) = modifier else {
-        return Ok(None);
+    let Some(left) = modifier else {
+        return;
     };
-    let mut copy = modifier.try_clone(alloc)?;
-    if has_empty_ignoring(&copy) {
-        copy.matching = None;
+    if has_empty_ignoring(left) {
+        left.matching = None;
     }
-    if is_default(&copy) {
-        return Ok(None);
+    if is_default(left) {
+        *modifier = None;
     }
-    Ok(Some(copy))
 }
 
 /// Whether an empty list follows `ignoring`, and no grouping.
@@ -162,78 +125,37 @@ fn is_default(modifier: &BinModifier) -> bool
 }
 
 #[cycle(normal)]
-fn normal_subquery(alloc: Global, node: &SubqueryExpr) -> Result<SubqueryExpr, AllocError>
-    ensures { IfOk result (λ s. subquery_tree s ≡ normal (subquery_tree node.now)) }
+fn normalize_call(node: &mut Call) -> Result<(), AllocError>
+    ensures { OnOk result (call_tree node.new ≡ normal (call_tree node.old)) }
 {
-    Ok(SubqueryExpr {
-        expr: normal_box(alloc, &node.expr)?,
-        offset: node.offset,
-        at: node.at,
-        range: node.range,
-        step: node.step,
-    })
-}
-
-fn normal_vector(alloc: Global, node: &VectorSelector) -> Result<VectorSelector, AllocError>
-    ensures { IfOk result (λ v. selector_of v ≡ normal_selector (selector_of node.now)) }
-{
-    let mut copy = node.try_clone(alloc)?;
-    copy.matchers.sort()?;
-    Ok(copy)
-}
-
-fn normal_matrix(alloc: Global, node: &MatrixSelector) -> Result<MatrixSelector, AllocError>
-    ensures { IfOk result (λ m. matrix_tree m ≡ normal (matrix_tree node.now)) }
-{
-    Ok(MatrixSelector {
-        vs: normal_vector(alloc, &node.vs)?,
-        range: node.range,
-        mode: node.mode,
-    })
+    normalize_args(node.args.args.as_mut_slice())
 }
 
 #[cycle(normal)]
-fn normal_call(alloc: Global, node: &Call) -> Result<Call, AllocError>
-    ensures { IfOk result (λ c. call_tree c ≡ normal (call_tree node.now)) }
+fn normalize_args(args: &mut [Box<Expr>]) -> Result<(), AllocError>
+    ensures { OnOk result (map (λ b. tree_of b.value) args.new
+        ≡ map (λ b. normal (tree_of b.value)) args.old) }
 {
-    let args = normal_args(alloc, &node.args.args)?;
-    Ok(Call {
-        func: node.func,
-        args: FunctionArgs { args },
-    })
-}
-
-#[cycle(normal)]
-fn normal_args(alloc: Global, args: &[Box<Expr>]) -> Result<Vec<Box<Expr>>, AllocError>
-    ensures { IfOk result (λ v. map (λ b. tree_of b.value) v.items
-        ≡ map (λ b. normal (tree_of b.value)) args.now) }
-{
-    let mut copies = Vec::with_capacity(alloc, args.len())?;
-    for arg in args {
-        copies.push(normal_box(alloc, arg)?)?;
+    for i in 0..args.len() {
+        args[i].normalize()?;
     }
-    Ok(copies)
+    Ok(())
 }
 
 #[cycle(normal)]
-fn normal_extension(alloc: Global, node: &Extension) -> Result<Extension, AllocError>
-    ensures { IfOk result (λ e. extension_tree e ≡ normal (extension_tree node.now)) }
+fn normalize_extension(node: &mut Extension) -> Result<(), AllocError>
+    ensures { OnOk result (extension_tree node.new ≡ normal (extension_tree node.old)) }
 {
-    Ok(Extension {
-        name: String::from_str(alloc, node.name.as_str())?,
-        value_type: node.value_type,
-        children: normal_children(alloc, &node.children)?,
-    })
+    normalize_children(node.children.as_mut_slice())
 }
 
 #[cycle(normal)]
-fn normal_children(alloc: Global, children: &[Expr]) -> Result<Vec<Expr>, AllocError>
-    ensures { IfOk result (λ v. map tree_of v.items
-        ≡ map (λ e. normal (tree_of e)) children.now) }
+fn normalize_children(children: &mut [Expr]) -> Result<(), AllocError>
+    ensures { OnOk result (map tree_of children.new
+        ≡ map (λ e. normal (tree_of e)) children.old) }
 {
-    let mut copies = Vec::with_capacity(alloc, children.len())?;
-    for child in children {
-        copies.push(child.normalized(alloc)?)?;
+    for i in 0..children.len() {
+        children[i].normalize()?;
     }
-    Ok(copies)
+    Ok(())
 }

@@ -3,15 +3,6 @@ use Rattle.std.proofs.lemmas.Grind.{common_steps}
 use Rattle.promql_ast.proofs.NodeParts.{tree_of_aggregate, tree_of_call, tree_of_extension}
 use Rattle.promql_ast.proofs.+copy.Goals as goal
 
-pub expr::Expr::try_clone-returns-in_ok-try_clone-in-Aggregate : goal.expr::Expr::try_clone-returns-in_ok-try_clone-in-Aggregate
-expr::Expr::try_clone-returns-in_ok-try_clone-in-Aggregate t c = grind (arith, tree_of_aggregate)
-
-pub expr::Expr::try_clone-returns-in_ok-try_clone-in-Call : goal.expr::Expr::try_clone-returns-in_ok-try_clone-in-Call
-expr::Expr::try_clone-returns-in_ok-try_clone-in-Call t c = grind (arith, tree_of_call)
-
-pub expr::Expr::try_clone-returns-in_ok-try_clone-in-Extension : goal.expr::Expr::try_clone-returns-in_ok-try_clone-in-Extension
-expr::Expr::try_clone-returns-in_ok-try_clone-in-Extension t c = grind (arith, tree_of_extension)
-
 pub aggregate::AggregateExpr::try_clone-returns : goal.aggregate::AggregateExpr::try_clone-returns
 aggregate::AggregateExpr::try_clone-returns t c = grind (arith, common_steps)
 

@@ -4,7 +4,7 @@ use Rattle.promql_ast.proofs.NodeParts.{tree_of_call, tree_of_extension}
 use Rattle.promql_rewrite.specs.Collecting.{all_nodes, maybe_nodes, nodes_of, nodes_within}
 use Rattle.promql_rewrite.specs.CollectedNames.{joined, names_in, names_of, own_names}
 use Rattle.promql_rewrite.proofs.AppendedNames.{joined_all, joined_as, joined_both, joined_more, joined_nodes}
-use Rattle.promql_rewrite.proofs.TreeRows.{on_ok}
+use Rattle.promql_ast.proofs.ChangedLists.{on_ok}
 use Rattle.promql_rewrite.proofs.collecting.+collect.Goals as goal
 
 pub push_expr-returns : goal.push_expr-returns

@@ -5,7 +5,7 @@ use Rattle.promql_label.specs.PlainMatchers.{PlainMatcher, value_of}
 use Rattle.promql_label.proofs.MatcherSearch.{held_of}
 use Rattle.promql_rewrite.specs.Collecting.{is_metric_name}
 use Rattle.promql_rewrite.proofs.AppendedLists.{appended_as, appended_both, passed_both}
-use Rattle.promql_rewrite.proofs.TreeRows.{on_ok}
+use Rattle.promql_ast.proofs.ChangedLists.{on_ok}
 use Rattle.promql_rewrite.proofs.collecting.push_matcher_metrics.Goals as goal
 
 pub returns : goal.returns

@@ -3,7 +3,7 @@ use Rattle.promql_label.specs.Labels.{labels_of}
 use Rattle.promql_kind.specs.ModifierViews.{cardinality_of, clause_of}
 use Rattle.promql_kind.specs.Modifiers.{clause_labels, grouping}
 use Rattle.promql_rewrite.proofs.AppendedLists.{appended_both}
-use Rattle.promql_rewrite.proofs.TreeRows.{on_ok}
+use Rattle.promql_ast.proofs.ChangedLists.{on_ok}
 use Rattle.promql_rewrite.proofs.collecting.push_matching.Goals as goal
 
 pub returns-in-Some : goal.returns-in-Some

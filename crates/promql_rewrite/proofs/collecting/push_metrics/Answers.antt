@@ -3,7 +3,7 @@ use Rattle.promql_label.specs.MatcherViews.{plain_matchers_of}
 use Rattle.promql_label.specs.PlainMatchers.{every, value_of}
 use Rattle.promql_rewrite.specs.Collecting.{is_metric_name}
 use Rattle.promql_rewrite.proofs.AppendedLists.{appended_both}
-use Rattle.promql_rewrite.proofs.TreeRows.{on_ok}
+use Rattle.promql_ast.proofs.ChangedLists.{on_ok}
 use Rattle.promql_rewrite.proofs.collecting.push_metrics.Goals as goal
 
 pub returns : goal.returns

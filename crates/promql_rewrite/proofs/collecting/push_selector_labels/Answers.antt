@@ -5,7 +5,7 @@ use Rattle.promql_label.specs.PlainMatchers.{PlainMatcher, name_of}
 use Rattle.promql_label.proofs.MatcherSearch.{held_of}
 use Rattle.promql_rewrite.specs.Collecting.{is_label_matcher}
 use Rattle.promql_rewrite.proofs.AppendedLists.{appended_as, appended_both, passed_both}
-use Rattle.promql_rewrite.proofs.TreeRows.{on_ok}
+use Rattle.promql_ast.proofs.ChangedLists.{on_ok}
 use Rattle.promql_rewrite.proofs.collecting.push_selector_labels.Goals as goal
 
 pub returns : goal.returns

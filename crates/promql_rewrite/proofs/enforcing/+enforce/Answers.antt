@@ -7,7 +7,8 @@ use Rattle.promql_kind.specs.Functions.{signature_of}
 use Rattle.promql_ast.specs.Tree.{call, extension}
 use Rattle.promql_ast.specs.View.{tree_of, trees, trees_of}
 use Rattle.promql_rewrite.specs.Enforcing.{all_enforced, enforced, first_enforced}
-use Rattle.promql_rewrite.proofs.TreeRows.{all_done, enforced_trees, on_ok, one_more}
+use Rattle.promql_ast.proofs.ChangedLists.{all_done, on_ok, one_more}
+use Rattle.promql_rewrite.proofs.TreeRows.{enforced_trees}
 use Rattle.promql_rewrite.proofs.enforcing.+enforce.Goals as goal
 
 pub enforce_args-loop-i-preserved : goal.enforce_args-loop-i-preserved

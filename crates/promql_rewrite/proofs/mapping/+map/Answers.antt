@@ -6,7 +6,7 @@ use Rattle.promql_ast.specs.Tree.{call, extension}
 use Rattle.promql_ast.specs.View.{option_tree, tree_of, trees}
 use Rattle.promql_rewrite.specs.Mapping.{all_outlines, outline, param_selectors, selectors_in}
 use Rattle.promql_rewrite.proofs.MappedLists.{fails_here, fails_in, kind_later, maps_more, maps_then, outlined_trees}
-use Rattle.promql_rewrite.proofs.TreeRows.{on_ok, one_more}
+use Rattle.promql_ast.proofs.ChangedLists.{on_ok, one_more}
 use Rattle.promql_rewrite.proofs.mapping.+map.Goals as goal
 
 pub map_aggregate-returns-in-Ok-clause-selectors : goal.map_aggregate-returns-in-Ok-clause-selectors

@@ -7,7 +7,7 @@ use Rattle.promql_ast.specs.View.{tree_of, trees}
 use Rattle.promql_rewrite.specs.Renaming.{renamed}
 use Rattle.promql_rewrite.specs.Renamings.{renaming_of}
 use Rattle.promql_rewrite.proofs.RenamedLists.{renamed_trees}
-use Rattle.promql_rewrite.proofs.TreeRows.{all_done, on_ok, one_more}
+use Rattle.promql_ast.proofs.ChangedLists.{all_done, on_ok, one_more}
 use Rattle.promql_rewrite.proofs.renaming.+rename.Goals as goal
 
 pub rename_args-loop-i-preserved : goal.rename_args-loop-i-preserved
