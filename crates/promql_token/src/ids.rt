@@ -1,6 +1,7 @@
 //! The ids of tokens, their texts, and the words that are keywords.
 
-ghost use Rattle.std.specs.Prelude.{◌≡◌, ◌==◌, filter, length, map, slice_index};
+ghost use Rattle.std.specs.Prelude.{◌≡◌, ◌==◌, ◌≤◌, filter, length, map, slice_index};
+ghost use Rattle.std.specs.List.{slice_range};
 ghost use Rattle.std.specs.Char.{to_ascii_lowercase};
 ghost use Rattle.std.specs.Str.{str_eq_ignore_ascii_case};
 ghost use Rattle.promql_token.specs.Ids as spec;
@@ -336,31 +337,42 @@ pub(crate) enum Case {
     Any,
 }
 
+/// Where the keywords that begin with a letter, or with the same letter in the other case, begin and end.
+#[inline(always)]
+fn range_of_letter(letter: u8) -> (usize, usize)
+    ensures within { result.0 ≤ result.1 × result.1 ≤ 35 }
+    ensures keywords { slice_range spec.keywords result.0 result.1
+        ≡ filter (λ k. slice_index k.0 0 == to_ascii_lowercase letter) spec.keywords }
+{
+    match letter {
+        b'a' | b'A' => (0, 4),
+        b'b' | b'B' => (4, 7),
+        b'c' | b'C' => (7, 9),
+        b'e' | b'E' => (9, 10),
+        b'f' | b'F' => (10, 13),
+        b'g' | b'G' => (13, 16),
+        b'i' | b'I' => (16, 18),
+        b'l' | b'L' => (18, 20),
+        b'm' | b'M' => (20, 22),
+        b'n' | b'N' => (22, 23),
+        b'o' | b'O' => (23, 26),
+        b'q' | b'Q' => (26, 27),
+        b's' | b'S' => (27, 32),
+        b't' | b'T' => (32, 33),
+        b'u' | b'U' => (33, 34),
+        b'w' | b'W' => (34, 35),
+        _ => (0, 0),
+    }
+}
+
 /// The keywords that begin with a letter, or with the same letter in the other case.
 #[inline(always)]
 fn keywords_of_letter(letter: u8) -> &'static [(&'static [u8], TokenId)]
     ensures { map (λ k. (k.0.now, k.1)) result.now
         ≡ filter (λ k. slice_index k.0 0 == to_ascii_lowercase letter) spec.keywords }
 {
-    match letter {
-        b'a' | b'A' => &KEYWORDS[0..4],
-        b'b' | b'B' => &KEYWORDS[4..7],
-        b'c' | b'C' => &KEYWORDS[7..9],
-        b'e' | b'E' => &KEYWORDS[9..10],
-        b'f' | b'F' => &KEYWORDS[10..13],
-        b'g' | b'G' => &KEYWORDS[13..16],
-        b'i' | b'I' => &KEYWORDS[16..18],
-        b'l' | b'L' => &KEYWORDS[18..20],
-        b'm' | b'M' => &KEYWORDS[20..22],
-        b'n' | b'N' => &KEYWORDS[22..23],
-        b'o' | b'O' => &KEYWORDS[23..26],
-        b'q' | b'Q' => &KEYWORDS[26..27],
-        b's' | b'S' => &KEYWORDS[27..32],
-        b't' | b'T' => &KEYWORDS[32..33],
-        b'u' | b'U' => &KEYWORDS[33..34],
-        b'w' | b'W' => &KEYWORDS[34..35],
-        _ => &[],
-    }
+    let (start, end) = range_of_letter(letter);
+    &KEYWORDS[start..end]
 }
 
 // Of words of one length. Most words are written in lower case, so that few bytes differ.
