@@ -10,7 +10,7 @@ pub use function::{Function, FunctionArgs};
 pub use lex::lexer;
 pub use promql_ast::{Prettier, PrettyError, Tally};
 pub use promql_span::Span;
-pub use promql_syntax::diagnosis::{Diagnosis, diagnose};
+pub use promql_span::diagnosis::{Diagnosis, diagnose};
 pub use promql_syntax::parser::{MAX_DEPTH, ParseError, parse};
 
 pub mod ast;

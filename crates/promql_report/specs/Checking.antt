@@ -2,7 +2,7 @@
 use Rattle.std.specs.Prelude.{◌≡◌, ◌≢◌, ◌⊎◌, ℕ, ◌++◌, List, [], ◌∷◌, Option, Some, None, Ok, String, string_bytes, encode_utf8_all, bytes_eq, codes, if◌then◌else◌}
 use Rattle.std.specs.Str.{IsUtf8, chars}
 use Rattle.std.specs.declared.alloc.Global.{Global}
-use Rattle.promql_text.specs.Locations.{location_text}
+use Rattle.promql_span.specs.Locations.{location_text}
 use Rattle.promql_text.specs.Texts.{Text}
 use Rattle.promql_ast.specs.Tree.{Tree}
 use Rattle.promql_span.specs.Snippets.{snippet_text}

@@ -1,12 +1,12 @@
 -- Why and where a query is rejected (docs/reference/programs.md, "Errors").
 use Rattle.std.specs.Prelude.{◌≡◌, Some, Result, Ok, Err}
 use Rattle.std.specs.Str.{chars}
-use Rattle.promql_text.specs.Locations.{line_of, column_of}
+use Rattle.promql_span.specs.Locations.{line_of, column_of}
 use Rattle.promql_text.specs.Texts.{Text}
 use Rattle.promql_ast.specs.Tree.{Tree}
 use Rattle.promql_ast.specs.View.{tree_of}
 use Rattle.promql_ast.specs.declared.expr.Expr.{Expr}
-use Rattle.promql_syntax.specs.ErrorPlaces.{IsPlaceOf}
+use Rattle.promql_span.specs.ErrorPlaces.{IsPlaceOf}
 use Rattle.promql_syntax.specs.ParseAnswers.{IsAnswerTo, plain_error_of}
 use Rattle.promql_report.specs.declared.rejection.Rejection.{Rejection}
 

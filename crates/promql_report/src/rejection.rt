@@ -1,13 +1,12 @@
 //! The tree of a query, or why and where it is rejected.
 
-ghost use Rattle.std.specs.Prelude.{◌≡◌, IfOk};
+ghost use Rattle.std.specs.Prelude.{IfOk};
 ghost use Rattle.promql_report.specs.Rejecting.{IsReadAs};
 
 use promql_ast::Expr;
-use promql_span::Span;
-use promql_syntax::diagnosis::{Diagnosis, diagnose};
+use promql_span::diagnosis::{Diagnosis, diagnose};
+use promql_span::{Location, Span};
 use promql_syntax::parser::ParseError;
-use promql_text::Location;
 use std::alloc::{AllocError, Global};
 use thiserror::Error;
 

@@ -8,7 +8,7 @@ use Rattle.std.specs.Str.Pattern.{FindsChar, RFindsChar}
 use Rattle.std.proofs.lemmas.Bool.{cond-false, cond-true, cond_both, eq-eqb, or_right}
 use Rattle.std.proofs.lemmas.List.{append_cancel_right, drop_at, take-append-drop}
 use Rattle.std.proofs.lemmas.Str.{IsUtf8-drop, IsUtf8-past_char, IsUtf8-take, chars-append, chars-nil, chars_from_encodes, chars_past_char, encode_ascii, encodes-append, encodes-chars, length-le-encodes}
-use Rattle.promql_text.specs.Locations.{is_line_feed, last_line}
+use Rattle.promql_span.specs.Locations.{is_line_feed, last_line}
 use Rattle.promql_text.specs.Texts.{Text}
 use Rattle.promql_span.specs.Snippets.{blank, snippet_of, up_to}
 use lib.Utf8.{encodes}

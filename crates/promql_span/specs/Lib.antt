@@ -4,3 +4,6 @@ pub mod Snippets
 pub mod SpanSteps
 pub mod TokenSpans
 pub mod TokensLeft
+pub mod ErrorPlaces
+pub mod Findings
+pub mod Locations

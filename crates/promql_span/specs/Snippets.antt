@@ -2,7 +2,7 @@
 -- here.
 use Rattle.std.specs.Prelude.{ℕ, ◌+◌, ◌-◌, ◌==◌, if◌then◌else◌, min, [], ◌∷◌, ◌++◌, drop, length, map, replicate, take}
 use Rattle.promql_text.specs.Bytes.{caret, carriage_return, line_feed, space, tilde}
-use Rattle.promql_text.specs.Locations.{characters_before, last_line}
+use Rattle.promql_span.specs.Locations.{characters_before, last_line}
 use Rattle.promql_text.specs.Texts.{Text}
 use Rattle.promql_span.specs.declared.span.Span.{Span}
 

@@ -4,8 +4,10 @@ ghost use Rattle.std.specs.Prelude.{◌≤◌, length};
 ghost use Rattle.promql_text.specs.Equalities.{ClonesKeep, HashesAlike, IsSameBy};
 ghost use Rattle.promql_text.specs.Texts.{Text};
 ghost use Rattle.promql_span.specs.PlacedTokens.{PiecesArePlaced, TokensArePlaced, placed_tokens};
+ghost use Rattle.promql_span.specs.declared.location.Location.{Location};
 ghost use Rattle.promql_span.specs.declared.span.Span.{Span};
 
+use crate::location::Location;
 use crate::span::Span;
 use std::hash::Hash;
 
@@ -15,6 +17,12 @@ pub fn equal_spans()
     ensures same { IsSameBy (λ (s : Span). s) ⟦<Span as PartialEq>⟧.eq }
     ensures clones { ClonesKeep (λ (s : Span). s) ⟦<Span as Clone>⟧.is_clone }
     ensures hashed { HashesAlike (λ (s : Span). s) ⟦<Span as Hash>⟧.hash_input }
+{}
+
+/// Locations are equal exactly if their lines and their columns are. A clone is the location.
+pub fn equal_locations()
+    ensures same { IsSameBy (λ (l : Location). l) ⟦<Location as PartialEq>⟧.eq }
+    ensures clones { ClonesKeep (λ (l : Location). l) ⟦<Location as Clone>⟧.is_clone }
 {}
 
 /// The tokens with their places are the tokens of the text, also where a lexical fault comes after

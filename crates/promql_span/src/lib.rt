@@ -1,14 +1,18 @@
-//! Parts of a text by its tokens, and how they are shown: docs/reference/grammar.md, "Places of errors".
+//! Parts of a text by its tokens, how they are shown, and the error of a text with its place: docs/reference/grammar.md,
+//! "Places of errors".
 #![tactic(auto)]
 
 mod argument;
+pub mod diagnosis;
 pub mod laws;
+mod location;
 mod placed;
 mod places;
 mod snippets;
 mod span;
 
+pub use location::Location;
 pub use placed::PlacedTokens;
-pub use places::{argument_span, char_span, end_of_text, span_between, token_before, token_left};
+pub use places::{argument_span, char_span, end_of_text, span_between, token_left};
 pub use snippets::snippet;
 pub use span::Span;

@@ -47,15 +47,6 @@ pub fn token_left(text: &str, left: usize) -> Span
     }
 }
 
-/// The token before the last `left` tokens, or the first token where none is before them, or the
-/// end of the text where it has no token.
-pub fn token_before(text: &str, left: usize) -> Span
-    ensures is { result ≡ first_span text.now (last_tokens (left + 1) (placed_tokens text.now)) }
-    ensures at { 0 < length (placed_tokens text.now) → IsAtTokens text.now result }
-{
-    token_left(text, left.saturating_add(1))
-}
-
 /// The tokens that begin in this part of the text, or the first after it, or the last token where
 /// none is after it, or the end of the text where it has no token.
 pub fn span_between(text: &str, part: Span) -> Span

@@ -1,8 +1,8 @@
 //! Lines of a text with a mark below them: docs/reference/grammar.md, "Places of errors".
 
-ghost use Rattle.std.specs.Prelude.{◌≡◌, ◌++◌, ◌∷◌, ◌-◌, IfOk, OnOk, chars, drop, encode_utf8_all, length, map, replicate, string_bytes, take, IsCharBoundary};
+ghost use Rattle.std.specs.Prelude.{◌≡◌, ◌≤◌, ◌++◌, ◌∷◌, ◌-◌, IfOk, OnOk, chars, drop, encode_utf8_all, length, map, replicate, string_bytes, take, IsCharBoundary};
 ghost use Rattle.promql_text.specs.Bytes.{caret, tilde};
-ghost use Rattle.promql_text.specs.Locations.{characters_before, last_line};
+ghost use Rattle.promql_span.specs.Locations.{characters_before, last_line};
 ghost use Rattle.promql_span.specs.Snippets.{blank, snippet_of, snippet_text, up_to};
 
 use crate::span::Span;
@@ -31,9 +31,10 @@ pub fn snippet(alloc: Global, text: &str, span: Span) -> Result<String, AllocErr
 }
 
 /// The characters that end at or before the byte at `offset`.
-fn text_before(text: &str, offset: usize) -> &str
+pub fn text_before(text: &str, offset: usize) -> &str
     ensures value { chars result.now ≡ characters_before (chars text.now) offset }
     ensures front { result.now ≡ take (length result.now) text.now }
+    ensures short { length result.now ≤ length text.now }
     ensures boundary { IsCharBoundary text.now (length result.now) }
 {
     &text[..text.floor_char_boundary(offset)]

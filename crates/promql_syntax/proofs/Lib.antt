@@ -13,7 +13,6 @@ pub mod Collecting
 pub mod Derive
 pub mod Eating
 pub mod Ending
-pub mod ErrorPlacing
 pub mod ReadErrorSteps
 pub mod ResultSteps
 pub mod BuiltForms

@@ -16,5 +16,3 @@ pub mod ParsesExpr
 pub mod ParsesQuery
 pub mod ParseAnswers
 pub mod ParseErrors
-pub mod ErrorPlaces
-pub mod Findings

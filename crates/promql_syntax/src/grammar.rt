@@ -1,20 +1,20 @@
 //! The parser, with a function for each rule of docs/reference/grammar.md. It lexes each token when it comes
 //! to it.
 
-pub mod aggregate;
-pub mod atom;
-pub mod build;
-pub mod build_atom;
+pub(crate) mod aggregate;
+pub(crate) mod atom;
+pub(crate) mod build;
+pub(crate) mod build_atom;
 pub mod build_error;
-pub mod call;
+pub(crate) mod call;
 pub mod expression;
-pub mod grouping;
-pub mod labels;
-pub mod modifier;
-pub mod parsed;
+pub(crate) mod grouping;
+pub(crate) mod labels;
+pub(crate) mod modifier;
+pub(crate) mod parsed;
 pub mod place;
-pub mod postfix;
-pub mod precedence;
-pub mod selector;
-pub mod string;
-pub mod time;
+pub(crate) mod postfix;
+pub(crate) mod precedence;
+pub(crate) mod selector;
+pub(crate) mod string;
+pub(crate) mod time;

@@ -1,8 +1,7 @@
 //! Reads PromQL into a tree (docs/reference/grammar.md). `promql_parser` passes its names on.
 #![tactic(auto)]
 
-pub mod diagnosis;
-mod grammar;
+pub mod grammar;
 pub mod laws;
 pub mod parser;
-mod tokens;
+pub mod tokens;

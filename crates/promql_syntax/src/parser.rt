@@ -143,7 +143,7 @@ fn parse_error_of(error: Box<BuildError>) -> ParseError
 /// The first error of a text: its lexical fault, or that it has no token, comes before what parsing
 /// found.
 #[inline(never)]
-pub(crate) fn first_error(text: &str, found: ParseError) -> ParseError
+pub fn first_error(text: &str, found: ParseError) -> ParseError
     ensures { result ≡ first_error (has_any (tokens text.now)) found }
 {
     match has_tokens(text) {

@@ -1,5 +1,4 @@
 pub mod AllOptions
-pub mod Columns
 pub mod DigitCounts
 pub mod DigitsRead
 pub mod DurationRelation

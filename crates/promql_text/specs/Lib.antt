@@ -6,7 +6,6 @@ pub mod DurationReaders
 pub mod DurationText
 pub mod Durations
 pub mod Equalities
-pub mod Locations
 pub mod Millis
 pub mod NumberDigits
 pub mod NumberForms

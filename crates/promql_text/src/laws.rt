@@ -19,7 +19,6 @@ ghost use Rattle.promql_text.specs.declared.number.Number.{Number};
 
 use crate::decimal::Decimal;
 use crate::duration::{DurationFault, Unit};
-use crate::location::Location;
 use crate::number::{Number, NumberFault};
 use crate::quote::QuoteError;
 use std::hash::Hash;
@@ -137,15 +136,9 @@ pub fn equal_clones()
     ensures duration_faults { ClonesKeep (λ (f : DurationFault). f) ⟦<DurationFault as Clone>⟧.is_clone }
     ensures quote_errors { ClonesKeep (λ (f : QuoteError). f) ⟦<QuoteError as Clone>⟧.is_clone }
     ensures units { ClonesKeep (λ (u : Unit). u) ⟦<Unit as Clone>⟧.is_clone }
-    ensures locations { ClonesKeep (λ (l : Location). l) ⟦<Location as Clone>⟧.is_clone }
 {}
 
 /// Each unit is equal to itself alone.
 pub fn equal_units()
     ensures { IsSameBy (λ (u : Unit). u) ⟦<Unit as PartialEq>⟧.eq }
-{}
-
-/// Locations are equal exactly if their lines and their columns are.
-pub fn equal_locations()
-    ensures { IsSameBy (λ (l : Location). l) ⟦<Location as PartialEq>⟧.eq }
 {}

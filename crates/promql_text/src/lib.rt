@@ -17,7 +17,6 @@ pub mod duration;
 pub mod duration_text;
 pub mod joined;
 pub mod laws;
-mod location;
 mod millis;
 mod number;
 mod number_text;
@@ -36,7 +35,6 @@ pub use duration::{
 };
 pub use duration_text::{DurationText, display_duration};
 pub use joined::{write_joined, write_joined_by, write_separator};
-pub use location::Location;
 pub use number::{Number, NumberFault};
 pub use number_text::parse_str_radix;
 pub use printed_len::{

@@ -7,6 +7,7 @@ mod facade;
 mod faults;
 mod layouts;
 mod limits;
+mod locations;
 mod memory;
 mod readme;
 mod trees;

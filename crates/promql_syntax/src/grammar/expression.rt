@@ -30,7 +30,7 @@ use std::alloc::Global;
 /// Parses an expression of height at most `max_height`, up to an operator of a precedence below
 /// `min_precedence`.
 #[cycle(parser)]
-pub fn parse_expression(
+pub(crate) fn parse_expression(
     alloc: Global,
     max_height: usize,
     min_precedence: usize,

@@ -2,7 +2,7 @@ use Rattle.std.proofs.Common.{◌≡◌, ◌-◌, ◌∙◌, IfOk, ap, drop, len
 use Rattle.std.specs.Prelude.{encode_utf8_all}
 use Rattle.std.specs.Str.{chars}
 use Rattle.promql_text.specs.Bytes.{carriage_return, line_feed}
-use Rattle.promql_text.specs.Locations.{characters_before, last_line}
+use Rattle.promql_span.specs.Locations.{characters_before, last_line}
 use Rattle.promql_span.specs.Snippets.{snippet_of, snippet_text, up_to}
 use Rattle.promql_span.proofs.LineParts.{chars_after}
 use Rattle.promql_span.proofs.snippets.snippet.Goals as goal

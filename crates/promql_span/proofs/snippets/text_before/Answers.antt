@@ -1,7 +1,7 @@
 use Rattle.std.proofs.Common.{◌≡◌, ◌∙◌, ap, arith, take}
 use Rattle.std.specs.List.{slice_range}
 use Rattle.std.specs.Str.{chars}
-use Rattle.promql_text.proofs.Columns.{cut_before}
+use Rattle.promql_span.proofs.Columns.{cut_before}
 use Rattle.promql_span.proofs.snippets.text_before.Goals as goal
 
 pub returns-clause-value : goal.returns-clause-value

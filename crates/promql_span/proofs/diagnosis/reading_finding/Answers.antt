@@ -1,7 +1,7 @@
 use Rattle.std.proofs.Common.{arith}
 use Rattle.promql_syntax.specs.SymbolsLeft.{symbols_left}
-use Rattle.promql_syntax.proofs.ErrorPlacing.{misfit_found, rest_short}
-use Rattle.promql_syntax.proofs.diagnosis.reading_finding.Goals as goal
+use Rattle.promql_span.proofs.ErrorPlacing.{misfit_found, rest_short}
+use Rattle.promql_span.proofs.diagnosis.reading_finding.Goals as goal
 
 pub returns-in-Syntax : goal.returns-in-Syntax
 returns-in-Syntax c = λ list is some.

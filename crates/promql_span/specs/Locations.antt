@@ -5,7 +5,7 @@ use Rattle.std.specs.Fmt.{decimal}
 use Rattle.std.specs.List.{count_by, list_any, sum_by}
 use Rattle.promql_text.specs.Bytes.{colon, line_feed}
 use Rattle.promql_text.specs.Texts.{Text}
-use Rattle.promql_text.specs.declared.location.Location.{Location}
+use Rattle.promql_span.specs.declared.location.Location.{Location}
 
 -- the characters that end at this byte or before it
 abbrev pub characters_before : Text → ℕ → Text

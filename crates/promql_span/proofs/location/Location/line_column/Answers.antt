@@ -3,9 +3,9 @@ use Rattle.std.specs.List.{count_by}
 use Rattle.std.specs.Str.{IsUtf8, chars}
 use Rattle.std.specs.Str.Iter.{chars_rest}
 use Rattle.std.proofs.lemmas.Bool.{eq-eqb, ne_eqb}
-use Rattle.promql_text.specs.Locations.{characters_before, is_line_feed, last_line}
-use Rattle.promql_text.proofs.Columns.{column_fed, column_from, column_on, column_whole, length_sum, next_size, no_column, no_line, one, passed_feed, passed_other, some_size, text_after}
-use Rattle.promql_text.proofs.location.Location.line_column.Goals as goal
+use Rattle.promql_span.specs.Locations.{characters_before, is_line_feed, last_line}
+use Rattle.promql_span.proofs.Columns.{column_fed, column_from, column_on, column_whole, length_sum, next_size, no_column, no_line, one, passed_feed, passed_other, some_size, text_after}
+use Rattle.promql_span.proofs.location.Location.line_column.Goals as goal
 
 pub loop-c-init : goal.loop-c-init
 loop-c-init c =

@@ -7,24 +7,25 @@ ghost use Rattle.promql_grammar.specs.declared.read_error.ReadError.TheVariants 
 ghost use Rattle.promql_span.specs.PlacedTokens.{end_of};
 ghost use Rattle.promql_span.specs.Snippets.{snippet_text};
 ghost use Rattle.promql_span.specs.TokenSpans.{IsAtTokens};
-ghost use Rattle.promql_syntax.specs.ErrorPlaces.{IsAtFault, IsPlaceOf, diagnosed_answer};
-ghost use Rattle.promql_syntax.specs.Findings.{IsFindingOf, IsFound, IsFoundAt};
+ghost use Rattle.promql_span.specs.ErrorPlaces.{IsAtFault, IsPlaceOf, diagnosed_answer};
+ghost use Rattle.promql_span.specs.Findings.{IsFindingOf, IsFound, IsFoundAt};
 ghost use Rattle.promql_syntax.specs.ParseAnswers.{IsAnswerTo};
 ghost use Rattle.promql_syntax.specs.ParseErrors.{error_of, error_of_build, first_error};
 ghost use Rattle.promql_syntax.specs.SourceTokens.{Token, has_any, tokens};
 ghost use Rattle.promql_syntax.specs.SymbolsLeft.{symbols_left};
 
-use crate::grammar::build_error::BuildError;
-use crate::grammar::expression::parse_query;
-use crate::grammar::place::{Place, TokenRange};
-use crate::parser::{MAX_DEPTH, ParseError, first_error};
-use crate::tokens::Tokens;
+use crate::location::Location;
+use crate::placed::PlacedTokens;
+use crate::places::{argument_span, char_span, end_of_text, span_between, token_left};
+use crate::snippets::snippet;
+use crate::span::Span;
 use promql_ast::Expr;
 use promql_grammar::ReadError;
-use promql_span::{
-    PlacedTokens, Span, argument_span, char_span, end_of_text, snippet, span_between, token_left,
-};
-use promql_text::Location;
+use promql_syntax::grammar::build_error::BuildError;
+use promql_syntax::grammar::expression::parse_query;
+use promql_syntax::grammar::place::{Place, TokenRange};
+use promql_syntax::parser::{MAX_DEPTH, ParseError, first_error};
+use promql_syntax::tokens::Tokens;
 use promql_token::{LexFault, LexFaultKind};
 use std::alloc::{AllocError, Global};
 use std::fmt;
@@ -71,7 +72,7 @@ fn diagnose_building(text: &str, error: Box<BuildError>) -> Diagnosis
         ≡ first_error (has_any (tokens text.now)) (error_of_build error.value) }
     ensures place { IsPlaceOf text.now result.error result.span }
 {
-    promql_span::laws::tokens_are_placed();
+    crate::laws::tokens_are_placed();
     let BuildError { fault, place } = Box::into_inner(error);
     let error = first_error(text, ParseError::from(fault));
     let span = span_of(text, &error, Finding::Fault(place));
@@ -98,7 +99,7 @@ fn reading_finding(text: &str, error: ReadError, left: Tokens<'_>) -> Finding
     ensures { (list : List Token) → tokens text.now ≡ Ok list → 0 < length list
         → IsFindingOf text.now error result }
 {
-    promql_span::laws::tokens_are_placed();
+    crate::laws::tokens_are_placed();
     match error {
         ReadError::Syntax => Finding::Misfit(left.count()),
         ReadError::Memory | ReadError::TooDeep => {

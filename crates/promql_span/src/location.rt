@@ -1,10 +1,11 @@
 //! Lines and columns of a text: docs/reference/texts.md, "Lines and columns".
 
-ghost use Rattle.std.specs.Prelude.{◌≡◌, ◌≤◌, length};
+ghost use Rattle.std.specs.Prelude.{◌≡◌};
 ghost use Rattle.std.specs.Str.{chars};
-ghost use Rattle.promql_text.specs.Locations as spec;
+ghost use Rattle.promql_span.specs.Locations as spec;
 
-use crate::without_options::write_plain;
+use crate::snippets::text_before;
+use promql_text::write_plain;
 use std::fmt;
 
 /// A place of a text, by its line and its column. It prints as `3:14`.
@@ -65,12 +66,4 @@ impl fmt::Display for Location {
         let column = self.column;
         write_plain(format_args!("{line}:{column}"), f)
     }
-}
-
-/// The characters that end at or before the byte at `offset`.
-fn text_before(text: &str, offset: usize) -> &str
-    ensures value { chars result.now ≡ spec.characters_before (chars text.now) offset }
-    ensures short { length result.now ≤ length text.now }
-{
-    &text[..text.floor_char_boundary(offset)]
 }

@@ -7,8 +7,8 @@ use Rattle.promql_grammar.specs.declared.read_error.ReadError.TheVariants.{Memor
 use Rattle.promql_span.specs.PlacedTokens.{first_span, last_tokens, placed_tokens, symbols_at}
 use Rattle.promql_span.specs.TokenSpans.{IsAtTokens}
 use Rattle.promql_span.specs.declared.span.Span.{Span}
-use Rattle.promql_syntax.specs.declared.diagnosis.Finding.{Finding}
-use Rattle.promql_syntax.specs.declared.diagnosis.Finding.TheVariants.{Misfit, Fault}
+use Rattle.promql_span.specs.declared.diagnosis.Finding.{Finding}
+use Rattle.promql_span.specs.declared.diagnosis.Finding.TheVariants.{Misfit, Fault}
 use Rattle.promql_syntax.specs.declared.parser.ParseError.{ParseError}
 use Rattle.promql_syntax.specs.declared.parser.ParseError.TheVariants as errors
 

@@ -2,9 +2,9 @@ use Rattle.std.proofs.Common.{◌≡◌, ◌+◌, ◌≤◌, length}
 use Rattle.std.specs.List.{count_by}
 use Rattle.std.specs.Str.{IsUtf8, chars}
 use Rattle.std.specs.Str.Iter.{chars_rest}
-use Rattle.promql_text.specs.Locations.{column_of, is_line_feed, line_of}
-use Rattle.promql_text.proofs.Columns.{column_from, one}
-use Rattle.promql_text.proofs.location.Location.line_column.Given as goal
+use Rattle.promql_span.specs.Locations.{column_of, is_line_feed, line_of}
+use Rattle.promql_span.proofs.Columns.{column_from, one}
+use Rattle.promql_span.proofs.location.Location.line_column.Given as goal
 
 -- what was counted, and what is to be counted of the rest, is the whole
 abbrev pub invariant-loop-c : goal.invariant-loop-c

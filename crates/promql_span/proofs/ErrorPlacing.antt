@@ -17,15 +17,15 @@ use Rattle.promql_grammar.specs.Symbols.{Symbol, symbol_of}
 use Rattle.promql_span.specs.PlacedTokens.{TokensArePlaced, end_of, first_span, last_tokens, placed_tokens, symbols_at}
 use Rattle.promql_span.specs.TokenSpans.{IsAtTokens}
 use Rattle.promql_span.specs.declared.span.Span.{Span}
-use Rattle.promql_syntax.specs.declared.diagnosis.Finding.{Finding}
-use Rattle.promql_syntax.specs.declared.diagnosis.Finding.TheVariants.{Misfit, Fault}
+use Rattle.promql_span.specs.declared.diagnosis.Finding.{Finding}
+use Rattle.promql_span.specs.declared.diagnosis.Finding.TheVariants.{Misfit, Fault}
 use Rattle.promql_syntax.specs.declared.grammar.build_error.BuildFault.{BuildFault}
 use Rattle.promql_syntax.specs.declared.grammar.build_error.BuildFault.TheVariants as faults
 use Rattle.promql_syntax.specs.declared.grammar.place.Place.{Place}
 use Rattle.promql_syntax.specs.declared.parser.ParseError.{ParseError}
 use Rattle.promql_syntax.specs.declared.parser.ParseError.TheVariants as errors
-use Rattle.promql_syntax.specs.ErrorPlaces.{IsAtFault, IsCharOrEnd, IsPlaceOf}
-use Rattle.promql_syntax.specs.Findings.{HasFault, IsFindingOf, IsFound, IsFoundAt, IsMisfit}
+use Rattle.promql_span.specs.ErrorPlaces.{IsAtFault, IsCharOrEnd, IsPlaceOf}
+use Rattle.promql_span.specs.Findings.{HasFault, IsFindingOf, IsFound, IsFoundAt, IsMisfit}
 use Rattle.promql_syntax.specs.ParseErrors.{error_of, error_of_fault, first_error}
 use Rattle.promql_syntax.specs.SourceTokens.{Token, tokens, has_any}
 use Rattle.promql_syntax.proofs.Listing.{some_zero, whole_list}

@@ -8,7 +8,7 @@ use Rattle.std.proofs.lemmas.Bool.{cases_lt, cond_above, cond_below}
 use Rattle.std.proofs.lemmas.List.{length-take-le, take-append-drop}
 use Rattle.std.proofs.lemmas.List.Sums.{sum_by-cons}
 use Rattle.std.proofs.lemmas.Str.{chars-append, chars-nil, chars_past_char, encodes-chars, length-encode, len_utf8_bounds, IsCharBoundary-past_char, IsUtf8-drop, IsUtf8-past_char, IsUtf8-take}
-use Rattle.promql_text.specs.Locations.{characters_before, is_line_feed, last_line, len_utf16}
+use Rattle.promql_span.specs.Locations.{characters_before, is_line_feed, last_line, len_utf16}
 use Rattle.promql_text.specs.Texts.{Text}
 use lib.Utf8.{encodes}
 

@@ -10,7 +10,7 @@ use Rattle.promql_span.specs.CharSpans.{IsCharAt}
 use Rattle.promql_span.specs.PlacedTokens.{IsAtMisfit, end_of}
 use Rattle.promql_span.specs.TokenSpans.{IsAtTokens}
 use Rattle.promql_span.specs.declared.span.Span.{Span}
-use Rattle.promql_syntax.specs.declared.diagnosis.Diagnosis.{Diagnosis}
+use Rattle.promql_span.specs.declared.diagnosis.Diagnosis.{Diagnosis}
 use Rattle.promql_syntax.specs.declared.parser.ParseError.{ParseError}
 use Rattle.promql_syntax.specs.declared.parser.ParseError.TheVariants as errors
 use Rattle.promql_syntax.specs.ParseAnswers.{PlainParseError, plain_error_of}

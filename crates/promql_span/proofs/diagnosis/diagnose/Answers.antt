@@ -1,7 +1,7 @@
 use Rattle.std.proofs.Common.{ap, ◌∙◌}
 use Rattle.std.specs.Prelude.{Err}
 use Rattle.promql_syntax.proofs.AnswerLemmas.{drawn_answer, build_error_answer, read_error_answer, rejection_answer}
-use Rattle.promql_syntax.proofs.diagnosis.diagnose.Goals as goal
+use Rattle.promql_span.proofs.diagnosis.diagnose.Goals as goal
 
 pub returns-in-Ok-Ok-clause-answer : goal.returns-in-Ok-Ok-clause-answer
 returns-in-Ok-Ok-clause-answer c =

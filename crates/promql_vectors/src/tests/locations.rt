@@ -1,7 +1,7 @@
 //! Lines and columns of bytes.
 
-use crate::tests::{holds, prints};
-use promql_text::Location;
+use super::check_value;
+use promql_parser::util::Location;
 use std::test::Fail;
 
 /// Texts with a byte, its line, its column and its column in UTF-16.
@@ -28,18 +28,15 @@ const PLACES: [(&str, usize, usize, usize, usize); 17] = [
 #[test]
 fn bytes_have_lines_and_columns(rt: HostRuntime) {
     for (text, offset, line, column, _) in PLACES {
-        holds(
-            &rt,
-            Location::line_column(text, offset) == Location { line, column },
-            text,
-        );
+        let found = Location::line_column(text, offset);
+        check_value(&rt, found, Location { line, column }, &text);
     }
 }
 
 #[test]
 fn bytes_have_columns_in_utf16(rt: HostRuntime) {
     for (text, offset, _, _, column) in PLACES {
-        holds(&rt, Location::column_utf16(text, offset) == column, text);
+        check_value(&rt, Location::column_utf16(text, offset), column, &text);
     }
 }
 
@@ -49,5 +46,6 @@ fn locations_are_displayed(rt: HostRuntime) -> Result<(), Fail> {
         line: 3,
         column: 14,
     };
-    prints(&rt, location.to_string(rt.alloc()), "3:14")
+    assert_eq!(rt; location.to_string(rt.alloc())?.as_str(), "3:14");
+    Ok(())
 }
