@@ -13,7 +13,7 @@ ghost use Rattle.promql_calls.specs.CollectedJson as spec;
 ghost use Rattle.promql_calls.specs.CollectedTexts.{IsCollectedText};
 
 use crate::call_error::CallError;
-use promql_ast::{AtModifier, Expr, Offset};
+use promql_ast::{AtModifier, Expr, Offset, drop_expr};
 use promql_report::rejection::read_query;
 use promql_rewrite::{Collected, CollectedSelector, collect};
 use promql_text::display_duration;
@@ -137,7 +137,7 @@ fn collect_text(alloc: Global, query: &str) -> Result<String, CallError>
         Err(_) => return Err(CallError::Memory),
     };
     let text = collected_text(alloc, &expr);
-    drop(expr);
+    drop_expr(expr);
     match text {
         Ok(text) => Ok(text),
         Err(_) => Err(CallError::Memory),

@@ -12,7 +12,7 @@ ghost use Rattle.promql_calls.specs.Formats.{format_numbered, format_text};
 ghost use Rattle.promql_calls.specs.PrintErrors.{IsPrintError};
 
 use crate::call_error::CallError;
-use promql_ast::Expr;
+use promql_ast::{Expr, drop_expr};
 use promql_lines::request::{Format, Layout};
 use promql_report::rejection::read_query;
 use promql_run::rendering::{json_text, pretty_text};
@@ -66,7 +66,7 @@ fn print_text(alloc: Global, format: Format, text: &str) -> Result<String, CallE
         Err(_) => return Err(CallError::Memory),
     };
     let printed = expr_text(alloc, format, &expr);
-    drop(expr);
+    drop_expr(expr);
     printed
 }
 

@@ -4,7 +4,7 @@ ghost use Rattle.std.specs.Prelude.{◌≡◌, IfErr, IfOk, string_bytes};
 ghost use Rattle.promql_ast.specs.View.{tree_of};
 ghost use Rattle.promql_lines.specs.EnforcedLines.{FailsToEnforce, FailsToShow, IsEnforcedLine, ShowsEnforced, enforce_number};
 
-use promql_ast::Expr;
+use promql_ast::{Expr, drop_expr};
 use promql_report::rejection::{Rejection, read_query};
 use promql_rewrite::{MatcherError, NotFaithful, enforce_text, faithful_line};
 use std::alloc::{AllocError, Global};
@@ -63,7 +63,7 @@ fn show_enforced(alloc: Global, expr: Expr, matcher: &str) -> Result<String, Enf
         Err(error) => return Err(EnforcedLineError::Matcher(error)),
     };
     let line = faithful_line(alloc, &enforced);
-    drop(enforced);
+    drop_expr(enforced);
     match line {
         Ok(line) => Ok(line),
         Err(NotFaithful::Memory) => Err(EnforcedLineError::Memory),

@@ -12,7 +12,7 @@ ghost use Rattle.promql_lines.specs.Batch.{FailsOnQuery, FailsWith, HasQueryValu
 
 use crate::answer_value::render_value;
 use crate::request::{Format, format_in, matcher_in, query_in};
-use promql_ast::Expr;
+use promql_ast::{Expr, drop_expr};
 use promql_report::rejection::{Rejection, read_query};
 use promql_rewrite::{MatcherError, enforce_text};
 use promql_run::run::{Mode, RunError};
@@ -106,7 +106,7 @@ fn evaluate_query(
     };
     let expr = enforced(alloc, expr, matcher)?;
     let value = render_value(alloc, format, &expr);
-    drop(expr);
+    drop_expr(expr);
     match value {
         Ok(value) => Ok(value),
         Err(error) => Err(LineError::Run(error)),

@@ -9,6 +9,7 @@ ghost use Rattle.promql_run.specs.Running.{IsNotUtf8};
 ghost use Rattle.promql_run.specs.StepErrors.{IsInputError};
 
 use crate::rejection::{Rejection, read_query};
+use promql_ast::drop_expr;
 use promql_run::ended::Ended;
 use promql_run::program::USAGE_STATUS;
 use promql_run::run::{RunError, read_input, write_text};
@@ -94,7 +95,10 @@ fn check_input<R: Read>(alloc: Global, reader: &mut Ended<R>) -> Result<Option<S
     };
     let query = query_in(text);
     match read_query(alloc, query)? {
-        Ok(_) => Ok(None),
+        Ok(expr) => {
+            drop_expr(expr);
+            Ok(None)
+        }
         Err(rejection) => Ok(Some(report(alloc, query, &rejection)?)),
     }
 }

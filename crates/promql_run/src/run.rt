@@ -10,6 +10,7 @@ ghost use Rattle.promql_run.specs.StepErrors.{IsReadError, IsAnswerError};
 
 use crate::ended::Ended;
 use crate::rendering::render_line;
+use promql_ast::drop_expr;
 use promql_syntax::parser::{ParseError, parse};
 use std::alloc::{AllocError, Global};
 use std::io::{Read, Write};
@@ -139,7 +140,7 @@ fn render_query(alloc: Global, mode: Mode, text: &str) -> Result<String, RunErro
 {
     let expr = parse(alloc, text)?;
     let line = render_line(alloc, mode, &expr);
-    drop(expr);
+    drop_expr(expr);
     line
 }
 
