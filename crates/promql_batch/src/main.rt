@@ -1,9 +1,9 @@
 //! `promql_batch MODE`: reads a PromQL query from each line of standard input and prints an answer for each.
 #![tactic(auto)]
 
+use promql_io::arguments::arguments;
+use promql_io::ended::Ended;
 use promql_lines::batch_program::batch_program;
-use promql_run::ended::Ended;
-use promql_run::program::arguments;
 use promql_run::run::RunError;
 use std::io::{BufReader, BufWriter, Write};
 use std::process::ExitCode;

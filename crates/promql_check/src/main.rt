@@ -1,9 +1,9 @@
 //! `promql_check`: reads a PromQL query from standard input, and says why and where it is rejected.
 #![tactic(auto)]
 
+use promql_io::arguments::arguments;
+use promql_io::ended::Ended;
 use promql_report::check::check_program;
-use promql_run::ended::Ended;
-use promql_run::program::arguments;
 use std::process::ExitCode;
 
 fn main(rt: HostRuntime) -> ExitCode {

@@ -1,9 +1,9 @@
 //! `promql_enforce`: reads a PromQL query from standard input, and writes it with a matcher in every selector.
 #![tactic(auto)]
 
+use promql_io::arguments::arguments;
+use promql_io::ended::Ended;
 use promql_lines::enforce_program::enforce_program;
-use promql_run::ended::Ended;
-use promql_run::program::arguments;
 use std::process::ExitCode;
 
 fn main(rt: HostRuntime) -> ExitCode {

@@ -12,3 +12,6 @@ pub mod Prefixes
 pub mod PartPrefixes
 pub mod ExpressionPrefixes
 pub mod NoneFit
+pub mod Eating
+pub mod Listing
+pub mod MatcherTokens

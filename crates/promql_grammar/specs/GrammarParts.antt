@@ -1,7 +1,7 @@
 -- The parts of an expression that hold no expression, and their tokens (docs/reference/grammar.md, "Parts").
-use Rattle.std.specs.Prelude.{◌≡◌, ℕ, Bool, true, false, Option, Some, None, List, [], ◌∷◌, ◌++◌}
+use Rattle.std.specs.Prelude.{◌≡◌, ℕ, ◌==◌, Bool, true, false, Option, Some, None, List, [], ◌∷◌, ◌++◌}
 use Rattle.promql_text.specs.Texts.{Text}
-use Rattle.promql_token.specs.declared.ids.TheConstants.{T_NEQ, T_LOR}
+use Rattle.promql_token.specs.declared.ids.TheConstants.{T_NEQ, T_LOR, T_SUB}
 use Rattle.promql_grammar.specs.declared.token_kinds.TokenKind.{TokenKind}
 use Rattle.promql_grammar.specs.declared.token_kinds.TokenKind.TheVariants as kind
 use Rattle.promql_grammar.specs.Symbols.{Symbol, punct, word, is_plus_or_minus, may_be_label}
@@ -27,6 +27,11 @@ yield_signed (signed op text) = word (kind.Operator op) text ∷ []
 abbrev pub IsSigned : Signed → Type 0
 IsSigned unsigned = Unit {0}
 IsSigned (signed op text) = is_plus_or_minus op ≡ true
+
+-- a minus negates, a plus does not
+abbrev pub is_minus : Signed → Bool
+is_minus unsigned = false
+is_minus (signed op text) = op == T_SUB
 
 -- "Labels": labels in parentheses, with a comma after the last or none
 pub data Names : Type 0 where

@@ -4,3 +4,10 @@ pub mod Parsing
 pub mod Results
 pub mod Symbols
 pub mod Misfits
+pub mod SourceTokens
+pub mod SymbolsLeft
+pub mod Eating
+pub mod OperatorTokens
+pub mod Failures
+pub mod PartTokens
+pub mod MatcherTokens

@@ -4,7 +4,7 @@ use Rattle.std.specs.Prelude.{◌&&◌, ◌≢◌, Bool, true, false, Option, ma
 use Rattle.std.specs.Io.KnownBytes.{Appends, Consumes, Keeps}
 use Rattle.std.proofs.lemmas.List.Elements.{All-head, All-tail}
 use Rattle.promql_text.specs.Texts.{Text}
-use Rattle.promql_run.proofs.KnownBytes.{appends_keeps, appends_more, appends_none, consumes_more, consumes_none}
+use Rattle.promql_io.proofs.KnownBytes.{appends_keeps, appends_more, appends_none, consumes_more, consumes_none}
 use Rattle.promql_run.specs.declared.run.Mode.{Mode}
 use Rattle.promql_run.specs.declared.run.RunError.{RunError}
 use Rattle.promql_run.specs.declared.run.RunError.TheVariants as error

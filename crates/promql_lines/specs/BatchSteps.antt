@@ -3,7 +3,7 @@ use Rattle.std.specs.Prelude.{◌≢◌, ℕ, ◌++◌, List, [], ◌∷◌, All
 use Rattle.std.specs.Io.{StopsAt}
 use Rattle.std.specs.Io.KnownBytes.{Appends, Consumes}
 use Rattle.promql_text.specs.Texts.{Text}
-use Rattle.promql_run.specs.Ended.{AppendsBeginning}
+use Rattle.promql_io.specs.Ended.{AppendsBeginning}
 use Rattle.promql_run.specs.declared.run.Mode.{Mode}
 use Rattle.promql_run.specs.declared.run.RunError.{RunError}
 use Rattle.promql_run.specs.declared.run.RunError.TheVariants as error

@@ -13,9 +13,9 @@ use Rattle.promql_rewrite.specs.Faithful.{IsLineOf, MeansOther}
 use Rattle.promql_rewrite.specs.MatcherTexts.{IsEnforcedBy, IsMatcherFault}
 use Rattle.promql_rewrite.specs.declared.faithful.NotFaithful.{NotFaithful}
 use Rattle.promql_rewrite.specs.declared.faithful.NotFaithful.TheVariants as faithful
-use Rattle.promql_run.specs.Ended.{AppendsBeginning}
+use Rattle.promql_io.specs.Ended.{AppendsBeginning}
 use Rattle.promql_report.specs.Rejecting.{IsParsed, IsRejection}
-use Rattle.promql_run.specs.Running.{HasRead}
+use Rattle.promql_io.specs.Inputs.{HasRead}
 use Rattle.promql_lines.specs.declared.enforced_line.EnforcedLineError.{EnforcedLineError}
 use Rattle.promql_lines.specs.declared.enforced_line.EnforcedLineError.TheVariants as error
 

@@ -2,13 +2,13 @@
 
 ghost use Rattle.std.specs.Prelude.{◌≡◌, ◌++◌, [], ◌∷◌, false, true, IfOk, OnOk, IfErr, OnErr, IsErrOf};
 ghost use Rattle.std.specs.Io.KnownBytes.{Appends};
-ghost use Rattle.promql_run.specs.Ended.{AppendsBeginning};
+ghost use Rattle.promql_io.specs.Ended.{AppendsBeginning};
 ghost use Rattle.promql_run.specs.Running.{UnlessWrite};
 ghost use Rattle.promql_lines.specs.Batch.{AnswersBefore, AnswersLines, IsCutShort};
 ghost use Rattle.promql_lines.specs.BatchSteps.{IsLineRead, IsPartRead, IsAnswered, IsPartlyAnswered, IsReadingError, IsBatchError};
 
 use crate::line::answer_line;
-use promql_run::ended::Ended;
+use promql_io::ended::Ended;
 use promql_run::run::{Mode, RunError, flush, write_whole};
 use std::alloc::Global;
 use std::io::{BufRead, ErrorKind, Write};

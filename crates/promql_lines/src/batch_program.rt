@@ -7,7 +7,7 @@ ghost use Rattle.promql_lines.specs.Batch.{AnswersBefore, AnswersLines, IsCutSho
 ghost use Rattle.promql_lines.specs.BatchArguments.{batch_command};
 
 use crate::batch::run_batch;
-use promql_run::ended::Ended;
+use promql_io::ended::Ended;
 use promql_run::program::USAGE_STATUS;
 use promql_run::run::{Mode, write_text};
 use std::alloc::Global;

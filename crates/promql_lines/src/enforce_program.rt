@@ -11,7 +11,7 @@ ghost use Rattle.promql_lines.specs.EnforcedLines as spec;
 ghost use Rattle.promql_lines.specs.declared.enforced_line.EnforcedLineError.{EnforcedLineError};
 
 use crate::enforced_line::{EnforcedLineError, enforced_line};
-use promql_run::ended::Ended;
+use promql_io::ended::Ended;
 use promql_run::program::USAGE_STATUS;
 use promql_run::run::{RunError, read_input, write_text};
 use std::alloc::Global;

@@ -9,7 +9,7 @@ use Rattle.promql_span.specs.Snippets.{snippet_text}
 use Rattle.promql_span.specs.declared.span.Span.{Span}
 use Rattle.promql_syntax.specs.ParseAnswers.{IsAnswerTo}
 use Rattle.promql_report.specs.Rejecting.{IsRejection}
-use Rattle.promql_run.specs.Running.{HasRead}
+use Rattle.promql_io.specs.Inputs.{HasRead}
 use Rattle.promql_report.specs.declared.check.CheckCommand.{CheckCommand}
 use Rattle.promql_report.specs.declared.check.CheckCommand.TheVariants.{Help, Check}
 use Rattle.promql_report.specs.declared.rejection.Rejection.{Rejection}

@@ -10,7 +10,7 @@ ghost use Rattle.promql_run.specs.StepErrors.{IsInputError};
 
 use crate::rejection::{Rejection, read_query};
 use promql_ast::drop_expr;
-use promql_run::ended::Ended;
+use promql_io::ended::Ended;
 use promql_run::program::USAGE_STATUS;
 use promql_run::run::{RunError, read_input, write_text};
 use promql_span::snippet;

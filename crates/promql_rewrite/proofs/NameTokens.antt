@@ -5,7 +5,7 @@ use Rattle.promql_text.specs.Texts.{Text}
 use Rattle.promql_token.specs.Cursor.{is_before_end}
 use Rattle.promql_token.specs.declared.fault.LexFault.{LexFault}
 use Rattle.promql_grammar.specs.Results.{on_result}
-use Rattle.promql_syntax.specs.SourceTokens.{Token}
+use Rattle.promql_grammar.specs.SourceTokens.{Token}
 use Rattle.promql_rewrite.specs.Renaming.{is_name_in, is_name_of, is_name_token}
 use Rattle.promql_rewrite.specs.Renamings.{is_nothing}
 

@@ -12,7 +12,7 @@ use Rattle.promql_grammar.specs.Results.{on_result}
 use Rattle.promql_grammar.specs.Symbols.{is_punct, may_be_name, punct, symbol_of, token_kind, word}
 use Rattle.promql_grammar.specs.declared.token_kinds.TokenKind.{TokenKind}
 use Rattle.promql_grammar.specs.declared.token_kinds.TokenKind.TheVariants as kind
-use Rattle.promql_syntax.specs.SourceTokens.{Token, tokens}
+use Rattle.promql_grammar.specs.SourceTokens.{Token, tokens}
 use Rattle.promql_syntax.proofs.Booleans.{and_cases}
 use Rattle.promql_syntax.proofs.PrintedParts.{word_kind}
 use Rattle.promql_syntax.proofs.SpelledWords.{has_words}

@@ -5,12 +5,12 @@ use Rattle.std.specs.Str.{bytes_eq}
 use Rattle.promql_text.specs.Texts.{Text}
 use Rattle.promql_token.specs.declared.fault.LexFault.{LexFault}
 use Rattle.promql_grammar.specs.Symbols.{may_be_name, token_kind}
+use Rattle.promql_grammar.specs.SourceTokens.{Token, tokens}
 use Rattle.promql_label.specs.Labels.{is_among}
 use Rattle.promql_label.specs.PlainMatchers.{PlainMatcher, plain_matcher, PlainMatchers, plain_matchers, every, name_of}
 use Rattle.promql_kind.specs.Modifiers.{Cardinality, one_to_one, many_to_one, one_to_many, many_to_many, Clause, including, excluding, clause_labels, Matching, matching}
 use Rattle.promql_ast.specs.Selectors.{Selector, selector}
 use Rattle.promql_ast.specs.Tree.{Tree, aggregate, unary, binary, paren, subquery, number, string, vector, matrix, call, extension, MaybeTree, absent, present, Trees, no_trees, first_tree}
-use Rattle.promql_syntax.specs.SourceTokens.{Token, tokens}
 use Rattle.promql_rewrite.specs.Collecting.{is_metric_name, matching_labels, nodes_of}
 
 -- the old name and the new one, of a metric or of a label

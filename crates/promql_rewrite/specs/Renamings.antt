@@ -1,7 +1,7 @@
 -- What contracts see of a renaming, and whether tokens are left (private: nothing rests on believing it).
 use Rattle.std.specs.Prelude.{Bool, true, false, List, [], ◌∷◌}
 use Rattle.promql_text.specs.Texts.{Text}
-use Rattle.promql_syntax.specs.SourceTokens.{Token}
+use Rattle.promql_grammar.specs.SourceTokens.{Token}
 use Rattle.promql_rewrite.specs.Renaming.{Renaming, of_label, of_metric}
 use Rattle.promql_rewrite.specs.declared.renaming.Named.{Named}
 use Rattle.promql_rewrite.specs.declared.renaming.Named.TheVariants.{Metric, Label}

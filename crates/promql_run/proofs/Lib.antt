@@ -1,7 +1,6 @@
 pub mod NoExtensions
 pub mod JsonForms
 pub mod Indentations
-pub mod KnownBytes
 pub mod Rejections
 pub mod SameRunErrors
 pub mod Statuses

@@ -8,7 +8,8 @@ use Rattle.promql_syntax.specs.ParseAnswers.{IsAnswerTo, plain_error_of}
 use Rattle.promql_run.specs.declared.run.Mode.{Mode}
 use Rattle.promql_run.specs.declared.run.RunError.{RunError}
 use Rattle.promql_run.specs.declared.run.RunError.TheVariants.{Memory, Parse}
-use Rattle.promql_run.specs.Running.{HasNoForm, HasRead, IsRaised, IsRejected, IsTooWide}
+use Rattle.promql_io.specs.Inputs.{HasRead}
+use Rattle.promql_run.specs.Running.{HasNoForm, IsRaised, IsRejected, IsTooWide}
 
 pub rejected_of : (e : ParseError) (left left_after : Option (List ℕ)) (input text : List ℕ) → HasRead left left_after input → text ≡ input → IsUtf8 input → IsAnswerTo text (Err (plain_error_of e)) × (e ≢ parse_errors.Memory) → IsRejected e left left_after
 rejected_of e left left_after input text read same utf8 rejection = record {

@@ -1,4 +1,3 @@
-pub mod Ended
 pub mod Extensions
 pub mod Running
 pub mod StepErrors

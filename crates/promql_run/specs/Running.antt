@@ -1,9 +1,11 @@
 -- What a run does (docs/reference/programs.md, "A run").
 use Rattle.std.specs.Prelude.{◌≡◌, ◌≢◌, ℕ, ◌++◌, List, [], ◌∷◌, Option, Some, None, Result, Ok, Err, if◌then◌else◌, bytes_eq, codes}
 use Rattle.std.specs.Str.{IsUtf8}
-use Rattle.std.specs.Io.KnownBytes.{Appends, Consumes, IsAtEnd}
+use Rattle.std.specs.Io.KnownBytes.{Appends}
 use Rattle.promql_syntax.specs.declared.parser.ParseError.{ParseError}
 use Rattle.promql_syntax.specs.declared.parser.ParseError.TheVariants as parse_errors
+use Rattle.promql_io.specs.Ended.{AppendsBeginning}
+use Rattle.promql_io.specs.Inputs.{HasRead}
 use Rattle.promql_text.specs.Texts.{Text}
 use Rattle.promql_grammar.specs.Results.{on_result}
 use Rattle.promql_ast.specs.Layout.{layout_of}
@@ -14,7 +16,6 @@ use Rattle.promql_json.specs.Json.{json}
 use Rattle.promql_json.specs.declared.error.JsonError.{JsonError}
 use Rattle.promql_json.specs.declared.error.JsonError.TheVariants.{NumberTooWide}
 use Rattle.serde_json.specs.Written.{compact_text}
-use Rattle.promql_run.specs.Ended.{AppendsBeginning}
 use Rattle.promql_run.specs.declared.run.Mode.{Mode}
 use Rattle.promql_run.specs.declared.run.Mode.TheVariants.{Pretty, Line, Json}
 use Rattle.promql_run.specs.declared.run.RunError.{RunError}
@@ -44,11 +45,6 @@ error_number error.Json = 6
 abbrev pub IsRaised : ParseError → RunError → Type 0
 IsRaised parse_errors.Memory e = e ≡ error.Memory
 IsRaised other e = e ≡ error.Parse other
-
--- these bytes were read, and none is left
-pub record HasRead (old new : Option (List ℕ)) (input : List ℕ) : Type 0 where
-  pub consumes : Consumes old new input
-  pub ended : IsAtEnd new
 
 -- this is what the mode makes of the tree, and a line feed
 abbrev pub IsModeLine : Mode → Tree → Text → Type 0

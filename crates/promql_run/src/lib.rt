@@ -3,7 +3,6 @@
 //! queries, or enforce a matcher.
 #![tactic(auto)]
 
-pub mod ended;
 pub mod laws;
 pub mod program;
 pub mod rendering;

@@ -7,27 +7,17 @@ ghost use Rattle.promql_run.specs.ProgramArguments.{asked_mode};
 ghost use Rattle.promql_run.specs.declared.run.Mode as modes;
 ghost use Rattle.promql_run.specs.Running.{Prints, BeginsToPrint, IsNotUtf8, IsRejected, IsTooWide};
 
-use crate::ended::Ended;
-use crate::run::{Mode, run, write_text};
+use crate::run::{Mode, run};
+use promql_io::ended::Ended;
+use promql_io::writing::write_text;
 use std::alloc::Global;
-use std::env;
 use std::io::{Read, Write};
-use std::rt::Env;
 
 /// The status for arguments that are not the name of one mode.
 pub const USAGE_STATUS: u8 = 64;
 
 /// What is printed for such arguments.
 pub const USAGE: &str = "usage: promql pretty|line|json\n";
-
-/// The process's arguments, the program's own name first; `None` where one is not valid UTF-8 or an allocation failed.
-pub fn arguments<R: Env + AllocGlobal>(rt: &R) -> Option<Vec<String>> {
-    let mut args = Vec::new(rt.alloc());
-    for arg in env::args(rt).ok()? {
-        args.push(arg).ok()?;
-    }
-    Some(args)
-}
 
 /// The mode that the arguments name, the program's own name first; `None` where they are not one known mode.
 fn mode_of(args: &[String]) -> Option<Mode>

@@ -4,13 +4,16 @@ ghost use Rattle.std.specs.Prelude.{◌≡◌, ◌≢◌, true, false, Ok, Err, 
 ghost use Rattle.std.specs.Io.KnownBytes.{Appends, Keeps};
 ghost use Rattle.promql_syntax.specs.declared.parser.ParseError.{ParseError};
 ghost use Rattle.promql_syntax.specs.ParseAnswers.{IsAnswerTo, plain_error_of};
-ghost use Rattle.promql_run.specs.Ended.{AppendsBeginning};
-ghost use Rattle.promql_run.specs.Running.{HasRead, IsPrinted, HasNoForm, Prints, BeginsToPrint, IsNotUtf8, IsRejected, IsTooWide, UnlessRead, UnlessWrite, mode_named, error_number};
+ghost use Rattle.promql_io.specs.Ended.{AppendsBeginning};
+ghost use Rattle.promql_io.specs.Inputs.{HasRead};
+ghost use Rattle.promql_run.specs.Running.{IsPrinted, HasNoForm, Prints, BeginsToPrint, IsNotUtf8, IsRejected, IsTooWide, UnlessRead, UnlessWrite, mode_named, error_number};
 ghost use Rattle.promql_run.specs.StepErrors.{IsReadError, IsAnswerError};
 
-use crate::ended::Ended;
 use crate::rendering::render_line;
 use promql_ast::drop_expr;
+use promql_io::ended::Ended;
+use promql_io::reading::{ReadFault, read_all};
+use promql_io::writing;
 use promql_syntax::parser::{ParseError, parse};
 use std::alloc::{AllocError, Global};
 use std::io::{Read, Write};
@@ -117,16 +120,10 @@ pub fn read_input<R: Read>(alloc: Global, reader: &mut Ended<R>) -> Result<Vec<u
     ensures failed { IsErrOf result RunError.Read → reader.new.failed ≡ true }
     ensures errors { IfErr result IsReadError }
 {
-    let mut bytes = Vec::new(alloc);
-    let mut chunk = [0; 4096];
-    loop {
-        let Ok(count) = reader.read(&mut chunk) else {
-            return Err(RunError::Read);
-        };
-        if count == 0 {
-            return Ok(bytes);
-        }
-        bytes.extend_from_slice(&chunk[..count])?;
+    match read_all(alloc, reader) {
+        Ok(bytes) => Ok(bytes),
+        Err(ReadFault::Memory) => Err(RunError::Memory),
+        Err(ReadFault::Read) => Err(RunError::Read),
     }
 }
 
@@ -156,15 +153,10 @@ pub fn write_whole<W: Write>(writer: &mut Ended<W>, text: &str) -> Result<(), Ru
     ensures failed { OnErr result (writer.new.failed ≡ true) }
     ensures errors { IfErr result (λ e. e ≡ RunError.Write) }
 {
-    let mut rest = text.as_bytes();
-    while !rest.is_empty() {
-        match writer.write(rest) {
-            Ok(0) => return Err(RunError::Write),
-            Ok(count) => rest = &rest[count..],
-            Err(_) => return Err(RunError::Write),
-        }
+    match writing::write_whole(writer, text) {
+        Ok(()) => Ok(()),
+        Err(_) => Err(RunError::Write),
     }
-    Ok(())
 }
 
 /// Flushes the writer; `Write` where that fails.
@@ -175,7 +167,7 @@ pub fn flush<W: Write>(writer: &mut Ended<W>) -> Result<(), RunError>
     ensures failed { OnErr result (writer.new.failed ≡ true) }
     ensures errors { IfErr result (λ e. e ≡ RunError.Write) }
 {
-    match writer.flush() {
+    match writing::flush(writer) {
         Ok(()) => Ok(()),
         Err(_) => Err(RunError::Write),
     }
@@ -194,8 +186,10 @@ pub fn write_text<W: Write>(writer: &mut Ended<W>, text: &str) -> Result<(), Run
     ensures failed { OnErr result (writer.new.failed ≡ true) }
     ensures errors { IfErr result (λ e. e ≡ RunError.Write) }
 {
-    write_whole(writer, text)?;
-    flush(writer)
+    match writing::write_text(writer, text) {
+        Ok(()) => Ok(()),
+        Err(_) => Err(RunError::Write),
+    }
 }
 
 /// Reads all of the input, and writes what the mode makes of it, with a line feed after it.

@@ -14,6 +14,7 @@ use Rattle.promql_grammar.specs.declared.read_error.ReadError.{ReadError}
 use Rattle.promql_grammar.specs.declared.read_error.ReadError.TheVariants as read_errors
 use Rattle.promql_grammar.specs.Misfits.{AreMisfits}
 use Rattle.promql_grammar.specs.Symbols.{Symbol, symbol_of}
+use Rattle.promql_grammar.specs.SourceTokens.{Token, tokens, has_any}
 use Rattle.promql_span.specs.PlacedTokens.{TokensArePlaced, end_of, first_span, last_tokens, placed_tokens, symbols_at}
 use Rattle.promql_span.specs.TokenSpans.{IsAtTokens}
 use Rattle.promql_span.specs.declared.span.Span.{Span}
@@ -27,8 +28,7 @@ use Rattle.promql_syntax.specs.declared.parser.ParseError.TheVariants as errors
 use Rattle.promql_span.specs.ErrorPlaces.{IsAtFault, IsCharOrEnd, IsPlaceOf}
 use Rattle.promql_span.specs.Findings.{HasFault, IsFindingOf, IsFound, IsFoundAt, IsMisfit}
 use Rattle.promql_syntax.specs.ParseErrors.{error_of, error_of_fault, first_error}
-use Rattle.promql_syntax.specs.SourceTokens.{Token, tokens, has_any}
-use Rattle.promql_syntax.proofs.Listing.{some_zero, whole_list}
+use Rattle.promql_grammar.proofs.Listing.{some_zero, whole_list}
 
 -- ---- the tokens of a text with their places
 

@@ -4,6 +4,8 @@ ghost use Rattle.std.specs.Prelude.{◌≡◌, ◌⊎◌, ◌<◌, List, [], Ok,
 ghost use Rattle.promql_grammar.specs.Misfits.{AreMisfits};
 ghost use Rattle.promql_grammar.specs.Symbols.{symbol_of};
 ghost use Rattle.promql_grammar.specs.declared.read_error.ReadError.TheVariants as read_errors;
+ghost use Rattle.promql_grammar.specs.SourceTokens.{Token, has_any, tokens};
+ghost use Rattle.promql_grammar.specs.SymbolsLeft.{symbols_left};
 ghost use Rattle.promql_span.specs.PlacedTokens.{end_of};
 ghost use Rattle.promql_span.specs.Snippets.{snippet_text};
 ghost use Rattle.promql_span.specs.TokenSpans.{IsAtTokens};
@@ -11,8 +13,6 @@ ghost use Rattle.promql_span.specs.ErrorPlaces.{IsAtFault, IsPlaceOf, diagnosed_
 ghost use Rattle.promql_span.specs.Findings.{IsFindingOf, IsFound, IsFoundAt};
 ghost use Rattle.promql_syntax.specs.ParseAnswers.{IsAnswerTo};
 ghost use Rattle.promql_syntax.specs.ParseErrors.{error_of, error_of_build, first_error};
-ghost use Rattle.promql_syntax.specs.SourceTokens.{Token, has_any, tokens};
-ghost use Rattle.promql_syntax.specs.SymbolsLeft.{symbols_left};
 
 use crate::location::Location;
 use crate::placed::PlacedTokens;
@@ -20,12 +20,11 @@ use crate::places::{argument_span, char_span, end_of_text, span_between, token_l
 use crate::snippets::snippet;
 use crate::span::Span;
 use promql_ast::Expr;
-use promql_grammar::ReadError;
+use promql_grammar::{ReadError, Tokens};
 use promql_syntax::grammar::build_error::BuildError;
 use promql_syntax::grammar::expression::parse_query;
 use promql_syntax::grammar::place::{Place, TokenRange};
 use promql_syntax::parser::{MAX_DEPTH, ParseError, first_error};
-use promql_syntax::tokens::Tokens;
 use promql_token::{LexFault, LexFaultKind};
 use std::alloc::{AllocError, Global};
 use std::fmt;

@@ -13,6 +13,8 @@ use Rattle.promql_grammar.specs.Results.{on_result}
 use Rattle.promql_grammar.specs.Symbols.{Symbol, symbol, symbol_of, token_kind, punct, word, begins, may_begin, is_plus_or_minus, is_word_operator}
 use Rattle.promql_grammar.specs.GrammarParts.{no_item}
 use Rattle.promql_grammar.specs.Grammar.{Derivation, number, duration, string, selector, nameless, paren, postfixed, unary, yield, height, IsWellFormed}
+use Rattle.promql_grammar.specs.SymbolsLeft.{fault_symbol}
+use Rattle.promql_grammar.specs.SourceTokens.{Token, tokens, has_any}
 use Rattle.promql_grammar.proofs.KnownKinds.{last_is_known}
 use Rattle.promql_grammar.proofs.NoneFit.{none_spells}
 use Rattle.promql_grammar.proofs.Unique.{one_derivation}
@@ -24,18 +26,16 @@ use Rattle.promql_syntax.specs.ParseAnswers.{PlainParseError, memory, lexical, e
 use Rattle.promql_syntax.specs.Asking.{Ends}
 use Rattle.promql_syntax.specs.Building.{build}
 use Rattle.promql_syntax.specs.BuildErrors.{BuildError, build_error_of, build_fault_of}
-use Rattle.promql_syntax.specs.SymbolsLeft.{fault_symbol}
 use Rattle.promql_syntax.specs.ParseErrors.{error_of, error_of_build, error_of_fault, first_error}
 use Rattle.promql_syntax.specs.declared.parser.ParseError.{ParseError}
 use Rattle.promql_syntax.specs.declared.grammar.build_error.BuildError as code
 use Rattle.promql_syntax.specs.declared.grammar.build_error.BuildFault.{BuildFault}
 use Rattle.promql_syntax.specs.declared.grammar.build_error.BuildFault.TheVariants as variant
-use Rattle.promql_syntax.specs.SourceTokens.{Token, tokens, has_any}
 use Rattle.promql_syntax.specs.ParsesQuery.{ParsesQuery, IsQueryValue}
+use Rattle.promql_grammar.proofs.Listing.{some_zero}
 use Rattle.promql_syntax.proofs.CanonicalTexts.{text_reads_back}
 use Rattle.promql_syntax.proofs.Ending.{ends_under}
 use Rattle.promql_syntax.proofs.Good.{CheckedTyped, IsGood, all_ends, build_good}
-use Rattle.promql_syntax.proofs.Listing.{some_zero}
 
 -- a text with a lexical fault derives nothing, nor does one with no token
 abbrev IsFault : {A : Type 0} → Result A LexFault → Type 0

@@ -13,14 +13,15 @@ use Rattle.promql_grammar.specs.Symbols.{Symbol, punct, word, symbol, may_be_nam
 use Rattle.promql_grammar.specs.Grammar as grammar
 use Rattle.promql_grammar.specs.GrammarParts.{Braces}
 use Rattle.promql_grammar.specs.Parsing.{parse_optional_braces, parse_braces, parse_selector, parse_postfixes, misfit}
+use Rattle.promql_grammar.specs.Eating.{HasNo}
+use Rattle.promql_grammar.specs.Failures.{Fails, Failure}
 use Rattle.promql_label.specs.MatcherViews.{plain_matchers_of}
 use Rattle.promql_label.specs.declared.matchers.Matchers.{Matchers}
 use Rattle.promql_syntax.specs.declared.grammar.build_error.BuildError as code
 use Rattle.promql_syntax.specs.declared.grammar.parsed.ParsedExpr.{ParsedExpr}
 use Rattle.promql_syntax.specs.ParsesPart.{ParsesAskedPart, IsBuiltBy}
-use Rattle.promql_syntax.specs.ParsesExpr.{IsExprOf, ParsesBase, Fails, FailsBase, Failure}
+use Rattle.promql_syntax.specs.ParsesExpr.{IsExprOf, ParsesBase, FailsBase}
 use Rattle.promql_syntax.specs.PartBuilding.{braces_value}
-use Rattle.promql_syntax.specs.PartTokens.{HasNo}
 use Rattle.promql_syntax.specs.Atoms.{parse_atom, parse_named, parse_selector_braces}
 use Rattle.promql_syntax.proofs.ReadErrorSteps.{fails_first}
 use Rattle.promql_syntax.proofs.ResultSteps.{then_then}

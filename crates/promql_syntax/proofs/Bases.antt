@@ -2,6 +2,10 @@
 use Rattle.std.proofs.Common.{◌≡◌, ℕ, ◌≤◌, cond, refl, sym, ◌∙◌, ap, subst, List, [], ◌∷◌, length}
 use Rattle.std.specs.Prelude.{Result, Ok, Err, MatchResult, option_map}
 use Rattle.promql_text.specs.Texts.{Text}
+use Rattle.promql_grammar.specs.OperatorTokens.{EatsUnaryOperator}
+use Rattle.promql_grammar.specs.Eating.{HasNo}
+use Rattle.promql_grammar.specs.Failures.{Fails, Failure}
+use Rattle.promql_grammar.specs.PartTokens.{HasNoGrouping, StartsGrouping}
 use Rattle.promql_kind.specs.ModifierViews.{clause_of}
 use Rattle.promql_grammar.specs.declared.token_kinds.TokenKind.{TokenKind}
 use Rattle.promql_grammar.specs.declared.token_kinds.TokenKind.TheVariants as kind
@@ -15,11 +19,9 @@ use Rattle.promql_grammar.specs.Parsing.{Read, Reader, parse_unary, parse_paren_
 use Rattle.promql_syntax.specs.declared.grammar.parsed.ParsedExpr.{ParsedExpr}
 use Rattle.promql_syntax.specs.declared.grammar.parsed.ParsedArgs.{ParsedArgs}
 use Rattle.promql_syntax.specs.BuildErrors.{view_result}
-use Rattle.promql_syntax.specs.OperatorTokens.{EatsUnaryOperator}
-use Rattle.promql_syntax.specs.ParsesExpr.{IsExprOf, AreArgsOf, ParsesExpr, ParsesArgs, ParsesBase, Fails, FailsBase, Failure}
+use Rattle.promql_syntax.specs.ParsesExpr.{IsExprOf, AreArgsOf, ParsesExpr, ParsesArgs, ParsesBase, FailsBase}
 use Rattle.promql_syntax.specs.ParsesPart.{ParsesPart}
 use Rattle.promql_syntax.specs.PartBuilding.{clause_value}
-use Rattle.promql_syntax.specs.PartTokens.{HasNo, HasNoGrouping, StartsGrouping}
 use Rattle.promql_syntax.proofs.ReadErrorSteps.{fails_same, fails_first}
 
 -- ---- the same base by another name

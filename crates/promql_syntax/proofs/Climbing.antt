@@ -9,9 +9,10 @@ use Rattle.promql_grammar.specs.Symbols.{Symbol, word}
 use Rattle.promql_grammar.specs.GrammarParts.{Modifier}
 use Rattle.promql_grammar.specs.Grammar.{Derivation, binary, precedence, height}
 use Rattle.promql_grammar.specs.Parsing.{Reader, right_precedence, parse_modifier, parse_unary, parse_operators, parse_expression, too_high}
+use Rattle.promql_grammar.specs.OperatorTokens.{HasNoOperator, EatsOperator}
+use Rattle.promql_grammar.specs.Failures.{Fails, Failure}
 use Rattle.promql_syntax.specs.declared.grammar.parsed.ParsedExpr.{ParsedExpr}
-use Rattle.promql_syntax.specs.OperatorTokens.{HasNoOperator, EatsOperator}
-use Rattle.promql_syntax.specs.ParsesExpr.{IsExprOf, ParsesExpr, Fails, Failure}
+use Rattle.promql_syntax.specs.ParsesExpr.{IsExprOf, ParsesExpr}
 use Rattle.promql_syntax.proofs.ReadErrorSteps.{fails_first}
 
 expression_suc : (n m : ℕ) (ts : List Symbol) → parse_expression (suc n) m ts ≡ (parse_unary (parse_expression n) (length ts) (suc n) ts then λ x. parse_operators (parse_expression n) (length ts) n m x.0 x.1)

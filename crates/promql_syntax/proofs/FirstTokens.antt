@@ -8,10 +8,10 @@ use Rattle.promql_grammar.specs.Results.{◌then◌}
 use Rattle.promql_grammar.specs.Symbols.{Symbol, punct, word, symbol, begins, may_be_name, may_be_called, is_plus_or_minus, is_word_operator}
 use Rattle.promql_grammar.specs.Grammar.{Derivation, selector, unary}
 use Rattle.promql_grammar.specs.Parsing.{Read, Reader, parse_unary, parse_selector, parse_call, parse_optional_braces, parse_postfixes, misfit}
+use Rattle.promql_grammar.specs.OperatorTokens.{HasNoUnaryOperator}
+use Rattle.promql_grammar.specs.Eating.{HasNo}
 use Rattle.promql_syntax.specs.declared.grammar.parsed.ParsedExpr.{ParsedExpr}
 use Rattle.promql_syntax.specs.ParsesExpr.{ParsesBase, ParsesExpr}
-use Rattle.promql_syntax.specs.OperatorTokens.{HasNoUnaryOperator}
-use Rattle.promql_syntax.specs.PartTokens.{HasNo}
 use Rattle.promql_syntax.specs.Atoms.{parse_atom, parse_named}
 
 or_second : (a b : Bool) → b ≡ true → (a || b) ≡ true

@@ -11,14 +11,15 @@ use Rattle.promql_grammar.specs.Results.{◌then◌}
 use Rattle.promql_grammar.specs.Symbols.{Symbol, punct, word, may_be_label}
 use Rattle.promql_grammar.specs.GrammarParts.{Names, last, last_comma, next, labels}
 use Rattle.promql_grammar.specs.Parsing.{Read, parse_label_names, parse_label_list, misfit}
+use Rattle.promql_grammar.specs.Eating.{HasNo}
+use Rattle.promql_grammar.specs.Failures.{Fails, Failure}
+use Rattle.promql_grammar.specs.PartTokens.{HasNoLabel, EatsLabel, LabelEnd, closes, comma_closes, comma, parse_label_end, is_last_label, ParsesLabelEnd}
 use Rattle.promql_label.specs.Labels.{labels_of}
 use Rattle.promql_label.specs.declared.labels.Labels as code
 use Rattle.promql_syntax.specs.declared.grammar.build_error.BuildError as build_errors
 use Rattle.promql_syntax.specs.BuildErrors.{BuildError, view_result}
 use Rattle.promql_syntax.specs.ParsesPart.{ParsesPart}
-use Rattle.promql_syntax.specs.ParsesExpr.{Fails, Failure}
 use Rattle.promql_syntax.specs.PartBuilding.{label_value, label_values, name_values}
-use Rattle.promql_syntax.specs.PartTokens.{HasNo, HasNoLabel, EatsLabel, LabelEnd, closes, comma_closes, comma, parse_label_end, is_last_label, ParsesLabelEnd}
 use Rattle.promql_syntax.proofs.ResultSteps.{fails_then, fails_same, then_then, then_ok}
 
 -- what a label and its end give

@@ -9,6 +9,7 @@ use Rattle.promql_token.specs.Lexing.{ScannedText, state_after_scan, found, goes
 use Rattle.promql_token.specs.Lexing as lexing
 use Rattle.promql_token.specs.declared.ids.TheConstants.{T_EOF}
 use Rattle.promql_token.specs.declared.state.State.{State}
+use Rattle.promql_grammar.specs.SourceTokens.{Token, tokens}
 use Rattle.promql_token.proofs.Spans.{lexes}
 use Rattle.promql_token.proofs.Steps.{pieces_end, pieces_are}
 use Rattle.promql_grammar.specs.Grammar.{Derivation, IsWellFormed, yield}
@@ -17,7 +18,6 @@ use Rattle.promql_grammar.specs.Symbols.{symbol_of}
 use Rattle.promql_syntax.specs.ParseAnswers.{Derives}
 use Rattle.promql_syntax.proofs.Booleans.{and_cases}
 use Rattle.promql_syntax.proofs.Lexes.{LexesBefore, at_depth, is_clear}
-use Rattle.promql_syntax.specs.SourceTokens.{Token, tokens}
 use Rattle.promql_syntax.proofs.PrintedItems.{Item, render, strip}
 
 -- ---- the end

@@ -10,7 +10,7 @@ use Rattle.promql_token.specs.declared.class.Class.TheVariants as class
 use Rattle.promql_token.specs.declared.state.Mode.TheVariants as mode
 use Rattle.promql_token.specs.declared.state.State.{State}
 use Rattle.promql_grammar.specs.Symbols.{symbol_of}
-use Rattle.promql_syntax.specs.SourceTokens.{Token}
+use Rattle.promql_grammar.specs.SourceTokens.{Token}
 use Rattle.promql_syntax.proofs.PrintedItems.{Item, render, strip}
 
 -- outside braces and brackets, with so many open parentheses

@@ -11,7 +11,6 @@ pub mod CheckedAgain
 pub mod Climbing
 pub mod Collecting
 pub mod Derive
-pub mod Eating
 pub mod Ending
 pub mod ReadErrorSteps
 pub mod ResultSteps
@@ -34,7 +33,6 @@ pub mod LexedTrees
 pub mod LexedValues
 pub mod LexedWords
 pub mod Lexes
-pub mod Listing
 pub mod MatcherBuilding
 pub mod MatcherLists
 pub mod ModifierReading

@@ -1,50 +1,19 @@
 -- What the tokens of one matcher are parsed as, and build.
-use Rattle.std.proofs.Common.{◌≡◌, refl, ◌∙◌, ap, Bool, true, false, Some, None, List, [], ◌∷◌}
-use Rattle.std.specs.Prelude.{ℕ, Result, Ok, Err, ◌==◌, option_map}
-use Rattle.std.proofs.lemmas.Bool.{cond-true, cond-false}
+use Rattle.std.proofs.Common.{◌≡◌, refl, true, false, List, [], ◌∷◌}
+use Rattle.std.specs.Prelude.{Result, Ok, Err}
 use Rattle.promql_text.specs.Texts.{Text}
-use Rattle.promql_grammar.specs.declared.token_kinds.TokenKind.{TokenKind}
 use Rattle.promql_grammar.specs.declared.token_kinds.TokenKind.TheVariants as kind
-use Rattle.promql_grammar.specs.Symbols.{Symbol, word, symbol}
 use Rattle.promql_grammar.specs.GrammarParts.{MatchOperator, equal, not_equal, equal_regex, not_equal_regex, Item, Separator, comma, or}
-use Rattle.promql_grammar.specs.Parsing.{parse_match_operator}
+use Rattle.promql_grammar.specs.declared.matcher_tokens.MatchOperator as code
+use Rattle.promql_grammar.specs.declared.matcher_tokens.MatchOperator.TheVariants as operators
+use Rattle.promql_grammar.specs.MatcherTokens.{operator_of_part, is_or}
 use Rattle.promql_label.specs.Answers.{Answer, Allows, built, rejected}
 use Rattle.promql_label.specs.PlainMatchers as plain
 use Rattle.promql_syntax.specs.Asking.{Asking, gives, Asked, AreAllowed, Ends}
 use Rattle.promql_syntax.specs.BuildErrors.{BuildError, pattern}
-use Rattle.promql_syntax.specs.declared.grammar.selector.MatchOperator as code
-use Rattle.promql_syntax.specs.declared.grammar.selector.MatchOperator.TheVariants as operators
-use Rattle.promql_syntax.specs.MatcherItems.{operator_of_part, match_operator_of, IsMatchOperator, is_or, AddsItem}
+use Rattle.promql_syntax.specs.MatcherItems.{AddsItem}
 use Rattle.promql_syntax.specs.PartBuilding.{operator_value, item_value, append_matcher}
 use Rattle.promql_syntax.proofs.Asked.{ends_map, ends_err}
-
--- ---- operators
-
-operator_token : (op : ℕ) (t : Text) (ts : List Symbol) (o : code.MatchOperator) (b : Bool) → (op == 37) ≡ b → Some o ≡ option_map operator_of_part (match_operator_of (kind.Operator op) t) → IsMatchOperator o ts (parse_match_operator (word (kind.Operator op) t ∷ ts))
-operator_token op t ts o true is some = record {
-  operator = not_equal t;
-  is = cond-true (op == 37) _ _ is;
-  same = let same : Some o ≡ Some operators.NotEqual = some ∙ ap (option_map operator_of_part) (cond-true (op == 37) _ _ is) in cc;
-}
-operator_token op t ts o false is some = let none : Some o ≡ None = some ∙ ap (option_map operator_of_part) (cond-false (op == 37) _ _ is) in cc
-
-pub match_operator : (k : TokenKind) (t : Text) (ts : List Symbol) (o : code.MatchOperator) → Some o ≡ option_map operator_of_part (match_operator_of k t) → IsMatchOperator o ts (parse_match_operator (symbol k t ∷ ts))
-match_operator kind.Equal t ts o some = record { operator = equal; is = refl; same = cc }
-match_operator kind.EqualRegex t ts o some = record { operator = equal_regex; is = refl; same = cc }
-match_operator kind.NotEqualRegex t ts o some = record { operator = not_equal_regex; is = refl; same = cc }
-match_operator (kind.Operator op) t ts o some = operator_token op t ts o (op == 37) refl some
-match_operator k t ts o some = cc
-
-no_operator_token : (op : ℕ) (t : Text) (ts : List Symbol) (b : Bool) → (op == 37) ≡ b → None ≡ option_map operator_of_part (match_operator_of (kind.Operator op) t) → parse_match_operator (word (kind.Operator op) t ∷ ts) ≡ Ok (None, word (kind.Operator op) t ∷ ts)
-no_operator_token op t ts true is none = let some : None ≡ Some operators.NotEqual = none ∙ ap (option_map operator_of_part) (cond-true (op == 37) _ _ is) in cc
-no_operator_token op t ts false is none = cond-false (op == 37) _ _ is
-
-pub no_match_operator : (k : TokenKind) (t : Text) (ts : List Symbol) → None ≡ option_map operator_of_part (match_operator_of k t) → parse_match_operator (symbol k t ∷ ts) ≡ Ok (None, symbol k t ∷ ts)
-no_match_operator kind.Equal t ts none = cc
-no_match_operator kind.EqualRegex t ts none = cc
-no_match_operator kind.NotEqualRegex t ts none = cc
-no_match_operator (kind.Operator op) t ts none = no_operator_token op t ts (op == 37) refl none
-no_match_operator k t ts none = refl
 
 -- ---- building
 

@@ -9,6 +9,9 @@ use Rattle.promql_grammar.specs.Results.{◌then◌}
 use Rattle.promql_grammar.specs.Symbols.{Symbol, punct, word}
 use Rattle.promql_grammar.specs.GrammarParts.{Item, Items, last_item, last_item_comma, next_item, items, Separator, comma, or}
 use Rattle.promql_grammar.specs.Parsing.{Read, parse_item, parse_items, parse_after_item, parse_braces, Stop, misfit}
+use Rattle.promql_grammar.specs.Eating.{HasNo}
+use Rattle.promql_grammar.specs.MatcherTokens.{ItemEnd, closes, comma_closes, joins, parse_item_end, is_or, next_group, ParsesItemEnd}
+use Rattle.promql_grammar.specs.Failures.{Fails, Failure}
 use Rattle.promql_label.specs.PlainMatchers.{PlainMatchers, plain_matchers}
 use Rattle.promql_label.specs.MatcherViews.{plain_matchers_of}
 use Rattle.promql_label.specs.declared.matchers.Matchers as code
@@ -16,10 +19,8 @@ use Rattle.promql_syntax.specs.declared.grammar.build_error.BuildError as build_
 use Rattle.promql_syntax.specs.Asking.{◌giving◌, Asked, AreAllowed, Ends}
 use Rattle.promql_syntax.specs.BuildErrors.{BuildError, view_result}
 use Rattle.promql_syntax.specs.ParsesPart.{ParsesAskedPart}
-use Rattle.promql_syntax.specs.MatcherItems.{ItemEnd, closes, comma_closes, joins, parse_item_end, is_or, next_group, ParsesItemEnd, ItemEnds, ItemsEnd, AddsItem}
-use Rattle.promql_syntax.specs.ParsesExpr.{Fails, Failure}
+use Rattle.promql_syntax.specs.MatcherItems.{ItemEnds, ItemsEnd, AddsItem}
 use Rattle.promql_syntax.specs.PartBuilding.{braces_value, item_value, items_value, append_matcher}
-use Rattle.promql_syntax.specs.PartTokens.{HasNo}
 use Rattle.promql_syntax.proofs.Asked.{allowed_all, ends_on, ends_fails}
 use Rattle.promql_syntax.proofs.ResultSteps.{fails_then, fails_same, then_then}
 
@@ -39,11 +40,6 @@ after_step r i (punct kind.Comma ∷ (punct kind.RightBrace ∷ ts)) = refl
 after_step r i (punct kind.Comma ∷ ts) = refl
 after_step r i (word (kind.Operator op) t ∷ ts) = choice_then (op == 31) (joins (or t), ts) (items_after r i) (word (kind.Operator op) t ∷ ts)
 after_step r i ts = refl
-
--- a comma that no closing brace follows joins the next matcher
-pub comma_joins : (ts us : List Symbol) → HasNo kind.RightBrace ts → us ≡ ts → ParsesItemEnd (Some false) us (parse_item_end (punct kind.Comma ∷ ts))
-comma_joins (punct kind.RightBrace ∷ ts) us none same = absurd (none refl)
-comma_joins ts us none same = record { end = joins comma; is = ap (λ us. Ok (joins comma, us)) (sym same); same = refl }
 
 some_items : (ts : List Symbol) → HasNo kind.RightBrace ts → parse_braces ts ≡ (parse_items (length ts) ts then λ y. Ok (items y.0, y.1))
 some_items (punct kind.RightBrace ∷ ts) none = absurd (none refl)

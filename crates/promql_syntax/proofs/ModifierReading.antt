@@ -1,5 +1,5 @@
 -- How modifiers are read and built.
-use Rattle.std.proofs.Common.{◌≡◌, ◌≤◌, refl, sym, ◌∙◌, ap, arith, Bool, true, false, Option, Some, None, is_some, List, ◌∷◌, drop, length}
+use Rattle.std.proofs.Common.{◌≡◌, ◌≤◌, refl, sym, ◌∙◌, ap, arith, Bool, true, false, Option, Some, None, is_some, List, ◌∷◌, length}
 use Rattle.std.specs.Prelude.{Result, Ok, Err, MatchBool, option_map}
 use Rattle.std.specs.declared.alloc.Global.{Global}
 use Rattle.std.specs.declared.boxed.Box.{Box}
@@ -11,6 +11,8 @@ use Rattle.promql_grammar.specs.Results.{◌then◌}
 use Rattle.promql_grammar.specs.Symbols.{Symbol, punct, word, symbol}
 use Rattle.promql_grammar.specs.GrammarParts as part
 use Rattle.promql_grammar.specs.Parsing.{parse_label_list, parse_group_labels, parse_group, parse_fill_value, parse_fills, parse_fill_right, parse_fill_left, parse_flag, parse_matching, parse_modifier, with_matching}
+use Rattle.promql_grammar.specs.Eating.{Eats, HasNo}
+use Rattle.promql_grammar.specs.Failures.{Fails, Failure}
 use Rattle.promql_label.specs.Labels.{labels_of}
 use Rattle.promql_label.specs.declared.labels.Labels as code
 use Rattle.promql_kind.specs.Modifiers.{Clause, Cardinality, one_to_one, Fills, fills, Matching, matching}
@@ -23,8 +25,6 @@ use Rattle.promql_syntax.specs.declared.grammar.modifier.Matching as parts
 use Rattle.promql_syntax.specs.BuildErrors.{BuildError, view_result}
 use Rattle.promql_syntax.specs.ParsesPart.{ParsesPart}
 use Rattle.promql_syntax.specs.ModifierParts.{ParsesFlag, list_in, list_value, matching_parts, modifier_of}
-use Rattle.promql_syntax.specs.ParsesExpr.{Fails, Failure}
-use Rattle.promql_syntax.specs.PartTokens.{Eats, HasNo}
 use Rattle.promql_syntax.specs.PartBuilding.{label_values, cardinality, group_value, matching_value, matching_clause, fill_value, fills_value, modifier_value}
 use Rattle.promql_syntax.proofs.ResultSteps.{fails_then, fails_same, then_then}
 
@@ -51,10 +51,6 @@ group_of_labels k t (Some ls) = part.listed k t ls
 list_read : (k : TokenKind) (t : Text) (ts : List Symbol) → parse_group_labels k t ts ≡ (list_in ts then λ l. Ok (group_of_labels k t l.0, l.1))
 list_read k t (punct kind.LeftParen ∷ ts) = sym (then_then (parse_label_list ts) (λ l. Ok (Some l.0, l.1)) (λ l. Ok (group_of_labels k t l.0, l.1)))
 list_read k t ts = refl
-
--- the first token, and those after it
-pub at_word : (ts us : List Symbol) (k j : TokenKind) (t : Text) → ts ≡ symbol k t ∷ drop 1 ts → k ≡ j → us ≡ drop 1 ts → ts ≡ symbol j t ∷ us
-at_word ts us k j t front is passed = front ∙ ap (λ x. symbol x t ∷ drop 1 ts) is ∙ ap (λ r. symbol j t ∷ r) (sym passed)
 
 pub group_left_read : (ts us : List Symbol) (t : Text) → ts ≡ symbol kind.GroupLeft t ∷ us → parse_group ts ≡ (list_in us then λ l. Ok (group_of_labels kind.GroupLeft t l.0, l.1))
 group_left_read ts us t front = ap parse_group front ∙ list_read kind.GroupLeft t us

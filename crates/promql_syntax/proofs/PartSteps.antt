@@ -11,15 +11,16 @@ use Rattle.promql_grammar.specs.Results.{◌then◌}
 use Rattle.promql_grammar.specs.Symbols.{Symbol, punct, symbol}
 use Rattle.promql_grammar.specs.GrammarParts.{Time, Signed, at_number, offset}
 use Rattle.promql_grammar.specs.Parsing.{Read, eat_sign, parse_number, parse_time, parse_fill_value, parse_fill_value_end, parse_step, parse_step_end, parse_postfix, parse_at_modifier, Stop, misfit}
+use Rattle.promql_grammar.specs.Eating.{HasNo}
+use Rattle.promql_grammar.specs.Failures.{Failure, Fails}
+use Rattle.promql_grammar.specs.PartTokens.{parse_offset, parse_signed_number}
 use Rattle.promql_ast.specs.AtTimes.{at_of_number}
 use Rattle.promql_syntax.specs.declared.grammar.build_error.BuildError as build_errors
 use Rattle.promql_syntax.specs.declared.grammar.postfix.ParsedPostfix.{ParsedPostfix}
 use Rattle.promql_syntax.specs.declared.grammar.postfix.Postfix as code
 use Rattle.promql_syntax.specs.BuildErrors.{view_result}
-use Rattle.promql_syntax.specs.ParsesExpr.{Failure, Fails}
 use Rattle.promql_syntax.specs.ParsesPart.{ParsesPart}
 use Rattle.promql_syntax.specs.PartBuilding.{at_fault, signed_number}
-use Rattle.promql_syntax.specs.PartTokens.{HasNo, parse_offset, parse_signed_number}
 use Rattle.promql_syntax.specs.Postfixes.{change_of, to_moment, ParsesPostfix}
 use Rattle.promql_syntax.proofs.ResultSteps.{fails_same, fails_then, then_then}
 

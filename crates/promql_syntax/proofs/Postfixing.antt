@@ -11,8 +11,9 @@ use Rattle.promql_grammar.specs.Symbols.{Symbol, symbol}
 use Rattle.promql_grammar.specs.GrammarParts.{Postfix, subquery}
 use Rattle.promql_grammar.specs.Grammar.{Derivation, postfixed, height, added_height}
 use Rattle.promql_grammar.specs.Parsing.{Read, parse_postfix, parse_postfixes, parse_more_postfixes, too_high}
+use Rattle.promql_grammar.specs.Failures.{Fails, Failure}
 use Rattle.promql_syntax.specs.declared.grammar.parsed.ParsedExpr.{ParsedExpr}
-use Rattle.promql_syntax.specs.ParsesExpr.{IsExprOf, ParsesExpr, Fails, Failure}
+use Rattle.promql_syntax.specs.ParsesExpr.{IsExprOf, ParsesExpr}
 use Rattle.promql_syntax.specs.declared.grammar.postfix.ParsedPostfix.{ParsedPostfix}
 use Rattle.promql_syntax.specs.Postfixes.{IsPostfixOf, starts_postfix}
 use Rattle.promql_syntax.proofs.ReadErrorSteps.{fails_first, fails_same}

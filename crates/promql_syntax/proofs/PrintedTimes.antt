@@ -14,7 +14,8 @@ use Rattle.promql_ast.specs.AtTimes.{at_of_millis, at_of_number}
 use Rattle.promql_ast.specs.Shifts.{Shift, back, ahead, Moment, at_time, time_text}
 use Rattle.promql_ast.proofs.PrintedMoments.{millis_fits, size_reads, size_text}
 use Rattle.promql_syntax.specs.Building.{bound_moment}
-use Rattle.promql_syntax.specs.PartBuilding.{at_fault, is_minus, moment_value, number_fault, number_value, shift, shift_value, signed_number, time_value}
+use Rattle.promql_syntax.specs.PartBuilding.{at_fault, moment_value, number_fault, number_value, shift, shift_value, signed_number, time_value}
+use Rattle.promql_grammar.specs.GrammarParts.{is_minus}
 use Rattle.promql_syntax.proofs.PrintedParts.{seconds_text, sign}
 use Rattle.promql_syntax.proofs.Printable.{IsMoment, IsShift}
 use Rattle.promql_syntax.proofs.PrintedTimesAndLabels.{IsTime, time_is}

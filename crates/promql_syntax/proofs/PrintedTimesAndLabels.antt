@@ -26,7 +26,8 @@ use Rattle.promql_text.proofs.ShortNumbers.{zeroless}
 use Rattle.promql_grammar.specs.Results.{◌then◌}
 use Rattle.promql_grammar.specs.GrammarParts as part
 use Rattle.promql_syntax.specs.BuildErrors.{BuildError}
-use Rattle.promql_syntax.specs.PartBuilding.{string_value, number_value, number_fault, signed_number, is_minus, duration_value, duration_fault, time_value, step_value}
+use Rattle.promql_syntax.specs.PartBuilding.{string_value, number_value, number_fault, signed_number, duration_value, duration_fault, time_value, step_value}
+use Rattle.promql_grammar.specs.GrammarParts.{is_minus}
 use Rattle.promql_syntax.proofs.PrintedParts.{sign, magnitude, time}
 use Rattle.promql_syntax.proofs.SingleAnswers.{then_steps, then_leads, same_ok}
 

@@ -8,12 +8,13 @@ use Rattle.promql_grammar.specs.Symbols.{Symbol}
 use Rattle.promql_grammar.specs.Grammar.{Derivation, yield, height, IsWellFormed}
 use Rattle.promql_grammar.specs.Misfits.{AreMisfits}
 use Rattle.promql_grammar.specs.Parsing.{Read, parse_expression, too_high}
+use Rattle.promql_grammar.specs.Failures.{Fails}
 use Rattle.promql_grammar.proofs.Within.{within_low}
 use Rattle.promql_grammar.proofs.NoneFit.{misfits, misfits_after}
 use Rattle.promql_grammar.proofs.Unique.{whole}
 use Rattle.promql_grammar.proofs.Sound.{Good, expression_sound}
 use Rattle.promql_syntax.specs.declared.grammar.parsed.ParsedExpr.{ParsedExpr}
-use Rattle.promql_syntax.specs.ParsesExpr.{ParsesExpr, Fails}
+use Rattle.promql_syntax.specs.ParsesExpr.{ParsesExpr}
 use Rattle.promql_syntax.specs.ParsesQuery.{ParsesQuery}
 
 abbrev IsOkRead : Read Derivation → Type 0

@@ -4,7 +4,7 @@ use Rattle.std.specs.Prelude.{Result, Ok, Err}
 use Rattle.promql_grammar.specs.declared.read_error.ReadError.TheVariants.{Memory, Syntax, TooDeep}
 use Rattle.promql_grammar.specs.Parsing.{Stop}
 use Rattle.promql_grammar.specs.Results.{◌then◌}
-use Rattle.promql_syntax.specs.ParsesExpr.{Fails, Failure}
+use Rattle.promql_grammar.specs.Failures.{Fails, Failure}
 
 -- an error of a step is one of the whole
 pub fails_then : {A B : Type 0} (e : Failure) (r : Result A Stop) (f : A → Result B Stop) → Fails e r → Fails e (r then f)

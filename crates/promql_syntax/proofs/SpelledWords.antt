@@ -13,6 +13,7 @@ use Rattle.promql_token.specs.TokenScanning.{is_fill, name_id, opens, word_id}
 use Rattle.promql_token.specs.TokenSpelling.{AreSpelled, IsSpelled, IsWordToken, in_braces_after, is_no_word, no_words}
 use Rattle.promql_token.specs.declared.fault.LexFault.{LexFault}
 use Rattle.promql_token.specs.declared.ids.TheConstants.{T_IDENTIFIER}
+use Rattle.promql_grammar.specs.SourceTokens.{Token, tokens}
 use Rattle.promql_token.proofs.SpelledTokens.{tokens_are_spelled}
 use Rattle.promql_grammar.specs.declared.token_kinds.TokenKind.{TokenKind}
 use Rattle.promql_grammar.specs.declared.token_kinds.TokenKind.TheVariants as kind
@@ -25,7 +26,6 @@ use Rattle.promql_grammar.specs.Symbols.{Symbol, is_punct, token_kind, may_be_ca
 use Rattle.promql_syntax.specs.ParseAnswers.{Derives}
 use Rattle.promql_syntax.proofs.Booleans.{and_cases, or_cases}
 use Rattle.promql_syntax.proofs.Derive.{AllHaveWords, HasWords, IsName, IsUnsigned}
-use Rattle.promql_syntax.specs.SourceTokens.{Token, tokens}
 use Rattle.promql_syntax.proofs.PrintedParts.{word_kind}
 use Rattle.promql_syntax.proofs.TokenKindRows.{by_table, same_operator}
 use Rattle.promql_syntax.proofs.UnsignedNumbers.{read_unsigned}

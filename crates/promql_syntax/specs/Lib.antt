@@ -1,17 +1,13 @@
-pub mod SourceTokens
-pub mod SymbolsLeft
 pub mod TreePatterns
 pub mod BuildErrors
 pub mod Asking
 pub mod PartBuilding
 pub mod Building
 pub mod ParsesPart
-pub mod PartTokens
 pub mod MatcherItems
 pub mod ModifierParts
 pub mod Postfixes
 pub mod Atoms
-pub mod OperatorTokens
 pub mod ParsesExpr
 pub mod ParsesQuery
 pub mod ParseAnswers

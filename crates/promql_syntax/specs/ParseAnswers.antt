@@ -2,6 +2,7 @@
 use Rattle.std.specs.Prelude.{◌≡◌, ◌≢◌, ◌↔◌, ◌+◌, ◌<◌, ◌≤◌, List, [], ◌∷◌, length, map, Result, Ok, Err, string_bytes}
 use Rattle.promql_text.specs.Texts.{Text}
 use Rattle.promql_token.specs.declared.fault.LexFault.{LexFault}
+use Rattle.promql_grammar.specs.SourceTokens.{Token, tokens}
 use Rattle.promql_label.specs.Answers as regex
 use Rattle.promql_ast.specs.Faults as trees
 use Rattle.promql_ast.specs.Height.{height as tree_height}
@@ -20,7 +21,6 @@ use Rattle.promql_syntax.specs.declared.parser.TheConstants.{MAX_DEPTH}
 use Rattle.promql_syntax.specs.Asking.{Asked, AreAllowed, AreAnswersOf, Ends, under}
 use Rattle.promql_syntax.specs.Building.{build}
 use Rattle.promql_syntax.specs.BuildErrors.{BuildError, number, quoted, duration, at, pattern, unknown_function, check}
-use Rattle.promql_syntax.specs.SourceTokens.{Token, tokens}
 
 -- why a text has no tree, as plain data
 pub data PlainParseError : Type 0 where

@@ -1,5 +1,6 @@
 -- What the parser's functions return, beside what parsing gives. Private: nothing rests on believing it.
 use Rattle.std.specs.Prelude.{◌≡◌, ◌≤◌, ℕ, length, List, Option, Some, None, Result, Ok, Err, MatchResult}
+use Rattle.promql_grammar.specs.Failures.{Fails, Failure}
 use Rattle.promql_ast.specs.Faults.{Verdict, passes, rejected}
 use Rattle.promql_ast.specs.Tree.{Tree, Trees}
 use Rattle.promql_ast.specs.View.{tree_of, trees_of}
@@ -11,9 +12,8 @@ use Rattle.promql_kind.specs.ModifierViews.{matching_of}
 use Rattle.promql_kind.specs.declared.bin_modifier.BinModifier.{BinModifier}
 use Rattle.promql_grammar.specs.GrammarParts.{Modifier}
 use Rattle.promql_grammar.specs.declared.read_error.ReadError.{ReadError}
-use Rattle.promql_grammar.specs.declared.read_error.ReadError.TheVariants.{Memory, Syntax, TooDeep}
 use Rattle.promql_grammar.specs.Grammar as grammar
-use Rattle.promql_grammar.specs.Parsing.{Read, Stop, misfit, parse_modifier, parse_postfixes, too_high}
+use Rattle.promql_grammar.specs.Parsing.{Read, parse_modifier, parse_postfixes}
 use Rattle.promql_grammar.specs.Symbols.{Symbol}
 use Rattle.promql_syntax.specs.declared.grammar.parsed.ParsedArgs.{ParsedArgs}
 use Rattle.promql_syntax.specs.declared.grammar.parsed.ParsedExpr.{ParsedExpr}
@@ -76,16 +76,6 @@ pub record ParsesBase (parsed : ParsedExpr) (rest : List Symbol) (read : ℕ →
   pub derivation : grammar.Derivation
   pub is : (k n : ℕ) → read k n ≡ parse_postfixes k n derivation rest
   pub built : IsExprOf parsed derivation
-
--- an error, and the tokens that are left: of Syntax those from the first that does not fit
-abbrev pub Failure : Type 0
-Failure = ReadError × List Symbol
-
--- parsing fails in this way, or memory ran out
-abbrev pub Fails : {A : Type 0} → Failure → Result A Stop → Type 0
-Fails (Memory, rest) read = Unit {0}
-Fails (Syntax, rest) read = read ≡ Err (misfit rest)
-Fails (TooDeep, rest) read = read ≡ Err too_high
 
 abbrev pub FailsBase : Failure → (ℕ → ℕ → Read grammar.Derivation) → Type 0
 FailsBase failure read = (k n : ℕ) → Fails failure (read k n)

@@ -1,6 +1,6 @@
 -- What the parts of an expression build (docs/reference/grammar.md, "Building"): each from left to right, up to its
 -- first error.
-use Rattle.std.specs.Prelude.{ℕ, Bool, true, false, ◌==◌, if◌then◌else◌, Option, Some, None, is_some, List, [], ◌∷◌, Result, Ok, Err, codes}
+use Rattle.std.specs.Prelude.{ℕ, Bool, true, false, if◌then◌else◌, Option, Some, None, is_some, List, [], ◌∷◌, Result, Ok, Err, codes}
 use Rattle.promql_text.specs.Texts.{Text}
 use Rattle.promql_text.specs.declared.number.Number.{Number}
 use Rattle.promql_text.specs.declared.number.NumberFault.{NumberFault}
@@ -9,11 +9,11 @@ use Rattle.promql_text.specs.Durations.{duration_of}
 use Rattle.promql_text.specs.NumberText.{read_number}
 use Rattle.promql_text.specs.Quoting.{unquoted_text}
 use Rattle.promql_text.specs.Values.{neg}
-use Rattle.promql_token.specs.declared.ids.TheConstants.{T_SUB}
 use Rattle.promql_grammar.specs.declared.token_kinds.TokenKind.{TokenKind}
 use Rattle.promql_grammar.specs.declared.token_kinds.TokenKind.TheVariants as kind
 use Rattle.promql_grammar.specs.Results.{◌then◌}
 use Rattle.promql_grammar.specs.GrammarParts as part
+use Rattle.promql_grammar.specs.GrammarParts.{is_minus}
 use Rattle.promql_label.specs.Answers.{Answer, built, rejected}
 use Rattle.promql_label.specs.PlainMatchers.{Operator, equal, not_equal, matches, matches_not, PlainMatcher, plain_matcher, PlainMatchers, plain_matchers, append_plain, appended_or}
 use Rattle.promql_kind.specs.Modifiers.{Clause, including, excluding, Cardinality, one_to_one, many_to_one, one_to_many, Fills, fills, Matching, matching}
@@ -40,11 +40,7 @@ number_fault (Err fault) = Err (number fault)
 abbrev pub number_value : Text → Result Number BuildError
 number_value text = number_fault (read_number text)
 
--- "Signs": a minus negates, a plus does not
-abbrev pub is_minus : part.Signed → Bool
-is_minus part.unsigned = false
-is_minus (part.signed op text) = op == T_SUB
-
+-- "Signs"
 abbrev pub signed_number : part.Signed → Text → Result Number BuildError
 signed_number s text = number_value text then λ n. Ok (if is_minus s then neg n else n)
 

@@ -14,7 +14,6 @@ pub(crate) mod modifier;
 pub(crate) mod parsed;
 pub mod place;
 pub(crate) mod postfix;
-pub(crate) mod precedence;
 pub(crate) mod selector;
 pub(crate) mod string;
 pub(crate) mod time;

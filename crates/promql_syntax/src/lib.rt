@@ -4,4 +4,3 @@
 pub mod grammar;
 pub mod laws;
 pub mod parser;
-pub mod tokens;

@@ -1,15 +1,14 @@
 //! From a text to its tree.
 
 ghost use Rattle.std.specs.Prelude.{◌≡◌};
+ghost use Rattle.promql_grammar.specs.SourceTokens.{tokens, has_any};
 ghost use Rattle.promql_syntax.specs.ParseAnswers.{IsAnswerTo, answer_of};
 ghost use Rattle.promql_syntax.specs.ParseErrors.{error_of_build, first_error};
-ghost use Rattle.promql_syntax.specs.SourceTokens.{tokens, has_any};
 
 use crate::grammar::build_error::{BuildError, BuildFault};
 use crate::grammar::expression::parse_query;
-use crate::tokens::{Tokens, has_tokens};
 use promql_ast::{AtFault, CheckFault, Expr};
-use promql_grammar::ReadError;
+use promql_grammar::{ReadError, Tokens, has_tokens};
 use promql_text::{DurationFault, NumberFault};
 use promql_token::LexFault;
 use std::alloc::{AllocError, Global};

@@ -2,9 +2,9 @@
 
 use super::streams::{FlakyReader, FlakyWriter};
 use super::{check_value, texts};
+use promql_io::ended::Ended;
 use promql_lines::batch::run_batch;
 use promql_lines::batch_program::{BATCH_HELP, BATCH_USAGE, batch_program};
-use promql_run::ended::Ended;
 use promql_run::run::{Mode, RunError};
 use std::alloc::{AllocError, Global};
 use std::io::BufReader;

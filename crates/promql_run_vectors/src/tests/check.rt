@@ -2,8 +2,8 @@
 
 use super::streams::{FlakyReader, FlakyWriter};
 use super::texts;
+use promql_io::ended::Ended;
 use promql_report::check::{CHECK_HELP, CHECK_USAGE, check_program};
-use promql_run::ended::Ended;
 use std::alloc::Global;
 use std::process::Abort;
 use std::test::Fail;

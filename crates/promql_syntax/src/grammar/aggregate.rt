@@ -2,7 +2,7 @@
 
 ghost use Rattle.std.specs.Prelude.{◌+◌, ◌≤◌, length, IfOk, MatchResult, OnOk};
 ghost use Rattle.promql_grammar.specs.Parsing.{parse_aggregate, parse_expression};
-ghost use Rattle.promql_syntax.specs.SymbolsLeft.{symbols_left};
+ghost use Rattle.promql_grammar.specs.SymbolsLeft.{symbols_left};
 ghost use Rattle.promql_syntax.specs.ParsesExpr.{FailsBase, ParsesBase};
 
 use crate::grammar::atom::parse_selector;
@@ -12,8 +12,7 @@ use crate::grammar::grouping::{parse_grouping, starts_grouping};
 use crate::grammar::parsed::ParsedExpr;
 use crate::grammar::place::Extent;
 use crate::parser::MAX_DEPTH;
-use crate::tokens::Tokens;
-use promql_grammar::{ReadError, TokenKind};
+use promql_grammar::{ReadError, TokenKind, Tokens};
 use promql_token::TokenId;
 use std::alloc::Global;
 

@@ -4,7 +4,7 @@ ghost use Rattle.std.specs.Prelude.{◌≡◌, ◌∷◌, ◌<◌, ◌≤◌, tr
 ghost use Rattle.promql_grammar.specs.Parsing.{parse_selector};
 ghost use Rattle.promql_grammar.specs.Symbols.{begins, may_be_name, symbol};
 ghost use Rattle.promql_grammar.specs.declared.token_kinds.TokenKind as kinds;
-ghost use Rattle.promql_syntax.specs.SymbolsLeft.{symbols_left};
+ghost use Rattle.promql_grammar.specs.SymbolsLeft.{symbols_left};
 ghost use Rattle.promql_syntax.specs.ParsesExpr.{FailsBase, ParsesBase};
 ghost use Rattle.promql_syntax.specs.Atoms.{parse_atom, parse_named, parse_selector_braces};
 
@@ -14,8 +14,7 @@ use crate::grammar::build_atom::{
 use crate::grammar::parsed::ParsedExpr;
 use crate::grammar::place::Extent;
 use crate::grammar::selector::parse_braces;
-use crate::tokens::Tokens;
-use promql_grammar::{ReadError, TokenKind};
+use promql_grammar::{ReadError, TokenKind, Tokens};
 use std::alloc::Global;
 
 /// Parses a number, a duration, a string or a selector, which begins with the token that is left first.

@@ -3,18 +3,18 @@
 ghost use Rattle.std.specs.Prelude.{◌≡◌, ◌+◌, ◌≤◌, true, length, IfOk, MatchResult, OnOk};
 ghost use Rattle.promql_grammar.specs.Parsing.{parse_arguments, parse_call, parse_expression};
 ghost use Rattle.promql_grammar.specs.Symbols.{may_be_called};
-ghost use Rattle.promql_syntax.specs.SymbolsLeft.{symbols_left};
-ghost use Rattle.promql_syntax.specs.ParsesExpr.{ParsesArgs, Fails, FailsBase, ParsesBase};
+ghost use Rattle.promql_grammar.specs.SymbolsLeft.{symbols_left};
+ghost use Rattle.promql_grammar.specs.Failures.{Fails};
+ghost use Rattle.promql_syntax.specs.ParsesExpr.{ParsesArgs, FailsBase, ParsesBase};
 
 use crate::grammar::atom::parse_selector;
 use crate::grammar::build::{append_argument, build_call, empty_arguments};
 use crate::grammar::expression::parse_expression;
 use crate::grammar::parsed::{ParsedArgs, ParsedExpr};
 use crate::grammar::place::Extent;
-use crate::grammar::precedence::MIN_PRECEDENCE;
 use crate::parser::MAX_DEPTH;
-use crate::tokens::Tokens;
-use promql_grammar::{ReadError, TokenKind};
+use promql_grammar::precedence::MIN_PRECEDENCE;
+use promql_grammar::{ReadError, TokenKind, Tokens};
 use std::alloc::Global;
 
 /// Parses a call, or a selector, after its name.

@@ -3,9 +3,10 @@
 ghost use Rattle.std.specs.Prelude.{◌≡◌, ℕ, ◌+◌, ◌≤◌, true, length, IfOk, IsErrOf, MatchResult, OnOk};
 ghost use Rattle.promql_grammar.specs.Parsing.{parse_expression, parse_unary};
 ghost use Rattle.promql_grammar.specs.Symbols.{begins};
-ghost use Rattle.promql_syntax.specs.SymbolsLeft.{symbols_left};
-ghost use Rattle.promql_syntax.specs.OperatorTokens.{HasNoUnaryOperator};
-ghost use Rattle.promql_syntax.specs.ParsesExpr.{Fails, FailsBase, GivesModifier, ParsesPostfixes, ParsesBase, ParsesExpr};
+ghost use Rattle.promql_grammar.specs.SymbolsLeft.{symbols_left};
+ghost use Rattle.promql_grammar.specs.OperatorTokens.{HasNoUnaryOperator};
+ghost use Rattle.promql_grammar.specs.Failures.{Fails};
+ghost use Rattle.promql_syntax.specs.ParsesExpr.{FailsBase, GivesModifier, ParsesPostfixes, ParsesBase, ParsesExpr};
 ghost use Rattle.promql_syntax.specs.ParsesQuery.{ParsesQuery};
 
 use crate::grammar::aggregate::parse_aggregate;
@@ -17,13 +18,12 @@ use crate::grammar::modifier::{parse_modifier, starts_modifier};
 use crate::grammar::parsed::{ParsedExpr, Pending};
 use crate::grammar::place::Extent;
 use crate::grammar::postfix::{parse_postfix, starts_postfix};
-use crate::grammar::precedence::{
+use crate::parser::MAX_DEPTH;
+use promql_ast::Expr;
+use promql_grammar::precedence::{
     MIN_PRECEDENCE, UNARY_PRECEDENCE, eat_operator, eat_unary_operator, right_precedence,
 };
-use crate::parser::MAX_DEPTH;
-use crate::tokens::Tokens;
-use promql_ast::Expr;
-use promql_grammar::{ReadError, TokenKind};
+use promql_grammar::{ReadError, TokenKind, Tokens};
 use promql_kind::BinModifier;
 use std::alloc::Global;
 

@@ -2,21 +2,20 @@
 
 ghost use Rattle.std.specs.Prelude.{◌≡◌, ◌≤◌, length, option_map, Some, MatchBool, MatchResult, OnOk};
 ghost use Rattle.promql_grammar.specs.Parsing as parsing;
+ghost use Rattle.promql_grammar.specs.SymbolsLeft.{symbols_left};
+ghost use Rattle.promql_grammar.specs.Failures.{Fails};
+ghost use Rattle.promql_grammar.specs.PartTokens.{HasNoGrouping, StartsGrouping};
 ghost use Rattle.promql_label.specs.Labels.{labels_of};
 ghost use Rattle.promql_kind.specs.Modifiers.{excluding, including};
 ghost use Rattle.promql_kind.specs.ModifierViews.{clause_of};
-ghost use Rattle.promql_syntax.specs.SymbolsLeft.{symbols_left};
 ghost use Rattle.promql_syntax.specs.BuildErrors.{view_result};
 ghost use Rattle.promql_syntax.specs.ParsesPart.{ParsesPart};
-ghost use Rattle.promql_syntax.specs.ParsesExpr.{Fails};
 ghost use Rattle.promql_syntax.specs.PartBuilding.{clause_value};
-ghost use Rattle.promql_syntax.specs.PartTokens.{HasNoGrouping, StartsGrouping};
 
 use crate::grammar::build_error::BuildError;
 use crate::grammar::labels::parse_labels;
 use crate::grammar::parsed::Parsed;
-use crate::tokens::Tokens;
-use promql_grammar::TokenKind;
+use promql_grammar::{TokenKind, Tokens};
 use promql_kind::LabelModifier;
 use promql_label::Labels;
 use std::alloc::Global;

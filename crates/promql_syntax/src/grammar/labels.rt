@@ -1,21 +1,20 @@
 //! The rule `labels`.
 
-ghost use Rattle.std.specs.Prelude.{◌≡◌, ◌<◌, ◌++◌, ◌∷◌, [], true, Ok, length, string_bytes, IfOk, MatchOption, MatchResult, OnOk};
+ghost use Rattle.std.specs.Prelude.{◌≡◌, ◌<◌, ◌++◌, ◌∷◌, [], Ok, length, string_bytes, IfOk, MatchResult, OnOk};
 ghost use Rattle.promql_grammar.specs.Parsing as parsing;
 ghost use Rattle.promql_grammar.specs.Results.{◌then◌};
+ghost use Rattle.promql_grammar.specs.SymbolsLeft.{symbols_left};
+ghost use Rattle.promql_grammar.specs.Failures.{Fails};
 ghost use Rattle.promql_label.specs.Labels.{labels_of};
-ghost use Rattle.promql_syntax.specs.SymbolsLeft.{symbols_left};
 ghost use Rattle.promql_syntax.specs.BuildErrors.{view_result};
 ghost use Rattle.promql_syntax.specs.ParsesPart.{ParsesPart};
-ghost use Rattle.promql_syntax.specs.ParsesExpr.{Fails};
 ghost use Rattle.promql_syntax.specs.PartBuilding.{label_value, label_values};
-ghost use Rattle.promql_syntax.specs.PartTokens.{HasNoLabel, ParsesLabelEnd, EatsLabel, parse_label_end};
 
 use crate::grammar::build_error::BuildError;
 use crate::grammar::parsed::{Built, Parsed};
 use crate::grammar::string::string_value;
-use crate::tokens::Tokens;
-use promql_grammar::{ReadError, TokenKind};
+use promql_grammar::label_tokens::{eat_label, parse_label_end};
+use promql_grammar::{ReadError, TokenKind, Tokens};
 use promql_label::Labels;
 use std::alloc::Global;
 
@@ -56,39 +55,6 @@ pub fn parse_label_list(alloc: Global, tokens: &mut Tokens<'_>) -> Parsed<Labels
         index = tokens.index();
     }
     Err(ReadError::Syntax)
-}
-
-/// Takes a label, if it is the first token: its kind and text.
-fn eat_label<'a>(tokens: &mut Tokens<'a>) -> Option<(TokenKind, &'a str)>
-    ensures { MatchOption result
-        ((symbols_left tokens.new ≡ symbols_left tokens.old) × HasNoLabel (symbols_left tokens.old))
-        (λ x. EatsLabel x.0 x.1.now (symbols_left tokens.old) (symbols_left tokens.new)) }
-{
-    let (kind, text) = tokens.peek()?;
-    if !kind.may_be_label() {
-        return None;
-    }
-    tokens.bump();
-    Some((kind, text))
-}
-
-/// Parses what follows a label: whether it is the last.
-fn parse_label_end(tokens: &mut Tokens<'_>) -> Result<bool, ReadError>
-    ensures gives { MatchResult result
-        (λ ended. ParsesLabelEnd ended (symbols_left tokens.new)
-        (parse_label_end (symbols_left tokens.old)))
-        (λ e. Fails (e, symbols_left tokens.new) (parse_label_end (symbols_left tokens.old))) }
-    ensures short { OnOk result
-        (length (symbols_left tokens.new) < length (symbols_left tokens.old)) }
-{
-    if tokens.eat(TokenKind::RightParen) {
-        return Ok(true);
-    }
-    tokens.expect(TokenKind::Comma)?;
-    if tokens.eat(TokenKind::RightParen) {
-        return Ok(true);
-    }
-    Ok(false)
 }
 
 /// The labels with one more, if there is no error yet.

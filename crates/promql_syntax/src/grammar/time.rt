@@ -1,55 +1,27 @@
 //! Numbers, times and their signs.
 
-ghost use Rattle.std.specs.Prelude.{◌≡◌, ◌<◌, ◌≤◌, if◌then◌else◌, length, IfOk, MatchResult, OnOk};
+ghost use Rattle.std.specs.Prelude.{◌≡◌, ◌<◌, if◌then◌else◌, length, IfOk, MatchResult, OnOk};
 ghost use Rattle.std.specs.Duration.{as_nanos};
 ghost use Rattle.promql_text.specs.declared.number.Number as numbers;
 ghost use Rattle.promql_grammar.specs.Parsing as parsing;
 ghost use Rattle.promql_text.specs.Values.{neg};
+ghost use Rattle.promql_grammar.specs.SymbolsLeft.{symbols_left};
+ghost use Rattle.promql_grammar.specs.Failures.{Fails};
+ghost use Rattle.promql_grammar.specs.PartTokens.{parse_offset, parse_signed_number};
 ghost use Rattle.promql_ast.specs.Shifts.{ahead, back, shift_of};
-ghost use Rattle.promql_syntax.specs.SymbolsLeft.{symbols_left};
 ghost use Rattle.promql_syntax.specs.BuildErrors.{view_result};
 ghost use Rattle.promql_syntax.specs.ParsesPart.{ParsesPart};
-ghost use Rattle.promql_syntax.specs.ParsesExpr.{Fails};
 ghost use Rattle.promql_syntax.specs.PartBuilding.{duration_value, number_value, shift_value, signed_number, time_value};
-ghost use Rattle.promql_syntax.specs.PartTokens.{ParsesSign, minus_sign, parse_offset, parse_signed_number};
 
 use crate::grammar::build_error::{BuildError, BuildFault};
 use crate::grammar::parsed::{Built, Parsed};
 use crate::grammar::place::Place;
-use crate::tokens::Tokens;
 use promql_ast::Offset;
-use promql_grammar::{ReadError, TokenKind};
+use promql_grammar::signs::eat_sign;
+use promql_grammar::{ReadError, TokenKind, Tokens};
 use promql_text::{Number, parse_duration, parse_str_radix};
-use promql_token::ids::{T_ADD, T_SUB};
 use std::alloc::Global;
 use std::time::Duration;
-
-/// Takes the sign of a number, if there is one: whether it is a minus.
-pub fn eat_sign(tokens: &mut Tokens<'_>) -> bool
-    ensures gives { ParsesSign result (symbols_left tokens.new)
-        (parsing.eat_sign (symbols_left tokens.old)) }
-    ensures short { length (symbols_left tokens.new) ≤ length (symbols_left tokens.old) }
-{
-    let Some((kind, _)) = tokens.peek() else {
-        return false;
-    };
-    let Some(is_minus) = minus_sign(kind) else {
-        return false;
-    };
-    tokens.bump();
-    is_minus
-}
-
-/// Whether the sign of a number is a minus; `None` if the token is no sign.
-fn minus_sign(kind: TokenKind) -> Option<bool>
-    ensures { result ≡ minus_sign kind }
-{
-    match kind {
-        TokenKind::Operator(T_ADD) => Some(false),
-        TokenKind::Operator(T_SUB) => Some(true),
-        _ => None,
-    }
-}
 
 /// Parses a number.
 pub fn parse_number(alloc: Global, tokens: &mut Tokens<'_>) -> Parsed<Number>

@@ -4,8 +4,8 @@ ghost use Rattle.std.specs.Prelude.{Some};
 
 use super::prints;
 use super::trees::{EXTENSION, KINDS, arguments, is_read, kind, read};
-use promql_ast::{EvalStmt, Expr, FunctionArgs, Prettier, PrettyError, Tally};
-use promql_parser::parser::parse;
+use promql_ast::{Expr, FunctionArgs, Prettier, PrettyError, Tally};
+use promql_parser::parser::{EvalStmt, parse};
 use promql_text::{minute_duration, second_duration};
 use std::alloc::Global;
 use std::fmt;

@@ -1,5 +1,5 @@
 use Rattle.std.proofs.Common.{arith}
-use Rattle.promql_syntax.specs.SymbolsLeft.{symbols_left}
+use Rattle.promql_grammar.specs.SymbolsLeft.{symbols_left}
 use Rattle.promql_span.proofs.ErrorPlacing.{misfit_found, rest_short}
 use Rattle.promql_span.proofs.diagnosis.reading_finding.Goals as goal
 

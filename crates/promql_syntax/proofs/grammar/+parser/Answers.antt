@@ -2,8 +2,8 @@ use Rattle.std.proofs.Common.{◌≡◌, ◌+◌, ◌-◌, ◌≤◌, ◌∙◌,
 use Rattle.std.proofs.lemmas.Result.{err_from_is_err_and}
 use Rattle.promql_grammar.specs.declared.token_kinds.TokenKind.TheVariants as kind
 use Rattle.promql_grammar.specs.Parsing.{parse_expression, parse_unary, parse_call, parse_aggregate, parse_selector}
-use Rattle.promql_syntax.specs.SymbolsLeft.{symbols_left}
-use Rattle.promql_syntax.proofs.ModifierReading.{at_word}
+use Rattle.promql_grammar.specs.SymbolsLeft.{symbols_left}
+use Rattle.promql_grammar.proofs.Eating.{at_word}
 use Rattle.promql_syntax.proofs.FirstTokens.{called_first, called_none, leaf_first, base_begins, given_begins}
 use Rattle.promql_syntax.proofs.Bases.{bases_same, postfixed_given, sign_fails, sign_given, paren_open, call_fails, call_base, aggregated_none, after_fails, after_clause_fails, after_base, before_fails, before_open, before_arguments_fail, before_base}
 use Rattle.promql_syntax.proofs.Climbing.{expression_zero, expression_fails, climbing_first, climbing_stops, climbing_deep, climbing_unmodified, climbing_fails, climbing_on}

@@ -1,7 +1,7 @@
 use Rattle.std.proofs.Common.{◌≡◌, ◌+◌, ◌*◌, ◌≤◌, true, length}
 use Rattle.promql_grammar.specs.Parsing.{parse_expression}
 use Rattle.promql_grammar.specs.Symbols.{begins}
-use Rattle.promql_syntax.specs.SymbolsLeft.{symbols_left}
+use Rattle.promql_grammar.specs.SymbolsLeft.{symbols_left}
 use Rattle.promql_syntax.proofs.Climbing.{Climbing}
 use Rattle.promql_syntax.proofs.Collecting.{Collecting}
 use Rattle.promql_syntax.proofs.grammar.+parser.Given as goal

@@ -1,6 +1,6 @@
 use Rattle.std.proofs.Common.{ap, ◌∙◌, drop}
 use Rattle.promql_grammar.specs.Symbols.{begins}
-use Rattle.promql_syntax.specs.SymbolsLeft.{symbols_left}
+use Rattle.promql_grammar.specs.SymbolsLeft.{symbols_left}
 use Rattle.promql_syntax.specs.Atoms.{parse_atom}
 use Rattle.promql_syntax.proofs.Bases.{bases_same}
 use Rattle.promql_syntax.proofs.AtomBases.{leaf_named}

@@ -1,4 +1,4 @@
-use Rattle.promql_syntax.specs.SymbolsLeft.{symbols_left}
+use Rattle.promql_grammar.specs.SymbolsLeft.{symbols_left}
 use Rattle.promql_syntax.proofs.AtomBases.{selected_base}
 use Rattle.promql_syntax.proofs.grammar.atom.parse_selector_braces.Goals as goal
 

@@ -1,6 +1,6 @@
 use Rattle.std.proofs.Common.{arith}
 use Rattle.std.proofs.lemmas.Result.{err_from_is_err_and}
-use Rattle.promql_syntax.specs.SymbolsLeft.{symbols_left}
+use Rattle.promql_grammar.specs.SymbolsLeft.{symbols_left}
 use Rattle.promql_syntax.proofs.Postfixing.{postfixing_first, postfixing_ends, postfixing_fails, postfixing_deep, postfixing_on, added_low}
 use Rattle.promql_syntax.proofs.grammar.expression.parse_some_postfixes.Goals as goal
 

@@ -1,6 +1,6 @@
 use Rattle.std.proofs.Common.{ℕ, ◌≤◌, length}
 use Rattle.promql_grammar.specs.Grammar.{Derivation}
-use Rattle.promql_syntax.specs.SymbolsLeft.{symbols_left}
+use Rattle.promql_grammar.specs.SymbolsLeft.{symbols_left}
 use Rattle.promql_syntax.specs.ParsesExpr.{IsExprOf}
 use Rattle.promql_syntax.proofs.Postfixing.{Postfixing}
 use Rattle.promql_syntax.proofs.grammar.expression.parse_some_postfixes.Given as goal

@@ -1,6 +1,6 @@
 use Rattle.std.proofs.Common.{◌≤◌, length}
+use Rattle.promql_grammar.specs.SymbolsLeft.{symbols_left}
 use Rattle.promql_label.specs.Labels.{labels_of}
-use Rattle.promql_syntax.specs.SymbolsLeft.{symbols_left}
 use Rattle.promql_syntax.specs.BuildErrors.{view_result}
 use Rattle.promql_syntax.proofs.LabelLists.{Naming}
 use Rattle.promql_syntax.proofs.grammar.labels.parse_label_list.Given as goal

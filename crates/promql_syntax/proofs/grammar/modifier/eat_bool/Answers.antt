@@ -1,4 +1,4 @@
-use Rattle.promql_syntax.specs.SymbolsLeft.{symbols_left}
+use Rattle.promql_grammar.specs.SymbolsLeft.{symbols_left}
 use Rattle.promql_syntax.proofs.ModifierReading.{flag_read, flag_short}
 use Rattle.promql_syntax.proofs.grammar.modifier.eat_bool.Goals as goal
 

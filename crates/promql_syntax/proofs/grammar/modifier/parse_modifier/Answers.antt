@@ -1,4 +1,4 @@
-use Rattle.promql_syntax.specs.SymbolsLeft.{symbols_left}
+use Rattle.promql_grammar.specs.SymbolsLeft.{symbols_left}
 use Rattle.promql_syntax.proofs.ModifierReading.{modifier_part}
 use Rattle.promql_syntax.proofs.grammar.modifier.parse_modifier.Goals as goal
 

@@ -7,10 +7,10 @@ use Rattle.promql_grammar.specs.GrammarParts.{Signed, Time, offset}
 use Rattle.promql_grammar.specs.Parsing.{eat_sign, parse_postfix}
 use Rattle.promql_grammar.specs.Results.{◌then◌}
 use Rattle.promql_grammar.specs.Symbols.{Symbol, symbol}
-use Rattle.promql_syntax.specs.PartTokens.{parse_offset}
+use Rattle.promql_grammar.specs.SymbolsLeft.{symbols_left}
+use Rattle.promql_grammar.specs.PartTokens.{parse_offset}
 use Rattle.promql_syntax.specs.Postfixes.{by_shift}
-use Rattle.promql_syntax.specs.SymbolsLeft.{symbols_left}
-use Rattle.promql_syntax.proofs.ModifierReading.{at_word}
+use Rattle.promql_grammar.proofs.Eating.{at_word}
 use Rattle.promql_syntax.proofs.PartSteps.{offset_fails, time_then}
 use Rattle.promql_syntax.proofs.grammar.postfix.parse_postfix.Goals as goal
 

@@ -5,8 +5,8 @@ use Rattle.promql_grammar.specs.GrammarParts.{Time, subquery}
 use Rattle.promql_grammar.specs.Parsing.{parse_step, parse_step_end, parse_time}
 use Rattle.promql_grammar.specs.Results.{◌then◌}
 use Rattle.promql_grammar.specs.Symbols.{Symbol}
-use Rattle.promql_syntax.specs.ParsesExpr.{Failure, Fails}
-use Rattle.promql_syntax.specs.PartTokens.{HasNo}
+use Rattle.promql_grammar.specs.Eating.{HasNo}
+use Rattle.promql_grammar.specs.Failures.{Failure, Fails}
 use Rattle.promql_syntax.specs.Postfixes.{subquery_change}
 use Rattle.promql_syntax.proofs.PartSteps.{some_step, step_open}
 use Rattle.promql_syntax.proofs.ResultSteps.{fails_same, fails_then}

@@ -1,6 +1,6 @@
 use Rattle.std.proofs.Common.{◌<◌, ap, sym, subst, refl, arith, length, Ok, false}
 use Rattle.std.proofs.lemmas.Result.{err_from_is_err_and}
-use Rattle.promql_syntax.specs.SymbolsLeft.{symbols_left}
+use Rattle.promql_grammar.specs.SymbolsLeft.{symbols_left}
 use Rattle.promql_syntax.proofs.MatcherLists.{Selecting, selecting_starts, selecting_none, selecting_fails, selecting_last, selecting_more}
 use Rattle.promql_syntax.proofs.grammar.selector.parse_braces.Goals as goal
 

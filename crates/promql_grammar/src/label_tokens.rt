@@ -1,0 +1,43 @@
+//! The tokens of labels in parentheses.
+
+ghost use Rattle.std.specs.Prelude.{◌≡◌, ◌<◌, length, MatchOption, MatchResult, OnOk};
+ghost use Rattle.promql_grammar.specs.Failures.{Fails};
+ghost use Rattle.promql_grammar.specs.PartTokens.{HasNoLabel, ParsesLabelEnd, EatsLabel, parse_label_end};
+ghost use Rattle.promql_grammar.specs.SymbolsLeft.{symbols_left};
+
+use crate::read_error::ReadError;
+use crate::token_kinds::TokenKind;
+use crate::tokens::Tokens;
+
+/// Takes a label, if it is the first token: its kind and text.
+pub fn eat_label<'a>(tokens: &mut Tokens<'a>) -> Option<(TokenKind, &'a str)>
+    ensures { MatchOption result
+        ((symbols_left tokens.new ≡ symbols_left tokens.old) × HasNoLabel (symbols_left tokens.old))
+        (λ x. EatsLabel x.0 x.1.now (symbols_left tokens.old) (symbols_left tokens.new)) }
+{
+    let (kind, text) = tokens.peek()?;
+    if !kind.may_be_label() {
+        return None;
+    }
+    tokens.bump();
+    Some((kind, text))
+}
+
+/// Parses what follows a label: whether it is the last.
+pub fn parse_label_end(tokens: &mut Tokens<'_>) -> Result<bool, ReadError>
+    ensures gives { MatchResult result
+        (λ ended. ParsesLabelEnd ended (symbols_left tokens.new)
+        (parse_label_end (symbols_left tokens.old)))
+        (λ e. Fails (e, symbols_left tokens.new) (parse_label_end (symbols_left tokens.old))) }
+    ensures short { OnOk result
+        (length (symbols_left tokens.new) < length (symbols_left tokens.old)) }
+{
+    if tokens.eat(TokenKind::RightParen) {
+        return Ok(true);
+    }
+    tokens.expect(TokenKind::Comma)?;
+    if tokens.eat(TokenKind::RightParen) {
+        return Ok(true);
+    }
+    Ok(false)
+}

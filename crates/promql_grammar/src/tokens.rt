@@ -1,0 +1,190 @@
+//! The tokens of a text before its end, or its lexical fault.
+
+ghost use Rattle.std.specs.Prelude.{◌≡◌, ◌==◌, ◌<◌, ◌^◌, List, [], ◌∷◌, ◌++◌, false, length, drop, Ok, Err, map, IfErr, IfOk, MatchBool, MatchOption, OnErr};
+ghost use Rattle.promql_grammar.specs.Symbols.{Symbol, symbol, symbol_of};
+ghost use Rattle.promql_grammar.specs.declared.read_error.ReadError.TheVariants.{Syntax};
+ghost use Rattle.promql_grammar.specs.SourceTokens.{Token, tokens, has_any};
+ghost use Rattle.promql_grammar.specs.Eating.{Eats, HasNo};
+ghost use Rattle.promql_grammar.specs.SymbolsLeft.{symbols_left, cursor_symbols, fault_symbol};
+
+use crate::read_error::ReadError;
+use crate::token_kinds::{TokenKind, token_kind};
+use promql_token::LexFault;
+use promql_token::cursor::Cursor;
+use promql_token::ids::T_EOF;
+use promql_token::scan::Lexer;
+
+/// Whether the text has a token before its end, or its lexical fault. It allocates nothing.
+pub fn has_tokens(text: &str) -> Result<bool, LexFault>
+    ensures { has_any (tokens text.now) ≡ result }
+{
+    let mut some = false;
+    for found in Lexer::new(text) {
+        let lexeme = found?;
+        some = some || lexeme.id != T_EOF;
+    }
+    Ok(some)
+}
+
+/// The first of the tokens that are left.
+#[derive(Clone, Copy)]
+pub enum Lookahead<'a> {
+    /// A token's kind and text.
+    Token(TokenKind, &'a str),
+    /// The text's lexical fault.
+    Fault,
+    End,
+}
+
+/// The tokens that are left of a text, before its end or its lexical fault, with a lookahead of
+/// one. Those after the first are lexed when they become the first. A lexical fault comes last, as
+/// a token of a kind that no expression has.
+#[derive(Clone, Copy)]
+pub struct Tokens<'a> {
+    lookahead: Lookahead<'a>,
+    rest: Cursor<'a>,
+    /// How many were taken.
+    index: usize,
+}
+
+impl<'a> Tokens<'a> {
+    /// The tokens of a text.
+    pub fn new(text: &'a str) -> Tokens<'a>
+        ensures whole { (list : List Token) → tokens text.now ≡ Ok list
+            → symbols_left result ≡ map symbol_of list }
+        ensures fault { (f : LexFault) → tokens text.now ≡ Err f
+            → (before : List Symbol) × (symbols_left result ≡ before ++ fault_symbol ∷ []) }
+    {
+        let mut tokens = Tokens {
+            lookahead: Lookahead::End,
+            rest: Cursor::new(text),
+            index: 0,
+        };
+        tokens.fill();
+        tokens
+    }
+
+    /// Lexes the next token into the lookahead.
+    #[inline(never)]
+    fn fill(&mut self)
+        ensures { symbols_left self.new ≡ cursor_symbols self.old.rest }
+    {
+        if self.rest.is_at_end() {
+            self.lookahead = Lookahead::End;
+            return;
+        }
+        if let Some((id, text)) = self.rest.next_if_word() {
+            self.lookahead = Lookahead::Token(token_kind(id), text);
+            return;
+        }
+        self.fill_with_any();
+    }
+
+    // As `fill`, for what comes less often than the end and words, which save fewer registers without it.
+    #[inline(never)]
+    fn fill_with_any(&mut self)
+        ensures { symbols_left self.new ≡ cursor_symbols self.old.rest }
+    {
+        match self.rest.next() {
+            Some((id, text)) => self.lookahead = Lookahead::Token(token_kind(id), text),
+            None if self.rest.is_at_fault() => self.lookahead = Lookahead::Fault,
+            None => self.lookahead = Lookahead::End,
+        }
+    }
+
+    /// The index of the first token in the text.
+    pub fn index(&self) -> usize {
+        self.index
+    }
+
+    /// How many are left, a lexical fault counted as one. It lexes them.
+    pub fn count(&self) -> usize
+        ensures { length (symbols_left self.now) < 2 ^ 64 → result ≡ length (symbols_left self.now) }
+    {
+        let mut rest = *self;
+        let mut count: usize = 0;
+        while !rest.is_empty() {
+            rest.bump();
+            count = count.saturating_add(1);
+        }
+        count
+    }
+
+    /// Whether no token is left.
+    pub fn is_empty(&self) -> bool
+        ensures { result ≡ (length (symbols_left self.now) == 0) }
+    {
+        matches!(self.lookahead, Lookahead::End)
+    }
+
+    /// The first token's kind and text.
+    #[inline(always)]
+    pub fn peek(&self) -> Option<(TokenKind, &'a str)>
+        ensures { MatchOption result (symbols_left self.now ≡ [])
+            (λ x. symbols_left self.now ≡ symbol x.0 x.1.now ∷ drop 1 (symbols_left self.now)) }
+    {
+        match self.lookahead {
+            Lookahead::Token(kind, text) => Some((kind, text)),
+            Lookahead::Fault => Some((TokenKind::Other, "")),
+            Lookahead::End => None,
+        }
+    }
+
+    /// Drops the first token, if there is one.
+    pub fn bump(&mut self)
+        ensures { symbols_left self.new ≡ drop 1 (symbols_left self.old) }
+    {
+        self.index = self.index.wrapping_add(1);
+        match self.lookahead {
+            Lookahead::Token(..) => match self.rest.next_if_single() {
+                Some((id, text)) => self.lookahead = Lookahead::Token(token_kind(id), text),
+                None => self.fill(),
+            },
+            Lookahead::Fault | Lookahead::End => self.lookahead = Lookahead::End,
+        }
+    }
+
+    /// Takes the first token: its kind and text.
+    pub fn next(&mut self) -> Option<(TokenKind, &'a str)>
+        ensures { MatchOption result (symbols_left self.old ≡ [])
+            (λ x. symbols_left self.old ≡ symbol x.0 x.1.now ∷ symbols_left self.new) }
+    {
+        let first = self.peek();
+        self.bump();
+        first
+    }
+
+    /// Takes the first token, if it is of this kind.
+    #[inline(always)]
+    pub fn eat(&mut self, kind: TokenKind) -> bool
+        ensures gives { MatchBool result (Eats kind (symbols_left self.old) (symbols_left self.new))
+            (HasNo kind (symbols_left self.old)) }
+        ensures stays { result ≡ false → symbols_left self.new ≡ symbols_left self.old }
+    {
+        match self.peek() {
+            Some((first, _)) if first == kind => {
+                self.bump();
+                true
+            }
+            _ => false,
+        }
+    }
+
+    /// Takes the first token, which has to be of this kind.
+    ///
+    /// # Errors
+    ///
+    /// `Syntax` if there is no token left, or if the first is of another kind.
+    #[inline(always)]
+    pub fn expect(&mut self, kind: TokenKind) -> Result<(), ReadError>
+        ensures gives { IfOk result (λ _.
+            Eats kind (symbols_left self.old) (symbols_left self.new)) }
+        ensures fails { IfErr result (λ e. (e ≡ Syntax) × HasNo kind (symbols_left self.old)) }
+        ensures stays { OnErr result (symbols_left self.new ≡ symbols_left self.old) }
+    {
+        if !self.eat(kind) {
+            return Err(ReadError::Syntax);
+        }
+        Ok(())
+    }
+}

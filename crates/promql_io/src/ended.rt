@@ -1,0 +1,116 @@
+//! A reader or a writer that records what its calls did.
+
+ghost use Rattle.std.specs.Prelude.{◌≡◌, ◌&&◌, ◌||◌, false, is_err};
+ghost use Rattle.std.specs.Io.{ReadsAtMost, WritesAtMost};
+ghost use Rattle.std.specs.Io.KnownBytes.{ReadConsumes, WriteAppends, Keeps};
+
+use std::io;
+use std::io::{Read, Write};
+
+/// A reader or a writer that records what its calls did (docs/reference/programs.md, "Reading and writing").
+///
+/// Only the calls below change its fields, so no caller can claim a failure that did not happen.
+#[derive(Drop)]
+pub struct Ended<T> {
+    inner: T,
+    failed: bool,
+    pending: bool,
+}
+
+impl<T> Ended<T> {
+    /// Wraps a reader or a writer on which no call has failed yet.
+    pub fn new(inner: T) -> Ended<T>
+        ensures inner { result.inner ≡ inner }
+        ensures failed { result.failed ≡ false }
+        ensures pending { result.pending ≡ false }
+    {
+        Ended {
+            inner,
+            failed: false,
+            pending: false,
+        }
+    }
+
+    /// The reader or writer within.
+    pub fn inner(&self) -> &T
+        ensures { result.now ≡ self.now.inner }
+    {
+        &self.inner
+    }
+
+    /// Whether a call has failed. A write that takes no byte of a text that is not empty counts as failed.
+    pub fn has_failed(&self) -> bool
+        ensures { result ≡ self.now.failed }
+    {
+        self.failed
+    }
+
+    /// Whether bytes that were written wait for a flush.
+    pub fn is_pending(&self) -> bool
+        ensures { result ≡ self.now.pending }
+    {
+        self.pending
+    }
+}
+
+impl<R: Read> Read for Ended<R> {
+    ghost remaining = { λ ended. R.remaining ended.inner };
+
+    /// One call of the reader within. `failed` is set exactly where that call fails.
+    fn read(&mut self, buf: &mut [u8]) -> io::Result<usize>
+        ensures bound { ReadsAtMost result buf.new }
+        ensures bytes { ReadConsumes (R.remaining self.old.inner)
+            (R.remaining self.new.inner) result buf.new }
+        ensures failed { self.new.failed ≡ (self.old.failed || is_err result) }
+        ensures pending { self.new.pending ≡ self.old.pending }
+    {
+        let result = self.inner.read(buf);
+        if result.is_err() {
+            self.failed = true;
+        }
+        result
+    }
+}
+
+impl<W: Write> Write for Ended<W> {
+    ghost use Rattle.promql_io.specs.Ended.{takes_bytes, takes_nothing};
+
+    ghost contents = { λ ended. W.contents ended.inner };
+
+    /// One call of the writer within. `failed` is set exactly where that call fails or takes nothing of a
+    /// text that is not empty, `pending` exactly where it takes a byte.
+    fn write(&mut self, buf: &[u8]) -> io::Result<usize>
+        ensures bound { WritesAtMost result buf.now }
+        ensures bytes { WriteAppends (W.contents self.old.inner)
+            (W.contents self.new.inner) result buf.now }
+        ensures failed { self.new.failed ≡ (self.old.failed || takes_nothing result buf.now) }
+        ensures pending { self.new.pending ≡ (self.old.pending || takes_bytes result) }
+    {
+        let result = self.inner.write(buf);
+        match &result {
+            Ok(0) => {
+                if !buf.is_empty() {
+                    self.failed = true;
+                }
+            }
+            Ok(_) => self.pending = true,
+            Err(_) => self.failed = true,
+        }
+        result
+    }
+
+    /// One flush of the writer within. A flush that fails sets `failed`, one that succeeds clears `pending`.
+    fn flush(&mut self) -> io::Result<()>
+        ensures bytes { Keeps (W.contents self.old.inner) (W.contents self.new.inner) }
+        ensures failed { self.new.failed ≡ (self.old.failed || is_err result) }
+        ensures pending { self.new.pending ≡ (self.old.pending && is_err result) }
+    {
+        let result = self.inner.flush();
+        if result.is_ok() {
+            self.pending = false;
+        } else {
+            self.failed = true;
+        }
+        result
+    }
+}

@@ -1,6 +1,0 @@
-use Rattle.std.proofs.Common.{arith}
-use Rattle.promql_syntax.proofs.MatcherLists.{comma_joins}
-use Rattle.promql_syntax.proofs.grammar.selector.parse_item_end.Goals as goal
-
-pub returns-else-eat-clause-gives : goal.returns-else-eat-clause-gives
-returns-else-eat-clause-gives c = grind (arith, comma_joins)
