@@ -1,8 +1,10 @@
 -- How the code reads a quoted text from its start (private: nothing rests on believing it).
-use Rattle.std.specs.Prelude.{◌≡◌, ℕ, ◌+◌, Bool, not, ◌||◌, ◌==◌, true, ◌++◌, drop, Option, Some, None, option_map}
+use Rattle.std.specs.Prelude.{◌≡◌, ℕ, ◌+◌, Bool, not, ◌||◌, ◌==◌, true, ◌++◌, drop, Option, Some, None, option_map, Result, Ok, Err}
 use Rattle.std.specs.Char.{encode_utf8}
 use Rattle.promql_text.specs.Quoting.{escape, inside, is_quote, number, unquoted_text}
 use Rattle.promql_text.specs.Texts.{Text}
+use Rattle.promql_text.specs.declared.quote.QuoteError.{QuoteError}
+use Rattle.promql_text.specs.declared.quote.QuoteError.TheVariants as errors
 
 -- a reader of digits, of an escape and of a spelling, which moves from the text `old` on to `new`
 
@@ -31,3 +33,9 @@ ReadsQuote old (Some quote) new = (is_quote quote ≡ true) × (unquoted_text ol
 -- between these quotes the byte is for itself, whatever is beside it
 abbrev pub is_plain_byte : ℕ → ℕ → Bool
 is_plain_byte quote b = not (b == quote || (b == 92 || b == 10))
+
+-- the result is what was said, or an allocation failed
+abbrev pub IsUnquotedUnlessMemory : {X : Type 0} → (X → Text) → Result X QuoteError → Option Text → Type 0
+IsUnquotedUnlessMemory view (Ok x) said = said ≡ Some (view x)
+IsUnquotedUnlessMemory view (Err errors.Memory) said = Unit {0}
+IsUnquotedUnlessMemory view (Err errors.InvalidSyntax) said = said ≡ None

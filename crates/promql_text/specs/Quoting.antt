@@ -1,5 +1,5 @@
 -- Quoted texts, in bytes of UTF-8: docs/reference/texts.md, "Strings".
-use Rattle.std.specs.Prelude.{◌≡◌, ℕ, zero, suc, ◌+◌, ◌-◌, ◌*◌, Bool, if◌then◌else◌, ◌==◌, ◌||◌, nat_lt, nat_le, [], ◌∷◌, ◌++◌, length, Option, Some, None, option_and_then, option_map, Result, Ok, Err}
+use Rattle.std.specs.Prelude.{◌≡◌, ℕ, zero, suc, ◌+◌, ◌-◌, ◌*◌, Bool, if◌then◌else◌, ◌==◌, ◌||◌, nat_lt, nat_le, [], ◌∷◌, ◌++◌, length, Option, Some, None, IsSome, option_and_then, option_map, Result, Ok, Err}
 use Rattle.std.specs.Char.{encode_utf8, digit_value}
 use lib.Utf8.{scalar}
 use Rattle.promql_text.specs.Texts.{Text}
@@ -90,8 +90,8 @@ unfoldable pub unquoted_text : Text → Option Text
 unquoted_text [] = None
 unquoted_text (b ∷ z) = if is_quote b then inside b 0 z else None
 
--- the result is what was said: its value, or the rejection where there is none. Running out of memory may come in place of either.
+-- the result is what was said: its value, or the rejection where there is none. Running out of memory may come in place of a value.
 abbrev pub Unquotes : {X : Type 0} → (X → Text) → Result X QuoteError → Option Text → Type 0
 Unquotes view (Ok x) said = said ≡ Some (view x)
-Unquotes view (Err errors.Memory) said = Unit {0}
+Unquotes view (Err errors.Memory) said = IsSome said
 Unquotes view (Err errors.InvalidSyntax) said = said ≡ None

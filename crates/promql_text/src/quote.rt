@@ -1,12 +1,12 @@
 //! Quoted strings: docs/reference/texts.md, "Strings".
 
-ghost use Rattle.std.specs.Prelude.{◌≡◌, ◌≢◌, ◌∷◌, [], ◌++◌, ◌<◌, ◌≤◌, ◌*◌, ◌+◌, ◌^◌, length, true, IfOk, IfSome, MatchOption, Some};
+ghost use Rattle.std.specs.Prelude.{◌≡◌, ◌≢◌, ◌∷◌, [], ◌++◌, ◌<◌, ◌≤◌, ◌*◌, ◌+◌, ◌^◌, length, true, IfOk, IfSome, MatchOption, Some, is_some};
 ghost use Rattle.std.specs.Char.{encode_utf8};
 ghost use Rattle.std.specs.List.{list_all};
 ghost use Rattle.std.specs.String.{string_bytes};
 ghost use Rattle.std.specs.Str.Iter.{chars_rest};
 ghost use Rattle.promql_text.specs.Quoting.{escaped_text, escaped_byte, hexadecimal, is_quote, letter, octal, unquoted_text, Unquotes};
-ghost use Rattle.promql_text.specs.QuoteReaders.{is_plain_byte, ReadsDigits, ReadsEscape, ReadsNumber, ReadsQuote, ReadsSpelling};
+ghost use Rattle.promql_text.specs.QuoteReaders.{IsUnquotedUnlessMemory, is_plain_byte, ReadsDigits, ReadsEscape, ReadsNumber, ReadsQuote, ReadsSpelling};
 
 use std::alloc::{AllocError, Global};
 use std::str::Chars;
@@ -68,10 +68,20 @@ pub(crate) fn escape_of(c: char) -> Option<&'static str>
 ///
 /// # Errors
 ///
-/// `InvalidSyntax` for every text that isn't a quote, spellings of characters and the same quote;
-/// `Memory` if an allocation fails.
+/// `InvalidSyntax` for every text that isn't a quote, spellings of characters and the same quote, also
+/// where an allocation fails; `Memory` if one fails for a text that is.
 pub fn unquote_string(alloc: Global, s: &str) -> Result<String, QuoteError>
     ensures { Unquotes string_bytes result (unquoted_text s.now) }
+{
+    match unquote(alloc, s) {
+        Err(QuoteError::Memory) if !is_quoted(s) => Err(QuoteError::InvalidSyntax),
+        unquoted => unquoted,
+    }
+}
+
+// As `unquote_string`, but with `Memory` also for a text that isn't quoted.
+fn unquote(alloc: Global, s: &str) -> Result<String, QuoteError>
+    ensures { IsUnquotedUnlessMemory string_bytes result (unquoted_text s.now) }
 {
     if let Some(body) = plain_body(s) {
         return Ok(String::from_str(alloc, body)?);
@@ -90,6 +100,25 @@ pub fn unquote_string(alloc: Global, s: &str) -> Result<String, QuoteError>
         out.push(read_spelling(quote, c, &mut rest).ok_or(QuoteError::InvalidSyntax)?)?;
     }
     Err(QuoteError::InvalidSyntax)
+}
+
+/// Whether the text is a quoted text. It allocates nothing.
+fn is_quoted(s: &str) -> bool
+    ensures { result ≡ is_some (unquoted_text s.now) }
+{
+    let mut rest = s.chars();
+    let Some(quote) = opening(&mut rest) else {
+        return false;
+    };
+    while let Some(c) = rest.next() {
+        if c == quote {
+            return rest.next().is_none();
+        }
+        if read_spelling(quote, c, &mut rest).is_none() {
+            return false;
+        }
+    }
+    false
 }
 
 /// What stands between two quotes, where each of its bytes is for itself.

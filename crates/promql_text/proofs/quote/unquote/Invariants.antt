@@ -3,7 +3,7 @@ use Rattle.std.specs.Prelude.{option_map}
 use Rattle.std.specs.String.{string_bytes}
 use Rattle.std.specs.Str.Iter.{chars_rest}
 use Rattle.promql_text.specs.Quoting.{is_quote, inside, unquoted_text}
-use Rattle.promql_text.proofs.quote.unquote_string.Given as goal
+use Rattle.promql_text.proofs.quote.unquote.Given as goal
 
 -- what is written, and what is left is for
 abbrev pub invariant-loop-c : goal.invariant-loop-c

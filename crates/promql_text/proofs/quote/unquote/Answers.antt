@@ -1,6 +1,6 @@
 use Rattle.std.proofs.Common.{arith}
 use Rattle.std.proofs.lemmas.Grind.{common_steps}
-use Rattle.promql_text.proofs.quote.unquote_string.Goals as goal
+use Rattle.promql_text.proofs.quote.unquote.Goals as goal
 
 pub loop-c-preserved : goal.loop-c-preserved
 loop-c-preserved c = grind (arith, common_steps)
