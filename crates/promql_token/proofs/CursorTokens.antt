@@ -12,7 +12,7 @@ use Rattle.promql_token.specs.declared.state.Mode.TheVariants as mode
 use Rattle.promql_token.specs.declared.state.State.{State}
 use Rattle.promql_text.specs.Texts.{Text}
 use Rattle.promql_token.specs.declared.cursor.Cursor as code
-use Rattle.promql_token.specs.Cursor.{is_before_end, up_to_fault, tokens_left, has_fault, ends_in_fault}
+use Rattle.promql_token.specs.Cursor.{is_before_end, up_to_fault, tokens_left, tokens_up_to_fault, has_fault, ends_in_fault}
 use Rattle.promql_token.specs.IsPast.{IsPast}
 use Rattle.promql_token.specs.Lexing.{ScannedText, Found, pieces, found, first, fault_at, item, collect_items, with_front, goes_on, len_of, start, lex, tokens, cut, place_items, slice_texts, result_texts, text_at}
 use Rattle.promql_token.specs.TokenScanning.{after}
@@ -35,6 +35,9 @@ tokens_of_lexemes s (Err f) ts lexed is = cc
 pub new_left : (s : Text) (c : code.Cursor) → c.text.now ≡ s → c.at ≡ 0 → c.state ≡ start → (ts : List (ℕ × Text)) → tokens s ≡ Ok ts → tokens_left c ≡ filter is_before_end ts
 new_left s c text at state ts is =
     (λ i. filter is_before_end (up_to_fault (pieces (state i) (drop (at i) (text i))))) ∙ ap (filter is_before_end) (tokens_of_lexemes s (lex s) ts refl is)
+
+pub new_pieces : (s : Text) (c : code.Cursor) → c.text.now ≡ s → c.at ≡ 0 → c.state ≡ start → tokens_left c ≡ tokens_up_to_fault s
+new_pieces s c text at state = λ i. filter is_before_end (up_to_fault (pieces (state i) (drop (at i) (text i))))
 
 -- ---- a fault at the end
 

@@ -3,7 +3,7 @@ use Rattle.std.specs.Prelude.{ℕ, Bool, true, false, not, ◌==◌, List, [], �
 use Rattle.promql_token.specs.declared.ids.TheConstants.{T_EOF}
 use Rattle.promql_token.specs.declared.cursor.Cursor as code
 use Rattle.promql_text.specs.Texts.{Text}
-use Rattle.promql_token.specs.Lexing.{ScannedText, pieces}
+use Rattle.promql_token.specs.Lexing.{ScannedText, pieces, start}
 
 -- every token but T_EOF, which is the last
 abbrev pub is_before_end : ℕ × Text → Bool
@@ -14,6 +14,10 @@ abbrev pub up_to_fault : List ScannedText → List (ℕ × Text)
 up_to_fault [] = []
 up_to_fault (Ok t ∷ ws) = t ∷ up_to_fault ws
 up_to_fault (Err f ∷ ws) = []
+
+-- the tokens of a text before its end, or before its fault
+abbrev pub tokens_up_to_fault : Text → List (ℕ × Text)
+tokens_up_to_fault s = filter is_before_end (up_to_fault (pieces start s))
 
 -- the tokens that are to come, before the end
 abbrev pub tokens_left : code.Cursor → List (ℕ × Text)

@@ -16,6 +16,7 @@ pub mod Printed
 pub mod PrintedValues
 pub mod TokenRows
 pub mod Scan
+pub mod TokenTables
 pub mod TokenSpelling
 pub mod States
 pub mod TokenLists

@@ -46,7 +46,7 @@ fn token_at(text: &str, at: usize, state: State) -> Result<Lexeme, (LexFaultKind
 }
 
 impl<'a> Cursor<'a> {
-    ghost use Rattle.promql_token.specs.Cursor.{tokens_left, is_before_end, ends_in_fault};
+    ghost use Rattle.promql_token.specs.Cursor.{tokens_left, tokens_up_to_fault, is_before_end, ends_in_fault};
     ghost use Rattle.promql_token.specs.Front.{pieces_left};
     ghost use Rattle.promql_token.specs.IsPast.{IsPast};
 
@@ -58,6 +58,7 @@ impl<'a> Cursor<'a> {
             → ends_in_fault result ≡ false }
         ensures fault { (f : LexFault) → spec.tokens text.now ≡ Err f
             → ends_in_fault result ≡ true }
+        ensures pieces { tokens_left result ≡ tokens_up_to_fault text.now }
     {
         Cursor::front(text)
     }

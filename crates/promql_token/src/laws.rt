@@ -1,6 +1,6 @@
 //! Laws of the token list: the contracts of functions that do nothing.
 
-ghost use Rattle.std.specs.Prelude.{◌≡◌, ℕ};
+ghost use Rattle.std.specs.Prelude.{◌≡◌, ℕ, map};
 ghost use Rattle.promql_text.specs.Equalities.{ClonesKeep, IsSameBy};
 ghost use Rattle.promql_token.specs.Begins as begin;
 ghost use Rattle.promql_token.specs.Cut as lexing_is_compositional;
@@ -13,11 +13,14 @@ ghost use Rattle.promql_token.specs.Printed as printed_forms_are_tokens;
 ghost use Rattle.promql_token.specs.PrintedValues as values;
 ghost use Rattle.promql_token.specs.TokenRows as rows;
 ghost use Rattle.promql_token.specs.TokenSpelling as spelling;
+ghost use Rattle.promql_token.specs.TokenTables as tables;
 ghost use Rattle.promql_token.specs.TokenLists as lists;
 ghost use Rattle.promql_token.specs.Tokens.{id_and_text};
 ghost use Rattle.promql_token.specs.declared.fault.LexError.{LexError};
 ghost use Rattle.promql_token.specs.declared.fault.LexFault.{LexFault};
 ghost use Rattle.promql_token.specs.declared.fault.LexFaultKind.{LexFaultKind};
+ghost use Rattle.promql_token.specs.declared.fault.TheConstants.{MESSAGES};
+ghost use Rattle.promql_token.specs.declared.ids.TheConstants.{TEXTS};
 ghost use Rattle.promql_token.specs.declared.lexeme.Lexeme.{Lexeme};
 
 use crate::token::{Token, TokenType};
@@ -133,6 +136,13 @@ pub fn equal_faults()
 pub fn ids_count_up()
     ensures constants { ids.constants ≡ ids.count_up 0 86 }
     ensures texts { ids.ids_of_texts ≡ ids.count_up 0 86 }
+{}
+
+/// The tables of texts, keywords and messages have the rows of docs/reference/tokens.md, in the same order, and no other.
+pub fn tables()
+    ensures texts { map (λ row. row.1.now) TEXTS ≡ tables.texts }
+    ensures keywords { ids.keywords ≡ tables.keywords }
+    ensures messages { map (λ row. (row.0, row.1.now)) MESSAGES ≡ tables.messages }
 {}
 
 /// What the definition gives for worked texts, and that the relations say the same of them.

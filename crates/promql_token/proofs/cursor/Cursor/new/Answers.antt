@@ -1,6 +1,6 @@
 use denote.Bor.{Bor}
 use Rattle.std.proofs.Common.{ℕ, List, ap}
-use Rattle.promql_token.proofs.CursorTokens.{new_left, new_whole, new_fault}
+use Rattle.promql_token.proofs.CursorTokens.{new_left, new_whole, new_fault, new_pieces}
 use Rattle.promql_token.proofs.cursor.Cursor.new.Goals as goal
 
 pub returns-clause-tokens : goal.returns-clause-tokens
@@ -17,3 +17,8 @@ pub returns-clause-fault : goal.returns-clause-fault
 returns-clause-fault c =
     let e = c.front.ensures in
     new_fault c.args.text.now c.front.result (ap (λ (t : Bor (List ℕ)). t.now) e.text) e.at e.state
+
+pub returns-clause-pieces : goal.returns-clause-pieces
+returns-clause-pieces c =
+    let e = c.front.ensures in
+    new_pieces c.args.text.now c.front.result (ap (λ (t : Bor (List ℕ)). t.now) e.text) e.at e.state
