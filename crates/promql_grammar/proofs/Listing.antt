@@ -1,5 +1,5 @@
 -- The tokens of a text, and what the loop over them keeps.
-use Rattle.std.proofs.Common.{◌≡◌, ℕ, ◌<◌, suc, Bool, true, false, List, [], ◌∷◌, length, refl, sym, ap, ◌∙◌, arith}
+use Rattle.std.proofs.Common.{◌≡◌, ℕ, suc, Bool, true, false, List, [], ◌∷◌, length, refl, sym, ap, ◌∙◌, arith}
 use Rattle.std.specs.Prelude.{◌==◌, ◌||◌, not, Result, Ok, Err, filter}
 use Rattle.std.specs.List.{list_any}
 use Rattle.std.proofs.lemmas.Bool.{cond-true, cond-false}
@@ -53,32 +53,7 @@ pub has_any_tokens : (s : Text) → has_any (tokens s) ≡ any_token (collect_it
 unfolding lex
 has_any_tokens s = any_listed s (collect_items (items s))
 
--- a text with no token has the empty list
-pub none_listed : (r : Result (List Token) LexFault) → has_any r ≡ Ok false → r ≡ Ok []
-none_listed (Ok []) none = refl
-none_listed (Ok (t ∷ ts)) none =
-    let fails : not (suc (length ts) == 0) ≡ false = cc in
-    let holds : not (suc (length ts) == 0) ≡ true = ap not (some_zero (length ts)) in
-    cc
-none_listed (Err e) none = cc
-
--- a text with a token has a list that isn't empty
-pub record SomeList (r : Result (List Token) LexFault) : Type 0 where
-  pub list : List Token
-  pub is : r ≡ Ok list
-  pub some : 0 < length list
-
-pub some_list : (r : Result (List Token) LexFault) → has_any r ≡ Ok true → SomeList r
-some_list (Ok []) some = let none : false ≡ true = cc in cc
-some_list (Ok (t ∷ ts)) some = record { list = t ∷ ts; is = refl; some = omega arith }
-some_list (Err e) some = cc
-
 -- the list is what the lexer gives, without the end
 pub whole_list : (r : Result (List Token) LexFault) (list : List Token) → on_result (filter is_before_end) r ≡ Ok list → (ts : List Token) × (r ≡ Ok ts) × (filter is_before_end ts ≡ list)
 whole_list (Ok ts) list is = (ts, refl, cc)
 whole_list (Err e) list is = cc
-
--- a text with a lexical fault has none
-pub fault_listed : (r : Result (List Token) LexFault) (f : LexFault) → has_any r ≡ Err f → r ≡ Err f
-fault_listed (Ok ts) f is = cc
-fault_listed (Err e) f is = cc

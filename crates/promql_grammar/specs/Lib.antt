@@ -2,6 +2,7 @@ pub mod Grammar
 pub mod GrammarParts
 pub mod Parsing
 pub mod Results
+pub mod KindTable
 pub mod Symbols
 pub mod Misfits
 pub mod SourceTokens

@@ -1,5 +1,5 @@
 -- What is left of a text's tokens. Private: nothing rests on believing it.
-use Rattle.std.specs.Prelude.{List, [], ◌∷◌, ◌++◌, map, if◌then◌else◌}
+use Rattle.std.specs.Prelude.{◌≡◌, ℕ, ◌+◌, ◌<◌, ◌^◌, List, [], ◌∷◌, ◌++◌, length, map, if◌then◌else◌}
 use Rattle.promql_token.specs.Cursor.{tokens_left, ends_in_fault}
 use Rattle.promql_token.specs.declared.cursor.Cursor as token
 use Rattle.promql_grammar.specs.declared.token_kinds.TokenKind.TheVariants as kind
@@ -23,3 +23,15 @@ symbols_from End rest = []
 
 abbrev pub symbols_left : code.Tokens → List Symbol
 symbols_left ts = symbols_from ts.lookahead ts.rest
+
+-- how many tokens were taken, so the index of the first that is left
+abbrev pub tokens_taken : code.Tokens → ℕ
+tokens_taken ts = ts.index
+
+-- how many there are in all: a lexical fault is counted as one
+abbrev pub token_count : code.Tokens → ℕ
+token_count ts = tokens_taken ts + length (symbols_left ts)
+
+-- from `old` to `new` as many were taken as are not left any more; the counter would wrap at 2 ^ 64
+abbrev pub CountsTaken : code.Tokens → code.Tokens → Type 0
+CountsTaken old new = token_count old < 2 ^ 64 → token_count new ≡ token_count old

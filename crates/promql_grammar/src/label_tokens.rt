@@ -1,9 +1,10 @@
 //! The tokens of labels in parentheses.
 
-ghost use Rattle.std.specs.Prelude.{◌≡◌, ◌<◌, length, MatchOption, MatchResult, OnOk};
+ghost use Rattle.std.specs.Prelude.{◌≡◌, ◌<◌, length, IfErr, MatchOption, MatchResult, OnOk};
 ghost use Rattle.promql_grammar.specs.Failures.{Fails};
 ghost use Rattle.promql_grammar.specs.PartTokens.{HasNoLabel, ParsesLabelEnd, EatsLabel, parse_label_end};
-ghost use Rattle.promql_grammar.specs.SymbolsLeft.{symbols_left};
+ghost use Rattle.promql_grammar.specs.SymbolsLeft.{CountsTaken, symbols_left};
+ghost use Rattle.promql_grammar.specs.declared.read_error.ReadError.TheVariants.{Syntax};
 
 use crate::read_error::ReadError;
 use crate::token_kinds::TokenKind;
@@ -11,9 +12,10 @@ use crate::tokens::Tokens;
 
 /// Takes a label, if it is the first token: its kind and text.
 pub fn eat_label<'a>(tokens: &mut Tokens<'a>) -> Option<(TokenKind, &'a str)>
-    ensures { MatchOption result
+    ensures gives { MatchOption result
         ((symbols_left tokens.new ≡ symbols_left tokens.old) × HasNoLabel (symbols_left tokens.old))
         (λ x. EatsLabel x.0 x.1.now (symbols_left tokens.old) (symbols_left tokens.new)) }
+    ensures counts { CountsTaken tokens.old tokens.new }
 {
     let (kind, text) = tokens.peek()?;
     if !kind.may_be_label() {
@@ -29,8 +31,10 @@ pub fn parse_label_end(tokens: &mut Tokens<'_>) -> Result<bool, ReadError>
         (λ ended. ParsesLabelEnd ended (symbols_left tokens.new)
         (parse_label_end (symbols_left tokens.old)))
         (λ e. Fails (e, symbols_left tokens.new) (parse_label_end (symbols_left tokens.old))) }
+    ensures syntax { IfErr result (λ e. e ≡ Syntax) }
     ensures short { OnOk result
         (length (symbols_left tokens.new) < length (symbols_left tokens.old)) }
+    ensures counts { CountsTaken tokens.old tokens.new }
 {
     if tokens.eat(TokenKind::RightParen) {
         return Ok(true);

@@ -1,11 +1,13 @@
 //! Laws of the grammar.
 
-ghost use Rattle.std.specs.Prelude.{◌≡◌, ℕ, ◌≤◌, ◌++◌, [], ◌∷◌, List, Ok, Err, nat_lt, if◌then◌else◌, length};
+ghost use Rattle.std.specs.Prelude.{◌≡◌, ℕ, ◌≤◌, ◌++◌, [], ◌∷◌, List, Ok, Err, nat_lt, if◌then◌else◌, length, map};
 ghost use Rattle.promql_text.specs.Equalities.{IsSameBy};
 ghost use Rattle.promql_grammar.specs.Grammar.{Derivation, IsWellFormed, height, yield};
+ghost use Rattle.promql_grammar.specs.KindTable.{kinds};
 ghost use Rattle.promql_grammar.specs.Misfits.{AreMisfits};
 ghost use Rattle.promql_grammar.specs.Parsing.{misfit, parse_expression, too_high};
 ghost use Rattle.promql_grammar.specs.Symbols.{Symbol, ids_of_kinds};
+ghost use Rattle.promql_grammar.specs.declared.token_kinds.TheConstants.{TOKEN_KINDS};
 ghost use Rattle.promql_token.specs.Ids.{count_up};
 
 use crate::token_kinds::TokenKind;
@@ -15,9 +17,10 @@ pub fn one_tree()
     ensures { (a b : Derivation) → IsWellFormed a → IsWellFormed b → yield a ≡ yield b → a ≡ b }
 {}
 
-/// The table of kinds has a row for each id, in the order of the ids.
+/// The table of kinds has a row for each id, in the order of the ids, with the kind of docs/reference/grammar.md.
 pub fn kinds_by_id()
-    ensures { ids_of_kinds ≡ count_up 0 86 }
+    ensures ids { ids_of_kinds ≡ count_up 0 86 }
+    ensures kinds { map (λ row. row.1) TOKEN_KINDS ≡ kinds }
 {}
 
 /// Kinds of tokens are equal exactly if they are the same.

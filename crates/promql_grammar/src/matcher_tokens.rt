@@ -1,11 +1,12 @@
 //! The tokens of a selector's matchers.
 
-ghost use Rattle.std.specs.Prelude.{◌≡◌, ◌<◌, ◌≤◌, List, ℕ, option_map, length, MatchResult, OnOk};
+ghost use Rattle.std.specs.Prelude.{◌≡◌, ◌<◌, ◌≤◌, ◌+◌, ◌^◌, List, ℕ, option_map, length, IfErr, IfNone, IfOk, MatchResult, OnOk};
 ghost use Rattle.promql_grammar.specs.GrammarParts as part;
 ghost use Rattle.promql_grammar.specs.Parsing as parsing;
 ghost use Rattle.promql_grammar.specs.Failures.{Fails};
 ghost use Rattle.promql_grammar.specs.MatcherTokens.{ParsesItemEnd, ParsesItem, ParsesMatchOperator, match_operator_of, operator_of_part, parse_item_end};
-ghost use Rattle.promql_grammar.specs.SymbolsLeft.{symbols_left};
+ghost use Rattle.promql_grammar.specs.SymbolsLeft.{CountsTaken, symbols_left, token_count, tokens_taken};
+ghost use Rattle.promql_grammar.specs.declared.read_error.ReadError.TheVariants.{Syntax};
 
 use crate::read_error::ReadError;
 use crate::token_kinds::TokenKind;
@@ -38,8 +39,13 @@ pub fn parse_item<'a>(tokens: &mut Tokens<'a>) -> Result<Item<'a>, ReadError>
         (λ item. ParsesItem item (symbols_left tokens.new) (parsing.parse_item
         (symbols_left tokens.old)))
         (λ e. Fails (e, symbols_left tokens.new) (parsing.parse_item (symbols_left tokens.old))) }
+    ensures syntax { IfErr result (λ e. e ≡ Syntax) }
+    ensures name { IfOk result (λ item. item.name_index ≡ tokens_taken tokens.old) }
+    ensures value { IfOk result (λ item. token_count tokens.old < 2 ^ 64
+        → tokens_taken tokens.new ≡ item.value_index + 1) }
     ensures short { OnOk result
         (length (symbols_left tokens.new) < length (symbols_left tokens.old)) }
+    ensures counts { CountsTaken tokens.old tokens.new }
 {
     let Some((kind, name)) = tokens.peek() else {
         return Err(ReadError::Syntax);
@@ -84,8 +90,13 @@ fn parse_matcher_value<'a>(
         (parsing.parse_matcher_value kind name.entry.now s (symbols_left tokens.old)))
         (λ e. Fails (e, symbols_left tokens.new) (parsing.parse_matcher_value kind name.entry.now s
         (symbols_left tokens.old))) }
+    ensures syntax { IfErr result (λ e. e ≡ Syntax) }
+    ensures name { IfOk result (λ item. item.name_index ≡ name_index) }
+    ensures value { IfOk result (λ item. token_count tokens.old < 2 ^ 64
+        → tokens_taken tokens.new ≡ item.value_index + 1) }
     ensures short { OnOk result
         (length (symbols_left tokens.new) < length (symbols_left tokens.old)) }
+    ensures counts { CountsTaken tokens.old tokens.new }
 {
     let Some((value_kind, value)) = tokens.peek() else {
         return Err(ReadError::Syntax);
@@ -111,7 +122,9 @@ fn parse_matcher_value<'a>(
 fn eat_match_operator(tokens: &mut Tokens<'_>) -> Option<MatchOperator>
     ensures gives { ParsesMatchOperator result (symbols_left tokens.new)
         (parsing.parse_match_operator (symbols_left tokens.old)) }
+    ensures stays { IfNone result (tokens.new ≡ tokens.old) }
     ensures short { length (symbols_left tokens.new) ≤ length (symbols_left tokens.old) }
+    ensures counts { CountsTaken tokens.old tokens.new }
 {
     let Some((kind, _)) = tokens.peek() else {
         return None;
@@ -142,8 +155,10 @@ pub fn parse_item_end(tokens: &mut Tokens<'_>) -> Result<Option<bool>, ReadError
         (λ next. ParsesItemEnd next (symbols_left tokens.new) (parse_item_end
         (symbols_left tokens.old)))
         (λ e. Fails (e, symbols_left tokens.new) (parse_item_end (symbols_left tokens.old))) }
+    ensures syntax { IfErr result (λ e. e ≡ Syntax) }
     ensures short { OnOk result
         (length (symbols_left tokens.new) < length (symbols_left tokens.old)) }
+    ensures counts { CountsTaken tokens.old tokens.new }
 {
     let Some((kind, _)) = tokens.peek() else {
         return Err(ReadError::Syntax);

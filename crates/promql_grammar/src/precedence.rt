@@ -3,7 +3,7 @@
 ghost use Rattle.std.specs.Prelude.{◌≡◌, ◌≤◌, IfNone, MatchOption};
 ghost use Rattle.promql_grammar.specs.Grammar as grammar;
 ghost use Rattle.promql_grammar.specs.Parsing as parsing;
-ghost use Rattle.promql_grammar.specs.SymbolsLeft.{symbols_left};
+ghost use Rattle.promql_grammar.specs.SymbolsLeft.{CountsTaken, symbols_left};
 ghost use Rattle.promql_grammar.specs.OperatorTokens.{EatsOperator, EatsUnaryOperator, HasNoOperator, HasNoUnaryOperator};
 
 use crate::token_kinds::TokenKind;
@@ -24,6 +24,7 @@ pub fn eat_unary_operator(tokens: &mut Tokens<'_>) -> Option<TokenId>
     ensures gives { MatchOption result (HasNoUnaryOperator (symbols_left tokens.old))
         (λ op. EatsUnaryOperator op (symbols_left tokens.old) (symbols_left tokens.new)) }
     ensures stays { IfNone result (symbols_left tokens.new ≡ symbols_left tokens.old) }
+    ensures counts { CountsTaken tokens.old tokens.new }
 {
     match tokens.peek() {
         Some((TokenKind::Operator(op), _)) if matches!(op, T_ADD | T_SUB) => {
@@ -39,6 +40,7 @@ pub fn eat_operator(tokens: &mut Tokens<'_>, min_precedence: usize) -> Option<To
     ensures gives { MatchOption result (HasNoOperator min_precedence (symbols_left tokens.old))
         (λ op. EatsOperator min_precedence op (symbols_left tokens.old) (symbols_left tokens.new)) }
     ensures stays { IfNone result (symbols_left tokens.new ≡ symbols_left tokens.old) }
+    ensures counts { CountsTaken tokens.old tokens.new }
 {
     match tokens.peek() {
         Some((TokenKind::Operator(op), _)) if min_precedence <= precedence(op) => {
@@ -50,7 +52,7 @@ pub fn eat_operator(tokens: &mut Tokens<'_>, min_precedence: usize) -> Option<To
 }
 
 /// How tightly the operator binds.
-fn precedence(op: TokenId) -> usize
+pub fn precedence(op: TokenId) -> usize
     ensures value { result ≡ grammar.precedence op }
     ensures low { result ≤ 6 }
 {

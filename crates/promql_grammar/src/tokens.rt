@@ -1,11 +1,12 @@
 //! The tokens of a text before its end, or its lexical fault.
 
 ghost use Rattle.std.specs.Prelude.{◌≡◌, ◌==◌, ◌<◌, ◌^◌, List, [], ◌∷◌, ◌++◌, false, length, drop, Ok, Err, map, IfErr, IfOk, MatchBool, MatchOption, OnErr};
-ghost use Rattle.promql_grammar.specs.Symbols.{Symbol, symbol, symbol_of};
+ghost use Rattle.promql_token.specs.Cursor.{tokens_up_to_fault};
+ghost use Rattle.promql_grammar.specs.Symbols.{symbol, symbol_of};
 ghost use Rattle.promql_grammar.specs.declared.read_error.ReadError.TheVariants.{Syntax};
 ghost use Rattle.promql_grammar.specs.SourceTokens.{Token, tokens, has_any};
 ghost use Rattle.promql_grammar.specs.Eating.{Eats, HasNo};
-ghost use Rattle.promql_grammar.specs.SymbolsLeft.{symbols_left, cursor_symbols, fault_symbol};
+ghost use Rattle.promql_grammar.specs.SymbolsLeft.{CountsTaken, symbols_left, cursor_symbols, fault_symbol, tokens_taken};
 
 use crate::read_error::ReadError;
 use crate::token_kinds::{TokenKind, token_kind};
@@ -52,8 +53,9 @@ impl<'a> Tokens<'a> {
     pub fn new(text: &'a str) -> Tokens<'a>
         ensures whole { (list : List Token) → tokens text.now ≡ Ok list
             → symbols_left result ≡ map symbol_of list }
-        ensures fault { (f : LexFault) → tokens text.now ≡ Err f
-            → (before : List Symbol) × (symbols_left result ≡ before ++ fault_symbol ∷ []) }
+        ensures fault { (f : LexFault) → tokens text.now ≡ Err f → symbols_left result
+            ≡ map symbol_of (tokens_up_to_fault text.now) ++ fault_symbol ∷ [] }
+        ensures index { tokens_taken result ≡ 0 }
     {
         let mut tokens = Tokens {
             lookahead: Lookahead::End,
@@ -67,7 +69,8 @@ impl<'a> Tokens<'a> {
     /// Lexes the next token into the lookahead.
     #[inline(never)]
     fn fill(&mut self)
-        ensures { symbols_left self.new ≡ cursor_symbols self.old.rest }
+        ensures symbols { symbols_left self.new ≡ cursor_symbols self.old.rest }
+        ensures index { tokens_taken self.new ≡ tokens_taken self.old }
     {
         if self.rest.is_at_end() {
             self.lookahead = Lookahead::End;
@@ -83,7 +86,8 @@ impl<'a> Tokens<'a> {
     // As `fill`, for what comes less often than the end and words, which save fewer registers without it.
     #[inline(never)]
     fn fill_with_any(&mut self)
-        ensures { symbols_left self.new ≡ cursor_symbols self.old.rest }
+        ensures symbols { symbols_left self.new ≡ cursor_symbols self.old.rest }
+        ensures index { tokens_taken self.new ≡ tokens_taken self.old }
     {
         match self.rest.next() {
             Some((id, text)) => self.lookahead = Lookahead::Token(token_kind(id), text),
@@ -92,8 +96,10 @@ impl<'a> Tokens<'a> {
         }
     }
 
-    /// The index of the first token in the text.
-    pub fn index(&self) -> usize {
+    /// The index of the first token in the text: how many were taken.
+    pub fn index(&self) -> usize
+        ensures { result ≡ tokens_taken self.now }
+    {
         self.index
     }
 
@@ -132,8 +138,12 @@ impl<'a> Tokens<'a> {
 
     /// Drops the first token, if there is one.
     pub fn bump(&mut self)
-        ensures { symbols_left self.new ≡ drop 1 (symbols_left self.old) }
+        ensures drops { symbols_left self.new ≡ drop 1 (symbols_left self.old) }
+        ensures counts { CountsTaken self.old self.new }
     {
+        if self.is_empty() {
+            return;
+        }
         self.index = self.index.wrapping_add(1);
         match self.lookahead {
             Lookahead::Token(..) => match self.rest.next_if_single() {
@@ -146,8 +156,9 @@ impl<'a> Tokens<'a> {
 
     /// Takes the first token: its kind and text.
     pub fn next(&mut self) -> Option<(TokenKind, &'a str)>
-        ensures { MatchOption result (symbols_left self.old ≡ [])
+        ensures takes { MatchOption result (symbols_left self.old ≡ [])
             (λ x. symbols_left self.old ≡ symbol x.0 x.1.now ∷ symbols_left self.new) }
+        ensures counts { CountsTaken self.old self.new }
     {
         let first = self.peek();
         self.bump();
@@ -160,6 +171,7 @@ impl<'a> Tokens<'a> {
         ensures gives { MatchBool result (Eats kind (symbols_left self.old) (symbols_left self.new))
             (HasNo kind (symbols_left self.old)) }
         ensures stays { result ≡ false → symbols_left self.new ≡ symbols_left self.old }
+        ensures counts { CountsTaken self.old self.new }
     {
         match self.peek() {
             Some((first, _)) if first == kind => {
@@ -181,6 +193,7 @@ impl<'a> Tokens<'a> {
             Eats kind (symbols_left self.old) (symbols_left self.new)) }
         ensures fails { IfErr result (λ e. (e ≡ Syntax) × HasNo kind (symbols_left self.old)) }
         ensures stays { OnErr result (symbols_left self.new ≡ symbols_left self.old) }
+        ensures counts { CountsTaken self.old self.new }
     {
         if !self.eat(kind) {
             return Err(ReadError::Syntax);

@@ -17,4 +17,4 @@ returns-clause-gives c =
     let rest = drop 1 (symbols_left c.args.tokens.now) in
     let operator = c.in-Some-match_operator.operator in
     let read = match_operator c.in-Some.kind c.in-Some.field-0-1.now rest operator (c.in-Some-match_operator.ensures c.in-Some.field-0-1.now) in
-    rw c.bump.ensures (subst (λ ts. IsMatchOperator operator rest (parse_match_operator ts)) (sym front) read)
+    rw c.bump.ensures.drops (subst (λ ts. IsMatchOperator operator rest (parse_match_operator ts)) (sym front) read)

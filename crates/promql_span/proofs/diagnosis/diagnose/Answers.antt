@@ -5,7 +5,7 @@ use Rattle.promql_span.proofs.diagnosis.diagnose.Goals as goal
 
 pub returns-in-Ok-Ok-clause-answer : goal.returns-in-Ok-Ok-clause-answer
 returns-in-Ok-Ok-clause-answer c =
-    rw (c.into_inner.ensures, c.in-Ok-Ok.expr-is) (drawn_answer c.checked_trees_are_typed.ensures c.args.text.now _ c.new-tokens.ensures.whole c.new-tokens.ensures.fault _ (rw c.in-Ok-Ok.field-0-is at rw c.in-Ok-Ok.is at c.parse_query.ensures.whole))
+    rw (c.into_inner.ensures, c.in-Ok-Ok.expr-is) (drawn_answer c.checked_trees_are_typed.ensures c.args.text.now _ c.new-tokens.ensures.whole (λ f e. (_, c.new-tokens.ensures.fault f e)) _ (rw c.in-Ok-Ok.field-0-is at rw c.in-Ok-Ok.is at c.parse_query.ensures.whole))
 
 pub returns-in-Ok-Err-clause-answer : goal.returns-in-Ok-Err-clause-answer
 returns-in-Ok-Err-clause-answer c =

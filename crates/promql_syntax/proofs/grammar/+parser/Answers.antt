@@ -96,19 +96,19 @@ expression::parse_unary-returns-clause-memory t c = λ is. base_begins (parse_ex
 pub expression::parse_postfix_base-returns-then-may_be_called-clause-gives : goal.expression::parse_postfix_base-returns-then-may_be_called-clause-gives
 expression::parse_postfix_base-returns-then-may_be_called-clause-gives t c =
     bases_same _ _ _ (λ k n. parse_unary (parse_expression c.args.max_height) k n (symbols_left c.args.tokens.now))
-    (λ k n. ap (parse_unary (parse_expression c.args.max_height) k n) c.in-Some.ensures ∙ called_first (parse_expression c.args.max_height) k n c.in-Some.kind c.in-Some.text.now _ (sym c.if-may_be_called.ensures) ∙ ap (parse_call (parse_expression c.args.max_height) k n c.in-Some.kind c.in-Some.text.now) (sym c.bump.ensures)) c.parse_call.ensures.gives
+    (λ k n. ap (parse_unary (parse_expression c.args.max_height) k n) c.in-Some.ensures ∙ called_first (parse_expression c.args.max_height) k n c.in-Some.kind c.in-Some.text.now _ (sym c.if-may_be_called.ensures) ∙ ap (parse_call (parse_expression c.args.max_height) k n c.in-Some.kind c.in-Some.text.now) (sym c.bump.ensures.drops)) c.parse_call.ensures.gives
 
 pub expression::parse_postfix_base-returns-in_err-expect-in-LeftParen-clause-gives : goal.expression::parse_postfix_base-returns-in_err-expect-in-LeftParen-clause-gives
 expression::parse_postfix_base-returns-in_err-expect-in-LeftParen-clause-gives t c =
     let same = err_from_is_err_and c.from_residual-in_err-expect-in-LeftParen.result c.from_residual-in_err-expect-in-LeftParen.ensures.1 in
     let fails = c.in_err-expect-in-LeftParen.ensures.fails in
     let stays = c.in_err-expect-in-LeftParen.ensures.stays in
-    rw (same.1, same.2, fails.0, stays) (paren_open (parse_expression c.args.max_height) c.in-Some.text.now _ _ (at_word _ _ c.in-Some.kind kind.LeftParen c.in-Some.text.now c.in-Some.ensures c.in-LeftParen.is c.bump-in-LeftParen.ensures) c.in_ok-inner-in-LeftParen.inner _ c.in_ok-inner-in-LeftParen.ensures.gives fails.1)
+    rw (same.1, same.2, fails.0, stays) (paren_open (parse_expression c.args.max_height) c.in-Some.text.now _ _ (at_word _ _ c.in-Some.kind kind.LeftParen c.in-Some.text.now c.in-Some.ensures c.in-LeftParen.is c.bump-in-LeftParen.ensures.drops) c.in_ok-inner-in-LeftParen.inner _ c.in_ok-inner-in-LeftParen.ensures.gives fails.1)
 
 pub expression::parse_postfix_base-returns-in-Aggregator-clause-gives : goal.expression::parse_postfix_base-returns-in-Aggregator-clause-gives
 expression::parse_postfix_base-returns-in-Aggregator-clause-gives t c =
     bases_same _ _ _ (λ k n. parse_unary (parse_expression c.args.max_height) k n (symbols_left c.args.tokens.now))
-    (λ k n. ap (parse_unary (parse_expression c.args.max_height) k n) (at_word _ _ c.in-Some.kind (kind.Aggregator c.in-Aggregator.op) c.in-Some.text.now c.in-Some.ensures c.in-Aggregator.is c.bump-in-Aggregator.ensures)) c.parse_aggregate.ensures.gives
+    (λ k n. ap (parse_unary (parse_expression c.args.max_height) k n) (at_word _ _ c.in-Some.kind (kind.Aggregator c.in-Aggregator.op) c.in-Some.text.now c.in-Some.ensures c.in-Aggregator.is c.bump-in-Aggregator.ensures.drops)) c.parse_aggregate.ensures.gives
 
 pub expression::parse_postfix_base-returns-in_default-kind-clause-gives : goal.expression::parse_postfix_base-returns-in_default-kind-clause-gives
 expression::parse_postfix_base-returns-in_default-kind-clause-gives t c =

@@ -5,7 +5,7 @@ use Rattle.promql_syntax.proofs.parser.parse.Goals as goal
 
 pub returns-in-Ok-Ok : goal.returns-in-Ok-Ok
 returns-in-Ok-Ok c =
-    rw c.into_inner.ensures (drawn_answer c.checked_trees_are_typed.ensures c.args.text.now _ c.new-tokens.ensures.whole c.new-tokens.ensures.fault _ (rw c.in-Ok-Ok.field-0-is at rw c.in-Ok-Ok.is at c.parse_query.ensures.whole))
+    rw c.into_inner.ensures (drawn_answer c.checked_trees_are_typed.ensures c.args.text.now _ c.new-tokens.ensures.whole (λ f e. (_, c.new-tokens.ensures.fault f e)) _ (rw c.in-Ok-Ok.field-0-is at rw c.in-Ok-Ok.is at c.parse_query.ensures.whole))
 
 pub returns-in-Ok-Err : goal.returns-in-Ok-Err
 returns-in-Ok-Err c =

@@ -11,7 +11,7 @@ returns-in_ok-left-in-FillLeft-clause-gives c =
     let ts = symbols_left c.args.tokens.now in
     let us = symbols_left c.bump-in-FillLeft.new.self in
     let vs = symbols_left c.parse_fill_value-in-FillLeft.new.tokens in
-    let read = left_filled ts us vs text value.part (at_word ts us c.in-Some.kind kind.FillLeft text c.in-Some.ensures c.in-FillLeft.is c.bump-in-FillLeft.ensures) value.is in
+    let read = left_filled ts us vs text value.part (at_word ts us c.in-Some.kind kind.FillLeft text c.in-Some.ensures c.in-FillLeft.is c.bump-in-FillLeft.ensures.drops) value.is in
     rw read (c.parse_fill_right.ensures.gives text value.part value.built)
 
 pub returns-in_ok-right-in-FillRight-clause-gives :
@@ -22,5 +22,5 @@ returns-in_ok-right-in-FillRight-clause-gives c =
     let ts = symbols_left c.args.tokens.now in
     let us = symbols_left c.bump-in-FillRight.new.self in
     let vs = symbols_left c.parse_fill_value-in-FillRight.new.tokens in
-    let read = right_filled ts us vs text value.part (at_word ts us c.in-Some.kind kind.FillRight text c.in-Some.ensures c.in-FillRight.is c.bump-in-FillRight.ensures) value.is in
+    let read = right_filled ts us vs text value.part (at_word ts us c.in-Some.kind kind.FillRight text c.in-Some.ensures c.in-FillRight.is c.bump-in-FillRight.ensures.drops) value.is in
     rw read (c.parse_fill_left.ensures.gives text value.part value.built)

@@ -25,7 +25,7 @@ returns-in_err-offset-in-Offset-clause-gives c =
     let ts = symbols_left c.args.tokens.now in
     let us = symbols_left c.bump-in-Offset.new.self in
     let text = c.in-Some.field-0-1.now in
-    let front = at_word ts us c.in-Some.kind kind.Offset text c.in-Some.ensures c.in-Offset.is c.bump-in-Offset.ensures in
+    let front = at_word ts us c.in-Some.kind kind.Offset text c.in-Some.ensures c.in-Offset.is c.bump-in-Offset.ensures.drops in
     rw (same.1, same.2) (offset_fails _ text ts us front c.in_err-offset-in-Offset.ensures.gives)
 
 pub returns-in_ok-offset-in-Offset-clause-gives : goal.returns-in_ok-offset-in-Offset-clause-gives
@@ -33,7 +33,7 @@ returns-in_ok-offset-in-Offset-clause-gives c =
     let ts = symbols_left c.args.tokens.now in
     let us = symbols_left c.bump-in-Offset.new.self in
     let text = c.in-Some.field-0-1.now in
-    let front = at_word ts us c.in-Some.kind kind.Offset text c.in-Some.ensures c.in-Offset.is c.bump-in-Offset.ensures in
+    let front = at_word ts us c.in-Some.kind kind.Offset text c.in-Some.ensures c.in-Offset.is c.bump-in-Offset.ensures.drops in
     let read = c.in_ok-offset-in-Offset.ensures.gives in
     record {
       part = offset text read.part.0 read.part.1;
