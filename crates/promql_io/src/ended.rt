@@ -1,11 +1,13 @@
 //! A reader or a writer that records what its calls did.
 
-ghost use Rattle.std.specs.Prelude.{◌≡◌, ◌&&◌, ◌||◌, false, is_err};
-ghost use Rattle.std.specs.Io.{ReadsAtMost, WritesAtMost};
-ghost use Rattle.std.specs.Io.KnownBytes.{ReadConsumes, WriteAppends, Keeps};
+ghost use Rattle.std.specs.Prelude.{◌≡◌, ◌&&◌, ◌||◌, ◌+◌, ◌++◌, false, is_err, length, true, IfOk, IfSome, IsErrOf, OnOk};
+ghost use Rattle.std.specs.Io.{ReadsAtMost, StartsWith, StopsAt, WritesAtMost, appended_bytes};
+ghost use Rattle.std.specs.Io.BufRead.{DropsThrough, take_through};
+ghost use Rattle.std.specs.Io.KnownBytes.{Consumes, IsAtEnd, Keeps, ReadConsumes, WriteAppends};
 
+use crate::reading::ReadFault;
 use std::io;
-use std::io::{Read, Write};
+use std::io::{BufRead, ErrorKind, Read, Write};
 
 /// A reader or a writer that records what its calls did (docs/reference/programs.md, "Reading and writing").
 ///
@@ -50,6 +52,40 @@ impl<T> Ended<T> {
         ensures { result ≡ self.now.pending }
     {
         self.pending
+    }
+}
+
+impl<R: BufRead> Ended<R> {
+    /// Reads up to and with the next byte of this value, or to the end of the input, and appends what it read to `buf`. Returns how
+    /// many bytes these are. A read that was interrupted is made again by the reader within.
+    ///
+    /// # Errors
+    ///
+    /// `Read` where a read failed, which alone sets `failed`; `Memory` where an allocation failed.
+    pub fn read_until(&mut self, byte: u8, buf: &mut Vec<u8>) -> Result<usize, ReadFault>
+        ensures appends { StartsWith buf.new.items buf.old.items }
+        ensures stops { StopsAt (appended_bytes buf.old.items buf.new.items) byte }
+        ensures bytes { OnOk result (IfSome (R.remaining self.old.inner)
+            (λ xs. buf.new.items ≡ buf.old.items ++ take_through byte xs)) }
+        ensures rest { OnOk result (DropsThrough (R.remaining self.old.inner)
+            (R.remaining self.new.inner) byte) }
+        ensures count { IfOk result (λ n. length buf.new.items ≡ length buf.old.items + n) }
+        ensures end { IfOk result (λ n. n ≡ 0 → IsAtEnd (R.remaining self.old.inner)) }
+        ensures none_lost { Consumes (R.remaining self.old.inner) (R.remaining self.new.inner)
+            (appended_bytes buf.old.items buf.new.items) }
+        ensures quiet { OnOk result (self.new.failed ≡ self.old.failed) }
+        ensures memory { IsErrOf result ReadFault.Memory → self.new.failed ≡ self.old.failed }
+        ensures failed { IsErrOf result ReadFault.Read → self.new.failed ≡ true }
+        ensures pending { self.new.pending ≡ self.old.pending }
+    {
+        match self.inner.read_until(byte, buf) {
+            Ok(count) => Ok(count),
+            Err(error) if error.kind() == ErrorKind::OutOfMemory => Err(ReadFault::Memory),
+            Err(_) => {
+                self.failed = true;
+                Err(ReadFault::Read)
+            }
+        }
     }
 }
 
