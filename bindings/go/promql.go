@@ -173,15 +173,18 @@ func Version() string {
 // function is a call of the library: its query, its buffer and its result.
 type function func(query *C.char, length C.size_t, buffer *C.char, size C.size_t, result *C.struct_promql_result)
 
-// firstSize is the size of the first buffer: most texts of a query have fewer bytes.
-const firstSize = 1024
+// The first buffer has firstSize bytes, and roomPerByte more for each byte of the query: most texts have fewer, so a call is made once.
+const (
+	firstSize   = 1024
+	roomPerByte = 4
+)
 
 // call makes a call with a buffer that is large enough, and returns the text and the result.
 func call(query string, f function) (string, C.struct_promql_result) {
 	bytes := append(make([]byte, 0, len(query)+1), query...)
 	first := (*C.char)(unsafe.Pointer(&bytes[:1][0]))
 	var result C.struct_promql_result
-	buffer := make([]byte, firstSize)
+	buffer := make([]byte, firstSize+roomPerByte*len(query))
 	for {
 		f(first, C.size_t(len(bytes)), (*C.char)(unsafe.Pointer(&buffer[0])), C.size_t(len(buffer)), &result)
 		if int(result.length) <= len(buffer) {

@@ -3,10 +3,13 @@
 from __future__ import annotations
 
 import argparse
+import os
+import signal
 import sys
 from typing import List, Optional
 
 from . import check_command, format_command, page
+from .documents import Status
 
 COMMANDS = (
     check_command,
@@ -25,5 +28,20 @@ def main(arguments: Optional[List[str]] = None) -> int:
     return status
 
 
+def program() -> int:
+    """The same as a program: it ends by the signal where nobody reads its output, and says so where that cannot be written."""
+    if "serve" not in sys.argv[1:2]:
+        signal.signal(signal.SIGPIPE, signal.SIG_DFL)
+    try:
+        status = main()
+        sys.stdout.flush()
+        return status
+    except OSError as error:
+        # (what could not be written would be tried again at the end)
+        os.dup2(os.open(os.devnull, os.O_WRONLY), sys.stdout.fileno())
+        print(f"standard output: {error.strerror}", file=sys.stderr)
+        return Status.FAILED
+
+
 if __name__ == "__main__":
-    sys.exit(main())
+    sys.exit(program())

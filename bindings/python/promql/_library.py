@@ -8,7 +8,7 @@ from enum import IntEnum
 from pathlib import Path
 from typing import Any, Tuple
 
-# Most texts of a query have fewer bytes.
+# Most texts have fewer bytes than these and so many for each byte of the query, so that a call is made once.
 FIRST_SIZE = 1024
 
 
@@ -29,6 +29,10 @@ class Mode(IntEnum):
     LINE = 0
     PRETTY = 1
     JSON = 2
+
+
+# How much room a text of each mode has at first, for each byte of the query.
+_ROOM = {Mode.LINE: 2, Mode.PRETTY: 4, Mode.JSON: 32}
 
 
 class Result(ctypes.Structure):
@@ -84,9 +88,9 @@ def load() -> ctypes.CDLL:
 _library = load()
 
 
-def call(name: str, *arguments: Any) -> Tuple[bytes, Result]:
-    """Makes a call with a buffer that is large enough, and returns the text and the result."""
-    function, result, size = getattr(_library, name), Result(), FIRST_SIZE
+def call(name: str, room: int, *arguments: Any) -> Tuple[bytes, Result]:
+    """Makes a call with a buffer that is large enough, at first with this room, and returns the text and the result."""
+    function, result, size = getattr(_library, name), Result(), FIRST_SIZE + room
     while True:
         buffer = ctypes.create_string_buffer(size)
         function(*arguments, buffer, size, ctypes.byref(result))
@@ -96,28 +100,28 @@ def call(name: str, *arguments: Any) -> Tuple[bytes, Result]:
 
 
 def print_query(query: bytes, mode: Mode, level: int = 0, width: int = 0) -> Tuple[bytes, Result]:
-    return call("promql_print", query, len(query), mode, level, width)
+    return call("promql_print", _ROOM[mode] * len(query), query, len(query), mode, level, width)
 
 
 def canonical(query: bytes) -> Tuple[bytes, Result]:
-    return call("promql_canonical", query, len(query))
+    return call("promql_canonical", 2 * len(query), query, len(query))
 
 
 def enforce(query: bytes, matcher: bytes) -> Tuple[bytes, Result]:
-    return call("promql_enforce", query, len(query), matcher, len(matcher))
+    return call("promql_enforce", 2 * len(query), query, len(query), matcher, len(matcher))
 
 
 def collect(query: bytes) -> Tuple[bytes, Result]:
-    return call("promql_collect", query, len(query))
+    return call("promql_collect", 4 * len(query), query, len(query))
 
 
 def check(query: bytes) -> Tuple[bytes, Result]:
-    return call("promql_check", query, len(query))
+    return call("promql_check", 0, query, len(query))
 
 
 def snippet(query: bytes, start: int, end: int) -> Tuple[bytes, Result]:
-    return call("promql_snippet", query, len(query), start, end)
+    return call("promql_snippet", 2 * len(query), query, len(query), start, end)
 
 
 def version() -> Tuple[bytes, Result]:
-    return call("promql_version")
+    return call("promql_version", 0)

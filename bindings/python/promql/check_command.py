@@ -4,6 +4,7 @@ from __future__ import annotations
 
 import argparse
 import sys
+from operator import itemgetter
 from typing import Any, List, Mapping, Tuple
 
 import promql
@@ -47,8 +48,9 @@ def _check_file(name: str, is_dashboard: bool, variables: Mapping[str, str]) -> 
         return Status.FAILED
     skipped = [query.whole(f"skipped: {query.skipped}") for query in document.queries if query.skipped]
     faults = _faults(document)
-    for fault in sorted([*faults, *skipped]):
-        print((document.source.shown if fault in faults else document.source.located)(fault), file=sys.stderr)
+    shown = [(fault, document.source.shown) for fault in faults] + [(fault, document.source.located) for fault in skipped]
+    for fault, show in sorted(shown, key=itemgetter(0)):
+        print(show(fault), file=sys.stderr)
     parts = [document.summary(), counted(len(faults), "error", "errors")]
     if skipped:
         parts.insert(1, f"{len(skipped)} skipped")

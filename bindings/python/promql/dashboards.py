@@ -4,6 +4,7 @@ from __future__ import annotations
 
 import json
 import re
+from dataclasses import replace
 from typing import Any, Dict, Iterator, List, Mapping, NamedTuple, Optional, Tuple
 
 from .files import BLANKS, Fault, FileError, Source, counted
@@ -51,7 +52,7 @@ class Dashboard:
         return counted(len(self.queries), "query", "queries")
 
     def same(self, text: str, same_query: SameQuery) -> bool:
-        _load(self.source._replace(text=text))
+        _load(replace(self.source, text=text))
         old, new = list(_tokens(self.source.text)), list(_tokens(text))
         return len(old) == len(new) and all(_same(*pair, same_query) for pair in zip(old, new))
 
@@ -78,7 +79,8 @@ class Dashboard:
 
 def _load(source: Source) -> Any:
     try:
-        return json.loads(source.text)
+        # (a number is only passed over, however many digits it has)
+        return json.loads(source.text, parse_int=str, parse_float=str)
     except json.JSONDecodeError as error:
         raise FileError(source.shown(Fault(error.pos, error.pos, f"not JSON: {error.msg}"))) from error
 

@@ -13,6 +13,7 @@ from itertools import accumulate
 from typing import List, Optional, Tuple
 
 from .labels import Tree, children_of, kind_of, label_of
+from .visible import visible
 
 _CHARACTER = 7.8  # the width of a character of the labels
 _KIND_CHARACTER = 6.6
@@ -78,7 +79,7 @@ def _boxes(tree: Tree) -> List[Box]:
     waiting: List[Tuple[Tree, Optional[Box]]] = [(tree, None)]
     while waiting:
         node, parent = waiting.pop()
-        box = Box(kind_of(node), _visible(label_of(node)), parent.level + 1 if parent else 0, parent)
+        box = Box(kind_of(node), visible(label_of(node)), parent.level + 1 if parent else 0, parent)
         if parent:
             parent.below.append(box)
         boxes.append(box)
@@ -111,11 +112,6 @@ def _columns(character: str) -> int:
     if unicodedata.combining(character):
         return 0
     return 2 if unicodedata.east_asian_width(character) in "FW" else 1
-
-
-def _visible(text: str) -> str:
-    """The text with what has no picture of its own, such as control characters, as escapes of Python."""
-    return "".join(it if it.isprintable() else it.encode("unicode_escape").decode() for it in text)
 
 
 def _edge(parent: Box, box: Box) -> str:

@@ -5,16 +5,22 @@ from __future__ import annotations
 import errno
 import os
 import re
+import stat
 import sys
 import tempfile
+from bisect import bisect_right
+from dataclasses import dataclass
+from functools import cached_property
 from pathlib import Path
-from typing import NamedTuple, Tuple
+from typing import List, NamedTuple, Tuple
+
+from .visible import visible
 
 STDIN = "-"
 BREAK = r"(?:\r\n|\r|\n)"
 BLANKS = " \t\r\n"
 # A longer line is shown in part.
-_SHOWN = 160
+_LONGEST_LINE = 160
 _BYTE_ORDER_MARK = "\ufeff"
 _BREAK = re.compile(BREAK)
 
@@ -31,34 +37,54 @@ class Fault(NamedTuple):
     message: str
 
 
-class Source(NamedTuple):
+@dataclass(frozen=True)
+class Source:
     """A file that was read: its text has the line ends of the file, and not its byte order mark."""
 
     name: str
     text: str
     mark: str
 
+    @property
+    def data(self) -> bytes:
+        """What the file had."""
+        return (self.mark + self.text).encode()
+
+    @cached_property
+    def _lines(self) -> List[Tuple[int, int]]:
+        """Where each line begins and ends."""
+        breaks = [found.span() for found in _BREAK.finditer(self.text)]
+        begins, ends = [0, *(end for _, end in breaks)], [*(begin for begin, _ in breaks), len(self.text)]
+        return list(zip(begins, ends))
+
+    @cached_property
+    def _begins(self) -> List[int]:
+        return [begin for begin, _ in self._lines]
+
     def line_around(self, offset: int) -> Tuple[int, int, int]:
         """The number of a character's line, and where this line begins and ends."""
-        breaks = [found.end() for found in _BREAK.finditer(self.text) if found.end() <= offset]
-        begin = breaks[-1] if breaks else 0
-        end = _BREAK.search(self.text, begin)
-        return len(breaks) + 1, begin, end.start() if end else len(self.text)
+        number = bisect_right(self._begins, offset)
+        return (number, *self._lines[number - 1])
 
     def located(self, fault: Fault) -> str:
         """`FILE:LINE:COLUMN: message`; lines and columns count from 1, and a column is a character."""
         number, begin, _ = self.line_around(fault.start)
-        return f"{self.name}:{number}:{fault.start - begin + 1}: {fault.message}"
+        return f"{visible(self.name)}:{number}:{fault.start - begin + 1}: {visible(fault.message)}"
 
     def shown(self, fault: Fault) -> str:
         """The same, the line where the fault begins, and a mark below the part that it is about."""
         _, begin, end = self.line_around(fault.start)
-        if end - begin > _SHOWN:
-            begin = max(begin, fault.start - _SHOWN // 2)
-            end = min(end, begin + _SHOWN)
-        blank = re.sub(r"[^\t]", " ", self.text[begin : fault.start])
-        mark = "^".ljust(min(fault.end, end) - fault.start, "~")
-        return f"{self.located(fault)}\n{self.text[begin:end]}\n{blank}{mark}"
+        if end - begin > _LONGEST_LINE:
+            begin = max(begin, fault.start - _LONGEST_LINE // 2)
+            end = min(end, begin + _LONGEST_LINE)
+        blank = re.sub(r"[^\t]", " ", _shown(self.text[begin : fault.start]))
+        mark = "^".ljust(len(_shown(self.text[fault.start : min(fault.end, end)])), "~")
+        return f"{self.located(fault)}\n{_shown(self.text[begin:end])}\n{blank}{mark}"
+
+
+def _shown(line: str) -> str:
+    """A line of a file, or a part of it, with its tabs."""
+    return visible(line, "\t")
 
 
 def counted(number: int, one: str, many: str) -> str:
@@ -79,13 +105,17 @@ def read_source(name: str) -> Source:
     return Source("<stdin>" if name == STDIN else name, text[len(mark) :], mark)
 
 
-def write_file(name: str, data: bytes) -> None:
-    """Replaces what a file has, whole: until then it is as it was, and after an error too."""
-    path = os.path.realpath(name)
+def write_file(source: Source, data: bytes) -> None:
+    """Replaces what a file has, whole: until then it is as it was, and after an error too.
+
+    A file that has other bytes than those that were read is left as it is, and so is one that a new file cannot stand for.
+    """
+    path = os.path.realpath(source.name)
     status = os.stat(path)
+    _look_at_kind(source.name, status)
     if not os.access(path, os.W_OK):
-        raise PermissionError(errno.EACCES, os.strerror(errno.EACCES), name)
-    descriptor, temporary = tempfile.mkstemp(prefix=f".{os.path.basename(path)}.", dir=os.path.dirname(path))
+        raise PermissionError(errno.EACCES, os.strerror(errno.EACCES), source.name)
+    descriptor, temporary = tempfile.mkstemp(prefix=".promql-", dir=os.path.dirname(path))
     try:
         with open(descriptor, "wb") as file:
             file.write(data)
@@ -93,8 +123,20 @@ def write_file(name: str, data: bytes) -> None:
             if (status.st_uid, status.st_gid) != (os.geteuid(), os.getegid()):
                 os.fchown(descriptor, status.st_uid, status.st_gid)
             os.fchmod(descriptor, status.st_mode & 0o7777)
+            for attribute in os.listxattr(path):
+                os.setxattr(descriptor, attribute, os.getxattr(path, attribute))
             os.fsync(descriptor)
+        if Path(path).read_bytes() != source.data:
+            raise FileError(f"{source.name}: left as it is: it was changed meanwhile")
         os.replace(temporary, path)
     except BaseException:
         os.unlink(temporary)
         raise
+
+
+def _look_at_kind(name: str, status: os.stat_result) -> None:
+    if not stat.S_ISREG(status.st_mode):
+        raise FileError(f"{name}: left as it is: it is no regular file")
+    if status.st_nlink > 1:
+        names = counted(status.st_nlink - 1, "other name", "other names")
+        raise FileError(f"{name}: left as it is: it has {names}, which would keep the old text")

@@ -144,10 +144,11 @@ def _has_comment(query: str) -> bool:
     """Whether an accepted query has a comment.
 
     A `#` is in a string or a comment. In a string a `;` may be as well, and outside of strings nowhere: so the first `#` of a
-    comment is where the library rejects the query that has a `;` instead.
+    comment is where the library rejects the query that has a `;` in the place of each. (It tells of this before anything that such
+    a string may mean.)
     """
-    places = (found.start() for found in re.finditer("#", query))
-    return any(_rejected_at(query[:at] + ";" + query[at + 1 :]) == at for at in places)
+    at = _rejected_at(query.replace("#", ";")) if "#" in query else None
+    return at is not None and query[at : at + 1] == "#"
 
 
 def _rejected_at(query: str) -> Optional[int]:
@@ -169,7 +170,7 @@ def _put_out(name: str, document: Document, text: str, arguments: argparse.Names
     if not arguments.write or name == STDIN:
         _print(source.mark + text)
     elif changed:
-        write_file(name, (source.mark + text).encode())
+        write_file(source, (source.mark + text).encode())
     return Status.FINE
 
 

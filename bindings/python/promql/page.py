@@ -7,17 +7,20 @@
 from __future__ import annotations
 
 import argparse
+import io
 import json
 import re
 import socket
 import socketserver
 import sys
+import time
 from http import HTTPStatus
 from http.server import BaseHTTPRequestHandler, ThreadingHTTPServer
 from pathlib import Path
 from typing import Any, Dict, List, Tuple
 
 from . import QueryError, _library, canonical, drawing, format
+from .visible import visible
 
 ADDRESS = "127.0.0.1"
 DEFAULT_PORT = 8017
@@ -64,8 +67,8 @@ def describe(query: str) -> Dict[str, Any]:
 def _error(error: QueryError) -> Dict[str, Any]:
     """The error, with the query in three parts: the second one is what it is about."""
     start, end = error.start, error.end
-    parts = [error.query[:start], error.query[start:end], error.query[end:]]
-    return {"message": error.message, "line": error.line, "column": error.column, "parts": parts}
+    parts = [visible(part, "\t\n") for part in (error.query[:start], error.query[start:end], error.query[end:])]
+    return {"message": visible(error.message), "line": error.line, "column": error.column, "parts": parts}
 
 
 def _drawing(query: str) -> Dict[str, Any]:
@@ -86,12 +89,35 @@ class _Rejection(Exception):
         self.status = status
 
 
+class _Incoming(io.RawIOBase):
+    """What a socket receives until a time, however slowly it comes."""
+
+    def __init__(self, connection: socket.socket, seconds: float) -> None:
+        self._connection = connection
+        self._end = time.monotonic() + seconds
+
+    def readable(self) -> bool:
+        return True
+
+    def readinto(self, buffer: Any) -> int:
+        left = self._end - time.monotonic()
+        if left <= 0:
+            raise socket.timeout("the request did not come in time")
+        self._connection.settimeout(left)
+        return self._connection.recv_into(buffer)
+
+
 class Handler(BaseHTTPRequestHandler):
-    """Responds to one request."""
+    """Responds to one request, which is to come in so many seconds, whole."""
 
     server_version = "promql"
     sys_version = ""
     timeout = 10
+
+    def setup(self) -> None:
+        super().setup()
+        self.rfile.close()
+        self.rfile = io.BufferedReader(_Incoming(self.connection, self.timeout))
 
     def do_GET(self) -> None:
         try:
@@ -158,6 +184,7 @@ class Handler(BaseHTTPRequestHandler):
             self.send_header("Allow", ", ".join(_METHODS[self.path]))
         self.end_headers()
         if self.command != "HEAD":
+            self.connection.settimeout(self.timeout)
             self.wfile.write(body)
 
     def end_headers(self) -> None:

@@ -7,7 +7,9 @@ from __future__ import annotations
 
 import importlib
 import warnings
-from typing import Any, Dict, Iterator, List, NamedTuple, Optional, Tuple
+from dataclasses import replace
+from functools import partial
+from typing import Any, Callable, Dict, Iterator, List, NamedTuple, Optional, Set, Tuple
 
 from .files import Fault, FileError, Source, counted
 from .queries import Query, SameQuery
@@ -25,6 +27,9 @@ _TAGS = {f"tag:yaml.org,2002:{name}" for name in ("str", "int", "float", "bool",
 _NULL = "tag:yaml.org,2002:null"
 _USED_ELSEWHERE = "an alias has it in another place than `expr`"
 _COMMENT_BELOW = "the comment below it is so far in that it would become a part of it"
+# More rules than anyone writes: only aliases of lists that have aliases make so many.
+_MOST_RULES = 1_000_000
+_TOO_MANY = f"its aliases make more than {_MOST_RULES:,} rules of it"
 _UNREAD = "the places of its characters cannot be told: write it in another style of YAML"
 
 
@@ -45,6 +50,10 @@ class RuleFile:
         self._rules = 0
         # The key and the value of each `expr`, once for all its aliases.
         self._found: Dict[int, Tuple[Any, Any]] = {}
+        # How many rules a node has, and its entry of a key: each node is looked at once, however many aliases it has.
+        self._counts: Dict[Tuple[str, int], int] = {}
+        self._entries: Dict[Tuple[int, str], Optional[Tuple[Any, Any]]] = {}
+        self._sought: Set[Tuple[int, str]] = set()
         self._roots = _compose(source)
         for root in self._roots:
             self._look_at_document(root)
@@ -54,7 +63,7 @@ class RuleFile:
         return counted(self._rules, "rule", "rules")
 
     def same(self, text: str, same_query: SameQuery) -> bool:
-        roots = _compose(self.source._replace(text=text))
+        roots = _compose(replace(self.source, text=text))
         return len(roots) == len(self._roots) and all(_same(old, new, same_query) for old, new in zip(self._roots, roots))
 
     def _look_at_document(self, root: Any) -> None:
@@ -62,34 +71,59 @@ class RuleFile:
             return
         if self._is_mapping(root, "the document") and not self._entry(root, "groups"):
             self._complain(root, "this is no rule file: it has no `groups`")
-        for group in self._mappings(root, "groups", "a group"):
-            for rule in self._mappings(group, "rules", "a rule"):
-                self._look_at_rule(rule)
+        self._rules += self._count_in(root, "groups", "a group", self._count_in_group)
+        if self._rules > _MOST_RULES:
+            raise FileError(f"{self.source.name}: {_TOO_MANY}")
 
-    def _look_at_rule(self, rule: Any) -> None:
+    def _count_in_group(self, group: Any) -> int:
+        return self._count_in(group, "rules", "a rule", self._look_at_rule)
+
+    def _look_at_rule(self, rule: Any) -> int:
+        """Looks at a rule, and returns 1 where it has a query."""
         entry = self._entry(rule, "expr")
         if not entry or _is_null(entry[1]) or _is_plain(entry[1], ""):
             self._complain(rule, "a rule without `expr`")
         elif entry[1].id != "scalar" or entry[1].tag not in _TAGS:
             self._complain(entry[1], "`expr` is not a text")
         else:
-            self._rules += 1
             self._found.setdefault(id(entry[1]), entry)
+            return 1
+        return 0
 
-    def _mappings(self, owner: Any, key: str, name: str) -> List[Any]:
-        """The mappings of the list that a mapping has under a key."""
+    def _count_in(self, owner: Any, key: str, name: str, count: Callable[[Any], int]) -> int:
+        """How many rules there are in the list that a mapping has under a key, of mappings that have so many."""
         entry = self._entry(owner, key)
         if not entry or _is_null(entry[1]):
-            return []
+            return 0
         if entry[1].id != "sequence":
             self._complain(entry[1], f"`{key}` is not a list")
-            return []
-        return [item for item in entry[1].value if self._is_mapping(item, name)]
+            return 0
+        return self._once(key, entry[1], partial(self._count_items, name, count))
+
+    def _count_items(self, name: str, count: Callable[[Any], int], items: Any) -> int:
+        return sum(self._once(name, item, count) for item in items.value if self._is_mapping(item, name))
+
+    def _once(self, part: str, node: Any, count: Callable[[Any], int]) -> int:
+        """What is counted in a node as this part of a rule file, where it was not counted before."""
+        place = (part, id(node))
+        if place not in self._counts:
+            self._counts[place] = count(node)
+        return self._counts[place]
 
     def _entry(self, mapping: Any, key: str) -> Optional[Tuple[Any, Any]]:
         """The node of a key and that of its value, which may come from a mapping that is merged into this one."""
         if mapping.id != "mapping":
             return None
+        place = (id(mapping), key)
+        if place in self._sought:
+            raise FileError(f"{self.source.name}: a mapping is merged into itself")
+        if place not in self._entries:
+            self._sought.add(place)
+            self._entries[place] = self._find_entry(mapping, key)
+            self._sought.remove(place)
+        return self._entries[place]
+
+    def _find_entry(self, mapping: Any, key: str) -> Optional[Tuple[Any, Any]]:
         entries: List[Tuple[Any, Any]] = [entry for entry in mapping.value if _is_key(entry[0], key)]
         if len(entries) > 1:
             self._complain(entries[1][0], f"`{key}` is there twice")

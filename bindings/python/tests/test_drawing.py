@@ -156,10 +156,10 @@ class Texts(unittest.TestCase):
         picture = ElementTree.fromstring(drawing.svg(promql.parse(HOSTILE)))
         self.assertEqual({it.tag[len(SVG) :] for it in picture.iter()}, {"svg", "path", "g", "title", "rect", "text"})
         labels = [it.text for it in picture.iter(f"{SVG}text") if it.get("class") == "label"]
-        self.assertEqual(labels[3], r'"\ufffe<!--"')
+        self.assertEqual(labels[3], r'"\u{fffe}<!--"')
         self.assertTrue(labels[1].startswith("foo{a=\"<script>alert('&')</script>\",b=\""))
         titles = [it.text for it in picture.iter(f"{SVG}title")]
-        self.assertEqual(titles[1], "foo{a=\"<script>alert('&')</script>\",b=\"" + r'\x00\u202e]]>"}')
+        self.assertEqual(titles[1], "foo{a=\"<script>alert('&')</script>\",b=\"" + r'\x00\u{202e}]]>"}')
 
     def test_no_style_of_its_own(self):
         self.assertNotRegex(drawing.svg(promql.parse(HOSTILE)), r" style=|<style| on[a-z]+=")

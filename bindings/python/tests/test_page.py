@@ -10,12 +10,14 @@ import socket
 import subprocess
 import sys
 import threading
+import time
 import unittest
 import xml.etree.ElementTree as ElementTree
 from pathlib import Path
 
 import promql
 from promql import _library, drawing, page
+from promql.visible import visible
 from serving import enter, served
 from test_promql import BROKEN, broken
 
@@ -171,7 +173,7 @@ class Broken(unittest.TestCase):
             text = broken(generator).decode(errors="replace")
             shown = json.loads(json.dumps(page.describe(text)))
             if "error" in shown:
-                self.assertEqual("".join(shown["error"]["parts"]), text)
+                self.assertEqual("".join(shown["error"]["parts"]), visible(text, "\t\n"))
             elif shown["drawing"] is not None:
                 ElementTree.fromstring(shown["drawing"])
                 drawn += 1
@@ -240,6 +242,19 @@ class Slow(Served):
     def test_a_body_that_does_not_come(self):
         lines = b"POST /query HTTP/1.1\r\nHost: localhost\r\nContent-Type: application/json\r\nContent-Length: 9\r\n\r\n{"
         self.assertTrue(self.talk(lines).startswith(b"HTTP/1.0 408 "))
+
+    def test_a_request_that_trickles(self):
+        """Each byte comes in time, and the request as a whole does not."""
+        body = b"Content-Type: application/json\r\nContent-Length: 9999\r\n\r\n"
+        for head in (b"GET / HTTP/1.1\r\nHost: localhost\r\nX: ", b"POST /query HTTP/1.1\r\nHost: localhost\r\n" + body):
+            with socket.create_connection((page.ADDRESS, self.server.server_port), timeout=20) as connection:
+                connection.sendall(head)
+                start = time.monotonic()
+                with self.assertRaises(OSError):
+                    while time.monotonic() - start < 10:
+                        connection.sendall(b"x")
+                        time.sleep(0.02)
+            self.assertLess(time.monotonic() - start, 5)
 
 
 class Command(unittest.TestCase):

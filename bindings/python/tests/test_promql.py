@@ -134,9 +134,9 @@ class Errors(unittest.TestCase):
 
     def test_statuses(self):
         self.assertEqual(_library.canonical(b"\xff")[1].status, Status.NOT_UTF8)
-        self.assertEqual(_library.call("promql_print", b"1", 1, 3, 0, 0)[1].status, Status.UNKNOWN_MODE)
-        self.assertEqual(_library.call("promql_check", None, 1)[1].status, Status.BAD_POINTER)
-        self.assertEqual(_library.call("promql_check", None, 0)[1].status, Status.REJECTED)
+        self.assertEqual(_library.call("promql_print", 0, b"1", 1, 3, 0, 0)[1].status, Status.UNKNOWN_MODE)
+        self.assertEqual(_library.call("promql_check", 0, None, 1)[1].status, Status.BAD_POINTER)
+        self.assertEqual(_library.call("promql_check", 0, None, 0)[1].status, Status.REJECTED)
 
 
 def broken(generator):

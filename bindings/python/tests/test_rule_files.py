@@ -4,10 +4,12 @@ import difflib
 import os
 import random
 import re
+import signal
 import stat
 import subprocess
 import sys
 import tempfile
+import threading
 import unittest
 from pathlib import Path
 from unittest import mock
@@ -70,6 +72,11 @@ PLACES = {
 def file_of(query, style=""):
     """A rule file with a query in single quotes, or written so."""
     return RULE + "    expr: " + (style or "'" + query.replace("'", "''") + "'") + "\n"
+
+
+def aliases(groups, rules):
+    """A rule file of so many groups, all aliases of one, with so many rules, all aliases of one."""
+    return f"r: &r [&q {{expr: up}}{', *q' * (rules - 1)}]\ng: &g {{name: a, rules: *r}}\ngroups: [*g{', *g' * (groups - 1)}]\n"
 
 
 class Folder(unittest.TestCase):
@@ -154,6 +161,11 @@ class Formatted(Folder):
         for style in ('"up == 0\\n"', "|+\n      up == 0\n\n", ">\n      up == 0\n"):
             path = self.file(file_of("", style))
             self.assertEqual(run("format", "--check", path), (0, "", ""))
+
+    def test_many_signs(self):
+        query = "foo{a=\"" + "#" * 30_000 + "\"}"
+        self.assertEqual(run("format", "--check", self.file(file_of(query))).status, 0)
+        self.assertIn("it has a comment", run("format", self.file(f"groups: [{{rules: [{{expr: '{query} #'}}]}}]\n")).err)
 
     def test_comment_below(self):
         inside = RULE + "    expr: |\n        a+b\n      # farther in than its key\n"
@@ -356,7 +368,9 @@ class Checks(Folder):
             (b'a: "\\UFFFFFFFF"\n', "not YAML: "),
             (b"a: \xff\n", "not UTF-8 at byte 3"),
             (b"[" * 700, "nested too deeply"),
-            (b"groups: [{rules: [&a {<<: &b {<<: *a}}]}]", "nested too deeply"),
+            (b"groups: [{rules: [&a {<<: &b {<<: *a}}]}]", "a mapping is merged into itself"),
+            (b"groups: [{rules: [&a {<<: *a}]}]", "a mapping is merged into itself"),
+            (aliases(1000, 1001).encode(), "its aliases make more than 1,000,000 rules of it"),
         ):
             path = self.file(data)
             for command in ("check", "format"):
@@ -366,6 +380,35 @@ class Checks(Folder):
                 self.assertIn(message, ran.err)
         self.assertEqual(run("check", self.folder / "none.yml").err, f"{self.folder}/none.yml: No such file or directory\n")
         self.assertEqual(run("check", self.folder)[:2], (2, ""))
+
+    def test_merged_many_times(self):
+        """Each mapping is looked at once, however often it is merged."""
+        merges = [f"m{i}: &m{i} {{<<: [{', '.join([f'*m{i - 1}'] * 9)}]}}" for i in range(1, 60)]
+        text = "\n".join(["m0: &m0 {a: b}", *merges, "groups: [{rules: [{<<: *m59}, {<<: *m59, expr: up}]}]\n"])
+        ran = run("check", self.file(text))
+        self.assertEqual((ran.status, ran.out.split(": ")[1]), (1, "1 rule, 1 error\n"))
+        self.assertIn("a rule without `expr`", ran.err)
+
+    def test_aliases(self):
+        self.assertEqual(run("check", self.file(aliases(100, 100))).out.split(": ")[1], "10000 rules, no errors\n")
+
+    def test_keys_twice(self):
+        for text in ("groups: []\ngroups: []\n", "groups: [{rules: [], rules: []}]", "groups: [{rules: [{expr: up, expr: up}]}]"):
+            ran = run("check", self.file(text))
+            self.assertEqual((ran.status, ran.err.count("is there twice")), (1, 1), text)
+
+    def test_many_errors(self):
+        path = self.file(file_of("up ==") + "  - alert: B\n    expr: up ==\n" * 3000)
+        ran = run("check", path)
+        self.assertEqual(ran.out, f"{path}: 3001 rules, 3001 errors\n")
+        self.assertIn(f"{path}:6005:16: ", ran.err)
+
+    def test_what_a_terminal_obeys(self):
+        ran = run("check", self.file('groups: [{rules: [{expr: "\\e]0;x\\a("}]}]\n'))
+        self.assertIn(r": unexpected character: '\x1b'", ran.err)
+        self.assertNotIn("\x1b", ran.err)
+        ran = run("check", self.file("groups: [{rules: [{expr: 'a\u202e (('}]}]\n"))
+        self.assertTrue(ran.err.endswith("\ngroups: [{rules: [{expr: 'a\\u{202e} (('}]}]\n" + " " * 27 + "^~~~~~~~\n"), ran.err)
 
     def test_statuses(self):
         fine, wrong = self.file(file_of("up == 0"), "fine.yml"), self.file(file_of("up == "), "wrong.yml")
@@ -433,6 +476,64 @@ class Writing(Folder):
             self.assertEqual((ran.status, ran.err), (2, f"{path}: No space left on device\n"))
             self.assertEqual(path.read_text(), self.TEXT)
             self.assert_alone("a.yml")
+
+    def test_changed_meanwhile(self):
+        path, other = self.file(self.TEXT), file_of("up==1")
+        real = os.fsync
+
+        def change(descriptor):
+            path.write_text(other)
+            real(descriptor)
+
+        with mock.patch("os.fsync", change):
+            ran = run("format", "--write", path)
+        self.assertEqual((ran.status, ran.err), (2, f"{path}: left as it is: it was changed meanwhile\n"))
+        self.assertEqual(path.read_text(), other)
+        self.assert_alone("a.yml")
+
+    def test_two_names(self):
+        path, other = self.file(self.TEXT), self.folder / "b.yml"
+        os.link(path, other)
+        ran = run("format", "--write", path)
+        self.assertEqual((ran.status, ran.err), (2, f"{path}: left as it is: it has 1 other name, which would keep the old text\n"))
+        self.assertEqual((path.read_text(), other.read_text()), (self.TEXT, self.TEXT))
+        self.assert_alone("a.yml", "b.yml")
+
+    def test_no_regular_file(self):
+        path = self.folder / "pipe.yml"
+        os.mkfifo(path)
+        for command in (("check",), ("format", "--check"), ("format", "--write")):
+            writer = threading.Thread(target=path.write_text, args=(self.TEXT,))
+            writer.start()
+            ran = run(*command, path)
+            writer.join()
+            self.assertEqual(ran.status, {"check": 0, "--check": 1, "--write": 2}[command[-1]], ran)
+        self.assertEqual(ran.err, f"{path}: left as it is: it is no regular file\n")
+        self.assertTrue(stat.S_ISFIFO(path.stat().st_mode))
+
+    def test_attributes(self):
+        path = self.file(self.TEXT)
+        try:
+            os.setxattr(path, "user.origin", b"shop")
+        except OSError:
+            self.skipTest("the file system has no attributes")
+        self.assertEqual(run("format", "--write", path).status, 0)
+        self.assertEqual((os.getxattr(path, "user.origin"), path.read_text()), (b"shop", file_of("up == 0")))
+
+    def test_long_name(self):
+        path = self.file(self.TEXT, "a" * 250 + ".yml")
+        self.assertEqual(run("format", "--write", path), (0, "", ""))
+        self.assertEqual(path.read_text(), file_of("up == 0"))
+
+    def test_output_that_ends(self):
+        many = self.file(file_of("up ==") + "  - alert: B\n    expr: up==\n" * 3000, "many.yml")
+        for command, status, said in (
+            (f"check {many} 2>&1 | head -n 1 >/dev/null; exit ${{PIPESTATUS[0]}}", 128 + signal.SIGPIPE, ""),
+            (f"check {self.file(self.TEXT)} >/dev/full", 2, "standard output: No space left on device\n"),
+            (f"format {self.file(self.TEXT)} >/dev/full", 2, f"{self.folder}/a.yml: No space left on device\n"),
+        ):
+            ran = subprocess.run(["bash", "-c", f"{sys.executable} -m promql {command}"], stderr=subprocess.PIPE, check=False)
+            self.assertEqual((ran.returncode, ran.stderr.decode()), (status, said), command)
 
     def test_interrupted(self):
         path = self.file(self.TEXT)

@@ -28,8 +28,10 @@ pub enum Mode {
     Json = 2,
 }
 
-// Most texts of a query have fewer bytes.
+// The first buffer has FIRST_SIZE bytes, and ROOM_PER_BYTE more for each byte of the query: most texts have fewer, so a call is
+// made once.
 const FIRST_SIZE: usize = 1024;
+const ROOM_PER_BYTE: usize = 4;
 
 extern "C" {
     fn promql_print(
@@ -87,9 +89,9 @@ extern "C" {
 /// A call's buffer, its size and its result.
 type Buffer = (*mut u8, usize, *mut Answer);
 
-/// Makes a call with a buffer that is large enough, and returns the text and the result.
-fn call(function: impl Fn(Buffer)) -> (String, Answer) {
-    let mut text = Vec::with_capacity(FIRST_SIZE);
+/// Makes a call about a query of that length, with a buffer that is large enough, and returns the text and the result.
+fn call(query_len: usize, function: impl Fn(Buffer)) -> (String, Answer) {
+    let mut text = Vec::with_capacity(FIRST_SIZE + ROOM_PER_BYTE * query_len);
     loop {
         let mut answer = Answer::default();
         function((text.as_mut_ptr(), text.capacity(), ptr::addr_of_mut!(answer)));
@@ -107,43 +109,43 @@ fn call(function: impl Fn(Buffer)) -> (String, Answer) {
 // borrowed alone.
 
 pub fn print(query: &str, mode: Mode, level: u16, width: usize) -> (String, Answer) {
-    call(|(buffer, size, answer)| unsafe {
+    call(query.len(), |(buffer, size, answer)| unsafe {
         promql_print(query.as_ptr(), query.len(), mode as u32, level.into(), width, buffer, size, answer);
     })
 }
 
 pub fn canonical(query: &str) -> (String, Answer) {
-    call(|(buffer, size, answer)| unsafe {
+    call(query.len(), |(buffer, size, answer)| unsafe {
         promql_canonical(query.as_ptr(), query.len(), buffer, size, answer);
     })
 }
 
 pub fn enforce(query: &str, matcher: &str) -> (String, Answer) {
-    call(|(buffer, size, answer)| unsafe {
+    call(query.len(), |(buffer, size, answer)| unsafe {
         promql_enforce(query.as_ptr(), query.len(), matcher.as_ptr(), matcher.len(), buffer, size, answer);
     })
 }
 
 pub fn collect(query: &str) -> (String, Answer) {
-    call(|(buffer, size, answer)| unsafe {
+    call(query.len(), |(buffer, size, answer)| unsafe {
         promql_collect(query.as_ptr(), query.len(), buffer, size, answer);
     })
 }
 
 pub fn check(query: &str) -> (String, Answer) {
-    call(|(buffer, size, answer)| unsafe {
+    call(query.len(), |(buffer, size, answer)| unsafe {
         promql_check(query.as_ptr(), query.len(), buffer, size, answer);
     })
 }
 
 pub fn snippet(query: &str, start: usize, end: usize) -> (String, Answer) {
-    call(|(buffer, size, answer)| unsafe {
+    call(query.len(), |(buffer, size, answer)| unsafe {
         promql_snippet(query.as_ptr(), query.len(), start, end, buffer, size, answer);
     })
 }
 
 pub fn version() -> (String, Answer) {
-    call(|(buffer, size, answer)| unsafe {
+    call(0, |(buffer, size, answer)| unsafe {
         promql_version(buffer, size, answer);
     })
 }
