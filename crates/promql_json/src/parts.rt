@@ -348,7 +348,7 @@ pub(crate) fn write_function(out: &mut JsonWriter, function: &Function) -> Resul
 {
     out.key("func")?;
     out.begin_with("argTypes")?;
-    write_types(out, function.arg_types)?;
+    write_types(out, &function.arg_types)?;
     out.bool_member("experimental", function.experimental)?;
     out.string_member("name", function.name)?;
     out.string_member("returnType", type_name(function.return_type))?;

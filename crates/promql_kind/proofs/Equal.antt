@@ -98,6 +98,6 @@ function_Decides a b =
     (λ same. let name = same.0 in let types = same.1.0 in let more = same.1.1.0 in let gives = same.1.1.1.0 in let experimental = same.1.1.1.1 in cc)
     (λ same. (cc, (cc, (cc, (cc, cc)))))
     (Decides-and _ _ (bytes_eq-Decides a.name.now b.name.now)
-    (Decides-and _ _ (slice_eq-Decides type_Decides a.arg_types.now b.arg_types.now _ refl)
+    (Decides-and _ _ (slice_eq-Decides type_Decides a.arg_types.items b.arg_types.items _ refl)
     (Decides-and _ _ (Decides-int_eq a.variadic b.variadic)
     (Decides-and _ _ (type_Decides a.return_type b.return_type) (booleans_Decides a.experimental b.experimental)))))

@@ -62,5 +62,5 @@ matching_fed m =
 
 pub function_fed : (f : Function) → functions.ghosts.hash_input f ≡ signature_feed (signature_of f)
 function_fed f =
-    let types_fed = slice_fed (λ t. t) type_feed types.ghosts.hash_input type_fed f.arg_types.now ∙ ap (slice type_feed) (map-id f.arg_types.now) in
+    let types_fed = slice_fed (λ t. t) type_feed types.ghosts.hash_input type_fed f.arg_types.items ∙ ap (slice type_feed) (map-id f.arg_types.items) in
     λ i. str f.name.now ++ (types_fed i ++ (i32 f.variadic ++ (type_fed f.return_type i ++ bool f.experimental)))

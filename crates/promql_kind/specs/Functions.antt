@@ -12,7 +12,7 @@ pub data Signature : Type 0 where
   signature : Text → List ValueType → ℤ → ValueType → Bool → Signature
 
 abbrev pub signature_of : Function → Signature
-signature_of f = signature f.name.now f.arg_types.now f.variadic f.return_type f.experimental
+signature_of f = signature f.name.now f.arg_types.items f.variadic f.return_type f.experimental
 
 abbrev pub name_of : Signature → Text
 name_of (signature name args variadic gives experimental) = name

@@ -3,6 +3,7 @@ pub mod Modifiers
 pub mod ModifierViews
 pub mod ModifierText
 pub mod Functions
+pub mod FunctionTable
 pub mod SameModifiers
 pub mod ModifierFeeds
 pub mod FunctionRows

@@ -1,6 +1,6 @@
 //! Functions of the language: docs/reference/functions.md.
 
-ghost use Rattle.std.specs.Prelude.{◌≡◌, ◌≤◌, Ok, drop, find, length, map, option_map, take, true};
+ghost use Rattle.std.specs.Prelude.{◌≡◌, ◌≤◌, ◌≢◌, IfErr, IfOk, None, drop, find, length, map, option_map, take, true};
 ghost use Rattle.std.specs.List.{list_all};
 ghost use Rattle.promql_kind.specs.FunctionRows.{begins_otherwise};
 ghost use Rattle.promql_kind.specs.Functions.{function_named, is_named, row_signature, signature, signature_of};
@@ -11,12 +11,12 @@ use crate::value::ValueType;
 use std::alloc::{AllocError, Global};
 
 /// A function's name, its arguments and the type of its value.
-#[derive(Clone, Copy, Debug, PartialEq, Eq, Hash)]
+#[derive(Debug, Drop, PartialEq, Eq, Hash)]
 pub struct Function {
     /// What a call names it by.
     pub name: &'static str,
     /// The types of its arguments. Arguments beyond the list have the last type.
-    pub arg_types: &'static [ValueType],
+    pub arg_types: Vec<ValueType>,
     /// 0: it takes as many arguments as it has types. Otherwise the last type's argument may be missing, and then above
     /// zero: so many may follow; below zero: any number may follow.
     pub variadic: i32,
@@ -30,13 +30,13 @@ impl Function {
     /// The function of these parts.
     pub fn new(
         name: &'static str,
-        arg_types: &'static [ValueType],
+        arg_types: Vec<ValueType>,
         variadic: i32,
         return_type: ValueType,
         experimental: bool,
     ) -> Function
         ensures { signature_of result
-            ≡ signature name.now arg_types.now variadic return_type experimental }
+            ≡ signature name.now arg_types.items variadic return_type experimental }
     {
         Function {
             name,
@@ -47,29 +47,44 @@ impl Function {
         }
     }
 
-    /// A copy of the function, as the other nodes have it: it allocates nothing, and never fails.
+    /// A copy of the function.
     ///
     /// # Errors
     ///
-    /// None.
+    /// `AllocError` where an allocation failed.
     pub fn try_clone(&self, alloc: Global) -> Result<Function, AllocError>
-        ensures { result ≡ Ok self.now }
+        ensures { IfOk result (λ f. signature_of f ≡ signature_of self.now) }
     {
-        let _ = alloc;
-        Ok(*self)
+        Ok(Function::new(
+            self.name,
+            copy_types(alloc, &self.arg_types)?,
+            self.variadic,
+            self.return_type,
+            self.experimental,
+        ))
     }
 }
 
 /// The function of a name, in its own case; None if there is none.
-pub fn get_function(name: &str) -> Option<Function>
-    ensures { option_map signature_of result ≡ function_named name.now }
+///
+/// # Errors
+///
+/// `AllocError` where an allocation failed. A name without a function allocates nothing.
+pub fn get_function(alloc: Global, name: &str) -> Result<Option<Function>, AllocError>
+    ensures found { IfOk result
+        (λ found. option_map signature_of found ≡ function_named name.now) }
+    ensures unknown { IfErr result (λ _. function_named name.now ≢ None) }
 {
-    let (name, arg_types, variadic, return_type, experimental) = row_named(
-        &FUNCTIONS,
-        first_row(name),
-        name,
-    )?;
-    Some(Function::new(name, arg_types, variadic, return_type, experimental))
+    match row_named(&FUNCTIONS, first_row(name), name) {
+        Some((name, arg_types, variadic, return_type, experimental)) => Ok(Some(Function::new(
+            name,
+            copy_types(alloc, arg_types)?,
+            variadic,
+            return_type,
+            experimental,
+        ))),
+        None => Ok(None),
+    }
 }
 
 /// Where the rows begin whose names begin as this one does; 0 where there are none. No row before them has this name.
@@ -127,4 +142,14 @@ fn row_named(rows: &[Row<'static>], first: usize, name: &str) -> Option<Row<'sta
         }
     }
     None
+}
+
+fn copy_types(alloc: Global, types: &[ValueType]) -> Result<Vec<ValueType>, AllocError>
+    ensures { IfOk result (λ copy. copy.items ≡ types.now) }
+{
+    let mut copy = Vec::with_capacity(alloc, types.len())?;
+    for kind in types {
+        copy.push(*kind)?;
+    }
+    Ok(copy)
 }

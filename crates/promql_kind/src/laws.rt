@@ -1,8 +1,11 @@
 //! Laws on the definitions alone. Each is the contract of a function that does nothing.
 
-ghost use Rattle.std.specs.Prelude.{◌≡◌};
+ghost use Rattle.std.specs.Prelude.{◌≡◌, find, map};
 ghost use Rattle.promql_text.specs.Equalities.{ClonesKeep, IsSameBy};
-ghost use Rattle.promql_kind.specs.Functions.{signature_of};
+ghost use Rattle.promql_text.specs.Texts.{Text};
+ghost use Rattle.promql_kind.specs.declared.function_table.TheConstants.{FUNCTIONS};
+ghost use Rattle.promql_kind.specs.FunctionTable.{functions};
+ghost use Rattle.promql_kind.specs.Functions.{function_named, is_named, row_signature, signature_of};
 ghost use Rattle.promql_kind.specs.ModifierFeeds.{cardinality_feed, clause_feed, fills_feed, matching_feed, number_feed, signature_feed, type_feed};
 ghost use Rattle.promql_kind.specs.ModifierViews.{cardinality_of, clause_of, fills_of, matching_of};
 
@@ -24,7 +27,6 @@ pub fn equal_value_types()
 pub fn equal_clones()
     ensures value_types { ClonesKeep (λ t. t) ⟦<ValueType as Clone>⟧.is_clone }
     ensures fill_values { ClonesKeep fills_of ⟦<VectorMatchFillValues as Clone>⟧.is_clone }
-    ensures functions { ClonesKeep signature_of ⟦<Function as Clone>⟧.is_clone }
 {}
 
 /// Lists of labels are equal exactly if both include or both exclude, and they have the same labels in the same order.
@@ -67,4 +69,11 @@ pub fn hash_inputs()
         → ⟦<BinModifier as Hash>⟧.hash_input m ≡ matching_feed (matching_of m) }
     ensures functions { (f : Function)
         → ⟦<Function as Hash>⟧.hash_input f ≡ signature_feed (signature_of f) }
+{}
+
+/// The table of functions has the rows of docs/reference/functions.md, "The table", in this order and no other. So a name has
+/// the function that the document gives it, and none where the document has none.
+pub fn has_these_functions()
+    ensures rows { map row_signature FUNCTIONS ≡ functions }
+    ensures names { (name : Text) → function_named name ≡ find (is_named name) functions }
 {}

@@ -332,7 +332,7 @@ pub(crate) fn function_json(alloc: Global, function: &Function) -> Result<Value,
 {
     json!(in alloc; {
         "name": function.name,
-        "argTypes": types_json(alloc, function.arg_types)?,
+        "argTypes": types_json(alloc, &function.arg_types)?,
         "variadic": function.variadic,
         "returnType": type_json(alloc, function.return_type)?,
         "experimental": function.experimental

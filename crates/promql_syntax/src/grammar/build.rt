@@ -283,7 +283,7 @@ pub fn build_call(
         Ok(args) => args,
         Err(error) => return Ok(parsed_error(error, height)),
     };
-    match get_function(name) {
+    match get_function(alloc, name)? {
         Some(func) => {
             let expr = Box::new(alloc, Expr::new_call(func, args))?;
             check_node(alloc, expr, height, extent)

@@ -150,7 +150,7 @@ fn is_type_fault(fault: &CheckFault) -> bool {
 
 /// The index of the first argument that has another type than the function's.
 fn mistyped_argument(call: &Call) -> usize {
-    let types = call.func.arg_types;
+    let types = call.func.arg_types.as_slice();
     for (index, arg) in call.args.args.iter().enumerate() {
         if expected_type(types, index) != Some(arg.value_type()) {
             return index;

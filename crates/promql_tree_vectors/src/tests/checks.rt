@@ -120,7 +120,7 @@ fn functions_made_by_hand_are_checked(rt: HostRuntime) -> Result<(), Fail> {
     let alloc = rt.alloc();
     for (variadic, texts, want) in &MADE_BY_HAND {
         let args = arguments(alloc, texts)?;
-        let function = Function::new("f", &[], *variadic, ValueType::Vector, false);
+        let function = Function::new("f", Vec::new(alloc), *variadic, ValueType::Vector, false);
         checks(&rt, alloc, Ok(Expr::new_call(function, args)), want)?;
     }
     Ok(())

@@ -127,15 +127,15 @@ pub fn number(text: &str) -> Number {
 }
 
 /// The function of a name; of an unknown name, one that takes nothing.
-pub fn function(name: &str) -> Function {
-    let unknown = Function::new("unknown", &[], 0, ValueType::Scalar, false);
-    get_function(name).unwrap_or(unknown)
+pub fn function(alloc: Global, name: &str) -> Result<Function, CheckError> {
+    let unknown = Function::new("unknown", Vec::new(alloc), 0, ValueType::Scalar, false);
+    Ok(get_function(alloc, name)?.unwrap_or(unknown))
 }
 
 /// The call of a function with one argument.
 pub fn call(alloc: Global, name: &str, arg: Expr) -> Result<Expr, CheckError> {
     let args = FunctionArgs::new_args(alloc, arg)?;
-    Ok(Expr::new_call(function(name), args))
+    Ok(Expr::new_call(function(alloc, name)?, args))
 }
 
 /// `by`, or `on`, with these labels.

@@ -248,7 +248,7 @@ fn words_of_the_language(rt: HostRuntime) -> Result<(), Fail> {
     assert!(rt; lex::is_label("b") && !lex::is_label("b:c"));
     assert_eq!(rt; token::token_display(token::T_TOPK), "topk");
     assert!(rt; token::get_keyword_token("topk") == Some(token::T_TOPK));
-    let Some(rate) = function::get_function("rate") else {
+    let Some(rate) = function::get_function(rt.alloc(), "rate")? else {
         return Err(Fail::new("no function"));
     };
     assert_eq!(rt; rate.name, "rate");

@@ -173,7 +173,8 @@ fn has_line<T: Drop + ToJson>(
 fn types_functions_and_arguments_have_forms(rt: HostRuntime) -> Result<(), Fail> {
     let alloc = rt.alloc();
     has_line(&rt, alloc, ValueType::Matrix, r#""matrix""#)?;
-    let label_join = get_function("label_join").expect(&rt, "the function is in the table");
+    let label_join = get_function(alloc, "label_join")?;
+    let label_join = label_join.expect(&rt, "the function is in the table");
     let signature =
         r#"{"argTypes":["vector","string","string","string"],"experimental":false,"name":"label_join","returnType":"vector","variadic":-1}"#;
     has_line(&rt, alloc, label_join, signature)?;
