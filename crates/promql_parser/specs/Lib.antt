@@ -1,4 +1,3 @@
-pub mod Statement
 pub use Rattle.promql_syntax.specs.ParseAnswers
 pub use Rattle.promql_syntax.specs.Asking
 pub use Rattle.promql_syntax.specs.Building

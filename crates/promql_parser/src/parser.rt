@@ -14,7 +14,6 @@ pub use promql_span::diagnosis::{Diagnosis, diagnose};
 pub use promql_syntax::parser::{MAX_DEPTH, ParseError, parse};
 
 pub mod ast;
-pub mod eval_stmt;
 pub mod function;
 pub mod lex;
 pub mod token;

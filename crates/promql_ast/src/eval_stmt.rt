@@ -2,11 +2,11 @@
 
 ghost use Rattle.std.specs.Prelude.{◌≡◌, Some, IfOk};
 ghost use Rattle.std.specs.Duration.{as_nanos};
+ghost use Rattle.promql_ast.specs.Statement.{statement_text};
 ghost use Rattle.promql_ast.specs.View.{tree_of};
-ghost use Rattle.promql_parser.specs.Statement.{statement_text};
 
-use promql_ast::Expr;
-use promql_ast::at_modifier::Seconds;
+use crate::at_modifier::Seconds;
+use crate::expr::Expr;
 use promql_text::{DurationText, write_plain};
 use std::alloc::{AllocError, Global};
 use std::fmt;
