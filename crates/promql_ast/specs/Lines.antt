@@ -1,5 +1,5 @@
 -- Lines, and what a layout keeps of one (docs/reference/printing.md, "Lines").
-use Rattle.std.specs.Prelude.{◌≡◌, ◌<◌, ◌≤◌, ◌*◌, ◌++◌, Err, ℕ, zero, suc, ◌==◌, nat_lt, not, ◌&&◌, Bool, [], ◌∷◌, Option, Result, IfSome, IfOk, String, string_bytes}
+use Rattle.std.specs.Prelude.{◌≡◌, ◌<◌, ◌≤◌, ◌*◌, ◌++◌, ◌⊎◌, Err, ℕ, zero, suc, ◌==◌, nat_lt, not, ◌&&◌, Bool, [], ◌∷◌, Option, Result, IfSome, IfOk, IsTrue, String, string_bytes}
 use Rattle.std.specs.List.{filter}
 use Rattle.std.specs.declared.alloc.Global.{Global}
 use Rattle.promql_text.specs.Bytes.{line_feed, space}
@@ -9,6 +9,10 @@ use Rattle.promql_text.specs.PrintedLen.{usize_max, printed_len}
 -- the line has more bytes than `most`
 abbrev pub is_longer : ℕ → Text → Bool
 is_longer most line = nat_lt most (printed_len line)
+
+-- `needs_split` may say this of the line: that it is too long, only where it is; or what the implementation's own may say
+abbrev pub MaySplit : Option Text → ℕ → (Bool → Type 0) → Bool → Type 0
+MaySplit line most own split = IfSome line (λ t. (IsTrue split → IsTrue (is_longer most t)) ⊎ own split)
 
 -- two spaces a level
 abbrev pub indent : ℕ → Text

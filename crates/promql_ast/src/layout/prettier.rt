@@ -1,8 +1,8 @@
 //! The layout of any value that displays: docs/reference/printing.md, "The trait".
 
-ghost use Rattle.std.specs.Prelude.{◌≡◌, ◌⊎◌, ℕ, Bool, Result, String, IfSome, IsSome, IsTrue};
+ghost use Rattle.std.specs.Prelude.{◌≡◌, ◌⊎◌, ℕ, Bool, Result, String, IsSome, true};
 ghost use Rattle.std.specs.declared.alloc.Global.{Global};
-ghost use Rattle.promql_ast.specs.Lines.{is_longer, IsLine, Keeps};
+ghost use Rattle.promql_ast.specs.Lines.{IsLine, Keeps, MaySplit};
 
 use crate::layout::display_len::is_too_long;
 use crate::layout::indent::indented_line;
@@ -46,7 +46,7 @@ pub trait Prettier: Display {
 
     ghost own_split: { Self → ℕ → Bool → Type 0 } = { λ _ _ _. ⊥ };
 
-    /// The value, laid out.
+    /// The value, laid out: its own format, and that only where its line is too long, else its one line, indented.
     ///
     /// # Errors
     ///
@@ -57,7 +57,9 @@ pub trait Prettier: Display {
         Self: Sized,
         ensures keeps { Keeps (Self.output self.now) result }
         ensures line { IsLine (Self.output self.now) level PrettyError.IndentTooWide result
-            ⊎ (own_format self.now level max result ⊎ own_pretty self.now level max result) }
+            ⊎ ((MaySplit (Self.output self.now) max (own_split self.now max) true
+            × own_format self.now level max result)
+            ⊎ own_pretty self.now level max result) }
     {
         if self.needs_split(max) {
             self.format(alloc, level, max)
@@ -86,8 +88,7 @@ pub trait Prettier: Display {
     fn needs_split(&self, max: usize) -> bool
     where
         Self: Sized,
-        ensures split { IfSome (Self.output self.now) (λ t.
-            (IsTrue result → IsTrue (is_longer max t)) ⊎ own_split self.now max result) }
+        ensures split { MaySplit (Self.output self.now) max (own_split self.now max) result }
     {
         is_too_long(self, max)
     }

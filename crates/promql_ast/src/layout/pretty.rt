@@ -15,12 +15,15 @@ use crate::call::FunctionArgs;
 use crate::expr::Expr;
 use crate::layout::indent::indented_line;
 use crate::layout::measurer::Measurer;
-use crate::layout::node::{Node, args_len};
+use crate::layout::node::Node;
 use crate::layout::prettier::{Prettier, PrettyError};
+use crate::layout::pretty::one_line::{args_len, line_len};
 use crate::layout::tally::Tally;
 use crate::layout::writer::LayoutWriter;
 use std::alloc::Global;
 use std::fmt::Display;
+
+mod one_line;
 
 impl Node<'_> {
     /// The node, laid out; `tally` counts the widths that are made.
@@ -113,7 +116,7 @@ impl<T: LayoutNode> Prettier for T {
             ≡ (not (is_leaf (T.tree self.now)) && is_longer max (text (T.tree self.now))) }
     {
         let node = self.node();
-        !node.is_leaf() && max < node.printed_len()
+        !node.is_leaf() && max < line_len(node)
     }
 }
 
@@ -193,7 +196,7 @@ impl Prettier for Expr {
             (λ t. (IsTrue result → IsTrue (is_longer max t)) ⊎ ⊥) }
         ensures exact { result ≡ is_longer max (text (tree_of self.now)) }
     {
-        max < self.node().printed_len()
+        max < line_len(self.node())
     }
 }
 

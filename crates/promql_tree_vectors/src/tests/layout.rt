@@ -1,6 +1,6 @@
 //! Expressions over several lines.
 
-ghost use Rattle.std.specs.Prelude.{Some};
+ghost use Rattle.std.specs.Prelude.{◌≡◌, IfOk, Some, codes, refl, string_bytes};
 
 use super::prints;
 use super::trees::{EXTENSION, KINDS, arguments, is_read, kind, read};
@@ -317,11 +317,11 @@ fn an_extension_is_not_indented(rt: HostRuntime) -> Result<(), Fail> {
 
 /// A type that has its one line and nothing of its own for a layout.
 #[derive(Drop)]
-struct Note {
-    text: &'static str,
+struct Note<'a> {
+    text: &'a str,
 }
 
-impl fmt::Display for Note {
+impl fmt::Display for Note<'_> {
     ghost output = { λ n. Some n.text.now };
 
     fn fmt<W: fmt::Write>(&self, f: &mut fmt::Formatter<W>) -> fmt::Result {
@@ -329,7 +329,7 @@ impl fmt::Display for Note {
     }
 }
 
-impl Prettier for Note {
+impl Prettier for Note<'_> {
     ghost use Rattle.std.proofs.Common.{rules};
 
     ghost states = { λ n. Prim.search rules };
@@ -347,4 +347,58 @@ fn a_type_without_bodies_is_one_line(rt: HostRuntime) -> Result<(), Fail> {
     let short = Note { text: "demo" };
     assert!(rt; !short.needs_split(10));
     check_layout(&rt, short.pretty(alloc, 1, 10), "  demo")
+}
+
+/// The default `needs_split` at each width around a line, as long as any that it counts.
+#[test]
+fn a_line_of_any_length_is_split(rt: HostRuntime) -> Result<(), Fail> {
+    let alloc = rt.alloc();
+    for len in [1usize, 2, 999, 1_000, 1_001, 4_096, 70_000] {
+        let line = "x".repeat(alloc, len)?;
+        let note = Note {
+            text: line.as_str(),
+        };
+        assert!(rt; note.needs_split(0) && note.needs_split(len.saturating_sub(1)));
+        assert!(rt; !note.needs_split(len) && !note.needs_split(usize::MAX));
+        check_layout(&rt, note.pretty(alloc, 0, 0), line.as_str())?;
+    }
+    Ok(())
+}
+
+/// A type with a form of its own over several lines, and the bodies of the trait for all else.
+#[derive(Drop)]
+struct Pair;
+
+impl fmt::Display for Pair {
+    ghost output = { λ _. Some (codes "first second") };
+
+    fn fmt<W: fmt::Write>(&self, f: &mut fmt::Formatter<W>) -> fmt::Result {
+        f.write_str("first second")
+    }
+}
+
+impl Prettier for Pair {
+    ghost own_format = { λ _ _ _ result.
+        IfOk result (λ s. string_bytes s ≡ codes "first\nsecond") };
+
+    ghost states = { λ _. refl };
+
+    fn format(&self, alloc: Global, level: usize, max: usize) -> Result<String, PrettyError> {
+        let _ = (level, max);
+        Ok(String::from_str(alloc, "first\nsecond")?)
+    }
+}
+
+#[test]
+fn a_line_that_fits_has_no_other_form(rt: HostRuntime) -> Result<(), Fail> {
+    let alloc = rt.alloc();
+    for max in [0usize, 1, 11] {
+        assert!(rt; Pair.needs_split(max));
+        check_layout(&rt, Pair.pretty(alloc, 1, max), "first\nsecond")?;
+    }
+    for max in [12usize, 13, 1_000, usize::MAX] {
+        assert!(rt; !Pair.needs_split(max));
+        check_layout(&rt, Pair.pretty(alloc, 1, max), "  first second")?;
+    }
+    Ok(())
 }

@@ -5,10 +5,10 @@ use Rattle.promql_ast.specs.NodeView.{tree_of_node}
 use Rattle.promql_ast.specs.Nodes.{nodes, maybe_nodes, all_nodes}
 use Rattle.promql_ast.specs.Text.{text}
 use Rattle.promql_ast.specs.View.{children_of, option_tree, tree_of, trees_of}
-use Rattle.promql_ast.proofs.layout.node.+printed_len.Given as goal
+use Rattle.promql_ast.proofs.layout.pretty.one_line.+line_len.Given as goal
 
-abbrev pub decreases-Node::printed_len : goal.decreases-Node::printed_len
-decreases-Node::printed_len a = 2 * nodes (tree_of_node a.self)
+abbrev pub decreases-line_len : goal.decreases-line_len
+decreases-line_len a = 2 * nodes (tree_of_node a.node)
 
 abbrev pub decreases-maybe_len : goal.decreases-maybe_len
 decreases-maybe_len a = 2 * maybe_nodes (option_tree a.param.now) + 1
