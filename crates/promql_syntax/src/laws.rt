@@ -12,8 +12,14 @@ ghost use Rattle.promql_ast.specs.Tree.{Tree};
 ghost use Rattle.promql_syntax.specs.ParseAnswers.{HasTree, IsServed, PlainParseError, plain_error_of};
 ghost use Rattle.promql_syntax.specs.Asking.{AreAnswersOf, Asked};
 ghost use Rattle.promql_syntax.specs.TreePatterns.{HasSmallPatterns};
+ghost use Rattle.promql_syntax.specs.declared.parser.TheConstants.{MAX_DEPTH};
 
 use crate::parser::ParseError;
+
+/// The greatest height of an expression that is read: docs/reference/grammar.md, "The answer to a text".
+pub fn greatest_height()
+    ensures { MAX_DEPTH ≡ 512 }
+{}
 
 /// No two well formed derivations spell the same tokens, so a text has one tree.
 pub fn one_tree()
