@@ -18,21 +18,21 @@ loop-kind-init c =
 pub returns-then-branch-clause-gives : goal.returns-then-branch-clause-gives
 returns-then-branch-clause-gives c =
     let ends = rw c.if-branch.true at c.in_ok-parse_label_end.ensures.gives in
-    naming_last _ _ _ c.loop-kind.invariant.goes _ _ _ _ _ c.in-Some.ensures ends c.in_ok-labels.ensures
+    naming_last _ _ _ c.loop-kind.invariant.goes _ _ _ _ _ c.in-Some.ensures.gives ends c.in_ok-labels.ensures
 
 pub loop-kind-preserved : goal.loop-kind-preserved
 loop-kind-preserved c =
     let ends = rw c.if-branch.false at c.in_ok-parse_label_end.ensures.gives in
-    let takes = c.in-Some.ensures in
+    let takes = c.in-Some.ensures.gives in
     record {
       short = let before = c.loop-kind.invariant.short in let after = c.in_ok-parse_label_end.ensures.short in omega (arith, ap length takes.first);
       goes = naming_more _ _ _ c.loop-kind.invariant.goes _ _ _ _ _ takes ends c.in_ok-labels.ensures;
     }
 
 pub returns-clause-gives : goal.returns-clause-gives
-returns-clause-gives c = rw c.in_default.ensures.0 (naming_none _ _ _ c.loop-kind.invariant.goes c.in_default.ensures.1)
+returns-clause-gives c = rw c.in_default.ensures.gives.0 (naming_none _ _ _ c.loop-kind.invariant.goes c.in_default.ensures.gives.1)
 
 pub returns-in_err-parse_label_end-clause-gives : goal.returns-in_err-parse_label_end-clause-gives
 returns-in_err-parse_label_end-clause-gives c =
     let same = err_from_is_err_and c.from_residual-in_err-parse_label_end.result c.from_residual-in_err-parse_label_end.ensures.1 in
-    rw (same.1, same.2) (naming_fails _ _ _ c.loop-kind.invariant.goes _ _ _ _ c.in-Some.ensures c.in_err-parse_label_end.ensures.gives)
+    rw (same.1, same.2) (naming_fails _ _ _ c.loop-kind.invariant.goes _ _ _ _ c.in-Some.ensures.gives c.in_err-parse_label_end.ensures.gives)
