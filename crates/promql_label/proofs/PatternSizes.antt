@@ -1,83 +1,87 @@
--- How a pattern's size is counted, up to where it is large.
-use Rattle.std.proofs.Common.{◌≡◌, ℕ, zero, suc, ◌+◌, ◌-◌, ◌*◌, ◌<◌, ◌≤◌, min, Bool, true, false, ◌||◌, ◌==◌, cond, List, [], ◌∷◌, length, refl, sym, ap, ap₂, ◌∙◌, subst, ⊎_elim, le_trans, le-mul_of_pos_right, mul_comm, zero-mul, lt-ltb, arith, nat_lt}
+-- How the size of a plain pattern is counted, up to where it is no longer small.
+use Rattle.std.proofs.Common.{◌≡◌, ℕ, ◌+◌, ◌*◌, ◌<◌, ◌≤◌, min, Bool, true, false, ◌&&◌, ◌==◌, cond, [], ◌∷◌, length, refl, sym, ap, ap₂, ◌∙◌, subst, ⊎_elim, le-mul_of_pos_right, mul_comm, mul_assoc, arith, nat_le}
+use Rattle.std.proofs.lemmas.Bool.{cases_lt, lt-leb}
 use Rattle.std.proofs.Math.Nat.{one-le-mul}
-use Rattle.std.proofs.lemmas.Bool.{cases_lt}
-use Rattle.std.specs.Char.{is_ascii_digit}
 use Rattle.promql_text.specs.Texts.{Text}
-use Rattle.promql_label.specs.PatternSize.{number_after, repetitions, is_large}
+use Rattle.promql_label.specs.declared.plain.After.{After}
+use Rattle.promql_label.specs.declared.plain.After.TheVariants as after
+use Rattle.promql_label.specs.declared.plain.Scan.{Scan}
+use Rattle.promql_label.specs.PlainPatterns.{is_plain, is_plain_from, next, start}
+use Rattle.promql_label.specs.PatternSize.{is_small, repeats_from, size, times}
 
--- more digits make no smaller number
-pub number_grows : (n : ℕ) (z : Text) → n ≤ number_after n z
-number_grows n [] = omega arith
-number_grows n (b ∷ z) = go (is_ascii_digit b) (number_grows (10 * n + (b - 48)) z)
-  where
-    go : (d : Bool) → 10 * n + (b - 48) ≤ number_after (10 * n + (b - 48)) z → n ≤ cond d (number_after (10 * n + (b - 48)) z) n
-    go true more = omega (arith, more)
-    go false more = omega arith
+-- ---- repetitions
 
--- a number that is capped before its last digits is as large
-pub capped_number : (x : ℕ) (z : Text) → min 1000 (number_after (min 1000 x) z) ≡ min 1000 (number_after x z)
-capped_number x z = ⊎_elim
-    (λ (large : 1000 < x).
-    let e : min 1000 x ≡ 1000 = omega arith in
-    let capped = number_grows (min 1000 x) z in
-    let whole = number_grows x z in
+some_times : (d : Bool) (n f : ℕ) → 1 ≤ f → 1 ≤ cond d ((1 + n) * f) f
+some_times true n f some = one-le-mul (omega arith) some
+some_times false n f some = some
+
+times_of_some : (what : After) (b f : ℕ) → 1 ≤ f → 1 ≤ times what b f
+times_of_some (after.Least n) b f some = some_times (b == 125) n f some
+times_of_some (after.Comma n) b f some = some_times (b == 125) n f some
+times_of_some (after.Most least n) b f some = some_times (b == 125) n f some
+times_of_some _ b f some = some
+
+pub some_repeats : (scan : Scan) (z : Text) → 1 ≤ repeats_from scan z
+some_repeats scan [] = omega arith
+some_repeats scan (b ∷ z) = times_of_some scan.after b (repeats_from (next scan b) z) (some_repeats (next scan b) z)
+
+-- ---- up to 1,001
+
+-- a product of a capped number is as large, up to where it is capped
+capped_product : (k r : ℕ) → 1 ≤ r → min 1001 (min 1001 k * r) ≡ min 1001 (k * r)
+capped_product k r some = ⊎_elim
+    (λ (large : 1001 < k).
+    let e : min 1001 k ≡ 1001 = omega arith in
+    let capped : min 1001 k ≤ min 1001 k * r = le-mul_of_pos_right (min 1001 k) some in
+    let whole : k ≤ k * r = le-mul_of_pos_right k some in
     omega (arith, e, capped, whole))
-    (λ (small : x ≤ 1000). let e : min 1000 x ≡ x = omega arith in ap (λ n. min 1000 (number_after n z)) e)
-    (cases_lt 1000 x)
+    (λ (small : k ≤ 1001). let e : min 1001 k ≡ k = omega arith in ap (λ m. min 1001 (m * r)) e)
+    (cases_lt 1001 k)
 
-pub some_repetitions : (w : Text) → 1 ≤ repetitions w
-some_repetitions [] = omega arith
-some_repetitions (b ∷ z) = go (b == 123 || b == 44) (some_repetitions z)
-  where
-    go : (d : Bool) → 1 ≤ repetitions z → 1 ≤ cond d ((1 + number_after 0 z) * repetitions z) (repetitions z)
-    go true more = one-le-mul (omega arith) more
-    go false more = more
+-- what a byte does to the repetitions before it, it does to those after it
+times_before : (d : Bool) (n k r : ℕ) → 1 ≤ r → min 1001 (min 1001 (cond d ((1 + n) * k) k) * r) ≡ min 1001 (k * cond d ((1 + n) * r) r)
+times_before true n k r some =
+    capped_product ((1 + n) * k) r some
+    ∙ ap (min 1001) (ap (λ m. m * r) (mul_comm (1 + n) k) ∙ mul_assoc k (1 + n) r)
+times_before false n k r some = capped_product k r some
 
--- a product of capped factors is as large, up to where it is large
-pub capped_product : (r k : ℕ) → 1 ≤ r → min 1001 (min 1001 r * (1 + min 1000 k)) ≡ min 1001 ((1 + k) * r)
-capped_product r k some = ⊎_elim
+times_moved : (what : After) (b k r : ℕ) → 1 ≤ r → min 1001 (min 1001 (times what b k) * r) ≡ min 1001 (k * times what b r)
+times_moved (after.Least n) b k r some = times_before (b == 125) n k r some
+times_moved (after.Comma n) b k r some = times_before (b == 125) n k r some
+times_moved (after.Most least n) b k r some = times_before (b == 125) n k r some
+times_moved _ b k r some = capped_product k r some
+
+-- ---- a byte of a scan
+
+pub plain_step : (scan n : Scan) (b : ℕ) (z w : Text) → n ≡ next scan b → w ≡ b ∷ z → is_plain_from n z ≡ is_plain_from scan w
+plain_step scan n b z w moves begins = ap (λ n. is_plain_from n z) moves ∙ sym (ap (is_plain_from scan) begins)
+
+pub repeats_step : (scan n : Scan) (b k t : ℕ) (z w : Text) → t ≡ min 1001 (times scan.after b k) → n ≡ next scan b → w ≡ b ∷ z
+    → min 1001 (t * repeats_from n z) ≡ min 1001 (k * repeats_from scan w)
+repeats_step scan n b k t z w multiplied moves begins =
+    ap₂ (λ t n. min 1001 (t * repeats_from n z)) multiplied moves
+    ∙ times_moved scan.after b k (repeats_from (next scan b) z) (some_repeats (next scan b) z)
+    ∙ sym (ap (λ w. min 1001 (k * repeats_from scan w)) begins)
+
+-- ---- sizes
+
+-- bytes, so often, are no more than a small pattern has exactly if they are with capped repetitions
+pub small_as_capped : (n r : ℕ) → 1 ≤ r → nat_le ((n + 6) * min 1001 r) 1000 ≡ nat_le ((n + 6) * r) 1000
+small_as_capped n r some = ⊎_elim
     (λ (large : 1001 < r).
     let e : min 1001 r ≡ 1001 = omega arith in
-    let capped : 1001 ≤ min 1001 r * (1 + min 1000 k) = le_trans (omega (arith, e)) (le-mul_of_pos_right (min 1001 r) (omega arith)) in
-    let whole : r ≤ (1 + k) * r = subst (λ n. r ≤ n) (mul_comm r (1 + k)) (le-mul_of_pos_right r (omega arith)) in
-    omega (arith, capped, whole))
-    (λ (small : r ≤ 1001). ⊎_elim
-    (λ (large : 1000 < k).
-    let e : 1 + min 1000 k ≡ 1001 = omega arith in
-    let capped : 1 + min 1000 k ≤ min 1001 r * (1 + min 1000 k) = subst (λ n. 1 + min 1000 k ≤ n) (mul_comm (1 + min 1000 k) (min 1001 r)) (le-mul_of_pos_right (1 + min 1000 k) (omega arith)) in
-    let whole : 1 + k ≤ (1 + k) * r = le-mul_of_pos_right (1 + k) some in
-    omega (arith, e, capped, whole))
-    (λ (below : k ≤ 1000).
-    let e : min 1001 r ≡ r = omega arith in
-    let f : min 1000 k ≡ k = omega arith in
-    ap₂ (λ m n. min 1001 (m * (1 + n))) e f ∙ ap (min 1001) (mul_comm r (1 + k)))
-    (cases_lt 1000 k))
+    let capped : min 1001 r ≤ (n + 6) * min 1001 r = subst (λ m. min 1001 r ≤ m) (mul_comm (min 1001 r) (n + 6)) (le-mul_of_pos_right (min 1001 r) (omega arith)) in
+    let whole : r ≤ (n + 6) * r = subst (λ m. r ≤ m) (mul_comm r (n + 6)) (le-mul_of_pos_right r (omega arith)) in
+    lt-leb ((n + 6) * min 1001 r) 1000 (omega (arith, e, capped)) ∙ sym (lt-leb ((n + 6) * r) 1000 (omega (arith, large, whole))))
+    (λ (small : r ≤ 1001). let e : min 1001 r ≡ r = omega arith in ap (λ m. nat_le ((n + 6) * m) 1000) e)
     (cases_lt 1001 r)
 
--- a length times repetitions is past the most of a small pattern where it is with capped repetitions
-pub large_as_capped : (n r : ℕ) → 1 ≤ r → nat_lt 1000 (n * min 1001 r) ≡ nat_lt 1000 (n * r)
-large_as_capped zero r some = ap (nat_lt 1000) (zero-mul (min 1001 r) ∙ sym (zero-mul r))
-large_as_capped (suc n) r some = ⊎_elim
-    (λ (large : 1001 < r).
-    let e : min 1001 r ≡ 1001 = omega arith in
-    let capped : min 1001 r ≤ suc n * min 1001 r = subst (λ m. min 1001 r ≤ m) (mul_comm (min 1001 r) (suc n)) (le-mul_of_pos_right (min 1001 r) (omega arith)) in
-    let whole : r ≤ suc n * r = subst (λ m. r ≤ m) (mul_comm r (suc n)) (le-mul_of_pos_right r (omega arith)) in
-    lt-ltb 1000 (suc n * min 1001 r) (omega (arith, e, capped)) ∙ sym (lt-ltb 1000 (suc n * r) (omega (arith, large, whole))))
-    (λ (small : r ≤ 1001). let e : min 1001 r ≡ r = omega arith in ap (λ m. nat_lt 1000 (suc n * m)) e)
-    (cases_lt 1001 r)
+and_false : (a : Bool) → (a && false) ≡ false
+and_false true = refl
+and_false false = refl
 
--- a text of more bytes than a small pattern has is large
-pub long_is_large : (w : Text) → 1000 < length w → nat_lt 1000 (length w) ≡ is_large w
-long_is_large w long =
-    let whole : length w ≤ length w * repetitions w = le-mul_of_pos_right (length w) (some_repetitions w) in
-    lt-ltb 1000 (length w) long ∙ sym (lt-ltb 1000 (length w * repetitions w) (omega (arith, long, whole)))
-
--- one digit more
-pub digit_step : (n r b : ℕ) (z w : Text) → is_ascii_digit b ≡ true → r ≡ min (10 * n + (b - 48)) 1000 → w ≡ b ∷ z → min 1000 (number_after r z) ≡ min 1000 (number_after n w)
-digit_step n r b z w digit is begins =
-    let capped : r ≡ min 1000 (10 * n + (b - 48)) = omega (arith, is) in
-    ap (λ m. min 1000 (number_after m z)) capped
-    ∙ capped_number (10 * n + (b - 48)) z
-    ∙ sym (ap (λ d. min 1000 (cond d (number_after (10 * n + (b - 48)) z) n)) digit)
-    ∙ sym (ap (λ v. min 1000 (number_after n v)) begins)
+-- a text of 1,000 bytes is not small
+pub long_is_not_small : (v : Text) → 1000 ≤ length v → is_small v ≡ false
+long_is_not_small v long =
+    let whole : length v + 6 ≤ size v = le-mul_of_pos_right (length v + 6) (some_repeats start v) in
+    ap (λ b. is_plain v && b) (lt-leb (size v) 1000 (omega (arith, long, whole))) ∙ and_false (is_plain v)

@@ -10,7 +10,7 @@ use Rattle.regex.specs.Patterns.{Re, Reads, Refuses, default_config}
 use Rattle.regex.specs.Names.{names_of}
 use Rattle.regex.specs.Strings.{regex_source}
 use Rattle.regex.specs.declared.string.regex.Regex.{Regex}
-use Rattle.promql_label.specs.Answers.{Allows, as_it_is, built, by_escaping, is_read, IsCompiledFrom, IsTried, MayRejectPair, neither, rejected}
+use Rattle.promql_label.specs.Answers.{Allows, as_it_is, built, by_escaping, is_read, IsCompiledFrom, IsTried, MayReject, neither, rejected}
 use Rattle.promql_label.specs.Repeats.{escaped_repeats}
 use Rattle.promql_text.specs.Texts.{Text}
 
@@ -22,12 +22,12 @@ read_as_it_is v w o is tried =
     let read : IsTried v (Some w) = subst (IsTried v) is tried in
     subst (λ w. Allows v (built w)) (sym read.0) (as_it_is v read.1)
 
-pub read_escaped : (v u w : Text) (o : Option Text) → MayRejectPair v → u ≡ escaped_repeats v → o ≡ Some w → IsTried u o → Allows v (built w)
+pub read_escaped : (v u w : Text) (o : Option Text) → MayReject v → u ≡ escaped_repeats v → o ≡ Some w → IsTried u o → Allows v (built w)
 read_escaped v u w o rejects form is tried =
     let read = tried_as u (escaped_repeats v) o (Some w) is form tried in
     subst (λ w. Allows v (built w)) (sym read.0) (by_escaping v rejects read.1)
 
-pub rejected_twice : (v u : Text) (o : Option Text) → MayRejectPair v → u ≡ escaped_repeats v → o ≡ None → IsTried u o → Allows v rejected
+pub rejected_twice : (v u : Text) (o : Option Text) → MayReject v → u ≡ escaped_repeats v → o ≡ None → IsTried u o → Allows v rejected
 rejected_twice v u o rejects form is tried = neither v rejects (tried_as u (escaped_repeats v) o None is form tried)
 
 -- what the grammar reads is nested no deeper than its limit

@@ -1,11 +1,11 @@
 -- What `regex` may return for a pattern: docs/reference/matchers.md, "Patterns".
-use Rattle.std.specs.Prelude.{◌≡◌, ◌⊎◌, Bool, true, false, not, ◌&&◌, if◌then◌else◌, ◌++◌, Option, Some, None, is_some, option_map, unwrap_or, codes, chars, nat_le}
+use Rattle.std.specs.Prelude.{◌≡◌, Bool, true, false, not, ◌&&◌, ◌||◌, if◌then◌else◌, ◌++◌, Option, Some, None, is_some, option_map, unwrap_or, codes, chars, nat_le}
 use Rattle.regex.specs.Strings.{regex_source, regex_config, IsReadFromSource}
 use Rattle.regex.specs.Patterns.{default_config, find_str}
 use Rattle.regex.specs.declared.string.regex.Regex.{Regex}
 use Rattle.regex_syntax.specs.Grammar.{read}
 use Rattle.promql_text.specs.Texts.{Text}
-use Rattle.promql_label.specs.PatternSize.{is_large}
+use Rattle.promql_label.specs.PatternSize.{is_small}
 use Rattle.promql_label.specs.Repeats.{escaped_repeats}
 
 -- "Anchoring": the text that is built of a pattern
@@ -19,25 +19,27 @@ is_read w = unwrap_or (option_map (λ p. nat_le p.0.depth default_config.nest_li
 abbrev pub IsRead : Text → Type 0
 IsRead w = is_read w ≡ true
 
--- `regex` may reject the text: its grammar doesn't read it, or what is compiled of it may be too large
-abbrev pub MayReject : Text → Type 0
-MayReject w = (is_read w ≡ false) ⊎ (is_large w ≡ true)
-
 -- what is compiled is the text
 abbrev pub IsCompiledFrom : Text → Regex → Type 0
 IsCompiledFrom w r = (regex_source r ≡ w) × (regex_config r ≡ default_config) × IsReadFromSource r
 
--- a form of a pattern is read by itself and anchored; it may be rejected by itself, or anchored
+-- what needs no compiling to be known as a pattern: the text of a small form, anchored or as it is
+pub data IsKnown : Text → Type 0 where
+  anchored : (u : Text) → is_small u ≡ true → IsKnown (anchor u)
+  unanchored : (w : Text) → is_small w ≡ true → IsKnown w
+
+-- a form of a pattern is read by itself and anchored
 abbrev pub IsReadPair : Text → Type 0
 IsReadPair u = IsRead u × IsRead (anchor u)
 
-abbrev pub MayRejectPair : Text → Type 0
-MayRejectPair u = (is_read u ≡ false) ⊎ MayReject (anchor u)
+-- `regex` may reject a form: only what is small is known to be read (the law `plain_patterns_are_read`)
+abbrev pub MayReject : Text → Type 0
+MayReject u = is_small u ≡ false
 
 -- what becomes of a form that is tried: its anchored text, or nothing
 abbrev pub IsTried : Text → Option Text → Type 0
 IsTried u (Some w) = (w ≡ anchor u) × IsReadPair u
-IsTried u None = MayRejectPair u
+IsTried u None = MayReject u
 
 -- what is returned for a pattern: the built text, or that it is rejected
 pub data Answer : Type 0 where
@@ -47,10 +49,10 @@ pub data Answer : Type 0 where
 -- "Answers": `regex` allows this result for a pattern
 pub data Allows : Text → Answer → Type 0 where
   as_it_is : (v : Text) → IsReadPair v → Allows v (built (anchor v))
-  by_escaping : (v : Text) → MayRejectPair v → IsReadPair (escaped_repeats v) → Allows v (built (anchor (escaped_repeats v)))
-  neither : (v : Text) → MayRejectPair v → MayRejectPair (escaped_repeats v) → Allows v rejected
+  by_escaping : (v : Text) → MayReject v → IsReadPair (escaped_repeats v) → Allows v (built (anchor (escaped_repeats v)))
+  neither : (v : Text) → MayReject v → MayReject (escaped_repeats v) → Allows v rejected
 
--- "Answers": the one answer for a pattern that is small
+-- "Answers": the answer that is computed
 abbrev pub is_read_pair : Text → Bool
 is_read_pair u = is_read u && is_read (anchor u)
 
@@ -59,9 +61,9 @@ pattern_answer v =
     if is_read_pair v then built (anchor v)
     else (if is_read_pair (escaped_repeats v) then built (anchor (escaped_repeats v)) else rejected)
 
--- neither text that is built of the value is large
-abbrev pub is_small : Text → Bool
-is_small v = not (is_large (anchor v)) && not (is_large (anchor (escaped_repeats v)))
+-- "Answers": it is the only one. Each form that is tried is small, or not read
+abbrev pub has_one_answer : Text → Bool
+has_one_answer v = is_small v || not (is_read_pair v) && (is_small (escaped_repeats v) || not (is_read_pair (escaped_repeats v)))
 
 -- "Matching by a pattern": whether `regex` finds the pattern of a built text in a text
 abbrev pub finds : Text → Text → Bool

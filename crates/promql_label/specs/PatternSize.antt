@@ -1,18 +1,28 @@
--- Which patterns are large (docs/reference/matchers.md, "Large patterns").
-use Rattle.std.specs.Prelude.{ℕ, ◌+◌, ◌-◌, ◌*◌, Bool, ◌==◌, ◌||◌, if◌then◌else◌, [], ◌∷◌, length, nat_lt}
-use Rattle.std.specs.Char.{is_ascii_digit}
+-- Which patterns are small (docs/reference/matchers.md, "Small patterns").
+use Rattle.std.specs.Prelude.{ℕ, ◌+◌, ◌*◌, Bool, ◌==◌, ◌&&◌, if◌then◌else◌, [], ◌∷◌, length, nat_le}
+use Rattle.promql_text.specs.Bytes.{right_brace}
 use Rattle.promql_text.specs.Texts.{Text}
+use Rattle.promql_label.specs.declared.plain.After.{After}
+use Rattle.promql_label.specs.declared.plain.After.TheVariants as after
+use Rattle.promql_label.specs.declared.plain.Scan.{Scan}
+use Rattle.promql_label.specs.PlainPatterns.{is_plain, next, start}
 
--- the number of the digits that a text begins with, after digits that are n
-abbrev pub number_after : ℕ → Text → ℕ
-number_after n [] = n
-number_after n (b ∷ z) = if is_ascii_digit b then number_after (10 * n + (b - 48)) z else n
+-- f, times one more than the greatest number of the count that the byte ends, if it ends one
+abbrev pub times : After → ℕ → ℕ → ℕ
+times (after.Least n) b f = if b == right_brace then (1 + n) * f else f
+times (after.Comma n) b f = if b == right_brace then (1 + n) * f else f
+times (after.Most least n) b f = if b == right_brace then (1 + n) * f else f
+times _ b f = f
 
--- one more than each number that comes after a `{` or a `,`, multiplied: how often a part of the pattern can be repeated
-abbrev pub repetitions : Text → ℕ
-repetitions [] = 1
-repetitions (b ∷ z) = if b == 123 || b == 44 then (1 + number_after 0 z) * repetitions z else repetitions z
+-- how often a part of the rest of a plain pattern can be repeated: those numbers of all its counts, multiplied
+abbrev pub repeats_from : Scan → Text → ℕ
+repeats_from scan [] = 1
+repeats_from scan (b ∷ z) = times scan.after b (repeats_from (next scan b) z)
 
--- "Large patterns": what is compiled of a text may be too large for `regex`
-abbrev pub is_large : Text → Bool
-is_large w = nat_lt 1000 (length w * repetitions w)
+-- the bytes of the anchored text, so often
+abbrev pub size : Text → ℕ
+size v = (length v + 6) * repeats_from start v
+
+-- "Small patterns"
+abbrev pub is_small : Text → Bool
+is_small v = is_plain v && nat_le (size v) 1000

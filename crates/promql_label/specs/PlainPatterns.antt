@@ -164,6 +164,9 @@ abbrev pub is_plain_from : Scan → Text → Bool
 is_plain_from scan [] = can_end scan
 is_plain_from scan (b ∷ z) = is_plain_from (next scan b) z
 
+abbrev pub start : Scan
+start = record { opened = 0; closed = 0; after = after.Start }
+
 -- "Plain patterns"
 abbrev pub is_plain : Text → Bool
-is_plain v = is_plain_from (record { opened = 0; closed = 0; after = after.Start }) v
+is_plain v = is_plain_from start v

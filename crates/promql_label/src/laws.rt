@@ -3,7 +3,7 @@
 ghost use Rattle.std.specs.Prelude.{◌≡◌, ◌≢◌, ◌↔◌, ◌<◌, ◌++◌, ℕ, [], List, IsTrue, Ok, Some, codes, false, length, map, true};
 ghost use Rattle.std.specs.List.{list_any, AllPairs, Contains};
 ghost use Rattle.promql_text.specs.Texts.{Text};
-ghost use Rattle.promql_label.specs.Answers.{Allows, Answer, IsReadPair, is_small, pattern_answer};
+ghost use Rattle.promql_label.specs.Answers.{Allows, Answer, has_one_answer, IsReadPair, pattern_answer};
 ghost use Rattle.promql_label.specs.Labels.{common, is_among, is_number_word, label_text, labels_of};
 ghost use Rattle.promql_label.specs.LabelLaws.{first_index, label_of};
 ghost use Rattle.promql_label.specs.MatcherRows.{WorkedLists};
@@ -130,9 +130,10 @@ pub fn equal_patterns()
     ensures hashed { HashesAlike (λ (p : Text). p) ⟦<Pattern as Hash>⟧.hash_input }
 {}
 
-/// A pattern that is small has one answer, which is computed; a large one may have it, or be rejected for its size.
+/// A pattern has one answer, which is computed, if each form of it that is tried is small or not read; any other may have it, or
+/// be rejected for its size.
 pub fn small_patterns_have_one_answer()
-    ensures small { (v : Text) → is_small v ≡ true → (a : Answer) → Allows v a
+    ensures small { (v : Text) → has_one_answer v ≡ true → (a : Answer) → Allows v a
         → a ≡ pattern_answer v }
     ensures allowed { (v : Text) → Allows v (pattern_answer v) }
 {}

@@ -1,14 +1,13 @@
 //! Patterns: docs/reference/matchers.md, "Patterns".
 
-ghost use Rattle.std.specs.Prelude.{◌≡◌, true, IfOk, IfErr, IfSome, IfNone, IsSome, string_bytes};
+ghost use Rattle.std.specs.Prelude.{◌≡◌, true, IfOk, IfErr, IfSome, IfNone, string_bytes};
 ghost use Rattle.regex.specs.Patterns.{default_config};
 ghost use Rattle.regex.specs.Strings.{regex_config, regex_source, IsReadFromSource};
 ghost use Rattle.promql_label.specs.PatternRejections.{IsRejected};
-ghost use Rattle.promql_label.specs.PatternSize as size;
 ghost use Rattle.promql_label.specs.Answers as spec;
-ghost use Rattle.promql_label.specs.Answers.{Allows, built, finds, IsCompiledFrom, IsRead, IsReadPair, IsTried, MayReject, MayRejectPair, rejected};
+ghost use Rattle.promql_label.specs.Answers.{Allows, built, finds, IsCompiledFrom, IsKnown, IsRead, IsTried, MayReject, rejected};
 
-use crate::pattern_size::is_large;
+use crate::pattern_size::is_small;
 use crate::plain::is_plain;
 use crate::repeats::escape_repeats;
 use regex::Regex;
@@ -29,17 +28,16 @@ struct Source {
 
 /// A pattern that the grammar of `regex` reads. Contracts see its built text.
 ///
-/// It is compiled where it could be too large, and else when it matches or is prepared: most patterns are read, compared and
-/// printed, and never match.
+/// A small one is compiled when it matches or is prepared, since most patterns are read, compared and printed, and never match;
+/// any other when it is read.
 #[derive(Drop)]
 pub struct Pattern {
     source: Arc<Source>,
 }
 
 impl Model for Pattern {
-    ghost use Rattle.std.specs.Prelude.{◌≡◌, List, ℕ, true, IfSome, IsSome, string_bytes};
-    ghost use Rattle.promql_label.specs.Answers.{IsCompiledFrom, IsRead};
-    ghost use Rattle.promql_label.specs.PatternSize.{is_large};
+    ghost use Rattle.std.specs.Prelude.{List, ℕ, IfSome, IfNone, string_bytes};
+    ghost use Rattle.promql_label.specs.Answers.{IsCompiledFrom, IsKnown, IsRead};
 
     ghost Value = { List ℕ };
 
@@ -47,7 +45,7 @@ impl Model for Pattern {
 
     ghost invariant = { λ p. IsRead (string_bytes p.source.value.text)
         × IfSome p.source.value.regex (IsCompiledFrom (string_bytes p.source.value.text))
-        × (is_large (string_bytes p.source.value.text) ≡ true → IsSome p.source.value.regex) };
+        × IfNone p.source.value.regex (IsKnown (string_bytes p.source.value.text)) };
 }
 
 /// Why no pattern is built.
@@ -87,29 +85,15 @@ fn compile(alloc: Global, text: &str) -> Result<Option<Regex>, AllocError>
 fn is_read(alloc: Global, text: &str) -> Result<bool, AllocError>
     ensures { IfOk result (λ is. is ≡ spec.is_read text.now) }
 {
+    if is_plain(text) {
+        return Ok(true);
+    }
     match regex_syntax::parse(alloc, text, &Config::default()) {
         Ok(_parsed) => Ok(true),
         Err(error) => match error.kind {
             ErrorKind::OutOfMemory => Err(AllocError),
             _ => Ok(false),
         },
-    }
-}
-
-/// The pattern of a text as it is, if `regex` takes it: compiled only where it could be too large.
-fn take(alloc: Global, text: String) -> Result<Option<Pattern>, AllocError>
-    ensures read { IfOk result (λ o. IfSome o (λ p. (p ≡ string_bytes text) × IsRead (string_bytes text))) }
-    ensures rejected { IfOk result (λ o. IfNone o (MayReject (string_bytes text))) }
-{
-    if is_large(&text) {
-        match compile(alloc, &text)? {
-            Some(regex) => Ok(Some(Pattern::new(alloc, text, Some(regex))?)),
-            None => Ok(None),
-        }
-    } else if is_read(alloc, &text)? {
-        Ok(Some(Pattern::new(alloc, text, None)?))
-    } else {
-        Ok(None)
     }
 }
 
@@ -124,16 +108,26 @@ fn anchor(alloc: Global, form: &str) -> Result<String, AllocError>
     Ok(text)
 }
 
-/// The pattern of a form that is known to be read by itself and anchored.
-fn take_known(alloc: Global, form: &str) -> Result<Option<Pattern>, AllocError>
-    requires { IsReadPair form.now }
-    ensures { IfOk result (IsTried form.now) }
+/// The pattern of a text as it is, compiled, if `regex` takes it.
+fn take(alloc: Global, text: String) -> Result<Option<Pattern>, AllocError>
+    ensures { IfOk result (λ o. IfSome o (λ p. (p ≡ string_bytes text) × IsRead (string_bytes text))) }
 {
-    let text = anchor(alloc, form)?;
-    if is_large(&text) {
-        take(alloc, text)
+    match compile(alloc, &text)? {
+        Some(regex) => Ok(Some(Pattern::new(alloc, text, Some(regex))?)),
+        None => Ok(None),
+    }
+}
+
+/// The pattern of a text as it is, if `regex` takes it.
+fn take_text(alloc: Global, text: &str) -> Result<Option<Pattern>, AllocError>
+    ensures read { IfOk result (λ o. IfSome o (λ p. (p ≡ text.now) × IsRead text.now)) }
+    ensures rejected { IfOk result (λ o. IfNone o (MayReject text.now)) }
+{
+    let copy = String::from_str(alloc, text)?;
+    if is_small(text) {
+        Ok(Some(Pattern::new(alloc, copy, None)?))
     } else {
-        Ok(Some(Pattern::new(alloc, text, None)?))
+        take(alloc, copy)
     }
 }
 
@@ -141,8 +135,8 @@ fn take_known(alloc: Global, form: &str) -> Result<Option<Pattern>, AllocError>
 fn take_anchored(alloc: Global, form: &str) -> Result<Option<Pattern>, AllocError>
     ensures { IfOk result (IsTried form.now) }
 {
-    if is_plain(form) {
-        take_known(alloc, form)
+    if is_small(form) {
+        Ok(Some(Pattern::new(alloc, anchor(alloc, form)?, None)?))
     } else if is_read(alloc, form)? {
         take(alloc, anchor(alloc, form)?)
     } else {
@@ -179,7 +173,7 @@ impl Pattern {
         ensures built { IfOk result (λ p. (p ≡ text.now) × IsRead text.now) }
         ensures rejected { IfErr result (IsRejected text.now (MayReject text.now)) }
     {
-        match take(alloc, String::from_str(alloc, text)?)? {
+        match take_text(alloc, text)? {
             Some(pattern) => Ok(pattern),
             None => Err(PatternFault::Refused(String::from_str(alloc, text)?)),
         }
@@ -187,7 +181,7 @@ impl Pattern {
 
     /// The pattern of a value whose own form is rejected.
     fn read_escaped(alloc: Global, value: &str) -> Result<Pattern, PatternFault>
-        requires { MayRejectPair value.now }
+        requires { MayReject value.now }
         ensures built { IfOk result (λ p. Allows value.now (built p)) }
         ensures rejected { IfErr result (IsRejected value.now (Allows value.now rejected)) }
     {
@@ -201,7 +195,7 @@ impl Pattern {
     fn new(alloc: Global, text: String, regex: Option<Regex>) -> Result<Pattern, AllocError>
         requires read { IsRead (string_bytes text) }
         requires compiled { IfSome regex (IsCompiledFrom (string_bytes text)) }
-        requires large { size.is_large (string_bytes text) ≡ true → IsSome regex }
+        requires known { IfNone regex (IsKnown (string_bytes text)) }
         ensures { IfOk result (λ p. p ≡ string_bytes text) }
     {
         Ok(Pattern {
@@ -217,7 +211,7 @@ impl Pattern {
     }
 
     /// Compiles the pattern, if that was not done yet, so that each match after it only searches. Copies made after it share
-    /// what was compiled. A pattern that `regex` takes for too large stays as it was.
+    /// what was compiled. A pattern that `regex` rejects, of which no case is known, stays as it was.
     ///
     /// # Errors
     ///
@@ -236,7 +230,7 @@ impl Pattern {
     }
 
     /// Whether the pattern matches a text. Each call allocates what the search needs, and compiles a pattern that is not
-    /// prepared; it fails for memory too where `regex` takes a pattern for too large that isn't.
+    /// prepared. Should `regex` reject a small pattern, of which no case is known, the call fails as for memory.
     pub(crate) fn is_match(&self, alloc: Global, text: &str) -> Result<bool, AllocError>
         ensures { IfOk result (λ found. found ≡ finds self.now text.now) }
     {

@@ -1,52 +1,40 @@
-//! Which patterns are large: docs/reference/matchers.md, "Large patterns".
+//! Which patterns are small: docs/reference/matchers.md, "Small patterns".
 
-ghost use Rattle.std.specs.Prelude.{◌≡◌, ◌∷◌, min};
+ghost use Rattle.std.specs.Prelude.{◌≡◌, ◌≤◌, min, true};
+ghost use Rattle.promql_label.specs.Answers.{IsReadPair};
 ghost use Rattle.promql_label.specs.PatternSize as spec;
 
-/// The most that the bytes of a small pattern, times its repetitions, are.
+use crate::plain::{After, can_end, next, start};
+
+/// The greatest size of a small pattern.
 const MAX_SMALL: usize = 1000;
 
-/// Whether what is compiled of a text may be too large for `regex`.
-pub(crate) fn is_large(text: &str) -> bool
-    ensures { result ≡ spec.is_large text.now }
+/// Whether a value is a plain pattern that is small: the grammar of `regex` reads it, and it is compiled only where it matches.
+pub(crate) fn is_small(value: &str) -> bool
+    ensures small { result ≡ spec.is_small value.now }
+    ensures read { result ≡ true → IsReadPair value.now }
 {
-    text.len() > MAX_SMALL || text.len() * repetitions(text.as_bytes()) > MAX_SMALL
-}
-
-/// How often a part of the pattern can be repeated, up to one past the most of a small pattern.
-fn repetitions(text: &[u8]) -> usize
-    ensures { result ≡ min 1001 (spec.repetitions text.now) }
-{
-    let mut factor = 1;
-    let mut i = text.len();
-    'bytes: while i > 0 {
-        i -= 1;
-        factor = with_byte(text[i], &text[i + 1..], factor);
+    if value.len() >= MAX_SMALL {
+        return false;
     }
-    factor
-}
-
-/// The same of a byte before the rest of the text, of which it is known.
-fn with_byte(b: u8, rest: &[u8], factor: usize) -> usize
-    requires { factor ≡ min 1001 (spec.repetitions rest.now) }
-    ensures { result ≡ min 1001 (spec.repetitions (b ∷ rest.now)) }
-{
-    if b != b'{' && b != b',' {
-        return factor;
+    let mut scan = start();
+    let mut repeats = 1;
+    'bytes: for b in value.as_bytes() {
+        repeats = times(scan.after, *b, repeats);
+        scan = next(scan, *b);
     }
-    (factor * (1 + leading_number(rest))).min(MAX_SMALL + 1)
+    can_end(scan) && (value.len() + 6) * repeats <= MAX_SMALL
 }
 
-/// The number of the digits that the text begins with, up to the most of a small pattern.
-fn leading_number(text: &[u8]) -> usize
-    ensures { result ≡ min 1000 (spec.number_after 0 text.now) }
+/// How often a part of a pattern can be repeated after one more byte, up to one past the size of a small pattern.
+fn times(after: After, b: u8, repeats: usize) -> usize
+    requires { repeats ≤ 1001 }
+    ensures { result ≡ min 1001 (spec.times after b repeats) }
 {
-    let mut number = 0;
-    'digits: for b in text {
-        if !b.is_ascii_digit() {
-            return number;
+    match after {
+        After::Least(n) | After::Comma(n) | After::Most(_, n) if b == b'}' => {
+            ((1 + usize::from(n)) * repeats).min(MAX_SMALL + 1)
         }
-        number = (10 * number + usize::from(*b - b'0')).min(MAX_SMALL);
+        _ => repeats,
     }
-    number
 }

@@ -10,7 +10,7 @@ const MAX_GROUPS: u8 = 50;
 
 /// What a place of a pattern comes after.
 #[derive(Clone, Copy)]
-enum After {
+pub(crate) enum After {
     /// The start, `(?:`, `|` or a lazy repetition: nothing that can be repeated.
     Start,
     /// An item.
@@ -53,10 +53,10 @@ enum After {
 
 /// A place of a pattern, with the groups that are opened and closed before it.
 #[derive(Clone, Copy)]
-struct Scan {
+pub(crate) struct Scan {
     opened: u8,
     closed: u8,
-    after: After,
+    pub(crate) after: After,
 }
 
 /// Whether a value is a plain pattern, which the grammar of `regex` reads.
@@ -64,18 +64,26 @@ pub(crate) fn is_plain(value: &str) -> bool
     ensures plain { result ≡ spec.is_plain value.now }
     ensures read { result ≡ true → IsReadPair value.now }
 {
-    let mut scan = Scan {
-        opened: 0,
-        closed: 0,
-        after: After::Start,
-    };
+    let mut scan = start();
     'bytes: for b in value.as_bytes() {
         scan = next(scan, *b);
     }
     can_end(scan)
 }
 
-fn can_end(scan: Scan) -> bool
+/// The place before a pattern.
+pub(crate) fn start() -> Scan
+    ensures { result ≡ spec.start }
+{
+    Scan {
+        opened: 0,
+        closed: 0,
+        after: After::Start,
+    }
+}
+
+/// Whether a plain pattern can end at this place.
+pub(crate) fn can_end(scan: Scan) -> bool
     ensures { result ≡ spec.can_end scan }
 {
     matches!(scan.after, After::Start | After::Item | After::Repetition)
@@ -84,7 +92,7 @@ fn can_end(scan: Scan) -> bool
 
 /// The place after one more byte.
 #[tactic(auto, unfolding(crate::specs::PlainPatterns::next))]
-fn next(scan: Scan, b: u8) -> Scan
+pub(crate) fn next(scan: Scan, b: u8) -> Scan
     ensures { result ≡ spec.next scan b }
 {
     match scan.after {

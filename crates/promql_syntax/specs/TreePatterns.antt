@@ -1,7 +1,7 @@
 -- The patterns in a tree (docs/reference/grammar.md, "Small patterns").
 use Rattle.std.specs.Prelude.{◌≡◌, Bool, true, List, [], ◌∷◌}
 use Rattle.promql_text.specs.Texts.{Text}
-use Rattle.promql_label.specs.Answers.{is_small}
+use Rattle.promql_label.specs.Answers.{has_one_answer}
 use Rattle.promql_label.specs.PlainMatchers.{Operator, equal, not_equal, matches, matches_not, PlainMatcher, plain_matcher, PlainMatchers, plain_matchers}
 use Rattle.promql_ast.specs.Selectors.{Selector, selector}
 use Rattle.promql_ast.specs.Tree.{Tree, aggregate, unary, binary, paren, subquery, number, string, vector, matrix, call, extension, MaybeTree, absent, present, Trees, no_trees, first_tree}
@@ -55,4 +55,4 @@ module _ (is_such : Text → Bool) where
 
 -- "Small patterns": `regex` may answer in one way about each pattern of the tree
 abbrev pub HasSmallPatterns : Tree → Type 0
-HasSmallPatterns t = TreePatterns is_small t
+HasSmallPatterns t = TreePatterns has_one_answer t
