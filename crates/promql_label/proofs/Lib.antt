@@ -12,6 +12,7 @@ pub mod TextRows
 pub mod TextOrders
 pub mod OneOrder
 pub mod PatternSizes
+pub mod PatternWeights
 pub mod PlacesSet
 pub mod PlainAtoms
 pub mod PlainClasses

@@ -68,12 +68,12 @@ escape_is_read e t escaped no_range = by_letter (one_letter default_config e) re
 
 -- ---- the items
 
-module _ (r : Text) (o c : ℕ) where
+module _ (r : Text) (o c k : ℕ) where
   -- what the items are read up to: the bracket that closes the class
   record AtClose (most : ℕ) (t : Text) : Type 0 where
     rest : Text
     is : t ≡ 93 ∷ (rest ++ r)
-    plain : Plain o c after.Item rest
+    plain : Plain o c k after.Item rest
     short : length rest < most
 
   Items : ℕ → List (Nested Set) × Text → Type 0
@@ -110,41 +110,41 @@ module _ (r : Text) (o c : ℕ) where
   ItemsAreRead : ℕ → Text → Type 0
   ItemsAreRead n u = IsSomeAnd (set_items default_config n (u ++ r)) (Items (length u))
 
-  closed : (n : ℕ) (z : Text) → Plain o c after.Item z → ItemsAreRead (suc n) (93 ∷ z)
+  closed : (n : ℕ) (z : Text) → Plain o c k after.Item z → ItemsAreRead (suc n) (93 ∷ z)
   unfolding grammar Items ItemsAreRead
   closed n z plain = (omega arith, record { rest = z; is = refl; plain = plain; short = omega arith })
 
   -- what comes after a member of a class
   data MemberNext (b : ℕ) : Text → Type 0 where
-    alone : (e : ℕ) (y : Text) → (e == 45) ≡ false → Plain o c after.Range (e ∷ y) → MemberNext b (e ∷ y)
-    last : (x : Text) → Plain o c after.Item x → MemberNext b (45 ∷ 93 ∷ x)
-    to_high : (high : ℕ) (x : Text) → IsMember high → nat_le b high ≡ true → Plain o c after.Range x → MemberNext b (45 ∷ high ∷ x)
+    alone : (e : ℕ) (y : Text) → (e == 45) ≡ false → Plain o c k after.Range (e ∷ y) → MemberNext b (e ∷ y)
+    last : (x : Text) → Plain o c k after.Item x → MemberNext b (45 ∷ 93 ∷ x)
+    to_high : (high : ℕ) (x : Text) → IsMember high → nat_le b high ≡ true → Plain o c k after.Range x → MemberNext b (45 ∷ high ∷ x)
 
-  ranged : (e : ℕ) (y : Text) → (e == 45) ≡ false → Plain o c (in_class e) y → Plain o c after.Range (e ∷ y)
+  ranged : (e : ℕ) (y : Text) → (e == 45) ≡ false → Plain o c k (in_class e) y → Plain o c k after.Range (e ∷ y)
   unfolding next
-  ranged e y no_hyphen plain = subst (λ hyphen. Plain o c (if hyphen then after.LastHyphen else in_class e) y) (sym no_hyphen) plain
+  ranged e y no_hyphen plain = subst (λ hyphen. Plain o c k (if hyphen then after.LastHyphen else in_class e) y) (sym no_hyphen) plain
 
-  after_hyphen_next : (b : ℕ) (y : Text) → Plain o c (after.Hyphen b) y → MemberNext b (45 ∷ y)
+  after_hyphen_next : (b : ℕ) (y : Text) → Plain o c k (after.Hyphen b) y → MemberNext b (45 ∷ y)
   unfolding next
-  after_hyphen_next b [] plain = absurd (true≢false (sym plain))
+  after_hyphen_next b [] plain = absurd (true≢false (sym plain.0))
   after_hyphen_next b (f ∷ x) plain = ⊎_elim
       (λ shut. subst (λ f. MemberNext b (45 ∷ f ∷ x)) (sym (eqb-true f 93 shut.0)) (last x shut.1))
       (λ opens. ⊎_elim
       (λ rising. let (one, above) = and_parts (is_member f) (nat_le b f) rising.0 in to_high f x (member_tests f one) above rising.1)
-      (λ none. never o c x none.1)
-      (by_next o c x (is_member f && nat_le b f) after.Range after.Foreign opens.1))
-      (by_next o c x (f == 93) after.Item _ plain)
+      (λ none. never o c k x none.1)
+      (by_next o c k x (is_member f && nat_le b f) after.Range after.Foreign opens.1))
+      (by_next o c k x (f == 93) after.Item _ plain)
 
-  member_goes_on : (b : ℕ) (z : Text) → Plain o c (after.Member b) z → MemberNext b z
+  member_goes_on : (b : ℕ) (z : Text) → Plain o c k (after.Member b) z → MemberNext b z
   unfolding next
-  member_goes_on b [] plain = absurd (true≢false (sym plain))
+  member_goes_on b [] plain = absurd (true≢false (sym plain.0))
   member_goes_on b (e ∷ y) plain = ⊎_elim
       (λ hyphen. subst (λ e. MemberNext b (e ∷ y)) (sym (eqb-true e 45 hyphen.0)) (after_hyphen_next b y hyphen.1))
       (λ other. alone e y other.0 (ranged e y other.0 other.1))
-      (by_next o c y (e == 45) (after.Hyphen b) (in_class e) plain)
+      (by_next o c k y (e == 45) (after.Hyphen b) (in_class e) plain)
 
   -- an item that a member begins
-  member_item : (n b : ℕ) (z : Text) → IsMember b → MemberNext b z → ((u : Text) → length u ≤ length z → Plain o c after.Range u → ItemsAreRead n u) → ItemsAreRead (suc n) (b ∷ z)
+  member_item : (n b : ℕ) (z : Text) → IsMember b → MemberNext b z → ((u : Text) → length u ≤ length z → Plain o c k after.Range u → ItemsAreRead n u) → ItemsAreRead (suc n) (b ∷ z)
   unfolding ItemsAreRead next
   member_item n b z one (alone e y no_hyphen plain) more =
       let (set, item) = single_is_read b e (y ++ r) one no_hyphen in
@@ -160,33 +160,33 @@ module _ (r : Text) (o c : ℕ) where
       (longer (length x) (length (b ∷ 45 ∷ high ∷ x)) (set_items default_config n (x ++ r)) (omega arith) (more x (omega arith) plain))
 
   -- after an escape or a range no range begins
-  range_front : (y : Text) → Plain o c after.Range y → begins_no_range (y ++ r) ≡ true
+  range_front : (y : Text) → Plain o c k after.Range y → begins_no_range (y ++ r) ≡ true
   unfolding next first
-  range_front [] plain = absurd (true≢false (sym plain))
+  range_front [] plain = absurd (true≢false (sym plain.0))
   range_front (f ∷ x) plain = ⊎_elim
       (λ hyphen. subst (λ f. begins_no_range (f ∷ (x ++ r)) ≡ true) (sym (eqb-true f 45 hyphen.0)) (hyphen_front x hyphen.1))
       (λ other. rw (not_empty f (x ++ r), other.0) refl)
-      (by_next o c x (f == 45) after.LastHyphen (in_class f) plain)
+      (by_next o c k x (f == 45) after.LastHyphen (in_class f) plain)
     where
-      hyphen_front : (x : Text) → Plain o c after.LastHyphen x → begins_no_range (45 ∷ (x ++ r)) ≡ true
-      hyphen_front [] plain = absurd (true≢false (sym plain))
+      hyphen_front : (x : Text) → Plain o c k after.LastHyphen x → begins_no_range (45 ∷ (x ++ r)) ≡ true
+      hyphen_front [] plain = absurd (true≢false (sym plain.0))
       hyphen_front (g ∷ w) plain = ⊎_elim
           (λ shut. subst (λ g. begins_no_range (45 ∷ g ∷ (w ++ r)) ≡ true) (sym (eqb-true g 93 shut.0)) (rw (not_empty 45 (93 ∷ (w ++ r))) refl))
-          (λ none. never o c w none.1)
-          (by_next o c w (g == 93) after.Item after.Foreign plain)
+          (λ none. never o c k w none.1)
+          (by_next o c k w (g == 93) after.Item after.Foreign plain)
 
-  escape_item : (n : ℕ) (z : Text) → Plain o c after.ClassBackslash z → ((u : Text) → length u ≤ length z → Plain o c after.Range u → ItemsAreRead n u) → ItemsAreRead (suc n) (92 ∷ z)
+  escape_item : (n : ℕ) (z : Text) → Plain o c k after.ClassBackslash z → ((u : Text) → length u ≤ length z → Plain o c k after.Range u → ItemsAreRead n u) → ItemsAreRead (suc n) (92 ∷ z)
   unfolding ItemsAreRead
-  escape_item n [] plain more = absurd (true≢false (sym plain))
+  escape_item n [] plain more = absurd (true≢false (sym plain.0))
   escape_item n (e ∷ y) plain more =
-      let (escaped, rest) = class_escape_next o c e y plain in
+      let (escaped, rest) = class_escape_next o c k e y plain in
       escape_then n (length (92 ∷ e ∷ y)) e (y ++ r) escaped (range_front y rest)
       (longer (length y) (length (92 ∷ e ∷ y)) (set_items default_config n (y ++ r)) (omega arith) (more y (omega arith) rest))
 
-  items_are_read : (n : ℕ) (u : Text) → length u < n → Plain o c after.Range u → ItemsAreRead n u
+  items_are_read : (n : ℕ) (u : Text) → length u < n → Plain o c k after.Range u → ItemsAreRead n u
   unfolding next ItemsAreRead
   items_are_read zero u short plain = absurd (omega (arith, short))
-  items_are_read (suc n) [] short plain = absurd (true≢false (sym plain))
+  items_are_read (suc n) [] short plain = absurd (true≢false (sym plain.0))
   items_are_read (suc n) (b ∷ z) short plain = ⊎_elim
       (λ hyphen. subst (λ b. ItemsAreRead (suc n) (b ∷ z)) (sym (eqb-true b 45 hyphen.0)) (hyphen_next z (λ u le more. items_are_read n u (omega (arith, short, le)) more) hyphen.1))
       (λ other. ⊎_elim
@@ -194,18 +194,18 @@ module _ (r : Text) (o c : ℕ) where
       (λ opens. ⊎_elim
       (λ one. member_item n b z one.0 (member_goes_on b z one.1) (λ u le more. items_are_read n u (omega (arith, short, le)) more))
       (λ slash. subst (λ b. ItemsAreRead (suc n) (b ∷ z)) (sym slash.0) (escape_item n z slash.1 (λ u le more. items_are_read n u (omega (arith, short, le)) more)))
-      (member_next o c b z opens.1))
-      (by_next o c z (b == 93) after.Item (member_or_escape b) other.1))
-      (by_next o c z (b == 45) after.LastHyphen (in_class b) plain)
+      (member_next o c k b z opens.1))
+      (by_next o c k z (b == 93) after.Item (member_or_escape b) other.1))
+      (by_next o c k z (b == 45) after.LastHyphen (in_class b) plain)
     where
-      hyphen_next : (z : Text) → ((u : Text) → length u ≤ length z → Plain o c after.Range u → ItemsAreRead n u) → Plain o c after.LastHyphen z → ItemsAreRead (suc n) (45 ∷ z)
-      hyphen_next [] more plain = absurd (true≢false (sym plain))
+      hyphen_next : (z : Text) → ((u : Text) → length u ≤ length z → Plain o c k after.Range u → ItemsAreRead n u) → Plain o c k after.LastHyphen z → ItemsAreRead (suc n) (45 ∷ z)
+      hyphen_next [] more plain = absurd (true≢false (sym plain.0))
       hyphen_next (e ∷ y) more plain = ⊎_elim
           (λ shut. subst (λ e. ItemsAreRead (suc n) (45 ∷ e ∷ y)) (sym (eqb-true e 93 shut.0))
           (hyphen_then n (length (45 ∷ 93 ∷ y)) (y ++ r)
           (longer (length (93 ∷ y)) (length (45 ∷ 93 ∷ y)) (set_items default_config n (93 ∷ (y ++ r))) (omega arith) (more (93 ∷ y) (omega arith) shut.1))))
-          (λ none. never o c y none.1)
-          (by_next o c y (e == 93) after.Item after.Foreign plain)
+          (λ none. never o c k y none.1)
+          (by_next o c k y (e == 93) after.Item after.Foreign plain)
 
   -- ---- the front of a class
 
@@ -216,7 +216,7 @@ module _ (r : Text) (o c : ℕ) where
     inside : Text
     is : bracket_start default_config (z ++ r) ≡ (negated, leading, inside ++ r)
     leads : (leading ≡ []) ⊎ (leading ≡ 45 ∷ [])
-    plain : Plain o c after.Range inside
+    plain : Plain o c k after.Range inside
     short : length inside ≤ length z
 
   -- a byte that an item begins with
@@ -225,34 +225,34 @@ module _ (r : Text) (o c : ℕ) where
     hyphen : (b == 45) ≡ false
     closes : (b == 93) ≡ false
 
-  begins_item : (b : ℕ) (x : Text) → Plain o c (member_or_escape b) x → BeginsItem b
+  begins_item : (b : ℕ) (x : Text) → Plain o c k (member_or_escape b) x → BeginsItem b
   begins_item b x plain = ⊎_elim
       (λ one. record { negates = one.0.negates; hyphen = one.0.hyphen; closes = one.0.closes })
       (λ slash. subst BeginsItem (sym slash.0) (record { negates = refl; hyphen = refl; closes = refl }))
-      (member_next o c b x plain)
+      (member_next o c k b x plain)
 
   -- what comes after the caret, if there is one
   data FirstItem : Text → Type 0 where
-    by_member : (b : ℕ) (x : Text) → BeginsItem b → Plain o c after.Range (b ∷ x) → FirstItem (b ∷ x)
-    by_hyphen : (e : ℕ) (x : Text) → (e == 45) ≡ false → Plain o c after.Range (e ∷ x) → FirstItem (45 ∷ e ∷ x)
+    by_member : (b : ℕ) (x : Text) → BeginsItem b → Plain o c k after.Range (b ∷ x) → FirstItem (b ∷ x)
+    by_hyphen : (e : ℕ) (x : Text) → (e == 45) ≡ false → Plain o c k after.Range (e ∷ x) → FirstItem (45 ∷ e ∷ x)
 
-  no_hyphen_in : (e : ℕ) (x : Text) → Plain o c (in_class e) x → (e == 45) ≡ false
+  no_hyphen_in : (e : ℕ) (x : Text) → Plain o c k (in_class e) x → (e == 45) ≡ false
   no_hyphen_in e x plain = ⊎_elim
       (λ shut. ap (λ e. e == 45) (eqb-true e 93 shut.0))
       (λ opens. (begins_item e x opens.1).hyphen)
-      (by_next o c x (e == 93) after.Item (member_or_escape e) plain)
+      (by_next o c k x (e == 93) after.Item (member_or_escape e) plain)
 
-  first_hyphen : (y : Text) → Plain o c after.FirstHyphen y → FirstItem (45 ∷ y)
+  first_hyphen : (y : Text) → Plain o c k after.FirstHyphen y → FirstItem (45 ∷ y)
   unfolding next
-  first_hyphen [] plain = absurd (true≢false (sym plain))
+  first_hyphen [] plain = absurd (true≢false (sym plain.0))
   first_hyphen (e ∷ x) plain = let no_hyphen = no_hyphen_in e x plain in by_hyphen e x no_hyphen (ranged e x no_hyphen plain)
 
-  first_item : (b : ℕ) (x : Text) → Plain o c (first_in_class b) x → FirstItem (b ∷ x)
+  first_item : (b : ℕ) (x : Text) → Plain o c k (first_in_class b) x → FirstItem (b ∷ x)
   unfolding next
   first_item b x plain = ⊎_elim
       (λ hyphen. subst (λ b. FirstItem (b ∷ x)) (sym (eqb-true b 45 hyphen.0)) (first_hyphen x hyphen.1))
-      (λ other. let one = begins_item b x other.1 in by_member b x one (ranged b x one.hyphen (subst (λ shut. Plain o c (if shut then after.Item else member_or_escape b) x) (sym one.closes) other.1)))
-      (by_next o c x (b == 45) after.FirstHyphen (member_or_escape b) plain)
+      (λ other. let one = begins_item b x other.1 in by_member b x one (ranged b x one.hyphen (subst (λ shut. Plain o c k (if shut then after.Item else member_or_escape b) x) (sym one.closes) other.1)))
+      (by_next o c k x (b == 45) after.FirstHyphen (member_or_escape b) plain)
 
   front : (y : Text) → FirstItem y → Front y
   unfolding grammar
@@ -296,16 +296,16 @@ module _ (r : Text) (o c : ℕ) where
     short = omega arith;
   }
 
-  class_front : (z : Text) → Plain o c after.Bracket z → Front z
+  class_front : (z : Text) → Plain o c k after.Bracket z → Front z
   unfolding next
-  class_front [] plain = absurd (true≢false (sym plain))
+  class_front [] plain = absurd (true≢false (sym plain.0))
   class_front (b ∷ y) plain = ⊎_elim
       (λ caret. subst (λ b. Front (b ∷ y)) (sym (eqb-true b 94 caret.0)) (after_caret y caret.1))
       (λ other. front (b ∷ y) (first_item b y other.1))
-      (by_next o c y (b == 94) after.Caret (first_in_class b) plain)
+      (by_next o c k y (b == 94) after.Caret (first_in_class b) plain)
     where
-      after_caret : (y : Text) → Plain o c after.Caret y → Front (94 ∷ y)
-      after_caret [] plain = absurd (true≢false (sym plain))
+      after_caret : (y : Text) → Plain o c k after.Caret y → Front (94 ∷ y)
+      after_caret [] plain = absurd (true≢false (sym plain.0))
       after_caret (b ∷ x) plain = negated_front (b ∷ x) (first_item b x plain)
 
   -- ---- a class
@@ -328,11 +328,12 @@ module _ (r : Text) (o c : ℕ) where
   class_atom read = Some (record { value = one_of default_config read.0.value; depth = read.0.depth }, read.1)
 
   class_of : (m most : ℕ) (negated : Bool) (leading : Text) (found : Option (List (Nested Set) × Text)) → (leading ≡ []) ⊎ (leading ≡ 45 ∷ []) → IsSomeAnd found (Items most)
-      → IsSomeAnd ((unite (leading_parts leading) found >>= λ (left, more). operations default_config (suc m) left more >>= closed_class negated) >>= class_atom) (AtomRead r o c most)
+      → IsSomeAnd ((unite (leading_parts leading) found >>= λ (left, more). operations default_config (suc m) left more >>= closed_class negated) >>= class_atom) (AtomRead r o c k most)
   unfolding grammar Items
   class_of m most negated leading None leads h = absurd h
   class_of m most negated leading (Some (parts, t)) leads h = rw h.1.is (record {
     shallow = omega (arith, united leading parts leads h.0);
+    light = refl;
     rest = h.1.rest;
     is = refl;
     plain = h.1.plain;
@@ -342,7 +343,7 @@ module _ (r : Text) (o c : ℕ) where
   enough : (n : ℕ) → 2 * suc n + 1 ≡ suc (suc (suc (2 * n)))
   enough n = omega arith
 
-  pub class_is_read : (z : Text) → Plain o c after.Bracket z → IsSomeAnd (atom default_config (91 ∷ (z ++ r))) (AtomRead r o c (length z))
+  pub class_is_read : (z : Text) → Plain o c k after.Bracket z → IsSomeAnd (atom default_config (91 ∷ (z ++ r))) (AtomRead r o c k (length z))
   unfolding grammar leading_parts ItemsAreRead
   class_is_read z plain =
       let start = class_front z plain in

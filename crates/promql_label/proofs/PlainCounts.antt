@@ -1,6 +1,6 @@
 -- The grammar of `regex` reads the counts of plain patterns.
-use Rattle.std.proofs.Common.{◌≡◌, ◌⊎◌, ℕ, zero, suc, ◌+◌, ◌*◌, ◌^◌, ◌<◌, ◌≤◌, Bool, true, false, ◌==◌, [], ◌∷◌, ◌++◌, length, length-append, append_assoc, Option, Some, None, nat_lt, nat_le, fold, refl, sym, ap, ◌∙◌, subst, inl, inr, ⊎_elim, arith, true≢false}
-use Rattle.std.proofs.lemmas.Bool.{and_from, and_parts, le-leb, lt-ltb}
+use Rattle.std.proofs.Common.{◌≡◌, ◌⊎◌, ℕ, zero, suc, ◌+◌, ◌*◌, ◌^◌, ◌<◌, ◌≤◌, Bool, true, false, ◌==◌, [], ◌∷◌, ◌++◌, length, length-append, append_assoc, Option, Some, None, nat_lt, nat_le, fold, unwrap_or, refl, sym, ap, ◌∙◌, subst, inl, inr, ⊎_elim, arith, true≢false}
+use Rattle.std.proofs.lemmas.Bool.{and_from, and_parts, le-leb, leb-true, lt-ltb}
 use Rattle.std.proofs.lemmas.Bool.Decides.{nat_tests}
 use Rattle.std.specs.Char.{digit_value, is_ascii_digit, is_digit, is_whitespace}
 use Rattle.std.specs.List.{list_all}
@@ -13,7 +13,7 @@ use Rattle.promql_label.specs.declared.plain.After.{After}
 use Rattle.promql_label.specs.declared.plain.After.TheVariants as after
 use Rattle.promql_label.specs.PlainPatterns.{digit_of}
 use Rattle.promql_label.proofs.PlainAtoms.{not_empty}
-use Rattle.promql_label.proofs.PlainScans.{Plain, brace_goes_on, comma_goes_on, least_goes_on, most_goes_on}
+use Rattle.promql_label.proofs.PlainScans.{CountEnds, Plain, brace_goes_on, comma_goes_on, least_goes_on, most_goes_on}
 
 -- ---- numbers
 
@@ -80,11 +80,11 @@ record Number (Done : ℕ → ℕ → Text → Type 0) (n : ℕ) (t : Text) : Ty
   ends : Ends mark
   done : Done (number_after n digits) mark rest
 
-module _ (o c : ℕ) (mk : ℕ → After) (Done : ℕ → ℕ → Text → Type 0)
-    (step : (n b : ℕ) (z : Text) → Plain o c (mk n) (b ∷ z)
-    → (Ends b × Done n b z) ⊎ ((is_ascii_digit b ≡ true) × (n < 100) × Plain o c (mk (10 * n + digit_of b)) z))
-    (unended : (n : ℕ) → Plain o c (mk n) [] → ⊥) where
-  number_of : (n : ℕ) (t : Text) → n < 1000 → Plain o c (mk n) t → Number Done n t
+module _ (o c f : ℕ) (mk : ℕ → After) (Done : ℕ → ℕ → Text → Type 0)
+    (step : (n b : ℕ) (z : Text) → Plain o c f (mk n) (b ∷ z)
+    → (Ends b × Done n b z) ⊎ ((is_ascii_digit b ≡ true) × (n < 100) × Plain o c f (mk (10 * n + digit_of b)) z))
+    (unended : (n : ℕ) → Plain o c f (mk n) [] → ⊥) where
+  number_of : (n : ℕ) (t : Text) → n < 1000 → Plain o c f (mk n) t → Number Done n t
   number_of n [] small plain = absurd (unended n plain)
   number_of n (b ∷ z) small plain = ⊎_elim
       (λ end. record { digits = []; mark = b; rest = z; is = refl; all = refl; small = small; ends = end.0; done = end.1 })
@@ -110,39 +110,42 @@ module _ (o c : ℕ) (mk : ℕ → After) (Done : ℕ → ℕ → Text → Type 
 
 -- ---- a count
 
-module _ (r : Text) (o c : ℕ) where
+module _ (r : Text) (o c f : ℕ) where
   -- a count is read from after its brace up to a text that goes on after a repetition
   pub record CountRead (most : ℕ) (t : Text) : Type 0 where
     pub least : ℕ
     pub greatest : Option ℕ
     pub rest : Text
+    pub left : ℕ
     pub is : counted_bounds default_config t ≡ Some (least, greatest, rest ++ r)
-    pub plain : Plain o c after.Repetition rest
+    pub repeats : f ≡ (1 + unwrap_or greatest least) * left
+    pub rising : least ≤ unwrap_or greatest least
+    pub plain : Plain o c left after.Repetition rest
     pub short : length rest ≤ most
 
   DoneMost : ℕ → ℕ → ℕ → Text → Type 0
-  DoneMost least n x z = (x ≡ 125) × (nat_le least n ≡ true) × Plain o c after.Repetition z
+  DoneMost least n x z = (x ≡ 125) × (nat_le least n ≡ true) × CountEnds o c f n after.Repetition z
 
   DoneLeast : ℕ → ℕ → Text → Type 0
-  DoneLeast n x z = ((x ≡ 125) × Plain o c after.Repetition z) ⊎ ((x ≡ 44) × Plain o c (after.Comma n) z)
+  DoneLeast n x z = ((x ≡ 125) × CountEnds o c f n after.Repetition z) ⊎ ((x ≡ 44) × Plain o c f (after.Comma n) z)
 
-  most_number : (least n : ℕ) (t : Text) → n < 1000 → Plain o c (after.Most least n) t → Number (DoneMost least) n t
+  most_number : (least n : ℕ) (t : Text) → n < 1000 → Plain o c f (after.Most least n) t → Number (DoneMost least) n t
   unfolding DoneMost
-  most_number least = number_of o c (after.Most least) (DoneMost least)
-      (λ n b z plain. ⊎_elim (λ end. inl (subst Ends (sym end.0) brace_ends, (end.0, end.1, end.2))) (λ more. inr more) (most_goes_on o c least n b z plain))
-      (λ n plain. true≢false (sym plain))
+  most_number least = number_of o c f (after.Most least) (DoneMost least)
+      (λ n b z plain. ⊎_elim (λ end. inl (subst Ends (sym end.0) brace_ends, (end.0, end.1, end.2))) (λ more. inr more) (most_goes_on o c f least n b z plain))
+      (λ n plain. true≢false (sym plain.0))
 
-  least_number : (n : ℕ) (t : Text) → n < 1000 → Plain o c (after.Least n) t → Number DoneLeast n t
+  least_number : (n : ℕ) (t : Text) → n < 1000 → Plain o c f (after.Least n) t → Number DoneLeast n t
   unfolding DoneLeast
-  least_number = number_of o c after.Least DoneLeast
+  least_number = number_of o c f after.Least DoneLeast
       (λ n b z plain. ⊎_elim
       (λ end. inl (subst Ends (sym end.0) brace_ends, inl (end.0, end.1)))
       (λ other. ⊎_elim
       (λ comma. inl (subst Ends (sym comma.0) comma_ends, inr (comma.0, comma.1)))
       (λ more. inr more)
       other)
-      (least_goes_on o c n b z plain))
-      (λ n plain. true≢false (sym plain))
+      (least_goes_on o c f n b z plain))
+      (λ n plain. true≢false (sym plain.0))
 
   -- the digits of a number and what follows, before r
   split : (digits rest t : Text) (x : ℕ) → t ≡ digits ++ x ∷ rest → t ++ r ≡ digits ++ x ∷ (rest ++ r)
@@ -172,31 +175,34 @@ module _ (r : Text) (o c : ℕ) where
     least : ℕ
     least = number_after (digit_of d) ds
 
-    after_comma_next : (y : Text) → Plain o c (after.Comma least) y → CountRead (length y) (d ∷ (ds ++ 44 ∷ (y ++ r)))
+    after_comma_next : (y : Text) → Plain o c f (after.Comma least) y → CountRead (length y) (d ∷ (ds ++ 44 ∷ (y ++ r)))
     unfolding least DoneMost
-    after_comma_next [] plain = absurd (true≢false (sym plain))
+    after_comma_next [] plain = absurd (true≢false (sym plain.0))
     after_comma_next (e ∷ y) plain = ⊎_elim
         (λ end. subst (λ e. CountRead (length (e ∷ y)) (d ∷ (ds ++ 44 ∷ e ∷ (y ++ r)))) (sym end.0)
-        (record { least = least; greatest = None; rest = y; is = least_alone d ds (y ++ r) one all small; plain = end.1; short = omega arith }))
+        (record { least = least; greatest = None; rest = y; left = end.1.left; is = least_alone d ds (y ++ r) one all small; repeats = end.1.is; rising = omega arith; plain = end.1.plain; short = omega arith }))
         (λ digit.
         let number = most_number least (digit_of e) y (omega (arith, digit_below_ten e digit.1)) digit.2 in
         record {
           least = least;
           greatest = Some (number_after (digit_of e) number.digits);
           rest = number.rest;
+          left = number.done.2.left;
           is = ap (λ t. counted_bounds default_config (d ∷ (ds ++ 44 ∷ e ∷ t))) (split number.digits number.rest y number.mark number.is)
               ∙ ap (λ x. counted_bounds default_config (d ∷ (ds ++ 44 ∷ e ∷ (number.digits ++ x ∷ (number.rest ++ r))))) number.done.0
               ∙ two_numbers d e ds number.digits (number.rest ++ r) one all small digit.1 number.all number.small digit.0 number.done.1;
-          plain = number.done.2;
+          repeats = number.done.2.is;
+          rising = leb-true least (number_after (digit_of e) number.digits) number.done.1;
+          plain = number.done.2.plain;
           short = omega (arith, ap length number.is, length-append number.digits (number.mark ∷ number.rest));
         })
-        (comma_goes_on o c least e y plain)
+        (comma_goes_on o c f least e y plain)
 
-  pub count_is_read : (y : Text) → Plain o c after.Brace y → CountRead (length y) (y ++ r)
+  pub count_is_read : (y : Text) → Plain o c f after.Brace y → CountRead (length y) (y ++ r)
   unfolding DoneLeast least
-  count_is_read [] plain = absurd (true≢false (sym plain))
+  count_is_read [] plain = absurd (true≢false (sym plain.0))
   count_is_read (d ∷ y) plain =
-      let (one, inside) = brace_goes_on o c d y plain in
+      let (one, inside) = brace_goes_on o c f d y plain in
       from_number one (least_number (digit_of d) y (omega (arith, digit_below_ten d one)) inside)
     where
       from_number : is_ascii_digit d ≡ true → Number DoneLeast (digit_of d) y → CountRead (length (d ∷ y)) (d ∷ (y ++ r))
@@ -205,8 +211,11 @@ module _ (r : Text) (o c : ℕ) where
             least = number_after (digit_of d) number.digits;
             greatest = Some (number_after (digit_of d) number.digits);
             rest = number.rest;
+            left = end.1.left;
             is = exact d number.digits (number.rest ++ r) one number.all number.small;
-            plain = end.1;
+            repeats = end.1.is;
+            rising = omega arith;
+            plain = end.1.plain;
             short = shorter;
           }))
           (λ comma. subst (λ x. CountRead (length (d ∷ y)) (d ∷ (number.digits ++ x ∷ (number.rest ++ r)))) (sym comma.0)
@@ -217,4 +226,4 @@ module _ (r : Text) (o c : ℕ) where
           shorter = omega (arith, ap length number.is, length-append number.digits (number.mark ∷ number.rest))
 
           longer : {t : Text} → CountRead (length number.rest) t → CountRead (length (d ∷ y)) t
-          longer read = record { least = read.least; greatest = read.greatest; rest = read.rest; is = read.is; plain = read.plain; short = omega (arith, shorter, read.short) }
+          longer read = record { least = read.least; greatest = read.greatest; rest = read.rest; left = read.left; is = read.is; repeats = read.repeats; rising = read.rising; plain = read.plain; short = omega (arith, shorter, read.short) }

@@ -1,5 +1,6 @@
 -- Which patterns are small (docs/reference/matchers.md, "Small patterns").
 use Rattle.std.specs.Prelude.{ℕ, ◌+◌, ◌*◌, Bool, ◌==◌, ◌&&◌, if◌then◌else◌, [], ◌∷◌, length, nat_le}
+use Rattle.regex.specs.Patterns.{Re}
 use Rattle.promql_text.specs.Bytes.{right_brace}
 use Rattle.promql_text.specs.Texts.{Text}
 use Rattle.promql_label.specs.declared.plain.After.{After}
@@ -22,6 +23,15 @@ repeats_from scan (b ∷ z) = times scan.after b (repeats_from (next scan b) z)
 -- the bytes of the anchored text, so often
 abbrev pub size : Text → ℕ
 size v = (length v + 6) * repeats_from start v
+
+-- what the grammar reads weighs as many bytes, classes and assertions as it has, each as often as it is repeated
+abbrev pub weight : Re → ℕ
+weight Re.empty = 0
+weight (Re.cat a b) = weight a + weight b
+weight (Re.alt a b) = weight a + weight b
+weight (Re.group n a) = weight a
+weight (Re.plus greedy a) = weight a
+weight _ = 1
 
 -- "Small patterns"
 abbrev pub is_small : Text → Bool

@@ -1,13 +1,16 @@
 //! Laws on the definitions alone. Each is the contract of a function that does nothing.
 
-ghost use Rattle.std.specs.Prelude.{◌≡◌, ◌≢◌, ◌↔◌, ◌<◌, ◌++◌, ℕ, [], List, IsTrue, Ok, Some, codes, false, length, map, true};
+ghost use Rattle.regex.specs.Patterns.{default_config};
+ghost use Rattle.regex_syntax.specs.Grammar.{read};
+ghost use Rattle.std.specs.Prelude.{◌≡◌, ◌≢◌, ◌↔◌, ◌<◌, ◌≤◌, ◌++◌, ℕ, [], List, IsSomeAnd, IsTrue, Ok, Some, chars, codes, false, length, map, true};
 ghost use Rattle.std.specs.List.{list_any, AllPairs, Contains};
 ghost use Rattle.promql_text.specs.Texts.{Text};
-ghost use Rattle.promql_label.specs.Answers.{Allows, Answer, has_one_answer, IsReadPair, pattern_answer};
+ghost use Rattle.promql_label.specs.Answers.{Allows, anchor, Answer, has_one_answer, IsReadPair, pattern_answer};
 ghost use Rattle.promql_label.specs.Labels.{common, is_among, is_number_word, label_text, labels_of};
 ghost use Rattle.promql_label.specs.LabelLaws.{first_index, label_of};
 ghost use Rattle.promql_label.specs.MatcherRows.{WorkedLists};
 ghost use Rattle.promql_label.specs.Operators.{IsMatcherOf};
+ghost use Rattle.promql_label.specs.PatternSize.{size, weight};
 ghost use Rattle.promql_label.specs.PlainPatterns.{is_plain};
 ghost use Rattle.promql_label.specs.PlainMatchers.{PlainMatcher, PlainMatchers, matcher_text, matchers_text, name_text};
 ghost use Rattle.promql_label.specs.ReadMatchers.{Parts, Token, inside, matchers_tokens, parts_of, printed_groups, read_groups, sorted_matchers};
@@ -141,6 +144,14 @@ pub fn small_patterns_have_one_answer()
 /// Plain patterns are read, by themselves and anchored.
 pub fn plain_patterns_are_read()
     ensures { (v : Text) → is_plain v ≡ true → IsReadPair v }
+{}
+
+/// What the grammar reads in a plain pattern, by itself and anchored, weighs no more than the pattern's size.
+pub fn plain_patterns_weigh_their_size_at_most()
+    ensures alone { (v : Text) → is_plain v ≡ true
+        → IsSomeAnd (read default_config (chars v)) (λ p. weight p.0.value ≤ size v) }
+    ensures anchored { (v : Text) → is_plain v ≡ true
+        → IsSomeAnd (read default_config (chars (anchor v))) (λ p. weight p.0.value ≤ size v) }
 {}
 
 /// What is fed to a hasher: of labels their texts, of matchers their operators, names and values, of a
