@@ -308,6 +308,23 @@ fn prints_in_byte_order(rt: HostRuntime) -> Result<(), Fail> {
     Ok(())
 }
 
+/// Whether so many pairs of `b` and `a` can be sorted.
+fn sorts(alloc: Global, pairs: usize) -> Result<bool, AllocError> {
+    let mut list = Matchers::empty(alloc);
+    for _ in 0..pairs {
+        list = grown(alloc, list, &[("and", "b", "1"), ("and", "a", "1")])?;
+    }
+    Ok(list.sort().is_ok())
+}
+
+#[test]
+fn lists_of_all_sizes_are_sorted(rt: HostRuntime) -> Result<(), Fail> {
+    for pairs in &[0, 1, 10, 11, 17, 129, 4_097] {
+        is_so(&rt, sorts(rt.alloc(), *pairs), "pairs")?;
+    }
+    Ok(())
+}
+
 /// `a=~"1"`, `a="1"` and `a!="1"`.
 fn of_each_operator(alloc: Global) -> Result<Matchers, Fail> {
     let list = grown(alloc, one_pattern(alloc, "a", "1")?, &[("and", "a", "1")])?;

@@ -1,9 +1,5 @@
 //! The texts of ids, and the keywords.
 
-ghost use Rattle.std.specs.Prelude.{◌≡◌, map};
-ghost use Rattle.promql_part_vectors.specs.Tables as tables;
-ghost use Rattle.promql_token.specs.Ids.{keywords};
-
 use crate::tests::{holds, is_so, prints};
 use promql_token::ids::*;
 use promql_token::{TokenType, get_keyword_token, lexer, token_display};
@@ -178,14 +174,8 @@ fn keywords_are_read_in_any_case(rt: HostRuntime) -> Result<(), Fail> {
     Ok(())
 }
 
-/// The table has the keywords of docs/reference/tokens.md, and no other word.
-fn has_these_keywords()
-    ensures { map (λ row. row.0) keywords ≡ tables.keywords }
-{}
-
 #[test]
 fn keywords_are_found_in_lower_case(rt: HostRuntime) {
-    has_these_keywords();
     for (lower, upper, _mixed, id) in &SPELLINGS {
         holds(&rt, get_keyword_token(lower) == Some(*id), lower);
         holds(&rt, get_keyword_token(upper).is_none(), upper);

@@ -406,6 +406,23 @@ fn texts_have_their_tokens(rt: HostRuntime) {
     }
 }
 
+/// Whether a text of so many words has so many tokens.
+fn has_words(alloc: Global, words: usize) -> Result<bool, AllocError> {
+    let text = "ab ".repeat(alloc, words)?;
+    match lexer(alloc, text.as_str()) {
+        Ok(found) => Ok(found.len().checked_sub(1) == Some(words)),
+        Err(_) => Ok(false),
+    }
+}
+
+#[test]
+fn texts_of_all_sizes_have_their_tokens(rt: HostRuntime) -> Result<(), Fail> {
+    for words in &[0, 1, 2, 17, 101, 300, 1_001, 4_097, 65_537] {
+        is_so(&rt, has_words(rt.alloc(), *words), "words")?;
+    }
+    Ok(())
+}
+
 // Texts without a fault, to come before one that has one.
 const BEFORE: [&str; 3] = ["", "'é' ", "`😀`\n"];
 

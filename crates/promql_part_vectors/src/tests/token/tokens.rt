@@ -1,6 +1,6 @@
 //! Tokens and their types, and which texts are labels.
 
-use crate::tests::holds;
+use crate::tests::{holds, is_so};
 use promql_token::ids::*;
 use promql_token::{Token, TokenType, is_label};
 use std::alloc::{AllocError, Global};
@@ -30,11 +30,20 @@ fn tokens_compare(rt: HostRuntime) -> Result<(), Fail> {
     Ok(())
 }
 
+// Texts of tokens, and how many times each.
+const COPIED: [(&str, usize); 5] = [("", 1), ("a", 1), ("'é'", 1), ("a", 1_001), ("é", 65_537)];
+
+/// Whether a copy of the token of this text is the same.
+fn is_copied(alloc: Global, text: &str, times: usize) -> Result<bool, AllocError> {
+    let one = Token::new(T_STRING, text.repeat(alloc, times)?);
+    Ok(is_equal(&one, one.try_clone(alloc)) && one.id() == T_STRING)
+}
+
 #[test]
 fn tokens_have_copies(rt: HostRuntime) -> Result<(), Fail> {
-    let one = token(rt.alloc(), T_STRING, "'é'")?;
-    holds(&rt, is_equal(&one, one.try_clone(rt.alloc())), "a copy");
-    holds(&rt, one.id() == T_STRING, "its id");
+    for (text, times) in &COPIED {
+        is_so(&rt, is_copied(rt.alloc(), text, *times), text)?;
+    }
     Ok(())
 }
 
