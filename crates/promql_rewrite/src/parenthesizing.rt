@@ -1,18 +1,16 @@
 //! Parentheses where the text of a tree needs them: docs/guide/rewriting.md, "Parentheses".
 
 ghost use Rattle.std.specs.Prelude.{◌≡◌, IfOk, OnOk, map};
-ghost use Rattle.promql_grammar.specs.Grammar as grammar;
 ghost use Rattle.promql_ast.specs.Tree.{paren};
 ghost use Rattle.promql_ast.specs.View.{aggregate_tree, binary_tree, call_tree, extension_tree, subquery_tree, tree_of, unary_tree};
 ghost use Rattle.promql_rewrite.specs.Parenthesizing as spec;
 ghost use Rattle.promql_rewrite.specs.PrintableTrees as printable;
 
 use promql_ast::{AggregateExpr, BinaryExpr, Call, Expr, Extension, SubqueryExpr, UnaryExpr};
+use promql_grammar::precedence::precedence;
 use promql_text::Number;
 use promql_token::TokenId;
-use promql_token::ids::{
-    T_ADD, T_EQLC, T_GTE, T_GTR, T_LAND, T_LOR, T_LSS, T_LTE, T_LUNLESS, T_NEQ, T_POW, T_SUB,
-};
+use promql_token::ids::T_POW;
 use std::alloc::{AllocError, Global};
 use std::mem;
 
@@ -280,19 +278,5 @@ fn openness(expr: &Expr) -> usize
         Expr::MatrixSelector(_) => CLOSED,
         Expr::Call(_) => CLOSED,
         Expr::Extension(_) => CLOSED,
-    }
-}
-
-/// How tightly the operator binds.
-fn precedence(op: TokenId) -> usize
-    ensures { result ≡ grammar.precedence op }
-{
-    match op {
-        T_POW => 6,
-        T_LOR => 1,
-        T_LAND | T_LUNLESS => 2,
-        T_EQLC | T_NEQ | T_LTE | T_LSS | T_GTE | T_GTR => 3,
-        T_ADD | T_SUB => 4,
-        _ => 5,
     }
 }
