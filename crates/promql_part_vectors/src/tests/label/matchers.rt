@@ -372,3 +372,29 @@ fn prints_empty_groups(rt: HostRuntime) -> Result<(), Fail> {
     let groups = Matchers::empty(alloc).with_or_matchers(empty);
     prints(&rt, groups.to_string(alloc), " or ")
 }
+
+/// A pattern beside two groups of a pattern, of which the last has this value.
+fn patterns_in_groups(alloc: Global, last: &str) -> Result<Matchers, Fail> {
+    let first = vec![in alloc; pattern(alloc, "b", "x*|y")?]?;
+    let last = vec![in alloc; pattern(alloc, "c", last)?]?;
+    let groups = vec![in alloc; first, last]?;
+    Ok(one_pattern(alloc, "a", "1*")?.with_or_matchers(groups))
+}
+
+/// Whether the patterns match the empty text once they are prepared, twice, and are the same.
+fn is_prepared_empty(alloc: Global, last: &str) -> Result<bool, Fail> {
+    let mut list = patterns_in_groups(alloc, last)?;
+    list.prepare(alloc)?;
+    list.prepare(alloc)?;
+    let is_empty = list.is_empty_matchers(alloc)?;
+    Ok(is_empty && list == patterns_in_groups(alloc, last)?)
+}
+
+#[test]
+fn prepared_groups_match(rt: HostRuntime) -> Result<(), Fail> {
+    for (last, want) in &[(".{0,3}", true), ("z", false), ("(?i)z{ 0 }", true)] {
+        let found = is_prepared_empty(rt.alloc(), last)?;
+        holds(&rt, found == *want, last);
+    }
+    Ok(())
+}

@@ -6,7 +6,7 @@ use std::alloc::{AllocError, Global};
 use std::test::Fail;
 
 // A pattern, and what is built of it.
-const BUILT: [(&str, &str); 12] = [
+const BUILT: [(&str, &str); 15] = [
     ("", "^(?:)$"),
     ("abc.*", "^(?:abc.*)$"),
     ("a|b", "^(?:a|b)$"),
@@ -19,6 +19,9 @@ const BUILT: [(&str, &str); 12] = [
     ("[{]", "^(?:[{])$"),
     (r"\b{start}x", r"^(?:\b{start}x)$"),
     (r"\w{2}{", r"^(?:\w{2}\{)$"),
+    ("a{ 3 }", "^(?:a{ 3 })$"),
+    ("a{ 99999999 }", r"^(?:a\{ 99999999 })$"),
+    (r"(?x)a{9 9 9 9 9 9 9 9}", r"^(?:(?x)a\{9 9 9 9 9 9 9 9})$"),
 ];
 
 #[test]
@@ -165,7 +168,7 @@ fn a_rejected_pattern_or_out_of_memory(rt: HostRuntime) {
 }
 
 // A pattern, a text, and whether it matches.
-const MATCHED: [(&str, &str, bool); 13] = [
+const MATCHED: [(&str, &str, bool); 15] = [
     ("abc.*", "abc123", true),
     ("abc.*", "xabc123", false),
     ("", "", true),
@@ -179,6 +182,8 @@ const MATCHED: [(&str, &str, bool); 13] = [
     (".", "é", true),
     ("é", "e", false),
     ("x{y}", "x{y}", true),
+    ("a{ 3 }", "aaa", true),
+    ("a{ 99999999 }", "a{ 99999999 }", true),
 ];
 
 /// The matcher of a pattern.
@@ -201,15 +206,18 @@ fn patterns_match_whole_texts(rt: HostRuntime) -> Result<(), Fail> {
     Ok(())
 }
 
-/// Small patterns that take as much to compile as any: a piece so many times, the middle, and another piece as often; then
+/// Patterns that take as much to compile as any small one: a piece so many times, the middle, and another piece as often; then
 /// a text that it matches, a piece so many times.
-const DENSE: [(&str, usize, &str, &str, &str, usize); 8] = [
+const DENSE: [(&str, usize, &str, &str, &str, usize); 11] = [
     (r"\w", 497, "", "", "é", 497),
     (r"\pL", 331, "", "", "é", 331),
     (r"\PL", 331, "", "", "1", 331),
     ("(?i)k", 198, "", "", "K", 198),
     ("[^a]", 248, "", "", "é", 248),
     (r"\w{82}", 1, "", "", "a", 82),
+    (r"\W", 497, "", "", "-", 497),
+    (r"[^\d]", 198, "", "", "é", 198),
+    (r"\w{0,70}", 1, "", "", "é", 70),
     (r"(\w{7}){6}", 1, "", "", "a", 42),
     ("(", 200, "a", ")", "a", 1),
 ];
