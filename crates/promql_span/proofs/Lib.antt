@@ -1,3 +1,4 @@
+pub mod EscapeSteps
 pub mod Covered
 pub mod LineParts
 pub mod OrderedTokens

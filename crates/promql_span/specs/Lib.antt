@@ -1,3 +1,4 @@
+pub mod ByteEscapes
 pub mod CharSpans
 pub mod PlacedTokens
 pub mod Snippets

@@ -2,6 +2,7 @@
 use Rattle.std.specs.Prelude.{ℕ, ◌+◌, ◌-◌, Bool, ◌==◌, ◌||◌, nat_lt, if◌then◌else◌, [], ◌∷◌, ◌++◌, length}
 use Rattle.std.specs.Char.{len_utf8}
 use Rattle.std.specs.Fmt.{decimal}
+use Rattle.std.specs.Str.{chars}
 use Rattle.std.specs.List.{count_by, list_any, sum_by}
 use Rattle.promql_text.specs.Bytes.{colon, line_feed}
 use Rattle.promql_text.specs.Texts.{Text}
@@ -32,6 +33,9 @@ column_of cs offset = 1 + length (last_line (characters_before cs offset))
 
 abbrev pub column_utf16_of : Text → ℕ → ℕ
 column_utf16_of cs offset = 1 + sum_by len_utf16 (last_line (characters_before cs offset))
+
+abbrev pub location_at : Text → ℕ → Location
+location_at s offset = record { line = line_of (chars s) offset; column = column_of (chars s) offset }
 
 -- the line, a colon, the column
 abbrev pub location_text : Location → Text

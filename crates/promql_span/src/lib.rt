@@ -3,6 +3,7 @@
 #![tactic(auto)]
 
 mod argument;
+mod byte_escapes;
 pub mod diagnosis;
 pub mod laws;
 mod location;
@@ -11,6 +12,7 @@ mod places;
 mod snippets;
 mod span;
 
+pub use byte_escapes::byte_escape;
 pub use location::Location;
 pub use placed::PlacedTokens;
 pub use places::{argument_span, char_span, end_of_text, span_between, token_left};

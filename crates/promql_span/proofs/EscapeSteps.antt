@@ -1,0 +1,54 @@
+-- The first escape of a text, byte by byte.
+use Rattle.std.proofs.Common.{◌≡◌, ℕ, ◌+◌, ◌≤◌, Bool, true, false, not, ◌&&◌, ◌==◌, [], ◌∷◌, length, Option, None, Some, IfSome, cond, refl, sym, ap, ◌∙◌, true≢false, arith}
+use Rattle.promql_text.specs.Bytes.{backslash, backtick}
+use Rattle.promql_text.specs.Texts.{Text}
+use Rattle.promql_span.specs.ByteEscapes.{escape_between, first_escape, is_byte_escape}
+
+not_both : (a : Bool) → false ≡ a && false
+not_both true = refl
+not_both false = refl
+
+-- where no escape begins with a byte, the first one is that of the rest
+pub after_byte : (escaped : Bool) (at b : ℕ) (z : Text) → ((b == backslash && not escaped) && is_byte_escape z) ≡ false
+    → first_escape escaped at (b ∷ z) ≡ first_escape (b == backslash && not escaped) (at + 1) z
+after_byte true at b z none = ap (λ e. first_escape e (at + 1) z) (not_both (b == backslash))
+after_byte false at b z none = go (b == backslash) (is_byte_escape z) none
+  where
+    go : (a e : Bool) → ((a && true) && e) ≡ false → cond (a && e) (Some at) (first_escape a (at + 1) z) ≡ first_escape (a && true) (at + 1) z
+    go true true h = absurd (true≢false h)
+    go true false h = refl
+    go false e h = refl
+
+-- ---- an escape is within its text
+
+both_true : (a b : Bool) → (a && b) ≡ true → b ≡ true
+both_true true b h = h
+both_true false b h = absurd (true≢false (sym h))
+
+three_follow : (z : Text) → is_byte_escape z ≡ true → 3 ≤ length z
+three_follow [] h = absurd (true≢false (sym h))
+three_follow (b ∷ []) h = absurd (true≢false (sym h))
+three_follow (b ∷ c ∷ []) h = absurd (true≢false (sym h))
+three_follow (b ∷ c ∷ d ∷ z) h = omega arith
+
+later : (at : ℕ) (z : Text) (o : Option ℕ) → IfSome o (λ a. a + 4 ≤ at + 1 + length z) → (b : ℕ) → IfSome o (λ a. a + 4 ≤ at + length (b ∷ z))
+later at z None h b = tt
+later at z (Some a) h b = omega (arith, h)
+
+found_within : (escaped : Bool) (at : ℕ) (z : Text) → IfSome (first_escape escaped at z) (λ a. a + 4 ≤ at + length z)
+found_within escaped at [] = tt
+found_within true at (b ∷ z) = later at z _ (found_within false (at + 1) z) b
+found_within false at (b ∷ z) = go (b == backslash && is_byte_escape z) refl (later at z _ (found_within (b == backslash) (at + 1) z) b)
+  where
+    go : (e : Bool) → (b == backslash && is_byte_escape z) ≡ e → IfSome (first_escape (b == backslash) (at + 1) z) (λ a. a + 4 ≤ at + length (b ∷ z))
+        → IfSome (cond e (Some at) (first_escape (b == backslash) (at + 1) z)) (λ a. a + 4 ≤ at + length (b ∷ z))
+    go true is h = omega (arith, three_follow z (both_true (b == backslash) (is_byte_escape z) is))
+    go false is h = h
+
+pub between_within : (at : ℕ) (z : Text) → IfSome (escape_between at z) (λ a. a + 4 ≤ at + length z)
+between_within at [] = tt
+between_within at (quote ∷ z) = go (quote == backtick)
+  where
+    go : (b : Bool) → IfSome (cond b None (first_escape false (at + 1) z)) (λ a. a + 4 ≤ at + length (quote ∷ z))
+    go true = tt
+    go false = later at z _ (found_within false (at + 1) z) quote
