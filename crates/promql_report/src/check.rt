@@ -1,10 +1,13 @@
 //! The program that checks a query, as a function of its arguments, its input and its two outputs:
 //! docs/reference/programs.md, "One query, checked".
 
-ghost use Rattle.std.specs.Prelude.{◌≡◌, ◌⊎◌, ◌↔◌, false, true, Some, None, IfOk, IfErr, IsErrOf, map, string_bytes};
+ghost use Rattle.std.specs.Prelude.{◌≡◌, ◌⊎◌, ◌↔◌, false, true, Some, None, IfNone, IfOk, IfErr, IfSome, IsErrOf, map, string_bytes};
 ghost use Rattle.std.specs.Io.KnownBytes.{Appends};
 ghost use Rattle.promql_text.specs.Texts.{Text};
-ghost use Rattle.promql_report.specs.Checking.{IsAccepted, IsChecked, IsQueryIn, IsReport, IsReported, check_command};
+ghost use Rattle.promql_span.specs.ByteEscapes.{byte_escape};
+ghost use Rattle.promql_span.specs.Locations.{location_at};
+ghost use Rattle.promql_span.specs.declared.span.Span.{Span};
+ghost use Rattle.promql_report.specs.Checking.{IsChecked, IsQueryIn, IsReport, IsReported, IsSilent, IsWarned, check_command};
 ghost use Rattle.promql_run.specs.Running.{IsNotUtf8};
 ghost use Rattle.promql_run.specs.StepErrors.{IsInputError};
 
@@ -13,7 +16,7 @@ use promql_ast::drop_expr;
 use promql_io::ended::Ended;
 use promql_run::program::USAGE_STATUS;
 use promql_run::run::{RunError, read_input, write_text};
-use promql_span::snippet;
+use promql_span::{Location, Span, byte_escape, snippet};
 use std::alloc::{AllocError, Global};
 use std::io::{Read, Write};
 
@@ -23,13 +26,17 @@ pub const REJECTED_STATUS: u8 = 4;
 /// The line that is printed for wrong arguments, and the first of the help.
 pub const CHECK_USAGE: &str = "usage: promql_check\n";
 
+/// What is said of a byte escape: docs/reference/texts.md, "Byte escapes".
+const BYTE_ESCAPE: &str = "warning: this escape is a character here, and a byte in Prometheus";
+
 /// What `--help` prints.
 pub const CHECK_HELP: &str = "usage: promql_check
 
 Reads a PromQL query from standard input. Prints nothing where it is accepted;
 otherwise, to standard error, the line and the column of the error, its message,
-and the line of the query with a mark below. A line feed at the end of the input
-is no part of the query.
+and the line of the query with a mark below. An escape of a byte past ASCII is
+accepted with a warning, since it means something else to Prometheus. A line feed
+at the end of the input is no part of the query.
 
 Status: 0 the query is accepted, 4 it is rejected, 1 out of memory, 2 a read
 failed, 3 the input is not UTF-8, 5 a write failed, 64 wrong arguments.
@@ -55,20 +62,65 @@ fn command_of(args: &[String]) -> Option<CheckCommand>
     }
 }
 
-/// Why and where the query is rejected, for people: the line and the column, the message, and the line of the query with
-/// its mark.
-fn report(alloc: Global, query: &str, rejection: &Rejection) -> Result<String, AllocError>
-    ensures { IfOk result (λ s. IsReport query.now rejection.now (string_bytes s)) }
+/// What a check found of a query.
+#[derive(Drop)]
+enum Checked {
+    /// It is accepted.
+    Accepted,
+    /// It is accepted, with this warning.
+    Warned(String),
+    /// It is rejected, with this report.
+    Rejected(String),
+}
+
+/// A message about a part of the query, for people: the line and the column, the message, and the line of the query with a mark.
+fn report(
+    alloc: Global,
+    query: &str,
+    location: Location,
+    span: Span,
+    message: &str,
+) -> Result<String, AllocError>
+    ensures { IfOk result (λ s. IsReport query.now location span (string_bytes s)) }
 {
-    let mut report = rejection.location.to_string(alloc)?;
-    let message = rejection.error.to_string(alloc)?;
-    let marked = snippet(alloc, query, rejection.span)?;
+    let mut report = location.to_string(alloc)?;
+    let marked = snippet(alloc, query, span)?;
     report.push_str(": ")?;
-    report.push_str(message.as_str())?;
+    report.push_str(message)?;
     report.push_str("\n")?;
     report.push_str(marked.as_str())?;
     report.push_str("\n")?;
     Ok(report)
+}
+
+/// Why and where the query is rejected.
+fn report_rejection(alloc: Global, query: &str, rejection: &Rejection) -> Result<String, AllocError>
+    ensures { IfOk result (λ s. IsReport query.now rejection.now.location rejection.now.span
+        (string_bytes s)) }
+{
+    let message = rejection.error.to_string(alloc)?;
+    report(
+        alloc,
+        query,
+        rejection.location,
+        rejection.span,
+        message.as_str(),
+    )
+}
+
+/// The warning of the first byte escape of an accepted query, or None where it has none.
+fn warning(alloc: Global, query: &str) -> Result<Option<String>, AllocError>
+    ensures none { IfOk result (λ o. IfNone o (byte_escape query.now ≡ None)) }
+    ensures some { IfOk result (λ o. IfSome o (λ s. (span : Span) × (byte_escape query.now ≡ Some span)
+        × IsReport query.now (location_at query.now span.start) span (string_bytes s))) }
+{
+    match byte_escape(query) {
+        Some(span) => {
+            let location = Location::line_column(query, span.start);
+            Ok(Some(report(alloc, query, location, span, BYTE_ESCAPE)?))
+        }
+        None => Ok(None),
+    }
 }
 
 /// The text without a line feed at its end.
@@ -81,8 +133,8 @@ fn query_in(text: &str) -> &str
     }
 }
 
-/// Reads all of the input. Returns the report where the query in it is rejected, `None` where it is accepted.
-fn check_input<R: Read>(alloc: Global, reader: &mut Ended<R>) -> Result<Option<String>, RunError>
+/// Reads all of the input, and checks the query in it.
+fn check_input<R: Read>(alloc: Global, reader: &mut Ended<R>) -> Result<Checked, RunError>
     ensures ok { IfOk result (IsChecked (R.remaining reader.old.inner) (R.remaining reader.new.inner)) }
     ensures read { IsErrOf result RunError.Read → reader.new.failed ≡ true }
     ensures not_utf8 { IsErrOf result RunError.NotUtf8
@@ -97,15 +149,18 @@ fn check_input<R: Read>(alloc: Global, reader: &mut Ended<R>) -> Result<Option<S
     match read_query(alloc, query)? {
         Ok(expr) => {
             drop_expr(expr);
-            Ok(None)
+            match warning(alloc, query)? {
+                Some(warning) => Ok(Checked::Warned(warning)),
+                None => Ok(Checked::Accepted),
+            }
         }
-        Err(rejection) => Ok(Some(report(alloc, query, &rejection)?)),
+        Err(rejection) => Ok(Checked::Rejected(report_rejection(alloc, query, &rejection)?)),
     }
 }
 
 /// Runs the program that checks a query, and returns its status (docs/reference/programs.md, "One query, checked").
 ///
-/// `args` begins with the program's own name. A report, or the message of another error and a line feed, go to `errors`;
+/// `args` begins with the program's own name. A report, a warning, or the message of another error and a line feed, go to `errors`;
 /// what cannot be written is lost, and the status tells the error all the same.
 pub fn check_program<R: Read, W: Write, E: Write>(
     alloc: Global,
@@ -128,16 +183,22 @@ pub fn check_program<R: Read, W: Write, E: Write>(
         → Appends (W.contents writer.old.inner) (W.contents writer.new.inner) CHECK_HELP.now }
     ensures help_status { check_command (map string_bytes args.now) ≡ Some CheckCommand.Help
         → (result ≡ 0) ⊎ (result ≡ 5) }
-    // A check: nothing is written where the query is accepted, and the report where it is rejected.
+    // A check: where the query is accepted, nothing is written, or the warning of a byte escape; and the report where it is rejected.
     ensures accepted { check_command (map string_bytes args.now) ≡ Some CheckCommand.Check
-        → result ≡ 0 → IsAccepted (R.remaining reader.old.inner) (R.remaining reader.new.inner) }
+        → result ≡ 0 → IsSilent (R.remaining reader.old.inner) (R.remaining reader.new.inner)
+        × (errors.new ≡ errors.old)
+        ⊎ ((warning : Text)
+        × IsWarned (R.remaining reader.old.inner) (R.remaining reader.new.inner) warning
+        × (errors.new.failed ≡ false
+        → Appends (E.contents errors.old.inner) (E.contents errors.new.inner) warning)) }
     ensures rejected { result ≡ REJECTED_STATUS → (report : Text)
         × IsReported (R.remaining reader.old.inner) (R.remaining reader.new.inner) report
         × (errors.new.failed ≡ false
         → Appends (E.contents errors.old.inner) (E.contents errors.new.inner) report) }
     ensures unwritten { check_command (map string_bytes args.now) ≡ Some CheckCommand.Check
         → writer.new ≡ writer.old }
-    ensures silent { result ≡ 0 → errors.new ≡ errors.old }
+    ensures help_silent { check_command (map string_bytes args.now) ≡ Some CheckCommand.Help
+        → errors.new ≡ errors.old }
     // Each other status is that of an error.
     ensures known { (result ≡ 0) ⊎ (result ≡ 1) ⊎ (result ≡ 2) ⊎ (result ≡ 3)
         ⊎ (result ≡ REJECTED_STATUS) ⊎ (result ≡ 5) ⊎ (result ≡ USAGE_STATUS) }
@@ -160,8 +221,12 @@ pub fn check_program<R: Read, W: Write, E: Write>(
         }
     }
     match check_input(alloc, reader) {
-        Ok(None) => 0,
-        Ok(Some(report)) => {
+        Ok(Checked::Accepted) => 0,
+        Ok(Checked::Warned(warning)) => {
+            let _ = write_text(errors, warning.as_str());
+            0
+        }
+        Ok(Checked::Rejected(report)) => {
             let _ = write_text(errors, report.as_str());
             REJECTED_STATUS
         }
