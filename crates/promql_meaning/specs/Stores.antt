@@ -1,0 +1,25 @@
+-- Stores of series (docs/guide/meaning.md, "A store").
+use Rattle.std.specs.Prelude.{◌≡◌, ℕ, List, [], filter, Some, None, codes}
+use Rattle.promql_label.specs.PlainMatchers.{PlainMatcher, plain_matchers}
+use Rattle.promql_ast.specs.Selectors.{Selector, selector}
+use Rattle.promql_rewrite.specs.Selecting.{Series, allows, selects}
+
+-- a series of a store: its labels, and a number that stands for its samples
+pub record Stored : Type 0 where
+  pub labels : Series
+  pub samples : ℕ
+
+abbrev pub Store : Type 0
+Store = List Stored
+
+-- the series that a selector selects, in the store's order
+abbrev pub read : Selector → Store → Store
+read s store = filter (λ x. selects s x.labels) store
+
+-- those that a matcher allows
+abbrev pub kept : PlainMatcher → Store → Store
+kept c store = filter (λ x. allows c x.labels) store
+
+-- what `info` reads where it has no second argument
+abbrev pub target_info : Selector
+target_info = selector (Some (codes "target_info")) (plain_matchers [] []) None None

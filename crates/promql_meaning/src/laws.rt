@@ -1,0 +1,65 @@
+//! Laws: the contracts of functions that do nothing.
+
+ghost use Rattle.std.specs.Prelude.{◌≡◌, ℕ, List, Ok, false};
+ghost use Rattle.promql_text.specs.Texts.{Text};
+ghost use Rattle.promql_label.specs.Answers.{Answer};
+ghost use Rattle.promql_label.specs.PlainMatchers.{PlainMatcher};
+ghost use Rattle.promql_ast.specs.Layout.{layout_of};
+ghost use Rattle.promql_ast.specs.Normal.{normal};
+ghost use Rattle.promql_ast.specs.Text.{text};
+ghost use Rattle.promql_ast.specs.Tree.{Tree};
+ghost use Rattle.promql_syntax.specs.ParseAnswers.{HasTree, IsAnswerTo, IsServed};
+ghost use Rattle.promql_syntax.specs.Asking.{Asked};
+ghost use Rattle.promql_rewrite.specs.Enforced.{IsEnforced};
+ghost use Rattle.promql_rewrite.specs.Enforcing.{enforced, has_bare_info};
+ghost use Rattle.promql_rewrite.specs.Parenthesizing.{parenthesized};
+ghost use Rattle.promql_meaning.specs.Seen.{has_call_that_sees_beside, seen};
+ghost use Rattle.promql_meaning.specs.Stores.{Store, kept};
+
+/// A tree's normal form sees what the tree sees. So, with one answer for each pattern, the text of a text's tree, on one line or
+/// laid out, has a tree that sees what that tree sees; and two texts that print alike see alike.
+pub fn printed_queries_mean_the_same()
+    ensures normal { (s : Store) (t : Tree) → seen s (normal t) ≡ seen s t }
+    ensures line { (g : Text → Answer) (source : Text) (t : Tree) → HasTree g source t
+        → (u : Tree) × HasTree g (text t) u × ((s : Store) → seen s u ≡ seen s t) }
+    ensures lines { (g : Text → Answer) (source : Text) (t : Tree) → HasTree g source t
+        → (level most : ℕ)
+        → (u : Tree) × HasTree g (layout_of t level most) u × ((s : Store) → seen s u ≡ seen s t) }
+    ensures alike { (g : Text → Answer) (first second : Text) (t u : Tree) → HasTree g first t
+        → HasTree g second u → text t ≡ text u → (s : Store) → seen s t ≡ seen s u }
+{
+    promql_syntax::laws::laid_reads_back();
+    promql_syntax::laws::prints_alike();
+}
+
+/// An enforced query sees nothing but what its matcher allows: it sees the same where the store has these series alone. So two
+/// stores in which the matcher allows the same series, in the same order, cannot be told apart by it.
+pub fn enforced_queries_see_only_what_is_allowed()
+    ensures kept { (s : Store) (c : PlainMatcher) (t : Tree) → has_bare_info t ≡ false
+        → seen s (enforced c t) ≡ seen (kept c s) (enforced c t) }
+    ensures apart { (r s : Store) (c : PlainMatcher) (t : Tree) → has_bare_info t ≡ false
+        → kept c r ≡ kept c s → seen r (enforced c t) ≡ seen s (enforced c t) }
+{}
+
+/// Where a store has nothing but what the matcher allows, an enforced query sees what the query sees, if none of its calls sees
+/// the matchers of an argument.
+pub fn enforcing_changes_nothing_at_home()
+    ensures { (s : Store) (c : PlainMatcher) (t : Tree) → has_call_that_sees_beside t ≡ false
+        → seen (kept c s) (enforced c t) ≡ seen (kept c s) t }
+{}
+
+/// A tree sees the same with parentheses where its text needs them.
+pub fn parentheses_mean_nothing()
+    ensures { (s : Store) (t : Tree) → seen s (parenthesized t) ≡ seen s t }
+{}
+
+/// From text to text: what `enforce_query` and `promql_enforce` write of a query is answered by a tree which sees nothing but what
+/// the matcher allows, and which sees what the query sees where the store has nothing else and no call sees the matchers of an
+/// argument.
+pub fn enforced_lines_see_only_what_is_allowed()
+    ensures { (query line : Text) (c : PlainMatcher) → IsEnforced query c line
+        → (t u : Tree) × IsAnswerTo query (Ok t)
+        × ((answers : List Asked) × IsServed line answers (Ok u))
+        × ((s : Store) → seen s u ≡ seen (kept c s) u)
+        × (has_call_that_sees_beside t ≡ false → (s : Store) → seen (kept c s) u ≡ seen (kept c s) t) }
+{}
