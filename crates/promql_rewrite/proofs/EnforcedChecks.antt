@@ -1,6 +1,5 @@
 -- An enforced tree has the tree's types, and passes the checks and the builders that the tree passes.
 use Rattle.std.proofs.Common.{◌≡◌, ◌≢◌, ℕ, ◌+◌, refl, ◌∙◌, ap, Bool, true, false, cond, not, Option, Some, None, List, [], ◌∷◌, length, codes}
-use Rattle.std.specs.Str.{bytes_eq}
 use Rattle.promql_text.specs.Texts.{Text}
 use Rattle.promql_token.specs.Ids.{is_aggregator_with_param}
 use Rattle.promql_label.specs.PlainMatchers.{PlainMatcher, name_of}
@@ -25,7 +24,7 @@ use Rattle.promql_ast.specs.declared.range_mode.RangeMode.{RangeMode}
 use Rattle.promql_ast.specs.declared.range_mode.RangeMode.TheVariants.{Plain}
 use Rattle.promql_ast.specs.node.Binary.{binary_type}
 use Rattle.promql_syntax.proofs.PrintedModifiers.{binary_checked, checked_again}
-use Rattle.promql_rewrite.specs.Enforcing.{all_enforced, enforced, enforced_matchers, first_enforced, maybe_enforced}
+use Rattle.promql_rewrite.specs.Enforcing.{all_enforced, enforced, enforced_matchers, maybe_enforced}
 use Rattle.promql_rewrite.proofs.EnforcedMatchers.{name_passes}
 
 -- ---- arguments of the same types
@@ -34,10 +33,6 @@ use Rattle.promql_rewrite.proofs.EnforcedMatchers.{name_passes}
 data SameTypes : Trees → Trees → Type 0 where
   none : SameTypes no_trees no_trees
   first : {t u : Tree} {ts us : Trees} → type_of u ≡ type_of t → scalar_value u ≡ scalar_value t → SameTypes ts us → SameTypes (first_tree t ts) (first_tree u us)
-
-same_trees : (ts : Trees) → SameTypes ts ts
-same_trees no_trees = none
-same_trees (first_tree t ts) = first refl refl (same_trees ts)
 
 same_count : {ts us : Trees} → SameTypes ts us → count us ≡ count ts
 same_count none = refl
@@ -89,14 +84,6 @@ module _ (c : PlainMatcher) where
   all_same no_trees = none
   all_same (first_tree t ts) = first (type_enforced t) (scalar_enforced t) (all_same ts)
 
-  first_same : (ts : Trees) → SameTypes ts (first_enforced c ts)
-  first_same no_trees = none
-  first_same (first_tree t ts) = first (type_enforced t) (scalar_enforced t) (same_trees ts)
-
-  called_same : (b : Bool) (ts : Trees) → SameTypes ts (cond b (first_enforced c ts) (all_enforced c ts))
-  called_same true ts = first_same ts
-  called_same false ts = all_same ts
-
   -- ---- checks
 
   abbrev pub enforced_verdict : Verdict → Verdict
@@ -125,10 +112,9 @@ module _ (c : PlainMatcher) where
 
   call_enforced : (f : Signature) (ts : Trees) → check_tree (enforced c (call f ts)) ≡ enforced_verdict (check_tree (call f ts))
   call_enforced (signature name types variadic gives experimental) ts =
-      let b = bytes_eq name (codes "info") in
       let f = signature name types variadic gives experimental in
-      let same = called_same b ts in
-      (λ i. unless (arity_fault name variadic (length types) (same_count same i)) (unless (same_typing name types same i) (passes (call f (cond b (first_enforced c ts) (all_enforced c ts))))))
+      let same = all_same ts in
+      (λ i. unless (arity_fault name variadic (length types) (same_count same i)) (unless (same_typing name types same i) (passes (call f (all_enforced c ts)))))
       ∙ ap (unless (arity_fault name variadic (length types) (count ts))) (unless_enforced (typing_fault name types ts) (passes (call f ts)))
       ∙ unless_enforced (arity_fault name variadic (length types) (count ts)) (unless (typing_fault name types ts) (passes (call f ts)))
 

@@ -1,7 +1,6 @@
 -- What builds a tree is kept by the derivation of the enforced tree's text.
 use Rattle.std.proofs.Common.{◌≡◌, ◌≢◌, ℕ, refl, sym, ◌∙◌, ap, subst, arith, Bool, true, false, cond, Option, Some, None, codes}
 use Rattle.std.specs.Prelude.{Ok, ◌==◌}
-use Rattle.std.specs.Str.{bytes_eq}
 use Rattle.promql_text.specs.Texts.{Text}
 use Rattle.promql_text.specs.Values.{from_nanos, neg}
 use Rattle.promql_text.proofs.OneForm.{negated_in_form}
@@ -13,7 +12,7 @@ use Rattle.promql_grammar.specs.GrammarParts as part
 use Rattle.promql_grammar.specs.Symbols.{may_be_called, may_be_name}
 use Rattle.promql_label.specs.Answers.{Answer}
 use Rattle.promql_label.specs.PlainMatchers.{PlainMatcher, PlainMatchers, name_of}
-use Rattle.promql_kind.specs.Functions.{Signature, function_named, name_of as function_name}
+use Rattle.promql_kind.specs.Functions.{Signature, function_named}
 use Rattle.promql_kind.specs.Modifiers.{Clause}
 use Rattle.promql_ast.specs.Builds.{aggregate_args, at_given, minus, mode_given, offset_given, with_range}
 use Rattle.promql_ast.specs.Checked.{check_tree}
@@ -28,7 +27,7 @@ use Rattle.promql_syntax.specs.PartBuilding.{any_braces_value, braces_value, cla
 use Rattle.promql_syntax.proofs.Derive.{AllHaveWords, HasWords, IsName}
 use Rattle.promql_syntax.proofs.Canonical.{AllKept, Canon, Keeps, canon_at, canon_mode, canon_offset, core, some_height, whole}
 use Rattle.promql_syntax.proofs.CanonicalNodes.{all_more, all_none, keeps_aggregate, keeps_binary, keeps_call, keeps_minus, keeps_named, keeps_nameless, keeps_number, keeps_paren, keeps_plus, keeps_range, keeps_subquery, selector_passes, selects}
-use Rattle.promql_syntax.proofs.CanonicalTrees.{canon, canon_all}
+use Rattle.promql_syntax.proofs.CanonicalTrees.{canon}
 use Rattle.promql_syntax.proofs.CheckedAgain.{aggregate_again, aggregates, call_again, is_aggregated, same_tree, subquery_again, unary_again}
 use Rattle.promql_syntax.proofs.PrintedMatcherLists.{any_braces_are, braces_are}
 use Rattle.promql_syntax.proofs.PrintedModifiers.{binary_checked, modifier_is}
@@ -36,7 +35,7 @@ use Rattle.promql_syntax.proofs.PrintedTimes.{bound_is, moment_is, shift_is}
 use Rattle.promql_syntax.proofs.PrintedTimesAndLabels.{step_is, time_is}
 use Rattle.promql_syntax.proofs.SingleAnswers.{checks_pass, giving_steps, known_steps, passing_passes, same_ok}
 use Rattle.promql_rewrite.specs.Answered.{IsAnswered}
-use Rattle.promql_rewrite.specs.Enforcing.{all_enforced, enforced, enforced_matchers, first_enforced}
+use Rattle.promql_rewrite.specs.Enforcing.{all_enforced, enforced, enforced_matchers}
 use Rattle.promql_rewrite.proofs.EnforcedChecks.{args_enforced, at_enforced, check_enforced, enforced_verdict, mode_enforced, offset_enforced}
 use Rattle.promql_rewrite.proofs.EnforcedMatchers.{enforced_stand, name_passes}
 
@@ -112,14 +111,13 @@ module _ (g : Text → Answer) (c : PlainMatcher) (answered : IsAnswered g c) (o
 
   -- ---- calls and aggregations
 
-  kept_called : (w : TokenKind) (text : Text) (ds : Arguments) (ts : Trees) (t : Tree) (o : Option Signature) → ((b : Bool) → AllKept g ds (cond b (first_enforced c ts) (all_enforced c ts))) → may_be_called w ≡ true → IsName w text → function_named text ≡ o
+  kept_called : (w : TokenKind) (text : Text) (ds : Arguments) (ts : Trees) (t : Tree) (o : Option Signature) → AllKept g ds (all_enforced c ts) → may_be_called w ≡ true → IsName w text → function_named text ≡ o
       → under g (build_call text o ts) ≡ Ok t → Canon g (grammar.call w text ds) (enforced c t)
   kept_called w text ds ts t None kept may is found e = cc
   kept_called w text ds ts t (Some f) kept may is found e =
-      let b = bytes_eq (function_name f) (codes "info") in
-      let us = cond b (first_enforced c ts) (all_enforced c ts) in
+      let us = all_enforced c ts in
       let again = call_again f us (enforced c t) (check_enforced c other (call f ts) t (passing_passes g (check_tree (call f ts)) t e)) in
-      subst (Canon g (grammar.call w text ds)) again.is (record { kept = keeps_call g w text ds f us (kept b) may is found again.again; suffixes = tt })
+      subst (Canon g (grammar.call w text ds)) again.is (record { kept = keeps_call g w text ds f us kept may is found again.again; suffixes = tt })
 
   kept_aggregated : (op : ℕ) (text : Text) (w : part.Clause) (ds : Arguments) (m : Option Clause) (ts : Trees) (u t : Tree) → AllKept g ds (all_enforced c ts) → aggregate_args op m ts ≡ passes u → check_tree u ≡ passes t → Canon g (grammar.aggregate op text w ds) (enforced c t)
   kept_aggregated op text w ds m ts u t kept made h =
@@ -158,9 +156,7 @@ module _ (g : Text → Answer) (c : PlainMatcher) (answered : IsAnswered g c) (o
         subst (λ t. Canon g (grammar.paren d) (enforced c t)) (same_ok _ _ _ _ refl refl s.leads) (record { kept = keeps_paren g d (enforced c s.value) (whole g d (enforced c s.value) (canon_enforced d s.value h w s.is)); suffixes = tt })
     canon_enforced (grammar.call k text ds) t h w e =
         let ts = giving_steps g (build_all ds) (λ ts. build_call text (function_named text) ts) t e in
-        let first = first_kept ds ts.value h.1 w.1 ts.is in
-        let all = all_kept ds ts.value h.1 w.1 ts.is in
-        kept_called k text ds ts.value t (function_named text) (elim [ true ↦ first | false ↦ all ]) h.0 w.0 refl ts.leads
+        kept_called k text ds ts.value t (function_named text) (all_kept ds ts.value h.1 w.1 ts.is) h.0 w.0 refl ts.leads
     canon_enforced (grammar.aggregate op text k ds) t h w e =
         let ts = giving_steps g (build_all ds) (λ ts. known (clause_value k) giving λ m. from_checked_verdict (aggregate_args op m ts)) t e in
         let m = known_steps g (clause_value k) (λ m. from_checked_verdict (aggregate_args op m ts.value)) t ts.leads in
@@ -193,12 +189,3 @@ module _ (g : Text → Answer) (c : PlainMatcher) (answered : IsAnswered g c) (o
         let ss = giving_steps g (build_all ds) (λ ss. gives (first_tree s.value ss)) ts s.leads in
         subst (λ ts. AllKept g (grammar.more d ds) (all_enforced c ts)) (same_ok _ _ _ _ refl refl ss.leads)
         (all_more g d ds (enforced c s.value) (all_enforced c ss.value) (whole g d (enforced c s.value) (canon_enforced d s.value h.0 w.0 s.is)) (all_kept ds ss.value h.1 w.1 ss.is))
-
-    -- where only the first argument changes
-    first_kept : (ds : Arguments) (ts : Trees) → AreWellFormed ds → AllHaveWords ds → under g (build_all ds) ≡ Ok ts → AllKept g ds (first_enforced c ts)
-    first_kept grammar.none ts h w e = subst (λ ts. AllKept g grammar.none (first_enforced c ts)) (same_ok _ _ _ _ refl refl e) (all_none g)
-    first_kept (grammar.more d ds) ts h w e =
-        let s = giving_steps g (build d) (λ s. build_all ds giving λ ss. gives (first_tree s ss)) ts e in
-        let ss = giving_steps g (build_all ds) (λ ss. gives (first_tree s.value ss)) ts s.leads in
-        subst (λ ts. AllKept g (grammar.more d ds) (first_enforced c ts)) (same_ok _ _ _ _ refl refl ss.leads)
-        (all_more g d ds (enforced c s.value) ss.value (whole g d (enforced c s.value) (canon_enforced d s.value h.0 w.0 s.is)) (canon_all g ds ss.value h.1 w.1 ss.is))

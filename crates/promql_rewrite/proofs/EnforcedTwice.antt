@@ -1,14 +1,12 @@
 -- A matcher that is enforced twice is there once.
-use Rattle.std.proofs.Common.{◌≡◌, refl, ◌∙◌, ap, Bool, true, false, cond, ◌||◌, List, [], ◌∷◌, ◌++◌, map, codes}
+use Rattle.std.proofs.Common.{◌≡◌, refl, ◌∙◌, ap, Bool, true, false, cond, ◌||◌, List, [], ◌∷◌, ◌++◌, map}
 use Rattle.std.specs.List.{list_any}
-use Rattle.std.specs.Str.{bytes_eq}
 use Rattle.std.proofs.lemmas.List.Folds.{list_any-append}
 use Rattle.promql_label.specs.PlainMatchers.{PlainMatcher, PlainMatchers, plain_matchers}
-use Rattle.promql_kind.specs.Functions.{name_of}
 use Rattle.promql_ast.specs.Same.{matcher_eq}
 use Rattle.promql_ast.specs.Selectors.{Selector, selector}
 use Rattle.promql_ast.specs.Tree.{Tree, aggregate, unary, binary, paren, subquery, number, string, vector, matrix, call, extension, MaybeTree, absent, present, Trees, no_trees, first_tree}
-use Rattle.promql_rewrite.specs.Enforcing.{all_enforced, enforced, enforced_matchers, enforced_selector, first_enforced, maybe_enforced, with_matcher}
+use Rattle.promql_rewrite.specs.Enforcing.{all_enforced, enforced, enforced_matchers, enforced_selector, maybe_enforced, with_matcher}
 use Rattle.promql_rewrite.proofs.SameMatchers.{matcher_Decides}
 
 or_right : (a b : Bool) → b ≡ true → a || b ≡ true
@@ -39,11 +37,6 @@ module _ (c : PlainMatcher) where
   selector_twice : (s : Selector) → enforced_selector c (enforced_selector c s) ≡ enforced_selector c s
   selector_twice (selector name cs offset at) = ap (λ ds. selector name ds offset at) (matchers_twice cs)
 
-  args_twice : (b : Bool) (ts : Trees) → first_enforced c (first_enforced c ts) ≡ first_enforced c ts → all_enforced c (all_enforced c ts) ≡ all_enforced c ts
-      → cond b (first_enforced c (cond b (first_enforced c ts) (all_enforced c ts))) (all_enforced c (cond b (first_enforced c ts) (all_enforced c ts))) ≡ cond b (first_enforced c ts) (all_enforced c ts)
-  args_twice true ts first all = first
-  args_twice false ts first all = all
-
   mutual
     pub enforced_twice : (t : Tree) → enforced c (enforced c t) ≡ enforced c t
     enforced_twice (aggregate op e p m) = λ i. aggregate op (enforced_twice e i) (maybe_twice p i) m
@@ -55,7 +48,7 @@ module _ (c : PlainMatcher) where
     enforced_twice (string s) = refl
     enforced_twice (vector s) = λ i. vector (selector_twice s i)
     enforced_twice (matrix s range mode) = λ i. matrix (selector_twice s i) range mode
-    enforced_twice (call f ts) = ap (call f) (args_twice (bytes_eq (name_of f) (codes "info")) ts (first_twice ts) (all_twice ts))
+    enforced_twice (call f ts) = ap (call f) (all_twice ts)
     enforced_twice (extension name gives ts) = λ i. extension name gives (all_twice ts i)
 
     maybe_twice : (p : MaybeTree) → maybe_enforced c (maybe_enforced c p) ≡ maybe_enforced c p
@@ -65,7 +58,3 @@ module _ (c : PlainMatcher) where
     all_twice : (ts : Trees) → all_enforced c (all_enforced c ts) ≡ all_enforced c ts
     all_twice no_trees = refl
     all_twice (first_tree t ts) = λ i. first_tree (enforced_twice t i) (all_twice ts i)
-
-    first_twice : (ts : Trees) → first_enforced c (first_enforced c ts) ≡ first_enforced c ts
-    first_twice no_trees = refl
-    first_twice (first_tree t ts) = λ i. first_tree (enforced_twice t i) ts

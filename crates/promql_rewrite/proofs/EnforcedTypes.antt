@@ -6,7 +6,6 @@ use Rattle.std.proofs.lemmas.Slice.Eq.{bytes_eq-Decides}
 use Rattle.promql_text.specs.Texts.{Text}
 use Rattle.promql_label.specs.PlainMatchers.{PlainMatcher, PlainMatchers, every, holds, is_of, name_of, value_of}
 use Rattle.promql_kind.specs.Functions.{Signature, signature}
-use Rattle.promql_kind.specs.Functions as function
 use Rattle.promql_kind.specs.declared.value.ValueType.{ValueType}
 use Rattle.promql_kind.specs.declared.value.ValueType.TheVariants as kind
 use Rattle.promql_ast.specs.Arguments.{count}
@@ -18,7 +17,7 @@ use Rattle.promql_ast.specs.Typed.{AllTyped, HasName, MaybeTyped, TakesCount, Ty
 use Rattle.promql_ast.specs.Types.{type_of}
 use Rattle.promql_ast.specs.check.AggregateChecks.{maybe_type}
 use Rattle.promql_ast.specs.check.CallChecks.{is_exempt, is_exempt_number}
-use Rattle.promql_rewrite.specs.Enforcing.{all_enforced, enforced, enforced_matchers, enforced_selector, first_enforced, maybe_enforced}
+use Rattle.promql_rewrite.specs.Enforcing.{all_enforced, enforced, enforced_matchers, enforced_selector, maybe_enforced}
 use Rattle.promql_rewrite.proofs.EnforcedChecks.{type_enforced}
 use Rattle.promql_rewrite.proofs.EnforcedLists.{none_found, one_fails}
 
@@ -31,11 +30,6 @@ module _ (c : PlainMatcher) where
 
   -- ---- heights
 
-  args_height : (b : Bool) (ts : Trees) → greatest_height (first_enforced c ts) ≡ greatest_height ts → greatest_height (all_enforced c ts) ≡ greatest_height ts
-      → greatest_height (cond b (first_enforced c ts) (all_enforced c ts)) + 1 ≡ greatest_height ts + 1
-  args_height true ts first all = ap (λ n. n + 1) first
-  args_height false ts first all = ap (λ n. n + 1) all
-
   mutual
     pub height_enforced : (t : Tree) → height (enforced c t) ≡ height t
     height_enforced (aggregate op e p m) = λ i. max (maybe_height_enforced p i) (height_enforced e i) + 1
@@ -47,7 +41,7 @@ module _ (c : PlainMatcher) where
     height_enforced (string s) = refl
     height_enforced (vector s) = refl
     height_enforced (matrix s range mode) = refl
-    height_enforced (call f ts) = args_height (bytes_eq (function.name_of f) (codes "info")) ts (first_height ts) (all_height ts)
+    height_enforced (call f ts) = λ i. all_height ts i + 1
     height_enforced (extension name gives ts) = λ i. all_height ts i + 1
 
     maybe_height_enforced : (p : MaybeTree) → maybe_height (maybe_enforced c p) ≡ maybe_height p
@@ -57,10 +51,6 @@ module _ (c : PlainMatcher) where
     all_height : (ts : Trees) → greatest_height (all_enforced c ts) ≡ greatest_height ts
     all_height no_trees = refl
     all_height (first_tree t ts) = λ i. max (height_enforced t i) (all_height ts i)
-
-    first_height : (ts : Trees) → greatest_height (first_enforced c ts) ≡ greatest_height ts
-    first_height no_trees = refl
-    first_height (first_tree t ts) = λ i. max (height_enforced t i) (greatest_height ts)
 
   -- ---- arguments
 
@@ -72,11 +62,6 @@ module _ (c : PlainMatcher) where
   all_count no_trees = refl
   all_count (first_tree t ts) = λ i. all_count ts i + 1
 
-  first_typed : (ks : List ValueType) (t u : Tree) (ts : Trees) → type_of u ≡ type_of t → TypedArgs ks (first_tree t ts) → TypedArgs ks (first_tree u ts)
-  first_typed [] t u ts e h = h
-  first_typed (k ∷ []) t u ts e h = (e ∙ h.0, h.1)
-  first_typed (k ∷ j ∷ ks) t u ts e h = (e ∙ h.0, h.1)
-
   all_args : (ks : List ValueType) (ts : Trees) → TypedArgs ks ts → TypedArgs ks (all_enforced c ts)
   all_args [] ts h = tt
   all_args (k ∷ []) no_trees h = h
@@ -84,21 +69,9 @@ module _ (c : PlainMatcher) where
   all_args (k ∷ []) (first_tree t ts) h = (type_enforced c t ∙ h.0, all_args (k ∷ []) ts h.1)
   all_args (k ∷ j ∷ ks) (first_tree t ts) h = (type_enforced c t ∙ h.0, all_args (j ∷ ks) ts h.1)
 
-  first_args : (ks : List ValueType) (ts : Trees) → TypedArgs ks ts → TypedArgs ks (first_enforced c ts)
-  first_args ks no_trees h = h
-  first_args ks (first_tree t ts) h = first_typed ks t (enforced c t) ts (type_enforced c t) h
-
   all_exempt : (name : Text) (ts : Trees) → is_exempt name (all_enforced c ts) ≡ is_exempt name ts
   all_exempt name no_trees = refl
   all_exempt name (first_tree t ts) = ap (is_exempt_number name) (scalar_enforced t)
-
-  first_exempt : (name : Text) (ts : Trees) → is_exempt name (first_enforced c ts) ≡ is_exempt name ts
-  first_exempt name no_trees = refl
-  first_exempt name (first_tree t ts) = ap (is_exempt_number name) (scalar_enforced t)
-
-  first_count : (ts : Trees) → count (first_enforced c ts) ≡ count ts
-  first_count no_trees = refl
-  first_count (first_tree t ts) = refl
 
   call_typed : (f : Signature) (ts us : Trees) → count us ≡ count ts → ((name : Text) → is_exempt name us ≡ is_exempt name ts)
       → ((ks : List ValueType) → TypedArgs ks ts → TypedArgs ks us) → TypedSignature f ts → TypedSignature f us
@@ -130,10 +103,8 @@ module _ (c : PlainMatcher) where
 
     -- ---- trees
 
-    args_typed : (b : Bool) (f : Signature) (ts : Trees) → TypedSignature f ts → AllTyped (first_enforced c ts) → AllTyped (all_enforced c ts)
-        → TypedSignature f (cond b (first_enforced c ts) (all_enforced c ts)) × AllTyped (cond b (first_enforced c ts) (all_enforced c ts))
-    args_typed true f ts h first all = (call_typed f ts (first_enforced c ts) (first_count ts) (λ name. first_exempt name ts) (λ ks. first_args ks ts) h, first)
-    args_typed false f ts h first all = (call_typed f ts (all_enforced c ts) (all_count ts) (λ name. all_exempt name ts) (λ ks. all_args ks ts) h, all)
+    args_typed : (f : Signature) (ts : Trees) → TypedSignature f ts → TypedSignature f (all_enforced c ts)
+    args_typed f ts h = call_typed f ts (all_enforced c ts) (all_count ts) (λ name. all_exempt name ts) (λ ks. all_args ks ts) h
 
     mutual
       pub typed_enforced : (t : Tree) → Typed t → Typed (enforced c t)
@@ -152,7 +123,7 @@ module _ (c : PlainMatcher) where
       typed_enforced (string s) h = h
       typed_enforced (vector s) h = selector_typed s h
       typed_enforced (matrix s range mode) h = selector_typed s h
-      typed_enforced (call f ts) h = args_typed (bytes_eq (function.name_of f) (codes "info")) f ts h.0 (first_typed_enforced ts h.1) (all_typed_enforced ts h.1)
+      typed_enforced (call f ts) h = (args_typed f ts h.0, all_typed_enforced ts h.1)
       typed_enforced (extension name gives ts) h = all_typed_enforced ts h
 
       maybe_typed_enforced : (p : MaybeTree) → MaybeTyped p → MaybeTyped (maybe_enforced c p)
@@ -162,7 +133,3 @@ module _ (c : PlainMatcher) where
       all_typed_enforced : (ts : Trees) → AllTyped ts → AllTyped (all_enforced c ts)
       all_typed_enforced no_trees h = h
       all_typed_enforced (first_tree t ts) h = (typed_enforced t h.0, all_typed_enforced ts h.1)
-
-      first_typed_enforced : (ts : Trees) → AllTyped ts → AllTyped (first_enforced c ts)
-      first_typed_enforced no_trees h = h
-      first_typed_enforced (first_tree t ts) h = (typed_enforced t h.0, h.1)

@@ -1,19 +1,17 @@
 -- Enforcing a matcher and renaming a metric change selectors alone.
-use Rattle.std.proofs.Common.{◌≡◌, refl, sym, ◌∙◌, ap, Bool, true, false, cond, Option, Some, None, List, ◌++◌, map, codes}
+use Rattle.std.proofs.Common.{◌≡◌, refl, sym, ◌∙◌, ap, Option, Some, None, List, ◌++◌, map}
 use Rattle.std.specs.Prelude.{option_map}
-use Rattle.std.specs.Str.{bytes_eq}
 use Rattle.std.proofs.lemmas.List.{map-append}
 use Rattle.promql_text.specs.Texts.{Text}
 use Rattle.promql_label.specs.PlainMatchers.{PlainMatcher}
-use Rattle.promql_kind.specs.Functions.{name_of}
 use Rattle.promql_kind.specs.Modifiers.{Cardinality, one_to_one, many_to_one, one_to_many, many_to_many, Clause, including, excluding, Matching, matching}
 use Rattle.promql_ast.specs.Selectors.{Selector}
 use Rattle.promql_ast.specs.Tree.{Tree, aggregate, unary, binary, paren, subquery, number, string, vector, matrix, call, extension, MaybeTree, absent, present, Trees, no_trees, first_tree}
-use Rattle.promql_rewrite.specs.Enforcing.{all_enforced, enforced, first_enforced, maybe_enforced}
-use Rattle.promql_rewrite.specs.Mapping.{KindedSelector, all_outlines, arg_selectors, enforced_as, kind_after, maybe_outline, outline, param_selectors, selectors_in, selectors_of}
+use Rattle.promql_rewrite.specs.Enforcing.{all_enforced, enforced, enforced_selector, maybe_enforced}
+use Rattle.promql_rewrite.specs.Mapping.{KindedSelector, all_outlines, arg_selectors, kind_after, maybe_outline, outline, param_selectors, selectors_in, selectors_of}
 use Rattle.promql_rewrite.specs.Renaming.{of_metric, all_renamed, maybe_renamed, renamed, renamed_cardinality, renamed_clause, renamed_matching, renamed_selector}
 use Rattle.promql_rewrite.specs.declared.mapping.SelectorKind.{SelectorKind}
-use Rattle.promql_rewrite.specs.declared.mapping.SelectorKind.TheVariants.{DataLabels, Series}
+use Rattle.promql_rewrite.specs.declared.mapping.SelectorKind.TheVariants.{Series}
 
 -- ---- two lists of selectors of which each is changed
 
@@ -27,11 +25,6 @@ module _ (f : SelectorKind → Selector → Selector) where
 -- ---- enforcing
 
 module _ (c : PlainMatcher) where
-  outlines_either : (b : Bool) (ts : Trees) → all_outlines (first_enforced c ts) ≡ all_outlines ts → all_outlines (all_enforced c ts) ≡ all_outlines ts
-      → all_outlines (cond b (first_enforced c ts) (all_enforced c ts)) ≡ all_outlines ts
-  outlines_either true ts first all = first
-  outlines_either false ts first all = all
-
   mutual
     pub outline_enforced : (t : Tree) → outline (enforced c t) ≡ outline t
     outline_enforced (aggregate op e p m) = λ i. aggregate op (outline_enforced e i) (maybe_outline_enforced p i) m
@@ -43,83 +36,47 @@ module _ (c : PlainMatcher) where
     outline_enforced (string s) = refl
     outline_enforced (vector s) = refl
     outline_enforced (matrix s range mode) = refl
-    outline_enforced (call f ts) = ap (call f) (outlines_either (bytes_eq (name_of f) (codes "info")) ts (first_outline_enforced ts) (all_outlines_enforced ts))
+    outline_enforced (call f ts) = ap (call f) (all_outlines_enforced ts)
     outline_enforced (extension name gives ts) = ap (extension name gives) (all_outlines_enforced ts)
 
     maybe_outline_enforced : (p : MaybeTree) → maybe_outline (maybe_enforced c p) ≡ maybe_outline p
     maybe_outline_enforced absent = refl
     maybe_outline_enforced (present e) = ap present (outline_enforced e)
 
-    first_outline_enforced : (ts : Trees) → all_outlines (first_enforced c ts) ≡ all_outlines ts
-    first_outline_enforced no_trees = refl
-    first_outline_enforced (first_tree t ts) = λ i. first_tree (outline_enforced t i) (all_outlines ts)
-
     all_outlines_enforced : (ts : Trees) → all_outlines (all_enforced c ts) ≡ all_outlines ts
     all_outlines_enforced no_trees = refl
     all_outlines_enforced (first_tree t ts) = λ i. first_tree (outline_enforced t i) (all_outlines_enforced ts i)
 
-  -- selectors of labels stay as they are
-  labels_alone : (b : Bool) (ts : Trees) → arg_selectors DataLabels DataLabels ts ≡ map (changed (enforced_as c)) (arg_selectors DataLabels DataLabels ts)
-      → arg_selectors DataLabels (cond b DataLabels DataLabels) ts ≡ map (changed (enforced_as c)) (arg_selectors DataLabels (cond b DataLabels DataLabels) ts)
-  labels_alone true ts alone = alone
-  labels_alone false ts alone = alone
+  abbrev with_it : SelectorKind → Selector → Selector
+  with_it k s = enforced_selector c s
 
   mutual
-    left_alone : (t : Tree) → selectors_in DataLabels t ≡ map (changed (enforced_as c)) (selectors_in DataLabels t)
-    left_alone (aggregate op e p m) = both (enforced_as c) (param_selectors DataLabels p) (selectors_in DataLabels e) (param_selectors DataLabels p) (selectors_in DataLabels e) (param_left_alone p) (left_alone e)
-    left_alone (unary e) = left_alone e
-    left_alone (binary op x y m) = both (enforced_as c) (selectors_in DataLabels x) (selectors_in DataLabels y) (selectors_in DataLabels x) (selectors_in DataLabels y) (left_alone x) (left_alone y)
-    left_alone (paren e) = left_alone e
-    left_alone (subquery e offset at range step) = left_alone e
-    left_alone (number n) = refl
-    left_alone (string s) = refl
-    left_alone (vector s) = refl
-    left_alone (matrix s range mode) = refl
-    left_alone (call f ts) = labels_alone (bytes_eq (name_of f) (codes "info")) ts (all_left_alone ts)
-    left_alone (extension name gives ts) = all_left_alone ts
+    in_enforced : (k : SelectorKind) (t : Tree) → selectors_in k (enforced c t) ≡ map (changed with_it) (selectors_in k t)
+    in_enforced k (aggregate op e p m) =
+        both with_it (param_selectors k (maybe_enforced c p)) (selectors_in k (enforced c e)) (param_selectors k p) (selectors_in k e) (param_enforced k p) (in_enforced k e)
+    in_enforced k (unary e) = in_enforced k e
+    in_enforced k (binary op x y m) =
+        both with_it (selectors_in k (enforced c x)) (selectors_in k (enforced c y)) (selectors_in k x) (selectors_in k y) (in_enforced k x) (in_enforced k y)
+    in_enforced k (paren e) = in_enforced k e
+    in_enforced k (subquery e offset at range step) = in_enforced k e
+    in_enforced k (number n) = refl
+    in_enforced k (string s) = refl
+    in_enforced k (vector s) = refl
+    in_enforced k (matrix s range mode) = refl
+    in_enforced k (call f ts) = args_enforced k (kind_after f k) ts
+    in_enforced k (extension name gives ts) = args_enforced k k ts
 
-    param_left_alone : (p : MaybeTree) → param_selectors DataLabels p ≡ map (changed (enforced_as c)) (param_selectors DataLabels p)
-    param_left_alone absent = refl
-    param_left_alone (present e) = left_alone e
+    param_enforced : (k : SelectorKind) (p : MaybeTree) → param_selectors k (maybe_enforced c p) ≡ map (changed with_it) (param_selectors k p)
+    param_enforced k absent = refl
+    param_enforced k (present e) = in_enforced k e
 
-    all_left_alone : (ts : Trees) → arg_selectors DataLabels DataLabels ts ≡ map (changed (enforced_as c)) (arg_selectors DataLabels DataLabels ts)
-    all_left_alone no_trees = refl
-    all_left_alone (first_tree t ts) =
-        both (enforced_as c) (selectors_in DataLabels t) (arg_selectors DataLabels DataLabels ts) (selectors_in DataLabels t) (arg_selectors DataLabels DataLabels ts) (left_alone t) (all_left_alone ts)
+    args_enforced : (k others : SelectorKind) (ts : Trees) → arg_selectors k others (all_enforced c ts) ≡ map (changed with_it) (arg_selectors k others ts)
+    args_enforced k others no_trees = refl
+    args_enforced k others (first_tree t ts) =
+        both with_it (selectors_in k (enforced c t)) (arg_selectors others others (all_enforced c ts)) (selectors_in k t) (arg_selectors others others ts) (in_enforced k t) (args_enforced others others ts)
 
-  args_either : (b : Bool) (ts : Trees) → arg_selectors Series DataLabels (first_enforced c ts) ≡ map (changed (enforced_as c)) (arg_selectors Series DataLabels ts)
-      → arg_selectors Series Series (all_enforced c ts) ≡ map (changed (enforced_as c)) (arg_selectors Series Series ts)
-      → arg_selectors Series (cond b DataLabels Series) (cond b (first_enforced c ts) (all_enforced c ts)) ≡ map (changed (enforced_as c)) (arg_selectors Series (cond b DataLabels Series) ts)
-  args_either true ts first all = first
-  args_either false ts first all = all
-
-  mutual
-    pub selectors_enforced : (t : Tree) → selectors_of (enforced c t) ≡ map (changed (enforced_as c)) (selectors_of t)
-    selectors_enforced (aggregate op e p m) = both (enforced_as c) (param_selectors Series (maybe_enforced c p)) (selectors_of (enforced c e)) (param_selectors Series p) (selectors_of e) (param_enforced p) (selectors_enforced e)
-    selectors_enforced (unary e) = selectors_enforced e
-    selectors_enforced (binary op x y m) = both (enforced_as c) (selectors_of (enforced c x)) (selectors_of (enforced c y)) (selectors_of x) (selectors_of y) (selectors_enforced x) (selectors_enforced y)
-    selectors_enforced (paren e) = selectors_enforced e
-    selectors_enforced (subquery e offset at range step) = selectors_enforced e
-    selectors_enforced (number n) = refl
-    selectors_enforced (string s) = refl
-    selectors_enforced (vector s) = refl
-    selectors_enforced (matrix s range mode) = refl
-    selectors_enforced (call f ts) = args_either (bytes_eq (name_of f) (codes "info")) ts (first_args_enforced ts) (all_args_enforced ts)
-    selectors_enforced (extension name gives ts) = all_args_enforced ts
-
-    param_enforced : (p : MaybeTree) → param_selectors Series (maybe_enforced c p) ≡ map (changed (enforced_as c)) (param_selectors Series p)
-    param_enforced absent = refl
-    param_enforced (present e) = selectors_enforced e
-
-    first_args_enforced : (ts : Trees) → arg_selectors Series DataLabels (first_enforced c ts) ≡ map (changed (enforced_as c)) (arg_selectors Series DataLabels ts)
-    first_args_enforced no_trees = refl
-    first_args_enforced (first_tree t ts) =
-        both (enforced_as c) (selectors_of (enforced c t)) (arg_selectors DataLabels DataLabels ts) (selectors_of t) (arg_selectors DataLabels DataLabels ts) (selectors_enforced t) (all_left_alone ts)
-
-    all_args_enforced : (ts : Trees) → arg_selectors Series Series (all_enforced c ts) ≡ map (changed (enforced_as c)) (arg_selectors Series Series ts)
-    all_args_enforced no_trees = refl
-    all_args_enforced (first_tree t ts) =
-        both (enforced_as c) (selectors_of (enforced c t)) (arg_selectors Series Series (all_enforced c ts)) (selectors_of t) (arg_selectors Series Series ts) (selectors_enforced t) (all_args_enforced ts)
+  pub selectors_enforced : (t : Tree) → selectors_of (enforced c t) ≡ map (changed with_it) (selectors_of t)
+  selectors_enforced = in_enforced Series
 
 -- ---- renaming a metric
 

@@ -1,5 +1,5 @@
 -- What enforcing a matcher on a query does (docs/guide/rewriting.md, "Enforcing").
-use Rattle.std.specs.Prelude.{◌≡◌, ◌≢◌, Ok, Err}
+use Rattle.std.specs.Prelude.{◌≡◌, ◌≢◌, true, false, Ok, Err}
 use Rattle.promql_text.specs.Texts.{Text}
 use Rattle.promql_label.specs.PlainMatchers.{PlainMatcher}
 use Rattle.promql_ast.specs.Text.{text as line_text}
@@ -7,7 +7,7 @@ use Rattle.promql_ast.specs.Tree.{Tree}
 use Rattle.promql_syntax.specs.ParseAnswers.{IsAnswerTo, plain_error_of}
 use Rattle.promql_syntax.specs.declared.parser.ParseError.{ParseError}
 use Rattle.promql_syntax.specs.declared.parser.ParseError.TheVariants as parse
-use Rattle.promql_rewrite.specs.Enforcing.{enforced}
+use Rattle.promql_rewrite.specs.Enforcing.{enforced, has_bare_info}
 use Rattle.promql_rewrite.specs.declared.enforcing.EnforceError.{EnforceError}
 use Rattle.promql_rewrite.specs.declared.enforcing.EnforceError.TheVariants as error
 use Rattle.promql_rewrite.specs.declared.faithful.NotFaithful.{NotFaithful}
@@ -18,6 +18,7 @@ use Rattle.promql_rewrite.specs.Faithful.{Means, MeansOther}
 pub record IsEnforced (query : Text) (c : PlainMatcher) (line : Text) : Type 0 where
   pub tree : Tree
   pub parsed : IsAnswerTo query (Ok tree)
+  pub limited : has_bare_info tree ≡ false
   pub is : line ≡ line_text (enforced c tree)
   pub means : Means line (enforced c tree)
 
@@ -25,18 +26,27 @@ pub record IsEnforced (query : Text) (c : PlainMatcher) (line : Text) : Type 0 w
 pub record IsLineRejected (query : Text) (c : PlainMatcher) (e : ParseError) : Type 0 where
   pub tree : Tree
   pub parsed : IsAnswerTo query (Ok tree)
+  pub limited : has_bare_info tree ≡ false
   pub rejected : IsAnswerTo (line_text (enforced c tree)) (Err (plain_error_of e))
 
 -- the query has a tree, and the line of the enforced tree means another one
 pub record IsLineOther (query : Text) (c : PlainMatcher) : Type 0 where
   pub tree : Tree
   pub parsed : IsAnswerTo query (Ok tree)
+  pub limited : has_bare_info tree ≡ false
   pub other : MeansOther (line_text (enforced c tree)) (enforced c tree)
+
+-- the query has a tree, in which a call of `info` has no second argument
+pub record HasBareInfo (query : Text) : Type 0 where
+  pub tree : Tree
+  pub parsed : IsAnswerTo query (Ok tree)
+  pub bare : has_bare_info tree ≡ true
 
 -- an error of a tree alone
 abbrev pub IsOfTrees : EnforceError → Type 0
 IsOfTrees error.Memory = Unit {0}
 IsOfTrees error.MetricName = Unit {0}
+IsOfTrees error.Info = Unit {0}
 IsOfTrees _ = ⊥
 
 -- why a line is not faithful: no allocation is a reason, and no line is indented

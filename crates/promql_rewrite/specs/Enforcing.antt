@@ -1,12 +1,14 @@
 -- A matcher in every selector (docs/guide/rewriting.md, "Enforcing").
-use Rattle.std.specs.Prelude.{if◌then◌else◌, List, [], ◌∷◌, ◌++◌, map, codes}
+use Rattle.std.specs.Prelude.{Bool, false, ◌&&◌, nat_le, if◌then◌else◌, List, [], ◌∷◌, ◌++◌, map, codes}
 use Rattle.std.specs.List.{list_any}
 use Rattle.std.specs.Str.{bytes_eq}
 use Rattle.promql_label.specs.PlainMatchers.{PlainMatcher, PlainMatchers, plain_matchers}
-use Rattle.promql_kind.specs.Functions.{name_of}
+use Rattle.promql_kind.specs.Functions.{Signature, name_of}
+use Rattle.promql_ast.specs.Arguments.{count}
 use Rattle.promql_ast.specs.Same.{matcher_eq}
 use Rattle.promql_ast.specs.Selectors.{Selector, selector}
 use Rattle.promql_ast.specs.Tree.{Tree, aggregate, unary, binary, paren, subquery, number, string, vector, matrix, call, extension, MaybeTree, absent, present, Trees, no_trees, first_tree}
+use Rattle.promql_rewrite.specs.Collecting.{nodes_of}
 
 -- the list with the matcher at its end, unless an equal one is there
 abbrev pub with_matcher : PlainMatcher → List PlainMatcher → List PlainMatcher
@@ -32,7 +34,7 @@ module _ (c : PlainMatcher) where
     enforced (string s) = string s
     enforced (vector s) = vector (enforced_selector c s)
     enforced (matrix s range mode) = matrix (enforced_selector c s) range mode
-    enforced (call f args) = call f (if bytes_eq (name_of f) (codes "info") then first_enforced args else all_enforced args)
+    enforced (call f args) = call f (all_enforced args)
     enforced (extension name gives es) = extension name gives (all_enforced es)
 
     pub maybe_enforced : MaybeTree → MaybeTree
@@ -43,7 +45,16 @@ module _ (c : PlainMatcher) where
     all_enforced no_trees = no_trees
     all_enforced (first_tree e es) = first_tree (enforced e) (all_enforced es)
 
-    -- the second argument of `info` selects labels, and no series
-    pub first_enforced : Trees → Trees
-    first_enforced no_trees = no_trees
-    first_enforced (first_tree e es) = first_tree (enforced e) es
+-- ---- series that no selector selects
+
+abbrev pub is_info : Signature → Bool
+is_info f = bytes_eq (name_of f) (codes "info")
+
+-- a call of `info` without a second argument, which reads series that no selector of the query selects
+abbrev pub is_bare_info : Tree → Bool
+is_bare_info (call f args) = is_info f && nat_le (count args) 1
+is_bare_info _ = false
+
+-- one of the tree's nodes is such a call
+abbrev pub has_bare_info : Tree → Bool
+has_bare_info t = list_any is_bare_info (nodes_of t)

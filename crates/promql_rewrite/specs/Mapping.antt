@@ -1,11 +1,10 @@
 -- Selectors that a mapper changes (docs/guide/rewriting.md, "Mapping selectors").
-use Rattle.std.specs.Prelude.{◌≡◌, ◌⊎◌, if◌then◌else◌, List, [], ◌∷◌, ◌++◌, Some, None, codes, Result, Ok, Err}
-use Rattle.std.specs.Str.{bytes_eq}
-use Rattle.promql_label.specs.PlainMatchers.{PlainMatcher, plain_matchers}
-use Rattle.promql_kind.specs.Functions.{Signature, name_of}
+use Rattle.std.specs.Prelude.{◌≡◌, ◌⊎◌, if◌then◌else◌, List, [], ◌∷◌, ◌++◌, Some, None, Result, Ok, Err}
+use Rattle.promql_label.specs.PlainMatchers.{plain_matchers}
+use Rattle.promql_kind.specs.Functions.{Signature}
 use Rattle.promql_ast.specs.Selectors.{Selector, selector}
 use Rattle.promql_ast.specs.Tree.{Tree, aggregate, unary, binary, paren, subquery, number, string, vector, matrix, call, extension, MaybeTree, absent, present, Trees, no_trees, first_tree}
-use Rattle.promql_rewrite.specs.Enforcing.{enforced_selector}
+use Rattle.promql_rewrite.specs.Enforcing.{is_info}
 use Rattle.promql_rewrite.specs.declared.mapping.SelectorKind.{SelectorKind}
 use Rattle.promql_rewrite.specs.declared.mapping.SelectorKind.TheVariants.{DataLabels, Series}
 
@@ -17,7 +16,7 @@ KindedSelector = SelectorKind × Selector
 
 -- of what kind selectors are in the arguments of a call after the first
 abbrev pub kind_after : Signature → SelectorKind → SelectorKind
-kind_after f k = if bytes_eq (name_of f) (codes "info") then DataLabels else k
+kind_after f k = if is_info f then DataLabels else k
 
 abbrev mutual
   -- those of a tree where selectors are of this kind, in the order of the text
@@ -100,10 +99,3 @@ module _ {S E : Type 0} (gives : MapGives S E) where
   -- what a call that went well leaves depends on the selector and its kind alone
   abbrev pub MapsBy : (SelectorKind → Selector → Selector) → Type 0
   MapsBy f = (s : S) (k : SelectorKind) (x : Selector) (t : S) (y : Selector) → gives s k x (Ok tt) t y → y ≡ f k x
-
--- ---- enforcing maps selectors
-
--- a selector of series with the matcher
-abbrev pub enforced_as : PlainMatcher → SelectorKind → Selector → Selector
-enforced_as c Series s = enforced_selector c s
-enforced_as c DataLabels s = s

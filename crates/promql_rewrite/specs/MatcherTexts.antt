@@ -1,11 +1,13 @@
 -- Matchers that are given as texts (docs/guide/rewriting.md, "Matchers from texts").
-use Rattle.std.specs.Prelude.{◌≡◌, ◌≢◌, ◌⊎◌, ◌++◌, [], ◌∷◌, Option, Some, None, Ok, Err, codes}
+use Rattle.std.specs.Prelude.{◌≡◌, ◌≢◌, ◌⊎◌, ◌++◌, [], ◌∷◌, Option, Some, None, Ok, Err, codes, true, false}
 use Rattle.promql_text.specs.Texts.{Text}
 use Rattle.promql_label.specs.PlainMatchers.{PlainMatcher, plain_matchers, name_of}
 use Rattle.promql_ast.specs.Selectors.{selector}
 use Rattle.promql_ast.specs.Tree.{Tree, vector}
 use Rattle.promql_syntax.specs.ParseAnswers.{IsAnswerTo, PlainParseError, memory}
-use Rattle.promql_rewrite.specs.Enforcing.{enforced}
+use Rattle.promql_rewrite.specs.Enforcing.{enforced, has_bare_info}
+use Rattle.promql_rewrite.specs.declared.matcher_text.EnforceTextError.{EnforceTextError}
+use Rattle.promql_rewrite.specs.declared.matcher_text.EnforceTextError.TheVariants as fault
 use Rattle.promql_rewrite.specs.declared.matcher_text.MatcherError.{MatcherError}
 use Rattle.promql_rewrite.specs.declared.matcher_text.MatcherError.TheVariants as error
 
@@ -34,9 +36,27 @@ IsMatcherFault text error.Memory = ⊥
 IsMatcherFault text error.NotAMatcher = IsNoMatcherText text
 IsMatcherFault text error.MetricName = (c : PlainMatcher) × IsMatcherText text c × (name_of c ≡ codes "__name__")
 
--- the text is a matcher, which is not of the metric's name, and the second tree is the first with it in every selector
-abbrev pub IsEnforcedBy : Text → Tree → Tree → Type 0
-IsEnforcedBy text t u = (c : PlainMatcher) × IsMatcherText text c × (name_of c ≢ codes "__name__") × (u ≡ enforced c t)
+-- the text is this matcher, which is not of the metric's name
+abbrev pub IsEnforceable : Text → PlainMatcher → Type 0
+IsEnforceable text c = IsMatcherText text c × (name_of c ≢ codes "__name__")
+
+-- the text is a matcher that can be enforced, each call of `info` in the first tree has a second argument, and the second tree is
+-- the first with the matcher in every selector
+pub record IsEnforcedBy (text : Text) (t u : Tree) : Type 0 where
+  pub matcher : PlainMatcher
+  pub is : IsEnforceable text matcher
+  pub limited : has_bare_info t ≡ false
+  pub enforces : u ≡ enforced matcher t
+
+-- the text is a matcher that can be enforced, and a call of `info` in the tree has no second argument
+abbrev pub MeetsBareInfo : Text → Tree → Type 0
+MeetsBareInfo text t = ((c : PlainMatcher) × IsEnforceable text c) × (has_bare_info t ≡ true)
+
+-- why the matcher of the text is not enforced in the tree
+abbrev pub IsEnforceFault : Text → Tree → EnforceTextError → Type 0
+IsEnforceFault text t fault.Memory = Unit {0}
+IsEnforceFault text t (fault.Matcher e) = IsMatcherFault text e
+IsEnforceFault text t fault.Info = MeetsBareInfo text t
 
 -- ---- of the tree around the text. Private: nothing rests on believing it
 

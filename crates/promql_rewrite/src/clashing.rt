@@ -7,112 +7,35 @@ ghost use Rattle.promql_label.specs.MatcherViews.{plain_matchers_of};
 ghost use Rattle.promql_label.specs.PlainMatchers.{every, name_of};
 ghost use Rattle.promql_kind.specs.ModifierViews.{cardinality_of, clause_of, matching_of};
 ghost use Rattle.promql_kind.specs.Modifiers.{clause_labels, grouping};
-ghost use Rattle.promql_ast.specs.View.{aggregate_tree, binary_tree, children_of, option_tree, tree_of, trees_of};
-ghost use Rattle.promql_rewrite.specs.Collecting.{all_nodes, matching_labels, maybe_nodes, nodes_of, nodes_within};
+ghost use Rattle.promql_ast.specs.View.{tree_of};
+ghost use Rattle.promql_rewrite.specs.Collecting.{matching_labels, nodes_of};
 ghost use Rattle.promql_rewrite.specs.Renaming.{listed_labels, lists_both};
 
-use promql_ast::{AggregateExpr, BinaryExpr, Expr};
+use crate::some_node::{NodeTest, has_node};
+use promql_ast::Expr;
 use promql_kind::{BinModifier, LabelModifier, VectorMatchCardinality};
 use promql_label::{Label, Matchers};
 
+/// The test whether a node lists both labels.
+#[derive(Clone, Copy)]
+struct ListsBoth<'a> {
+    from: &'a str,
+    to: &'a str,
+}
+
+impl NodeTest for ListsBoth<'_> {
+    ghost passing = { λ test t. lists_both test.from.now test.to.now t };
+
+    fn passes(&self, node: &Expr) -> bool {
+        lists(node, self.from) && lists(node, self.to)
+    }
+}
+
 /// Whether a node of the expression lists both labels.
-#[cycle(clash)]
 pub(crate) fn has_clash(expr: &Expr, from: &str, to: &str) -> bool
     ensures { result ≡ list_any (lists_both from.now to.now) (nodes_of (tree_of expr.now)) }
 {
-    if lists_both(expr, from, to) {
-        return true;
-    }
-    clashes_within(expr, from, to)
-}
-
-/// Whether a node within the expression does.
-#[cycle(clash)]
-#[tactic(auto, using(promql_ast::proofs::NodeParts::tree_of_call, promql_ast::proofs::NodeParts::tree_of_extension, promql_ast::proofs::NodeParts::tree_of_aggregate))]
-fn clashes_within(expr: &Expr, from: &str, to: &str) -> bool
-    ensures { result ≡ list_any (lists_both from.now to.now) (nodes_within (tree_of expr.now)) }
-{
-    match expr {
-        Expr::Aggregate(e) => clashes_in_aggregate(e, from, to),
-        Expr::Unary(e) => has_clash(&e.expr, from, to),
-        Expr::Binary(e) => clashes_in_sides(e, from, to),
-        Expr::Paren(e) => has_clash(&e.expr, from, to),
-        Expr::Subquery(e) => has_clash(&e.expr, from, to),
-        Expr::NumberLiteral(_)
-        | Expr::StringLiteral(_)
-        | Expr::VectorSelector(_)
-        | Expr::MatrixSelector(_) => false,
-        Expr::Call(e) => clashes_in_args(e.args.args.as_slice(), from, to),
-        Expr::Extension(e) => clashes_in_children(e.children.as_slice(), from, to),
-    }
-}
-
-#[cycle(clash)]
-#[tactic(auto, using(crate::proofs::ListedNodes::any_of_both))]
-fn clashes_in_aggregate(node: &AggregateExpr, from: &str, to: &str) -> bool
-    ensures { result
-        ≡ list_any (lists_both from.now to.now) (nodes_within (aggregate_tree node.now)) }
-{
-    if clashes_in_param(&node.param, from, to) {
-        return true;
-    }
-    has_clash(&node.expr, from, to)
-}
-
-#[cycle(clash)]
-fn clashes_in_param(param: &Option<Box<Expr>>, from: &str, to: &str) -> bool
-    ensures { result
-        ≡ list_any (lists_both from.now to.now) (maybe_nodes (option_tree param.now)) }
-{
-    match param {
-        Some(param) => has_clash(param, from, to),
-        None => false,
-    }
-}
-
-#[cycle(clash)]
-#[tactic(auto, using(crate::proofs::ListedNodes::any_of_both))]
-fn clashes_in_sides(node: &BinaryExpr, from: &str, to: &str) -> bool
-    ensures { result
-        ≡ list_any (lists_both from.now to.now) (nodes_within (binary_tree node.now)) }
-{
-    if has_clash(&node.lhs, from, to) {
-        return true;
-    }
-    has_clash(&node.rhs, from, to)
-}
-
-#[cycle(clash)]
-fn clashes_in_args(args: &[Box<Expr>], from: &str, to: &str) -> bool
-    ensures { result
-        ≡ list_any (lists_both from.now to.now) (all_nodes (trees_of args.now)) }
-{
-    for arg in args {
-        if has_clash(arg, from, to) {
-            return true;
-        }
-    }
-    false
-}
-
-#[cycle(clash)]
-fn clashes_in_children(children: &[Expr], from: &str, to: &str) -> bool
-    ensures { result
-        ≡ list_any (lists_both from.now to.now) (all_nodes (children_of children.now)) }
-{
-    for child in children {
-        if has_clash(child, from, to) {
-            return true;
-        }
-    }
-    false
-}
-
-/// Whether the node itself lists both labels.
-fn lists_both(node: &Expr, from: &str, to: &str) -> bool
-    ensures { result ≡ lists_both from.now to.now (tree_of node.now) }
-{
-    lists(node, from) && lists(node, to)
+    has_node(expr, &ListsBoth { from, to })
 }
 
 /// Whether the node itself lists the label.

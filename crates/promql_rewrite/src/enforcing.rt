@@ -1,29 +1,27 @@
 //! A matcher in every selector: docs/guide/rewriting.md, "Enforcing".
 
-ghost use Rattle.std.specs.Prelude.{◌≡◌, ◌≢◌, ◌↔◌, Err, IfErr, IfOk, IsErrOf, OnOk, codes, map, string_bytes};
+ghost use Rattle.std.specs.Prelude.{◌≡◌, ◌≢◌, ◌↔◌, Err, IfErr, IfOk, IsErrOf, OnOk, codes, false, map, string_bytes, true};
 ghost use Rattle.std.specs.List.{list_any};
 ghost use Rattle.promql_ast.specs.Same.{matcher_eq};
-ghost use Rattle.promql_ast.specs.View.{aggregate_tree, binary_tree, call_tree, extension_tree, tree_of, trees_of};
+ghost use Rattle.promql_ast.specs.View.{aggregate_tree, binary_tree, call_tree, extension_tree, tree_of};
 ghost use Rattle.promql_label.specs.MatcherViews.{plain_matcher_of, plain_matchers_of};
 ghost use Rattle.promql_label.specs.PlainMatchers.{name_of};
 ghost use Rattle.promql_syntax.specs.ParseAnswers.{IsAnswerTo, plain_error_of};
 ghost use Rattle.promql_syntax.specs.declared.parser.ParseError.{ParseError};
-ghost use Rattle.promql_rewrite.specs.Enforced.{IsEnforced, IsLineOther, IsLineRejected, IsOfQuery, IsOfTrees};
+ghost use Rattle.promql_rewrite.specs.Enforced.{IsEnforced, IsLineOther, IsLineRejected, IsOfQuery, IsOfTrees, HasBareInfo};
 ghost use Rattle.promql_rewrite.specs.EnforceErrors.{IsOfEnforced};
 ghost use Rattle.promql_rewrite.specs.Faithful.{IsLineOf, MeansOther};
 ghost use Rattle.promql_ast.specs.Text.{text as line_text};
-ghost use Rattle.promql_rewrite.specs.Enforcing.{enforced, enforced_matchers, first_enforced, with_matcher};
+ghost use Rattle.promql_rewrite.specs.Enforcing.{enforced, enforced_matchers, has_bare_info, with_matcher};
 ghost use Rattle.promql_rewrite.specs.declared.faithful.NotFaithful.{NotFaithful};
 
+use crate::bare_info::has_bare_info;
 use crate::faithful::{NotFaithful, faithful_line};
 use promql_ast::{AggregateExpr, BinaryExpr, Call, Expr, Extension};
 use promql_label::{METRIC_NAME, Matcher, Matchers};
 use promql_syntax::parser::{ParseError, parse};
 use std::alloc::{AllocError, Global};
 use thiserror::Error;
-
-/// The function whose second argument selects labels of another series, and no series of its own.
-pub(crate) const INFO: &str = "info";
 
 /// Why a matcher was not enforced.
 #[derive(PartialEq, Eq, Debug, Drop, Error)]
@@ -40,6 +38,9 @@ pub enum EnforceError {
     /// The line of the enforced tree does not mean it.
     #[error("{0}")]
     Unfaithful(NotFaithful),
+    /// A call of `info` has no second argument, so it reads series that no selector of the query selects.
+    #[error("info without a selector reads series that no matcher limits")]
+    Info,
 }
 
 impl From<AllocError> for EnforceError {
@@ -80,24 +81,33 @@ impl From<NotFaithful> for EnforceError {
 }
 
 /// The expression with the matcher in every selector, and in each of its or-groups, wherever selectors stand. Where an equal
-/// matcher is there already, nothing is added. The labels that the second argument of `info` selects are left alone.
+/// matcher is there already, nothing is added.
 ///
 /// Each selector then selects exactly the series that it selected and the matcher allows (law
 /// `enforced_selectors_select`); nothing else changes.
 ///
 /// # Errors
 ///
-/// `MetricName` exactly where the matcher is of the label `__name__`; `Memory` where an allocation failed.
+/// `MetricName` exactly where the matcher is of the label `__name__`; else `Info` exactly where a call of `info` has no second
+/// argument, before anything is changed; `Memory` where an allocation failed.
 pub fn enforce(alloc: Global, expr: Expr, matcher: &Matcher) -> Result<Expr, EnforceError>
     ensures ok { IfOk result (λ e.
         tree_of e ≡ enforced (plain_matcher_of matcher.now) (tree_of expr)) }
     ensures name { IsErrOf result EnforceError.MetricName
         ↔ (name_of (plain_matcher_of matcher.now) ≡ codes "__name__") }
+    ensures info { IsErrOf result EnforceError.Info
+        ↔ ((name_of (plain_matcher_of matcher.now) ≢ codes "__name__")
+        × (has_bare_info (tree_of expr) ≡ true)) }
+    ensures limited { IfOk result (λ _. has_bare_info (tree_of expr) ≡ false) }
     ensures errors { IfErr result IsOfTrees }
 {
     if matcher.name.as_str() == METRIC_NAME {
         drop(expr);
         return Err(EnforceError::MetricName);
+    }
+    if has_bare_info(&expr) {
+        drop(expr);
+        return Err(EnforceError::Info);
     }
     let mut expr = expr;
     match enforce_expr(alloc, &mut expr, matcher) {
@@ -115,7 +125,8 @@ pub fn enforce(alloc: Global, expr: Expr, matcher: &Matcher) -> Result<Expr, Enf
 /// # Errors
 ///
 /// `MetricName` exactly where the matcher is of the label `__name__`, before the query is looked at; `Parse` where the parser
-/// rejects the query; `Unfaithful` where the text would not mean the enforced tree; `Memory` where an allocation failed.
+/// rejects the query; `Info` where a call of `info` in it has no second argument; `Unfaithful` where the text would not mean the
+/// enforced tree; `Memory` where an allocation failed.
 pub fn enforce_query(alloc: Global, query: &str, matcher: &Matcher) -> Result<String, EnforceError>
     ensures ok { IfOk result (λ line.
         IsEnforced query.now (plain_matcher_of matcher.now) (string_bytes line)) }
@@ -123,6 +134,7 @@ pub fn enforce_query(alloc: Global, query: &str, matcher: &Matcher) -> Result<St
         ↔ (name_of (plain_matcher_of matcher.now) ≡ codes "__name__") }
     ensures parse { (e : ParseError) → IsErrOf result (EnforceError.Parse e)
         → IsAnswerTo query.now (Err (plain_error_of e)) × (e ≢ ParseError.Memory) }
+    ensures info { IsErrOf result EnforceError.Info → HasBareInfo query.now }
     ensures rejected { (e : ParseError)
         → IsErrOf result (EnforceError.Unfaithful (NotFaithful.Rejected e))
         → IsLineRejected query.now (plain_matcher_of matcher.now) e }
@@ -134,6 +146,10 @@ pub fn enforce_query(alloc: Global, query: &str, matcher: &Matcher) -> Result<St
         return Err(EnforceError::MetricName);
     }
     let mut expr = parse(alloc, query)?;
+    if has_bare_info(&expr) {
+        drop(expr);
+        return Err(EnforceError::Info);
+    }
     let line = enforced_line(alloc, &mut expr, matcher);
     drop(expr);
     line
@@ -213,23 +229,7 @@ fn enforce_call(alloc: Global, node: &mut Call, matcher: &Matcher) -> Result<(),
     ensures { OnOk result (call_tree node.new
         ≡ enforced (plain_matcher_of matcher.now) (call_tree node.old)) }
 {
-    let args = node.args.args.as_mut_slice();
-    if node.func.name == INFO {
-        enforce_first(alloc, args, matcher)
-    } else {
-        enforce_args(alloc, args, matcher)
-    }
-}
-
-#[cycle(enforce)]
-fn enforce_first(alloc: Global, args: &mut [Box<Expr>], matcher: &Matcher) -> Result<(), AllocError>
-    ensures { OnOk result (trees_of args.new
-        ≡ first_enforced (plain_matcher_of matcher.now) (trees_of args.old)) }
-{
-    if !args.is_empty() {
-        enforce_expr(alloc, &mut args[0], matcher)?;
-    }
-    Ok(())
+    enforce_args(alloc, node.args.args.as_mut_slice(), matcher)
 }
 
 #[cycle(enforce)]

@@ -20,7 +20,7 @@ ghost use Rattle.promql_rewrite.specs.Answered.{IsAnswered};
 ghost use Rattle.promql_rewrite.specs.Collecting.{IsSetOf, called_functions, named_labels, named_metrics};
 ghost use Rattle.promql_rewrite.specs.Enforcing.{enforced, enforced_selector};
 ghost use Rattle.promql_rewrite.specs.Everywhere.{Everywhere};
-ghost use Rattle.promql_rewrite.specs.Mapping.{KindedSelector, enforced_as, outline, selectors_of};
+ghost use Rattle.promql_rewrite.specs.Mapping.{KindedSelector, outline, selectors_of};
 ghost use Rattle.promql_rewrite.specs.Parenthesizing.{parenthesized};
 ghost use Rattle.promql_rewrite.specs.PrintableConditions.{HasParts, IsPlaced, IsPrintableAlone, PatternsAnswered};
 ghost use Rattle.promql_rewrite.specs.PrintableTrees.{IsPrintable, printed_height};
@@ -183,11 +183,11 @@ pub fn mapped_trees()
     ensures same { (t u : Tree) → outline t ≡ outline u → selectors_of t ≡ selectors_of u → t ≡ u }
 {}
 
-/// Enforcing a matcher and renaming a metric change selectors alone: the first those of series, the second all.
+/// Enforcing a matcher and renaming a metric change selectors alone, and all of them alike.
 pub fn changes_of_selectors()
     ensures enforced_outline { (c : PlainMatcher) (t : Tree) → outline (enforced c t) ≡ outline t }
     ensures enforced { (c : PlainMatcher) (t : Tree) → selectors_of (enforced c t)
-        ≡ map (λ (x : KindedSelector). (x.0, enforced_as c x.0 x.1)) (selectors_of t) }
+        ≡ map (λ (x : KindedSelector). (x.0, enforced_selector c x.1)) (selectors_of t) }
     ensures renamed_outline { (from to : Text) (t : Tree)
         → outline (renamed (of_metric from to) t) ≡ outline t }
     ensures renamed { (from to : Text) (t : Tree) → selectors_of (renamed (of_metric from to) t)

@@ -12,11 +12,12 @@ pub use collecting::{Collected, CollectedSelector, collect};
 pub use enforcing::{EnforceError, enforce, enforce_query};
 pub use faithful::{NotFaithful, faithful_line, faithful_pretty};
 pub use mapping::{SelectorKind, SelectorMapper, map_selectors};
-pub use matcher_text::{MatcherError, enforce_text, read_matcher};
+pub use matcher_text::{EnforceTextError, MatcherError, enforce_text, read_matcher};
 pub use parenthesizing::parenthesized;
 pub use printable::{NotPrintable, is_printable, why_not_printable};
 pub use renaming::{RenameLabelError, RenameMetricError, rename_label, rename_metric};
 
+mod bare_info;
 mod clashing;
 pub mod collecting;
 pub mod enforcing;
@@ -28,3 +29,4 @@ pub mod parenthesizing;
 pub mod printable;
 mod reasons;
 pub mod renaming;
+mod some_node;

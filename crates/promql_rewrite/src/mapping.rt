@@ -8,7 +8,7 @@ ghost use Rattle.promql_rewrite.specs.MappedSelectors.{MapsOrFails, kind_at};
 ghost use Rattle.promql_rewrite.specs.Mapping.{Fails, KindedSelector, Maps, MapsBy, arg_selectors, kind_after, outline, selectors_in, selectors_of};
 ghost use Rattle.promql_rewrite.specs.declared.mapping.SelectorKind.{SelectorKind};
 
-use crate::enforcing::INFO;
+use crate::bare_info::is_info;
 use promql_ast::{AggregateExpr, BinaryExpr, Call, Expr, Extension, VectorSelector};
 use promql_kind::Function;
 use std::alloc::Global;
@@ -18,7 +18,7 @@ use std::alloc::Global;
 pub enum SelectorKind {
     /// Series.
     Series,
-    /// Labels that are added to other series: the selector is in an argument of `info` after the first.
+    /// Series whose labels are added to others: the selector is in an argument of `info` after the first.
     DataLabels,
 }
 
@@ -165,7 +165,7 @@ fn map_call<V: SelectorMapper>(
 fn kind_after(func: &Function, kind: SelectorKind) -> SelectorKind
     ensures { result ≡ kind_after (signature_of func.now) kind }
 {
-    if func.name == INFO {
+    if is_info(func) {
         SelectorKind::DataLabels
     } else {
         kind

@@ -4,7 +4,7 @@ ghost use Rattle.std.specs.Prelude.{◌≡◌, ◌≢◌, IfErr, IfOk, codes, op
 ghost use Rattle.promql_ast.specs.View.{tree_of};
 ghost use Rattle.promql_label.specs.MatcherViews.{plain_matcher_of};
 ghost use Rattle.promql_label.specs.PlainMatchers.{name_of};
-ghost use Rattle.promql_rewrite.specs.MatcherTexts.{HasMatcherAfter, IsCopyFault, IsEnforcedBy, IsMatcherFault, IsMatcherText, IsSecondMatcher, selector_around};
+ghost use Rattle.promql_rewrite.specs.MatcherTexts.{HasMatcherAfter, IsCopyFault, IsEnforceFault, IsEnforcedBy, IsMatcherFault, IsMatcherText, IsSecondMatcher, selector_around};
 
 use crate::enforcing::{EnforceError, enforce};
 use promql_ast::Expr;
@@ -36,6 +36,20 @@ impl From<AllocError> for MatcherError {
     fn from(_e: AllocError) -> MatcherError {
         MatcherError::Memory
     }
+}
+
+/// Why the matcher of a text was not enforced.
+#[derive(PartialEq, Eq, Debug, Drop, Error)]
+pub enum EnforceTextError {
+    /// An allocation failed.
+    #[error("out of memory")]
+    Memory,
+    /// The text gives no matcher to enforce.
+    #[error("{0}")]
+    Matcher(MatcherError),
+    /// A call of `info` has no second argument, so it reads series that no selector of the query selects.
+    #[error("info without a selector reads series that no matcher limits")]
+    Info,
 }
 
 /// The text between the braces of a selector, after a matcher: one that matches the empty text may not stand alone. The line feed
@@ -110,21 +124,27 @@ fn copied_matcher(alloc: Global, expr: &Expr) -> Result<Matcher, MatcherError>
 ///
 /// # Errors
 ///
-/// Those of [`read_matcher`]; `Memory` where an allocation failed.
-pub fn enforce_text(alloc: Global, expr: Expr, text: &str) -> Result<Expr, MatcherError>
+/// `Matcher` where [`read_matcher`] rejects the text; `Info` where the text is a matcher, and a call of `info` has no second
+/// argument; `Memory` where an allocation failed.
+pub fn enforce_text(alloc: Global, expr: Expr, text: &str) -> Result<Expr, EnforceTextError>
     ensures ok { IfOk result (λ e. IsEnforcedBy text.now (tree_of expr) (tree_of e)) }
-    ensures errors { IfErr result (λ e. e ≢ MatcherError.Memory → IsMatcherFault text.now e) }
+    ensures errors { IfErr result (IsEnforceFault text.now (tree_of expr)) }
 {
     let matcher = match read_matcher(alloc, text) {
         Ok(matcher) => matcher,
+        Err(MatcherError::Memory) => {
+            drop(expr);
+            return Err(EnforceTextError::Memory);
+        }
         Err(error) => {
             drop(expr);
-            return Err(error);
+            return Err(EnforceTextError::Matcher(error));
         }
     };
     match enforce(alloc, expr, &matcher) {
         Ok(enforced) => Ok(enforced),
-        Err(EnforceError::Memory) => Err(MatcherError::Memory),
+        Err(EnforceError::Memory) => Err(EnforceTextError::Memory),
+        Err(EnforceError::Info) => Err(EnforceTextError::Info),
         Err(EnforceError::MetricName | EnforceError::Parse(_) | EnforceError::Unfaithful(_)) => {
             unreachable!()
         }

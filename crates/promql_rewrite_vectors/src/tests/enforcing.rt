@@ -6,7 +6,7 @@ use std::alloc::{AllocError, Global};
 use std::test::Fail;
 
 /// Each query with its line once `namespace="team-a"` is enforced, or the message of its rejection.
-const ROWS: [(&str, &str); 27] = [
+const ROWS: [(&str, &str); 29] = [
     ("foo", r#"foo{namespace="team-a"}"#),
     ("foo{}", r#"foo{namespace="team-a"}"#),
     ("a + b", r#"a{namespace="team-a"} + b{namespace="team-a"}"#),
@@ -74,12 +74,23 @@ const ROWS: [(&str, &str); 27] = [
         r#"{__name__=~"a|b"}"#,
         r#"{__name__=~"a|b",namespace="team-a"}"#,
     ),
-    // The second argument of `info` selects labels.
+    // The second argument of `info` selects series like any other, and has to be there.
     (
         r#"info(a, {b="c"})"#,
-        r#"info(a{namespace="team-a"}, {b="c"})"#,
+        r#"info(a{namespace="team-a"}, {b="c",namespace="team-a"})"#,
     ),
-    ("info(a)", r#"info(a{namespace="team-a"})"#),
+    (
+        "info(a)",
+        "info without a selector reads series that no matcher limits",
+    ),
+    (
+        "topk(scalar(info(a)), b)",
+        "info without a selector reads series that no matcher limits",
+    ),
+    (
+        "a + info(b, -info(c))",
+        "info without a selector reads series that no matcher limits",
+    ),
     // Rejected queries.
     (
         "{}",
@@ -172,6 +183,19 @@ fn long_queries_too(rt: HostRuntime) -> Result<(), Fail> {
     Ok(())
 }
 
+#[test]
+fn long_matchers_too(rt: HostRuntime) -> Result<(), Fail> {
+    let alloc = rt.alloc();
+    for size in [31, 1_000, 10_000] {
+        let value = repeated(alloc, &("", "x", ""), size)?;
+        let matcher = Matcher::new(alloc, MatchOp::Equal, "a", value.as_str())?;
+        let line = enforced(alloc, "sum(b) / c", &matcher)?;
+        let want = format!(in alloc; "sum(b{{a=\"{value}\"}}) / c{{a=\"{value}\"}}")?;
+        assert!(rt; line == want, "{size}");
+    }
+    Ok(())
+}
+
 /// Whether the matcher is rejected, since it is of the metric's name.
 fn is_rejected(alloc: Global, query: &str, matcher: &Matcher) -> bool {
     matches!(
@@ -187,5 +211,6 @@ fn the_metric_name_is_rejected(rt: HostRuntime) -> Result<(), Fail> {
     assert!(rt; is_rejected(alloc, "b", &matcher));
     // Before the query is looked at.
     assert!(rt; is_rejected(alloc, "b +", &matcher));
+    assert!(rt; is_rejected(alloc, "info(b)", &matcher));
     Ok(())
 }

@@ -13,7 +13,7 @@ fn line_of(alloc: Global, expr: Expr) -> Result<String, AllocError> {
     line
 }
 
-/// Moves each selector of series back in time, and counts them. A selector that is moved already is an error.
+/// Moves each selector of kind `Series` back in time, and counts them. A selector that is moved already is an error.
 #[derive(Drop)]
 struct Delay {
     by: Duration,
@@ -59,7 +59,7 @@ const DELAYED: [(&str, &str, usize); 9] = [
         "max_over_time(a offset 1h[1h:1m] offset 5m)",
         1,
     ),
-    // The second argument of `info` selects labels, and so does all in it.
+    // The second argument of `info` selects series whose labels are added, and so does all in it.
     (
         r#"info(a, {b="c"}) + d"#,
         r#"info(a offset 1h, {b="c"}) + d offset 1h"#,

@@ -156,3 +156,26 @@ fn metrics_have_other_names(rt: HostRuntime) -> Result<(), Fail> {
     }
     Ok(())
 }
+
+/// A name of 10,000 letters.
+fn long_name(alloc: Global) -> Result<String, AllocError> {
+    let mut name = String::new(alloc);
+    for _ in 0..10_000 {
+        name.push_str("x")?;
+    }
+    Ok(name)
+}
+
+#[test]
+fn long_names_too(rt: HostRuntime) -> Result<(), Fail> {
+    let alloc = rt.alloc();
+    let name = long_name(alloc)?;
+    let name = name.as_str();
+    let metric = metric_line(alloc, name, name, "b")?;
+    assert!(rt; metric.as_str() == "b");
+    let metric = metric_line(alloc, "b", "b", name)?;
+    assert!(rt; metric.as_str() == name);
+    let label = label_line(alloc, "sum by (b) (a)", "b", name)?;
+    assert!(rt; label == format!(in alloc; "sum by ({name}) (a)")?);
+    Ok(())
+}

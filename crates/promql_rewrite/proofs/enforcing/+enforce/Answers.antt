@@ -1,12 +1,11 @@
-use Rattle.std.proofs.Common.{◌≡◌, ◌∙◌, sym, ap, arith, cond, codes, false, map, rules, slice_index_or, string_bytes}
+use Rattle.std.proofs.Common.{◌≡◌, ◌∙◌, sym, ap, arith, map, rules, slice_index_or, string_bytes}
 use Rattle.std.specs.Box.{with_value}
-use Rattle.std.specs.Str.{bytes_eq}
 use Rattle.std.proofs.lemmas.List.{with_items_is}
 use Rattle.promql_label.specs.MatcherViews.{plain_matcher_of}
 use Rattle.promql_kind.specs.Functions.{signature_of}
 use Rattle.promql_ast.specs.Tree.{call, extension}
-use Rattle.promql_ast.specs.View.{tree_of, trees, trees_of}
-use Rattle.promql_rewrite.specs.Enforcing.{all_enforced, enforced, first_enforced}
+use Rattle.promql_ast.specs.View.{tree_of, trees}
+use Rattle.promql_rewrite.specs.Enforcing.{enforced}
 use Rattle.promql_ast.proofs.ChangedLists.{all_done, on_ok, one_more}
 use Rattle.promql_rewrite.proofs.TreeRows.{enforced_trees}
 use Rattle.promql_rewrite.proofs.enforcing.+enforce.Goals as goal
@@ -41,18 +40,16 @@ enforce_children-returns t c =
     all_done tree_of (λ e. enforced (plain_matcher_of c.args.matcher.now) (tree_of e)) c.loop-i.children c.args.children.now c.loop-i.i
     (omega (arith, c.loop-i.auto.children)) (omega arith) c.loop-i.invariant.done
 
-pub enforce_call-returns-else-eq : goal.enforce_call-returns-else-eq
-enforce_call-returns-else-eq t c =
+pub enforce_call-returns : goal.enforce_call-returns
+enforce_call-returns t c =
     let m = plain_matcher_of c.args.matcher.now in
     let f = signature_of c.args.node.now.func in
     let args = c.args.node.now.args.args in
-    let other : bytes_eq c.args.node.now.func.name.now (codes "info") ≡ false = sym c.eq.ensures ∙ c.if-eq.false in
     on_ok c.enforce_args.result _ _
     (λ same.
     ap (λ ts. call f (trees ts))
-    (ap (map (λ b. tree_of b.value)) (with_items_is args c.enforce_args.new.args (omega arith)) ∙ same ∙ ap (map (λ b. enforced m (tree_of b.value))) c.as_mut_slice-args.ensures.value)
-    ∙ ap (call f) (sym (enforced_trees m (λ b. tree_of b.value) args.items))
-    ∙ ap (λ b. call f (cond b (first_enforced m (trees_of args.items)) (all_enforced m (trees_of args.items)))) (sym other))
+    (ap (map (λ b. tree_of b.value)) (with_items_is args c.enforce_args.new.args (omega arith)) ∙ same ∙ ap (map (λ b. enforced m (tree_of b.value))) c.as_mut_slice.ensures.value)
+    ∙ ap (call f) (sym (enforced_trees m (λ b. tree_of b.value) args.items)))
     c.enforce_args.ensures
 
 pub enforce_extension-returns : goal.enforce_extension-returns
