@@ -3,7 +3,7 @@ use Rattle.std.specs.Prelude.{◌≡◌, ◌≢◌, ◌⊎◌, ℕ, ◌++◌, Li
 use Rattle.std.specs.Str.{IsUtf8, chars}
 use Rattle.std.specs.declared.alloc.Global.{Global}
 use Rattle.promql_span.specs.ByteEscapes.{byte_escape}
-use Rattle.promql_span.specs.Locations.{location_at, location_text}
+use Rattle.promql_span.specs.Locations.{location_of, location_text}
 use Rattle.promql_span.specs.declared.location.Location.{Location}
 use Rattle.promql_text.specs.Texts.{Text}
 use Rattle.promql_ast.specs.Tree.{Tree}
@@ -60,7 +60,7 @@ pub record IsWarned (left left_after : Option (List ℕ)) (warning : Text) : Typ
   pub accepted : IsAccepted left left_after query
   pub span : Span
   pub escape : byte_escape query ≡ Some span
-  pub shown : IsReport query (location_at query span.start) span warning
+  pub shown : IsReport query (location_of query span.start) span warning
 
 -- the query of the input is rejected, and this is the report
 pub record IsReported (left left_after : Option (List ℕ)) (report : Text) : Type 0 where

@@ -1,14 +1,14 @@
 //! The program that checks a query, as a function of its arguments, its input and its two outputs:
 //! docs/reference/programs.md, "One query, checked".
 
-ghost use Rattle.std.specs.Prelude.{◌≡◌, ◌⊎◌, ◌↔◌, false, true, Some, None, IfNone, IfOk, IfErr, IfSome, IsErrOf, map, string_bytes};
+ghost use Rattle.std.specs.Prelude.{◌≡◌, ◌≢◌, ◌⊎◌, ◌↔◌, false, true, Some, None, IfNone, IfOk, IfErr, IfSome, IsErrOf, MatchResult, map, string_bytes};
 ghost use Rattle.std.specs.Io.KnownBytes.{Appends};
 ghost use Rattle.promql_text.specs.Texts.{Text};
 ghost use Rattle.promql_span.specs.ByteEscapes.{byte_escape};
-ghost use Rattle.promql_span.specs.Locations.{location_at};
+ghost use Rattle.promql_span.specs.Locations.{location_of};
 ghost use Rattle.promql_span.specs.declared.span.Span.{Span};
 ghost use Rattle.promql_report.specs.Checking.{IsChecked, IsQueryIn, IsReport, IsReported, IsSilent, IsWarned, check_command};
-ghost use Rattle.promql_run.specs.Running.{IsNotUtf8};
+ghost use Rattle.promql_run.specs.Running.{IsNotUtf8, UnlessRead};
 ghost use Rattle.promql_run.specs.StepErrors.{IsInputError};
 
 use crate::rejection::{Rejection, read_query};
@@ -112,7 +112,7 @@ fn report_rejection(alloc: Global, query: &str, rejection: &Rejection) -> Result
 fn warning(alloc: Global, query: &str) -> Result<Option<String>, AllocError>
     ensures none { IfOk result (λ o. IfNone o (byte_escape query.now ≡ None)) }
     ensures some { IfOk result (λ o. IfSome o (λ s. (span : Span) × (byte_escape query.now ≡ Some span)
-        × IsReport query.now (location_at query.now span.start) span (string_bytes s))) }
+        × IsReport query.now (location_of query.now span.start) span (string_bytes s))) }
 {
     match byte_escape(query) {
         Some(span) => {
@@ -136,6 +136,8 @@ fn query_in(text: &str) -> &str
 /// Reads all of the input, and checks the query in it.
 fn check_input<R: Read>(alloc: Global, reader: &mut Ended<R>) -> Result<Checked, RunError>
     ensures ok { IfOk result (IsChecked (R.remaining reader.old.inner) (R.remaining reader.new.inner)) }
+    ensures quiet { MatchResult result (λ _. reader.new.failed ≡ reader.old.failed)
+        (λ e. UnlessRead e (reader.new.failed ≡ reader.old.failed)) }
     ensures read { IsErrOf result RunError.Read → reader.new.failed ≡ true }
     ensures not_utf8 { IsErrOf result RunError.NotUtf8
         → IsNotUtf8 (R.remaining reader.old.inner) (R.remaining reader.new.inner) }
@@ -181,12 +183,14 @@ pub fn check_program<R: Read, W: Write, E: Write>(
     ensures help_text { check_command (map string_bytes args.now) ≡ Some CheckCommand.Help
         → result ≡ 0
         → Appends (W.contents writer.old.inner) (W.contents writer.new.inner) CHECK_HELP.now }
+    ensures help_flushed { check_command (map string_bytes args.now) ≡ Some CheckCommand.Help
+        → result ≡ 0 → writer.new.pending ≡ false }
     ensures help_status { check_command (map string_bytes args.now) ≡ Some CheckCommand.Help
         → (result ≡ 0) ⊎ (result ≡ 5) }
     // A check: where the query is accepted, nothing is written, or the warning of a byte escape; and the report where it is rejected.
     ensures accepted { check_command (map string_bytes args.now) ≡ Some CheckCommand.Check
-        → result ≡ 0 → IsSilent (R.remaining reader.old.inner) (R.remaining reader.new.inner)
-        × (errors.new ≡ errors.old)
+        → result ≡ 0 → (IsSilent (R.remaining reader.old.inner) (R.remaining reader.new.inner)
+        × (errors.new ≡ errors.old))
         ⊎ ((warning : Text)
         × IsWarned (R.remaining reader.old.inner) (R.remaining reader.new.inner) warning
         × (errors.new.failed ≡ false
@@ -203,6 +207,7 @@ pub fn check_program<R: Read, W: Write, E: Write>(
     ensures known { (result ≡ 0) ⊎ (result ≡ 1) ⊎ (result ≡ 2) ⊎ (result ≡ 3)
         ⊎ (result ≡ REJECTED_STATUS) ⊎ (result ≡ 5) ⊎ (result ≡ USAGE_STATUS) }
     ensures read { result ≡ 2 → reader.new.failed ≡ true }
+    ensures quiet { result ≢ 2 → reader.new.failed ≡ reader.old.failed }
     ensures not_utf8 { result ≡ 3
         → IsNotUtf8 (R.remaining reader.old.inner) (R.remaining reader.new.inner) }
     ensures write { result ≡ 5 → writer.new.failed ≡ true }

@@ -3,7 +3,16 @@ use Rattle.std.proofs.Common.{◌≡◌, refl, Option, Some}
 use Rattle.promql_syntax.specs.declared.parser.ParseError.{ParseError}
 use Rattle.promql_run.specs.declared.run.RunError.{RunError}
 use Rattle.promql_run.specs.declared.run.RunError.TheVariants.{Memory, Read, NotUtf8, Parse, Write, Json}
-use Rattle.promql_run.specs.Running.{error_number}
+use Rattle.promql_run.specs.Running.{UnlessRead, error_number}
+
+-- where the status is another one than that of a failed read
+pub not_two : (e : RunError) (fact : Type 0) → ¬ (error_number e ≡ 2) → UnlessRead e fact → fact
+not_two Read fact other holds = absurd (other refl)
+not_two Memory fact other holds = holds
+not_two NotUtf8 fact other holds = holds
+not_two (Parse p) fact other holds = holds
+not_two Write fact other holds = holds
+not_two Json fact other holds = holds
 
 pub four_is_parse : (e : RunError) → error_number e ≡ 4 → (p : ParseError) × (e ≡ Parse p)
 four_is_parse (Parse p) four = (p, refl)

@@ -55,6 +55,7 @@ pub fn program<R: Read, W: Write, E: Write>(
     ensures silent { result ≡ 0 → errors.new ≡ errors.old }
     // Each other status is that of an error, under the conditions of `run`.
     ensures read { result ≡ 2 → reader.new.failed ≡ true }
+    ensures quiet { result ≢ 2 → reader.new.failed ≡ reader.old.failed }
     ensures not_utf8 { result ≡ 3
         → IsNotUtf8 (R.remaining reader.old.inner) (R.remaining reader.new.inner) }
     ensures parse { result ≡ 4 → (e : ParseError) ×

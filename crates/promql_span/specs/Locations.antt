@@ -34,8 +34,9 @@ column_of cs offset = 1 + length (last_line (characters_before cs offset))
 abbrev pub column_utf16_of : Text → ℕ → ℕ
 column_utf16_of cs offset = 1 + sum_by len_utf16 (last_line (characters_before cs offset))
 
-abbrev pub location_at : Text → ℕ → Location
-location_at s offset = record { line = line_of (chars s) offset; column = column_of (chars s) offset }
+-- where the byte at an offset of a text is
+abbrev pub location_of : Text → ℕ → Location
+location_of text offset = record { line = line_of (chars text) offset; column = column_of (chars text) offset }
 
 -- the line, a colon, the column
 abbrev pub location_text : Location → Text

@@ -1,11 +1,12 @@
 //! The error of a text, with its place: docs/reference/grammar.md, "Places of errors".
 
-ghost use Rattle.std.specs.Prelude.{◌≡◌, ◌⊎◌, ◌<◌, List, [], Ok, IfErr, IfOk, MatchOption, chars, encode_utf8_all, length, map, string_bytes};
+ghost use Rattle.std.specs.Prelude.{◌≡◌, ◌⊎◌, ◌<◌, List, [], Ok, IfErr, IfOk, MatchOption, chars, encode_utf8_all, length, map, option_map, string_bytes};
 ghost use Rattle.promql_grammar.specs.Misfits.{AreMisfits};
 ghost use Rattle.promql_grammar.specs.Symbols.{symbol_of};
 ghost use Rattle.promql_grammar.specs.declared.read_error.ReadError.TheVariants as read_errors;
 ghost use Rattle.promql_grammar.specs.SourceTokens.{Token, has_any, tokens};
 ghost use Rattle.promql_grammar.specs.SymbolsLeft.{symbols_left};
+ghost use Rattle.promql_span.specs.Locations.{location_of};
 ghost use Rattle.promql_span.specs.PlacedTokens.{end_of};
 ghost use Rattle.promql_span.specs.Snippets.{snippet_text};
 ghost use Rattle.promql_span.specs.TokenSpans.{IsAtTokens};
@@ -172,10 +173,24 @@ fn token_start(text: &str, index: usize) -> usize {
 
 impl Diagnosis {
     /// The error with its line and column before it, as `3:14: invalid promql query`. `text` is the text that it is of.
-    pub fn display<'a>(&'a self, text: &'a str) -> DiagnosisDisplay<'a> {
+    pub fn display(&self, text: &str) -> DiagnosisDisplay<'_>
+        ensures location { result.location
+            ≡ option_map (λ span. location_of text.now span.start) self.now.span }
+        ensures error { result.error.now ≡ self.now.error }
+    {
         DiagnosisDisplay {
-            diagnosis: self,
-            text,
+            location: self.location(text),
+            error: &self.error,
+        }
+    }
+
+    /// Where the part of the text begins that the error is about.
+    fn location(&self, text: &str) -> Option<Location>
+        ensures { result ≡ option_map (λ span. location_of text.now span.start) self.now.span }
+    {
+        match self.span {
+            Some(span) => Some(Location::line_column(text, span.start)),
+            None => None,
         }
     }
 
@@ -196,19 +211,21 @@ impl Diagnosis {
     }
 }
 
-/// An error with its line and column, for people.
+/// An error with its line and column, for people. It prints as the location, a colon, a space and the error's message.
 #[derive(Clone, Copy)]
 pub struct DiagnosisDisplay<'a> {
-    diagnosis: &'a Diagnosis,
-    text: &'a str,
+    /// Where the part of the text begins that the error is about; `None` where an allocation failed, and then only the message is
+    /// printed.
+    pub location: Option<Location>,
+    /// The error.
+    pub error: &'a ParseError,
 }
 
 impl fmt::Display for DiagnosisDisplay<'_> {
     fn fmt<W: fmt::Write>(&self, f: &mut fmt::Formatter<W>) -> fmt::Result {
-        if let Some(span) = self.diagnosis.span {
-            let location = Location::line_column(self.text, span.start);
+        if let Some(location) = self.location {
             write!(f, "{location}: ")?;
         }
-        self.diagnosis.error.fmt(f)
+        self.error.fmt(f)
     }
 }

@@ -1,15 +1,16 @@
 use Rattle.std.proofs.Common.{sym, ◌∙◌, subst}
 use Rattle.promql_run.specs.StepErrors.{IsInputError}
-use Rattle.promql_run.proofs.Statuses.{four_is_parse, none_is_zero}
+use Rattle.promql_run.proofs.Statuses.{four_is_parse, none_is_zero, not_two}
 use Rattle.promql_report.proofs.check.check_program.Goals as goal
 
 pub returns-in-Err-check_input-clause-accepted : goal.returns-in-Err-check_input-clause-accepted
 returns-in-Err-check_input-clause-accepted g c = λ asked zero. absurd (none_is_zero c.in-Err-check_input.error (sym c.number-in-Err-check_input.ensures ∙ zero))
 
-pub returns-in-Err-check_input-clause-silent : goal.returns-in-Err-check_input-clause-silent
-returns-in-Err-check_input-clause-silent g c = λ zero. absurd (none_is_zero c.in-Err-check_input.error (sym c.number-in-Err-check_input.ensures ∙ zero))
-
 pub returns-in-Err-check_input-clause-rejected : goal.returns-in-Err-check_input-clause-rejected
 returns-in-Err-check_input-clause-rejected g c = λ four.
     let found = four_is_parse c.in-Err-check_input.error (sym c.number-in-Err-check_input.ensures ∙ four) in
     absurd (subst IsInputError found.1 c.in-Err-check_input.ensures.errors)
+
+pub returns-in-Err-check_input-clause-quiet : goal.returns-in-Err-check_input-clause-quiet
+returns-in-Err-check_input-clause-quiet g c = λ other.
+    not_two c.in-Err-check_input.error _ (λ two. other (c.number-in-Err-check_input.ensures ∙ two)) c.in-Err-check_input.ensures.quiet

@@ -2,7 +2,7 @@ use Rattle.std.proofs.Common.{sym, ◌∙◌, ap, subst, arith}
 use Rattle.std.proofs.lemmas.Grind.{common_steps}
 use Rattle.std.specs.Prelude.{Err}
 use Rattle.promql_run.specs.Running.{BeginsToPrint, IsTooWide}
-use Rattle.promql_run.proofs.Statuses.{four_is_parse, five_is_write, six_is_json, none_is_zero, one_mode}
+use Rattle.promql_run.proofs.Statuses.{four_is_parse, five_is_write, six_is_json, none_is_zero, not_two, one_mode}
 use Rattle.promql_run.proofs.program.program.Goals as goal
 
 pub returns-in-Err-clause-parse : goal.returns-in-Err-clause-parse
@@ -21,6 +21,9 @@ returns-in-Err-clause-ok g c = λ mode asked zero. absurd (none_is_zero c.in-Err
 
 pub returns-in-Err-clause-silent : goal.returns-in-Err-clause-silent
 returns-in-Err-clause-silent g c = λ zero. absurd (none_is_zero c.in-Err.error (sym c.number.ensures ∙ zero))
+
+pub returns-in-Err-clause-quiet : goal.returns-in-Err-clause-quiet
+returns-in-Err-clause-quiet g c = λ other. not_two c.in-Err.error _ (λ two. other (c.number.ensures ∙ two)) c.in-Err.ensures.quiet_reader
 
 pub returns-in-Err-clause-begun : goal.returns-in-Err-clause-begun
 returns-in-Err-clause-begun g c = λ mode asked five.
