@@ -11,7 +11,7 @@ use std::process::ExitCode;
 /// Runs the program over buffers.
 fn run(rt: &HostRuntime) -> Result<u8, RunError> {
     let args = arguments(rt).unwrap_or(Vec::new(rt.alloc()));
-    let Ok(mut reader) = BufReader::new(rt.alloc(), rt.stdin()) else {
+    let Ok(reader) = BufReader::new(rt.alloc(), rt.stdin()) else {
         return Err(RunError::Memory);
     };
     let Ok(writer) = BufWriter::new(rt.alloc(), rt.stdout()) else {
@@ -20,7 +20,7 @@ fn run(rt: &HostRuntime) -> Result<u8, RunError> {
     Ok(batch_program(
         rt.alloc(),
         args.as_slice(),
-        &mut reader,
+        &mut Ended::new(reader),
         &mut Ended::new(writer),
         &mut Ended::new(rt.stderr()),
     ))

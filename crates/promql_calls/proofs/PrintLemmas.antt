@@ -13,7 +13,7 @@ use Rattle.promql_calls.specs.Calls.{IsPrintOf}
 use Rattle.promql_calls.specs.Formats.{format_text}
 use Rattle.promql_calls.specs.PrintErrors.{IsPrintError}
 use Rattle.promql_calls.specs.declared.call_error.CallError.{CallError}
-use Rattle.promql_calls.specs.declared.call_error.CallError.TheVariants.{Memory, NotUtf8, Rejected, NumberTooWide, UnknownMode, Matcher, Unfaithful}
+use Rattle.promql_calls.specs.declared.call_error.CallError.TheVariants.{Memory, NotUtf8, Rejected, NumberTooWide, UnknownMode, Matcher, Unfaithful, Info}
 
 pub print_of_tree : (r : Result (String Global) CallError) (query : Text) (format : Format) (tree : Tree) → IsUtf8 query → IsAnswerTo query (Ok tree) → IfOk r (λ s. format_text format tree ≡ Ok (string_bytes s)) → (IsErrOf r NumberTooWide → format_text format tree ≡ Err json_errors.NumberTooWide) → IfErr r IsPrintError → IsPrintOf query (Some format) (on_result (λ s. string_bytes s) r)
 print_of_tree (Ok s) query format tree utf8 parsed text wide errors = record { utf8 = utf8; tree = tree; parsed = parsed; gives = text }
@@ -24,3 +24,4 @@ print_of_tree (Err (Rejected r)) query format tree utf8 parsed text wide errors 
 print_of_tree (Err UnknownMode) query format tree utf8 parsed text wide errors = absurd errors
 print_of_tree (Err (Matcher e)) query format tree utf8 parsed text wide errors = absurd errors
 print_of_tree (Err (Unfaithful e)) query format tree utf8 parsed text wide errors = absurd errors
+print_of_tree (Err Info) query format tree utf8 parsed text wide errors = absurd errors

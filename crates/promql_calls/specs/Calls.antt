@@ -12,7 +12,7 @@ use Rattle.promql_rewrite.specs.declared.matcher_text.MatcherError.{MatcherError
 use Rattle.promql_rewrite.specs.declared.matcher_text.MatcherError.TheVariants as matcher_error
 use Rattle.promql_report.specs.Checking.{marked_line}
 use Rattle.promql_report.specs.Rejecting.{IsParsed, IsRejection}
-use Rattle.promql_lines.specs.EnforcedLines.{IsEnforcedLine, IsUnfaithfulLine}
+use Rattle.promql_lines.specs.EnforcedLines.{IsEnforcedLine, IsUnfaithfulLine, MeetsBareInfoIn}
 use Rattle.promql_lines.specs.declared.request.Format.{Format}
 use Rattle.promql_calls.specs.declared.call_error.CallError.{CallError}
 use Rattle.promql_calls.specs.declared.call_error.CallError.TheVariants as errors
@@ -53,6 +53,7 @@ abbrev pub IsEnforceOf : Text → Text → Result Text CallError → Type 0
 IsEnforceOf query matcher (Ok line) = IsUtf8 query × IsUtf8 matcher × IsEnforcedLine query matcher line
 IsEnforceOf query matcher (Err (errors.Matcher e)) = IsUtf8 query × IsParsed query × IsBadMatcher matcher e
 IsEnforceOf query matcher (Err (errors.Unfaithful e)) = IsUtf8 query × IsUtf8 matcher × IsUnfaithfulLine query matcher e
+IsEnforceOf query matcher (Err errors.Info) = IsUtf8 query × IsUtf8 matcher × MeetsBareInfoIn query matcher
 IsEnforceOf query matcher (Err e) = HasNoTree query e
 
 -- "collect": the JSON of what the query names

@@ -32,6 +32,9 @@ pub enum CallError {
     /// The line that was made would not mean the enforced tree.
     #[error("{0}")]
     Unfaithful(NotFaithful),
+    /// A call of `info` in the query has no second argument.
+    #[error("info without a selector reads series that no matcher limits")]
+    Info,
 }
 
 impl CallError {
@@ -47,6 +50,7 @@ impl CallError {
             CallError::UnknownMode => 9,
             CallError::Matcher(_) => 11,
             CallError::Unfaithful(_) => 12,
+            CallError::Info => 13,
         }
     }
 }

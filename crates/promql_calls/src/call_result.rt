@@ -74,7 +74,8 @@ fn result_of(error: &CallError, length: usize) -> CallResult
         | CallError::NumberTooWide
         | CallError::UnknownMode
         | CallError::Matcher(_)
-        | CallError::Unfaithful(_) => plain(error.status(), length),
+        | CallError::Unfaithful(_)
+        | CallError::Info => plain(error.status(), length),
     }
 }
 

@@ -22,6 +22,7 @@ fn enforce_text(alloc: Global, query: &str, matcher: &str) -> Result<String, Cal
         Err(EnforcedLineError::Rejected(rejection)) => Err(CallError::Rejected(rejection)),
         Err(EnforcedLineError::Matcher(error)) => Err(CallError::Matcher(error)),
         Err(EnforcedLineError::Unfaithful(error)) => Err(CallError::Unfaithful(error)),
+        Err(EnforcedLineError::Info) => Err(CallError::Info),
     }
 }
 

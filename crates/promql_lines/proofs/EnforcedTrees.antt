@@ -1,21 +1,15 @@
 -- A tree in which a matcher is enforced is as high as it was, and has no extension where it had none.
 use Rattle.std.proofs.Common.{◌∙◌, ap, subst, sym}
-use Rattle.std.specs.Prelude.{Bool, true, false, if◌then◌else◌, Option, Some, None, ◌≤◌, codes}
-use Rattle.std.specs.Str.{bytes_eq}
+use Rattle.std.specs.Prelude.{Option, Some, None, ◌≤◌}
 use Rattle.promql_text.specs.Texts.{Text}
 use Rattle.promql_label.specs.PlainMatchers.{PlainMatcher}
-use Rattle.promql_kind.specs.Functions.{name_of}
 use Rattle.promql_ast.specs.Height.{height}
 use Rattle.promql_ast.specs.Tree.{Tree, aggregate, unary, binary, paren, subquery, number, string, vector, matrix, call, extension, MaybeTree, absent, present, Trees, no_trees, first_tree}
-use Rattle.promql_rewrite.specs.Enforcing.{all_enforced, enforced, first_enforced, maybe_enforced}
+use Rattle.promql_rewrite.specs.Enforcing.{all_enforced, enforced, maybe_enforced}
 use Rattle.promql_rewrite.proofs.EnforcedTypes.{height_enforced}
 use Rattle.promql_syntax.specs.declared.parser.TheConstants.{MAX_DEPTH}
 use Rattle.promql_run.specs.Extensions.{HasNoExtension, NoneInEach, NoneInParam}
 use Rattle.promql_lines.specs.Batch.{IsAsked}
-
-either_none : (b : Bool) (one other : Trees) → NoneInEach one → NoneInEach other → NoneInEach (if b then one else other)
-either_none true one other first second = first
-either_none false one other first second = second
 
 module _ (c : PlainMatcher) where
   mutual
@@ -29,7 +23,7 @@ module _ (c : PlainMatcher) where
     enforced_plain (string s) plain = tt
     enforced_plain (vector s) plain = tt
     enforced_plain (matrix s range mode) plain = tt
-    enforced_plain (call f args) plain = either_none (bytes_eq (name_of f) (codes "info")) _ _ (first_plain args plain) (all_plain args plain)
+    enforced_plain (call f args) plain = all_plain args plain
     enforced_plain (extension name gives es) plain = plain
 
     param_plain : (p : MaybeTree) → NoneInParam p → NoneInParam (maybe_enforced c p)
@@ -40,15 +34,11 @@ module _ (c : PlainMatcher) where
     all_plain no_trees plain = tt
     all_plain (first_tree e es) plain = (enforced_plain e plain.0, all_plain es plain.1)
 
-    first_plain : (ts : Trees) → NoneInEach ts → NoneInEach (first_enforced c ts)
-    first_plain no_trees plain = tt
-    first_plain (first_tree e es) plain = (enforced_plain e plain.0, plain.1)
-
 -- what is printed of a tree that was read, with a matcher in its selectors or without
 pub asked_plain : (matcher : Option Text) (t u : Tree) → IsAsked matcher t u → HasNoExtension t → HasNoExtension u
 asked_plain None t u asked plain = subst HasNoExtension (sym asked) plain
-asked_plain (Some matcher) t u asked plain = subst HasNoExtension (sym asked.3) (enforced_plain asked.0 t plain)
+asked_plain (Some matcher) t u asked plain = subst HasNoExtension (sym asked.enforces) (enforced_plain asked.matcher t plain)
 
 pub asked_low : (matcher : Option Text) (t u : Tree) → IsAsked matcher t u → height t ≤ MAX_DEPTH → height u ≤ MAX_DEPTH
 asked_low None t u asked low = subst (λ v. height v ≤ MAX_DEPTH) (sym asked) low
-asked_low (Some matcher) t u asked low = subst (λ n. n ≤ MAX_DEPTH) (sym (ap height asked.3 ∙ height_enforced asked.0 t)) low
+asked_low (Some matcher) t u asked low = subst (λ n. n ≤ MAX_DEPTH) (sym (ap height asked.enforces ∙ height_enforced asked.matcher t)) low

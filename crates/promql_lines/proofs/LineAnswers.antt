@@ -7,15 +7,14 @@ use Rattle.promql_text.specs.Texts.{Text}
 use Rattle.promql_ast.specs.Tree.{Tree}
 use Rattle.promql_syntax.specs.ParseAnswers.{IsAnswerTo}
 use Rattle.promql_json.specs.declared.error.JsonError.TheVariants.{NumberTooWide}
-use Rattle.promql_report.specs.Rejecting.{IsParsed}
 use Rattle.promql_run.specs.StepErrors.{IsShowError}
 use Rattle.promql_run.specs.declared.run.Mode.{Mode}
 use Rattle.promql_run.specs.declared.run.RunError.{RunError}
 use Rattle.promql_run.specs.declared.run.RunError.TheVariants.{Memory, Read, NotUtf8, Parse, Write, Json}
 use Rattle.promql_lines.specs.Batch.{Asks, FailsOnQuery, FailsWith, IsAsked, format_value, line_error_object, ok_object}
-use Rattle.promql_lines.specs.BatchSteps.{IsMatcherFaultOf}
+use Rattle.promql_lines.specs.BatchSteps.{IsEnforceFaultOf}
 use Rattle.promql_lines.specs.declared.line.LineError.{LineError}
-use Rattle.promql_lines.specs.declared.line.LineError.TheVariants.{Run, Rejected, NotARequest, Matcher}
+use Rattle.promql_lines.specs.declared.line.LineError.TheVariants.{Run, Rejected, NotARequest, Matcher, Info}
 use Rattle.promql_lines.specs.declared.request.Format.{Format}
 
 pub ok_is_finite : (built value : Data) → built ≡ ok_object value → has_float value ≡ false → has_float built ≡ false
@@ -26,6 +25,7 @@ error_is_finite built (Run e) message is = ap has_float is
 error_is_finite built (Rejected r) message is = ap has_float is
 error_is_finite built NotARequest message is = ap has_float is
 error_is_finite built (Matcher e) message is = ap has_float is
+error_is_finite built Info message is = ap has_float is
 
 -- an error of rendering is one of the query
 pub fails_of_rendering : (e : RunError) (query : Text) (matcher : Option Text) (format : Format) (tree printed : Tree) → IsAnswerTo query (Ok tree) → IsAsked matcher tree printed
@@ -37,17 +37,18 @@ fails_of_rendering NotUtf8 query matcher format tree printed parsed asked wide e
 fails_of_rendering (Parse e) query matcher format tree printed parsed asked wide errors = absurd errors
 fails_of_rendering Write query matcher format tree printed parsed asked wide errors = absurd errors
 
--- an error of the matcher is one of a query that has a tree
-pub fails_of_matcher : (e : LineError) (query : Text) (matcher : Option Text) (format : Format) → IsParsed query → IsMatcherFaultOf matcher e → FailsOnQuery query matcher format e
-fails_of_matcher (Run Memory) query matcher format parsed fault = tt
-fails_of_matcher (Matcher e) query matcher format parsed fault = (parsed, fault)
-fails_of_matcher (Run Read) query matcher format parsed fault = absurd fault
-fails_of_matcher (Run NotUtf8) query matcher format parsed fault = absurd fault
-fails_of_matcher (Run (Parse e)) query matcher format parsed fault = absurd fault
-fails_of_matcher (Run Write) query matcher format parsed fault = absurd fault
-fails_of_matcher (Run Json) query matcher format parsed fault = absurd fault
-fails_of_matcher (Rejected r) query matcher format parsed fault = absurd fault
-fails_of_matcher NotARequest query matcher format parsed fault = absurd fault
+-- an error of enforcing is one of a query that has the tree
+pub fails_of_matcher : (e : LineError) (query : Text) (matcher : Option Text) (format : Format) (t : Tree) → IsAnswerTo query (Ok t) → IsEnforceFaultOf matcher t e → FailsOnQuery query matcher format e
+fails_of_matcher (Run Memory) query matcher format t parsed fault = tt
+fails_of_matcher (Matcher e) query matcher format t parsed fault = ((t, parsed), fault)
+fails_of_matcher Info query matcher format t parsed fault = (t, parsed, fault)
+fails_of_matcher (Run Read) query matcher format t parsed fault = absurd fault
+fails_of_matcher (Run NotUtf8) query matcher format t parsed fault = absurd fault
+fails_of_matcher (Run (Parse e)) query matcher format t parsed fault = absurd fault
+fails_of_matcher (Run Write) query matcher format t parsed fault = absurd fault
+fails_of_matcher (Run Json) query matcher format t parsed fault = absurd fault
+fails_of_matcher (Rejected r) query matcher format t parsed fault = absurd fault
+fails_of_matcher NotARequest query matcher format t parsed fault = absurd fault
 
 -- an error of the query is one of the line that asks for it
 fails_in_vain : (mode : Mode) (line query : Text) (matcher : Option Text) (format : Format) (e : LineError) → Asks mode line query matcher format → FailsOnQuery query matcher format e → FailsWith mode line e
@@ -55,6 +56,7 @@ fails_in_vain mode line query matcher format (Run Memory) asks fails = tt
 fails_in_vain mode line query matcher format (Run Json) asks fails = record { query = query; matcher = matcher; format = format; asks = asks; fails = fails }
 fails_in_vain mode line query matcher format (Rejected r) asks fails = record { query = query; matcher = matcher; format = format; asks = asks; fails = fails }
 fails_in_vain mode line query matcher format (Matcher e) asks fails = record { query = query; matcher = matcher; format = format; asks = asks; fails = fails }
+fails_in_vain mode line query matcher format Info asks fails = record { query = query; matcher = matcher; format = format; asks = asks; fails = fails }
 fails_in_vain mode line query matcher format (Run Read) asks fails = absurd fails
 fails_in_vain mode line query matcher format (Run NotUtf8) asks fails = absurd fails
 fails_in_vain mode line query matcher format (Run (Parse e)) asks fails = absurd fails

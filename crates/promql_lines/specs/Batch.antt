@@ -14,7 +14,7 @@ use Rattle.promql_syntax.specs.ParseAnswers.{IsAnswerTo}
 use Rattle.promql_json.specs.Json.{json}
 use Rattle.promql_json.specs.declared.error.JsonError.{JsonError}
 use Rattle.promql_json.specs.declared.error.JsonError.TheVariants.{NumberTooWide}
-use Rattle.promql_rewrite.specs.MatcherTexts.{IsEnforcedBy, IsMatcherFault}
+use Rattle.promql_rewrite.specs.MatcherTexts.{IsEnforcedBy, IsMatcherFault, MeetsBareInfo}
 use Rattle.promql_rewrite.specs.declared.matcher_text.MatcherError.{MatcherError}
 use Rattle.promql_report.specs.declared.rejection.Rejection.{Rejection}
 use Rattle.promql_run.specs.declared.run.Mode.{Mode}
@@ -22,7 +22,7 @@ use Rattle.promql_run.specs.declared.run.RunError.TheVariants as error
 use Rattle.promql_report.specs.Rejecting.{IsParsed, IsRejection}
 use Rattle.promql_run.specs.Running.{error_number}
 use Rattle.promql_lines.specs.declared.line.LineError.{LineError}
-use Rattle.promql_lines.specs.declared.line.LineError.TheVariants.{Run, Rejected, NotARequest, Matcher}
+use Rattle.promql_lines.specs.declared.line.LineError.TheVariants.{Run, Rejected, NotARequest, Matcher, Info}
 use Rattle.promql_lines.specs.declared.request.Format.{Format}
 use Rattle.promql_lines.specs.declared.request.Format.TheVariants.{Pretty, Line, Json}
 use Rattle.promql_lines.specs.Requests.{query_in, matcher_in, format_in}
@@ -68,11 +68,17 @@ abbrev pub HasMatcherFault : Option Text → MatcherError → Type 0
 HasMatcherFault None e = ⊥
 HasMatcherFault (Some matcher) e = IsMatcherFault matcher e
 
+-- there is a matcher, which can be enforced, and a call of `info` in the tree has no second argument
+abbrev pub MeetsBareInfoIfAny : Option Text → Tree → Type 0
+MeetsBareInfoIfAny None t = ⊥
+MeetsBareInfoIfAny (Some matcher) t = MeetsBareInfo matcher t
+
 -- when a query has this error; the matcher counts only where the query has a tree
 abbrev pub FailsOnQuery : Text → Option Text → Format → LineError → Type 0
 FailsOnQuery query matcher format (Run error.Memory) = Unit {0}
 FailsOnQuery query matcher format (Rejected rejection) = IsRejection query rejection
 FailsOnQuery query matcher format (Matcher e) = IsParsed query × HasMatcherFault matcher e
+FailsOnQuery query matcher format Info = (t : Tree) × IsAnswerTo query (Ok t) × MeetsBareInfoIfAny matcher t
 FailsOnQuery query matcher format (Run error.Json) = HasQueryValue query matcher format (Err NumberTooWide)
 FailsOnQuery query matcher format _ = ⊥
 
@@ -97,6 +103,7 @@ line_error_number (Run e) = error_number e
 line_error_number (Rejected rejection) = 4
 line_error_number NotARequest = 7
 line_error_number (Matcher e) = 11
+line_error_number Info = 13
 
 -- "Errors": when a line has this error
 abbrev pub FailsWith : Mode → Text → LineError → Type 0
@@ -127,6 +134,7 @@ line_error_object (Rejected rejection) message = rejection_object 4 message reje
 line_error_object (Run e) message = error_object (error_number e) message
 line_error_object NotARequest message = error_object 7 message
 line_error_object (Matcher e) message = error_object 11 message
+line_error_object Info message = error_object 13 message
 
 pub record IsOkLine (mode : Mode) (line printed : Text) : Type 0 where
   pub value : Data

@@ -3,15 +3,16 @@ use Rattle.std.specs.Prelude.{◌≢◌, ℕ, ◌++◌, List, [], ◌∷◌, All
 use Rattle.std.specs.Io.{StopsAt}
 use Rattle.std.specs.Io.KnownBytes.{Appends, Consumes}
 use Rattle.promql_text.specs.Texts.{Text}
+use Rattle.promql_ast.specs.Tree.{Tree}
 use Rattle.promql_io.specs.Ended.{AppendsBeginning}
 use Rattle.promql_run.specs.declared.run.Mode.{Mode}
 use Rattle.promql_run.specs.declared.run.RunError.{RunError}
 use Rattle.promql_run.specs.declared.run.RunError.TheVariants as error
-use Rattle.promql_lines.specs.Batch.{HasMatcherFault, IsAll, IsLineAnswer}
+use Rattle.promql_lines.specs.Batch.{HasMatcherFault, IsAll, IsLineAnswer, MeetsBareInfoIfAny}
 use Rattle.promql_lines.specs.declared.batch.LineEnd.{LineEnd}
 use Rattle.promql_lines.specs.declared.batch.LineEnd.TheVariants.{Feed, Input}
 use Rattle.promql_lines.specs.declared.line.LineError.{LineError}
-use Rattle.promql_lines.specs.declared.line.LineError.TheVariants.{Run, Matcher}
+use Rattle.promql_lines.specs.declared.line.LineError.TheVariants.{Run, Matcher, Info}
 
 abbrev pub HasNoFeed : Text → Type 0
 HasNoFeed line = All (λ b. b ≢ 10) line
@@ -38,11 +39,12 @@ IsPartlyAnswered mode line held held_after =
     (answer : Text) × (is_ok : Bool) × IsLineAnswer mode line answer is_ok
     × AppendsBeginning held held_after (answer ++ 10 ∷ [])
 
--- why the matcher is not enforced
-abbrev pub IsMatcherFaultOf : Option Text → LineError → Type 0
-IsMatcherFaultOf matcher (Run error.Memory) = Unit {0}
-IsMatcherFaultOf matcher (Matcher e) = HasMatcherFault matcher e
-IsMatcherFaultOf matcher _ = ⊥
+-- why the matcher is not enforced in the tree
+abbrev pub IsEnforceFaultOf : Option Text → Tree → LineError → Type 0
+IsEnforceFaultOf matcher t (Run error.Memory) = Unit {0}
+IsEnforceFaultOf matcher t (Matcher e) = HasMatcherFault matcher e
+IsEnforceFaultOf matcher t Info = MeetsBareInfoIfAny matcher t
+IsEnforceFaultOf matcher t _ = ⊥
 
 abbrev pub IsReadingError : RunError → Type 0
 IsReadingError error.Memory = Unit {0}

@@ -10,7 +10,7 @@ use Rattle.promql_ast.specs.Tree.{Tree}
 use Rattle.promql_syntax.specs.ParseAnswers.{IsAnswerTo, plain_error_of}
 use Rattle.promql_syntax.specs.declared.parser.ParseError.TheVariants as parse
 use Rattle.promql_rewrite.specs.Faithful.{IsLineOf, MeansOther}
-use Rattle.promql_rewrite.specs.MatcherTexts.{IsEnforcedBy, IsMatcherFault}
+use Rattle.promql_rewrite.specs.MatcherTexts.{IsEnforcedBy, IsMatcherFault, MeetsBareInfo}
 use Rattle.promql_rewrite.specs.declared.faithful.NotFaithful.{NotFaithful}
 use Rattle.promql_rewrite.specs.declared.faithful.NotFaithful.TheVariants as faithful
 use Rattle.promql_io.specs.Ended.{AppendsBeginning}
@@ -24,6 +24,7 @@ enforce_number error.Memory = 1
 enforce_number (error.Rejected r) = 4
 enforce_number (error.Matcher e) = 11
 enforce_number (error.Unfaithful e) = 12
+enforce_number error.Info = 13
 
 -- this is the line of the tree with the matcher in every selector, and it means that tree
 abbrev pub ShowsEnforced : Tree → Text → Text → Type 0
@@ -41,6 +42,7 @@ FailsToShow t matcher error.Memory = Unit {0}
 FailsToShow t matcher (error.Rejected r) = ⊥
 FailsToShow t matcher (error.Matcher e) = IsMatcherFault matcher e
 FailsToShow t matcher (error.Unfaithful e) = (u : Tree) × IsEnforcedBy matcher t u × IsUnfaithful u e
+FailsToShow t matcher error.Info = MeetsBareInfo matcher t
 
 -- the query has a tree, and this is its line with the matcher in every selector
 abbrev pub IsEnforcedLine : Text → Text → Text → Type 0
@@ -51,12 +53,17 @@ abbrev pub IsUnfaithfulLine : Text → Text → NotFaithful → Type 0
 IsUnfaithfulLine query matcher e =
     (t : Tree) × IsAnswerTo query (Ok t) × ((u : Tree) × IsEnforcedBy matcher t u × IsUnfaithful u e)
 
+-- the query has a tree, in which a call of `info` has no second argument; and the text is a matcher that can be enforced
+abbrev pub MeetsBareInfoIn : Text → Text → Type 0
+MeetsBareInfoIn query matcher = (t : Tree) × IsAnswerTo query (Ok t) × MeetsBareInfo matcher t
+
 -- why the query has no such line; the matcher counts only where the query has a tree
 abbrev pub FailsToEnforce : Text → Text → EnforcedLineError → Type 0
 FailsToEnforce query matcher error.Memory = Unit {0}
 FailsToEnforce query matcher (error.Rejected r) = IsRejection query r
 FailsToEnforce query matcher (error.Matcher e) = IsParsed query × IsMatcherFault matcher e
 FailsToEnforce query matcher (error.Unfaithful e) = IsUnfaithfulLine query matcher e
+FailsToEnforce query matcher error.Info = MeetsBareInfoIn query matcher
 
 -- ---- the program
 
@@ -114,7 +121,7 @@ IsInputAnswer matcher left left_after (Err e) = HasNoEnforcedLine matcher e left
 
 -- the statuses of these errors
 abbrev pub IsLineStatus : ℕ → Type 0
-IsLineStatus status = (status ≡ 4) ⊎ (status ≡ 11) ⊎ (status ≡ 12)
+IsLineStatus status = (status ≡ 4) ⊎ (status ≡ 11) ⊎ (status ≡ 12) ⊎ (status ≡ 13)
 
 -- each status of a matcher
 abbrev pub IsEnforceStatus : ℕ → Type 0

@@ -1,17 +1,18 @@
 //! Many queries, a line each: docs/reference/programs.md.
 
-ghost use Rattle.std.specs.Prelude.{◌≡◌, ◌++◌, [], ◌∷◌, false, true, IfOk, OnOk, IfErr, OnErr, IsErrOf};
+ghost use Rattle.std.specs.Prelude.{◌≡◌, ◌++◌, [], ◌∷◌, false, true, IfOk, OnOk, IfErr, OnErr, IsErrOf, MatchResult};
 ghost use Rattle.std.specs.Io.KnownBytes.{Appends};
 ghost use Rattle.promql_io.specs.Ended.{AppendsBeginning};
-ghost use Rattle.promql_run.specs.Running.{UnlessWrite};
+ghost use Rattle.promql_run.specs.Running.{UnlessRead, UnlessWrite};
 ghost use Rattle.promql_lines.specs.Batch.{AnswersBefore, AnswersLines, IsCutShort};
 ghost use Rattle.promql_lines.specs.BatchSteps.{IsLineRead, IsPartRead, IsAnswered, IsPartlyAnswered, IsReadingError, IsBatchError};
 
 use crate::line::answer_line;
 use promql_io::ended::Ended;
+use promql_io::reading::ReadFault;
 use promql_run::run::{Mode, RunError, flush, write_whole};
 use std::alloc::Global;
-use std::io::{BufRead, ErrorKind, Write};
+use std::io::{BufRead, Write};
 
 /// The answer to a line for which an allocation failed.
 const MEMORY_ANSWER: &str = "{\"code\":1,\"error\":\"out of memory\"}";
@@ -26,9 +27,15 @@ pub(crate) enum LineEnd {
 }
 
 /// Reads the next line into `line`, without its line feed; `None` at the end of the input.
-fn read_line<R: BufRead>(reader: &mut R, line: &mut Vec<u8>) -> Result<Option<LineEnd>, RunError>
-    ensures ok { IfOk result (IsLineRead (R.remaining reader.old) (R.remaining reader.new) line.new.items) }
-    ensures err { OnErr result (IsPartRead (R.remaining reader.old) (R.remaining reader.new)) }
+fn read_line<R: BufRead>(
+    reader: &mut Ended<R>,
+    line: &mut Vec<u8>,
+) -> Result<Option<LineEnd>, RunError>
+    ensures ok { IfOk result (IsLineRead (R.remaining reader.old.inner) (R.remaining reader.new.inner) line.new.items) }
+    ensures err { OnErr result (IsPartRead (R.remaining reader.old.inner) (R.remaining reader.new.inner)) }
+    ensures quiet { MatchResult result (λ _. reader.new.failed ≡ reader.old.failed)
+        (λ e. UnlessRead e (reader.new.failed ≡ reader.old.failed)) }
+    ensures failed { IsErrOf result RunError.Read → reader.new.failed ≡ true }
     ensures errors { IfErr result IsReadingError }
 {
     line.clear();
@@ -41,8 +48,8 @@ fn read_line<R: BufRead>(reader: &mut R, line: &mut Vec<u8>) -> Result<Option<Li
             }
             Some(_) => Ok(Some(LineEnd::Input)),
         },
-        Err(error) if error.kind() == ErrorKind::OutOfMemory => Err(RunError::Memory),
-        Err(_) => Err(RunError::Read),
+        Err(ReadFault::Memory) => Err(RunError::Memory),
+        Err(ReadFault::Read) => Err(RunError::Read),
     }
 }
 
@@ -91,23 +98,26 @@ fn write_answer<W: Write>(
 ///
 /// # Errors
 ///
-/// `Memory` where an allocation failed while a line was read, and `Read` where a read failed: the lines before were
-/// answered. `Write` where a call of the writer failed: then a beginning of the answers was written.
+/// `Memory` where an allocation failed while a line was read, or the lines are more than a `u64` counts, and `Read` where a read
+/// failed: the lines before were answered. `Write` where a call of the writer failed: then a beginning of the answers was written.
 pub fn run_batch<R: BufRead, W: Write>(
     alloc: Global,
     mode: Mode,
-    reader: &mut R,
+    reader: &mut Ended<R>,
     writer: &mut Ended<W>,
 ) -> Result<bool, RunError>
-    ensures ok { IfOk result (AnswersLines mode (R.remaining reader.old) (R.remaining reader.new)
-        (W.contents writer.old.inner) (W.contents writer.new.inner)) }
+    ensures ok { IfOk result (AnswersLines mode (R.remaining reader.old.inner)
+        (R.remaining reader.new.inner) (W.contents writer.old.inner) (W.contents writer.new.inner)) }
     ensures flushed { OnOk result (writer.new.pending ≡ false) }
     ensures quiet { OnOk result (writer.new.failed ≡ writer.old.failed) }
-    ensures before { IfErr result (λ e. UnlessWrite e (AnswersBefore mode (R.remaining reader.old)
-        (R.remaining reader.new) (W.contents writer.old.inner) (W.contents writer.new.inner))) }
+    ensures quiet_reader { MatchResult result (λ _. reader.new.failed ≡ reader.old.failed)
+        (λ e. UnlessRead e (reader.new.failed ≡ reader.old.failed)) }
+    ensures read { IsErrOf result RunError.Read → reader.new.failed ≡ true }
+    ensures before { IfErr result (λ e. UnlessWrite e (AnswersBefore mode (R.remaining reader.old.inner)
+        (R.remaining reader.new.inner) (W.contents writer.old.inner) (W.contents writer.new.inner))) }
     ensures write { IsErrOf result RunError.Write → writer.new.failed ≡ true }
-    ensures begun { IsErrOf result RunError.Write → IsCutShort mode (R.remaining reader.old)
-        (R.remaining reader.new) (W.contents writer.old.inner) (W.contents writer.new.inner) }
+    ensures begun { IsErrOf result RunError.Write → IsCutShort mode (R.remaining reader.old.inner)
+        (R.remaining reader.new.inner) (W.contents writer.old.inner) (W.contents writer.new.inner) }
     ensures errors { IfErr result IsBatchError }
 {
     let mut line = Vec::new(alloc);
@@ -131,5 +141,5 @@ pub fn run_batch<R: BufRead, W: Write>(
         }
     }
     // No input has so many lines.
-    Err(RunError::Read)
+    Err(RunError::Memory)
 }

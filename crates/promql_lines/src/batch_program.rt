@@ -1,6 +1,6 @@
 //! The program for batches, as a function of its arguments, its input and its two outputs.
 
-ghost use Rattle.std.specs.Prelude.{◌≡◌, ◌⊎◌, ◌↔◌, false, true, Some, None, map, string_bytes};
+ghost use Rattle.std.specs.Prelude.{◌≡◌, ◌≢◌, ◌⊎◌, ◌↔◌, false, true, Some, None, map, string_bytes};
 ghost use Rattle.std.specs.Io.KnownBytes.{Appends};
 ghost use Rattle.promql_run.specs.declared.run.Mode as modes;
 ghost use Rattle.promql_lines.specs.Batch.{AnswersBefore, AnswersLines, IsCutShort};
@@ -63,7 +63,7 @@ fn command_of(args: &[String]) -> Option<Command>
 pub fn batch_program<R: BufRead, W: Write, E: Write>(
     alloc: Global,
     args: &[String],
-    reader: &mut R,
+    reader: &mut Ended<R>,
     writer: &mut Ended<W>,
     errors: &mut Ended<E>,
 ) -> u8
@@ -82,11 +82,11 @@ pub fn batch_program<R: BufRead, W: Write, E: Write>(
         → (result ≡ 0) ⊎ (result ≡ 5) }
     // A mode: each line is answered, and the status tells whether each with an `ok`.
     ensures ok { (mode : modes.Mode) → batch_command (map string_bytes args.now)
-        ≡ Some (Command.Batch mode) → result ≡ 0 → AnswersLines mode (R.remaining reader.old)
-        (R.remaining reader.new) (W.contents writer.old.inner) (W.contents writer.new.inner) true }
+        ≡ Some (Command.Batch mode) → result ≡ 0 → AnswersLines mode (R.remaining reader.old.inner)
+        (R.remaining reader.new.inner) (W.contents writer.old.inner) (W.contents writer.new.inner) true }
     ensures errors { (mode : modes.Mode) → batch_command (map string_bytes args.now)
         ≡ Some (Command.Batch mode) → result ≡ ERRORS_STATUS → AnswersLines mode
-        (R.remaining reader.old) (R.remaining reader.new)
+        (R.remaining reader.old.inner) (R.remaining reader.new.inner)
         (W.contents writer.old.inner) (W.contents writer.new.inner) false }
     ensures flushed { (result ≡ 0) ⊎ (result ≡ ERRORS_STATUS) → writer.new.pending ≡ false }
     ensures silent { (result ≡ 0) ⊎ (result ≡ ERRORS_STATUS) → errors.new ≡ errors.old }
@@ -95,12 +95,14 @@ pub fn batch_program<R: BufRead, W: Write, E: Write>(
         ⊎ (result ≡ 5) ⊎ (result ≡ USAGE_STATUS) }
     ensures before { (mode : modes.Mode) → batch_command (map string_bytes args.now)
         ≡ Some (Command.Batch mode) → (result ≡ 1) ⊎ (result ≡ 2) → AnswersBefore mode
-        (R.remaining reader.old) (R.remaining reader.new)
+        (R.remaining reader.old.inner) (R.remaining reader.new.inner)
         (W.contents writer.old.inner) (W.contents writer.new.inner) }
+    ensures read { result ≡ 2 → reader.new.failed ≡ true }
+    ensures quiet { result ≢ 2 → reader.new.failed ≡ reader.old.failed }
     ensures write { result ≡ 5 → writer.new.failed ≡ true }
     ensures begun { (mode : modes.Mode) → batch_command (map string_bytes args.now)
-        ≡ Some (Command.Batch mode) → result ≡ 5 → IsCutShort mode (R.remaining reader.old)
-        (R.remaining reader.new) (W.contents writer.old.inner) (W.contents writer.new.inner) }
+        ≡ Some (Command.Batch mode) → result ≡ 5 → IsCutShort mode (R.remaining reader.old.inner)
+        (R.remaining reader.new.inner) (W.contents writer.old.inner) (W.contents writer.new.inner) }
 {
     let mode = match command_of(args) {
         Some(Command::Batch(mode)) => mode,

@@ -1,10 +1,10 @@
 //! The program that enforces a matcher on a query, as a function of its arguments, its input and its two outputs:
 //! docs/reference/programs.md, "One query, enforced".
 
-ghost use Rattle.std.specs.Prelude.{◌≡◌, ◌≢◌, ◌⊎◌, ◌↔◌, false, true, Some, None, IfOk, IfErr, IsErrOf, map, option_map, string_bytes};
+ghost use Rattle.std.specs.Prelude.{◌≡◌, ◌≢◌, ◌⊎◌, ◌↔◌, false, true, Some, None, IfOk, IfErr, IsErrOf, MatchResult, map, option_map, string_bytes};
 ghost use Rattle.std.specs.Io.KnownBytes.{Appends};
 ghost use Rattle.promql_text.specs.Texts.{Text};
-ghost use Rattle.promql_run.specs.Running.{IsNotUtf8};
+ghost use Rattle.promql_run.specs.Running.{IsNotUtf8, UnlessRead};
 ghost use Rattle.promql_run.specs.StepErrors.{IsInputError};
 ghost use Rattle.promql_lines.specs.EnforcedLines.{BeginsToEnforce, Enforces, FailsToEnforce, HasNoEnforcedLine, IsEnforcedAnswer, IsEnforceStatus, IsInputAnswer, IsLineStatus, enforce_command, enforce_number};
 ghost use Rattle.promql_lines.specs.EnforcedLines as spec;
@@ -29,8 +29,8 @@ between the braces of a selector: namespace=\"team-a\"
 
 Status: 0 the query was written, 4 the query is rejected, 11 MATCHER is not a
 matcher or is of the metric name, 12 the query that was made does not read back,
-1 out of memory, 2 a read failed, 3 the input is not UTF-8, 5 a write failed, 64
-wrong arguments.
+13 the query has info without a selector, 1 out of memory, 2 a read failed, 3 the
+input is not UTF-8, 5 a write failed, 64 wrong arguments.
 ";
 
 /// The line of a query with the matcher in every selector, and a line feed.
@@ -50,6 +50,8 @@ fn enforce_input<R: Read>(
     reader: &mut Ended<R>,
 ) -> Result<Result<String, EnforcedLineError>, RunError>
     ensures ok { IfOk result (IsInputAnswer matcher.now (R.remaining reader.old.inner) (R.remaining reader.new.inner)) }
+    ensures quiet { MatchResult result (λ _. reader.new.failed ≡ reader.old.failed)
+        (λ e. UnlessRead e (reader.new.failed ≡ reader.old.failed)) }
     ensures read { IsErrOf result RunError.Read → reader.new.failed ≡ true }
     ensures not_utf8 { IsErrOf result RunError.NotUtf8
         → IsNotUtf8 (R.remaining reader.old.inner) (R.remaining reader.new.inner) }
@@ -105,6 +107,7 @@ fn enforce<R: Read, W: Write, E: Write>(
     ensures unwritten { result ≢ 0 → result ≢ 5 → writer.new ≡ writer.old }
     ensures known { IsEnforceStatus result }
     ensures read { result ≡ 2 → reader.new.failed ≡ true }
+    ensures quiet { result ≢ 2 → reader.new.failed ≡ reader.old.failed }
     ensures not_utf8 { result ≡ 3
         → IsNotUtf8 (R.remaining reader.old.inner) (R.remaining reader.new.inner) }
     ensures write { result ≡ 5 → writer.new.failed ≡ true }
@@ -173,6 +176,7 @@ pub fn enforce_program<R: Read, W: Write, E: Write>(
     // Each other status is that of an error.
     ensures known { IsEnforceStatus result ⊎ (result ≡ USAGE_STATUS) }
     ensures read { result ≡ 2 → reader.new.failed ≡ true }
+    ensures quiet { result ≢ 2 → reader.new.failed ≡ reader.old.failed }
     ensures not_utf8 { result ≡ 3
         → IsNotUtf8 (R.remaining reader.old.inner) (R.remaining reader.new.inner) }
     ensures write { result ≡ 5 → writer.new.failed ≡ true }

@@ -6,7 +6,7 @@ ghost use Rattle.promql_lines.specs.EnforcedLines.{FailsToEnforce, FailsToShow, 
 
 use promql_ast::{Expr, drop_expr};
 use promql_report::rejection::{Rejection, read_query};
-use promql_rewrite::{MatcherError, NotFaithful, enforce_text, faithful_line};
+use promql_rewrite::{EnforceTextError, MatcherError, NotFaithful, enforce_text, faithful_line};
 use std::alloc::{AllocError, Global};
 use thiserror::Error;
 
@@ -25,6 +25,9 @@ pub enum EnforcedLineError {
     /// The line would not mean the enforced tree.
     #[error("{0}")]
     Unfaithful(NotFaithful),
+    /// A call of `info` in the query has no second argument.
+    #[error("info without a selector reads series that no matcher limits")]
+    Info,
 }
 
 impl EnforcedLineError {
@@ -37,6 +40,7 @@ impl EnforcedLineError {
             EnforcedLineError::Rejected(_) => 4,
             EnforcedLineError::Matcher(_) => 11,
             EnforcedLineError::Unfaithful(_) => 12,
+            EnforcedLineError::Info => 13,
         }
     }
 }
@@ -59,8 +63,9 @@ fn show_enforced(alloc: Global, expr: Expr, matcher: &str) -> Result<String, Enf
 {
     let enforced = match enforce_text(alloc, expr, matcher) {
         Ok(enforced) => enforced,
-        Err(MatcherError::Memory) => return Err(EnforcedLineError::Memory),
-        Err(error) => return Err(EnforcedLineError::Matcher(error)),
+        Err(EnforceTextError::Memory) => return Err(EnforcedLineError::Memory),
+        Err(EnforceTextError::Matcher(error)) => return Err(EnforcedLineError::Matcher(error)),
+        Err(EnforceTextError::Info) => return Err(EnforcedLineError::Info),
     };
     let line = faithful_line(alloc, &enforced);
     drop_expr(enforced);
@@ -80,8 +85,8 @@ fn show_enforced(alloc: Global, expr: Expr, matcher: &str) -> Result<String, Enf
 ///
 /// # Errors
 ///
-/// `Rejected` where the parser rejects the query; `Matcher` where the text is no matcher, or one of the metric's name;
-/// `Unfaithful` where the line would not mean the enforced tree; `Memory` where an allocation failed.
+/// `Rejected` where the parser rejects the query; else `Matcher` where the text is no matcher, or one of the metric's name; else
+/// `Info` where a call of `info` in the query has no second argument; `Unfaithful` where the line would not mean the enforced tree; `Memory` where an allocation failed.
 pub fn enforced_line(alloc: Global, query: &str, matcher: &str) -> Result<String, EnforcedLineError>
     ensures ok { IfOk result (λ s. IsEnforcedLine query.now matcher.now (string_bytes s)) }
     ensures err { IfErr result (FailsToEnforce query.now matcher.now) }

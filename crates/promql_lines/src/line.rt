@@ -7,14 +7,14 @@ ghost use Rattle.serde_json.specs.View.{view};
 ghost use Rattle.serde_json.specs.Written.{compact_text, has_float};
 ghost use Rattle.promql_text.specs.Texts.{Text};
 ghost use Rattle.promql_ast.specs.View.{tree_of};
-ghost use Rattle.promql_lines.specs.BatchSteps.{IsMatcherFaultOf};
+ghost use Rattle.promql_lines.specs.BatchSteps.{IsEnforceFaultOf};
 ghost use Rattle.promql_lines.specs.Batch.{FailsOnQuery, FailsWith, HasQueryValue, HasValue, IsAsked, IsErrorText, IsLineAnswer, error_object, line_error_number, line_error_object, ok_object, rejection_object};
 
 use crate::answer_value::render_value;
 use crate::request::{Format, format_in, matcher_in, query_in};
 use promql_ast::{Expr, drop_expr};
 use promql_report::rejection::{Rejection, read_query};
-use promql_rewrite::{MatcherError, enforce_text};
+use promql_rewrite::{EnforceTextError, MatcherError, enforce_text};
 use promql_run::run::{Mode, RunError};
 use serde_json::{Category, Value, json};
 use std::alloc::{AllocError, Global};
@@ -35,6 +35,9 @@ pub enum LineError {
     /// The line has a matcher to enforce that is none.
     #[error("{0}")]
     Matcher(MatcherError),
+    /// The line has a matcher to enforce, and a call of `info` in the query has no second argument.
+    #[error("info without a selector reads series that no matcher limits")]
+    Info,
 }
 
 impl LineError {
@@ -47,6 +50,7 @@ impl LineError {
             LineError::Rejected(_) => 4,
             LineError::NotARequest => 7,
             LineError::Matcher(_) => 11,
+            LineError::Info => 13,
         }
     }
 }
@@ -75,15 +79,17 @@ fn read_value(alloc: Global, line: &str) -> Result<Option<Value>, AllocError>
 fn enforced(alloc: Global, expr: Expr, matcher: Option<&str>) -> Result<Expr, LineError>
     ensures ok { IfOk result (λ e.
         IsAsked (option_map (λ s. s.now) matcher.entry) (tree_of expr) (tree_of e)) }
-    ensures err { IfErr result (IsMatcherFaultOf (option_map (λ s. s.now) matcher.entry)) }
+    ensures err { IfErr result
+        (IsEnforceFaultOf (option_map (λ s. s.now) matcher.entry) (tree_of expr)) }
 {
     let Some(text) = matcher else {
         return Ok(expr);
     };
     match enforce_text(alloc, expr, text) {
         Ok(enforced) => Ok(enforced),
-        Err(MatcherError::Memory) => Err(LineError::Run(RunError::Memory)),
-        Err(error) => Err(LineError::Matcher(error)),
+        Err(EnforceTextError::Memory) => Err(LineError::Run(RunError::Memory)),
+        Err(EnforceTextError::Matcher(error)) => Err(LineError::Matcher(error)),
+        Err(EnforceTextError::Info) => Err(LineError::Info),
     }
 }
 
@@ -190,9 +196,8 @@ fn line_error_value(alloc: Global, error: &LineError, message: &str) -> Result<V
     let code = error.number();
     match error {
         LineError::Rejected(rejection) => rejection_value(alloc, code, message, rejection),
-        LineError::Run(_) | LineError::NotARequest | LineError::Matcher(_) => {
-            error_value(alloc, code, message)
-        }
+        LineError::Run(_) | LineError::NotARequest | LineError::Matcher(_) | LineError::Info =>
+            error_value(alloc, code, message),
     }
 }
 

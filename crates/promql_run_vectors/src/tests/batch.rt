@@ -25,7 +25,7 @@ const ANSWERS: &[u8] = b"{\"ok\":\"1 + 2\"}
 fn lines_and_their_answers(rt: HostRuntime) -> Result<(), Fail> {
     let alloc = rt.alloc();
     let mut writer = Ended::new(Vec::new(alloc));
-    let answer = run_batch(alloc, Mode::Line, &mut { LINES }, &mut writer);
+    let answer = run_batch(alloc, Mode::Line, &mut Ended::new(LINES), &mut writer);
     check_value(&rt, answer, Ok(false), &LINES);
     assert!(rt; writer.inner().as_slice() == ANSWERS && !writer.is_pending());
     Ok(())
@@ -33,7 +33,7 @@ fn lines_and_their_answers(rt: HostRuntime) -> Result<(), Fail> {
 
 /// What is written of a batch in the mode `line`, and whether each answer is an `ok`.
 fn check_batch(rt: &impl Abort, alloc: Global, input: &[u8], want: &[u8], all_ok: bool) {
-    let mut reader = input;
+    let mut reader = Ended::new(input);
     let mut writer = Ended::new(Vec::new(alloc));
     let answer = run_batch(alloc, Mode::Line, &mut reader, &mut writer);
     check_value(rt, answer, Ok(all_ok), &input);
@@ -61,11 +61,12 @@ fn a_reader_that_fails(rt: HostRuntime) -> Result<(), Fail> {
             calls: 0,
             fails_at,
         };
-        let mut reader = BufReader::with_capacity(alloc, 2, flaky)?;
+        let mut reader = Ended::new(BufReader::with_capacity(alloc, 2, flaky)?);
         let mut writer = Ended::new(Vec::new(alloc));
         // The fake error is an interruption, after which the read is made again.
         let answer = run_batch(alloc, Mode::Line, &mut reader, &mut writer);
         check_value(&rt, answer, Ok(true), &fails_at);
+        assert!(rt; !reader.has_failed());
         assert!(rt; writer.inner().as_slice() == b"{\"ok\":\"1\"}\n{\"ok\":\"2\"}\n".as_slice());
     }
     Ok(())
@@ -77,7 +78,7 @@ fn a_writer_that_fails(rt: HostRuntime) -> Result<(), Fail> {
     let want = b"{\"ok\":\"1\"}\n{\"code\":7,\"error\":\"line is not a request\"}\n";
     // 10 bytes and 42 are 18 writes, their line feeds two, and the flush is one more.
     for fails_at in 1..=22 {
-        let mut reader: &[u8] = b"\"1\"\n1\n";
+        let mut reader = Ended::new(b"\"1\"\n1\n".as_slice());
         let mut writer = Ended::new(FlakyWriter::new(alloc, fails_at, 0));
         let answer = run_batch(alloc, Mode::Line, &mut reader, &mut writer);
         let want_answer = if fails_at <= 21 {
@@ -105,7 +106,7 @@ fn check_program(
     want: (u8, &str, &str),
 ) -> Result<(), AllocError> {
     let args = texts(alloc, words)?;
-    let mut reader = input;
+    let mut reader = Ended::new(input);
     let mut writer = Ended::new(Vec::new(alloc));
     let mut errors = Ended::new(Vec::new(alloc));
     let status = batch_program(

@@ -5,6 +5,7 @@ use Rattle.promql_lines.proofs.batch.run_batch.Given as goal
 abbrev pub invariant-lines : goal.invariant-lines
 invariant-lines g l = record {
   quiet : l.writer.failed ≡ l.fn.writer.failed;
-  so_far : Progress l.mode (g.R.Read.remaining l.fn.reader) (g.R.Read.remaining l.reader)
+  heard : l.reader.failed ≡ l.fn.reader.failed;
+  so_far : Progress l.mode (g.R.Read.remaining l.fn.reader.inner) (g.R.Read.remaining l.reader.inner)
       (g.W.Write.contents l.fn.writer.inner) (g.W.Write.contents l.writer.inner) l.all_ok;
 }

@@ -17,7 +17,7 @@ returns-in_err-expr-clause-err c =
     let same = err_from_is_err_and c.from_residual.result c.from_residual.ensures.1 in
     subst (λ r. IfErr r (FailsOnQuery c.args.query.now matcher c.args.format)) (sym same.1)
     (subst (FailsOnQuery c.args.query.now matcher c.args.format) (sym same.2)
-    (fails_of_matcher c.in_err-expr.field-0.0 c.args.query.now matcher c.args.format (tree_of c.in-Ok-Ok.expr, parsed) c.in_err-expr.ensures.err))
+    (fails_of_matcher c.in_err-expr.field-0.0 c.args.query.now matcher c.args.format (tree_of c.in-Ok-Ok.expr) parsed c.in_err-expr.ensures.err))
 
 pub render_value-value-requires-clause-low : goal.render_value-value-requires-clause-low
 render_value-value-requires-clause-low c =
