@@ -33,6 +33,8 @@ var (
 	ErrMetricName = errors.New("a matcher of the metric name cannot be enforced")
 	// ErrUnfaithful says that the query that was made would not mean the changed query.
 	ErrUnfaithful = errors.New("the printed query does not mean the changed one")
+	// ErrBareInfo says that a query calls info without a second argument, so that no matcher limits the series that this reads.
+	ErrBareInfo = errors.New("info without a selector reads series that no matcher limits")
 	// ErrNumberTooWide says that a query has no JSON form: a number of milliseconds is below -2^63 or above 2^64 - 1.
 	ErrNumberTooWide = errors.New("number too wide for JSON")
 )
@@ -223,6 +225,8 @@ func textOf(query string, f function) (string, error) {
 		return "", ErrMetricName
 	case C.PROMQL_UNFAITHFUL:
 		return "", fmt.Errorf("%w: %s", ErrUnfaithful, text)
+	case C.PROMQL_BARE_INFO:
+		return "", ErrBareInfo
 	}
 	panic(fmt.Sprintf("promql: status %d: %s", result.status, text))
 }

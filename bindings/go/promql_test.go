@@ -109,6 +109,12 @@ func TestEnforce(t *testing.T) {
 			t.Errorf("%q: %v", matcher, err)
 		}
 	}
+	if got, err := promql.Enforce("info(b, {c='2'})", "a='1'"); err != nil || got != `info(b{a="1"}, {a="1",c="2"})` {
+		t.Errorf("%q, %v", got, err)
+	}
+	if _, err := promql.Enforce("sum(c) + topk(scalar(info(b)), d)", `a="1"`); !errors.Is(err, promql.ErrBareInfo) {
+		t.Error(err)
+	}
 	var rejected *promql.QueryError
 	if _, err := promql.Enforce("1 +", `a="1"`); !errors.As(err, &rejected) || rejected.Start != 3 {
 		t.Error(err)
@@ -164,7 +170,7 @@ func TestNotUTF8(t *testing.T) {
 }
 
 func TestVersion(t *testing.T) {
-	if got := promql.Version(); got != "0.2.0" {
+	if got := promql.Version(); got != "0.3.0" {
 		t.Error(got)
 	}
 }

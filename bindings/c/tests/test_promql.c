@@ -218,6 +218,64 @@ static void test_enforcing(void)
     CHECK(gives(enforcing("foo\xff", 1), PROMQL_BAD_MATCHER, "not a matcher"));
     CHECK(gives(enforcing("foo__name__=\"bar\"", 14), PROMQL_BAD_MATCHER, "a matcher of the metric name cannot be enforced"));
     CHECK(gives(enforcing("\xff" "a=\"1\"", 5), PROMQL_NOT_UTF8, "input is not UTF-8"));
+    const char *bare = "info without a selector reads series that no matcher limits";
+    CHECK(gives(enforcing("info(b, {c='2'})a=\"1\"", 5), PROMQL_OK, "info(b{a=\"1\"}, {a=\"1\",c=\"2\"})"));
+    CHECK(gives(enforcing("info(b)a=\"1\"", 5), PROMQL_BARE_INFO, bare));
+    CHECK(gives(enforcing("sum(c) + topk(scalar(info(b)), d)a=\"1\"", 5), PROMQL_BARE_INFO, bare));
+    CHECK(has_place(enforcing("info(b)a=\"1\"", 5), 0, 0, 0, 0));
+    CHECK(gives(enforcing("info(b)a", 1), PROMQL_BAD_MATCHER, "not a matcher"));
+    CHECK(gives(enforcing("info(b)\xff", 1), PROMQL_BAD_MATCHER, "not a matcher"));
+    CHECK(gives(enforcing("info(b) +a=\"1\"", 5), PROMQL_REJECTED, "invalid promql query"));
+    CHECK(gives(of_query(CALL_CHECK, "info(b)"), PROMQL_OK, ""));
+}
+
+/* Writes a text at this place, and returns where it ends. */
+static char *put(char *at, const char *text)
+{
+    size_t length = strlen(text);
+    memcpy(at, text, length);
+    return at + length;
+}
+
+/* Writes sums of two sums and so on, in parentheses, as many levels of them, and returns where they end. */
+static char *put_sums(char *at, size_t levels, const char *leaf)
+{
+    if (levels == 0)
+        return put(at, leaf);
+    at = put_sums(put(at, "("), levels - 1, leaf);
+    return put(put_sums(put(at, " + "), levels - 1, leaf), ")");
+}
+
+/* Enforces a matcher of so many bytes on a query of so many levels of sums, which has 2^levels selectors. */
+static void test_long_enforcing(size_t levels, size_t size)
+{
+    char *matcher = allocate(size + 1), *leaf = allocate(size + 5);
+    memset(matcher, 'x', size);
+    memcpy(matcher, "a=\"", 3);
+    strcpy(matcher + size - 1, "\"");
+    sprintf(leaf, "ab{%s}", matcher);
+    char *query = allocate((9 << levels) + size), *wanted = allocate((size + 12) << levels);
+    *put(put_sums(query, levels, "ab"), matcher) = '\0';
+    *put_sums(wanted, levels, leaf) = '\0';
+    CHECK(gives(enforcing(query, size), PROMQL_OK, wanted));
+    free(wanted);
+    free(query);
+    free(leaf);
+    free(matcher);
+}
+
+/* A name of 10,000 bytes is collected. */
+static void test_long_names(void)
+{
+    enum { SIZE = 10000 };
+    char *name = allocate(SIZE + 1), *wanted = allocate(2 * SIZE + 200);
+    memset(name, 'x', SIZE);
+    name[SIZE] = '\0';
+    sprintf(wanted, "{\"functions\":[],\"labels\":[],\"metrics\":[\"%s\"],\"selectors\":[{\"at\":null,\"matchers\":\"\",\"name\":\"%s\","
+                    "\"offset\":null,\"range\":null}]}", name, name);
+    CHECK(gives(of_query(CALL_COLLECT, name), PROMQL_OK, wanted));
+    free(wanted);
+    free(name);
 }
 
 static void test_collecting(void)
@@ -506,6 +564,10 @@ int main(int argc, char **argv)
         test_texts();
         test_errors();
         test_enforcing();
+        test_long_enforcing(14, 31);
+        test_long_enforcing(3, 1000);
+        test_long_enforcing(3, 10000);
+        test_long_names();
         test_collecting();
         test_pointers();
         test_version();

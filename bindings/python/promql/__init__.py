@@ -19,6 +19,7 @@ from . import _library
 from ._library import Mode, Result, Status
 
 __all__ = [
+    "BareInfoError",
     "Error",
     "MatcherError",
     "NumberTooWideError",
@@ -32,7 +33,7 @@ __all__ = [
     "parse",
     "version",
 ]
-__version__ = "0.2.0"
+__version__ = "0.3.0"
 
 _MAX_LEVEL = 65_535
 _MAX_WIDTH = 2**64 - 1
@@ -48,6 +49,10 @@ class NumberTooWideError(Error):
 
 class MatcherError(Error):
     """A text is not one matcher, or is one of the metric's name, which cannot be enforced."""
+
+
+class BareInfoError(Error):
+    """The query calls `info` without a second argument, and no matcher limits the series that this reads."""
 
 
 class UnfaithfulError(Error):
@@ -108,7 +113,8 @@ def enforce(query: str, matcher: str) -> str:
     """The query on one line with a matcher in every selector, in each of its or-groups: that of a tenant, say.
 
     The matcher is written as between the braces of a selector: `namespace="team-a"`. Raises MatcherError where it is none, or is one of
-    `__name__`. What is returned was read again, and means the changed query (docs/guide/rewriting.md).
+    `__name__`, and BareInfoError where the query calls `info` without a second argument. What is returned was read again, and means the
+    changed query (docs/guide/rewriting.md).
     """
     return _text(query, _library.enforce(query.encode(), matcher.encode()))
 
@@ -149,6 +155,8 @@ def _text(query: str, answer: Tuple[bytes, Result]) -> str:
         raise MatcherError(text)
     if result.status == Status.UNFAITHFUL:
         raise UnfaithfulError(text)
+    if result.status == Status.BARE_INFO:
+        raise BareInfoError(text)
     if result.status == Status.OUT_OF_MEMORY:
         raise MemoryError(text)
     raise Error(text)

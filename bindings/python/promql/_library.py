@@ -23,6 +23,7 @@ class Status(IntEnum):
     BAD_POINTER = 10
     BAD_MATCHER = 11
     UNFAITHFUL = 12
+    BARE_INFO = 13
 
 
 class Mode(IntEnum):

@@ -66,6 +66,9 @@ class Texts(unittest.TestCase):
         for matcher in ("", "a", 'a="1"} or {b="2"', '__name__="up"'):
             with self.assertRaises(promql.MatcherError):
                 promql.enforce("foo", matcher)
+        self.assertEqual(promql.enforce("info(b, {c='2'})", "a='1'"), 'info(b{a="1"}, {a="1",c="2"})')
+        with self.assertRaises(promql.BareInfoError):
+            promql.enforce("sum(c) + topk(scalar(info(b)), d)", "a='1'")
         with self.assertRaises(promql.QueryError) as raised:
             promql.enforce("1 +", "a='1'")
         self.assertEqual((raised.exception.line, raised.exception.column), (1, 4))

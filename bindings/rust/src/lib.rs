@@ -31,6 +31,8 @@ pub enum Error {
     MetricName,
     /// The query that was made would not mean the changed query: why.
     Unfaithful(String),
+    /// The query calls `info` without a second argument, so that no matcher limits the series that this reads.
+    BareInfo,
 }
 
 /// Why and where a query is rejected.
@@ -68,6 +70,9 @@ impl fmt::Display for Error {
             Error::NotAMatcher => f.write_str(NOT_A_MATCHER),
             Error::MetricName => f.write_str("a matcher of the metric name cannot be enforced"),
             Error::Unfaithful(message) => f.write_str(message),
+            Error::BareInfo => {
+                f.write_str("info without a selector reads series that no matcher limits")
+            }
         }
     }
 }
@@ -126,8 +131,8 @@ pub fn json(query: &str) -> Result<String, Error> {
 ///
 /// # Errors
 ///
-/// Those of [`canonical`]; `NotAMatcher` and `MetricName` where the matcher is none to enforce; `Unfaithful` where the line would not
-/// mean the changed query.
+/// Those of [`canonical`]; `NotAMatcher` and `MetricName` where the matcher is none to enforce; `BareInfo` where the query calls
+/// `info` without a second argument; `Unfaithful` where the line would not mean the changed query.
 pub fn enforce(query: &str, matcher: &str) -> Result<String, Error> {
     text_of(library::enforce(query, matcher))
 }
@@ -170,6 +175,7 @@ fn text_of((text, answer): (String, Answer)) -> Result<String, Error> {
         library::BAD_MATCHER if text == NOT_A_MATCHER => Err(Error::NotAMatcher),
         library::BAD_MATCHER => Err(Error::MetricName),
         library::UNFAITHFUL => Err(Error::Unfaithful(text)),
+        library::BARE_INFO => Err(Error::BareInfo),
         status => unreachable!("status {status}: {text}"),
     }
 }

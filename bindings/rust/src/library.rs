@@ -20,6 +20,7 @@ pub const REJECTED: u32 = 4;
 pub const NUMBER_TOO_WIDE: u32 = 6;
 pub const BAD_MATCHER: u32 = 11;
 pub const UNFAITHFUL: u32 = 12;
+pub const BARE_INFO: u32 = 13;
 
 /// Those of `enum promql_mode` that have no call of their own.
 #[derive(Clone, Copy)]

@@ -44,6 +44,9 @@ fn matchers_are_enforced() {
     assert_eq!(enforced.as_deref(), Ok(r#"sum(rate(foo{namespace="team-a"}[5m])) / bar{namespace="team-a"}"#));
     assert_eq!(enforce("foo", r#"a="1"} or {b="2""#), Err(Error::NotAMatcher));
     assert_eq!(enforce("foo", r#"__name__="up""#), Err(Error::MetricName));
+    let enforced = enforce("info(b, {c='2'})", r#"a="1""#);
+    assert_eq!(enforced.as_deref(), Ok(r#"info(b{a="1"}, {a="1",c="2"})"#));
+    assert_eq!(enforce("sum(c) + topk(scalar(info(b)), d)", r#"a="1""#), Err(Error::BareInfo));
     assert!(matches!(enforce("1 +", r#"a="1""#), Err(Error::Rejected(found)) if found.range == (3..3)));
 }
 

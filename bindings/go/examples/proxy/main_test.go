@@ -108,6 +108,14 @@ func TestQueriesAreChanged(t *testing.T) {
 	}
 }
 
+func TestInfo(t *testing.T) {
+	behind, front := serve(t)
+	status, body := do(t, "GET", front.URL+"/api/v1/query?query="+url.QueryEscape("info(foo, {bar='1'})"), "", "")
+	if wanted := `info(foo{tenant="team-a"}, {bar="1",tenant="team-a"})`; status != http.StatusOK || behind.query != wanted {
+		t.Errorf("%d %s: Prometheus was asked %q", status, body, behind.query)
+	}
+}
+
 func TestRejectedQueries(t *testing.T) {
 	behind, front := serve(t)
 	address := front.URL + "/api/v1/query"
@@ -115,6 +123,7 @@ func TestRejectedQueries(t *testing.T) {
 	for _, it := range []struct{ method, address, contentType, body, said string }{
 		{"GET", address + "?query=rate(foo)", "", "", "1:6: expected type matrix in call to function 'rate', got vector"},
 		{"POST", address, form, "query=1+%2B", "1:4: invalid promql query"},
+		{"GET", address + "?query=sum(info(foo))", "", "", "info without a selector reads series that no matcher limits"},
 		{"GET", address, "", "", `there has to be one parameter "query"`},
 		{"GET", address + "?query=a&query=b", "", "", `there has to be one parameter "query"`},
 		{"POST", address + "?query=a", form, "query=b", `there has to be one parameter "query"`},

@@ -72,6 +72,8 @@ func answer(it call) string {
 		return fmt.Sprintf("3 0 0 0 0 %d\n%s\n", len(err.Error()), err)
 	case errors.Is(err, promql.ErrNotAMatcher), errors.Is(err, promql.ErrMetricName):
 		return fmt.Sprintf("11 0 0 0 0 %d\n%s\n", len(err.Error()), err)
+	case errors.Is(err, promql.ErrBareInfo):
+		return fmt.Sprintf("13 0 0 0 0 %d\n%s\n", len(err.Error()), err)
 	case errors.Is(err, promql.ErrNumberTooWide):
 		return fmt.Sprintf("6 0 0 0 0 %d\n%s\n", len(err.Error()), err)
 	}
