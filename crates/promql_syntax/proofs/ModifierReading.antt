@@ -82,6 +82,21 @@ left_filled ts us vs t v front is = ap parse_fills front ∙ ap (λ o. o then λ
 pub right_filled : (ts us vs : List Symbol) (t : Text) (v : part.FillValue) → ts ≡ symbol kind.FillRight t ∷ us → parse_fill_value us ≡ Ok (v, vs) → parse_fills ts ≡ parse_fill_left t v vs
 right_filled ts us vs t v front is = ap parse_fills front ∙ ap (λ o. o then λ x. parse_fill_left t x.0 x.1) is
 
+-- a value alone, where the other one is not there
+no_fill_left : (t : Text) (v : part.FillValue) (ts : List Symbol) → HasNo kind.FillLeft ts → parse_fill_left t v ts ≡ Ok (part.right t v, ts)
+no_fill_left t v (word kind.FillLeft u ∷ ts) none = absurd (none refl)
+no_fill_left t v ts none = refl
+
+no_fill_right : (t : Text) (v : part.FillValue) (ts : List Symbol) → HasNo kind.FillRight ts → parse_fill_right t v ts ≡ Ok (part.left t v, ts)
+no_fill_right t v (word kind.FillRight u ∷ ts) none = absurd (none refl)
+no_fill_right t v ts none = refl
+
+pub right_alone : (t : Text) (v : part.FillValue) (ts us : List Symbol) → HasNo kind.FillLeft ts → us ≡ ts → parse_fill_left t v ts ≡ Ok (part.right t v, us)
+right_alone t v ts us none same = no_fill_left t v ts none ∙ ap (λ l. Ok (part.right t v, l)) (sym same)
+
+pub left_alone : (t : Text) (v : part.FillValue) (ts us : List Symbol) → HasNo kind.FillRight ts → us ≡ ts → parse_fill_right t v ts ≡ Ok (part.left t v, us)
+left_alone t v ts us none same = no_fill_right t v ts none ∙ ap (λ l. Ok (part.left t v, l)) (sym same)
+
 -- ---- the whole modifier
 
 -- with a flag or labels there is a modifier
