@@ -355,11 +355,15 @@ def listed_queries():
                 yield json.loads(parts[1]) if parts[1].startswith('"') else parts[1]
 
 
+# Prometheus reads such an escape as a byte (docs/DIFFERENCES.md), so no law speaks of it.
+_BYTE_ESCAPE = re.compile(r"\\(?:x[89a-fA-F]|[23][0-7]{2})")
+
+
 def accepted(queries):
     for query in dict.fromkeys(queries):
         with contextlib.suppress(ValueError):
             promql.enforce(query, MATCHER)
-            if len(query) < 4000:
+            if len(query) < 4000 and not _BYTE_ESCAPE.search(query):
                 yield query
 
 
