@@ -146,24 +146,3 @@ fn nodes_by_themselves_are_copied(rt: HostRuntime) -> Result<(), Fail> {
     }
     Ok(())
 }
-
-/// A text of 10,000 letters.
-fn long_text(alloc: Global) -> Result<String, AllocError> {
-    let mut text = String::new(alloc);
-    for _ in 0..10_000 {
-        text.push_str("x")?;
-    }
-    Ok(text)
-}
-
-#[test]
-fn long_names_are_copied(rt: HostRuntime) -> Result<(), Fail> {
-    let alloc = rt.alloc();
-    let node = Extension {
-        name: long_text(alloc)?,
-        value_type: ValueType::Vector,
-        children: Vec::new(alloc),
-    };
-    assert!(rt; is_copy(&node, node.try_clone(alloc))?);
-    Ok(())
-}
