@@ -26,7 +26,7 @@ extern "C" {
 #endif
 
 /* The version of this header; promql_version has that of the library. */
-#define PROMQL_VERSION "0.2.0"
+#define PROMQL_VERSION "0.3.0"
 
 /* How promql_print prints. */
 enum promql_mode {
@@ -35,7 +35,7 @@ enum promql_mode {
     PROMQL_JSON = 2    /* the JSON form, without a space */
 };
 
-/* 0, or why the buffer does not have what was asked for. With 1 to 6, 9, 11 and 12 the text is the message of the error. */
+/* 0, or why the buffer does not have what was asked for. With 1 to 6, 9 and 11 to 13 the text is the message of the error. */
 enum promql_status {
     PROMQL_OK = 0,
     PROMQL_OUT_OF_MEMORY = 1,
@@ -47,7 +47,8 @@ enum promql_status {
     PROMQL_BAD_POINTER = 10,     /* a pointer is NULL though its length is not 0, a length is above PTRDIFF_MAX, or the
                                     result is NULL; there is no text */
     PROMQL_BAD_MATCHER = 11,     /* the matcher is none, or is of the metric's name, __name__ */
-    PROMQL_UNFAITHFUL = 12       /* the text that was made would not mean the changed query */
+    PROMQL_UNFAITHFUL = 12,      /* the text that was made would not mean the changed query */
+    PROMQL_BARE_INFO = 13        /* the query has info without a second argument: no matcher limits the series that it reads */
 };
 
 struct promql_result {
