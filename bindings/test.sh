@@ -122,7 +122,7 @@ build_c() {
     "$cc" -std=c11 "${flags[@]}" -o "$work/test_static" "${tests[@]}" "$dist/libpromql.a" &&
         "$cc" -std=c11 "${flags[@]}" -o "$work/test_shared" "${tests[@]}" -L"$dist" -lpromql -Wl,-rpath,"$dist" &&
         "$cc" -std=c11 "${flags[@]}" -o "$work/test_memory" "$here/c/tests/test_memory.c" "$dist/libpromql.a" \
-            -Wl,--wrap=malloc,--wrap=realloc &&
+            -Wl,--wrap=malloc,--wrap=realloc,--wrap=pthread_getattr_np &&
         "$cc" -std=c11 "${flags[@]}" -o "$work/bench" "$here/c/bench.c" "$dist/libpromql.a" &&
         "$cc" -std=c99 "${flags[@]}" -o "$work/example" "$here/c/example.c" "$dist/libpromql.a"
 }
@@ -155,7 +155,7 @@ build_sanitized() {
     local -a sanitized=("${CC:-cc}" -std=c11 -g -O1 "-fsanitize=address,undefined" -fno-sanitize-recover=all -I"$dist")
     "${sanitized[@]}" -o "$work/sanitized_tests" "$here/c/tests/test_promql.c" -pthread "$dist/libpromql.a" &&
         "${sanitized[@]}" -o "$work/sanitized_memory" "$here/c/tests/test_memory.c" "$dist/libpromql.a" \
-            -Wl,--wrap=malloc,--wrap=realloc &&
+            -Wl,--wrap=malloc,--wrap=realloc,--wrap=pthread_getattr_np &&
         "${sanitized[@]}" -o "$work/sanitized_overrun" "$here/c/tests/test_overrun.c" "$dist/libpromql.a"
 }
 

@@ -1,5 +1,10 @@
-/* The calls of promql.h: each looks at its pointers, and passes the rest on to what is proved (crates/promql_c). */
+/* The calls of promql.h: each looks at its pointers and at its thread's stack, and passes the rest on to what is proved
+ * (crates/promql_c). */
+#define _GNU_SOURCE /* pthread_getattr_np */
 #include "promql.h"
+
+#include <errno.h>
+#include <pthread.h>
 
 /* What crates/promql_c exports. A slice of Rattle is a pointer that is not NULL, and a length of at most PTRDIFF_MAX. */
 void call_print(const void *query, size_t query_length, uint32_t mode, uint32_t level, size_t width, void *buffer,
@@ -38,18 +43,65 @@ static char *room_of(char *buffer)
     return buffer != NULL ? buffer : &nothing;
 }
 
-static uint32_t bad_pointer(struct promql_result *result)
+static uint32_t refuse(uint32_t status, struct promql_result *result)
 {
     if (result != NULL)
-        *result = (struct promql_result){PROMQL_BAD_POINTER, 0, 0, 0, 0, 0};
-    return PROMQL_BAD_POINTER;
+        *result = (struct promql_result){status, 0, 0, 0, 0, 0};
+    return status;
+}
+
+#ifdef __GLIBC__
+/* The lowest byte of this thread's stack and the byte after its last one, once they were asked for. Of this model they are made with
+ * the thread: those of a library that is loaded later were made by the first call, and end the process if there is no memory. */
+static _Thread_local __attribute__((tls_model("initial-exec"))) uintptr_t stack_start, stack_end;
+
+static int ask_for_stack(void)
+{
+    pthread_attr_t attributes;
+    void *start;
+    size_t size;
+    int error = pthread_getattr_np(pthread_self(), &attributes);
+    if (error != 0)
+        return error;
+    error = pthread_attr_getstack(&attributes, &start, &size);
+    pthread_attr_destroy(&attributes);
+    if (error == 0) {
+        stack_start = (uintptr_t)start;
+        stack_end = stack_start + size;
+    }
+    return error;
+}
+
+/* PROMQL_OK where PROMQL_STACK bytes are left, or where that is not known: the system does not tell, or this is another stack
+ * than the thread's own. */
+static uint32_t look_at_stack(void)
+{
+    char here;
+    uintptr_t at = (uintptr_t)&here;
+    if (stack_end == 0 && ask_for_stack() == ENOMEM)
+        return PROMQL_OUT_OF_MEMORY;
+    return at < stack_start || at >= stack_end || at - stack_start >= PROMQL_STACK ? PROMQL_OK : PROMQL_SMALL_STACK;
+}
+#else
+static uint32_t look_at_stack(void)
+{
+    return PROMQL_OK;
+}
+#endif
+
+/* The status with which a call about a query ends before it begins, or PROMQL_OK. */
+static uint32_t look_at(const char *query, size_t query_length, const char *buffer, size_t buffer_size,
+                        const struct promql_result *result)
+{
+    return are_good(query, query_length, buffer, buffer_size, result) ? look_at_stack() : PROMQL_BAD_POINTER;
 }
 
 uint32_t promql_print(const char *query, size_t query_length, uint32_t mode, uint32_t level, size_t width, char *buffer,
                       size_t buffer_size, struct promql_result *result)
 {
-    if (!are_good(query, query_length, buffer, buffer_size, result))
-        return bad_pointer(result);
+    uint32_t status = look_at(query, query_length, buffer, buffer_size, result);
+    if (status != PROMQL_OK)
+        return refuse(status, result);
     call_print(start_of(query), query_length, mode, level, width, room_of(buffer), buffer_size, result);
     return result->status;
 }
@@ -57,8 +109,9 @@ uint32_t promql_print(const char *query, size_t query_length, uint32_t mode, uin
 uint32_t promql_canonical(const char *query, size_t query_length, char *buffer, size_t buffer_size,
                           struct promql_result *result)
 {
-    if (!are_good(query, query_length, buffer, buffer_size, result))
-        return bad_pointer(result);
+    uint32_t status = look_at(query, query_length, buffer, buffer_size, result);
+    if (status != PROMQL_OK)
+        return refuse(status, result);
     call_canonical(start_of(query), query_length, room_of(buffer), buffer_size, result);
     return result->status;
 }
@@ -66,8 +119,10 @@ uint32_t promql_canonical(const char *query, size_t query_length, char *buffer, 
 uint32_t promql_enforce(const char *query, size_t query_length, const char *matcher, size_t matcher_length, char *buffer,
                         size_t buffer_size, struct promql_result *result)
 {
-    if (!are_good(query, query_length, buffer, buffer_size, result) || !is_slice(matcher, matcher_length))
-        return bad_pointer(result);
+    uint32_t status = is_slice(matcher, matcher_length) ? look_at(query, query_length, buffer, buffer_size, result)
+                                                        : PROMQL_BAD_POINTER;
+    if (status != PROMQL_OK)
+        return refuse(status, result);
     call_enforce(start_of(query), query_length, start_of(matcher), matcher_length, room_of(buffer), buffer_size, result);
     return result->status;
 }
@@ -75,8 +130,9 @@ uint32_t promql_enforce(const char *query, size_t query_length, const char *matc
 uint32_t promql_collect(const char *query, size_t query_length, char *buffer, size_t buffer_size,
                         struct promql_result *result)
 {
-    if (!are_good(query, query_length, buffer, buffer_size, result))
-        return bad_pointer(result);
+    uint32_t status = look_at(query, query_length, buffer, buffer_size, result);
+    if (status != PROMQL_OK)
+        return refuse(status, result);
     call_collect(start_of(query), query_length, room_of(buffer), buffer_size, result);
     return result->status;
 }
@@ -84,8 +140,9 @@ uint32_t promql_collect(const char *query, size_t query_length, char *buffer, si
 uint32_t promql_check(const char *query, size_t query_length, char *buffer, size_t buffer_size,
                       struct promql_result *result)
 {
-    if (!are_good(query, query_length, buffer, buffer_size, result))
-        return bad_pointer(result);
+    uint32_t status = look_at(query, query_length, buffer, buffer_size, result);
+    if (status != PROMQL_OK)
+        return refuse(status, result);
     call_check(start_of(query), query_length, room_of(buffer), buffer_size, result);
     return result->status;
 }
@@ -94,7 +151,7 @@ uint32_t promql_snippet(const char *query, size_t query_length, size_t start, si
                         size_t buffer_size, struct promql_result *result)
 {
     if (!are_good(query, query_length, buffer, buffer_size, result))
-        return bad_pointer(result);
+        return refuse(PROMQL_BAD_POINTER, result);
     call_snippet(start_of(query), query_length, start, end, room_of(buffer), buffer_size, result);
     return result->status;
 }
@@ -102,7 +159,7 @@ uint32_t promql_snippet(const char *query, size_t query_length, size_t start, si
 uint32_t promql_version(char *buffer, size_t buffer_size, struct promql_result *result)
 {
     if (!are_good(NULL, 0, buffer, buffer_size, result))
-        return bad_pointer(result);
+        return refuse(PROMQL_BAD_POINTER, result);
     call_version(room_of(buffer), buffer_size, result);
     return result->status;
 }

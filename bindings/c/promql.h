@@ -12,8 +12,14 @@
  * Where the buffer has fewer than `result.length` bytes it is left as it was: call again with one that has as many. Bytes past
  * `result.length` are never written.
  *
+ * A call about a query asks how much stack its thread has left, and does nothing where that is fewer than PROMQL_STACK bytes. It
+ * asks the system for the bounds of the stack in the first call of a thread. They are not known where the library was built
+ * without glibc, where /proc is not mounted (for the first thread alone), and on a stack that is not the thread's own, such as a
+ * coroutine's. There the caller sees to as many bytes.
+ *
  * The caller sees to this: `buffer` and `*result` lie in nothing else that the call is given; malloc, realloc and free come
- * from one allocator; no call is made from a signal handler, or in the child of a fork of a process with threads.
+ * from one allocator; no call is made from a signal handler, or in the child of a fork of a process with threads; the limit of the
+ * first thread's stack is not lowered after its first call.
  */
 #ifndef PROMQL_H
 #define PROMQL_H
@@ -35,6 +41,10 @@ enum promql_mode {
     PROMQL_JSON = 2    /* the JSON form, without a space */
 };
 
+/* The bytes of stack that a call about a query needs at most, whatever the query (docs/PERFORMANCE.md, "The program"): a thread of
+ * more has room for the program's own calls, too. */
+#define PROMQL_STACK 1310720
+
 /* 0, or why the buffer does not have what was asked for. With 1 to 6, 9 and 11 to 13 the text is the message of the error. */
 enum promql_status {
     PROMQL_OK = 0,
@@ -48,7 +58,8 @@ enum promql_status {
                                     result is NULL; there is no text */
     PROMQL_BAD_MATCHER = 11,     /* the matcher is none, or is of the metric's name, __name__ */
     PROMQL_UNFAITHFUL = 12,      /* the text that was made would not mean the changed query */
-    PROMQL_BARE_INFO = 13        /* the query has info without a second argument: no matcher limits the series that it reads */
+    PROMQL_BARE_INFO = 13,       /* the query has info without a second argument: no matcher limits the series that it reads */
+    PROMQL_SMALL_STACK = 15      /* the thread has fewer than PROMQL_STACK bytes of stack left; there is no text */
 };
 
 struct promql_result {

@@ -35,6 +35,9 @@ var (
 	ErrUnfaithful = errors.New("the printed query does not mean the changed one")
 	// ErrBareInfo says that a query calls info without a second argument, so that no matcher limits the series that this reads.
 	ErrBareInfo = errors.New("info without a selector reads series that no matcher limits")
+	// ErrSmallStack says that the thread has less than 1.25 MiB of stack left, and a query may need as much. Calls run on the stacks
+	// of the system's threads, which have as much as `ulimit -s` said when the process began: 8 MiB, mostly.
+	ErrSmallStack = errors.New("the thread has less than 1.25 MiB of stack left")
 	// ErrNumberTooWide says that a query has no JSON form: a number of milliseconds is below -2^63 or above 2^64 - 1.
 	ErrNumberTooWide = errors.New("number too wide for JSON")
 )
@@ -227,6 +230,8 @@ func textOf(query string, f function) (string, error) {
 		return "", fmt.Errorf("%w: %s", ErrUnfaithful, text)
 	case C.PROMQL_BARE_INFO:
 		return "", ErrBareInfo
+	case C.PROMQL_SMALL_STACK:
+		return "", ErrSmallStack
 	}
 	panic(fmt.Sprintf("promql: status %d: %s", result.status, text))
 }

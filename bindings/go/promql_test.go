@@ -3,6 +3,8 @@ package promql_test
 import (
 	"errors"
 	"fmt"
+	"os"
+	"os/exec"
 	"promql"
 	"strings"
 	"sync"
@@ -229,5 +231,46 @@ func BenchmarkCanonical(b *testing.B) {
 		if _, err := promql.Canonical(long); err != nil {
 			b.Fatal(err)
 		}
+	}
+}
+
+// deepQueries are queries that need much of a stack: parentheses, and patterns of as many nested groups as are read, and of more.
+func deepQueries() []string {
+	nested := func(opens string, count int, inner, closes string) string {
+		return strings.Repeat(opens, count) + inner + strings.Repeat(closes, count)
+	}
+	queries := []string{nested("(", 510, "1", ")"), strings.Repeat("(", 510)}
+	for opens, closes := range map[string]string{"(": ")", "(?:": ")", "[": "]"} {
+		for _, count := range []int{248, 250} {
+			queries = append(queries, "{a=~'"+nested(opens, count, "b", closes)+"'}")
+		}
+	}
+	return append(queries, nested("abs(", 511, "{a=~'"+nested("(", 248, "b", ")")+"'}", ")"))
+}
+
+// TestStacks makes calls on the stacks of many threads, and again in a process whose threads have little stack.
+func TestStacks(t *testing.T) {
+	const inside = "PROMQL_TEST_SMALL_STACK"
+	isSmall := os.Getenv(inside) != ""
+	var waits sync.WaitGroup
+	for i := 0; i < 8; i++ {
+		waits.Add(1)
+		go func() {
+			defer waits.Done()
+			for _, query := range deepQueries() {
+				if _, err := promql.Canonical(query); errors.Is(err, promql.ErrSmallStack) != isSmall {
+					t.Errorf("%.20q: %v", query, err)
+				}
+			}
+		}()
+	}
+	waits.Wait()
+	if isSmall {
+		return
+	}
+	again := exec.Command("sh", "-c", `ulimit -s 512 && exec "$0" -test.run='^TestStacks$'`, os.Args[0])
+	again.Env = append(os.Environ(), inside+"=1")
+	if said, err := again.CombinedOutput(); err != nil {
+		t.Errorf("%v: %s", err, said)
 	}
 }

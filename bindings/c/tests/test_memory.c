@@ -1,9 +1,13 @@
 /* Tests of promql.h where allocations fail: each allocation of some calls fails in turn, one in each call, until a call meets
- * none. Each call gives the same as with ample memory, or PROMQL_OUT_OF_MEMORY, or its error without a message.
+ * none. Each call gives the same as with ample memory, or PROMQL_OUT_OF_MEMORY, or its error without a message. Before that the
+ * system fails to tell the bounds of the stack.
  *
- * It is linked to libpromql.a with -Wl,--wrap=malloc,--wrap=realloc. The last line is 'N passed, M failed'. */
+ * It is linked to libpromql.a with -Wl,--wrap=malloc,--wrap=realloc,--wrap=pthread_getattr_np. The last line is 'N passed, M
+ * failed'. */
 #include "promql.h"
 
+#include <errno.h>
+#include <pthread.h>
 #include <stdio.h>
 #include <stdlib.h>
 #include <string.h>
@@ -27,6 +31,16 @@ void *__wrap_malloc(size_t size)
 void *__wrap_realloc(void *start, size_t size)
 {
     return fails_now() ? NULL : __real_realloc(start, size);
+}
+
+int __real_pthread_getattr_np(pthread_t thread, pthread_attr_t *attributes);
+
+/* What the next question for the bounds of a stack fails with; none at 0. */
+static int stack_error;
+
+int __wrap_pthread_getattr_np(pthread_t thread, pthread_attr_t *attributes)
+{
+    return stack_error != 0 ? stack_error : __real_pthread_getattr_np(thread, attributes);
 }
 
 enum { SIZE = 4096 };
@@ -74,6 +88,21 @@ static int is_right(const struct answer *found, const struct answer *ample)
         || (ample->result.status != PROMQL_OK && is_same(found, &silent));
 }
 
+/* Whether a call, the first one of the thread, is right where there is no memory to ask for the bounds of the stack, and where the
+ * system does not tell them. */
+static int is_right_without_bounds(void)
+{
+    static const struct answer silent = {{PROMQL_OUT_OF_MEMORY, 0, 0, 0, 0, 0}, ""}, printed = {{PROMQL_OK, 1, 0, 0, 0, 0}, "1"};
+    struct answer found;
+    stack_error = ENOMEM;
+    make_call(3, "1", &found);
+    int is_good = is_same(&found, &silent);
+    stack_error = ENOENT;
+    make_call(3, "1", &found);
+    stack_error = 0;
+    return is_good && is_same(&found, &printed);
+}
+
 int main(void)
 {
     static const char *const queries[] = {
@@ -81,7 +110,9 @@ int main(void)
         "label_replace(a, 'b', '$1', 'c', `d.*`) and ignoring (e) -(f ^ 2)", "{a='1' or b='2'}", "a[1h:5m]",
         "nosuch(1)", "a{b=~'('}", "1 +", "rate(a)",
     };
-    long passed = 0, failed = 0;
+    long passed = is_right_without_bounds(), failed = !passed;
+    if (failed != 0)
+        printf("FAILED a call without the bounds of the stack\n");
     for (size_t i = 0; i < sizeof queries / sizeof *queries; i++) {
         for (int call = 0; call < 9; call++) {
             struct answer ample, found;

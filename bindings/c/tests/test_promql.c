@@ -331,6 +331,103 @@ static void test_version(void)
     CHECK(promql_version(buffer, 2, &result) == PROMQL_BUFFER_TOO_SMALL && result.length == strlen(PROMQL_VERSION));
 }
 
+/* ---- small stacks */
+
+/* Writes a text so many times at this place, and returns where they end. */
+static char *put_times(char *at, size_t count, const char *text)
+{
+    for (size_t i = 0; i < count; i++)
+        at = put(at, text);
+    return at;
+}
+
+enum { GROUPS = 248, TOO_MANY_GROUPS = 250 };
+
+/* A selector with a pattern of so many nested groups: 248 are read with the two that anchor it, which is the grammar's bound. */
+static char *put_groups(char *at, size_t count, const char *opens)
+{
+    at = put_times(put(at, "{a=~\""), count, opens);
+    return put(put_times(put(at, "b"), count, *opens == '[' ? "]" : ")"), "\"}");
+}
+
+/* Queries that need much of a stack, or little. */
+static void put_deep(size_t number, char *at)
+{
+    static const char *const opens[] = {"(", "(?:", "["};
+    if (number < 3)
+        at = put_groups(at, GROUPS, opens[number]);
+    else if (number < 6)
+        at = put_groups(at, TOO_MANY_GROUPS, opens[number - 3]);
+    else if (number == 6)
+        at = put_times(put(put_times(at, 510, "("), "1"), 510, ")");
+    else if (number == 7)
+        at = put_times(at, 510, "(");
+    else if (number == 8) /* (the most that is known) */
+        at = put_times(put_groups(put_times(at, 511, "abs("), GROUPS, "("), 511, ")");
+    else
+        at = put(at, "1");
+    *at = '\0';
+}
+
+enum { DEEP_QUERIES = 10 };
+
+struct small_stack {
+    const char *query;
+    int has_room;
+    int is_good;
+};
+
+/* Each call gives what it gives in a thread with much stack, or says that it has too little. */
+static void *call_on_small_stack(void *argument)
+{
+    struct small_stack *stack = argument;
+    struct promql_result result;
+    char text[8];
+    stack->is_good = promql_version(text, sizeof text, &result) == PROMQL_OK
+        && promql_snippet("1 +", 3, 3, 3, text, sizeof text, &result) == PROMQL_OK;
+    for (int call = CALL_PRINT; call <= CALL_COLLECT; call++) {
+        struct request r = of_query((enum call)call, stack->query);
+        struct answer answer;
+        if (call == CALL_SNIPPET)
+            continue;
+        if (call == CALL_ENFORCE) /* (the whole is the query, and the matcher is none) */
+            r.end = 0;
+        stack->is_good = call_whole(&r, &answer) && stack->is_good;
+        if (!stack->has_room)
+            stack->is_good = is_empty(&answer.result, PROMQL_SMALL_STACK, 0) && stack->is_good;
+        else
+            stack->is_good = answer.result.status != PROMQL_SMALL_STACK && stack->is_good;
+        free(answer.text);
+    }
+    return NULL;
+}
+
+static void test_small_stacks(void)
+{
+    static const size_t sizes[] = {64, 128, 256, 512, 1024, 1536, 2048};
+    char *query = allocate(4096);
+    for (size_t i = 0; i < sizeof sizes / sizeof *sizes; i++) {
+        pthread_attr_t attributes;
+        if (pthread_attr_init(&attributes) != 0 || pthread_attr_setstacksize(&attributes, sizes[i] * 1024) != 0)
+            abort();
+        for (size_t number = 0; number < DEEP_QUERIES; number++) {
+            pthread_t thread;
+            put_deep(number, query);
+            struct small_stack stack = {query, sizes[i] * 1024 > PROMQL_STACK, 0};
+            if (pthread_create(&thread, &attributes, call_on_small_stack, &stack) != 0)
+                abort();
+            pthread_join(thread, NULL);
+            CHECK(stack.is_good);
+        }
+        pthread_attr_destroy(&attributes);
+    }
+    put_deep(0, query);
+    CHECK(gives(of_query(CALL_CANONICAL, query), PROMQL_OK, query));
+    put_deep(3, query);
+    CHECK(promql_check(query, strlen(query), NULL, 0, &(struct promql_result){0}) == PROMQL_REJECTED);
+    free(query);
+}
+
 /* ---- calls of a file */
 
 struct requests {
@@ -571,6 +668,7 @@ int main(int argc, char **argv)
         test_collecting();
         test_pointers();
         test_version();
+        test_small_stacks();
     }
     printf("%ld passed, %ld failed\n", passed, failed);
     return failed != 0;

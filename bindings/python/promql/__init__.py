@@ -6,8 +6,8 @@
 >>> promql.parse("1")
 {'type': 'numberLiteral', 'val': '1'}
 
-Each function raises QueryError where the query is rejected, MemoryError where an allocation failed, and UnicodeEncodeError where
-the query has a surrogate. Any thread may call any of them at any time.
+Each function raises QueryError where the query is rejected, MemoryError where an allocation failed, UnicodeEncodeError where the
+query has a surrogate, and SmallStackError where the thread has little stack left. Any thread may call any of them at any time.
 """
 
 from __future__ import annotations
@@ -24,6 +24,7 @@ __all__ = [
     "MatcherError",
     "NumberTooWideError",
     "QueryError",
+    "SmallStackError",
     "UnfaithfulError",
     "canonical",
     "check",
@@ -53,6 +54,10 @@ class MatcherError(Error):
 
 class BareInfoError(Error):
     """The query calls `info` without a second argument, and no matcher limits the series that this reads."""
+
+
+class SmallStackError(Error):
+    """The thread has less stack left than 1.25 MiB, and a query may need as much: see `threading.stack_size`."""
 
 
 class UnfaithfulError(Error):
@@ -157,6 +162,8 @@ def _text(query: str, answer: Tuple[bytes, Result]) -> str:
         raise UnfaithfulError(text)
     if result.status == Status.BARE_INFO:
         raise BareInfoError(text)
+    if result.status == Status.SMALL_STACK:
+        raise SmallStackError("the thread has less than 1.25 MiB of stack left")
     if result.status == Status.OUT_OF_MEMORY:
         raise MemoryError(text)
     raise Error(text)

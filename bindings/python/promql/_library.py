@@ -24,6 +24,7 @@ class Status(IntEnum):
     BAD_MATCHER = 11
     UNFAITHFUL = 12
     BARE_INFO = 13
+    SMALL_STACK = 15
 
 
 class Mode(IntEnum):

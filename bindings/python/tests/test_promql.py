@@ -176,6 +176,46 @@ class Broken(unittest.TestCase):
                 self.assertLessEqual(line[1].end, len(text), text)
 
 
+# Queries that need much of a stack: parentheses, and patterns of as many nested groups as are read, and of more.
+DEEP = (
+    "(" * 510 + "1" + ")" * 510,
+    "(" * 510,
+    *("{a=~'" + opens * count + "b" + closes * count + "'}" for opens, closes in (("(", ")"), ("(?:", ")"), ("[", "]")) for count in (248, 250)),
+    "abs(" * 511 + "{a=~'" + "(" * 248 + "b" + ")" * 248 + "'}" + ")" * 511,
+)
+
+
+def outcome(call, query):
+    """What a call returns, or its error."""
+    try:
+        return call(query)
+    except promql.Error as error:
+        return type(error), str(error)
+
+
+class Stacks(unittest.TestCase):
+    CALLS = (promql.canonical, promql.format, promql.check, promql.collect, lambda query: promql.enforce(query, "a='1'"))
+
+    def outcomes(self):
+        return [outcome(call, query) for query in DEEP for call in self.CALLS]
+
+    def test_small_stacks(self):
+        """A thread with a small stack raises its error, and one with enough of it gives what any other does."""
+        wanted = self.outcomes()
+        small = [(promql.SmallStackError, "the thread has less than 1.25 MiB of stack left")] * len(wanted)
+        before = threading.stack_size()
+        self.addCleanup(threading.stack_size, before)
+        for size in (256, 512, 1024, 1536, 2048):
+            threading.stack_size(size * 1024)
+            found = []
+            thread = threading.Thread(target=lambda: found.extend(self.outcomes()))
+            thread.start()
+            thread.join()
+            # (a thread may have more than it asked for: the stack of one that ended)
+            allowed = [small] if size <= 256 else [small, wanted] if size < 1280 else [wanted]
+            self.assertIn(found, allowed, size)
+
+
 class Threads(unittest.TestCase):
     def test_threads(self):
         queries = [f"sum(a{n}) + {n}" for n in range(400)]

@@ -33,6 +33,8 @@ pub enum Error {
     Unfaithful(String),
     /// The query calls `info` without a second argument, so that no matcher limits the series that this reads.
     BareInfo,
+    /// The thread has less than 1.25 MiB of stack left, and a query may need as much. Threads of `std::thread` have 2 MiB.
+    SmallStack,
 }
 
 /// Why and where a query is rejected.
@@ -73,6 +75,7 @@ impl fmt::Display for Error {
             Error::BareInfo => {
                 f.write_str("info without a selector reads series that no matcher limits")
             }
+            Error::SmallStack => f.write_str("the thread has less than 1.25 MiB of stack left"),
         }
     }
 }
@@ -102,7 +105,8 @@ impl Default for Layout {
 ///
 /// # Errors
 ///
-/// `Rejected` where the query is rejected, `OutOfMemory` where an allocation failed.
+/// `Rejected` where the query is rejected, `OutOfMemory` where an allocation failed, `SmallStack` where the thread has little
+/// stack left.
 pub fn canonical(query: &str) -> Result<String, Error> {
     text_of(library::canonical(query))
 }
@@ -176,6 +180,7 @@ fn text_of((text, answer): (String, Answer)) -> Result<String, Error> {
         library::BAD_MATCHER => Err(Error::MetricName),
         library::UNFAITHFUL => Err(Error::Unfaithful(text)),
         library::BARE_INFO => Err(Error::BareInfo),
+        library::SMALL_STACK => Err(Error::SmallStack),
         status => unreachable!("status {status}: {text}"),
     }
 }

@@ -21,6 +21,7 @@ pub const NUMBER_TOO_WIDE: u32 = 6;
 pub const BAD_MATCHER: u32 = 11;
 pub const UNFAITHFUL: u32 = 12;
 pub const BARE_INFO: u32 = 13;
+pub const SMALL_STACK: u32 = 15;
 
 /// Those of `enum promql_mode` that have no call of their own.
 #[derive(Clone, Copy)]

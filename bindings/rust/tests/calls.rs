@@ -108,6 +108,38 @@ fn threads_get_the_same() {
     });
 }
 
+/// Queries that need much of a stack: parentheses, and patterns of as many nested groups as are read, and of more.
+fn deep_queries() -> Vec<String> {
+    let nested = |opens: &str, count, inner: &str, closes: &str| {
+        [opens.repeat(count), inner.to_string(), closes.repeat(count)].concat()
+    };
+    let mut queries = vec![nested("(", 510, "1", ")"), "(".repeat(510)];
+    for (opens, closes) in [("(", ")"), ("(?:", ")"), ("[", "]")] {
+        for count in [248, 250] {
+            queries.push(std::format!("{{a=~'{}'}}", nested(opens, count, "b", closes)));
+        }
+    }
+    queries.push(nested("abs(", 511, &queries[2], ")"));
+    queries
+}
+
+#[test]
+fn a_small_stack_is_an_error() {
+    let queries = deep_queries();
+    let outcomes = || -> Vec<_> { queries.iter().map(|query| canonical(query)).collect() };
+    let wanted = outcomes();
+    assert!(wanted.iter().all(|outcome| *outcome != Err(Error::SmallStack)));
+    for kib in [64, 128, 256, 512, 1024, 1536, 2048] {
+        thread::scope(|scope| {
+            let builder = thread::Builder::new().stack_size(kib * 1024);
+            let found = builder.spawn_scoped(scope, outcomes).unwrap().join().unwrap();
+            let is_small = found.iter().all(|outcome| *outcome == Err(Error::SmallStack));
+            // A thread may have more than it asked for: the stack of one that ended.
+            assert!(if kib <= 256 { is_small } else { found == wanted || is_small && kib < 1280 }, "{kib}");
+        });
+    }
+}
+
 #[test]
 fn errors_are_sent_to_other_threads() {
     fn is_sent<T: std::error::Error + Send + Sync + 'static>() {}
