@@ -3,10 +3,11 @@
 from __future__ import annotations
 
 import argparse
+import errno
 import os
 import signal
 import sys
-from typing import List, Optional
+from typing import List, Optional, TextIO
 
 from . import check_command, format_command, page
 from .documents import Status
@@ -30,17 +31,31 @@ def main(arguments: Optional[List[str]] = None) -> int:
 
 def program() -> int:
     """The same as a program: it ends by the signal where nobody reads its output, and says so where that cannot be written."""
-    if "serve" not in sys.argv[1:2]:
-        signal.signal(signal.SIGPIPE, signal.SIG_DFL)
+    if "serve" in sys.argv[1:2]:
+        return main()
+    signal.signal(signal.SIGPIPE, signal.SIG_DFL)
+    # (a stream that was closed is None, and `print` takes standard output for that)
+    if sys.stderr is None:
+        sys.stderr = open(os.devnull, "w", encoding="utf-8")
     try:
+        if sys.stdout is None:
+            raise OSError(errno.EBADF, os.strerror(errno.EBADF))
         status = main()
         sys.stdout.flush()
         return status
     except OSError as error:
-        # (what could not be written would be tried again at the end)
-        os.dup2(os.open(os.devnull, os.O_WRONLY), sys.stdout.fileno())
-        print(f"standard output: {error.strerror}", file=sys.stderr)
+        _leave(sys.stdout)
+        try:
+            print(f"standard output: {error.strerror}", file=sys.stderr, flush=True)
+        except OSError:
+            _leave(sys.stderr)
         return Status.FAILED
+
+
+def _leave(stream: Optional[TextIO]) -> None:
+    """Writes no more to a stream. (What could not be written would be tried again at the end.)"""
+    if stream is not None:
+        os.dup2(os.open(os.devnull, os.O_WRONLY), stream.fileno())
 
 
 if __name__ == "__main__":

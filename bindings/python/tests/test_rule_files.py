@@ -531,9 +531,14 @@ class Writing(Folder):
             (f"check {many} 2>&1 | head -n 1 >/dev/null; exit ${{PIPESTATUS[0]}}", 128 + signal.SIGPIPE, ""),
             (f"check {self.file(self.TEXT)} >/dev/full", 2, "standard output: No space left on device\n"),
             (f"format {self.file(self.TEXT)} >/dev/full", 2, f"{self.folder}/a.yml: No space left on device\n"),
+            (f"check {self.file(self.TEXT)} >&-", 2, "standard output: Bad file descriptor\n"),
+            (f"format {self.file(self.TEXT)} >&-", 2, "standard output: Bad file descriptor\n"),
+            (f"check {many} 2>/dev/full", 2, ""),
+            (f"format {many} 2>/dev/full", 2, ""),
+            (f"format {many} 2>&-", 2, ""),
         ):
-            ran = subprocess.run(["bash", "-c", f"{sys.executable} -m promql {command}"], stderr=subprocess.PIPE, check=False)
-            self.assertEqual((ran.returncode, ran.stderr.decode()), (status, said), command)
+            ran = subprocess.run(["bash", "-c", f"{sys.executable} -m promql {command}"], capture_output=True, check=False)
+            self.assertEqual((ran.returncode, ran.stdout, ran.stderr.decode()), (status, b"", said), command)
 
     def test_interrupted(self):
         path = self.file(self.TEXT)
