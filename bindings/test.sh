@@ -2,6 +2,8 @@
 # bindings/test.sh [--install]   builds the bindings for C, Python, Go and Rust against dist/ and tests them, in some minutes and
 #                                without rt. Says what it could not try here; --install first installs by apt-get what is
 #                                missing of Debian's packages. The last line is 'N passed, M failed'
+# bindings/test.sh --attack      attacks on the library, the programs of dist/, the Go proxy, the page and the tools for rule files,
+#                                in two minutes (docs/guide/security.md); some of them are among the tests above, and run again
 set -u
 here=$(cd "$(dirname "$0")" && pwd)
 root=${here%/*}
@@ -41,6 +43,7 @@ add() {
     shift
     limited "$@"
     status=$?
+    grep '^not tried: ' "$work/said"
     last=$(tail -n 1 "$work/said")
     if [[ $last =~ ^([0-9]+)\ passed,\ ([0-9]+)\ failed$ ]]; then
         passed=$((passed + BASH_REMATCH[1]))
@@ -243,11 +246,11 @@ in_python() {
     (cd "$work" && PYTHONPATH=$folder exec "${python:-python3}" "$@")
 }
 
-# unit_tests FOLDER [FILE]: the tests of the package in this folder, or those of one file that is not among them, with
-# 'N passed, M failed' as the last line.
+# unit_tests FOLDER [FILE [-k WORD]..]: the tests of the package in this folder, or those of one file that is not among them, or
+# those with a word in their names; with 'N passed, M failed' as the last line.
 unit_tests() {
     local said ran lost skipped
-    said=$(in_python "$1" -m unittest discover -s "$here/python/tests" -p "${2:-test*.py}" 2>&1)
+    said=$(in_python "$1" -m unittest discover -s "$here/python/tests" -p "${2:-test*.py}" "${@:3}" 2>&1)
     printf '%s\n' "$said"
     ran=$(sed -n 's/^Ran \([0-9]*\) tests\{0,1\} .*/\1/p' <<<"$said")
     lost=$(grep -cE '^(FAIL|ERROR): ' <<<"$said")
@@ -291,10 +294,10 @@ in_cargo() {
     CARGO_TARGET_DIR=$work/target cargo "$@" --offline --quiet --manifest-path "$here/rust/Cargo.toml"
 }
 
-# The tests of the crate and of its documents, with 'N passed, M failed' as the last line.
+# cargo_tests [NAME]: the tests of the crate and of its documents, or those of this name, with 'N passed, M failed' as the last line.
 cargo_tests() {
     local said
-    said=$(in_cargo test 2>&1)
+    said=$(in_cargo test "$@" 2>&1)
     printf '%s\n' "$said"
     awk '/^test result:/ { passed += $4; failed += $6 } END { print passed + 0 " passed, " failed + 0 " failed"; exit passed == 0 }' <<<"$said"
 }
@@ -330,10 +333,11 @@ in_go() {
     (cd "$here/go/$folder" && GOCACHE=$work/go GOFLAGS=-mod=readonly GOPROXY=off CGO_ENABLED=1 exec go "$@")
 }
 
-# The tests of the module, its examples among them, with 'N passed, M failed' as the last line.
+# go_tests [PACKAGE [-run NAMES]]: the tests of the module, its examples among them, or those of a package, with 'N passed, M failed' as the
+# last line.
 go_tests() {
     local said passed lost
-    said=$(in_go . test -v ./... 2>&1)
+    said=$(in_go . test -v "${@:-./...}" 2>&1)
     printf '%s\n' "$said"
     passed=$(grep -c '^--- PASS: ' <<<"$said")
     lost=$(grep -cE '^--- FAIL: |^FAIL' <<<"$said")
@@ -379,22 +383,51 @@ test_dask() {
     echo "not tried: a log of queries by Dask: no Python has it here"
 }
 
+# ---- attacks
+
+# Those that are tests of a binding, and the others (bindings/attack.py).
+test_attacks() {
+    local python
+    if has "${CC:-cc}" 'small stacks for C'; then
+        try 'building the tests for C' build_c
+        if [ -x "$work/test_shared" ]; then add 'small stacks for C, among its tests' "$work/test_shared"; fi
+    fi
+    if has cargo 'small stacks for Rust'; then add 'small stacks for Rust' cargo_tests a_small_stack; fi
+    if has go 'the proxy in Go'; then
+        add 'small stacks for Go' go_tests . -run TestStacks
+        add 'the proxy in Go' go_tests ./examples/proxy
+    fi
+    has python3 'the page, the tools for rule files and the programs' || return
+    add 'small stacks for Python' unit_tests "$here/python" test_promql.py -k Stacks
+    add 'requests to the page' unit_tests "$here/python" test_page.py -k Slow -k Requests -k Queries
+    add 'dashboards' unit_tests "$here/python" test_dashboards.py -k Boards
+    if python=$(python_with_yaml); then
+        export python
+        add 'rule files' unit_tests "$here/python" test_rule_files.py -k Checks -k Writing -k test_many_signs
+    fi
+    add 'attacks on the programs, the library, rule files and the page' in_python "$here/python" "$here/attack.py"
+}
+
 export -f shows_own_names build_c bench_prints example_prints build_sanitized overrun_is_reported under_valgrind build_project
 export -f find_installed install_wheel in_python unit_tests
 export -f in_cargo cargo_tests build_rust cache_keys in_go go_tests
 
-if [ "${1:-}" = --install ]; then install_missing; fi
+parts=(names c python rust go examples)
+case "${1:-}" in
+'') ;;
+--install) install_missing ;;
+--attack) parts=(attacks) ;;
+*)
+    echo 'usage: bindings/test.sh [--install | --attack]' >&2
+    exit 64
+    ;;
+esac
 
 stale=$(why_library_stale "$(kit_line)")
 if [ -n "$stale" ]; then
     printf '%s\n' "######## libpromql: $stale." \
         "######## What follows says nothing of the sources here. bin/release makes the release anew."
 fi
-test_names
-test_c
-test_python
-test_rust
-test_go
-test_examples
+for part in "${parts[@]}"; do "test_$part"; done
 echo "$passed passed, $failed failed"
 [ "$failed" = 0 ]

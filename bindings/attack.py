@@ -1,0 +1,349 @@
+#!/usr/bin/env python3
+"""Attacks on what takes texts of others, each within bounds of time and memory, and what they come to: docs/guide/security.md.
+
+usage: bindings/attack.py        by a Python that finds the package promql and, for rule files, ruamel.yaml; with the programs of dist/
+
+Prints what is not tried here, and each attack that comes to something else than is documented. The last line is 'N passed, M failed'.
+bindings/test.sh --attack calls this, and the attacks that are among the tests of the bindings. Servers listen on 127.0.0.1.
+"""
+
+import contextlib
+import http.client
+import json
+import os
+import resource
+import signal
+import socket
+import subprocess
+import sys
+import tempfile
+import time
+from pathlib import Path
+from typing import NamedTuple
+
+DIST = Path(__file__).resolve().parent.parent / "dist"
+MATCHER = 'tenant="a"'
+# What one attack may take: processor seconds, the same by the clock four times over, and MB of memory.
+SECONDS, MEMORY = 10, 512
+TOO_DEEP, TOO_LARGE, UNCLOSED = "expression nested too deeply", "patterns are too large", "unclosed left parenthesis"
+
+counts = {True: 0, False: 0}
+
+
+def check(name, is_so, found):
+    """Counts one thing that is checked, and says what was found where it fails."""
+    counts[is_so] += 1
+    if not is_so:
+        print(f"FAILED {name}: {str(found)[:500]}")
+
+
+class Ran(NamedTuple):
+    """How a process ended: its status, or the number of a signal below 0, and what it wrote."""
+
+    status: int
+    out: str
+    err: str
+
+
+def limits(seconds, memory, stack):
+    """What a process does first, so that it takes no more than so much: seconds, MB and KiB."""
+
+    def set_limits():
+        resource.setrlimit(resource.RLIMIT_CPU, (seconds, seconds))
+        resource.setrlimit(resource.RLIMIT_AS, (memory << 20, memory << 20))
+        resource.setrlimit(resource.RLIMIT_STACK, (stack << 10, resource.getrlimit(resource.RLIMIT_STACK)[1]))
+
+    return set_limits
+
+
+def run(words, given="", seconds=SECONDS, memory=MEMORY, stack=8192):
+    """Runs a process within these limits; one that does not end in time is killed, and its status is that."""
+    with subprocess.Popen(
+        [str(word) for word in words],
+        stdin=subprocess.PIPE,
+        stdout=subprocess.PIPE,
+        stderr=subprocess.PIPE,
+        preexec_fn=limits(seconds, memory, stack),
+    ) as process:
+        try:
+            out, err = process.communicate(given if isinstance(given, bytes) else given.encode(), timeout=4 * seconds)
+        except subprocess.TimeoutExpired:
+            process.kill()
+            out, err = process.communicate()
+        return Ran(process.returncode, out.decode(errors="replace"), err.decode(errors="replace"))
+
+
+# ---- queries that are dear
+
+GROUPS = "(" * 248 + "b" + ")" * 248
+
+
+def named_groups(size):
+    """A pattern of so many bytes, of groups with names."""
+    groups, length = [], 0
+    while length < size:
+        groups.append(f"(?P<n{len(groups)}>a)")
+        length += len(groups[-1])
+    return "".join(groups)
+
+
+def matchers(count, pattern):
+    return "{" + ",".join(f"l{number}=~`{pattern}`" for number in range(count)) + "}"
+
+
+# Queries of which all programs say the same: the status, and what their message begins with.
+QUERIES = {
+    "510 parentheses": ("(" * 510 + "1" + ")" * 510, 0, ""),
+    "512 parentheses": ("(" * 512 + "1" + ")" * 512, 4, TOO_DEEP),
+    "100,000 parentheses": ("(" * 100_000, 4, UNCLOSED),
+    "100,000 minus signs": ("-" * 100_000 + "1", 4, TOO_DEEP),
+    "100,000 powers": ("1 ^ " * 100_000 + "1", 4, TOO_DEEP),
+    "248 groups": ("{a=~`" + GROUPS + "`}", 0, ""),
+    "250 groups": ("{a=~`" + "(" * 250 + "b" + ")" * 250 + "`}", 4, "illegal regex for "),
+    "100,000 groups": ("{a=~`" + "(" * 100_000 + "b" + ")" * 100_000 + "`}", 4, "illegal regex for "),
+    "100,000 classes": ("{a=~`" + "[" * 100_000 + "b" + "]" * 100_000 + "`}", 4, "illegal regex for "),
+    "groups in 511 calls": ("abs(" * 511 + "{a=~`" + GROUPS + "`}" + ")" * 511, 0, ""),
+    "20 counts of a million": (matchers(20, "a{1000}{1000}"), 4, "illegal regex for a{1000}{1000}"),
+    "one count of a thousand millions": (matchers(1, "((a{1000}){1000}){1000}"), 4, "illegal regex for "),
+    "100,000 matchers": ("{" + ",".join(f'a{number}="1"' for number in range(100_000)) + "}", 0, ""),
+}
+# Queries whose patterns are large together.
+LARGE_PATTERNS = {
+    "200 patterns of 720 letters": matchers(200, r"\w{720}"),
+    "249 kB of groups with names": "{a=~`" + named_groups(248_900) + "`}",
+}
+
+
+def program_runs(query, **bounds):
+    """The ends of each program on this query, by their names, without the place that promql_check shows."""
+    yield from ((f"promql {mode}", run([DIST / "promql", mode], query, **bounds)) for mode in ("line", "pretty", "json"))
+    yield "promql_enforce", run([DIST / "promql_enforce", MATCHER], query, **bounds)
+    ran = run([DIST / "promql_check"], query, **bounds)
+    yield "promql_check", ran._replace(err=ran.err.partition(": ")[2] if ran.status == 4 else ran.err)
+    for request in (query, {"query": query, "enforce": MATCHER}):
+        ran = run([DIST / "promql_batch", "line"], json.dumps(request) + "\n", **bounds)
+        answer = json.loads(ran.out) if ran.status in (0, 4) else {}
+        yield "promql_batch", Ran(answer.get("code", ran.status), ran.out, answer.get("error", ran.err))
+
+
+def knows_limits():
+    """Whether the programs know a limit on patterns."""
+    return any("--max-patterns" in run([DIST / name, "--help"]).out for name in ("promql_check", "promql_enforce", "promql_batch"))
+
+
+def attack_by_queries():
+    for name, (query, status, message) in QUERIES.items():
+        for program, ran in program_runs(query):
+            is_so = ran.status == status and ran.err.startswith(message)
+            check(f"{name}, {program}", is_so, (ran.status, ran.err))
+    if not knows_limits():
+        print("not tried: queries of large patterns: the programs of dist/ know no --max-patterns")
+        return
+    for name, query in LARGE_PATTERNS.items():
+        for program, ran in program_runs(query):
+            check(f"{name}, {program}", ran.status == 14 and TOO_LARGE in ran.err, (ran.status, ran.err))
+
+
+# ---- stacks
+
+# A process that calls the library with the query on its standard input, in its first thread and in another.
+CALLS = """
+import sys, threading, promql
+query, said = sys.stdin.read(), []
+def call():
+    for function in promql.canonical, promql.check, promql.format, promql.collect, lambda query: promql.enforce(query, 'tenant="a"'):
+        try:
+            function(query)
+            said.append("fine")
+        except promql.Error as error:
+            said.append(type(error).__name__)
+call()
+thread = threading.Thread(target=call)
+thread.start()
+thread.join()
+print(*sorted(set(said)))
+"""
+
+
+def attack_by_stacks():
+    """The programs with 2 MB of stack, and the library with more and less than it asks for."""
+    for name in ("510 parentheses", "248 groups", "250 groups", "groups in 511 calls"):
+        query, status, _ = QUERIES[name]
+        for program, ran in program_runs(query, stack=2048):
+            check(f"{name}, {program} with a stack of 2 MB", ran.status == status, (ran.status, ran.err))
+        for stack in (256, 512, 1024, 2048):
+            ran = run([sys.executable, "-c", CALLS], query, stack=stack)
+            said = "SmallStackError" if stack < 1280 else "QueryError" if status else "fine"
+            check(f"{name}, the library with a stack of {stack} KiB", ran[:2] == (0, f"{said}\n"), ran)
+
+
+# ---- outputs
+
+# What a shell does with the streams of a program, and the status of one with an output and of promql_check, which has none.
+STREAMS = {"<&-": (2, 2), ">&-": (5, 0), ">/dev/full": (5, 0), "2>&-": (0, 0), "2>/dev/full": (0, 0), "| true": (5, 0)}
+
+
+def attack_outputs():
+    """Programs without an input, with outputs that are closed or full, and before a reader that is gone."""
+    commands = (("promql", "line"), ("promql_batch", "line"), ("promql_enforce", MATCHER), ("promql_check",))
+    for program, *words in commands:
+        for stream, statuses in STREAMS.items():
+            # (the reader is gone before the program is given its query)
+            wait = "sleep 0.2; " if "|" in stream else ""
+            script = f'{{ {wait}exec "$0" "$@"; }} {stream}; exit ${{PIPESTATUS[0]}}'
+            ran = run(["bash", "-c", script, DIST / program, *words], '"1"')
+            wanted = statuses[program == "promql_check"]
+            check(f"{program} {stream}", ran.status == wanted, ran)
+
+
+# ---- control characters
+
+# C0 and C1, the end of a line and of a title of a terminal; and marks of writing direction.
+CONTROLS = {
+    "control characters": "\x1b\x00\x01\x07\x08\x0b\x0c\r\x7f\x80\x85\x9b\x9d",
+    "marks of writing direction": "\u202e\u200e\u200f\u202a\u2066\u2069",
+}
+
+
+def attack_terminals():
+    """A report of promql_check has no character that a terminal obeys."""
+    for kind, characters in CONTROLS.items():
+        if characters[0] in run([DIST / "promql_check"], f"foo {characters[0]}(").err:
+            print(f"not tried: {kind}: promql_check of dist/ shows them as they are")
+            continue
+        for it in characters:
+            for query in (f"foo {it}(", f'foo{{a="{it}"}} (', f"foo{{a=~`({it}`}}", f"foo # {it}\n(", f"nosuch{it}(1)"):
+                ran = run([DIST / "promql_check"], query)
+                is_so = ran.status == 4 and it not in ran.err + ran.out
+                check(f"a report about {query!r}", is_so, (ran.status, ran.err))
+
+
+# ---- rule files and dashboards
+
+RULE = "groups:\n- name: a\n  rules:\n"
+
+
+def merges(count):
+    """A mapping that merges nine times one that merges nine times another, and so on."""
+    lines = [f"m{number}: &m{number} {{<<: [{', '.join([f'*m{number - 1}'] * 9)}]}}" for number in range(1, count)]
+    return "\n".join(["m0: &m0 {a: b}", *lines, f"groups: [{{rules: [{{<<: *m{count - 1}, expr: up}}]}}]\n"])
+
+
+def aliases(groups, rules):
+    """So many groups, all aliases of one, with so many rules, all aliases of one."""
+    return f"r: &r [&q {{expr: up}}{', *q' * (rules - 1)}]\ng: &g {{name: a, rules: *r}}\ngroups: [*g{', *g' * (groups - 1)}]\n"
+
+
+# What is in a file, and the status of `check` and what it says.
+FILES = {
+    "merges.yml": (merges(60), 0, "1 rule, no errors"),
+    "aliases.yml": (aliases(5000, 5000), 2, "its aliases make more than 1,000,000 rules of it"),
+    "rejected.yml": (RULE + "  - alert: B\n    expr: up ==\n" * 4000, 1, "4000 rules, 4000 errors"),
+    "signs.yml": (RULE + "  - alert: B\n    expr: 'foo{a=\"" + "#" * 30_000 + "\"}'\n", 0, "1 rule, no errors"),
+    "twice.yml": (RULE + "groups: []\n", 1, "`groups` is there twice"),
+    "nested.yml": ("[" * 100_000, 2, "nested too deeply"),
+    "groups.yml": (RULE + "  - alert: B\n    expr: '{a=~`" + "(" * 250 + "b" + ")" * 250 + "`}'\n", 1, "1 rule, 1 error"),
+    "a" * 250 + ".yml": (RULE + "  - alert: B\n    expr: up==0\n", 0, "1 rule, no errors"),
+    "digits.json": ('{"panels": [{"id": ' + "1" * 5000 + ', "targets": [{"expr": "up==0"}]}]}', 0, "1 query, no errors"),
+    "nested.json": ("[" * 100_000, 2, "nested too deeply"),
+}
+
+
+def attack_files():
+    """Files that are made to be dear: what is said of them, and that `format --write` of a rejected one leaves it as it was."""
+    has_yaml = run([sys.executable, "-c", "import ruamel.yaml"]).status == 0
+    if not has_yaml:
+        print(f"not tried: rule files: {sys.executable} has no ruamel.yaml")
+    promql = [sys.executable, "-m", "promql"]
+    with tempfile.TemporaryDirectory() as folder:
+        for name, (text, status, said) in FILES.items():
+            if name.endswith(".yml") and not has_yaml:
+                continue
+            path = Path(folder, name)
+            path.write_text(text, encoding="utf-8")
+            ran = run([*promql, "check", path], seconds=20)
+            check(f"check {name}", ran.status == status and said in ran.out + ran.err, (ran.status, ran.out, ran.err[-300:]))
+            ran = run([*promql, "format", "--write", path], seconds=20)
+            is_so = (ran.status, ran.out) == (2 if status else 0, "") and (not status or path.read_text(encoding="utf-8") == text)
+            check(f"format --write {name}", is_so, (ran.status, ran.out, ran.err[-300:]))
+        check("nothing is left beside the files", not list(Path(folder).glob(".promql-*")), os.listdir(folder))
+
+
+# ---- the page
+
+
+@contextlib.contextmanager
+def served():
+    """The page's server in a process of its own, with limits, and its port."""
+    words = [sys.executable, "-m", "promql", "serve", "--port", "0"]
+    with subprocess.Popen(words, stdout=subprocess.PIPE, preexec_fn=limits(60, 4096, 8192), text=True) as process:
+        try:
+            yield process, int(process.stdout.readline().rstrip("/\n").rpartition(":")[2])
+        finally:
+            process.send_signal(signal.SIGINT)
+            try:
+                process.wait(20)
+            except subprocess.TimeoutExpired:
+                process.kill()
+
+
+def ask(port, body):
+    """The status of the response to a body, and the value in it; or nothing where the connection ends without one."""
+    connection = http.client.HTTPConnection("127.0.0.1", port, timeout=30)
+    try:
+        connection.request("POST", "/query", body, {"Content-Type": "application/json"})
+        response = connection.getresponse()
+        return response.status, json.loads(response.read())
+    except (ConnectionError, http.client.HTTPException):
+        return None, None
+    finally:
+        connection.close()
+
+
+def answers(port):
+    """Whether the page answers a query, and in five seconds."""
+    begun = time.monotonic()
+    status, value = ask(port, b'{"query":"1+2"}')
+    return status == 200 and value["line"] == "1 + 2" and time.monotonic() - begun < 5
+
+
+def attack_page():
+    with served() as (process, port):
+        with contextlib.ExitStack() as slow:
+            for number in range(100):
+                connection = slow.enter_context(socket.create_connection(("127.0.0.1", port), timeout=30))
+                connection.sendall(b"POST /query HTTP/1.1\r\nHost: localhost\r\n" if number % 2 else b"G")
+            check("the page, beside a hundred requests that do not come", answers(port), "no answer in time")
+            begun = time.monotonic()
+            connection.settimeout(20)
+            rest = connection.recv(1000)
+            took = time.monotonic() - begun
+            check("a request that does not come is ended", took < 15, (took, rest))
+        for name, body, status in (
+            ("a body of 1 MB", b"{" + b" " * (1 << 20), 413),
+            ("a body of arrays in arrays", b"[" * 200_000, 400),
+            ("a number of 200,000 digits", b'{"query":' + b"1" * 200_000 + b"}", 400),
+        ):
+            said = ask(port, body)[0]
+            check(f"{name} for the page", said == status and answers(port), said)
+        for name, (query, status, message) in QUERIES.items():
+            body = json.dumps({"query": query}).encode()
+            if len(body) < 250_000:
+                said, value = ask(port, body)
+                error = (value or {}).get("error", {"message": ""})["message"]
+                check(f"{name} for the page", said == 200 and error.startswith(message) and bool(error) == bool(status), (said, error))
+        check("the page after all that", answers(port), "no answer in time")
+        peak = int(next(line for line in Path(f"/proc/{process.pid}/status").read_text().splitlines() if "VmHWM" in line).split()[1])
+        check("the memory of the page", peak < MEMORY << 10, f"{peak} kB")
+    check("the page ends", process.returncode == 0, process.returncode)
+
+
+def main():
+    for attack in (attack_by_queries, attack_by_stacks, attack_outputs, attack_terminals, attack_files, attack_page):
+        attack()
+    print(f"{counts[True]} passed, {counts[False]} failed")
+    return 1 if counts[False] else 0
+
+
+if __name__ == "__main__":
+    sys.exit(main())
