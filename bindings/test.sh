@@ -4,6 +4,9 @@
 #                                missing of Debian's packages. The last line is 'N passed, M failed'
 # bindings/test.sh --attack      attacks on the library, the programs of dist/, the Go proxy, the page and the tools for rule files,
 #                                in two minutes (docs/guide/security.md); some of them are among the tests above, and run again
+# bindings/test.sh --prometheus  compares what queries give before a Prometheus as they are written, printed and enforced, in a minute
+#                                (bench/meaning), where Debian's package prometheus is installed; --install does not install it, since
+#                                Debian starts a service then
 set -u
 here=$(cd "$(dirname "$0")" && pwd)
 root=${here%/*}
@@ -408,6 +411,16 @@ test_attacks() {
     add 'attacks on the programs, the library, rule files and the page' in_python "$here/python" "$here/attack.py"
 }
 
+# ---- Prometheus
+
+# The servers are in the group of processes that `limited` ends.
+test_prometheus() {
+    has prometheus 'queries before a Prometheus' || return
+    has promtool 'queries before a Prometheus' || return
+    has python3 'queries before a Prometheus' || return
+    add 'queries before a Prometheus' in_python "$here/python" "$root/bench/meaning/compare.py" --rows 500 --random 500
+}
+
 export -f shows_own_names build_c bench_prints example_prints build_sanitized overrun_is_reported under_valgrind build_project
 export -f find_installed install_wheel in_python unit_tests
 export -f in_cargo cargo_tests build_rust cache_keys in_go go_tests
@@ -417,8 +430,9 @@ case "${1:-}" in
 '') ;;
 --install) install_missing ;;
 --attack) parts=(attacks) ;;
+--prometheus) parts=(prometheus) ;;
 *)
-    echo 'usage: bindings/test.sh [--install | --attack]' >&2
+    echo 'usage: bindings/test.sh [--install | --attack | --prometheus]' >&2
     exit 64
     ;;
 esac
