@@ -404,7 +404,8 @@ static void *call_on_small_stack(void *argument)
 
 static void test_small_stacks(void)
 {
-    static const size_t sizes[] = {64, 128, 256, 512, 1024, 1536, 2048};
+    /* (1,300 KiB are hardly more than a call asks for) */
+    static const size_t sizes[] = {64, 128, 256, 512, 1024, 1300, 1536, 2048};
     char *query = allocate(4096);
     for (size_t i = 0; i < sizeof sizes / sizeof *sizes; i++) {
         pthread_attr_t attributes;
