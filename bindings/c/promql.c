@@ -51,8 +51,9 @@ static uint32_t refuse(uint32_t status, struct promql_result *result)
 }
 
 #ifdef __GLIBC__
-/* The lowest byte of this thread's stack and the byte after its last one, once they were asked for. Of this model they are made with
- * the thread: those of a library that is loaded later were made by the first call, and end the process if there is no memory. */
+/* The lowest byte of this thread's stack and the byte after its last one, once they were asked for. By this model a thread has them
+ * from its beginning: else the first call of a thread would allocate them where the library was loaded later, and end the process
+ * where there is no memory. */
 static _Thread_local __attribute__((tls_model("initial-exec"))) uintptr_t stack_start, stack_end;
 
 static int ask_for_stack(void)

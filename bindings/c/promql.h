@@ -41,8 +41,8 @@ enum promql_mode {
     PROMQL_JSON = 2    /* the JSON form, without a space */
 };
 
-/* The bytes of stack that a call about a query needs at most, whatever the query (docs/PERFORMANCE.md, "The program"): a thread of
- * more has room for the program's own calls, too. */
+/* The bytes of stack that a call about a query asks for: more than any query is known to need (docs/PERFORMANCE.md, "The program").
+ * A thread needs more than these, for what it does itself. */
 #define PROMQL_STACK 1310720
 
 /* 0, or why the buffer does not have what was asked for. With 1 to 6, 9 and 11 to 13 the text is the message of the error. */
