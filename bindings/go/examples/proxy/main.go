@@ -38,6 +38,7 @@ var (
 const (
 	badData     = "bad_data"
 	notFound    = "not_found"
+	internal    = "internal"
 	timedOut    = "timeout"
 	unavailable = "unavailable"
 )
@@ -76,7 +77,12 @@ func (p *proxy) ServeHTTP(w http.ResponseWriter, r *http.Request) {
 	}
 	r.Body = http.MaxBytesReader(w, r.Body, maxBody)
 	parameters, err := enforce(r, p.matcher)
-	if err != nil {
+	switch {
+	case errors.Is(err, promql.ErrOutOfMemory) || errors.Is(err, promql.ErrSmallStack):
+		log.Printf("%s: %v", r.URL.Path, err)
+		reject(w, http.StatusInternalServerError, internal, err)
+		return
+	case err != nil:
 		reject(w, http.StatusBadRequest, badData, err)
 		return
 	}

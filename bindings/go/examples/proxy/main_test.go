@@ -9,6 +9,8 @@ import (
 	"net/http"
 	"net/http/httptest"
 	"net/url"
+	"os"
+	"os/exec"
 	"reflect"
 	"strings"
 	"testing"
@@ -138,6 +140,24 @@ func TestRejectedQueries(t *testing.T) {
 	}
 	if behind.requests != 0 {
 		t.Errorf("Prometheus was asked %d times", behind.requests)
+	}
+}
+
+// A proxy whose threads have little stack says that it failed, and not that the query is wrong.
+func TestSmallStack(t *testing.T) {
+	const inside = "PROMQL_TEST_SMALL_STACK"
+	if os.Getenv(inside) == "" {
+		again := exec.Command("sh", "-c", `ulimit -s 512 && exec "$0" -test.run='^TestSmallStack$'`, os.Args[0])
+		again.Env = append(os.Environ(), inside+"=1")
+		if said, err := again.CombinedOutput(); err != nil {
+			t.Errorf("%v: %s", err, said)
+		}
+		return
+	}
+	behind, front := serve(t)
+	status, body := do(t, "GET", front.URL+"/api/v1/query?query=foo", "", "")
+	if kind, _ := saidError(t, body); status != http.StatusInternalServerError || kind != internal || behind.requests != 0 {
+		t.Errorf("%d %s", status, body)
 	}
 }
 
