@@ -11,6 +11,7 @@ pub mod RisingTexts
 pub mod TextRows
 pub mod TextOrders
 pub mod OneOrder
+pub mod PatternMeasures
 pub mod PatternSizes
 pub mod PatternWeights
 pub mod PlacesSet

@@ -14,6 +14,7 @@
 pub use labels::{Label, Labels};
 pub use matcher::{MatchOp, Matcher, MatcherError};
 pub use matchers::Matchers;
+pub use measure::pattern_measure;
 pub use pattern::{Pattern, PatternFault};
 pub use repeats::escape_repeats;
 
@@ -22,6 +23,7 @@ pub mod labels;
 pub mod laws;
 pub mod matcher;
 pub mod matchers;
+mod measure;
 pub mod pattern;
 mod pattern_size;
 mod plain;

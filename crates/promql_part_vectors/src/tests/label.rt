@@ -3,5 +3,6 @@
 mod labels;
 mod matcher;
 mod matchers;
+mod measures;
 mod patterns;
 mod repeats;

@@ -1,0 +1,33 @@
+-- The measure of a pattern (docs/reference/matchers.md, "The measure of a pattern").
+use Rattle.std.specs.Prelude.{ℕ, ◌+◌, ◌*◌, ◌^◌, max, ◌==◌, ◌||◌, if◌then◌else◌, [], ◌∷◌, count_by, drop, length, not, take_while}
+use Rattle.std.specs.Char.{is_ascii_digit}
+use Rattle.std.specs.List.{list_any}
+use Rattle.promql_text.specs.Bytes.{comma, hash, left_brace, right_brace}
+use Rattle.promql_text.specs.Texts.{Text}
+use Rattle.promql_label.specs.PlainPatterns.{digit_of}
+
+-- the greatest number up to a brace or the end, after the digits of n: a comma ends a number, and what is no digit may come between its own
+abbrev pub greatest : ℕ → Text → ℕ
+greatest n [] = n
+greatest n (b ∷ z) =
+    if b == left_brace || b == right_brace then n
+    else if b == comma then max n (greatest 0 z)
+    else if is_ascii_digit b then greatest (10 * n + digit_of b) z
+    else greatest n z
+
+-- for each `{` one more than the greatest number after it, multiplied
+abbrev pub counted : Text → ℕ
+counted [] = 1
+counted (b ∷ z) = (if b == left_brace then 1 + greatest 0 z else 1) * counted z
+
+-- how many bytes come before the first `{`
+abbrev pub brace_place : Text → ℕ
+brace_place v = length (take_while (λ b. not (b == left_brace)) v)
+
+-- a comment, which begins with `#`, may hide braces and commas: then it is ten for each digit after the first `{`
+abbrev pub repeats : Text → ℕ
+repeats v = if list_any (λ b. b == hash) v then 10 ^ count_by is_ascii_digit (drop (brace_place v) v) else counted v
+
+-- the bytes of the anchored text, so often
+abbrev pub measure : Text → ℕ
+measure v = (length v + 6) * repeats v

@@ -1,0 +1,53 @@
+//! How large patterns can get.
+
+use promql_label::pattern_measure;
+use std::test::Fail;
+
+/// Patterns, and their measures: the bytes of the anchored text, and how often a part can be repeated.
+const MEASURED: [(&str, usize, usize); 26] = [
+    ("", 6, 1),
+    ("prod|staging", 18, 1),
+    (r"\w{720}", 13, 721),
+    (r"\w{82}", 12, 83),
+    ("(a{9}){9}", 15, 100),
+    ("a{9,}", 11, 10),
+    ("a{2,10}", 13, 11),
+    ("a{10,2}", 13, 11),
+    ("a{,7}", 11, 8),
+    ("a{0}", 10, 1),
+    ("a{ 9 }", 12, 10),
+    ("(?x)a{1 0}", 16, 11),
+    ("(?x)a{1 0, 2\t5}", 21, 26),
+    ("a{9}b{9}", 14, 100),
+    ("a{9", 9, 10),
+    ("a{1{2}", 12, 6),
+    ("192}", 10, 1),
+    ("[0-9]{3}", 14, 4),
+    (r"\{9}", 10, 10),
+    ("[{9}]", 11, 10),
+    ("(?x)a{1#}\n000}", 20, 10_000),
+    ("(?x)a{1#{\n000}", 20, 10_000),
+    ("(?x)a{1#,\n000}", 20, 10_000),
+    (r"#2024-\d+", 15, 1),
+    (r"#\d{4}-\d{4}", 18, 100),
+    ("é{2}", 11, 3),
+];
+
+/// Counts of which no number is too great.
+const ENDLESS: [&str; 4] = [
+    "a{99999999999999999999999999999999999999}",
+    "((((a{65535}){65535}){65535}){65535}){65535}",
+    "(?x)a{99999999999999999999}#",
+    "a{18446744073709551615}",
+];
+
+#[test]
+fn patterns_have_their_measures(rt: HostRuntime) -> Result<(), Fail> {
+    for (pattern, len, repeats) in &MEASURED {
+        assert_eq!(rt; pattern_measure(pattern), *len * *repeats);
+    }
+    for pattern in &ENDLESS {
+        assert_eq!(rt; pattern_measure(pattern), usize::MAX);
+    }
+    Ok(())
+}
