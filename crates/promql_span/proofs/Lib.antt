@@ -4,6 +4,7 @@ pub mod LineParts
 pub mod OrderedTokens
 pub mod PlacedTexts
 pub mod TakenTokens
+pub mod TokenMeasures
 pub mod TokenRows
 pub mod ErrorPlacing
 pub mod Columns

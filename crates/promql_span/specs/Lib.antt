@@ -8,3 +8,5 @@ pub mod TokensLeft
 pub mod ErrorPlaces
 pub mod Findings
 pub mod Locations
+pub mod MeasuredTokens
+pub mod QueryLimits

@@ -6,6 +6,7 @@ mod argument;
 mod byte_escapes;
 pub mod diagnosis;
 pub mod laws;
+pub mod limits;
 mod location;
 mod placed;
 mod places;

@@ -1,0 +1,31 @@
+-- The measures of the tokens of a text, token by token.
+use Rattle.std.proofs.Common.{◌≡◌, ℕ, suc, ◌+◌, ◌≤◌, Bool, false, List, [], ◌∷◌, ◌++◌, length, refl, ap, ◌∙◌, arith, length-append}
+use Rattle.std.specs.Prelude.{◌||◌, ◌==◌}
+use Rattle.std.proofs.lemmas.List.{length-map}
+use Rattle.promql_text.specs.Texts.{Text}
+use Rattle.promql_token.specs.Cursor.{tokens_up_to_fault}
+use Rattle.promql_token.specs.declared.ids.TheConstants.{T_EQL_REGEX, T_NEQ_REGEX}
+use Rattle.promql_token.specs.Lexing.{text_at}
+use Rattle.promql_span.specs.PlacedTokens.{placed_tokens}
+use Rattle.promql_span.specs.QueryLimits.{measures, token_measures}
+use Rattle.promql_span.proofs.OrderedTokens.{tokens_fit}
+use Rattle.promql_span.proofs.PlacedTexts.{pieces_placed}
+
+as_many : (after : Bool) (ts : List (ℕ × Text)) → length (measures after ts) ≡ length ts
+as_many after [] = refl
+as_many after (t ∷ ts) = ap suc (as_many (t.0 == T_EQL_REGEX || t.0 == T_NEQ_REGEX) ts)
+
+-- no more tokens are measured than the text has bytes
+pub measures_fit : (s : Text) → length (token_measures s) ≤ length s
+measures_fit s =
+    let same : length (token_measures s) ≡ length (placed_tokens s) =
+    as_many false (tokens_up_to_fault s) ∙ ap length (pieces_placed s) ∙ length-map (placed_tokens s) (λ x. (x.id, text_at s x)) in
+    omega (arith, same, tokens_fit s)
+
+-- so the index of a token that is to come is one of a byte
+pub index_fits : (s : Text) (before : List ℕ) (after : Bool) (t : ℕ × Text) (ts left : List (ℕ × Text)) → token_measures s ≡ before ++ measures after left → left ≡ t ∷ ts
+    → length before + 1 ≤ length s
+index_fits s before after t ts left all begins =
+    let next : length left ≡ suc (length ts) = ap length begins in
+    let counted : length (token_measures s) ≡ length before + length left = ap length all ∙ length-append before (measures after left) ∙ ap (λ n. length before + n) (as_many after left) in
+    omega (arith, measures_fit s, next, counted)

@@ -1,0 +1,197 @@
+//! The limits of a query, which are checked before it is parsed and anything of it is compiled: docs/reference/programs.md,
+//! "Limits of a query".
+
+ghost use Rattle.std.specs.Prelude.{◌≡◌, ◌++◌, ◌-◌, ◌^◌, ◌&&◌, ◌==◌, [], ◌∷◌, drop, if◌then◌else◌, length, min, ℕ, IfErr, IfOk, List, MatchOption, OnOk};
+ghost use Rattle.std.specs.Prelude.{◌<◌, ◌≤◌};
+ghost use Rattle.promql_span.specs.MeasuredTokens.{AreMeasured};
+ghost use Rattle.promql_span.specs.PlacedTokens.{first_span, placed_tokens};
+ghost use Rattle.promql_span.specs.QueryLimits as spec;
+
+use crate::placed::PlacedTokens;
+use crate::places::{end_of_text, span_of};
+use crate::span::Span;
+use promql_label::pattern_measure;
+use promql_text::{QuoteError, unquote_string};
+use promql_token::TokenId;
+use promql_token::cursor::Cursor;
+use promql_token::ids::{T_EQL_REGEX, T_NEQ_REGEX, T_STRING};
+use std::alloc::{AllocError, Global};
+use thiserror::Error;
+
+/// The most bytes of a query, unless something else is asked for: 1 MiB.
+pub const MAX_LEN: usize = 1_048_576;
+
+/// The greatest size of a query's patterns, unless something else is asked for.
+pub const MAX_PATTERN_SIZE: usize = 32_000;
+
+/// How long a query may be, and how large its patterns may be together.
+#[derive(Clone, Copy, Debug, PartialEq, Eq)]
+pub struct Limits {
+    /// The most bytes.
+    pub max_len: usize,
+    /// The greatest sum of the measures of its patterns (`promql_label::pattern_measure`).
+    pub max_pattern_size: usize,
+}
+
+impl Default for Limits {
+    ghost use Rattle.std.specs.Prelude.{◌≡◌};
+    ghost use Rattle.promql_span.specs.declared.limits.TheConstants.{MAX_LEN, MAX_PATTERN_SIZE};
+
+    ghost is_default = { λ l. l ≡ record { max_len = MAX_LEN; max_pattern_size = MAX_PATTERN_SIZE } };
+
+    /// `MAX_LEN` and `MAX_PATTERN_SIZE`.
+    fn default() -> Limits {
+        Limits {
+            max_len: MAX_LEN,
+            max_pattern_size: MAX_PATTERN_SIZE,
+        }
+    }
+}
+
+/// Why a query is not within its limits, or cannot be measured.
+#[derive(Clone, Copy, Debug, PartialEq, Eq, Error)]
+pub enum LimitFault {
+    /// An allocation failed.
+    #[error("out of memory")]
+    Memory,
+    /// The query has too many bytes.
+    #[error("query is too long: {len} bytes, at most {most}")]
+    TooLong {
+        /// Its bytes.
+        len: usize,
+        /// The most that it may have.
+        most: usize,
+    },
+    /// Its patterns are too large together.
+    #[error("patterns are too large: {size}, at most {most}")]
+    PatternsTooLarge {
+        /// The sum of their measures; `usize::MAX` stands for that and more.
+        size: usize,
+        /// The most that it may be.
+        most: usize,
+        /// The string of the pattern with which the sum is more than that.
+        place: Span,
+    },
+}
+
+impl From<AllocError> for LimitFault {
+    ghost use Rattle.std.specs.Prelude.{◌≡◌};
+    ghost use Rattle.promql_span.specs.declared.limits.LimitFault.TheVariants.{Memory};
+
+    ghost from_gives = { λ _ e. e ≡ Memory };
+
+    fn from(_: AllocError) -> LimitFault {
+        LimitFault::Memory
+    }
+}
+
+/// Checks that a query is within its limits. Each string directly after `=~` or `!~`, up to a lexical fault, is a pattern.
+/// The text is lexed once, and once more up to the pattern of a fault; a string is unquoted, and no pattern is compiled.
+///
+/// # Errors
+///
+/// `TooLong` where it has more bytes, then `PatternsTooLarge` where the measures of its patterns are more; `Memory` where an
+/// allocation failed.
+pub fn check_limits(alloc: Global, text: &str, limits: &Limits) -> Result<(), LimitFault>
+    ensures within { OnOk result (spec.IsWithin text.now limits.now) }
+    ensures fault { IfErr result (spec.IsLimitFault text.now limits.now) }
+{
+    let len = text.len();
+    if len > limits.max_len {
+        return Err(LimitFault::TooLong {
+            len,
+            most: limits.max_len,
+        });
+    }
+    let most = limits.max_pattern_size;
+    let Measured { size, passed } = measure_patterns(alloc, text, most)?;
+    match passed {
+        None => Ok(()),
+        Some(place) => Err(LimitFault::PatternsTooLarge { size, most, place }),
+    }
+}
+
+/// What the patterns of some tokens come to.
+#[derive(Clone, Copy)]
+struct Measured {
+    /// The sum of their measures, or `usize::MAX`.
+    size: usize,
+    /// The token with which the sum is more than it may be.
+    passed: Option<Span>,
+}
+
+/// What the patterns of a text come to, which may be so much.
+fn measure_patterns(alloc: Global, text: &str, most: usize) -> Result<Measured, AllocError>
+    ensures { IfOk result (AreMeasured text.now most (spec.token_measures text.now)) }
+{
+    let mut tokens = Cursor::new(text);
+    let mut measured = Measured {
+        size: 0,
+        passed: None,
+    };
+    let mut index: usize = 0;
+    let mut after_operator = false;
+    while let Some((id, token)) = tokens.next() {
+        let measure = token_measure(alloc, after_operator, id, token)?;
+        measured = measured.with_token(text, most, index, measure);
+        after_operator = id == T_EQL_REGEX || id == T_NEQ_REGEX;
+        index += 1;
+    }
+    Ok(measured)
+}
+
+/// The measure of a token, which comes after `=~` or `!~` or does not.
+fn token_measure(
+    alloc: Global,
+    after_operator: bool,
+    id: TokenId,
+    token: &str,
+) -> Result<usize, AllocError>
+    ensures { IfOk result (λ n. n ≡ min (if after_operator && id == T_STRING
+        then spec.string_measure token.now else 0) usize.MAX) }
+{
+    if after_operator && id == T_STRING {
+        string_measure(alloc, token)
+    } else {
+        Ok(0)
+    }
+}
+
+/// The measure of the pattern that is the value of a string.
+fn string_measure(alloc: Global, token: &str) -> Result<usize, AllocError>
+    ensures { IfOk result (λ n. n ≡ min (spec.string_measure token.now) usize.MAX) }
+{
+    match unquote_string(alloc, token) {
+        Ok(value) => Ok(pattern_measure(value.as_str())),
+        Err(QuoteError::InvalidSyntax) => Ok(0),
+        Err(QuoteError::Memory) => Err(AllocError),
+    }
+}
+
+impl Measured {
+    /// The same with one more token, the one of this index.
+    fn with_token(self, text: &str, most: usize, index: usize, measure: usize) -> Measured
+        ensures { (before after : List ℕ) (n : ℕ) → spec.token_measures text.now ≡ before ++ n ∷ after
+            → length before ≡ index → measure ≡ min n usize.MAX → AreMeasured text.now most before self
+            → AreMeasured text.now most (before ++ n ∷ []) result }
+    {
+        let size = self.size.saturating_add(measure);
+        match self.passed {
+            None if size > most => Measured {
+                size,
+                passed: Some(token_numbered(text, index)),
+            },
+            passed => Measured { size, passed },
+        }
+    }
+}
+
+/// The token of this index, from 0, or the end of the text.
+fn token_numbered(text: &str, index: usize) -> Span
+    ensures { result ≡ first_span text.now (drop index (placed_tokens text.now)) }
+{
+    match PlacedTokens::new(text).nth(index) {
+        Some(token) => span_of(token),
+        None => end_of_text(text),
+    }
+}
