@@ -1,12 +1,14 @@
 -- How the measure of a pattern is counted byte by byte, up to the greatest number.
-use Rattle.std.proofs.Common.{◌≡◌, ℕ, zero, suc, ◌+◌, ◌*◌, ◌<◌, ◌≤◌, min, max, Bool, true, false, cond, [], ◌∷◌, refl, sym, ap, ap₂, ◌∙◌, ◌-◌, ◌^◌, ◌⊎◌, count_by, zero-add, true≢false, ⊎_elim, le-mul_of_pos_right, mul_assoc, mul_comm, arith, ◌==◌, ◌||◌}
+use Rattle.std.proofs.Common.{◌≡◌, ℕ, zero, suc, ◌+◌, ◌*◌, ◌<◌, ◌≤◌, min, max, Bool, true, false, cond, [], ◌∷◌, refl, sym, ap, ap₂, ◌∙◌, ◌-◌, ◌^◌, ◌⊎◌, count_by, zero-add, true≢false, ⊎_elim, le-mul_of_pos_right, mul_assoc, mul_comm, arith, drop, length, slice_index, take, ◌==◌, ◌||◌}
+use Rattle.std.specs.Prelude.{◌&&◌, not}
 use Rattle.std.specs.Char.{is_ascii_digit}
 use Rattle.std.proofs.lemmas.Bool.{cases_lt}
+use Rattle.std.proofs.lemmas.List.{take_rest}
 use Rattle.std.proofs.lemmas.List.Sums.{sum_by-cons}
-use Rattle.std.proofs.Math.Nat.{mul-one, one-le-mul, one-mul, pow-suc}
+use Rattle.std.proofs.Math.Nat.{one-mul, pow-suc}
 use Rattle.promql_text.specs.Texts.{Text}
 use Rattle.promql_token.proofs.PrintedForms.{digit_apart}
-use Rattle.promql_label.specs.PatternMeasure.{counted, greatest}
+use Rattle.promql_label.specs.PatternMeasure.{ends_item, greatest, group_repeats, item_repeats}
 use Rattle.promql_label.specs.PlainPatterns.{digit_of}
 
 -- ---- products up to m
@@ -23,27 +25,11 @@ capped_product m k (suc r) = ⊎_elim
     (λ (small : k ≤ m). let e : min k m ≡ k = omega arith in ap (λ n. min (n * suc r) m) e)
     (cases_lt m k)
 
--- a factor that is no less than m makes the product as large as any
-large_factors : (m p a b r : ℕ) → m ≤ a → m ≤ b → 1 ≤ r → min (p * (a * r)) m ≡ min (p * (b * r)) m
-large_factors m zero a b r ma mb some = omega arith
-large_factors m (suc p) a b r ma mb some =
-    let ar : a ≤ a * r = le-mul_of_pos_right a some in
-    let br : b ≤ b * r = le-mul_of_pos_right b some in
-    let pa : a * r ≤ a * r * suc p = le-mul_of_pos_right (a * r) (omega arith) in
-    let pb : b * r ≤ b * r * suc p = le-mul_of_pos_right (b * r) (omega arith) in
-    let ca : suc p * (a * r) ≡ a * r * suc p = mul_comm (suc p) (a * r) in
-    let cb : suc p * (b * r) ≡ b * r * suc p = mul_comm (suc p) (b * r) in
-    omega (arith, ar, br, pa, pb, ca, cb, ma, mb)
+pub capped_factors : (m a b : ℕ) → min (min a m * min b m) m ≡ min (a * b) m
+capped_factors m a b =
+    capped_product m a (min b m) ∙ ap (λ k. min k m) (mul_comm a (min b m)) ∙ capped_product m b a ∙ ap (λ k. min k m) (mul_comm b a)
 
--- ---- numbers
-
-some_counted : (z : Text) → 1 ≤ counted z
-some_counted [] = omega arith
-some_counted (b ∷ z) = go (b == 123) (some_counted z)
-  where
-    go : (e : Bool) → 1 ≤ counted z → 1 ≤ cond e (1 + greatest 0 z) 1 * counted z
-    go true some = one-le-mul (omega arith) some
-    go false some = one-le-mul (omega arith) some
+-- ---- the number of a count
 
 no_less : (n : ℕ) (z : Text) → n ≤ greatest n z
 no_less n [] = omega arith
@@ -56,49 +42,15 @@ no_less n (b ∷ z) = go (b == 123 || b == 125) (b == 44) (is_ascii_digit b) (no
     go false false true more same = omega (arith, more)
     go false false false more same = same
 
--- what the counts come to, as the definition has it
-abbrev pub counts_to : ℕ → Bool → ℕ → ℕ → Text → ℕ
-counts_to p started most n z = p * (cond started (1 + max most (greatest n z)) 1 * counted z)
-
 -- a number that is capped counts as much, up to where it is
-pub capped_number : (m p : ℕ) (started : Bool) (most n : ℕ) (z : Text) → min (counts_to p started most (min n m) z) m ≡ min (counts_to p started most n z) m
-capped_number m p false most n z = refl
-capped_number m p true most n z = ⊎_elim
+capped_number : (m most n : ℕ) (z : Text) → min (max most (greatest (min n m) z)) m ≡ min (max most (greatest n z)) m
+capped_number m most n z = ⊎_elim
     (λ (large : m < n).
     let capped : min n m ≤ greatest (min n m) z = no_less (min n m) z in
     let whole : n ≤ greatest n z = no_less n z in
-    large_factors m p (1 + max most (greatest (min n m) z)) (1 + max most (greatest n z)) (counted z) (omega (arith, large, capped)) (omega (arith, large, whole)) (some_counted z))
-    (λ (small : n ≤ m). let e : min n m ≡ n = omega arith in ap (λ k. min (counts_to p true most k z) m) e)
+    omega (arith, large, capped, whole))
+    (λ (small : n ≤ m). let e : min n m ≡ n = omega arith in ap (λ k. min (max most (greatest k z)) m) e)
     (cases_lt m n)
-
-max_of_none : (n : ℕ) → max 0 n ≡ n
-max_of_none n = omega arith
-
--- a brace ends what is before it, and one to the left begins a count
-closed_by : (m p : ℕ) (started starts : Bool) (most n q : ℕ) (z : Text) → q ≡ min (p * (cond started (1 + max most n) 1 * 1)) m
-    → min (counts_to q starts 0 0 z) m ≡ min (p * (cond started (1 + max most n) 1 * (cond starts (1 + greatest 0 z) 1 * counted z))) m
-closed_by m p started starts most n q z closed =
-    let a : ℕ = cond started (1 + max most n) 1 in
-    let x : ℕ = cond starts (1 + greatest 0 z) 1 * counted z in
-    ap (λ g. min (q * (cond starts (1 + g) 1 * counted z)) m) (max_of_none (greatest 0 z))
-    ∙ ap (λ k. min (k * x) m) closed
-    ∙ capped_product m (p * (a * 1)) x
-    ∙ ap (λ k. min (p * k * x) m) (mul-one a)
-    ∙ ap (λ k. min k m) (mul_assoc p a x)
-
-at_brace : (n b : ℕ) (z : Text) → (b ≡ 123) ⊎ (b ≡ 125) → greatest n (b ∷ z) ≡ n
-at_brace n b z brace = ⊎_elim
-    (λ left. ap (λ b. greatest n (b ∷ z)) left)
-    (λ right. ap (λ b. greatest n (b ∷ z)) right)
-    brace
-
-pub brace_step : (m p : ℕ) (started : Bool) (most n b q : ℕ) (z : Text) → (b ≡ 123) ⊎ (b ≡ 125) → q ≡ min (counts_to p started most n []) m
-    → min (counts_to q (b == 123) 0 0 z) m ≡ min (counts_to p started most n (b ∷ z)) m
-brace_step m p started most n b q z brace closed =
-    closed_by m p started (b == 123) most n q z closed
-    ∙ sym (ap (λ g. min (p * (cond started (1 + max most g) 1 * counted (b ∷ z))) m) (at_brace n b z brace))
-
--- ---- a digit
 
 at_digit : (n b : ℕ) (z : Text) → is_ascii_digit b ≡ true → greatest n (b ∷ z) ≡ greatest (10 * n + digit_of b) z
 at_digit n b z digit = go (b == 123) (b == 125) (b == 44) (is_ascii_digit b) (digit_apart b 123 digit refl) (digit_apart b 125 digit refl) (digit_apart b 44 digit refl) digit
@@ -114,17 +66,62 @@ at_digit n b z digit = go (b == 123) (b == 125) (b == 44) (is_ascii_digit b) (di
     go false false false true a b c d = refl
     go false false false false a b c d = absurd (true≢false (sym d))
 
-counted_at_digit : (b : ℕ) (z : Text) → is_ascii_digit b ≡ true → counted (b ∷ z) ≡ counted z
-counted_at_digit b z digit = ap (λ left. cond left (1 + greatest 0 z) 1 * counted z) (digit_apart b 123 digit refl) ∙ one-mul (counted z)
-
-pub digit_step : (m p : ℕ) (started : Bool) (most n b q : ℕ) (z : Text) → is_ascii_digit b ≡ true → q ≡ min (min (n * 10) m + (b - 48)) m
-    → min (counts_to p started most q z) m ≡ min (counts_to p started most n (b ∷ z)) m
-digit_step m p started most n b q z digit is =
+pub digit_step : (m most n b q : ℕ) (z : Text) → is_ascii_digit b ≡ true → q ≡ min (min (n * 10) m + (b - 48)) m
+    → min (max most (greatest q z)) m ≡ min (max most (greatest n (b ∷ z))) m
+digit_step m most n b q z digit is =
     let x : ℕ = 10 * n + digit_of b in
     let capped : q ≡ min x m = omega (arith, is) in
-    ap (λ q. min (counts_to p started most q z) m) capped
-    ∙ capped_number m p started most x z
-    ∙ ap₂ (λ g k. min (p * (cond started (1 + max most g) 1 * k)) m) (sym (at_digit n b z digit)) (sym (counted_at_digit b z digit))
+    ap (λ q. min (max most (greatest q z)) m) capped
+    ∙ capped_number m most x z
+    ∙ sym (ap (λ g. min (max most g) m) (at_digit n b z digit))
+
+-- ---- a brace
+
+-- one more than a capped number, up to where it is
+capped_next : (m g n r : ℕ) → g ≡ min n m → r ≡ min (g + 1) m → r ≡ min (1 + n) m
+capped_next m g n r capped is = omega (arith, capped, is)
+
+-- a count of one item
+pub item_step : (m items g r more before : ℕ) (z : Text) → ends_item before ≡ true → g ≡ min (greatest 0 z) m → r ≡ min (g + 1) m → more ≡ max items r
+    → min (max more (item_repeats 123 z)) m ≡ min (max items (item_repeats before (123 ∷ z))) m
+item_step m items g r more before z item capped is grows =
+    let n : ℕ = 1 + greatest 0 z in
+    let whole : r ≡ min n m = capped_next m g (greatest 0 z) r capped is in
+    let same : min (max more (item_repeats 123 z)) m ≡ min (max items (max n (item_repeats 123 z))) m = omega (arith, whole, grows) in
+    same ∙ sym (ap (λ e. min (max items (max (cond e n 1) (item_repeats 123 z))) m) item)
+
+pub item_passes : (before : ℕ) (z : Text) → ends_item before ≡ true → group_repeats 123 z ≡ group_repeats before (123 ∷ z)
+item_passes before z item = sym (ap (λ e. cond (not e) (1 + greatest 0 z) 1 * group_repeats 123 z) item ∙ one-mul (group_repeats 123 z))
+
+-- any other count
+pub group_step : (m groups g r more before : ℕ) (z : Text) → ends_item before ≡ false → g ≡ min (greatest 0 z) m → r ≡ min (g + 1) m → more ≡ min (groups * r) m
+    → min (more * group_repeats 123 z) m ≡ min (groups * group_repeats before (123 ∷ z)) m
+group_step m groups g r more before z group capped is grows =
+    let n : ℕ = 1 + greatest 0 z in
+    let rest : ℕ = group_repeats 123 z in
+    let whole : r ≡ min n m = capped_next m g (greatest 0 z) r capped is in
+    ap (λ k. min (k * rest) m) grows
+    ∙ capped_product m (groups * r) rest
+    ∙ ap (λ k. min (groups * k * rest) m) whole
+    ∙ ap (λ k. min k m) (ap (λ k. k * rest) (mul_comm groups (min n m)) ∙ mul_assoc (min n m) groups rest)
+    ∙ capped_product m n (groups * rest)
+    ∙ ap (λ k. min k m) (sym (mul_assoc n groups rest) ∙ ap (λ k. k * rest) (mul_comm n groups) ∙ mul_assoc groups n rest)
+    ∙ sym (ap (λ e. min (groups * (cond (not e) n 1 * rest)) m) group)
+
+pub group_passes : (m items before : ℕ) (z : Text) → ends_item before ≡ false → 1 ≤ items → min (max items (item_repeats 123 z)) m ≡ min (max items (item_repeats before (123 ∷ z))) m
+group_passes m items before z group some =
+    let same : max items (max 1 (item_repeats 123 z)) ≡ max items (item_repeats 123 z) = omega (arith, some) in
+    sym (ap (λ e. min (max items (max (cond e (1 + greatest 0 z) 1) (item_repeats 123 z))) m) group ∙ ap (λ k. min k m) same)
+
+-- ---- another byte
+
+pub other_items : (items before b : ℕ) (z : Text) → (b == 123) ≡ false → 1 ≤ items → max items (item_repeats b z) ≡ max items (item_repeats before (b ∷ z))
+other_items items before b z other some =
+    let same : max items (max 1 (item_repeats b z)) ≡ max items (item_repeats b z) = omega (arith, some) in
+    sym (ap (λ e. max items (max (cond (e && ends_item before) (1 + greatest 0 z) 1) (item_repeats b z))) other ∙ same)
+
+pub other_groups : (before b : ℕ) (z : Text) → (b == 123) ≡ false → group_repeats b z ≡ group_repeats before (b ∷ z)
+other_groups before b z other = sym (ap (λ e. cond (e && not (ends_item before)) (1 + greatest 0 z) 1 * group_repeats b z) other ∙ one-mul (group_repeats b z))
 
 -- ---- tens
 
@@ -150,3 +147,29 @@ pub other_tens : (m k b : ℕ) (z : Text) → is_ascii_digit b ≡ false
 other_tens m k b z other =
     let t : ℕ = 10 ^ count_by is_ascii_digit z in
     sym (ap (λ t. min (k * t) m) (tens_before b z ∙ ap (λ d. cond d (10 * t) t) other))
+
+-- ---- the rest of a pattern
+
+pub some_items : (before : ℕ) (z : Text) → 1 ≤ item_repeats before z
+some_items before [] = omega arith
+some_items before (b ∷ z) = let some = some_items b z in omega (arith, some)
+
+pub first_and_rest : (rest : Text) → 1 ≤ length rest → rest ≡ slice_index rest 0 ∷ take (length rest - 1) (drop 1 rest)
+first_and_rest [] some = absurd (omega (arith, some))
+first_and_rest (b ∷ z) some = ap (λ z. b ∷ z) (sym (take_rest (b ∷ z) 1))
+
+-- a comma
+pub comma_step : (m most n more : ℕ) (z : Text) → more ≡ max most n → min (max more (greatest 0 z)) m ≡ min (max most (greatest n (44 ∷ z))) m
+comma_step m most n more z is = let e : min (max more (greatest 0 z)) m ≡ min (max most (max n (greatest 0 z))) m = omega (arith, is) in e
+
+-- neither a brace nor a comma nor a digit
+pub other_byte : (n b : ℕ) (z : Text) → (b == 123) ≡ false → (b == 125) ≡ false → (b == 44) ≡ false → is_ascii_digit b ≡ false → greatest n z ≡ greatest n (b ∷ z)
+other_byte n b z a e c d = go (b == 123) (b == 125) (b == 44) (is_ascii_digit b) a e c d
+  where
+    go : (left right comma digit : Bool) → left ≡ false → right ≡ false → comma ≡ false → digit ≡ false
+        → greatest n z ≡ cond (left || right) n (cond comma (max n (greatest 0 z)) (cond digit (greatest (10 * n + digit_of b) z) (greatest n z)))
+    go false false false false a b c d = refl
+    go true right comma digit a b c d = absurd (true≢false a)
+    go false true comma digit a b c d = absurd (true≢false b)
+    go false false true digit a b c d = absurd (true≢false c)
+    go false false false true a b c d = absurd (true≢false d)

@@ -11,7 +11,6 @@ pub mod NextText
 pub mod Operators
 pub mod PlainMatchers
 pub mod ReadMatchers
-pub mod MeasureSteps
 pub mod PatternMeasure
 pub mod PatternRejections
 pub mod PatternSize

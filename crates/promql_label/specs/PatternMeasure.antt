@@ -1,8 +1,8 @@
 -- The measure of a pattern (docs/reference/matchers.md, "The measure of a pattern").
-use Rattle.std.specs.Prelude.{ℕ, ◌+◌, ◌*◌, ◌^◌, max, ◌==◌, ◌||◌, if◌then◌else◌, [], ◌∷◌, count_by, drop, length, not, take_while}
-use Rattle.std.specs.Char.{is_ascii_digit}
+use Rattle.std.specs.Prelude.{ℕ, ◌+◌, ◌*◌, ◌^◌, max, ◌==◌, ◌&&◌, ◌||◌, Bool, if◌then◌else◌, [], ◌∷◌, count_by, drop, length, not, take_while}
+use Rattle.std.specs.Char.{is_ascii_alphanumeric, is_ascii_digit}
 use Rattle.std.specs.List.{list_any}
-use Rattle.promql_text.specs.Bytes.{comma, hash, left_brace, right_brace}
+use Rattle.promql_text.specs.Bytes.{comma, hash, left_brace, point, right_brace, right_bracket}
 use Rattle.promql_text.specs.Texts.{Text}
 use Rattle.promql_label.specs.PlainPatterns.{digit_of}
 
@@ -15,10 +15,19 @@ greatest n (b ∷ z) =
     else if is_ascii_digit b then greatest (10 * n + digit_of b) z
     else greatest n z
 
--- for each `{` one more than the greatest number after it, multiplied
-abbrev pub counted : Text → ℕ
-counted [] = 1
-counted (b ∷ z) = (if b == left_brace then 1 + greatest 0 z else 1) * counted z
+-- a count after such a byte repeats one item, no group and no repetition
+abbrev pub ends_item : ℕ → Bool
+ends_item b = is_ascii_alphanumeric b || b == point || b == right_bracket
+
+-- one more than the greatest number of those counts; a text comes after the byte `before`
+abbrev pub item_repeats : ℕ → Text → ℕ
+item_repeats before [] = 1
+item_repeats before (b ∷ z) = max (if b == left_brace && ends_item before then 1 + greatest 0 z else 1) (item_repeats b z)
+
+-- one more than the greatest number of each other count, multiplied
+abbrev pub group_repeats : ℕ → Text → ℕ
+group_repeats before [] = 1
+group_repeats before (b ∷ z) = (if b == left_brace && not (ends_item before) then 1 + greatest 0 z else 1) * group_repeats b z
 
 -- how many bytes come before the first `{`
 abbrev pub brace_place : Text → ℕ
@@ -26,7 +35,9 @@ brace_place v = length (take_while (λ b. not (b == left_brace)) v)
 
 -- a comment, which begins with `#`, may hide braces and commas: then it is ten for each digit after the first `{`
 abbrev pub repeats : Text → ℕ
-repeats v = if list_any (λ b. b == hash) v then 10 ^ count_by is_ascii_digit (drop (brace_place v) v) else counted v
+repeats v =
+    if list_any (λ b. b == hash) v then 10 ^ count_by is_ascii_digit (drop (brace_place v) v)
+    else item_repeats 0 v * group_repeats 0 v
 
 -- the bytes of the anchored text, so often
 abbrev pub measure : Text → ℕ

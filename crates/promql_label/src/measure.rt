@@ -1,9 +1,7 @@
 //! The measure of a pattern: docs/reference/matchers.md, "The measure of a pattern".
 
-ghost use Rattle.std.specs.Prelude.{◌≡◌, ◌≤◌, ◌^◌, [], ◌∷◌, count_by, drop, length, min};
+ghost use Rattle.std.specs.Prelude.{◌≡◌, ◌≤◌, ◌*◌, ◌^◌, count_by, drop, length, min};
 ghost use Rattle.std.specs.Char.{is_ascii_digit};
-ghost use Rattle.promql_text.specs.Texts.{Text};
-ghost use Rattle.promql_label.specs.MeasureSteps.{counted_with};
 ghost use Rattle.promql_label.specs.PatternMeasure as spec;
 
 /// How large the pattern of a value can get where it is compiled, by its text alone: the bytes of the anchored text, each as often
@@ -51,73 +49,56 @@ fn ten_for_digits(value: &[u8]) -> usize
     repeats
 }
 
-/// One more than the greatest number of each count, multiplied.
+/// How often the counts can repeat a part: those that repeat one item by the greatest of them, each other times the others.
 fn counted(value: &[u8]) -> usize
-    ensures { result ≡ min (spec.counted value.now) usize.MAX }
+    ensures { result ≡ min (spec.item_repeats 0 value.now * spec.group_repeats 0 value.now) usize.MAX }
 {
-    let mut counts = Counts {
-        repeats: 1,
-        is_open: false,
-        most: 0,
-        number: 0,
-    };
+    let mut items: usize = 1;
+    let mut groups: usize = 1;
+    let mut before = 0;
+    let mut rest = value;
+    while let [b, after @ ..] = rest {
+        if *b == b'{' {
+            let repeats = greatest(after).saturating_add(1);
+            if ends_item(before) {
+                items = items.max(repeats);
+            } else {
+                groups = groups.saturating_mul(repeats);
+            }
+        }
+        before = *b;
+        rest = after;
+    }
+    items.saturating_mul(groups)
+}
+
+/// Whether a count after this byte repeats one item, no group and no repetition.
+fn ends_item(b: u8) -> bool
+    ensures { result ≡ spec.ends_item b }
+{
+    b.is_ascii_alphanumeric() || b == b'.' || b == b']'
+}
+
+/// The greatest number up to a brace.
+fn greatest(value: &[u8]) -> usize
+    ensures { result ≡ min (spec.greatest 0 value.now) usize.MAX }
+{
+    let mut most: usize = 0;
+    let mut number: usize = 0;
     for b in value {
-        counts = counts.after(*b);
-    }
-    counts.product()
-}
-
-/// What the counts before a place of a pattern come to.
-#[derive(Clone, Copy)]
-struct Counts {
-    /// How often those before the last `{` repeat a part.
-    repeats: usize,
-    /// Whether the last brace is a `{`.
-    is_open: bool,
-    /// The greatest number since then that a comma ends.
-    most: usize,
-    /// The number since then, or since the comma.
-    number: usize,
-}
-
-impl Counts {
-    /// The counts after one more byte.
-    fn after(self, b: u8) -> Counts
-        ensures { (z : Text) → min (counted_with result z) usize.MAX
-            ≡ min (counted_with self (b ∷ z)) usize.MAX }
-    {
-        match b {
-            b'{' | b'}' => Counts {
-                repeats: self.product(),
-                is_open: b == b'{',
-                most: 0,
-                number: 0,
-            },
-            b',' => Counts {
-                most: self.most.max(self.number),
-                number: 0,
-                ..self
-            },
-            _ if b.is_ascii_digit() => Counts {
-                number: self
-                    .number
+        match *b {
+            b'{' | b'}' => break,
+            b',' => {
+                most = most.max(number);
+                number = 0;
+            }
+            digit if digit.is_ascii_digit() => {
+                number = number
                     .saturating_mul(10)
-                    .saturating_add(usize::from(b - b'0')),
-                ..self
-            },
-            _ => self,
+                    .saturating_add(usize::from(digit - b'0'));
+            }
+            _ => {}
         }
     }
-
-    /// What they come to where the last one ends here.
-    fn product(self) -> usize
-        ensures { result ≡ min (counted_with self []) usize.MAX }
-    {
-        if self.is_open {
-            let greatest = self.most.max(self.number);
-            self.repeats.saturating_mul(greatest.saturating_add(1))
-        } else {
-            self.repeats
-        }
-    }
+    most.max(number)
 }

@@ -1,8 +1,13 @@
-use Rattle.std.proofs.Common.{◌≡◌, ◌-◌, ◌^◌, drop, min}
-use Rattle.promql_label.specs.MeasureSteps.{counted_with}
+use Rattle.std.proofs.Common.{◌≡◌, ◌≤◌, ◌-◌, ◌*◌, ◌^◌, length, max, min}
 use Rattle.promql_label.specs.PatternMeasure as spec
 use Rattle.promql_label.proofs.measure.counted.Given as goal
 
--- the counts so far, with the bytes to come, come to the whole
-abbrev pub invariant-loop-b : goal.invariant-loop-b
-invariant-loop-b l = min (counted_with l.counts (drop l.b-index l.value)) (2 ^ 64 - 1) ≡ min (spec.counted l.value) (2 ^ 64 - 1)
+abbrev pub decreases-loop-rest : goal.decreases-loop-rest
+decreases-loop-rest l = length l.rest
+
+-- the counts so far, with those to come, are those of all
+abbrev pub invariant-loop-rest : goal.invariant-loop-rest
+invariant-loop-rest l =
+    (1 ≤ l.items) ×
+    (min (max l.items (spec.item_repeats l.before l.rest)) (2 ^ 64 - 1) ≡ min (spec.item_repeats 0 l.value) (2 ^ 64 - 1)) ×
+    (min (l.groups * spec.group_repeats l.before l.rest) (2 ^ 64 - 1) ≡ min (spec.group_repeats 0 l.value) (2 ^ 64 - 1))

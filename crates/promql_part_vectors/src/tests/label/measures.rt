@@ -4,12 +4,13 @@ use promql_label::pattern_measure;
 use std::test::Fail;
 
 /// Patterns, and their measures: the bytes of the anchored text, and how often a part can be repeated.
-const MEASURED: [(&str, usize, usize); 26] = [
+const MEASURED: [(&str, usize, usize); 32] = [
     ("", 6, 1),
     ("prod|staging", 18, 1),
     (r"\w{720}", 13, 721),
     (r"\w{82}", 12, 83),
     ("(a{9}){9}", 15, 100),
+    ("a{9}{9}", 13, 100),
     ("a{9,}", 11, 10),
     ("a{2,10}", 13, 11),
     ("a{10,2}", 13, 11),
@@ -18,9 +19,18 @@ const MEASURED: [(&str, usize, usize); 26] = [
     ("a{ 9 }", 12, 10),
     ("(?x)a{1 0}", 16, 11),
     ("(?x)a{1 0, 2\t5}", 21, 26),
-    ("a{9}b{9}", 14, 100),
+    ("a{9}b{5}.{7}", 18, 10),
+    (
+        "[0-9a-f]{8}-[0-9a-f]{4}-[0-9a-f]{4}-[0-9a-f]{4}-[0-9a-f]{12}",
+        66,
+        13,
+    ),
+    ("(ab){2}(c{3}){4}", 22, 60),
+    ("a{2}?{3}", 14, 12),
+    ("a+{3}", 11, 4),
+    ("(?x)(a) {9}", 17, 10),
     ("a{9", 9, 10),
-    ("a{1{2}", 12, 6),
+    ("a{1{2}", 12, 3),
     ("192}", 10, 1),
     ("[0-9]{3}", 14, 4),
     (r"\{9}", 10, 10),
