@@ -2,7 +2,7 @@
 use Rattle.std.specs.Prelude.{ℕ, ◌+◌, ◌*◌, ◌^◌, max, ◌==◌, ◌&&◌, ◌||◌, Bool, if◌then◌else◌, [], ◌∷◌, count_by, drop, length, not, take_while}
 use Rattle.std.specs.Char.{is_ascii_alphanumeric, is_ascii_digit}
 use Rattle.std.specs.List.{list_any}
-use Rattle.promql_text.specs.Bytes.{comma, hash, left_brace, point, right_brace, right_bracket}
+use Rattle.promql_text.specs.Bytes.{backslash, comma, hash, left_brace, point, right_brace, right_bracket}
 use Rattle.promql_text.specs.Texts.{Text}
 use Rattle.promql_label.specs.PlainPatterns.{digit_of}
 
@@ -39,6 +39,10 @@ repeats v =
     if list_any (λ b. b == hash) v then 10 ^ count_by is_ascii_digit (drop (brace_place v) v)
     else item_repeats 0 v * group_repeats 0 v
 
--- the bytes of the anchored text, so often
+-- the bytes of the anchored text, and ten more for each backslash, since `\w` is a class of many ranges
+abbrev pub weight : Text → ℕ
+weight v = length v + 6 + 10 * count_by (λ b. b == backslash) v
+
+-- that, so often
 abbrev pub measure : Text → ℕ
-measure v = (length v + 6) * repeats v
+measure v = weight v * repeats v

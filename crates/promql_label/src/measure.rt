@@ -4,20 +4,37 @@ ghost use Rattle.std.specs.Prelude.{◌≡◌, ◌≤◌, ◌*◌, ◌^◌, coun
 ghost use Rattle.std.specs.Char.{is_ascii_digit};
 ghost use Rattle.promql_label.specs.PatternMeasure as spec;
 
-/// How large the pattern of a value can get where it is compiled, by its text alone: the bytes of the anchored text, each as often
-/// as the counts of the pattern can repeat it. It is never too low; `usize::MAX` stands for that and more.
+/// How large the pattern of a value can get where it is compiled, by its text alone: the bytes of the anchored text, and ten more for
+/// each backslash, each as often as the counts of the pattern can repeat it. It is never too low; `usize::MAX` stands for that and more.
 ///
 /// It takes the time to read the value, and allocates nothing.
 pub fn pattern_measure(value: &str) -> usize
     ensures { result ≡ min (spec.measure value.now) usize.MAX }
 {
     let bytes = value.as_bytes();
-    let repeats = if bytes.contains(&b'#') {
-        commented(bytes)
+    weight(bytes).saturating_mul(repeats(bytes))
+}
+
+/// How often the counts of a value can repeat a part of it.
+fn repeats(value: &[u8]) -> usize
+    ensures { result ≡ min (spec.repeats value.now) usize.MAX }
+{
+    if value.contains(&b'#') {
+        commented(value)
     } else {
-        counted(bytes)
-    };
-    value.len().saturating_add(6).saturating_mul(repeats)
+        counted(value)
+    }
+}
+
+/// What a value weighs where nothing repeats it.
+fn weight(value: &[u8]) -> usize
+    ensures { result ≡ min (spec.weight value.now) usize.MAX }
+{
+    let escapes = value.iter().filter(|b| **b == b'\\').count();
+    escapes
+        .saturating_mul(10)
+        .saturating_add(value.len())
+        .saturating_add(6)
 }
 
 /// Ten for each digit after the first `{`.
