@@ -1,8 +1,10 @@
 -- What a compiled pattern finds is what its text says.
-use Rattle.std.proofs.Common.{◌≡◌, ℕ, ◌<◌, true, false, get_or, Option, None, Some, is_some, option_map, unwrap_or, chars, ap, ◌∙◌}
+use Rattle.std.proofs.Common.{◌≡◌, ℕ, ◌<◌, true, false, List, [], get_or, Option, None, Some, is_some, option_map, unwrap_or, chars, ap, ◌∙◌, arith}
 use Rattle.std.specs.Option.{IsSomeAnd}
 use Rattle.regex_syntax.specs.Brackets.{Nested}
 use Rattle.regex_syntax.specs.Grammar.{Names, read}
+use Rattle.regex_hir.specs.Meaning.{meaning}
+use Rattle.regex_hir.specs.declared.hir.Hir.{Hir}
 use Rattle.regex.specs.Patterns.{Re, SameCaptures, Reads, default_config, find_str}
 use Rattle.regex.specs.Strings.{regex_source, regex_config, regex_pattern, IsReadFromSource}
 use Rattle.regex.specs.declared.string.regex.Regex.{Regex}
@@ -24,3 +26,8 @@ unfolding Reads
 finds_of_read r z bytes default is =
     found_alike (regex_pattern r) z bytes _ (λ p h. h.1) (read (regex_config r) (chars (regex_source r))) is
     ∙ ap (λ config. unwrap_or (option_map (λ p. is_some (find_str p.0.value z 0)) (read config (chars (regex_source r)))) false) default
+
+-- what the tree that was read finds in the empty text is what its text finds there
+pub nothing_of_read : (w : Text) (tree : Hir) (names : List (Option Text)) → Reads default_config w tree names → is_some (find_str (meaning tree) [] 0) ≡ finds w []
+unfolding Reads
+nothing_of_read w tree names reads = found_alike (meaning tree) [] (λ k. omega arith) _ (λ p h. h.1) (read default_config (chars w)) reads

@@ -2,6 +2,7 @@ pub mod CommonLabels
 pub mod LabelRows
 pub mod LabelSets
 pub mod RepeatCounts
+pub mod EmptyText
 pub mod Escaping
 pub mod Finding
 pub mod MatcherSearch

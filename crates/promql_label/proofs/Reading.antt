@@ -1,5 +1,5 @@
 -- What the forms of a value that were tried say of its answer.
-use Rattle.std.proofs.Common.{◌≡◌, ◌≢◌, ◌<◌, ◌≤◌, true, false, Option, Some, None, option_map, unwrap_or, chars, subst, sym, refl, ap, ⊎_elim, Bool, le-leb, leb-true, arith}
+use Rattle.std.proofs.Common.{◌≡◌, ◌≢◌, ◌<◌, ◌≤◌, true, false, Option, Some, None, option_map, unwrap_or, chars, is_some, subst, sym, refl, ap, ◌∙◌, ⊎_elim, Bool, true≢false, le-leb, leb-true, arith}
 use Rattle.std.specs.Prelude.{IfSome, nat_le}
 use Rattle.std.specs.Option.{IsSomeAnd}
 use Rattle.regex_syntax.specs.Brackets.{Nested}
@@ -10,25 +10,26 @@ use Rattle.regex.specs.Patterns.{Re, Reads, Refuses, default_config}
 use Rattle.regex.specs.Names.{names_of}
 use Rattle.regex.specs.Strings.{regex_source}
 use Rattle.regex.specs.declared.string.regex.Regex.{Regex}
-use Rattle.promql_label.specs.Answers.{Allows, as_it_is, built, by_escaping, is_read, IsCompiledFrom, IsTried, MayReject, neither, rejected}
+use Rattle.promql_label.specs.Answers.{AllowsBy, anchor, as_it_is, built, by_escaping, is_read, IsCompiledFrom, IsTriedBy, MayRejectBy, neither, rejected}
 use Rattle.promql_label.specs.Repeats.{escaped_repeats}
 use Rattle.promql_text.specs.Texts.{Text}
 
-tried_as : (u form : Text) (o made : Option Text) → o ≡ made → u ≡ form → IsTried u o → IsTried form made
-tried_as u form o made made_is form_is tried = subst (λ f. IsTried f made) form_is (subst (IsTried u) made_is tried)
+module _ (Rejects : Text → Type 0) where
+  tried_as : (u form : Text) (o made : Option Text) → o ≡ made → u ≡ form → IsTriedBy Rejects u o → IsTriedBy Rejects form made
+  tried_as u form o made made_is form_is tried = subst (λ f. IsTriedBy Rejects f made) form_is (subst (IsTriedBy Rejects u) made_is tried)
 
-pub read_as_it_is : (v w : Text) (o : Option Text) → o ≡ Some w → IsTried v o → Allows v (built w)
-read_as_it_is v w o is tried =
-    let read : IsTried v (Some w) = subst (IsTried v) is tried in
-    subst (λ w. Allows v (built w)) (sym read.0) (as_it_is v read.1)
+  pub read_as_it_is : (v w : Text) (o : Option Text) → o ≡ Some w → IsTriedBy Rejects v o → AllowsBy Rejects v (built w)
+  read_as_it_is v w o is tried =
+      let read : IsTriedBy Rejects v (Some w) = subst (IsTriedBy Rejects v) is tried in
+      subst (λ w. AllowsBy Rejects v (built w)) (sym read.0) (as_it_is v read.1)
 
-pub read_escaped : (v u w : Text) (o : Option Text) → MayReject v → u ≡ escaped_repeats v → o ≡ Some w → IsTried u o → Allows v (built w)
-read_escaped v u w o rejects form is tried =
-    let read = tried_as u (escaped_repeats v) o (Some w) is form tried in
-    subst (λ w. Allows v (built w)) (sym read.0) (by_escaping v rejects read.1)
+  pub read_escaped : (v u w : Text) (o : Option Text) → MayRejectBy Rejects v (anchor v) → u ≡ escaped_repeats v → o ≡ Some w → IsTriedBy Rejects u o → AllowsBy Rejects v (built w)
+  read_escaped v u w o rejects form is tried =
+      let read = tried_as u (escaped_repeats v) o (Some w) is form tried in
+      subst (λ w. AllowsBy Rejects v (built w)) (sym read.0) (by_escaping v rejects read.1)
 
-pub rejected_twice : (v u : Text) (o : Option Text) → MayReject v → u ≡ escaped_repeats v → o ≡ None → IsTried u o → Allows v rejected
-rejected_twice v u o rejects form is tried = neither v rejects (tried_as u (escaped_repeats v) o None is form tried)
+  pub rejected_twice : (v u : Text) (o : Option Text) → MayRejectBy Rejects v (anchor v) → u ≡ escaped_repeats v → o ≡ None → IsTriedBy Rejects u o → AllowsBy Rejects v rejected
+  rejected_twice v u o rejects form is tried = neither v rejects (tried_as u (escaped_repeats v) o None is form tried)
 
 -- what the grammar reads is nested no deeper than its limit
 pub read_within_limit : (w : Text) (P : Nested Re × Names → Type 0) → ((p : Nested Re × Names) → P p → p.0.depth ≤ default_config.nest_limit)
@@ -45,6 +46,11 @@ unfolding Reads
 compiled_is_read w r (source, config, reads) =
     subst (λ v. is_read v ≡ true) source
     (read_within_limit (regex_source r) _ (λ p h. h.0) (subst (λ n. Reads n (regex_source r) r.pattern.program.hir (names_of r.pattern.names.items)) config reads))
+
+-- what `regex` takes is read
+pub taken_is_read : (w : Text) (o : Option Regex) (taken : Bool) → taken ≡ is_some o → IfSome o (IsCompiledFrom w) → taken ≡ true → is_read w ≡ true
+taken_is_read w None taken is compiled took = absurd (true≢false (sym took ∙ is))
+taken_is_read w (Some r) taken is compiled took = compiled_is_read w r compiled
 
 past_limit : (o : Option (Nested Re × Names)) → IfSome o (λ p. default_config.nest_limit < p.0.depth) → unwrap_or (option_map (λ p. nat_le p.0.depth default_config.nest_limit) o) false ≡ false
 past_limit None h = refl

@@ -1,8 +1,8 @@
 -- The answers that `regex` may give for a pattern, and the one that is computed.
-use Rattle.std.proofs.Common.{◌≡◌, Bool, true, false, not, ◌&&◌, ◌||◌, cond, refl, sym, ap, ap₂, ◌∙◌, ⊎_elim, true≢false}
+use Rattle.std.proofs.Common.{◌≡◌, Bool, true, false, not, ◌&&◌, ◌||◌, cond, refl, sym, ap, ap₂, ◌∙◌, ⊎_elim, inr, true≢false}
 use Rattle.std.proofs.lemmas.Bool.{and_parts, cases_Bool, not-true}
 use Rattle.promql_text.specs.Texts.{Text}
-use Rattle.promql_label.specs.Answers.{Answer, Allows, anchor, as_it_is, built, by_escaping, has_one_answer, is_read, is_read_pair, IsReadPair, MayReject, neither, pattern_answer, rejected}
+use Rattle.promql_label.specs.Answers.{Answer, Allows, Anything, anchor, as_it_is, built, by_escaping, has_one_answer, is_read, is_read_pair, IsReadPair, MayRejectBy, neither, pattern_answer, rejected}
 use Rattle.promql_label.specs.PatternSize.{is_small, size}
 use Rattle.promql_label.specs.PlainPatterns.{is_plain}
 use Rattle.promql_label.specs.Repeats.{escaped_repeats}
@@ -22,11 +22,14 @@ is_pair : (u : Text) → is_read_pair u ≡ true → IsReadPair u
 is_pair u h = and_parts (is_read u) (is_read (anchor u)) h
 
 -- what is not read is not small
-pair_may_reject : (u : Text) → is_read_pair u ≡ false → MayReject u
-pair_may_reject u none = ⊎_elim
-    (λ (small : is_small u ≡ true). absurd (true≢false (sym (pair_read u (small_pair_is_read u small)) ∙ none)))
-    (λ (large : is_small u ≡ false). large)
-    (cases_Bool (is_small u))
+pair_may_reject : (u : Text) → is_read_pair u ≡ false → MayRejectBy Anything u (anchor u)
+pair_may_reject u none = (
+  ⊎_elim
+      (λ (small : is_small u ≡ true). absurd (true≢false (sym (pair_read u (small_pair_is_read u small)) ∙ none)))
+      (λ (large : is_small u ≡ false). large)
+      (cases_Bool (is_small u)),
+  inr tt,
+)
 
 -- ---- the computed answer
 
@@ -37,15 +40,16 @@ answer_escaped : (v : Text) → is_read_pair v ≡ false → pattern_answer v �
 answer_escaped v h = ap (λ b. cond b (built (anchor v)) (cond (is_read_pair (escaped_repeats v)) (built (anchor (escaped_repeats v))) rejected)) h
 
 -- a form that may be rejected is not read, where it is small or not read
-undecided : (u : Text) → (is_small u || not (is_read_pair u)) ≡ true → MayReject u → is_read_pair u ≡ false
-undecided u one rejects = not-true (is_read_pair u) (ap (λ b. b || not (is_read_pair u)) (sym rejects) ∙ one)
+undecided : (u : Text) → (is_small u || not (is_read_pair u)) ≡ true → MayRejectBy Anything u (anchor u) → is_read_pair u ≡ false
+undecided u one rejects = not-true (is_read_pair u) (ap (λ b. b || not (is_read_pair u)) (sym rejects.0) ∙ one)
 
 -- where the value may be rejected and has one answer, no form that may be rejected is read
-not_read : (v : Text) → has_one_answer v ≡ true → MayReject v → (is_read_pair v ≡ false) × (MayReject (escaped_repeats v) → is_read_pair (escaped_repeats v) ≡ false)
+not_read : (v : Text) → has_one_answer v ≡ true → MayRejectBy Anything v (anchor v)
+    → (is_read_pair v ≡ false) × (MayRejectBy Anything (escaped_repeats v) (anchor (escaped_repeats v)) → is_read_pair (escaped_repeats v) ≡ false)
 not_read v one rejects =
     let e = escaped_repeats v in
     let both = and_parts (not (is_read_pair v)) (is_small e || not (is_read_pair e))
-    (ap (λ b. b || not (is_read_pair v) && (is_small e || not (is_read_pair e))) (sym rejects) ∙ one) in
+    (ap (λ b. b || not (is_read_pair v) && (is_small e || not (is_read_pair e))) (sym rejects.0) ∙ one) in
     (not-true (is_read_pair v) both.0, undecided e both.1)
 
 pub allowed_is_answer : (v : Text) → has_one_answer v ≡ true → (a : Answer) → Allows v a → a ≡ pattern_answer v

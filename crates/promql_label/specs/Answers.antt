@@ -1,5 +1,5 @@
 -- What `regex` may return for a pattern: docs/reference/matchers.md, "Patterns".
-use Rattle.std.specs.Prelude.{◌≡◌, Bool, true, false, not, ◌&&◌, ◌||◌, if◌then◌else◌, ◌++◌, Option, Some, None, is_some, option_map, unwrap_or, codes, chars, nat_le}
+use Rattle.std.specs.Prelude.{◌≡◌, ◌⊎◌, Bool, true, false, not, ◌&&◌, ◌||◌, if◌then◌else◌, ◌++◌, Option, Some, None, is_some, option_map, unwrap_or, codes, chars, nat_le}
 use Rattle.regex.specs.Strings.{regex_source, regex_config, IsReadFromSource}
 use Rattle.regex.specs.Patterns.{default_config, find_str}
 use Rattle.regex.specs.declared.string.regex.Regex.{Regex}
@@ -23,34 +23,38 @@ IsRead w = is_read w ≡ true
 abbrev pub IsCompiledFrom : Text → Regex → Type 0
 IsCompiledFrom w r = (regex_source r ≡ w) × (regex_config r ≡ default_config) × IsReadFromSource r
 
--- what needs no compiling to be known as a pattern: the text of a small form, anchored or as it is
-pub data IsKnown : Text → Type 0 where
-  anchored : (u : Text) → is_small u ≡ true → IsKnown (anchor u)
-  unanchored : (w : Text) → is_small w ≡ true → IsKnown w
-
 -- a form of a pattern is read by itself and anchored
 abbrev pub IsReadPair : Text → Type 0
 IsReadPair u = IsRead u × IsRead (anchor u)
 
--- `regex` may reject a form: only what is small is known to be read (the law `plain_patterns_are_read`)
-abbrev pub MayReject : Text → Type 0
-MayReject u = is_small u ≡ false
+module _ (Rejects : Text → Type 0) where
+  -- a form may be rejected, of which this text is built: it is not small (the law `plain_patterns_are_read`), and the grammar does not read
+  -- it, or `regex` was asked for the text and rejected it
+  abbrev pub MayRejectBy : Text → Text → Type 0
+  MayRejectBy u w = (is_small u ≡ false) × ((is_read u ≡ false) ⊎ Rejects w)
 
--- what becomes of a form that is tried: its anchored text, or nothing
-abbrev pub IsTried : Text → Option Text → Type 0
-IsTried u (Some w) = (w ≡ anchor u) × IsReadPair u
-IsTried u None = MayReject u
+  -- what becomes of a form that is tried: its anchored text, or nothing
+  abbrev pub IsTriedBy : Text → Option Text → Type 0
+  IsTriedBy u (Some w) = (w ≡ anchor u) × IsReadPair u
+  IsTriedBy u None = MayRejectBy u (anchor u)
 
 -- what is returned for a pattern: the built text, or that it is rejected
 pub data Answer : Type 0 where
   built : Text → Answer
   rejected : Answer
 
--- "Answers": `regex` allows this result for a pattern
-pub data Allows : Text → Answer → Type 0 where
-  as_it_is : (v : Text) → IsReadPair v → Allows v (built (anchor v))
-  by_escaping : (v : Text) → MayReject v → IsReadPair (escaped_repeats v) → Allows v (built (anchor (escaped_repeats v)))
-  neither : (v : Text) → MayReject v → MayReject (escaped_repeats v) → Allows v rejected
+-- "Answers": this result is allowed for a pattern
+pub data AllowsBy (Rejects : Text → Type 0) : Text → Answer → Type 0 where
+  as_it_is : (v : Text) → IsReadPair v → AllowsBy Rejects v (built (anchor v))
+  by_escaping : (v : Text) → MayRejectBy Rejects v (anchor v) → IsReadPair (escaped_repeats v) → AllowsBy Rejects v (built (anchor (escaped_repeats v)))
+  neither : (v : Text) → MayRejectBy Rejects v (anchor v) → MayRejectBy Rejects (escaped_repeats v) (anchor (escaped_repeats v)) → AllowsBy Rejects v rejected
+
+-- nothing is said of what `regex` rejects
+abbrev pub Anything : Text → Type 0
+Anything w = Unit {0}
+
+abbrev pub Allows : Text → Answer → Type 0
+Allows = AllowsBy Anything
 
 -- "Answers": the answer that is computed
 abbrev pub is_read_pair : Text → Bool

@@ -19,6 +19,7 @@ pub use pattern::{Pattern, PatternFault};
 pub use repeats::escape_repeats;
 
 mod common_labels;
+mod empty_text;
 pub mod labels;
 pub mod laws;
 pub mod matcher;

@@ -1,12 +1,14 @@
 //! Patterns: docs/reference/matchers.md, "Patterns".
 
-ghost use Rattle.std.specs.Prelude.{◌≡◌, true, IfOk, IfErr, IfSome, IfNone, string_bytes};
+ghost use Rattle.std.specs.Prelude.{◌≡◌, true, false, [], IfOk, IfErr, IfSome, IfNone, string_bytes};
 ghost use Rattle.regex.specs.Patterns.{default_config};
 ghost use Rattle.regex.specs.Strings.{regex_config, regex_source, IsReadFromSource};
 ghost use Rattle.promql_label.specs.PatternRejections.{IsRejected};
 ghost use Rattle.promql_label.specs.Answers as spec;
-ghost use Rattle.promql_label.specs.Answers.{Allows, built, finds, IsCompiledFrom, IsKnown, IsRead, IsTried, MayReject, rejected};
+ghost use Rattle.promql_label.specs.Answers.{Allows, AllowsBy, Anything, built, finds, IsCompiledFrom, IsRead, IsTriedBy, MayRejectBy, rejected};
+ghost use Rattle.promql_text.specs.Texts.{Text};
 
+use crate::empty_text::matches_empty;
 use crate::pattern_size::is_small;
 use crate::plain::is_plain;
 use crate::repeats::escape_repeats;
@@ -19,7 +21,7 @@ use std::marker::Model;
 use std::sync::Arc;
 use thiserror::Error;
 
-/// A text that the grammar of `regex` reads, and what was compiled of it, if that was asked for.
+/// A text that the grammar of `regex` reads, and what was compiled of it, once it is prepared.
 #[derive(Drop)]
 struct Source {
     text: String,
@@ -28,24 +30,23 @@ struct Source {
 
 /// A pattern that the grammar of `regex` reads. Contracts see its built text.
 ///
-/// A small one is compiled when it matches or is prepared, since most patterns are read, compared and printed, and never match;
-/// any other when it is read.
+/// It is compiled when it matches or is prepared, since most patterns are read, compared and printed, and never match. One that is
+/// not small is compiled when it is read, too, to learn whether `regex` takes it, and what was compiled is dropped at once.
 #[derive(Drop)]
 pub struct Pattern {
     source: Arc<Source>,
 }
 
 impl Model for Pattern {
-    ghost use Rattle.std.specs.Prelude.{List, ℕ, IfSome, IfNone, string_bytes};
-    ghost use Rattle.promql_label.specs.Answers.{IsCompiledFrom, IsKnown, IsRead};
+    ghost use Rattle.std.specs.Prelude.{List, ℕ, IfSome, string_bytes};
+    ghost use Rattle.promql_label.specs.Answers.{IsCompiledFrom, IsRead};
 
     ghost Value = { List ℕ };
 
     ghost view = { λ p. string_bytes p.source.value.text };
 
     ghost invariant = { λ p. IsRead (string_bytes p.source.value.text)
-        × IfSome p.source.value.regex (IsCompiledFrom (string_bytes p.source.value.text))
-        × IfNone p.source.value.regex (IsKnown (string_bytes p.source.value.text)) };
+        × IfSome p.source.value.regex (IsCompiledFrom (string_bytes p.source.value.text)) };
 }
 
 /// Why no pattern is built.
@@ -108,39 +109,95 @@ fn anchor(alloc: Global, form: &str) -> Result<String, AllocError>
     Ok(text)
 }
 
-/// The pattern of a text as it is, compiled, if `regex` takes it.
-fn take(alloc: Global, text: String) -> Result<Option<Pattern>, AllocError>
-    ensures { IfOk result (λ o. IfSome o (λ p. (p ≡ string_bytes text) × IsRead (string_bytes text))) }
-{
-    match compile(alloc, &text)? {
-        Some(regex) => Ok(Some(Pattern::new(alloc, text, Some(regex))?)),
-        None => Ok(None),
+/// What tells whether `regex` takes a text. Of what it rejects its callers know `rejects` alone, so that no rejection has another source
+/// than a call.
+trait Engine {
+    ghost rejects: { Text → Type 0 };
+
+    /// Whether a text is taken.
+    fn takes(&self, alloc: Global, text: &str) -> Result<bool, AllocError>
+        ensures taken { IfOk result (λ is. is ≡ true → IsRead text.now) }
+        ensures rejected { IfOk result (λ is. is ≡ false → rejects text.now) };
+}
+
+/// `regex` itself.
+struct RegexCrate;
+
+impl Engine for RegexCrate {
+    ghost use Rattle.promql_label.specs.Answers.{Anything};
+
+    ghost rejects = { Anything };
+
+    fn takes(&self, alloc: Global, text: &str) -> Result<bool, AllocError> {
+        Ok(compile(alloc, text)?.is_some())
     }
 }
 
 /// The pattern of a text as it is, if `regex` takes it.
-fn take_text(alloc: Global, text: &str) -> Result<Option<Pattern>, AllocError>
+fn take_text<E: Engine>(
+    engine: &E,
+    alloc: Global,
+    text: &str,
+) -> Result<Option<Pattern>, AllocError>
     ensures read { IfOk result (λ o. IfSome o (λ p. (p ≡ text.now) × IsRead text.now)) }
-    ensures rejected { IfOk result (λ o. IfNone o (MayReject text.now)) }
+    ensures rejected { IfOk result (λ o. IfNone o (MayRejectBy E.rejects text.now text.now)) }
 {
-    let copy = String::from_str(alloc, text)?;
-    if is_small(text) {
+    if is_small(text) || engine.takes(alloc, text)? {
+        let copy = String::from_str(alloc, text)?;
         Ok(Some(Pattern::new(alloc, copy, None)?))
     } else {
-        take(alloc, copy)
+        Ok(None)
     }
 }
 
 /// The pattern of a form of a value, if `regex` reads that form by itself and takes it anchored.
-fn take_anchored(alloc: Global, form: &str) -> Result<Option<Pattern>, AllocError>
-    ensures { IfOk result (IsTried form.now) }
+fn take_anchored<E: Engine>(
+    engine: &E,
+    alloc: Global,
+    form: &str,
+) -> Result<Option<Pattern>, AllocError>
+    ensures { IfOk result (IsTriedBy E.rejects form.now) }
 {
-    if is_small(form) {
-        Ok(Some(Pattern::new(alloc, anchor(alloc, form)?, None)?))
-    } else if is_read(alloc, form)? {
-        take(alloc, anchor(alloc, form)?)
+    let text = anchor(alloc, form)?;
+    if is_small(form) || is_read(alloc, form)? && engine.takes(alloc, text.as_str())? {
+        Ok(Some(Pattern::new(alloc, text, None)?))
     } else {
         Ok(None)
+    }
+}
+
+/// The pattern of a value.
+fn read_value<E: Engine>(engine: &E, alloc: Global, value: &str) -> Result<Pattern, PatternFault>
+    ensures built { IfOk result (λ p. AllowsBy E.rejects value.now (built p)) }
+    ensures rejected { IfErr result (IsRejected value.now (AllowsBy E.rejects value.now rejected)) }
+{
+    match take_anchored(engine, alloc, value)? {
+        Some(pattern) => Ok(pattern),
+        None => read_escaped(engine, alloc, value),
+    }
+}
+
+/// The pattern of a value whose own form is rejected.
+fn read_escaped<E: Engine>(engine: &E, alloc: Global, value: &str) -> Result<Pattern, PatternFault>
+    requires { MayRejectBy E.rejects value.now (spec.anchor value.now) }
+    ensures built { IfOk result (λ p. AllowsBy E.rejects value.now (built p)) }
+    ensures rejected { IfErr result (IsRejected value.now (AllowsBy E.rejects value.now rejected)) }
+{
+    let escaped = escape_repeats(alloc, value)?;
+    match take_anchored(engine, alloc, escaped.as_str())? {
+        Some(pattern) => Ok(pattern),
+        None => Err(PatternFault::Refused(String::from_str(alloc, value)?)),
+    }
+}
+
+/// The pattern of a text as it is.
+fn read_text<E: Engine>(engine: &E, alloc: Global, text: &str) -> Result<Pattern, PatternFault>
+    ensures built { IfOk result (λ p. (p ≡ text.now) × IsRead text.now) }
+    ensures rejected { IfErr result (IsRejected text.now (MayRejectBy E.rejects text.now text.now)) }
+{
+    match take_text(engine, alloc, text)? {
+        Some(pattern) => Ok(pattern),
+        None => Err(PatternFault::Refused(String::from_str(alloc, text)?)),
     }
 }
 
@@ -158,10 +215,7 @@ impl Pattern {
         ensures built { IfOk result (λ p. Allows value.now (built p)) }
         ensures rejected { IfErr result (IsRejected value.now (Allows value.now rejected)) }
     {
-        match take_anchored(alloc, value)? {
-            Some(pattern) => Ok(pattern),
-            None => Pattern::read_escaped(alloc, value),
-        }
+        read_value(&RegexCrate, alloc, value)
     }
 
     /// The pattern of a text as it is: it matches where it is found.
@@ -171,31 +225,14 @@ impl Pattern {
     /// `Refused` with the text, where `regex` rejects it; `Memory` if an allocation fails.
     pub fn of_text(alloc: Global, text: &str) -> Result<Pattern, PatternFault>
         ensures built { IfOk result (λ p. (p ≡ text.now) × IsRead text.now) }
-        ensures rejected { IfErr result (IsRejected text.now (MayReject text.now)) }
+        ensures rejected { IfErr result (IsRejected text.now (MayRejectBy Anything text.now text.now)) }
     {
-        match take_text(alloc, text)? {
-            Some(pattern) => Ok(pattern),
-            None => Err(PatternFault::Refused(String::from_str(alloc, text)?)),
-        }
-    }
-
-    /// The pattern of a value whose own form is rejected.
-    fn read_escaped(alloc: Global, value: &str) -> Result<Pattern, PatternFault>
-        requires { MayReject value.now }
-        ensures built { IfOk result (λ p. Allows value.now (built p)) }
-        ensures rejected { IfErr result (IsRejected value.now (Allows value.now rejected)) }
-    {
-        let escaped = escape_repeats(alloc, value)?;
-        match take_anchored(alloc, escaped.as_str())? {
-            Some(pattern) => Ok(pattern),
-            None => Err(PatternFault::Refused(String::from_str(alloc, value)?)),
-        }
+        read_text(&RegexCrate, alloc, text)
     }
 
     fn new(alloc: Global, text: String, regex: Option<Regex>) -> Result<Pattern, AllocError>
         requires read { IsRead (string_bytes text) }
         requires compiled { IfSome regex (IsCompiledFrom (string_bytes text)) }
-        requires known { IfNone regex (IsKnown (string_bytes text)) }
         ensures { IfOk result (λ p. p ≡ string_bytes text) }
     {
         Ok(Pattern {
@@ -230,12 +267,14 @@ impl Pattern {
     }
 
     /// Whether the pattern matches a text. Each call allocates what the search needs, and compiles a pattern that is not
-    /// prepared. Should `regex` reject a small pattern, of which no case is known, the call fails as for memory.
+    /// prepared, but for the empty text, which the tree of the pattern tells. Should `regex` reject a small pattern, of which no
+    /// case is known, the call fails as for memory.
     pub(crate) fn is_match(&self, alloc: Global, text: &str) -> Result<bool, AllocError>
         ensures { IfOk result (λ found. found ≡ finds self.now text.now) }
     {
         match &self.source.regex {
             Some(regex) => search(alloc, regex, text),
+            None if text.is_empty() => finds_nothing(alloc, self.as_str()),
             None => match compile(alloc, self.as_str())? {
                 Some(regex) => search(alloc, &regex, text),
                 None => Err(AllocError),
@@ -250,6 +289,16 @@ impl Pattern {
         Ok(Pattern {
             source: self.source.clone()?,
         })
+    }
+}
+
+/// Whether a pattern is found in the empty text.
+fn finds_nothing(alloc: Global, pattern: &str) -> Result<bool, AllocError>
+    ensures { IfOk result (λ found. found ≡ finds pattern.now []) }
+{
+    match regex_syntax::parse(alloc, pattern, &Config::default()) {
+        Ok(parsed) => Ok(matches_empty(&parsed.hir)),
+        Err(_) => Err(AllocError),
     }
 }
 

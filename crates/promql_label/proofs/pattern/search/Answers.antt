@@ -1,4 +1,3 @@
-use Rattle.std.proofs.Common.{◌∙◌}
 use Rattle.promql_label.proofs.Finding.{finds_of_read}
 use Rattle.promql_label.proofs.pattern.search.Goals as goal
 
