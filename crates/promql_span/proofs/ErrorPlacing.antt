@@ -25,7 +25,10 @@ use Rattle.promql_syntax.specs.declared.grammar.build_error.BuildFault.TheVarian
 use Rattle.promql_syntax.specs.declared.grammar.place.Place.{Place}
 use Rattle.promql_syntax.specs.declared.parser.ParseError.{ParseError}
 use Rattle.promql_syntax.specs.declared.parser.ParseError.TheVariants as errors
-use Rattle.promql_span.specs.ErrorPlaces.{IsAtFault, IsCharOrEnd, IsPlaceOf}
+use Rattle.promql_span.specs.Marks.{IsMark}
+use Rattle.promql_span.proofs.MarkSearch.{mark_at}
+use Rattle.promql_token.specs.declared.ids.TheConstants.{T_EOF}
+use Rattle.promql_span.specs.ErrorPlaces.{IsAtError, IsAtFault, IsCharOrEnd, IsPlaceOf}
 use Rattle.promql_span.specs.Findings.{HasFault, IsFindingOf, IsFound, IsFoundAt, IsMisfit}
 use Rattle.promql_syntax.specs.ParseErrors.{error_of, error_of_fault, first_error}
 use Rattle.promql_grammar.proofs.Listing.{some_zero, whole_list}
@@ -112,25 +115,29 @@ reading_found s e found finding = by_tokens (tokens s) refl
         subst (λ b. IsFound s (first_error (Ok b) (error_of e)) found) (sym (ap not (some_zero (length ts)))) (error_found s e found (finding (t ∷ ts) is (omega arith)))
     by_tokens (Err f) is = tt
 
-pub fault_place : (s : Text) (found : Finding) (span : Span) → HasFault s found → IsFoundAt s found span → IsAtTokens s span
-fault_place s (Misfit left) span has at = absurd has
-fault_place s (Fault place) span has at = at has
+pub fault_place : (s : Text) (e : ParseError) (found : Finding) (span : Span) → HasFault s found → IsFoundAt s e found span → IsAtError s e span
+fault_place s e (Misfit left) span has at = absurd has
+fault_place s e (Fault place) span has at = at has
 
 pub found_place : (s : Text) (e : ParseError) (found : Finding) (span : Span) → e ≢ errors.Memory → ((f : LexFault) → e ≢ errors.Lex f) → e ≢ errors.Empty
-    → IsFound s e found → IsFoundAt s found span → IsPlaceOf s e (Some span)
+    → IsFound s e found → IsFoundAt s e found span → IsPlaceOf s e (Some span)
 found_place s errors.Memory found span memory lexical empty is at = absurd (memory refl)
 found_place s (errors.Lex f) found span memory lexical empty is at = absurd (lexical f refl)
 found_place s errors.Empty found span memory lexical empty is at = absurd (empty refl)
 found_place s errors.Syntax (Misfit left) span memory lexical empty is at = record { left = left; misfits = is; is = at }
 found_place s errors.Syntax (Fault place) span memory lexical empty is at = absurd is
-found_place s errors.TooDeep found span memory lexical empty is at = fault_place s found span is at
-found_place s (errors.Number f) found span memory lexical empty is at = fault_place s found span is at
-found_place s errors.Quoted found span memory lexical empty is at = fault_place s found span is at
-found_place s (errors.Duration f) found span memory lexical empty is at = fault_place s found span is at
-found_place s (errors.At f) found span memory lexical empty is at = fault_place s found span is at
-found_place s (errors.Pattern value) found span memory lexical empty is at = fault_place s found span is at
-found_place s (errors.UnknownFunction name) found span memory lexical empty is at = fault_place s found span is at
-found_place s (errors.Check f) found span memory lexical empty is at = fault_place s found span is at
+found_place s errors.TooDeep found span memory lexical empty is at = fault_place s errors.TooDeep found span is at
+found_place s (errors.Number f) found span memory lexical empty is at = fault_place s (errors.Number f) found span is at
+found_place s errors.Quoted found span memory lexical empty is at = fault_place s errors.Quoted found span is at
+found_place s (errors.Duration f) found span memory lexical empty is at = fault_place s (errors.Duration f) found span is at
+found_place s (errors.At f) found span memory lexical empty is at = fault_place s (errors.At f) found span is at
+found_place s (errors.Pattern value) found span memory lexical empty is at = fault_place s (errors.Pattern value) found span is at
+found_place s (errors.UnknownFunction name) found span memory lexical empty is at = fault_place s (errors.UnknownFunction name) found span is at
+found_place s (errors.Check f) found span memory lexical empty is at = fault_place s (errors.Check f) found span is at
+
+-- a mark that the tokens show
+pub at_mark : (s : Text) (e : ParseError) (span : Span) → IsMark s e T_EOF (placed_tokens s) span → IsAtError s e span
+at_mark s e span mark = (mark_at s e [] (placed_tokens s) T_EOF span refl mark, λ other is. mark)
 
 -- ---- lexical faults
 

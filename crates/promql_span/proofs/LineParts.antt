@@ -11,6 +11,7 @@ use Rattle.std.proofs.lemmas.Str.{IsUtf8-drop, IsUtf8-past_char, IsUtf8-take, ch
 use Rattle.promql_span.specs.Locations.{is_line_feed, last_line}
 use Rattle.promql_text.specs.Texts.{Text}
 use Rattle.promql_span.specs.Snippets.{blank, snippet_of, up_to}
+use Rattle.promql_span.specs.Visible.{visible}
 use lib.Utf8.{encodes}
 
 -- ---- a text around a character
@@ -132,17 +133,18 @@ none_left n s none = let empty = no_chars s none in empty ∙ sym (drop_none n) 
 pub chars_fit : (s : Text) → IsUtf8 s → length (chars s) ≤ length s
 chars_fit s text = omega (arith, length-le-encodes (chars s), ap length (encodes-chars s text))
 
-pub appended : (o0 o1 o2 o3 o4 o5 before after below mark : Text) → o0 ≡ [] → o1 ≡ o0 ++ before → o2 ≡ o1 ++ after → o3 ≡ o2 ++ 10 ∷ [] → o4 ≡ o3 ++ below → o5 ≡ o4 ++ mark
-    → o5 ≡ before ++ (after ++ 10 ∷ (below ++ mark))
-appended o0 o1 o2 o3 o4 o5 before after below mark e0 e1 e2 e3 e4 e5 =
-    let all : o5 ≡ ((((([] ++ before) ++ after) ++ 10 ∷ []) ++ below) ++ mark) = cc in
-    all ∙ append_assoc ((before ++ after) ++ 10 ∷ []) below mark ∙ append_assoc (before ++ after) (10 ∷ []) (below ++ mark) ∙ append_assoc before after (10 ∷ (below ++ mark))
+pub appended : (o0 o1 o2 o3 o4 o5 o6 before inside beyond below mark : Text) → o0 ≡ [] → o1 ≡ o0 ++ before → o2 ≡ o1 ++ inside → o3 ≡ o2 ++ beyond → o4 ≡ o3 ++ 10 ∷ []
+    → o5 ≡ o4 ++ below → o6 ≡ o5 ++ mark → o6 ≡ before ++ ((inside ++ beyond) ++ 10 ∷ (below ++ mark))
+appended o0 o1 o2 o3 o4 o5 o6 before inside beyond below mark e0 e1 e2 e3 e4 e5 e6 =
+    let all : o6 ≡ ((((([] ++ before) ++ inside) ++ beyond) ++ 10 ∷ []) ++ below) ++ mark = cc in
+    all ∙ append_assoc (((before ++ inside) ++ beyond) ++ 10 ∷ []) below mark ∙ append_assoc ((before ++ inside) ++ beyond) (10 ∷ []) (below ++ mark)
+    ∙ ap (λ l. l ++ 10 ∷ (below ++ mark)) (append_assoc before inside beyond) ∙ append_assoc before (inside ++ beyond) (10 ∷ (below ++ mark))
 
 pub shown_is : (left right before after : Text) (marked : ℕ) → before ≡ drop (min (length left - 50) (length left + length right - 100)) left → after ≡ take (100 - length before) right
-    → before ++ (after ++ 10 ∷ (map blank before ++ 94 ∷ replicate (min marked (length after) - 1) 126)) ≡ snippet_of left right marked
+    → visible before ++ (visible after ++ 10 ∷ (map blank (visible before) ++ 94 ∷ replicate (length (visible (take marked after)) - 1) 126)) ≡ snippet_of left right marked
 shown_is left right before after marked b a =
-    ap (λ t. before ++ (t ++ 10 ∷ (map blank before ++ 94 ∷ replicate (min marked (length t) - 1) 126))) a
-    ∙ ap (λ t. t ++ (take (100 - length t) right ++ 10 ∷ (map blank t ++ 94 ∷ replicate (min marked (length (take (100 - length t) right)) - 1) 126))) b
+    ap (λ t. visible before ++ (visible t ++ 10 ∷ (map blank (visible before) ++ 94 ∷ replicate (length (visible (take marked t)) - 1) 126))) a
+    ∙ ap (λ t. visible t ++ (visible (take (100 - length t) right) ++ 10 ∷ (map blank (visible t) ++ 94 ∷ replicate (length (visible (take marked (take (100 - length t) right))) - 1) 126))) b
 
 -- what follows the characters before a place
 pub chars_after : (s front rest : Text) → front ≡ take (length front) s → rest ≡ drop (length front) s → IsUtf8 front → chars rest ≡ drop (length (chars front)) (chars s)

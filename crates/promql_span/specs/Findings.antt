@@ -5,7 +5,7 @@ use Rattle.promql_grammar.specs.Misfits.{AreMisfits}
 use Rattle.promql_grammar.specs.declared.read_error.ReadError.{ReadError}
 use Rattle.promql_grammar.specs.declared.read_error.ReadError.TheVariants.{Memory, Syntax, TooDeep}
 use Rattle.promql_span.specs.PlacedTokens.{first_span, last_tokens, placed_tokens, symbols_at}
-use Rattle.promql_span.specs.TokenSpans.{IsAtTokens}
+use Rattle.promql_span.specs.ErrorPlaces.{IsAtError}
 use Rattle.promql_span.specs.declared.span.Span.{Span}
 use Rattle.promql_span.specs.declared.diagnosis.Finding.{Finding}
 use Rattle.promql_span.specs.declared.diagnosis.Finding.TheVariants.{Misfit, Fault}
@@ -37,6 +37,6 @@ IsFindingOf s Syntax found = IsMisfit s found
 IsFindingOf s TooDeep found = HasFault s found
 
 -- the part of the text that was found
-abbrev pub IsFoundAt : Text → Finding → Span → Type 0
-IsFoundAt s (Misfit left) span = span ≡ first_span s (last_tokens left (placed_tokens s))
-IsFoundAt s (Fault place) span = 0 < length (placed_tokens s) → IsAtTokens s span
+abbrev pub IsFoundAt : Text → ParseError → Finding → Span → Type 0
+IsFoundAt s e (Misfit left) span = span ≡ first_span s (last_tokens left (placed_tokens s))
+IsFoundAt s e (Fault place) span = 0 < length (placed_tokens s) → IsAtError s e span

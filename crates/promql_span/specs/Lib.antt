@@ -1,5 +1,6 @@
 pub mod ByteEscapes
 pub mod CharSpans
+pub mod Marks
 pub mod PlacedTokens
 pub mod Snippets
 pub mod SpanSteps
@@ -10,3 +11,4 @@ pub mod Findings
 pub mod Locations
 pub mod MeasuredTokens
 pub mod QueryLimits
+pub mod Visible

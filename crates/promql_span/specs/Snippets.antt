@@ -3,6 +3,7 @@
 use Rattle.std.specs.Prelude.{ℕ, ◌+◌, ◌-◌, ◌==◌, if◌then◌else◌, min, [], ◌∷◌, ◌++◌, drop, length, map, replicate, take}
 use Rattle.promql_text.specs.Bytes.{caret, carriage_return, line_feed, space, tilde}
 use Rattle.promql_span.specs.Locations.{characters_before, last_line}
+use Rattle.promql_span.specs.Visible.{visible}
 use Rattle.promql_text.specs.Texts.{Text}
 use Rattle.promql_span.specs.declared.span.Span.{Span}
 
@@ -15,12 +16,13 @@ up_to b (c ∷ cs) = if c == b then [] else c ∷ up_to b cs
 abbrev pub blank : ℕ → ℕ
 blank c = if c == 9 then 9 else space
 
--- of a line, what is before the mark and what is after it: 100 characters, 50 of them before it where both sides have more
+-- of a line, what is before the mark and what is after it: 100 characters, 50 of them before it where both sides have more,
+-- as they are shown
 abbrev pub snippet_of : Text → Text → ℕ → Text
 snippet_of left right marked =
     let before = drop (min (length left - 50) (length left + length right - 100)) left in
     let after = take (100 - length before) right in
-    before ++ (after ++ line_feed ∷ (map blank before ++ caret ∷ replicate (min marked (length after) - 1) tilde))
+    visible before ++ (visible after ++ line_feed ∷ (map blank (visible before) ++ caret ∷ replicate (length (visible (take marked after)) - 1) tilde))
 
 -- the mark begins at the start of the span, and is as long as the span and the line allow
 abbrev pub snippet_text : Text → Span → Text

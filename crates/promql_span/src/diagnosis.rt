@@ -7,15 +7,16 @@ ghost use Rattle.promql_grammar.specs.declared.read_error.ReadError.TheVariants 
 ghost use Rattle.promql_grammar.specs.SourceTokens.{Token, has_any, tokens};
 ghost use Rattle.promql_grammar.specs.SymbolsLeft.{symbols_left};
 ghost use Rattle.promql_span.specs.Locations.{location_of};
-ghost use Rattle.promql_span.specs.PlacedTokens.{end_of};
+ghost use Rattle.promql_span.specs.PlacedTokens.{end_of, placed_tokens};
 ghost use Rattle.promql_span.specs.Snippets.{snippet_text};
 ghost use Rattle.promql_span.specs.TokenSpans.{IsAtTokens};
-ghost use Rattle.promql_span.specs.ErrorPlaces.{IsAtFault, IsPlaceOf, diagnosed_answer};
+ghost use Rattle.promql_span.specs.ErrorPlaces.{IsAtError, IsAtFault, IsPlaceOf, diagnosed_answer};
 ghost use Rattle.promql_span.specs.Findings.{IsFindingOf, IsFound, IsFoundAt};
 ghost use Rattle.promql_syntax.specs.ParseAnswers.{IsAnswerTo};
 ghost use Rattle.promql_syntax.specs.ParseErrors.{error_of, error_of_build, first_error};
 
 use crate::location::Location;
+use crate::marks::mark_of;
 use crate::placed::PlacedTokens;
 use crate::places::{argument_span, char_span, end_of_text, span_between, token_left};
 use crate::snippets::snippet;
@@ -117,7 +118,7 @@ fn span_of(text: &str, error: &ParseError, found: Finding) -> Option<Span>
         ParseError::Memory => None,
         ParseError::Lex(fault) => Some(lexical_span(text, *fault, found)),
         ParseError::Empty => Some(end_of_text(text)),
-        _ => Some(found_span(text, found)),
+        _ => Some(found_span(text, error, found)),
     }
 }
 
@@ -143,15 +144,33 @@ fn unclosed_span(text: &str, found: Finding) -> Span
 }
 
 /// The tokens that parsing found to be wrong.
-fn found_span(text: &str, found: Finding) -> Span
-    ensures { IsFoundAt text.now found result }
+fn found_span(text: &str, error: &ParseError, found: Finding) -> Span
+    ensures { IsFoundAt text.now error.now found result }
 {
     match found {
         Finding::Misfit(left) => token_left(text, left),
-        Finding::Fault(Place::Tokens(range)) => span_between(text, part_of(text, range)),
-        Finding::Fault(Place::Argument(range, index)) => {
-            argument_span(text, part_of(text, range), index)
-        }
+        Finding::Fault(place) => fault_span(text, error, place),
+    }
+}
+
+/// The tokens that a fault is about: its mark, where the tokens around it show that.
+fn fault_span(text: &str, error: &ParseError, place: Place) -> Span
+    ensures { 0 < length (placed_tokens text.now) → IsAtError text.now error.now result }
+{
+    let part = part_of(text, range_of(place));
+    if let Some(mark) = mark_of(text, error, part.start) {
+        return mark;
+    }
+    match place {
+        Place::Tokens(_) => span_between(text, part),
+        Place::Argument(_, index) => argument_span(text, part, index),
+    }
+}
+
+/// The tokens of a place, or those of the node whose argument it is.
+fn range_of(place: Place) -> TokenRange {
+    match place {
+        Place::Tokens(range) | Place::Argument(range, _) => range,
     }
 }
 

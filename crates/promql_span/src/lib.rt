@@ -8,10 +8,12 @@ pub mod diagnosis;
 pub mod laws;
 pub mod limits;
 mod location;
+mod marks;
 mod placed;
 mod places;
 mod snippets;
 mod span;
+mod visibility;
 
 pub use byte_escapes::byte_escape;
 pub use location::Location;
@@ -19,3 +21,4 @@ pub use placed::PlacedTokens;
 pub use places::{argument_span, char_span, end_of_text, span_between, token_left};
 pub use snippets::snippet;
 pub use span::Span;
+pub use visibility::visible;

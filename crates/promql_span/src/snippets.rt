@@ -6,6 +6,7 @@ ghost use Rattle.promql_span.specs.Locations.{characters_before, last_line};
 ghost use Rattle.promql_span.specs.Snippets.{blank, snippet_of, snippet_text, up_to};
 
 use crate::span::Span;
+use crate::visibility::visible;
 use std::alloc::{AllocError, Global};
 
 /// How many characters of a line are shown.
@@ -13,8 +14,9 @@ const WIDTH: usize = 100;
 /// How many of them are before the mark, where both sides of it have more.
 const MARGIN: usize = 50;
 
-/// The line of a text with the start of a span, and below it `^` at the start and `~` at what is
-/// left of the span in that line. It has a line feed between them, and none at the end.
+/// The line of a text with the start of a span, made visible, and below it `^` at the start and
+/// `~` at what is left of the span in that line. It has a line feed between them, and none at the
+/// end.
 pub fn snippet(alloc: Global, text: &str, span: Span) -> Result<String, AllocError>
     ensures { IfOk result (λ shown. string_bytes shown
         ≡ encode_utf8_all (snippet_text (chars text.now) span)) }
@@ -79,12 +81,17 @@ fn show(alloc: Global, left: &str, right: &str, marked: usize) -> Result<String,
     let (_, before) = left.split_at(byte_of_char(left, skipped));
     let room = WIDTH.saturating_sub(char_count(before));
     let (after, _) = right.split_at(byte_of_char(right, room));
+    let (inside, beyond) = after.split_at(byte_of_char(after, marked));
+    let before = visible(alloc, before)?;
+    let inside = visible(alloc, inside)?;
+    let beyond = visible(alloc, beyond)?;
     let mut shown = String::new(alloc);
-    shown.push_str(before)?;
-    shown.push_str(after)?;
+    shown.push_str(before.as_str())?;
+    shown.push_str(inside.as_str())?;
+    shown.push_str(beyond.as_str())?;
     shown.push('\n')?;
-    push_blank(&mut shown, before)?;
-    push_mark(&mut shown, marked.min(char_count(after)))?;
+    push_blank(&mut shown, before.as_str())?;
+    push_mark(&mut shown, char_count(inside.as_str()))?;
     Ok(shown)
 }
 

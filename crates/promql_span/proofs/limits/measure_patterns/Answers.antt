@@ -1,4 +1,4 @@
-use Rattle.std.proofs.Common.{◌≡◌, ◌∙◌, ap, arith, sym}
+use Rattle.std.proofs.Common.{arith}
 use Rattle.promql_token.specs.Cursor.{tokens_left}
 use Rattle.promql_span.proofs.TokenMeasures.{index_fits}
 use Rattle.promql_span.proofs.limits.measure_patterns.Goals as goal
