@@ -9,12 +9,15 @@ ghost use Rattle.promql_calls.specs.Formats.{format_numbered};
 ghost use Rattle.promql_calls.specs.declared.calls.TheConstants.{CALLS_VERSION};
 
 use promql_calls::CallResult;
+use promql_span::limits::Limits;
 use std::alloc::Global;
 
 /// `promql_calls::print`.
 #[unsafe(no_mangle)]
 pub extern "C" fn call_print(
     alloc: Global,
+    max_len: usize,
+    max_pattern_size: usize,
     query: &[u8],
     mode: u32,
     level: u32,
@@ -22,58 +25,91 @@ pub extern "C" fn call_print(
     buffer: &mut [u8],
     shown: &mut CallResult,
 )
-    ensures { ShowsSome (IsPrintOf query.now (format_numbered mode level width))
+    ensures { ShowsSome (IsPrintOf (record { max_len = max_len; max_pattern_size = max_pattern_size }) query.now (format_numbered mode level width))
         shown.new buffer.old buffer.new }
 {
-    *shown = promql_calls::print(alloc, query, mode, level, width, buffer);
+    let limits = Limits {
+        max_len,
+        max_pattern_size,
+    };
+    *shown = promql_calls::print(alloc, &limits, query, mode, level, width, buffer);
 }
 
 /// `promql_calls::canonical`.
 #[unsafe(no_mangle)]
 pub extern "C" fn call_canonical(
     alloc: Global,
+    max_len: usize,
+    max_pattern_size: usize,
     query: &[u8],
     buffer: &mut [u8],
     shown: &mut CallResult,
 )
-    ensures { ShowsSome (IsPrintOf query.now (Some Line)) shown.new buffer.old buffer.new }
+    ensures { ShowsSome (IsPrintOf (record { max_len = max_len; max_pattern_size = max_pattern_size }) query.now (Some Line)) shown.new buffer.old buffer.new }
 {
-    *shown = promql_calls::canonical(alloc, query, buffer);
+    let limits = Limits {
+        max_len,
+        max_pattern_size,
+    };
+    *shown = promql_calls::canonical(alloc, &limits, query, buffer);
 }
 
 /// `promql_calls::enforce`.
 #[unsafe(no_mangle)]
 pub extern "C" fn call_enforce(
     alloc: Global,
+    max_len: usize,
+    max_pattern_size: usize,
     query: &[u8],
     matcher: &[u8],
     buffer: &mut [u8],
     shown: &mut CallResult,
 )
-    ensures { ShowsSome (IsEnforceOf query.now matcher.now) shown.new buffer.old buffer.new }
+    ensures { ShowsSome (IsEnforceOf (record { max_len = max_len; max_pattern_size = max_pattern_size }) query.now matcher.now) shown.new buffer.old buffer.new }
 {
-    *shown = promql_calls::enforce(alloc, query, matcher, buffer);
+    let limits = Limits {
+        max_len,
+        max_pattern_size,
+    };
+    *shown = promql_calls::enforce(alloc, &limits, query, matcher, buffer);
 }
 
 /// `promql_calls::collect`.
 #[unsafe(no_mangle)]
 pub extern "C" fn call_collect(
     alloc: Global,
+    max_len: usize,
+    max_pattern_size: usize,
     query: &[u8],
     buffer: &mut [u8],
     shown: &mut CallResult,
 )
-    ensures { ShowsSome (IsCollectOf query.now) shown.new buffer.old buffer.new }
+    ensures { ShowsSome (IsCollectOf (record { max_len = max_len; max_pattern_size = max_pattern_size }) query.now) shown.new buffer.old buffer.new }
 {
-    *shown = promql_calls::collect(alloc, query, buffer);
+    let limits = Limits {
+        max_len,
+        max_pattern_size,
+    };
+    *shown = promql_calls::collect(alloc, &limits, query, buffer);
 }
 
 /// `promql_calls::check`.
 #[unsafe(no_mangle)]
-pub extern "C" fn call_check(alloc: Global, query: &[u8], buffer: &mut [u8], shown: &mut CallResult)
-    ensures { ShowsSome (IsCheckOf query.now) shown.new buffer.old buffer.new }
+pub extern "C" fn call_check(
+    alloc: Global,
+    max_len: usize,
+    max_pattern_size: usize,
+    query: &[u8],
+    buffer: &mut [u8],
+    shown: &mut CallResult,
+)
+    ensures { ShowsSome (IsCheckOf (record { max_len = max_len; max_pattern_size = max_pattern_size }) query.now) shown.new buffer.old buffer.new }
 {
-    *shown = promql_calls::check(alloc, query, buffer);
+    let limits = Limits {
+        max_len,
+        max_pattern_size,
+    };
+    *shown = promql_calls::check(alloc, &limits, query, buffer);
 }
 
 /// `promql_calls::snippet`.

@@ -1,6 +1,7 @@
 -- What a call returns, and what it leaves in its caller's buffer (docs/guide/bindings.md, "Results").
 use Rattle.std.specs.Prelude.{◌≡◌, ℕ, ◌<◌, ◌≤◌, nat_le, if◌then◌else◌, List, ◌++◌, drop, length, Result, Ok, Err}
 use Rattle.promql_text.specs.Texts.{Text}
+use Rattle.promql_report.specs.Rejecting.{reason_number}
 use Rattle.promql_calls.specs.declared.call_error.CallError.{CallError}
 use Rattle.promql_calls.specs.declared.call_error.CallError.TheVariants.{Memory, NotUtf8, Rejected, NumberTooWide, UnknownMode, Matcher, Unfaithful, Info}
 use Rattle.promql_calls.specs.declared.call_result.CallResult.{CallResult}
@@ -17,7 +18,7 @@ text_status count size = if nat_le count size then 0 else 8
 abbrev pub error_status : CallError → ℕ
 error_status Memory = 1
 error_status NotUtf8 = 3
-error_status (Rejected r) = 4
+error_status (Rejected r) = reason_number r.reason
 error_status NumberTooWide = 6
 error_status UnknownMode = 9
 error_status (Matcher e) = 11
@@ -31,7 +32,7 @@ plain_result status count = record { status = status; length = count; start = 0;
 -- the result of an error whose message has so many bytes
 abbrev pub error_result : CallError → ℕ → CallResult
 error_result (Rejected r) count =
-    record { status = 4; length = count; start = r.span.start; end = r.span.end; line = r.location.line; column = r.location.column }
+    record { status = reason_number r.reason; length = count; start = r.span.start; end = r.span.end; line = r.location.line; column = r.location.column }
 error_result e count = plain_result (error_status e) count
 
 -- what a call returns and leaves in the buffer where it made this of the query: a text, or an error, which has some message

@@ -4,14 +4,14 @@ use Rattle.std.specs.Str.{IsUtf8}
 use Rattle.promql_text.specs.Texts.{Text}
 use Rattle.promql_span.specs.declared.span.Span.{Span}
 use Rattle.promql_ast.specs.Tree.{Tree}
-use Rattle.promql_syntax.specs.ParseAnswers.{IsAnswerTo}
+use Rattle.promql_span.specs.declared.limits.Limits.{Limits}
 use Rattle.promql_json.specs.declared.error.JsonError.{JsonError}
 use Rattle.promql_json.specs.declared.error.JsonError.TheVariants as json_errors
 use Rattle.promql_rewrite.specs.MatcherTexts.{IsMatcherFault}
 use Rattle.promql_rewrite.specs.declared.matcher_text.MatcherError.{MatcherError}
 use Rattle.promql_rewrite.specs.declared.matcher_text.MatcherError.TheVariants as matcher_error
 use Rattle.promql_report.specs.Checking.{marked_line}
-use Rattle.promql_report.specs.Rejecting.{IsParsed, IsRejection}
+use Rattle.promql_report.specs.Rejecting.{IsParsed, IsRead, IsRejection}
 use Rattle.promql_lines.specs.EnforcedLines.{IsEnforcedLine, IsUnfaithfulLine, MeetsBareInfoIn}
 use Rattle.promql_lines.specs.declared.request.Format.{Format}
 use Rattle.promql_calls.specs.declared.call_error.CallError.{CallError}
@@ -20,10 +20,10 @@ use Rattle.promql_calls.specs.CollectedTexts.{IsCollectedText}
 use Rattle.promql_calls.specs.Formats.{format_text}
 
 -- the query has a tree, and this is its text in the format, or why it has none
-pub record HasText (query : Text) (format : Format) (made : Result Text JsonError) : Type 0 where
+pub record HasText (limits : Limits) (query : Text) (format : Format) (made : Result Text JsonError) : Type 0 where
   pub utf8 : IsUtf8 query
   pub tree : Tree
-  pub parsed : IsAnswerTo query (Ok tree)
+  pub parsed : IsRead limits query tree
   pub gives : format_text format tree ≡ made
 
 -- an allocation failed, or the query is not valid UTF-8
@@ -32,39 +32,39 @@ IsUnread query errors.Memory = Unit {0}
 IsUnread query errors.NotUtf8 = ¬ IsUtf8 query
 IsUnread query _ = ⊥
 
--- or the parser rejects it
-abbrev pub HasNoTree : Text → CallError → Type 0
-HasNoTree query (errors.Rejected r) = IsUtf8 query × IsRejection query r
-HasNoTree query e = IsUnread query e
+-- or it is rejected
+abbrev pub HasNoTree : Limits → Text → CallError → Type 0
+HasNoTree limits query (errors.Rejected r) = IsUtf8 query × IsRejection limits query r
+HasNoTree limits query e = IsUnread query e
 
 -- "print": the text in the format, if one was asked for
-abbrev pub IsPrintOf : Text → Option Format → Result Text CallError → Type 0
-IsPrintOf query None made = made ≡ Err errors.UnknownMode
-IsPrintOf query (Some format) (Ok text) = HasText query format (Ok text)
-IsPrintOf query (Some format) (Err errors.NumberTooWide) = HasText query format (Err json_errors.NumberTooWide)
-IsPrintOf query (Some format) (Err e) = HasNoTree query e
+abbrev pub IsPrintOf : Limits → Text → Option Format → Result Text CallError → Type 0
+IsPrintOf limits query None made = made ≡ Err errors.UnknownMode
+IsPrintOf limits query (Some format) (Ok text) = HasText limits query format (Ok text)
+IsPrintOf limits query (Some format) (Err errors.NumberTooWide) = HasText limits query format (Err json_errors.NumberTooWide)
+IsPrintOf limits query (Some format) (Err e) = HasNoTree limits query e
 
 -- the matcher is not valid UTF-8, or this is why it is none to enforce
 abbrev pub IsBadMatcher : Text → MatcherError → Type 0
 IsBadMatcher matcher e = (¬ IsUtf8 matcher × (e ≡ matcher_error.NotAMatcher)) ⊎ (IsUtf8 matcher × IsMatcherFault matcher e)
 
 -- "enforce": the line with the matcher in every selector; the matcher counts only where the query has a tree
-abbrev pub IsEnforceOf : Text → Text → Result Text CallError → Type 0
-IsEnforceOf query matcher (Ok line) = IsUtf8 query × IsUtf8 matcher × IsEnforcedLine query matcher line
-IsEnforceOf query matcher (Err (errors.Matcher e)) = IsUtf8 query × IsParsed query × IsBadMatcher matcher e
-IsEnforceOf query matcher (Err (errors.Unfaithful e)) = IsUtf8 query × IsUtf8 matcher × IsUnfaithfulLine query matcher e
-IsEnforceOf query matcher (Err errors.Info) = IsUtf8 query × IsUtf8 matcher × MeetsBareInfoIn query matcher
-IsEnforceOf query matcher (Err e) = HasNoTree query e
+abbrev pub IsEnforceOf : Limits → Text → Text → Result Text CallError → Type 0
+IsEnforceOf limits query matcher (Ok line) = IsUtf8 query × IsUtf8 matcher × IsEnforcedLine limits query matcher line
+IsEnforceOf limits query matcher (Err (errors.Matcher e)) = IsUtf8 query × IsParsed limits query × IsBadMatcher matcher e
+IsEnforceOf limits query matcher (Err (errors.Unfaithful e)) = IsUtf8 query × IsUtf8 matcher × IsUnfaithfulLine limits query matcher e
+IsEnforceOf limits query matcher (Err errors.Info) = IsUtf8 query × IsUtf8 matcher × MeetsBareInfoIn limits query matcher
+IsEnforceOf limits query matcher (Err e) = HasNoTree limits query e
 
 -- "collect": the JSON of what the query names
-abbrev pub IsCollectOf : Text → Result Text CallError → Type 0
-IsCollectOf query (Ok text) = IsUtf8 query × ((t : Tree) × IsAnswerTo query (Ok t) × IsCollectedText t text)
-IsCollectOf query (Err e) = HasNoTree query e
+abbrev pub IsCollectOf : Limits → Text → Result Text CallError → Type 0
+IsCollectOf limits query (Ok text) = IsUtf8 query × ((t : Tree) × IsRead limits query t × IsCollectedText t text)
+IsCollectOf limits query (Err e) = HasNoTree limits query e
 
 -- "check": an empty text where the query has a tree
-abbrev pub IsCheckOf : Text → Result Text CallError → Type 0
-IsCheckOf query (Ok text) = (text ≡ []) × IsUtf8 query × IsParsed query
-IsCheckOf query (Err e) = HasNoTree query e
+abbrev pub IsCheckOf : Limits → Text → Result Text CallError → Type 0
+IsCheckOf limits query (Ok text) = (text ≡ []) × IsUtf8 query × IsParsed limits query
+IsCheckOf limits query (Err e) = HasNoTree limits query e
 
 -- "snippet": the line where the span begins, with its mark below
 abbrev pub IsSnippetOf : Text → Span → Result Text CallError → Type 0

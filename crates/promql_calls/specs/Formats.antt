@@ -15,7 +15,7 @@ use Rattle.promql_lines.specs.declared.request.Format.TheVariants.{Pretty, Line,
 abbrev pub format_numbered : ℕ → ℕ → ℕ → Option Format
 format_numbered mode level width =
     if mode == 0 then Some Line
-    else (if mode == 1 then (if nat_le level 65535 then Some (Pretty (record { level = level; width = width })) else None)
+    else (if mode == 1 then (if nat_le level 512 then Some (Pretty (record { level = level; width = width })) else None)
     else (if mode == 2 then Some Json else None))
 
 -- the text of a tree in a format, or why it has none

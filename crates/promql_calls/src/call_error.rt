@@ -17,13 +17,13 @@ pub enum CallError {
     /// The query is not valid UTF-8.
     #[error("input is not UTF-8")]
     NotUtf8,
-    /// The parser rejects the query.
+    /// The query is not within its limits, or the parser rejects it.
     #[error("{0}")]
     Rejected(Rejection),
     /// The query has no JSON form: a number of milliseconds is too wide.
     #[error("number too wide for JSON")]
     NumberTooWide,
-    /// There is no mode of this number, or the level of a layout is above 65,535.
+    /// There is no mode of this number, or the level of a layout is above 512.
     #[error("unknown mode")]
     UnknownMode,
     /// The matcher is none, or none to enforce.
@@ -45,7 +45,7 @@ impl CallError {
         match self {
             CallError::Memory => 1,
             CallError::NotUtf8 => 3,
-            CallError::Rejected(_) => 4,
+            CallError::Rejected(rejection) => u32::from(rejection.reason.number()),
             CallError::NumberTooWide => 6,
             CallError::UnknownMode => 9,
             CallError::Matcher(_) => 11,

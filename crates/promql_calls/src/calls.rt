@@ -11,60 +11,68 @@ use crate::enforcing::enforce_query;
 use crate::printing::{check_query, format_of, mark_query, print_query};
 use promql_lines::request::Format;
 use promql_span::Span;
+use promql_span::limits::Limits;
 use std::alloc::Global;
 
 /// The version of the calls: a new call, or a new status of one, has a new version.
-pub const CALLS_VERSION: &str = "0.3.0";
+pub const CALLS_VERSION: &str = "0.4.0";
 
 /// Prints a query in the mode of this number: 0 on one line, 1 laid out, 2 as JSON. `level` counts indentations of two
-/// spaces, at most 65,535, and `width` is the most bytes that a line has, its indentation not counted; both are for a
+/// spaces, at most 512, and `width` is the most bytes that a line has, its indentation not counted; both are for a
 /// layout alone.
 pub fn print(
     alloc: Global,
+    limits: &Limits,
     query: &[u8],
     mode: u32,
     level: u32,
     width: usize,
     buffer: &mut [u8],
 ) -> CallResult
-    ensures { ShowsSome (IsPrintOf query.now (format_numbered mode level width))
+    ensures { ShowsSome (IsPrintOf limits.now query.now (format_numbered mode level width))
         result buffer.old buffer.new }
 {
-    let made = print_query(alloc, format_of(mode, level, width), query);
+    let made = print_query(alloc, limits, format_of(mode, level, width), query);
     show(alloc, made, buffer)
 }
 
 /// Prints a query on one line, which is the line of its normal form too: the key of a cache (docs/guide/cache.md).
-pub fn canonical(alloc: Global, query: &[u8], buffer: &mut [u8]) -> CallResult
-    ensures { ShowsSome (IsPrintOf query.now (Some Format.Line)) result buffer.old buffer.new }
+pub fn canonical(alloc: Global, limits: &Limits, query: &[u8], buffer: &mut [u8]) -> CallResult
+    ensures { ShowsSome (IsPrintOf limits.now query.now (Some Format.Line)) result buffer.old buffer.new }
 {
-    let made = print_query(alloc, Some(Format::Line), query);
+    let made = print_query(alloc, limits, Some(Format::Line), query);
     show(alloc, made, buffer)
 }
 
 /// Prints a query on one line with a matcher in every selector. The matcher is written as between the braces of a selector:
 /// `namespace="team-a"`, say. The line is read again before, and means the enforced query (docs/guide/rewriting.md).
-pub fn enforce(alloc: Global, query: &[u8], matcher: &[u8], buffer: &mut [u8]) -> CallResult
-    ensures { ShowsSome (IsEnforceOf query.now matcher.now) result buffer.old buffer.new }
+pub fn enforce(
+    alloc: Global,
+    limits: &Limits,
+    query: &[u8],
+    matcher: &[u8],
+    buffer: &mut [u8],
+) -> CallResult
+    ensures { ShowsSome (IsEnforceOf limits.now query.now matcher.now) result buffer.old buffer.new }
 {
-    let made = enforce_query(alloc, query, matcher);
+    let made = enforce_query(alloc, limits, query, matcher);
     show(alloc, made, buffer)
 }
 
 /// Shows what a query names, as JSON: its functions, labels and metrics, and its selectors with their times
 /// (docs/guide/bindings.md, "What a query names").
-pub fn collect(alloc: Global, query: &[u8], buffer: &mut [u8]) -> CallResult
-    ensures { ShowsSome (IsCollectOf query.now) result buffer.old buffer.new }
+pub fn collect(alloc: Global, limits: &Limits, query: &[u8], buffer: &mut [u8]) -> CallResult
+    ensures { ShowsSome (IsCollectOf limits.now query.now) result buffer.old buffer.new }
 {
-    let made = collect_query(alloc, query);
+    let made = collect_query(alloc, limits, query);
     show(alloc, made, buffer)
 }
 
 /// Checks a query: an empty text where it is accepted, and else the error and its place.
-pub fn check(alloc: Global, query: &[u8], buffer: &mut [u8]) -> CallResult
-    ensures { ShowsSome (IsCheckOf query.now) result buffer.old buffer.new }
+pub fn check(alloc: Global, limits: &Limits, query: &[u8], buffer: &mut [u8]) -> CallResult
+    ensures { ShowsSome (IsCheckOf limits.now query.now) result buffer.old buffer.new }
 {
-    let made = check_query(alloc, query);
+    let made = check_query(alloc, limits, query);
     show(alloc, made, buffer)
 }
 

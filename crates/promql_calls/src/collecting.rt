@@ -16,6 +16,7 @@ use crate::call_error::CallError;
 use promql_ast::{AtModifier, Expr, Offset, drop_expr};
 use promql_report::rejection::read_query;
 use promql_rewrite::{Collected, CollectedSelector, collect};
+use promql_span::limits::Limits;
 use promql_text::display_duration;
 use serde_json::{Value, json};
 use std::alloc::{AllocError, Global};
@@ -128,10 +129,10 @@ fn value_text(alloc: Global, value: Value) -> Result<String, AllocError>
 }
 
 /// The JSON of what a text's query names.
-fn collect_text(alloc: Global, query: &str) -> Result<String, CallError>
-    ensures { IsCollectOf query.now (on_result (λ s. string_bytes s) result) }
+fn collect_text(alloc: Global, limits: &Limits, query: &str) -> Result<String, CallError>
+    ensures { IsCollectOf limits.now query.now (on_result (λ s. string_bytes s) result) }
 {
-    let expr = match read_query(alloc, query) {
+    let expr = match read_query(alloc, limits, query) {
         Ok(Ok(expr)) => expr,
         Ok(Err(rejection)) => return Err(CallError::Rejected(rejection)),
         Err(_) => return Err(CallError::Memory),
@@ -145,11 +146,15 @@ fn collect_text(alloc: Global, query: &str) -> Result<String, CallError>
 }
 
 /// The JSON of what a query names.
-pub(crate) fn collect_query(alloc: Global, query: &[u8]) -> Result<String, CallError>
-    ensures { IsCollectOf query.now (on_result (λ s. string_bytes s) result) }
+pub(crate) fn collect_query(
+    alloc: Global,
+    limits: &Limits,
+    query: &[u8],
+) -> Result<String, CallError>
+    ensures { IsCollectOf limits.now query.now (on_result (λ s. string_bytes s) result) }
 {
     let Ok(query) = str::from_utf8(query) else {
         return Err(CallError::NotUtf8);
     };
-    collect_text(alloc, query)
+    collect_text(alloc, limits, query)
 }

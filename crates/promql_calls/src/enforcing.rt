@@ -10,13 +10,19 @@ use crate::call_error::CallError;
 use promql_lines::enforced_line::{EnforcedLineError, enforced_line};
 use promql_report::rejection::read_query;
 use promql_rewrite::MatcherError;
+use promql_span::limits::Limits;
 use std::alloc::Global;
 
 /// The line of a text's query with the matcher of the other text in every selector.
-fn enforce_text(alloc: Global, query: &str, matcher: &str) -> Result<String, CallError>
-    ensures { IsEnforceOf query.now matcher.now (on_result (λ s. string_bytes s) result) }
+fn enforce_text(
+    alloc: Global,
+    limits: &Limits,
+    query: &str,
+    matcher: &str,
+) -> Result<String, CallError>
+    ensures { IsEnforceOf limits.now query.now matcher.now (on_result (λ s. string_bytes s) result) }
 {
-    match enforced_line(alloc, query, matcher) {
+    match enforced_line(alloc, limits, query, matcher) {
         Ok(line) => Ok(line),
         Err(EnforcedLineError::Memory) => Err(CallError::Memory),
         Err(EnforcedLineError::Rejected(rejection)) => Err(CallError::Rejected(rejection)),
@@ -27,10 +33,10 @@ fn enforce_text(alloc: Global, query: &str, matcher: &str) -> Result<String, Cal
 }
 
 /// Why a text's query has no line with a matcher that is not valid UTF-8: the query is read before its matcher.
-fn error_of_broken_matcher(alloc: Global, query: &str) -> CallError
-    ensures { (matcher : Text) → ¬ IsUtf8 matcher → IsEnforceOf query.now matcher (Err result) }
+fn error_of_broken_matcher(alloc: Global, limits: &Limits, query: &str) -> CallError
+    ensures { (matcher : Text) → ¬ IsUtf8 matcher → IsEnforceOf limits.now query.now matcher (Err result) }
 {
-    match read_query(alloc, query) {
+    match read_query(alloc, limits, query) {
         Ok(Ok(_)) => CallError::Matcher(MatcherError::NotAMatcher),
         Ok(Err(rejection)) => CallError::Rejected(rejection),
         Err(_) => CallError::Memory,
@@ -40,16 +46,17 @@ fn error_of_broken_matcher(alloc: Global, query: &str) -> CallError
 /// The line of a query with the matcher in every selector.
 pub(crate) fn enforce_query(
     alloc: Global,
+    limits: &Limits,
     query: &[u8],
     matcher: &[u8],
 ) -> Result<String, CallError>
-    ensures { IsEnforceOf query.now matcher.now (on_result (λ s. string_bytes s) result) }
+    ensures { IsEnforceOf limits.now query.now matcher.now (on_result (λ s. string_bytes s) result) }
 {
     let Ok(query) = str::from_utf8(query) else {
         return Err(CallError::NotUtf8);
     };
     match str::from_utf8(matcher) {
-        Ok(matcher) => enforce_text(alloc, query, matcher),
-        Err(_) => Err(error_of_broken_matcher(alloc, query)),
+        Ok(matcher) => enforce_text(alloc, limits, query, matcher),
+        Err(_) => Err(error_of_broken_matcher(alloc, limits, query)),
     }
 }

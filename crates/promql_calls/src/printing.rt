@@ -17,10 +17,11 @@ use promql_lines::request::{Format, Layout};
 use promql_report::rejection::read_query;
 use promql_run::rendering::{json_text, pretty_text};
 use promql_span::Span;
+use promql_span::limits::Limits;
 use std::alloc::Global;
 
 /// The greatest level of a layout.
-const MAX_LEVEL: u32 = 65_535;
+const MAX_LEVEL: u32 = 512;
 
 /// The format of a mode's number; `None` where there is none. Only a layout has a level and a width.
 pub(crate) fn format_of(mode: u32, level: u32, width: usize) -> Option<Format>
@@ -57,10 +58,15 @@ fn expr_text(alloc: Global, format: Format, expr: &Expr) -> Result<String, CallE
 }
 
 /// The text of a query's tree in a format.
-fn print_text(alloc: Global, format: Format, text: &str) -> Result<String, CallError>
-    ensures { IsPrintOf text.now (Some format) (on_result (λ s. string_bytes s) result) }
+fn print_text(
+    alloc: Global,
+    limits: &Limits,
+    format: Format,
+    text: &str,
+) -> Result<String, CallError>
+    ensures { IsPrintOf limits.now text.now (Some format) (on_result (λ s. string_bytes s) result) }
 {
-    let expr = match read_query(alloc, text) {
+    let expr = match read_query(alloc, limits, text) {
         Ok(Ok(expr)) => expr,
         Ok(Err(rejection)) => return Err(CallError::Rejected(rejection)),
         Err(_) => return Err(CallError::Memory),
@@ -73,10 +79,11 @@ fn print_text(alloc: Global, format: Format, text: &str) -> Result<String, CallE
 /// The text of a query's tree in the format that was asked for.
 pub(crate) fn print_query(
     alloc: Global,
+    limits: &Limits,
     asked: Option<Format>,
     query: &[u8],
 ) -> Result<String, CallError>
-    ensures { IsPrintOf query.now asked (on_result (λ s. string_bytes s) result) }
+    ensures { IsPrintOf limits.now query.now asked (on_result (λ s. string_bytes s) result) }
 {
     let Some(format) = asked else {
         return Err(CallError::UnknownMode);
@@ -84,14 +91,14 @@ pub(crate) fn print_query(
     let Ok(text) = str::from_utf8(query) else {
         return Err(CallError::NotUtf8);
     };
-    print_text(alloc, format, text)
+    print_text(alloc, limits, format, text)
 }
 
 /// Nothing where a query is accepted.
-fn check_text(alloc: Global, text: &str) -> Result<String, CallError>
-    ensures { IsCheckOf text.now (on_result (λ s. string_bytes s) result) }
+fn check_text(alloc: Global, limits: &Limits, text: &str) -> Result<String, CallError>
+    ensures { IsCheckOf limits.now text.now (on_result (λ s. string_bytes s) result) }
 {
-    match read_query(alloc, text) {
+    match read_query(alloc, limits, text) {
         Ok(Ok(_)) => Ok(String::new(alloc)),
         Ok(Err(rejection)) => Err(CallError::Rejected(rejection)),
         Err(_) => Err(CallError::Memory),
@@ -99,13 +106,13 @@ fn check_text(alloc: Global, text: &str) -> Result<String, CallError>
 }
 
 /// Nothing where a query is accepted.
-pub(crate) fn check_query(alloc: Global, query: &[u8]) -> Result<String, CallError>
-    ensures { IsCheckOf query.now (on_result (λ s. string_bytes s) result) }
+pub(crate) fn check_query(alloc: Global, limits: &Limits, query: &[u8]) -> Result<String, CallError>
+    ensures { IsCheckOf limits.now query.now (on_result (λ s. string_bytes s) result) }
 {
     let Ok(text) = str::from_utf8(query) else {
         return Err(CallError::NotUtf8);
     };
-    check_text(alloc, text)
+    check_text(alloc, limits, text)
 }
 
 /// The line of a query where a part of it begins, with a mark below it.

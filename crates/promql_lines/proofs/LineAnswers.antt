@@ -5,10 +5,11 @@ use Rattle.serde_json.specs.Data.{Data}
 use Rattle.serde_json.specs.Written.{has_float}
 use Rattle.promql_text.specs.Texts.{Text}
 use Rattle.promql_ast.specs.Tree.{Tree}
-use Rattle.promql_syntax.specs.ParseAnswers.{IsAnswerTo}
+use Rattle.promql_report.specs.Rejecting.{IsRead}
+use Rattle.promql_span.specs.declared.limits.Limits.{Limits}
 use Rattle.promql_json.specs.declared.error.JsonError.TheVariants.{NumberTooWide}
 use Rattle.promql_run.specs.StepErrors.{IsShowError}
-use Rattle.promql_run.specs.declared.run.Mode.{Mode}
+use Rattle.promql_lines.specs.declared.settings.Settings.{Settings}
 use Rattle.promql_run.specs.declared.run.RunError.{RunError}
 use Rattle.promql_run.specs.declared.run.RunError.TheVariants.{Memory, Read, NotUtf8, Parse, Write, Json}
 use Rattle.promql_lines.specs.Batch.{Asks, FailsOnQuery, FailsWith, IsAsked, format_value, line_error_object, ok_object}
@@ -28,41 +29,41 @@ error_is_finite built (Matcher e) message is = ap has_float is
 error_is_finite built Info message is = ap has_float is
 
 -- an error of rendering is one of the query
-pub fails_of_rendering : (e : RunError) (query : Text) (matcher : Option Text) (format : Format) (tree printed : Tree) → IsAnswerTo query (Ok tree) → IsAsked matcher tree printed
-    → (e ≡ Json → format_value format printed ≡ Err NumberTooWide) → IsShowError e → FailsOnQuery query matcher format (Run e)
-fails_of_rendering Memory query matcher format tree printed parsed asked wide errors = tt
-fails_of_rendering Json query matcher format tree printed parsed asked wide errors = record { tree = tree; parsed = parsed; printed = printed; asked = asked; gives = wide refl }
-fails_of_rendering Read query matcher format tree printed parsed asked wide errors = absurd errors
-fails_of_rendering NotUtf8 query matcher format tree printed parsed asked wide errors = absurd errors
-fails_of_rendering (Parse e) query matcher format tree printed parsed asked wide errors = absurd errors
-fails_of_rendering Write query matcher format tree printed parsed asked wide errors = absurd errors
+pub fails_of_rendering : (limits : Limits) (e : RunError) (query : Text) (matcher : Option Text) (format : Format) (tree printed : Tree) → IsRead limits query tree → IsAsked matcher tree printed
+    → (e ≡ Json → format_value format printed ≡ Err NumberTooWide) → IsShowError e → FailsOnQuery limits query matcher format (Run e)
+fails_of_rendering limits Memory query matcher format tree printed parsed asked wide errors = tt
+fails_of_rendering limits Json query matcher format tree printed parsed asked wide errors = record { tree = tree; parsed = parsed; printed = printed; asked = asked; gives = wide refl }
+fails_of_rendering limits Read query matcher format tree printed parsed asked wide errors = absurd errors
+fails_of_rendering limits NotUtf8 query matcher format tree printed parsed asked wide errors = absurd errors
+fails_of_rendering limits (Parse e) query matcher format tree printed parsed asked wide errors = absurd errors
+fails_of_rendering limits Write query matcher format tree printed parsed asked wide errors = absurd errors
 
 -- an error of enforcing is one of a query that has the tree
-pub fails_of_matcher : (e : LineError) (query : Text) (matcher : Option Text) (format : Format) (t : Tree) → IsAnswerTo query (Ok t) → IsEnforceFaultOf matcher t e → FailsOnQuery query matcher format e
-fails_of_matcher (Run Memory) query matcher format t parsed fault = tt
-fails_of_matcher (Matcher e) query matcher format t parsed fault = ((t, parsed), fault)
-fails_of_matcher Info query matcher format t parsed fault = (t, parsed, fault)
-fails_of_matcher (Run Read) query matcher format t parsed fault = absurd fault
-fails_of_matcher (Run NotUtf8) query matcher format t parsed fault = absurd fault
-fails_of_matcher (Run (Parse e)) query matcher format t parsed fault = absurd fault
-fails_of_matcher (Run Write) query matcher format t parsed fault = absurd fault
-fails_of_matcher (Run Json) query matcher format t parsed fault = absurd fault
-fails_of_matcher (Rejected r) query matcher format t parsed fault = absurd fault
-fails_of_matcher NotARequest query matcher format t parsed fault = absurd fault
+pub fails_of_matcher : (limits : Limits) (e : LineError) (query : Text) (matcher : Option Text) (format : Format) (t : Tree) → IsRead limits query t → IsEnforceFaultOf matcher t e → FailsOnQuery limits query matcher format e
+fails_of_matcher limits (Run Memory) query matcher format t parsed fault = tt
+fails_of_matcher limits (Matcher e) query matcher format t parsed fault = ((t, parsed), fault)
+fails_of_matcher limits Info query matcher format t parsed fault = (t, parsed, fault)
+fails_of_matcher limits (Run Read) query matcher format t parsed fault = absurd fault
+fails_of_matcher limits (Run NotUtf8) query matcher format t parsed fault = absurd fault
+fails_of_matcher limits (Run (Parse e)) query matcher format t parsed fault = absurd fault
+fails_of_matcher limits (Run Write) query matcher format t parsed fault = absurd fault
+fails_of_matcher limits (Run Json) query matcher format t parsed fault = absurd fault
+fails_of_matcher limits (Rejected r) query matcher format t parsed fault = absurd fault
+fails_of_matcher limits NotARequest query matcher format t parsed fault = absurd fault
 
 -- an error of the query is one of the line that asks for it
-fails_in_vain : (mode : Mode) (line query : Text) (matcher : Option Text) (format : Format) (e : LineError) → Asks mode line query matcher format → FailsOnQuery query matcher format e → FailsWith mode line e
-fails_in_vain mode line query matcher format (Run Memory) asks fails = tt
-fails_in_vain mode line query matcher format (Run Json) asks fails = record { query = query; matcher = matcher; format = format; asks = asks; fails = fails }
-fails_in_vain mode line query matcher format (Rejected r) asks fails = record { query = query; matcher = matcher; format = format; asks = asks; fails = fails }
-fails_in_vain mode line query matcher format (Matcher e) asks fails = record { query = query; matcher = matcher; format = format; asks = asks; fails = fails }
-fails_in_vain mode line query matcher format Info asks fails = record { query = query; matcher = matcher; format = format; asks = asks; fails = fails }
-fails_in_vain mode line query matcher format (Run Read) asks fails = absurd fails
-fails_in_vain mode line query matcher format (Run NotUtf8) asks fails = absurd fails
-fails_in_vain mode line query matcher format (Run (Parse e)) asks fails = absurd fails
-fails_in_vain mode line query matcher format (Run Write) asks fails = absurd fails
-fails_in_vain mode line query matcher format NotARequest asks fails = absurd fails
+fails_in_vain : (settings : Settings) (line query : Text) (matcher : Option Text) (format : Format) (e : LineError) → Asks settings line query matcher format → FailsOnQuery settings.limits query matcher format e → FailsWith settings line e
+fails_in_vain settings line query matcher format (Run Memory) asks fails = tt
+fails_in_vain settings line query matcher format (Run Json) asks fails = record { query = query; matcher = matcher; format = format; asks = asks; fails = fails }
+fails_in_vain settings line query matcher format (Rejected r) asks fails = record { query = query; matcher = matcher; format = format; asks = asks; fails = fails }
+fails_in_vain settings line query matcher format (Matcher e) asks fails = record { query = query; matcher = matcher; format = format; asks = asks; fails = fails }
+fails_in_vain settings line query matcher format Info asks fails = record { query = query; matcher = matcher; format = format; asks = asks; fails = fails }
+fails_in_vain settings line query matcher format (Run Read) asks fails = absurd fails
+fails_in_vain settings line query matcher format (Run NotUtf8) asks fails = absurd fails
+fails_in_vain settings line query matcher format (Run (Parse e)) asks fails = absurd fails
+fails_in_vain settings line query matcher format (Run Write) asks fails = absurd fails
+fails_in_vain settings line query matcher format NotARequest asks fails = absurd fails
 
-pub failing_in_vain : {T : Type 0} (r : Result T LineError) (mode : Mode) (line query : Text) (matcher : Option Text) (format : Format) → Asks mode line query matcher format → IfErr r (FailsOnQuery query matcher format) → IfErr r (FailsWith mode line)
-failing_in_vain (Ok value) mode line query matcher format asks fails = tt
-failing_in_vain (Err e) mode line query matcher format asks fails = fails_in_vain mode line query matcher format e asks fails
+pub failing_in_vain : {T : Type 0} (r : Result T LineError) (settings : Settings) (line query : Text) (matcher : Option Text) (format : Format) → Asks settings line query matcher format → IfErr r (FailsOnQuery settings.limits query matcher format) → IfErr r (FailsWith settings line)
+failing_in_vain (Ok value) settings line query matcher format asks fails = tt
+failing_in_vain (Err e) settings line query matcher format asks fails = fails_in_vain settings line query matcher format e asks fails

@@ -4,7 +4,7 @@ use Rattle.std.specs.Fmt.{digits}
 use Rattle.serde_json.proofs.OnLiterals.{serde_json_on_literals}
 use Rattle.serde_json.specs.Written.{compact_text}
 use Rattle.promql_text.specs.Texts.{Text}
-use Rattle.promql_run.specs.declared.run.Mode.{Mode}
+use Rattle.promql_lines.specs.declared.settings.Settings.{Settings}
 use Rattle.promql_run.specs.declared.run.RunError.TheVariants.{Memory}
 use Rattle.promql_lines.specs.Batch.{IsLineAnswer, error_object}
 use Rattle.promql_lines.specs.declared.line.LineError.TheVariants.{Run}
@@ -16,5 +16,5 @@ memory_text : memory_answer ≡ compact_text (error_object 1 (codes "out of memo
 unfolding digits serde_json_on_literals
 memory_text = refl
 
-pub memory_is_answered : (mode : Mode) (line : Text) → IsLineAnswer mode line memory_answer false
-memory_is_answered mode line = record { fault = Run Memory; fails = tt; is = (codes "out of memory", memory_text) }
+pub memory_is_answered : (settings : Settings) (line : Text) → IsLineAnswer settings line memory_answer false
+memory_is_answered settings line = record { fault = Run Memory; fails = tt; is = (codes "out of memory", memory_text) }

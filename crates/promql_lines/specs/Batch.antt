@@ -10,21 +10,21 @@ use Rattle.promql_text.specs.Texts.{Text}
 use Rattle.promql_ast.specs.Layout.{layout_of}
 use Rattle.promql_ast.specs.Text as one_line
 use Rattle.promql_ast.specs.Tree.{Tree}
-use Rattle.promql_syntax.specs.ParseAnswers.{IsAnswerTo}
 use Rattle.promql_json.specs.Json.{json}
 use Rattle.promql_json.specs.declared.error.JsonError.{JsonError}
 use Rattle.promql_json.specs.declared.error.JsonError.TheVariants.{NumberTooWide}
 use Rattle.promql_rewrite.specs.MatcherTexts.{IsEnforcedBy, IsMatcherFault, MeetsBareInfo}
 use Rattle.promql_rewrite.specs.declared.matcher_text.MatcherError.{MatcherError}
 use Rattle.promql_report.specs.declared.rejection.Rejection.{Rejection}
-use Rattle.promql_run.specs.declared.run.Mode.{Mode}
 use Rattle.promql_run.specs.declared.run.RunError.TheVariants as error
-use Rattle.promql_report.specs.Rejecting.{IsParsed, IsRejection}
+use Rattle.promql_report.specs.Rejecting.{IsParsed, IsRead, IsRejection, reason_number}
+use Rattle.promql_span.specs.declared.limits.Limits.{Limits}
 use Rattle.promql_run.specs.Running.{error_number}
 use Rattle.promql_lines.specs.declared.line.LineError.{LineError}
 use Rattle.promql_lines.specs.declared.line.LineError.TheVariants.{Run, Rejected, NotARequest, Matcher, Info}
 use Rattle.promql_lines.specs.declared.request.Format.{Format}
 use Rattle.promql_lines.specs.declared.request.Format.TheVariants.{Pretty, Line, Json}
+use Rattle.promql_lines.specs.declared.settings.Settings.{Settings}
 use Rattle.promql_lines.specs.Requests.{query_in, matcher_in, format_in}
 
 -- ---- one line
@@ -36,19 +36,19 @@ format_value Line t = Ok (string (one_line.text t))
 format_value Json t = json t
 
 -- the line asks for this query in this format, with this matcher in its selectors if there is one
-pub record Asks (mode : Mode) (line query : Text) (matcher : Option Text) (format : Format) : Type 0 where
+pub record Asks (settings : Settings) (line query : Text) (matcher : Option Text) (format : Format) : Type 0 where
   pub utf8 : IsUtf8 line
   pub value : Data
   pub is : read line ≡ Some value
   pub query_is : query_in value ≡ Some query
   pub matcher_is : matcher_in value ≡ matcher
-  pub format_is : format_in mode value ≡ Some format
+  pub format_is : format_in settings.mode value ≡ Some format
 
 -- the line is no JSON, or asks for no query or no format
-abbrev pub AsksNothing : Mode → Text → Type 0
-AsksNothing mode line =
+abbrev pub AsksNothing : Settings → Text → Type 0
+AsksNothing settings line =
     (read line ≡ None)
-    ⊎ ((value : Data) × (read line ≡ Some value) × ((query_in value ≡ None) ⊎ (format_in mode value ≡ None)))
+    ⊎ ((value : Data) × (read line ≡ Some value) × ((query_in value ≡ None) ⊎ (format_in settings.mode value ≡ None)))
 
 -- "Requests": the second tree is what is printed where the first one was read
 abbrev pub IsAsked : Option Text → Tree → Tree → Type 0
@@ -56,9 +56,9 @@ IsAsked None t u = u ≡ t
 IsAsked (Some matcher) t u = IsEnforcedBy matcher t u
 
 -- the query has a tree, and this is the value of what is printed of it in the format, or why that has none
-pub record HasQueryValue (query : Text) (matcher : Option Text) (format : Format) (value : Result Data JsonError) : Type 0 where
+pub record HasQueryValue (limits : Limits) (query : Text) (matcher : Option Text) (format : Format) (value : Result Data JsonError) : Type 0 where
   pub tree : Tree
-  pub parsed : IsAnswerTo query (Ok tree)
+  pub parsed : IsRead limits query tree
   pub printed : Tree
   pub asked : IsAsked matcher tree printed
   pub gives : format_value format printed ≡ value
@@ -74,43 +74,43 @@ MeetsBareInfoIfAny None t = ⊥
 MeetsBareInfoIfAny (Some matcher) t = MeetsBareInfo matcher t
 
 -- when a query has this error; the matcher counts only where the query has a tree
-abbrev pub FailsOnQuery : Text → Option Text → Format → LineError → Type 0
-FailsOnQuery query matcher format (Run error.Memory) = Unit {0}
-FailsOnQuery query matcher format (Rejected rejection) = IsRejection query rejection
-FailsOnQuery query matcher format (Matcher e) = IsParsed query × HasMatcherFault matcher e
-FailsOnQuery query matcher format Info = (t : Tree) × IsAnswerTo query (Ok t) × MeetsBareInfoIfAny matcher t
-FailsOnQuery query matcher format (Run error.Json) = HasQueryValue query matcher format (Err NumberTooWide)
-FailsOnQuery query matcher format _ = ⊥
+abbrev pub FailsOnQuery : Limits → Text → Option Text → Format → LineError → Type 0
+FailsOnQuery limits query matcher format (Run error.Memory) = Unit {0}
+FailsOnQuery limits query matcher format (Rejected rejection) = IsRejection limits query rejection
+FailsOnQuery limits query matcher format (Matcher e) = IsParsed limits query × HasMatcherFault matcher e
+FailsOnQuery limits query matcher format Info = (t : Tree) × IsRead limits query t × MeetsBareInfoIfAny matcher t
+FailsOnQuery limits query matcher format (Run error.Json) = HasQueryValue limits query matcher format (Err NumberTooWide)
+FailsOnQuery limits query matcher format _ = ⊥
 
 -- the line asks for a query that has this value
-pub record HasValue (mode : Mode) (line : Text) (value : Data) : Type 0 where
+pub record HasValue (settings : Settings) (line : Text) (value : Data) : Type 0 where
   pub query : Text
   pub matcher : Option Text
   pub format : Format
-  pub asks : Asks mode line query matcher format
-  pub has : HasQueryValue query matcher format (Ok value)
+  pub asks : Asks settings line query matcher format
+  pub has : HasQueryValue settings.limits query matcher format (Ok value)
 
 -- the line asks for a query that has this error
-pub record AsksInVain (mode : Mode) (line : Text) (e : LineError) : Type 0 where
+pub record AsksInVain (settings : Settings) (line : Text) (e : LineError) : Type 0 where
   pub query : Text
   pub matcher : Option Text
   pub format : Format
-  pub asks : Asks mode line query matcher format
-  pub fails : FailsOnQuery query matcher format e
+  pub asks : Asks settings line query matcher format
+  pub fails : FailsOnQuery settings.limits query matcher format e
 
 abbrev pub line_error_number : LineError → ℕ
 line_error_number (Run e) = error_number e
-line_error_number (Rejected rejection) = 4
+line_error_number (Rejected rejection) = reason_number rejection.reason
 line_error_number NotARequest = 7
 line_error_number (Matcher e) = 11
 line_error_number Info = 13
 
 -- "Errors": when a line has this error
-abbrev pub FailsWith : Mode → Text → LineError → Type 0
-FailsWith mode line NotARequest = IsUtf8 line × AsksNothing mode line
-FailsWith mode line (Run error.NotUtf8) = ¬ IsUtf8 line
-FailsWith mode line (Run error.Memory) = Unit {0}
-FailsWith mode line e = AsksInVain mode line e
+abbrev pub FailsWith : Settings → Text → LineError → Type 0
+FailsWith settings line NotARequest = IsUtf8 line × AsksNothing settings line
+FailsWith settings line (Run error.NotUtf8) = ¬ IsUtf8 line
+FailsWith settings line (Run error.Memory) = Unit {0}
+FailsWith settings line e = AsksInVain settings line e
 
 abbrev pub ok_object : Data → Data
 ok_object value = object (member (codes "ok") value no_members)
@@ -130,30 +130,30 @@ rejection_object code message r =
     (member (codes "start") (number (unsigned r.span.start)) no_members))))))
 
 abbrev pub line_error_object : LineError → Text → Data
-line_error_object (Rejected rejection) message = rejection_object 4 message rejection
+line_error_object (Rejected rejection) message = rejection_object (reason_number rejection.reason) message rejection
 line_error_object (Run e) message = error_object (error_number e) message
 line_error_object NotARequest message = error_object 7 message
 line_error_object (Matcher e) message = error_object 11 message
 line_error_object Info message = error_object 13 message
 
-pub record IsOkLine (mode : Mode) (line printed : Text) : Type 0 where
+pub record IsOkLine (settings : Settings) (line printed : Text) : Type 0 where
   pub value : Data
-  pub has : HasValue mode line value
+  pub has : HasValue settings line value
   pub is : printed ≡ compact_text (ok_object value)
 
 -- the error's number, some message and, of a query that is rejected, the place
 abbrev pub IsErrorText : LineError → Text → Type 0
 IsErrorText fault printed = (message : Text) × (printed ≡ compact_text (line_error_object fault message))
 
-pub record IsErrorLine (mode : Mode) (line printed : Text) : Type 0 where
+pub record IsErrorLine (settings : Settings) (line printed : Text) : Type 0 where
   pub fault : LineError
-  pub fails : FailsWith mode line fault
+  pub fails : FailsWith settings line fault
   pub is : IsErrorText fault printed
 
 -- the line is answered with this text, and whether that is an `ok`
-abbrev pub IsLineAnswer : Mode → Text → Text → Bool → Type 0
-IsLineAnswer mode line printed true = IsOkLine mode line printed
-IsLineAnswer mode line printed false = IsErrorLine mode line printed
+abbrev pub IsLineAnswer : Settings → Text → Text → Bool → Type 0
+IsLineAnswer settings line printed true = IsOkLine settings line printed
+IsLineAnswer settings line printed false = IsErrorLine settings line printed
 
 -- ---- all lines
 
@@ -182,20 +182,20 @@ pub record Answer : Type 0 where
   pub is_ok : Bool
 
 -- each line has one answer, in order
-abbrev pub AnswerEach : Mode → List Text → List Answer → Type 0
-AnswerEach mode [] [] = Unit {0}
-AnswerEach mode (line ∷ lines) (answer ∷ answers) =
-    IsLineAnswer mode line answer.text answer.is_ok × AnswerEach mode lines answers
-AnswerEach mode lines answers = ⊥
+abbrev pub AnswerEach : Settings → List Text → List Answer → Type 0
+AnswerEach settings [] [] = Unit {0}
+AnswerEach settings (line ∷ lines) (answer ∷ answers) =
+    IsLineAnswer settings line answer.text answer.is_ok × AnswerEach settings lines answers
+AnswerEach settings lines answers = ⊥
 
 abbrev pub are_ok : List Answer → Bool
 are_ok [] = true
 are_ok (answer ∷ answers) = answer.is_ok && are_ok answers
 
 -- the lines are answered with this text, a line each; and whether each answer is an `ok`
-pub record AreAnswered (mode : Mode) (lines : List Text) (printed : Text) (all_ok : Bool) : Type 0 where
+pub record AreAnswered (settings : Settings) (lines : List Text) (printed : Text) (all_ok : Bool) : Type 0 where
   pub answers : List Answer
-  pub each : AnswerEach mode lines answers
+  pub each : AnswerEach settings lines answers
   pub is : printed ≡ ended_lines (map (λ answer. answer.text) answers)
   pub ok : all_ok ≡ are_ok answers
 
@@ -205,18 +205,18 @@ IsAll None input = Unit {0}
 IsAll (Some bytes) input = bytes ≡ input
 
 -- all of the input was read, and each of its lines was answered
-pub record AnswersLines (mode : Mode) (left left_after held held_after : Option (List ℕ)) (all_ok : Bool) : Type 0 where
+pub record AnswersLines (settings : Settings) (left left_after held held_after : Option (List ℕ)) (all_ok : Bool) : Type 0 where
   pub input : Text
   pub all : IsAll left input
   pub read : Consumes left left_after input
   pub lines : List Text
   pub are : AreLines input lines
   pub printed : Text
-  pub answers : AreAnswered mode lines printed all_ok
+  pub answers : AreAnswered settings lines printed all_ok
   pub written : Appends held held_after printed
 
 -- a read failed: the lines that were read whole are answered, and of one more a part may have been read
-pub record AnswersBefore (mode : Mode) (left left_after held held_after : Option (List ℕ)) : Type 0 where
+pub record AnswersBefore (settings : Settings) (left left_after held held_after : Option (List ℕ)) : Type 0 where
   pub lines : List Text
   pub part : Text
   pub read : Consumes left left_after (ended_lines lines ++ part)
@@ -224,11 +224,11 @@ pub record AnswersBefore (mode : Mode) (left left_after held held_after : Option
   pub within : StopsAt part 10
   pub printed : Text
   pub all_ok : Bool
-  pub answers : AreAnswered mode lines printed all_ok
+  pub answers : AreAnswered settings lines printed all_ok
   pub written : Appends held held_after printed
 
 -- a write failed: all lines that were read but the last are answered, and a beginning of its answer was written
-pub record BeginsToAnswer (mode : Mode) (left left_after held held_after : Option (List ℕ)) : Type 0 where
+pub record BeginsToAnswer (settings : Settings) (left left_after held held_after : Option (List ℕ)) : Type 0 where
   pub lines : List Text
   pub line : Text
   pub input : Text
@@ -236,17 +236,17 @@ pub record BeginsToAnswer (mode : Mode) (left left_after held held_after : Optio
   pub are : AreLines input (lines ++ line ∷ [])
   pub printed : Text
   pub all_ok : Bool
-  pub answers : AreAnswered mode lines printed all_ok
+  pub answers : AreAnswered settings lines printed all_ok
   pub answer : Text
   pub is_ok : Bool
-  pub is : IsLineAnswer mode line answer is_ok
+  pub is : IsLineAnswer settings line answer is_ok
   pub front : Text
   pub rest : Text
   pub whole : front ++ rest ≡ answer ++ 10 ∷ []
   pub written : Appends held held_after (printed ++ front)
 
 -- what a failed write leaves: the answers up to one that was begun, or all of them, not flushed
-abbrev pub IsCutShort : Mode → Option (List ℕ) → Option (List ℕ) → Option (List ℕ) → Option (List ℕ) → Type 0
-IsCutShort mode left left_after held held_after =
-    BeginsToAnswer mode left left_after held held_after
-    ⊎ ((all_ok : Bool) × AnswersLines mode left left_after held held_after all_ok)
+abbrev pub IsCutShort : Settings → Option (List ℕ) → Option (List ℕ) → Option (List ℕ) → Option (List ℕ) → Type 0
+IsCutShort settings left left_after held held_after =
+    BeginsToAnswer settings left left_after held held_after
+    ⊎ ((all_ok : Bool) × AnswersLines settings left left_after held held_after all_ok)

@@ -5,13 +5,13 @@ use Rattle.std.specs.Io.KnownBytes.{Appends, Consumes}
 use Rattle.promql_text.specs.Texts.{Text}
 use Rattle.promql_ast.specs.Tree.{Tree}
 use Rattle.promql_io.specs.Ended.{AppendsBeginning}
-use Rattle.promql_run.specs.declared.run.Mode.{Mode}
 use Rattle.promql_run.specs.declared.run.RunError.{RunError}
 use Rattle.promql_run.specs.declared.run.RunError.TheVariants as error
 use Rattle.promql_lines.specs.Batch.{HasMatcherFault, IsAll, IsLineAnswer, MeetsBareInfoIfAny}
 use Rattle.promql_lines.specs.declared.batch.LineEnd.{LineEnd}
 use Rattle.promql_lines.specs.declared.batch.LineEnd.TheVariants.{Feed, Input}
 use Rattle.promql_lines.specs.declared.line.LineError.{LineError}
+use Rattle.promql_lines.specs.declared.settings.Settings.{Settings}
 use Rattle.promql_lines.specs.declared.line.LineError.TheVariants.{Run, Matcher, Info}
 
 abbrev pub HasNoFeed : Text → Type 0
@@ -29,14 +29,14 @@ abbrev pub IsPartRead : Option (List ℕ) → Option (List ℕ) → Type 0
 IsPartRead left left_after = (part : Text) × Consumes left left_after part × StopsAt part 10
 
 -- an answer to the line was written, with a line feed
-abbrev pub IsAnswered : Mode → Text → Option (List ℕ) → Option (List ℕ) → Bool → Type 0
-IsAnswered mode line held held_after is_ok =
-    (answer : Text) × IsLineAnswer mode line answer is_ok × Appends held held_after (answer ++ 10 ∷ [])
+abbrev pub IsAnswered : Settings → Text → Option (List ℕ) → Option (List ℕ) → Bool → Type 0
+IsAnswered settings line held held_after is_ok =
+    (answer : Text) × IsLineAnswer settings line answer is_ok × Appends held held_after (answer ++ 10 ∷ [])
 
 -- a beginning of that was written
-abbrev pub IsPartlyAnswered : Mode → Text → Option (List ℕ) → Option (List ℕ) → Type 0
-IsPartlyAnswered mode line held held_after =
-    (answer : Text) × (is_ok : Bool) × IsLineAnswer mode line answer is_ok
+abbrev pub IsPartlyAnswered : Settings → Text → Option (List ℕ) → Option (List ℕ) → Type 0
+IsPartlyAnswered settings line held held_after =
+    (answer : Text) × (is_ok : Bool) × IsLineAnswer settings line answer is_ok
     × AppendsBeginning held held_after (answer ++ 10 ∷ [])
 
 -- why the matcher is not enforced in the tree

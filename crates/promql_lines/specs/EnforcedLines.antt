@@ -1,6 +1,6 @@
 -- The line of a query with a matcher in its selectors (docs/guide/rewriting.md, "Enforcing"; docs/reference/programs.md, "One query,
 -- enforced").
-use Rattle.std.specs.Prelude.{◌≡◌, ◌≢◌, ◌⊎◌, ℕ, ◌++◌, List, [], ◌∷◌, Option, Some, None, Result, Ok, Err, String, string_bytes, codes, bytes_eq, if◌then◌else◌, option_map}
+use Rattle.std.specs.Prelude.{◌≡◌, ◌≢◌, ◌⊎◌, ℕ, ◌++◌, List, [], ◌∷◌, Option, Some, None, Result, Ok, Err, String, string_bytes, codes, if◌then◌else◌, option_map}
 use Rattle.std.specs.declared.alloc.Global.{Global}
 use Rattle.std.specs.Str.{IsUtf8}
 use Rattle.std.specs.Io.KnownBytes.{Appends}
@@ -14,14 +14,16 @@ use Rattle.promql_rewrite.specs.MatcherTexts.{IsEnforcedBy, IsMatcherFault, Meet
 use Rattle.promql_rewrite.specs.declared.faithful.NotFaithful.{NotFaithful}
 use Rattle.promql_rewrite.specs.declared.faithful.NotFaithful.TheVariants as faithful
 use Rattle.promql_io.specs.Ended.{AppendsBeginning}
-use Rattle.promql_report.specs.Rejecting.{IsParsed, IsRejection}
+use Rattle.promql_report.specs.LimitOptions.{default_limits, is_help, limits_with}
+use Rattle.promql_report.specs.Rejecting.{IsParsed, IsRead, IsRejection, reason_number}
+use Rattle.promql_span.specs.declared.limits.Limits.{Limits}
 use Rattle.promql_io.specs.Inputs.{HasRead}
 use Rattle.promql_lines.specs.declared.enforced_line.EnforcedLineError.{EnforcedLineError}
 use Rattle.promql_lines.specs.declared.enforced_line.EnforcedLineError.TheVariants as error
 
 abbrev pub enforce_number : EnforcedLineError → ℕ
 enforce_number error.Memory = 1
-enforce_number (error.Rejected r) = 4
+enforce_number (error.Rejected r) = reason_number r.reason
 enforce_number (error.Matcher e) = 11
 enforce_number (error.Unfaithful e) = 12
 enforce_number error.Info = 13
@@ -45,83 +47,81 @@ FailsToShow t matcher (error.Unfaithful e) = (u : Tree) × IsEnforcedBy matcher 
 FailsToShow t matcher error.Info = MeetsBareInfo matcher t
 
 -- the query has a tree, and this is its line with the matcher in every selector
-abbrev pub IsEnforcedLine : Text → Text → Text → Type 0
-IsEnforcedLine query matcher line = (t : Tree) × IsAnswerTo query (Ok t) × ShowsEnforced t matcher line
+abbrev pub IsEnforcedLine : Limits → Text → Text → Text → Type 0
+IsEnforcedLine limits query matcher line = (t : Tree) × IsRead limits query t × ShowsEnforced t matcher line
 
 -- the query has a tree, and its line with the matcher in every selector does not mean the enforced tree
-abbrev pub IsUnfaithfulLine : Text → Text → NotFaithful → Type 0
-IsUnfaithfulLine query matcher e =
-    (t : Tree) × IsAnswerTo query (Ok t) × ((u : Tree) × IsEnforcedBy matcher t u × IsUnfaithful u e)
+abbrev pub IsUnfaithfulLine : Limits → Text → Text → NotFaithful → Type 0
+IsUnfaithfulLine limits query matcher e =
+    (t : Tree) × IsRead limits query t × ((u : Tree) × IsEnforcedBy matcher t u × IsUnfaithful u e)
 
 -- the query has a tree, in which a call of `info` has no second argument; and the text is a matcher that can be enforced
-abbrev pub MeetsBareInfoIn : Text → Text → Type 0
-MeetsBareInfoIn query matcher = (t : Tree) × IsAnswerTo query (Ok t) × MeetsBareInfo matcher t
+abbrev pub MeetsBareInfoIn : Limits → Text → Text → Type 0
+MeetsBareInfoIn limits query matcher = (t : Tree) × IsRead limits query t × MeetsBareInfo matcher t
 
 -- why the query has no such line; the matcher counts only where the query has a tree
-abbrev pub FailsToEnforce : Text → Text → EnforcedLineError → Type 0
-FailsToEnforce query matcher error.Memory = Unit {0}
-FailsToEnforce query matcher (error.Rejected r) = IsRejection query r
-FailsToEnforce query matcher (error.Matcher e) = IsParsed query × IsMatcherFault matcher e
-FailsToEnforce query matcher (error.Unfaithful e) = IsUnfaithfulLine query matcher e
-FailsToEnforce query matcher error.Info = MeetsBareInfoIn query matcher
+abbrev pub FailsToEnforce : Limits → Text → Text → EnforcedLineError → Type 0
+FailsToEnforce limits query matcher error.Memory = Unit {0}
+FailsToEnforce limits query matcher (error.Rejected r) = IsRejection limits query r
+FailsToEnforce limits query matcher (error.Matcher e) = IsParsed limits query × IsMatcherFault matcher e
+FailsToEnforce limits query matcher (error.Unfaithful e) = IsUnfaithfulLine limits query matcher e
+FailsToEnforce limits query matcher error.Info = MeetsBareInfoIn limits query matcher
 
 -- ---- the program
 
 -- what the arguments ask for
 pub data Command : Type 0 where
   help : Command
-  enforce : Text → Command
+  enforce : Text → Limits → Command
 
--- the only argument after the program's own name
-abbrev pub sole_argument : List Text → Option Text
-sole_argument (own ∷ word ∷ []) = Some word
-sole_argument _ = None
+-- a matcher and options
+abbrev pub enforce_with : List Text → Option Command
+enforce_with [] = None
+enforce_with (word ∷ words) = option_map (enforce word) (limits_with default_limits words)
 
--- `--help` or a matcher
-abbrev pub asked_command : Text → Command
-asked_command word = if bytes_eq word (codes "--help") then help else enforce word
-
+-- the program's own name, and `--help` or that
 abbrev pub enforce_command : List Text → Option Command
-enforce_command args = option_map asked_command (sole_argument args)
+enforce_command [] = None
+enforce_command (own ∷ words) = if is_help words then Some help else enforce_with words
 
 -- the line and a line feed
-abbrev pub IsEnforcedAnswer : Text → Text → Text → Type 0
-IsEnforcedAnswer query matcher answer = (line : Text) × IsEnforcedLine query matcher line × (answer ≡ line ++ codes "\n")
+abbrev pub IsEnforcedAnswer : Limits → Text → Text → Text → Type 0
+IsEnforcedAnswer limits query matcher answer = (line : Text) × IsEnforcedLine limits query matcher line × (answer ≡ line ++ codes "\n")
 
 -- all of the input was read, it is a text, and the line of its query was written, with a line feed
-pub record Enforces (matcher : Text) (left left_after held held_after : Option (List ℕ)) : Type 0 where
+pub record Enforces (limits : Limits) (matcher : Text) (left left_after held held_after : Option (List ℕ)) : Type 0 where
   pub query : Text
   pub read : HasRead left left_after query
   pub utf8 : IsUtf8 query
   pub answer : Text
-  pub is : IsEnforcedAnswer query matcher answer
+  pub is : IsEnforcedAnswer limits query matcher answer
   pub written : Appends held held_after answer
 
 -- the same, where a write failed: a beginning of that was written
-pub record BeginsToEnforce (matcher : Text) (left left_after held held_after : Option (List ℕ)) : Type 0 where
+pub record BeginsToEnforce (limits : Limits) (matcher : Text) (left left_after held held_after : Option (List ℕ)) : Type 0 where
   pub query : Text
   pub read : HasRead left left_after query
   pub utf8 : IsUtf8 query
   pub answer : Text
-  pub is : IsEnforcedAnswer query matcher answer
+  pub is : IsEnforcedAnswer limits query matcher answer
   pub begun : AppendsBeginning held held_after answer
 
 -- all of the input was read, it is a text, and this is why its query has no line
-pub record HasNoEnforcedLine (matcher : Text) (e : EnforcedLineError) (left left_after : Option (List ℕ)) : Type 0 where
+pub record HasNoEnforcedLine (limits : Limits) (matcher : Text) (e : EnforcedLineError) (left left_after : Option (List ℕ)) : Type 0 where
   pub query : Text
   pub read : HasRead left left_after query
   pub utf8 : IsUtf8 query
-  pub fails : FailsToEnforce query matcher e
+  pub fails : FailsToEnforce limits query matcher e
 
 -- what became of the input
-abbrev pub IsInputAnswer : Text → Option (List ℕ) → Option (List ℕ) → Result (String Global) EnforcedLineError → Type 0
-IsInputAnswer matcher left left_after (Ok answer) =
-    (query : Text) × HasRead left left_after query × IsUtf8 query × IsEnforcedAnswer query matcher (string_bytes answer)
-IsInputAnswer matcher left left_after (Err e) = HasNoEnforcedLine matcher e left left_after
+abbrev pub IsInputAnswer : Limits → Text → Option (List ℕ) → Option (List ℕ) → Result (String Global) EnforcedLineError → Type 0
+IsInputAnswer limits matcher left left_after (Ok answer) =
+    (query : Text) × HasRead left left_after query × IsUtf8 query × IsEnforcedAnswer limits query matcher (string_bytes answer)
+IsInputAnswer limits matcher left left_after (Err e) = HasNoEnforcedLine limits matcher e left left_after
 
 -- the statuses of these errors
 abbrev pub IsLineStatus : ℕ → Type 0
-IsLineStatus status = (status ≡ 4) ⊎ (status ≡ 11) ⊎ (status ≡ 12) ⊎ (status ≡ 13)
+IsLineStatus status = (status ≡ 4) ⊎ (status ≡ 11) ⊎ (status ≡ 12) ⊎ (status ≡ 13) ⊎ (status ≡ 14)
 
 -- each status of a matcher
 abbrev pub IsEnforceStatus : ℕ → Type 0

@@ -54,7 +54,7 @@ number_in default most (Some d) =
 abbrev pub format_with : Option Data → Option Data → Mode → Option Format
 format_with level width mode.Pretty =
     option_and_then (λ l. option_and_then (λ w. Some (format.Pretty (record { level = l; width = w })))
-    (number_in 100 (2 ^ 64 - 1) width)) (number_in 0 65535 level)
+    (number_in 100 (2 ^ 64 - 1) width)) (number_in 0 512 level)
 format_with None None mode.Line = Some format.Line
 format_with None None mode.Json = Some format.Json
 format_with level width other = None

@@ -8,9 +8,10 @@ ghost use Rattle.promql_lines.specs.Batch.{AnswersBefore, AnswersLines, IsCutSho
 ghost use Rattle.promql_lines.specs.BatchSteps.{IsLineRead, IsPartRead, IsAnswered, IsPartlyAnswered, IsReadingError, IsBatchError};
 
 use crate::line::answer_line;
+use crate::settings::Settings;
 use promql_io::ended::Ended;
 use promql_io::reading::ReadFault;
-use promql_run::run::{Mode, RunError, flush, write_whole};
+use promql_run::run::{RunError, flush, write_whole};
 use std::alloc::Global;
 use std::io::{BufRead, Write};
 
@@ -70,19 +71,19 @@ fn write_line<W: Write>(writer: &mut Ended<W>, text: &str) -> Result<(), RunErro
 /// Writes the answer to a line and a line feed; returns whether the answer is an `ok`.
 fn write_answer<W: Write>(
     alloc: Global,
-    mode: Mode,
+    settings: &Settings,
     line: &[u8],
     writer: &mut Ended<W>,
 ) -> Result<bool, RunError>
-    ensures ok { IfOk result (IsAnswered mode line.now (W.contents writer.old.inner)
+    ensures ok { IfOk result (IsAnswered settings.now line.now (W.contents writer.old.inner)
         (W.contents writer.new.inner)) }
     ensures quiet { OnOk result (writer.new.failed ≡ writer.old.failed) }
-    ensures begun { OnErr result (IsPartlyAnswered mode line.now (W.contents writer.old.inner)
+    ensures begun { OnErr result (IsPartlyAnswered settings.now line.now (W.contents writer.old.inner)
         (W.contents writer.new.inner)) }
     ensures failed { OnErr result (writer.new.failed ≡ true) }
     ensures errors { IfErr result (λ e. e ≡ RunError.Write) }
 {
-    match answer_line(alloc, mode, line) {
+    match answer_line(alloc, settings, line) {
         Ok(answer) => {
             write_line(writer, answer.text.as_str())?;
             Ok(answer.is_ok)
@@ -102,21 +103,21 @@ fn write_answer<W: Write>(
 /// failed: the lines before were answered. `Write` where a call of the writer failed: then a beginning of the answers was written.
 pub fn run_batch<R: BufRead, W: Write>(
     alloc: Global,
-    mode: Mode,
+    settings: &Settings,
     reader: &mut Ended<R>,
     writer: &mut Ended<W>,
 ) -> Result<bool, RunError>
-    ensures ok { IfOk result (AnswersLines mode (R.remaining reader.old.inner)
+    ensures ok { IfOk result (AnswersLines settings.now (R.remaining reader.old.inner)
         (R.remaining reader.new.inner) (W.contents writer.old.inner) (W.contents writer.new.inner)) }
     ensures flushed { OnOk result (writer.new.pending ≡ false) }
     ensures quiet { OnOk result (writer.new.failed ≡ writer.old.failed) }
     ensures quiet_reader { MatchResult result (λ _. reader.new.failed ≡ reader.old.failed)
         (λ e. UnlessRead e (reader.new.failed ≡ reader.old.failed)) }
     ensures read { IsErrOf result RunError.Read → reader.new.failed ≡ true }
-    ensures before { IfErr result (λ e. UnlessWrite e (AnswersBefore mode (R.remaining reader.old.inner)
+    ensures before { IfErr result (λ e. UnlessWrite e (AnswersBefore settings.now (R.remaining reader.old.inner)
         (R.remaining reader.new.inner) (W.contents writer.old.inner) (W.contents writer.new.inner))) }
     ensures write { IsErrOf result RunError.Write → writer.new.failed ≡ true }
-    ensures begun { IsErrOf result RunError.Write → IsCutShort mode (R.remaining reader.old.inner)
+    ensures begun { IsErrOf result RunError.Write → IsCutShort settings.now (R.remaining reader.old.inner)
         (R.remaining reader.new.inner) (W.contents writer.old.inner) (W.contents writer.new.inner) }
     ensures errors { IfErr result IsBatchError }
 {
@@ -130,7 +131,7 @@ pub fn run_batch<R: BufRead, W: Write>(
                 return Ok(all_ok);
             }
         };
-        let is_ok = write_answer(alloc, mode, line.as_slice(), writer)?;
+        let is_ok = write_answer(alloc, settings, line.as_slice(), writer)?;
         all_ok = all_ok && is_ok;
         match end {
             LineEnd::Feed => {}

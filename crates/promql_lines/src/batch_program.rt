@@ -2,12 +2,14 @@
 
 ghost use Rattle.std.specs.Prelude.{◌≡◌, ◌≢◌, ◌⊎◌, ◌↔◌, false, true, Some, None, map, string_bytes};
 ghost use Rattle.std.specs.Io.KnownBytes.{Appends};
-ghost use Rattle.promql_run.specs.declared.run.Mode as modes;
+ghost use Rattle.promql_lines.specs.declared.settings.Settings as batches;
 ghost use Rattle.promql_lines.specs.Batch.{AnswersBefore, AnswersLines, IsCutShort};
-ghost use Rattle.promql_lines.specs.BatchArguments.{batch_command};
+ghost use Rattle.promql_lines.specs.BatchArguments.{batch_command, settings_of};
 
 use crate::batch::run_batch;
+use crate::settings::Settings;
 use promql_io::ended::Ended;
+use promql_report::limit_options::{default_limits, is_help, limits_with};
 use promql_run::program::USAGE_STATUS;
 use promql_run::run::{Mode, write_text};
 use std::alloc::Global;
@@ -17,10 +19,11 @@ use std::io::{BufRead, Write};
 pub const ERRORS_STATUS: u8 = 4;
 
 /// The line that is printed for wrong arguments, and the first of the help.
-pub const BATCH_USAGE: &str = "usage: promql_batch pretty|line|json\n";
+pub const BATCH_USAGE: &str =
+    "usage: promql_batch pretty|line|json [--max-len N] [--max-patterns N]\n";
 
 /// What `--help` prints.
-pub const BATCH_HELP: &str = "usage: promql_batch pretty|line|json
+pub const BATCH_HELP: &str = "usage: promql_batch pretty|line|json [--max-len N] [--max-patterns N]
 
 Reads a PromQL query from each line of standard input, and writes a JSON object
 for each to standard output, in order.
@@ -30,7 +33,9 @@ if wanted, \"mode\" (\"pretty\", \"line\" or \"json\"), \"level\" and \"width\" 
 layout: indentations before it, and the most bytes of a line), and \"enforce\" (a
 matcher that is put into every selector of the query).
 An answer is {\"ok\":TEXT}, in mode json {\"ok\":VALUE}, or
-{\"code\":NUMBER,\"error\":MESSAGE}.
+{\"code\":NUMBER,\"error\":MESSAGE}. A query of more than --max-len bytes (1048576), or
+with patterns that are together larger than --max-patterns (32000), is rejected
+before it is parsed.
 
 Status: 0 each line was answered with ok, 4 some line has an error, 1 out of
 memory, 2 a read failed, 5 a write failed, 64 wrong arguments.
@@ -41,19 +46,33 @@ memory, 2 a read failed, 5 a write failed, 64 wrong arguments.
 pub enum Command {
     /// The help.
     Help,
-    /// A batch in this mode.
-    Batch(Mode),
+    /// A batch with these settings.
+    Batch(Settings),
+}
+
+/// The settings that the words after the program's name ask for; `None` where those are nothing known.
+fn settings_of(words: &[String]) -> Option<Settings>
+    ensures { result ≡ settings_of (map string_bytes words.now) }
+{
+    let [word, options @ ..] = words else {
+        return None;
+    };
+    let mode = Mode::from_name(word.as_str())?;
+    let limits = limits_with(default_limits(), options)?;
+    Some(Settings { mode, limits })
 }
 
 /// What the arguments ask for, the program's own name first; `None` where that is nothing known.
 fn command_of(args: &[String]) -> Option<Command>
     ensures { result ≡ batch_command (map string_bytes args.now) }
 {
-    match args {
-        [_, word] if word.as_str() == "--help" => Some(Command::Help),
-        [_, word] => Some(Command::Batch(Mode::from_name(word.as_str())?)),
-        _ => None,
+    let [_, words @ ..] = args else {
+        return None;
+    };
+    if is_help(words) {
+        return Some(Command::Help);
     }
+    Some(Command::Batch(settings_of(words)?))
 }
 
 /// Runs the program for batches, and returns its status (docs/reference/programs.md, "Statuses of a batch").
@@ -67,7 +86,7 @@ pub fn batch_program<R: BufRead, W: Write, E: Write>(
     writer: &mut Ended<W>,
     errors: &mut Ended<E>,
 ) -> u8
-    // Other arguments than one known mode or `--help`: the usage line is all that happens.
+    // Other arguments than one known mode, with options or none, or `--help`: the usage line is all that happens.
     ensures usage { (result ≡ USAGE_STATUS) ↔ (batch_command (map string_bytes args.now) ≡ None) }
     ensures usage_reads_nothing { result ≡ USAGE_STATUS → reader.new ≡ reader.old }
     ensures usage_writes_nothing { result ≡ USAGE_STATUS → writer.new ≡ writer.old }
@@ -81,11 +100,11 @@ pub fn batch_program<R: BufRead, W: Write, E: Write>(
     ensures help_status { batch_command (map string_bytes args.now) ≡ Some Command.Help
         → (result ≡ 0) ⊎ (result ≡ 5) }
     // A mode: each line is answered, and the status tells whether each with an `ok`.
-    ensures ok { (mode : modes.Mode) → batch_command (map string_bytes args.now)
-        ≡ Some (Command.Batch mode) → result ≡ 0 → AnswersLines mode (R.remaining reader.old.inner)
+    ensures ok { (settings : batches.Settings) → batch_command (map string_bytes args.now)
+        ≡ Some (Command.Batch settings) → result ≡ 0 → AnswersLines settings (R.remaining reader.old.inner)
         (R.remaining reader.new.inner) (W.contents writer.old.inner) (W.contents writer.new.inner) true }
-    ensures errors { (mode : modes.Mode) → batch_command (map string_bytes args.now)
-        ≡ Some (Command.Batch mode) → result ≡ ERRORS_STATUS → AnswersLines mode
+    ensures errors { (settings : batches.Settings) → batch_command (map string_bytes args.now)
+        ≡ Some (Command.Batch settings) → result ≡ ERRORS_STATUS → AnswersLines settings
         (R.remaining reader.old.inner) (R.remaining reader.new.inner)
         (W.contents writer.old.inner) (W.contents writer.new.inner) false }
     ensures flushed { (result ≡ 0) ⊎ (result ≡ ERRORS_STATUS) → writer.new.pending ≡ false }
@@ -93,19 +112,19 @@ pub fn batch_program<R: BufRead, W: Write, E: Write>(
     // Each other status is that of an error, under the conditions of `run_batch`.
     ensures known { (result ≡ 0) ⊎ (result ≡ 1) ⊎ (result ≡ 2) ⊎ (result ≡ ERRORS_STATUS)
         ⊎ (result ≡ 5) ⊎ (result ≡ USAGE_STATUS) }
-    ensures before { (mode : modes.Mode) → batch_command (map string_bytes args.now)
-        ≡ Some (Command.Batch mode) → (result ≡ 1) ⊎ (result ≡ 2) → AnswersBefore mode
+    ensures before { (settings : batches.Settings) → batch_command (map string_bytes args.now)
+        ≡ Some (Command.Batch settings) → (result ≡ 1) ⊎ (result ≡ 2) → AnswersBefore settings
         (R.remaining reader.old.inner) (R.remaining reader.new.inner)
         (W.contents writer.old.inner) (W.contents writer.new.inner) }
     ensures read { result ≡ 2 → reader.new.failed ≡ true }
     ensures quiet { result ≢ 2 → reader.new.failed ≡ reader.old.failed }
     ensures write { result ≡ 5 → writer.new.failed ≡ true }
-    ensures begun { (mode : modes.Mode) → batch_command (map string_bytes args.now)
-        ≡ Some (Command.Batch mode) → result ≡ 5 → IsCutShort mode (R.remaining reader.old.inner)
+    ensures begun { (settings : batches.Settings) → batch_command (map string_bytes args.now)
+        ≡ Some (Command.Batch settings) → result ≡ 5 → IsCutShort settings (R.remaining reader.old.inner)
         (R.remaining reader.new.inner) (W.contents writer.old.inner) (W.contents writer.new.inner) }
 {
-    let mode = match command_of(args) {
-        Some(Command::Batch(mode)) => mode,
+    let settings = match command_of(args) {
+        Some(Command::Batch(settings)) => settings,
         Some(Command::Help) => {
             return match write_text(writer, BATCH_HELP) {
                 Ok(()) => 0,
@@ -117,7 +136,7 @@ pub fn batch_program<R: BufRead, W: Write, E: Write>(
             return USAGE_STATUS;
         }
     };
-    match run_batch(alloc, mode, reader, writer) {
+    match run_batch(alloc, &settings, reader, writer) {
         Ok(true) => 0,
         Ok(false) => ERRORS_STATUS,
         Err(error) => {

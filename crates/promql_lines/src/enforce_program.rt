@@ -8,37 +8,49 @@ ghost use Rattle.promql_run.specs.Running.{IsNotUtf8, UnlessRead};
 ghost use Rattle.promql_run.specs.StepErrors.{IsInputError};
 ghost use Rattle.promql_lines.specs.EnforcedLines.{BeginsToEnforce, Enforces, FailsToEnforce, HasNoEnforcedLine, IsEnforcedAnswer, IsEnforceStatus, IsInputAnswer, IsLineStatus, enforce_command, enforce_number};
 ghost use Rattle.promql_lines.specs.EnforcedLines as spec;
+ghost use Rattle.promql_lines.specs.EnforceArguments.{command_seen};
+ghost use Rattle.promql_span.specs.declared.limits.Limits as spans;
 ghost use Rattle.promql_lines.specs.declared.enforced_line.EnforcedLineError.{EnforcedLineError};
 
 use crate::enforced_line::{EnforcedLineError, enforced_line};
 use promql_io::ended::Ended;
+use promql_report::limit_options::{default_limits, is_help, limits_with};
 use promql_run::program::USAGE_STATUS;
 use promql_run::run::{RunError, read_input, write_text};
+use promql_span::limits::Limits;
 use std::alloc::Global;
 use std::io::{Read, Write};
 
 /// The line that is printed for wrong arguments, and the first of the help.
-pub const ENFORCE_USAGE: &str = "usage: promql_enforce MATCHER\n";
+pub const ENFORCE_USAGE: &str = "usage: promql_enforce MATCHER [--max-len N] [--max-patterns N]\n";
 
 /// What `--help` prints.
-pub const ENFORCE_HELP: &str = "usage: promql_enforce MATCHER
+pub const ENFORCE_HELP: &str = "usage: promql_enforce MATCHER [--max-len N] [--max-patterns N]
 
 Reads a PromQL query from standard input, puts the matcher into every selector of
 it, and writes the query to standard output, on one line. MATCHER is written as
-between the braces of a selector: namespace=\"team-a\"
+between the braces of a selector: namespace=\"team-a\". A query of more than
+--max-len bytes (1048576), or with patterns that are together larger than
+--max-patterns (32000), is rejected before it is parsed.
 
 Status: 0 the query was written, 4 the query is rejected, 11 MATCHER is not a
 matcher or is of the metric name, 12 the query that was made does not read back,
-13 the query has info without a selector, 1 out of memory, 2 a read failed, 3 the
-input is not UTF-8, 5 a write failed, 64 wrong arguments.
+13 the query has info without a selector, 14 the query is too long or its patterns
+are too large, 1 out of memory, 2 a read failed, 3 the input is not UTF-8, 5 a
+write failed, 64 wrong arguments.
 ";
 
 /// The line of a query with the matcher in every selector, and a line feed.
-fn enforced_answer(alloc: Global, query: &str, matcher: &str) -> Result<String, EnforcedLineError>
-    ensures ok { IfOk result (λ s. IsEnforcedAnswer query.now matcher.now (string_bytes s)) }
-    ensures err { IfErr result (FailsToEnforce query.now matcher.now) }
+fn enforced_answer(
+    alloc: Global,
+    limits: &Limits,
+    query: &str,
+    matcher: &str,
+) -> Result<String, EnforcedLineError>
+    ensures ok { IfOk result (λ s. IsEnforcedAnswer limits.now query.now matcher.now (string_bytes s)) }
+    ensures err { IfErr result (FailsToEnforce limits.now query.now matcher.now) }
 {
-    let mut line = enforced_line(alloc, query, matcher)?;
+    let mut line = enforced_line(alloc, limits, query, matcher)?;
     line.push_str("\n")?;
     Ok(line)
 }
@@ -46,10 +58,11 @@ fn enforced_answer(alloc: Global, query: &str, matcher: &str) -> Result<String, 
 /// Reads all of the input, and returns what is written of the query in it.
 fn enforce_input<R: Read>(
     alloc: Global,
+    limits: &Limits,
     matcher: &str,
     reader: &mut Ended<R>,
 ) -> Result<Result<String, EnforcedLineError>, RunError>
-    ensures ok { IfOk result (IsInputAnswer matcher.now (R.remaining reader.old.inner) (R.remaining reader.new.inner)) }
+    ensures ok { IfOk result (IsInputAnswer limits.now matcher.now (R.remaining reader.old.inner) (R.remaining reader.new.inner)) }
     ensures quiet { MatchResult result (λ _. reader.new.failed ≡ reader.old.failed)
         (λ e. UnlessRead e (reader.new.failed ≡ reader.old.failed)) }
     ensures read { IsErrOf result RunError.Read → reader.new.failed ≡ true }
@@ -61,17 +74,40 @@ fn enforce_input<R: Read>(
     let Ok(query) = str::from_utf8(input.as_slice()) else {
         return Err(RunError::NotUtf8);
     };
-    Ok(enforced_answer(alloc, query, matcher))
+    Ok(enforced_answer(alloc, limits, query, matcher))
 }
 
-/// The only argument, after the program's own name.
-fn sole_argument(args: &[String]) -> Option<&str>
-    ensures { option_map (λ s. s.now) result ≡ spec.sole_argument (map string_bytes args.now) }
+/// What the arguments ask for.
+#[derive(Clone, Copy)]
+enum Asked<'a> {
+    /// The help.
+    Help,
+    /// To enforce the matcher of this text on a query within these limits.
+    Enforce(&'a str, Limits),
+}
+
+/// What the words after the program's name ask for, where that is no help; `None` where they are nothing known.
+fn enforce_with(words: &[String]) -> Option<Asked<'_>>
+    ensures { option_map command_seen result ≡ spec.enforce_with (map string_bytes words.now) }
 {
-    match args {
-        [_, word] => Some(word.as_str()),
-        _ => None,
+    let [word, options @ ..] = words else {
+        return None;
+    };
+    let limits = limits_with(default_limits(), options)?;
+    Some(Asked::Enforce(word.as_str(), limits))
+}
+
+/// What the arguments ask for, the program's own name first; `None` where that is nothing known.
+fn command_of(args: &[String]) -> Option<Asked<'_>>
+    ensures { option_map command_seen result ≡ enforce_command (map string_bytes args.now) }
+{
+    let [_, words @ ..] = args else {
+        return None;
+    };
+    if is_help(words) {
+        return Some(Asked::Help);
     }
+    enforce_with(words)
 }
 
 /// Writes the help, and returns the status.
@@ -91,18 +127,19 @@ fn write_help<W: Write>(writer: &mut Ended<W>) -> u8
 /// Writes the query of the input with the matcher in every selector, and returns the status.
 fn enforce<R: Read, W: Write, E: Write>(
     alloc: Global,
+    limits: &Limits,
     matcher: &str,
     reader: &mut Ended<R>,
     writer: &mut Ended<W>,
     errors: &mut Ended<E>,
 ) -> u8
-    ensures ok { result ≡ 0 → Enforces matcher.now
+    ensures ok { result ≡ 0 → Enforces limits.now matcher.now
         (R.remaining reader.old.inner) (R.remaining reader.new.inner)
         (W.contents writer.old.inner) (W.contents writer.new.inner) }
     ensures flushed { result ≡ 0 → writer.new.pending ≡ false }
     ensures silent { result ≡ 0 → errors.new ≡ errors.old }
     ensures none { IsLineStatus result → (e : EnforcedLineError) × (enforce_number e ≡ result)
-        × HasNoEnforcedLine matcher.now e
+        × HasNoEnforcedLine limits.now matcher.now e
         (R.remaining reader.old.inner) (R.remaining reader.new.inner) }
     ensures unwritten { result ≢ 0 → result ≢ 5 → writer.new ≡ writer.old }
     ensures known { IsEnforceStatus result }
@@ -111,11 +148,11 @@ fn enforce<R: Read, W: Write, E: Write>(
     ensures not_utf8 { result ≡ 3
         → IsNotUtf8 (R.remaining reader.old.inner) (R.remaining reader.new.inner) }
     ensures write { result ≡ 5 → writer.new.failed ≡ true }
-    ensures begun { result ≡ 5 → BeginsToEnforce matcher.now
+    ensures begun { result ≡ 5 → BeginsToEnforce limits.now matcher.now
         (R.remaining reader.old.inner) (R.remaining reader.new.inner)
         (W.contents writer.old.inner) (W.contents writer.new.inner) }
 {
-    let answer = match enforce_input(alloc, matcher, reader) {
+    let answer = match enforce_input(alloc, limits, matcher, reader) {
         Ok(Ok(answer)) => answer,
         Ok(Err(error)) => {
             let _ = writeln!(errors, "{error}");
@@ -148,7 +185,7 @@ pub fn enforce_program<R: Read, W: Write, E: Write>(
     writer: &mut Ended<W>,
     errors: &mut Ended<E>,
 ) -> u8
-    // Other arguments than one: the usage line is all that happens.
+    // Other arguments than a matcher, with options or none, or `--help`: the usage line is all that happens.
     ensures usage { (result ≡ USAGE_STATUS) ↔ (enforce_command (map string_bytes args.now) ≡ None) }
     ensures usage_reads_nothing { result ≡ USAGE_STATUS → reader.new ≡ reader.old }
     ensures usage_writes_nothing { result ≡ USAGE_STATUS → writer.new ≡ writer.old }
@@ -162,15 +199,15 @@ pub fn enforce_program<R: Read, W: Write, E: Write>(
     ensures help_status { enforce_command (map string_bytes args.now) ≡ Some spec.help
         → (result ≡ 0) ⊎ (result ≡ 5) }
     // A matcher: the query of the input is written with it in every selector, or nothing is written.
-    ensures ok { (matcher : Text) → enforce_command (map string_bytes args.now)
-        ≡ Some (spec.enforce matcher) → result ≡ 0 → Enforces matcher
+    ensures ok { (matcher : Text) (limits : spans.Limits) → enforce_command (map string_bytes args.now)
+        ≡ Some (spec.enforce matcher limits) → result ≡ 0 → Enforces limits matcher
         (R.remaining reader.old.inner) (R.remaining reader.new.inner)
         (W.contents writer.old.inner) (W.contents writer.new.inner) }
     ensures flushed { result ≡ 0 → writer.new.pending ≡ false }
     ensures silent { result ≡ 0 → errors.new ≡ errors.old }
-    ensures none { (matcher : Text) → enforce_command (map string_bytes args.now)
-        ≡ Some (spec.enforce matcher) → IsLineStatus result
-        → (e : EnforcedLineError) × (enforce_number e ≡ result) × HasNoEnforcedLine matcher e
+    ensures none { (matcher : Text) (limits : spans.Limits) → enforce_command (map string_bytes args.now)
+        ≡ Some (spec.enforce matcher limits) → IsLineStatus result
+        → (e : EnforcedLineError) × (enforce_number e ≡ result) × HasNoEnforcedLine limits matcher e
         (R.remaining reader.old.inner) (R.remaining reader.new.inner) }
     ensures unwritten { result ≢ 0 → result ≢ 5 → writer.new ≡ writer.old }
     // Each other status is that of an error.
@@ -180,17 +217,19 @@ pub fn enforce_program<R: Read, W: Write, E: Write>(
     ensures not_utf8 { result ≡ 3
         → IsNotUtf8 (R.remaining reader.old.inner) (R.remaining reader.new.inner) }
     ensures write { result ≡ 5 → writer.new.failed ≡ true }
-    ensures begun { (matcher : Text) → enforce_command (map string_bytes args.now)
-        ≡ Some (spec.enforce matcher) → result ≡ 5 → BeginsToEnforce matcher
+    ensures begun { (matcher : Text) (limits : spans.Limits) → enforce_command (map string_bytes args.now)
+        ≡ Some (spec.enforce matcher limits) → result ≡ 5 → BeginsToEnforce limits matcher
         (R.remaining reader.old.inner) (R.remaining reader.new.inner)
         (W.contents writer.old.inner) (W.contents writer.new.inner) }
 {
-    let Some(word) = sole_argument(args) else {
-        let _ = write_text(errors, ENFORCE_USAGE);
-        return USAGE_STATUS;
-    };
-    if word == "--help" {
-        return write_help(writer);
+    match command_of(args) {
+        Some(Asked::Help) => write_help(writer),
+        Some(Asked::Enforce(matcher, limits)) => {
+            enforce(alloc, &limits, matcher, reader, writer, errors)
+        }
+        None => {
+            let _ = write_text(errors, ENFORCE_USAGE);
+            USAGE_STATUS
+        }
     }
-    enforce(alloc, word, reader, writer, errors)
 }

@@ -7,6 +7,7 @@ ghost use Rattle.promql_lines.specs.EnforcedLines.{FailsToEnforce, FailsToShow, 
 use promql_ast::{Expr, drop_expr};
 use promql_report::rejection::{Rejection, read_query};
 use promql_rewrite::{EnforceTextError, MatcherError, NotFaithful, enforce_text, faithful_line};
+use promql_span::limits::Limits;
 use std::alloc::{AllocError, Global};
 use thiserror::Error;
 
@@ -16,7 +17,7 @@ pub enum EnforcedLineError {
     /// An allocation failed.
     #[error("out of memory")]
     Memory,
-    /// The parser rejects the query.
+    /// The query is not within its limits, or the parser rejects it.
     #[error("{0}")]
     Rejected(Rejection),
     /// The matcher is none, or none to enforce.
@@ -37,7 +38,7 @@ impl EnforcedLineError {
     {
         match self {
             EnforcedLineError::Memory => 1,
-            EnforcedLineError::Rejected(_) => 4,
+            EnforcedLineError::Rejected(rejection) => rejection.reason.number(),
             EnforcedLineError::Matcher(_) => 11,
             EnforcedLineError::Unfaithful(_) => 12,
             EnforcedLineError::Info => 13,
@@ -85,13 +86,18 @@ fn show_enforced(alloc: Global, expr: Expr, matcher: &str) -> Result<String, Enf
 ///
 /// # Errors
 ///
-/// `Rejected` where the parser rejects the query; else `Matcher` where the text is no matcher, or one of the metric's name; else
+/// `Rejected` where the query is not within its limits, or the parser rejects it; else `Matcher` where the text is no matcher, or one of the metric's name; else
 /// `Info` where a call of `info` in the query has no second argument; `Unfaithful` where the line would not mean the enforced tree; `Memory` where an allocation failed.
-pub fn enforced_line(alloc: Global, query: &str, matcher: &str) -> Result<String, EnforcedLineError>
-    ensures ok { IfOk result (λ s. IsEnforcedLine query.now matcher.now (string_bytes s)) }
-    ensures err { IfErr result (FailsToEnforce query.now matcher.now) }
+pub fn enforced_line(
+    alloc: Global,
+    limits: &Limits,
+    query: &str,
+    matcher: &str,
+) -> Result<String, EnforcedLineError>
+    ensures ok { IfOk result (λ s. IsEnforcedLine limits.now query.now matcher.now (string_bytes s)) }
+    ensures err { IfErr result (FailsToEnforce limits.now query.now matcher.now) }
 {
-    match read_query(alloc, query)? {
+    match read_query(alloc, limits, query)? {
         Ok(expr) => show_enforced(alloc, expr, matcher),
         Err(rejection) => Err(EnforcedLineError::Rejected(rejection)),
     }

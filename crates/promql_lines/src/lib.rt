@@ -9,3 +9,4 @@ pub mod enforce_program;
 pub mod enforced_line;
 pub mod line;
 pub mod request;
+pub mod settings;

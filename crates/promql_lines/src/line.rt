@@ -12,10 +12,12 @@ ghost use Rattle.promql_lines.specs.Batch.{FailsOnQuery, FailsWith, HasQueryValu
 
 use crate::answer_value::render_value;
 use crate::request::{Format, format_in, matcher_in, query_in};
+use crate::settings::Settings;
 use promql_ast::{Expr, drop_expr};
 use promql_report::rejection::{Rejection, read_query};
 use promql_rewrite::{EnforceTextError, MatcherError, enforce_text};
-use promql_run::run::{Mode, RunError};
+use promql_run::run::RunError;
+use promql_span::limits::Limits;
 use serde_json::{Category, Value, json};
 use std::alloc::{AllocError, Global};
 use thiserror::Error;
@@ -26,7 +28,7 @@ pub enum LineError {
     /// An error that a run on the query has, too.
     #[error("{0}")]
     Run(RunError),
-    /// The parser rejects the query.
+    /// The query is not within its limits, or the parser rejects it.
     #[error("{0}")]
     Rejected(Rejection),
     /// The line is not a JSON string, nor an object that asks for a query.
@@ -47,7 +49,7 @@ impl LineError {
     {
         match self {
             LineError::Run(error) => error.number(),
-            LineError::Rejected(_) => 4,
+            LineError::Rejected(rejection) => rejection.reason.number(),
             LineError::NotARequest => 7,
             LineError::Matcher(_) => 11,
             LineError::Info => 13,
@@ -96,16 +98,17 @@ fn enforced(alloc: Global, expr: Expr, matcher: Option<&str>) -> Result<Expr, Li
 /// What a query, with a matcher in its selectors if there is one, is in a format.
 fn evaluate_query(
     alloc: Global,
+    limits: &Limits,
     format: Format,
     query: &str,
     matcher: Option<&str>,
 ) -> Result<Value, LineError>
     ensures ok { IfOk result (λ v.
-        HasQueryValue query.now (option_map (λ s. s.now) matcher.entry) format (Ok (view v))) }
+        HasQueryValue limits.now query.now (option_map (λ s. s.now) matcher.entry) format (Ok (view v))) }
     ensures finite { IfOk result (λ v. has_float (view v) ≡ false) }
-    ensures err { IfErr result (FailsOnQuery query.now (option_map (λ s. s.now) matcher.entry) format) }
+    ensures err { IfErr result (FailsOnQuery limits.now query.now (option_map (λ s. s.now) matcher.entry) format) }
 {
-    let expr = match read_query(alloc, query) {
+    let expr = match read_query(alloc, limits, query) {
         Ok(Ok(expr)) => expr,
         Ok(Err(rejection)) => return Err(LineError::Rejected(rejection)),
         Err(_) => return Err(LineError::Run(RunError::Memory)),
@@ -120,34 +123,34 @@ fn evaluate_query(
 }
 
 /// What the query of a line's value is in its format.
-fn evaluate_value(alloc: Global, mode: Mode, asked: &Value) -> Result<Value, LineError>
+fn evaluate_value(alloc: Global, settings: &Settings, asked: &Value) -> Result<Value, LineError>
     ensures ok { (line : Text) → IsUtf8 line → read line ≡ Some (view asked.now)
-        → IfOk result (λ v. HasValue mode line (view v)) }
+        → IfOk result (λ v. HasValue settings.now line (view v)) }
     ensures finite { IfOk result (λ v. has_float (view v) ≡ false) }
     ensures err { (line : Text) → IsUtf8 line → read line ≡ Some (view asked.now)
-        → IfErr result (FailsWith mode line) }
+        → IfErr result (FailsWith settings.now line) }
 {
     let Some(query) = query_in(asked) else {
         return Err(LineError::NotARequest);
     };
-    let Some(format) = format_in(mode, asked) else {
+    let Some(format) = format_in(settings.mode, asked) else {
         return Err(LineError::NotARequest);
     };
-    evaluate_query(alloc, format, query, matcher_in(asked))
+    evaluate_query(alloc, &settings.limits, format, query, matcher_in(asked))
 }
 
 /// What a line's query is in its format.
-fn evaluate(alloc: Global, mode: Mode, line: &[u8]) -> Result<Value, LineError>
-    ensures ok { IfOk result (λ v. HasValue mode line.now (view v)) }
+fn evaluate(alloc: Global, settings: &Settings, line: &[u8]) -> Result<Value, LineError>
+    ensures ok { IfOk result (λ v. HasValue settings.now line.now (view v)) }
     ensures finite { IfOk result (λ v. has_float (view v) ≡ false) }
-    ensures err { IfErr result (FailsWith mode line.now) }
+    ensures err { IfErr result (FailsWith settings.now line.now) }
 {
     let Ok(text) = str::from_utf8(line) else {
         return Err(LineError::Run(RunError::NotUtf8));
     };
     match read_value(alloc, text) {
         Ok(Some(asked)) => {
-            let value = evaluate_value(alloc, mode, &asked);
+            let value = evaluate_value(alloc, settings, &asked);
             drop(asked);
             value
         }
@@ -225,10 +228,14 @@ fn error_text(alloc: Global, error: &LineError) -> Result<String, AllocError>
 
 /// The answer to a line: an object with the member `ok`, or with `code`, `error` and, for a query that is rejected, its
 /// place.
-pub fn answer_line(alloc: Global, mode: Mode, line: &[u8]) -> Result<LineAnswer, AllocError>
-    ensures { IfOk result (λ a. IsLineAnswer mode line.now (string_bytes a.text) a.is_ok) }
+pub fn answer_line(
+    alloc: Global,
+    settings: &Settings,
+    line: &[u8],
+) -> Result<LineAnswer, AllocError>
+    ensures { IfOk result (λ a. IsLineAnswer settings.now line.now (string_bytes a.text) a.is_ok) }
 {
-    match evaluate(alloc, mode, line) {
+    match evaluate(alloc, settings, line) {
         Ok(value) => Ok(LineAnswer {
             text: ok_text(alloc, value)?,
             is_ok: true,

@@ -10,7 +10,7 @@ use promql_run::run::Mode;
 use serde_json::{Map, Value};
 
 /// The highest level of a layout.
-const MAX_LEVEL: u64 = 65_535;
+const MAX_LEVEL: u64 = 512;
 
 /// Where a query is laid out, and how wide.
 #[derive(Clone, Copy, PartialEq, Eq, Debug)]

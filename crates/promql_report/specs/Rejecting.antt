@@ -1,5 +1,5 @@
 -- Why and where a query is rejected (docs/reference/programs.md, "Errors").
-use Rattle.std.specs.Prelude.{◌≡◌, Some, Result, Ok, Err}
+use Rattle.std.specs.Prelude.{◌≡◌, ℕ, Option, Some, None, Result, Ok, Err}
 use Rattle.std.specs.Str.{chars}
 use Rattle.promql_span.specs.Locations.{line_of, column_of}
 use Rattle.promql_text.specs.Texts.{Text}
@@ -7,22 +7,48 @@ use Rattle.promql_ast.specs.Tree.{Tree}
 use Rattle.promql_ast.specs.View.{tree_of}
 use Rattle.promql_ast.specs.declared.expr.Expr.{Expr}
 use Rattle.promql_span.specs.ErrorPlaces.{IsPlaceOf}
+use Rattle.promql_span.specs.PlacedTokens.{end_of}
+use Rattle.promql_span.specs.QueryLimits.{IsLimitFault, IsWithin}
+use Rattle.promql_span.specs.declared.limits.LimitFault.{LimitFault}
+use Rattle.promql_span.specs.declared.limits.LimitFault.TheVariants.{Memory, TooLong, PatternsTooLarge}
+use Rattle.promql_span.specs.declared.limits.Limits.{Limits}
+use Rattle.promql_span.specs.declared.span.Span.{Span}
 use Rattle.promql_syntax.specs.ParseAnswers.{IsAnswerTo, plain_error_of}
+use Rattle.promql_report.specs.declared.rejection.Reason.{Reason}
+use Rattle.promql_report.specs.declared.rejection.Reason.TheVariants.{Limit, Parse}
 use Rattle.promql_report.specs.declared.rejection.Rejection.{Rejection}
 
--- the parser rejects the query with this error, which is about this part of it and begins at this line and column
+abbrev pub reason_number : Reason → ℕ
+reason_number (Parse e) = 4
+reason_number (Limit fault) = 14
+
+-- a query that is too long is rejected at its end
+abbrev pub limit_place : Text → LimitFault → Option Span
+limit_place query Memory = None
+limit_place query (TooLong len most) = Some (end_of query)
+limit_place query (PatternsTooLarge size most place) = Some place
+
+-- the query is not within its limits, or it is and the parser rejects it; and this part of it is the place
 -- (`IsPlaceOf` gives the error Memory no part)
-pub record IsRejection (query : Text) (r : Rejection) : Type 0 where
-  pub rejected : IsAnswerTo query (Err (plain_error_of r.error))
-  pub at : IsPlaceOf query r.error (Some r.span)
+abbrev pub IsReason : Limits → Text → Reason → Span → Type 0
+IsReason limits query (Limit fault) span = IsLimitFault query limits fault × (limit_place query fault ≡ Some span)
+IsReason limits query (Parse e) span = IsWithin query limits × IsAnswerTo query (Err (plain_error_of e)) × IsPlaceOf query e (Some span)
+
+-- this is why the query is rejected, at this part of it, which begins at this line and column
+pub record IsRejection (limits : Limits) (query : Text) (r : Rejection) : Type 0 where
+  pub is : IsReason limits query r.reason r.span
   pub line : r.location.line ≡ line_of (chars query) r.span.start
   pub column : r.location.column ≡ column_of (chars query) r.span.start
 
--- the query has a tree
-abbrev pub IsParsed : Text → Type 0
-IsParsed query = (t : Tree) × IsAnswerTo query (Ok t)
+-- the query is within its limits, and has this tree
+abbrev pub IsRead : Limits → Text → Tree → Type 0
+IsRead limits query t = IsWithin query limits × IsAnswerTo query (Ok t)
 
--- the query has this tree, or is rejected so
-abbrev pub IsReadAs : Text → Result Expr Rejection → Type 0
-IsReadAs query (Ok e) = IsAnswerTo query (Ok (tree_of e))
-IsReadAs query (Err r) = IsRejection query r
+-- it has a tree
+abbrev pub IsParsed : Limits → Text → Type 0
+IsParsed limits query = (t : Tree) × IsRead limits query t
+
+-- the query is read as this tree, or is rejected so
+abbrev pub IsReadAs : Limits → Text → Result Expr Rejection → Type 0
+IsReadAs limits query (Ok e) = IsRead limits query (tree_of e)
+IsReadAs limits query (Err r) = IsRejection limits query r

@@ -6,40 +6,52 @@ ghost use Rattle.std.specs.Io.KnownBytes.{Appends};
 ghost use Rattle.promql_text.specs.Texts.{Text};
 ghost use Rattle.promql_span.specs.ByteEscapes.{byte_escape};
 ghost use Rattle.promql_span.specs.Locations.{location_of};
+ghost use Rattle.promql_span.specs.declared.limits.Limits as spans;
 ghost use Rattle.promql_span.specs.declared.span.Span.{Span};
 ghost use Rattle.promql_report.specs.Checking.{IsChecked, IsQueryIn, IsReport, IsReported, IsSilent, IsWarned, check_command};
 ghost use Rattle.promql_run.specs.Running.{IsNotUtf8, UnlessRead};
 ghost use Rattle.promql_run.specs.StepErrors.{IsInputError};
 
+use crate::limit_options::{default_limits, is_help, limits_with};
 use crate::rejection::{Rejection, read_query};
 use promql_ast::drop_expr;
 use promql_io::ended::Ended;
 use promql_run::program::USAGE_STATUS;
 use promql_run::run::{RunError, read_input, write_text};
-use promql_span::{Location, Span, byte_escape, snippet};
+use promql_span::limits::Limits;
+use promql_span::{Location, Span, byte_escape, snippet, visible};
 use std::alloc::{AllocError, Global};
 use std::io::{Read, Write};
 
-/// The status where the query is rejected.
+/// The status where the parser rejects the query.
 pub const REJECTED_STATUS: u8 = 4;
 
+/// The status where the query is not within its limits.
+pub const LIMIT_STATUS: u8 = 14;
+
 /// The line that is printed for wrong arguments, and the first of the help.
-pub const CHECK_USAGE: &str = "usage: promql_check\n";
+pub const CHECK_USAGE: &str = "usage: promql_check [--max-len N] [--max-patterns N]\n";
 
 /// What is said of a byte escape: docs/reference/texts.md, "Byte escapes".
 const BYTE_ESCAPE: &str = "warning: this escape is a character here, and a byte in Prometheus";
 
+/// What is said of the error of a query that begins with a byte order mark.
+const BYTE_ORDER_MARK: &str = ", a byte order mark at the start of the text";
+
 /// What `--help` prints.
-pub const CHECK_HELP: &str = "usage: promql_check
+pub const CHECK_HELP: &str = "usage: promql_check [--max-len N] [--max-patterns N]
 
 Reads a PromQL query from standard input. Prints nothing where it is accepted;
 otherwise, to standard error, the line and the column of the error, its message,
 and the line of the query with a mark below. An escape of a byte past ASCII is
 accepted with a warning, since it means something else to Prometheus. A line feed
-at the end of the input is no part of the query.
+at the end of the input is no part of the query. A query of more than --max-len
+bytes (1048576), or with patterns that are together larger than --max-patterns
+(32000), is rejected before it is parsed.
 
-Status: 0 the query is accepted, 4 it is rejected, 1 out of memory, 2 a read
-failed, 3 the input is not UTF-8, 5 a write failed, 64 wrong arguments.
+Status: 0 the query is accepted, 4 it is rejected, 14 it is too long or its
+patterns are too large, 1 out of memory, 2 a read failed, 3 the input is not
+UTF-8, 5 a write failed, 64 wrong arguments.
 ";
 
 /// What the arguments ask for.
@@ -47,19 +59,22 @@ failed, 3 the input is not UTF-8, 5 a write failed, 64 wrong arguments.
 pub enum CheckCommand {
     /// The help.
     Help,
-    /// A check of the input.
-    Check,
+    /// A check of the input, within these limits.
+    Check(Limits),
 }
 
 /// What the arguments ask for, the program's own name first; `None` where that is nothing known.
 fn command_of(args: &[String]) -> Option<CheckCommand>
     ensures { result ≡ check_command (map string_bytes args.now) }
 {
-    match args {
-        [_] => Some(CheckCommand::Check),
-        [_, word] if word.as_str() == "--help" => Some(CheckCommand::Help),
-        _ => None,
+    let [_, words @ ..] = args else {
+        return None;
+    };
+    if is_help(words) {
+        return Some(CheckCommand::Help);
     }
+    let limits = limits_with(default_limits(), words)?;
+    Some(CheckCommand::Check(limits))
 }
 
 /// What a check found of a query.
@@ -69,11 +84,12 @@ enum Checked {
     Accepted,
     /// It is accepted, with this warning.
     Warned(String),
-    /// It is rejected, with this report.
-    Rejected(String),
+    /// It is rejected, with this status and this report.
+    Rejected(u8, String),
 }
 
 /// A message about a part of the query, for people: the line and the column, the message, and the line of the query with a mark.
+/// Characters without a picture of their own are escapes in it: docs/reference/texts.md, "Visible texts".
 fn report(
     alloc: Global,
     query: &str,
@@ -84,9 +100,10 @@ fn report(
     ensures { IfOk result (λ s. IsReport query.now location span (string_bytes s)) }
 {
     let mut report = location.to_string(alloc)?;
+    let message = visible(alloc, message)?;
     let marked = snippet(alloc, query, span)?;
     report.push_str(": ")?;
-    report.push_str(message)?;
+    report.push_str(message.as_str())?;
     report.push_str("\n")?;
     report.push_str(marked.as_str())?;
     report.push_str("\n")?;
@@ -98,7 +115,10 @@ fn report_rejection(alloc: Global, query: &str, rejection: &Rejection) -> Result
     ensures { IfOk result (λ s. IsReport query.now rejection.now.location rejection.now.span
         (string_bytes s)) }
 {
-    let message = rejection.error.to_string(alloc)?;
+    let mut message = rejection.reason.to_string(alloc)?;
+    if query.starts_with('\u{feff}') {
+        message.push_str(BYTE_ORDER_MARK)?;
+    }
     report(
         alloc,
         query,
@@ -134,8 +154,12 @@ fn query_in(text: &str) -> &str
 }
 
 /// Reads all of the input, and checks the query in it.
-fn check_input<R: Read>(alloc: Global, reader: &mut Ended<R>) -> Result<Checked, RunError>
-    ensures ok { IfOk result (IsChecked (R.remaining reader.old.inner) (R.remaining reader.new.inner)) }
+fn check_input<R: Read>(
+    alloc: Global,
+    limits: &Limits,
+    reader: &mut Ended<R>,
+) -> Result<Checked, RunError>
+    ensures ok { IfOk result (IsChecked limits.now (R.remaining reader.old.inner) (R.remaining reader.new.inner)) }
     ensures quiet { MatchResult result (λ _. reader.new.failed ≡ reader.old.failed)
         (λ e. UnlessRead e (reader.new.failed ≡ reader.old.failed)) }
     ensures read { IsErrOf result RunError.Read → reader.new.failed ≡ true }
@@ -148,7 +172,7 @@ fn check_input<R: Read>(alloc: Global, reader: &mut Ended<R>) -> Result<Checked,
         return Err(RunError::NotUtf8);
     };
     let query = query_in(text);
-    match read_query(alloc, query)? {
+    match read_query(alloc, limits, query)? {
         Ok(expr) => {
             drop_expr(expr);
             match warning(alloc, query)? {
@@ -156,7 +180,10 @@ fn check_input<R: Read>(alloc: Global, reader: &mut Ended<R>) -> Result<Checked,
                 None => Ok(Checked::Accepted),
             }
         }
-        Err(rejection) => Ok(Checked::Rejected(report_rejection(alloc, query, &rejection)?)),
+        Err(rejection) => {
+            let report = report_rejection(alloc, query, &rejection)?;
+            Ok(Checked::Rejected(rejection.reason.number(), report))
+        }
     }
 }
 
@@ -171,7 +198,7 @@ pub fn check_program<R: Read, W: Write, E: Write>(
     writer: &mut Ended<W>,
     errors: &mut Ended<E>,
 ) -> u8
-    // Other arguments than none or `--help`: the usage line is all that happens.
+    // Other arguments than options or `--help`: the usage line is all that happens.
     ensures usage { (result ≡ USAGE_STATUS) ↔ (check_command (map string_bytes args.now) ≡ None) }
     ensures usage_reads_nothing { result ≡ USAGE_STATUS → reader.new ≡ reader.old }
     ensures usage_writes_nothing { result ≡ USAGE_STATUS → writer.new ≡ writer.old }
@@ -188,32 +215,35 @@ pub fn check_program<R: Read, W: Write, E: Write>(
     ensures help_status { check_command (map string_bytes args.now) ≡ Some CheckCommand.Help
         → (result ≡ 0) ⊎ (result ≡ 5) }
     // A check: where the query is accepted, nothing is written, or the warning of a byte escape; and the report where it is rejected.
-    ensures accepted { check_command (map string_bytes args.now) ≡ Some CheckCommand.Check
-        → result ≡ 0 → (IsSilent (R.remaining reader.old.inner) (R.remaining reader.new.inner)
+    ensures accepted { (limits : spans.Limits) → check_command (map string_bytes args.now)
+        ≡ Some (CheckCommand.Check limits) → result ≡ 0
+        → (IsSilent limits (R.remaining reader.old.inner) (R.remaining reader.new.inner)
         × (errors.new ≡ errors.old))
         ⊎ ((warning : Text)
-        × IsWarned (R.remaining reader.old.inner) (R.remaining reader.new.inner) warning
+        × IsWarned limits (R.remaining reader.old.inner) (R.remaining reader.new.inner) warning
         × (errors.new.failed ≡ false
         → Appends (E.contents errors.old.inner) (E.contents errors.new.inner) warning)) }
-    ensures rejected { result ≡ REJECTED_STATUS → (report : Text)
-        × IsReported (R.remaining reader.old.inner) (R.remaining reader.new.inner) report
+    ensures rejected { (limits : spans.Limits) → check_command (map string_bytes args.now)
+        ≡ Some (CheckCommand.Check limits) → (result ≡ REJECTED_STATUS) ⊎ (result ≡ LIMIT_STATUS) → (report : Text)
+        × IsReported limits (R.remaining reader.old.inner) (R.remaining reader.new.inner) result report
         × (errors.new.failed ≡ false
         → Appends (E.contents errors.old.inner) (E.contents errors.new.inner) report) }
-    ensures unwritten { check_command (map string_bytes args.now) ≡ Some CheckCommand.Check
-        → writer.new ≡ writer.old }
+    ensures unwritten { (limits : spans.Limits) → check_command (map string_bytes args.now)
+        ≡ Some (CheckCommand.Check limits) → writer.new ≡ writer.old }
     ensures help_silent { check_command (map string_bytes args.now) ≡ Some CheckCommand.Help
         → errors.new ≡ errors.old }
     // Each other status is that of an error.
     ensures known { (result ≡ 0) ⊎ (result ≡ 1) ⊎ (result ≡ 2) ⊎ (result ≡ 3)
-        ⊎ (result ≡ REJECTED_STATUS) ⊎ (result ≡ 5) ⊎ (result ≡ USAGE_STATUS) }
+        ⊎ (result ≡ REJECTED_STATUS) ⊎ (result ≡ LIMIT_STATUS) ⊎ (result ≡ 5)
+        ⊎ (result ≡ USAGE_STATUS) }
     ensures read { result ≡ 2 → reader.new.failed ≡ true }
     ensures quiet { result ≢ 2 → reader.new.failed ≡ reader.old.failed }
     ensures not_utf8 { result ≡ 3
         → IsNotUtf8 (R.remaining reader.old.inner) (R.remaining reader.new.inner) }
     ensures write { result ≡ 5 → writer.new.failed ≡ true }
 {
-    match command_of(args) {
-        Some(CheckCommand::Check) => {}
+    let limits = match command_of(args) {
+        Some(CheckCommand::Check(limits)) => limits,
         Some(CheckCommand::Help) => {
             return match write_text(writer, CHECK_HELP) {
                 Ok(()) => 0,
@@ -224,16 +254,16 @@ pub fn check_program<R: Read, W: Write, E: Write>(
             let _ = write_text(errors, CHECK_USAGE);
             return USAGE_STATUS;
         }
-    }
-    match check_input(alloc, reader) {
+    };
+    match check_input(alloc, &limits, reader) {
         Ok(Checked::Accepted) => 0,
         Ok(Checked::Warned(warning)) => {
             let _ = write_text(errors, warning.as_str());
             0
         }
-        Ok(Checked::Rejected(report)) => {
+        Ok(Checked::Rejected(status, report)) => {
             let _ = write_text(errors, report.as_str());
-            REJECTED_STATUS
+            status
         }
         Err(error) => {
             let _ = writeln!(errors, "{error}");

@@ -2,4 +2,5 @@
 #![tactic(auto)]
 
 pub mod check;
+pub mod limit_options;
 pub mod rejection;

@@ -1,35 +1,68 @@
 //! The tree of a query, or why and where it is rejected.
 
-ghost use Rattle.std.specs.Prelude.{IfOk};
-ghost use Rattle.promql_report.specs.Rejecting.{IsReadAs};
+ghost use Rattle.std.specs.Prelude.{◌≡◌, IfOk};
+ghost use Rattle.promql_span.specs.Locations.{location_of};
+ghost use Rattle.promql_report.specs.Rejecting.{IsReadAs, limit_place, reason_number};
 
 use promql_ast::Expr;
 use promql_span::diagnosis::{Diagnosis, diagnose};
-use promql_span::{Location, Span};
+use promql_span::limits::{LimitFault, Limits, check_limits};
+use promql_span::{Location, Span, end_of_text};
 use promql_syntax::parser::ParseError;
 use std::alloc::{AllocError, Global};
 use thiserror::Error;
 
-/// Why and where the parser rejects a query (docs/reference/programs.md, "Errors").
+/// Why a query is rejected (docs/reference/programs.md, "Errors").
 #[derive(PartialEq, Eq, Debug, Drop, Error)]
-#[error("{error}")]
+pub enum Reason {
+    /// The parser rejects it.
+    #[error("{0}")]
+    Parse(ParseError),
+    /// It is not within its limits, and nothing else of it was read.
+    #[error("{0}")]
+    Limit(LimitFault),
+}
+
+impl Reason {
+    /// The number of the error, with which a program ends.
+    pub fn number(&self) -> u8
+        ensures { result ≡ reason_number self.now }
+    {
+        match self {
+            Reason::Parse(_) => 4,
+            Reason::Limit(_) => 14,
+        }
+    }
+}
+
+/// Why and where a query is rejected.
+#[derive(PartialEq, Eq, Debug, Drop, Error)]
+#[error("{reason}")]
 pub struct Rejection {
-    /// The error of the parser.
-    pub error: ParseError,
+    /// Why it is rejected.
+    pub reason: Reason,
     /// The part of the query that the error is about, empty at the end.
     pub span: Span,
     /// The line and the column where that part begins.
     pub location: Location,
 }
 
-/// The tree of a query, or why and where it is rejected.
+/// The tree of a query, or why and where it is rejected. A query that is not within its limits is not parsed.
 ///
 /// # Errors
 ///
 /// `AllocError` where an allocation failed.
-pub fn read_query(alloc: Global, query: &str) -> Result<Result<Expr, Rejection>, AllocError>
-    ensures { IfOk result (IsReadAs query.now) }
+pub fn read_query(
+    alloc: Global,
+    limits: &Limits,
+    query: &str,
+) -> Result<Result<Expr, Rejection>, AllocError>
+    ensures { IfOk result (IsReadAs limits.now query.now) }
 {
+    if let Err(fault) = check_limits(alloc, query, limits) {
+        let span = limit_span(query, fault).ok_or(AllocError)?;
+        return Ok(Err(rejection_at(query, Reason::Limit(fault), span)));
+    }
     let Diagnosis { error, span } = match diagnose(alloc, query) {
         Ok(expr) => return Ok(Ok(expr)),
         Err(diagnosis) => diagnosis,
@@ -37,9 +70,29 @@ pub fn read_query(alloc: Global, query: &str) -> Result<Result<Expr, Rejection>,
     let Some(span) = span else {
         return Err(AllocError);
     };
-    Ok(Err(Rejection {
-        error,
+    Ok(Err(rejection_at(query, Reason::Parse(error), span)))
+}
+
+/// The part of a query that a fault is about; `None` where an allocation failed.
+fn limit_span(query: &str, fault: LimitFault) -> Option<Span>
+    ensures { result ≡ limit_place query.now fault }
+{
+    match fault {
+        LimitFault::Memory => None,
+        LimitFault::TooLong { .. } => Some(end_of_text(query)),
+        LimitFault::PatternsTooLarge { place, .. } => Some(place),
+    }
+}
+
+/// The rejection of a query for this reason, at this part of it.
+fn rejection_at(query: &str, reason: Reason, span: Span) -> Rejection
+    ensures reason { result.reason ≡ reason }
+    ensures span { result.span ≡ span }
+    ensures location { result.location ≡ location_of query.now span.start }
+{
+    Rejection {
+        reason,
         span,
         location: Location::line_column(query, span.start),
-    }))
+    }
 }

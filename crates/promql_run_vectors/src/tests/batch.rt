@@ -5,11 +5,22 @@ use super::{check_value, texts};
 use promql_io::ended::Ended;
 use promql_lines::batch::run_batch;
 use promql_lines::batch_program::{BATCH_HELP, BATCH_USAGE, batch_program};
+use promql_lines::settings::Settings;
 use promql_run::run::{Mode, RunError};
+use promql_span::limits::{Limits, MAX_LEN, MAX_PATTERN_SIZE};
 use std::alloc::{AllocError, Global};
 use std::io::BufReader;
 use std::process::Abort;
 use std::test::Fail;
+
+/// The settings of a batch in the mode `line`.
+const LINE: Settings = Settings {
+    mode: Mode::Line,
+    limits: Limits {
+        max_len: MAX_LEN,
+        max_pattern_size: MAX_PATTERN_SIZE,
+    },
+};
 
 const LINES: &[u8] = b"\"1+2\"\n{\"query\":\"a\",\"mode\":\"json\"}\n\n\"a b\"\n\xff\n\"x\"";
 
@@ -25,7 +36,7 @@ const ANSWERS: &[u8] = b"{\"ok\":\"1 + 2\"}
 fn lines_and_their_answers(rt: HostRuntime) -> Result<(), Fail> {
     let alloc = rt.alloc();
     let mut writer = Ended::new(Vec::new(alloc));
-    let answer = run_batch(alloc, Mode::Line, &mut Ended::new(LINES), &mut writer);
+    let answer = run_batch(alloc, &LINE, &mut Ended::new(LINES), &mut writer);
     check_value(&rt, answer, Ok(false), &LINES);
     assert!(rt; writer.inner().as_slice() == ANSWERS && !writer.is_pending());
     Ok(())
@@ -35,7 +46,7 @@ fn lines_and_their_answers(rt: HostRuntime) -> Result<(), Fail> {
 fn check_batch(rt: &impl Abort, alloc: Global, input: &[u8], want: &[u8], all_ok: bool) {
     let mut reader = Ended::new(input);
     let mut writer = Ended::new(Vec::new(alloc));
-    let answer = run_batch(alloc, Mode::Line, &mut reader, &mut writer);
+    let answer = run_batch(alloc, &LINE, &mut reader, &mut writer);
     check_value(rt, answer, Ok(all_ok), &input);
     assert!(rt; writer.inner().as_slice() == want, "at {input:?}");
 }
@@ -64,7 +75,7 @@ fn a_reader_that_fails(rt: HostRuntime) -> Result<(), Fail> {
         let mut reader = Ended::new(BufReader::with_capacity(alloc, 2, flaky)?);
         let mut writer = Ended::new(Vec::new(alloc));
         // The fake error is an interruption, after which the read is made again.
-        let answer = run_batch(alloc, Mode::Line, &mut reader, &mut writer);
+        let answer = run_batch(alloc, &LINE, &mut reader, &mut writer);
         check_value(&rt, answer, Ok(true), &fails_at);
         assert!(rt; !reader.has_failed());
         assert!(rt; writer.inner().as_slice() == b"{\"ok\":\"1\"}\n{\"ok\":\"2\"}\n".as_slice());
@@ -80,7 +91,7 @@ fn a_writer_that_fails(rt: HostRuntime) -> Result<(), Fail> {
     for fails_at in 1..=22 {
         let mut reader = Ended::new(b"\"1\"\n1\n".as_slice());
         let mut writer = Ended::new(FlakyWriter::new(alloc, fails_at, 0));
-        let answer = run_batch(alloc, Mode::Line, &mut reader, &mut writer);
+        let answer = run_batch(alloc, &LINE, &mut reader, &mut writer);
         let want_answer = if fails_at <= 21 {
             Err(RunError::Write)
         } else {
@@ -138,6 +149,28 @@ fn statuses_of_batches(rt: HostRuntime) -> Result<(), Fail> {
         &["", "json"],
         b"1",
         (4, "{\"code\":7,\"error\":\"line is not a request\"}\n", ""),
+    )?;
+    check_program(
+        &rt,
+        alloc,
+        &["", "line", "--max-patterns", "9", "--max-len", "10"],
+        b"\"{a=~'bcd'}\"\n\"{a=~'bcde'}\"\n\"foo + bar+a\"\n",
+        (
+            4,
+            "{\"ok\":\"{a=~\\\"bcd\\\"}\"}\n{\"code\":14,\"column\":12,\"end\":11,\"error\":\"query is too long: 11 bytes, at most 10\",\"line\":1,\"start\":11}\n{\"code\":14,\"column\":12,\"end\":11,\"error\":\"query is too long: 11 bytes, at most 10\",\"line\":1,\"start\":11}\n",
+            "",
+        ),
+    )?;
+    check_program(
+        &rt,
+        alloc,
+        &["", "line", "--max-patterns", "9"],
+        b"\"{a=~'bcde'}\"\n",
+        (
+            4,
+            "{\"code\":14,\"column\":5,\"end\":10,\"error\":\"patterns are too large: 10, at most 9\",\"line\":1,\"start\":4}\n",
+            "",
+        ),
     )?;
     check_program(&rt, alloc, &["", "--help"], b"\"1\"", (0, BATCH_HELP, ""))?;
     check_program(&rt, alloc, &["", "lines"], b"\"1\"", (64, "", BATCH_USAGE))?;

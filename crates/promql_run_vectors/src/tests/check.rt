@@ -17,7 +17,7 @@ type Row = (
     &'static str,
 );
 
-const ROWS: [Row; 10] = [
+const ROWS: [Row; 27] = [
     (&["promql_check"], b"1 + (foo - 2)", 0, "", ""),
     (&[""], b"foo\n", 0, "", ""),
     (
@@ -48,9 +48,98 @@ const ROWS: [Row; 10] = [
         "",
         "3:3: expected type matrix in call to function 'rate', got vector\n  foo)\n  ^~~\n",
     ),
+    (
+        &[""],
+        b"\x1b]0;x\x07(",
+        4,
+        "",
+        "1:1: unexpected character: '\\x1b'\n\\x1b]0;x\\x07(\n^~~~\n",
+    ),
+    (
+        &[""],
+        b"up \xe2\x80\xae +",
+        4,
+        "",
+        "1:4: unexpected character: '\\u{202e}'\nup \\u{202e} +\n   ^~~~~~~~\n",
+    ),
+    (
+        &[""],
+        b"a\t+ \xe2\x80\x8f",
+        4,
+        "",
+        "1:5: unexpected character: '\\u{200f}'\na\t+ \\u{200f}\n \t  ^~~~~~~~\n",
+    ),
+    (
+        &[""],
+        b"foo{a=\"\x07\x1b\"} b",
+        4,
+        "",
+        "1:13: invalid promql query\nfoo{a=\"\\x07\\x1b\"} b\n                  ^\n",
+    ),
+    (
+        &[""],
+        b"foo{a=~\"(\x7f\"}",
+        4,
+        "",
+        "1:8: illegal regex for (\\x7f\nfoo{a=~\"(\\x7f\"}\n       ^~~~~~~\n",
+    ),
+    (
+        &[""],
+        b"a\rb c",
+        4,
+        "",
+        "1:3: invalid promql query\na\\x0db c\n     ^\n",
+    ),
+    (
+        &[""],
+        b"\xef\xbb\xbfup",
+        4,
+        "",
+        "1:1: unexpected character: '\\u{feff}', a byte order mark at the start of the text\n\\u{feff}up\n^~~~~~~~\n",
+    ),
+    (
+        &[""],
+        b"up\xef\xbb\xbf",
+        4,
+        "",
+        "1:3: unexpected character: '\\u{feff}'\nup\\u{feff}\n  ^~~~~~~~\n",
+    ),
     (&[""], b"1 + \xff", 3, "", "input is not UTF-8\n"),
     (&[], b"1", 64, "", CHECK_USAGE),
     (&["", "line"], b"1", 64, "", CHECK_USAGE),
+    (&["", "--max-len"], b"1", 64, "", CHECK_USAGE),
+    (&["", "--max-len", "x"], b"1", 64, "", CHECK_USAGE),
+    (&["", "--max-length", "1"], b"1", 64, "", CHECK_USAGE),
+    (&["", "--max-len", "4"], b"foo2\n", 0, "", ""),
+    (
+        &["", "--max-len", "9", "--max-len", "3"],
+        b"a\n+-\n",
+        14,
+        "",
+        "2:3: query is too long: 4 bytes, at most 3\n+-\n  ^\n",
+    ),
+    (
+        &["", "--max-len", "0"],
+        b"a",
+        14,
+        "",
+        "1:2: query is too long: 1 bytes, at most 0\na\n ^\n",
+    ),
+    (&["", "--max-patterns", "9"], b"{a=~\"bcd\"}", 0, "", ""),
+    (
+        &["", "--max-patterns", "17"],
+        b"{a=~\"bcd\",b!~\"bcd\",c=\"d\"} b",
+        14,
+        "",
+        "1:14: patterns are too large: 18, at most 17\n{a=~\"bcd\",b!~\"bcd\",c=\"d\"} b\n             ^~~~~\n",
+    ),
+    (
+        &[""],
+        b"{a=~'b',b!~'\\\\w{32000}',c=~'d'} b",
+        14,
+        "",
+        "1:12: patterns are too large: 800039, at most 32000\n{a=~'b',b!~'\\\\w{32000}',c=~'d'} b\n           ^~~~~~~~~~~~\n",
+    ),
     (&["", "--help"], b"1", 0, CHECK_HELP, ""),
 ];
 
@@ -64,7 +153,8 @@ fn check_row(rt: &impl Abort, alloc: Global, args: &[String], row: &Row) {
     assert_eq!(rt; found, status, "{words:?}");
     assert!(rt; writer.inner().as_slice() == line.as_bytes(), "{words:?}");
     assert!(rt; errors.inner().as_slice() == report.as_bytes(), "{input:?}");
-    assert_eq!(rt; reader.inner().is_empty(), args.len() == 1, "{words:?}");
+    let is_read = status != 64 && line.is_empty();
+    assert_eq!(rt; reader.inner().is_empty(), is_read, "{words:?}");
 }
 
 #[test]

@@ -28,13 +28,13 @@ returns-in_err-flush-in-None-clause-begun g c = λ is.
 pub returns-in_err-is_ok-clause-begun : goal.returns-in_err-is_ok-clause-begun
 returns-in_err-is_ok-clause-begun g c = λ is.
     let read = subst (IsLineRead (g.R.Read.remaining c.lines.reader.inner) (g.R.Read.remaining c.read_line.new.reader.inner) c.read_line.new.line.items) c.in-Some.is c.in_ok-end.ensures.ok in
-    let part = subst (λ line. IsPartlyAnswered c.args.mode line (g.W.Write.contents c.lines.writer.inner) (g.W.Write.contents c.write_answer.new.writer.inner)) c.as_slice.ensures.value c.in_err-is_ok.ensures.begun in
+    let part = subst (λ line. IsPartlyAnswered c.args.settings.now line (g.W.Write.contents c.lines.writer.inner) (g.W.Write.contents c.write_answer.new.writer.inner)) c.as_slice.ensures.value c.in_err-is_ok.ensures.begun in
     inl (writing_fails _ _ _ _ _ _ _ c.read_line.new.line.items c.in-Some.end c.lines.all_ok c.lines.invariant.so_far read part)
 
 pub lines-preserved : goal.lines-preserved
 lines-preserved g c =
     let read = subst (IsLineRead (g.R.Read.remaining c.lines.reader.inner) (g.R.Read.remaining c.read_line.new.reader.inner) c.read_line.new.line.items) (c.in-Some.is ∙ ap Some c.in-Feed.is) c.in_ok-end.ensures.ok in
-    let answered = subst (λ line. IsAnswered c.args.mode line (g.W.Write.contents c.lines.writer.inner) (g.W.Write.contents c.write_answer.new.writer.inner) c.in_ok-is_ok.is_ok) c.as_slice.ensures.value c.in_ok-is_ok.ensures.ok in
+    let answered = subst (λ line. IsAnswered c.args.settings.now line (g.W.Write.contents c.lines.writer.inner) (g.W.Write.contents c.write_answer.new.writer.inner) c.in_ok-is_ok.is_ok) c.as_slice.ensures.value c.in_ok-is_ok.ensures.ok in
     let both : c.if-all_ok.all_ok ≡ (c.lines.all_ok && c.in_ok-is_ok.is_ok) =
     elim c.if-all_ok.branch [
       | then-all_ok w ↦ w.all_ok-is ∙ sym (ap (λ b. b && c.in_ok-is_ok.is_ok) w.if-all_ok.true)
@@ -44,23 +44,23 @@ lines-preserved g c =
       quiet = c.in_ok-is_ok.ensures.quiet ∙ c.lines.invariant.quiet;
       heard = c.in_ok-end.ensures.quiet ∙ c.lines.invariant.heard;
       so_far = subst (Progress _ _ _ _ _) (sym both)
-          (line_more c.args.mode _ (g.R.Read.remaining c.lines.reader.inner) _ _ (g.W.Write.contents c.lines.writer.inner) _ c.read_line.new.line.items c.lines.all_ok c.in_ok-is_ok.is_ok c.lines.invariant.so_far read answered);
+          (line_more c.args.settings.now _ (g.R.Read.remaining c.lines.reader.inner) _ _ (g.W.Write.contents c.lines.writer.inner) _ c.read_line.new.line.items c.lines.all_ok c.in_ok-is_ok.is_ok c.lines.invariant.so_far read answered);
     }
 
 pub returns-in-Input-clause-ok : goal.returns-in-Input-clause-ok
 returns-in-Input-clause-ok g c =
     let read = subst (IsLineRead (g.R.Read.remaining c.lines.reader.inner) (g.R.Read.remaining c.read_line.new.reader.inner) c.read_line.new.line.items) (c.in-Some.is ∙ ap Some c.in-Input.is) c.in_ok-end.ensures.ok in
-    let answered = subst (λ line. IsAnswered c.args.mode line (g.W.Write.contents c.lines.writer.inner) (g.W.Write.contents c.write_answer.new.writer.inner) c.in_ok-is_ok.is_ok) c.as_slice.ensures.value c.in_ok-is_ok.ensures.ok in
+    let answered = subst (λ line. IsAnswered c.args.settings.now line (g.W.Write.contents c.lines.writer.inner) (g.W.Write.contents c.write_answer.new.writer.inner) c.in_ok-is_ok.is_ok) c.as_slice.ensures.value c.in_ok-is_ok.ensures.ok in
     let both : c.if-all_ok.all_ok ≡ (c.lines.all_ok && c.in_ok-is_ok.is_ok) =
     elim c.if-all_ok.branch [
       | then-all_ok w ↦ w.all_ok-is ∙ sym (ap (λ b. b && c.in_ok-is_ok.is_ok) w.if-all_ok.true)
       | else-all_ok w ↦ w.all_ok-is ∙ w.if-all_ok.false ∙ sym (ap (λ b. b && c.in_ok-is_ok.is_ok) w.if-all_ok.false)
     ] in
     subst (AnswersLines _ _ _ _ _) (sym both)
-    (last_line_ends c.args.mode _ (g.R.Read.remaining c.lines.reader.inner) _ _ (g.W.Write.contents c.lines.writer.inner) (g.W.Write.contents c.write_answer.new.writer.inner) _ c.read_line.new.line.items c.lines.all_ok c.in_ok-is_ok.is_ok c.lines.invariant.so_far read answered c.in_ok-flush-in-Input.ensures.bytes)
+    (last_line_ends c.args.settings.now _ (g.R.Read.remaining c.lines.reader.inner) _ _ (g.W.Write.contents c.lines.writer.inner) (g.W.Write.contents c.write_answer.new.writer.inner) _ c.read_line.new.line.items c.lines.all_ok c.in_ok-is_ok.is_ok c.lines.invariant.so_far read answered c.in_ok-flush-in-Input.ensures.bytes)
 
 pub returns-in_err-flush-in-Input-clause-begun : goal.returns-in_err-flush-in-Input-clause-begun
 returns-in_err-flush-in-Input-clause-begun g c = λ is.
     let read = subst (IsLineRead (g.R.Read.remaining c.lines.reader.inner) (g.R.Read.remaining c.read_line.new.reader.inner) c.read_line.new.line.items) (c.in-Some.is ∙ ap Some c.in-Input.is) c.in_ok-end.ensures.ok in
-    let answered = subst (λ line. IsAnswered c.args.mode line (g.W.Write.contents c.lines.writer.inner) (g.W.Write.contents c.write_answer.new.writer.inner) c.in_ok-is_ok.is_ok) c.as_slice.ensures.value c.in_ok-is_ok.ensures.ok in
-    inr (c.lines.all_ok && c.in_ok-is_ok.is_ok, last_line_ends c.args.mode _ (g.R.Read.remaining c.lines.reader.inner) _ _ (g.W.Write.contents c.lines.writer.inner) (g.W.Write.contents c.write_answer.new.writer.inner) _ c.read_line.new.line.items c.lines.all_ok c.in_ok-is_ok.is_ok c.lines.invariant.so_far read answered c.in_err-flush-in-Input.ensures.bytes)
+    let answered = subst (λ line. IsAnswered c.args.settings.now line (g.W.Write.contents c.lines.writer.inner) (g.W.Write.contents c.write_answer.new.writer.inner) c.in_ok-is_ok.is_ok) c.as_slice.ensures.value c.in_ok-is_ok.ensures.ok in
+    inr (c.lines.all_ok && c.in_ok-is_ok.is_ok, last_line_ends c.args.settings.now _ (g.R.Read.remaining c.lines.reader.inner) _ _ (g.W.Write.contents c.lines.writer.inner) (g.W.Write.contents c.write_answer.new.writer.inner) _ c.read_line.new.line.items c.lines.all_ok c.in_ok-is_ok.is_ok c.lines.invariant.so_far read answered c.in_err-flush-in-Input.ensures.bytes)

@@ -13,27 +13,27 @@ use Rattle.promql_lines.proofs.line.evaluate_query.Goals as goal
 pub returns-in_err-expr-clause-err : goal.returns-in_err-expr-clause-err
 returns-in_err-expr-clause-err c =
     let matcher = option_map (λ s. s.now) c.args.matcher in
-    let parsed = subst (IsReadAs c.args.query.now) c.in-Ok-Ok.field-0-is c.in-Ok-Ok.ensures in
+    let parsed = subst (IsReadAs c.args.limits.now c.args.query.now) c.in-Ok-Ok.field-0-is c.in-Ok-Ok.ensures in
     let same = err_from_is_err_and c.from_residual.result c.from_residual.ensures.1 in
-    subst (λ r. IfErr r (FailsOnQuery c.args.query.now matcher c.args.format)) (sym same.1)
-    (subst (FailsOnQuery c.args.query.now matcher c.args.format) (sym same.2)
-    (fails_of_matcher c.in_err-expr.field-0.0 c.args.query.now matcher c.args.format (tree_of c.in-Ok-Ok.expr) parsed c.in_err-expr.ensures.err))
+    subst (λ r. IfErr r (FailsOnQuery c.args.limits.now c.args.query.now matcher c.args.format)) (sym same.1)
+    (subst (FailsOnQuery c.args.limits.now c.args.query.now matcher c.args.format) (sym same.2)
+    (fails_of_matcher c.args.limits.now c.in_err-expr.field-0.0 c.args.query.now matcher c.args.format (tree_of c.in-Ok-Ok.expr) parsed c.in_err-expr.ensures.err))
 
 pub render_value-value-requires-clause-low : goal.render_value-value-requires-clause-low
 render_value-value-requires-clause-low c =
-    let parsed = subst (IsReadAs c.args.query.now) c.in-Ok-Ok.field-0-is c.in-Ok-Ok.ensures in
-    asked_low (option_map (λ s. s.now) c.args.matcher) (tree_of c.in-Ok-Ok.expr) (tree_of c.in_ok-expr.expr) c.in_ok-expr.ensures.ok (parsed.low (tree_of c.in-Ok-Ok.expr) refl)
+    let parsed = subst (IsReadAs c.args.limits.now c.args.query.now) c.in-Ok-Ok.field-0-is c.in-Ok-Ok.ensures in
+    asked_low (option_map (λ s. s.now) c.args.matcher) (tree_of c.in-Ok-Ok.expr) (tree_of c.in_ok-expr.expr) c.in_ok-expr.ensures.ok (parsed.1.low (tree_of c.in-Ok-Ok.expr) refl)
 
 pub render_value-value-requires-clause-plain : goal.render_value-value-requires-clause-plain
 render_value-value-requires-clause-plain c =
-    let parsed = subst (IsReadAs c.args.query.now) c.in-Ok-Ok.field-0-is c.in-Ok-Ok.ensures in
+    let parsed = subst (IsReadAs c.args.limits.now c.args.query.now) c.in-Ok-Ok.field-0-is c.in-Ok-Ok.ensures in
     asked_plain (option_map (λ s. s.now) c.args.matcher) (tree_of c.in-Ok-Ok.expr) (tree_of c.in_ok-expr.expr) c.in_ok-expr.ensures.ok
-    (answers_are_plain c.args.query.now (tree_of c.in-Ok-Ok.expr) parsed)
+    (answers_are_plain c.args.query.now (tree_of c.in-Ok-Ok.expr) parsed.1)
 
 pub returns-in-Err-value-clause-err : goal.returns-in-Err-value-clause-err
 returns-in-Err-value-clause-err c =
-    fails_of_rendering c.in-Err-value.error c.args.query.now (option_map (λ s. s.now) c.args.matcher) c.args.format (tree_of c.in-Ok-Ok.expr) (tree_of c.in_ok-expr.expr)
-    (subst (IsReadAs c.args.query.now) c.in-Ok-Ok.field-0-is c.in-Ok-Ok.ensures)
+    fails_of_rendering c.args.limits.now c.in-Err-value.error c.args.query.now (option_map (λ s. s.now) c.args.matcher) c.args.format (tree_of c.in-Ok-Ok.expr) (tree_of c.in_ok-expr.expr)
+    (subst (IsReadAs c.args.limits.now c.args.query.now) c.in-Ok-Ok.field-0-is c.in-Ok-Ok.ensures)
     c.in_ok-expr.ensures.ok
     (λ json. c.render_value-value.ensures.json (c.in-Err-value.is ∙ ap Err json))
     (subst (λ r. IfErr r IsShowError) c.in-Err-value.is c.render_value-value.ensures.errors)

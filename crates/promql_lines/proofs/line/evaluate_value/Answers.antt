@@ -6,7 +6,7 @@ use Rattle.promql_lines.proofs.line.evaluate_value.Goals as goal
 
 pub returns-clause-err : goal.returns-clause-err
 returns-clause-err c = λ line utf8 read.
-    failing_in_vain c.evaluate_query.result c.args.mode line c.in-Some.query.now (option_map (λ s. s.now) c.matcher_in.result) c.in-Some-format_in.format
+    failing_in_vain c.evaluate_query.result c.args.settings.now line c.in-Some.query.now (option_map (λ s. s.now) c.matcher_in.result) c.in-Some-format_in.format
     (record {
       utf8 = utf8;
       value = view c.args.asked.now;

@@ -1,0 +1,3 @@
+pub mod LimitStatus
+pub mod NumberOptions
+pub mod OptionSteps

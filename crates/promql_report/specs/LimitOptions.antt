@@ -1,0 +1,35 @@
+-- The options of the programs, which change the limits of queries (docs/reference/programs.md, "Limits of a query").
+use Rattle.std.specs.Prelude.{ℕ, ◌^◌, ◌&&◌, Bool, false, bytes_eq, codes, if◌then◌else◌, length, List, [], ◌∷◌, nat_lt, Option, Some, None, option_and_then}
+use Rattle.std.specs.Char.{digit_value}
+use Rattle.std.specs.List.{list_all}
+use Rattle.std.specs.Str.Parse.{digits_value, without_leading_plus}
+use Rattle.promql_text.specs.Texts.{Text}
+use Rattle.promql_span.specs.declared.limits.Limits.{Limits}
+
+-- `--help` alone
+abbrev pub is_help : List Text → Bool
+is_help (word ∷ []) = bytes_eq word (codes "--help")
+is_help words = false
+
+-- a whole number below 2^64, in decimal digits, after a plus or not
+abbrev pub number_in : Text → Option ℕ
+number_in v =
+    let ds = without_leading_plus v in
+    if nat_lt 0 (length ds) && (list_all (λ b. nat_lt (digit_value b) 10) ds && nat_lt (digits_value 10 ds) (2 ^ 64)) then Some (digits_value 10 ds)
+    else None
+
+abbrev pub with_option : Limits → Text → ℕ → Option Limits
+with_option limits name n =
+    if bytes_eq name (codes "--max-len") then Some (record limits { max_len = n })
+    else if bytes_eq name (codes "--max-patterns") then Some (record limits { max_pattern_size = n })
+    else None
+
+-- options, each with its number; the last of one name counts
+abbrev pub limits_with : Limits → List Text → Option Limits
+limits_with limits [] = Some limits
+limits_with limits (name ∷ []) = None
+limits_with limits (name ∷ value ∷ words) =
+    option_and_then (λ n. option_and_then (λ changed. limits_with changed words) (with_option limits name n)) (number_in value)
+
+abbrev pub default_limits : Limits
+default_limits = record { max_len = 1048576; max_pattern_size = 32000 }

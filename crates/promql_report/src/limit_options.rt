@@ -1,0 +1,64 @@
+//! The options of the programs, which change the limits of queries: docs/reference/programs.md, "Limits of a query".
+
+ghost use Rattle.std.specs.Prelude.{◌≡◌, map, string_bytes};
+ghost use Rattle.promql_report.specs.LimitOptions as spec;
+
+use promql_span::limits::{Limits, MAX_LEN, MAX_PATTERN_SIZE};
+
+/// Whether the words are `--help` alone.
+pub fn is_help(words: &[String]) -> bool
+    ensures { result ≡ spec.is_help (map string_bytes words.now) }
+{
+    match words {
+        [word] => word.as_str() == "--help",
+        _ => false,
+    }
+}
+
+/// The limits of the programs where no option changes them.
+pub fn default_limits() -> Limits
+    ensures { result ≡ spec.default_limits }
+{
+    Limits {
+        max_len: MAX_LEN,
+        max_pattern_size: MAX_PATTERN_SIZE,
+    }
+}
+
+/// These limits as options change them, `--max-len N` and `--max-patterns N`, the last of one name; `None` where the words are no
+/// such options.
+pub fn limits_with(limits: Limits, words: &[String]) -> Option<Limits>
+    ensures { result ≡ spec.limits_with limits (map string_bytes words.now) }
+{
+    let mut changed = limits;
+    let mut rest = words;
+    while let [name, value, after @ ..] = rest {
+        changed = with_option(changed, name.as_str(), number_in(value.as_str())?)?;
+        rest = after;
+    }
+    if rest.is_empty() { Some(changed) } else { None }
+}
+
+/// The limits as one option changes them; `None` where there is no option of this name.
+fn with_option(limits: Limits, name: &str, number: usize) -> Option<Limits>
+    ensures { result ≡ spec.with_option limits name.now number }
+{
+    match name {
+        "--max-len" => Some(Limits {
+            max_len: number,
+            ..limits
+        }),
+        "--max-patterns" => Some(Limits {
+            max_pattern_size: number,
+            ..limits
+        }),
+        _ => None,
+    }
+}
+
+/// The number that a word is.
+fn number_in(word: &str) -> Option<usize>
+    ensures { result ≡ spec.number_in word.now }
+{
+    word.parse::<usize>().ok()
+}
