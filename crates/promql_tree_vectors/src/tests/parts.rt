@@ -2,7 +2,9 @@
 
 use super::prints;
 use super::trees::{KINDS, grouped, is_copy, kind, new_box, number, operation, read};
-use promql_ast::{BinaryExpr, CheckError, Expr, NumberLiteral, Offset, RangeMode, VectorSelector};
+use promql_ast::{
+    BinaryExpr, CheckError, Expr, Extension, NumberLiteral, Offset, RangeMode, VectorSelector,
+};
 use promql_kind::ValueType;
 use promql_label::Matchers;
 use promql_parser::parser::parse;
@@ -144,5 +146,26 @@ fn nodes_by_themselves_are_copied(rt: HostRuntime) -> Result<(), Fail> {
         let expr = kind(rt.alloc(), text)?;
         assert!(rt; is_copied(rt.alloc(), &expr)?, "{text}");
     }
+    Ok(())
+}
+
+/// A text of 10,000 letters.
+fn long_text(alloc: Global) -> Result<String, AllocError> {
+    let mut text = String::new(alloc);
+    for _ in 0..10_000 {
+        text.push_str("x")?;
+    }
+    Ok(text)
+}
+
+#[test]
+fn long_names_are_copied(rt: HostRuntime) -> Result<(), Fail> {
+    let alloc = rt.alloc();
+    let node = Extension {
+        name: long_text(alloc)?,
+        value_type: ValueType::Vector,
+        children: Vec::new(alloc),
+    };
+    assert!(rt; is_copy(&node, node.try_clone(alloc))?);
     Ok(())
 }
