@@ -317,7 +317,14 @@ def is_empty(found):
 def compare(query, both, own, counts, differences):
     """The laws of docs/guide/meaning.md, of one query."""
 
+    def is_settled():
+        """Whether the server gives one answer: of equal values `topk` and `bottomk` take any, another one each time."""
+        return all(len({str(server.evaluate(text)) for _ in range(8)}) == 1 for server in (both, own) for text in (query, enforced))
+
     def equal(law, first, second, *texts):
+        if first != second and not is_settled():
+            counts["left out, since the server has more than one answer"] += 1
+            return
         counts[law] += 1
         if first != second:
             differences.append((law, query, texts, first, second))
@@ -357,13 +364,15 @@ def listed_queries():
 
 # Prometheus reads such an escape as a byte (docs/DIFFERENCES.md), so no law speaks of it.
 _BYTE_ESCAPE = re.compile(r"\\(?:x[89a-fA-F]|[23][0-7]{2})")
+# Prometheus has a zero below zero, too (docs/DIFFERENCES.md): so `1 / -0.0` is -Inf there, and what is printed of it is not.
+_NEGATIVE_ZERO = re.compile(r"-\s*(?:0x0+|(?:0+\.?0*|\.0+)(?:[eE][+-]?[0-9]+)?)(?![\w.])")
 
 
 def accepted(queries):
     for query in dict.fromkeys(queries):
         with contextlib.suppress(ValueError):
             promql.enforce(query, MATCHER)
-            if len(query) < 4000 and not _BYTE_ESCAPE.search(query):
+            if len(query) < 4000 and not _BYTE_ESCAPE.search(query) and not _NEGATIVE_ZERO.search(query):
                 yield query
 
 

@@ -1,17 +1,17 @@
 -- Where a store has only what the matcher allows, an enforced query sees what the query sees.
-use Rattle.std.proofs.Common.{◌≡◌, refl, ap, ◌∙◌, sym, Bool, true, false, cond, ◌||◌}
+use Rattle.std.proofs.Common.{◌≡◌, refl, ap, ◌∙◌, sym, false, cond, ◌||◌}
 use Rattle.std.specs.List.{list_any}
 use Rattle.promql_label.specs.PlainMatchers.{PlainMatcher}
 use Rattle.promql_kind.specs.Functions.{Signature}
 use Rattle.promql_ast.specs.Tree.{Tree, aggregate, unary, binary, paren, subquery, number, string, vector, matrix, call, extension, MaybeTree, absent, present, Trees, no_trees, first_tree}
-use Rattle.promql_rewrite.specs.Collecting.{nodes_of, nodes_within, maybe_nodes, all_nodes}
+use Rattle.promql_rewrite.specs.Collecting.{nodes_of, maybe_nodes, all_nodes}
 use Rattle.promql_rewrite.specs.Enforcing.{all_enforced, enforced, is_info, maybe_enforced}
 use Rattle.promql_meaning.specs.Stores.{Store, kept}
 use Rattle.promql_meaning.specs.Seen.{grouped, joined, aggregated, negated, operated, stepped, called, extended, one_seen, first_seen, seen, maybe_seen, all_seen, beside, info_beside, is_absent, matchers_in_first, nothing, sees_beside, has_call_that_sees_beside}
 use Rattle.promql_meaning.proofs.NoNodes.{neither, none_apart}
 use Rattle.promql_meaning.proofs.SeenSelectors.{instants_at_home, ranges_at_home}
 
-sees_nothing_beside : (store : Store) (f : Signature) (args : Trees) → (is_absent f || is_info f) ≡ false → beside store f args ≡ nothing
+pub sees_nothing_beside : (store : Store) (f : Signature) (args : Trees) → (is_absent f || is_info f) ≡ false → beside store f args ≡ nothing
 sees_nothing_beside store f args none =
     let parts = neither (is_absent f) (is_info f) none in
     ap (λ b. cond b (matchers_in_first args) (cond (is_info f) (info_beside store args) nothing)) parts.0

@@ -1,10 +1,10 @@
 -- What a selector with a matcher reads.
-use Rattle.std.proofs.Common.{◌≡◌, ℕ, refl, sym, ◌∙◌, ap, Bool, true, false, cond, ◌&&◌, List, [], ◌∷◌}
+use Rattle.std.proofs.Common.{◌≡◌, ℕ, refl, sym, ◌∙◌, ap, Bool, true, false, cond, ◌&&◌, [], ◌∷◌}
 use Rattle.std.specs.Prelude.{filter}
 use Rattle.promql_label.specs.PlainMatchers.{PlainMatcher}
 use Rattle.promql_ast.specs.Selectors.{Selector, selector}
 use Rattle.promql_ast.specs.declared.range_mode.RangeMode.{RangeMode}
-use Rattle.promql_rewrite.specs.Enforcing.{enforced_matchers, enforced_selector}
+use Rattle.promql_rewrite.specs.Enforcing.{enforced_selector}
 use Rattle.promql_rewrite.specs.Selecting.{allows, selects}
 use Rattle.promql_rewrite.proofs.EnforcedSelectors.{selects_enforced}
 use Rattle.promql_meaning.specs.Stores.{Stored, Store, kept, read}

@@ -1,2 +1,3 @@
+pub mod Relabeled
 pub mod Seen
 pub mod Stores

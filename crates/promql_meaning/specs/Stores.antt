@@ -1,5 +1,5 @@
 -- Stores of series (docs/guide/meaning.md, "A store").
-use Rattle.std.specs.Prelude.{◌≡◌, ℕ, List, [], filter, Some, None, codes}
+use Rattle.std.specs.Prelude.{ℕ, List, [], filter, Some, None, codes}
 use Rattle.promql_label.specs.PlainMatchers.{PlainMatcher, plain_matchers}
 use Rattle.promql_ast.specs.Selectors.{Selector, selector}
 use Rattle.promql_rewrite.specs.Selecting.{Series, allows, selects}

@@ -1,6 +1,6 @@
 //! Laws: the contracts of functions that do nothing.
 
-ghost use Rattle.std.specs.Prelude.{◌≡◌, ℕ, List, Ok, false};
+ghost use Rattle.std.specs.Prelude.{◌≡◌, ◌≢◌, ℕ, List, [], Ok, false, codes, map};
 ghost use Rattle.promql_text.specs.Texts.{Text};
 ghost use Rattle.promql_label.specs.Answers.{Answer};
 ghost use Rattle.promql_label.specs.PlainMatchers.{PlainMatcher};
@@ -12,8 +12,11 @@ ghost use Rattle.promql_syntax.specs.ParseAnswers.{HasTree, IsAnswerTo, IsServed
 ghost use Rattle.promql_syntax.specs.Asking.{Asked};
 ghost use Rattle.promql_rewrite.specs.Enforced.{IsEnforced};
 ghost use Rattle.promql_rewrite.specs.Enforcing.{enforced, has_bare_info};
+ghost use Rattle.promql_rewrite.specs.Mapping.{KindedSelector, outline, selectors_of};
 ghost use Rattle.promql_rewrite.specs.Parenthesizing.{parenthesized};
-ghost use Rattle.promql_meaning.specs.Seen.{has_call_that_sees_beside, seen};
+ghost use Rattle.promql_rewrite.specs.Renaming.{of_label, of_metric, renamed};
+ghost use Rattle.promql_meaning.specs.Relabeled.{relabeled, under_old_name};
+ghost use Rattle.promql_meaning.specs.Seen.{has_call_that_sees_beside, instants_of, seen};
 ghost use Rattle.promql_meaning.specs.Stores.{Store, kept};
 
 /// A tree's normal form sees what the tree sees. So, with one answer for each pattern, the text of a text's tree, on one line or
@@ -51,6 +54,26 @@ pub fn enforcing_changes_nothing_at_home()
 /// A tree sees the same with parentheses where its text needs them.
 pub fn parentheses_mean_nothing()
     ensures { (s : Store) (t : Tree) → seen s (parenthesized t) ≡ seen s t }
+{}
+
+/// Over a store in which a label has another name, a query in which the label is renamed sees what the query sees where each series
+/// has it under the old name, with the labels of its clauses renamed, if none of its calls sees the matchers of an argument. Labels
+/// in strings are texts: they are seen as they are.
+pub fn renamed_labels_are_seen_renamed()
+    ensures { (s : Store) (from to : Text) (t : Tree) → from ≢ codes "__name__"
+        → has_call_that_sees_beside t ≡ false
+        → relabeled (under_old_name from to) (of_metric [] []) (seen s (renamed (of_label from to) t))
+        ≡ relabeled (λ xs. xs) (of_label from to) (seen (under_old_name from to s) t) }
+{}
+
+/// Trees that are alike but for their selectors see alike where each selector reads the same series at the same times as that of
+/// the other tree, if no call sees the matchers of an argument. So where a mapper's selectors read what those before them did,
+/// nothing else is changed.
+pub fn selectors_that_read_alike_see_alike()
+    ensures { (s : Store) (t u : Tree) → outline t ≡ outline u
+        → map (λ (x : KindedSelector). instants_of s x.1) (selectors_of t)
+        ≡ map (λ (x : KindedSelector). instants_of s x.1) (selectors_of u)
+        → has_call_that_sees_beside t ≡ false → seen s t ≡ seen s u }
 {}
 
 /// From text to text: what `enforce_query` and `promql_enforce` write of a query is answered by a tree which sees nothing but what
