@@ -66,7 +66,7 @@ class Answer(NamedTuple):
         if self.status == 0:
             return b'{"ok":%s}' % (self.text if mode == "json" else compact(self.text.decode()))
         members = {"code": self.status, "error": self.text.decode()}
-        if self.status == 4:
+        if self.status in (4, 14):
             members.update(start=self.start, end=self.end, line=self.line, column=self.column)
         elif (self.start, self.end, self.line, self.column) != (0, 0, 0, 0):
             return b"an error without a place has one"
@@ -100,7 +100,7 @@ def calls_of_row(place, asked, reply):
     yield Call(place, PRINT, mode, level, width, query, reply)
     if mode == "line":
         yield Call(place, CANONICAL, mode, 0, 0, query, reply)
-    yield Call(place, CHECK, "line", 0, 0, query, reply if code in (3, 4) else ACCEPTED)
+    yield Call(place, CHECK, "line", 0, 0, query, reply if code in (3, 4, 14) else ACCEPTED)
 
 
 def all_calls():
@@ -169,7 +169,8 @@ def python_answer(call):
         return Answer(0, 0, 0, 0, 0, text.encode())
     except promql.QueryError as error:
         start, end = (len(query[:at].encode()) for at in (error.start, error.end))
-        return Answer(4, start, end, error.line, error.column, error.message.encode())
+        status = 14 if isinstance(error, promql.TooLargeError) else 4
+        return Answer(status, start, end, error.line, error.column, error.message.encode())
     except promql.NumberTooWideError as error:
         return Answer(6, 0, 0, 0, 0, str(error).encode())
     except promql.MatcherError as error:

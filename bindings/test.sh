@@ -258,8 +258,7 @@ unit_tests() {
     ran=$(sed -n 's/^Ran \([0-9]*\) tests\{0,1\} .*/\1/p' <<<"$said")
     lost=$(grep -cE '^(FAIL|ERROR): ' <<<"$said")
     skipped=$(sed -n '$s/.*skipped=\([0-9]*\).*/\1/p' <<<"$said")
-    echo "$((${ran:-0} - lost - ${skipped:-0})) passed, $lost failed"
-    [ "${ran:-0}" -gt 0 ] && [ "$lost" = 0 ]
+    print_counts "$((${ran:-0} - lost - ${skipped:-0}))" "$lost" && [ "${ran:-0}" -gt 0 ]
 }
 
 # The tests of rule files, which those of Python skip where python3 has no reader of YAML.
@@ -344,8 +343,7 @@ go_tests() {
     printf '%s\n' "$said"
     passed=$(grep -c '^--- PASS: ' <<<"$said")
     lost=$(grep -cE '^--- FAIL: |^FAIL' <<<"$said")
-    echo "$passed passed, $lost failed"
-    [ "$passed" -gt 0 ] && [ "$lost" = 0 ]
+    print_counts "$passed" "$lost" && [ "$passed" -gt 0 ]
 }
 
 test_go() {
@@ -422,7 +420,7 @@ test_prometheus() {
 }
 
 export -f shows_own_names build_c bench_prints example_prints build_sanitized overrun_is_reported under_valgrind build_project
-export -f find_installed install_wheel in_python unit_tests
+export -f find_installed install_wheel in_python unit_tests print_counts
 export -f in_cargo cargo_tests build_rust cache_keys in_go go_tests
 
 parts=(names c python rust go examples)
@@ -443,5 +441,4 @@ if [ -n "$stale" ]; then
         "######## What follows says nothing of the sources here. bin/release makes the release anew."
 fi
 for part in "${parts[@]}"; do "test_$part"; done
-echo "$passed passed, $failed failed"
-[ "$failed" = 0 ]
+print_counts "$passed" "$failed"

@@ -5,16 +5,23 @@
 
 #include <errno.h>
 #include <pthread.h>
+#include <stdatomic.h>
+
+/* The limits of each call. */
+static atomic_size_t max_len = 1048576;
+static atomic_size_t max_pattern_size = 32000;
 
 /* What crates/promql_c exports. A slice of Rattle is a pointer that is not NULL, and a length of at most PTRDIFF_MAX. */
-void call_print(const void *query, size_t query_length, uint32_t mode, uint32_t level, size_t width, void *buffer,
-                size_t buffer_size, struct promql_result *result);
-void call_canonical(const void *query, size_t query_length, void *buffer, size_t buffer_size,
-                    struct promql_result *result);
-void call_enforce(const void *query, size_t query_length, const void *matcher, size_t matcher_length, void *buffer,
+void call_print(size_t max_len, size_t max_pattern_size, const void *query, size_t query_length, uint32_t mode,
+                uint32_t level, size_t width, void *buffer, size_t buffer_size, struct promql_result *result);
+void call_canonical(size_t max_len, size_t max_pattern_size, const void *query, size_t query_length, void *buffer,
+                    size_t buffer_size, struct promql_result *result);
+void call_enforce(size_t max_len, size_t max_pattern_size, const void *query, size_t query_length, const void *matcher,
+                  size_t matcher_length, void *buffer, size_t buffer_size, struct promql_result *result);
+void call_collect(size_t max_len, size_t max_pattern_size, const void *query, size_t query_length, void *buffer,
                   size_t buffer_size, struct promql_result *result);
-void call_collect(const void *query, size_t query_length, void *buffer, size_t buffer_size, struct promql_result *result);
-void call_check(const void *query, size_t query_length, void *buffer, size_t buffer_size, struct promql_result *result);
+void call_check(size_t max_len, size_t max_pattern_size, const void *query, size_t query_length, void *buffer,
+                size_t buffer_size, struct promql_result *result);
 void call_snippet(const void *query, size_t query_length, size_t start, size_t end, void *buffer, size_t buffer_size,
                   struct promql_result *result);
 void call_version(void *buffer, size_t buffer_size, struct promql_result *result);
@@ -103,7 +110,8 @@ uint32_t promql_print(const char *query, size_t query_length, uint32_t mode, uin
     uint32_t status = look_at(query, query_length, buffer, buffer_size, result);
     if (status != PROMQL_OK)
         return refuse(status, result);
-    call_print(start_of(query), query_length, mode, level, width, room_of(buffer), buffer_size, result);
+    call_print(max_len, max_pattern_size, start_of(query), query_length, mode, level, width, room_of(buffer), buffer_size,
+               result);
     return result->status;
 }
 
@@ -113,7 +121,7 @@ uint32_t promql_canonical(const char *query, size_t query_length, char *buffer, 
     uint32_t status = look_at(query, query_length, buffer, buffer_size, result);
     if (status != PROMQL_OK)
         return refuse(status, result);
-    call_canonical(start_of(query), query_length, room_of(buffer), buffer_size, result);
+    call_canonical(max_len, max_pattern_size, start_of(query), query_length, room_of(buffer), buffer_size, result);
     return result->status;
 }
 
@@ -124,7 +132,8 @@ uint32_t promql_enforce(const char *query, size_t query_length, const char *matc
                                                         : PROMQL_BAD_POINTER;
     if (status != PROMQL_OK)
         return refuse(status, result);
-    call_enforce(start_of(query), query_length, start_of(matcher), matcher_length, room_of(buffer), buffer_size, result);
+    call_enforce(max_len, max_pattern_size, start_of(query), query_length, start_of(matcher), matcher_length,
+                 room_of(buffer), buffer_size, result);
     return result->status;
 }
 
@@ -134,7 +143,7 @@ uint32_t promql_collect(const char *query, size_t query_length, char *buffer, si
     uint32_t status = look_at(query, query_length, buffer, buffer_size, result);
     if (status != PROMQL_OK)
         return refuse(status, result);
-    call_collect(start_of(query), query_length, room_of(buffer), buffer_size, result);
+    call_collect(max_len, max_pattern_size, start_of(query), query_length, room_of(buffer), buffer_size, result);
     return result->status;
 }
 
@@ -144,7 +153,7 @@ uint32_t promql_check(const char *query, size_t query_length, char *buffer, size
     uint32_t status = look_at(query, query_length, buffer, buffer_size, result);
     if (status != PROMQL_OK)
         return refuse(status, result);
-    call_check(start_of(query), query_length, room_of(buffer), buffer_size, result);
+    call_check(max_len, max_pattern_size, start_of(query), query_length, room_of(buffer), buffer_size, result);
     return result->status;
 }
 
@@ -155,6 +164,12 @@ uint32_t promql_snippet(const char *query, size_t query_length, size_t start, si
         return refuse(PROMQL_BAD_POINTER, result);
     call_snippet(start_of(query), query_length, start, end, room_of(buffer), buffer_size, result);
     return result->status;
+}
+
+void promql_set_limits(size_t len, size_t pattern_size)
+{
+    max_len = len;
+    max_pattern_size = pattern_size;
 }
 
 uint32_t promql_version(char *buffer, size_t buffer_size, struct promql_result *result)

@@ -21,8 +21,12 @@ import (
 	"unsafe"
 )
 
-// Errors that have no place. Compare with errors.Is.
+// Errors that have no place, and ErrTooLarge. Compare with errors.Is.
 var (
+	// ErrTooLarge says of a *QueryError that the query is too long, or that its patterns are too large together (SetLimits).
+	ErrTooLarge = errors.New("query is too large")
+	// ErrLevel says that the level of a layout is above 512.
+	ErrLevel = errors.New("level is above 512")
 	// ErrOutOfMemory says that an allocation of the library failed.
 	ErrOutOfMemory = errors.New("out of memory")
 	// ErrNotUTF8 says that the query is not UTF-8.
@@ -51,6 +55,12 @@ type QueryError struct {
 	End     int
 	Line    int
 	Column  int
+	cause   error
+}
+
+// Unwrap returns ErrTooLarge where the query is not within its limits, and else nil.
+func (e *QueryError) Unwrap() error {
+	return e.cause
 }
 
 func (e *QueryError) Error() string {
@@ -200,6 +210,12 @@ func call(query string, f function) (string, C.struct_promql_result) {
 	}
 }
 
+// SetLimits sets what each later query has to be within, in this process: at most so many bytes, 1,048,576 before the first call, and
+// patterns of at most this size together, 32,000. A query that is not gives a *QueryError that is ErrTooLarge, before it is parsed.
+func SetLimits(maxLen, maxPatterns uint) {
+	C.promql_set_limits(C.size_t(maxLen), C.size_t(maxPatterns))
+}
+
 // textOf makes a call and returns its text, or its error.
 func textOf(query string, f function) (string, error) {
 	text, result := call(query, f)
@@ -210,7 +226,13 @@ func textOf(query string, f function) (string, error) {
 		return "", ErrOutOfMemory
 	case C.PROMQL_NOT_UTF8:
 		return "", ErrNotUTF8
-	case C.PROMQL_REJECTED:
+	case C.PROMQL_UNKNOWN_MODE:
+		return "", ErrLevel
+	case C.PROMQL_REJECTED, C.PROMQL_TOO_LARGE:
+		var cause error
+		if result.status == C.PROMQL_TOO_LARGE {
+			cause = ErrTooLarge
+		}
 		return "", &QueryError{
 			Message: text,
 			Query:   query,
@@ -218,6 +240,7 @@ func textOf(query string, f function) (string, error) {
 			End:     int(result.end),
 			Line:    int(result.line),
 			Column:  int(result.column),
+			cause:   cause,
 		}
 	case C.PROMQL_NUMBER_TOO_WIDE:
 		return "", ErrNumberTooWide

@@ -171,8 +171,24 @@ func TestNotUTF8(t *testing.T) {
 	}
 }
 
+func TestLimits(t *testing.T) {
+	var rejected *promql.QueryError
+	err := promql.Check(`a{b=~"c{3000}"}`)
+	if !errors.Is(err, promql.ErrTooLarge) || !errors.As(err, &rejected) || rejected.Start != 5 || rejected.End != 14 {
+		t.Errorf("a pattern that is too large: %v", err)
+	}
+	promql.SetLimits(15, 39013)
+	defer promql.SetLimits(1048576, 32000)
+	if err := promql.Check(`a{b=~"c{3000}"}`); err != nil {
+		t.Errorf("a pattern within its limits: %v", err)
+	}
+	if _, err := promql.Format("a", promql.Level(513)); err != promql.ErrLevel {
+		t.Errorf("a level above 512: %v", err)
+	}
+}
+
 func TestVersion(t *testing.T) {
-	if got := promql.Version(); got != "0.3.0" {
+	if got := promql.Version(); got != "0.4.0" {
 		t.Error(got)
 	}
 }

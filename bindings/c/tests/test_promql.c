@@ -194,11 +194,17 @@ static void test_errors(void)
     CHECK(gives(of_query(CALL_CHECK, wide), PROMQL_OK, ""));
     CHECK(gives(in_mode(3, 0, 0, "1"), PROMQL_UNKNOWN_MODE, "unknown mode"));
     CHECK(gives(in_mode(UINT32_MAX, 0, 0, "\xff"), PROMQL_UNKNOWN_MODE, "unknown mode"));
-    CHECK(gives(in_mode(PROMQL_PRETTY, 65536, 0, "1"), PROMQL_UNKNOWN_MODE, "unknown mode"));
-    CHECK(gives(in_mode(PROMQL_LINE, 65536, 0, "1"), PROMQL_OK, "1"));
+    CHECK(gives(in_mode(PROMQL_PRETTY, 513, 0, "1"), PROMQL_UNKNOWN_MODE, "unknown mode"));
+    CHECK(gives(in_mode(PROMQL_LINE, 513, 0, "1"), PROMQL_OK, "1"));
+    const char *large = "a{b=~\"c{3000}\"}";
+    CHECK(gives(of_query(CALL_CHECK, large), PROMQL_TOO_LARGE, "patterns are too large: 39013, at most 32000"));
+    promql_set_limits(15, 39013);
+    CHECK(gives(of_query(CALL_CHECK, large), PROMQL_OK, ""));
+    CHECK(gives(of_query(CALL_CHECK, "a + b + c + d + e"), PROMQL_TOO_LARGE, "query is too long: 17 bytes, at most 15"));
+    promql_set_limits(1048576, 32000);
     struct answer answer;
-    struct request deep = in_mode(PROMQL_PRETTY, 65535, SIZE_MAX, "1");
-    CHECK(call_whole(&deep, &answer) && answer.result.status == PROMQL_OK && answer.result.length == 2 * 65535 + 1);
+    struct request deep = in_mode(PROMQL_PRETTY, 512, SIZE_MAX, "1");
+    CHECK(call_whole(&deep, &answer) && answer.result.status == PROMQL_OK && answer.result.length == 2 * 512 + 1);
     free(answer.text);
 }
 
@@ -586,6 +592,7 @@ static int is_status(uint32_t status, enum call call)
     case PROMQL_NOT_UTF8:
         return 1;
     case PROMQL_REJECTED:
+    case PROMQL_TOO_LARGE:
         return call != CALL_SNIPPET;
     case PROMQL_NUMBER_TOO_WIDE:
         return call == CALL_PRINT;

@@ -25,6 +25,7 @@ __all__ = [
     "NumberTooWideError",
     "QueryError",
     "SmallStackError",
+    "TooLargeError",
     "UnfaithfulError",
     "canonical",
     "check",
@@ -32,12 +33,14 @@ __all__ = [
     "enforce",
     "format",
     "parse",
+    "set_limits",
     "version",
 ]
-__version__ = "0.3.0"
+__version__ = "0.4.0"
 
-_MAX_LEVEL = 65_535
+_MAX_LEVEL = 512
 _MAX_WIDTH = 2**64 - 1
+_MAX_LIMIT = 2**64 - 1
 
 
 class Error(ValueError):
@@ -87,6 +90,18 @@ class QueryError(Error):
         """The line of the query where the part begins, and a mark below that part."""
         start, end = (len(self.query[:at].encode()) for at in (self.start, self.end))
         return _text(self.query, _library.snippet(self.query.encode(), start, end))
+
+
+class TooLargeError(QueryError):
+    """The query is too long, or its patterns are too large together (`set_limits`)."""
+
+
+def set_limits(*, max_len: int = 1_048_576, max_patterns: int = 32_000) -> None:
+    """Sets what each later query has to be within, in this process: at most so many bytes, and patterns of at most this size together
+    (docs/reference/programs.md, "Limits of a query"). A query that is not raises TooLargeError before it is parsed."""
+    _look_at("max_len", max_len, _MAX_LIMIT)
+    _look_at("max_patterns", max_patterns, _MAX_LIMIT)
+    _library.set_limits(max_len, max_patterns)
 
 
 def parse(query: str) -> Dict[str, Any]:
@@ -151,9 +166,10 @@ def _text(query: str, answer: Tuple[bytes, Result]) -> str:
     text, result = answer[0].decode(), answer[1]
     if result.status == Status.OK:
         return text
-    if result.status == Status.REJECTED:
+    if result.status in (Status.REJECTED, Status.TOO_LARGE):
         start, end = (len(query.encode()[:at].decode()) for at in (result.start, result.end))
-        raise QueryError(text, query, start, end, result.line, result.column)
+        kind = QueryError if result.status == Status.REJECTED else TooLargeError
+        raise kind(text, query, start, end, result.line, result.column)
     if result.status == Status.NUMBER_TOO_WIDE:
         raise NumberTooWideError(text)
     if result.status == Status.BAD_MATCHER:

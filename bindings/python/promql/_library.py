@@ -24,6 +24,7 @@ class Status(IntEnum):
     BAD_MATCHER = 11
     UNFAITHFUL = 12
     BARE_INFO = 13
+    TOO_LARGE = 14
     SMALL_STACK = 15
 
 
@@ -84,6 +85,7 @@ def load() -> ctypes.CDLL:
     for name, arguments in _SIGNATURES.items():
         function = getattr(library, name)
         function.argtypes, function.restype = arguments, ctypes.c_uint32
+    library.promql_set_limits.argtypes, library.promql_set_limits.restype = [ctypes.c_size_t, ctypes.c_size_t], None
     return library
 
 
@@ -123,6 +125,10 @@ def check(query: bytes) -> Tuple[bytes, Result]:
 
 def snippet(query: bytes, start: int, end: int) -> Tuple[bytes, Result]:
     return call("promql_snippet", 2 * len(query), query, len(query), start, end)
+
+
+def set_limits(max_len: int, max_pattern_size: int) -> None:
+    _library.promql_set_limits(max_len, max_pattern_size)
 
 
 def version() -> Tuple[bytes, Result]:

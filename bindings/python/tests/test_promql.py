@@ -36,6 +36,7 @@ REJECTED = (
     ("sum by (job) (\n  rate(foo[5m]) +\n  * bar\n)", 3, 3, "invalid promql query", "  * bar\n  ^"),
     ('"é€🦀" + b"c"', 1, 10, "invalid promql query", '"é€🦀" + b"c"\n         ^~~'),
     ("1 + é", 1, 5, "unexpected character: 'é'", "1 + é\n    ^"),
+    ('foo{bar="\x1b\u202e"} b', 1, 15, "invalid promql query", 'foo{bar="\\x1b\\u{202e}"} b\n' + " " * 24 + "^"),
     ("rate(foo)", 1, 6, "expected type matrix in call to function 'rate', got vector", "rate(foo)\n     ^~~"),
 )
 
@@ -48,8 +49,8 @@ class Texts(unittest.TestCase):
     def test_format(self):
         self.assertEqual(promql.format("sum(a)/sum(b)", width=8), "  sum(a)\n/\n  sum(b)")
         self.assertEqual(promql.format("1+2", level=1), "  1 + 2")
-        self.assertEqual(promql.format("1+2", width=2**64 - 1, level=65_535), "  " * 65_535 + "1 + 2")
-        for wrong in ({"level": -1}, {"level": 65_536}, {"width": -1}, {"width": 2**64}):
+        self.assertEqual(promql.format("1+2", width=2**64 - 1, level=512), "  " * 512 + "1 + 2")
+        for wrong in ({"level": -1}, {"level": 513}, {"width": -1}, {"width": 2**64}):
             with self.assertRaises(ValueError):
                 promql.format("1", **wrong)
 
@@ -59,6 +60,22 @@ class Texts(unittest.TestCase):
         with self.assertRaises(promql.NumberTooWideError) as raised:
             promql.parse("a[18446744073709551616ms]")
         self.assertEqual(str(raised.exception), "number too wide for JSON")
+
+    def test_limits(self):
+        query = 'a{b=~"c{3000}"}'
+        with self.assertRaises(promql.TooLargeError) as raised:
+            promql.check(query)
+        self.assertEqual(str(raised.exception), "1:6: patterns are too large: 39013, at most 32000")
+        self.assertEqual(query[raised.exception.start : raised.exception.end], '"c{3000}"')
+        with self.assertRaises(promql.TooLargeError):
+            promql.canonical("a" * 1_048_577)
+        promql.set_limits(max_len=15, max_patterns=39_013)
+        try:
+            promql.check(query)
+            with self.assertRaises(promql.TooLargeError):
+                promql.check(query + " ")
+        finally:
+            promql.set_limits()
 
     def test_enforce(self):
         self.assertEqual(promql.enforce("sum(rate(foo[5m])) / bar", "a='1'"), 'sum(rate(foo{a="1"}[5m])) / bar{a="1"}')
@@ -93,7 +110,7 @@ class Texts(unittest.TestCase):
         query = "+".join(["x"] * 500)
         self.assertEqual(promql.canonical(query), " + ".join(["x"] * 500))
         self.assertGreater(len(promql.format(query, width=1)), _library.FIRST_SIZE)
-        name = "x" * 3_000_000
+        name = "x" * 1_000_000
         self.assertEqual(promql.canonical(name), name)
 
     def test_version(self):

@@ -49,6 +49,7 @@ fn answer(call: &Call<'_>) -> Vec<u8> {
     };
     match text {
         Ok(text) => line(0, [0; 4], &text),
+        Err(Error::TooLarge(it)) => line(14, [it.range.start, it.range.end, it.line, it.column], &it.message),
         Err(Error::Rejected(it)) => line(4, [it.range.start, it.range.end, it.line, it.column], &it.message),
         Err(error @ Error::NumberTooWide) => line(6, [0; 4], &error.to_string()),
         Err(error @ (Error::NotAMatcher | Error::MetricName)) => line(11, [0; 4], &error.to_string()),
@@ -112,7 +113,7 @@ fn random(calls: &[Call<'_>], count: usize, seed: u64) {
         let query = String::from_utf8_lossy(&text);
         match canonical(&query) {
             Ok(line) => assert_eq!(canonical(&line).as_ref(), Ok(&line)),
-            Err(Error::Rejected(it)) => {
+            Err(Error::Rejected(it) | Error::TooLarge(it)) => {
                 assert!(query.get(it.range.clone()).is_some(), "{query:?}: {it:?}");
                 it.snippet(&query);
             }

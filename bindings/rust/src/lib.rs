@@ -23,6 +23,10 @@ pub enum Error {
     OutOfMemory,
     /// The query is rejected.
     Rejected(Rejection),
+    /// The query is too long, or its patterns are too large together ([`set_limits`]).
+    TooLarge(Rejection),
+    /// The level of a layout is above 512.
+    LevelTooHigh,
     /// The query has no JSON form: a number of milliseconds is below -2^63 or above 2^64 - 1.
     NumberTooWide,
     /// The matcher is none.
@@ -67,7 +71,8 @@ impl fmt::Display for Error {
     fn fmt(&self, f: &mut fmt::Formatter<'_>) -> fmt::Result {
         match self {
             Error::OutOfMemory => f.write_str("out of memory"),
-            Error::Rejected(rejection) => rejection.fmt(f),
+            Error::Rejected(rejection) | Error::TooLarge(rejection) => rejection.fmt(f),
+            Error::LevelTooHigh => f.write_str("level is above 512"),
             Error::NumberTooWide => f.write_str("number too wide for JSON"),
             Error::NotAMatcher => f.write_str(NOT_A_MATCHER),
             Error::MetricName => f.write_str("a matcher of the metric name cannot be enforced"),
@@ -90,7 +95,7 @@ const NOT_A_MATCHER: &str = "not a matcher";
 pub struct Layout {
     /// The most bytes that a line has after its indentation by the level, where that can be.
     pub width: usize,
-    /// The indentations of two spaces before each line.
+    /// The indentations of two spaces before each line, at most 512.
     pub level: u16,
 }
 
@@ -105,8 +110,8 @@ impl Default for Layout {
 ///
 /// # Errors
 ///
-/// `Rejected` where the query is rejected, `OutOfMemory` where an allocation failed, `SmallStack` where the thread has little
-/// stack left.
+/// `TooLarge` where the query is not within its limits, else `Rejected` where it is rejected; `OutOfMemory` where an allocation failed,
+/// `SmallStack` where the thread has little stack left.
 pub fn canonical(query: &str) -> Result<String, Error> {
     text_of(library::canonical(query))
 }
@@ -115,7 +120,7 @@ pub fn canonical(query: &str) -> Result<String, Error> {
 ///
 /// # Errors
 ///
-/// Those of [`canonical`].
+/// Those of [`canonical`], and `LevelTooHigh`.
 pub fn format(query: &str, layout: Layout) -> Result<String, Error> {
     text_of(library::print(query, Mode::Pretty, layout.level, layout.width))
 }
@@ -160,6 +165,12 @@ pub fn check(query: &str) -> Result<(), Error> {
     text_of(library::check(query)).map(drop)
 }
 
+/// Sets what each later query has to be within, in this process: at most so many bytes, 1,048,576 before the first call, and patterns
+/// of at most this size together, 32,000 (`docs/reference/programs.md` of the repository, "Limits of a query").
+pub fn set_limits(max_len: usize, max_pattern_size: usize) {
+    library::set_limits(max_len, max_pattern_size);
+}
+
 /// The version of the library.
 pub fn version() -> String {
     library::version().0
@@ -169,12 +180,9 @@ fn text_of((text, answer): (String, Answer)) -> Result<String, Error> {
     match answer.status {
         library::OK => Ok(text),
         library::OUT_OF_MEMORY => Err(Error::OutOfMemory),
-        library::REJECTED => Err(Error::Rejected(Rejection {
-            message: text,
-            range: answer.start..answer.end,
-            line: answer.line,
-            column: answer.column,
-        })),
+        library::REJECTED => Err(Error::Rejected(rejection_of(text, &answer))),
+        library::TOO_LARGE => Err(Error::TooLarge(rejection_of(text, &answer))),
+        library::UNKNOWN_MODE => Err(Error::LevelTooHigh),
         library::NUMBER_TOO_WIDE => Err(Error::NumberTooWide),
         library::BAD_MATCHER if text == NOT_A_MATCHER => Err(Error::NotAMatcher),
         library::BAD_MATCHER => Err(Error::MetricName),
@@ -183,4 +191,8 @@ fn text_of((text, answer): (String, Answer)) -> Result<String, Error> {
         library::SMALL_STACK => Err(Error::SmallStack),
         status => unreachable!("status {status}: {text}"),
     }
+}
+
+fn rejection_of(message: String, answer: &Answer) -> Rejection {
+    Rejection { message, range: answer.start..answer.end, line: answer.line, column: answer.column }
 }

@@ -18,9 +18,11 @@ pub const OK: u32 = 0;
 pub const OUT_OF_MEMORY: u32 = 1;
 pub const REJECTED: u32 = 4;
 pub const NUMBER_TOO_WIDE: u32 = 6;
+pub const UNKNOWN_MODE: u32 = 9;
 pub const BAD_MATCHER: u32 = 11;
 pub const UNFAITHFUL: u32 = 12;
 pub const BARE_INFO: u32 = 13;
+pub const TOO_LARGE: u32 = 14;
 pub const SMALL_STACK: u32 = 15;
 
 /// Those of `enum promql_mode` that have no call of their own.
@@ -85,6 +87,7 @@ extern "C" {
         buffer_size: usize,
         result: *mut Answer,
     ) -> u32;
+    fn promql_set_limits(max_len: usize, max_pattern_size: usize);
     fn promql_version(buffer: *mut u8, buffer_size: usize, result: *mut Answer) -> u32;
 }
 
@@ -144,6 +147,11 @@ pub fn snippet(query: &str, start: usize, end: usize) -> (String, Answer) {
     call(query.len(), |(buffer, size, answer)| unsafe {
         promql_snippet(query.as_ptr(), query.len(), start, end, buffer, size, answer);
     })
+}
+
+pub fn set_limits(max_len: usize, max_pattern_size: usize) {
+    // SAFETY: the call takes numbers alone.
+    unsafe { promql_set_limits(max_len, max_pattern_size) }
 }
 
 pub fn version() -> (String, Answer) {

@@ -88,6 +88,19 @@ fn a_part_outside_of_the_query_is_shown() {
     found.snippet("1 +");
 }
 
+// The limits of the process stay as they are, since other tests run meanwhile.
+#[test]
+fn a_query_past_its_limits_is_too_large() {
+    match check(r#"a{b=~"c{3000}"}"#) {
+        Err(Error::TooLarge(found)) => {
+            assert_eq!(found.to_string(), "1:6: patterns are too large: 39013, at most 32000");
+            assert_eq!(found.range, 5..14);
+        }
+        other => panic!("{other:?}"),
+    }
+    assert_eq!(format("a", Layout { width: 1, level: 513 }), Err(Error::LevelTooHigh));
+}
+
 #[test]
 fn versions_agree() {
     assert_eq!(version(), env!("CARGO_PKG_VERSION"));

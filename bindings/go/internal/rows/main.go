@@ -66,7 +66,11 @@ func answer(it call) string {
 	case err == nil:
 		return fmt.Sprintf("0 0 0 0 0 %d\n%s\n", len(text), text)
 	case errors.As(err, &rejected):
-		return fmt.Sprintf("4 %d %d %d %d %d\n%s\n", rejected.Start, rejected.End, rejected.Line, rejected.Column,
+		status := 4
+		if errors.Is(err, promql.ErrTooLarge) {
+			status = 14
+		}
+		return fmt.Sprintf("%d %d %d %d %d %d\n%s\n", status, rejected.Start, rejected.End, rejected.Line, rejected.Column,
 			len(rejected.Message), rejected.Message)
 	case errors.Is(err, promql.ErrNotUTF8):
 		return fmt.Sprintf("3 0 0 0 0 %d\n%s\n", len(err.Error()), err)
