@@ -19,6 +19,9 @@ OTHER = ["(?x)", "(?i)", "(?s)", "(?-u)", "(?u)", "(?R)", "(?U)", "(?P<n>a)", "(
          "\\b", "\\B", "\\A", "\\z", "\\Z", "\\C", "\\X", "\\a", "\\v", "[[:alpha:]]", "[]a]", "[^]a]", "[a&&b]", "[\\w--\\d]", "[s&&self]", "[a~~b]",
          "\\é", "é", "[é-ü]", "# a\n", "\\1", "(?=a)", "(?!a)", "(?#a)", "a{3,2}", "[z-a]", "\\<", "\\>", "\\e", "\\h"]
 
+# Patterns of any size are asked for.
+NO_LIMITS = ("--max-len", str(2**64 - 1), "--max-patterns", str(2**64 - 1))
+
 
 def count(rng):
     least = rng.choice([0, 1, 2, 3, 9, 10, 30, 99, 100, 500, 999])
@@ -74,7 +77,7 @@ def counts_product(pattern):
 
 def read_here(program, patterns):
     lines = "".join(json.dumps('{x=~"%s",y="1"}' % p.replace("\\", "\\\\").replace('"', '\\"').replace("\n", "\\n")) + "\n" for p in patterns)
-    run = subprocess.run([program, "line"], input=lines, capture_output=True, text=True, check=False)
+    run = subprocess.run([program, "line", *NO_LIMITS], input=lines, capture_output=True, text=True, check=False)
     answers = [json.loads(line) for line in run.stdout.splitlines()]
     assert len(answers) == len(patterns), (len(answers), run.stderr)
     return answers

@@ -24,6 +24,9 @@ OPENINGS = ["(", "(", "(?:", "(?i:", "(?x:", "(?P<n>", "(?<m>", "(?s-i:"]
 COUNTS = [0, 1, 2, 3, 7, 9, 30, 82, 90, 99, 166, 250, 499, 500, 800, 999, 1000, 1001, 65536, 99999999, 4294967295, 4294967296, 10**20]
 MESSAGES = ("illegal regex for ", "vector selector must contain at least one non-empty matcher")
 
+# Patterns of any size are asked for.
+NO_LIMITS = ("--max-len", str(2**64 - 1), "--max-patterns", str(2**64 - 1))
+
 
 def space(make, verbose):
     """White space that may be in a count, often none; with a comment where the flag x is set."""
@@ -85,7 +88,7 @@ def ask(program, patterns):
     """The answers to both queries of each pattern."""
     queries = (form % quoted(text) for text in patterns for form in ("x{a=~%s}", "{a=~%s}"))
     lines = "".join(json.dumps(query) + "\n" for query in queries)
-    run = subprocess.run([program, "line"], input=lines.encode(), stdout=subprocess.PIPE, check=False)
+    run = subprocess.run([program, "line", *NO_LIMITS], input=lines.encode(), stdout=subprocess.PIPE, check=False)
     answers = [json.loads(line) for line in run.stdout.decode().split("\n")[:-1]]
     return zip(answers[::2], answers[1::2], strict=True)
 
