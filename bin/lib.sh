@@ -3,6 +3,19 @@
 # None of them needs the command rt, but for the kit's line, which a file of a release keeps.
 : "${root:?}"
 
+# print_counts PASSED FAILED: prints the last line of a script of tests, and fails where a test did.
+print_counts() {
+    echo "$1 passed, $2 failed"
+    [ "$2" = 0 ]
+}
+
+# exec_bound COMMAND..: becomes the command, in the background of a script. It ends with the script, also where that is killed
+# outright, if there is setpriv.
+exec_bound() {
+    if command -v setpriv >/dev/null; then exec setpriv --pdeathsig TERM -- "$@"; fi
+    exec "$@"
+}
+
 # The crates of crates.txt that are programs, in the file's order.
 program_names() {
     local name
