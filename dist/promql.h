@@ -1,8 +1,8 @@
 /* PromQL, the query language of Prometheus: print, check and lay out queries.
  *
  * Each call reads its query, writes a text to the start of its buffer, and says in `result` what it did; it returns the
- * status. A query is UTF-8 and need not end with a 0; no 0 is written after a text. A call keeps nothing and shares nothing,
- * so any thread may make any call at any time.
+ * status. A query is UTF-8 and need not end with a 0; no 0 is written after a text. A call keeps nothing and shares nothing
+ * but the limits that promql_set_limits sets, so any thread may make any call at any time.
  *
  *     char buffer[1024];
  *     struct promql_result result;
@@ -12,8 +12,14 @@
  * Where the buffer has fewer than `result.length` bytes it is left as it was: call again with one that has as many. Bytes past
  * `result.length` are never written.
  *
+ * A call about a query asks how much stack its thread has left, and does nothing where that is fewer than PROMQL_STACK bytes. It
+ * asks the system for the bounds of the stack in the first call of a thread. They are not known where the library was built
+ * without glibc, where /proc is not mounted (for the first thread alone), and on a stack that is not the thread's own, such as a
+ * coroutine's. There the caller sees to as many bytes.
+ *
  * The caller sees to this: `buffer` and `*result` lie in nothing else that the call is given; malloc, realloc and free come
- * from one allocator; no call is made from a signal handler, or in the child of a fork of a process with threads.
+ * from one allocator; no call is made from a signal handler, or in the child of a fork of a process with threads; the limit of the
+ * first thread's stack is not lowered after its first call.
  */
 #ifndef PROMQL_H
 #define PROMQL_H
@@ -26,7 +32,7 @@ extern "C" {
 #endif
 
 /* The version of this header; promql_version has that of the library. */
-#define PROMQL_VERSION "0.3.0"
+#define PROMQL_VERSION "0.4.0"
 
 /* How promql_print prints. */
 enum promql_mode {
@@ -35,7 +41,11 @@ enum promql_mode {
     PROMQL_JSON = 2    /* the JSON form, without a space */
 };
 
-/* 0, or why the buffer does not have what was asked for. With 1 to 6, 9 and 11 to 13 the text is the message of the error. */
+/* The bytes of stack that a call about a query asks for: more than any query is known to need (docs/PERFORMANCE.md, "The program").
+ * A thread needs more than these, for what it does itself. */
+#define PROMQL_STACK 1310720
+
+/* 0, or why the buffer does not have what was asked for. With 1 to 6, 9 and 11 to 14 the text is the message of the error. */
 enum promql_status {
     PROMQL_OK = 0,
     PROMQL_OUT_OF_MEMORY = 1,
@@ -43,18 +53,20 @@ enum promql_status {
     PROMQL_REJECTED = 4,         /* the query is rejected: the result has the place */
     PROMQL_NUMBER_TOO_WIDE = 6,  /* PROMQL_JSON: a number of milliseconds is below -2^63 or above 2^64 - 1 */
     PROMQL_BUFFER_TOO_SMALL = 8, /* the text has more bytes than the buffer: `length` */
-    PROMQL_UNKNOWN_MODE = 9,     /* or a level above 65535 */
+    PROMQL_UNKNOWN_MODE = 9,     /* or a level above 512 */
     PROMQL_BAD_POINTER = 10,     /* a pointer is NULL though its length is not 0, a length is above PTRDIFF_MAX, or the
                                     result is NULL; there is no text */
     PROMQL_BAD_MATCHER = 11,     /* the matcher is none, or is of the metric's name, __name__ */
     PROMQL_UNFAITHFUL = 12,      /* the text that was made would not mean the changed query */
-    PROMQL_BARE_INFO = 13        /* the query has info without a second argument: no matcher limits the series that it reads */
+    PROMQL_BARE_INFO = 13,       /* the query has info without a second argument: no matcher limits the series that it reads */
+    PROMQL_TOO_LARGE = 14,       /* the query is too long, or its patterns are too large: the result has the place */
+    PROMQL_SMALL_STACK = 15      /* the thread has fewer than PROMQL_STACK bytes of stack left; there is no text */
 };
 
 struct promql_result {
     uint32_t status;
     size_t length; /* bytes of the text */
-    /* Of a query that is rejected, else 0: the part that the error is about, in bytes from 0, and empty at the query's end; and
+    /* With PROMQL_REJECTED and PROMQL_TOO_LARGE, else 0: the part that the error is about, in bytes from 0, and empty at the query's end; and
      * the line and the column where it begins, from 1, the column in characters. */
     size_t start;
     size_t end;
@@ -87,9 +99,15 @@ uint32_t promql_collect(const char *query, size_t query_length, char *buffer, si
 uint32_t promql_check(const char *query, size_t query_length, char *buffer, size_t buffer_size,
                       struct promql_result *result);
 
-/* Shows the line of a query where the part from `start` up to `end` begins, a line feed, and a mark below that part. */
+/* Shows the line of a query where the part from `start` up to `end` begins, a line feed, and a mark below that part. Control characters
+   and marks of writing direction are escapes in it, as `\x1b`. */
 uint32_t promql_snippet(const char *query, size_t query_length, size_t start, size_t end, char *buffer,
                         size_t buffer_size, struct promql_result *result);
+
+/* Sets what a query has to be within, for each later call of the process but promql_snippet: at most so many bytes, 1048576 before
+ * the first such call, and patterns of at most this size together, 32000 (docs/reference/programs.md, "Limits of a query"). 0 is a
+ * bound as any other. A call that is made meanwhile may see one of the two changed and not the other. */
+void promql_set_limits(size_t max_len, size_t max_pattern_size);
 
 /* The version of the library. */
 uint32_t promql_version(char *buffer, size_t buffer_size, struct promql_result *result);
