@@ -1,4 +1,5 @@
 pub mod NoNodes
+pub mod ProgramLines
 pub mod SeenAtHome
 pub mod SeenEnforced
 pub mod SeenMapped

@@ -1,5 +1,5 @@
 -- A tree's normal form sees what the tree sees.
-use Rattle.std.proofs.Common.{◌≡◌, ℕ, refl, sym, ◌∙◌, ap, Bool, true, false, cond, ◌&&◌, Option, Some, None, List, [], ◌∷◌}
+use Rattle.std.proofs.Common.{◌≡◌, ℕ, refl, ◌∙◌, ap, Bool, true, false, cond, ◌&&◌, Option, Some, None, List, [], ◌∷◌}
 use Rattle.std.specs.Prelude.{filter}
 use Rattle.std.specs.List.{list_all, list_any}
 use Rattle.std.specs.Ordering.{is_gt}
@@ -7,7 +7,7 @@ use Rattle.promql_label.specs.PlainMatchers.{PlainMatcher, PlainMatchers, plain_
 use Rattle.promql_label.specs.ReadMatchers.{insert_matcher, sorted_matchers}
 use Rattle.promql_label.specs.SortedTexts.{text_order}
 use Rattle.promql_kind.specs.Functions.{Signature}
-use Rattle.promql_kind.specs.Modifiers.{Cardinality, Clause, Matching, including, excluding, one_to_one, fills, matching, is_grouping}
+use Rattle.promql_kind.specs.Modifiers.{Clause, Matching, including, excluding, one_to_one, fills, matching, is_grouping}
 use Rattle.promql_ast.specs.Normal.{normal_matchers, normal_selector, normal_clause, normal_matched, unless_default, normal_matching, normal, maybe_normal, all_normal}
 use Rattle.promql_ast.specs.Selectors.{Selector, selector}
 use Rattle.promql_ast.specs.Tree.{Tree, aggregate, unary, binary, paren, subquery, number, string, vector, matrix, call, extension, MaybeTree, absent, present, Trees, no_trees, first_tree}
@@ -16,7 +16,7 @@ use Rattle.promql_ast.proofs.NormalForms.{normal_twice}
 use Rattle.promql_rewrite.specs.Enforcing.{is_info}
 use Rattle.promql_rewrite.specs.Selecting.{Series, allows, allow_all, has_name, matchers_select, selects}
 use Rattle.promql_meaning.specs.Stores.{Stored, Store, read}
-use Rattle.promql_meaning.specs.Seen.{grouped, matched, Joining, joining, joined, aggregated, negated, operated, stepped, instants, ranges, called, extended, one_seen, first_seen, instants_of, ranges_of, seen, maybe_seen, all_seen, Beside, matchers, nothing, beside, info_beside, is_absent, matchers_in, matchers_in_first, matchers_of}
+use Rattle.promql_meaning.specs.Seen.{grouped, matched, joining, joined, aggregated, negated, operated, stepped, instants, ranges, called, extended, one_seen, first_seen, instants_of, ranges_of, seen, maybe_seen, all_seen, matchers, nothing, beside, info_beside, is_absent, matchers_in, matchers_in_first, matchers_of}
 
 -- ---- matchers in another order
 

@@ -1,6 +1,6 @@
 //! Laws: the contracts of functions that do nothing.
 
-ghost use Rattle.std.specs.Prelude.{◌≡◌, ◌≢◌, ℕ, List, [], Ok, false, codes, map};
+ghost use Rattle.std.specs.Prelude.{◌≡◌, ◌≢◌, ◌++◌, ◌∷◌, ℕ, List, [], Ok, false, codes, map};
 ghost use Rattle.promql_text.specs.Texts.{Text};
 ghost use Rattle.promql_label.specs.Answers.{Answer};
 ghost use Rattle.promql_label.specs.PlainMatchers.{PlainMatcher};
@@ -13,8 +13,13 @@ ghost use Rattle.promql_syntax.specs.Asking.{Asked};
 ghost use Rattle.promql_rewrite.specs.Enforced.{IsEnforced};
 ghost use Rattle.promql_rewrite.specs.Enforcing.{enforced, has_bare_info};
 ghost use Rattle.promql_rewrite.specs.Mapping.{KindedSelector, outline, selectors_of};
+ghost use Rattle.promql_rewrite.specs.MatcherTexts.{IsEnforceable};
 ghost use Rattle.promql_rewrite.specs.Parenthesizing.{parenthesized};
 ghost use Rattle.promql_rewrite.specs.Renaming.{of_label, of_metric, renamed};
+ghost use Rattle.promql_lines.specs.EnforcedLines.{IsEnforcedLine};
+ghost use Rattle.promql_run.specs.Running.{IsPrinted};
+ghost use Rattle.promql_run.specs.declared.run.Mode.TheVariants.{Line, Pretty};
+ghost use Rattle.promql_span.specs.declared.limits.Limits.{Limits};
 ghost use Rattle.promql_meaning.specs.Relabeled.{relabeled, under_old_name};
 ghost use Rattle.promql_meaning.specs.Seen.{has_call_that_sees_beside, instants_of, seen};
 ghost use Rattle.promql_meaning.specs.Stores.{Store, kept};
@@ -86,3 +91,19 @@ pub fn enforced_lines_see_only_what_is_allowed()
         × ((s : Store) → seen s u ≡ seen (kept c s) u)
         × (has_call_that_sees_beside t ≡ false → (s : Store) → seen (kept c s) u ≡ seen (kept c s) t) }
 {}
+
+/// What the programs write, by their contracts. With one answer for each pattern, what `promql line` or `promql pretty` writes is, but
+/// for the line feed at its end, a text whose tree sees what the tree of the input sees. What `promql_enforce` writes of a query is
+/// what `enforced_lines_see_only_what_is_allowed` speaks of, for the matcher that its argument is.
+pub fn programs_keep_what_is_meant()
+    ensures line { (g : Text → Answer) (query printed : Text) (p : IsPrinted Line query printed)
+        → HasTree g query p.tree → (body : Text) × (printed ≡ body ++ 10 ∷ [])
+        × ((u : Tree) × HasTree g body u × ((s : Store) → seen s u ≡ seen s p.tree)) }
+    ensures pretty { (g : Text → Answer) (query printed : Text) (p : IsPrinted Pretty query printed)
+        → HasTree g query p.tree → (body : Text) × (printed ≡ body ++ 10 ∷ [])
+        × ((u : Tree) × HasTree g body u × ((s : Store) → seen s u ≡ seen s p.tree)) }
+    ensures enforce { (limits : Limits) (query matcher line : Text) → IsEnforcedLine limits query matcher line
+        → (c : PlainMatcher) × IsEnforceable matcher c × IsEnforced query c line }
+{
+    promql_syntax::laws::laid_reads_back();
+}

@@ -1,0 +1,17 @@
+use Rattle.promql_ast.specs.Layout.{layout_of}
+use Rattle.promql_ast.specs.Normal.{normal}
+use Rattle.promql_ast.specs.Text.{text}
+use Rattle.promql_meaning.proofs.ProgramLines.{body_is_text, line_is_enforced}
+use Rattle.promql_meaning.proofs.SeenNormal.{seen_normal}
+use Rattle.promql_meaning.proofs.laws.programs_keep_what_is_meant.Goals as goal
+
+pub returns-clause-line : goal.returns-clause-line
+returns-clause-line c = λ g query printed p h.
+    (text p.tree, body_is_text (text p.tree) printed p.line, (normal p.tree, c.laid_reads_back.ensures.line g query p.tree h, λ s. seen_normal s p.tree))
+
+pub returns-clause-pretty : goal.returns-clause-pretty
+returns-clause-pretty c = λ g query printed p h.
+    (layout_of p.tree 0 100, body_is_text (layout_of p.tree 0 100) printed p.line, (normal p.tree, c.laid_reads_back.ensures.lines g query p.tree h 0 100, λ s. seen_normal s p.tree))
+
+pub returns-clause-enforce : goal.returns-clause-enforce
+returns-clause-enforce c = line_is_enforced
