@@ -5,7 +5,8 @@ ghost use Rattle.std.specs.Char.{is_ascii_digit};
 ghost use Rattle.promql_label.specs.PatternMeasure as spec;
 
 /// How large the pattern of a value can get where it is compiled, by its text alone: the bytes of the anchored text, and ten more for
-/// each backslash, each as often as the counts of the pattern can repeat it. It is never too low; `usize::MAX` stands for that and more.
+/// each backslash, each as often as the counts of the pattern can repeat it. `usize::MAX` stands for that and more. It is an estimate,
+/// tried on many patterns: nothing proves that `regex` needs no more.
 ///
 /// It takes the time to read the value, and allocates nothing.
 pub fn pattern_measure(value: &str) -> usize
