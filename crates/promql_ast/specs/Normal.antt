@@ -2,8 +2,9 @@
 use Rattle.std.specs.Prelude.{Bool, false, [], ◌∷◌, Option, Some, None}
 pub use Rattle.promql_label.specs.ReadMatchers.{normal_matchers}
 use Rattle.promql_kind.specs.Modifiers.{Clause, including, excluding, one_to_one, fills, Matching, matching, is_grouping}
+use Rattle.promql_ast.specs.Mapped.{mapped, maybe_mapped, all_mapped}
 use Rattle.promql_ast.specs.Selectors.{Selector, selector}
-use Rattle.promql_ast.specs.Tree.{Tree, aggregate, unary, binary, paren, subquery, number, string, vector, matrix, call, extension, MaybeTree, absent, present, Trees, no_trees, first_tree}
+use Rattle.promql_ast.specs.Tree.{Tree, MaybeTree, Trees}
 
 abbrev pub normal_selector : Selector → Selector
 normal_selector (selector name matchers offset at) = selector name (normal_matchers matchers) offset at
@@ -30,24 +31,11 @@ normal_matching None = None
 normal_matching (Some (matching card clause return_bool values)) =
     unless_default (matching card (normal_matched (is_grouping card) clause) return_bool values)
 
-abbrev mutual
-  pub normal : Tree → Tree
-  normal (aggregate op e p m) = aggregate op (normal e) (maybe_normal p) (normal_clause m)
-  normal (unary e) = unary (normal e)
-  normal (binary op l r m) = binary op (normal l) (normal r) (normal_matching m)
-  normal (paren e) = paren (normal e)
-  normal (subquery e offset at range step) = subquery (normal e) offset at range step
-  normal (number n) = number n
-  normal (string s) = string s
-  normal (vector s) = vector (normal_selector s)
-  normal (matrix s range mode) = matrix (normal_selector s) range mode
-  normal (call f args) = call f (all_normal args)
-  normal (extension name gives es) = extension name gives (all_normal es)
+abbrev pub normal : Tree → Tree
+normal = mapped normal_selector normal_clause normal_matching
 
-  pub maybe_normal : MaybeTree → MaybeTree
-  maybe_normal absent = absent
-  maybe_normal (present e) = present (normal e)
+abbrev pub maybe_normal : MaybeTree → MaybeTree
+maybe_normal = maybe_mapped normal_selector normal_clause normal_matching
 
-  pub all_normal : Trees → Trees
-  all_normal no_trees = no_trees
-  all_normal (first_tree e es) = first_tree (normal e) (all_normal es)
+abbrev pub all_normal : Trees → Trees
+all_normal = all_mapped normal_selector normal_clause normal_matching
