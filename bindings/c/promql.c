@@ -9,7 +9,7 @@
 
 /* The limits of each call. */
 static atomic_size_t max_len = 1048576;
-static atomic_size_t max_pattern_size = 32000;
+static atomic_size_t max_pattern_size = 16000;
 
 /* What crates/promql_c exports. A slice of Rattle is a pointer that is not NULL, and a length of at most PTRDIFF_MAX. */
 void call_print(size_t max_len, size_t max_pattern_size, const void *query, size_t query_length, uint32_t mode,

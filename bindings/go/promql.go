@@ -211,7 +211,7 @@ func call(query string, f function) (string, C.struct_promql_result) {
 }
 
 // SetLimits sets what each later query has to be within, in this process: at most so many bytes, 1,048,576 before the first call, and
-// patterns of at most this size together, 32,000. A query that is not gives a *QueryError that is ErrTooLarge, before it is parsed.
+// patterns of at most this size together, 16,000. A query that is not gives a *QueryError that is ErrTooLarge, before it is parsed.
 func SetLimits(maxLen, maxPatterns uint) {
 	C.promql_set_limits(C.size_t(maxLen), C.size_t(maxPatterns))
 }

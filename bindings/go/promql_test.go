@@ -178,7 +178,7 @@ func TestLimits(t *testing.T) {
 		t.Errorf("a pattern that is too large: %v", err)
 	}
 	promql.SetLimits(15, 39013)
-	defer promql.SetLimits(1048576, 32000)
+	defer promql.SetLimits(1048576, 16000)
 	if err := promql.Check(`a{b=~"c{3000}"}`); err != nil {
 		t.Errorf("a pattern within its limits: %v", err)
 	}

@@ -197,11 +197,11 @@ static void test_errors(void)
     CHECK(gives(in_mode(PROMQL_PRETTY, 513, 0, "1"), PROMQL_UNKNOWN_MODE, "unknown mode"));
     CHECK(gives(in_mode(PROMQL_LINE, 513, 0, "1"), PROMQL_OK, "1"));
     const char *large = "a{b=~\"c{3000}\"}";
-    CHECK(gives(of_query(CALL_CHECK, large), PROMQL_TOO_LARGE, "patterns are too large: 39013, at most 32000"));
+    CHECK(gives(of_query(CALL_CHECK, large), PROMQL_TOO_LARGE, "patterns are too large: 39013, at most 16000"));
     promql_set_limits(15, 39013);
     CHECK(gives(of_query(CALL_CHECK, large), PROMQL_OK, ""));
     CHECK(gives(of_query(CALL_CHECK, "a + b + c + d + e"), PROMQL_TOO_LARGE, "query is too long: 17 bytes, at most 15"));
-    promql_set_limits(1048576, 32000);
+    promql_set_limits(1048576, 16000);
     struct answer answer;
     struct request deep = in_mode(PROMQL_PRETTY, 512, SIZE_MAX, "1");
     CHECK(call_whole(&deep, &answer) && answer.result.status == PROMQL_OK && answer.result.length == 2 * 512 + 1);
@@ -661,6 +661,8 @@ static void test_random(const char *path, long count, uint64_t seed)
 
 int main(int argc, char **argv)
 {
+    if (argc >= 3)
+        promql_set_limits(1048576, 32000); /* those of the stored run */
     if (argc >= 3 && strcmp(argv[1], "rows") == 0)
         return run_rows(argv[2], argc > 3 ? (size_t)atol(argv[3]) : 0);
     if (argc == 5 && strcmp(argv[1], "random") == 0) {

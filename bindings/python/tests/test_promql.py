@@ -65,7 +65,7 @@ class Texts(unittest.TestCase):
         query = 'a{b=~"c{3000}"}'
         with self.assertRaises(promql.TooLargeError) as raised:
             promql.check(query)
-        self.assertEqual(str(raised.exception), "1:6: patterns are too large: 39013, at most 32000")
+        self.assertEqual(str(raised.exception), "1:6: patterns are too large: 39013, at most 16000")
         self.assertEqual(query[raised.exception.start : raised.exception.end], '"c{3000}"')
         with self.assertRaises(promql.TooLargeError):
             promql.canonical("a" * 1_048_577)

@@ -5,7 +5,7 @@
 //!
 //! In THREADS threads each call is made again, and is to give the same.
 
-use promql_proved::{Error, Layout, canonical, check, enforce, format, json};
+use promql_proved::{Error, Layout, canonical, check, enforce, format, json, set_limits};
 use std::io::{self, BufWriter, Write};
 use std::{env, fs, str, thread};
 
@@ -129,6 +129,8 @@ fn main() {
     let words: Vec<String> = env::args().skip(1).collect();
     let words: Vec<&str> = words.iter().map(String::as_str).collect();
     let number = |word: &str| word.parse().expect("a number");
+    // Those of the stored run.
+    set_limits(1_048_576, 32_000);
     let bytes = fs::read(words.get(1).expect("a file of calls")).expect("the file is read");
     match words[..] {
         ["rows", _] => rows(&calls(&bytes), 0),

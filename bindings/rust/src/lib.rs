@@ -166,7 +166,7 @@ pub fn check(query: &str) -> Result<(), Error> {
 }
 
 /// Sets what each later query has to be within, in this process: at most so many bytes, 1,048,576 before the first call, and patterns
-/// of at most this size together, 32,000 (`docs/reference/programs.md` of the repository, "Limits of a query").
+/// of at most this size together, 16,000 (`docs/reference/programs.md` of the repository, "Limits of a query").
 pub fn set_limits(max_len: usize, max_pattern_size: usize) {
     library::set_limits(max_len, max_pattern_size);
 }

@@ -93,7 +93,7 @@ fn a_part_outside_of_the_query_is_shown() {
 fn a_query_past_its_limits_is_too_large() {
     match check(r#"a{b=~"c{3000}"}"#) {
         Err(Error::TooLarge(found)) => {
-            assert_eq!(found.to_string(), "1:6: patterns are too large: 39013, at most 32000");
+            assert_eq!(found.to_string(), "1:6: patterns are too large: 39013, at most 16000");
             assert_eq!(found.range, 5..14);
         }
         other => panic!("{other:?}"),

@@ -34,7 +34,7 @@ layout: indentations before it, and the most bytes of a line), and \"enforce\" (
 matcher that is put into every selector of the query).
 An answer is {\"ok\":TEXT}, in mode json {\"ok\":VALUE}, or
 {\"code\":NUMBER,\"error\":MESSAGE}. A query of more than --max-len bytes (1048576), or
-with patterns that are together larger than --max-patterns (32000), is rejected
+with patterns that are together larger than --max-patterns (16000), is rejected
 before it is parsed.
 
 Status: 0 each line was answered with ok, 4 some line has an error, 1 out of

@@ -31,7 +31,7 @@ Reads a PromQL query from standard input, puts the matcher into every selector o
 it, and writes the query to standard output, on one line. MATCHER is written as
 between the braces of a selector: namespace=\"team-a\". A query of more than
 --max-len bytes (1048576), or with patterns that are together larger than
---max-patterns (32000), is rejected before it is parsed.
+--max-patterns (16000), is rejected before it is parsed.
 
 Status: 0 the query was written, 4 the query is rejected, 11 MATCHER is not a
 matcher or is of the metric name, 12 the query that was made does not read back,

@@ -22,7 +22,7 @@ use thiserror::Error;
 pub const MAX_LEN: usize = 1_048_576;
 
 /// The greatest size of a query's patterns, unless something else is asked for.
-pub const MAX_PATTERN_SIZE: usize = 32_000;
+pub const MAX_PATTERN_SIZE: usize = 16_000;
 
 /// How long a query may be, and how large its patterns may be together.
 #[derive(Clone, Copy, Debug, PartialEq, Eq)]

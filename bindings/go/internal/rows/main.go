@@ -163,6 +163,7 @@ func main() {
 	if err != nil {
 		log.Fatal(err)
 	}
+	promql.SetLimits(1048576, 32000) // those of the stored run
 	switch {
 	case words[0] == "rows" && len(words) == 2:
 		rows(calls(data), 0)

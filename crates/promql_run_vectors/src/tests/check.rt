@@ -138,7 +138,7 @@ const ROWS: [Row; 27] = [
         b"{a=~'b',b!~'\\\\w{32000}',c=~'d'} b",
         14,
         "",
-        "1:12: patterns are too large: 800039, at most 32000\n{a=~'b',b!~'\\\\w{32000}',c=~'d'} b\n           ^~~~~~~~~~~~\n",
+        "1:12: patterns are too large: 800039, at most 16000\n{a=~'b',b!~'\\\\w{32000}',c=~'d'} b\n           ^~~~~~~~~~~~\n",
     ),
     (&["", "--help"], b"1", 0, CHECK_HELP, ""),
 ];
