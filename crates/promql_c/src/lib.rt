@@ -1,7 +1,7 @@
 //! What bindings/c/promql.c calls, once it has looked at the pointers: the calls of `promql_calls`, and no more.
 #![tactic(auto)]
 
-ghost use Rattle.std.specs.Prelude.{Some, Ok};
+ghost use Rattle.std.specs.Prelude.{◌≡◌, Some, Ok};
 ghost use Rattle.promql_lines.specs.declared.request.Format.TheVariants.{Line};
 ghost use Rattle.promql_calls.specs.CallResults.{Shows, ShowsSome};
 ghost use Rattle.promql_calls.specs.Calls.{IsCheckOf, IsCollectOf, IsEnforceOf, IsPrintOf, IsSnippetOf};
@@ -11,6 +11,16 @@ ghost use Rattle.promql_calls.specs.declared.calls.TheConstants.{CALLS_VERSION};
 use promql_calls::CallResult;
 use promql_span::limits::Limits;
 use std::alloc::Global;
+
+/// The limits of these numbers.
+fn limits_of(max_len: usize, max_pattern_size: usize) -> Limits
+    ensures { result ≡ record { max_len = max_len; max_pattern_size = max_pattern_size } }
+{
+    Limits {
+        max_len,
+        max_pattern_size,
+    }
+}
 
 /// `promql_calls::print`.
 #[unsafe(no_mangle)]
@@ -28,10 +38,7 @@ pub extern "C" fn call_print(
     ensures { ShowsSome (IsPrintOf (record { max_len = max_len; max_pattern_size = max_pattern_size }) query.now (format_numbered mode level width))
         shown.new buffer.old buffer.new }
 {
-    let limits = Limits {
-        max_len,
-        max_pattern_size,
-    };
+    let limits = limits_of(max_len, max_pattern_size);
     *shown = promql_calls::print(alloc, &limits, query, mode, level, width, buffer);
 }
 
@@ -47,10 +54,7 @@ pub extern "C" fn call_canonical(
 )
     ensures { ShowsSome (IsPrintOf (record { max_len = max_len; max_pattern_size = max_pattern_size }) query.now (Some Line)) shown.new buffer.old buffer.new }
 {
-    let limits = Limits {
-        max_len,
-        max_pattern_size,
-    };
+    let limits = limits_of(max_len, max_pattern_size);
     *shown = promql_calls::canonical(alloc, &limits, query, buffer);
 }
 
@@ -67,10 +71,7 @@ pub extern "C" fn call_enforce(
 )
     ensures { ShowsSome (IsEnforceOf (record { max_len = max_len; max_pattern_size = max_pattern_size }) query.now matcher.now) shown.new buffer.old buffer.new }
 {
-    let limits = Limits {
-        max_len,
-        max_pattern_size,
-    };
+    let limits = limits_of(max_len, max_pattern_size);
     *shown = promql_calls::enforce(alloc, &limits, query, matcher, buffer);
 }
 
@@ -86,10 +87,7 @@ pub extern "C" fn call_collect(
 )
     ensures { ShowsSome (IsCollectOf (record { max_len = max_len; max_pattern_size = max_pattern_size }) query.now) shown.new buffer.old buffer.new }
 {
-    let limits = Limits {
-        max_len,
-        max_pattern_size,
-    };
+    let limits = limits_of(max_len, max_pattern_size);
     *shown = promql_calls::collect(alloc, &limits, query, buffer);
 }
 
@@ -105,10 +103,7 @@ pub extern "C" fn call_check(
 )
     ensures { ShowsSome (IsCheckOf (record { max_len = max_len; max_pattern_size = max_pattern_size }) query.now) shown.new buffer.old buffer.new }
 {
-    let limits = Limits {
-        max_len,
-        max_pattern_size,
-    };
+    let limits = limits_of(max_len, max_pattern_size);
     *shown = promql_calls::check(alloc, &limits, query, buffer);
 }
 
