@@ -1,5 +1,5 @@
 -- Bases: what is read up to their postfixes, by their first token.
-use Rattle.std.proofs.Common.{◌≡◌, ℕ, ◌≤◌, cond, refl, sym, ◌∙◌, ap, subst, List, [], ◌∷◌, length}
+use Rattle.std.proofs.Common.{◌≡◌, ℕ, Bool, ◌≤◌, cond, refl, sym, ◌∙◌, ap, subst, List, [], ◌∷◌, length}
 use Rattle.std.specs.Prelude.{Result, Ok, Err, MatchResult, option_map}
 use Rattle.promql_text.specs.Texts.{Text}
 use Rattle.promql_grammar.specs.OperatorTokens.{EatsUnaryOperator}
@@ -26,20 +26,20 @@ use Rattle.promql_syntax.proofs.ReadErrorSteps.{fails_same, fails_first}
 
 -- ---- the same base by another name
 
-base_same : (parsed : ParsedExpr) (rest : List Symbol) (read other : ℕ → ℕ → Read grammar.Derivation) → ((k n : ℕ) → other k n ≡ read k n) → ParsesBase parsed rest read → ParsesBase parsed rest other
+base_same : {builds : Bool} (parsed : ParsedExpr) (rest : List Symbol) (read other : ℕ → ℕ → Read grammar.Derivation) → ((k n : ℕ) → other k n ≡ read k n) → ParsesBase builds parsed rest read → ParsesBase builds parsed rest other
 base_same parsed rest read other same base = record { derivation = base.derivation; is = λ k n. same k n ∙ base.is k n; built = base.built }
 
-pub bases_same : (result : Result ParsedExpr ReadError) (rest : List Symbol) (read other : ℕ → ℕ → Read grammar.Derivation) → ((k n : ℕ) → other k n ≡ read k n)
-    → MatchResult result (λ parsed. ParsesBase parsed rest read) (λ e. FailsBase (e, rest) read) → MatchResult result (λ parsed. ParsesBase parsed rest other) (λ e. FailsBase (e, rest) other)
-bases_same (Ok parsed) rest read other same base = base_same parsed rest read other same base
-bases_same (Err e) rest read other same fails = λ k n. fails_same (e, rest) (read k n) (other k n) (same k n) (fails k n)
+pub bases_same : (builds : Bool) (result : Result ParsedExpr ReadError) (rest : List Symbol) (read other : ℕ → ℕ → Read grammar.Derivation) → ((k n : ℕ) → other k n ≡ read k n)
+    → MatchResult result (λ parsed. ParsesBase builds parsed rest read) (λ e. FailsBase (e, rest) read) → MatchResult result (λ parsed. ParsesBase builds parsed rest other) (λ e. FailsBase (e, rest) other)
+bases_same builds (Ok parsed) rest read other same base = base_same parsed rest read other same base
+bases_same builds (Err e) rest read other same fails = λ k n. fails_same (e, rest) (read k n) (other k n) (same k n) (fails k n)
 
 -- a base, and its postfixes
-pub postfixed_given : (result : Result ParsedExpr ReadError) (base : ParsedExpr) (rest new : List Symbol) (read : ℕ → ℕ → Read grammar.Derivation) (k n : ℕ) → ParsesBase base rest read → length rest ≤ k
-    → ((d : grammar.Derivation) (j : ℕ) → IsExprOf base d → length rest ≤ j → MatchResult result (λ parsed. ParsesExpr parsed new (parse_postfixes j n d rest)) (λ e. Fails (e, new) (parse_postfixes j n d rest)))
-    → MatchResult result (λ parsed. ParsesExpr parsed new (read k n)) (λ e. Fails (e, new) (read k n))
-postfixed_given result base rest new read k n is enough gives =
-    subst (λ r. MatchResult result (λ parsed. ParsesExpr parsed new r) (λ e. Fails (e, new) r)) (sym (is.is k n)) (gives is.derivation k is.built enough)
+pub postfixed_given : {builds : Bool} (result : Result ParsedExpr ReadError) (base : ParsedExpr) (rest new : List Symbol) (read : ℕ → ℕ → Read grammar.Derivation) (k n : ℕ) → ParsesBase builds base rest read → length rest ≤ k
+    → ((d : grammar.Derivation) (j : ℕ) → IsExprOf builds base d → length rest ≤ j → MatchResult result (λ parsed. ParsesExpr builds parsed new (parse_postfixes j n d rest)) (λ e. Fails (e, new) (parse_postfixes j n d rest)))
+    → MatchResult result (λ parsed. ParsesExpr builds parsed new (read k n)) (λ e. Fails (e, new) (read k n))
+postfixed_given {builds} result base rest new read k n is enough gives =
+    subst (λ r. MatchResult result (λ parsed. ParsesExpr builds parsed new r) (λ e. Fails (e, new) r)) (sym (is.is k n)) (gives is.derivation k is.built enough)
 
 -- ---- unary operators
 
@@ -50,8 +50,8 @@ sign_read r k n op ts us takes =
 pub sign_fails : (r : Reader) (k n op : ℕ) (ts us : List Symbol) (e : Failure) → EatsUnaryOperator op ts us → Fails e (r 6 us) → Fails e (parse_unary r k n ts)
 sign_fails r k n op ts us e takes fails = fails_first e (r 6 us) (λ x. Ok (grammar.unary op takes.text x.0, x.1)) (parse_unary r k n ts) (sign_read r k n op ts us takes) fails
 
-pub sign_given : (r : Reader) (k n op : ℕ) (ts us vs : List Symbol) (operand made : ParsedExpr) → EatsUnaryOperator op ts us → ParsesExpr operand vs (r 6 us)
-    → ((text : Text) (d : grammar.Derivation) → IsExprOf operand d → IsExprOf made (grammar.unary op text d)) → ParsesExpr made vs (parse_unary r k n ts)
+pub sign_given : {builds : Bool} (r : Reader) (k n op : ℕ) (ts us vs : List Symbol) (operand made : ParsedExpr) → EatsUnaryOperator op ts us → ParsesExpr builds operand vs (r 6 us)
+    → ((text : Text) (d : grammar.Derivation) → IsExprOf builds operand d → IsExprOf builds made (grammar.unary op text d)) → ParsesExpr builds made vs (parse_unary r k n ts)
 sign_given r k n op ts us vs operand made takes given built = record {
   derivation = grammar.unary op takes.text given.derivation;
   is = sign_read r k n op ts us takes ∙ ap (λ o. o then λ x. Ok (grammar.unary op takes.text x.0, x.1)) given.is;
@@ -71,11 +71,11 @@ module _ (r : Reader) (text : Text) (all ts : List Symbol) (front : all ≡ symb
   pub paren_fails : (e : Failure) → Fails e (r 0 ts) → FailsBase e (λ k n. parse_unary r k n all)
   paren_fails e fails = λ k n. fails_first e (r 0 ts) (λ x. parse_paren_end k n x.0 x.1) (parse_unary r k n all) (paren_read k n) fails
 
-  pub paren_open : (inner : ParsedExpr) (us : List Symbol) → ParsesExpr inner us (r 0 ts) → HasNo kind.RightParen us → FailsBase (Syntax, us) (λ k n. parse_unary r k n all)
+  pub paren_open : {builds : Bool} (inner : ParsedExpr) (us : List Symbol) → ParsesExpr builds inner us (r 0 ts) → HasNo kind.RightParen us → FailsBase (Syntax, us) (λ k n. parse_unary r k n all)
   paren_open inner us given none = λ k n. paren_read k n ∙ ap (λ o. o then λ x. parse_paren_end k n x.0 x.1) given.is ∙ closing_none k n given.derivation us none
 
-  pub paren_base : (inner made : ParsedExpr) (us vs : List Symbol) → ParsesExpr inner us (r 0 ts) → us ≡ punct kind.RightParen ∷ vs → ((d : grammar.Derivation) → IsExprOf inner d → IsExprOf made (grammar.paren d))
-      → ParsesBase made vs (λ k n. parse_unary r k n all)
+  pub paren_base : {builds : Bool} (inner made : ParsedExpr) (us vs : List Symbol) → ParsesExpr builds inner us (r 0 ts) → us ≡ punct kind.RightParen ∷ vs → ((d : grammar.Derivation) → IsExprOf builds inner d → IsExprOf builds made (grammar.paren d))
+      → ParsesBase builds made vs (λ k n. parse_unary r k n all)
   paren_base inner made us vs given close built = record {
     derivation = grammar.paren given.derivation;
     is = λ k n. paren_read k n ∙ ap (λ o. o then λ x. parse_paren_end k n x.0 x.1) given.is ∙ ap (parse_paren_end k n given.derivation) close;
@@ -91,8 +91,8 @@ module _ (r : Reader) (w : TokenKind) (text : Text) (all ts : List Symbol) (fron
   pub call_fails : (e : Failure) → Fails e (parse_arguments r ts) → FailsBase e (λ k n. parse_call r k n w text all)
   call_fails e fails = λ k n. fails_first e (parse_arguments r ts) (λ y. parse_postfixes k n (grammar.call w text y.0) y.1) (parse_call r k n w text all) (called_read k n) fails
 
-  pub call_base : (args : ParsedArgs) (made : ParsedExpr) (us : List Symbol) → ParsesArgs args us (parse_arguments r ts) → ((v : TokenKind) (ds : grammar.Arguments) → AreArgsOf args ds → IsExprOf made (grammar.call v text ds))
-      → ParsesBase made us (λ k n. parse_call r k n w text all)
+  pub call_base : {builds : Bool} (args : ParsedArgs) (made : ParsedExpr) (us : List Symbol) → ParsesArgs builds args us (parse_arguments r ts) → ((v : TokenKind) (ds : grammar.Arguments) → AreArgsOf builds args ds → IsExprOf builds made (grammar.call v text ds))
+      → ParsesBase builds made us (λ k n. parse_call r k n w text all)
   call_base args made us given built = record {
     derivation = grammar.call w text given.derivations;
     is = λ k n. called_read k n ∙ ap (λ o. o then λ y. parse_postfixes k n (grammar.call w text y.0) y.1) given.is;
@@ -115,7 +115,7 @@ module _ (r : Reader) (op : ℕ) (text : Text) (all ts : List Symbol) (front : a
   pub after_fails : (e : Failure) → Fails e (parse_arguments r ts) → FailsBase e (λ k n. parse_aggregate r k n op text all)
   after_fails e fails = λ k n. fails_first e (parse_arguments r ts) (λ y. parse_grouping y.1 then λ c. parse_postfixes k n (grammar.aggregate op text c.0 y.0) c.1) (parse_aggregate r k n op text all) (after_read k n) fails
 
-  module _ (args : ParsedArgs) (us : List Symbol) (given : ParsesArgs args us (parse_arguments r ts)) where
+  module _ {builds : Bool} (args : ParsedArgs) (us : List Symbol) (given : ParsesArgs builds args us (parse_arguments r ts)) where
     after_given : (k n : ℕ) → parse_aggregate r k n op text all ≡ (parse_grouping us then λ c. parse_postfixes k n (grammar.aggregate op text c.0 given.derivations) c.1)
     after_given k n = after_read k n ∙ ap (λ o. o then λ y. parse_grouping y.1 then λ c. parse_postfixes k n (grammar.aggregate op text c.0 y.0) c.1) given.is
 
@@ -123,7 +123,7 @@ module _ (r : Reader) (op : ℕ) (text : Text) (all ts : List Symbol) (front : a
     after_clause_fails e fails = λ k n. fails_first e (parse_grouping us) (λ c. parse_postfixes k n (grammar.aggregate op text c.0 given.derivations) c.1) (parse_aggregate r k n op text all) (after_given k n) fails
 
     pub after_base : (held : _) (vs : List Symbol) (made : ParsedExpr) → ParsesPart (option_map clause_of) clause_value held vs (parse_grouping us)
-        → ((t : Text) (c : part.Clause) (ds : grammar.Arguments) → view_result (option_map clause_of) held ≡ clause_value c → AreArgsOf args ds → IsExprOf made (grammar.aggregate op t c ds)) → ParsesBase made vs (λ k n. parse_aggregate r k n op text all)
+        → ((t : Text) (c : part.Clause) (ds : grammar.Arguments) → view_result (option_map clause_of) held ≡ clause_value c → AreArgsOf builds args ds → IsExprOf builds made (grammar.aggregate op t c ds)) → ParsesBase builds made vs (λ k n. parse_aggregate r k n op text all)
     after_base held vs made clause built = record {
       derivation = grammar.aggregate op text clause.part given.derivations;
       is = λ k n. after_given k n ∙ ap (λ o. o then λ c. parse_postfixes k n (grammar.aggregate op text c.0 given.derivations) c.1) clause.is;
@@ -186,8 +186,8 @@ module _ (r : Reader) (op : ℕ) (text : Text) (ts us : List Symbol) (begins : S
         let before = before_read r op text ts us clause.part begins clause.is in
         fails_first e (parse_arguments r vs) (λ y. parse_postfixes k n (grammar.aggregate op text (part.before before.grouping) y.0) y.1) _ (before.is k n ∙ ap (parse_grouped_aggregate r k n op text before.grouping) front) fails
 
-    pub before_base : (args : ParsedArgs) (ws : List Symbol) (made : ParsedExpr) → ParsesArgs args ws (parse_arguments r vs)
-        → ((t : Text) (c : part.Clause) (ds : grammar.Arguments) → view_result (option_map clause_of) held ≡ clause_value c → AreArgsOf args ds → IsExprOf made (grammar.aggregate op t c ds)) → ParsesBase made ws (λ k n. parse_aggregate r k n op text ts)
+    pub before_base : {builds : Bool} (args : ParsedArgs) (ws : List Symbol) (made : ParsedExpr) → ParsesArgs builds args ws (parse_arguments r vs)
+        → ((t : Text) (c : part.Clause) (ds : grammar.Arguments) → view_result (option_map clause_of) held ≡ clause_value c → AreArgsOf builds args ds → IsExprOf builds made (grammar.aggregate op t c ds)) → ParsesBase builds made ws (λ k n. parse_aggregate r k n op text ts)
     before_base args ws made given built =
         let before = before_read r op text ts us clause.part begins clause.is in
         record {

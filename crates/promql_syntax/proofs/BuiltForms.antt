@@ -1,6 +1,6 @@
 -- What the parts of each form build.
-use Rattle.std.proofs.Common.{◌≡◌, ℕ, true, false, refl, sym, ◌∙◌, ap, subst, [], Option, Some, None}
-use Rattle.std.specs.Prelude.{Result, Ok, Err, IfOk, ◌==◌, cond}
+use Rattle.std.proofs.Common.{◌≡◌, ℕ, Bool, ◌&&◌, true, false, refl, sym, ◌∙◌, ap, subst, [], Option, Some, None}
+use Rattle.std.specs.Prelude.{Result, Ok, Err, IfOk, is_ok, ◌==◌, cond}
 use Rattle.std.specs.declared.alloc.Global.{Global}
 use Rattle.std.specs.declared.boxed.Box.{Box}
 use Rattle.promql_text.specs.Texts.{Text}
@@ -26,9 +26,9 @@ use Rattle.promql_grammar.specs.Results.{◌then◌}
 use Rattle.promql_syntax.specs.declared.grammar.parsed.ParsedExpr.{ParsedExpr}
 use Rattle.promql_syntax.specs.declared.grammar.parsed.ParsedArgs.{ParsedArgs}
 use Rattle.promql_syntax.specs.Asking.{Asking, gives, ◌giving◌, known}
-use Rattle.promql_syntax.specs.Building.{build, build_all, build_call, from_verdict, from_checked_verdict, selector_tree, build_postfix, build_unary}
+use Rattle.promql_syntax.specs.Building.{build, build_call, from_verdict, from_checked_verdict, selector_tree, build_postfix, build_unary}
 use Rattle.promql_syntax.specs.BuildErrors.{BuildError, build_error_of, unknown_function}
-use Rattle.promql_syntax.specs.ParsesExpr.{EndsIn, IsExprOf, AreArgsOf, tree_result, trees_result, outcome}
+use Rattle.promql_syntax.specs.ParsesExpr.{EndsIn, IsExprOf, tree_result, trees_result, outcome}
 use Rattle.promql_syntax.specs.PartBuilding.{clause_value, modifier_value, time_value, step_value, moment_value, shift_value}
 use Rattle.promql_syntax.specs.Postfixes.{Change, apply_change, change_value, to_subquery}
 use Rattle.promql_syntax.proofs.Ending.{ends_known}
@@ -37,8 +37,12 @@ pub if_ok_both : {X E : Type 0} {P Q R : X → Type 0} (r : Result X E) → IfOk
 if_ok_both (Ok x) p q both = both x p q
 if_ok_both (Err e) p q both = tt
 
-pub is_expr_of : (parsed : ParsedExpr) (d : grammar.Derivation) (h : ℕ) (o : Result Tree BuildError) → tree_result parsed ≡ o → parsed.height ≡ h → h ≡ grammar.height d → EndsIn (build d) o → IsExprOf parsed d
-is_expr_of parsed d h o value tall is ends = record { tall = tall ∙ is; built = subst (EndsIn (build d)) (sym value) ends }
+pub is_expr_of : (builds : Bool) (parsed : ParsedExpr) (d : grammar.Derivation) (h : ℕ) (o : Result Tree BuildError) → tree_result parsed ≡ o → parsed.height ≡ h → h ≡ grammar.height d → (builds ≡ true → EndsIn (build d) o) → IsExprOf builds parsed d
+is_expr_of builds parsed d h o value tall is ends = record { tall = tall ∙ is; built = λ on. subst (EndsIn (build d)) (sym value) (ends on) }
+
+-- what comes after a value is built where that is
+pub goes_on : {X E : Type 0} (builds : Bool) (r : Result X E) (x : X) → r ≡ Ok x → builds ≡ true → (builds && is_ok r) ≡ true
+goes_on builds r x is on = ap (λ b. b && is_ok r) on ∙ ap is_ok is
 
 pub ends_given : {A : Type 0} (x y : A) → x ≡ y → EndsIn (gives y) (Ok x)
 ends_given x y same = record { answers = []; allowed = tt; ends = ap Ok same }
@@ -103,11 +107,6 @@ known_changes t p r o same ends = subst (λ v. EndsIn (known v giving λ c. appl
 
 pub postfix_ends : (t : Tree) (p : part.Postfix) (r : Result Change BuildError) (o : Result Tree BuildError) → r ≡ change_value p → EndsIn (known r giving λ c. apply_change t c) o → EndsIn (build_postfix t p) o
 postfix_ends t p r o same ends = subst (λ m. EndsIn m o) (postfix_changes t p) (known_changes t p r o same ends)
-
--- ---- arguments
-
-arguments_of : (args : ParsedArgs) (ds : grammar.Arguments) (o : Result Trees BuildError) → trees_result args ≡ o → args.height ≡ grammar.greatest_height ds → EndsIn (build_all ds) o → AreArgsOf args ds
-arguments_of args ds o value tall ends = record { tall = tall; built = subst (EndsIn (build_all ds)) (sym value) ends }
 
 -- ---- what follows the children
 

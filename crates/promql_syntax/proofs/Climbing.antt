@@ -1,6 +1,6 @@
 -- What the loop over operators keeps.
-use Rattle.std.proofs.Common.{◌≡◌, ℕ, zero, suc, ◌+◌, ◌<◌, ◌≤◌, refl, sym, ◌∙◌, ap, arith, List, ◌∷◌, length}
-use Rattle.std.specs.Prelude.{Ok, Err}
+use Rattle.std.proofs.Common.{◌≡◌, ℕ, Bool, ◌&&◌, zero, suc, ◌+◌, ◌<◌, ◌≤◌, refl, sym, ◌∙◌, ap, arith, List, ◌∷◌, length}
+use Rattle.std.specs.Prelude.{Ok, Err, is_ok}
 use Rattle.std.proofs.lemmas.Bool.{cond_above, cond_below}
 use Rattle.promql_text.specs.Texts.{Text}
 use Rattle.promql_grammar.specs.declared.token_kinds.TokenKind.TheVariants as kind
@@ -34,14 +34,14 @@ expression_fails max_height below m ts e under fails =
     fails_first e (parse_unary (parse_expression below) (length ts) (below + 1) ts) (λ x. parse_operators (parse_expression below) (length ts) below m x.0 x.1) (parse_expression max_height m ts) (expression_at max_height below m ts under) fails
 
 -- a left side was parsed, and parsing goes on after it
-pub record Climbing (max_height below m : ℕ) (all : List Symbol) (left : ParsedExpr) (rest : List Symbol) : Type 0 where
+pub record Climbing (builds : Bool) (max_height below m : ℕ) (all : List Symbol) (left : ParsedExpr) (rest : List Symbol) : Type 0 where
   pub derivation : Derivation
   pub turns : ℕ
   pub enough : length rest ≤ turns
-  pub built : IsExprOf left derivation
+  pub built : IsExprOf builds left derivation
   pub goes : parse_expression max_height m all ≡ parse_operators (parse_expression below) turns below m derivation rest
 
-pub climbing_first : (max_height below m : ℕ) (all : List Symbol) (left : ParsedExpr) (rest : List Symbol) → max_height ≡ below + 1 → ParsesExpr left rest (parse_unary (parse_expression below) (length all) (below + 1) all) → length rest ≤ length all → Climbing max_height below m all left rest
+pub climbing_first : {builds : Bool} (max_height below m : ℕ) (all : List Symbol) (left : ParsedExpr) (rest : List Symbol) → max_height ≡ below + 1 → ParsesExpr builds left rest (parse_unary (parse_expression below) (length all) (below + 1) all) → length rest ≤ length all → Climbing builds max_height below m all left rest
 climbing_first max_height below m all left rest under given short = record {
   derivation = given.derivation;
   turns = length all;
@@ -56,7 +56,7 @@ climb_stops r (suc k) n m d (word (kind.Operator op) text ∷ ts) stop = sym (co
 climb_stops r (suc k) n m d ts stop = refl
 
 -- no operator follows
-pub climbing_stops : (max_height below m : ℕ) (all ts : List Symbol) (left : ParsedExpr) → Climbing max_height below m all left ts → HasNoOperator m ts → ParsesExpr left ts (parse_expression max_height m all)
+pub climbing_stops : {builds : Bool} (max_height below m : ℕ) (all ts : List Symbol) (left : ParsedExpr) → Climbing builds max_height below m all left ts → HasNoOperator m ts → ParsesExpr builds left ts (parse_expression max_height m all)
 climbing_stops max_height below m all ts left climbing stop = record {
   derivation = climbing.derivation;
   is = climbing.goes ∙ climb_stops (parse_expression below) climbing.turns below m climbing.derivation ts stop;
@@ -77,7 +77,7 @@ climb_on r (suc k) n m op d ts us takes turns low = (
   ap (parse_operators r (suc k) n m d) takes.first ∙ sym (cond_above (precedence op) m (Ok (d, word (kind.Operator op) takes.text ∷ us)) _ _ takes.least refl) ∙ sym (cond_above n (height d) (Err too_high) _ _ low refl),
 )
 
-module _ (max_height below m : ℕ) (all ts : List Symbol) (left : ParsedExpr) (climbing : Climbing max_height below m all left ts) (op : ℕ) (us : List Symbol) (takes : EatsOperator m op ts us) where
+module _ {builds : Bool} (max_height below m : ℕ) (all ts : List Symbol) (left : ParsedExpr) (climbing : Climbing builds max_height below m all left ts) (op : ℕ) (us : List Symbol) (takes : EatsOperator m op ts us) where
   -- what is before the operator is too high
   pub climbing_deep : below < left.height → parse_expression max_height m all ≡ Err too_high
   climbing_deep high =
@@ -103,8 +103,8 @@ module _ (max_height below m : ℕ) (all ts : List Symbol) (left : ParsedExpr) (
         fails_first e (parse_expression below (right_precedence op) vs) (λ x. parse_operators (parse_expression below) step.0 below m (binary op takes.text modifier climbing.derivation x.0) x.1) (parse_expression max_height m all)
         (climbing.goes ∙ step.2 ∙ ap (λ o. o then λ y. parse_expression below (right_precedence op) y.1 then λ x. parse_operators (parse_expression below) step.0 below m (binary op takes.text y.0 climbing.derivation x.0) x.1) modified) fails
 
-    pub climbing_on : (ws : List Symbol) (right made : ParsedExpr) → left.height ≤ below → length vs ≤ length us → ParsesExpr right ws (parse_expression below (right_precedence op) vs) → length ws ≤ length vs
-        → ((text : Text) (l r : Derivation) → IsExprOf left l → IsExprOf right r → IsExprOf made (binary op text modifier l r)) → Climbing max_height below m all made ws
+    pub climbing_on : (ws : List Symbol) (right made : ParsedExpr) → left.height ≤ below → length vs ≤ length us → ParsesExpr (builds && is_ok left.value) right ws (parse_expression below (right_precedence op) vs) → length ws ≤ length vs
+        → ((text : Text) (l r : Derivation) → IsExprOf builds left l → IsExprOf (builds && is_ok left.value) right r → IsExprOf builds made (binary op text modifier l r)) → Climbing builds max_height below m all made ws
     climbing_on ws right made low shorter given short built =
         let so_far = climbing.built in
         let tall = so_far.tall in

@@ -1,6 +1,6 @@
 -- What the loop over arguments keeps.
-use Rattle.std.proofs.Common.{◌≡◌, ℕ, zero, suc, ◌≤◌, refl, sym, ◌∙◌, ap, arith, List, ◌∷◌, length}
-use Rattle.std.specs.Prelude.{Ok, Err}
+use Rattle.std.proofs.Common.{◌≡◌, ℕ, Bool, true, false, ◌&&◌, zero, suc, ◌≤◌, refl, sym, ◌∙◌, ap, arith, List, ◌∷◌, length}
+use Rattle.std.specs.Prelude.{Ok, Err, is_ok}
 use Rattle.promql_grammar.specs.declared.token_kinds.TokenKind.TheVariants as kind
 use Rattle.promql_grammar.specs.Results.{◌then◌}
 use Rattle.promql_grammar.specs.Symbols.{Symbol, punct}
@@ -38,11 +38,11 @@ joined_one d (Ok y) = refl
 joined_one d (Err e) = refl
 
 -- some arguments were parsed, and parsing goes on after them
-pub record Collecting (r : Reader) (all : List Symbol) (args : ParsedArgs) (rest : List Symbol) : Type 0 where
+pub record Collecting (builds : Bool) (r : Reader) (all : List Symbol) (args : ParsedArgs) (rest : List Symbol) : Type 0 where
   pub derivations : grammar.Arguments
   pub turns : ℕ
   pub enough : length rest ≤ turns
-  pub built : AreArgsOf args derivations
+  pub built : AreArgsOf builds args derivations
   pub goes : parse_arguments r all ≡ joined_arguments derivations (parse_more_arguments r turns rest)
 
 arguments_open : (r : Reader) (ts : List Symbol) → HasNo kind.RightParen ts → parse_arguments r ts ≡ (r 0 ts then λ x. parse_more_arguments r (length ts) x.1 then λ y. Ok (grammar.more x.0 y.0, y.1))
@@ -54,13 +54,18 @@ pub arguments_fail : (r : Reader) (ts : List Symbol) (e : Failure) → HasNo kin
 arguments_fail r ts e none fails =
     fails_first e (r 0 ts) (λ x. parse_more_arguments r (length ts) x.1 then λ y. Ok (grammar.more x.0 y.0, y.1)) (parse_arguments r ts) (arguments_open r ts none) fails
 
-pub collecting_first : (r : Reader) (ts us : List Symbol) (args more : ParsedArgs) (parsed : ParsedExpr) → HasNo kind.RightParen ts → ParsesExpr parsed us (r 0 ts) → length us ≤ length ts → AreArgsOf args grammar.none
-    → ((ds : grammar.Arguments) (d : grammar.Derivation) → AreArgsOf args ds → IsExprOf parsed d → AreArgsOf more (append_derivation ds d)) → Collecting r ts more us
-collecting_first r ts us args more parsed none given short empty built = record {
+-- what is built, is built where more is asked of it
+fewer : (builds asked : Bool) (parsed : ParsedExpr) (d : grammar.Derivation) → IsExprOf builds parsed d → IsExprOf (builds && asked) parsed d
+fewer true asked parsed d is = record { tall = is.tall; built = λ on. is.built refl }
+fewer false asked parsed d is = record { tall = is.tall; built = λ on. is.built on }
+
+pub collecting_first : {builds : Bool} (r : Reader) (ts us : List Symbol) (args more : ParsedArgs) (parsed : ParsedExpr) → HasNo kind.RightParen ts → ParsesExpr builds parsed us (r 0 ts) → length us ≤ length ts → AreArgsOf builds args grammar.none
+    → ((ds : grammar.Arguments) (d : grammar.Derivation) → AreArgsOf builds args ds → IsExprOf (builds && is_ok args.value) parsed d → AreArgsOf builds more (append_derivation ds d)) → Collecting builds r ts more us
+collecting_first {builds} r ts us args more parsed none given short empty built = record {
   derivations = grammar.more given.derivation grammar.none;
   turns = length ts;
   enough = short;
-  built = built grammar.none given.derivation empty given.built;
+  built = built grammar.none given.derivation empty (fewer builds (is_ok args.value) parsed given.derivation given.built);
   goes = arguments_open r ts none
       ∙ ap (λ o. o then λ x. parse_more_arguments r (length ts) x.1 then λ y. Ok (grammar.more x.0 y.0, y.1)) given.is
       ∙ joined_one given.derivation (parse_more_arguments r (length ts) us);
@@ -81,7 +86,7 @@ rest_none r (suc k) (punct kind.RightParen ∷ ts) no_comma no_paren = absurd (n
 rest_none r (suc k) (punct kind.Comma ∷ ts) no_comma no_paren = absurd (no_comma refl)
 rest_none r (suc k) ts no_comma no_paren = refl
 
-module _ (r : Reader) (all ts : List Symbol) (args : ParsedArgs) (collecting : Collecting r all args ts) where
+module _ {builds : Bool} (r : Reader) (all ts : List Symbol) (args : ParsedArgs) (collecting : Collecting builds r all args ts) where
   pub collecting_fails : (us : List Symbol) (e : Failure) → ts ≡ punct kind.Comma ∷ us → Fails e (r 0 us) → Fails e (parse_arguments r all)
   collecting_fails us e is fails =
       let step = rest_comma r collecting.turns ts us is collecting.enough in
@@ -89,8 +94,8 @@ module _ (r : Reader) (all ts : List Symbol) (args : ParsedArgs) (collecting : C
       (collecting.goes ∙ ap (joined_arguments collecting.derivations) step.2)
       (fails_bind e (r 0 us) (λ x. parse_more_arguments r step.0 x.1 then λ y. Ok (grammar.more x.0 y.0, y.1)) fails)
 
-  pub collecting_on : (us vs : List Symbol) (more : ParsedArgs) (parsed : ParsedExpr) → ts ≡ punct kind.Comma ∷ us → ParsesExpr parsed vs (r 0 us) → length vs ≤ length us
-      → ((ds : grammar.Arguments) (d : grammar.Derivation) → AreArgsOf args ds → IsExprOf parsed d → AreArgsOf more (append_derivation ds d)) → Collecting r all more vs
+  pub collecting_on : (us vs : List Symbol) (more : ParsedArgs) (parsed : ParsedExpr) → ts ≡ punct kind.Comma ∷ us → ParsesExpr (builds && is_ok args.value) parsed vs (r 0 us) → length vs ≤ length us
+      → ((ds : grammar.Arguments) (d : grammar.Derivation) → AreArgsOf builds args ds → IsExprOf (builds && is_ok args.value) parsed d → AreArgsOf builds more (append_derivation ds d)) → Collecting builds r all more vs
   collecting_on us vs more parsed is given short built =
       let step = rest_comma r collecting.turns ts us is collecting.enough in
       record {
@@ -106,7 +111,7 @@ module _ (r : Reader) (all ts : List Symbol) (args : ParsedArgs) (collecting : C
   pub collecting_none : HasNo kind.Comma ts → HasNo kind.RightParen ts → parse_arguments r all ≡ Err (misfit ts)
   collecting_none no_comma no_paren = collecting.goes ∙ ap (joined_arguments collecting.derivations) (rest_none r collecting.turns ts no_comma no_paren)
 
-  pub collecting_ends : (us : List Symbol) → ts ≡ punct kind.RightParen ∷ us → ParsesArgs args us (parse_arguments r all)
+  pub collecting_ends : (us : List Symbol) → ts ≡ punct kind.RightParen ∷ us → ParsesArgs builds args us (parse_arguments r all)
   collecting_ends us is = record {
     derivations = collecting.derivations;
     is = collecting.goes ∙ ap (joined_arguments collecting.derivations) (rest_close r collecting.turns ts us is collecting.enough) ∙ ap (λ (l : grammar.Arguments). Ok (l, us)) (join_none collecting.derivations);

@@ -50,29 +50,31 @@ turn n rest us i some is =
     let next : n ≡ suc (n - 1) = omega arith in
     ap (λ k. parse_items k rest) next ∙ ap (λ o. o then λ x. parse_after_item (parse_items (n - 1)) x.0 x.1) is ∙ after_step (parse_items (n - 1)) i us
 
+-- building goes on from what is held
+pub record Builds (held : Result PlainMatchers BuildError) (separator : Separator) (whole : Items → Items) : Type 0 where
+  pub answers : List Asked
+  pub allowed : AreAllowed answers
+  pub ends : (is : Items) (more : List Asked) (after : Result PlainMatchers BuildError) → ItemsEnd held separator is more after → Ends (braces_value (items (whole is))) (answers ++ more) after
+
 -- matchers were read, and parsing goes on
-pub record Selecting (all rest : List Symbol) (held : Result PlainMatchers BuildError) (by_or : Bool) : Type 0 where
+pub record Selecting (builds : Bool) (all rest : List Symbol) (held : Result PlainMatchers BuildError) (by_or : Bool) : Type 0 where
   pub turns : ℕ
   pub enough : length rest ≤ turns
   pub separator : Separator
   pub same : by_or ≡ is_or separator
   pub whole : Items → Items
   pub goes : parse_braces all ≡ (parse_items turns rest then λ y. Ok (items (whole y.0), y.1))
-  pub answers : List Asked
-  pub allowed : AreAllowed answers
-  pub built : (is : Items) (more : List Asked) (after : Result PlainMatchers BuildError) → ItemsEnd held separator is more after → Ends (braces_value (items (whole is))) (answers ++ more) after
+  pub built : builds ≡ true → Builds held separator whole
 
-pub selecting_starts : (all : List Symbol) → HasNo kind.RightBrace all → Selecting all all (Ok (plain_matchers [] [])) false
-selecting_starts all none = record {
+pub selecting_starts : (builds : Bool) (all : List Symbol) → HasNo kind.RightBrace all → Selecting builds all all (Ok (plain_matchers [] [])) false
+selecting_starts builds all none = record {
   turns = length all;
   enough = omega arith;
   separator = comma;
   same = refl;
   whole = λ is. is;
   goes = some_items all none;
-  answers = [];
-  allowed = tt;
-  built = λ is more after ends. ends;
+  built = λ on. record { answers = []; allowed = tt; ends = λ is more after ends. ends };
 }
 
 fault_on : (f : BuildError) (held : Result PlainMatchers BuildError) (s : Separator) (is : Items) (more : List Asked) (after : Result PlainMatchers BuildError) → held ≡ Err f → ItemsEnd held s is more after → (more ≡ []) × (after ≡ Err f)
@@ -120,7 +122,7 @@ joining_end group closes same = cc
 joining_end group comma_closes same = cc
 joining_end group (joins s) same = (s, refl, cc)
 
-module _ (all rest : List Symbol) (held : Result PlainMatchers BuildError) (by_or : Bool) (selecting : Selecting all rest held by_or) where
+module _ (builds : Bool) (all rest : List Symbol) (held : Result PlainMatchers BuildError) (by_or : Bool) (selecting : Selecting builds all rest held by_or) where
   step : (i : Item) (us : List Symbol) → 0 < length rest → parse_item rest ≡ Ok (i, us)
       → parse_braces all ≡ ((parse_item_end us then items_after (parse_items (selecting.turns - 1)) i) then λ y. Ok (items (selecting.whole y.0), y.1))
   step i us some is =
@@ -137,7 +139,7 @@ module _ (all rest : List Symbol) (held : Result PlainMatchers BuildError) (by_o
       (fails_then e (parse_item_end us) (items_after (parse_items (selecting.turns - 1)) i) fails))
 
   pub selecting_on : (i : Item) (us vs : List Symbol) (s : Separator) (next : Result PlainMatchers BuildError) (group : Bool)
-      → parse_item rest ≡ Ok (i, us) → parse_item_end us ≡ Ok (joins s, vs) → length us < length rest → length vs < length us → AddsItem held selecting.separator i next → group ≡ is_or s → Selecting all vs next group
+      → parse_item rest ≡ Ok (i, us) → parse_item_end us ≡ Ok (joins s, vs) → length us < length rest → length vs < length us → (builds ≡ true → AddsItem held selecting.separator i next) → group ≡ is_or s → Selecting builds all vs next group
   selecting_on i us vs s next group is ends short shorter added same = record {
     turns = selecting.turns - 1;
     enough = let enough = selecting.enough in omega arith;
@@ -148,41 +150,52 @@ module _ (all rest : List Symbol) (held : Result PlainMatchers BuildError) (by_o
         step i us (omega arith) is
         ∙ ap (λ o. (o then items_after (parse_items (selecting.turns - 1)) i) then λ y. Ok (items (selecting.whole y.0), y.1)) ends
         ∙ then_then (parse_items (selecting.turns - 1) vs) (λ y. Ok (next_item i s y.0, y.1)) (λ y. Ok (items (selecting.whole y.0), y.1));
-    answers = selecting.answers ++ added.answers;
-    allowed = allowed_all selecting.answers added.answers selecting.allowed added.allowed;
-    built = λ is more after rest_ends.
-        subst (λ l. Ends (braces_value (items (selecting.whole (next_item i s is)))) l after) (sym (append_assoc selecting.answers added.answers more))
-        (selecting.built (next_item i s is) (added.answers ++ more) after (items_on held next selecting.separator s i is added.answers more after added.ends rest_ends));
+    built = λ on.
+        let so_far = selecting.built on in
+        let adds = added on in
+        record {
+          answers = so_far.answers ++ adds.answers;
+          allowed = allowed_all so_far.answers adds.answers so_far.allowed adds.allowed;
+          ends = λ is more after rest_ends.
+              subst (λ l. Ends (braces_value (items (selecting.whole (next_item i s is)))) l after) (sym (append_assoc so_far.answers adds.answers more))
+              (so_far.ends (next_item i s is) (adds.answers ++ more) after (items_on held next selecting.separator s i is adds.answers more after adds.ends rest_ends));
+        };
   }
 
   pub selecting_ends : (i : Item) (us vs : List Symbol) (value : Result code.Matchers (Box build_errors.BuildError Global)) (end : ItemEnd)
-      → parse_item rest ≡ Ok (i, us) → 0 < length rest → parse_item_end us ≡ Ok (end, vs) → ¬ ((s : Separator) × (end ≡ joins s)) → AddsItem held selecting.separator i (view_result plain_matchers_of value) → ParsesAskedPart plain_matchers_of braces_value value vs (parse_braces all)
+      → parse_item rest ≡ Ok (i, us) → 0 < length rest → parse_item_end us ≡ Ok (end, vs) → ¬ ((s : Separator) × (end ≡ joins s)) → (builds ≡ true → AddsItem held selecting.separator i (view_result plain_matchers_of value)) → ParsesAskedPart builds plain_matchers_of braces_value value vs (parse_braces all)
   selecting_ends i us vs value closes is some ends other added = record {
     part = items (selecting.whole (last_item i));
     is = step i us some is ∙ ap (λ o. (o then items_after (parse_items (selecting.turns - 1)) i) then λ y. Ok (items (selecting.whole y.0), y.1)) ends;
-    built = record {
-      answers = selecting.answers ++ added.answers;
-      allowed = allowed_all selecting.answers added.answers selecting.allowed added.allowed;
-      ends = selecting.built (last_item i) added.answers _ (items_end held _ selecting.separator i added.answers added.ends);
-    };
+    built = λ on.
+        let so_far = selecting.built on in
+        let adds = added on in
+        record {
+          answers = so_far.answers ++ adds.answers;
+          allowed = allowed_all so_far.answers adds.answers so_far.allowed adds.allowed;
+          ends = so_far.ends (last_item i) adds.answers _ (items_end held _ selecting.separator i adds.answers adds.ends);
+        };
   }
   selecting_ends i us vs value comma_closes is some ends other added = record {
     part = items (selecting.whole (last_item_comma i));
     is = step i us some is ∙ ap (λ o. (o then items_after (parse_items (selecting.turns - 1)) i) then λ y. Ok (items (selecting.whole y.0), y.1)) ends;
-    built = record {
-      answers = selecting.answers ++ added.answers;
-      allowed = allowed_all selecting.answers added.answers selecting.allowed added.allowed;
-      ends = selecting.built (last_item_comma i) added.answers _ (items_end_comma held _ selecting.separator i added.answers added.ends);
-    };
+    built = λ on.
+        let so_far = selecting.built on in
+        let adds = added on in
+        record {
+          answers = so_far.answers ++ adds.answers;
+          allowed = allowed_all so_far.answers adds.answers so_far.allowed adds.allowed;
+          ends = so_far.ends (last_item_comma i) adds.answers _ (items_end_comma held _ selecting.separator i adds.answers adds.ends);
+        };
   }
   selecting_ends i us vs value (joins s) is some ends other added = absurd (other (s, refl))
 
   pub selecting_last : (i : Item) (us vs : List Symbol) (value : Result code.Matchers (Box build_errors.BuildError Global))
-      → parse_item rest ≡ Ok (i, us) → 0 < length rest → ParsesItemEnd None vs (parse_item_end us) → AddsItem held selecting.separator i (view_result plain_matchers_of value) → ParsesAskedPart plain_matchers_of braces_value value vs (parse_braces all)
+      → parse_item rest ≡ Ok (i, us) → 0 < length rest → ParsesItemEnd None vs (parse_item_end us) → (builds ≡ true → AddsItem held selecting.separator i (view_result plain_matchers_of value)) → ParsesAskedPart builds plain_matchers_of braces_value value vs (parse_braces all)
   selecting_last i us vs value is some ends added = selecting_ends i us vs value ends.end is some ends.is (last_end ends.end ends.same) added
 
   pub selecting_more : (i : Item) (us vs : List Symbol) (next : Result PlainMatchers BuildError) (group : Bool)
-      → parse_item rest ≡ Ok (i, us) → ParsesItemEnd (Some group) vs (parse_item_end us) → length us < length rest → length vs < length us → AddsItem held selecting.separator i next → Selecting all vs next group
+      → parse_item rest ≡ Ok (i, us) → ParsesItemEnd (Some group) vs (parse_item_end us) → length us < length rest → length vs < length us → (builds ≡ true → AddsItem held selecting.separator i next) → Selecting builds all vs next group
   selecting_more i us vs next group is ends short shorter added =
       let joined = joining_end group ends.end ends.same in
       selecting_on i us vs joined.0 next group is (ends.is ∙ ap (λ e. Ok (e, vs)) joined.1) short shorter added joined.2

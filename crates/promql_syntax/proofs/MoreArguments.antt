@@ -1,5 +1,5 @@
 -- Building arguments with one more after them.
-use Rattle.std.proofs.Common.{◌≡◌, ◌⊎◌, inl, inr, ⊎_elim, max, refl, sym, ap, subst, arith, List, [], ◌∷◌, ◌++◌, map}
+use Rattle.std.proofs.Common.{◌≡◌, ◌⊎◌, Bool, true, inl, inr, ⊎_elim, max, refl, sym, ap, subst, arith, List, [], ◌∷◌, ◌++◌, map}
 use Rattle.std.specs.Prelude.{Result, Ok, Err}
 use Rattle.promql_ast.specs.Arguments.{append_tree}
 use Rattle.promql_ast.specs.View.{trees}
@@ -109,12 +109,34 @@ followed_height : (ds : grammar.Arguments) (d : grammar.Derivation) → grammar.
 followed_height grammar.none d = omega arith
 followed_height (grammar.more e ds) d = let rest = followed_height ds d in omega arith
 
-pub more_arguments_of : (made args : ParsedArgs) (parsed : ParsedExpr) (ds : grammar.Arguments) (d : grammar.Derivation) (o : Result Trees BuildError) (p : Result Tree BuildError) → trees_result made ≡ combine_results o p → made.height ≡ max args.height parsed.height
-    → AreArgsOf args ds → IsExprOf parsed d → EndsIn (build_all ds) o → EndsIn (build d) p → AreArgsOf made (append_derivation ds d)
-more_arguments_of made args parsed ds d o p value tall before last first second = record {
-  tall = let one = before.tall in let other = last.tall in let all = followed_height ds d in omega arith;
-  built = subst (EndsIn (build_all (append_derivation ds d))) (sym value) (more_ends ds d o p first second);
-}
+-- a fault comes before one more argument
+fault_ends : (ds : grammar.Arguments) (d : grammar.Derivation) (f : BuildError) → EndsIn (build_all ds) (Err f) → EndsIn (build_all (append_derivation ds d)) (Err f)
+fault_ends grammar.none d f ends = let other : Err f ≡ Ok no_trees = given_ends no_trees (Err f) ends in cc
+fault_ends (grammar.more e ds) d f ends =
+    let rest : Tree → Asking Trees = λ t. build_all (append_derivation ds d) giving λ us. gives (first_tree t us) in
+    ⊎_elim (λ h. subst (EndsIn (build e giving rest)) (sym h.is) (then_fault (build e) rest h.fault h.ends))
+    (λ l. then_value (build e) rest l.value (Err f) l.before
+    (⊎_elim (λ h. subst (EndsIn (rest l.value)) (sym h.is) (then_fault (build_all (append_derivation ds d)) (λ us. gives (first_tree l.value us)) h.fault (fault_ends ds d h.fault h.ends)))
+    (λ k. let other : Err f ≡ Ok (first_tree l.value k.value) = given_ends (first_tree l.value k.value) (Err f) k.after in cc)
+    (split_in (build_all ds) (λ us. gives (first_tree l.value us)) (Err f) l.after)))
+    (split_in (build e) (λ t. build_all ds giving λ us. gives (first_tree t us)) (Err f) ends)
+
+module _ {builds next : Bool} (made args : ParsedArgs) (parsed : ParsedExpr) (ds : grammar.Arguments) (d : grammar.Derivation) (tall : made.height ≡ max args.height parsed.height) (before : AreArgsOf builds args ds) (last : IsExprOf next parsed d) where
+  tall_arguments : made.height ≡ grammar.greatest_height (append_derivation ds d)
+  tall_arguments = let one = before.tall in let other = last.tall in let all = followed_height ds d in omega arith
+
+  pub more_arguments_of : (o : Result Trees BuildError) (p : Result Tree BuildError) → trees_result made ≡ combine_results o p → (builds ≡ true → EndsIn (build_all ds) o) → (builds ≡ true → EndsIn (build d) p)
+      → AreArgsOf builds made (append_derivation ds d)
+  more_arguments_of o p value first second = record {
+    tall = tall_arguments;
+    built = λ on. subst (EndsIn (build_all (append_derivation ds d))) (sym value) (more_ends ds d o p (first on) (second on));
+  }
+
+  pub no_arguments_of : (f : BuildError) → trees_result made ≡ Err f → (builds ≡ true → EndsIn (build_all ds) (Err f)) → AreArgsOf builds made (append_derivation ds d)
+  no_arguments_of f value first = record {
+    tall = tall_arguments;
+    built = λ on. subst (EndsIn (build_all (append_derivation ds d))) (sym value) (fault_ends ds d f (first on));
+  }
 
 pub appended_trees : {X : Type 0} (f : X → Tree) (xs : List X) (x : X) → trees (map f (xs ++ x ∷ [])) ≡ append_tree (trees (map f xs)) (f x)
 appended_trees f [] x = refl

@@ -1,5 +1,5 @@
 -- What the loop over postfixes keeps.
-use Rattle.std.proofs.Common.{◌≡◌, ℕ, zero, suc, ◌+◌, ◌<◌, ◌≤◌, false, refl, sym, ◌∙◌, ap, arith, List, [], ◌∷◌, length, true≢false}
+use Rattle.std.proofs.Common.{◌≡◌, ℕ, Bool, zero, suc, ◌+◌, ◌<◌, ◌≤◌, false, refl, sym, ◌∙◌, ap, arith, List, [], ◌∷◌, length, true≢false}
 use Rattle.std.specs.Prelude.{Option, Some, None, Ok, Err}
 use Rattle.std.proofs.lemmas.Bool.{cond_above, cond_below}
 use Rattle.promql_text.specs.Texts.{Text}
@@ -19,14 +19,14 @@ use Rattle.promql_syntax.specs.Postfixes.{IsPostfixOf, starts_postfix}
 use Rattle.promql_syntax.proofs.ReadErrorSteps.{fails_first, fails_same}
 
 -- a base and some postfixes were parsed, and parsing goes on after them
-pub record Postfixing (k n : ℕ) (d : Derivation) (all : List Symbol) (parsed : ParsedExpr) (rest : List Symbol) : Type 0 where
+pub record Postfixing (builds : Bool) (k n : ℕ) (d : Derivation) (all : List Symbol) (parsed : ParsedExpr) (rest : List Symbol) : Type 0 where
   pub derivation : Derivation
   pub turns : ℕ
   pub enough : length rest ≤ turns
-  pub built : IsExprOf parsed derivation
+  pub built : IsExprOf builds parsed derivation
   pub goes : parse_postfixes k n d all ≡ parse_postfixes turns n derivation rest
 
-pub postfixing_first : (k n : ℕ) (d : Derivation) (ts : List Symbol) (parsed : ParsedExpr) → IsExprOf parsed d → length ts ≤ k → Postfixing k n d ts parsed ts
+pub postfixing_first : {builds : Bool} (k n : ℕ) (d : Derivation) (ts : List Symbol) (parsed : ParsedExpr) → IsExprOf builds parsed d → length ts ≤ k → Postfixing builds k n d ts parsed ts
 postfixing_first k n d ts parsed built enough = record { derivation = d; turns = k; enough = enough; built = built; goes = refl }
 
 rest_of : Read (Option Postfix) → List Symbol
@@ -60,8 +60,8 @@ postfixes_on (suc k) n d ts us p short enough some low = (
   ap (λ o. o then λ q. parse_more_postfixes (parse_postfixes k n) n d q.0 q.1) some ∙ sym (cond_above n (height (postfixed d p)) (Err too_high) _ _ low refl),
 )
 
-module _ (k n : ℕ) (d : Derivation) (all ts : List Symbol) (parsed : ParsedExpr) (postfixing : Postfixing k n d all parsed ts) where
-  pub postfixing_ends : (us : List Symbol) → parse_postfix ts ≡ Ok (None, us) → ParsesExpr parsed us (parse_postfixes k n d all)
+module _ {builds : Bool} (k n : ℕ) (d : Derivation) (all ts : List Symbol) (parsed : ParsedExpr) (postfixing : Postfixing builds k n d all parsed ts) where
+  pub postfixing_ends : (us : List Symbol) → parse_postfix ts ≡ Ok (None, us) → ParsesExpr builds parsed us (parse_postfixes k n d all)
   postfixing_ends us none = record {
     derivation = postfixing.derivation;
     is = postfixing.goes ∙ postfixes_none postfixing.turns n postfixing.derivation ts us postfixing.enough none;
@@ -80,7 +80,7 @@ module _ (k n : ℕ) (d : Derivation) (all ts : List Symbol) (parsed : ParsedExp
         postfixing.goes ∙ postfixes_deep postfixing.turns n postfixing.derivation ts us p short postfixing.enough some (omega arith)
 
     pub postfixing_on : (made : ParsedExpr) → parsed.height + held.added_height ≤ n
-        → ((e : Derivation) (q : Postfix) → IsExprOf parsed e → IsPostfixOf held q → IsExprOf made (postfixed e q)) → Postfixing k n d all made us
+        → ((e : Derivation) (q : Postfix) → IsExprOf builds parsed e → IsPostfixOf held q → IsExprOf builds made (postfixed e q)) → Postfixing builds k n d all made us
     postfixing_on made low built =
         let so_far = postfixing.built in
         let tall = so_far.tall in
@@ -114,5 +114,5 @@ pub no_postfix_left : (ts : List Symbol) → ts ≡ [] → parse_postfix ts ≡ 
 no_postfix_left ts end = ap parse_postfix end ∙ ap (λ l. Ok (None, l)) (sym end)
 
 -- a base that no postfix follows
-pub no_postfixes : (k n : ℕ) (d : Derivation) (ts : List Symbol) (parsed : ParsedExpr) → IsExprOf parsed d → length ts ≤ k → parse_postfix ts ≡ Ok (None, ts) → ParsesExpr parsed ts (parse_postfixes k n d ts)
+pub no_postfixes : {builds : Bool} (k n : ℕ) (d : Derivation) (ts : List Symbol) (parsed : ParsedExpr) → IsExprOf builds parsed d → length ts ≤ k → parse_postfix ts ≡ Ok (None, ts) → ParsesExpr builds parsed ts (parse_postfixes k n d ts)
 no_postfixes k n d ts parsed built enough none = record { derivation = d; is = postfixes_none k n d ts ts enough none; built = built }

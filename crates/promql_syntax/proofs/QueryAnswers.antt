@@ -1,5 +1,5 @@
 -- From what parsing gives to the answer.
-use Rattle.std.proofs.Common.{◌≡◌, ℕ, ◌+◌, ◌<◌, ◌≤◌, true, false, suc, refl, sym, ◌∙◌, ap, subst, arith, List, [], ◌∷◌, ◌++◌, length, append-nil}
+use Rattle.std.proofs.Common.{◌≡◌, ℕ, Bool, ◌+◌, ◌<◌, ◌≤◌, true, false, suc, refl, sym, ◌∙◌, ap, subst, arith, List, [], ◌∷◌, ◌++◌, length, append-nil}
 use Rattle.std.specs.Prelude.{◌==◌, Ok, Err}
 use Rattle.std.proofs.lemmas.Bool.Decides.{nat_tests}
 use Rattle.promql_grammar.specs.declared.read_error.ReadError.{ReadError}
@@ -35,7 +35,7 @@ whole_stops n ts rest Syntax fails = misfits n ts rest fails
 whole_stops n ts rest TooDeep fails = (too_deep_long n ts fails, too_deep_none n ts fails)
 
 -- something is left after what was read
-pub left_misfits : (n : ℕ) (ts rest : List Symbol) (parsed : ParsedExpr) → ParsesExpr parsed rest (parse_expression n 0 ts) → 0 < length rest → AreMisfits ts rest
+pub left_misfits : {builds : Bool} (n : ℕ) (ts rest : List Symbol) (parsed : ParsedExpr) → ParsesExpr builds parsed rest (parse_expression n 0 ts) → 0 < length rest → AreMisfits ts rest
 left_misfits n ts [] parsed given some = absurd (omega arith)
 left_misfits n ts (x ∷ rest) parsed given some = misfits_after n ts x rest given.derivation given.is
 
@@ -43,11 +43,11 @@ no_rest : (d : Derivation) (ts rest : List Symbol) → length rest ≡ 0 → ts 
 no_rest d ts [] none spells = sym (append-nil (yield d)) ∙ sym spells
 no_rest d ts (t ∷ rest) none spells = absurd (omega arith)
 
-pub whole_given : (n : ℕ) (ts rest : List Symbol) (parsed : ParsedExpr) → ParsesExpr parsed rest (parse_expression n 0 ts) → length rest ≡ 0 → ParsesQuery n ts rest (Ok parsed.value)
+pub whole_given : (n : ℕ) (ts rest : List Symbol) (parsed : ParsedExpr) → ParsesExpr true parsed rest (parse_expression n 0 ts) → length rest ≡ 0 → ParsesQuery n ts rest (Ok parsed.value)
 whole_given n ts rest parsed given none =
     let read = subst (Good n 0 ts) given.is ((expression_sound n).by 0 ts) in
     let is_expr_of = given.built in
-    let built = is_expr_of.built in
+    let built = is_expr_of.built refl in
     record {
       derivation = given.derivation;
       formed = read.formed;

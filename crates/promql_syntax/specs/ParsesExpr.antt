@@ -1,5 +1,5 @@
 -- What the parser's functions return, beside what parsing gives. Private: nothing rests on believing it.
-use Rattle.std.specs.Prelude.{◌≡◌, ◌≤◌, ℕ, length, List, Option, Some, None, Result, Ok, Err, MatchResult}
+use Rattle.std.specs.Prelude.{◌≡◌, ◌≤◌, ℕ, Bool, true, length, List, Option, Some, None, Result, Ok, Err, MatchResult}
 use Rattle.promql_grammar.specs.Failures.{Fails, Failure}
 use Rattle.promql_ast.specs.Faults.{Verdict, passes, rejected}
 use Rattle.promql_ast.specs.Tree.{Tree, Trees}
@@ -51,39 +51,39 @@ abbrev pub append_derivation : grammar.Arguments → grammar.Derivation → gram
 append_derivation grammar.none d = grammar.more d grammar.none
 append_derivation (grammar.more e ds) d = grammar.more e (append_derivation ds d)
 
--- what was built of a derivation, and its height
-pub record IsExprOf (parsed : ParsedExpr) (d : grammar.Derivation) : Type 0 where
+-- what was built of a derivation where it is built, and its height
+pub record IsExprOf (builds : Bool) (parsed : ParsedExpr) (d : grammar.Derivation) : Type 0 where
   pub tall : parsed.height ≡ grammar.height d
-  pub built : EndsIn (build d) (tree_result parsed)
+  pub built : builds ≡ true → EndsIn (build d) (tree_result parsed)
 
-pub record AreArgsOf (args : ParsedArgs) (ds : grammar.Arguments) : Type 0 where
+pub record AreArgsOf (builds : Bool) (args : ParsedArgs) (ds : grammar.Arguments) : Type 0 where
   pub tall : args.height ≡ grammar.greatest_height ds
-  pub built : EndsIn (build_all ds) (trees_result args)
+  pub built : builds ≡ true → EndsIn (build_all ds) (trees_result args)
 
 -- an expression was parsed, and these tokens are left
-pub record ParsesExpr (parsed : ParsedExpr) (rest : List Symbol) (read : Read grammar.Derivation) : Type 0 where
+pub record ParsesExpr (builds : Bool) (parsed : ParsedExpr) (rest : List Symbol) (read : Read grammar.Derivation) : Type 0 where
   pub derivation : grammar.Derivation
   pub is : read ≡ Ok (derivation, rest)
-  pub built : IsExprOf parsed derivation
+  pub built : IsExprOf builds parsed derivation
 
-pub record ParsesArgs (args : ParsedArgs) (rest : List Symbol) (read : Read grammar.Arguments) : Type 0 where
+pub record ParsesArgs (builds : Bool) (args : ParsedArgs) (rest : List Symbol) (read : Read grammar.Arguments) : Type 0 where
   pub derivations : grammar.Arguments
   pub is : read ≡ Ok (derivations, rest)
-  pub built : AreArgsOf args derivations
+  pub built : AreArgsOf builds args derivations
 
 -- a base was parsed, whatever postfixes follow: at most k, up to height n
-pub record ParsesBase (parsed : ParsedExpr) (rest : List Symbol) (read : ℕ → ℕ → Read grammar.Derivation) : Type 0 where
+pub record ParsesBase (builds : Bool) (parsed : ParsedExpr) (rest : List Symbol) (read : ℕ → ℕ → Read grammar.Derivation) : Type 0 where
   pub derivation : grammar.Derivation
   pub is : (k n : ℕ) → read k n ≡ parse_postfixes k n derivation rest
-  pub built : IsExprOf parsed derivation
+  pub built : IsExprOf builds parsed derivation
 
 abbrev pub FailsBase : Failure → (ℕ → ℕ → Read grammar.Derivation) → Type 0
 FailsBase failure read = (k n : ℕ) → Fails failure (read k n)
 
 -- the postfixes of a base were parsed, where the whole is of height at most n
-abbrev pub ParsesPostfixes : ℕ → ParsedExpr → List Symbol → List Symbol → Result ParsedExpr ReadError → Type 0
-ParsesPostfixes n base ts rest result =
-    (d : grammar.Derivation) (k : ℕ) → IsExprOf base d → length ts ≤ k → MatchResult result (λ parsed. ParsesExpr parsed rest (parse_postfixes k n d ts)) (λ e. Fails (e, rest) (parse_postfixes k n d ts))
+abbrev pub ParsesPostfixes : Bool → ℕ → ParsedExpr → List Symbol → List Symbol → Result ParsedExpr ReadError → Type 0
+ParsesPostfixes builds n base ts rest result =
+    (d : grammar.Derivation) (k : ℕ) → IsExprOf builds base d → length ts ≤ k → MatchResult result (λ parsed. ParsesExpr builds parsed rest (parse_postfixes k n d ts)) (λ e. Fails (e, rest) (parse_postfixes k n d ts))
 
 -- ---- what waits in a box: nothing, or a value or error
 

@@ -1,5 +1,5 @@
 -- What the parser's functions for parts return. Private: nothing rests on believing it.
-use Rattle.std.specs.Prelude.{◌≡◌, List, Result, Ok}
+use Rattle.std.specs.Prelude.{◌≡◌, Bool, true, List, Result, Ok}
 use Rattle.std.specs.declared.alloc.Global.{Global}
 use Rattle.std.specs.declared.boxed.Box.{Box}
 use Rattle.promql_grammar.specs.Symbols.{Symbol}
@@ -20,8 +20,8 @@ pub record ParsesPart {V A P : Type 0} (view : V → A) (builds : P → Result A
   pub is : read ≡ Ok (part, rest)
   pub built : view_result view value ≡ builds part
 
--- the same for a part that asks about patterns
-pub record ParsesAskedPart {V A P : Type 0} (view : V → A) (builds : P → Asking A) (value : Result V (Box code.BuildError Global)) (rest : List Symbol) (read : Read P) : Type 0 where
+-- the same for a part that asks about patterns, where it is built
+pub record ParsesAskedPart {V A P : Type 0} (asked : Bool) (view : V → A) (builds : P → Asking A) (value : Result V (Box code.BuildError Global)) (rest : List Symbol) (read : Read P) : Type 0 where
   pub part : P
   pub is : read ≡ Ok (part, rest)
-  pub built : IsBuiltBy view value (builds part)
+  pub built : asked ≡ true → IsBuiltBy view value (builds part)

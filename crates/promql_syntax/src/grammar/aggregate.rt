@@ -22,6 +22,7 @@ use std::alloc::Global;
 pub fn parse_aggregate(
     alloc: Global,
     max_height: usize,
+    builds: bool,
     op: TokenId,
     name: &str,
     start: usize,
@@ -29,7 +30,7 @@ pub fn parse_aggregate(
 ) -> Result<ParsedExpr, ReadError>
     requires { max_height ≤ MAX_DEPTH }
     ensures gives { MatchResult result
-        (λ parsed. ParsesBase parsed (symbols_left tokens.new)
+        (λ parsed. ParsesBase builds parsed (symbols_left tokens.new)
         (λ k n. parse_aggregate (parse_expression max_height) k n op name.now
         (symbols_left tokens.old)))
         (λ e. FailsBase (e, symbols_left tokens.new)
@@ -40,17 +41,24 @@ pub fn parse_aggregate(
         (length (symbols_left tokens.new) ≤ length (symbols_left tokens.old)) }
 {
     if tokens.eat(TokenKind::LeftParen) {
-        let args = parse_arguments(alloc, max_height, tokens)?;
+        let args = parse_arguments(alloc, max_height, builds, tokens)?;
         let grouping = parse_grouping(alloc, tokens)?;
         let extent = Extent::atom(start, tokens.index());
         return Ok(build_aggregate(alloc, op, grouping, args, &extent)?);
     }
     if !starts_grouping(tokens) {
-        return parse_selector(alloc, TokenKind::Aggregator(op), name, start, tokens);
+        return parse_selector(
+            alloc,
+            builds,
+            TokenKind::Aggregator(op),
+            name,
+            start,
+            tokens,
+        );
     }
     let grouping = parse_grouping(alloc, tokens)?;
     tokens.expect(TokenKind::LeftParen)?;
-    let args = parse_arguments(alloc, max_height, tokens)?;
+    let args = parse_arguments(alloc, max_height, builds, tokens)?;
     let extent = Extent::atom(start, tokens.index());
     Ok(build_aggregate(alloc, op, grouping, args, &extent)?)
 }

@@ -21,13 +21,14 @@ use std::alloc::Global;
 #[inline(never)]
 pub fn parse_atom(
     alloc: Global,
+    builds: bool,
     kind: TokenKind,
     text: &str,
     tokens: &mut Tokens<'_>,
 ) -> Result<ParsedExpr, ReadError>
     requires { symbols_left tokens.now ≡ symbol kind text.now ∷ drop 1 (symbols_left tokens.now) }
     ensures gives { MatchResult result
-        (λ parsed. ParsesBase parsed (symbols_left tokens.new)
+        (λ parsed. ParsesBase builds parsed (symbols_left tokens.new)
         (λ k n. parse_atom k n kind text.now (drop 1 (symbols_left tokens.old))))
         (λ e. FailsBase (e, symbols_left tokens.new)
         (λ k n. parse_atom k n kind text.now (drop 1 (symbols_left tokens.old)))) }
@@ -52,24 +53,25 @@ pub fn parse_atom(
         }
         TokenKind::LeftBrace => {
             tokens.bump();
-            let matchers = parse_braces(alloc, tokens)?;
+            let matchers = parse_braces(alloc, builds, tokens)?;
             let extent = Extent::atom(start, tokens.index());
             Ok(build_braces(alloc, matchers, &extent)?)
         }
-        _ => parse_named(alloc, kind, text, tokens),
+        _ => parse_named(alloc, builds, kind, text, tokens),
     }
 }
 
 /// Parses a selector, which begins with the token that is left first, if that is a name.
 fn parse_named(
     alloc: Global,
+    builds: bool,
     kind: TokenKind,
     name: &str,
     tokens: &mut Tokens<'_>,
 ) -> Result<ParsedExpr, ReadError>
     requires { symbols_left tokens.now ≡ symbol kind name.now ∷ drop 1 (symbols_left tokens.now) }
     ensures gives { MatchResult result
-        (λ parsed. ParsesBase parsed (symbols_left tokens.new)
+        (λ parsed. ParsesBase builds parsed (symbols_left tokens.new)
         (λ k n. parse_named k n kind name.now (drop 1 (symbols_left tokens.old))))
         (λ e. FailsBase (e, symbols_left tokens.new)
         (λ k n. parse_named k n kind name.now (drop 1 (symbols_left tokens.old)))) }
@@ -83,13 +85,14 @@ fn parse_named(
     }
     let start = tokens.index();
     tokens.bump();
-    parse_selector(alloc, kind, name, start, tokens)
+    parse_selector(alloc, builds, kind, name, start, tokens)
 }
 
 /// Parses a selector, after its name, whose first token has the index `start`.
 #[inline(always)]
 pub fn parse_selector(
     alloc: Global,
+    builds: bool,
     kind: TokenKind,
     name: &str,
     start: usize,
@@ -97,7 +100,7 @@ pub fn parse_selector(
 ) -> Result<ParsedExpr, ReadError>
     requires { may_be_name kind ≡ true }
     ensures gives { MatchResult result
-        (λ parsed. ParsesBase parsed (symbols_left tokens.new)
+        (λ parsed. ParsesBase builds parsed (symbols_left tokens.new)
         (λ k n. parse_selector k n kind name.now (symbols_left tokens.old)))
         (λ e. FailsBase (e, symbols_left tokens.new) (λ k n. parse_selector k n kind name.now (symbols_left tokens.old))) }
     ensures low { IfOk result (λ parsed. parsed.height ≡ 1) }
@@ -105,7 +108,7 @@ pub fn parse_selector(
         (length (symbols_left tokens.new) ≤ length (symbols_left tokens.old)) }
 {
     if tokens.eat(TokenKind::LeftBrace) {
-        return parse_selector_braces(alloc, name, start, tokens);
+        return parse_selector_braces(alloc, builds, name, start, tokens);
     }
     Ok(build_name(alloc, name)?)
 }
@@ -114,12 +117,13 @@ pub fn parse_selector(
 #[inline(never)]
 fn parse_selector_braces(
     alloc: Global,
+    builds: bool,
     name: &str,
     start: usize,
     tokens: &mut Tokens<'_>,
 ) -> Result<ParsedExpr, ReadError>
     ensures gives { (kind : kinds.TokenKind) → MatchResult result
-        (λ parsed. ParsesBase parsed (symbols_left tokens.new)
+        (λ parsed. ParsesBase builds parsed (symbols_left tokens.new)
         (λ k n. parse_selector_braces k n kind name.now (symbols_left tokens.old)))
         (λ e. FailsBase (e, symbols_left tokens.new) (λ k n. parse_selector_braces k n kind name.now
         (symbols_left tokens.old))) }
@@ -127,7 +131,7 @@ fn parse_selector_braces(
     ensures short { OnOk result
         (length (symbols_left tokens.new) < length (symbols_left tokens.old)) }
 {
-    let matchers = parse_braces(alloc, tokens)?;
+    let matchers = parse_braces(alloc, builds, tokens)?;
     let extent = Extent::atom(start, tokens.index());
     Ok(build_selector(alloc, name, matchers, &extent)?)
 }

@@ -1,6 +1,6 @@
 //! What each form of expression builds of its parts: their first error, or a checked node.
 
-ghost use Rattle.std.specs.Prelude.{◌≡◌, ℕ, ◌+◌, ◌≤◌, max, List, Option, None, Some, Ok, Err, IfOk, option_map};
+ghost use Rattle.std.specs.Prelude.{◌≡◌, ℕ, ◌+◌, ◌≤◌, max, Bool, ◌&&◌, is_ok, List, Option, None, Some, Ok, Err, IfOk, option_map};
 ghost use Rattle.promql_ast.specs.Checked.{check_tree};
 ghost use Rattle.promql_ast.specs.Faults.{GivesOrMemory, Verdict, fault_of, rejected};
 ghost use Rattle.promql_ast.specs.Settling.{SettlesAtOnce};
@@ -137,8 +137,8 @@ fn check_result(
 #[inline(never)]
 pub fn build_paren(alloc: Global, inner: ParsedExpr) -> Result<ParsedExpr, AllocError>
     requires { inner.height ≤ MAX_DEPTH }
-    ensures built { IfOk result (λ parsed. (d : grammar.Derivation)
-        → IsExprOf inner d → IsExprOf parsed (grammar.paren d)) }
+    ensures built { IfOk result (λ parsed. (builds : Bool) (d : grammar.Derivation)
+        → IsExprOf builds inner d → IsExprOf builds parsed (grammar.paren d)) }
     ensures low { IfOk result (λ parsed. parsed.height ≡ inner.height + 1) }
 {
     let ParsedExpr { height, value } = inner;
@@ -161,8 +161,8 @@ pub fn build_unary(
     extent: &Extent,
 ) -> Result<ParsedExpr, AllocError>
     requires { operand.height ≤ MAX_DEPTH }
-    ensures built { IfOk result (λ parsed. (text : List ℕ) (d : grammar.Derivation)
-        → IsExprOf operand d → IsExprOf parsed (grammar.unary op text d)) }
+    ensures built { IfOk result (λ parsed. (builds : Bool) (text : List ℕ) (d : grammar.Derivation)
+        → IsExprOf builds operand d → IsExprOf builds parsed (grammar.unary op text d)) }
     ensures low { IfOk result (λ parsed. parsed.height ≡ operand.height + 1) }
 {
     let ParsedExpr { height, value } = operand;
@@ -191,10 +191,10 @@ pub fn build_binary(
 ) -> Result<ParsedExpr, AllocError>
     requires low_left { left.height ≤ MAX_DEPTH }
     requires low_right { right.height ≤ MAX_DEPTH }
-    ensures built { IfOk result (λ parsed. (text : List ℕ) (m : part.Modifier)
+    ensures built { IfOk result (λ parsed. (builds : Bool) (text : List ℕ) (m : part.Modifier)
         (l r : grammar.Derivation)
-        → modifier_of modifier ≡ modifier_value m → IsExprOf left l
-        → IsExprOf right r → IsExprOf parsed (grammar.binary op text m l r)) }
+        → modifier_of modifier ≡ modifier_value m → IsExprOf builds left l
+        → IsExprOf (builds && is_ok left.value) right r → IsExprOf builds parsed (grammar.binary op text m l r)) }
     ensures low { IfOk result (λ parsed. parsed.height ≡ max left.height right.height + 1) }
 {
     let ParsedExpr {
@@ -273,8 +273,8 @@ pub fn build_call(
     extent: &Extent,
 ) -> Result<ParsedExpr, AllocError>
     requires { args.height ≤ MAX_DEPTH }
-    ensures built { IfOk result (λ parsed. (kind : kinds.TokenKind) (ds : grammar.Arguments)
-        → AreArgsOf args ds → IsExprOf parsed (grammar.call kind name.now ds)) }
+    ensures built { IfOk result (λ parsed. (builds : Bool) (kind : kinds.TokenKind) (ds : grammar.Arguments)
+        → AreArgsOf builds args ds → IsExprOf builds parsed (grammar.call kind name.now ds)) }
     ensures low { IfOk result (λ parsed. parsed.height ≡ args.height + 1) }
 {
     let ParsedArgs { height, value } = args;
@@ -307,10 +307,10 @@ pub fn build_aggregate(
     extent: &Extent,
 ) -> Result<ParsedExpr, AllocError>
     requires { args.height ≤ MAX_DEPTH }
-    ensures built { IfOk result (λ parsed. (text : List ℕ) (c : part.Clause)
+    ensures built { IfOk result (λ parsed. (builds : Bool) (text : List ℕ) (c : part.Clause)
         (ds : grammar.Arguments)
-        → view_result (option_map clause_of) clause ≡ clause_value c → AreArgsOf args ds
-        → IsExprOf parsed (grammar.aggregate op text c ds)) }
+        → view_result (option_map clause_of) clause ≡ clause_value c → AreArgsOf builds args ds
+        → IsExprOf builds parsed (grammar.aggregate op text c ds)) }
     ensures low { IfOk result (λ parsed. parsed.height ≡ args.height + 1) }
 {
     let ParsedArgs { height, value } = args;
@@ -330,7 +330,7 @@ pub fn build_aggregate(
 
 /// No arguments.
 pub fn empty_arguments(alloc: Global) -> ParsedArgs
-    ensures built { AreArgsOf result grammar.none }
+    ensures built { (builds : Bool) → AreArgsOf builds result grammar.none }
     ensures low { result.height ≡ 0 }
 {
     ParsedArgs {
@@ -342,8 +342,9 @@ pub fn empty_arguments(alloc: Global) -> ParsedArgs
 /// The arguments with one more.
 #[inline(always)]
 pub fn append_argument(args: ParsedArgs, parsed: ParsedExpr) -> Result<ParsedArgs, AllocError>
-    ensures built { IfOk result (λ more. (ds : grammar.Arguments) (d : grammar.Derivation)
-        → AreArgsOf args ds → IsExprOf parsed d → AreArgsOf more (append_derivation ds d)) }
+    ensures built { IfOk result (λ more. (builds : Bool) (ds : grammar.Arguments) (d : grammar.Derivation)
+        → AreArgsOf builds args ds → IsExprOf (builds && is_ok args.value) parsed d
+        → AreArgsOf builds more (append_derivation ds d)) }
     ensures low { IfOk result (λ more. more.height ≡ max args.height parsed.height) }
 {
     let ParsedArgs { height, value } = args;
@@ -385,8 +386,8 @@ pub fn build_postfix(
 ) -> Result<ParsedExpr, AllocError>
     requires low_base { base.height ≤ MAX_DEPTH + 1 }
     requires low_postfix { postfix.added_height ≤ 1 }
-    ensures built { IfOk result (λ parsed. (d : grammar.Derivation) (p : part.Postfix)
-        → IsExprOf base d → IsPostfixOf postfix p → IsExprOf parsed (grammar.postfixed d p)) }
+    ensures built { IfOk result (λ parsed. (builds : Bool) (d : grammar.Derivation) (p : part.Postfix)
+        → IsExprOf builds base d → IsPostfixOf postfix p → IsExprOf builds parsed (grammar.postfixed d p)) }
     ensures low { IfOk result (λ parsed. parsed.height ≡ base.height + postfix.added_height) }
 {
     let ParsedExpr { height, value } = base;

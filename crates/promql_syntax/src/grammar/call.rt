@@ -22,6 +22,7 @@ use std::alloc::Global;
 pub fn parse_call(
     alloc: Global,
     max_height: usize,
+    builds: bool,
     kind: TokenKind,
     name: &str,
     start: usize,
@@ -30,7 +31,7 @@ pub fn parse_call(
     requires max_height { max_height ≤ MAX_DEPTH }
     requires called { may_be_called kind ≡ true }
     ensures gives { MatchResult result
-        (λ parsed. ParsesBase parsed (symbols_left tokens.new)
+        (λ parsed. ParsesBase builds parsed (symbols_left tokens.new)
         (λ k n. parse_call (parse_expression max_height) k n kind name.now
         (symbols_left tokens.old)))
         (λ e. FailsBase (e, symbols_left tokens.new)
@@ -41,9 +42,9 @@ pub fn parse_call(
         (length (symbols_left tokens.new) ≤ length (symbols_left tokens.old)) }
 {
     if !tokens.eat(TokenKind::LeftParen) {
-        return parse_selector(alloc, kind, name, start, tokens);
+        return parse_selector(alloc, builds, kind, name, start, tokens);
     }
-    let args = parse_arguments(alloc, max_height, tokens)?;
+    let args = parse_arguments(alloc, max_height, builds, tokens)?;
     let extent = Extent::atom(start, tokens.index());
     Ok(build_call(alloc, name, args, &extent)?)
 }
@@ -53,11 +54,12 @@ pub fn parse_call(
 pub fn parse_arguments(
     alloc: Global,
     max_height: usize,
+    builds: bool,
     tokens: &mut Tokens<'_>,
 ) -> Result<ParsedArgs, ReadError>
     requires { max_height ≤ MAX_DEPTH }
     ensures gives { MatchResult result
-        (λ args. ParsesArgs args (symbols_left tokens.new)
+        (λ args. ParsesArgs builds args (symbols_left tokens.new)
         (parse_arguments (parse_expression max_height) (symbols_left tokens.old)))
         (λ e. Fails (e, symbols_left tokens.new) (parse_arguments (parse_expression max_height) (symbols_left tokens.old))) }
     ensures low { IfOk result (λ args. args.height ≤ max_height) }
@@ -68,10 +70,11 @@ pub fn parse_arguments(
     if tokens.eat(TokenKind::RightParen) {
         return Ok(args);
     }
-    let first = parse_expression(alloc, max_height, MIN_PRECEDENCE, tokens)?;
+    let first = parse_expression(alloc, max_height, MIN_PRECEDENCE, builds, tokens)?;
     args = append_argument(args, first)?;
     while tokens.eat(TokenKind::Comma) {
-        let next = parse_expression(alloc, max_height, MIN_PRECEDENCE, tokens)?;
+        let next_builds = args.goes_on(builds);
+        let next = parse_expression(alloc, max_height, MIN_PRECEDENCE, next_builds, tokens)?;
         args = append_argument(args, next)?;
     }
     tokens.expect(TokenKind::RightParen)?;

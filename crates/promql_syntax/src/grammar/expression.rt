@@ -28,17 +28,18 @@ use promql_kind::BinModifier;
 use std::alloc::Global;
 
 /// Parses an expression of height at most `max_height`, up to an operator of a precedence below
-/// `min_precedence`.
+/// `min_precedence`. It asks `regex` about patterns where `builds`: not after a fault, which comes first.
 #[cycle(parser)]
 pub(crate) fn parse_expression(
     alloc: Global,
     max_height: usize,
     min_precedence: usize,
+    builds: bool,
     tokens: &mut Tokens<'_>,
 ) -> Result<ParsedExpr, ReadError>
     requires { max_height ≤ MAX_DEPTH }
     ensures gives { MatchResult result
-        (λ parsed. ParsesExpr parsed (symbols_left tokens.new)
+        (λ parsed. ParsesExpr builds parsed (symbols_left tokens.new)
         (parse_expression max_height min_precedence (symbols_left tokens.old)))
         (λ e. Fails (e, symbols_left tokens.new) (parse_expression max_height min_precedence (symbols_left tokens.old))) }
     ensures low { IfOk result (λ parsed. parsed.height ≤ max_height) }
@@ -51,7 +52,7 @@ pub(crate) fn parse_expression(
     }
     let below = max_height - 1;
     let start = tokens.index();
-    let mut left = parse_unary(alloc, below, tokens)?;
+    let mut left = parse_unary(alloc, below, builds, tokens)?;
     let mut operator = tokens.index();
     while let Some(op) = eat_operator(tokens, min_precedence) {
         if below < left.height {
@@ -60,7 +61,8 @@ pub(crate) fn parse_expression(
         let modifier_start = tokens.index();
         let modifier = parse_optional_modifier(alloc, tokens)?;
         let right_start = tokens.index();
-        let right = parse_expression(alloc, below, right_precedence(op), tokens)?;
+        let right_builds = left.goes_on(builds);
+        let right = parse_expression(alloc, below, right_precedence(op), right_builds, tokens)?;
         let extent = Extent {
             start,
             operator,
@@ -80,11 +82,12 @@ pub(crate) fn parse_expression(
 fn parse_unary(
     alloc: Global,
     max_height: usize,
+    builds: bool,
     tokens: &mut Tokens<'_>,
 ) -> Result<ParsedExpr, ReadError>
     requires { max_height ≤ MAX_DEPTH }
     ensures gives { (k : ℕ) → length (symbols_left tokens.old) ≤ k → MatchResult result
-        (λ parsed. ParsesExpr parsed (symbols_left tokens.new)
+        (λ parsed. ParsesExpr builds parsed (symbols_left tokens.new)
         (parse_unary (parse_expression max_height) k (max_height + 1) (symbols_left tokens.old)))
         (λ e. Fails (e, symbols_left tokens.new) (parse_unary (parse_expression max_height) k (max_height + 1)
         (symbols_left tokens.old))) }
@@ -96,12 +99,12 @@ fn parse_unary(
     let start = tokens.index();
     if let Some(op) = eat_unary_operator(tokens) {
         let operand_start = tokens.index();
-        let operand = parse_expression(alloc, max_height, UNARY_PRECEDENCE, tokens)?;
+        let operand = parse_expression(alloc, max_height, UNARY_PRECEDENCE, builds, tokens)?;
         let extent = Extent::sign(start, operand_start, tokens.index());
         return Ok(build_unary(alloc, op, operand, &extent)?);
     }
-    let base = parse_postfix_base(alloc, max_height, tokens)?;
-    parse_postfixes(alloc, max_height + 1, base, start, tokens)
+    let base = parse_postfix_base(alloc, max_height, builds, tokens)?;
+    parse_postfixes(alloc, max_height + 1, builds, base, start, tokens)
 }
 
 /// Parses an operand without unary operators, up to its postfixes.
@@ -109,12 +112,13 @@ fn parse_unary(
 fn parse_postfix_base(
     alloc: Global,
     max_height: usize,
+    builds: bool,
     tokens: &mut Tokens<'_>,
 ) -> Result<ParsedExpr, ReadError>
     requires max_height { max_height ≤ MAX_DEPTH }
     requires unsigned { HasNoUnaryOperator (symbols_left tokens.now) }
     ensures gives { MatchResult result
-        (λ parsed. ParsesBase parsed (symbols_left tokens.new)
+        (λ parsed. ParsesBase builds parsed (symbols_left tokens.new)
         (λ k n. parse_unary (parse_expression max_height) k n (symbols_left tokens.old)))
         (λ e. FailsBase (e, symbols_left tokens.new) (λ k n. parse_unary (parse_expression max_height) k n
         (symbols_left tokens.old))) }
@@ -129,20 +133,20 @@ fn parse_postfix_base(
     let start = tokens.index();
     if kind.may_be_called() {
         tokens.bump();
-        return parse_call(alloc, max_height, kind, text, start, tokens);
+        return parse_call(alloc, max_height, builds, kind, text, start, tokens);
     }
     match kind {
         TokenKind::LeftParen => {
             tokens.bump();
-            let inner = parse_expression(alloc, max_height, MIN_PRECEDENCE, tokens)?;
+            let inner = parse_expression(alloc, max_height, MIN_PRECEDENCE, builds, tokens)?;
             tokens.expect(TokenKind::RightParen)?;
             Ok(build_paren(alloc, inner)?)
         }
         TokenKind::Aggregator(op) => {
             tokens.bump();
-            parse_aggregate(alloc, max_height, op, text, start, tokens)
+            parse_aggregate(alloc, max_height, builds, op, text, start, tokens)
         }
-        _ => parse_atom(alloc, kind, text, tokens),
+        _ => parse_atom(alloc, builds, kind, text, tokens),
     }
 }
 
@@ -183,13 +187,14 @@ fn parse_boxed_modifier(
 fn parse_postfixes(
     alloc: Global,
     max_height: usize,
+    builds: bool,
     base: ParsedExpr,
     start: usize,
     tokens: &mut Tokens<'_>,
 ) -> Result<ParsedExpr, ReadError>
     requires max_height { max_height ≤ MAX_DEPTH + 1 }
     requires low_base { base.height ≤ max_height }
-    ensures gives { ParsesPostfixes max_height base (symbols_left tokens.old)
+    ensures gives { ParsesPostfixes builds max_height base (symbols_left tokens.old)
         (symbols_left tokens.new)
         result }
     ensures low { IfOk result (λ parsed. parsed.height ≤ max_height) }
@@ -198,7 +203,7 @@ fn parse_postfixes(
 {
     match tokens.peek() {
         Some((kind, _)) if starts_postfix(kind) => parse_some_postfixes(
-            alloc, max_height, base, start, tokens,
+            alloc, max_height, builds, base, start, tokens,
         ),
         _ => Ok(base),
     }
@@ -209,13 +214,14 @@ fn parse_postfixes(
 fn parse_some_postfixes(
     alloc: Global,
     max_height: usize,
+    builds: bool,
     base: ParsedExpr,
     start: usize,
     tokens: &mut Tokens<'_>,
 ) -> Result<ParsedExpr, ReadError>
     requires max_height { max_height ≤ MAX_DEPTH + 1 }
     requires low_base { base.height ≤ max_height }
-    ensures gives { ParsesPostfixes max_height base (symbols_left tokens.old)
+    ensures gives { ParsesPostfixes builds max_height base (symbols_left tokens.old)
         (symbols_left tokens.new)
         result }
     ensures low { IfOk result (λ parsed. parsed.height ≤ max_height) }
@@ -247,7 +253,7 @@ pub fn parse_query(
         result }
     ensures memory { IsErrOf result ReadError.Memory → begins (symbols_left tokens.old) ≡ true }
 {
-    let parsed = parse_expression(alloc, max_height, MIN_PRECEDENCE, tokens)?;
+    let parsed = parse_expression(alloc, max_height, MIN_PRECEDENCE, true, tokens)?;
     if !tokens.is_empty() {
         return Err(ReadError::Syntax);
     }

@@ -1,5 +1,7 @@
 //! What the parser's functions return.
 
+ghost use Rattle.std.specs.Prelude.{◌≡◌, ◌&&◌, is_ok};
+
 use crate::grammar::build_error::BuildError;
 use promql_ast::{Expr, FunctionArgs};
 use promql_grammar::ReadError;
@@ -34,4 +36,24 @@ pub struct ParsedExpr {
 pub struct ParsedArgs {
     pub height: usize,
     pub value: Result<FunctionArgs, Box<BuildError>>,
+}
+
+impl ParsedExpr {
+    /// Whether what comes after it is built, where it was: not after a fault.
+    #[inline(always)]
+    pub fn goes_on(&self, builds: bool) -> bool
+        ensures { result ≡ (builds && is_ok self.now.value) }
+    {
+        builds && self.value.is_ok()
+    }
+}
+
+impl ParsedArgs {
+    /// Whether the argument after them is built, where they were: not after a fault.
+    #[inline(always)]
+    pub fn goes_on(&self, builds: bool) -> bool
+        ensures { result ≡ (builds && is_ok self.now.value) }
+    {
+        builds && self.value.is_ok()
+    }
 }

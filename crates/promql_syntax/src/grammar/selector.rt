@@ -1,6 +1,6 @@
 //! The rule `braces`: the matchers of a selector.
 
-ghost use Rattle.std.specs.Prelude.{◌≡◌, ◌<◌, length, IfOk, MatchResult, OnOk};
+ghost use Rattle.std.specs.Prelude.{◌≡◌, ◌<◌, true, length, IfOk, MatchResult, OnOk};
 ghost use Rattle.promql_grammar.specs.GrammarParts as part;
 ghost use Rattle.promql_grammar.specs.Parsing as parsing;
 ghost use Rattle.promql_grammar.specs.SymbolsLeft.{symbols_left};
@@ -24,10 +24,10 @@ use promql_grammar::{TokenKind, Tokens};
 use promql_label::{MatchOp, Matcher, Matchers, Pattern, PatternFault};
 use std::alloc::{AllocError, Global};
 
-/// Parses matchers after an opening brace, and the closing one.
-pub fn parse_braces(alloc: Global, tokens: &mut Tokens<'_>) -> Parsed<Matchers>
+/// Parses matchers after an opening brace, and the closing one. It builds them where `builds`.
+pub fn parse_braces(alloc: Global, builds: bool, tokens: &mut Tokens<'_>) -> Parsed<Matchers>
     ensures gives { MatchResult result
-        (λ value. ParsesAskedPart plain_matchers_of braces_value value (symbols_left tokens.new)
+        (λ value. ParsesAskedPart builds plain_matchers_of braces_value value (symbols_left tokens.new)
         (parsing.parse_braces (symbols_left tokens.old)))
         (λ e. Fails (e, symbols_left tokens.new) (parsing.parse_braces (symbols_left tokens.old))) }
     ensures short { OnOk result
@@ -40,7 +40,7 @@ pub fn parse_braces(alloc: Global, tokens: &mut Tokens<'_>) -> Parsed<Matchers>
     let mut by_or = false;
     loop {
         let item = parse_item(tokens)?;
-        append_item(alloc, &mut matchers, by_or, item)?;
+        append_item(alloc, builds, &mut matchers, by_or, item)?;
         match parse_item_end(tokens)? {
             Some(next_by_or) => by_or = next_by_or,
             None => return Ok(matchers),
@@ -48,18 +48,22 @@ pub fn parse_braces(alloc: Global, tokens: &mut Tokens<'_>) -> Parsed<Matchers>
     }
 }
 
-/// Appends a matcher, in a group of its own or not, if there is no error yet.
+/// Appends a matcher, in a group of its own or not, if it is built and there is no error yet.
 fn append_item(
     alloc: Global,
+    builds: bool,
     matchers: &mut Result<Matchers, Box<BuildError>>,
     by_or: bool,
     item: Item<'_>,
 ) -> Result<(), AllocError>
-    ensures { OnOk result ((i : part.Item) (s : part.Separator)
+    ensures { OnOk result (builds ≡ true → (i : part.Item) (s : part.Separator)
         → parts_of item.entry ≡ item_parts i → by_or ≡ is_or s
         → AddsItem (view_result plain_matchers_of matchers.old) s i
         (view_result plain_matchers_of matchers.new)) }
 {
+    if !builds {
+        return Ok(());
+    }
     let Ok(list) = matchers else {
         return Ok(());
     };

@@ -1,11 +1,12 @@
 use Rattle.std.proofs.Common.{◌≡◌, ◌+◌, ◌-◌, ◌≤◌, ◌∙◌, ap, sym, refl, arith, length}
 use Rattle.std.proofs.lemmas.Result.{err_from_is_err_and}
 use Rattle.promql_grammar.specs.declared.token_kinds.TokenKind.TheVariants as kind
-use Rattle.promql_grammar.specs.Parsing.{parse_expression, parse_unary, parse_call, parse_aggregate, parse_selector}
+use Rattle.promql_grammar.specs.Grammar as grammar
+use Rattle.promql_grammar.specs.Parsing.{parse_arguments, parse_expression, parse_unary, parse_call, parse_aggregate, parse_selector}
 use Rattle.promql_grammar.specs.SymbolsLeft.{symbols_left}
 use Rattle.promql_grammar.proofs.Eating.{at_word}
 use Rattle.promql_syntax.proofs.FirstTokens.{called_first, called_none, leaf_first, base_begins, given_begins}
-use Rattle.promql_syntax.proofs.Bases.{bases_same, postfixed_given, sign_fails, sign_given, paren_open, call_fails, call_base, aggregated_none, after_fails, after_clause_fails, after_base, before_fails, before_open, before_arguments_fail, before_base}
+use Rattle.promql_syntax.proofs.Bases.{bases_same, postfixed_given, sign_fails, sign_given, paren_open, paren_base, call_fails, call_base, aggregated_none, after_fails, after_clause_fails, after_base, before_fails, before_open, before_arguments_fail, before_base}
 use Rattle.promql_syntax.proofs.Climbing.{expression_zero, expression_fails, climbing_first, climbing_stops, climbing_deep, climbing_unmodified, climbing_fails, climbing_on}
 use Rattle.promql_syntax.proofs.Collecting.{arguments_fail, collecting_first, collecting_fails, collecting_on, collecting_none, collecting_ends}
 use Rattle.promql_syntax.proofs.grammar.+parser.Goals as goal
@@ -63,7 +64,7 @@ expression::parse_expression-loop-op-preserved t c =
       short = let one = c.in_ok-modifier.ensures.short in let short = c.in_ok-right.ensures.short in let before = so_far.short in omega (arith, ap length takes.first);
       begun = so_far.begun;
       goes = climbing_on _ _ _ _ _ _ so_far.goes _ _ takes modifier.part _ modifier.is _ _ _ low_left c.in_ok-modifier.ensures.short
-          (rw c.right_precedence.ensures at c.in_ok-right.ensures.gives) c.in_ok-right.ensures.short (λ text l r left right. c.in_ok-left-2.ensures.built text modifier.part l r modifier.built left right);
+          (rw (c.right_precedence.ensures, c.goes_on-right_builds.ensures) at c.in_ok-right.ensures.gives) c.in_ok-right.ensures.short (λ text l r left right. c.in_ok-left-2.ensures.built _ text modifier.part l r modifier.built left right);
     }
 
 -- ---- forms without a binary operator outside
@@ -75,7 +76,7 @@ expression::parse_unary-returns-in_err-operand-clause-gives t c = λ k enough.
 
 pub expression::parse_unary-returns-in-Some-clause-gives : goal.expression::parse_unary-returns-in-Some-clause-gives
 expression::parse_unary-returns-in-Some-clause-gives t c = λ k enough.
-    sign_given (parse_expression c.args.max_height) k (c.args.max_height + 1) c.in-Some.op _ _ _ _ _ c.in-Some.ensures.gives c.in_ok-operand.ensures.gives c.in_ok-build_unary.ensures.built
+    sign_given (parse_expression c.args.max_height) k (c.args.max_height + 1) c.in-Some.op _ _ _ _ _ c.in-Some.ensures.gives c.in_ok-operand.ensures.gives (c.in_ok-build_unary.ensures.built _)
 
 pub expression::parse_unary-returns-in_err-base-clause-gives : goal.expression::parse_unary-returns-in_err-base-clause-gives
 expression::parse_unary-returns-in_err-base-clause-gives t c = λ k enough.
@@ -95,7 +96,7 @@ expression::parse_unary-returns-clause-memory t c = λ is. base_begins (parse_ex
 
 pub expression::parse_postfix_base-returns-then-may_be_called-clause-gives : goal.expression::parse_postfix_base-returns-then-may_be_called-clause-gives
 expression::parse_postfix_base-returns-then-may_be_called-clause-gives t c =
-    bases_same _ _ _ (λ k n. parse_unary (parse_expression c.args.max_height) k n (symbols_left c.args.tokens.now))
+    bases_same _ _ _ _ (λ k n. parse_unary (parse_expression c.args.max_height) k n (symbols_left c.args.tokens.now))
     (λ k n. ap (parse_unary (parse_expression c.args.max_height) k n) c.in-Some.ensures ∙ called_first (parse_expression c.args.max_height) k n c.in-Some.kind c.in-Some.text.now _ (sym c.if-may_be_called.ensures) ∙ ap (parse_call (parse_expression c.args.max_height) k n c.in-Some.kind c.in-Some.text.now) (sym c.bump.ensures.drops)) c.parse_call.ensures.gives
 
 pub expression::parse_postfix_base-returns-in_err-expect-in-LeftParen-clause-gives : goal.expression::parse_postfix_base-returns-in_err-expect-in-LeftParen-clause-gives
@@ -105,14 +106,19 @@ expression::parse_postfix_base-returns-in_err-expect-in-LeftParen-clause-gives t
     let stays = c.in_err-expect-in-LeftParen.ensures.stays in
     rw (same.1, same.2, fails.0, stays) (paren_open (parse_expression c.args.max_height) c.in-Some.text.now _ _ (at_word _ _ c.in-Some.kind kind.LeftParen c.in-Some.text.now c.in-Some.ensures c.in-LeftParen.is c.bump-in-LeftParen.ensures.drops) c.in_ok-inner-in-LeftParen.inner _ c.in_ok-inner-in-LeftParen.ensures.gives fails.1)
 
+pub expression::parse_postfix_base-returns-in_ok-build_paren-in-LeftParen-clause-gives : goal.expression::parse_postfix_base-returns-in_ok-build_paren-in-LeftParen-clause-gives
+expression::parse_postfix_base-returns-in_ok-build_paren-in-LeftParen-clause-gives t c =
+    paren_base (parse_expression c.args.max_height) c.in-Some.text.now _ _ (at_word _ _ c.in-Some.kind kind.LeftParen c.in-Some.text.now c.in-Some.ensures c.in-LeftParen.is c.bump-in-LeftParen.ensures.drops) c.in_ok-inner-in-LeftParen.inner _ _ _
+    c.in_ok-inner-in-LeftParen.ensures.gives c.in_ok-expect-in-LeftParen.ensures.gives.first (c.in_ok-build_paren-in-LeftParen.ensures.built _)
+
 pub expression::parse_postfix_base-returns-in-Aggregator-clause-gives : goal.expression::parse_postfix_base-returns-in-Aggregator-clause-gives
 expression::parse_postfix_base-returns-in-Aggregator-clause-gives t c =
-    bases_same _ _ _ (λ k n. parse_unary (parse_expression c.args.max_height) k n (symbols_left c.args.tokens.now))
+    bases_same _ _ _ _ (λ k n. parse_unary (parse_expression c.args.max_height) k n (symbols_left c.args.tokens.now))
     (λ k n. ap (parse_unary (parse_expression c.args.max_height) k n) (at_word _ _ c.in-Some.kind (kind.Aggregator c.in-Aggregator.op) c.in-Some.text.now c.in-Some.ensures c.in-Aggregator.is c.bump-in-Aggregator.ensures.drops)) c.parse_aggregate.ensures.gives
 
 pub expression::parse_postfix_base-returns-in_default-kind-clause-gives : goal.expression::parse_postfix_base-returns-in_default-kind-clause-gives
 expression::parse_postfix_base-returns-in_default-kind-clause-gives t c =
-    bases_same _ _ _ (λ k n. parse_unary (parse_expression c.args.max_height) k n (symbols_left c.args.tokens.now))
+    bases_same _ _ _ _ (λ k n. parse_unary (parse_expression c.args.max_height) k n (symbols_left c.args.tokens.now))
     (λ k n. ap (parse_unary (parse_expression c.args.max_height) k n) c.in-Some.ensures ∙ leaf_first (parse_expression c.args.max_height) k n c.in-Some.kind c.in-Some.text.now _ (sym c.if-may_be_called.ensures)
     c.in_default-kind.not-LeftParen c.in_default-kind.not-Aggregator (rw c.in-Some.ensures at c.requires.unsigned)) c.parse_atom.ensures.gives
 
@@ -120,7 +126,7 @@ expression::parse_postfix_base-returns-in_default-kind-clause-gives t c =
 
 pub call::parse_call-returns-then-not-eat-clause-gives : goal.call::parse_call-returns-then-not-eat-clause-gives
 call::parse_call-returns-then-not-eat-clause-gives t c =
-    bases_same _ _ _ (λ k n. parse_call (parse_expression c.args.max_height) k n c.args.kind c.args.name.now (symbols_left c.args.tokens.now))
+    bases_same _ _ _ _ (λ k n. parse_call (parse_expression c.args.max_height) k n c.args.kind c.args.name.now (symbols_left c.args.tokens.now))
     (λ k n. called_none (parse_expression c.args.max_height) k n c.args.kind c.args.name.now _ c.if-not-eat.ensures.gives ∙ ap (parse_selector k n c.args.kind c.args.name.now) (sym (c.if-not-eat.ensures.stays refl))) c.parse_selector.ensures.gives
 
 pub call::parse_call-returns-in_err-args-clause-gives : goal.call::parse_call-returns-in_err-args-clause-gives
@@ -130,12 +136,19 @@ call::parse_call-returns-in_err-args-clause-gives t c =
 
 pub call::parse_call-returns-clause-gives : goal.call::parse_call-returns-clause-gives
 call::parse_call-returns-clause-gives t c =
-    call_base (parse_expression c.args.max_height) c.args.kind c.args.name.now _ _ c.if-not-eat.ensures.gives.first c.in_ok-args.args _ _ c.in_ok-args.ensures.gives c.in_ok-build_call.ensures.built
+    call_base (parse_expression c.args.max_height) c.args.kind c.args.name.now _ _ c.if-not-eat.ensures.gives.first c.in_ok-args.args _ _ c.in_ok-args.ensures.gives (c.in_ok-build_call.ensures.built _)
 
 pub call::parse_arguments-returns-in_err-first-clause-gives : goal.call::parse_arguments-returns-in_err-first-clause-gives
 call::parse_arguments-returns-in_err-first-clause-gives t c =
     let same = err_from_is_err_and c.from_residual.result c.from_residual.ensures.1 in
     rw (same.1, same.2) (arguments_fail (parse_expression c.args.max_height) _ _ c.if-eat.ensures.gives (rw (c.if-eat.ensures.stays refl) at c.in_err-first.ensures.gives))
+
+pub call::parse_arguments-returns-then-eat-clause-gives : goal.call::parse_arguments-returns-then-eat-clause-gives
+call::parse_arguments-returns-then-eat-clause-gives t c = record {
+  derivations = grammar.none;
+  is = ap (parse_arguments (parse_expression c.args.max_height)) c.if-eat.ensures.gives.first;
+  built = c.empty_arguments-args.ensures.built _;
+}
 
 pub call::parse_arguments-loop-alloc-init : goal.call::parse_arguments-loop-alloc-init
 call::parse_arguments-loop-alloc-init t c =
@@ -144,7 +157,7 @@ call::parse_arguments-loop-alloc-init t c =
       low = let parse_unary = c.in_ok-first.ensures.low in let made = c.in_ok-args.ensures.low in let none = c.empty_arguments-args.ensures.low in omega arith;
       short = let short = c.in_ok-first.ensures.short in omega (arith, ap length stays);
       goes = collecting_first (parse_expression c.args.max_height) _ _ c.empty_arguments-args.result _ c.in_ok-first.first c.if-eat.ensures.gives (rw stays at c.in_ok-first.ensures.gives)
-          (let short = c.in_ok-first.ensures.short in omega (arith, ap length stays)) c.empty_arguments-args.ensures.built c.in_ok-args.ensures.built;
+          (let short = c.in_ok-first.ensures.short in omega (arith, ap length stays)) (c.empty_arguments-args.ensures.built _) (c.in_ok-args.ensures.built _);
     }
 
 pub call::parse_arguments-loop-alloc-preserved : goal.call::parse_arguments-loop-alloc-preserved
@@ -154,7 +167,7 @@ call::parse_arguments-loop-alloc-preserved t c =
     record {
       low = let next = c.in_ok-next.ensures.low in let made = c.in_ok-args-2.ensures.low in let before = so_far.low in omega arith;
       short = let short = c.in_ok-next.ensures.short in let before = so_far.short in omega (arith, ap length front);
-      goes = collecting_on (parse_expression c.args.max_height) _ _ c.loop-alloc.args so_far.goes _ _ _ c.in_ok-next.next front c.in_ok-next.ensures.gives c.in_ok-next.ensures.short c.in_ok-args-2.ensures.built;
+      goes = collecting_on (parse_expression c.args.max_height) _ _ c.loop-alloc.args so_far.goes _ _ _ c.in_ok-next.next front (rw c.goes_on-next_builds.ensures at c.in_ok-next.ensures.gives) c.in_ok-next.ensures.short (c.in_ok-args-2.ensures.built _);
     }
 
 pub call::parse_arguments-returns-in_err-next-clause-gives : goal.call::parse_arguments-returns-in_err-next-clause-gives
@@ -187,12 +200,12 @@ aggregate::parse_aggregate-returns-in_err-grouping-clause-gives t c =
 
 pub aggregate::parse_aggregate-returns-then-eat-clause-gives : goal.aggregate::parse_aggregate-returns-then-eat-clause-gives
 aggregate::parse_aggregate-returns-then-eat-clause-gives t c =
-    after_base (parse_expression c.args.max_height) c.args.op c.args.name.now _ _ c.if-eat.ensures.gives.first c.in_ok-args.args _ c.in_ok-args.ensures.gives c.in_ok-grouping.grouping _ _ c.in_ok-grouping.ensures.gives c.in_ok-build_aggregate.ensures.built
+    after_base (parse_expression c.args.max_height) c.args.op c.args.name.now _ _ c.if-eat.ensures.gives.first c.in_ok-args.args _ c.in_ok-args.ensures.gives c.in_ok-grouping.grouping _ _ c.in_ok-grouping.ensures.gives (c.in_ok-build_aggregate.ensures.built _)
 
 pub aggregate::parse_aggregate-returns-then-not-starts_grouping-clause-gives : goal.aggregate::parse_aggregate-returns-then-not-starts_grouping-clause-gives
 aggregate::parse_aggregate-returns-then-not-starts_grouping-clause-gives t c =
     let stays = c.if-eat.ensures.stays refl in
-    bases_same _ _ _ (λ k n. parse_aggregate (parse_expression c.args.max_height) k n c.args.op c.args.name.now (symbols_left c.args.tokens.now))
+    bases_same _ _ _ _ (λ k n. parse_aggregate (parse_expression c.args.max_height) k n c.args.op c.args.name.now (symbols_left c.args.tokens.now))
     (λ k n. aggregated_none (parse_expression c.args.max_height) k n c.args.op c.args.name.now _ c.if-eat.ensures.gives (rw stays at c.if-not-starts_grouping.ensures) ∙ ap (parse_selector k n (kind.Aggregator c.args.op) c.args.name.now) (sym stays)) c.parse_selector.ensures.gives
 
 pub aggregate::parse_aggregate-returns-in_err-grouping-2-clause-gives : goal.aggregate::parse_aggregate-returns-in_err-grouping-2-clause-gives
@@ -218,4 +231,4 @@ aggregate::parse_aggregate-returns-in_err-args-2-clause-gives t c =
 pub aggregate::parse_aggregate-returns-clause-gives : goal.aggregate::parse_aggregate-returns-clause-gives
 aggregate::parse_aggregate-returns-clause-gives t c =
     let stays = c.if-eat.ensures.stays refl in
-    before_base (parse_expression c.args.max_height) c.args.op c.args.name.now _ _ (rw stays at c.if-not-starts_grouping.ensures) c.in_ok-grouping-2.grouping (rw stays at c.in_ok-grouping-2.ensures.gives) _ c.in_ok-expect.ensures.gives.first c.in_ok-args-2.args _ _ c.in_ok-args-2.ensures.gives c.in_ok-build_aggregate-2.ensures.built
+    before_base (parse_expression c.args.max_height) c.args.op c.args.name.now _ _ (rw stays at c.if-not-starts_grouping.ensures) c.in_ok-grouping-2.grouping (rw stays at c.in_ok-grouping-2.ensures.gives) _ c.in_ok-expect.ensures.gives.first c.in_ok-args-2.args _ _ c.in_ok-args-2.ensures.gives (c.in_ok-build_aggregate-2.ensures.built _)

@@ -30,7 +30,7 @@ invariant-expression::parse_expression-loop-op l = record {
   under : l.max_height ≡ l.below + 1;
   short : length (symbols_left l.tokens) ≤ length (symbols_left l.fn.tokens);
   begun : begins (symbols_left l.fn.tokens) ≡ true;
-  goes : Climbing l.max_height l.below l.min_precedence (symbols_left l.fn.tokens) l.left (symbols_left l.tokens);
+  goes : Climbing l.builds l.max_height l.below l.min_precedence (symbols_left l.fn.tokens) l.left (symbols_left l.tokens);
 }
 
 abbrev pub decreases-expression::parse_expression-loop-op : goal.decreases-expression::parse_expression-loop-op
@@ -40,7 +40,7 @@ abbrev pub invariant-call::parse_arguments-loop-alloc : goal.invariant-call::par
 invariant-call::parse_arguments-loop-alloc l = record {
   low : l.args.height ≤ l.max_height;
   short : length (symbols_left l.tokens) ≤ length (symbols_left l.fn.tokens);
-  goes : Collecting (parse_expression l.max_height) (symbols_left l.fn.tokens) l.args (symbols_left l.tokens);
+  goes : Collecting l.builds (parse_expression l.max_height) (symbols_left l.fn.tokens) l.args (symbols_left l.tokens);
 }
 
 abbrev pub decreases-call::parse_arguments-loop-alloc : goal.decreases-call::parse_arguments-loop-alloc

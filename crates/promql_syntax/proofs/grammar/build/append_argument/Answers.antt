@@ -2,19 +2,22 @@ use Rattle.std.proofs.Common.{refl, ◌∙◌, ap}
 use Rattle.std.specs.Prelude.{Ok}
 use Rattle.promql_ast.specs.View.{tree_of, trees_of}
 use Rattle.promql_syntax.specs.Building.{build, build_all}
-use Rattle.promql_syntax.proofs.BuiltForms.{with_tree, with_fault, with_trees, with_no_trees}
+use Rattle.promql_syntax.proofs.BuiltForms.{goes_on, with_tree, with_fault, with_trees, with_no_trees}
 use Rattle.promql_syntax.proofs.grammar.build.append_argument.Goals as goal
-use Rattle.promql_syntax.proofs.MoreArguments.{appended_trees, more_arguments_of}
+use Rattle.promql_syntax.proofs.MoreArguments.{appended_trees, more_arguments_of, no_arguments_of}
 
 pub returns-in-Err-clause-built : goal.returns-in-Err-clause-built
-returns-in-Err-clause-built c = λ ds d args parsed.
-    more_arguments_of _ c.args.args c.args.parsed ds d _ _ refl c.max-height.ensures args parsed (with_no_trees c.args.args (build_all ds) c.in-Err.error c.in-Err.is args.built) parsed.built
+returns-in-Err-clause-built c = λ builds ds d args parsed.
+    no_arguments_of _ c.args.args c.args.parsed ds d c.max-height.ensures args parsed _ refl (λ on. with_no_trees c.args.args (build_all ds) c.in-Err.error c.in-Err.is (args.built on))
 
 pub returns-in_ok-push-in-Ok-last-clause-built : goal.returns-in_ok-push-in-Ok-last-clause-built
-returns-in_ok-push-in-Ok-last-clause-built c = λ ds d args parsed.
-    more_arguments_of _ c.args.args c.args.parsed ds d _ _ (ap Ok (ap trees_of c.in_ok-push-in-Ok-last.ensures.items ∙ appended_trees (λ b. tree_of b.value) c.in-Ok.args.args.items c.in-Ok-last.arg)) c.max-height.ensures args parsed
-    (with_trees c.args.args (build_all ds) c.in-Ok.args c.in-Ok.is args.built) (with_tree c.args.parsed (build d) c.in-Ok-last.arg c.in-Ok-last.is parsed.built)
+returns-in_ok-push-in-Ok-last-clause-built c = λ builds ds d args parsed.
+    more_arguments_of _ c.args.args c.args.parsed ds d c.max-height.ensures args parsed _ _ (ap Ok (ap trees_of c.in_ok-push-in-Ok-last.ensures.items ∙ appended_trees (λ b. tree_of b.value) c.in-Ok.args.args.items c.in-Ok-last.arg))
+    (λ on. with_trees c.args.args (build_all ds) c.in-Ok.args c.in-Ok.is (args.built on))
+    (λ on. with_tree c.args.parsed (build d) c.in-Ok-last.arg c.in-Ok-last.is (parsed.built (goes_on builds _ _ c.in-Ok.is on)))
 
 pub returns-in-Err-last-clause-built : goal.returns-in-Err-last-clause-built
-returns-in-Err-last-clause-built c = λ ds d args parsed.
-    more_arguments_of _ c.args.args c.args.parsed ds d _ _ refl c.max-height.ensures args parsed (with_trees c.args.args (build_all ds) c.in-Ok.args c.in-Ok.is args.built) (with_fault c.args.parsed (build d) c.in-Err-last.error c.in-Err-last.is parsed.built)
+returns-in-Err-last-clause-built c = λ builds ds d args parsed.
+    more_arguments_of _ c.args.args c.args.parsed ds d c.max-height.ensures args parsed _ _ refl
+    (λ on. with_trees c.args.args (build_all ds) c.in-Ok.args c.in-Ok.is (args.built on))
+    (λ on. with_fault c.args.parsed (build d) c.in-Err-last.error c.in-Err-last.is (parsed.built (goes_on builds _ _ c.in-Ok.is on)))

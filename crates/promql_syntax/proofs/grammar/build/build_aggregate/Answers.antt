@@ -1,4 +1,4 @@
-use Rattle.std.proofs.Common.{◌≡◌, ◌∙◌, ap, sym, arith, List, ℕ}
+use Rattle.std.proofs.Common.{◌≡◌, Bool, ◌∙◌, ap, sym, arith, List, ℕ}
 use Rattle.std.specs.Prelude.{option_map}
 use Rattle.promql_ast.specs.Builds.{aggregate_args}
 use Rattle.promql_ast.specs.View.{trees_of}
@@ -15,19 +15,19 @@ use Rattle.promql_syntax.proofs.BuiltForms.{if_ok_both, is_expr_of, with_trees, 
 use Rattle.promql_syntax.proofs.grammar.build.build_aggregate.Goals as goal
 
 pub returns-in-Err-clause-built : goal.returns-in-Err-clause-built
-returns-in-Err-clause-built c = λ text cl ds clause args.
-    is_expr_of _ (grammar.aggregate c.args.op text cl ds) _ _ c.parsed_error.ensures.value c.parsed_error.ensures.tall (let same = args.tall in omega arith)
-    (then_fault (build_all ds) (λ ts. known (clause_value cl) giving λ m. from_checked_verdict (aggregate_args c.args.op m ts)) _ (with_no_trees c.args.args (build_all ds) c.in-Err.error c.in-Err.is args.built))
+returns-in-Err-clause-built c = λ builds text cl ds clause args.
+    is_expr_of builds _ (grammar.aggregate c.args.op text cl ds) _ _ c.parsed_error.ensures.value c.parsed_error.ensures.tall (let same = args.tall in omega arith)
+    (λ on. then_fault (build_all ds) (λ ts. known (clause_value cl) giving λ m. from_checked_verdict (aggregate_args c.args.op m ts)) _ (with_no_trees c.args.args (build_all ds) c.in-Err.error c.in-Err.is (args.built on)))
 
 pub returns-in-Ok-clause-clause-built : goal.returns-in-Ok-clause-clause-built
 returns-in-Ok-clause-clause-built c =
-    if_ok_both {R = λ parsed. (text : List ℕ) (cl : part.Clause) (ds : grammar.Arguments) → view_result (option_map clause_of) c.args.clause ≡ clause_value cl → AreArgsOf c.args.args ds → IsExprOf parsed (grammar.aggregate c.args.op text cl ds)} _ c.check_result.ensures.value c.check_result.ensures.tall (λ parsed value tall. λ text cl ds clause args.
-    is_expr_of parsed (grammar.aggregate c.args.op text cl ds) _ _ (value _ (gives_or_memory _ _ c.new_aggregate_expr-built.ensures)) tall (let same = args.tall in omega arith)
-    (then_value (build_all ds) (λ ts. known (clause_value cl) giving λ m. from_checked_verdict (aggregate_args c.args.op m ts)) (trees_of c.in-Ok.args.args.items) _ (with_trees c.args.args (build_all ds) c.in-Ok.args c.in-Ok.is args.built)
+    if_ok_both {R = λ parsed. (builds : Bool) (text : List ℕ) (cl : part.Clause) (ds : grammar.Arguments) → view_result (option_map clause_of) c.args.clause ≡ clause_value cl → AreArgsOf builds c.args.args ds → IsExprOf builds parsed (grammar.aggregate c.args.op text cl ds)} _ c.check_result.ensures.value c.check_result.ensures.tall (λ parsed value tall. λ builds text cl ds clause args.
+    is_expr_of builds parsed (grammar.aggregate c.args.op text cl ds) _ _ (value _ (gives_or_memory _ _ c.new_aggregate_expr-built.ensures)) tall (let same = args.tall in omega arith)
+    (λ on. then_value (build_all ds) (λ ts. known (clause_value cl) giving λ m. from_checked_verdict (aggregate_args c.args.op m ts)) (trees_of c.in-Ok.args.args.items) _ (with_trees c.args.args (build_all ds) c.in-Ok.args c.in-Ok.is (args.built on))
     (aggregate_ends c.args.op cl _ _ (ap (view_result (option_map clause_of)) (sym c.in-Ok-clause.is) ∙ clause))))
 
 pub returns-in-Err-clause-clause-built : goal.returns-in-Err-clause-clause-built
-returns-in-Err-clause-clause-built c = λ text cl ds clause args.
-    is_expr_of _ (grammar.aggregate c.args.op text cl ds) _ _ c.parsed_error-in-Err-clause.ensures.value c.parsed_error-in-Err-clause.ensures.tall (let same = args.tall in omega arith)
-    (then_value (build_all ds) (λ ts. known (clause_value cl) giving λ m. from_checked_verdict (aggregate_args c.args.op m ts)) (trees_of c.in-Ok.args.args.items) _ (with_trees c.args.args (build_all ds) c.in-Ok.args c.in-Ok.is args.built)
+returns-in-Err-clause-clause-built c = λ builds text cl ds clause args.
+    is_expr_of builds _ (grammar.aggregate c.args.op text cl ds) _ _ c.parsed_error-in-Err-clause.ensures.value c.parsed_error-in-Err-clause.ensures.tall (let same = args.tall in omega arith)
+    (λ on. then_value (build_all ds) (λ ts. known (clause_value cl) giving λ m. from_checked_verdict (aggregate_args c.args.op m ts)) (trees_of c.in-Ok.args.args.items) _ (with_trees c.args.args (build_all ds) c.in-Ok.args c.in-Ok.is (args.built on))
     (clause_fails c.args.op cl _ _ (ap (view_result (option_map clause_of)) (sym c.in-Err-clause.is) ∙ clause)))

@@ -11,11 +11,11 @@ use Rattle.promql_syntax.proofs.grammar.build.build_paren.Goals as goal
 
 pub returns-in_ok-expr-in-Ok-clause-built : goal.returns-in_ok-expr-in-Ok-clause-built
 returns-in_ok-expr-in-Ok-clause-built c =
-    λ d inner.
-    is_expr_of c.parsed_node.result (grammar.paren d) _ _ (c.parsed_node.ensures.value ∙ ap (λ e. Ok (tree_of e)) c.in_ok-expr-in-Ok.ensures.ok) c.parsed_node.ensures.tall (let same = inner.tall in omega arith)
-    (then_value (build d) (λ t. gives (tree.paren t)) (tree_of c.in-Ok.expr.value) _ (with_tree c.args.inner (build d) c.in-Ok.expr c.in-Ok.is inner.built) (ends_given _ _ refl))
+    λ builds d inner.
+    is_expr_of builds c.parsed_node.result (grammar.paren d) _ _ (c.parsed_node.ensures.value ∙ ap (λ e. Ok (tree_of e)) c.in_ok-expr-in-Ok.ensures.ok) c.parsed_node.ensures.tall (let same = inner.tall in omega arith)
+    (λ on. then_value (build d) (λ t. gives (tree.paren t)) (tree_of c.in-Ok.expr.value) _ (with_tree c.args.inner (build d) c.in-Ok.expr c.in-Ok.is (inner.built on)) (ends_given _ _ refl))
 
 pub returns-in-Err-clause-built : goal.returns-in-Err-clause-built
-returns-in-Err-clause-built c = λ d inner.
-    is_expr_of _ (grammar.paren d) _ _ c.parsed_error.ensures.value c.parsed_error.ensures.tall (let same = inner.tall in omega arith)
-    (then_fault (build d) (λ t. gives (tree.paren t)) _ (with_fault c.args.inner (build d) c.in-Err.error c.in-Err.is inner.built))
+returns-in-Err-clause-built c = λ builds d inner.
+    is_expr_of builds _ (grammar.paren d) _ _ c.parsed_error.ensures.value c.parsed_error.ensures.tall (let same = inner.tall in omega arith)
+    (λ on. then_fault (build d) (λ t. gives (tree.paren t)) _ (with_fault c.args.inner (build d) c.in-Err.error c.in-Err.is (inner.built on)))

@@ -1,4 +1,4 @@
-use Rattle.std.proofs.Common.{◌≡◌, arith, true, false, List, ℕ}
+use Rattle.std.proofs.Common.{◌≡◌, arith, Bool, true, false, List, ℕ}
 use Rattle.std.specs.Prelude.{◌==◌}
 use Rattle.promql_token.specs.declared.ids.TheConstants.{T_SUB}
 use Rattle.promql_ast.specs.View.{tree_of}
@@ -11,19 +11,19 @@ use Rattle.std.proofs.lemmas.Bool.Decides.{nat_tests}
 use Rattle.promql_syntax.proofs.grammar.build.build_unary.Goals as goal
 
 pub returns-then-op-ne-T_SUB-clause-built : goal.returns-then-op-ne-T_SUB-clause-built
-returns-then-op-ne-T_SUB-clause-built c = λ text d operand.
+returns-then-op-ne-T_SUB-clause-built c = λ builds text d operand.
     let other : (c.args.op == T_SUB) ≡ false = grind (arith, nat_tests) in
-    is_expr_of _ (grammar.unary c.args.op text d) _ _ c.parsed_node.ensures.value c.parsed_node.ensures.tall (let same = operand.tall in omega arith)
-    (then_value (build d) (λ t. build_unary c.args.op t) (tree_of c.in-Ok.expr.value) _ (with_tree c.args.operand (build d) c.in-Ok.expr c.in-Ok.is operand.built) (plus_ends c.args.op _ other))
+    is_expr_of builds _ (grammar.unary c.args.op text d) _ _ c.parsed_node.ensures.value c.parsed_node.ensures.tall (let same = operand.tall in omega arith)
+    (λ on. then_value (build d) (λ t. build_unary c.args.op t) (tree_of c.in-Ok.expr.value) _ (with_tree c.args.operand (build d) c.in-Ok.expr c.in-Ok.is (operand.built on)) (plus_ends c.args.op _ other))
 
 pub returns-else-op-ne-T_SUB-clause-built : goal.returns-else-op-ne-T_SUB-clause-built
 returns-else-op-ne-T_SUB-clause-built c =
     let minus : (c.args.op == T_SUB) ≡ true = grind (arith, nat_tests) in
-    if_ok_both {R = λ parsed. (text : List ℕ) (d : grammar.Derivation) → IsExprOf c.args.operand d → IsExprOf parsed (grammar.unary c.args.op text d)} _ c.check_result.ensures.value c.check_result.ensures.tall (λ parsed value tall. λ text d operand.
-    is_expr_of parsed (grammar.unary c.args.op text d) _ _ (rw c.into_inner-expr.ensures at (value _ c.new_unary_expr.ensures)) tall (let same = operand.tall in omega arith)
-    (then_value (build d) (λ t. build_unary c.args.op t) (tree_of c.in-Ok.expr.value) _ (with_tree c.args.operand (build d) c.in-Ok.expr c.in-Ok.is operand.built) (minus_ends c.args.op (tree_of c.in-Ok.expr.value) minus)))
+    if_ok_both {R = λ parsed. (builds : Bool) (text : List ℕ) (d : grammar.Derivation) → IsExprOf builds c.args.operand d → IsExprOf builds parsed (grammar.unary c.args.op text d)} _ c.check_result.ensures.value c.check_result.ensures.tall (λ parsed value tall. λ builds text d operand.
+    is_expr_of builds parsed (grammar.unary c.args.op text d) _ _ (rw c.into_inner-expr.ensures at (value _ c.new_unary_expr.ensures)) tall (let same = operand.tall in omega arith)
+    (λ on. then_value (build d) (λ t. build_unary c.args.op t) (tree_of c.in-Ok.expr.value) _ (with_tree c.args.operand (build d) c.in-Ok.expr c.in-Ok.is (operand.built on)) (minus_ends c.args.op (tree_of c.in-Ok.expr.value) minus)))
 
 pub returns-in-Err-clause-built : goal.returns-in-Err-clause-built
-returns-in-Err-clause-built c = λ text d operand.
-    is_expr_of _ (grammar.unary c.args.op text d) _ _ c.parsed_error.ensures.value c.parsed_error.ensures.tall (let same = operand.tall in omega arith)
-    (then_fault (build d) (λ t. build_unary c.args.op t) _ (with_fault c.args.operand (build d) c.in-Err.error c.in-Err.is operand.built))
+returns-in-Err-clause-built c = λ builds text d operand.
+    is_expr_of builds _ (grammar.unary c.args.op text d) _ _ c.parsed_error.ensures.value c.parsed_error.ensures.tall (let same = operand.tall in omega arith)
+    (λ on. then_fault (build d) (λ t. build_unary c.args.op t) _ (with_fault c.args.operand (build d) c.in-Err.error c.in-Err.is (operand.built on)))

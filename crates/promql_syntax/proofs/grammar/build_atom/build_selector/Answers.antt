@@ -1,4 +1,4 @@
-use Rattle.std.proofs.Common.{refl, ◌∙◌, ap, Some, None}
+use Rattle.std.proofs.Common.{true, refl, ◌∙◌, ap, Some, None}
 use Rattle.promql_ast.specs.Selectors.{selector}
 use Rattle.promql_ast.specs.Tree as tree
 use Rattle.promql_ast.specs.View.{tree_of}
@@ -16,13 +16,13 @@ use Rattle.promql_syntax.proofs.grammar.build_atom.build_selector.Goals as goal
 
 pub returns-in_ok-expr-in-Ok-clause-built : goal.returns-in_ok-expr-in-Ok-clause-built
 returns-in_ok-expr-in-Ok-clause-built c =
-    if_ok_both {R = λ parsed. (kind : TokenKind) (braces : part.Braces) → IsBuiltBy plain_matchers_of c.args.matchers (braces_value braces) → IsExprOf parsed (grammar.selector kind c.args.name.now (Some braces))} _ c.check_node.ensures.value c.check_node.ensures.tall (λ parsed value tall. λ kind braces matchers.
+    if_ok_both {R = λ parsed. (kind : TokenKind) (braces : part.Braces) → IsBuiltBy plain_matchers_of c.args.matchers (braces_value braces) → IsExprOf true parsed (grammar.selector kind c.args.name.now (Some braces))} _ c.check_node.ensures.value c.check_node.ensures.tall (λ parsed value tall. λ kind braces matchers.
     let ends = rw c.in-Ok.is at (ends_held plain_matchers_of _ (braces_value braces) matchers) in
-    is_expr_of parsed (grammar.selector kind c.args.name.now (Some braces)) _ _ value tall refl
-    (then_value (braces_value braces) (λ cs. selector_tree (Some c.args.name.now) cs) (plain_matchers_of c.in-Ok.matchers) _ ends
+    is_expr_of true parsed (grammar.selector kind c.args.name.now (Some braces)) _ _ value tall refl
+    (λ on. then_value (braces_value braces) (λ cs. selector_tree (Some c.args.name.now) cs) (plain_matchers_of c.in-Ok.matchers) _ ends
     (selector_ends _ (Some c.args.name.now) _ (ap tree_of c.in_ok-expr-in-Ok.ensures.ok ∙ c.new_vector_selector.ensures ∙ ap (λ n. tree.vector (selector (Some n) (plain_matchers_of c.in-Ok.matchers) None None)) c.in_ok-name-in-Ok.ensures.ok))))
 
 pub returns-in-Err-clause-built : goal.returns-in-Err-clause-built
 returns-in-Err-clause-built c = λ kind braces matchers.
     let ends = rw c.in-Err.is at (ends_held plain_matchers_of _ (braces_value braces) matchers) in
-    is_expr_of _ (grammar.selector kind c.args.name.now (Some braces)) _ _ c.parsed_error.ensures.value c.parsed_error.ensures.tall refl (then_fault (braces_value braces) (λ cs. selector_tree (Some c.args.name.now) cs) _ ends)
+    is_expr_of true _ (grammar.selector kind c.args.name.now (Some braces)) _ _ c.parsed_error.ensures.value c.parsed_error.ensures.tall refl (λ on. then_fault (braces_value braces) (λ cs. selector_tree (Some c.args.name.now) cs) _ ends)

@@ -36,7 +36,7 @@ loop-parsed-preserved c =
     record {
       low = let low = c.in_ok-parsed.ensures.low in let fits = c.if-max_height-parsed.false in omega arith;
       short = let short = c.loop-parsed.invariant.short in omega arith;
-      goes = λ d k built enough. postfixing_on k c.args.max_height d _ _ _ (c.loop-parsed.invariant.goes d k built enough) _ shorter c.in-Some.postfix read.part read.is read.built _ c.if-max_height-parsed.false c.in_ok-parsed.ensures.built;
+      goes = λ d k built enough. postfixing_on k c.args.max_height d _ _ _ (c.loop-parsed.invariant.goes d k built enough) _ shorter c.in-Some.postfix read.part read.is read.built _ c.if-max_height-parsed.false (c.in_ok-parsed.ensures.built _);
     }
 
 pub returns-clause-gives : goal.returns-clause-gives

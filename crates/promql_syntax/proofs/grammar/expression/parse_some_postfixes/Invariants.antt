@@ -9,7 +9,7 @@ abbrev pub invariant-loop-parsed : goal.invariant-loop-parsed
 invariant-loop-parsed l = record {
   low : l.parsed.height ≤ l.max_height;
   short : length (symbols_left l.tokens) ≤ length (symbols_left l.fn.tokens);
-  goes : (d : Derivation) (k : ℕ) → IsExprOf l.fn.base d → length (symbols_left l.fn.tokens) ≤ k → Postfixing k l.max_height d (symbols_left l.fn.tokens) l.parsed (symbols_left l.tokens);
+  goes : (d : Derivation) (k : ℕ) → IsExprOf l.builds l.fn.base d → length (symbols_left l.fn.tokens) ≤ k → Postfixing l.builds k l.max_height d (symbols_left l.fn.tokens) l.parsed (symbols_left l.tokens);
 }
 
 abbrev pub decreases-loop-parsed : goal.decreases-loop-parsed

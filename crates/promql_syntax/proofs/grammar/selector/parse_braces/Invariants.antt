@@ -8,7 +8,7 @@ use Rattle.promql_syntax.proofs.grammar.selector.parse_braces.Given as goal
 abbrev pub invariant-loop-matchers : goal.invariant-loop-matchers
 invariant-loop-matchers l = record {
   short : length (symbols_left l.tokens) ≤ length (symbols_left l.fn.tokens);
-  goes : Selecting (symbols_left l.fn.tokens) (symbols_left l.tokens) (view_result plain_matchers_of l.matchers) l.by_or;
+  goes : Selecting l.builds (symbols_left l.fn.tokens) (symbols_left l.tokens) (view_result plain_matchers_of l.matchers) l.by_or;
 }
 
 abbrev pub decreases-loop-matchers : goal.decreases-loop-matchers
