@@ -5,9 +5,10 @@ use Rattle.std.specs.Str.{bytes_eq}
 use Rattle.promql_label.specs.PlainMatchers.{PlainMatcher, PlainMatchers, plain_matchers}
 use Rattle.promql_kind.specs.Functions.{Signature, name_of}
 use Rattle.promql_ast.specs.Arguments.{count}
+use Rattle.promql_ast.specs.Mapped.{mapped, maybe_mapped, all_mapped}
 use Rattle.promql_ast.specs.Same.{matcher_eq}
 use Rattle.promql_ast.specs.Selectors.{Selector, selector}
-use Rattle.promql_ast.specs.Tree.{Tree, aggregate, unary, binary, paren, subquery, number, string, vector, matrix, call, extension, MaybeTree, absent, present, Trees, no_trees, first_tree}
+use Rattle.promql_ast.specs.Tree.{Tree, call, MaybeTree, Trees}
 use Rattle.promql_rewrite.specs.Collecting.{nodes_of}
 
 -- the list with the matcher at its end, unless an equal one is there
@@ -22,28 +23,8 @@ enforced_matchers c (plain_matchers cs (g ∷ gs)) = plain_matchers cs (map (wit
 abbrev pub enforced_selector : PlainMatcher → Selector → Selector
 enforced_selector c (selector name cs offset at) = selector name (enforced_matchers c cs) offset at
 
-module _ (c : PlainMatcher) where
-  abbrev mutual
-    pub enforced : Tree → Tree
-    enforced (aggregate op e p m) = aggregate op (enforced e) (maybe_enforced p) m
-    enforced (unary e) = unary (enforced e)
-    enforced (binary op l r m) = binary op (enforced l) (enforced r) m
-    enforced (paren e) = paren (enforced e)
-    enforced (subquery e offset at range step) = subquery (enforced e) offset at range step
-    enforced (number n) = number n
-    enforced (string s) = string s
-    enforced (vector s) = vector (enforced_selector c s)
-    enforced (matrix s range mode) = matrix (enforced_selector c s) range mode
-    enforced (call f args) = call f (all_enforced args)
-    enforced (extension name gives es) = extension name gives (all_enforced es)
-
-    pub maybe_enforced : MaybeTree → MaybeTree
-    maybe_enforced absent = absent
-    maybe_enforced (present e) = present (enforced e)
-
-    pub all_enforced : Trees → Trees
-    all_enforced no_trees = no_trees
-    all_enforced (first_tree e es) = first_tree (enforced e) (all_enforced es)
+abbrev pub enforced : PlainMatcher → Tree → Tree
+enforced c = mapped (enforced_selector c) (λ m. m) (λ m. m)
 
 -- ---- series that no selector selects
 
@@ -58,3 +39,11 @@ is_bare_info _ = false
 -- one of the tree's nodes is such a call
 abbrev pub has_bare_info : Tree → Bool
 has_bare_info t = list_any is_bare_info (nodes_of t)
+
+-- ---- of parts of trees. Private: nothing rests on believing it
+
+abbrev pub maybe_enforced : PlainMatcher → MaybeTree → MaybeTree
+maybe_enforced c = maybe_mapped (enforced_selector c) (λ m. m) (λ m. m)
+
+abbrev pub all_enforced : PlainMatcher → Trees → Trees
+all_enforced c = all_mapped (enforced_selector c) (λ m. m) (λ m. m)

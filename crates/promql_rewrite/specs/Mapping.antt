@@ -2,6 +2,7 @@
 use Rattle.std.specs.Prelude.{◌≡◌, ◌⊎◌, if◌then◌else◌, List, [], ◌∷◌, ◌++◌, Some, None, Result, Ok, Err}
 use Rattle.promql_label.specs.PlainMatchers.{plain_matchers}
 use Rattle.promql_kind.specs.Functions.{Signature}
+use Rattle.promql_ast.specs.Mapped.{mapped, maybe_mapped, all_mapped}
 use Rattle.promql_ast.specs.Selectors.{Selector, selector}
 use Rattle.promql_ast.specs.Tree.{Tree, aggregate, unary, binary, paren, subquery, number, string, vector, matrix, call, extension, MaybeTree, absent, present, Trees, no_trees, first_tree}
 use Rattle.promql_rewrite.specs.Enforcing.{is_info}
@@ -52,27 +53,8 @@ abbrev pub blank : Selector
 blank = selector (Some []) (plain_matchers [] []) None None
 
 -- a tree with each selector blank: what is left of it without them
-abbrev mutual
-  pub outline : Tree → Tree
-  outline (aggregate op e p m) = aggregate op (outline e) (maybe_outline p) m
-  outline (unary e) = unary (outline e)
-  outline (binary op l r m) = binary op (outline l) (outline r) m
-  outline (paren e) = paren (outline e)
-  outline (subquery e offset at range step) = subquery (outline e) offset at range step
-  outline (number n) = number n
-  outline (string s) = string s
-  outline (vector s) = vector blank
-  outline (matrix s range mode) = matrix blank range mode
-  outline (call f args) = call f (all_outlines args)
-  outline (extension name gives es) = extension name gives (all_outlines es)
-
-  pub maybe_outline : MaybeTree → MaybeTree
-  maybe_outline absent = absent
-  maybe_outline (present e) = present (outline e)
-
-  pub all_outlines : Trees → Trees
-  all_outlines no_trees = no_trees
-  all_outlines (first_tree e es) = first_tree (outline e) (all_outlines es)
+abbrev pub outline : Tree → Tree
+outline = mapped (λ s. blank) (λ m. m) (λ m. m)
 
 -- ---- what a mapper does
 
@@ -99,3 +81,11 @@ module _ {S E : Type 0} (gives : MapGives S E) where
   -- what a call that went well leaves depends on the selector and its kind alone
   abbrev pub MapsBy : (SelectorKind → Selector → Selector) → Type 0
   MapsBy f = (s : S) (k : SelectorKind) (x : Selector) (t : S) (y : Selector) → gives s k x (Ok tt) t y → y ≡ f k x
+
+-- ---- of parts of trees. Private: nothing rests on believing it
+
+abbrev pub maybe_outline : MaybeTree → MaybeTree
+maybe_outline = maybe_mapped (λ s. blank) (λ m. m) (λ m. m)
+
+abbrev pub all_outlines : Trees → Trees
+all_outlines = all_mapped (λ s. blank) (λ m. m) (λ m. m)

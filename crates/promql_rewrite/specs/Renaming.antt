@@ -9,8 +9,9 @@ use Rattle.promql_grammar.specs.SourceTokens.{Token, tokens}
 use Rattle.promql_label.specs.Labels.{is_among}
 use Rattle.promql_label.specs.PlainMatchers.{PlainMatcher, plain_matcher, PlainMatchers, plain_matchers, every, name_of}
 use Rattle.promql_kind.specs.Modifiers.{Cardinality, one_to_one, many_to_one, one_to_many, many_to_many, Clause, including, excluding, clause_labels, Matching, matching}
+use Rattle.promql_ast.specs.Mapped.{mapped, maybe_mapped, all_mapped}
 use Rattle.promql_ast.specs.Selectors.{Selector, selector}
-use Rattle.promql_ast.specs.Tree.{Tree, aggregate, unary, binary, paren, subquery, number, string, vector, matrix, call, extension, MaybeTree, absent, present, Trees, no_trees, first_tree}
+use Rattle.promql_ast.specs.Tree.{Tree, aggregate, binary, vector, matrix, MaybeTree, Trees}
 use Rattle.promql_rewrite.specs.Collecting.{is_metric_name, matching_labels, nodes_of}
 
 -- the old name and the new one, of a metric or of a label
@@ -58,27 +59,8 @@ module _ (r : Renaming) where
   renamed_matching (matching card clause return_bool values) =
       matching (renamed_cardinality card) (option_map renamed_clause clause) return_bool values
 
-  abbrev mutual
-    pub renamed : Tree → Tree
-    renamed (aggregate op e p m) = aggregate op (renamed e) (maybe_renamed p) (option_map renamed_clause m)
-    renamed (unary e) = unary (renamed e)
-    renamed (binary op l r m) = binary op (renamed l) (renamed r) (option_map renamed_matching m)
-    renamed (paren e) = paren (renamed e)
-    renamed (subquery e offset at range step) = subquery (renamed e) offset at range step
-    renamed (number n) = number n
-    renamed (string s) = string s
-    renamed (vector s) = vector (renamed_selector s)
-    renamed (matrix s range mode) = matrix (renamed_selector s) range mode
-    renamed (call f args) = call f (all_renamed args)
-    renamed (extension name gives es) = extension name gives (all_renamed es)
-
-    pub maybe_renamed : MaybeTree → MaybeTree
-    maybe_renamed absent = absent
-    maybe_renamed (present e) = present (renamed e)
-
-    pub all_renamed : Trees → Trees
-    all_renamed no_trees = no_trees
-    all_renamed (first_tree e es) = first_tree (renamed e) (all_renamed es)
+  abbrev pub renamed : Tree → Tree
+  renamed = mapped renamed_selector (option_map renamed_clause) (option_map renamed_matching)
 
 -- ---- where two labels would become one
 
@@ -119,3 +101,12 @@ is_name_in text (Err f) = false
 
 abbrev pub is_name : Text → Bool
 is_name text = is_name_in text (tokens text)
+
+-- ---- of parts of trees. Private: nothing rests on believing it
+
+module _ (r : Renaming) where
+  abbrev pub maybe_renamed : MaybeTree → MaybeTree
+  maybe_renamed = maybe_mapped (renamed_selector r) (option_map (renamed_clause r)) (option_map (renamed_matching r))
+
+  abbrev pub all_renamed : Trees → Trees
+  all_renamed = all_mapped (renamed_selector r) (option_map (renamed_clause r)) (option_map (renamed_matching r))
