@@ -16,10 +16,14 @@ use Rattle.promql_rewrite.specs.Judged.{IsJudged}
 use Rattle.promql_rewrite.specs.PrintableTrees.{IsPrintable}
 use Rattle.promql_rewrite.proofs.NormalPrintable.{printable_of_normal}
 use Rattle.promql_rewrite.proofs.ParsedPrintable.{parsed_printable}
+use Rattle.promql_rewrite.proofs.PrintableApart.{printable_apart, printable_joined}
 use Rattle.promql_rewrite.proofs.PrintableTexts.{printable_line}
 
+pub printed_line : (g : Text → Answer) (t : Tree) → IsPrintable g t → HasTree g (text t) (normal t)
+printed_line g t h = printable_line g t (printable_joined g t h)
+
 pub read_back_printable : CheckedTyped → (g : Text → Answer) (t : Tree) → HasTree g (text t) (normal t) → IsPrintable g t
-read_back_printable typed g t h = printable_of_normal g t (parsed_printable g typed (text t) (normal t) h)
+read_back_printable typed g t h = printable_apart g t (printable_of_normal g t (parsed_printable g typed (text t) (normal t) h))
 
 no_memory : (e : ParseError) → plain_error_of e ≡ memory → e ≡ errors.Memory
 no_memory errors.Memory e = refl
@@ -52,8 +56,8 @@ module _ (typed : CheckedTyped)
     answer = answer;
     served = served;
     says = (λ yes. absurd (is_no yes), λ e. absurd (other e));
-    decides = λ g agree. (λ yes. absurd (is_no yes), λ h. absurd (other (is g (text t) answers answer (normal t) served agree (printable_line g t h))));
-    small = λ few. (λ yes. absurd (is_no yes), λ h. absurd (other (small_is (text t) answers answer (normal t) served (printable_line pattern_answer t h) (small_normal t few))));
+    decides = λ g agree. (λ yes. absurd (is_no yes), λ h. absurd (other (is g (text t) answers answer (normal t) served agree (printed_line g t h))));
+    small = λ few. (λ yes. absurd (is_no yes), λ h. absurd (other (small_is (text t) answers answer (normal t) served (printed_line pattern_answer t h) (small_normal t few))));
   }
 
   pub judged_rejected : (t : Tree) (e : ParseError) → IsAnswerTo (text t) (Err (plain_error_of e)) × (e ≢ errors.Memory) → IsJudged false t

@@ -10,7 +10,7 @@ use Rattle.promql_label.specs.SortedTexts.{text_order}
 use Rattle.promql_ast.specs.Selectors.{Selector, selector}
 use Rattle.promql_ast.specs.Normal.{normal_selector}
 use Rattle.promql_ast.specs.Typed.{HasName, TypedSelector}
-use Rattle.promql_rewrite.specs.PrintableTrees.{AllAnswered, PrintableMatchers, PrintableSelector}
+use Rattle.promql_rewrite.specs.PrintableNodes.{AllAnswered, PrintableMatchers, PrintableSelector}
 
 -- ---- tests of sorted matchers
 

@@ -18,7 +18,9 @@ use Rattle.promql_ast.specs.check.AggregateChecks.{maybe_type}
 use Rattle.promql_ast.specs.check.CallChecks.{is_exempt, is_exempt_number}
 use Rattle.promql_syntax.proofs.CheckedAgain.{type_normal}
 use Rattle.promql_syntax.proofs.PrintedModifiers.{Alike}
-use Rattle.promql_rewrite.specs.PrintableTrees.{AllPrintableNodes, FollowsLabels, IsNegated, IsPrintable, IsRightSide, IsSubqueried, MaybePrintableNodes, PrintableFill, PrintableModifier, PrintableNodes, all_printed_height, has_param, maybe_printed_height, openness, printed_height}
+use Rattle.promql_rewrite.specs.PrintableConditions.{FollowsLabels, IsNegated, IsRightSide, IsSubqueried, PrintableFill, PrintableModifier, has_param, openness}
+use Rattle.promql_rewrite.specs.PrintableNodes.{AllPrintableNodes, MaybePrintableNodes, NodesArePrintable, PrintableNodes}
+use Rattle.promql_rewrite.specs.PrintableTrees.{all_printed_height, maybe_printed_height, printed_height}
 use Rattle.promql_rewrite.proofs.NormalMatchers.{of_normal_selector, typed_of_normal_selector}
 
 -- ---- modifiers
@@ -230,7 +232,7 @@ module _ (g : Text → Answer) where
     all_nodes_of_normal no_trees h = h
     all_nodes_of_normal (first_tree t ts) h = (nodes_of_normal t h.0, all_nodes_of_normal ts h.1)
 
-  pub printable_of_normal : (t : Tree) → IsPrintable g (normal t) → IsPrintable g t
+  pub printable_of_normal : (t : Tree) → NodesArePrintable g (normal t) → NodesArePrintable g t
   printable_of_normal t h = record {
     typed = typed_of_normal t h.typed;
     low = omega (arith, height_normal t, h.low);

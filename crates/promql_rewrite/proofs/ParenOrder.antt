@@ -4,7 +4,7 @@ use Rattle.promql_ast.specs.Tree.{Tree, aggregate, unary, binary, paren, subquer
 use Rattle.promql_rewrite.specs.AddedParens.{AddsParens, same, added, in_aggregate, in_unary, in_binary, in_paren, in_subquery, in_call, in_extension, MaybeAddsParens, neither, both, AllAddParens, no_more, one_more}
 use Rattle.promql_rewrite.specs.Everywhere.{Everywhere}
 use Rattle.promql_rewrite.specs.Parenthesizing.{parenthesized}
-use Rattle.promql_rewrite.specs.PrintableConditions.{IsPlaced}
+use Rattle.promql_rewrite.specs.PrintableTrees.{IsPlaced}
 use Rattle.promql_rewrite.proofs.ParenFewest.{adds, fewest}
 use Rattle.promql_rewrite.proofs.ParenPlaces.{well_placed}
 

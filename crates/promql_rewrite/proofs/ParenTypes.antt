@@ -19,8 +19,8 @@ use Rattle.promql_ast.specs.check.CallChecks.{is_exempt, is_exempt_number}
 use Rattle.promql_ast.specs.node.Binary.{binary_type}
 use Rattle.promql_rewrite.specs.Parenthesizing.{all_parenthesized, at_place, fits_left, fits_range, fits_right, fits_sign, maybe_parenthesized, parenthesized}
 use Rattle.promql_rewrite.specs.Everywhere.{Everywhere, EverywhereAll, EverywhereMaybe}
-use Rattle.promql_rewrite.specs.PrintableConditions.{HasParts, PatternsAnswered}
-use Rattle.promql_rewrite.specs.PrintableTrees.{all_printed_height, has_param, maybe_printed_height, printed_height}
+use Rattle.promql_rewrite.specs.PrintableConditions.{has_param}
+use Rattle.promql_rewrite.specs.PrintableTrees.{HasParts, PatternsAnswered, all_printed_height, maybe_printed_height, printed_height}
 
 -- ---- types
 

@@ -40,7 +40,9 @@ use Rattle.promql_syntax.proofs.PrintedTimesAndLabels.{IsStep, IsTime}
 use Rattle.promql_syntax.proofs.SingleAnswers.{same_ok, then_steps}
 use Rattle.promql_syntax.proofs.SpelledWords.{has_words}
 use Rattle.promql_rewrite.specs.Answered.{IsAnswered}
-use Rattle.promql_rewrite.specs.PrintableTrees.{AllAnswered, AllPrintableNodes, FollowsLabels, GroupsAnswered, IsNegated, IsPrintable, IsRightSide, IsSubqueried, MaybePrintableNodes, PrintableAt, PrintableMatchers, PrintableModifier, PrintableName, PrintableNodes, PrintableOffset, PrintableSelector, PrintableStep, PrintableTime, all_printed_height, maybe_printed_height, openness, printed_height}
+use Rattle.promql_rewrite.specs.PrintableConditions.{FollowsLabels, IsNegated, IsRightSide, IsSubqueried, PrintableAt, PrintableModifier, PrintableName, PrintableOffset, PrintableStep, PrintableTime, openness}
+use Rattle.promql_rewrite.specs.PrintableNodes.{AllAnswered, AllPrintableNodes, GroupsAnswered, MaybePrintableNodes, NodesArePrintable, PrintableMatchers, PrintableNodes, PrintableSelector}
+use Rattle.promql_rewrite.specs.PrintableTrees.{all_printed_height, maybe_printed_height, printed_height}
 use Rattle.promql_rewrite.proofs.BuiltTrees.{AllBuilt, Built, IsNoNumber, MaybeBuilt, SetsMatchMany, built}
 
 -- ---- values
@@ -277,7 +279,7 @@ module _ (g : Text → Answer) where
   all_under P (fails u) x all e = cc
   all_under P (asks v next) x all e = all_under P (next (g v)) x (all (g v)) e
 
-  pub parsed_printable : CheckedTyped → (source : Text) (t : Tree) → HasTree g source t → IsPrintable g t
+  pub parsed_printable : CheckedTyped → (source : Text) (t : Tree) → HasTree g source t → NodesArePrintable g t
   parsed_printable law source t h =
       let s = h.derives in
       let k = keeps g h.derivation t s.formed (has_words source h.derivation s) h.builds in

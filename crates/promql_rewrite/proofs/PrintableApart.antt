@@ -1,4 +1,4 @@
--- A printable tree is one whose nodes have their parts, whose operands are well placed and whose patterns are answered, and no other.
+-- A tree is printable exactly if it is so node by node.
 use Rattle.std.proofs.Common.{List, [], ◌∷◌, ◌++◌, flat_map}
 use Rattle.promql_text.specs.Texts.{Text}
 use Rattle.promql_label.specs.Answers.{Answer}
@@ -6,8 +6,9 @@ use Rattle.promql_label.specs.PlainMatchers.{PlainMatcher, PlainMatchers, plain_
 use Rattle.promql_ast.specs.Selectors.{Selector, selector}
 use Rattle.promql_ast.specs.Tree.{Tree, aggregate, unary, binary, paren, subquery, number, string, vector, matrix, call, extension, MaybeTree, absent, present, Trees, no_trees, first_tree}
 use Rattle.promql_rewrite.specs.Everywhere.{Everywhere, EverywhereAll, EverywhereMaybe}
-use Rattle.promql_rewrite.specs.PrintableConditions.{AreGrouped, HasParts, HasSelectorParts, IsPlaced, IsPrintableAlone, NoneEmpty, PatternsAnswered}
-use Rattle.promql_rewrite.specs.PrintableTrees.{AllAnswered, AllPrintableNodes, GroupsAnswered, IsPrintable, MaybePrintableNodes, PrintableMatchers, PrintableNodes, PrintableSelector}
+use Rattle.promql_rewrite.specs.PrintableConditions.{AreGrouped, NoneEmpty}
+use Rattle.promql_rewrite.specs.PrintableNodes.{AllAnswered, AllPrintableNodes, GroupsAnswered, MaybePrintableNodes, NodesArePrintable, PrintableMatchers, PrintableNodes, PrintableSelector}
+use Rattle.promql_rewrite.specs.PrintableTrees.{HasParts, HasSelectorParts, IsPlaced, IsPrintable, IsPrintableAlone, PatternsAnswered}
 
 module _ (g : Text → Answer) where
   -- ---- matchers
@@ -120,10 +121,10 @@ module _ (g : Text → Answer) where
     all_joined no_trees h w a = tt
     all_joined (first_tree t ts) h w a = (joined t h.0 w.0 a.0, all_joined ts h.1 w.1 a.1)
 
-  pub printable_apart : (t : Tree) → IsPrintable g t → IsPrintableAlone t × Everywhere (PatternsAnswered g) t
+  pub printable_apart : (t : Tree) → NodesArePrintable g t → IsPrintable g t
   printable_apart t h =
       let a = apart t h.nodes in
       (record { typed = h.typed; low = h.low; parts = a.parts; placed = a.placed }, a.answered)
 
-  pub printable_joined : (t : Tree) → IsPrintableAlone t × Everywhere (PatternsAnswered g) t → IsPrintable g t
+  pub printable_joined : (t : Tree) → IsPrintable g t → NodesArePrintable g t
   printable_joined t h = record { typed = h.0.typed; low = h.0.low; nodes = joined t h.0.parts h.0.placed h.1 }

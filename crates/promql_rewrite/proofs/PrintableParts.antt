@@ -29,7 +29,8 @@ use Rattle.promql_syntax.proofs.PrintedTimes.{moment_is}
 use Rattle.promql_syntax.proofs.PrintedTimesAndLabels.{IsStep, IsTime}
 use Rattle.promql_syntax.proofs.SingleAnswers.{then_leads}
 use Rattle.promql_rewrite.specs.Answered.{IsAnswered}
-use Rattle.promql_rewrite.specs.PrintableTrees.{AllAnswered, FollowsLabels, GroupsAnswered, PrintableAt, PrintableFill, PrintableMatchers, PrintableModifier, PrintableOffset, PrintableStep, PrintableTime}
+use Rattle.promql_rewrite.specs.PrintableConditions.{FollowsLabels, PrintableAt, PrintableFill, PrintableModifier, PrintableOffset, PrintableStep, PrintableTime}
+use Rattle.promql_rewrite.specs.PrintableNodes.{AllAnswered, GroupsAnswered, PrintableMatchers}
 
 -- ---- times
 

@@ -14,10 +14,10 @@ use Rattle.promql_syntax.proofs.PrintedExprTokens.{line_tokens, lines_tokens}
 use Rattle.promql_syntax.proofs.PrintedItems.{line, lines}
 use Rattle.promql_syntax.proofs.PrintedLayouts.{lines_bytes}
 use Rattle.promql_syntax.proofs.PrintedLines.{line_bytes}
-use Rattle.promql_rewrite.specs.PrintableTrees.{IsPrintable}
+use Rattle.promql_rewrite.specs.PrintableNodes.{NodesArePrintable}
 use Rattle.promql_rewrite.proofs.PrintablePlaces.{Placed, placed}
 
-module _ (g : Text → Answer) (t : Tree) (h : IsPrintable g t) where
+module _ (g : Text → Answer) (t : Tree) (h : NodesArePrintable g t) where
   place : Placed g t
   place = placed g t h.typed h.nodes
 

@@ -12,7 +12,9 @@ use Rattle.promql_ast.specs.Tree.{Tree, aggregate, unary, binary, paren, subquer
 use Rattle.promql_ast.specs.Typed.{Typed}
 use Rattle.promql_syntax.specs.declared.parser.TheConstants.{MAX_DEPTH}
 use Rattle.promql_rewrite.specs.Answered.{IsAnswered}
-use Rattle.promql_rewrite.specs.PrintableTrees.{AllAnswered, AllPrintableNodes, FollowsLabels, GroupsAnswered, IsNegated, IsPrintable, IsRightSide, IsSubqueried, MaybePrintableNodes, PrintableMatchers, PrintableModifier, PrintableName, PrintableNodes, PrintableSelector, all_printed_height, has_param, maybe_printed_height, openness, printed_height}
+use Rattle.promql_rewrite.specs.PrintableConditions.{FollowsLabels, IsNegated, IsRightSide, IsSubqueried, PrintableModifier, PrintableName, has_param, openness}
+use Rattle.promql_rewrite.specs.PrintableNodes.{AllAnswered, AllPrintableNodes, GroupsAnswered, MaybePrintableNodes, NodesArePrintable, PrintableMatchers, PrintableNodes, PrintableSelector}
+use Rattle.promql_rewrite.specs.PrintableTrees.{all_printed_height, maybe_printed_height, printed_height}
 use Rattle.promql_rewrite.specs.Renaming.{Renaming, of_label, of_metric, all_renamed, clashes, is_name, maybe_renamed, renamed, renamed_cardinality, renamed_clause, renamed_matcher, renamed_matchers, renamed_matching, renamed_name, renamed_selector}
 use Rattle.promql_rewrite.proofs.RenamedTrees.{label_typed, metric_typed}
 use Rattle.promql_rewrite.proofs.SomeNames.{named_word, some_name}
@@ -132,7 +134,7 @@ module _ (r : Renaming) where
       all_printable_nodes no_trees h = h
       all_printable_nodes (first_tree t ts) h = (printable_nodes t h.0, all_printable_nodes ts h.1)
 
-    printable_renamed : (t : Tree) → Typed (renamed r t) → IsPrintable g t → IsPrintable g (renamed r t)
+    printable_renamed : (t : Tree) → Typed (renamed r t) → NodesArePrintable g t → NodesArePrintable g (renamed r t)
     printable_renamed t typed h = record {
       typed = typed;
       low = subst (λ n. n ≤ MAX_DEPTH) (sym (low_renamed t)) h.low;
@@ -145,7 +147,7 @@ module _ (from to : Text) (g : Text → Answer) where
   label_answered : (c : PlainMatcher) → IsAnswered g c → IsAnswered g (renamed_matcher (of_label from to) c)
   label_answered (plain_matcher op name value) h = h
 
-  pub label_printable : (t : Tree) → from ≢ codes "__name__" → to ≢ codes "__name__" → clashes from to t ≡ false → IsPrintable g t → IsPrintable g (renamed (of_label from to) t)
+  pub label_printable : (t : Tree) → from ≢ codes "__name__" → to ≢ codes "__name__" → clashes from to t ≡ false → NodesArePrintable g t → NodesArePrintable g (renamed (of_label from to) t)
   label_printable t old new apart h = printable_renamed (of_label from to) g (λ o k. k) label_answered t (label_typed from to t old new apart h.typed) h
 
   -- ---- a metric
@@ -164,6 +166,6 @@ module _ (from to : Text) (g : Text → Answer) where
       by true = new
       by false = h
 
-  pub metric_printable : (t : Tree) → is_name to ≡ true → IsPrintable g t → IsPrintable g (renamed (of_metric from to) t)
+  pub metric_printable : (t : Tree) → is_name to ≡ true → NodesArePrintable g t → NodesArePrintable g (renamed (of_metric from to) t)
   metric_printable t named h =
       printable_renamed (of_metric from to) g (metric_name (named_word to named)) metric_answered t (metric_typed from to t (some_name to named) h.typed) h

@@ -16,7 +16,7 @@ use Rattle.promql_grammar.specs.SourceTokens.{Token, tokens}
 use Rattle.promql_syntax.proofs.Booleans.{and_cases}
 use Rattle.promql_syntax.proofs.PrintedParts.{word_kind}
 use Rattle.promql_syntax.proofs.SpelledWords.{has_words}
-use Rattle.promql_rewrite.specs.PrintableTrees.{PrintableName}
+use Rattle.promql_rewrite.specs.PrintableConditions.{PrintableName}
 use Rattle.promql_rewrite.specs.Renaming.{is_name, is_name_in}
 
 -- ---- no name is empty

@@ -27,7 +27,7 @@ use Rattle.promql_ast.specs.check.BinaryChecks.{first_twice, label_fault, operat
 use Rattle.promql_ast.specs.check.CallChecks.{arity_fault, is_exempt, types_fault, typing_fault}
 use Rattle.promql_ast.specs.check.VectorChecks.{name_fault, second_name}
 use Rattle.promql_syntax.proofs.PrintedModifiers.{PassesChecks}
-use Rattle.promql_rewrite.specs.PrintableTrees.{IsNegated}
+use Rattle.promql_rewrite.specs.PrintableConditions.{IsNegated}
 
 -- ---- faults that do not apply
 

@@ -16,6 +16,7 @@ pub mod Mapping
 pub mod MatcherTexts
 pub mod Parenthesizing
 pub mod PrintableConditions
+pub mod PrintableNodes
 pub mod PrintableTrees
 pub mod Reasons
 pub mod Renaming

@@ -4,7 +4,7 @@ use Rattle.promql_text.specs.Values.{is_below_zero}
 use Rattle.promql_token.specs.declared.ids.TheConstants.{T_POW}
 use Rattle.promql_grammar.specs.Grammar.{precedence}
 use Rattle.promql_ast.specs.Tree.{Tree, aggregate, unary, binary, paren, subquery, number, string, vector, matrix, call, extension, MaybeTree, absent, present, Trees, no_trees, first_tree}
-use Rattle.promql_rewrite.specs.PrintableTrees.{openness}
+use Rattle.promql_rewrite.specs.PrintableConditions.{openness}
 
 -- ---- tests of the places, as `FitsLeft`, `IsRightSide`, `IsNegated` and `IsSubqueried` have them
 

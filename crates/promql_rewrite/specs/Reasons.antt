@@ -13,8 +13,8 @@ use Rattle.promql_syntax.specs.declared.parser.ParseError.TheVariants as parse
 use Rattle.promql_rewrite.specs.Everywhere.{Everywhere}
 use Rattle.promql_rewrite.specs.Faithful.{MeansOther}
 use Rattle.promql_rewrite.specs.FirstWrong.{FirstWrong}
-use Rattle.promql_rewrite.specs.PrintableConditions.{AreGrouped, IsPlaced}
-use Rattle.promql_rewrite.specs.PrintableTrees.{FollowsLabels, IsNegated, IsRightSide, IsSubqueried, PrintableOffset, PrintableStep, PrintableTime, has_param, openness}
+use Rattle.promql_rewrite.specs.PrintableConditions.{AreGrouped, FollowsLabels, IsNegated, IsRightSide, IsSubqueried, PrintableOffset, PrintableStep, PrintableTime, has_param, openness}
+use Rattle.promql_rewrite.specs.PrintableTrees.{IsPlaced}
 use Rattle.promql_rewrite.specs.declared.printable.NotPrintable.{NotPrintable}
 use Rattle.promql_rewrite.specs.declared.printable.NotPrintable.TheVariants as reason
 

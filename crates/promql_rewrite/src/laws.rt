@@ -22,8 +22,7 @@ ghost use Rattle.promql_rewrite.specs.Enforcing.{enforced, enforced_selector};
 ghost use Rattle.promql_rewrite.specs.Everywhere.{Everywhere};
 ghost use Rattle.promql_rewrite.specs.Mapping.{KindedSelector, outline, selectors_of};
 ghost use Rattle.promql_rewrite.specs.Parenthesizing.{parenthesized};
-ghost use Rattle.promql_rewrite.specs.PrintableConditions.{HasParts, IsPlaced, IsPrintableAlone, PatternsAnswered};
-ghost use Rattle.promql_rewrite.specs.PrintableTrees.{IsPrintable, printed_height};
+ghost use Rattle.promql_rewrite.specs.PrintableTrees.{HasParts, IsPlaced, IsPrintable, IsPrintableAlone, PatternsAnswered, printed_height};
 ghost use Rattle.promql_rewrite.specs.Renaming.{Renaming, clashes, is_name, of_label, of_metric, renamed, renamed_selector, replaced};
 ghost use Rattle.promql_rewrite.specs.Selecting.{Series, allows, selects};
 

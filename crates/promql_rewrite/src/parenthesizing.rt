@@ -4,7 +4,7 @@ ghost use Rattle.std.specs.Prelude.{◌≡◌, IfOk, OnOk, map};
 ghost use Rattle.promql_ast.specs.Tree.{paren};
 ghost use Rattle.promql_ast.specs.View.{aggregate_tree, binary_tree, call_tree, extension_tree, subquery_tree, tree_of, unary_tree};
 ghost use Rattle.promql_rewrite.specs.Parenthesizing as spec;
-ghost use Rattle.promql_rewrite.specs.PrintableTrees as printable;
+ghost use Rattle.promql_rewrite.specs.PrintableConditions as printable;
 
 use promql_ast::{AggregateExpr, BinaryExpr, Call, Expr, Extension, SubqueryExpr, UnaryExpr};
 use promql_grammar::precedence::precedence;

@@ -1,5 +1,9 @@
+use Rattle.promql_rewrite.proofs.PrintableApart.{printable_joined}
 use Rattle.promql_rewrite.proofs.PrintableTexts.{printable_line, printable_lines}
 use Rattle.promql_rewrite.proofs.laws.printable_trees_read_back.Goals as goal
 
 pub returns : goal.returns
-returns c = record { line = printable_line; lines = printable_lines }
+returns c = record {
+  line = λ g t h. printable_line g t (printable_joined g t h);
+  lines = λ g t h. printable_lines g t (printable_joined g t h);
+}
