@@ -2,6 +2,7 @@ pub mod AppendedLists
 pub mod AppendedNames
 pub mod BuiltTrees
 pub mod CollectedSets
+pub mod EachNode
 pub mod EnforcedChecks
 pub mod EnforcedLists
 pub mod EnforcedMatchers

@@ -18,7 +18,7 @@ use Rattle.promql_ast.specs.check.AggregateChecks.{maybe_type}
 use Rattle.promql_ast.specs.check.CallChecks.{is_exempt, is_exempt_number}
 use Rattle.promql_ast.specs.node.Binary.{binary_type}
 use Rattle.promql_rewrite.specs.Parenthesizing.{all_parenthesized, at_place, fits_left, fits_range, fits_right, fits_sign, maybe_parenthesized, parenthesized}
-use Rattle.promql_rewrite.specs.Everywhere.{Everywhere, EverywhereAll, EverywhereMaybe}
+use Rattle.promql_rewrite.specs.Throughout.{Throughout, ThroughoutAll, ThroughoutMaybe}
 use Rattle.promql_rewrite.specs.PrintableConditions.{has_param}
 use Rattle.promql_rewrite.specs.PrintableTrees.{HasParts, PatternsAnswered, all_printed_height, maybe_printed_height, printed_height}
 
@@ -131,15 +131,15 @@ module _ (P : Tree → Type 0) (parens : (t : Tree) → P (paren t))
     (ranged : (e f : Tree) (offset : Option Shift) (at : Option Moment) (range : ℕ) (step : Option ℕ) → P (subquery e offset at range step) → P (subquery f offset at range step))
     (calls : (f : Signature) (ts us : Trees) → P (call f ts) → P (call f us))
     (extensions : (name : Text) (gives : ValueType) (ts us : Trees) → P (extension name gives ts) → P (extension name gives us)) where
-  there : (fits : Tree → Bool) (t : Tree) → Everywhere P t → Everywhere P (at_place fits t)
+  there : (fits : Tree → Bool) (t : Tree) → Throughout P t → Throughout P (at_place fits t)
   there fits t h = go (fits t)
     where
-      go : (b : Bool) → Everywhere P (cond b t (paren t))
+      go : (b : Bool) → Throughout P (cond b t (paren t))
       go true = h
       go false = (parens t, h)
 
   mutual
-    pub kept : (t : Tree) → Everywhere P t → Everywhere P (parenthesized t)
+    pub kept : (t : Tree) → Throughout P t → Throughout P (parenthesized t)
     kept (aggregate op e p m) h = (aggregates op e (parenthesized e) p m h.0, maybe_kept p h.1, kept e h.2)
     kept (unary e) h = (signs e (at_place fits_sign (parenthesized e)) h.0, there fits_sign (parenthesized e) (kept e h.1))
     kept (binary op l r m) h = (
@@ -157,11 +157,11 @@ module _ (P : Tree → Type 0) (parens : (t : Tree) → P (paren t))
     kept (call f ts) h = (calls f ts (all_parenthesized ts) h.0, all_kept ts h.1)
     kept (extension name gives ts) h = (extensions name gives ts (all_parenthesized ts) h.0, all_kept ts h.1)
 
-    maybe_kept : (p : MaybeTree) → EverywhereMaybe P p → EverywhereMaybe P (maybe_parenthesized p)
+    maybe_kept : (p : MaybeTree) → ThroughoutMaybe P p → ThroughoutMaybe P (maybe_parenthesized p)
     maybe_kept absent h = h
     maybe_kept (present e) h = kept e h
 
-    all_kept : (ts : Trees) → EverywhereAll P ts → EverywhereAll P (all_parenthesized ts)
+    all_kept : (ts : Trees) → ThroughoutAll P ts → ThroughoutAll P (all_parenthesized ts)
     all_kept no_trees h = h
     all_kept (first_tree t ts) h = (kept t h.0, all_kept ts h.1)
 
@@ -169,10 +169,10 @@ param_kept : (p : MaybeTree) → has_param (maybe_parenthesized p) ≡ has_param
 param_kept absent = refl
 param_kept (present e) = refl
 
-pub parts_kept : (t : Tree) → Everywhere HasParts t → Everywhere HasParts (parenthesized t)
+pub parts_kept : (t : Tree) → Throughout HasParts t → Throughout HasParts (parenthesized t)
 parts_kept t h = kept HasParts (λ t. tt) (λ op e f p m h. param_kept p ∙ h) (λ e f h. tt) (λ op l r k s m h. h) (λ e f offset at range step h. h) (λ f ts us h. h) (λ name gives ts us h. h) t h
 
-pub answered_kept : (g : Text → Answer) (t : Tree) → Everywhere (PatternsAnswered g) t → Everywhere (PatternsAnswered g) (parenthesized t)
+pub answered_kept : (g : Text → Answer) (t : Tree) → Throughout (PatternsAnswered g) t → Throughout (PatternsAnswered g) (parenthesized t)
 answered_kept g t h = kept (PatternsAnswered g) (λ t. tt) (λ op e f p m h. tt) (λ e f h. tt) (λ op l r k s m h. tt) (λ e f offset at range step h. tt) (λ f ts us h. tt) (λ name gives ts us h. tt) t h
 
 -- ---- heights

@@ -5,7 +5,8 @@ use Rattle.promql_label.specs.Answers.{Answer}
 use Rattle.promql_label.specs.PlainMatchers.{PlainMatcher, PlainMatchers, plain_matchers, every}
 use Rattle.promql_ast.specs.Selectors.{Selector, selector}
 use Rattle.promql_ast.specs.Tree.{Tree, aggregate, unary, binary, paren, subquery, number, string, vector, matrix, call, extension, MaybeTree, absent, present, Trees, no_trees, first_tree}
-use Rattle.promql_rewrite.specs.Everywhere.{Everywhere, EverywhereAll, EverywhereMaybe}
+use Rattle.promql_rewrite.specs.Throughout.{Throughout, ThroughoutAll, ThroughoutMaybe}
+use Rattle.promql_rewrite.proofs.EachNode.{listed, throughout}
 use Rattle.promql_rewrite.specs.PrintableConditions.{AreGrouped, NoneEmpty}
 use Rattle.promql_rewrite.specs.PrintableNodes.{AllAnswered, AllPrintableNodes, GroupsAnswered, MaybePrintableNodes, NodesArePrintable, PrintableMatchers, PrintableNodes, PrintableSelector}
 use Rattle.promql_rewrite.specs.PrintableTrees.{HasParts, HasSelectorParts, IsPlaced, IsPrintable, IsPrintableAlone, PatternsAnswered}
@@ -52,19 +53,19 @@ module _ (g : Text → Answer) where
   -- ---- trees
 
   record Apart (t : Tree) : Type 0 where
-    parts : Everywhere HasParts t
-    placed : Everywhere IsPlaced t
-    answered : Everywhere (PatternsAnswered g) t
+    parts : Throughout HasParts t
+    placed : Throughout IsPlaced t
+    answered : Throughout (PatternsAnswered g) t
 
   record MaybeApart (p : MaybeTree) : Type 0 where
-    parts : EverywhereMaybe HasParts p
-    placed : EverywhereMaybe IsPlaced p
-    answered : EverywhereMaybe (PatternsAnswered g) p
+    parts : ThroughoutMaybe HasParts p
+    placed : ThroughoutMaybe IsPlaced p
+    answered : ThroughoutMaybe (PatternsAnswered g) p
 
   record AllApart (ts : Trees) : Type 0 where
-    parts : EverywhereAll HasParts ts
-    placed : EverywhereAll IsPlaced ts
-    answered : EverywhereAll (PatternsAnswered g) ts
+    parts : ThroughoutAll HasParts ts
+    placed : ThroughoutAll IsPlaced ts
+    answered : ThroughoutAll (PatternsAnswered g) ts
 
   mutual
     apart : (t : Tree) → PrintableNodes g t → Apart t
@@ -100,7 +101,7 @@ module _ (g : Text → Answer) where
         record { parts = (a.parts, b.parts); placed = (a.placed, b.placed); answered = (a.answered, b.answered) }
 
   mutual
-    joined : (t : Tree) → Everywhere HasParts t → Everywhere IsPlaced t → Everywhere (PatternsAnswered g) t → PrintableNodes g t
+    joined : (t : Tree) → Throughout HasParts t → Throughout IsPlaced t → Throughout (PatternsAnswered g) t → PrintableNodes g t
     joined (aggregate op e p m) h w a = (h.0, maybe_joined p h.1 w.1 a.1, joined e h.2 w.2 a.2)
     joined (unary e) h w a = (w.0, joined e h.1 w.1 a.1)
     joined (binary op l r m) h w a = (h.0.0, h.0.1, w.0.0, w.0.1, joined l h.1 w.1 a.1, joined r h.2 w.2 a.2)
@@ -113,18 +114,22 @@ module _ (g : Text → Answer) where
     joined (call f ts) h w a = (h.0, all_joined ts h.1 w.1 a.1)
     joined (extension name gives ts) h w a = absurd h.0
 
-    maybe_joined : (p : MaybeTree) → EverywhereMaybe HasParts p → EverywhereMaybe IsPlaced p → EverywhereMaybe (PatternsAnswered g) p → MaybePrintableNodes g p
+    maybe_joined : (p : MaybeTree) → ThroughoutMaybe HasParts p → ThroughoutMaybe IsPlaced p → ThroughoutMaybe (PatternsAnswered g) p → MaybePrintableNodes g p
     maybe_joined absent h w a = tt
     maybe_joined (present e) h w a = joined e h w a
 
-    all_joined : (ts : Trees) → EverywhereAll HasParts ts → EverywhereAll IsPlaced ts → EverywhereAll (PatternsAnswered g) ts → AllPrintableNodes g ts
+    all_joined : (ts : Trees) → ThroughoutAll HasParts ts → ThroughoutAll IsPlaced ts → ThroughoutAll (PatternsAnswered g) ts → AllPrintableNodes g ts
     all_joined no_trees h w a = tt
     all_joined (first_tree t ts) h w a = (joined t h.0 w.0 a.0, all_joined ts h.1 w.1 a.1)
 
   pub printable_apart : (t : Tree) → NodesArePrintable g t → IsPrintable g t
   printable_apart t h =
       let a = apart t h.nodes in
-      (record { typed = h.typed; low = h.low; parts = a.parts; placed = a.placed }, a.answered)
+      (record { typed = h.typed; low = h.low; parts = listed HasParts t a.parts; placed = listed IsPlaced t a.placed }, listed (PatternsAnswered g) t a.answered)
 
   pub printable_joined : (t : Tree) → IsPrintable g t → NodesArePrintable g t
-  printable_joined t h = record { typed = h.0.typed; low = h.0.low; nodes = joined t h.0.parts h.0.placed h.1 }
+  printable_joined t h = record {
+    typed = h.0.typed;
+    low = h.0.low;
+    nodes = joined t (throughout HasParts t h.0.parts) (throughout IsPlaced t h.0.placed) (throughout (PatternsAnswered g) t h.1);
+  }

@@ -8,7 +8,6 @@ pub mod Enforcing
 pub mod Everywhere
 pub mod Faithful
 pub mod FaithfulErrors
-pub mod FirstWrong
 pub mod FoundReasons
 pub mod Judged
 pub mod MappedSelectors
@@ -22,3 +21,4 @@ pub mod Reasons
 pub mod Renaming
 pub mod Renamings
 pub mod Selecting
+pub mod Throughout

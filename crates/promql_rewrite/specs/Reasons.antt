@@ -10,9 +10,9 @@ use Rattle.promql_ast.specs.Text.{text}
 use Rattle.promql_ast.specs.Tree.{Tree, aggregate, unary, binary, subquery, vector, matrix, extension}
 use Rattle.promql_syntax.specs.ParseAnswers.{IsAnswerTo, plain_error_of}
 use Rattle.promql_syntax.specs.declared.parser.ParseError.TheVariants as parse
-use Rattle.promql_rewrite.specs.Everywhere.{Everywhere}
+use Rattle.promql_rewrite.specs.Collecting.{nodes_of}
+use Rattle.promql_rewrite.specs.Everywhere.{Everywhere, FirstWrong}
 use Rattle.promql_rewrite.specs.Faithful.{MeansOther}
-use Rattle.promql_rewrite.specs.FirstWrong.{FirstWrong}
 use Rattle.promql_rewrite.specs.PrintableConditions.{AreGrouped, FollowsLabels, IsNegated, IsRightSide, IsSubqueried, PrintableOffset, PrintableStep, PrintableTime, has_param, openness}
 use Rattle.promql_rewrite.specs.PrintableTrees.{IsPlaced}
 use Rattle.promql_rewrite.specs.declared.printable.NotPrintable.{NotPrintable}
@@ -77,4 +77,4 @@ abbrev pub IsReason : NotPrintable → Tree → Type 0
 IsReason (reason.Rejected e) t =
     Everywhere IsFitting t × IsAnswerTo (text t) (Err (plain_error_of e)) × (e ≢ parse.Memory)
 IsReason reason.OtherTree t = Everywhere IsFitting t × MeansOther (text t) t
-IsReason r t = FirstWrong IsFitting (IsWrong r) t
+IsReason r t = FirstWrong IsFitting (IsWrong r) (nodes_of t)

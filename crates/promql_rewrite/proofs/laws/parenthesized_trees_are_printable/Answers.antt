@@ -1,12 +1,27 @@
+use Rattle.promql_rewrite.specs.Parenthesizing.{parenthesized}
+use Rattle.promql_rewrite.specs.PrintableTrees.{HasParts, IsPlaced, PatternsAnswered}
+use Rattle.promql_rewrite.proofs.EachNode.{listed, throughout}
 use Rattle.promql_rewrite.proofs.ParenPlaces.{well_placed}
 use Rattle.promql_rewrite.proofs.ParenTypes.{answered_kept, low_kept, parts_kept, type_kept, typed_kept}
 use Rattle.promql_rewrite.proofs.laws.parenthesized_trees_are_printable.Goals as goal
 
 pub returns : goal.returns
 returns c = record {
-  alone = λ t typed parts low. record { typed = typed_kept t typed; low = low; parts = parts_kept t parts; placed = well_placed t };
-  printable = λ g t typed parts answered low.
-      (record { typed = typed_kept t typed; low = low; parts = parts_kept t parts; placed = well_placed t }, answered_kept g t answered);
+  alone = λ t typed parts low. record {
+    typed = typed_kept t typed;
+    low = low;
+    parts = listed HasParts (parenthesized t) (parts_kept t (throughout HasParts t parts));
+    placed = listed IsPlaced (parenthesized t) (well_placed t);
+  };
+  printable = λ g t typed parts answered low. (
+    record {
+      typed = typed_kept t typed;
+      low = low;
+      parts = listed HasParts (parenthesized t) (parts_kept t (throughout HasParts t parts));
+      placed = listed IsPlaced (parenthesized t) (well_placed t);
+    },
+    listed (PatternsAnswered g) (parenthesized t) (answered_kept g t (throughout (PatternsAnswered g) t answered)),
+  );
   types = type_kept;
   typed = typed_kept;
   heights = low_kept;
