@@ -17,6 +17,10 @@ module _ (P : Tree → Type 0) where
   parted [] ys h = (tt, h)
   parted (x ∷ xs) ys h = let rest = parted xs ys h.1 in ((h.0, rest.0), rest.1)
 
+  pub imply : (Q : Tree → Type 0) → ((t : Tree) → P t → Q t) → (xs : List Tree) → AllByRecursion P xs → AllByRecursion Q xs
+  imply Q f [] h = tt
+  imply Q f (x ∷ xs) h = (f x h.0, imply Q f xs h.1)
+
   mutual
     pub listed : (t : Tree) → Throughout P t → Everywhere P t
     listed (aggregate op e p m) h = (h.0, joined (maybe_nodes p) (nodes_of e) (maybe_listed p h.1) (listed e h.2))

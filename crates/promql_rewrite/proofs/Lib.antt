@@ -18,6 +18,7 @@ pub mod MappedTrees
 pub mod MappedTyped
 pub mod MapsSelectors
 pub mod NameTokens
+pub mod NodeReasons
 pub mod NoneEmptyGroups
 pub mod NormalMatchers
 pub mod NormalPrintable

@@ -1,16 +1,22 @@
 -- What is found is a reason.
-use Rattle.std.proofs.Common.{Some}
+use Rattle.std.proofs.Common.{Some, None}
 use Rattle.promql_ast.specs.Tree.{Tree}
 use Rattle.promql_rewrite.specs.Collecting.{nodes_of}
-use Rattle.promql_rewrite.specs.Everywhere.{FirstWrong}
-use Rattle.promql_rewrite.specs.FoundReasons.{Found}
+use Rattle.promql_rewrite.specs.Everywhere.{Everywhere, FirstWrong}
+use Rattle.promql_rewrite.specs.FoundReasons.{Found, IsFittingNode, IsWrongNode}
 use Rattle.promql_rewrite.specs.Reasons.{IsFitting, IsReason, IsWrong}
 use Rattle.promql_rewrite.specs.declared.printable.NotPrintable.{NotPrintable}
 use Rattle.promql_rewrite.specs.declared.printable.NotPrintable.TheVariants as reason
-use Rattle.promql_rewrite.proofs.EachNode.{first_listed}
+use Rattle.promql_rewrite.proofs.EachNode.{first_listed, imply, listed}
+use Rattle.promql_rewrite.proofs.NodeReasons.{node_fits, node_wrong}
 
 first_is_reason : (r : NotPrintable) (t : Tree) → Found (Some r) t → FirstWrong IsFitting (IsWrong r) (nodes_of t)
-first_is_reason r t h = first_listed IsFitting (IsWrong r) t h.found
+first_is_reason r t h =
+    let k = first_listed IsFittingNode (IsWrongNode r) t h.found in
+    record { before = k.before; first = k.first; after = k.after; is = k.is; fine = imply IsFittingNode IsFitting node_fits k.before k.fine; wrong = node_wrong r k.first k.wrong }
+
+pub all_fitting : (t : Tree) → Found None t → Everywhere IsFitting t
+all_fitting t h = imply IsFittingNode IsFitting node_fits (nodes_of t) (listed IsFittingNode t h.found)
 
 pub found_is_reason : (r : NotPrintable) (t : Tree) → Found (Some r) t → IsReason r t
 found_is_reason reason.Parameter t h = first_is_reason reason.Parameter t h

@@ -1,11 +1,9 @@
 use Rattle.promql_ast.specs.View.{tree_of}
-use Rattle.promql_rewrite.specs.Reasons.{IsFitting}
-use Rattle.promql_rewrite.proofs.EachNode.{listed}
-use Rattle.promql_rewrite.proofs.ReasonsFound.{found_is_reason}
+use Rattle.promql_rewrite.proofs.ReasonsFound.{all_fitting, found_is_reason}
 use Rattle.promql_rewrite.proofs.printable.other_reason.Goals as goal
 
 pub returns-in-Some : goal.returns-in-Some
 returns-in-Some c = found_is_reason c.in-Some.reason (tree_of c.args.expr.now) c.in-Some.ensures
 
 pub returns-in-None : goal.returns-in-None
-returns-in-None c = (listed IsFitting (tree_of c.args.expr.now) c.in-None.ensures.found, c.requires)
+returns-in-None c = (all_fitting (tree_of c.args.expr.now) c.in-None.ensures, c.requires)
