@@ -6,8 +6,8 @@ use Rattle.promql_token.specs.Cursor.{is_before_end}
 use Rattle.promql_token.specs.declared.fault.LexFault.{LexFault}
 use Rattle.promql_grammar.specs.Results.{on_result}
 use Rattle.promql_grammar.specs.SourceTokens.{Token}
-use Rattle.promql_rewrite.specs.Renaming.{is_name_in, is_name_of, is_name_token}
-use Rattle.promql_rewrite.specs.Renamings.{is_nothing}
+use Rattle.promql_rewrite.specs.Renaming.{is_name_in}
+use Rattle.promql_rewrite.specs.Renamings.{is_name_of, is_name_token, is_nothing}
 
 and_true : (a : Bool) → (a && true) ≡ a
 and_true true = refl
@@ -17,9 +17,14 @@ and_false : (a : Bool) → (a && false) ≡ false
 and_false true = refl
 and_false false = refl
 
+in_list : (z : Text) (ts : List Token) → is_name_of z ts ≡ is_name_in z (Ok ts)
+in_list z [] = refl
+in_list z (t ∷ []) = refl
+in_list z (t ∷ u ∷ ts) = refl
+
 module _ (z : Text) (left : List Token) (fault : Bool) where
   pub not_named : (r : Result (List Token) LexFault) → ((ts : List Token) → r ≡ Ok ts → left ≡ filter is_before_end ts) → left ≡ [] → false ≡ is_name_in z (on_result (filter is_before_end) r)
-  not_named (Ok ts) whole none = ap (is_name_of z) (sym none ∙ whole ts refl)
+  not_named (Ok ts) whole none = ap (is_name_of z) (sym none ∙ whole ts refl) ∙ in_list z (filter is_before_end ts)
   not_named (Err f) whole none = refl
 
   alone : (t : Token) (rest : List Token) → (is_name_token t.0 t.1 z && (is_nothing rest && true)) ≡ is_name_of z (t ∷ rest)
@@ -32,6 +37,6 @@ module _ (z : Text) (left : List Token) (fault : Bool) where
   pub named : (r : Result (List Token) LexFault) → ((ts : List Token) → r ≡ Ok ts → left ≡ filter is_before_end ts) → ((ts : List Token) → r ≡ Ok ts → fault ≡ false) → ((f : LexFault) → r ≡ Err f → fault ≡ true)
       → (t : Token) (rest : List Token) → left ≡ t ∷ rest → (is_name_token t.0 t.1 z && (is_nothing rest && not fault)) ≡ is_name_in z (on_result (filter is_before_end) r)
   named (Ok ts) whole sound faulty t rest first =
-      ap (λ b. is_name_token t.0 t.1 z && (is_nothing rest && not b)) (sound ts refl) ∙ alone t rest ∙ ap (is_name_of z) (sym first ∙ whole ts refl)
+      ap (λ b. is_name_token t.0 t.1 z && (is_nothing rest && not b)) (sound ts refl) ∙ alone t rest ∙ ap (is_name_of z) (sym first ∙ whole ts refl) ∙ in_list z (filter is_before_end ts)
   named (Err f) whole sound faulty t rest first =
       ap (λ b. is_name_token t.0 t.1 z && (is_nothing rest && not b)) (faulty f refl) ∙ at_fault (is_name_token t.0 t.1 z) (is_nothing rest)

@@ -23,24 +23,17 @@ pub record IsEnforced (query : Text) (c : PlainMatcher) (line : Text) : Type 0 w
   pub means : Means line (enforced c tree)
 
 -- the query has a tree, and the parser rejects the line of the enforced tree
-pub record IsLineRejected (query : Text) (c : PlainMatcher) (e : ParseError) : Type 0 where
-  pub tree : Tree
-  pub parsed : IsAnswerTo query (Ok tree)
-  pub limited : has_bare_info tree ≡ false
-  pub rejected : IsAnswerTo (line_text (enforced c tree)) (Err (plain_error_of e))
+abbrev pub IsLineRejected : Text → PlainMatcher → ParseError → Type 0
+IsLineRejected query c e =
+    (t : Tree) × IsAnswerTo query (Ok t) × (has_bare_info t ≡ false) × IsAnswerTo (line_text (enforced c t)) (Err (plain_error_of e))
 
 -- the query has a tree, and the line of the enforced tree means another one
-pub record IsLineOther (query : Text) (c : PlainMatcher) : Type 0 where
-  pub tree : Tree
-  pub parsed : IsAnswerTo query (Ok tree)
-  pub limited : has_bare_info tree ≡ false
-  pub other : MeansOther (line_text (enforced c tree)) (enforced c tree)
+abbrev pub IsLineOther : Text → PlainMatcher → Type 0
+IsLineOther query c = (t : Tree) × IsAnswerTo query (Ok t) × (has_bare_info t ≡ false) × MeansOther (line_text (enforced c t)) (enforced c t)
 
 -- the query has a tree, in which a call of `info` has no second argument
-pub record HasBareInfo (query : Text) : Type 0 where
-  pub tree : Tree
-  pub parsed : IsAnswerTo query (Ok tree)
-  pub bare : has_bare_info tree ≡ true
+abbrev pub HasBareInfo : Text → Type 0
+HasBareInfo query = (t : Tree) × IsAnswerTo query (Ok t) × (has_bare_info t ≡ true)
 
 -- an error of a tree alone
 abbrev pub IsOfTrees : EnforceError → Type 0

@@ -1,5 +1,5 @@
 -- A metric or a label by another name (docs/guide/rewriting.md, "Renaming").
-use Rattle.std.specs.Prelude.{ℕ, Bool, false, not, ◌&&◌, if◌then◌else◌, List, [], ◌∷◌, Option, Result, Ok, Err, codes, map, option_map, unwrap_or}
+use Rattle.std.specs.Prelude.{Bool, false, not, ◌&&◌, if◌then◌else◌, List, [], ◌∷◌, Option, Result, Ok, codes, map, option_map, unwrap_or}
 use Rattle.std.specs.List.{list_any}
 use Rattle.std.specs.Str.{bytes_eq}
 use Rattle.promql_text.specs.Texts.{Text}
@@ -85,19 +85,10 @@ is_metric_label l = bytes_eq l (codes "__name__")
 
 -- ---- what may be the name of a metric
 
--- the token is all of the text, and may be the name of a metric
-abbrev pub is_name_token : ℕ → Text → Text → Bool
-is_name_token id word text = bytes_eq word text && may_be_name (token_kind id)
-
--- there is this token, and no other
-abbrev pub is_name_of : Text → List Token → Bool
-is_name_of text [] = false
-is_name_of text (t ∷ []) = is_name_token t.0 t.1 text
-is_name_of text (t ∷ u ∷ ts) = false
-
+-- there is one token, which is all of the text and may be the name of a metric
 abbrev pub is_name_in : Text → Result (List Token) LexFault → Bool
-is_name_in text (Ok ts) = is_name_of text ts
-is_name_in text (Err f) = false
+is_name_in text (Ok (t ∷ [])) = bytes_eq t.1 text && may_be_name (token_kind t.0)
+is_name_in text _ = false
 
 abbrev pub is_name : Text → Bool
 is_name text = is_name_in text (tokens text)

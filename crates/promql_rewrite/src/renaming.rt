@@ -6,8 +6,8 @@ ghost use Rattle.promql_label.specs.Labels.{labels_of};
 ghost use Rattle.promql_label.specs.MatcherViews.{plain_matcher_of, plain_matchers_of};
 ghost use Rattle.promql_kind.specs.ModifierViews.{cardinality_of, clause_of, matching_of};
 ghost use Rattle.promql_ast.specs.View.{aggregate_tree, binary_tree, call_tree, extension_tree, selector_of, tree_of};
-ghost use Rattle.promql_rewrite.specs.Renaming.{clashes, is_metric_label, is_name, is_name_token, of_label, of_metric, renamed, renamed_cardinality, renamed_clause, renamed_labels, renamed_matcher, renamed_matchers, renamed_matching, renamed_name, renamed_selector, replaced};
-ghost use Rattle.promql_rewrite.specs.Renamings.{is_nothing, renaming_of};
+ghost use Rattle.promql_rewrite.specs.Renaming.{clashes, is_metric_label, is_name, of_label, of_metric, renamed, renamed_cardinality, renamed_clause, renamed_labels, renamed_matcher, renamed_matchers, renamed_matching, renamed_name, renamed_selector, replaced};
+ghost use Rattle.promql_rewrite.specs.Renamings.{is_name_token, is_nothing, renaming_of};
 
 use crate::clashing::has_clash;
 use crate::collecting::is_metric_name;
