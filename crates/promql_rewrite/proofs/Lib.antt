@@ -11,6 +11,7 @@ pub mod EnforcedTexts
 pub mod EnforcedTrees
 pub mod EnforcedTwice
 pub mod EnforcedTypes
+pub mod Grouped
 pub mod Judging
 pub mod ListedNodes
 pub mod MappedLists

@@ -13,10 +13,12 @@ use Rattle.promql_ast.specs.Shifts.{Shift, back, ahead}
 use Rattle.promql_ast.specs.Tree.{Tree, aggregate, unary, binary, paren, subquery, number, string, vector, matrix, call, extension}
 use Rattle.promql_rewrite.specs.FoundReasons.{IsFittingModifier, IsFittingNode, IsWrongNode}
 use Rattle.promql_rewrite.specs.Parenthesizing.{fits_left, fits_range, fits_right, fits_sign}
-use Rattle.promql_rewrite.specs.PrintableConditions.{AreGrouped, NoneEmpty, PrintableOffset, PrintableStep, PrintableTime, has_param}
+use Rattle.promql_rewrite.specs.PrintableConditions.{AreGrouped, PrintableOffset, PrintableStep, PrintableTime, has_param}
+use Rattle.promql_rewrite.specs.PrintableNodes.{AreGroups, NoneEmpty}
 use Rattle.promql_rewrite.specs.Reasons.{IsFitting, IsWrong}
 use Rattle.promql_rewrite.specs.declared.printable.NotPrintable.{NotPrintable}
 use Rattle.promql_rewrite.specs.declared.printable.NotPrintable.TheVariants as reason
+use Rattle.promql_rewrite.proofs.Grouped.{grouped, groups}
 use Rattle.promql_rewrite.proofs.ParenPlaces.{fits_left_is, fits_range_is, fits_right_is, fits_sign_is, left_fits, range_fits, right_fits, sign_fits}
 
 -- ---- what is found is what is said
@@ -33,8 +35,8 @@ node_wrong reason.LeftSide (binary op l r m) h = h
 node_wrong reason.RightSide (binary op l r m) h = h
 node_wrong reason.Operand (unary e) h = h
 node_wrong reason.Subqueried (subquery e offset at range step) h = h
-node_wrong reason.Groups (vector (selector name matchers offset at)) h = h
-node_wrong reason.Groups (matrix (selector name matchers offset at) range mode) h = h
+node_wrong reason.Groups (vector (selector name matchers offset at)) h = λ k. h (groups matchers k)
+node_wrong reason.Groups (matrix (selector name matchers offset at) range mode) h = λ k. h (groups matchers k)
 node_wrong reason.Time (subquery e offset at range step) h = h
 node_wrong reason.Time (vector (selector name matchers offset at)) h = h
 node_wrong reason.Time (matrix (selector name matchers offset at) range mode) h = λ k. ⊎_elim (λ no. no k.0) (λ no. no k.1) h
@@ -50,8 +52,8 @@ fits_all reason.LeftSide (binary op l r m) h w = w h.2
 fits_all reason.RightSide (binary op l r m) h w = w h.3
 fits_all reason.Operand (unary e) h w = w h
 fits_all reason.Subqueried (subquery e offset at range step) h w = w h.0
-fits_all reason.Groups (vector (selector name matchers offset at)) h w = w h.0
-fits_all reason.Groups (matrix (selector name matchers offset at) range mode) h w = w h.0.0
+fits_all reason.Groups (vector (selector name matchers offset at)) h w = w (grouped matchers h.0)
+fits_all reason.Groups (matrix (selector name matchers offset at) range mode) h w = w (grouped matchers h.0.0)
 fits_all reason.Time (subquery e offset at range step) h w = w (h.1, h.2, h.3)
 fits_all reason.Time (vector (selector name matchers offset at)) h w = w h.1
 fits_all reason.Time (matrix (selector name matchers offset at) range mode) h w = w (h.0.1, h.1)
@@ -110,11 +112,14 @@ none_empty [] = inl tt
 none_empty ([] ∷ gs) = inr (λ no. no)
 none_empty ((c ∷ cs) ∷ gs) = none_empty gs
 
-grouped : (cs : PlainMatchers) → AreGrouped cs ⊎ (AreGrouped cs → ⊥)
-grouped (plain_matchers cs []) = inl tt
-grouped (plain_matchers [] (g ∷ [])) = inr (λ no. no)
-grouped (plain_matchers [] (g ∷ h ∷ gs)) = none_empty (g ∷ h ∷ gs)
-grouped (plain_matchers (c ∷ cs) (g ∷ gs)) = inr (λ no. no)
+in_groups : (cs : PlainMatchers) → AreGroups cs ⊎ (AreGroups cs → ⊥)
+in_groups (plain_matchers cs []) = inl tt
+in_groups (plain_matchers [] (g ∷ [])) = inr (λ no. no)
+in_groups (plain_matchers [] (g ∷ h ∷ gs)) = none_empty (g ∷ h ∷ gs)
+in_groups (plain_matchers (c ∷ cs) (g ∷ gs)) = inr (λ no. no)
+
+are_groups : (cs : PlainMatchers) → ((AreGrouped cs → ⊥) → ⊥) → AreGroups cs
+are_groups cs h = stable (in_groups cs) (λ no. h (λ k. no (groups cs k)))
 
 not_false : (b : Bool) → (b ≡ false → ⊥) → b ≡ true
 not_false true h = refl
@@ -144,9 +149,9 @@ fits_node (subquery e offset at range step) h =
     (stable (decided (fits_range e) (range_fits e) (fits_range_is e)) (h reason.Subqueried), times.0, times.1, times.2)
 fits_node (number n) h = tt
 fits_node (string s) h = tt
-fits_node (vector (selector name matchers offset at)) h = (stable (grouped matchers) (h reason.Groups), stable (an_offset offset) (h reason.Time))
+fits_node (vector (selector name matchers offset at)) h = (are_groups matchers (h reason.Groups), stable (an_offset offset) (h reason.Time))
 fits_node (matrix (selector name matchers offset at) range mode) h =
     let times = stable (both (an_offset offset) (a_time range)) (h reason.Time) in
-    ((stable (grouped matchers) (h reason.Groups), times.0), times.1)
+    ((are_groups matchers (h reason.Groups), times.0), times.1)
 fits_node (call f ts) h = tt
 fits_node (extension name gives ts) h = absurd (h reason.Extension tt)

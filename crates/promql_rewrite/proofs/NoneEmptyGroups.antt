@@ -4,7 +4,7 @@ use Rattle.std.specs.Prelude.{◌==◌}
 use Rattle.std.proofs.lemmas.Bool.Decides.{Decides-eqb}
 use Rattle.std.proofs.lemmas.List.{drop_more}
 use Rattle.promql_label.specs.PlainMatchers.{PlainMatcher}
-use Rattle.promql_rewrite.specs.PrintableConditions.{NoneEmpty}
+use Rattle.promql_rewrite.specs.PrintableNodes.{NoneEmpty}
 
 module _ {X Y : Type 0} (items : Y → List X) (h : X → PlainMatcher) (ys : List Y) (i : ℕ) (d : Y) (within : i < length ys) where
   abbrev group : Y → List PlainMatcher

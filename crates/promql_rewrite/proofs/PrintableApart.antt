@@ -7,9 +7,9 @@ use Rattle.promql_ast.specs.Selectors.{Selector, selector}
 use Rattle.promql_ast.specs.Tree.{Tree, aggregate, unary, binary, paren, subquery, number, string, vector, matrix, call, extension, MaybeTree, absent, present, Trees, no_trees, first_tree}
 use Rattle.promql_rewrite.specs.Throughout.{Throughout, ThroughoutAll, ThroughoutMaybe}
 use Rattle.promql_rewrite.proofs.EachNode.{listed, throughout}
-use Rattle.promql_rewrite.specs.PrintableConditions.{AreGrouped, NoneEmpty}
-use Rattle.promql_rewrite.specs.PrintableNodes.{AllAnswered, AllPrintableNodes, GroupsAnswered, MaybePrintableNodes, NodesArePrintable, PrintableMatchers, PrintableNodes, PrintableSelector}
-use Rattle.promql_rewrite.specs.PrintableTrees.{HasParts, HasSelectorParts, IsPlaced, IsPrintable, IsPrintableAlone, PatternsAnswered}
+use Rattle.promql_rewrite.proofs.Grouped.{grouped, groups}
+use Rattle.promql_rewrite.specs.PrintableNodes.{AllAnswered, AllPrintableNodes, AreGroups, GroupsAnswered, MaybePrintableNodes, NodesArePrintable, NoneEmpty, PrintableMatchers, PrintableNodes, PrintableSelector}
+use Rattle.promql_rewrite.specs.PrintableTrees.{HasParts, HasSelectorParts, IsPlaced, IsPrintable, PatternsAnswered}
 
 module _ (g : Text → Answer) where
   -- ---- matchers
@@ -32,23 +32,23 @@ module _ (g : Text → Answer) where
   groups_joined ([] ∷ gs) some h = absurd some
   groups_joined ((c ∷ cs) ∷ gs) some h = let two = each_answered (c ∷ cs) (flat_map (λ g. g) gs) h in (two.0, groups_joined gs some two.1)
 
-  matchers_apart : (cs : PlainMatchers) → PrintableMatchers g cs → AreGrouped cs × AllAnswered g (every cs)
+  matchers_apart : (cs : PlainMatchers) → PrintableMatchers g cs → AreGroups cs × AllAnswered g (every cs)
   matchers_apart (plain_matchers cs []) h = (tt, both_answered cs [] h tt)
   matchers_apart (plain_matchers [] (i ∷ [])) h = absurd h
   matchers_apart (plain_matchers [] (i ∷ j ∷ gs)) h = groups_apart (i ∷ j ∷ gs) h
   matchers_apart (plain_matchers (c ∷ cs) (i ∷ gs)) h = absurd h
 
-  matchers_joined : (cs : PlainMatchers) → AreGrouped cs → AllAnswered g (every cs) → PrintableMatchers g cs
+  matchers_joined : (cs : PlainMatchers) → AreGroups cs → AllAnswered g (every cs) → PrintableMatchers g cs
   matchers_joined (plain_matchers cs []) grouped h = let two = each_answered cs [] h in two.0
   matchers_joined (plain_matchers [] (i ∷ [])) grouped h = absurd grouped
   matchers_joined (plain_matchers [] (i ∷ j ∷ gs)) grouped h = groups_joined (i ∷ j ∷ gs) grouped h
   matchers_joined (plain_matchers (c ∷ cs) (i ∷ gs)) grouped h = absurd grouped
 
   selector_apart : (s : Selector) → PrintableSelector g s → HasSelectorParts s × PatternsAnswered g (vector s)
-  selector_apart (selector name cs offset at) h = let two = matchers_apart cs h.1 in ((h.0, two.0, h.2, h.3), two.1)
+  selector_apart (selector name cs offset at) h = let two = matchers_apart cs h.1 in ((h.0, grouped cs two.0, h.2, h.3), two.1)
 
   selector_joined : (s : Selector) → HasSelectorParts s → PatternsAnswered g (vector s) → PrintableSelector g s
-  selector_joined (selector name cs offset at) h answered = (h.0, matchers_joined cs h.1 answered, h.2, h.3)
+  selector_joined (selector name cs offset at) h answered = (h.0, matchers_joined cs (groups cs h.1) answered, h.2, h.3)
 
   -- ---- trees
 

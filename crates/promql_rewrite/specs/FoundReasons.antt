@@ -7,7 +7,8 @@ use Rattle.promql_grammar.specs.declared.token_kinds.TokenKind.TheVariants as ki
 use Rattle.promql_kind.specs.Modifiers.{many_to_many, Matching, matching, is_grouping}
 use Rattle.promql_ast.specs.Selectors.{Selector, selector}
 use Rattle.promql_ast.specs.Tree.{Tree, aggregate, unary, binary, subquery, vector, matrix, extension, MaybeTree, Trees}
-use Rattle.promql_rewrite.specs.PrintableConditions.{AreGrouped, FollowsLabels, IsNegated, IsRightSide, IsSubqueried, PrintableOffset, PrintableStep, PrintableTime, has_param, openness}
+use Rattle.promql_rewrite.specs.PrintableConditions.{FollowsLabels, IsNegated, IsRightSide, IsSubqueried, PrintableOffset, PrintableStep, PrintableTime, has_param, openness}
+use Rattle.promql_rewrite.specs.PrintableNodes.{AreGroups}
 use Rattle.promql_rewrite.specs.PrintableTrees.{IsPlaced}
 use Rattle.promql_rewrite.specs.Throughout.{FirstWithin, FirstWithinAll, FirstWithinMaybe, Throughout, ThroughoutAll, ThroughoutMaybe}
 use Rattle.promql_rewrite.specs.declared.printable.NotPrintable.{NotPrintable}
@@ -23,7 +24,7 @@ IsFittingModifier op (Some (matching card clause return_bool values)) =
 
 -- no or-group is alone, empty or beside other matchers, and the offset is longer than nothing
 abbrev pub IsFittingSelector : Selector → Type 0
-IsFittingSelector (selector name matchers offset at) = AreGrouped matchers × PrintableOffset offset
+IsFittingSelector (selector name matchers offset at) = AreGroups matchers × PrintableOffset offset
 
 -- the node is one of the language, and each operand of it fits its place
 abbrev pub IsFittingNode : Tree → Type 0
@@ -46,7 +47,7 @@ IsWrongModifier _ _ _ = ⊥
 
 -- what is wrong with a selector
 abbrev pub IsWrongSelector : NotPrintable → Selector → Type 0
-IsWrongSelector reason.Groups (selector name matchers offset at) = ¬ (AreGrouped matchers)
+IsWrongSelector reason.Groups (selector name matchers offset at) = ¬ (AreGroups matchers)
 IsWrongSelector reason.Time (selector name matchers offset at) = ¬ (PrintableOffset offset)
 IsWrongSelector _ _ = ⊥
 

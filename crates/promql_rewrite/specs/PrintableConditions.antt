@@ -1,6 +1,7 @@
 -- What is asked of the parts of a node that reads back from what it prints (docs/guide/rewriting.md, "Trees of your own").
-use Rattle.std.specs.Prelude.{◌≡◌, ◌⊎◌, ◌*◌, ◌^◌, ◌<◌, ℕ, min, Bool, true, false, if◌then◌else◌, List, [], ◌∷◌, Option, Some, None, FitsSigned}
+use Rattle.std.specs.Prelude.{◌≡◌, ◌≢◌, ◌⊎◌, ◌*◌, ◌^◌, ◌<◌, ℕ, min, Bool, true, false, if◌then◌else◌, [], ◌∷◌, Option, Some, None, FitsSigned}
 use Rattle.std.specs.Int.{w64}
+use Rattle.std.specs.List.{AllByRecursion}
 use Rattle.promql_text.specs.Texts.{Text}
 use Rattle.promql_text.specs.Values.{IsNumber, is_below_zero}
 use Rattle.promql_text.specs.declared.number.Number.{Number}
@@ -9,7 +10,7 @@ use Rattle.promql_token.specs.Vocabulary.{is_word, word_id}
 use Rattle.promql_token.specs.declared.ids.TheConstants.{T_POW}
 use Rattle.promql_grammar.specs.Grammar.{precedence}
 use Rattle.promql_grammar.specs.Symbols.{may_be_name, token_kind}
-use Rattle.promql_label.specs.PlainMatchers.{PlainMatcher, PlainMatchers, plain_matchers}
+use Rattle.promql_label.specs.PlainMatchers.{PlainMatchers, plain_matchers}
 use Rattle.promql_kind.specs.Modifiers.{Cardinality, Clause, many_to_many, fills, Matching, matching, is_grouping}
 use Rattle.promql_ast.specs.Shifts.{Shift, back, ahead, Moment, at_start, at_end, at_time}
 use Rattle.promql_ast.specs.Tree.{Tree, unary, binary, number, MaybeTree, absent, present}
@@ -92,15 +93,7 @@ IsSubqueried t = Unit {0}
 
 -- ---- or-groups
 
--- no group is empty
-abbrev pub NoneEmpty : List (List PlainMatcher) → Type 0
-NoneEmpty [] = Unit {0}
-NoneEmpty ([] ∷ gs) = ⊥
-NoneEmpty ((c ∷ cs) ∷ gs) = NoneEmpty gs
-
--- matchers without groups, or two groups at least and no matcher beside them
+-- there are none, or two at least, none of them empty, and no matcher beside them
 abbrev pub AreGrouped : PlainMatchers → Type 0
 AreGrouped (plain_matchers cs []) = Unit {0}
-AreGrouped (plain_matchers [] (h ∷ [])) = ⊥
-AreGrouped (plain_matchers [] (h ∷ k ∷ gs)) = NoneEmpty (h ∷ k ∷ gs)
-AreGrouped (plain_matchers (c ∷ cs) (h ∷ gs)) = ⊥
+AreGrouped (plain_matchers cs (g ∷ gs)) = (cs ≡ []) × (gs ≢ []) × AllByRecursion (λ g. g ≢ []) (g ∷ gs)

@@ -18,6 +18,21 @@ use Rattle.promql_rewrite.specs.Answered.{IsAnswered}
 use Rattle.promql_rewrite.specs.PrintableConditions.{IsNegated, IsRightSide, IsSubqueried, PrintableAt, PrintableModifier, PrintableName, PrintableOffset, PrintableStep, PrintableTime, has_param, openness}
 use Rattle.promql_rewrite.specs.PrintableTrees.{printed_height}
 
+-- ---- or-groups
+
+-- no group is empty
+abbrev pub NoneEmpty : List (List PlainMatcher) → Type 0
+NoneEmpty [] = Unit {0}
+NoneEmpty ([] ∷ gs) = ⊥
+NoneEmpty ((c ∷ cs) ∷ gs) = NoneEmpty gs
+
+-- matchers without groups, or two groups at least and no matcher beside them
+abbrev pub AreGroups : PlainMatchers → Type 0
+AreGroups (plain_matchers cs []) = Unit {0}
+AreGroups (plain_matchers [] (h ∷ [])) = ⊥
+AreGroups (plain_matchers [] (h ∷ k ∷ gs)) = NoneEmpty (h ∷ k ∷ gs)
+AreGroups (plain_matchers (c ∷ cs) (h ∷ gs)) = ⊥
+
 module _ (g : Text → Answer) where
   -- ---- matchers: each pattern is the one of its value
 

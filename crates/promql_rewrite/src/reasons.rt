@@ -10,7 +10,8 @@ ghost use Rattle.promql_kind.specs.Modifiers.{many_to_many};
 ghost use Rattle.promql_ast.specs.Shifts.{shift_of};
 ghost use Rattle.promql_ast.specs.View.{aggregate_tree, binary_tree, call_tree, children_of, extension_tree, matrix_tree, option_tree, paren_tree, selector_of, subquery_tree, tree_of, trees_of, unary_tree};
 ghost use Rattle.promql_rewrite.specs.FoundReasons.{Found, FoundAmong, FoundAtRoot, FoundBelow, FoundInModifier, FoundInSelector, FoundMaybe};
-ghost use Rattle.promql_rewrite.specs.PrintableConditions.{AreGrouped, NoneEmpty, PrintableOffset, PrintableStep, PrintableTime};
+ghost use Rattle.promql_rewrite.specs.PrintableConditions.{PrintableOffset, PrintableStep, PrintableTime};
+ghost use Rattle.promql_rewrite.specs.PrintableNodes.{AreGroups, NoneEmpty};
 
 use crate::parenthesizing::{fits_left, fits_range, fits_right, fits_sign};
 use crate::printable::NotPrintable;
@@ -162,7 +163,7 @@ fn reason_of_selector(node: &VectorSelector) -> Option<NotPrintable>
 
 /// Whether there are no or-groups, or two at least with matchers in each and none beside them.
 fn are_grouped(matchers: &Matchers) -> bool
-    ensures { IsTrue result ↔ AreGrouped (plain_matchers_of matchers.now) }
+    ensures { IsTrue result ↔ AreGroups (plain_matchers_of matchers.now) }
 {
     if matchers.or_matchers.is_empty() {
         return true;

@@ -2,7 +2,7 @@ use Rattle.std.proofs.Common.{◌↔◌, Global, Vec, map, refl, rules, subst, s
 use Rattle.std.proofs.lemmas.List.{drop_all}
 use Rattle.promql_label.specs.MatcherViews.{plain_matcher_of}
 use Rattle.promql_label.specs.declared.matcher.Matcher.{Matcher}
-use Rattle.promql_rewrite.specs.PrintableConditions.{NoneEmpty}
+use Rattle.promql_rewrite.specs.PrintableNodes.{NoneEmpty}
 use Rattle.promql_rewrite.proofs.NoneEmptyGroups.{one_empty, one_more}
 use Rattle.promql_rewrite.proofs.reasons.have_matchers.Goals as goal
 

@@ -1,6 +1,6 @@
 use Rattle.std.proofs.Common.{◌↔◌, drop, map}
 use Rattle.promql_label.specs.MatcherViews.{plain_matcher_of}
-use Rattle.promql_rewrite.specs.PrintableConditions.{NoneEmpty}
+use Rattle.promql_rewrite.specs.PrintableNodes.{NoneEmpty}
 use Rattle.promql_rewrite.proofs.reasons.have_matchers.Given as goal
 
 abbrev pub invariant-loop-group : goal.invariant-loop-group
