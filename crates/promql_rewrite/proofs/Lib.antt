@@ -19,6 +19,7 @@ pub mod MappedTrees
 pub mod MappedTyped
 pub mod MapsSelectors
 pub mod NameTokens
+pub mod NodeParts
 pub mod NodeReasons
 pub mod NoneEmptyGroups
 pub mod NormalMatchers

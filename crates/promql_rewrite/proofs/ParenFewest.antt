@@ -7,7 +7,7 @@ use Rattle.promql_rewrite.specs.AddedParens.{AddsParens, same, added, in_aggrega
 use Rattle.promql_rewrite.specs.Parenthesizing.{all_parenthesized, at_place, fits_left, fits_range, fits_right, fits_sign, maybe_parenthesized, parenthesized}
 use Rattle.promql_rewrite.specs.Throughout.{Throughout, ThroughoutAll, ThroughoutMaybe}
 use Rattle.promql_rewrite.specs.PrintableConditions.{IsNegated, IsRightSide, IsSubqueried, openness}
-use Rattle.promql_rewrite.specs.PrintableTrees.{IsPlaced}
+use Rattle.promql_rewrite.specs.PrintableNodes.{IsNodePlaced}
 use Rattle.promql_rewrite.proofs.ParenPlaces.{fits_range_is, fits_right_is, fits_sign_is, left_misfits, need_gap, need_most, precedence_most, root_open, unchanged, well_placed}
 
 -- ---- parentheses are added, and nothing else changes
@@ -78,7 +78,7 @@ closed_fits n most less = omega arith
 same_fits : (n o : ℕ) → o < n → n ≤ o → ⊥
 same_fits n o less more = omega arith
 
-left_wraps : {x u : Tree} (op : ℕ) → AddsParens x u → Throughout IsPlaced x → openness x < need op → need op ≤ openness u → AddsParens (paren x) u
+left_wraps : {x u : Tree} (op : ℕ) → AddsParens x u → Throughout IsNodePlaced x → openness x < need op → need op ≤ openness u → AddsParens (paren x) u
 left_wraps {x = x} op same placed less fits = absurd (same_fits (need op) (openness x) less fits)
 left_wraps op (added a) placed less fits = in_paren a
 left_wraps op (in_unary {e = e} {f = f} a) placed less fits = absurd (unary_fits (need op) (openness e) (openness f) (root_open (unary e) placed) less fits)
@@ -96,7 +96,7 @@ wrapped_there fits x u a wraps = go (fits x) refl
     go false is = wraps is
 
 mutual
-  pub fewest : (t u : Tree) → AddsParens t u → Throughout IsPlaced u → AddsParens (parenthesized t) u
+  pub fewest : (t u : Tree) → AddsParens t u → Throughout IsNodePlaced u → AddsParens (parenthesized t) u
   fewest t u same h = subst (λ x. AddsParens x t) (sym (unchanged t h)) same
   fewest t u (added {u = v} a) h = added (fewest t v a h.1)
   fewest t u (in_aggregate {e = e} {f = f} {p = p} {q = q} a b) h = in_aggregate (fewest e f a h.2) (maybe_fewest p q b h.1)
@@ -120,10 +120,10 @@ mutual
   fewest t u (in_call {ts = ts} {us = us} a) h = in_call (all_fewest ts us a h.1)
   fewest t u (in_extension {ts = ts} {us = us} a) h = in_extension (all_fewest ts us a h.1)
 
-  maybe_fewest : (p q : MaybeTree) → MaybeAddsParens p q → ThroughoutMaybe IsPlaced q → MaybeAddsParens (maybe_parenthesized p) q
+  maybe_fewest : (p q : MaybeTree) → MaybeAddsParens p q → ThroughoutMaybe IsNodePlaced q → MaybeAddsParens (maybe_parenthesized p) q
   maybe_fewest p q neither h = neither
   maybe_fewest p q (both {e = e} {f = f} a) h = both (fewest e f a h)
 
-  all_fewest : (ts us : Trees) → AllAddParens ts us → ThroughoutAll IsPlaced us → AllAddParens (all_parenthesized ts) us
+  all_fewest : (ts us : Trees) → AllAddParens ts us → ThroughoutAll IsNodePlaced us → AllAddParens (all_parenthesized ts) us
   all_fewest ts us no_more h = no_more
   all_fewest ts us (one_more {t = t} {u = u} {ts = rest} {us = more} a b) h = one_more (fewest t u a h.0) (all_fewest rest more b h.1)

@@ -4,7 +4,7 @@ use Rattle.promql_ast.specs.Tree.{Tree, aggregate, unary, binary, paren, subquer
 use Rattle.promql_rewrite.specs.AddedParens.{AddsParens, same, added, in_aggregate, in_unary, in_binary, in_paren, in_subquery, in_call, in_extension, MaybeAddsParens, neither, both, AllAddParens, no_more, one_more}
 use Rattle.promql_rewrite.specs.Throughout.{Throughout}
 use Rattle.promql_rewrite.specs.Parenthesizing.{parenthesized}
-use Rattle.promql_rewrite.specs.PrintableTrees.{IsPlaced}
+use Rattle.promql_rewrite.specs.PrintableNodes.{IsNodePlaced}
 use Rattle.promql_rewrite.proofs.ParenFewest.{adds, fewest}
 use Rattle.promql_rewrite.proofs.ParenPlaces.{well_placed}
 
@@ -82,7 +82,7 @@ mutual
       let y = all_no_fewer rest others b (omega (arith, more t u a, h)) in
       λ i. first_tree (x i) (y i)
 
-pub only : (t u : Tree) → AddsParens t u → Throughout IsPlaced u → ((v : Tree) → AddsParens t v → Throughout IsPlaced v → AddsParens u v) → u ≡ parenthesized t
+pub only : (t u : Tree) → AddsParens t u → Throughout IsNodePlaced u → ((v : Tree) → AddsParens t v → Throughout IsNodePlaced v → AddsParens u v) → u ≡ parenthesized t
 only t u a placed least =
     let up = least (parenthesized t) (adds t) (well_placed t) in
     let down = fewest t u a placed in

@@ -12,7 +12,7 @@ use Rattle.promql_ast.specs.Tree.{Tree, aggregate, unary, binary, paren, subquer
 use Rattle.promql_rewrite.specs.Parenthesizing.{all_parenthesized, at_place, binds_right, fits_left, fits_range, fits_right, fits_sign, maybe_parenthesized, parenthesized}
 use Rattle.promql_rewrite.specs.Throughout.{Throughout, ThroughoutAll, ThroughoutMaybe}
 use Rattle.promql_rewrite.specs.PrintableConditions.{IsNegated, IsRightSide, IsSubqueried, openness}
-use Rattle.promql_rewrite.specs.PrintableTrees.{IsPlaced}
+use Rattle.promql_rewrite.specs.PrintableNodes.{IsNodePlaced}
 
 -- ---- tests
 
@@ -143,27 +143,27 @@ paren_left op t = need_most op
 -- ---- trees
 
 module _ (fits : Tree → Bool) (Fits : Tree → Type 0) (tells : (t : Tree) → fits t ≡ true → Fits t) (parens : (t : Tree) → Fits (paren t)) where
-  pub placed_there : (t : Tree) → Throughout IsPlaced t → Fits (at_place fits t) × Throughout IsPlaced (at_place fits t)
+  pub placed_there : (t : Tree) → Throughout IsNodePlaced t → Fits (at_place fits t) × Throughout IsNodePlaced (at_place fits t)
   placed_there t h = go (fits t) refl
     where
-      go : (b : Bool) → fits t ≡ b → Fits (cond b t (paren t)) × Throughout IsPlaced (cond b t (paren t))
+      go : (b : Bool) → fits t ≡ b → Fits (cond b t (paren t)) × Throughout IsNodePlaced (cond b t (paren t))
       go true is = (tells t is, h)
       go false is = (parens t, (tt, h))
 
-left_placed : (op : ℕ) (t : Tree) → Throughout IsPlaced t → FitsLeft op (openness (at_place (fits_left op) t)) × Throughout IsPlaced (at_place (fits_left op) t)
+left_placed : (op : ℕ) (t : Tree) → Throughout IsNodePlaced t → FitsLeft op (openness (at_place (fits_left op) t)) × Throughout IsNodePlaced (at_place (fits_left op) t)
 left_placed op t h = placed_there (fits_left op) (λ t. FitsLeft op (openness t)) (left_fits op) (paren_left op) t h
 
-right_placed : (op : ℕ) (t : Tree) → Throughout IsPlaced t → IsRightSide op (at_place (fits_right op) t) × Throughout IsPlaced (at_place (fits_right op) t)
+right_placed : (op : ℕ) (t : Tree) → Throughout IsNodePlaced t → IsRightSide op (at_place (fits_right op) t) × Throughout IsNodePlaced (at_place (fits_right op) t)
 right_placed op t h = placed_there (fits_right op) (IsRightSide op) (right_fits op) (λ t. tt) t h
 
-sign_placed : (t : Tree) → Throughout IsPlaced t → IsNegated (at_place fits_sign t) × Throughout IsPlaced (at_place fits_sign t)
+sign_placed : (t : Tree) → Throughout IsNodePlaced t → IsNegated (at_place fits_sign t) × Throughout IsNodePlaced (at_place fits_sign t)
 sign_placed t h = placed_there fits_sign IsNegated sign_fits (λ t. tt) t h
 
-range_placed : (t : Tree) → Throughout IsPlaced t → IsSubqueried (at_place fits_range t) × Throughout IsPlaced (at_place fits_range t)
+range_placed : (t : Tree) → Throughout IsNodePlaced t → IsSubqueried (at_place fits_range t) × Throughout IsNodePlaced (at_place fits_range t)
 range_placed t h = placed_there fits_range IsSubqueried range_fits (λ t. tt) t h
 
 mutual
-  pub well_placed : (t : Tree) → Throughout IsPlaced (parenthesized t)
+  pub well_placed : (t : Tree) → Throughout IsNodePlaced (parenthesized t)
   well_placed (aggregate op e p m) = (tt, maybe_well_placed p, well_placed e)
   well_placed (unary e) = sign_placed (parenthesized e) (well_placed e)
   well_placed (binary op l r m) =
@@ -179,11 +179,11 @@ mutual
   well_placed (call f ts) = (tt, all_well_placed ts)
   well_placed (extension name gives ts) = (tt, all_well_placed ts)
 
-  maybe_well_placed : (p : MaybeTree) → ThroughoutMaybe IsPlaced (maybe_parenthesized p)
+  maybe_well_placed : (p : MaybeTree) → ThroughoutMaybe IsNodePlaced (maybe_parenthesized p)
   maybe_well_placed absent = tt
   maybe_well_placed (present e) = well_placed e
 
-  all_well_placed : (ts : Trees) → ThroughoutAll IsPlaced (all_parenthesized ts)
+  all_well_placed : (ts : Trees) → ThroughoutAll IsNodePlaced (all_parenthesized ts)
   all_well_placed no_trees = tt
   all_well_placed (first_tree t ts) = (well_placed t, all_well_placed ts)
 
@@ -193,7 +193,7 @@ unchanged_there : (fits : Tree → Bool) (t u : Tree) → u ≡ t → fits t ≡
 unchanged_there fits t u e is = ap (at_place fits) e ∙ ap (λ b. cond b t (paren t)) is
 
 mutual
-  pub unchanged : (t : Tree) → Throughout IsPlaced t → parenthesized t ≡ t
+  pub unchanged : (t : Tree) → Throughout IsNodePlaced t → parenthesized t ≡ t
   unchanged (aggregate op e p m) h = λ i. aggregate op (unchanged e h.2 i) (maybe_unchanged p h.1 i) m
   unchanged (unary e) h = ap unary (unchanged_there fits_sign e (parenthesized e) (unchanged e h.1) (fits_sign_is e h.0))
   unchanged (binary op l r m) h =
@@ -210,11 +210,11 @@ mutual
   unchanged (call f ts) h = ap (call f) (all_unchanged ts h.1)
   unchanged (extension name gives ts) h = ap (extension name gives) (all_unchanged ts h.1)
 
-  maybe_unchanged : (p : MaybeTree) → ThroughoutMaybe IsPlaced p → maybe_parenthesized p ≡ p
+  maybe_unchanged : (p : MaybeTree) → ThroughoutMaybe IsNodePlaced p → maybe_parenthesized p ≡ p
   maybe_unchanged absent h = refl
   maybe_unchanged (present e) h = ap present (unchanged e h)
 
-  all_unchanged : (ts : Trees) → ThroughoutAll IsPlaced ts → all_parenthesized ts ≡ ts
+  all_unchanged : (ts : Trees) → ThroughoutAll IsNodePlaced ts → all_parenthesized ts ≡ ts
   all_unchanged no_trees h = refl
   all_unchanged (first_tree t ts) h = λ i. first_tree (unchanged t h.0 i) (all_unchanged ts h.1 i)
 
@@ -257,19 +257,19 @@ open_inner op inner r (inl less) h = open_sum (precedence op) (precedence inner)
 open_inner op inner r (inr two) h = open_power (precedence op) (precedence inner) (openness r) (power_high op two.0) (power_high inner two.1) h
 
 mutual
-  open_signed : (e : Tree) → Throughout IsPlaced e → IsNegated e → 5 ≤ openness e
+  open_signed : (e : Tree) → Throughout IsNodePlaced e → IsNegated e → 5 ≤ openness e
   open_signed (unary e) h k = open_unary (openness e) (open_signed e h.1 h.0)
   open_signed (binary op l r m) h k = open_operand (precedence op) (openness r) (power_high op k) (open_right op r h.2 h.0.1)
   open_signed (number n) h k = absurd k
   open_signed t h k = omega arith
 
-  open_right : (op : ℕ) (r : Tree) → Throughout IsPlaced r → IsRightSide op r → min 5 (precedence op) ≤ openness r
+  open_right : (op : ℕ) (r : Tree) → Throughout IsNodePlaced r → IsRightSide op r → min 5 (precedence op) ≤ openness r
   open_right op (unary e) h k = open_any (precedence op) (openness (unary e)) (open_unary (openness e) (open_signed e h.1 h.0))
   open_right op (binary inner l r m) h k = open_inner op inner r k (open_right inner r h.2 h.0.1)
   open_right op (number n) h k = open_any (precedence op) (openness (number n)) (open_number n)
   open_right op t h k = open_any (precedence op) 7 (omega arith)
 
-pub root_open : (t : Tree) → Throughout IsPlaced t → RootOpen t
+pub root_open : (t : Tree) → Throughout IsNodePlaced t → RootOpen t
 root_open (unary e) h = open_signed e h.1 h.0
 root_open (binary op l r m) h = open_right op r h.2 h.0.1
 root_open t h = tt

@@ -20,7 +20,8 @@ use Rattle.promql_ast.specs.node.Binary.{binary_type}
 use Rattle.promql_rewrite.specs.Parenthesizing.{all_parenthesized, at_place, fits_left, fits_range, fits_right, fits_sign, maybe_parenthesized, parenthesized}
 use Rattle.promql_rewrite.specs.Throughout.{Throughout, ThroughoutAll, ThroughoutMaybe}
 use Rattle.promql_rewrite.specs.PrintableConditions.{has_param}
-use Rattle.promql_rewrite.specs.PrintableTrees.{HasParts, PatternsAnswered, all_printed_height, maybe_printed_height, printed_height}
+use Rattle.promql_rewrite.specs.PrintableNodes.{HasNodeParts}
+use Rattle.promql_rewrite.specs.PrintableTrees.{PatternsAnswered, all_printed_height, maybe_printed_height, printed_height}
 
 -- ---- types
 
@@ -169,8 +170,8 @@ param_kept : (p : MaybeTree) → has_param (maybe_parenthesized p) ≡ has_param
 param_kept absent = refl
 param_kept (present e) = refl
 
-pub parts_kept : (t : Tree) → Throughout HasParts t → Throughout HasParts (parenthesized t)
-parts_kept t h = kept HasParts (λ t. tt) (λ op e f p m h. param_kept p ∙ h) (λ e f h. tt) (λ op l r k s m h. h) (λ e f offset at range step h. h) (λ f ts us h. h) (λ name gives ts us h. h) t h
+pub parts_kept : (t : Tree) → Throughout HasNodeParts t → Throughout HasNodeParts (parenthesized t)
+parts_kept t h = kept HasNodeParts (λ t. tt) (λ op e f p m h. param_kept p ∙ h) (λ e f h. tt) (λ op l r k s m h. h) (λ e f offset at range step h. h) (λ f ts us h. h) (λ name gives ts us h. h) t h
 
 pub answered_kept : (g : Text → Answer) (t : Tree) → Throughout (PatternsAnswered g) t → Throughout (PatternsAnswered g) (parenthesized t)
 answered_kept g t h = kept (PatternsAnswered g) (λ t. tt) (λ op e f p m h. tt) (λ e f h. tt) (λ op l r k s m h. tt) (λ e f offset at range step h. tt) (λ f ts us h. tt) (λ name gives ts us h. tt) t h

@@ -8,8 +8,9 @@ use Rattle.promql_ast.specs.Tree.{Tree, aggregate, unary, binary, paren, subquer
 use Rattle.promql_rewrite.specs.Throughout.{Throughout, ThroughoutAll, ThroughoutMaybe}
 use Rattle.promql_rewrite.proofs.EachNode.{listed, throughout}
 use Rattle.promql_rewrite.proofs.Grouped.{grouped, groups}
-use Rattle.promql_rewrite.specs.PrintableNodes.{AllAnswered, AllPrintableNodes, AreGroups, GroupsAnswered, MaybePrintableNodes, NodesArePrintable, NoneEmpty, PrintableMatchers, PrintableNodes, PrintableSelector}
-use Rattle.promql_rewrite.specs.PrintableTrees.{HasParts, HasSelectorParts, IsPlaced, IsPrintable, PatternsAnswered}
+use Rattle.promql_rewrite.proofs.NodeParts.{parts_listed, parts_throughout, placed_listed, placed_throughout}
+use Rattle.promql_rewrite.specs.PrintableNodes.{AllAnswered, AllPrintableNodes, AreGroups, GroupsAnswered, HasNodeParts, HasSelectorParts, IsNodePlaced, MaybePrintableNodes, NodesArePrintable, NoneEmpty, PrintableMatchers, PrintableNodes, PrintableSelector}
+use Rattle.promql_rewrite.specs.PrintableTrees.{IsPrintable, PatternsAnswered}
 
 module _ (g : Text → Answer) where
   -- ---- matchers
@@ -53,18 +54,18 @@ module _ (g : Text → Answer) where
   -- ---- trees
 
   record Apart (t : Tree) : Type 0 where
-    parts : Throughout HasParts t
-    placed : Throughout IsPlaced t
+    parts : Throughout HasNodeParts t
+    placed : Throughout IsNodePlaced t
     answered : Throughout (PatternsAnswered g) t
 
   record MaybeApart (p : MaybeTree) : Type 0 where
-    parts : ThroughoutMaybe HasParts p
-    placed : ThroughoutMaybe IsPlaced p
+    parts : ThroughoutMaybe HasNodeParts p
+    placed : ThroughoutMaybe IsNodePlaced p
     answered : ThroughoutMaybe (PatternsAnswered g) p
 
   record AllApart (ts : Trees) : Type 0 where
-    parts : ThroughoutAll HasParts ts
-    placed : ThroughoutAll IsPlaced ts
+    parts : ThroughoutAll HasNodeParts ts
+    placed : ThroughoutAll IsNodePlaced ts
     answered : ThroughoutAll (PatternsAnswered g) ts
 
   mutual
@@ -101,7 +102,7 @@ module _ (g : Text → Answer) where
         record { parts = (a.parts, b.parts); placed = (a.placed, b.placed); answered = (a.answered, b.answered) }
 
   mutual
-    joined : (t : Tree) → Throughout HasParts t → Throughout IsPlaced t → Throughout (PatternsAnswered g) t → PrintableNodes g t
+    joined : (t : Tree) → Throughout HasNodeParts t → Throughout IsNodePlaced t → Throughout (PatternsAnswered g) t → PrintableNodes g t
     joined (aggregate op e p m) h w a = (h.0, maybe_joined p h.1 w.1 a.1, joined e h.2 w.2 a.2)
     joined (unary e) h w a = (w.0, joined e h.1 w.1 a.1)
     joined (binary op l r m) h w a = (h.0.0, h.0.1, w.0.0, w.0.1, joined l h.1 w.1 a.1, joined r h.2 w.2 a.2)
@@ -114,22 +115,22 @@ module _ (g : Text → Answer) where
     joined (call f ts) h w a = (h.0, all_joined ts h.1 w.1 a.1)
     joined (extension name gives ts) h w a = absurd h.0
 
-    maybe_joined : (p : MaybeTree) → ThroughoutMaybe HasParts p → ThroughoutMaybe IsPlaced p → ThroughoutMaybe (PatternsAnswered g) p → MaybePrintableNodes g p
+    maybe_joined : (p : MaybeTree) → ThroughoutMaybe HasNodeParts p → ThroughoutMaybe IsNodePlaced p → ThroughoutMaybe (PatternsAnswered g) p → MaybePrintableNodes g p
     maybe_joined absent h w a = tt
     maybe_joined (present e) h w a = joined e h w a
 
-    all_joined : (ts : Trees) → ThroughoutAll HasParts ts → ThroughoutAll IsPlaced ts → ThroughoutAll (PatternsAnswered g) ts → AllPrintableNodes g ts
+    all_joined : (ts : Trees) → ThroughoutAll HasNodeParts ts → ThroughoutAll IsNodePlaced ts → ThroughoutAll (PatternsAnswered g) ts → AllPrintableNodes g ts
     all_joined no_trees h w a = tt
     all_joined (first_tree t ts) h w a = (joined t h.0 w.0 a.0, all_joined ts h.1 w.1 a.1)
 
   pub printable_apart : (t : Tree) → NodesArePrintable g t → IsPrintable g t
   printable_apart t h =
       let a = apart t h.nodes in
-      (record { typed = h.typed; low = h.low; parts = listed HasParts t a.parts; placed = listed IsPlaced t a.placed }, listed (PatternsAnswered g) t a.answered)
+      (record { typed = h.typed; low = h.low; parts = parts_listed t a.parts; placed = placed_listed t a.placed }, listed (PatternsAnswered g) t a.answered)
 
   pub printable_joined : (t : Tree) → IsPrintable g t → NodesArePrintable g t
   printable_joined t h = record {
     typed = h.0.typed;
     low = h.0.low;
-    nodes = joined t (throughout HasParts t h.0.parts) (throughout IsPlaced t h.0.placed) (throughout (PatternsAnswered g) t h.1);
+    nodes = joined t (parts_throughout t h.0.parts) (placed_throughout t h.0.placed) (throughout (PatternsAnswered g) t h.1);
   }

@@ -29,8 +29,8 @@ use Rattle.promql_syntax.proofs.PrintedTimes.{moment_is}
 use Rattle.promql_syntax.proofs.PrintedTimesAndLabels.{IsStep, IsTime}
 use Rattle.promql_syntax.proofs.SingleAnswers.{then_leads}
 use Rattle.promql_rewrite.specs.Answered.{IsAnswered}
-use Rattle.promql_rewrite.specs.PrintableConditions.{FollowsLabels, PrintableAt, PrintableFill, PrintableModifier, PrintableOffset, PrintableStep, PrintableTime}
-use Rattle.promql_rewrite.specs.PrintableNodes.{AllAnswered, GroupsAnswered, PrintableMatchers}
+use Rattle.promql_rewrite.specs.PrintableConditions.{PrintableAt, PrintableFill, PrintableOffset, PrintableStep, PrintableTime}
+use Rattle.promql_rewrite.specs.PrintableNodes.{AllAnswered, FollowsLabels, GroupsAnswered, PrintableMatchers, PrintableModifier}
 
 -- ---- times
 

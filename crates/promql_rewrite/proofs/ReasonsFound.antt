@@ -4,16 +4,17 @@ use Rattle.promql_ast.specs.Tree.{Tree}
 use Rattle.promql_rewrite.specs.Collecting.{nodes_of}
 use Rattle.promql_rewrite.specs.Everywhere.{Everywhere, FirstWrong}
 use Rattle.promql_rewrite.specs.FoundReasons.{Found, IsFittingNode, IsWrongNode}
-use Rattle.promql_rewrite.specs.Reasons.{IsFitting, IsReason, IsWrong}
+use Rattle.promql_rewrite.specs.NodeRules.{Obeys}
+use Rattle.promql_rewrite.specs.Reasons.{IsFitting, IsReason}
 use Rattle.promql_rewrite.specs.declared.printable.NotPrintable.{NotPrintable}
 use Rattle.promql_rewrite.specs.declared.printable.NotPrintable.TheVariants as reason
 use Rattle.promql_rewrite.proofs.EachNode.{first_listed, imply, listed}
-use Rattle.promql_rewrite.proofs.NodeReasons.{node_fits, node_wrong}
+use Rattle.promql_rewrite.proofs.NodeReasons.{node_breaks, node_fits}
 
-first_is_reason : (r : NotPrintable) (t : Tree) → Found (Some r) t → FirstWrong IsFitting (IsWrong r) (nodes_of t)
+first_is_reason : (r : NotPrintable) (t : Tree) → Found (Some r) t → FirstWrong IsFitting (λ n. ¬ (Obeys r n)) (nodes_of t)
 first_is_reason r t h =
     let k = first_listed IsFittingNode (IsWrongNode r) t h.found in
-    record { before = k.before; first = k.first; after = k.after; is = k.is; fine = imply IsFittingNode IsFitting node_fits k.before k.fine; wrong = node_wrong r k.first k.wrong }
+    record { before = k.before; first = k.first; after = k.after; is = k.is; fine = imply IsFittingNode IsFitting node_fits k.before k.fine; wrong = node_breaks r k.first k.wrong }
 
 pub all_fitting : (t : Tree) → Found None t → Everywhere IsFitting t
 all_fitting t h = imply IsFittingNode IsFitting node_fits (nodes_of t) (listed IsFittingNode t h.found)
@@ -30,5 +31,5 @@ found_is_reason reason.Subqueried t h = first_is_reason reason.Subqueried t h
 found_is_reason reason.Time t h = first_is_reason reason.Time t h
 found_is_reason reason.Groups t h = first_is_reason reason.Groups t h
 found_is_reason reason.Extension t h = first_is_reason reason.Extension t h
-found_is_reason (reason.Rejected e) t h = let first = first_is_reason (reason.Rejected e) t h in absurd first.wrong
-found_is_reason reason.OtherTree t h = let first = first_is_reason reason.OtherTree t h in absurd first.wrong
+found_is_reason (reason.Rejected e) t h = let first = first_is_reason (reason.Rejected e) t h in absurd (first.wrong tt)
+found_is_reason reason.OtherTree t h = let first = first_is_reason reason.OtherTree t h in absurd (first.wrong tt)

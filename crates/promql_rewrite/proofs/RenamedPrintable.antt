@@ -12,8 +12,8 @@ use Rattle.promql_ast.specs.Tree.{Tree, aggregate, unary, binary, paren, subquer
 use Rattle.promql_ast.specs.Typed.{Typed}
 use Rattle.promql_syntax.specs.declared.parser.TheConstants.{MAX_DEPTH}
 use Rattle.promql_rewrite.specs.Answered.{IsAnswered}
-use Rattle.promql_rewrite.specs.PrintableConditions.{FollowsLabels, IsNegated, IsRightSide, IsSubqueried, PrintableModifier, PrintableName, has_param, openness}
-use Rattle.promql_rewrite.specs.PrintableNodes.{AllAnswered, AllPrintableNodes, GroupsAnswered, MaybePrintableNodes, NodesArePrintable, PrintableMatchers, PrintableNodes, PrintableSelector}
+use Rattle.promql_rewrite.specs.PrintableConditions.{IsNegated, IsRightSide, IsSubqueried, PrintableName, has_param, openness}
+use Rattle.promql_rewrite.specs.PrintableNodes.{AllAnswered, AllPrintableNodes, FollowsLabels, GroupsAnswered, MaybePrintableNodes, NodesArePrintable, PrintableMatchers, PrintableModifier, PrintableNodes, PrintableSelector}
 use Rattle.promql_rewrite.specs.PrintableTrees.{all_printed_height, maybe_printed_height, printed_height}
 use Rattle.promql_rewrite.specs.Renaming.{Renaming, of_label, of_metric, all_renamed, clashes, is_name, maybe_renamed, renamed, renamed_cardinality, renamed_clause, renamed_matcher, renamed_matchers, renamed_matching, renamed_name, renamed_selector}
 use Rattle.promql_rewrite.proofs.RenamedTrees.{label_typed, metric_typed}

@@ -13,6 +13,7 @@ pub mod Judged
 pub mod MappedSelectors
 pub mod Mapping
 pub mod MatcherTexts
+pub mod NodeRules
 pub mod Parenthesizing
 pub mod PrintableConditions
 pub mod PrintableNodes

@@ -5,13 +5,11 @@ use Rattle.std.specs.List.{AllByRecursion}
 use Rattle.promql_text.specs.Texts.{Text}
 use Rattle.promql_text.specs.Values.{IsNumber, is_below_zero}
 use Rattle.promql_text.specs.declared.number.Number.{Number}
-use Rattle.promql_token.specs.Ids.{is_set_operator}
 use Rattle.promql_token.specs.Vocabulary.{is_word, word_id}
 use Rattle.promql_token.specs.declared.ids.TheConstants.{T_POW}
 use Rattle.promql_grammar.specs.Grammar.{precedence}
 use Rattle.promql_grammar.specs.Symbols.{may_be_name, token_kind}
 use Rattle.promql_label.specs.PlainMatchers.{PlainMatchers, plain_matchers}
-use Rattle.promql_kind.specs.Modifiers.{Cardinality, Clause, many_to_many, fills, Matching, matching, is_grouping}
 use Rattle.promql_ast.specs.Shifts.{Shift, back, ahead, Moment, at_start, at_end, at_time}
 use Rattle.promql_ast.specs.Tree.{Tree, unary, binary, number, MaybeTree, absent, present}
 
@@ -41,23 +39,12 @@ abbrev pub PrintableFill : Option Number → Type 0
 PrintableFill None = Unit {0}
 PrintableFill (Some n) = IsNumber n
 
--- ---- names and modifiers
+-- ---- names and parameters
 
 -- a word that may be the name of a metric
 abbrev pub PrintableName : Option Text → Type 0
 PrintableName None = Unit {0}
 PrintableName (Some name) = (is_word name ≡ true) × (may_be_name (token_kind (word_id name [])) ≡ true)
-
--- a grouping has matching labels before it
-abbrev pub FollowsLabels : Cardinality → Option Clause → Type 0
-FollowsLabels card None = is_grouping card ≡ false
-FollowsLabels card (Some clause) = Unit {0}
-
--- what prints nothing is what is read of nothing: set operators match many elements with many, and no others do
-abbrev pub PrintableModifier : ℕ → Option Matching → Type 0
-PrintableModifier op None = Unit {0}
-PrintableModifier op (Some (matching card clause return_bool (fills r l))) =
-    FollowsLabels card clause × (card ≡ many_to_many → is_set_operator op ≡ true) × PrintableFill r × PrintableFill l
 
 -- an aggregator that takes a parameter has one, and no other has
 abbrev pub has_param : MaybeTree → Bool

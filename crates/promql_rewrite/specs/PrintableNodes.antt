@@ -1,22 +1,63 @@
 -- The rules of printable trees, node by node. Private: nothing rests on believing it.
-use Rattle.std.specs.Prelude.{◌≡◌, ◌≤◌, List, [], ◌∷◌, Some}
+use Rattle.std.specs.Prelude.{◌≡◌, ◌≤◌, ℕ, true, false, List, [], ◌∷◌, Option, Some, None}
 use Rattle.std.specs.List.{AllByRecursion}
 use Rattle.promql_text.specs.Texts.{Text}
 use Rattle.promql_text.specs.Values.{IsNumber}
-use Rattle.promql_token.specs.Ids.{is_aggregator_with_param}
+use Rattle.promql_token.specs.Ids.{is_aggregator_with_param, is_set_operator}
 use Rattle.promql_grammar.specs.Grammar.{FitsLeft}
 use Rattle.promql_grammar.specs.Symbols.{token_kind}
 use Rattle.promql_grammar.specs.declared.token_kinds.TokenKind.TheVariants as kind
 use Rattle.promql_label.specs.Answers.{Answer}
 use Rattle.promql_label.specs.PlainMatchers.{PlainMatcher, PlainMatchers, plain_matchers}
 use Rattle.promql_kind.specs.Functions.{function_named, name_of}
+use Rattle.promql_kind.specs.Modifiers.{Cardinality, Clause, many_to_many, fills, Matching, matching, is_grouping}
 use Rattle.promql_ast.specs.Selectors.{Selector, selector}
 use Rattle.promql_ast.specs.Tree.{Tree, aggregate, unary, binary, paren, subquery, number, string, vector, matrix, call, extension, MaybeTree, absent, present, Trees, no_trees, first_tree}
 use Rattle.promql_ast.specs.Typed.{Typed}
 use Rattle.promql_syntax.specs.declared.parser.TheConstants.{MAX_DEPTH}
 use Rattle.promql_rewrite.specs.Answered.{IsAnswered}
-use Rattle.promql_rewrite.specs.PrintableConditions.{IsNegated, IsRightSide, IsSubqueried, PrintableAt, PrintableModifier, PrintableName, PrintableOffset, PrintableStep, PrintableTime, has_param, openness}
+use Rattle.promql_rewrite.specs.PrintableConditions.{AreGrouped, IsNegated, IsRightSide, IsSubqueried, PrintableAt, PrintableFill, PrintableName, PrintableOffset, PrintableStep, PrintableTime, has_param, openness}
 use Rattle.promql_rewrite.specs.PrintableTrees.{printed_height}
+
+-- ---- modifiers
+
+-- a grouping has matching labels before it
+abbrev pub FollowsLabels : Cardinality → Option Clause → Type 0
+FollowsLabels card None = is_grouping card ≡ false
+FollowsLabels card (Some clause) = Unit {0}
+
+-- what prints nothing is what is read of nothing: set operators match many elements with many, and no others do
+abbrev pub PrintableModifier : ℕ → Option Matching → Type 0
+PrintableModifier op None = Unit {0}
+PrintableModifier op (Some (matching card clause return_bool (fills r l))) =
+    FollowsLabels card clause × (card ≡ many_to_many → is_set_operator op ≡ true) × PrintableFill r × PrintableFill l
+
+-- ---- what a node has beside its children
+
+abbrev pub HasSelectorParts : Selector → Type 0
+HasSelectorParts (selector name matchers offset at) =
+    PrintableName name × AreGrouped matchers × PrintableOffset offset × PrintableAt at
+
+-- it prints as what is read as it
+abbrev pub HasNodeParts : Tree → Type 0
+HasNodeParts (aggregate op e p m) = has_param p ≡ is_aggregator_with_param op
+HasNodeParts (binary op l r m) = (token_kind op ≡ kind.Operator op) × PrintableModifier op m
+HasNodeParts (subquery e offset at range step) =
+    PrintableTime range × PrintableStep step × PrintableOffset offset × PrintableAt at
+HasNodeParts (number n) = IsNumber n
+HasNodeParts (vector s) = HasSelectorParts s
+HasNodeParts (matrix s range mode) = HasSelectorParts s × PrintableTime range
+HasNodeParts (call f args) = function_named (name_of f) ≡ Some f
+HasNodeParts (extension name gives es) = ⊥
+HasNodeParts t = Unit {0}
+
+-- ---- the places that it gives its children: each binds tightly enough
+
+abbrev pub IsNodePlaced : Tree → Type 0
+IsNodePlaced (unary e) = IsNegated e
+IsNodePlaced (binary op l r m) = FitsLeft op (openness l) × IsRightSide op r
+IsNodePlaced (subquery e offset at range step) = IsSubqueried e
+IsNodePlaced t = Unit {0}
 
 -- ---- or-groups
 

@@ -3,47 +3,41 @@ use Rattle.std.specs.Prelude.{◌≡◌, ◌+◌, ◌≤◌, ℕ, max, if◌then
 use Rattle.std.specs.List.{AllByRecursion}
 use Rattle.promql_text.specs.Texts.{Text}
 use Rattle.promql_text.specs.Values.{IsNumber, is_below_zero}
-use Rattle.promql_token.specs.Ids.{is_aggregator_with_param}
-use Rattle.promql_grammar.specs.Grammar.{FitsLeft}
-use Rattle.promql_grammar.specs.Symbols.{token_kind}
-use Rattle.promql_grammar.specs.declared.token_kinds.TokenKind.TheVariants as kind
 use Rattle.promql_label.specs.Answers.{Answer}
 use Rattle.promql_label.specs.PlainMatchers.{every}
 use Rattle.promql_kind.specs.Functions.{function_named, name_of}
+use Rattle.promql_kind.specs.Modifiers.{fills, matching}
 use Rattle.promql_ast.specs.Selectors.{Selector, selector}
 use Rattle.promql_ast.specs.Tree.{Tree, aggregate, unary, binary, paren, subquery, number, string, vector, matrix, call, extension, MaybeTree, absent, present, Trees, no_trees, first_tree}
 use Rattle.promql_ast.specs.Typed.{Typed}
 use Rattle.promql_syntax.specs.declared.parser.TheConstants.{MAX_DEPTH}
 use Rattle.promql_rewrite.specs.Answered.{IsAnswered}
 use Rattle.promql_rewrite.specs.Everywhere.{Everywhere}
-use Rattle.promql_rewrite.specs.PrintableConditions.{AreGrouped, IsNegated, IsRightSide, IsSubqueried, PrintableAt, PrintableModifier, PrintableName, PrintableOffset, PrintableStep, PrintableTime, has_param, openness}
+use Rattle.promql_rewrite.specs.NodeRules.{Obeys}
+use Rattle.promql_rewrite.specs.PrintableConditions.{PrintableAt, PrintableFill, PrintableName}
+use Rattle.promql_rewrite.specs.declared.printable.NotPrintable.TheVariants as reason
 
--- ---- what a node has beside its children
+-- ---- nodes
 
-abbrev pub HasSelectorParts : Selector → Type 0
-HasSelectorParts (selector name matchers offset at) =
-    PrintableName name × AreGrouped matchers × PrintableOffset offset × PrintableAt at
+-- what no reason tells of: names, numbers, times after `@` and functions print as what is read as them
+abbrev pub PrintsExactly : Tree → Type 0
+PrintsExactly (binary op l r (Some (matching card clause return_bool (fills x y)))) = PrintableFill x × PrintableFill y
+PrintsExactly (subquery e offset at range step) = PrintableAt at
+PrintsExactly (number n) = IsNumber n
+PrintsExactly (vector (selector name matchers offset at)) = PrintableName name × PrintableAt at
+PrintsExactly (matrix (selector name matchers offset at) range mode) = PrintableName name × PrintableAt at
+PrintsExactly (call f args) = function_named (name_of f) ≡ Some f
+PrintsExactly t = Unit {0}
 
--- it prints as what is read as it
+-- what a node has beside its children
 abbrev pub HasParts : Tree → Type 0
-HasParts (aggregate op e p m) = has_param p ≡ is_aggregator_with_param op
-HasParts (binary op l r m) = (token_kind op ≡ kind.Operator op) × PrintableModifier op m
-HasParts (subquery e offset at range step) =
-    PrintableTime range × PrintableStep step × PrintableOffset offset × PrintableAt at
-HasParts (number n) = IsNumber n
-HasParts (vector s) = HasSelectorParts s
-HasParts (matrix s range mode) = HasSelectorParts s × PrintableTime range
-HasParts (call f args) = function_named (name_of f) ≡ Some f
-HasParts (extension name gives es) = ⊥
-HasParts t = Unit {0}
+HasParts t =
+    Obeys reason.Parameter t × Obeys reason.Operator t × Obeys reason.Grouping t × Obeys reason.Cardinality t
+    × Obeys reason.Groups t × Obeys reason.Time t × Obeys reason.Extension t × PrintsExactly t
 
--- ---- the places that it gives its children: each binds tightly enough
-
+-- the places that it gives its children: each binds tightly enough
 abbrev pub IsPlaced : Tree → Type 0
-IsPlaced (unary e) = IsNegated e
-IsPlaced (binary op l r m) = FitsLeft op (openness l) × IsRightSide op r
-IsPlaced (subquery e offset at range step) = IsSubqueried e
-IsPlaced t = Unit {0}
+IsPlaced t = Obeys reason.LeftSide t × Obeys reason.RightSide t × Obeys reason.Operand t × Obeys reason.Subqueried t
 
 -- ---- heights
 

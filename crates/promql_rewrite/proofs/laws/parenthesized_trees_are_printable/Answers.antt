@@ -1,6 +1,7 @@
 use Rattle.promql_rewrite.specs.Parenthesizing.{parenthesized}
-use Rattle.promql_rewrite.specs.PrintableTrees.{HasParts, IsPlaced, PatternsAnswered}
+use Rattle.promql_rewrite.specs.PrintableTrees.{PatternsAnswered}
 use Rattle.promql_rewrite.proofs.EachNode.{listed, throughout}
+use Rattle.promql_rewrite.proofs.NodeParts.{parts_listed, parts_throughout, placed_listed}
 use Rattle.promql_rewrite.proofs.ParenPlaces.{well_placed}
 use Rattle.promql_rewrite.proofs.ParenTypes.{answered_kept, low_kept, parts_kept, type_kept, typed_kept}
 use Rattle.promql_rewrite.proofs.laws.parenthesized_trees_are_printable.Goals as goal
@@ -10,15 +11,15 @@ returns c = record {
   alone = λ t typed parts low. record {
     typed = typed_kept t typed;
     low = low;
-    parts = listed HasParts (parenthesized t) (parts_kept t (throughout HasParts t parts));
-    placed = listed IsPlaced (parenthesized t) (well_placed t);
+    parts = parts_listed (parenthesized t) (parts_kept t (parts_throughout t parts));
+    placed = placed_listed (parenthesized t) (well_placed t);
   };
   printable = λ g t typed parts answered low. (
     record {
       typed = typed_kept t typed;
       low = low;
-      parts = listed HasParts (parenthesized t) (parts_kept t (throughout HasParts t parts));
-      placed = listed IsPlaced (parenthesized t) (well_placed t);
+      parts = parts_listed (parenthesized t) (parts_kept t (parts_throughout t parts));
+      placed = placed_listed (parenthesized t) (well_placed t);
     },
     listed (PatternsAnswered g) (parenthesized t) (answered_kept g t (throughout (PatternsAnswered g) t answered)),
   );
