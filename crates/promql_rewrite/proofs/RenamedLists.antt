@@ -1,12 +1,16 @@
--- Lists in which each item is renamed.
-use Rattle.std.proofs.Common.{◌≡◌, List, [], ◌∷◌, map, refl, ap}
+-- Lists in which each item is changed.
+use Rattle.std.proofs.Common.{◌≡◌, List, [], ◌∷◌, Option, map, refl, ap}
+use Rattle.promql_kind.specs.Modifiers.{Clause, Matching}
+use Rattle.promql_ast.specs.Mapped.{mapped, all_mapped}
+use Rattle.promql_ast.specs.Selectors.{Selector}
 use Rattle.promql_ast.specs.Tree.{Tree, first_tree}
 use Rattle.promql_ast.specs.View.{trees}
-use Rattle.promql_rewrite.specs.Renaming.{Renaming, all_renamed, renamed}
 
-pub renamed_trees : {X : Type 0} (r : Renaming) (f : X → Tree) (xs : List X) → all_renamed r (trees (map f xs)) ≡ trees (map (λ x. renamed r (f x)) xs)
-renamed_trees r f [] = refl
-renamed_trees r f (x ∷ xs) = ap (first_tree (renamed r (f x))) (renamed_trees r f xs)
+-- the trees of a list, each with changed parts
+pub mapped_trees : {X : Type 0} (s : Selector → Selector) (k : Option Clause → Option Clause) (m : Option Matching → Option Matching) (f : X → Tree) (xs : List X)
+    → all_mapped s k m (trees (map f xs)) ≡ trees (map (λ x. mapped s k m (f x)) xs)
+mapped_trees s k m f [] = refl
+mapped_trees s k m f (x ∷ xs) = ap (first_tree (mapped s k m (f x))) (mapped_trees s k m f xs)
 
 pub mapped_twice : {X Y Z : Type 0} (f : X → Y) (h : Y → Z) (xs : List X) → map (λ x. h (f x)) xs ≡ map h (map f xs)
 mapped_twice f h [] = refl

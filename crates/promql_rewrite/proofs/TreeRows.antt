@@ -1,10 +1,8 @@
--- Trees and matchers in rows.
+-- Groups of which each has the matcher.
 use Rattle.std.proofs.Common.{◌≡◌, List, [], ◌∷◌, length, map, refl, ap}
 use Rattle.std.specs.Prelude.{◌==◌, false}
 use Rattle.promql_label.specs.PlainMatchers.{PlainMatcher, plain_matchers}
-use Rattle.promql_ast.specs.Tree.{Tree, first_tree}
-use Rattle.promql_ast.specs.View.{trees}
-use Rattle.promql_rewrite.specs.Enforcing.{all_enforced, enforced, enforced_matchers, with_matcher}
+use Rattle.promql_rewrite.specs.Enforcing.{enforced_matchers, with_matcher}
 
 groups_mapped : {X : Type 0} (c : PlainMatcher) (f : X → List PlainMatcher) (gs : List X) → map (λ g. with_matcher c (f g)) gs ≡ map (with_matcher c) (map f gs)
 groups_mapped c f [] = refl
@@ -15,7 +13,3 @@ pub groups_enforced : {X : Type 0} (c : PlainMatcher) (cs : List PlainMatcher) (
     → plain_matchers cs (map (λ g. with_matcher c (f g)) gs) ≡ enforced_matchers c (plain_matchers cs (map f gs))
 groups_enforced c cs f [] some = cc
 groups_enforced c cs f (g ∷ gs) some = ap (plain_matchers cs) (groups_mapped c f (g ∷ gs))
-
-pub enforced_trees : {X : Type 0} (c : PlainMatcher) (f : X → Tree) (xs : List X) → all_enforced c (trees (map f xs)) ≡ trees (map (λ x. enforced c (f x)) xs)
-enforced_trees c f [] = refl
-enforced_trees c f (x ∷ xs) = ap (first_tree (enforced c (f x))) (enforced_trees c f xs)

@@ -3,7 +3,7 @@
 ghost use Rattle.std.specs.Prelude.{◌≡◌, ◌≢◌, ◌↔◌, Err, IfErr, IfOk, IsErrOf, OnOk, codes, false, map, string_bytes, true};
 ghost use Rattle.std.specs.List.{list_any};
 ghost use Rattle.promql_ast.specs.Same.{matcher_eq};
-ghost use Rattle.promql_ast.specs.View.{aggregate_tree, binary_tree, call_tree, extension_tree, tree_of};
+ghost use Rattle.promql_ast.specs.View.{tree_of};
 ghost use Rattle.promql_label.specs.MatcherViews.{plain_matcher_of, plain_matchers_of};
 ghost use Rattle.promql_label.specs.PlainMatchers.{name_of};
 ghost use Rattle.promql_syntax.specs.ParseAnswers.{IsAnswerTo, plain_error_of};
@@ -12,12 +12,14 @@ ghost use Rattle.promql_rewrite.specs.Enforced.{IsEnforced, IsLineOther, IsLineR
 ghost use Rattle.promql_rewrite.specs.EnforceErrors.{IsOfEnforced};
 ghost use Rattle.promql_rewrite.specs.Faithful.{IsLineOf, MeansOther};
 ghost use Rattle.promql_ast.specs.Text.{text as line_text};
-ghost use Rattle.promql_rewrite.specs.Enforcing.{enforced, enforced_matchers, has_bare_info, with_matcher};
+ghost use Rattle.promql_rewrite.specs.Enforcing.{enforced, enforced_matchers, enforced_selector, has_bare_info, with_matcher};
 ghost use Rattle.promql_rewrite.specs.declared.faithful.NotFaithful.{NotFaithful};
 
 use crate::bare_info::has_bare_info;
+use crate::changing::{PartChange, change_parts};
 use crate::faithful::{NotFaithful, faithful_line};
-use promql_ast::{AggregateExpr, BinaryExpr, Call, Expr, Extension};
+use promql_ast::{Expr, VectorSelector};
+use promql_kind::{BinModifier, LabelModifier};
 use promql_label::{METRIC_NAME, Matcher, Matchers};
 use promql_syntax::parser::{ParseError, parse};
 use std::alloc::{AllocError, Global};
@@ -178,96 +180,50 @@ fn enforced_line(alloc: Global, expr: &mut Expr, matcher: &Matcher) -> Result<St
     }
 }
 
+/// The matcher that is put into every selector.
+#[derive(Clone, Copy)]
+struct Enforced<'a> {
+    matcher: &'a Matcher,
+}
+
+impl PartChange for Enforced<'_> {
+    ghost selectors = { λ e. enforced_selector (plain_matcher_of e.matcher.now) };
+
+    ghost clauses = { λ _ m. m };
+
+    ghost matchings = { λ _ m. m };
+
+    fn change_selector(
+        &self,
+        alloc: Global,
+        selector: &mut VectorSelector,
+    ) -> Result<(), AllocError> {
+        enforce_matchers(alloc, &mut selector.matchers, self.matcher)
+    }
+
+    fn change_clause(
+        &self,
+        _alloc: Global,
+        _clause: &mut Option<LabelModifier>,
+    ) -> Result<(), AllocError> {
+        Ok(())
+    }
+
+    fn change_matching(
+        &self,
+        _alloc: Global,
+        _modifier: &mut Option<BinModifier>,
+    ) -> Result<(), AllocError> {
+        Ok(())
+    }
+}
+
 /// Puts the matcher into every selector. Where an allocation fails, some selectors may have it.
-#[cycle(enforce)]
-#[tactic(auto, using(promql_ast::proofs::NodeParts::tree_of_call, promql_ast::proofs::NodeParts::tree_of_extension, promql_ast::proofs::NodeParts::tree_of_aggregate))]
 fn enforce_expr(alloc: Global, expr: &mut Expr, matcher: &Matcher) -> Result<(), AllocError>
     ensures { OnOk result
         (tree_of expr.new ≡ enforced (plain_matcher_of matcher.now) (tree_of expr.old)) }
 {
-    match expr {
-        Expr::Aggregate(e) => enforce_aggregate(alloc, e, matcher),
-        Expr::Unary(e) => enforce_expr(alloc, &mut e.expr, matcher),
-        Expr::Binary(e) => enforce_binary(alloc, e, matcher),
-        Expr::Paren(e) => enforce_expr(alloc, &mut e.expr, matcher),
-        Expr::Subquery(e) => enforce_expr(alloc, &mut e.expr, matcher),
-        Expr::NumberLiteral(_) => Ok(()),
-        Expr::StringLiteral(_) => Ok(()),
-        Expr::VectorSelector(e) => enforce_matchers(alloc, &mut e.matchers, matcher),
-        Expr::MatrixSelector(e) => enforce_matchers(alloc, &mut e.vs.matchers, matcher),
-        Expr::Call(e) => enforce_call(alloc, e, matcher),
-        Expr::Extension(e) => enforce_extension(alloc, e, matcher),
-    }
-}
-
-#[cycle(enforce)]
-fn enforce_aggregate(
-    alloc: Global,
-    node: &mut AggregateExpr,
-    matcher: &Matcher,
-) -> Result<(), AllocError>
-    ensures { OnOk result (aggregate_tree node.new
-        ≡ enforced (plain_matcher_of matcher.now) (aggregate_tree node.old)) }
-{
-    if let Some(param) = &mut node.param {
-        enforce_expr(alloc, param, matcher)?;
-    }
-    enforce_expr(alloc, &mut node.expr, matcher)
-}
-
-#[cycle(enforce)]
-fn enforce_binary(alloc: Global, node: &mut BinaryExpr, matcher: &Matcher) -> Result<(), AllocError>
-    ensures { OnOk result (binary_tree node.new
-        ≡ enforced (plain_matcher_of matcher.now) (binary_tree node.old)) }
-{
-    enforce_expr(alloc, &mut node.lhs, matcher)?;
-    enforce_expr(alloc, &mut node.rhs, matcher)
-}
-
-#[cycle(enforce)]
-fn enforce_call(alloc: Global, node: &mut Call, matcher: &Matcher) -> Result<(), AllocError>
-    ensures { OnOk result (call_tree node.new
-        ≡ enforced (plain_matcher_of matcher.now) (call_tree node.old)) }
-{
-    enforce_args(alloc, node.args.args.as_mut_slice(), matcher)
-}
-
-#[cycle(enforce)]
-fn enforce_args(alloc: Global, args: &mut [Box<Expr>], matcher: &Matcher) -> Result<(), AllocError>
-    ensures { OnOk result (map (λ b. tree_of b.value) args.new
-        ≡ map (λ b. enforced (plain_matcher_of matcher.now) (tree_of b.value)) args.old) }
-{
-    for i in 0..args.len() {
-        enforce_expr(alloc, &mut args[i], matcher)?;
-    }
-    Ok(())
-}
-
-#[cycle(enforce)]
-fn enforce_extension(
-    alloc: Global,
-    node: &mut Extension,
-    matcher: &Matcher,
-) -> Result<(), AllocError>
-    ensures { OnOk result (extension_tree node.new
-        ≡ enforced (plain_matcher_of matcher.now) (extension_tree node.old)) }
-{
-    enforce_children(alloc, node.children.as_mut_slice(), matcher)
-}
-
-#[cycle(enforce)]
-fn enforce_children(
-    alloc: Global,
-    children: &mut [Expr],
-    matcher: &Matcher,
-) -> Result<(), AllocError>
-    ensures { OnOk result (map tree_of children.new
-        ≡ map (λ e. enforced (plain_matcher_of matcher.now) (tree_of e)) children.old) }
-{
-    for i in 0..children.len() {
-        enforce_expr(alloc, &mut children[i], matcher)?;
-    }
-    Ok(())
+    change_parts(alloc, expr, &Enforced { matcher })
 }
 
 /// Puts the matcher into each or-group, or where there is none beside the groups.

@@ -18,6 +18,7 @@ pub use printable::{NotPrintable, is_printable, why_not_printable};
 pub use renaming::{RenameLabelError, RenameMetricError, rename_label, rename_metric};
 
 mod bare_info;
+mod changing;
 mod clashing;
 pub mod collecting;
 pub mod enforcing;

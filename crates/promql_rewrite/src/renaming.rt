@@ -5,13 +5,14 @@ ghost use Rattle.promql_token.specs.Cursor.{ends_in_fault, tokens_left};
 ghost use Rattle.promql_label.specs.Labels.{labels_of};
 ghost use Rattle.promql_label.specs.MatcherViews.{plain_matcher_of, plain_matchers_of};
 ghost use Rattle.promql_kind.specs.ModifierViews.{cardinality_of, clause_of, matching_of};
-ghost use Rattle.promql_ast.specs.View.{aggregate_tree, binary_tree, call_tree, extension_tree, selector_of, tree_of};
+ghost use Rattle.promql_ast.specs.View.{selector_of, tree_of};
 ghost use Rattle.promql_rewrite.specs.Renaming.{clashes, is_metric_label, is_name, of_label, of_metric, renamed, renamed_cardinality, renamed_clause, renamed_labels, renamed_matcher, renamed_matchers, renamed_matching, renamed_name, renamed_selector, replaced};
 ghost use Rattle.promql_rewrite.specs.Renamings.{is_name_token, is_nothing, renaming_of};
 
+use crate::changing::{PartChange, change_parts};
 use crate::clashing::has_clash;
 use crate::collecting::is_metric_name;
-use promql_ast::{AggregateExpr, BinaryExpr, Call, Expr, Extension, VectorSelector};
+use promql_ast::{Expr, VectorSelector};
 use promql_grammar::token_kind;
 use promql_kind::{BinModifier, LabelModifier, VectorMatchCardinality};
 use promql_label::{Labels, METRIC_NAME, Matcher, Matchers};
@@ -191,106 +192,44 @@ fn is_at_end(tokens: &mut Cursor<'_>) -> bool
     }
 }
 
+impl PartChange for Renaming<'_> {
+    ghost selectors = { λ r. renamed_selector (renaming_of r) };
+
+    ghost clauses = { λ r. option_map (renamed_clause (renaming_of r)) };
+
+    ghost matchings = { λ r. option_map (renamed_matching (renaming_of r)) };
+
+    fn change_selector(
+        &self,
+        alloc: Global,
+        selector: &mut VectorSelector,
+    ) -> Result<(), AllocError> {
+        rename_selector(alloc, selector, self)
+    }
+
+    fn change_clause(
+        &self,
+        alloc: Global,
+        clause: &mut Option<LabelModifier>,
+    ) -> Result<(), AllocError> {
+        rename_clause(alloc, clause, self)
+    }
+
+    fn change_matching(
+        &self,
+        alloc: Global,
+        modifier: &mut Option<BinModifier>,
+    ) -> Result<(), AllocError> {
+        rename_modifier(alloc, modifier, self)
+    }
+}
+
 /// Renames in every node. Where an allocation fails, some names may be the new one.
-#[cycle(rename)]
-#[tactic(auto, using(promql_ast::proofs::NodeParts::tree_of_call, promql_ast::proofs::NodeParts::tree_of_extension, promql_ast::proofs::NodeParts::tree_of_aggregate))]
 fn rename_expr(alloc: Global, expr: &mut Expr, renaming: &Renaming<'_>) -> Result<(), AllocError>
     ensures { OnOk result
         (tree_of expr.new ≡ renamed (renaming_of renaming.now) (tree_of expr.old)) }
 {
-    match expr {
-        Expr::Aggregate(e) => rename_aggregate(alloc, e, renaming),
-        Expr::Unary(e) => rename_expr(alloc, &mut e.expr, renaming),
-        Expr::Binary(e) => rename_binary(alloc, e, renaming),
-        Expr::Paren(e) => rename_expr(alloc, &mut e.expr, renaming),
-        Expr::Subquery(e) => rename_expr(alloc, &mut e.expr, renaming),
-        Expr::NumberLiteral(_) => Ok(()),
-        Expr::StringLiteral(_) => Ok(()),
-        Expr::VectorSelector(e) => rename_selector(alloc, e, renaming),
-        Expr::MatrixSelector(e) => rename_selector(alloc, &mut e.vs, renaming),
-        Expr::Call(e) => rename_call(alloc, e, renaming),
-        Expr::Extension(e) => rename_extension(alloc, e, renaming),
-    }
-}
-
-#[cycle(rename)]
-fn rename_aggregate(
-    alloc: Global,
-    node: &mut AggregateExpr,
-    renaming: &Renaming<'_>,
-) -> Result<(), AllocError>
-    ensures { OnOk result (aggregate_tree node.new
-        ≡ renamed (renaming_of renaming.now) (aggregate_tree node.old)) }
-{
-    rename_clause(alloc, &mut node.modifier, renaming)?;
-    if let Some(param) = &mut node.param {
-        rename_expr(alloc, param, renaming)?;
-    }
-    rename_expr(alloc, &mut node.expr, renaming)
-}
-
-#[cycle(rename)]
-fn rename_binary(
-    alloc: Global,
-    node: &mut BinaryExpr,
-    renaming: &Renaming<'_>,
-) -> Result<(), AllocError>
-    ensures { OnOk result (binary_tree node.new
-        ≡ renamed (renaming_of renaming.now) (binary_tree node.old)) }
-{
-    rename_modifier(alloc, &mut node.modifier, renaming)?;
-    rename_expr(alloc, &mut node.lhs, renaming)?;
-    rename_expr(alloc, &mut node.rhs, renaming)
-}
-
-#[cycle(rename)]
-fn rename_call(alloc: Global, node: &mut Call, renaming: &Renaming<'_>) -> Result<(), AllocError>
-    ensures { OnOk result (call_tree node.new
-        ≡ renamed (renaming_of renaming.now) (call_tree node.old)) }
-{
-    rename_args(alloc, node.args.args.as_mut_slice(), renaming)
-}
-
-#[cycle(rename)]
-fn rename_args(
-    alloc: Global,
-    args: &mut [Box<Expr>],
-    renaming: &Renaming<'_>,
-) -> Result<(), AllocError>
-    ensures { OnOk result (map (λ b. tree_of b.value) args.new
-        ≡ map (λ b. renamed (renaming_of renaming.now) (tree_of b.value)) args.old) }
-{
-    for i in 0..args.len() {
-        rename_expr(alloc, &mut args[i], renaming)?;
-    }
-    Ok(())
-}
-
-#[cycle(rename)]
-fn rename_extension(
-    alloc: Global,
-    node: &mut Extension,
-    renaming: &Renaming<'_>,
-) -> Result<(), AllocError>
-    ensures { OnOk result (extension_tree node.new
-        ≡ renamed (renaming_of renaming.now) (extension_tree node.old)) }
-{
-    rename_children(alloc, node.children.as_mut_slice(), renaming)
-}
-
-#[cycle(rename)]
-fn rename_children(
-    alloc: Global,
-    children: &mut [Expr],
-    renaming: &Renaming<'_>,
-) -> Result<(), AllocError>
-    ensures { OnOk result (map tree_of children.new
-        ≡ map (λ e. renamed (renaming_of renaming.now) (tree_of e)) children.old) }
-{
-    for i in 0..children.len() {
-        rename_expr(alloc, &mut children[i], renaming)?;
-    }
-    Ok(())
+    change_parts(alloc, expr, renaming)
 }
 
 fn rename_selector(
