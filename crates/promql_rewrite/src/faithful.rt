@@ -85,7 +85,7 @@ pub fn faithful_line(alloc: Global, expr: &Expr) -> Result<String, NotFaithful>
     ensures no_indent { ¬ (IsErrOf result NotFaithful.IndentTooWide) }
 {
     let line = expr.to_string(alloc)?;
-    match reads_back(alloc, &line, expr) {
+    match check_meaning(alloc, &line, expr) {
         Ok(()) => Ok(line),
         Err(error) => Err(error),
     }
@@ -112,14 +112,19 @@ pub fn faithful_pretty(
         → usize_max < 2 * deepest (tree_of expr.now) level width }
 {
     let laid = expr.pretty(alloc, level, width)?;
-    match reads_back(alloc, &laid, expr) {
+    match check_meaning(alloc, &laid, expr) {
         Ok(()) => Ok(laid),
         Err(error) => Err(error),
     }
 }
 
-/// Whether the text means the expression.
-fn reads_back(alloc: Global, text: &str, expr: &Expr) -> Result<(), NotFaithful>
+/// Checks that a text means an expression: the text is read, and has the expression's normal form.
+///
+/// # Errors
+///
+/// `Rejected` where the parser rejects the text, `OtherTree` where it reads another tree there, `Memory` where an
+/// allocation failed.
+pub fn check_meaning(alloc: Global, text: &str, expr: &Expr) -> Result<(), NotFaithful>
     ensures means { OnOk result (Means text.now (tree_of expr.now)) }
     ensures rejected { (e : ParseError) → IsErrOf result (NotFaithful.Rejected e)
         → IsAnswerTo text.now (Err (plain_error_of e)) × (e ≢ ParseError.Memory) }

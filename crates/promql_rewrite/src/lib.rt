@@ -10,7 +10,7 @@
 
 pub use collecting::{Collected, CollectedSelector, collect};
 pub use enforcing::{EnforceError, enforce, enforce_query};
-pub use faithful::{NotFaithful, faithful_line, faithful_pretty};
+pub use faithful::{NotFaithful, check_meaning, faithful_line, faithful_pretty};
 pub use mapping::{SelectorKind, SelectorMapper, map_selectors};
 pub use matcher_text::{EnforceTextError, MatcherError, enforce_text, read_matcher};
 pub use parenthesizing::parenthesized;

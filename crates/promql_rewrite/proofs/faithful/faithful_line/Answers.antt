@@ -7,5 +7,5 @@ use Rattle.promql_rewrite.proofs.faithful.faithful_line.Goals as goal
 pub returns-in-Err-clause-rejected : goal.returns-in-Err-clause-rejected
 returns-in-Err-clause-rejected c = λ e is.
     let own : c.in-Err.error ≡ Rejected e = cc in
-    let found = c.reads_back.ensures.rejected e (c.in-Err.is ∙ ap (λ f. Err f) own) in
+    let found = c.check_meaning.ensures.rejected e (c.in-Err.is ∙ ap (λ f. Err f) own) in
     (subst (λ z. IsAnswerTo z (Err (plain_error_of e))) (search rules) found.0, found.1)
