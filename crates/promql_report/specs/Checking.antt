@@ -1,7 +1,6 @@
 -- What a check of a query does (docs/reference/programs.md, "One query, checked").
-use Rattle.std.specs.Prelude.{◌≡◌, ◌≢◌, ◌⊎◌, ℕ, ◌++◌, List, [], ◌∷◌, Option, Some, None, String, string_bytes, encode_utf8_all, codes, if◌then◌else◌, option_map}
+use Rattle.std.specs.Prelude.{◌≡◌, ◌≢◌, ◌⊎◌, ℕ, ◌++◌, List, Option, Some, None, string_bytes, encode_utf8_all, codes}
 use Rattle.std.specs.Str.{IsUtf8, chars}
-use Rattle.std.specs.declared.alloc.Global.{Global}
 use Rattle.promql_span.specs.ByteEscapes.{byte_escape}
 use Rattle.promql_span.specs.Locations.{location_of, location_text}
 use Rattle.promql_span.specs.Visible.{visible}
@@ -11,19 +10,17 @@ use Rattle.promql_ast.specs.Tree.{Tree}
 use Rattle.promql_span.specs.Snippets.{snippet_text}
 use Rattle.promql_span.specs.declared.span.Span.{Span}
 use Rattle.promql_span.specs.declared.limits.Limits.{Limits}
-use Rattle.promql_report.specs.LimitOptions.{default_limits, is_help, limits_with}
+use Rattle.promql_report.specs.LimitOptions.{Command, command, default_limits, limits_with}
 use Rattle.promql_report.specs.Rejecting.{IsRead, IsRejection, reason_number}
 use Rattle.promql_io.specs.Inputs.{HasRead}
-use Rattle.promql_report.specs.declared.check.CheckCommand.{CheckCommand}
-use Rattle.promql_report.specs.declared.check.CheckCommand.TheVariants.{Help, Check}
+use Rattle.promql_report.specs.declared.check.TheConstants.{CHECK_HELP, CHECK_VERSION}
 use Rattle.promql_report.specs.declared.check.Checked.{Checked}
 use Rattle.promql_report.specs.declared.check.Checked.TheVariants.{Accepted, Warned, Rejected}
 use Rattle.promql_report.specs.declared.rejection.Rejection.{Rejection}
 
--- the program's own name, and `--help` alone or options
-abbrev pub check_command : List Text → Option CheckCommand
-check_command [] = None
-check_command (own ∷ words) = if is_help words then Some Help else option_map Check (limits_with default_limits words)
+-- options alone, if any
+abbrev pub check_command : List Text → Option (Command Limits)
+check_command = command CHECK_HELP.now CHECK_VERSION.now (limits_with default_limits)
 
 -- the line of the query where the span begins, with its mark below
 abbrev pub marked_line : Text → Span → Text

@@ -1,3 +1,4 @@
 pub mod Checking
+pub mod CheckArguments
 pub mod LimitOptions
 pub mod Rejecting

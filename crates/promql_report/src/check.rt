@@ -1,7 +1,7 @@
 //! The program that checks a query, as a function of its arguments, its input and its two outputs:
 //! docs/reference/programs.md, "One query, checked".
 
-ghost use Rattle.std.specs.Prelude.{◌≡◌, ◌≢◌, ◌⊎◌, ◌↔◌, false, true, Some, None, IfNone, IfOk, IfErr, IfSome, IsErrOf, MatchResult, map, string_bytes};
+ghost use Rattle.std.specs.Prelude.{◌≡◌, ◌≢◌, ◌⊎◌, ◌↔◌, false, true, Some, None, IfNone, IfOk, IfErr, IfSome, IsErrOf, MatchResult, map, option_map, string_bytes};
 ghost use Rattle.std.specs.Io.KnownBytes.{Appends};
 ghost use Rattle.promql_text.specs.Texts.{Text};
 ghost use Rattle.promql_span.specs.ByteEscapes.{byte_escape};
@@ -9,10 +9,12 @@ ghost use Rattle.promql_span.specs.Locations.{location_of};
 ghost use Rattle.promql_span.specs.declared.limits.Limits as spans;
 ghost use Rattle.promql_span.specs.declared.span.Span.{Span};
 ghost use Rattle.promql_report.specs.Checking.{IsChecked, IsQueryIn, IsReport, IsReported, IsSilent, IsWarned, check_command};
+ghost use Rattle.promql_report.specs.CheckArguments.{command_seen};
+ghost use Rattle.promql_report.specs.LimitOptions.{run, show};
 ghost use Rattle.promql_run.specs.Running.{IsNotUtf8, UnlessRead};
 ghost use Rattle.promql_run.specs.StepErrors.{IsInputError};
 
-use crate::limit_options::{default_limits, is_help, limits_with};
+use crate::limit_options::{default_limits, is_only, limits_with};
 use crate::rejection::{Rejection, read_query};
 use promql_ast::drop_expr;
 use promql_io::ended::Ended;
@@ -38,8 +40,12 @@ const BYTE_ESCAPE: &str = "warning: this escape is a character here, and a byte 
 /// What is said of the error of a query that begins with a byte order mark.
 const BYTE_ORDER_MARK: &str = ", a byte order mark at the start of the text";
 
+/// What `--version` prints.
+pub const CHECK_VERSION: &str = "promql_check 0.4.0\n";
+
 /// What `--help` prints.
 pub const CHECK_HELP: &str = "usage: promql_check [--max-len N] [--max-patterns N]
+       promql_check --help | --version
 
 Reads a PromQL query from standard input. Prints nothing where it is accepted;
 otherwise, to standard error, the line and the column of the error, its message,
@@ -55,23 +61,26 @@ UTF-8, 5 a write failed, 64 wrong arguments.
 ";
 
 /// What the arguments ask for.
-#[derive(Clone, Copy, PartialEq, Eq, Debug)]
-pub enum CheckCommand {
-    /// The help.
-    Help,
+#[derive(Clone, Copy)]
+enum CheckCommand {
+    /// This text, the help or the version.
+    Show(&'static str),
     /// A check of the input, within these limits.
     Check(Limits),
 }
 
 /// What the arguments ask for, the program's own name first; `None` where that is nothing known.
 fn command_of(args: &[String]) -> Option<CheckCommand>
-    ensures { result ≡ check_command (map string_bytes args.now) }
+    ensures { option_map command_seen result ≡ check_command (map string_bytes args.now) }
 {
     let [_, words @ ..] = args else {
         return None;
     };
-    if is_help(words) {
-        return Some(CheckCommand::Help);
+    if is_only(words, "--help") {
+        return Some(CheckCommand::Show(CHECK_HELP));
+    }
+    if is_only(words, "--version") {
+        return Some(CheckCommand::Show(CHECK_VERSION));
     }
     let limits = limits_with(default_limits(), words)?;
     Some(CheckCommand::Check(limits))
@@ -198,25 +207,25 @@ pub fn check_program<R: Read, W: Write, E: Write>(
     writer: &mut Ended<W>,
     errors: &mut Ended<E>,
 ) -> u8
-    // Other arguments than options or `--help`: the usage line is all that happens.
+    // Other arguments than options, `--help` or `--version`: the usage line is all that happens.
     ensures usage { (result ≡ USAGE_STATUS) ↔ (check_command (map string_bytes args.now) ≡ None) }
     ensures usage_reads_nothing { result ≡ USAGE_STATUS → reader.new ≡ reader.old }
     ensures usage_writes_nothing { result ≡ USAGE_STATUS → writer.new ≡ writer.old }
     ensures usage_line { result ≡ USAGE_STATUS → errors.new.failed ≡ false →
         Appends (E.contents errors.old.inner) (E.contents errors.new.inner) CHECK_USAGE.now }
-    // `--help`: the help is printed, and nothing is read.
-    ensures help_reads_nothing { check_command (map string_bytes args.now)
-        ≡ Some CheckCommand.Help → reader.new ≡ reader.old }
-    ensures help_text { check_command (map string_bytes args.now) ≡ Some CheckCommand.Help
-        → result ≡ 0
-        → Appends (W.contents writer.old.inner) (W.contents writer.new.inner) CHECK_HELP.now }
-    ensures help_flushed { check_command (map string_bytes args.now) ≡ Some CheckCommand.Help
-        → result ≡ 0 → writer.new.pending ≡ false }
-    ensures help_status { check_command (map string_bytes args.now) ≡ Some CheckCommand.Help
-        → (result ≡ 0) ⊎ (result ≡ 5) }
+    // `--help`, `--version`: that text is printed, and nothing is read.
+    ensures show_reads_nothing { (text : Text) → check_command (map string_bytes args.now)
+        ≡ Some (show text) → reader.new ≡ reader.old }
+    ensures show_text { (text : Text) → check_command (map string_bytes args.now)
+        ≡ Some (show text) → result ≡ 0
+        → Appends (W.contents writer.old.inner) (W.contents writer.new.inner) text }
+    ensures show_flushed { (text : Text) → check_command (map string_bytes args.now)
+        ≡ Some (show text) → result ≡ 0 → writer.new.pending ≡ false }
+    ensures show_status { (text : Text) → check_command (map string_bytes args.now)
+        ≡ Some (show text) → (result ≡ 0) ⊎ (result ≡ 5) }
     // A check: where the query is accepted, nothing is written, or the warning of a byte escape; and the report where it is rejected.
     ensures accepted { (limits : spans.Limits) → check_command (map string_bytes args.now)
-        ≡ Some (CheckCommand.Check limits) → result ≡ 0
+        ≡ Some (run limits) → result ≡ 0
         → (IsSilent limits (R.remaining reader.old.inner) (R.remaining reader.new.inner)
         × (errors.new ≡ errors.old))
         ⊎ ((warning : Text)
@@ -224,14 +233,14 @@ pub fn check_program<R: Read, W: Write, E: Write>(
         × (errors.new.failed ≡ false
         → Appends (E.contents errors.old.inner) (E.contents errors.new.inner) warning)) }
     ensures rejected { (limits : spans.Limits) → check_command (map string_bytes args.now)
-        ≡ Some (CheckCommand.Check limits) → (result ≡ REJECTED_STATUS) ⊎ (result ≡ LIMIT_STATUS) → (report : Text)
+        ≡ Some (run limits) → (result ≡ REJECTED_STATUS) ⊎ (result ≡ LIMIT_STATUS) → (report : Text)
         × IsReported limits (R.remaining reader.old.inner) (R.remaining reader.new.inner) result report
         × (errors.new.failed ≡ false
         → Appends (E.contents errors.old.inner) (E.contents errors.new.inner) report) }
     ensures unwritten { (limits : spans.Limits) → check_command (map string_bytes args.now)
-        ≡ Some (CheckCommand.Check limits) → writer.new ≡ writer.old }
-    ensures help_silent { check_command (map string_bytes args.now) ≡ Some CheckCommand.Help
-        → errors.new ≡ errors.old }
+        ≡ Some (run limits) → writer.new ≡ writer.old }
+    ensures show_silent { (text : Text) → check_command (map string_bytes args.now)
+        ≡ Some (show text) → errors.new ≡ errors.old }
     // Each other status is that of an error.
     ensures known { (result ≡ 0) ⊎ (result ≡ 1) ⊎ (result ≡ 2) ⊎ (result ≡ 3)
         ⊎ (result ≡ REJECTED_STATUS) ⊎ (result ≡ LIMIT_STATUS) ⊎ (result ≡ 5)
@@ -244,8 +253,8 @@ pub fn check_program<R: Read, W: Write, E: Write>(
 {
     let limits = match command_of(args) {
         Some(CheckCommand::Check(limits)) => limits,
-        Some(CheckCommand::Help) => {
-            return match write_text(writer, CHECK_HELP) {
+        Some(CheckCommand::Show(text)) => {
+            return match write_text(writer, text) {
                 Ok(()) => 0,
                 Err(error) => error.number(),
             };

@@ -5,12 +5,12 @@ ghost use Rattle.promql_report.specs.LimitOptions as spec;
 
 use promql_span::limits::{Limits, MAX_LEN, MAX_PATTERN_SIZE};
 
-/// Whether the words are `--help` alone.
-pub fn is_help(words: &[String]) -> bool
-    ensures { result ≡ spec.is_help (map string_bytes words.now) }
+/// Whether the words are this option alone.
+pub fn is_only(words: &[String], option: &str) -> bool
+    ensures { result ≡ spec.is_only option.now (map string_bytes words.now) }
 {
     match words {
-        [word] => word.as_str() == "--help",
+        [word] => word.as_str() == option,
         _ => false,
     }
 }
