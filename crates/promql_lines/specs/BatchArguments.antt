@@ -1,10 +1,9 @@
 -- What the arguments of a batch ask for (docs/reference/programs.md, "Statuses of a batch").
-use Rattle.std.specs.Prelude.{List, [], ◌∷◌, Option, Some, None, if◌then◌else◌, option_and_then, option_map}
+use Rattle.std.specs.Prelude.{List, [], ◌∷◌, Option, None, option_and_then, option_map}
 use Rattle.promql_text.specs.Texts.{Text}
-use Rattle.promql_report.specs.LimitOptions.{default_limits, is_help, limits_with}
+use Rattle.promql_report.specs.LimitOptions.{Command, command, default_limits, limits_with}
 use Rattle.promql_run.specs.Running.{mode_named}
-use Rattle.promql_lines.specs.declared.batch_program.Command.{Command}
-use Rattle.promql_lines.specs.declared.batch_program.Command.TheVariants.{Help, Batch}
+use Rattle.promql_lines.specs.declared.batch_program.TheConstants.{BATCH_HELP, BATCH_VERSION}
 use Rattle.promql_lines.specs.declared.settings.Settings.{Settings}
 
 -- the name of a known mode, and options
@@ -13,7 +12,5 @@ settings_of [] = None
 settings_of (word ∷ words) =
     option_and_then (λ mode. option_map (λ limits. record { mode = mode; limits = limits }) (limits_with default_limits words)) (mode_named word)
 
--- the program's own name, and `--help` or that
-abbrev pub batch_command : List Text → Option Command
-batch_command [] = None
-batch_command (own ∷ words) = if is_help words then Some Help else option_map Batch (settings_of words)
+abbrev pub batch_command : List Text → Option (Command Settings)
+batch_command = command BATCH_HELP.now BATCH_VERSION.now settings_of

@@ -1,6 +1,6 @@
 -- The line of a query with a matcher in its selectors (docs/guide/rewriting.md, "Enforcing"; docs/reference/programs.md, "One query,
 -- enforced").
-use Rattle.std.specs.Prelude.{◌≡◌, ◌≢◌, ◌⊎◌, ℕ, ◌++◌, List, [], ◌∷◌, Option, Some, None, Result, Ok, Err, String, string_bytes, codes, if◌then◌else◌, option_map}
+use Rattle.std.specs.Prelude.{◌≡◌, ◌≢◌, ◌⊎◌, ℕ, ◌++◌, List, [], ◌∷◌, Option, None, Result, Ok, Err, String, string_bytes, codes, option_map}
 use Rattle.std.specs.declared.alloc.Global.{Global}
 use Rattle.std.specs.Str.{IsUtf8}
 use Rattle.std.specs.Io.KnownBytes.{Appends}
@@ -14,7 +14,8 @@ use Rattle.promql_rewrite.specs.MatcherTexts.{IsEnforcedBy, IsMatcherFault, Meet
 use Rattle.promql_rewrite.specs.declared.faithful.NotFaithful.{NotFaithful}
 use Rattle.promql_rewrite.specs.declared.faithful.NotFaithful.TheVariants as faithful
 use Rattle.promql_io.specs.Ended.{AppendsBeginning}
-use Rattle.promql_report.specs.LimitOptions.{default_limits, is_help, limits_with}
+use Rattle.promql_report.specs.LimitOptions.{Command, command, default_limits, limits_with}
+use Rattle.promql_lines.specs.declared.enforce_program.TheConstants.{ENFORCE_HELP, ENFORCE_VERSION}
 use Rattle.promql_report.specs.Rejecting.{IsParsed, IsRead, IsRejection, reason_number}
 use Rattle.promql_span.specs.declared.limits.Limits.{Limits}
 use Rattle.promql_io.specs.Inputs.{HasRead}
@@ -69,20 +70,13 @@ FailsToEnforce limits query matcher error.Info = MeetsBareInfoIn limits query ma
 
 -- ---- the program
 
--- what the arguments ask for
-pub data Command : Type 0 where
-  help : Command
-  enforce : Text → Limits → Command
-
 -- a matcher and options
-abbrev pub enforce_with : List Text → Option Command
+abbrev pub enforce_with : List Text → Option (Text × Limits)
 enforce_with [] = None
-enforce_with (word ∷ words) = option_map (enforce word) (limits_with default_limits words)
+enforce_with (word ∷ words) = option_map (λ limits. (word, limits)) (limits_with default_limits words)
 
--- the program's own name, and `--help` or that
-abbrev pub enforce_command : List Text → Option Command
-enforce_command [] = None
-enforce_command (own ∷ words) = if is_help words then Some help else enforce_with words
+abbrev pub enforce_command : List Text → Option (Command (Text × Limits))
+enforce_command = command ENFORCE_HELP.now ENFORCE_VERSION.now enforce_with
 
 -- the line and a line feed
 abbrev pub IsEnforcedAnswer : Limits → Text → Text → Text → Type 0

@@ -1,6 +1,6 @@
 pub mod Batch
 pub mod BatchArguments
 pub mod BatchSteps
-pub mod EnforceArguments
+pub mod ProgramArguments
 pub mod EnforcedLines
 pub mod Requests

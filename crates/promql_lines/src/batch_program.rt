@@ -1,15 +1,18 @@
 //! The program for batches, as a function of its arguments, its input and its two outputs.
 
-ghost use Rattle.std.specs.Prelude.{◌≡◌, ◌≢◌, ◌⊎◌, ◌↔◌, false, true, Some, None, map, string_bytes};
+ghost use Rattle.std.specs.Prelude.{◌≡◌, ◌≢◌, ◌⊎◌, ◌↔◌, false, true, Some, None, map, option_map, string_bytes};
 ghost use Rattle.std.specs.Io.KnownBytes.{Appends};
+ghost use Rattle.promql_text.specs.Texts.{Text};
 ghost use Rattle.promql_lines.specs.declared.settings.Settings as batches;
 ghost use Rattle.promql_lines.specs.Batch.{AnswersBefore, AnswersLines, IsCutShort};
+ghost use Rattle.promql_report.specs.LimitOptions.{run, show};
 ghost use Rattle.promql_lines.specs.BatchArguments.{batch_command, settings_of};
+ghost use Rattle.promql_lines.specs.ProgramArguments.{batch_seen};
 
 use crate::batch::run_batch;
 use crate::settings::Settings;
 use promql_io::ended::Ended;
-use promql_report::limit_options::{default_limits, is_help, limits_with};
+use promql_report::limit_options::{default_limits, is_only, limits_with};
 use promql_run::program::USAGE_STATUS;
 use promql_run::run::{Mode, write_text};
 use std::alloc::Global;
@@ -22,8 +25,12 @@ pub const ERRORS_STATUS: u8 = 4;
 pub const BATCH_USAGE: &str =
     "usage: promql_batch pretty|line|json [--max-len N] [--max-patterns N]\n";
 
+/// What `--version` prints.
+pub const BATCH_VERSION: &str = "promql_batch 0.4.0\n";
+
 /// What `--help` prints.
 pub const BATCH_HELP: &str = "usage: promql_batch pretty|line|json [--max-len N] [--max-patterns N]
+       promql_batch --help | --version
 
 Reads a PromQL query from each line of standard input, and writes a JSON object
 for each to standard output, in order.
@@ -42,10 +49,10 @@ memory, 2 a read failed, 5 a write failed, 64 wrong arguments.
 ";
 
 /// What the arguments ask for.
-#[derive(Clone, Copy, PartialEq, Eq, Debug)]
-pub enum Command {
-    /// The help.
-    Help,
+#[derive(Clone, Copy)]
+enum Command {
+    /// This text, the help or the version.
+    Show(&'static str),
     /// A batch with these settings.
     Batch(Settings),
 }
@@ -64,13 +71,16 @@ fn settings_of(words: &[String]) -> Option<Settings>
 
 /// What the arguments ask for, the program's own name first; `None` where that is nothing known.
 fn command_of(args: &[String]) -> Option<Command>
-    ensures { result ≡ batch_command (map string_bytes args.now) }
+    ensures { option_map batch_seen result ≡ batch_command (map string_bytes args.now) }
 {
     let [_, words @ ..] = args else {
         return None;
     };
-    if is_help(words) {
-        return Some(Command::Help);
+    if is_only(words, "--help") {
+        return Some(Command::Show(BATCH_HELP));
+    }
+    if is_only(words, "--version") {
+        return Some(Command::Show(BATCH_VERSION));
     }
     Some(Command::Batch(settings_of(words)?))
 }
@@ -86,25 +96,26 @@ pub fn batch_program<R: BufRead, W: Write, E: Write>(
     writer: &mut Ended<W>,
     errors: &mut Ended<E>,
 ) -> u8
-    // Other arguments than one known mode, with options or none, or `--help`: the usage line is all that happens.
+    // Other arguments than one known mode, with options or none, `--help` or `--version`: the usage line is all that happens.
     ensures usage { (result ≡ USAGE_STATUS) ↔ (batch_command (map string_bytes args.now) ≡ None) }
     ensures usage_reads_nothing { result ≡ USAGE_STATUS → reader.new ≡ reader.old }
     ensures usage_writes_nothing { result ≡ USAGE_STATUS → writer.new ≡ writer.old }
     ensures usage_line { result ≡ USAGE_STATUS → errors.new.failed ≡ false →
         Appends (E.contents errors.old.inner) (E.contents errors.new.inner) BATCH_USAGE.now }
-    // `--help`: the help is printed, and nothing is read.
-    ensures help_reads_nothing { batch_command (map string_bytes args.now) ≡ Some Command.Help
-        → reader.new ≡ reader.old }
-    ensures help_text { batch_command (map string_bytes args.now) ≡ Some Command.Help → result ≡ 0
-        → Appends (W.contents writer.old.inner) (W.contents writer.new.inner) BATCH_HELP.now }
-    ensures help_status { batch_command (map string_bytes args.now) ≡ Some Command.Help
-        → (result ≡ 0) ⊎ (result ≡ 5) }
+    // `--help`, `--version`: that text is printed, and nothing is read.
+    ensures show_reads_nothing { (text : Text) → batch_command (map string_bytes args.now)
+        ≡ Some (show text) → reader.new ≡ reader.old }
+    ensures show_text { (text : Text) → batch_command (map string_bytes args.now)
+        ≡ Some (show text) → result ≡ 0
+        → Appends (W.contents writer.old.inner) (W.contents writer.new.inner) text }
+    ensures show_status { (text : Text) → batch_command (map string_bytes args.now)
+        ≡ Some (show text) → (result ≡ 0) ⊎ (result ≡ 5) }
     // A mode: each line is answered, and the status tells whether each with an `ok`.
     ensures ok { (settings : batches.Settings) → batch_command (map string_bytes args.now)
-        ≡ Some (Command.Batch settings) → result ≡ 0 → AnswersLines settings (R.remaining reader.old.inner)
+        ≡ Some (run settings) → result ≡ 0 → AnswersLines settings (R.remaining reader.old.inner)
         (R.remaining reader.new.inner) (W.contents writer.old.inner) (W.contents writer.new.inner) true }
     ensures errors { (settings : batches.Settings) → batch_command (map string_bytes args.now)
-        ≡ Some (Command.Batch settings) → result ≡ ERRORS_STATUS → AnswersLines settings
+        ≡ Some (run settings) → result ≡ ERRORS_STATUS → AnswersLines settings
         (R.remaining reader.old.inner) (R.remaining reader.new.inner)
         (W.contents writer.old.inner) (W.contents writer.new.inner) false }
     ensures flushed { (result ≡ 0) ⊎ (result ≡ ERRORS_STATUS) → writer.new.pending ≡ false }
@@ -113,20 +124,20 @@ pub fn batch_program<R: BufRead, W: Write, E: Write>(
     ensures known { (result ≡ 0) ⊎ (result ≡ 1) ⊎ (result ≡ 2) ⊎ (result ≡ ERRORS_STATUS)
         ⊎ (result ≡ 5) ⊎ (result ≡ USAGE_STATUS) }
     ensures before { (settings : batches.Settings) → batch_command (map string_bytes args.now)
-        ≡ Some (Command.Batch settings) → (result ≡ 1) ⊎ (result ≡ 2) → AnswersBefore settings
+        ≡ Some (run settings) → (result ≡ 1) ⊎ (result ≡ 2) → AnswersBefore settings
         (R.remaining reader.old.inner) (R.remaining reader.new.inner)
         (W.contents writer.old.inner) (W.contents writer.new.inner) }
     ensures read { result ≡ 2 → reader.new.failed ≡ true }
     ensures quiet { result ≢ 2 → reader.new.failed ≡ reader.old.failed }
     ensures write { result ≡ 5 → writer.new.failed ≡ true }
     ensures begun { (settings : batches.Settings) → batch_command (map string_bytes args.now)
-        ≡ Some (Command.Batch settings) → result ≡ 5 → IsCutShort settings (R.remaining reader.old.inner)
+        ≡ Some (run settings) → result ≡ 5 → IsCutShort settings (R.remaining reader.old.inner)
         (R.remaining reader.new.inner) (W.contents writer.old.inner) (W.contents writer.new.inner) }
 {
     let settings = match command_of(args) {
         Some(Command::Batch(settings)) => settings,
-        Some(Command::Help) => {
-            return match write_text(writer, BATCH_HELP) {
+        Some(Command::Show(text)) => {
+            return match write_text(writer, text) {
                 Ok(()) => 0,
                 Err(error) => error.number(),
             };

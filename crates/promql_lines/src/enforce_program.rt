@@ -8,13 +8,14 @@ ghost use Rattle.promql_run.specs.Running.{IsNotUtf8, UnlessRead};
 ghost use Rattle.promql_run.specs.StepErrors.{IsInputError};
 ghost use Rattle.promql_lines.specs.EnforcedLines.{BeginsToEnforce, Enforces, FailsToEnforce, HasNoEnforcedLine, IsEnforcedAnswer, IsEnforceStatus, IsInputAnswer, IsLineStatus, enforce_command, enforce_number};
 ghost use Rattle.promql_lines.specs.EnforcedLines as spec;
-ghost use Rattle.promql_lines.specs.EnforceArguments.{command_seen};
+ghost use Rattle.promql_report.specs.LimitOptions.{run, show};
+ghost use Rattle.promql_lines.specs.ProgramArguments.{enforce_seen};
 ghost use Rattle.promql_span.specs.declared.limits.Limits as spans;
 ghost use Rattle.promql_lines.specs.declared.enforced_line.EnforcedLineError.{EnforcedLineError};
 
 use crate::enforced_line::{EnforcedLineError, enforced_line};
 use promql_io::ended::Ended;
-use promql_report::limit_options::{default_limits, is_help, limits_with};
+use promql_report::limit_options::{default_limits, is_only, limits_with};
 use promql_run::program::USAGE_STATUS;
 use promql_run::run::{RunError, read_input, write_text};
 use promql_span::limits::Limits;
@@ -24,8 +25,12 @@ use std::io::{Read, Write};
 /// The line that is printed for wrong arguments, and the first of the help.
 pub const ENFORCE_USAGE: &str = "usage: promql_enforce MATCHER [--max-len N] [--max-patterns N]\n";
 
+/// What `--version` prints.
+pub const ENFORCE_VERSION: &str = "promql_enforce 0.4.0\n";
+
 /// What `--help` prints.
 pub const ENFORCE_HELP: &str = "usage: promql_enforce MATCHER [--max-len N] [--max-patterns N]
+       promql_enforce --help | --version
 
 Reads a PromQL query from standard input, puts the matcher into every selector of
 it, and writes the query to standard output, on one line. MATCHER is written as
@@ -80,15 +85,15 @@ fn enforce_input<R: Read>(
 /// What the arguments ask for.
 #[derive(Clone, Copy)]
 enum Asked<'a> {
-    /// The help.
-    Help,
+    /// To show this text, the help or the version.
+    Show(&'static str),
     /// To enforce the matcher of this text on a query within these limits.
     Enforce(&'a str, Limits),
 }
 
 /// What the words after the program's name ask for, where that is no help; `None` where they are nothing known.
 fn enforce_with(words: &[String]) -> Option<Asked<'_>>
-    ensures { option_map command_seen result ≡ spec.enforce_with (map string_bytes words.now) }
+    ensures { option_map enforce_seen result ≡ option_map run (spec.enforce_with (map string_bytes words.now)) }
 {
     let [word, options @ ..] = words else {
         return None;
@@ -99,26 +104,29 @@ fn enforce_with(words: &[String]) -> Option<Asked<'_>>
 
 /// What the arguments ask for, the program's own name first; `None` where that is nothing known.
 fn command_of(args: &[String]) -> Option<Asked<'_>>
-    ensures { option_map command_seen result ≡ enforce_command (map string_bytes args.now) }
+    ensures { option_map enforce_seen result ≡ enforce_command (map string_bytes args.now) }
 {
     let [_, words @ ..] = args else {
         return None;
     };
-    if is_help(words) {
-        return Some(Asked::Help);
+    if is_only(words, "--help") {
+        return Some(Asked::Show(ENFORCE_HELP));
+    }
+    if is_only(words, "--version") {
+        return Some(Asked::Show(ENFORCE_VERSION));
     }
     enforce_with(words)
 }
 
-/// Writes the help, and returns the status.
-fn write_help<W: Write>(writer: &mut Ended<W>) -> u8
+/// Writes the text, and returns the status.
+fn show<W: Write>(writer: &mut Ended<W>, text: &str) -> u8
     ensures text { result ≡ 0
-        → Appends (W.contents writer.old.inner) (W.contents writer.new.inner) ENFORCE_HELP.now }
+        → Appends (W.contents writer.old.inner) (W.contents writer.new.inner) text.now }
     ensures flushed { result ≡ 0 → writer.new.pending ≡ false }
     ensures known { (result ≡ 0) ⊎ (result ≡ 5) }
     ensures write { result ≡ 5 → writer.new.failed ≡ true }
 {
-    match write_text(writer, ENFORCE_HELP) {
+    match write_text(writer, text) {
         Ok(()) => 0,
         Err(_) => 5,
     }
@@ -185,28 +193,29 @@ pub fn enforce_program<R: Read, W: Write, E: Write>(
     writer: &mut Ended<W>,
     errors: &mut Ended<E>,
 ) -> u8
-    // Other arguments than a matcher, with options or none, or `--help`: the usage line is all that happens.
+    // Other arguments than a matcher, with options or none, `--help` or `--version`: the usage line is all that happens.
     ensures usage { (result ≡ USAGE_STATUS) ↔ (enforce_command (map string_bytes args.now) ≡ None) }
     ensures usage_reads_nothing { result ≡ USAGE_STATUS → reader.new ≡ reader.old }
     ensures usage_writes_nothing { result ≡ USAGE_STATUS → writer.new ≡ writer.old }
     ensures usage_line { result ≡ USAGE_STATUS → errors.new.failed ≡ false →
         Appends (E.contents errors.old.inner) (E.contents errors.new.inner) ENFORCE_USAGE.now }
-    // `--help`: the help is printed, and nothing is read.
-    ensures help_reads_nothing { enforce_command (map string_bytes args.now) ≡ Some spec.help
-        → reader.new ≡ reader.old }
-    ensures help_text { enforce_command (map string_bytes args.now) ≡ Some spec.help → result ≡ 0
-        → Appends (W.contents writer.old.inner) (W.contents writer.new.inner) ENFORCE_HELP.now }
-    ensures help_status { enforce_command (map string_bytes args.now) ≡ Some spec.help
-        → (result ≡ 0) ⊎ (result ≡ 5) }
+    // `--help`, `--version`: that text is printed, and nothing is read.
+    ensures show_reads_nothing { (text : Text) → enforce_command (map string_bytes args.now)
+        ≡ Some (show text) → reader.new ≡ reader.old }
+    ensures show_text { (text : Text) → enforce_command (map string_bytes args.now)
+        ≡ Some (show text) → result ≡ 0
+        → Appends (W.contents writer.old.inner) (W.contents writer.new.inner) text }
+    ensures show_status { (text : Text) → enforce_command (map string_bytes args.now)
+        ≡ Some (show text) → (result ≡ 0) ⊎ (result ≡ 5) }
     // A matcher: the query of the input is written with it in every selector, or nothing is written.
     ensures ok { (matcher : Text) (limits : spans.Limits) → enforce_command (map string_bytes args.now)
-        ≡ Some (spec.enforce matcher limits) → result ≡ 0 → Enforces limits matcher
+        ≡ Some (run (matcher, limits)) → result ≡ 0 → Enforces limits matcher
         (R.remaining reader.old.inner) (R.remaining reader.new.inner)
         (W.contents writer.old.inner) (W.contents writer.new.inner) }
     ensures flushed { result ≡ 0 → writer.new.pending ≡ false }
     ensures silent { result ≡ 0 → errors.new ≡ errors.old }
     ensures none { (matcher : Text) (limits : spans.Limits) → enforce_command (map string_bytes args.now)
-        ≡ Some (spec.enforce matcher limits) → IsLineStatus result
+        ≡ Some (run (matcher, limits)) → IsLineStatus result
         → (e : EnforcedLineError) × (enforce_number e ≡ result) × HasNoEnforcedLine limits matcher e
         (R.remaining reader.old.inner) (R.remaining reader.new.inner) }
     ensures unwritten { result ≢ 0 → result ≢ 5 → writer.new ≡ writer.old }
@@ -218,12 +227,12 @@ pub fn enforce_program<R: Read, W: Write, E: Write>(
         → IsNotUtf8 (R.remaining reader.old.inner) (R.remaining reader.new.inner) }
     ensures write { result ≡ 5 → writer.new.failed ≡ true }
     ensures begun { (matcher : Text) (limits : spans.Limits) → enforce_command (map string_bytes args.now)
-        ≡ Some (spec.enforce matcher limits) → result ≡ 5 → BeginsToEnforce limits matcher
+        ≡ Some (run (matcher, limits)) → result ≡ 5 → BeginsToEnforce limits matcher
         (R.remaining reader.old.inner) (R.remaining reader.new.inner)
         (W.contents writer.old.inner) (W.contents writer.new.inner) }
 {
     match command_of(args) {
-        Some(Asked::Help) => write_help(writer),
+        Some(Asked::Show(text)) => show(writer, text),
         Some(Asked::Enforce(matcher, limits)) => {
             enforce(alloc, &limits, matcher, reader, writer, errors)
         }
