@@ -8,6 +8,7 @@ use Rattle.promql_ast.specs.Tree.{Tree, aggregate, unary, binary, paren, subquer
 use Rattle.promql_rewrite.specs.Enforcing.{all_enforced, enforced, maybe_enforced}
 use Rattle.promql_rewrite.proofs.EnforcedTypes.{height_enforced}
 use Rattle.promql_syntax.specs.declared.parser.TheConstants.{MAX_DEPTH}
+use Rattle.promql_span.specs.declared.limits.Limits.{Limits}
 use Rattle.promql_run.specs.Extensions.{HasNoExtension, NoneInEach, NoneInParam}
 use Rattle.promql_lines.specs.Batch.{IsAsked}
 
@@ -35,10 +36,11 @@ module _ (c : PlainMatcher) where
     all_plain (first_tree e es) plain = (enforced_plain e plain.0, all_plain es plain.1)
 
 -- what is printed of a tree that was read, with a matcher in its selectors or without
-pub asked_plain : (matcher : Option Text) (t u : Tree) → IsAsked matcher t u → HasNoExtension t → HasNoExtension u
-asked_plain None t u asked plain = subst HasNoExtension (sym asked) plain
-asked_plain (Some matcher) t u asked plain = subst HasNoExtension (sym asked.enforces) (enforced_plain asked.matcher t plain)
+pub asked_plain : (limits : Limits) (matcher : Option Text) (t u : Tree) → IsAsked limits matcher t u → HasNoExtension t → HasNoExtension u
+asked_plain limits None t u asked plain = subst HasNoExtension (sym asked) plain
+asked_plain limits (Some matcher) t u asked plain = subst HasNoExtension (sym asked.1.enforces) (enforced_plain asked.1.matcher t plain)
 
-pub asked_low : (matcher : Option Text) (t u : Tree) → IsAsked matcher t u → height t ≤ MAX_DEPTH → height u ≤ MAX_DEPTH
-asked_low None t u asked low = subst (λ v. height v ≤ MAX_DEPTH) (sym asked) low
-asked_low (Some matcher) t u asked low = subst (λ n. n ≤ MAX_DEPTH) (sym (ap height asked.enforces ∙ height_enforced asked.matcher t)) low
+pub asked_low : (limits : Limits) (matcher : Option Text) (t u : Tree) → IsAsked limits matcher t u → height t ≤ MAX_DEPTH → height u ≤ MAX_DEPTH
+asked_low limits None t u asked low = subst (λ v. height v ≤ MAX_DEPTH) (sym asked) low
+asked_low limits (Some matcher) t u asked low =
+    subst (λ n. n ≤ MAX_DEPTH) (sym (ap height asked.1.enforces ∙ height_enforced asked.1.matcher t)) low

@@ -1,6 +1,6 @@
 -- The answer to a line.
 use Rattle.std.proofs.Common.{◌≡◌, ap, refl, ◌∙◌}
-use Rattle.std.specs.Prelude.{◌||◌, false, IfErr, Option, Result, Ok, Err}
+use Rattle.std.specs.Prelude.{◌||◌, false, IfErr, Option, Some, None, Result, Ok, Err}
 use Rattle.serde_json.specs.Data.{Data}
 use Rattle.serde_json.specs.Written.{has_float}
 use Rattle.promql_text.specs.Texts.{Text}
@@ -15,7 +15,7 @@ use Rattle.promql_run.specs.declared.run.RunError.TheVariants.{Memory, Read, Not
 use Rattle.promql_lines.specs.Batch.{Asks, FailsOnQuery, FailsWith, IsAsked, format_value, line_error_object, ok_object}
 use Rattle.promql_lines.specs.BatchSteps.{IsEnforceFaultOf}
 use Rattle.promql_lines.specs.declared.line.LineError.{LineError}
-use Rattle.promql_lines.specs.declared.line.LineError.TheVariants.{Run, Rejected, NotARequest, Matcher, Info}
+use Rattle.promql_lines.specs.declared.line.LineError.TheVariants.{Run, Rejected, NotARequest, Matcher, Info, LargeMatcher}
 use Rattle.promql_lines.specs.declared.request.Format.{Format}
 
 pub ok_is_finite : (built value : Data) → built ≡ ok_object value → has_float value ≡ false → has_float built ≡ false
@@ -27,9 +27,10 @@ error_is_finite built (Rejected r) message is = ap has_float is
 error_is_finite built NotARequest message is = ap has_float is
 error_is_finite built (Matcher e) message is = ap has_float is
 error_is_finite built Info message is = ap has_float is
+error_is_finite built (LargeMatcher fault) message is = ap has_float is
 
 -- an error of rendering is one of the query
-pub fails_of_rendering : (limits : Limits) (e : RunError) (query : Text) (matcher : Option Text) (format : Format) (tree printed : Tree) → IsRead limits query tree → IsAsked matcher tree printed
+pub fails_of_rendering : (limits : Limits) (e : RunError) (query : Text) (matcher : Option Text) (format : Format) (tree printed : Tree) → IsRead limits query tree → IsAsked limits matcher tree printed
     → (e ≡ Json → format_value format printed ≡ Err NumberTooWide) → IsShowError e → FailsOnQuery limits query matcher format (Run e)
 fails_of_rendering limits Memory query matcher format tree printed parsed asked wide errors = tt
 fails_of_rendering limits Json query matcher format tree printed parsed asked wide errors = record { tree = tree; parsed = parsed; printed = printed; asked = asked; gives = wide refl }
@@ -39,10 +40,14 @@ fails_of_rendering limits (Parse e) query matcher format tree printed parsed ask
 fails_of_rendering limits Write query matcher format tree printed parsed asked wide errors = absurd errors
 
 -- an error of enforcing is one of a query that has the tree
-pub fails_of_matcher : (limits : Limits) (e : LineError) (query : Text) (matcher : Option Text) (format : Format) (t : Tree) → IsRead limits query t → IsEnforceFaultOf matcher t e → FailsOnQuery limits query matcher format e
+pub fails_of_matcher : (limits : Limits) (e : LineError) (query : Text) (matcher : Option Text) (format : Format) (t : Tree) → IsRead limits query t → IsEnforceFaultOf limits matcher t e → FailsOnQuery limits query matcher format e
 fails_of_matcher limits (Run Memory) query matcher format t parsed fault = tt
-fails_of_matcher limits (Matcher e) query matcher format t parsed fault = ((t, parsed), fault)
-fails_of_matcher limits Info query matcher format t parsed fault = (t, parsed, fault)
+fails_of_matcher limits (Matcher e) query (Some text) format t parsed fault = (t, parsed, fault)
+fails_of_matcher limits Info query (Some text) format t parsed fault = (t, parsed, fault)
+fails_of_matcher limits (LargeMatcher f) query (Some text) format t parsed fault = (t, parsed, fault)
+fails_of_matcher limits (Matcher e) query None format t parsed fault = absurd fault
+fails_of_matcher limits Info query None format t parsed fault = absurd fault
+fails_of_matcher limits (LargeMatcher f) query None format t parsed fault = absurd fault
 fails_of_matcher limits (Run Read) query matcher format t parsed fault = absurd fault
 fails_of_matcher limits (Run NotUtf8) query matcher format t parsed fault = absurd fault
 fails_of_matcher limits (Run (Parse e)) query matcher format t parsed fault = absurd fault
@@ -58,6 +63,7 @@ fails_in_vain settings line query matcher format (Run Json) asks fails = record 
 fails_in_vain settings line query matcher format (Rejected r) asks fails = record { query = query; matcher = matcher; format = format; asks = asks; fails = fails }
 fails_in_vain settings line query matcher format (Matcher e) asks fails = record { query = query; matcher = matcher; format = format; asks = asks; fails = fails }
 fails_in_vain settings line query matcher format Info asks fails = record { query = query; matcher = matcher; format = format; asks = asks; fails = fails }
+fails_in_vain settings line query matcher format (LargeMatcher f) asks fails = record { query = query; matcher = matcher; format = format; asks = asks; fails = fails }
 fails_in_vain settings line query matcher format (Run Read) asks fails = absurd fails
 fails_in_vain settings line query matcher format (Run NotUtf8) asks fails = absurd fails
 fails_in_vain settings line query matcher format (Run (Parse e)) asks fails = absurd fails

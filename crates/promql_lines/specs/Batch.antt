@@ -13,15 +13,15 @@ use Rattle.promql_ast.specs.Tree.{Tree}
 use Rattle.promql_json.specs.Json.{json}
 use Rattle.promql_json.specs.declared.error.JsonError.{JsonError}
 use Rattle.promql_json.specs.declared.error.JsonError.TheVariants.{NumberTooWide}
-use Rattle.promql_rewrite.specs.MatcherTexts.{IsEnforcedBy, IsMatcherFault, MeetsBareInfo}
-use Rattle.promql_rewrite.specs.declared.matcher_text.MatcherError.{MatcherError}
 use Rattle.promql_report.specs.declared.rejection.Rejection.{Rejection}
 use Rattle.promql_run.specs.declared.run.RunError.TheVariants as error
-use Rattle.promql_report.specs.Rejecting.{IsParsed, IsRead, IsRejection, reason_number}
+use Rattle.promql_report.specs.Rejecting.{IsRead, IsRejection, reason_number}
 use Rattle.promql_span.specs.declared.limits.Limits.{Limits}
 use Rattle.promql_run.specs.Running.{error_number}
+use Rattle.promql_lines.specs.EnforcedLines.{FailsToEnforce, IsEnforcedWithin}
+use Rattle.promql_lines.specs.declared.enforced_line.EnforcedLineError.TheVariants as enforced
 use Rattle.promql_lines.specs.declared.line.LineError.{LineError}
-use Rattle.promql_lines.specs.declared.line.LineError.TheVariants.{Run, Rejected, NotARequest, Matcher, Info}
+use Rattle.promql_lines.specs.declared.line.LineError.TheVariants.{Run, Rejected, NotARequest, Matcher, Info, LargeMatcher}
 use Rattle.promql_lines.specs.declared.request.Format.{Format}
 use Rattle.promql_lines.specs.declared.request.Format.TheVariants.{Pretty, Line, Json}
 use Rattle.promql_lines.specs.declared.settings.Settings.{Settings}
@@ -51,35 +51,26 @@ AsksNothing settings line =
     ⊎ ((value : Data) × (read line ≡ Some value) × ((query_in value ≡ None) ⊎ (format_in settings.mode value ≡ None)))
 
 -- "Requests": the second tree is what is printed where the first one was read
-abbrev pub IsAsked : Option Text → Tree → Tree → Type 0
-IsAsked None t u = u ≡ t
-IsAsked (Some matcher) t u = IsEnforcedBy matcher t u
+abbrev pub IsAsked : Limits → Option Text → Tree → Tree → Type 0
+IsAsked limits None t u = u ≡ t
+IsAsked limits (Some matcher) t u = IsEnforcedWithin limits matcher t u
 
 -- the query has a tree, and this is the value of what is printed of it in the format, or why that has none
 pub record HasQueryValue (limits : Limits) (query : Text) (matcher : Option Text) (format : Format) (value : Result Data JsonError) : Type 0 where
   pub tree : Tree
   pub parsed : IsRead limits query tree
   pub printed : Tree
-  pub asked : IsAsked matcher tree printed
+  pub asked : IsAsked limits matcher tree printed
   pub gives : format_value format printed ≡ value
 
--- there is a matcher, and this is why it is none to enforce
-abbrev pub HasMatcherFault : Option Text → MatcherError → Type 0
-HasMatcherFault None e = ⊥
-HasMatcherFault (Some matcher) e = IsMatcherFault matcher e
-
--- there is a matcher, which can be enforced, and a call of `info` in the tree has no second argument
-abbrev pub MeetsBareInfoIfAny : Option Text → Tree → Type 0
-MeetsBareInfoIfAny None t = ⊥
-MeetsBareInfoIfAny (Some matcher) t = MeetsBareInfo matcher t
-
--- when a query has this error; the matcher counts only where the query has a tree
+-- when a query has this error; one of the matcher is that of a query which is enforced alone
 abbrev pub FailsOnQuery : Limits → Text → Option Text → Format → LineError → Type 0
 FailsOnQuery limits query matcher format (Run error.Memory) = Unit {0}
 FailsOnQuery limits query matcher format (Rejected rejection) = IsRejection limits query rejection
-FailsOnQuery limits query matcher format (Matcher e) = IsParsed limits query × HasMatcherFault matcher e
-FailsOnQuery limits query matcher format Info = (t : Tree) × IsRead limits query t × MeetsBareInfoIfAny matcher t
 FailsOnQuery limits query matcher format (Run error.Json) = HasQueryValue limits query matcher format (Err NumberTooWide)
+FailsOnQuery limits query (Some text) format (LargeMatcher fault) = FailsToEnforce limits query text (enforced.LargeMatcher fault)
+FailsOnQuery limits query (Some text) format (Matcher e) = FailsToEnforce limits query text (enforced.Matcher e)
+FailsOnQuery limits query (Some text) format Info = FailsToEnforce limits query text enforced.Info
 FailsOnQuery limits query matcher format _ = ⊥
 
 -- the line asks for a query that has this value
@@ -104,6 +95,7 @@ line_error_number (Rejected rejection) = reason_number rejection.reason
 line_error_number NotARequest = 7
 line_error_number (Matcher e) = 11
 line_error_number Info = 13
+line_error_number (LargeMatcher fault) = 16
 
 -- "Errors": when a line has this error
 abbrev pub FailsWith : Settings → Text → LineError → Type 0
@@ -131,10 +123,7 @@ rejection_object code message r =
 
 abbrev pub line_error_object : LineError → Text → Data
 line_error_object (Rejected rejection) message = rejection_object (reason_number rejection.reason) message rejection
-line_error_object (Run e) message = error_object (error_number e) message
-line_error_object NotARequest message = error_object 7 message
-line_error_object (Matcher e) message = error_object 11 message
-line_error_object Info message = error_object 13 message
+line_error_object e message = error_object (line_error_number e) message
 
 pub record IsOkLine (settings : Settings) (line printed : Text) : Type 0 where
   pub value : Data

@@ -7,12 +7,15 @@ use Rattle.promql_ast.specs.Tree.{Tree}
 use Rattle.promql_io.specs.Ended.{AppendsBeginning}
 use Rattle.promql_run.specs.declared.run.RunError.{RunError}
 use Rattle.promql_run.specs.declared.run.RunError.TheVariants as error
-use Rattle.promql_lines.specs.Batch.{HasMatcherFault, IsAll, IsLineAnswer, MeetsBareInfoIfAny}
+use Rattle.promql_span.specs.declared.limits.Limits.{Limits}
+use Rattle.promql_lines.specs.Batch.{IsAll, IsLineAnswer}
+use Rattle.promql_lines.specs.EnforcedLines.{FailsToShow}
 use Rattle.promql_lines.specs.declared.batch.LineEnd.{LineEnd}
 use Rattle.promql_lines.specs.declared.batch.LineEnd.TheVariants.{Feed, Input}
+use Rattle.promql_lines.specs.declared.enforced_line.EnforcedLineError.TheVariants as enforced
 use Rattle.promql_lines.specs.declared.line.LineError.{LineError}
+use Rattle.promql_lines.specs.declared.line.LineError.TheVariants.{Run, Matcher, Info, LargeMatcher}
 use Rattle.promql_lines.specs.declared.settings.Settings.{Settings}
-use Rattle.promql_lines.specs.declared.line.LineError.TheVariants.{Run, Matcher, Info}
 
 abbrev pub HasNoFeed : Text → Type 0
 HasNoFeed line = All (λ b. b ≢ 10) line
@@ -40,11 +43,12 @@ IsPartlyAnswered settings line held held_after =
     × AppendsBeginning held held_after (answer ++ 10 ∷ [])
 
 -- why the matcher is not enforced in the tree
-abbrev pub IsEnforceFaultOf : Option Text → Tree → LineError → Type 0
-IsEnforceFaultOf matcher t (Run error.Memory) = Unit {0}
-IsEnforceFaultOf matcher t (Matcher e) = HasMatcherFault matcher e
-IsEnforceFaultOf matcher t Info = MeetsBareInfoIfAny matcher t
-IsEnforceFaultOf matcher t _ = ⊥
+abbrev pub IsEnforceFaultOf : Limits → Option Text → Tree → LineError → Type 0
+IsEnforceFaultOf limits matcher t (Run error.Memory) = Unit {0}
+IsEnforceFaultOf limits (Some text) t (LargeMatcher fault) = FailsToShow limits t text (enforced.LargeMatcher fault)
+IsEnforceFaultOf limits (Some text) t (Matcher e) = FailsToShow limits t text (enforced.Matcher e)
+IsEnforceFaultOf limits (Some text) t Info = FailsToShow limits t text enforced.Info
+IsEnforceFaultOf limits matcher t _ = ⊥
 
 abbrev pub IsReadingError : RunError → Type 0
 IsReadingError error.Memory = Unit {0}

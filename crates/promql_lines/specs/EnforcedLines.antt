@@ -10,13 +10,15 @@ use Rattle.promql_ast.specs.Tree.{Tree}
 use Rattle.promql_syntax.specs.ParseAnswers.{IsAnswerTo, plain_error_of}
 use Rattle.promql_syntax.specs.declared.parser.ParseError.TheVariants as parse
 use Rattle.promql_rewrite.specs.Faithful.{IsLineOf, MeansOther}
-use Rattle.promql_rewrite.specs.MatcherTexts.{IsEnforcedBy, IsMatcherFault, MeetsBareInfo}
-use Rattle.promql_rewrite.specs.declared.faithful.NotFaithful.{NotFaithful}
+use Rattle.promql_rewrite.specs.MatcherTexts.{IsEnforcedBy, IsMatcherFault, MeetsBareInfo, selector_around}
 use Rattle.promql_rewrite.specs.declared.faithful.NotFaithful.TheVariants as faithful
 use Rattle.promql_io.specs.Ended.{AppendsBeginning}
 use Rattle.promql_report.specs.LimitOptions.{Command, command, default_limits, limits_with}
+use Rattle.promql_report.specs.Rejecting.{IsRead, IsRejection, reason_number}
+use Rattle.promql_span.specs.QueryLimits.{IsLimitFault, IsWithin}
+use Rattle.promql_span.specs.declared.limits.LimitFault.{LimitFault}
+use Rattle.promql_span.specs.declared.limits.LimitFault.TheVariants as limit
 use Rattle.promql_lines.specs.declared.enforce_program.TheConstants.{ENFORCE_HELP, ENFORCE_VERSION}
-use Rattle.promql_report.specs.Rejecting.{IsParsed, IsRead, IsRejection, reason_number}
 use Rattle.promql_span.specs.declared.limits.Limits.{Limits}
 use Rattle.promql_io.specs.Inputs.{HasRead}
 use Rattle.promql_lines.specs.declared.enforced_line.EnforcedLineError.{EnforcedLineError}
@@ -28,45 +30,45 @@ enforce_number (error.Rejected r) = reason_number r.reason
 enforce_number (error.Matcher e) = 11
 enforce_number (error.Unfaithful e) = 12
 enforce_number error.Info = 13
+enforce_number large = 16
 
--- this is the line of the tree with the matcher in every selector, and it means that tree
-abbrev pub ShowsEnforced : Tree → Text → Text → Type 0
-ShowsEnforced t matcher line = (u : Tree) × IsEnforcedBy matcher t u × IsLineOf u line
+-- the text is not within the limits, and this is why
+abbrev pub IsOver : Limits → Text → LimitFault → Type 0
+IsOver limits s fault = IsLimitFault s limits fault × (fault ≢ limit.Memory)
 
--- the line of the tree is rejected, or means another tree
-abbrev pub IsUnfaithful : Tree → NotFaithful → Type 0
-IsUnfaithful u (faithful.Rejected e) = IsAnswerTo (line_text u) (Err (plain_error_of e)) × (e ≢ parse.Memory)
-IsUnfaithful u faithful.OtherTree = MeansOther (line_text u) u
-IsUnfaithful u _ = ⊥
+-- the text that the matcher is read in is within the limits, and the second tree is the first with the matcher in every selector
+abbrev pub IsEnforcedWithin : Limits → Text → Tree → Tree → Type 0
+IsEnforcedWithin limits matcher t u = IsWithin (selector_around matcher) limits × IsEnforcedBy matcher t u
 
--- why there is no such line
-abbrev pub FailsToShow : Tree → Text → EnforcedLineError → Type 0
-FailsToShow t matcher error.Memory = Unit {0}
-FailsToShow t matcher (error.Rejected r) = ⊥
-FailsToShow t matcher (error.Matcher e) = IsMatcherFault matcher e
-FailsToShow t matcher (error.Unfaithful e) = (u : Tree) × IsEnforcedBy matcher t u × IsUnfaithful u e
-FailsToShow t matcher error.Info = MeetsBareInfo matcher t
+-- this is the line of the tree with the matcher in every selector; it is within the limits, and it means that tree
+abbrev pub ShowsEnforced : Limits → Tree → Text → Text → Type 0
+ShowsEnforced limits t matcher line = (u : Tree) × IsEnforcedWithin limits matcher t u × IsWithin line limits × IsLineOf u line
+
+-- the line of the tree is not within the limits; or it is, and is rejected, or means another tree
+abbrev pub HasNoLine : Limits → Tree → EnforcedLineError → Type 0
+HasNoLine limits u (error.LargeLine fault) = IsOver limits (line_text u) fault
+HasNoLine limits u (error.Unfaithful (faithful.Rejected e)) =
+    IsWithin (line_text u) limits × IsAnswerTo (line_text u) (Err (plain_error_of e)) × (e ≢ parse.Memory)
+HasNoLine limits u (error.Unfaithful faithful.OtherTree) = IsWithin (line_text u) limits × MeansOther (line_text u) u
+HasNoLine limits u _ = ⊥
+
+-- why there is no such line: of the matcher, or else of the tree with it in every selector
+abbrev pub FailsToShow : Limits → Tree → Text → EnforcedLineError → Type 0
+FailsToShow limits t matcher error.Memory = Unit {0}
+FailsToShow limits t matcher (error.LargeMatcher fault) = IsOver limits (selector_around matcher) fault
+FailsToShow limits t matcher (error.Matcher e) = IsWithin (selector_around matcher) limits × IsMatcherFault matcher e
+FailsToShow limits t matcher error.Info = IsWithin (selector_around matcher) limits × MeetsBareInfo matcher t
+FailsToShow limits t matcher e = (u : Tree) × IsEnforcedWithin limits matcher t u × HasNoLine limits u e
 
 -- the query has a tree, and this is its line with the matcher in every selector
 abbrev pub IsEnforcedLine : Limits → Text → Text → Text → Type 0
-IsEnforcedLine limits query matcher line = (t : Tree) × IsRead limits query t × ShowsEnforced t matcher line
-
--- the query has a tree, and its line with the matcher in every selector does not mean the enforced tree
-abbrev pub IsUnfaithfulLine : Limits → Text → Text → NotFaithful → Type 0
-IsUnfaithfulLine limits query matcher e =
-    (t : Tree) × IsRead limits query t × ((u : Tree) × IsEnforcedBy matcher t u × IsUnfaithful u e)
-
--- the query has a tree, in which a call of `info` has no second argument; and the text is a matcher that can be enforced
-abbrev pub MeetsBareInfoIn : Limits → Text → Text → Type 0
-MeetsBareInfoIn limits query matcher = (t : Tree) × IsRead limits query t × MeetsBareInfo matcher t
+IsEnforcedLine limits query matcher line = (t : Tree) × IsRead limits query t × ShowsEnforced limits t matcher line
 
 -- why the query has no such line; the matcher counts only where the query has a tree
 abbrev pub FailsToEnforce : Limits → Text → Text → EnforcedLineError → Type 0
 FailsToEnforce limits query matcher error.Memory = Unit {0}
 FailsToEnforce limits query matcher (error.Rejected r) = IsRejection limits query r
-FailsToEnforce limits query matcher (error.Matcher e) = IsParsed limits query × IsMatcherFault matcher e
-FailsToEnforce limits query matcher (error.Unfaithful e) = IsUnfaithfulLine limits query matcher e
-FailsToEnforce limits query matcher error.Info = MeetsBareInfoIn limits query matcher
+FailsToEnforce limits query matcher e = (t : Tree) × IsRead limits query t × FailsToShow limits t matcher e
 
 -- ---- the program
 
@@ -115,7 +117,7 @@ IsInputAnswer limits matcher left left_after (Err e) = HasNoEnforcedLine limits 
 
 -- the statuses of these errors
 abbrev pub IsLineStatus : ℕ → Type 0
-IsLineStatus status = (status ≡ 4) ⊎ (status ≡ 11) ⊎ (status ≡ 12) ⊎ (status ≡ 13) ⊎ (status ≡ 14)
+IsLineStatus status = (status ≡ 4) ⊎ (status ≡ 11) ⊎ (status ≡ 12) ⊎ (status ≡ 13) ⊎ (status ≡ 14) ⊎ (status ≡ 16)
 
 -- each status of a matcher
 abbrev pub IsEnforceStatus : ℕ → Type 0

@@ -3,4 +3,5 @@ pub mod BatchArguments
 pub mod BatchSteps
 pub mod ProgramArguments
 pub mod EnforcedLines
+pub mod EnforcedSteps
 pub mod Requests

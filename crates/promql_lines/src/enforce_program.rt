@@ -36,13 +36,15 @@ Reads a PromQL query from standard input, puts the matcher into every selector o
 it, and writes the query to standard output, on one line. MATCHER is written as
 between the braces of a selector: namespace=\"team-a\". A query of more than
 --max-len bytes (1048576), or with patterns that are together larger than
---max-patterns (16000), is rejected before it is parsed.
+--max-patterns (16000), is rejected before it is parsed. MATCHER, and the query
+that is written, have the same limits.
 
 Status: 0 the query was written, 4 the query is rejected, 11 MATCHER is not a
 matcher or is of the metric name, 12 the query that was made does not read back,
-13 the query has info without a selector, 14 the query is too long or its patterns
-are too large, 1 out of memory, 2 a read failed, 3 the input is not UTF-8, 5 a
-write failed, 64 wrong arguments.
+13 the query has info without a selector, 14 the query is too long or its
+patterns are too large, 16 MATCHER is, or the query that was made, 1 out of
+memory, 2 a read failed, 3 the input is not UTF-8, 5 a write failed, 64 wrong
+arguments.
 ";
 
 /// The line of a query with the matcher in every selector, and a line feed.

@@ -2,12 +2,16 @@
 
 ghost use Rattle.std.specs.Prelude.{◌≡◌, IfErr, IfOk, string_bytes};
 ghost use Rattle.promql_ast.specs.View.{tree_of};
-ghost use Rattle.promql_lines.specs.EnforcedLines.{FailsToEnforce, FailsToShow, IsEnforcedLine, ShowsEnforced, enforce_number};
+ghost use Rattle.promql_rewrite.specs.Faithful.{IsLineOf};
+ghost use Rattle.promql_span.specs.QueryLimits.{IsWithin};
+ghost use Rattle.promql_lines.specs.EnforcedLines.{FailsToEnforce, FailsToShow, IsEnforcedLine, IsEnforcedWithin, ShowsEnforced, enforce_number};
+ghost use Rattle.promql_lines.specs.EnforcedSteps.{FailsToPrint};
 
+use crate::limit_checks::{limit_fault, matcher_fault};
 use promql_ast::{Expr, drop_expr};
 use promql_report::rejection::{Rejection, read_query};
-use promql_rewrite::{EnforceTextError, MatcherError, NotFaithful, enforce_text, faithful_line};
-use promql_span::limits::Limits;
+use promql_rewrite::{EnforceTextError, MatcherError, NotFaithful, check_meaning, enforce_text};
+use promql_span::limits::{LimitFault, Limits};
 use std::alloc::{AllocError, Global};
 use thiserror::Error;
 
@@ -29,6 +33,12 @@ pub enum EnforcedLineError {
     /// A call of `info` in the query has no second argument.
     #[error("info without a selector reads series that no matcher limits")]
     Info,
+    /// The text that the matcher is read in is not within the limits of the query, and nothing of it was read.
+    #[error("the matcher is not within the limits: {0}")]
+    LargeMatcher(LimitFault),
+    /// The line is not within the limits of the query.
+    #[error("the enforced query is not within the limits: {0}")]
+    LargeLine(LimitFault),
 }
 
 impl EnforcedLineError {
@@ -42,6 +52,7 @@ impl EnforcedLineError {
             EnforcedLineError::Matcher(_) => 11,
             EnforcedLineError::Unfaithful(_) => 12,
             EnforcedLineError::Info => 13,
+            EnforcedLineError::LargeMatcher(_) | EnforcedLineError::LargeLine(_) => 16,
         }
     }
 }
@@ -57,21 +68,39 @@ impl From<AllocError> for EnforcedLineError {
     }
 }
 
-/// The line of an expression with the matcher in every selector. The line is read again, and means the enforced tree.
-fn show_enforced(alloc: Global, expr: Expr, matcher: &str) -> Result<String, EnforcedLineError>
-    ensures ok { IfOk result (λ s. ShowsEnforced (tree_of expr) matcher.now (string_bytes s)) }
-    ensures err { IfErr result (FailsToShow (tree_of expr) matcher.now) }
+/// The expression with the matcher in every selector. The matcher is read only where its text is within the limits.
+fn enforced_within(
+    alloc: Global,
+    limits: &Limits,
+    expr: Expr,
+    matcher: &str,
+) -> Result<Expr, EnforcedLineError>
+    ensures ok { IfOk result (λ e. IsEnforcedWithin limits.now matcher.now (tree_of expr) (tree_of e)) }
+    ensures err { IfErr result (FailsToShow limits.now (tree_of expr) matcher.now) }
 {
-    let enforced = match enforce_text(alloc, expr, matcher) {
-        Ok(enforced) => enforced,
-        Err(EnforceTextError::Memory) => return Err(EnforcedLineError::Memory),
-        Err(EnforceTextError::Matcher(error)) => return Err(EnforcedLineError::Matcher(error)),
-        Err(EnforceTextError::Info) => return Err(EnforcedLineError::Info),
-    };
-    let line = faithful_line(alloc, &enforced);
-    drop_expr(enforced);
-    match line {
-        Ok(line) => Ok(line),
+    if let Some(fault) = matcher_fault(alloc, limits, matcher)? {
+        drop_expr(expr);
+        return Err(EnforcedLineError::LargeMatcher(fault));
+    }
+    match enforce_text(alloc, expr, matcher) {
+        Ok(enforced) => Ok(enforced),
+        Err(EnforceTextError::Memory) => Err(EnforcedLineError::Memory),
+        Err(EnforceTextError::Matcher(error)) => Err(EnforcedLineError::Matcher(error)),
+        Err(EnforceTextError::Info) => Err(EnforcedLineError::Info),
+    }
+}
+
+/// The line of an expression, which is read again where it is within the limits, and means the expression.
+fn line_within(alloc: Global, limits: &Limits, expr: &Expr) -> Result<String, EnforcedLineError>
+    ensures ok { IfOk result (λ s. IsWithin (string_bytes s) limits.now × IsLineOf (tree_of expr.now) (string_bytes s)) }
+    ensures err { IfErr result (FailsToPrint limits.now (tree_of expr.now)) }
+{
+    let line = expr.to_string(alloc)?;
+    if let Some(fault) = limit_fault(alloc, limits, line.as_str())? {
+        return Err(EnforcedLineError::LargeLine(fault));
+    }
+    match check_meaning(alloc, line.as_str(), expr) {
+        Ok(()) => Ok(line),
         Err(NotFaithful::Memory) => Err(EnforcedLineError::Memory),
         Err(NotFaithful::IndentTooWide) => unreachable!(),
         Err(NotFaithful::Rejected(error)) => {
@@ -81,13 +110,32 @@ fn show_enforced(alloc: Global, expr: Expr, matcher: &str) -> Result<String, Enf
     }
 }
 
-/// The line of a query with a matcher, which is given as its text, in every selector. The line is read again, and means the
-/// enforced tree of the query.
+/// The line of an expression with the matcher in every selector. The line is within the limits, is read again, and means the
+/// enforced tree.
+fn show_enforced(
+    alloc: Global,
+    limits: &Limits,
+    expr: Expr,
+    matcher: &str,
+) -> Result<String, EnforcedLineError>
+    ensures ok { IfOk result (λ s. ShowsEnforced limits.now (tree_of expr) matcher.now (string_bytes s)) }
+    ensures err { IfErr result (FailsToShow limits.now (tree_of expr) matcher.now) }
+{
+    let enforced = enforced_within(alloc, limits, expr, matcher)?;
+    let line = line_within(alloc, limits, &enforced);
+    drop_expr(enforced);
+    line
+}
+
+/// The line of a query with a matcher, which is given as its text, in every selector. The line is within the limits, too; it is
+/// read again, and means the enforced tree of the query.
 ///
 /// # Errors
 ///
-/// `Rejected` where the query is not within its limits, or the parser rejects it; else `Matcher` where the text is no matcher, or one of the metric's name; else
-/// `Info` where a call of `info` in the query has no second argument; `Unfaithful` where the line would not mean the enforced tree; `Memory` where an allocation failed.
+/// `Rejected` where the query is not within the limits, or the parser rejects it; else `LargeMatcher` where the text that the
+/// matcher is read in is not within them; else `Matcher` where the text is no matcher, or one of the metric's name; else `Info`
+/// where a call of `info` in the query has no second argument; else `LargeLine` where the line is not within the limits;
+/// `Unfaithful` where it would not mean the enforced tree; `Memory` where an allocation failed.
 pub fn enforced_line(
     alloc: Global,
     limits: &Limits,
@@ -98,7 +146,7 @@ pub fn enforced_line(
     ensures err { IfErr result (FailsToEnforce limits.now query.now matcher.now) }
 {
     match read_query(alloc, limits, query)? {
-        Ok(expr) => show_enforced(alloc, expr, matcher),
+        Ok(expr) => show_enforced(alloc, limits, expr, matcher),
         Err(rejection) => Err(EnforcedLineError::Rejected(rejection)),
     }
 }

@@ -7,6 +7,7 @@ pub mod batch;
 pub mod batch_program;
 pub mod enforce_program;
 pub mod enforced_line;
+mod limit_checks;
 pub mod line;
 pub mod request;
 pub mod settings;

@@ -11,13 +11,14 @@ ghost use Rattle.promql_lines.specs.BatchSteps.{IsEnforceFaultOf};
 ghost use Rattle.promql_lines.specs.Batch.{FailsOnQuery, FailsWith, HasQueryValue, HasValue, IsAsked, IsErrorText, IsLineAnswer, error_object, line_error_number, line_error_object, ok_object, rejection_object};
 
 use crate::answer_value::render_value;
+use crate::limit_checks::matcher_fault;
 use crate::request::{Format, format_in, matcher_in, query_in};
 use crate::settings::Settings;
 use promql_ast::{Expr, drop_expr};
 use promql_report::rejection::{Rejection, read_query};
 use promql_rewrite::{EnforceTextError, MatcherError, enforce_text};
 use promql_run::run::RunError;
-use promql_span::limits::Limits;
+use promql_span::limits::{LimitFault, Limits};
 use serde_json::{Category, Value, json};
 use std::alloc::{AllocError, Global};
 use thiserror::Error;
@@ -40,6 +41,9 @@ pub enum LineError {
     /// The line has a matcher to enforce, and a call of `info` in the query has no second argument.
     #[error("info without a selector reads series that no matcher limits")]
     Info,
+    /// The text that the line's matcher is read in is not within the limits of the query, and nothing of it was read.
+    #[error("the matcher is not within the limits: {0}")]
+    LargeMatcher(LimitFault),
 }
 
 impl LineError {
@@ -53,6 +57,7 @@ impl LineError {
             LineError::NotARequest => 7,
             LineError::Matcher(_) => 11,
             LineError::Info => 13,
+            LineError::LargeMatcher(_) => 16,
         }
     }
 }
@@ -77,16 +82,33 @@ fn read_value(alloc: Global, line: &str) -> Result<Option<Value>, AllocError>
     }
 }
 
-/// The expression with the matcher of the text in every selector, if there is one.
-fn enforced(alloc: Global, expr: Expr, matcher: Option<&str>) -> Result<Expr, LineError>
+/// The expression with the matcher of the text in every selector, if there is one. It is read only where its text is within the
+/// limits.
+fn enforced(
+    alloc: Global,
+    limits: &Limits,
+    expr: Expr,
+    matcher: Option<&str>,
+) -> Result<Expr, LineError>
     ensures ok { IfOk result (λ e.
-        IsAsked (option_map (λ s. s.now) matcher.entry) (tree_of expr) (tree_of e)) }
+        IsAsked limits.now (option_map (λ s. s.now) matcher.entry) (tree_of expr) (tree_of e)) }
     ensures err { IfErr result
-        (IsEnforceFaultOf (option_map (λ s. s.now) matcher.entry) (tree_of expr)) }
+        (IsEnforceFaultOf limits.now (option_map (λ s. s.now) matcher.entry) (tree_of expr)) }
 {
     let Some(text) = matcher else {
         return Ok(expr);
     };
+    match matcher_fault(alloc, limits, text) {
+        Ok(None) => {}
+        Ok(Some(fault)) => {
+            drop_expr(expr);
+            return Err(LineError::LargeMatcher(fault));
+        }
+        Err(_) => {
+            drop_expr(expr);
+            return Err(LineError::Run(RunError::Memory));
+        }
+    }
     match enforce_text(alloc, expr, text) {
         Ok(enforced) => Ok(enforced),
         Err(EnforceTextError::Memory) => Err(LineError::Run(RunError::Memory)),
@@ -113,7 +135,7 @@ fn evaluate_query(
         Ok(Err(rejection)) => return Err(LineError::Rejected(rejection)),
         Err(_) => return Err(LineError::Run(RunError::Memory)),
     };
-    let expr = enforced(alloc, expr, matcher)?;
+    let expr = enforced(alloc, limits, expr, matcher)?;
     let value = render_value(alloc, format, &expr);
     drop_expr(expr);
     match value {
@@ -199,8 +221,11 @@ fn line_error_value(alloc: Global, error: &LineError, message: &str) -> Result<V
     let code = error.number();
     match error {
         LineError::Rejected(rejection) => rejection_value(alloc, code, message, rejection),
-        LineError::Run(_) | LineError::NotARequest | LineError::Matcher(_) | LineError::Info =>
-            error_value(alloc, code, message),
+        LineError::Run(_)
+        | LineError::NotARequest
+        | LineError::Matcher(_)
+        | LineError::Info
+        | LineError::LargeMatcher(_) => error_value(alloc, code, message),
     }
 }
 

@@ -22,12 +22,12 @@ returns-in_err-expr-clause-err c =
 pub render_value-value-requires-clause-low : goal.render_value-value-requires-clause-low
 render_value-value-requires-clause-low c =
     let parsed = subst (IsReadAs c.args.limits.now c.args.query.now) c.in-Ok-Ok.field-0-is c.in-Ok-Ok.ensures in
-    asked_low (option_map (λ s. s.now) c.args.matcher) (tree_of c.in-Ok-Ok.expr) (tree_of c.in_ok-expr.expr) c.in_ok-expr.ensures.ok (parsed.1.low (tree_of c.in-Ok-Ok.expr) refl)
+    asked_low c.args.limits.now (option_map (λ s. s.now) c.args.matcher) (tree_of c.in-Ok-Ok.expr) (tree_of c.in_ok-expr.expr) c.in_ok-expr.ensures.ok (parsed.1.low (tree_of c.in-Ok-Ok.expr) refl)
 
 pub render_value-value-requires-clause-plain : goal.render_value-value-requires-clause-plain
 render_value-value-requires-clause-plain c =
     let parsed = subst (IsReadAs c.args.limits.now c.args.query.now) c.in-Ok-Ok.field-0-is c.in-Ok-Ok.ensures in
-    asked_plain (option_map (λ s. s.now) c.args.matcher) (tree_of c.in-Ok-Ok.expr) (tree_of c.in_ok-expr.expr) c.in_ok-expr.ensures.ok
+    asked_plain c.args.limits.now (option_map (λ s. s.now) c.args.matcher) (tree_of c.in-Ok-Ok.expr) (tree_of c.in_ok-expr.expr) c.in_ok-expr.ensures.ok
     (answers_are_plain c.args.query.now (tree_of c.in-Ok-Ok.expr) parsed.1)
 
 pub returns-in-Err-value-clause-err : goal.returns-in-Err-value-clause-err
