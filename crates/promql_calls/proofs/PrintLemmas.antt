@@ -14,7 +14,7 @@ use Rattle.promql_calls.specs.Calls.{IsPrintOf}
 use Rattle.promql_calls.specs.Formats.{format_text}
 use Rattle.promql_calls.specs.PrintErrors.{IsPrintError}
 use Rattle.promql_calls.specs.declared.call_error.CallError.{CallError}
-use Rattle.promql_calls.specs.declared.call_error.CallError.TheVariants.{Memory, NotUtf8, Rejected, NumberTooWide, UnknownMode, Matcher, Unfaithful, Info}
+use Rattle.promql_calls.specs.declared.call_error.CallError.TheVariants.{Memory, NotUtf8, Rejected, NumberTooWide, UnknownMode, NotEnforced}
 
 pub print_of_tree : (limits : Limits) (r : Result (String Global) CallError) (query : Text) (format : Format) (tree : Tree) → IsUtf8 query → IsRead limits query tree → IfOk r (λ s. format_text format tree ≡ Ok (string_bytes s)) → (IsErrOf r NumberTooWide → format_text format tree ≡ Err json_errors.NumberTooWide) → IfErr r IsPrintError → IsPrintOf limits query (Some format) (on_result (λ s. string_bytes s) r)
 print_of_tree limits (Ok s) query format tree utf8 parsed text wide errors = record { utf8 = utf8; tree = tree; parsed = parsed; gives = text }
@@ -23,6 +23,4 @@ print_of_tree limits (Err NumberTooWide) query format tree utf8 parsed text wide
 print_of_tree limits (Err NotUtf8) query format tree utf8 parsed text wide errors = absurd errors
 print_of_tree limits (Err (Rejected r)) query format tree utf8 parsed text wide errors = absurd errors
 print_of_tree limits (Err UnknownMode) query format tree utf8 parsed text wide errors = absurd errors
-print_of_tree limits (Err (Matcher e)) query format tree utf8 parsed text wide errors = absurd errors
-print_of_tree limits (Err (Unfaithful e)) query format tree utf8 parsed text wide errors = absurd errors
-print_of_tree limits (Err Info) query format tree utf8 parsed text wide errors = absurd errors
+print_of_tree limits (Err (NotEnforced e)) query format tree utf8 parsed text wide errors = absurd errors

@@ -7,12 +7,11 @@ use Rattle.promql_ast.specs.Tree.{Tree}
 use Rattle.promql_span.specs.declared.limits.Limits.{Limits}
 use Rattle.promql_json.specs.declared.error.JsonError.{JsonError}
 use Rattle.promql_json.specs.declared.error.JsonError.TheVariants as json_errors
-use Rattle.promql_rewrite.specs.MatcherTexts.{IsMatcherFault}
-use Rattle.promql_rewrite.specs.declared.matcher_text.MatcherError.{MatcherError}
 use Rattle.promql_rewrite.specs.declared.matcher_text.MatcherError.TheVariants as matcher_error
 use Rattle.promql_report.specs.Checking.{marked_line}
 use Rattle.promql_report.specs.Rejecting.{IsParsed, IsRead, IsRejection}
-use Rattle.promql_lines.specs.EnforcedLines.{IsEnforcedLine, IsUnfaithfulLine, MeetsBareInfoIn}
+use Rattle.promql_lines.specs.EnforcedLines.{FailsToEnforce, IsEnforcedLine}
+use Rattle.promql_lines.specs.declared.enforced_line.EnforcedLineError.TheVariants as enforced
 use Rattle.promql_lines.specs.declared.request.Format.{Format}
 use Rattle.promql_calls.specs.declared.call_error.CallError.{CallError}
 use Rattle.promql_calls.specs.declared.call_error.CallError.TheVariants as errors
@@ -44,16 +43,14 @@ IsPrintOf limits query (Some format) (Ok text) = HasText limits query format (Ok
 IsPrintOf limits query (Some format) (Err errors.NumberTooWide) = HasText limits query format (Err json_errors.NumberTooWide)
 IsPrintOf limits query (Some format) (Err e) = HasNoTree limits query e
 
--- the matcher is not valid UTF-8, or this is why it is none to enforce
-abbrev pub IsBadMatcher : Text → MatcherError → Type 0
-IsBadMatcher matcher e = (¬ IsUtf8 matcher × (e ≡ matcher_error.NotAMatcher)) ⊎ (IsUtf8 matcher × IsMatcherFault matcher e)
-
--- "enforce": the line with the matcher in every selector; the matcher counts only where the query has a tree
+-- "enforce": the line with the matcher in every selector; the matcher counts only where the query has a tree, and one that is not
+-- valid UTF-8 is none
 abbrev pub IsEnforceOf : Limits → Text → Text → Result Text CallError → Type 0
 IsEnforceOf limits query matcher (Ok line) = IsUtf8 query × IsUtf8 matcher × IsEnforcedLine limits query matcher line
-IsEnforceOf limits query matcher (Err (errors.Matcher e)) = IsUtf8 query × IsParsed limits query × IsBadMatcher matcher e
-IsEnforceOf limits query matcher (Err (errors.Unfaithful e)) = IsUtf8 query × IsUtf8 matcher × IsUnfaithfulLine limits query matcher e
-IsEnforceOf limits query matcher (Err errors.Info) = IsUtf8 query × IsUtf8 matcher × MeetsBareInfoIn limits query matcher
+IsEnforceOf limits query matcher (Err (errors.NotEnforced (enforced.Rejected r))) = ⊥
+IsEnforceOf limits query matcher (Err (errors.NotEnforced e)) =
+    IsUtf8 query × ((IsUtf8 matcher × FailsToEnforce limits query matcher e)
+    ⊎ (¬ IsUtf8 matcher × IsParsed limits query × (e ≡ enforced.Matcher matcher_error.NotAMatcher)))
 IsEnforceOf limits query matcher (Err e) = HasNoTree limits query e
 
 -- "collect": the JSON of what the query names

@@ -3,8 +3,8 @@
 ghost use Rattle.std.specs.Prelude.{◌≡◌};
 ghost use Rattle.promql_calls.specs.CallResults.{error_status};
 
+use promql_lines::enforced_line::EnforcedLineError;
 use promql_report::rejection::Rejection;
-use promql_rewrite::{MatcherError, NotFaithful};
 use std::alloc::AllocError;
 use thiserror::Error;
 
@@ -26,15 +26,9 @@ pub enum CallError {
     /// There is no mode of this number, or the level of a layout is above 512.
     #[error("unknown mode")]
     UnknownMode,
-    /// The matcher is none, or none to enforce.
+    /// The query has no line with the matcher in its selectors; that it is rejected is `Rejected`.
     #[error("{0}")]
-    Matcher(MatcherError),
-    /// The line that was made would not mean the enforced tree.
-    #[error("{0}")]
-    Unfaithful(NotFaithful),
-    /// A call of `info` in the query has no second argument.
-    #[error("info without a selector reads series that no matcher limits")]
-    Info,
+    NotEnforced(EnforcedLineError),
 }
 
 impl CallError {
@@ -48,9 +42,7 @@ impl CallError {
             CallError::Rejected(rejection) => u32::from(rejection.reason.number()),
             CallError::NumberTooWide => 6,
             CallError::UnknownMode => 9,
-            CallError::Matcher(_) => 11,
-            CallError::Unfaithful(_) => 12,
-            CallError::Info => 13,
+            CallError::NotEnforced(error) => u32::from(error.number()),
         }
     }
 }

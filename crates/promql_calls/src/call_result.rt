@@ -73,9 +73,7 @@ fn result_of(error: &CallError, length: usize) -> CallResult
         | CallError::NotUtf8
         | CallError::NumberTooWide
         | CallError::UnknownMode
-        | CallError::Matcher(_)
-        | CallError::Unfaithful(_)
-        | CallError::Info => plain(error.status(), length),
+        | CallError::NotEnforced(_) => plain(error.status(), length),
     }
 }
 

@@ -24,11 +24,8 @@ fn enforce_text(
 {
     match enforced_line(alloc, limits, query, matcher) {
         Ok(line) => Ok(line),
-        Err(EnforcedLineError::Memory) => Err(CallError::Memory),
         Err(EnforcedLineError::Rejected(rejection)) => Err(CallError::Rejected(rejection)),
-        Err(EnforcedLineError::Matcher(error)) => Err(CallError::Matcher(error)),
-        Err(EnforcedLineError::Unfaithful(error)) => Err(CallError::Unfaithful(error)),
-        Err(EnforcedLineError::Info) => Err(CallError::Info),
+        Err(error) => Err(CallError::NotEnforced(error)),
     }
 }
 
@@ -37,7 +34,9 @@ fn error_of_broken_matcher(alloc: Global, limits: &Limits, query: &str) -> CallE
     ensures { (matcher : Text) → ¬ IsUtf8 matcher → IsEnforceOf limits.now query.now matcher (Err result) }
 {
     match read_query(alloc, limits, query) {
-        Ok(Ok(_)) => CallError::Matcher(MatcherError::NotAMatcher),
+        Ok(Ok(_)) => {
+            CallError::NotEnforced(EnforcedLineError::Matcher(MatcherError::NotAMatcher))
+        }
         Ok(Err(rejection)) => CallError::Rejected(rejection),
         Err(_) => CallError::Memory,
     }
