@@ -179,6 +179,8 @@ def python_answer(call):
         return Answer(11, 0, 0, 0, 0, str(error).encode())
     except promql.BareInfoError as error:
         return Answer(13, 0, 0, 0, 0, str(error).encode())
+    except promql.LargeEnforcedError as error:
+        return Answer(16, 0, 0, 0, 0, str(error).encode())
     except UnicodeEncodeError:
         return Answer(3, 0, 0, 0, 0, b"input is not UTF-8")
 

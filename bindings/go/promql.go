@@ -39,6 +39,9 @@ var (
 	ErrUnfaithful = errors.New("the printed query does not mean the changed one")
 	// ErrBareInfo says that a query calls info without a second argument, so that no matcher limits the series that this reads.
 	ErrBareInfo = errors.New("info without a selector reads series that no matcher limits")
+	// ErrLargeEnforced says that a matcher, or the query with it, is too long, or that its patterns are too large together (SetLimits). An
+	// error that is this one says which, and why.
+	ErrLargeEnforced = errors.New("the matcher, or the query with it, is not within the limits")
 	// ErrSmallStack says that the thread has less than 1.25 MiB of stack left, and a query may need as much. Calls run on the stacks
 	// of the system's threads, which have as much as `ulimit -s` said when the process began: 8 MiB, mostly.
 	ErrSmallStack = errors.New("the thread has less than 1.25 MiB of stack left")
@@ -74,6 +77,19 @@ func (e *QueryError) Snippet() string {
 		C.promql_snippet(query, length, start, end, buffer, size, result)
 	})
 	return text
+}
+
+// largeEnforced is ErrLargeEnforced with the message of the library.
+type largeEnforced struct {
+	message string
+}
+
+func (e largeEnforced) Error() string {
+	return e.message
+}
+
+func (e largeEnforced) Unwrap() error {
+	return ErrLargeEnforced
 }
 
 // Option is how Format lays a query out.
@@ -124,8 +140,8 @@ func JSON(query string) ([]byte, error) {
 }
 
 // Enforce returns the query on one line with a matcher in every selector, in each of its or-groups: that of a tenant, say. The matcher is
-// written as between the braces of a selector: namespace="team-a". What is returned was read again, and means the changed query
-// (docs/guide/rewriting.md of the repository).
+// written as between the braces of a selector: namespace="team-a". What is returned is within the limits of a query, was read again, and
+// means the changed query (docs/guide/rewriting.md of the repository).
 func Enforce(query, matcher string) (string, error) {
 	bytes := append(make([]byte, 0, len(matcher)+1), matcher...)
 	first := (*C.char)(unsafe.Pointer(&bytes[:1][0]))
@@ -211,7 +227,8 @@ func call(query string, f function) (string, C.struct_promql_result) {
 }
 
 // SetLimits sets what each later query has to be within, in this process: at most so many bytes, 1,048,576 before the first call, and
-// patterns of at most this size together, 16,000. A query that is not gives a *QueryError that is ErrTooLarge, before it is parsed.
+// patterns of at most this size together, 16,000. A query that is not gives a *QueryError that is ErrTooLarge, before it is parsed. A
+// matcher that is enforced, and the query with it, have the same limits; where they are not within them the error is ErrLargeEnforced.
 func SetLimits(maxLen, maxPatterns uint) {
 	C.promql_set_limits(C.size_t(maxLen), C.size_t(maxPatterns))
 }
@@ -253,6 +270,8 @@ func textOf(query string, f function) (string, error) {
 		return "", fmt.Errorf("%w: %s", ErrUnfaithful, text)
 	case C.PROMQL_BARE_INFO:
 		return "", ErrBareInfo
+	case C.PROMQL_LARGE_ENFORCED:
+		return "", largeEnforced{text}
 	case C.PROMQL_SMALL_STACK:
 		return "", ErrSmallStack
 	}

@@ -123,6 +123,27 @@ func TestEnforce(t *testing.T) {
 	}
 }
 
+func TestLargeEnforced(t *testing.T) {
+	for query, it := range map[string]struct{ matcher, message string }{
+		"foo":   {"a=~'b{1230}'", "the matcher is not within the limits: patterns are too large: 16003, at most 16000"},
+		"c + d": {"a=~'b{1229}'", "the enforced query is not within the limits: patterns are too large: 31980, at most 16000"},
+	} {
+		var rejected *promql.QueryError
+		_, err := promql.Enforce(query, it.matcher)
+		if !errors.Is(err, promql.ErrLargeEnforced) || errors.As(err, &rejected) || err.Error() != it.message {
+			t.Errorf("%q: %v", query, err)
+		}
+	}
+	if got, err := promql.Enforce("foo", "a=~'b{1229}'"); err != nil || got != `foo{a=~"b{1229}"}` {
+		t.Errorf("%q, %v", got, err)
+	}
+	promql.SetLimits(1048576, 31980)
+	defer promql.SetLimits(1048576, 16000)
+	if got, err := promql.Enforce("c + d", "a=~'b{1229}'"); err != nil || got != `c{a=~"b{1229}"} + d{a=~"b{1229}"}` {
+		t.Errorf("%q, %v", got, err)
+	}
+}
+
 func TestCollect(t *testing.T) {
 	names, err := promql.Collect("sum by (b) (rate(foo{a='1'}[5m])) / {__name__='bar'} offset 1h")
 	if err != nil {

@@ -235,6 +235,29 @@ static void test_enforcing(void)
     CHECK(gives(of_query(CALL_CHECK, "info(b)"), PROMQL_OK, ""));
 }
 
+/* A matcher, and the query with it, have the limits of a query. */
+static void test_large_enforcing(void)
+{
+    const char *matcher = "the matcher is not within the limits: patterns are too large: 16003, at most 16000";
+    const char *line = "the enforced query is not within the limits: patterns are too large: 31980, at most 16000";
+    CHECK(gives(enforcing("fooa=~\"b{1230}\"", 12), PROMQL_LARGE_ENFORCED, matcher));
+    CHECK(gives(enforcing("1a=~\"b{1230}\"", 12), PROMQL_LARGE_ENFORCED, matcher));
+    CHECK(gives(enforcing("info(b)a=~\"b{1230}\"", 12), PROMQL_LARGE_ENFORCED, matcher));
+    CHECK(gives(enforcing("1 +a=~\"b{1230}\"", 12), PROMQL_REJECTED, "invalid promql query"));
+    CHECK(has_place(enforcing("fooa=~\"b{1230}\"", 12), 0, 0, 0, 0));
+    CHECK(gives(enforcing("fooa=~\"b{1229}\"", 12), PROMQL_OK, "foo{a=~\"b{1229}\"}"));
+    CHECK(gives(enforcing("c + da=~\"b{1229}\"", 12), PROMQL_LARGE_ENFORCED, line));
+    CHECK(has_place(enforcing("c + da=~\"b{1229}\"", 12), 0, 0, 0, 0));
+    promql_set_limits(1048576, 31980);
+    CHECK(gives(enforcing("fooa=~\"b{1230}\"", 12), PROMQL_OK, "foo{a=~\"b{1230}\"}"));
+    CHECK(gives(enforcing("c + da=~\"b{1229}\"", 12), PROMQL_OK, "c{a=~\"b{1229}\"} + d{a=~\"b{1229}\"}"));
+    promql_set_limits(14, 16000);
+    CHECK(gives(enforcing("fooa=\"1\"", 5), PROMQL_OK, "foo{a=\"1\"}"));
+    CHECK(gives(enforcing("c + da=\"1\"", 5), PROMQL_LARGE_ENFORCED,
+                "the enforced query is not within the limits: query is too long: 19 bytes, at most 14"));
+    promql_set_limits(1048576, 16000);
+}
+
 /* Writes a text at this place, and returns where it ends. */
 static char *put(char *at, const char *text)
 {
@@ -671,6 +694,7 @@ int main(int argc, char **argv)
         test_texts();
         test_errors();
         test_enforcing();
+        test_large_enforcing();
         test_long_enforcing(14, 31);
         test_long_enforcing(3, 1000);
         test_long_enforcing(3, 10000);

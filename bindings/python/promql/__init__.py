@@ -21,6 +21,7 @@ from ._library import Mode, Result, Status
 __all__ = [
     "BareInfoError",
     "Error",
+    "LargeEnforcedError",
     "MatcherError",
     "NumberTooWideError",
     "QueryError",
@@ -57,6 +58,10 @@ class MatcherError(Error):
 
 class BareInfoError(Error):
     """The query calls `info` without a second argument, and no matcher limits the series that this reads."""
+
+
+class LargeEnforcedError(Error):
+    """The matcher, or the query with it, is too long, or its patterns are too large together (`set_limits`)."""
 
 
 class SmallStackError(Error):
@@ -98,7 +103,8 @@ class TooLargeError(QueryError):
 
 def set_limits(*, max_len: int = 1_048_576, max_patterns: int = 16_000) -> None:
     """Sets what each later query has to be within, in this process: at most so many bytes, and patterns of at most this size together
-    (docs/reference/programs.md, "Limits of a query"). A query that is not raises TooLargeError before it is parsed."""
+    (docs/reference/programs.md, "Limits of a query"). A query that is not raises TooLargeError before it is parsed. A matcher that is
+    enforced, and the query with it, have the same limits: where they are not within them, `enforce` raises LargeEnforcedError."""
     _look_at("max_len", max_len, _MAX_LIMIT)
     _look_at("max_patterns", max_patterns, _MAX_LIMIT)
     _library.set_limits(max_len, max_patterns)
@@ -133,8 +139,9 @@ def enforce(query: str, matcher: str) -> str:
     """The query on one line with a matcher in every selector, in each of its or-groups: that of a tenant, say.
 
     The matcher is written as between the braces of a selector: `namespace="team-a"`. Raises MatcherError where it is none, or is one of
-    `__name__`, and BareInfoError where the query calls `info` without a second argument. What is returned was read again, and means the
-    changed query (docs/guide/rewriting.md).
+    `__name__`, BareInfoError where the query calls `info` without a second argument, and LargeEnforcedError where the matcher, or the query
+    with it, is not within the limits of a query. What is returned was read again, and means the changed query
+    (docs/guide/rewriting.md).
     """
     return _text(query, _library.enforce(query.encode(), matcher.encode()))
 
@@ -178,6 +185,8 @@ def _text(query: str, answer: Tuple[bytes, Result]) -> str:
         raise UnfaithfulError(text)
     if result.status == Status.BARE_INFO:
         raise BareInfoError(text)
+    if result.status == Status.LARGE_ENFORCED:
+        raise LargeEnforcedError(text)
     if result.status == Status.SMALL_STACK:
         raise SmallStackError("the thread has less than 1.25 MiB of stack left")
     if result.status == Status.OUT_OF_MEMORY:

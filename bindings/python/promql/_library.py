@@ -26,6 +26,7 @@ class Status(IntEnum):
     BARE_INFO = 13
     TOO_LARGE = 14
     SMALL_STACK = 15
+    LARGE_ENFORCED = 16
 
 
 class Mode(IntEnum):

@@ -90,6 +90,21 @@ class Texts(unittest.TestCase):
             promql.enforce("1 +", "a='1'")
         self.assertEqual((raised.exception.line, raised.exception.column), (1, 4))
 
+    def test_large_enforced(self):
+        for query, matcher, message in (
+            ("foo", "a=~'b{1230}'", "the matcher is not within the limits: patterns are too large: 16003, at most 16000"),
+            ("c + d", "a=~'b{1229}'", "the enforced query is not within the limits: patterns are too large: 31980, at most 16000"),
+        ):
+            with self.assertRaises(promql.LargeEnforcedError) as raised:
+                promql.enforce(query, matcher)
+            self.assertEqual(str(raised.exception), message)
+        self.assertEqual(promql.enforce("foo", "a=~'b{1229}'"), 'foo{a=~"b{1229}"}')
+        promql.set_limits(max_patterns=31_980)
+        try:
+            self.assertEqual(promql.enforce("c + d", "a=~'b{1229}'"), 'c{a=~"b{1229}"} + d{a=~"b{1229}"}')
+        finally:
+            promql.set_limits()
+
     def test_collect(self):
         self.assertEqual(
             promql.collect("sum by (b) (rate(foo{a='é'}[5m] offset -1h)) / {__name__='bar'} @ end()"),

@@ -37,6 +37,8 @@ pub enum Error {
     Unfaithful(String),
     /// The query calls `info` without a second argument, so that no matcher limits the series that this reads.
     BareInfo,
+    /// The matcher, or the query with it, is too long, or its patterns are too large together ([`set_limits`]): which, and why.
+    LargeEnforced(String),
     /// The thread has less than 1.25 MiB of stack left, and a query may need as much. Threads of `std::thread` have 2 MiB.
     SmallStack,
 }
@@ -76,7 +78,7 @@ impl fmt::Display for Error {
             Error::NumberTooWide => f.write_str("number too wide for JSON"),
             Error::NotAMatcher => f.write_str(NOT_A_MATCHER),
             Error::MetricName => f.write_str("a matcher of the metric name cannot be enforced"),
-            Error::Unfaithful(message) => f.write_str(message),
+            Error::Unfaithful(message) | Error::LargeEnforced(message) => f.write_str(message),
             Error::BareInfo => {
                 f.write_str("info without a selector reads series that no matcher limits")
             }
@@ -141,7 +143,8 @@ pub fn json(query: &str) -> Result<String, Error> {
 /// # Errors
 ///
 /// Those of [`canonical`]; `NotAMatcher` and `MetricName` where the matcher is none to enforce; `BareInfo` where the query calls
-/// `info` without a second argument; `Unfaithful` where the line would not mean the changed query.
+/// `info` without a second argument; `LargeEnforced` where the matcher, or the query with it, is not within the limits of a query;
+/// `Unfaithful` where the line would not mean the changed query.
 pub fn enforce(query: &str, matcher: &str) -> Result<String, Error> {
     text_of(library::enforce(query, matcher))
 }
@@ -166,7 +169,8 @@ pub fn check(query: &str) -> Result<(), Error> {
 }
 
 /// Sets what each later query has to be within, in this process: at most so many bytes, 1,048,576 before the first call, and patterns
-/// of at most this size together, 16,000 (`docs/reference/programs.md` of the repository, "Limits of a query").
+/// of at most this size together, 16,000 (`docs/reference/programs.md` of the repository, "Limits of a query"). A matcher that is
+/// enforced, and the query with it, have the same limits.
 pub fn set_limits(max_len: usize, max_pattern_size: usize) {
     library::set_limits(max_len, max_pattern_size);
 }
@@ -189,6 +193,7 @@ fn text_of((text, answer): (String, Answer)) -> Result<String, Error> {
         library::UNFAITHFUL => Err(Error::Unfaithful(text)),
         library::BARE_INFO => Err(Error::BareInfo),
         library::SMALL_STACK => Err(Error::SmallStack),
+        library::LARGE_ENFORCED => Err(Error::LargeEnforced(text)),
         status => unreachable!("status {status}: {text}"),
     }
 }

@@ -24,6 +24,7 @@ pub const UNFAITHFUL: u32 = 12;
 pub const BARE_INFO: u32 = 13;
 pub const TOO_LARGE: u32 = 14;
 pub const SMALL_STACK: u32 = 15;
+pub const LARGE_ENFORCED: u32 = 16;
 
 /// Those of `enum promql_mode` that have no call of their own.
 #[derive(Clone, Copy)]

@@ -102,6 +102,18 @@ fn a_query_past_its_limits_is_too_large() {
 }
 
 #[test]
+fn a_matcher_and_the_query_with_it_have_limits() {
+    let matcher = "the matcher is not within the limits: patterns are too large: 16003, at most 16000";
+    let line = "the enforced query is not within the limits: patterns are too large: 31980, at most 16000";
+    for (query, enforced, message) in [("foo", "a=~'b{1230}'", matcher), ("c + d", "a=~'b{1229}'", line)] {
+        let error = enforce(query, enforced).unwrap_err();
+        assert_eq!(error.to_string(), message);
+        assert_eq!(error, Error::LargeEnforced(message.to_string()));
+    }
+    assert_eq!(enforce("foo", "a=~'b{1229}'").as_deref(), Ok(r#"foo{a=~"b{1229}"}"#));
+}
+
+#[test]
 fn versions_agree() {
     assert_eq!(version(), env!("CARGO_PKG_VERSION"));
 }
