@@ -1,4 +1,4 @@
-use Rattle.std.proofs.Common.{◌≡◌, ◌∙◌, ap, rules, subst}
+use Rattle.std.proofs.Common.{◌∙◌, ap, rules, subst}
 use Rattle.std.specs.Prelude.{Err}
 use Rattle.promql_syntax.specs.ParseAnswers.{IsAnswerTo, plain_error_of}
 use Rattle.promql_lines.proofs.enforced_line.line_within.Goals as goal
