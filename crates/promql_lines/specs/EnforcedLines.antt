@@ -61,8 +61,10 @@ FailsToShow limits t matcher error.Info = IsWithin (selector_around matcher) lim
 FailsToShow limits t matcher e = (u : Tree) × IsEnforcedWithin limits matcher t u × HasNoLine limits u e
 
 -- the query has a tree, and this is its line with the matcher in every selector
-abbrev pub IsEnforcedLine : Limits → Text → Text → Text → Type 0
-IsEnforcedLine limits query matcher line = (t : Tree) × IsRead limits query t × ShowsEnforced limits t matcher line
+pub record IsEnforcedLine (limits : Limits) (query matcher line : Text) : Type 0 where
+  pub tree : Tree
+  pub parsed : IsRead limits query tree
+  pub shown : ShowsEnforced limits tree matcher line
 
 -- why the query has no such line; the matcher counts only where the query has a tree
 abbrev pub FailsToEnforce : Limits → Text → Text → EnforcedLineError → Type 0
