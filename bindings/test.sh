@@ -1,7 +1,8 @@
 #!/usr/bin/env bash
 # bindings/test.sh [--install]   builds the bindings for C, Python, Go and Rust against dist/ and tests them, in some minutes and
-#                                without rt. Says what it could not try here; --install first installs by apt-get what is
-#                                missing of Debian's packages. The last line is 'N passed, M failed'
+#                                without rt, and checks the types of scripts in bin/. Says what it could not try here;
+#                                --install first installs by apt-get what is missing of Debian's packages. The last line is
+#                                'N passed, M failed'
 # bindings/test.sh --attack      attacks on the library, the programs of dist/, the Go proxy, the page and the tools for rule files,
 #                                in two minutes (docs/guide/security.md); some of them are among the tests above, and run again
 # bindings/test.sh --prometheus  compares what queries give before a Prometheus as they are written, printed and enforced, in a minute
@@ -290,6 +291,16 @@ test_python() {
     if [ -d "$work/site" ]; then PROMQL_BROKEN=1000 add 'Python, as pip installs it' unit_tests "$work/site"; fi
 }
 
+# ---- scripts of bin/
+
+test_scripts() {
+    local script
+    has mypy 'the types of the scripts' || return
+    for script in count_definitions list_edits prove test_vendor vendor; do
+        try "the types of bin/$script" mypy --strict --cache-dir "$work/mypy" "$root/bin/$script"
+    done
+}
+
 # ---- Rust
 
 in_cargo() {
@@ -423,7 +434,7 @@ export -f shows_own_names build_c bench_prints example_prints build_sanitized ov
 export -f find_installed install_wheel in_python unit_tests print_counts
 export -f in_cargo cargo_tests build_rust cache_keys in_go go_tests
 
-parts=(names c python rust go examples)
+parts=(names c python scripts rust go examples)
 case "${1:-}" in
 '') ;;
 --install) install_missing ;;
