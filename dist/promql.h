@@ -45,7 +45,8 @@ enum promql_mode {
  * A thread needs more than these, for what it does itself. */
 #define PROMQL_STACK 1310720
 
-/* 0, or why the buffer does not have what was asked for. With 1 to 6, 9 and 11 to 14 the text is the message of the error. */
+/* 0, or why the buffer does not have what was asked for. With 1 to 6, 9, 11 to 14 and 16 the text is the message of the
+ * error. */
 enum promql_status {
     PROMQL_OK = 0,
     PROMQL_OUT_OF_MEMORY = 1,
@@ -60,7 +61,8 @@ enum promql_status {
     PROMQL_UNFAITHFUL = 12,      /* the text that was made would not mean the changed query */
     PROMQL_BARE_INFO = 13,       /* the query has info without a second argument: no matcher limits the series that it reads */
     PROMQL_TOO_LARGE = 14,       /* the query is too long, or its patterns are too large: the result has the place */
-    PROMQL_SMALL_STACK = 15      /* the thread has fewer than PROMQL_STACK bytes of stack left; there is no text */
+    PROMQL_SMALL_STACK = 15,     /* the thread has fewer than PROMQL_STACK bytes of stack left; there is no text */
+    PROMQL_LARGE_ENFORCED = 16   /* the matcher, or the query with it, is not within the limits of a query */
 };
 
 struct promql_result {
@@ -85,8 +87,8 @@ uint32_t promql_canonical(const char *query, size_t query_length, char *buffer, 
                           struct promql_result *result);
 
 /* Prints a query on one line with a matcher in every selector, in each of its or-groups: a tenant's, say. The matcher is written
- * as between the braces of a selector, as in namespace="team-a". The text was read again, and means the changed query
- * (docs/guide/rewriting.md). */
+ * as between the braces of a selector, as in namespace="team-a". The text is within the limits of a query; it was read again, and
+ * means the changed query (docs/guide/rewriting.md). */
 uint32_t promql_enforce(const char *query, size_t query_length, const char *matcher, size_t matcher_length, char *buffer,
                         size_t buffer_size, struct promql_result *result);
 
@@ -105,8 +107,9 @@ uint32_t promql_snippet(const char *query, size_t query_length, size_t start, si
                         size_t buffer_size, struct promql_result *result);
 
 /* Sets what a query has to be within, for each later call of the process but promql_snippet: at most so many bytes, 1048576 before
- * the first such call, and patterns of at most this size together, 32000 (docs/reference/programs.md, "Limits of a query"). 0 is a
- * bound as any other. A call that is made meanwhile may see one of the two changed and not the other. */
+ * the first such call, and patterns of at most this size together, 16000 (docs/reference/programs.md, "Limits of a query"). A matcher
+ * that is enforced, and the query with it, have the same limits. 0 is a bound as any other. A call that is made meanwhile may see one of
+ * the two changed and not the other. */
 void promql_set_limits(size_t max_len, size_t max_pattern_size);
 
 /* The version of the library. */
