@@ -1,5 +1,5 @@
 -- Bases without expressions in them.
-use Rattle.std.proofs.Common.{◌≡◌, ℕ, Bool, true, false, cond, refl, sym, ◌∙◌, ap, List, ◌∷◌, Some, None}
+use Rattle.std.proofs.Common.{◌≡◌, ℕ, Bool, true, false, cond, refl, sym, subst, ◌∙◌, ap, List, [], ◌∷◌, length, Some, None}
 use Rattle.std.specs.Prelude.{Result, Ok, Err}
 use Rattle.std.proofs.lemmas.Bool.{cond-true, cond-false}
 use Rattle.std.specs.declared.alloc.Global.{Global}
@@ -20,7 +20,11 @@ use Rattle.promql_label.specs.declared.matchers.Matchers.{Matchers}
 use Rattle.promql_syntax.specs.declared.grammar.build_error.BuildError as code
 use Rattle.promql_syntax.specs.declared.grammar.parsed.ParsedExpr.{ParsedExpr}
 use Rattle.promql_syntax.specs.ParsesPart.{ParsesAskedPart, IsBuiltBy}
-use Rattle.promql_syntax.specs.ParsesExpr.{IsExprOf, ParsesBase, FailsBase}
+use Rattle.promql_syntax.specs.Asking.{EndsIn}
+use Rattle.promql_syntax.specs.Building.{build}
+use Rattle.promql_syntax.specs.FaultTokens.{PartsBuild, here, subexpressions}
+use Rattle.promql_syntax.specs.ParsesExpr.{IsExprOf, IsPlaced, ParsesBase, FailsBase, tree_result}
+use Rattle.promql_syntax.proofs.FaultPlacing.{IsWhole, whole_placed}
 use Rattle.promql_syntax.specs.PartBuilding.{braces_value}
 use Rattle.promql_syntax.specs.Atoms.{parse_atom, parse_named, parse_selector_braces}
 use Rattle.promql_syntax.proofs.ReadErrorSteps.{fails_first}
@@ -30,54 +34,67 @@ no_braces : (ts : List Symbol) → HasNo kind.LeftBrace ts → parse_optional_br
 no_braces (punct kind.LeftBrace ∷ ts) none = absurd (none refl)
 no_braces ts none = refl
 
--- what is built anyway is built where it has to be
-any_building : (builds : Bool) (parsed : ParsedExpr) (d : grammar.Derivation) → IsExprOf true parsed d → IsExprOf builds parsed d
-any_building builds parsed d is = record { tall = is.tall; built = λ on. is.built refl }
-
-where_built : (builds : Bool) (parsed : ParsedExpr) (d : grammar.Derivation) → parsed.height ≡ grammar.height d → (builds ≡ true → IsExprOf true parsed d) → IsExprOf builds parsed d
-where_built builds parsed d tall is = record { tall = tall; built = λ on. let built = is on in built.built refl }
+-- a form that holds no expression, and whose faults are about tokens of their own
+atom_of : (builds : Bool) (n k : ℕ) (parsed : ParsedExpr) (d : grammar.Derivation) → IsWhole d → PartsBuild d → subexpressions k d ≡ here k d ∷ [] → parsed.height ≡ grammar.height d → (builds ≡ true → EndsIn (build d) (tree_result parsed)) → IsExprOf builds n k parsed d
+atom_of builds n k parsed d whole parts alone tall ends = record {
+  tall = tall;
+  built = ends;
+  placed = λ on fits. subst (λ l. IsPlaced n l parsed.value) (sym alone) (whole_placed n k d [] parsed.value whole parts (ends on));
+}
 
 module _ (w : TokenKind) (text : Text) (ts : List Symbol) where
-  pub number_base : {builds : Bool} (parsed : ParsedExpr) → w ≡ kind.Number → IsExprOf true parsed (grammar.number text) → ParsesBase builds parsed ts (λ k n. parse_atom k n w text ts)
-  number_base {builds} parsed is built = record { derivation = grammar.number text; is = λ k n. ap (λ v. parse_atom k n v text ts) is; built = any_building builds parsed _ built }
+  pub number_base : {builds : Bool} (n : ℕ) (parsed : ParsedExpr) → w ≡ kind.Number → EndsIn (build (grammar.number text)) (tree_result parsed) → parsed.height ≡ 1 → ParsesBase builds n parsed ts (λ k h. parse_atom k h w text ts)
+  number_base {builds} n parsed is ends low = record {
+    derivation = grammar.number text;
+    is = λ k h. ap (λ v. parse_atom k h v text ts) is;
+    built = atom_of builds n (length ts) parsed (grammar.number text) tt tt refl low (λ on. ends);
+  }
 
-  pub duration_base : {builds : Bool} (parsed : ParsedExpr) → w ≡ kind.Duration → IsExprOf true parsed (grammar.duration text) → ParsesBase builds parsed ts (λ k n. parse_atom k n w text ts)
-  duration_base {builds} parsed is built = record { derivation = grammar.duration text; is = λ k n. ap (λ v. parse_atom k n v text ts) is; built = any_building builds parsed _ built }
+  pub duration_base : {builds : Bool} (n : ℕ) (parsed : ParsedExpr) → w ≡ kind.Duration → EndsIn (build (grammar.duration text)) (tree_result parsed) → parsed.height ≡ 1 → ParsesBase builds n parsed ts (λ k h. parse_atom k h w text ts)
+  duration_base {builds} n parsed is ends low = record {
+    derivation = grammar.duration text;
+    is = λ k h. ap (λ v. parse_atom k h v text ts) is;
+    built = atom_of builds n (length ts) parsed (grammar.duration text) tt tt refl low (λ on. ends);
+  }
 
-  pub string_base : {builds : Bool} (parsed : ParsedExpr) → w ≡ kind.String → IsExprOf true parsed (grammar.string text) → ParsesBase builds parsed ts (λ k n. parse_atom k n w text ts)
-  string_base {builds} parsed is built = record { derivation = grammar.string text; is = λ k n. ap (λ v. parse_atom k n v text ts) is; built = any_building builds parsed _ built }
+  pub string_base : {builds : Bool} (n : ℕ) (parsed : ParsedExpr) → w ≡ kind.String → EndsIn (build (grammar.string text)) (tree_result parsed) → parsed.height ≡ 1 → ParsesBase builds n parsed ts (λ k h. parse_atom k h w text ts)
+  string_base {builds} n parsed is ends low = record {
+    derivation = grammar.string text;
+    is = λ k h. ap (λ v. parse_atom k h v text ts) is;
+    built = atom_of builds n (length ts) parsed (grammar.string text) tt tt refl low (λ on. ends);
+  }
 
   pub nameless_fails : (e : Failure) → w ≡ kind.LeftBrace → Fails e (parse_braces ts) → FailsBase e (λ k n. parse_atom k n w text ts)
   nameless_fails e is fails = λ k n. fails_first e (parse_braces ts) (λ b. parse_postfixes k n (grammar.nameless b.0) b.1) _ (ap (λ v. parse_atom k n v text ts) is) fails
 
-  pub nameless_base : {builds : Bool} (matchers : Result Matchers (Box code.BuildError Global)) (us : List Symbol) (parsed : ParsedExpr) → w ≡ kind.LeftBrace → ParsesAskedPart builds plain_matchers_of braces_value matchers us (parse_braces ts)
-      → ((b : Braces) → IsBuiltBy plain_matchers_of matchers (braces_value b) → IsExprOf true parsed (grammar.nameless b)) → parsed.height ≡ 1 → ParsesBase builds parsed us (λ k n. parse_atom k n w text ts)
-  nameless_base {builds} matchers us parsed is read built low = record {
+  pub nameless_base : {builds : Bool} (n : ℕ) (matchers : Result Matchers (Box code.BuildError Global)) (us : List Symbol) (parsed : ParsedExpr) → w ≡ kind.LeftBrace → ParsesAskedPart builds plain_matchers_of braces_value matchers us (parse_braces ts)
+      → ((b : Braces) → IsBuiltBy plain_matchers_of matchers (braces_value b) → EndsIn (build (grammar.nameless b)) (tree_result parsed)) → parsed.height ≡ 1 → ParsesBase builds n parsed us (λ k h. parse_atom k h w text ts)
+  nameless_base {builds} n matchers us parsed is read built low = record {
     derivation = grammar.nameless read.part;
-    is = λ k n. ap (λ v. parse_atom k n v text ts) is ∙ ap (λ o. o then λ b. parse_postfixes k n (grammar.nameless b.0) b.1) read.is;
-    built = where_built builds parsed (grammar.nameless read.part) low (λ on. built read.part (read.built on));
+    is = λ k h. ap (λ v. parse_atom k h v text ts) is ∙ ap (λ o. o then λ b. parse_postfixes k h (grammar.nameless b.0) b.1) read.is;
+    built = atom_of builds n (length us) parsed (grammar.nameless read.part) tt tt refl low (λ on. built read.part (read.built on));
   }
 
   named_read : (k n : ℕ) → may_be_name w ≡ true → parse_selector k n w text ts ≡ (parse_optional_braces ts then λ x. parse_postfixes k n (grammar.selector w text x.0) x.1)
   named_read k n may = ap (λ b. cond b (parse_optional_braces ts then λ x. parse_postfixes k n (grammar.selector w text x.0) x.1) (Err (misfit (word w text ∷ ts)))) may
 
   -- a name without braces
-  pub bare_base : {builds : Bool} (parsed : ParsedExpr) → may_be_name w ≡ true → HasNo kind.LeftBrace ts → ((v : TokenKind) → IsExprOf true parsed (grammar.selector v text None)) → ParsesBase builds parsed ts (λ k n. parse_selector k n w text ts)
-  bare_base {builds} parsed may none built = record {
+  pub bare_base : {builds : Bool} (n : ℕ) (parsed : ParsedExpr) → may_be_name w ≡ true → HasNo kind.LeftBrace ts → ((v : TokenKind) → EndsIn (build (grammar.selector v text None)) (tree_result parsed)) → parsed.height ≡ 1 → ParsesBase builds n parsed ts (λ k h. parse_selector k h w text ts)
+  bare_base {builds} n parsed may none built low = record {
     derivation = grammar.selector w text None;
-    is = λ k n. named_read k n may ∙ ap (λ o. o then λ x. parse_postfixes k n (grammar.selector w text x.0) x.1) (no_braces ts none);
-    built = any_building builds parsed _ (built w);
+    is = λ k h. named_read k h may ∙ ap (λ o. o then λ x. parse_postfixes k h (grammar.selector w text x.0) x.1) (no_braces ts none);
+    built = atom_of builds n (length ts) parsed (grammar.selector w text None) tt tt refl low (λ on. built w);
   }
 
   pub selected_fails : (e : Failure) → Fails e (parse_braces ts) → FailsBase e (λ k n. parse_selector_braces k n w text ts)
   selected_fails e fails = λ k n. fails_first e (parse_braces ts) (λ b. parse_postfixes k n (grammar.selector w text (Some b.0)) b.1) _ refl fails
 
-  pub selected_base : {builds : Bool} (matchers : Result Matchers (Box code.BuildError Global)) (us : List Symbol) (parsed : ParsedExpr) → ParsesAskedPart builds plain_matchers_of braces_value matchers us (parse_braces ts)
-      → ((v : TokenKind) (b : Braces) → IsBuiltBy plain_matchers_of matchers (braces_value b) → IsExprOf true parsed (grammar.selector v text (Some b))) → parsed.height ≡ 1 → ParsesBase builds parsed us (λ k n. parse_selector_braces k n w text ts)
-  selected_base {builds} matchers us parsed read built low = record {
+  pub selected_base : {builds : Bool} (n : ℕ) (matchers : Result Matchers (Box code.BuildError Global)) (us : List Symbol) (parsed : ParsedExpr) → ParsesAskedPart builds plain_matchers_of braces_value matchers us (parse_braces ts)
+      → ((v : TokenKind) (b : Braces) → IsBuiltBy plain_matchers_of matchers (braces_value b) → EndsIn (build (grammar.selector v text (Some b))) (tree_result parsed)) → parsed.height ≡ 1 → ParsesBase builds n parsed us (λ k h. parse_selector_braces k h w text ts)
+  selected_base {builds} n matchers us parsed read built low = record {
     derivation = grammar.selector w text (Some read.part);
-    is = λ k n. ap (λ o. o then λ b. parse_postfixes k n (grammar.selector w text (Some b.0)) b.1) read.is;
-    built = where_built builds parsed (grammar.selector w text (Some read.part)) low (λ on. built w read.part (read.built on));
+    is = λ k h. ap (λ o. o then λ b. parse_postfixes k h (grammar.selector w text (Some b.0)) b.1) read.is;
+    built = atom_of builds n (length us) parsed (grammar.selector w text (Some read.part)) tt tt refl low (λ on. built w read.part (read.built on));
   }
 
 -- a token that is no name, and one that is

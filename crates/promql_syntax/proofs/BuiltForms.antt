@@ -1,5 +1,5 @@
 -- What the parts of each form build.
-use Rattle.std.proofs.Common.{◌≡◌, ℕ, Bool, ◌&&◌, true, false, refl, sym, ◌∙◌, ap, subst, [], Option, Some, None}
+use Rattle.std.proofs.Common.{◌≡◌, ℕ, ◌<◌, ◌^◌, Bool, ◌&&◌, true, false, refl, sym, ◌∙◌, ap, subst, [], Option, Some, None}
 use Rattle.std.specs.Prelude.{Result, Ok, Err, IfOk, is_ok, ◌==◌, cond}
 use Rattle.std.specs.declared.alloc.Global.{Global}
 use Rattle.std.specs.declared.boxed.Box.{Box}
@@ -25,10 +25,11 @@ use Rattle.promql_grammar.specs.GrammarParts as part
 use Rattle.promql_grammar.specs.Results.{◌then◌}
 use Rattle.promql_syntax.specs.declared.grammar.parsed.ParsedExpr.{ParsedExpr}
 use Rattle.promql_syntax.specs.declared.grammar.parsed.ParsedArgs.{ParsedArgs}
-use Rattle.promql_syntax.specs.Asking.{Asking, gives, ◌giving◌, known}
+use Rattle.promql_syntax.specs.Asking.{Asking, gives, ◌giving◌, known, EndsIn}
 use Rattle.promql_syntax.specs.Building.{build, build_call, from_verdict, from_checked_verdict, selector_tree, build_postfix, build_unary}
 use Rattle.promql_syntax.specs.BuildErrors.{BuildError, build_error_of, unknown_function}
-use Rattle.promql_syntax.specs.ParsesExpr.{EndsIn, IsExprOf, tree_result, trees_result, outcome}
+use Rattle.promql_syntax.specs.FaultTokens.{subexpressions}
+use Rattle.promql_syntax.specs.ParsesExpr.{IsExprOf, IsPlaced, tree_result, trees_result, outcome}
 use Rattle.promql_syntax.specs.PartBuilding.{clause_value, modifier_value, time_value, step_value, moment_value, shift_value}
 use Rattle.promql_syntax.specs.Postfixes.{Change, apply_change, change_value, to_subquery}
 use Rattle.promql_syntax.proofs.Ending.{ends_known}
@@ -37,8 +38,11 @@ pub if_ok_both : {X E : Type 0} {P Q R : X → Type 0} (r : Result X E) → IfOk
 if_ok_both (Ok x) p q both = both x p q
 if_ok_both (Err e) p q both = tt
 
-pub is_expr_of : (builds : Bool) (parsed : ParsedExpr) (d : grammar.Derivation) (h : ℕ) (o : Result Tree BuildError) → tree_result parsed ≡ o → parsed.height ≡ h → h ≡ grammar.height d → (builds ≡ true → EndsIn (build d) o) → IsExprOf builds parsed d
-is_expr_of builds parsed d h o value tall is ends = record { tall = tall ∙ is; built = λ on. subst (EndsIn (build d)) (sym value) (ends on) }
+pub is_expr_of : (builds : Bool) (n k : ℕ) (parsed : ParsedExpr) (d : grammar.Derivation) (h : ℕ) (o : Result Tree BuildError) → tree_result parsed ≡ o → parsed.height ≡ h → h ≡ grammar.height d → (builds ≡ true → EndsIn (build d) o)
+    → (builds ≡ true → EndsIn (build d) (tree_result parsed) → n < 2 ^ 64 → IsPlaced n (subexpressions k d) parsed.value) → IsExprOf builds n k parsed d
+is_expr_of builds n k parsed d h o value tall is ends placed =
+    let built : builds ≡ true → EndsIn (build d) (tree_result parsed) = λ on. subst (EndsIn (build d)) (sym value) (ends on) in
+    record { tall = tall ∙ is; built = built; placed = λ on fits. placed on (built on) fits }
 
 -- what comes after a value is built where that is
 pub goes_on : {X E : Type 0} (builds : Bool) (r : Result X E) (x : X) → r ≡ Ok x → builds ≡ true → (builds && is_ok r) ≡ true

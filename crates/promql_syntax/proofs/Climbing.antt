@@ -13,6 +13,8 @@ use Rattle.promql_grammar.specs.OperatorTokens.{HasNoOperator, EatsOperator}
 use Rattle.promql_grammar.specs.Failures.{Fails, Failure}
 use Rattle.promql_syntax.specs.declared.grammar.parsed.ParsedExpr.{ParsedExpr}
 use Rattle.promql_syntax.specs.ParsesExpr.{IsExprOf, ParsesExpr}
+use Rattle.promql_syntax.specs.Placing.{left_after}
+use Rattle.promql_syntax.proofs.Bases.{expression_length, followed_by, modifier_length}
 use Rattle.promql_syntax.proofs.ReadErrorSteps.{fails_first}
 
 expression_suc : (n m : ℕ) (ts : List Symbol) → parse_expression (suc n) m ts ≡ (parse_unary (parse_expression n) (length ts) (suc n) ts then λ x. parse_operators (parse_expression n) (length ts) n m x.0 x.1)
@@ -34,15 +36,15 @@ expression_fails max_height below m ts e under fails =
     fails_first e (parse_unary (parse_expression below) (length ts) (below + 1) ts) (λ x. parse_operators (parse_expression below) (length ts) below m x.0 x.1) (parse_expression max_height m ts) (expression_at max_height below m ts under) fails
 
 -- a left side was parsed, and parsing goes on after it
-pub record Climbing (builds : Bool) (max_height below m : ℕ) (all : List Symbol) (left : ParsedExpr) (rest : List Symbol) : Type 0 where
+pub record Climbing (builds : Bool) (n max_height below m : ℕ) (all : List Symbol) (left : ParsedExpr) (rest : List Symbol) : Type 0 where
   pub derivation : Derivation
   pub turns : ℕ
   pub enough : length rest ≤ turns
-  pub built : IsExprOf builds left derivation
+  pub built : IsExprOf builds n (length rest) left derivation
   pub goes : parse_expression max_height m all ≡ parse_operators (parse_expression below) turns below m derivation rest
 
-pub climbing_first : {builds : Bool} (max_height below m : ℕ) (all : List Symbol) (left : ParsedExpr) (rest : List Symbol) → max_height ≡ below + 1 → ParsesExpr builds left rest (parse_unary (parse_expression below) (length all) (below + 1) all) → length rest ≤ length all → Climbing builds max_height below m all left rest
-climbing_first max_height below m all left rest under given short = record {
+pub climbing_first : {builds : Bool} (n max_height below m : ℕ) (all : List Symbol) (left : ParsedExpr) (rest : List Symbol) → max_height ≡ below + 1 → ParsesExpr builds n left rest (parse_unary (parse_expression below) (length all) (below + 1) all) → length rest ≤ length all → Climbing builds n max_height below m all left rest
+climbing_first n max_height below m all left rest under given short = record {
   derivation = given.derivation;
   turns = length all;
   enough = short;
@@ -56,8 +58,8 @@ climb_stops r (suc k) n m d (word (kind.Operator op) text ∷ ts) stop = sym (co
 climb_stops r (suc k) n m d ts stop = refl
 
 -- no operator follows
-pub climbing_stops : {builds : Bool} (max_height below m : ℕ) (all ts : List Symbol) (left : ParsedExpr) → Climbing builds max_height below m all left ts → HasNoOperator m ts → ParsesExpr builds left ts (parse_expression max_height m all)
-climbing_stops max_height below m all ts left climbing stop = record {
+pub climbing_stops : {builds : Bool} (n max_height below m : ℕ) (all ts : List Symbol) (left : ParsedExpr) → Climbing builds n max_height below m all left ts → HasNoOperator m ts → ParsesExpr builds n left ts (parse_expression max_height m all)
+climbing_stops n max_height below m all ts left climbing stop = record {
   derivation = climbing.derivation;
   is = climbing.goes ∙ climb_stops (parse_expression below) climbing.turns below m climbing.derivation ts stop;
   built = climbing.built;
@@ -77,7 +79,7 @@ climb_on r (suc k) n m op d ts us takes turns low = (
   ap (parse_operators r (suc k) n m d) takes.first ∙ sym (cond_above (precedence op) m (Ok (d, word (kind.Operator op) takes.text ∷ us)) _ _ takes.least refl) ∙ sym (cond_above n (height d) (Err too_high) _ _ low refl),
 )
 
-module _ {builds : Bool} (max_height below m : ℕ) (all ts : List Symbol) (left : ParsedExpr) (climbing : Climbing builds max_height below m all left ts) (op : ℕ) (us : List Symbol) (takes : EatsOperator m op ts us) where
+module _ {builds : Bool} (n max_height below m : ℕ) (all ts : List Symbol) (left : ParsedExpr) (climbing : Climbing builds n max_height below m all left ts) (op : ℕ) (us : List Symbol) (takes : EatsOperator m op ts us) where
   -- what is before the operator is too high
   pub climbing_deep : below < left.height → parse_expression max_height m all ≡ Err too_high
   climbing_deep high =
@@ -103,17 +105,20 @@ module _ {builds : Bool} (max_height below m : ℕ) (all ts : List Symbol) (left
         fails_first e (parse_expression below (right_precedence op) vs) (λ x. parse_operators (parse_expression below) step.0 below m (binary op takes.text modifier climbing.derivation x.0) x.1) (parse_expression max_height m all)
         (climbing.goes ∙ step.2 ∙ ap (λ o. o then λ y. parse_expression below (right_precedence op) y.1 then λ x. parse_operators (parse_expression below) step.0 below m (binary op takes.text y.0 climbing.derivation x.0) x.1) modified) fails
 
-    pub climbing_on : (ws : List Symbol) (right made : ParsedExpr) → left.height ≤ below → length vs ≤ length us → ParsesExpr (builds && is_ok left.value) right ws (parse_expression below (right_precedence op) vs) → length ws ≤ length vs
-        → ((text : Text) (l r : Derivation) → IsExprOf builds left l → IsExprOf (builds && is_ok left.value) right r → IsExprOf builds made (binary op text modifier l r)) → Climbing builds max_height below m all made ws
-    climbing_on ws right made low shorter given short built =
+    pub climbing_on : (ws : List Symbol) (right made : ParsedExpr) → left.height ≤ below → (given : ParsesExpr (builds && is_ok left.value) n right ws (parse_expression below (right_precedence op) vs))
+        → ((text : Text) (l : Derivation) → IsExprOf builds n (left_after (length ws) modifier given.derivation) left l → IsExprOf (builds && is_ok left.value) n (length ws) right given.derivation → IsExprOf builds n (length ws) made (binary op text modifier l given.derivation)) → Climbing builds n max_height below m all made ws
+    climbing_on ws right made low given built =
         let so_far = climbing.built in
         let tall = so_far.tall in
         let step = climb_on (parse_expression below) climbing.turns below m op climbing.derivation ts us takes climbing.enough (omega arith) in
+        let modifier_taken = modifier_length us vs modifier modified in
+        let right_taken = expression_length below (right_precedence op) vs ws given.derivation given.is in
         record {
           derivation = binary op takes.text modifier climbing.derivation given.derivation;
           turns = step.0;
-          enough = omega (arith, step.1);
-          built = built takes.text climbing.derivation given.derivation climbing.built given.built;
+          enough = omega (arith, step.1, modifier_taken, right_taken);
+          built = built takes.text climbing.derivation
+              (followed_by n (length ts) (left_after (length ws) modifier given.derivation) left climbing.derivation (omega (arith, ap length takes.first, modifier_taken, right_taken)) climbing.built) given.built;
           goes = climbing.goes ∙ step.2
               ∙ ap (λ o. o then λ y. parse_expression below (right_precedence op) y.1 then λ x. parse_operators (parse_expression below) step.0 below m (binary op takes.text y.0 climbing.derivation x.0) x.1) modified
               ∙ ap (λ o. o then λ x. parse_operators (parse_expression below) step.0 below m (binary op takes.text modifier climbing.derivation x.0) x.1) given.is;

@@ -6,10 +6,9 @@ use Rattle.std.specs.declared.boxed.Box.{Box}
 use Rattle.promql_label.specs.Answers.{Answer}
 use Rattle.promql_text.specs.Texts.{Text}
 use Rattle.promql_syntax.specs.declared.grammar.build_error.BuildError as code
-use Rattle.promql_syntax.specs.Asking.{Asking, gives, fails, asks, ◌giving◌, known, Asked, AreAllowed, AreAnswersOf, Ends, under}
+use Rattle.promql_syntax.specs.Asking.{Asking, gives, fails, asks, ◌giving◌, known, Asked, AreAllowed, AreAnswersOf, Ends, under, EndsIn}
 use Rattle.promql_syntax.specs.BuildErrors.{BuildError, view_result}
 use Rattle.promql_syntax.specs.ParsesPart.{IsBuiltBy}
-use Rattle.promql_syntax.specs.ParsesExpr.{EndsIn}
 
 -- the answers to both
 allowed_both : (xs ys : List Asked) → AreAllowed xs → AreAllowed ys → AreAllowed (xs ++ ys)

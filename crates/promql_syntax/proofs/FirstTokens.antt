@@ -94,8 +94,8 @@ ok_begins r k n (word kind.Start text ∷ ts) ok = refl
 ok_begins r k n (word kind.End text ∷ ts) ok = refl
 ok_begins r k n (word w text ∷ ts) ok = word_begins w text ts (named_begins k n w text ts (may_be_name w) refl ok)
 
-pub given_begins : {builds : Bool} (r : Reader) (k n : ℕ) (ts rest : List Symbol) (parsed : ParsedExpr) → ParsesExpr builds parsed rest (parse_unary r k n ts) → begins ts ≡ true
+pub given_begins : {builds : Bool} {total : ℕ} (r : Reader) (k n : ℕ) (ts rest : List Symbol) (parsed : ParsedExpr) → ParsesExpr builds total parsed rest (parse_unary r k n ts) → begins ts ≡ true
 given_begins r k n ts rest parsed given = ok_begins r k n ts (subst IsOkRead (sym given.is) tt)
 
-pub base_begins : {builds : Bool} (r : Reader) (ts rest : List Symbol) (parsed : ParsedExpr) → ParsesBase builds parsed rest (λ k n. parse_unary r k n ts) → begins ts ≡ true
+pub base_begins : {builds : Bool} {total : ℕ} (r : Reader) (ts rest : List Symbol) (parsed : ParsedExpr) → ParsesBase builds total parsed rest (λ k n. parse_unary r k n ts) → begins ts ≡ true
 base_begins r ts rest parsed base = ok_begins r 0 0 ts (subst IsOkRead (sym (base.is 0 0)) tt)

@@ -12,6 +12,9 @@ pub mod Climbing
 pub mod Collecting
 pub mod Derive
 pub mod Ending
+pub mod FaultPlacing
+pub mod TokenFaults
+pub mod OwnFaults
 pub mod ReadErrorSteps
 pub mod ResultSteps
 pub mod BuiltForms

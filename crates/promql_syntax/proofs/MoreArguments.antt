@@ -1,16 +1,20 @@
 -- Building arguments with one more after them.
-use Rattle.std.proofs.Common.{◌≡◌, ◌⊎◌, Bool, true, inl, inr, ⊎_elim, max, refl, sym, ap, subst, arith, List, [], ◌∷◌, ◌++◌, map}
+use Rattle.std.proofs.Common.{◌≡◌, ◌⊎◌, ℕ, ◌+◌, ◌<◌, ◌^◌, ◌∙◌, Bool, true, inl, inr, ⊎_elim, max, refl, sym, ap, ap₂, subst, arith, List, [], ◌∷◌, ◌++◌, map, length, append-nil, append_assoc}
+use Rattle.std.specs.List.{Contains}
 use Rattle.std.specs.Prelude.{Result, Ok, Err}
 use Rattle.promql_ast.specs.Arguments.{append_tree}
 use Rattle.promql_ast.specs.View.{trees}
 use Rattle.promql_ast.specs.Tree.{Tree, Trees, no_trees, first_tree}
 use Rattle.promql_grammar.specs.Grammar as grammar
-use Rattle.promql_syntax.specs.Asking.{Asking, gives, fails, asks, ◌giving◌, Asked, AreAllowed, Ends}
+use Rattle.promql_grammar.specs.Grammar.{yield}
+use Rattle.promql_syntax.specs.Asking.{Asking, gives, fails, asks, ◌giving◌, Asked, AreAllowed, Ends, EndsIn}
 use Rattle.promql_syntax.specs.Building.{build, build_all}
 use Rattle.promql_syntax.specs.BuildErrors.{BuildError}
-use Rattle.promql_syntax.specs.ParsesExpr.{EndsIn, IsExprOf, AreArgsOf, trees_result, append_derivation}
+use Rattle.promql_syntax.specs.ParsesExpr.{IsExprOf, AreArgsOf, trees_result, append_derivation, IsPlaced}
 use Rattle.promql_syntax.specs.declared.grammar.parsed.ParsedExpr.{ParsedExpr}
 use Rattle.promql_syntax.specs.declared.grammar.parsed.ParsedArgs.{ParsedArgs}
+use Rattle.promql_syntax.specs.FaultTokens.{rest_count, subexpressions, subexpressions_of}
+use Rattle.promql_syntax.proofs.FaultPlacing.{Within, on_left, on_right}
 use Rattle.promql_syntax.proofs.Ending.{then_value, then_fault, ends_known}
 
 -- ---- what comes first ends in an error, or in a value that leads on
@@ -121,22 +125,44 @@ fault_ends (grammar.more e ds) d f ends =
     (split_in (build_all ds) (λ us. gives (first_tree l.value us)) (Err f) l.after)))
     (split_in (build e) (λ t. build_all ds giving λ us. gives (first_tree t us)) (Err f) ends)
 
-module _ {builds next : Bool} (made args : ParsedArgs) (parsed : ParsedExpr) (ds : grammar.Arguments) (d : grammar.Derivation) (tall : made.height ≡ max args.height parsed.height) (before : AreArgsOf builds args ds) (last : IsExprOf next parsed d) where
+module _ {builds next : Bool} {n k : ℕ} (made args : ParsedArgs) (parsed : ParsedExpr) (ds : grammar.Arguments) (d : grammar.Derivation) (tall : made.height ≡ max args.height parsed.height) (before : AreArgsOf builds n (1 + (length (yield d) + k)) args ds) (last : IsExprOf next n k parsed d)
+    (placed : builds ≡ true → n < 2 ^ 64 → IsPlaced n (subexpressions_of k (append_derivation ds d)) made.value) where
   tall_arguments : made.height ≡ grammar.greatest_height (append_derivation ds d)
   tall_arguments = let one = before.tall in let other = last.tall in let all = followed_height ds d in omega arith
 
   pub more_arguments_of : (o : Result Trees BuildError) (p : Result Tree BuildError) → trees_result made ≡ combine_results o p → (builds ≡ true → EndsIn (build_all ds) o) → (builds ≡ true → EndsIn (build d) p)
-      → AreArgsOf builds made (append_derivation ds d)
+      → AreArgsOf builds n k made (append_derivation ds d)
   more_arguments_of o p value first second = record {
     tall = tall_arguments;
     built = λ on. subst (EndsIn (build_all (append_derivation ds d))) (sym value) (more_ends ds d o p (first on) (second on));
+    placed = placed;
   }
 
-  pub no_arguments_of : (f : BuildError) → trees_result made ≡ Err f → (builds ≡ true → EndsIn (build_all ds) (Err f)) → AreArgsOf builds made (append_derivation ds d)
+  pub no_arguments_of : (f : BuildError) → trees_result made ≡ Err f → (builds ≡ true → EndsIn (build_all ds) (Err f)) → AreArgsOf builds n k made (append_derivation ds d)
   no_arguments_of f value first = record {
     tall = tall_arguments;
     built = λ on. subst (EndsIn (build_all (append_derivation ds d))) (sym value) (fault_ends ds d f (first on));
+    placed = placed;
   }
+
+-- ---- where their faults are
+
+rest_append : (ds : grammar.Arguments) (d : grammar.Derivation) → rest_count (append_derivation ds d) ≡ rest_count ds + (1 + length (yield d))
+rest_append grammar.none d = omega arith
+rest_append (grammar.more e ds) d = omega (arith, rest_append ds d)
+
+append_subexpressions : (k : ℕ) (ds : grammar.Arguments) (d : grammar.Derivation) → subexpressions_of k (append_derivation ds d) ≡ subexpressions_of (1 + (length (yield d) + k)) ds ++ subexpressions k d
+append_subexpressions k grammar.none d = append-nil (subexpressions (0 + k) d) ∙ ap (λ j. subexpressions j d) (omega arith)
+append_subexpressions k (grammar.more e ds) d =
+    let counts : rest_count (append_derivation ds d) + k ≡ rest_count ds + (1 + (length (yield d) + k)) = omega (arith, rest_append ds d) in
+    ap₂ (λ xs ys. xs ++ ys) (ap (λ j. subexpressions j e) counts) (append_subexpressions k ds d)
+    ∙ sym (append_assoc (subexpressions (rest_count ds + (1 + (length (yield d) + k))) e) (subexpressions_of (1 + (length (yield d) + k)) ds) (subexpressions k d))
+
+pub in_first : (k : ℕ) (ds : grammar.Arguments) (d : grammar.Derivation) → Within (subexpressions_of (1 + (length (yield d) + k)) ds) (subexpressions_of k (append_derivation ds d))
+in_first k ds d = λ s is. subst (λ l. Contains l s) (sym (append_subexpressions k ds d)) (on_left (subexpressions_of (1 + (length (yield d) + k)) ds) (subexpressions k d) s is)
+
+pub in_last : (k : ℕ) (ds : grammar.Arguments) (d : grammar.Derivation) → Within (subexpressions k d) (subexpressions_of k (append_derivation ds d))
+in_last k ds d = λ s is. subst (λ l. Contains l s) (sym (append_subexpressions k ds d)) (on_right (subexpressions_of (1 + (length (yield d) + k)) ds) (subexpressions k d) s is)
 
 pub appended_trees : {X : Type 0} (f : X → Tree) (xs : List X) (x : X) → trees (map f (xs ++ x ∷ [])) ≡ append_tree (trees (map f xs)) (f x)
 appended_trees f [] x = refl

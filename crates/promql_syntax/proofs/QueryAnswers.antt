@@ -1,6 +1,9 @@
 -- From what parsing gives to the answer.
 use Rattle.std.proofs.Common.{◌≡◌, ℕ, Bool, ◌+◌, ◌<◌, ◌≤◌, true, false, suc, refl, sym, ◌∙◌, ap, subst, arith, List, [], ◌∷◌, ◌++◌, length, append-nil}
-use Rattle.std.specs.Prelude.{◌==◌, Ok, Err}
+use Rattle.std.specs.Prelude.{◌==◌, ◌^◌, Result, Ok, Err, IfErr}
+use Rattle.std.specs.declared.alloc.Global.{Global}
+use Rattle.std.specs.declared.boxed.Box.{Box}
+use Rattle.promql_ast.specs.declared.expr.Expr.{Expr}
 use Rattle.std.proofs.lemmas.Bool.Decides.{nat_tests}
 use Rattle.promql_grammar.specs.declared.read_error.ReadError.{ReadError}
 use Rattle.promql_grammar.specs.declared.read_error.ReadError.TheVariants.{Memory, Syntax, TooDeep}
@@ -14,8 +17,10 @@ use Rattle.promql_grammar.proofs.NoneFit.{misfits, misfits_after}
 use Rattle.promql_grammar.proofs.Unique.{whole}
 use Rattle.promql_grammar.proofs.Sound.{Good, expression_sound}
 use Rattle.promql_syntax.specs.declared.grammar.parsed.ParsedExpr.{ParsedExpr}
-use Rattle.promql_syntax.specs.ParsesExpr.{ParsesExpr}
-use Rattle.promql_syntax.specs.ParsesQuery.{ParsesQuery}
+use Rattle.promql_syntax.specs.FaultTokens.{subexpressions}
+use Rattle.promql_syntax.specs.ParsesExpr.{IsPlaced, ParsesExpr}
+use Rattle.promql_syntax.specs.ParsesQuery.{HasPlace, ParsesQuery}
+use Rattle.promql_syntax.specs.declared.grammar.build_error.BuildError as code
 
 abbrev IsOkRead : Read Derivation → Type 0
 IsOkRead (Ok x) = Unit {0}
@@ -35,7 +40,7 @@ whole_stops n ts rest Syntax fails = misfits n ts rest fails
 whole_stops n ts rest TooDeep fails = (too_deep_long n ts fails, too_deep_none n ts fails)
 
 -- something is left after what was read
-pub left_misfits : {builds : Bool} (n : ℕ) (ts rest : List Symbol) (parsed : ParsedExpr) → ParsesExpr builds parsed rest (parse_expression n 0 ts) → 0 < length rest → AreMisfits ts rest
+pub left_misfits : {builds : Bool} {total : ℕ} (n : ℕ) (ts rest : List Symbol) (parsed : ParsedExpr) → ParsesExpr builds total parsed rest (parse_expression n 0 ts) → 0 < length rest → AreMisfits ts rest
 left_misfits n ts [] parsed given some = absurd (omega arith)
 left_misfits n ts (x ∷ rest) parsed given some = misfits_after n ts x rest given.derivation given.is
 
@@ -43,7 +48,7 @@ no_rest : (d : Derivation) (ts rest : List Symbol) → length rest ≡ 0 → ts 
 no_rest d ts [] none spells = sym (append-nil (yield d)) ∙ sym spells
 no_rest d ts (t ∷ rest) none spells = absurd (omega arith)
 
-pub whole_given : (n : ℕ) (ts rest : List Symbol) (parsed : ParsedExpr) → ParsesExpr true parsed rest (parse_expression n 0 ts) → length rest ≡ 0 → ParsesQuery n ts rest (Ok parsed.value)
+pub whole_given : {total : ℕ} (n : ℕ) (ts rest : List Symbol) (parsed : ParsedExpr) → ParsesExpr true total parsed rest (parse_expression n 0 ts) → length rest ≡ 0 → ParsesQuery n ts rest (Ok parsed.value)
 whole_given n ts rest parsed given none =
     let read = subst (Good n 0 ts) given.is ((expression_sound n).by 0 ts) in
     let is_expr_of = given.built in
@@ -57,6 +62,18 @@ whole_given n ts rest parsed given none =
       allowed = built.allowed;
       is = built.ends;
     }
+
+fault_placed : (total : ℕ) (ts : List Symbol) (d : Derivation) (value : Result (Box Expr Global) (Box code.BuildError Global)) → IsWellFormed d → yield d ≡ ts → (total < 2 ^ 64 → IsPlaced total (subexpressions 0 d) value)
+    → IfErr value (λ e. total < 2 ^ 64 → HasPlace total ts e.value)
+fault_placed total ts d (Ok x) formed spells placed = tt
+fault_placed total ts d (Err e) formed spells placed = λ fits. record { derivation = d; formed = formed; spells = spells; fault = placed fits }
+
+pub whole_placed : (total n : ℕ) (ts rest : List Symbol) (parsed : ParsedExpr) → ParsesExpr true total parsed rest (parse_expression n 0 ts) → length rest ≡ 0 → IfErr parsed.value (λ e. total < 2 ^ 64 → HasPlace total ts e.value)
+whole_placed total n ts rest parsed given none =
+    let read = subst (Good n 0 ts) given.is ((expression_sound n).by 0 ts) in
+    let built = given.built in
+    fault_placed total ts given.derivation parsed.value read.formed (no_rest given.derivation ts rest none read.spells)
+    (λ fits. subst (λ k. IsPlaced total (subexpressions k given.derivation) parsed.value) none (built.placed refl fits))
 
 -- whether tokens are left
 pub some_left : (ts : List Symbol) → false ≡ (length ts == 0) → 0 < length ts

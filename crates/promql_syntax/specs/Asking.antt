@@ -51,3 +51,9 @@ under answers (asks v next) = under answers (next (answers v))
 abbrev pub AreAnswersOf : (Text → Answer) → List Asked → Type 0
 AreAnswersOf answers [] = Unit {0}
 AreAnswersOf answers (a ∷ more) = (a.answer ≡ answers a.about) × AreAnswersOf answers more
+
+-- building ends in the result, with answers that are allowed
+pub record EndsIn {A : Type 0} (building : Asking A) (result : Result A BuildError) : Type 0 where
+  pub answers : List Asked
+  pub allowed : AreAllowed answers
+  pub ends : Ends building answers result

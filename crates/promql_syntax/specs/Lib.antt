@@ -3,6 +3,8 @@ pub mod BuildErrors
 pub mod Asking
 pub mod PartBuilding
 pub mod Building
+pub mod FaultTokens
+pub mod Placing
 pub mod ParsesPart
 pub mod MatcherItems
 pub mod ModifierParts

@@ -1,5 +1,6 @@
 -- What the parser's functions return, beside what parsing gives. Private: nothing rests on believing it.
-use Rattle.std.specs.Prelude.{◌≡◌, ◌≤◌, ℕ, Bool, true, length, List, Option, Some, None, Result, Ok, Err, MatchResult}
+use Rattle.std.specs.Prelude.{◌≡◌, ◌+◌, ◌<◌, ◌≤◌, ◌^◌, ℕ, Bool, true, length, List, Option, Some, None, Result, Ok, Err, MatchResult}
+use Rattle.std.specs.List.{Contains}
 use Rattle.promql_grammar.specs.Failures.{Fails, Failure}
 use Rattle.promql_ast.specs.Faults.{Verdict, passes, rejected}
 use Rattle.promql_ast.specs.Tree.{Tree, Trees}
@@ -17,17 +18,13 @@ use Rattle.promql_grammar.specs.Parsing.{Read, parse_modifier, parse_postfixes}
 use Rattle.promql_grammar.specs.Symbols.{Symbol}
 use Rattle.promql_syntax.specs.declared.grammar.parsed.ParsedArgs.{ParsedArgs}
 use Rattle.promql_syntax.specs.declared.grammar.parsed.ParsedExpr.{ParsedExpr}
-use Rattle.promql_syntax.specs.Asking.{Asking, Asked, AreAllowed, Ends}
+use Rattle.promql_syntax.specs.Asking.{EndsIn}
 use Rattle.promql_syntax.specs.Building.{build, build_all}
 use Rattle.promql_syntax.specs.BuildErrors.{BuildError, build_error_of, check, view_result}
+use Rattle.promql_syntax.specs.FaultTokens.{IsFaultOf, Subexpression, fault_tokens, subexpressions, subexpressions_of}
 use Rattle.promql_syntax.specs.PartBuilding.{modifier_value}
+use Rattle.promql_syntax.specs.Placing.{AreTokens}
 use Rattle.promql_syntax.specs.declared.grammar.build_error.BuildError as code
-
--- building ends in the result, with answers that are allowed
-pub record EndsIn {A : Type 0} (building : Asking A) (result : Result A BuildError) : Type 0 where
-  pub answers : List Asked
-  pub allowed : AreAllowed answers
-  pub ends : Ends building answers result
 
 -- the tree or the error in a box
 abbrev pub view_boxed : Result (Box Expr Global) (Box code.BuildError Global) → Result Tree BuildError
@@ -51,39 +48,55 @@ abbrev pub append_derivation : grammar.Arguments → grammar.Derivation → gram
 append_derivation grammar.none d = grammar.more d grammar.none
 append_derivation (grammar.more e ds) d = grammar.more e (append_derivation ds d)
 
--- what was built of a derivation where it is built, and its height
-pub record IsExprOf (builds : Bool) (parsed : ParsedExpr) (d : grammar.Derivation) : Type 0 where
+-- an error is that of one of these, at its tokens
+pub record IsFaultIn (n : ℕ) (subs : List Subexpression) (e : code.BuildError) : Type 0 where
+  pub sub : Subexpression
+  pub is : Contains subs sub
+  pub fault : IsFaultOf (build_error_of e) sub
+  pub place : AreTokens n (fault_tokens (build_error_of e) sub.after sub.derivation) e.place
+
+abbrev pub IsPlaced : {V : Type 0} → ℕ → List Subexpression → Result V (Box code.BuildError Global) → Type 0
+IsPlaced n subs (Ok value) = Unit {0}
+IsPlaced n subs (Err e) = IsFaultIn n subs e.value
+
+-- what was built of a derivation where it is built, and its height; an error's place by how many of n tokens are left, k of them
+-- after the derivation
+pub record IsExprOf (builds : Bool) (n k : ℕ) (parsed : ParsedExpr) (d : grammar.Derivation) : Type 0 where
   pub tall : parsed.height ≡ grammar.height d
   pub built : builds ≡ true → EndsIn (build d) (tree_result parsed)
+  pub placed : builds ≡ true → n < 2 ^ 64 → IsPlaced n (subexpressions k d) parsed.value
 
-pub record AreArgsOf (builds : Bool) (args : ParsedArgs) (ds : grammar.Arguments) : Type 0 where
+pub record AreArgsOf (builds : Bool) (n k : ℕ) (args : ParsedArgs) (ds : grammar.Arguments) : Type 0 where
   pub tall : args.height ≡ grammar.greatest_height ds
   pub built : builds ≡ true → EndsIn (build_all ds) (trees_result args)
+  pub placed : builds ≡ true → n < 2 ^ 64 → IsPlaced n (subexpressions_of k ds) args.value
 
 -- an expression was parsed, and these tokens are left
-pub record ParsesExpr (builds : Bool) (parsed : ParsedExpr) (rest : List Symbol) (read : Read grammar.Derivation) : Type 0 where
+pub record ParsesExpr (builds : Bool) (n : ℕ) (parsed : ParsedExpr) (rest : List Symbol) (read : Read grammar.Derivation) : Type 0 where
   pub derivation : grammar.Derivation
   pub is : read ≡ Ok (derivation, rest)
-  pub built : IsExprOf builds parsed derivation
+  pub built : IsExprOf builds n (length rest) parsed derivation
 
-pub record ParsesArgs (builds : Bool) (args : ParsedArgs) (rest : List Symbol) (read : Read grammar.Arguments) : Type 0 where
+pub record ParsesArgs (builds : Bool) (n : ℕ) (args : ParsedArgs) (ts rest : List Symbol) (read : Read grammar.Arguments) : Type 0 where
   pub derivations : grammar.Arguments
   pub is : read ≡ Ok (derivations, rest)
-  pub built : AreArgsOf builds args derivations
+  pub taken : length ts ≡ length (grammar.yield_arguments derivations) + length rest
+  pub built : AreArgsOf builds n (1 + length rest) args derivations
 
 -- a base was parsed, whatever postfixes follow: at most k, up to height n
-pub record ParsesBase (builds : Bool) (parsed : ParsedExpr) (rest : List Symbol) (read : ℕ → ℕ → Read grammar.Derivation) : Type 0 where
+pub record ParsesBase (builds : Bool) (n : ℕ) (parsed : ParsedExpr) (rest : List Symbol) (read : ℕ → ℕ → Read grammar.Derivation) : Type 0 where
   pub derivation : grammar.Derivation
-  pub is : (k n : ℕ) → read k n ≡ parse_postfixes k n derivation rest
-  pub built : IsExprOf builds parsed derivation
+  pub is : (k h : ℕ) → read k h ≡ parse_postfixes k h derivation rest
+  pub built : IsExprOf builds n (length rest) parsed derivation
 
 abbrev pub FailsBase : Failure → (ℕ → ℕ → Read grammar.Derivation) → Type 0
 FailsBase failure read = (k n : ℕ) → Fails failure (read k n)
 
--- the postfixes of a base were parsed, where the whole is of height at most n
-abbrev pub ParsesPostfixes : Bool → ℕ → ParsedExpr → List Symbol → List Symbol → Result ParsedExpr ReadError → Type 0
-ParsesPostfixes builds n base ts rest result =
-    (d : grammar.Derivation) (k : ℕ) → IsExprOf builds base d → length ts ≤ k → MatchResult result (λ parsed. ParsesExpr builds parsed rest (parse_postfixes k n d ts)) (λ e. Fails (e, rest) (parse_postfixes k n d ts))
+-- the postfixes of a base were parsed, where the whole is of height at most h; `count` is how many tokens there are
+abbrev pub ParsesPostfixes : Bool → ℕ → ℕ → ParsedExpr → List Symbol → List Symbol → Result ParsedExpr ReadError → Type 0
+ParsesPostfixes builds count h base ts rest result =
+    (n : ℕ) (d : grammar.Derivation) (k : ℕ) → (n < 2 ^ 64 → count ≡ n) → IsExprOf builds n (length ts) base d → length ts ≤ k
+    → MatchResult result (λ parsed. ParsesExpr builds n parsed rest (parse_postfixes k h d ts)) (λ e. Fails (e, rest) (parse_postfixes k h d ts))
 
 -- ---- what waits in a box: nothing, or a value or error
 

@@ -13,7 +13,8 @@ use Rattle.promql_syntax.specs.declared.grammar.build_error.BuildError as code
 use Rattle.promql_syntax.specs.Building.{build}
 use Rattle.promql_syntax.specs.Asking.{Asked, AreAllowed, Ends}
 use Rattle.promql_syntax.specs.BuildErrors.{BuildError}
-use Rattle.promql_syntax.specs.ParsesExpr.{view_boxed}
+use Rattle.promql_syntax.specs.FaultTokens.{subexpressions}
+use Rattle.promql_syntax.specs.ParsesExpr.{IsFaultIn, view_boxed}
 
 -- a derivation of all the tokens, within the height, builds the value
 pub record IsQueryValue (n : ℕ) (ts : List Symbol) (value : Result Tree BuildError) : Type 0 where
@@ -32,3 +33,10 @@ ParsesQuery n ts rest (Ok value) = IsQueryValue n ts (view_boxed value)
 ParsesQuery n ts rest (Err Memory) = Unit {0}
 ParsesQuery n ts rest (Err Syntax) = AreMisfits ts rest
 ParsesQuery n ts rest (Err TooDeep) = (n < length ts + 1) × ((d : Derivation) → IsWellFormed d → height d ≤ n → ¬ (yield d ≡ ts))
+
+-- the fault is that of an expression in a derivation of the tokens, and the place is that of its tokens
+pub record HasPlace (n : ℕ) (ts : List Symbol) (e : code.BuildError) : Type 0 where
+  pub derivation : Derivation
+  pub formed : IsWellFormed derivation
+  pub spells : yield derivation ≡ ts
+  pub fault : IsFaultIn n (subexpressions 0 derivation) e

@@ -25,7 +25,7 @@ use Rattle.promql_syntax.specs.Asking.{Asking, gives, fails, asks, ◌giving◌,
 use Rattle.promql_syntax.specs.BuildErrors.{BuildError, number, quoted, duration, at, pattern}
 
 -- "Strings"
-abbrev unquoted_or_error : Option Text → Result Text BuildError
+abbrev pub unquoted_or_error : Option Text → Result Text BuildError
 unquoted_or_error (Some text) = Ok text
 unquoted_or_error None = Err quoted
 

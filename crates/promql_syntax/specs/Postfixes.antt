@@ -1,10 +1,13 @@
 -- Postfixes as plain data, and what each makes of its base. Private: nothing rests on believing it.
-use Rattle.std.specs.Prelude.{◌≡◌, ℕ, Bool, true, false, Option, Some, None, option_map, List, Result, Ok}
+use Rattle.std.specs.Prelude.{◌≡◌, ℕ, ◌+◌, ◌<◌, ◌^◌, Bool, true, false, Option, Some, None, option_map, List, length, Result, Ok, Err}
+use Rattle.std.specs.declared.alloc.Global.{Global}
+use Rattle.std.specs.declared.boxed.Box.{Box}
 use Rattle.std.specs.Duration.{as_nanos}
 use Rattle.promql_grammar.specs.Grammar.{added_height}
 use Rattle.promql_grammar.specs.declared.token_kinds.TokenKind.{TokenKind}
 use Rattle.promql_grammar.specs.declared.token_kinds.TokenKind.TheVariants as kind
 use Rattle.promql_grammar.specs.GrammarParts as part
+use Rattle.promql_grammar.specs.GrammarParts.{yield_signed}
 use Rattle.promql_grammar.specs.Parsing.{Read, parse_time, parse_range_end}
 use Rattle.promql_grammar.specs.Results.{◌then◌}
 use Rattle.promql_grammar.specs.Symbols.{Symbol}
@@ -18,8 +21,11 @@ use Rattle.promql_syntax.specs.declared.grammar.postfix.Postfix as code
 use Rattle.promql_syntax.specs.declared.grammar.postfix.Postfix.TheVariants as postfixes
 use Rattle.promql_syntax.specs.Asking.{Asking}
 use Rattle.promql_syntax.specs.Building.{from_verdict, bound_moment, range_mode}
-use Rattle.promql_syntax.specs.BuildErrors.{BuildError, view_result}
+use Rattle.promql_ast.specs.declared.at_modifier.AtFault.{AtFault}
+use Rattle.promql_syntax.specs.declared.grammar.build_error.BuildError as build_errors
+use Rattle.promql_syntax.specs.BuildErrors.{BuildError, at, build_error_of, view_result}
 use Rattle.promql_syntax.specs.PartBuilding.{time_value, step_value, moment_value, shift_value}
+use Rattle.promql_syntax.specs.Placing.{AreTokens}
 
 -- the kinds with which a postfix begins
 abbrev pub starts_postfix : TokenKind → Bool
@@ -72,18 +78,25 @@ subquery_change r s = r then λ n. optional s then λ m. Ok (to_subquery n m)
 abbrev pub parse_range : List Symbol → Read (Option part.Postfix)
 parse_range ts = parse_time ts then λ t. parse_range_end t.0 t.1
 
+-- a number after `@` that is no moment has its tokens there, where k of n tokens come after it
+abbrev pub IsMomentAt : ℕ → ℕ → part.Postfix → Result code.Postfix (Box build_errors.BuildError Global) → Type 0
+IsMomentAt n k (part.at_number s text) (Err e) =
+    (f : AtFault) → build_error_of e.value ≡ at f → AreTokens n (Some (length (yield_signed s) + (1 + k), k)) e.value.place
+IsMomentAt n k p value = Unit {0}
+
 -- the value is what the postfix builds, with its height
-pub record IsPostfixOf (held : ParsedPostfix) (p : part.Postfix) : Type 0 where
+pub record IsPostfixOf (n k : ℕ) (held : ParsedPostfix) (p : part.Postfix) : Type 0 where
   pub value : view_result change_of held.value ≡ change_value p
   pub adds : held.added_height ≡ added_height p
+  pub moment : n < 2 ^ 64 → IsMomentAt n k p held.value
 
 -- a postfix was parsed, and these tokens are left
-pub record ParsesPostfix (held : ParsedPostfix) (rest : List Symbol) (read : Read (Option part.Postfix)) : Type 0 where
+pub record ParsesPostfix (n : ℕ) (held : ParsedPostfix) (rest : List Symbol) (read : Read (Option part.Postfix)) : Type 0 where
   pub part : part.Postfix
   pub is : read ≡ Ok (Some part, rest)
-  pub built : IsPostfixOf held part
+  pub built : IsPostfixOf n (length rest) held part
 
 -- the same, or there is none
-abbrev pub ParsesOptionalPostfix : Option ParsedPostfix → List Symbol → Read (Option part.Postfix) → Type 0
-ParsesOptionalPostfix (Some held) rest read = ParsesPostfix held rest read
-ParsesOptionalPostfix None rest read = read ≡ Ok (None, rest)
+abbrev pub ParsesOptionalPostfix : ℕ → Option ParsedPostfix → List Symbol → Read (Option part.Postfix) → Type 0
+ParsesOptionalPostfix n (Some held) rest read = ParsesPostfix n held rest read
+ParsesOptionalPostfix n None rest read = read ≡ Ok (None, rest)

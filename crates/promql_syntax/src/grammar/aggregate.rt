@@ -2,7 +2,7 @@
 
 ghost use Rattle.std.specs.Prelude.{◌+◌, ◌≤◌, length, IfOk, MatchResult, OnOk};
 ghost use Rattle.promql_grammar.specs.Parsing.{parse_aggregate, parse_expression};
-ghost use Rattle.promql_grammar.specs.SymbolsLeft.{symbols_left};
+ghost use Rattle.promql_grammar.specs.SymbolsLeft.{CountsTaken, symbols_left, token_count};
 ghost use Rattle.promql_syntax.specs.ParsesExpr.{FailsBase, ParsesBase};
 
 use crate::grammar::atom::parse_selector;
@@ -30,7 +30,7 @@ pub fn parse_aggregate(
 ) -> Result<ParsedExpr, ReadError>
     requires { max_height ≤ MAX_DEPTH }
     ensures gives { MatchResult result
-        (λ parsed. ParsesBase builds parsed (symbols_left tokens.new)
+        (λ parsed. ParsesBase builds (token_count tokens.old) parsed (symbols_left tokens.new)
         (λ k n. parse_aggregate (parse_expression max_height) k n op name.now
         (symbols_left tokens.old)))
         (λ e. FailsBase (e, symbols_left tokens.new)
@@ -39,6 +39,7 @@ pub fn parse_aggregate(
     ensures low { IfOk result (λ parsed. parsed.height ≤ max_height + 1) }
     ensures short { OnOk result
         (length (symbols_left tokens.new) ≤ length (symbols_left tokens.old)) }
+    ensures counts { OnOk result (CountsTaken tokens.old tokens.new) }
 {
     if tokens.eat(TokenKind::LeftParen) {
         let args = parse_arguments(alloc, max_height, builds, tokens)?;

@@ -4,7 +4,7 @@ ghost use Rattle.std.specs.Prelude.{◌≡◌, ◌∷◌, ◌<◌, ◌≤◌, tr
 ghost use Rattle.promql_grammar.specs.Parsing.{parse_selector};
 ghost use Rattle.promql_grammar.specs.Symbols.{begins, may_be_name, symbol};
 ghost use Rattle.promql_grammar.specs.declared.token_kinds.TokenKind as kinds;
-ghost use Rattle.promql_grammar.specs.SymbolsLeft.{symbols_left};
+ghost use Rattle.promql_grammar.specs.SymbolsLeft.{CountsTaken, symbols_left, token_count};
 ghost use Rattle.promql_syntax.specs.ParsesExpr.{FailsBase, ParsesBase};
 ghost use Rattle.promql_syntax.specs.Atoms.{parse_atom, parse_named, parse_selector_braces};
 
@@ -28,13 +28,14 @@ pub fn parse_atom(
 ) -> Result<ParsedExpr, ReadError>
     requires { symbols_left tokens.now ≡ symbol kind text.now ∷ drop 1 (symbols_left tokens.now) }
     ensures gives { MatchResult result
-        (λ parsed. ParsesBase builds parsed (symbols_left tokens.new)
+        (λ parsed. ParsesBase builds (token_count tokens.old) parsed (symbols_left tokens.new)
         (λ k n. parse_atom k n kind text.now (drop 1 (symbols_left tokens.old))))
         (λ e. FailsBase (e, symbols_left tokens.new)
         (λ k n. parse_atom k n kind text.now (drop 1 (symbols_left tokens.old)))) }
     ensures low { IfOk result (λ parsed. parsed.height ≡ 1) }
     ensures short { OnOk result
         (length (symbols_left tokens.new) ≤ length (symbols_left tokens.old)) }
+    ensures counts { OnOk result (CountsTaken tokens.old tokens.new) }
     ensures memory { IsErrOf result ReadError.Memory → begins (symbols_left tokens.old) ≡ true }
 {
     let start = tokens.index();
@@ -71,13 +72,14 @@ fn parse_named(
 ) -> Result<ParsedExpr, ReadError>
     requires { symbols_left tokens.now ≡ symbol kind name.now ∷ drop 1 (symbols_left tokens.now) }
     ensures gives { MatchResult result
-        (λ parsed. ParsesBase builds parsed (symbols_left tokens.new)
+        (λ parsed. ParsesBase builds (token_count tokens.old) parsed (symbols_left tokens.new)
         (λ k n. parse_named k n kind name.now (drop 1 (symbols_left tokens.old))))
         (λ e. FailsBase (e, symbols_left tokens.new)
         (λ k n. parse_named k n kind name.now (drop 1 (symbols_left tokens.old)))) }
     ensures low { IfOk result (λ parsed. parsed.height ≡ 1) }
     ensures short { OnOk result
         (length (symbols_left tokens.new) ≤ length (symbols_left tokens.old)) }
+    ensures counts { OnOk result (CountsTaken tokens.old tokens.new) }
     ensures memory { IsErrOf result ReadError.Memory → may_be_name kind ≡ true }
 {
     if !kind.may_be_name() {
@@ -100,12 +102,13 @@ pub fn parse_selector(
 ) -> Result<ParsedExpr, ReadError>
     requires { may_be_name kind ≡ true }
     ensures gives { MatchResult result
-        (λ parsed. ParsesBase builds parsed (symbols_left tokens.new)
+        (λ parsed. ParsesBase builds (token_count tokens.old) parsed (symbols_left tokens.new)
         (λ k n. parse_selector k n kind name.now (symbols_left tokens.old)))
         (λ e. FailsBase (e, symbols_left tokens.new) (λ k n. parse_selector k n kind name.now (symbols_left tokens.old))) }
     ensures low { IfOk result (λ parsed. parsed.height ≡ 1) }
     ensures short { OnOk result
         (length (symbols_left tokens.new) ≤ length (symbols_left tokens.old)) }
+    ensures counts { OnOk result (CountsTaken tokens.old tokens.new) }
 {
     if tokens.eat(TokenKind::LeftBrace) {
         return parse_selector_braces(alloc, builds, name, start, tokens);
@@ -123,13 +126,14 @@ fn parse_selector_braces(
     tokens: &mut Tokens<'_>,
 ) -> Result<ParsedExpr, ReadError>
     ensures gives { (kind : kinds.TokenKind) → MatchResult result
-        (λ parsed. ParsesBase builds parsed (symbols_left tokens.new)
+        (λ parsed. ParsesBase builds (token_count tokens.old) parsed (symbols_left tokens.new)
         (λ k n. parse_selector_braces k n kind name.now (symbols_left tokens.old)))
         (λ e. FailsBase (e, symbols_left tokens.new) (λ k n. parse_selector_braces k n kind name.now
         (symbols_left tokens.old))) }
     ensures low { IfOk result (λ parsed. parsed.height ≡ 1) }
     ensures short { OnOk result
         (length (symbols_left tokens.new) < length (symbols_left tokens.old)) }
+    ensures counts { OnOk result (CountsTaken tokens.old tokens.new) }
 {
     let matchers = parse_braces(alloc, builds, tokens)?;
     let extent = Extent::atom(start, tokens.index());

@@ -1,21 +1,25 @@
 //! What each form of expression builds of its parts: their first error, or a checked node.
 
-ghost use Rattle.std.specs.Prelude.{◌≡◌, ℕ, ◌+◌, ◌≤◌, max, Bool, ◌&&◌, is_ok, List, Option, None, Some, Ok, Err, IfOk, option_map};
+ghost use Rattle.std.specs.Prelude.{◌≡◌, ℕ, ◌+◌, ◌≤◌, length, max, Bool, ◌&&◌, is_ok, List, Option, None, Some, Ok, Err, IfErr, IfOk, MatchResult, option_map};
 ghost use Rattle.promql_ast.specs.Checked.{check_tree};
-ghost use Rattle.promql_ast.specs.Faults.{GivesOrMemory, Verdict, fault_of, rejected};
+ghost use Rattle.promql_ast.specs.Faults.{GivesOrMemory, Verdict, fault_of, node, rejected};
+ghost use Rattle.promql_ast.specs.declared.fault.NodeFault.{NodeFault};
 ghost use Rattle.promql_ast.specs.Settling.{SettlesAtOnce};
 ghost use Rattle.promql_ast.specs.Tree.{binary};
 ghost use Rattle.promql_ast.specs.View.{tree_of};
 ghost use Rattle.promql_grammar.specs.Grammar as grammar;
+ghost use Rattle.promql_grammar.specs.Grammar.{yield};
 ghost use Rattle.promql_grammar.specs.GrammarParts as part;
+ghost use Rattle.promql_grammar.specs.GrammarParts.{yield_after, yield_postfix};
 ghost use Rattle.promql_grammar.specs.Results.{◌then◌};
 ghost use Rattle.promql_grammar.specs.declared.token_kinds.TokenKind as kinds;
-ghost use Rattle.promql_syntax.specs.BuildErrors.{build_error_of, view_result};
-ghost use Rattle.promql_syntax.specs.ParsesExpr.{AreArgsOf, EndsIn, IsExprOf, tree_result, append_derivation, modifier_of, outcome};
+ghost use Rattle.promql_syntax.specs.BuildErrors.{build_error_of, check, view_result};
+ghost use Rattle.promql_syntax.specs.ParsesExpr.{AreArgsOf, IsExprOf, tree_result, append_derivation, modifier_of, outcome};
 ghost use Rattle.promql_syntax.specs.PartBuilding.{clause_value, modifier_value};
-ghost use Rattle.promql_kind.specs.ModifierViews.{clause_of};
-ghost use Rattle.promql_syntax.specs.Asking.{◌giving◌, known};
+ghost use Rattle.promql_kind.specs.ModifierViews.{clause_of, matching_of};
+ghost use Rattle.promql_syntax.specs.Asking.{◌giving◌, known, EndsIn};
 ghost use Rattle.promql_syntax.specs.Building.{from_verdict};
+ghost use Rattle.promql_syntax.specs.Placing.{HasModifierPlace, IsCallAt, IsCheck, IsModifierAt, IsPostfixAt, left_after, tokens_between};
 ghost use Rattle.promql_syntax.specs.Postfixes.{IsPostfixOf, change_of, apply_change};
 
 use crate::grammar::build_error::{BuildError, BuildFault};
@@ -34,6 +38,7 @@ use std::alloc::{AllocError, Global};
 /// A node that was built.
 pub fn parsed_node(expr: Box<Expr>, height: usize) -> ParsedExpr
     ensures value { tree_result result ≡ Ok (tree_of expr.value) }
+    ensures is { result.value ≡ Ok expr }
     ensures tall { result.height ≡ height }
 {
     ParsedExpr {
@@ -45,6 +50,7 @@ pub fn parsed_node(expr: Box<Expr>, height: usize) -> ParsedExpr
 /// An error in place of a node.
 pub fn parsed_error(error: Box<BuildError>, height: usize) -> ParsedExpr
     ensures value { tree_result result ≡ Err (build_error_of error.value) }
+    ensures is { result.value ≡ Err error }
     ensures tall { result.height ≡ height }
 {
     ParsedExpr {
@@ -62,6 +68,8 @@ fn check_error(
 ) -> Result<ParsedExpr, AllocError>
     ensures value { IfOk result (λ parsed. tree_result parsed ≡ outcome (rejected
         (fault_of fault))) }
+    ensures kind { IfOk result (λ parsed. IfErr parsed.value (λ error. IsCheck (build_error_of error.value))) }
+    ensures place { IfOk result (λ parsed. IfErr parsed.value (λ error. error.value.place ≡ place)) }
     ensures tall { IfOk result (λ parsed. parsed.height ≡ height) }
 {
     let error = BuildError::boxed(alloc, BuildFault::Check(fault), place)?;
@@ -78,6 +86,9 @@ fn changed_node(
 ) -> Result<ParsedExpr, AllocError>
     ensures value { IfOk result (λ parsed. (verdict : Verdict)
         → SettlesAtOnce change verdict (tree_of expr.value) → tree_result parsed ≡ outcome verdict) }
+    ensures kind { IfOk result (λ parsed. IfErr parsed.value (λ error. IsCheck (build_error_of error.value))) }
+    ensures place { IfOk result (λ parsed. IfErr parsed.value (λ error. error.value.place
+        ≡ tokens_between extent.now.operator extent.now.end)) }
     ensures tall { IfOk result (λ parsed. parsed.height ≡ height) }
 {
     match change {
@@ -98,6 +109,9 @@ pub fn check_node(
 ) -> Result<ParsedExpr, AllocError>
     ensures value { IfOk result (λ parsed. tree_result parsed ≡ outcome (check_tree
         (tree_of expr.value))) }
+    ensures kind { IfOk result (λ parsed. IfErr parsed.value (λ error. IsCheck (build_error_of error.value))) }
+    ensures place { IfOk result (λ parsed. IfErr parsed.value
+        (HasModifierPlace (tree_of expr.value) extent.now)) }
     ensures tall { IfOk result (λ parsed. parsed.height ≡ height) }
 {
     let mut expr = expr;
@@ -137,8 +151,8 @@ fn check_result(
 #[inline(never)]
 pub fn build_paren(alloc: Global, inner: ParsedExpr) -> Result<ParsedExpr, AllocError>
     requires { inner.height ≤ MAX_DEPTH }
-    ensures built { IfOk result (λ parsed. (builds : Bool) (d : grammar.Derivation)
-        → IsExprOf builds inner d → IsExprOf builds parsed (grammar.paren d)) }
+    ensures built { IfOk result (λ parsed. (builds : Bool) (n k : ℕ) (d : grammar.Derivation)
+        → IsExprOf builds n (1 + k) inner d → IsExprOf builds n k parsed (grammar.paren d)) }
     ensures low { IfOk result (λ parsed. parsed.height ≡ inner.height + 1) }
 {
     let ParsedExpr { height, value } = inner;
@@ -161,8 +175,8 @@ pub fn build_unary(
     extent: &Extent,
 ) -> Result<ParsedExpr, AllocError>
     requires { operand.height ≤ MAX_DEPTH }
-    ensures built { IfOk result (λ parsed. (builds : Bool) (text : List ℕ) (d : grammar.Derivation)
-        → IsExprOf builds operand d → IsExprOf builds parsed (grammar.unary op text d)) }
+    ensures built { IfOk result (λ parsed. (builds : Bool) (n k : ℕ) (text : List ℕ) (d : grammar.Derivation)
+        → IsExprOf builds n k operand d → IsExprOf builds n k parsed (grammar.unary op text d)) }
     ensures low { IfOk result (λ parsed. parsed.height ≡ operand.height + 1) }
 {
     let ParsedExpr { height, value } = operand;
@@ -191,10 +205,11 @@ pub fn build_binary(
 ) -> Result<ParsedExpr, AllocError>
     requires low_left { left.height ≤ MAX_DEPTH }
     requires low_right { right.height ≤ MAX_DEPTH }
-    ensures built { IfOk result (λ parsed. (builds : Bool) (text : List ℕ) (m : part.Modifier)
-        (l r : grammar.Derivation)
-        → modifier_of modifier ≡ modifier_value m → IsExprOf builds left l
-        → IsExprOf (builds && is_ok left.value) right r → IsExprOf builds parsed (grammar.binary op text m l r)) }
+    ensures built { IfOk result (λ parsed. (builds : Bool) (n k : ℕ) (text : List ℕ) (m : part.Modifier)
+        (l r : grammar.Derivation) → IsModifierAt n k extent.now m r
+        → modifier_of modifier ≡ modifier_value m → IsExprOf builds n (left_after k m r) left l
+        → IsExprOf (builds && is_ok left.value) n k right r
+        → IsExprOf builds n k parsed (grammar.binary op text m l r)) }
     ensures low { IfOk result (λ parsed. parsed.height ≡ max left.height right.height + 1) }
 {
     let ParsedExpr {
@@ -247,6 +262,9 @@ fn build_modified_binary(
         → EndsIn (known (modifier_value m) giving
         λ z. from_verdict (check_tree (binary op (tree_of lhs.value) (tree_of rhs.value) z)))
         (tree_result parsed)) }
+    ensures place { IfOk result (λ parsed. IfErr parsed.value (λ error. MatchResult modifier.value
+        (λ m. HasModifierPlace (binary op (tree_of lhs.value) (tree_of rhs.value) (Some (matching_of m))) extent.now error)
+        (λ held. error ≡ held))) }
     ensures tall { IfOk result (λ parsed. parsed.height ≡ height) }
 {
     match Box::into_inner(modifier) {
@@ -273,8 +291,9 @@ pub fn build_call(
     extent: &Extent,
 ) -> Result<ParsedExpr, AllocError>
     requires { args.height ≤ MAX_DEPTH }
-    ensures built { IfOk result (λ parsed. (builds : Bool) (kind : kinds.TokenKind) (ds : grammar.Arguments)
-        → AreArgsOf builds args ds → IsExprOf builds parsed (grammar.call kind name.now ds)) }
+    ensures built { IfOk result (λ parsed. (builds : Bool) (n k : ℕ) (kind : kinds.TokenKind) (ds : grammar.Arguments)
+        → IsCallAt n k extent.now ds
+        → AreArgsOf builds n (1 + k) args ds → IsExprOf builds n k parsed (grammar.call kind name.now ds)) }
     ensures low { IfOk result (λ parsed. parsed.height ≡ args.height + 1) }
 {
     let ParsedArgs { height, value } = args;
@@ -307,10 +326,11 @@ pub fn build_aggregate(
     extent: &Extent,
 ) -> Result<ParsedExpr, AllocError>
     requires { args.height ≤ MAX_DEPTH }
-    ensures built { IfOk result (λ parsed. (builds : Bool) (text : List ℕ) (c : part.Clause)
+    ensures built { IfOk result (λ parsed. (builds : Bool) (n k : ℕ) (text : List ℕ) (c : part.Clause)
         (ds : grammar.Arguments)
-        → view_result (option_map clause_of) clause ≡ clause_value c → AreArgsOf builds args ds
-        → IsExprOf builds parsed (grammar.aggregate op text c ds)) }
+        → view_result (option_map clause_of) clause ≡ clause_value c
+        → AreArgsOf builds n (1 + (length (yield_after c) + k)) args ds
+        → IsExprOf builds n k parsed (grammar.aggregate op text c ds)) }
     ensures low { IfOk result (λ parsed. parsed.height ≡ args.height + 1) }
 {
     let ParsedArgs { height, value } = args;
@@ -330,7 +350,7 @@ pub fn build_aggregate(
 
 /// No arguments.
 pub fn empty_arguments(alloc: Global) -> ParsedArgs
-    ensures built { (builds : Bool) → AreArgsOf builds result grammar.none }
+    ensures built { (builds : Bool) (n k : ℕ) → AreArgsOf builds n k result grammar.none }
     ensures low { result.height ≡ 0 }
 {
     ParsedArgs {
@@ -342,9 +362,10 @@ pub fn empty_arguments(alloc: Global) -> ParsedArgs
 /// The arguments with one more.
 #[inline(always)]
 pub fn append_argument(args: ParsedArgs, parsed: ParsedExpr) -> Result<ParsedArgs, AllocError>
-    ensures built { IfOk result (λ more. (builds : Bool) (ds : grammar.Arguments) (d : grammar.Derivation)
-        → AreArgsOf builds args ds → IsExprOf (builds && is_ok args.value) parsed d
-        → AreArgsOf builds more (append_derivation ds d)) }
+    ensures built { IfOk result (λ more. (builds : Bool) (n k : ℕ) (ds : grammar.Arguments) (d : grammar.Derivation)
+        → AreArgsOf builds n (1 + (length (yield d) + k)) args ds
+        → IsExprOf (builds && is_ok args.value) n k parsed d
+        → AreArgsOf builds n k more (append_derivation ds d)) }
     ensures low { IfOk result (λ more. more.height ≡ max args.height parsed.height) }
 {
     let ParsedArgs { height, value } = args;
@@ -386,8 +407,9 @@ pub fn build_postfix(
 ) -> Result<ParsedExpr, AllocError>
     requires low_base { base.height ≤ MAX_DEPTH + 1 }
     requires low_postfix { postfix.added_height ≤ 1 }
-    ensures built { IfOk result (λ parsed. (builds : Bool) (d : grammar.Derivation) (p : part.Postfix)
-        → IsExprOf builds base d → IsPostfixOf postfix p → IsExprOf builds parsed (grammar.postfixed d p)) }
+    ensures built { IfOk result (λ parsed. (builds : Bool) (n k : ℕ) (d : grammar.Derivation) (p : part.Postfix)
+        → IsPostfixAt n k extent.now p → IsExprOf builds n (length (yield_postfix p) + k) base d
+        → IsPostfixOf n k postfix p → IsExprOf builds n k parsed (grammar.postfixed d p)) }
     ensures low { IfOk result (λ parsed. parsed.height ≡ base.height + postfix.added_height) }
 {
     let ParsedExpr { height, value } = base;
@@ -412,6 +434,11 @@ fn apply_postfix(
 ) -> Result<ParsedExpr, AllocError>
     ensures built { IfOk result (λ parsed. EndsIn (known (view_result change_of postfix) giving
         λ c. apply_change (tree_of expr.value) c) (tree_result parsed)) }
+    ensures place { IfOk result (λ parsed. IfErr parsed.value (λ error. MatchResult postfix
+        (λ p. IsCheck (build_error_of error.value)
+        × ((fault : NodeFault) → build_error_of error.value ≡ check (node fault)
+        → error.value.place ≡ tokens_between extent.now.operator extent.now.end))
+        (λ held. error ≡ held))) }
     ensures tall { IfOk result (λ parsed. parsed.height ≡ height) }
 {
     let mut expr = expr;

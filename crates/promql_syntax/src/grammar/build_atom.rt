@@ -1,11 +1,13 @@
 //! What numbers, durations, strings and selectors build.
 
-ghost use Rattle.std.specs.Prelude.{◌≡◌, true, None, Some, IfOk};
+ghost use Rattle.std.specs.Prelude.{◌≡◌, None, Some, IfOk};
 ghost use Rattle.promql_grammar.specs.Grammar as grammar;
 ghost use Rattle.promql_grammar.specs.GrammarParts as part;
 ghost use Rattle.promql_grammar.specs.declared.token_kinds.TokenKind as kinds;
 ghost use Rattle.promql_label.specs.MatcherViews.{plain_matchers_of};
-ghost use Rattle.promql_syntax.specs.ParsesExpr.{IsExprOf};
+ghost use Rattle.promql_syntax.specs.ParsesExpr.{tree_result};
+ghost use Rattle.promql_syntax.specs.Asking.{EndsIn};
+ghost use Rattle.promql_syntax.specs.Building.{build};
 ghost use Rattle.promql_syntax.specs.ParsesPart.{IsBuiltBy};
 ghost use Rattle.promql_syntax.specs.PartBuilding.{braces_value};
 
@@ -22,7 +24,7 @@ use std::alloc::{AllocError, Global};
 
 /// Builds a number.
 pub fn build_number(alloc: Global, text: &str, index: usize) -> Result<ParsedExpr, AllocError>
-    ensures built { IfOk result (λ parsed. IsExprOf true parsed (grammar.number text.now)) }
+    ensures built { IfOk result (λ parsed. EndsIn (build (grammar.number text.now)) (tree_result parsed)) }
     ensures low { IfOk result (λ parsed. parsed.height ≡ 1) }
 {
     match parse_str_radix(text) {
@@ -41,7 +43,7 @@ pub fn build_number(alloc: Global, text: &str, index: usize) -> Result<ParsedExp
 /// Builds a duration: its number of seconds.
 #[inline(never)]
 pub fn build_duration(alloc: Global, text: &str, index: usize) -> Result<ParsedExpr, AllocError>
-    ensures built { IfOk result (λ parsed. IsExprOf true parsed (grammar.duration text.now)) }
+    ensures built { IfOk result (λ parsed. EndsIn (build (grammar.duration text.now)) (tree_result parsed)) }
     ensures low { IfOk result (λ parsed. parsed.height ≡ 1) }
 {
     match duration_value(alloc, text, index)? {
@@ -56,7 +58,7 @@ pub fn build_duration(alloc: Global, text: &str, index: usize) -> Result<ParsedE
 /// Builds a string.
 #[inline(never)]
 pub fn build_string(alloc: Global, text: &str, index: usize) -> Result<ParsedExpr, AllocError>
-    ensures built { IfOk result (λ parsed. IsExprOf true parsed (grammar.string text.now)) }
+    ensures built { IfOk result (λ parsed. EndsIn (build (grammar.string text.now)) (tree_result parsed)) }
     ensures low { IfOk result (λ parsed. parsed.height ≡ 1) }
 {
     match string_value(alloc, text, index)? {
@@ -71,7 +73,7 @@ pub fn build_string(alloc: Global, text: &str, index: usize) -> Result<ParsedExp
 /// Builds a selector of a name without braces, which passes each check.
 pub fn build_name(alloc: Global, name: &str) -> Result<ParsedExpr, AllocError>
     ensures built { IfOk result (λ parsed. (kind : kinds.TokenKind)
-        → IsExprOf true parsed (grammar.selector kind name.now None)) }
+        → EndsIn (build (grammar.selector kind name.now None)) (tree_result parsed)) }
     ensures low { IfOk result (λ parsed. parsed.height ≡ 1) }
 {
     let name = String::from_str(alloc, name)?;
@@ -89,7 +91,7 @@ pub fn build_selector(
 ) -> Result<ParsedExpr, AllocError>
     ensures built { IfOk result (λ parsed. (kind : kinds.TokenKind) (braces : part.Braces)
         → IsBuiltBy plain_matchers_of matchers (braces_value braces)
-        → IsExprOf true parsed (grammar.selector kind name.now (Some braces))) }
+        → EndsIn (build (grammar.selector kind name.now (Some braces))) (tree_result parsed)) }
     ensures low { IfOk result (λ parsed. parsed.height ≡ 1) }
 {
     match matchers {
@@ -110,7 +112,7 @@ pub fn build_braces(
 ) -> Result<ParsedExpr, AllocError>
     ensures built { IfOk result (λ parsed. (braces : part.Braces)
         → IsBuiltBy plain_matchers_of matchers (braces_value braces)
-        → IsExprOf true parsed (grammar.nameless braces)) }
+        → EndsIn (build (grammar.nameless braces)) (tree_result parsed)) }
     ensures low { IfOk result (λ parsed. parsed.height ≡ 1) }
 {
     match matchers {

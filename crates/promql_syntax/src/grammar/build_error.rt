@@ -23,7 +23,8 @@ impl BuildError {
         fault: BuildFault,
         place: Place,
     ) -> Result<Box<BuildError>, AllocError>
-        ensures { IfOk result (λ error. build_error_of error.value ≡ build_fault_of fault) }
+        ensures fault { IfOk result (λ error. build_error_of error.value ≡ build_fault_of fault) }
+        ensures place { IfOk result (λ error. error.value.place ≡ place) }
     {
         Ok(Box::new(alloc, BuildError { fault, place })?)
     }

@@ -1,9 +1,9 @@
 //! The rules `call` and `arguments`.
 
-ghost use Rattle.std.specs.Prelude.{◌≡◌, ◌+◌, ◌≤◌, true, length, IfOk, MatchResult, OnOk};
+ghost use Rattle.std.specs.Prelude.{◌≡◌, ◌∷◌, ◌+◌, ◌≤◌, true, drop, length, IfOk, MatchResult, OnOk};
 ghost use Rattle.promql_grammar.specs.Parsing.{parse_arguments, parse_call, parse_expression};
-ghost use Rattle.promql_grammar.specs.Symbols.{may_be_called};
-ghost use Rattle.promql_grammar.specs.SymbolsLeft.{symbols_left};
+ghost use Rattle.promql_grammar.specs.Symbols.{may_be_called, symbol};
+ghost use Rattle.promql_grammar.specs.SymbolsLeft.{CountsTaken, symbols_left, token_count};
 ghost use Rattle.promql_grammar.specs.Failures.{Fails};
 ghost use Rattle.promql_syntax.specs.ParsesExpr.{ParsesArgs, FailsBase, ParsesBase};
 
@@ -17,7 +17,7 @@ use promql_grammar::precedence::MIN_PRECEDENCE;
 use promql_grammar::{ReadError, TokenKind, Tokens};
 use std::alloc::Global;
 
-/// Parses a call, or a selector, after its name.
+/// Parses a call, or a selector, which begins with the name that is left first.
 #[cycle(parser)]
 pub fn parse_call(
     alloc: Global,
@@ -25,22 +25,25 @@ pub fn parse_call(
     builds: bool,
     kind: TokenKind,
     name: &str,
-    start: usize,
     tokens: &mut Tokens<'_>,
 ) -> Result<ParsedExpr, ReadError>
     requires max_height { max_height ≤ MAX_DEPTH }
     requires called { may_be_called kind ≡ true }
+    requires front { symbols_left tokens.now ≡ symbol kind name.now ∷ drop 1 (symbols_left tokens.now) }
     ensures gives { MatchResult result
-        (λ parsed. ParsesBase builds parsed (symbols_left tokens.new)
+        (λ parsed. ParsesBase builds (token_count tokens.old) parsed (symbols_left tokens.new)
         (λ k n. parse_call (parse_expression max_height) k n kind name.now
-        (symbols_left tokens.old)))
+        (drop 1 (symbols_left tokens.old))))
         (λ e. FailsBase (e, symbols_left tokens.new)
         (λ k n. parse_call (parse_expression max_height) k n kind name.now
-        (symbols_left tokens.old))) }
+        (drop 1 (symbols_left tokens.old)))) }
     ensures low { IfOk result (λ parsed. parsed.height ≤ max_height + 1) }
     ensures short { OnOk result
         (length (symbols_left tokens.new) ≤ length (symbols_left tokens.old)) }
+    ensures counts { OnOk result (CountsTaken tokens.old tokens.new) }
 {
+    let start = tokens.index();
+    tokens.bump();
     if !tokens.eat(TokenKind::LeftParen) {
         return parse_selector(alloc, builds, kind, name, start, tokens);
     }
@@ -59,12 +62,13 @@ pub fn parse_arguments(
 ) -> Result<ParsedArgs, ReadError>
     requires { max_height ≤ MAX_DEPTH }
     ensures gives { MatchResult result
-        (λ args. ParsesArgs builds args (symbols_left tokens.new)
+        (λ args. ParsesArgs builds (token_count tokens.old) args (symbols_left tokens.old) (symbols_left tokens.new)
         (parse_arguments (parse_expression max_height) (symbols_left tokens.old)))
         (λ e. Fails (e, symbols_left tokens.new) (parse_arguments (parse_expression max_height) (symbols_left tokens.old))) }
     ensures low { IfOk result (λ args. args.height ≤ max_height) }
     ensures short { OnOk result
         (length (symbols_left tokens.new) ≤ length (symbols_left tokens.old)) }
+    ensures counts { OnOk result (CountsTaken tokens.old tokens.new) }
 {
     let mut args = empty_arguments(alloc);
     if tokens.eat(TokenKind::RightParen) {

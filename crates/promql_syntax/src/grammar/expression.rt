@@ -1,13 +1,13 @@
 //! The rule `expression`, by precedence climbing.
 
-ghost use Rattle.std.specs.Prelude.{◌≡◌, ℕ, ◌+◌, ◌≤◌, true, length, IfOk, IsErrOf, MatchResult, OnOk};
+ghost use Rattle.std.specs.Prelude.{◌≡◌, ℕ, ◌+◌, ◌<◌, ◌≤◌, ◌^◌, true, length, IfErr, IfOk, IsErrOf, MatchResult, OnOk};
 ghost use Rattle.promql_grammar.specs.Parsing.{parse_expression, parse_unary};
 ghost use Rattle.promql_grammar.specs.Symbols.{begins};
-ghost use Rattle.promql_grammar.specs.SymbolsLeft.{symbols_left};
+ghost use Rattle.promql_grammar.specs.SymbolsLeft.{CountsTaken, symbols_left, token_count};
 ghost use Rattle.promql_grammar.specs.OperatorTokens.{HasNoUnaryOperator};
 ghost use Rattle.promql_grammar.specs.Failures.{Fails};
 ghost use Rattle.promql_syntax.specs.ParsesExpr.{FailsBase, GivesModifier, ParsesPostfixes, ParsesBase, ParsesExpr};
-ghost use Rattle.promql_syntax.specs.ParsesQuery.{ParsesQuery};
+ghost use Rattle.promql_syntax.specs.ParsesQuery.{HasPlace, ParsesQuery};
 
 use crate::grammar::aggregate::parse_aggregate;
 use crate::grammar::atom::parse_atom;
@@ -39,12 +39,13 @@ pub(crate) fn parse_expression(
 ) -> Result<ParsedExpr, ReadError>
     requires { max_height ≤ MAX_DEPTH }
     ensures gives { MatchResult result
-        (λ parsed. ParsesExpr builds parsed (symbols_left tokens.new)
+        (λ parsed. ParsesExpr builds (token_count tokens.old) parsed (symbols_left tokens.new)
         (parse_expression max_height min_precedence (symbols_left tokens.old)))
         (λ e. Fails (e, symbols_left tokens.new) (parse_expression max_height min_precedence (symbols_left tokens.old))) }
     ensures low { IfOk result (λ parsed. parsed.height ≤ max_height) }
     ensures short { OnOk result
         (length (symbols_left tokens.new) ≤ length (symbols_left tokens.old)) }
+    ensures counts { OnOk result (CountsTaken tokens.old tokens.new) }
     ensures memory { IsErrOf result ReadError.Memory → begins (symbols_left tokens.old) ≡ true }
 {
     if max_height == 0 {
@@ -87,13 +88,14 @@ fn parse_unary(
 ) -> Result<ParsedExpr, ReadError>
     requires { max_height ≤ MAX_DEPTH }
     ensures gives { (k : ℕ) → length (symbols_left tokens.old) ≤ k → MatchResult result
-        (λ parsed. ParsesExpr builds parsed (symbols_left tokens.new)
+        (λ parsed. ParsesExpr builds (token_count tokens.old) parsed (symbols_left tokens.new)
         (parse_unary (parse_expression max_height) k (max_height + 1) (symbols_left tokens.old)))
         (λ e. Fails (e, symbols_left tokens.new) (parse_unary (parse_expression max_height) k (max_height + 1)
         (symbols_left tokens.old))) }
     ensures low { IfOk result (λ parsed. parsed.height ≤ max_height + 1) }
     ensures short { OnOk result
         (length (symbols_left tokens.new) ≤ length (symbols_left tokens.old)) }
+    ensures counts { OnOk result (CountsTaken tokens.old tokens.new) }
     ensures memory { IsErrOf result ReadError.Memory → begins (symbols_left tokens.old) ≡ true }
 {
     let start = tokens.index();
@@ -118,22 +120,21 @@ fn parse_postfix_base(
     requires max_height { max_height ≤ MAX_DEPTH }
     requires unsigned { HasNoUnaryOperator (symbols_left tokens.now) }
     ensures gives { MatchResult result
-        (λ parsed. ParsesBase builds parsed (symbols_left tokens.new)
+        (λ parsed. ParsesBase builds (token_count tokens.old) parsed (symbols_left tokens.new)
         (λ k n. parse_unary (parse_expression max_height) k n (symbols_left tokens.old)))
         (λ e. FailsBase (e, symbols_left tokens.new) (λ k n. parse_unary (parse_expression max_height) k n
         (symbols_left tokens.old))) }
     ensures low { IfOk result (λ parsed. parsed.height ≤ max_height + 1) }
     ensures short { OnOk result
         (length (symbols_left tokens.new) ≤ length (symbols_left tokens.old)) }
+    ensures counts { OnOk result (CountsTaken tokens.old tokens.new) }
     ensures memory { IsErrOf result ReadError.Memory → begins (symbols_left tokens.old) ≡ true }
 {
     let Some((kind, text)) = tokens.peek() else {
         return Err(ReadError::Syntax);
     };
-    let start = tokens.index();
     if kind.may_be_called() {
-        tokens.bump();
-        return parse_call(alloc, max_height, builds, kind, text, start, tokens);
+        return parse_call(alloc, max_height, builds, kind, text, tokens);
     }
     match kind {
         TokenKind::LeftParen => {
@@ -143,6 +144,7 @@ fn parse_postfix_base(
             Ok(build_paren(alloc, inner)?)
         }
         TokenKind::Aggregator(op) => {
+            let start = tokens.index();
             tokens.bump();
             parse_aggregate(alloc, max_height, builds, op, text, start, tokens)
         }
@@ -158,6 +160,7 @@ fn parse_optional_modifier(
     ensures gives { GivesModifier (symbols_left tokens.old) (symbols_left tokens.new) result }
     ensures short { OnOk result
         (length (symbols_left tokens.new) ≤ length (symbols_left tokens.old)) }
+    ensures counts { OnOk result (CountsTaken tokens.old tokens.new) }
 {
     match tokens.peek() {
         Some((kind, _)) if starts_modifier(kind) => parse_boxed_modifier(alloc, tokens),
@@ -175,6 +178,7 @@ fn parse_boxed_modifier(
     ensures gives { GivesModifier (symbols_left tokens.old) (symbols_left tokens.new) result }
     ensures short { OnOk result
         (length (symbols_left tokens.new) ≤ length (symbols_left tokens.old)) }
+    ensures counts { OnOk result (CountsTaken tokens.old tokens.new) }
 {
     match parse_modifier(alloc, tokens)? {
         Ok(None) => Ok(None),
@@ -194,12 +198,13 @@ fn parse_postfixes(
 ) -> Result<ParsedExpr, ReadError>
     requires max_height { max_height ≤ MAX_DEPTH + 1 }
     requires low_base { base.height ≤ max_height }
-    ensures gives { ParsesPostfixes builds max_height base (symbols_left tokens.old)
+    ensures gives { ParsesPostfixes builds (token_count tokens.old) max_height base (symbols_left tokens.old)
         (symbols_left tokens.new)
         result }
     ensures low { IfOk result (λ parsed. parsed.height ≤ max_height) }
     ensures short { OnOk result
         (length (symbols_left tokens.new) ≤ length (symbols_left tokens.old)) }
+    ensures counts { OnOk result (CountsTaken tokens.old tokens.new) }
 {
     match tokens.peek() {
         Some((kind, _)) if starts_postfix(kind) => parse_some_postfixes(
@@ -221,12 +226,13 @@ fn parse_some_postfixes(
 ) -> Result<ParsedExpr, ReadError>
     requires max_height { max_height ≤ MAX_DEPTH + 1 }
     requires low_base { base.height ≤ max_height }
-    ensures gives { ParsesPostfixes builds max_height base (symbols_left tokens.old)
+    ensures gives { ParsesPostfixes builds (token_count tokens.old) max_height base (symbols_left tokens.old)
         (symbols_left tokens.new)
         result }
     ensures low { IfOk result (λ parsed. parsed.height ≤ max_height) }
     ensures short { OnOk result
         (length (symbols_left tokens.new) ≤ length (symbols_left tokens.old)) }
+    ensures counts { OnOk result (CountsTaken tokens.old tokens.new) }
 {
     let mut parsed = base;
     let mut postfix_start = tokens.index();
@@ -251,6 +257,8 @@ pub fn parse_query(
     requires { max_height ≤ MAX_DEPTH }
     ensures whole { ParsesQuery max_height (symbols_left tokens.old) (symbols_left tokens.new)
         result }
+    ensures place { IfOk result (λ value. IfErr value (λ error. token_count tokens.old < 2 ^ 64
+        → HasPlace (token_count tokens.old) (symbols_left tokens.old) error.value)) }
     ensures memory { IsErrOf result ReadError.Memory → begins (symbols_left tokens.old) ≡ true }
 {
     let parsed = parse_expression(alloc, max_height, MIN_PRECEDENCE, true, tokens)?;

@@ -2,7 +2,7 @@
 
 ghost use Rattle.std.specs.Prelude.{◌≡◌, ◌≤◌, length, option_map, Some, MatchBool, MatchResult, OnOk};
 ghost use Rattle.promql_grammar.specs.Parsing as parsing;
-ghost use Rattle.promql_grammar.specs.SymbolsLeft.{symbols_left};
+ghost use Rattle.promql_grammar.specs.SymbolsLeft.{CountsTaken, symbols_left};
 ghost use Rattle.promql_grammar.specs.Failures.{Fails};
 ghost use Rattle.promql_grammar.specs.PartTokens.{HasNoGrouping, StartsGrouping};
 ghost use Rattle.promql_label.specs.Labels.{labels_of};
@@ -37,6 +37,7 @@ pub fn parse_grouping(alloc: Global, tokens: &mut Tokens<'_>) -> Parsed<Option<L
         (λ e. Fails (e, symbols_left tokens.new) (parsing.parse_grouping (symbols_left tokens.old))) }
     ensures short { OnOk result
         (length (symbols_left tokens.new) ≤ length (symbols_left tokens.old)) }
+    ensures counts { OnOk result (CountsTaken tokens.old tokens.new) }
 {
     let Some((kind, _)) = tokens.peek() else {
         return Ok(Ok(None));

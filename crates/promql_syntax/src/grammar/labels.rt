@@ -3,7 +3,7 @@
 ghost use Rattle.std.specs.Prelude.{◌≡◌, ◌<◌, ◌++◌, ◌∷◌, [], Ok, length, string_bytes, IfOk, MatchResult, OnOk};
 ghost use Rattle.promql_grammar.specs.Parsing as parsing;
 ghost use Rattle.promql_grammar.specs.Results.{◌then◌};
-ghost use Rattle.promql_grammar.specs.SymbolsLeft.{symbols_left};
+ghost use Rattle.promql_grammar.specs.SymbolsLeft.{CountsTaken, symbols_left};
 ghost use Rattle.promql_grammar.specs.Failures.{Fails};
 ghost use Rattle.promql_label.specs.Labels.{labels_of};
 ghost use Rattle.promql_syntax.specs.BuildErrors.{view_result};
@@ -26,6 +26,7 @@ pub fn parse_labels(alloc: Global, tokens: &mut Tokens<'_>) -> Parsed<Labels>
         (λ e. Fails (e, symbols_left tokens.new) (parsing.parse_labels (symbols_left tokens.old))) }
     ensures short { OnOk result
         (length (symbols_left tokens.new) < length (symbols_left tokens.old)) }
+    ensures counts { OnOk result (CountsTaken tokens.old tokens.new) }
 {
     tokens.expect(TokenKind::LeftParen)?;
     parse_label_list(alloc, tokens)
@@ -39,6 +40,7 @@ pub fn parse_label_list(alloc: Global, tokens: &mut Tokens<'_>) -> Parsed<Labels
         (λ e. Fails (e, symbols_left tokens.new) (parsing.parse_label_list (symbols_left tokens.old))) }
     ensures short { OnOk result
         (length (symbols_left tokens.new) < length (symbols_left tokens.old)) }
+    ensures counts { OnOk result (CountsTaken tokens.old tokens.new) }
 {
     let mut labels = Ok(Labels {
         labels: Vec::new(alloc),

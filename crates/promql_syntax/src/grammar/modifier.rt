@@ -6,7 +6,7 @@ ghost use Rattle.promql_text.specs.declared.number.Number as numbers;
 ghost use Rattle.promql_grammar.specs.GrammarParts as part;
 ghost use Rattle.promql_grammar.specs.Results.{◌then◌};
 ghost use Rattle.promql_grammar.specs.Parsing as parsing;
-ghost use Rattle.promql_grammar.specs.SymbolsLeft.{symbols_left};
+ghost use Rattle.promql_grammar.specs.SymbolsLeft.{CountsTaken, symbols_left};
 ghost use Rattle.promql_grammar.specs.Failures.{Fails};
 ghost use Rattle.promql_label.specs.Labels.{labels_of};
 ghost use Rattle.promql_kind.specs.Modifiers as spec;
@@ -56,6 +56,7 @@ pub fn parse_modifier(alloc: Global, tokens: &mut Tokens<'_>) -> Parsed<Option<B
         (λ e. Fails (e, symbols_left tokens.new) (parsing.parse_modifier (symbols_left tokens.old))) }
     ensures short { OnOk result
         (length (symbols_left tokens.new) ≤ length (symbols_left tokens.old)) }
+    ensures counts { OnOk result (CountsTaken tokens.old tokens.new) }
 {
     let return_bool = eat_bool(tokens);
     let matching = parse_matching(alloc, tokens)?;
@@ -68,6 +69,7 @@ fn eat_bool(tokens: &mut Tokens<'_>) -> bool
     ensures gives { ParsesFlag result (symbols_left tokens.new)
         (parsing.parse_flag (symbols_left tokens.old)) }
     ensures short { length (symbols_left tokens.new) ≤ length (symbols_left tokens.old) }
+    ensures counts { CountsTaken tokens.old tokens.new }
 {
     tokens.eat(TokenKind::Bool)
 }
@@ -80,6 +82,7 @@ fn parse_matching(alloc: Global, tokens: &mut Tokens<'_>) -> Parsed<Matching>
         (λ e. Fails (e, symbols_left tokens.new) (parsing.parse_matching (symbols_left tokens.old))) }
     ensures short { OnOk result
         (length (symbols_left tokens.new) ≤ length (symbols_left tokens.old)) }
+    ensures counts { OnOk result (CountsTaken tokens.old tokens.new) }
 {
     let Some((kind, _)) = tokens.peek() else {
         return Ok(Ok(no_matching()));
@@ -146,6 +149,7 @@ fn parse_group(alloc: Global, tokens: &mut Tokens<'_>) -> Parsed<VectorMatchCard
         (λ e. Fails (e, symbols_left tokens.new) (parsing.parse_group (symbols_left tokens.old))) }
     ensures short { OnOk result
         (length (symbols_left tokens.new) ≤ length (symbols_left tokens.old)) }
+    ensures counts { OnOk result (CountsTaken tokens.old tokens.new) }
 {
     let Some((kind, _)) = tokens.peek() else {
         return Ok(Ok(VectorMatchCardinality::OneToOne));
@@ -191,6 +195,7 @@ fn parse_group_labels(alloc: Global, tokens: &mut Tokens<'_>) -> Parsed<Labels>
         (λ e. Fails (e, symbols_left tokens.new) (list_in (symbols_left tokens.old))) }
     ensures short { OnOk result
         (length (symbols_left tokens.new) ≤ length (symbols_left tokens.old)) }
+    ensures counts { OnOk result (CountsTaken tokens.old tokens.new) }
 {
     if tokens.eat(TokenKind::LeftParen) {
         return parse_label_list(alloc, tokens);
@@ -208,6 +213,7 @@ fn parse_fills(alloc: Global, tokens: &mut Tokens<'_>) -> Parsed<VectorMatchFill
         (λ e. Fails (e, symbols_left tokens.new) (parsing.parse_fills (symbols_left tokens.old))) }
     ensures short { OnOk result
         (length (symbols_left tokens.new) ≤ length (symbols_left tokens.old)) }
+    ensures counts { OnOk result (CountsTaken tokens.old tokens.new) }
 {
     let Some((kind, _)) = tokens.peek() else {
         return Ok(Ok(VectorMatchFillValues::default()));
@@ -245,6 +251,7 @@ fn parse_fill_right(
         (λ e. Fails (e, symbols_left tokens.new) (parsing.parse_fill_right t v (symbols_left tokens.old))) }
     ensures short { OnOk result
         (length (symbols_left tokens.new) ≤ length (symbols_left tokens.old)) }
+    ensures counts { OnOk result (CountsTaken tokens.old tokens.new) }
 {
     if !tokens.eat(TokenKind::FillRight) {
         return Ok(build_fill_left(left));
@@ -266,6 +273,7 @@ fn parse_fill_left(
         (λ e. Fails (e, symbols_left tokens.new) (parsing.parse_fill_left t v (symbols_left tokens.old))) }
     ensures short { OnOk result
         (length (symbols_left tokens.new) ≤ length (symbols_left tokens.old)) }
+    ensures counts { OnOk result (CountsTaken tokens.old tokens.new) }
 {
     if !tokens.eat(TokenKind::FillLeft) {
         return Ok(build_fill_right(right));
@@ -282,6 +290,7 @@ fn parse_fill_value(alloc: Global, tokens: &mut Tokens<'_>) -> Parsed<Number>
         (λ e. Fails (e, symbols_left tokens.new) (parsing.parse_fill_value (symbols_left tokens.old))) }
     ensures short { OnOk result
         (length (symbols_left tokens.new) < length (symbols_left tokens.old)) }
+    ensures counts { OnOk result (CountsTaken tokens.old tokens.new) }
 {
     tokens.expect(TokenKind::LeftParen)?;
     let number = parse_signed_number(alloc, tokens)?;

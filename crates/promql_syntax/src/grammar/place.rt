@@ -1,5 +1,11 @@
 //! What a fault of building is about, by the indexes of its tokens: docs/reference/grammar.md, "Places of errors".
 
+ghost use Rattle.std.specs.Prelude.{◌≡◌, ◌+◌, ◌<◌, ◌^◌, IfSome};
+ghost use Rattle.promql_ast.specs.Faults.{fault_of};
+ghost use Rattle.promql_ast.specs.Tree.{binary};
+ghost use Rattle.promql_ast.specs.View.{binary_tree, tree_of};
+ghost use Rattle.promql_syntax.specs.Placing.{modifier_place, tokens_between};
+
 use promql_ast::{AggregateExpr, BinaryExpr, Call, CheckFault, Expr};
 use promql_kind::ValueType;
 
@@ -20,7 +26,9 @@ pub enum Place {
 
 impl Place {
     /// The token with this index.
-    pub fn token(index: usize) -> Place {
+    pub fn token(index: usize) -> Place
+        ensures { index + 1 < 2 ^ 64 → result ≡ tokens_between index (index + 1) }
+    {
         Place::Tokens(TokenRange {
             start: index,
             end: index.saturating_add(1),
@@ -28,7 +36,9 @@ impl Place {
     }
 
     /// The tokens from one index up to another.
-    pub fn tokens(start: usize, end: usize) -> Place {
+    pub fn tokens(start: usize, end: usize) -> Place
+        ensures { result ≡ tokens_between start end }
+    {
         Place::Tokens(TokenRange { start, end })
     }
 }
@@ -51,7 +61,9 @@ pub struct Extent {
 
 impl Extent {
     /// A node without operands.
-    pub fn atom(start: usize, end: usize) -> Extent {
+    pub fn atom(start: usize, end: usize) -> Extent
+        ensures { result.start ≡ start }
+    {
         Extent {
             start,
             operator: start,
@@ -73,7 +85,10 @@ impl Extent {
     }
 
     /// A postfix after its base.
-    pub fn postfix(start: usize, postfix: usize, end: usize) -> Extent {
+    pub fn postfix(start: usize, postfix: usize, end: usize) -> Extent
+        ensures start { result.operator ≡ postfix }
+        ensures end { result.end ≡ end }
+    {
         Extent {
             start,
             operator: postfix,
@@ -94,7 +109,9 @@ impl Extent {
         Place::tokens(self.start, self.operator)
     }
 
-    fn modifier(&self) -> Place {
+    fn modifier(&self) -> Place
+        ensures { result ≡ tokens_between self.now.modifier self.now.right }
+    {
         Place::tokens(self.modifier, self.right)
     }
 
@@ -104,13 +121,18 @@ impl Extent {
     }
 
     /// The postfix.
-    pub fn after_base(&self) -> Place {
+    pub fn after_base(&self) -> Place
+        ensures { result ≡ tokens_between self.now.operator self.now.end }
+    {
         Place::tokens(self.operator, self.end)
     }
 
     /// The part of the node that a check rejects.
     #[inline(never)]
-    pub fn place_of(&self, fault: &CheckFault, expr: &Expr) -> Place {
+    pub fn place_of(&self, fault: &CheckFault, expr: &Expr) -> Place
+        ensures { IfSome (modifier_place (tree_of expr.now) (fault_of fault.now) self.now)
+            (λ place. result ≡ place) }
+    {
         match expr {
             Expr::Call(call) if is_type_fault(fault) => {
                 Place::Argument(self.whole(), mistyped_argument(call))
@@ -125,7 +147,10 @@ impl Extent {
         }
     }
 
-    fn place_in_binary(&self, fault: &CheckFault, binary: &BinaryExpr) -> Place {
+    fn place_in_binary(&self, fault: &CheckFault, binary: &BinaryExpr) -> Place
+        ensures { IfSome (modifier_place (binary_tree binary.now) (fault_of fault.now) self.now)
+            (λ place. result ≡ place) }
+    {
         match fault {
             CheckFault::BoolModifier
             | CheckFault::LabelTwice(_)

@@ -1,6 +1,6 @@
 //! Postfixes: ranges, subqueries, `@`, `offset` and range modes.
 
-ghost use Rattle.std.specs.Prelude.{◌≡◌, ◌<◌, ◌≤◌, length, option_map, Some, None, Ok, IfOk, IfSome, MatchResult, OnOk};
+ghost use Rattle.std.specs.Prelude.{◌≡◌, ℕ, ◌<◌, ◌≤◌, length, option_map, Some, None, Ok, IfErr, IfOk, IfSome, MatchResult, OnOk};
 ghost use Rattle.std.specs.Duration.{as_nanos};
 ghost use Rattle.promql_text.specs.Texts.{Text};
 ghost use Rattle.promql_text.specs.declared.number.Number as numbers;
@@ -8,7 +8,7 @@ ghost use Rattle.promql_grammar.specs.GrammarParts as part;
 ghost use Rattle.promql_grammar.specs.Parsing as parsing;
 ghost use Rattle.promql_grammar.specs.Results.{◌then◌};
 ghost use Rattle.promql_grammar.specs.declared.token_kinds.TokenKind as kinds;
-ghost use Rattle.promql_grammar.specs.SymbolsLeft.{symbols_left};
+ghost use Rattle.promql_grammar.specs.SymbolsLeft.{CountsTaken, symbols_left, token_count};
 ghost use Rattle.promql_grammar.specs.Failures.{Fails};
 ghost use Rattle.promql_ast.specs.AtTimes.{at_of_number};
 ghost use Rattle.promql_ast.specs.Shifts.{moment_of, shift_of};
@@ -72,11 +72,12 @@ pub fn parse_postfix(
     tokens: &mut Tokens<'_>,
 ) -> Result<Option<ParsedPostfix>, ReadError>
     ensures gives { MatchResult result
-        (λ found. ParsesOptionalPostfix found (symbols_left tokens.new)
+        (λ found. ParsesOptionalPostfix (token_count tokens.old) found (symbols_left tokens.new)
         (parsing.parse_postfix (symbols_left tokens.old)))
         (λ e. Fails (e, symbols_left tokens.new) (parsing.parse_postfix (symbols_left tokens.old))) }
     ensures short { OnOk result
         (length (symbols_left tokens.new) ≤ length (symbols_left tokens.old)) }
+    ensures counts { OnOk result (CountsTaken tokens.old tokens.new) }
     ensures taken { IfOk result (λ found. IfSome found (λ _.
         length (symbols_left tokens.new) < length (symbols_left tokens.old))) }
 {
@@ -112,12 +113,13 @@ pub fn parse_postfix(
 /// Parses a range or the two times of a subquery, after the opening bracket.
 #[inline(always)]
 fn parse_range(alloc: Global, tokens: &mut Tokens<'_>) -> Result<ParsedPostfix, ReadError>
-    ensures gives { MatchResult result
-        (λ held. ParsesPostfix held (symbols_left tokens.new)
+    ensures gives { (n : ℕ) → MatchResult result
+        (λ held. ParsesPostfix n held (symbols_left tokens.new)
         (parse_range (symbols_left tokens.old)))
         (λ e. Fails (e, symbols_left tokens.new) (parse_range (symbols_left tokens.old))) }
     ensures short { OnOk result
         (length (symbols_left tokens.new) < length (symbols_left tokens.old)) }
+    ensures counts { OnOk result (CountsTaken tokens.old tokens.new) }
 {
     let range = parse_time(alloc, tokens)?;
     let Some((kind, _)) = tokens.peek() else {
@@ -142,12 +144,13 @@ fn parse_step(
     tokens: &mut Tokens<'_>,
     range: Result<Duration, Box<BuildError>>,
 ) -> Result<ParsedPostfix, ReadError>
-    ensures gives { (t : part.Time) → view_result as_nanos range ≡ time_value t → MatchResult result
-        (λ held. ParsesPostfix held (symbols_left tokens.new)
+    ensures gives { (n : ℕ) (t : part.Time) → view_result as_nanos range ≡ time_value t → MatchResult result
+        (λ held. ParsesPostfix n held (symbols_left tokens.new)
         (parsing.parse_step t (symbols_left tokens.old)))
         (λ e. Fails (e, symbols_left tokens.new) (parsing.parse_step t (symbols_left tokens.old))) }
     ensures short { OnOk result
         (length (symbols_left tokens.new) < length (symbols_left tokens.old)) }
+    ensures counts { OnOk result (CountsTaken tokens.old tokens.new) }
 {
     if tokens.eat(TokenKind::RightBracket) {
         return Ok(subquery_postfix(range, None));
@@ -161,11 +164,12 @@ fn parse_step(
 #[inline(never)]
 fn parse_at_modifier(alloc: Global, tokens: &mut Tokens<'_>) -> Result<ParsedPostfix, ReadError>
     ensures gives { MatchResult result
-        (λ held. ParsesPostfix held (symbols_left tokens.new)
+        (λ held. ParsesPostfix (token_count tokens.old) held (symbols_left tokens.new)
         (parsing.parse_at_modifier (symbols_left tokens.old)))
         (λ e. Fails (e, symbols_left tokens.new) (parsing.parse_at_modifier (symbols_left tokens.old))) }
     ensures short { OnOk result
         (length (symbols_left tokens.new) < length (symbols_left tokens.old)) }
+    ensures counts { OnOk result (CountsTaken tokens.old tokens.new) }
 {
     let Some((kind, _)) = tokens.peek() else {
         return Err(ReadError::Syntax);
@@ -190,13 +194,14 @@ fn parse_at_modifier(alloc: Global, tokens: &mut Tokens<'_>) -> Result<ParsedPos
 
 /// Parses the parentheses after `start` or `end`.
 fn parse_at_bound(tokens: &mut Tokens<'_>, at: AtModifier) -> Result<ParsedPostfix, ReadError>
-    ensures gives { (k : kinds.TokenKind) (t : Text) → moment_of at ≡ bound_moment k
+    ensures gives { (n : ℕ) (k : kinds.TokenKind) (t : Text) → moment_of at ≡ bound_moment k
         → MatchResult result
-        (λ held. ParsesPostfix held (symbols_left tokens.new)
+        (λ held. ParsesPostfix n held (symbols_left tokens.new)
         (parsing.parse_at_bound k t (symbols_left tokens.old)))
         (λ e. Fails (e, symbols_left tokens.new) (parsing.parse_at_bound k t (symbols_left tokens.old))) }
     ensures short { OnOk result
         (length (symbols_left tokens.new) < length (symbols_left tokens.old)) }
+    ensures counts { OnOk result (CountsTaken tokens.old tokens.new) }
 {
     tokens.expect(TokenKind::LeftParen)?;
     tokens.expect(TokenKind::RightParen)?;
@@ -206,6 +211,7 @@ fn parse_at_bound(tokens: &mut Tokens<'_>, at: AtModifier) -> Result<ParsedPostf
 /// A postfix that adds nothing to the height of its base.
 fn same_height(value: Result<Postfix, Box<BuildError>>) -> ParsedPostfix
     ensures value { view_result change_of result.value ≡ view_result change_of value }
+    ensures is { result.value ≡ value }
     ensures height { result.added_height ≡ 0 }
 {
     ParsedPostfix {
@@ -234,9 +240,11 @@ fn build_at_modifier(
     seconds: Result<Number, Box<BuildError>>,
     place: Place,
 ) -> Built<Postfix>
-    ensures { IfOk result (λ value. view_result change_of value
+    ensures value { IfOk result (λ value. view_result change_of value
         ≡ (view_result (λ (n : numbers.Number). n) seconds then
         λ n. at_fault (at_of_number n) then λ m. Ok (to_moment m))) }
+    ensures place { IfOk result (λ value. IfErr value (λ error. MatchResult seconds
+        (λ _. error.value.place ≡ place) (λ held. error ≡ held))) }
 {
     let seconds = match seconds {
         Ok(seconds) => seconds,

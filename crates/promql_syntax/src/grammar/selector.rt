@@ -3,7 +3,7 @@
 ghost use Rattle.std.specs.Prelude.{◌≡◌, ◌<◌, true, length, IfOk, MatchResult, OnOk};
 ghost use Rattle.promql_grammar.specs.GrammarParts as part;
 ghost use Rattle.promql_grammar.specs.Parsing as parsing;
-ghost use Rattle.promql_grammar.specs.SymbolsLeft.{symbols_left};
+ghost use Rattle.promql_grammar.specs.SymbolsLeft.{CountsTaken, symbols_left};
 ghost use Rattle.promql_grammar.specs.MatcherTokens.{is_or, item_parts, operator_of_part, parts_of};
 ghost use Rattle.promql_grammar.specs.Failures.{Fails};
 ghost use Rattle.promql_label.specs.Answers.{Allows, built, rejected};
@@ -32,6 +32,7 @@ pub fn parse_braces(alloc: Global, builds: bool, tokens: &mut Tokens<'_>) -> Par
         (λ e. Fails (e, symbols_left tokens.new) (parsing.parse_braces (symbols_left tokens.old))) }
     ensures short { OnOk result
         (length (symbols_left tokens.new) < length (symbols_left tokens.old)) }
+    ensures counts { OnOk result (CountsTaken tokens.old tokens.new) }
 {
     let mut matchers = Ok(Matchers::empty(alloc));
     if tokens.eat(TokenKind::RightBrace) {

@@ -5,7 +5,7 @@ ghost use Rattle.std.specs.Duration.{as_nanos};
 ghost use Rattle.promql_text.specs.declared.number.Number as numbers;
 ghost use Rattle.promql_grammar.specs.Parsing as parsing;
 ghost use Rattle.promql_text.specs.Values.{neg};
-ghost use Rattle.promql_grammar.specs.SymbolsLeft.{symbols_left};
+ghost use Rattle.promql_grammar.specs.SymbolsLeft.{CountsTaken, symbols_left};
 ghost use Rattle.promql_grammar.specs.Failures.{Fails};
 ghost use Rattle.promql_grammar.specs.PartTokens.{parse_offset, parse_signed_number};
 ghost use Rattle.promql_ast.specs.Shifts.{ahead, back, shift_of};
@@ -32,6 +32,7 @@ pub fn parse_number(alloc: Global, tokens: &mut Tokens<'_>) -> Parsed<Number>
         (λ e. Fails (e, symbols_left tokens.new) (parsing.parse_number (symbols_left tokens.old))) }
     ensures short { OnOk result
         (length (symbols_left tokens.new) < length (symbols_left tokens.old)) }
+    ensures counts { OnOk result (CountsTaken tokens.old tokens.new) }
 {
     let Some((kind, text)) = tokens.peek() else {
         return Err(ReadError::Syntax);
@@ -54,6 +55,7 @@ pub fn parse_signed_number(alloc: Global, tokens: &mut Tokens<'_>) -> Parsed<Num
         (λ e. Fails (e, symbols_left tokens.new) (parse_signed_number (symbols_left tokens.old))) }
     ensures short { OnOk result
         (length (symbols_left tokens.new) < length (symbols_left tokens.old)) }
+    ensures counts { OnOk result (CountsTaken tokens.old tokens.new) }
 {
     let is_minus = eat_sign(tokens);
     let number = parse_number(alloc, tokens)?;
@@ -69,6 +71,7 @@ pub fn parse_time(alloc: Global, tokens: &mut Tokens<'_>) -> Parsed<Duration>
         (λ e. Fails (e, symbols_left tokens.new) (parsing.parse_time (symbols_left tokens.old))) }
     ensures short { OnOk result
         (length (symbols_left tokens.new) < length (symbols_left tokens.old)) }
+    ensures counts { OnOk result (CountsTaken tokens.old tokens.new) }
 {
     let Some((kind, text)) = tokens.peek() else {
         return Err(ReadError::Syntax);
@@ -96,6 +99,7 @@ pub fn parse_offset(alloc: Global, tokens: &mut Tokens<'_>) -> Parsed<Offset>
         (λ e. Fails (e, symbols_left tokens.new) (parse_offset (symbols_left tokens.old))) }
     ensures short { OnOk result
         (length (symbols_left tokens.new) < length (symbols_left tokens.old)) }
+    ensures counts { OnOk result (CountsTaken tokens.old tokens.new) }
 {
     let is_minus = eat_sign(tokens);
     let duration = parse_time(alloc, tokens)?;

@@ -1,7 +1,7 @@
 use Rattle.std.proofs.Common.{◌≡◌, ◌+◌, ◌*◌, ◌≤◌, true, length}
 use Rattle.promql_grammar.specs.Parsing.{parse_expression}
 use Rattle.promql_grammar.specs.Symbols.{begins}
-use Rattle.promql_grammar.specs.SymbolsLeft.{symbols_left}
+use Rattle.promql_grammar.specs.SymbolsLeft.{CountsTaken, symbols_left, token_count}
 use Rattle.promql_syntax.proofs.Climbing.{Climbing}
 use Rattle.promql_syntax.proofs.Collecting.{Collecting}
 use Rattle.promql_syntax.proofs.grammar.+parser.Given as goal
@@ -30,7 +30,8 @@ invariant-expression::parse_expression-loop-op l = record {
   under : l.max_height ≡ l.below + 1;
   short : length (symbols_left l.tokens) ≤ length (symbols_left l.fn.tokens);
   begun : begins (symbols_left l.fn.tokens) ≡ true;
-  goes : Climbing l.builds l.max_height l.below l.min_precedence (symbols_left l.fn.tokens) l.left (symbols_left l.tokens);
+  counts : CountsTaken l.fn.tokens l.tokens;
+  goes : Climbing l.builds (token_count l.fn.tokens) l.max_height l.below l.min_precedence (symbols_left l.fn.tokens) l.left (symbols_left l.tokens);
 }
 
 abbrev pub decreases-expression::parse_expression-loop-op : goal.decreases-expression::parse_expression-loop-op
@@ -40,7 +41,8 @@ abbrev pub invariant-call::parse_arguments-loop-alloc : goal.invariant-call::par
 invariant-call::parse_arguments-loop-alloc l = record {
   low : l.args.height ≤ l.max_height;
   short : length (symbols_left l.tokens) ≤ length (symbols_left l.fn.tokens);
-  goes : Collecting l.builds (parse_expression l.max_height) (symbols_left l.fn.tokens) l.args (symbols_left l.tokens);
+  counts : CountsTaken l.fn.tokens l.tokens;
+  goes : Collecting l.builds (token_count l.fn.tokens) (parse_expression l.max_height) (symbols_left l.fn.tokens) l.args (symbols_left l.tokens);
 }
 
 abbrev pub decreases-call::parse_arguments-loop-alloc : goal.decreases-call::parse_arguments-loop-alloc

@@ -10,5 +10,5 @@ returns-then-not-may_be_name-clause-gives c = not_named c.args.kind c.args.name.
 
 pub returns-clause-gives : goal.returns-clause-gives
 returns-clause-gives c =
-    bases_same _ _ _ _ (λ k n. parse_named k n c.args.kind c.args.name.now (drop 1 (symbols_left c.args.tokens.now)))
+    bases_same _ _ _ _ _ _ c.bump.ensures.counts (λ k n. parse_named k n c.args.kind c.args.name.now (drop 1 (symbols_left c.args.tokens.now)))
     (λ k n. named_selector c.args.kind c.args.name.now _ _ k n (sym c.if-not-may_be_name.ensures) c.bump.ensures.drops) c.parse_selector.ensures.gives

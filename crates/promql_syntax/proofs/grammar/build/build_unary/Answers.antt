@@ -8,22 +8,27 @@ use Rattle.promql_syntax.specs.Building.{build, build_unary}
 use Rattle.promql_syntax.proofs.Ending.{then_value, then_fault}
 use Rattle.promql_syntax.proofs.BuiltForms.{if_ok_both, is_expr_of, with_tree, with_fault, plus_ends, minus_ends}
 use Rattle.std.proofs.lemmas.Bool.Decides.{nat_tests}
+use Rattle.promql_syntax.specs.FaultTokens.{here, subexpressions}
+use Rattle.promql_syntax.proofs.FaultPlacing.{after_first, none_placed, passed_on, whole_placed}
 use Rattle.promql_syntax.proofs.grammar.build.build_unary.Goals as goal
 
 pub returns-then-op-ne-T_SUB-clause-built : goal.returns-then-op-ne-T_SUB-clause-built
-returns-then-op-ne-T_SUB-clause-built c = λ builds text d operand.
+returns-then-op-ne-T_SUB-clause-built c = λ builds n k text d operand.
     let other : (c.args.op == T_SUB) ≡ false = grind (arith, nat_tests) in
-    is_expr_of builds _ (grammar.unary c.args.op text d) _ _ c.parsed_node.ensures.value c.parsed_node.ensures.tall (let same = operand.tall in omega arith)
+    is_expr_of builds n k _ (grammar.unary c.args.op text d) _ _ c.parsed_node.ensures.value c.parsed_node.ensures.tall (let same = operand.tall in omega arith)
     (λ on. then_value (build d) (λ t. build_unary c.args.op t) (tree_of c.in-Ok.expr.value) _ (with_tree c.args.operand (build d) c.in-Ok.expr c.in-Ok.is (operand.built on)) (plus_ends c.args.op _ other))
+    (λ on built fits. none_placed n (subexpressions k (grammar.unary c.args.op text d)) _ _ c.parsed_node.ensures.is)
 
 pub returns-else-op-ne-T_SUB-clause-built : goal.returns-else-op-ne-T_SUB-clause-built
 returns-else-op-ne-T_SUB-clause-built c =
     let minus : (c.args.op == T_SUB) ≡ true = grind (arith, nat_tests) in
-    if_ok_both {R = λ parsed. (builds : Bool) (text : List ℕ) (d : grammar.Derivation) → IsExprOf builds c.args.operand d → IsExprOf builds parsed (grammar.unary c.args.op text d)} _ c.check_result.ensures.value c.check_result.ensures.tall (λ parsed value tall. λ builds text d operand.
-    is_expr_of builds parsed (grammar.unary c.args.op text d) _ _ (rw c.into_inner-expr.ensures at (value _ c.new_unary_expr.ensures)) tall (let same = operand.tall in omega arith)
-    (λ on. then_value (build d) (λ t. build_unary c.args.op t) (tree_of c.in-Ok.expr.value) _ (with_tree c.args.operand (build d) c.in-Ok.expr c.in-Ok.is (operand.built on)) (minus_ends c.args.op (tree_of c.in-Ok.expr.value) minus)))
+    if_ok_both {R = λ parsed. (builds : Bool) (n k : ℕ) (text : List ℕ) (d : grammar.Derivation) → IsExprOf builds n k c.args.operand d → IsExprOf builds n k parsed (grammar.unary c.args.op text d)} _ c.check_result.ensures.value c.check_result.ensures.tall (λ parsed value tall. λ builds n k text d operand.
+    is_expr_of builds n k parsed (grammar.unary c.args.op text d) _ _ (rw c.into_inner-expr.ensures at (value _ c.new_unary_expr.ensures)) tall (let same = operand.tall in omega arith)
+    (λ on. then_value (build d) (λ t. build_unary c.args.op t) (tree_of c.in-Ok.expr.value) _ (with_tree c.args.operand (build d) c.in-Ok.expr c.in-Ok.is (operand.built on)) (minus_ends c.args.op (tree_of c.in-Ok.expr.value) minus))
+    (λ on built fits. whole_placed n k (grammar.unary c.args.op text d) (subexpressions k d) parsed.value tt (tree_of c.in-Ok.expr.value, with_tree c.args.operand (build d) c.in-Ok.expr c.in-Ok.is (operand.built on)) built))
 
 pub returns-in-Err-clause-built : goal.returns-in-Err-clause-built
-returns-in-Err-clause-built c = λ builds text d operand.
-    is_expr_of builds _ (grammar.unary c.args.op text d) _ _ c.parsed_error.ensures.value c.parsed_error.ensures.tall (let same = operand.tall in omega arith)
+returns-in-Err-clause-built c = λ builds n k text d operand.
+    is_expr_of builds n k _ (grammar.unary c.args.op text d) _ _ c.parsed_error.ensures.value c.parsed_error.ensures.tall (let same = operand.tall in omega arith)
     (λ on. then_fault (build d) (λ t. build_unary c.args.op t) _ (with_fault c.args.operand (build d) c.in-Err.error c.in-Err.is (operand.built on)))
+    (λ on built fits. passed_on n (subexpressions k d) (subexpressions k (grammar.unary c.args.op text d)) _ _ c.in-Err.error c.in-Err.is c.parsed_error.ensures.is (after_first (here k (grammar.unary c.args.op text d)) (subexpressions k d)) (operand.placed on fits))

@@ -13,4 +13,4 @@ none_comes c = elim c.in_default.branch [
 ]
 
 pub returns-in_default-clause-gives : goal.returns-in_default-clause-gives
-returns-in_default-clause-gives c = λ d k built enough. no_postfixes k c.args.max_height d (symbols_left c.args.tokens.now) c.args.base built enough (none_comes c)
+returns-in_default-clause-gives c = λ n d k total built enough. no_postfixes n k c.args.max_height d (symbols_left c.args.tokens.now) c.args.base built enough (none_comes c)

@@ -12,6 +12,7 @@ use Rattle.promql_grammar.specs.PartTokens.{parse_offset}
 use Rattle.promql_syntax.specs.Postfixes.{by_shift}
 use Rattle.promql_grammar.proofs.Eating.{at_word}
 use Rattle.promql_syntax.proofs.PartSteps.{offset_fails, time_then}
+use Rattle.promql_syntax.proofs.ResultSteps.{fails_same}
 use Rattle.promql_syntax.proofs.grammar.postfix.parse_postfix.Goals as goal
 
 -- a time with its sign follows `offset`
@@ -41,5 +42,12 @@ returns-in_ok-offset-in-Offset-clause-gives c =
       built = record {
         value = c.same_height.ensures.value ∙ c.build_offset.ensures ∙ ap (λ r. r then λ x. Ok (by_shift x)) read.built;
         adds = c.same_height.ensures.height;
+        moment = λ fits. tt;
       };
     }
+
+pub returns-in_err-parse_range-in-LeftBracket-clause-gives : goal.returns-in_err-parse_range-in-LeftBracket-clause-gives
+returns-in_err-parse_range-in-LeftBracket-clause-gives c =
+    let same = err_from_is_err_and c.from_residual.result c.from_residual.ensures.1 in
+    let front = at_word (symbols_left c.args.tokens.now) _ c.in-Some.kind kind.LeftBracket c.in-Some.field-0-1.now c.in-Some.ensures c.in-LeftBracket.is c.bump.ensures.drops in
+    rw (same.1, same.2) (fails_same _ _ _ (ap parse_postfix front) (c.in_err-parse_range-in-LeftBracket.ensures.gives 0))

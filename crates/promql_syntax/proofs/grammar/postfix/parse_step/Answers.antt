@@ -17,21 +17,21 @@ step_fails : (e : Failure) (t : Time) (ts : List Symbol) → HasNo kind.RightBra
 step_fails e t ts none fails = fails_same e _ _ (some_step t ts none) (fails_then e (parse_time ts) (λ s. parse_step_end t s.0 s.1) fails)
 
 pub returns-in_err-step-clause-gives : goal.returns-in_err-step-clause-gives
-returns-in_err-step-clause-gives c = λ t is_range.
+returns-in_err-step-clause-gives c = λ n t is_range.
     let same = err_from_is_err_and c.from_residual.result c.from_residual.ensures.1 in
     let fails = rw (c.if-eat.ensures.stays refl) at c.in_err-step.ensures.gives in
     rw (same.1, same.2) (step_fails _ t _ c.if-eat.ensures.gives fails)
 
 pub returns-in_err-expect-clause-gives :
     goal.returns-in_err-expect-clause-gives
-returns-in_err-expect-clause-gives c = λ t is_range.
+returns-in_err-expect-clause-gives c = λ n t is_range.
     let same = err_from_is_err_and c.from_residual-in_err-expect.result c.from_residual-in_err-expect.ensures.1 in
     let fails = c.in_err-expect.ensures.fails in
     let read = rw (c.if-eat.ensures.stays refl) at c.in_ok-step.ensures.gives in
     rw (same.1, same.2, fails.0, c.in_err-expect.ensures.stays) (step_open t _ _ read.part c.if-eat.ensures.gives read.is fails.1)
 
 pub returns-clause-gives : goal.returns-clause-gives
-returns-clause-gives c = λ t is_range.
+returns-clause-gives c = λ n t is_range.
     let read = rw (c.if-eat.ensures.stays refl) at c.in_ok-step.ensures.gives in
     record {
       part = subquery t (Some read.part);
@@ -41,5 +41,6 @@ returns-clause-gives c = λ t is_range.
       built = record {
         value = c.subquery_postfix-2.ensures.value ∙ ap₂ subquery_change is_range (ap Some read.built);
         adds = c.subquery_postfix-2.ensures.height;
+        moment = λ fits. tt;
       };
     }

@@ -1,0 +1,143 @@
+-- What the parts of an expression fail with: faults of a token.
+use Rattle.std.proofs.Common.{◌≡◌, Bool, true, false, refl}
+use Rattle.std.specs.Prelude.{Option, Some, None, Result, Ok, Err, IfErr, cond}
+use Rattle.promql_text.specs.Texts.{Text}
+use Rattle.promql_text.specs.declared.number.Number.{Number}
+use Rattle.promql_text.specs.declared.number.NumberFault.{NumberFault}
+use Rattle.promql_text.specs.declared.duration.DurationFault.{DurationFault}
+use Rattle.promql_text.specs.Durations.{duration_of}
+use Rattle.promql_text.specs.NumberText.{read_number}
+use Rattle.promql_text.specs.Quoting.{unquoted_text}
+use Rattle.promql_grammar.specs.declared.token_kinds.TokenKind.{TokenKind}
+use Rattle.promql_grammar.specs.declared.token_kinds.TokenKind.TheVariants as kind
+use Rattle.promql_grammar.specs.Grammar as grammar
+use Rattle.promql_grammar.specs.GrammarParts as part
+use Rattle.promql_grammar.specs.Results.{◌then◌}
+use Rattle.promql_kind.specs.Modifiers.{Matching}
+use Rattle.promql_ast.specs.AtTimes.{at_of_number}
+use Rattle.promql_ast.specs.declared.at_modifier.AtFault.{AtFault}
+use Rattle.promql_ast.specs.declared.at_modifier.AtModifier.{AtModifier}
+use Rattle.promql_syntax.specs.BuildErrors.{BuildError, number, quoted, duration, at, pattern, unknown_function, check}
+use Rattle.promql_syntax.specs.FaultTokens.{fault_tokens}
+use Rattle.promql_syntax.specs.PartBuilding.{unquoted_or_error, string_value, number_fault, number_value, signed_number, label_value, name_values, label_values, group_value, matching_value, fill_value, fills_value, is_blank, modifier_value, duration_fault, time_value, step_value, shift_value, at_fault, moment_value}
+use Rattle.promql_syntax.specs.Postfixes.{change_value}
+
+abbrev pub IsTokenFault : BuildError → Type 0
+IsTokenFault (number f) = Unit {0}
+IsTokenFault quoted = Unit {0}
+IsTokenFault (duration f) = Unit {0}
+IsTokenFault (pattern value) = Unit {0}
+IsTokenFault (at f) = ⊥
+IsTokenFault (unknown_function name) = ⊥
+IsTokenFault (check f) = ⊥
+
+abbrev pub FailsByToken : {A : Type 0} → Result A BuildError → Type 0
+FailsByToken r = IfErr r IsTokenFault
+
+by_then : (P : BuildError → Type 0) {A B : Type 0} (r : Result A BuildError) (f : A → Result B BuildError) → IfErr r P → ((x : A) → IfErr (f x) P) → IfErr (r then f) P
+by_then P (Ok x) f first rest = rest x
+by_then P (Err e) f first rest = first
+
+unquoted_by : (o : Option Text) → FailsByToken (unquoted_or_error o)
+unquoted_by (Some text) = tt
+unquoted_by None = tt
+
+string_by : (text : Text) → FailsByToken (string_value text)
+string_by text = unquoted_by (unquoted_text text)
+
+number_by : (r : Result Number NumberFault) → FailsByToken (number_fault r)
+number_by (Ok n) = tt
+number_by (Err f) = tt
+
+pub signed_by : (s : part.Signed) (text : Text) → FailsByToken (signed_number s text)
+signed_by s text = by_then IsTokenFault (number_value text) _ (number_by (read_number text)) (λ n. tt)
+
+label_by : (k : TokenKind) (text : Text) → FailsByToken (label_value k text)
+label_by kind.String text = string_by text
+label_by k text = tt
+
+names_by : (names : part.Names) → FailsByToken (name_values names)
+names_by (part.last k text) = by_then IsTokenFault (label_value k text) _ (label_by k text) (λ l. tt)
+names_by (part.last_comma k text) = by_then IsTokenFault (label_value k text) _ (label_by k text) (λ l. tt)
+names_by (part.next k text names) = by_then IsTokenFault (label_value k text) _ (label_by k text) (λ l. by_then IsTokenFault (name_values names) _ (names_by names) (λ ls. tt))
+
+labels_by : (ls : part.Labels) → FailsByToken (label_values ls)
+labels_by part.no_label = tt
+labels_by (part.labels names) = names_by names
+
+group_by : (g : part.Group) → FailsByToken (group_value g)
+group_by part.no_group = tt
+group_by (part.bare k text) = tt
+group_by (part.listed k text ls) = by_then IsTokenFault (label_values ls) _ (labels_by ls) (λ x. tt)
+
+matching_by : (m : part.Matching) → FailsByToken (matching_value m)
+matching_by part.no_matching = tt
+matching_by (part.matching k text ls g) = by_then IsTokenFault (label_values ls) _ (labels_by ls) (λ x. by_then IsTokenFault (group_value g) _ (group_by g) (λ c. tt))
+
+fill_by : (v : part.FillValue) → FailsByToken (fill_value v)
+fill_by v = signed_by v.sign v.number
+
+fills_by : (f : part.Fills) → FailsByToken (fills_value f)
+fills_by part.no_fill = tt
+fills_by (part.both text v) = by_then IsTokenFault (fill_value v) _ (fill_by v) (λ n. tt)
+fills_by (part.left text v) = by_then IsTokenFault (fill_value v) _ (fill_by v) (λ n. tt)
+fills_by (part.right text v) = by_then IsTokenFault (fill_value v) _ (fill_by v) (λ n. tt)
+fills_by (part.left_right text v text' w) = by_then IsTokenFault (fill_value v) _ (fill_by v) (λ n. by_then IsTokenFault (fill_value w) _ (fill_by w) (λ m. tt))
+fills_by (part.right_left text v text' w) = by_then IsTokenFault (fill_value v) _ (fill_by v) (λ n. by_then IsTokenFault (fill_value w) _ (fill_by w) (λ m. tt))
+
+cond_by : {A : Type 0} (b : Bool) (r s : Result A BuildError) → FailsByToken r → FailsByToken s → FailsByToken (cond b r s)
+cond_by true r s first second = first
+cond_by false r s first second = second
+
+pub modifier_by : (m : part.Modifier) → FailsByToken (modifier_value m)
+modifier_by m =
+    cond_by (is_blank m.flag m.matching m.fills) (Ok None) _ tt
+    (by_then IsTokenFault (matching_value m.matching) _ (matching_by m.matching) (λ c. by_then IsTokenFault (fills_value m.fills) _ (fills_by m.fills) (λ f. tt)))
+
+-- ---- postfixes: no fault of a check
+
+abbrev pub IsPartFault : BuildError → Type 0
+IsPartFault (check f) = ⊥
+IsPartFault e = Unit {0}
+
+duration_by : {A : Type 0} (r : Result A DurationFault) → IfErr (duration_fault r) IsPartFault
+duration_by (Ok n) = tt
+duration_by (Err f) = tt
+
+time_by : (t : part.Time) → IfErr (time_value t) IsPartFault
+time_by (part.seconds text) = duration_by (duration_of text)
+time_by (part.duration text) = duration_by (duration_of text)
+
+step_by : (s : Option part.Time) → IfErr (step_value s) IsPartFault
+step_by None = tt
+step_by (Some t) = by_then IsPartFault (time_value t) _ (time_by t) (λ n. tt)
+
+number_part : (r : Result Number NumberFault) → IfErr (number_fault r) IsPartFault
+number_part (Ok n) = tt
+number_part (Err f) = tt
+
+moment_part : (r : Result AtModifier AtFault) → IfErr (at_fault r) IsPartFault
+moment_part (Ok m) = tt
+moment_part (Err f) = tt
+
+pub change_by : (p : part.Postfix) → IfErr (change_value p) IsPartFault
+change_by (part.range r) = by_then IsPartFault (time_value r) _ (time_by r) (λ n. tt)
+change_by (part.subquery r s) = by_then IsPartFault (time_value r) _ (time_by r) (λ n. by_then IsPartFault (step_value s) _ (step_by s) (λ m. tt))
+change_by (part.at_number s text) =
+    by_then IsPartFault (moment_value s text) _
+    (by_then IsPartFault (signed_number s text) _ (by_then IsPartFault (number_value text) _ (number_part (read_number text)) (λ n. tt)) (λ n. moment_part (at_of_number n)))
+    (λ m. tt)
+change_by (part.at_bound k text) = tt
+change_by (part.offset text s r) = by_then IsPartFault (shift_value s r) _ (by_then IsPartFault (time_value r) _ (time_by r) (λ n. tt)) (λ x. tt)
+change_by (part.mode k text) = tt
+
+-- ---- such a fault has no tokens of its own here
+
+pub none_by_token : (e : BuildError) (k op : _) (text : Text) (m : part.Modifier) (l r : grammar.Derivation) → IsTokenFault e → fault_tokens e k (grammar.binary op text m l r) ≡ None
+none_by_token (number f) k op text m l r is = refl
+none_by_token quoted k op text m l r is = refl
+none_by_token (duration f) k op text m l r is = refl
+none_by_token (pattern value) k op text m l r is = refl
+none_by_token (at f) k op text m l r is = absurd is
+none_by_token (unknown_function name) k op text m l r is = absurd is
+none_by_token (check f) k op text m l r is = absurd is

@@ -1,0 +1,77 @@
+-- Which tokens a fault of building is about (docs/reference/grammar.md, "Places of errors"). Places in a text are told by how many of its
+-- tokens are left.
+use Rattle.std.specs.Prelude.{ℕ, ◌+◌, Option, Some, None, List, [], ◌∷◌, ◌++◌, length, Ok, Err}
+use Rattle.promql_grammar.specs.Grammar as grammar
+use Rattle.promql_grammar.specs.Grammar.{Derivation, Arguments, yield, yield_arguments}
+use Rattle.promql_grammar.specs.GrammarParts as part
+use Rattle.promql_grammar.specs.GrammarParts.{yield_after, yield_modifier, yield_postfix, yield_signed}
+use Rattle.promql_ast.specs.Faults.{node, bool_modifier, label_twice, no_grouping, vector_matching}
+use Rattle.promql_ast.specs.Tree.{Tree, Trees}
+use Rattle.promql_syntax.specs.Asking.{EndsIn}
+use Rattle.promql_syntax.specs.BuildErrors.{BuildError, at, check, unknown_function}
+use Rattle.promql_syntax.specs.Building.{build, build_all}
+
+-- an expression in another, and how many tokens come after it
+pub record Subexpression : Type 0 where
+  pub derivation : Derivation
+  pub after : ℕ
+
+abbrev pub here : ℕ → Derivation → Subexpression
+here k d = record { derivation = d; after = k }
+
+-- the tokens of arguments and of the commas before them
+abbrev pub rest_count : Arguments → ℕ
+rest_count grammar.none = 0
+rest_count (grammar.more d ds) = 1 + (length (yield d) + rest_count ds)
+
+abbrev mutual
+  -- those of an expression that k tokens come after, itself first
+  pub subexpressions : ℕ → Derivation → List Subexpression
+  subexpressions k (grammar.paren d) = here k (grammar.paren d) ∷ subexpressions (1 + k) d
+  subexpressions k (grammar.call w text ds) = here k (grammar.call w text ds) ∷ subexpressions_of (1 + k) ds
+  subexpressions k (grammar.aggregate op text c ds) =
+      here k (grammar.aggregate op text c ds) ∷ subexpressions_of (1 + (length (yield_after c) + k)) ds
+  subexpressions k (grammar.postfixed d p) = here k (grammar.postfixed d p) ∷ subexpressions (length (yield_postfix p) + k) d
+  subexpressions k (grammar.unary op text d) = here k (grammar.unary op text d) ∷ subexpressions k d
+  subexpressions k (grammar.binary op text m l r) =
+      here k (grammar.binary op text m l r)
+      ∷ (subexpressions (1 + (length (yield_modifier m) + (length (yield r) + k))) l ++ subexpressions k r)
+  subexpressions k d = here k d ∷ []
+
+  -- those of arguments that k tokens come after
+  pub subexpressions_of : ℕ → Arguments → List Subexpression
+  subexpressions_of k grammar.none = []
+  subexpressions_of k (grammar.more d ds) = subexpressions (rest_count ds + k) d ++ subexpressions_of k ds
+
+abbrev pub Builds : Derivation → Type 0
+Builds d = (t : Tree) × EndsIn (build d) (Ok t)
+
+-- the expressions in it build
+abbrev pub PartsBuild : Derivation → Type 0
+PartsBuild (grammar.paren d) = Builds d
+PartsBuild (grammar.call w text ds) = (ts : Trees) × EndsIn (build_all ds) (Ok ts)
+PartsBuild (grammar.aggregate op text c ds) = (ts : Trees) × EndsIn (build_all ds) (Ok ts)
+PartsBuild (grammar.postfixed d p) = Builds d
+PartsBuild (grammar.unary op text d) = Builds d
+PartsBuild (grammar.binary op text m l r) = Builds l × Builds r
+PartsBuild d = Unit {0}
+
+-- the tokens that a fault of an expression is about, where it is told which: how many are left from the first of them, and after the last
+abbrev modifier_tokens : ℕ → part.Modifier → Derivation → Option (ℕ × ℕ)
+modifier_tokens k m r = Some (length (yield_modifier m) + (length (yield r) + k), length (yield r) + k)
+
+abbrev pub fault_tokens : BuildError → ℕ → Derivation → Option (ℕ × ℕ)
+fault_tokens (unknown_function name) k (grammar.call w text ds) =
+    Some (2 + (length (yield_arguments ds) + k), 1 + (length (yield_arguments ds) + k))
+fault_tokens (at fault) k (grammar.postfixed d (part.at_number s text)) = Some (length (yield_signed s) + (1 + k), k)
+fault_tokens (check (node fault)) k (grammar.postfixed d p) = Some (length (yield_postfix p) + k, k)
+fault_tokens (check bool_modifier) k (grammar.binary op text m l r) = modifier_tokens k m r
+fault_tokens (check (label_twice label)) k (grammar.binary op text m l r) = modifier_tokens k m r
+fault_tokens (check (no_grouping set)) k (grammar.binary op text m l r) = modifier_tokens k m r
+fault_tokens (check vector_matching) k (grammar.binary op text m l r) = modifier_tokens k m r
+fault_tokens fault k d = None
+
+-- one of these has the fault, though what is in it builds
+pub record IsFaultOf (fault : BuildError) (sub : Subexpression) : Type 0 where
+  pub parts : PartsBuild sub.derivation
+  pub fails : EndsIn (build sub.derivation) (Err fault)
