@@ -1,5 +1,5 @@
 -- What the loops over tokens find is a span over tokens.
-use Rattle.std.proofs.Common.{◌≡◌, ℕ, ◌-◌, Bool, true, false, cond, List, [], ◌∷◌, length, drop, take, filter, None, Some, refl, sym, ap, ◌∙◌, arith}
+use Rattle.std.proofs.Common.{◌≡◌, ℕ, ◌<◌, ◌-◌, Bool, true, false, cond, List, [], ◌∷◌, length, drop, take, filter, None, Some, refl, sym, ap, ◌∙◌, arith}
 use Rattle.std.specs.Prelude.{nat_le}
 use Rattle.promql_text.specs.Texts.{Text}
 use Rattle.promql_token.specs.declared.lexeme.Lexeme.{Lexeme}
@@ -24,6 +24,19 @@ none_covered (y ∷ ys) zs is = let more = cover_more y.start y ys in cc
 
 pub inside_is : (s : Text) (part : Span) (xs : List Lexeme) (span : Span) → cover None (filter (begins_in part) xs) ≡ Some span → span ≡ span_over s (tokens_by part xs)
 inside_is s part xs span is = some_covered s (filter (begins_in part) xs) (or_else (take 1 (filter (begins_from part.start) xs)) (last_tokens 1 xs)) span is
+
+-- the same of tokens that are given
+pub cover_is : (s : Text) (ys : List Lexeme) (span : Span) → cover None ys ≡ Some span → 0 < length ys → span ≡ span_over s ys
+cover_is s [] span is some = absurd (omega arith)
+cover_is s (y ∷ ys) span is some = some_covered s (y ∷ ys) [] span is
+
+pub cover_some : (ys : List Lexeme) (span : Span) → cover None ys ≡ Some span → 0 < length ys
+cover_some [] span is = cc
+cover_some (y ∷ ys) span is = omega arith
+
+pub cover_none : (ys : List Lexeme) → cover None ys ≡ None → 0 < length ys → ⊥
+cover_none [] is some = absurd (omega arith)
+cover_none (y ∷ ys) is some = let more = cover_more y.start y ys in cc
 
 -- ---- the first after it, or the last
 

@@ -1,5 +1,5 @@
 -- From what parsing finds to the place of an error.
-use Rattle.std.proofs.Common.{◌≡◌, ◌≢◌, ℕ, ◌<◌, ◌≤◌, ◌-◌, inl, inr, ◌⊎◌, ⊎_elim, List, [], ◌∷◌, length, map, drop, refl, sym, ap, ◌∙◌, subst, arith}
+use Rattle.std.proofs.Common.{◌≡◌, ◌≢◌, ℕ, ◌<◌, ◌≤◌, ◌-◌, ◌^◌, inl, inr, ◌⊎◌, ⊎_elim, List, [], ◌∷◌, length, map, drop, refl, sym, ap, ◌∙◌, subst, arith}
 use Rattle.std.specs.Prelude.{Result, Ok, Err, Some, not}
 use Rattle.std.proofs.lemmas.Bool.{cases_lt}
 use Rattle.std.proofs.lemmas.List.{drop-map, drop_all, length-map, length-append}
@@ -16,20 +16,29 @@ use Rattle.promql_grammar.specs.Misfits.{AreMisfits}
 use Rattle.promql_grammar.specs.Symbols.{Symbol, symbol_of}
 use Rattle.promql_grammar.specs.SourceTokens.{Token, tokens, has_any}
 use Rattle.promql_span.specs.PlacedTokens.{TokensArePlaced, end_of, first_span, last_tokens, placed_tokens, symbols_at}
-use Rattle.promql_span.specs.TokenSpans.{IsAtTokens}
+use Rattle.promql_span.specs.TokenSpans.{IsAtTokens, span_over}
+use Rattle.promql_span.specs.SpanSteps.{in_range}
 use Rattle.promql_span.specs.declared.span.Span.{Span}
 use Rattle.promql_span.specs.declared.diagnosis.Finding.{Finding}
 use Rattle.promql_span.specs.declared.diagnosis.Finding.TheVariants.{Misfit, Fault}
 use Rattle.promql_syntax.specs.declared.grammar.build_error.BuildFault.{BuildFault}
 use Rattle.promql_syntax.specs.declared.grammar.build_error.BuildFault.TheVariants as faults
 use Rattle.promql_syntax.specs.declared.grammar.place.Place.{Place}
+use Rattle.promql_syntax.specs.declared.grammar.place.Place.TheVariants.{Tokens}
+use Rattle.promql_syntax.specs.declared.grammar.place.TokenRange.{TokenRange}
 use Rattle.promql_syntax.specs.declared.parser.ParseError.{ParseError}
 use Rattle.promql_syntax.specs.declared.parser.ParseError.TheVariants as errors
-use Rattle.promql_span.specs.Marks.{IsMark}
-use Rattle.promql_span.proofs.MarkSearch.{mark_at}
-use Rattle.promql_token.specs.declared.ids.TheConstants.{T_EOF}
-use Rattle.promql_span.specs.ErrorPlaces.{IsAtError, IsAtFault, IsCharOrEnd, IsPlaceOf}
-use Rattle.promql_span.specs.Findings.{HasFault, IsFindingOf, IsFound, IsFoundAt, IsMisfit}
+use Rattle.promql_span.proofs.TokenRanges.{span_at}
+use Rattle.promql_span.specs.ErrorPlaces.{IsAtBuildFault, IsAtError, IsAtFault, IsAtPlainError, IsCharOrEnd, IsPlaceOf}
+use Rattle.promql_span.specs.Findings.{HasFault, IsFindingOf, IsFound, IsFoundAt, IsMisfit, IsPlacedError, IsPlacedFault}
+use Rattle.promql_grammar.specs.Results.{on_result}
+use Rattle.promql_syntax.specs.BuildErrors.{BuildError, build_error_of, build_fault_of}
+use Rattle.promql_syntax.specs.ParsesQuery.{HasPlace}
+use Rattle.promql_syntax.specs.Placing.{AreTokens}
+use Rattle.promql_syntax.specs.declared.grammar.build_error.BuildError as code
+use Rattle.promql_syntax.specs.FaultTokens.{fault_tokens}
+use Rattle.promql_syntax.specs.ParseAnswers as plain
+use Rattle.promql_syntax.specs.ParseAnswers.{PlainParseError, plain_error_of}
 use Rattle.promql_syntax.specs.ParseErrors.{error_of, error_of_fault, first_error}
 use Rattle.promql_grammar.proofs.Listing.{some_zero, whole_list}
 
@@ -81,23 +90,23 @@ module _ (law : TokensArePlaced) (s : Text) (list : List Token) (is : tokens s �
 
 -- ---- what was found tells the place
 
-fault_found : (s : Text) (f : BuildFault) (place : Place) → 0 < length (placed_tokens s) → IsFound s (error_of_fault f) (Fault place)
-fault_found s (faults.Number f) place some = some
-fault_found s faults.Quoted place some = some
-fault_found s (faults.Duration f) place some = some
-fault_found s (faults.At f) place some = some
-fault_found s (faults.Pattern value) place some = some
-fault_found s (faults.UnknownFunction name) place some = some
-fault_found s (faults.Check f) place some = some
+fault_found : (s : Text) (f : BuildFault) (place : Place) → 0 < length (placed_tokens s) → IsPlacedFault s (build_fault_of f) place → IsFound s (error_of_fault f) (Fault place)
+fault_found s (faults.Number f) place some placed = (some, placed)
+fault_found s faults.Quoted place some placed = (some, placed)
+fault_found s (faults.Duration f) place some placed = (some, placed)
+fault_found s (faults.At f) place some placed = (some, placed)
+fault_found s (faults.Pattern value) place some placed = (some, placed)
+fault_found s (faults.UnknownFunction name) place some placed = (some, placed)
+fault_found s (faults.Check f) place some placed = (some, placed)
 
-pub building_found : TokensArePlaced → (s : Text) (f : BuildFault) (place : Place) → IsFound s (first_error (has_any (tokens s)) (error_of_fault f)) (Fault place)
-building_found law s f place = by_tokens (tokens s) refl
+pub building_found : TokensArePlaced → (s : Text) (f : BuildFault) (place : Place) → ((list : List Token) → tokens s ≡ Ok list → IsPlacedFault s (build_fault_of f) place) → IsFound s (first_error (has_any (tokens s)) (error_of_fault f)) (Fault place)
+building_found law s f place placed = by_tokens (tokens s) refl
   where
     by_tokens : (r : Result (List Token) LexFault) → tokens s ≡ r → IsFound s (first_error (has_any r) (error_of_fault f)) (Fault place)
     by_tokens (Ok []) is = tt
     by_tokens (Ok (t ∷ ts)) is =
         subst (λ b. IsFound s (first_error (Ok b) (error_of_fault f)) (Fault place)) (sym (ap not (some_zero (length ts))))
-        (fault_found s f place (placed_some law s (t ∷ ts) is (omega arith)))
+        (fault_found s f place (placed_some law s (t ∷ ts) is (omega arith)) (placed (t ∷ ts) is))
     by_tokens (Err e) is = tt
 
 error_found : (s : Text) (e : ReadError) (found : Finding) → IsFindingOf s e found → IsFound s (error_of e) found
@@ -115,7 +124,7 @@ reading_found s e found finding = by_tokens (tokens s) refl
         subst (λ b. IsFound s (first_error (Ok b) (error_of e)) found) (sym (ap not (some_zero (length ts)))) (error_found s e found (finding (t ∷ ts) is (omega arith)))
     by_tokens (Err f) is = tt
 
-pub fault_place : (s : Text) (e : ParseError) (found : Finding) (span : Span) → HasFault s found → IsFoundAt s e found span → IsAtError s e span
+fault_place : (s : Text) (e : ParseError) (found : Finding) (span : Span) → HasFault s (plain_error_of e) found → IsFoundAt s e found span → IsAtError s e span
 fault_place s e (Misfit left) span has at = absurd has
 fault_place s e (Fault place) span has at = at has
 
@@ -135,9 +144,46 @@ found_place s (errors.Pattern value) found span memory lexical empty is at = fau
 found_place s (errors.UnknownFunction name) found span memory lexical empty is at = fault_place s (errors.UnknownFunction name) found span is at
 found_place s (errors.Check f) found span memory lexical empty is at = fault_place s (errors.Check f) found span is at
 
--- a mark that the tokens show
-pub at_mark : (s : Text) (e : ParseError) (span : Span) → IsMark s e T_EOF (placed_tokens s) span → IsAtError s e span
-at_mark s e span mark = (mark_at s e [] (placed_tokens s) T_EOF span refl mark, λ other is. mark)
+-- ---- the tokens of a fault
+
+pub placed_fault : TokensArePlaced → (s : Text) (list : List Token) → tokens s ≡ Ok list → length (placed_tokens s) < 2 ^ 64 → (n : ℕ) (ts : List Symbol) → ts ≡ map symbol_of list → n ≡ length ts → (e : code.BuildError) → (n < 2 ^ 64 → HasPlace n ts e)
+    → IsPlacedFault s (build_error_of e) e.place
+placed_fault law s list is few n ts symbols count e placed =
+    let many : n ≡ length (placed_tokens s) = count ∙ ap length symbols ∙ length-map list symbol_of ∙ sym (placed_length law s list is) in
+    let there = placed (omega arith) in
+    let fault = there.fault in
+    record {
+      derivation = there.derivation;
+      derives = record { formed = there.formed; spells = ap (on_result (map symbol_of)) is ∙ ap Ok (sym symbols ∙ sym there.spells) };
+      sub = fault.sub;
+      is = fault.is;
+      fails = fault.fault;
+      there = subst (λ k. AreTokens k (fault_tokens (build_error_of e) fault.sub.after fault.sub.derivation) e.place) many fault.place;
+    }
+
+fault_at : (s : Text) (e : BuildError) (place : Place) (span : Span) → IsPlacedFault s e place → IsAtTokens s span
+    → ((range : TokenRange) → place ≡ Tokens range → 0 < length (in_range range 0 (placed_tokens s)) → span ≡ span_over s (in_range range 0 (placed_tokens s))) → IsAtBuildFault s e span
+fault_at s e place span placed at is = record {
+  derivation = placed.derivation;
+  derives = placed.derives;
+  sub = placed.sub;
+  is = placed.is;
+  fails = placed.fails;
+  place = span_at s (fault_tokens e placed.sub.after placed.sub.derivation) place span placed.there is;
+}
+
+pub placed_at : (s : Text) (e : PlainParseError) (place : Place) (span : Span) → (0 < length (placed_tokens s)) × IsPlacedError s e place → (0 < length (placed_tokens s) → IsAtTokens s span)
+    → ((range : TokenRange) → place ≡ Tokens range → 0 < length (in_range range 0 (placed_tokens s)) → span ≡ span_over s (in_range range 0 (placed_tokens s))) → IsAtTokens s span × IsAtPlainError s e span
+placed_at s (plain.fault e) place span has at is = (at has.0, fault_at s e place span has.1 (at has.0) is)
+placed_at s plain.memory place span has at is = (at has.0, tt)
+placed_at s (plain.lexical f) place span has at is = (at has.0, tt)
+placed_at s plain.empty place span has at is = (at has.0, tt)
+placed_at s plain.syntax place span has at is = (at has.0, tt)
+placed_at s plain.too_deep place span has at is = (at has.0, tt)
+
+-- a misfit is no fault
+pub found_misfit : (s : Text) (e : ParseError) (left : ℕ) (span : Span) → span ≡ first_span s (last_tokens left (placed_tokens s)) → IsFoundAt s e (Misfit left) span
+found_misfit s e left span is = is
 
 -- ---- lexical faults
 

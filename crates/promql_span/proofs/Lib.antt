@@ -6,7 +6,7 @@ pub mod PlacedTexts
 pub mod TakenTokens
 pub mod TokenMeasures
 pub mod TokenRows
-pub mod MarkSearch
 pub mod ErrorPlacing
 pub mod Columns
 pub mod VisibleTexts
+mod TokenRanges

@@ -1,21 +1,23 @@
 -- The place of an error in its text (docs/reference/grammar.md, "Places of errors").
-use Rattle.std.specs.Prelude.{ℕ, ◌≡◌, ◌⊎◌, ◌<◌, ◌≤◌, length, Option, Some, None, Result, Ok, Err}
+use Rattle.std.specs.Prelude.{ℕ, ◌≡◌, ◌⊎◌, ◌<◌, ◌≤◌, ◌-◌, length, take, Option, Some, None, Result, Ok, Err}
+use Rattle.std.specs.List.{Contains}
 use Rattle.promql_text.specs.Texts.{Text}
 use Rattle.promql_token.specs.declared.fault.LexFaultKind.{LexFaultKind}
 use Rattle.promql_token.specs.declared.fault.LexFaultKind.TheVariants.{UnclosedParen}
-use Rattle.promql_token.specs.declared.ids.TheConstants.{T_EOF}
 use Rattle.promql_ast.specs.Tree.{Tree}
 use Rattle.promql_ast.specs.View.{tree_of}
 use Rattle.promql_ast.specs.declared.expr.Expr.{Expr}
 use Rattle.promql_span.specs.CharSpans.{IsCharAt}
-use Rattle.promql_span.specs.Marks.{IsMark}
-use Rattle.promql_span.specs.PlacedTokens.{IsAtMisfit, end_of, placed_tokens}
-use Rattle.promql_span.specs.TokenSpans.{IsAtTokens}
+use Rattle.promql_span.specs.PlacedTokens.{IsAtMisfit, end_of, last_tokens, placed_tokens}
+use Rattle.promql_span.specs.TokenSpans.{IsAtTokens, span_over}
 use Rattle.promql_span.specs.declared.span.Span.{Span}
 use Rattle.promql_span.specs.declared.diagnosis.Diagnosis.{Diagnosis}
 use Rattle.promql_syntax.specs.declared.parser.ParseError.{ParseError}
 use Rattle.promql_syntax.specs.declared.parser.ParseError.TheVariants as errors
-use Rattle.promql_syntax.specs.ParseAnswers.{PlainParseError, plain_error_of}
+use Rattle.promql_grammar.specs.Grammar.{Derivation}
+use Rattle.promql_syntax.specs.BuildErrors.{BuildError}
+use Rattle.promql_syntax.specs.FaultTokens.{IsFaultOf, Subexpression, fault_tokens, subexpressions}
+use Rattle.promql_syntax.specs.ParseAnswers.{Derives, PlainParseError, fault, plain_error_of}
 
 -- the character at a place, or the end
 abbrev pub IsCharOrEnd : Text → ℕ → Span → Type 0
@@ -26,9 +28,27 @@ abbrev pub IsAtFault : Text → ℕ → LexFaultKind → Span → Type 0
 IsAtFault s at UnclosedParen span = IsAtTokens s span ⊎ (span ≡ end_of s)
 IsAtFault s at kind span = IsCharOrEnd s at span
 
--- tokens in a row: what the tokens around it show to be the mark, if any part of the text is that
+-- the tokens from the one on with which `left.0` are left, up to where `left.1` are
+abbrev pub IsSpanOf : Text → Option (ℕ × ℕ) → Span → Type 0
+IsSpanOf s None span = Unit {0}
+IsSpanOf s (Some left) span = left.1 < left.0 → span ≡ span_over s (take (left.0 - left.1) (last_tokens left.0 (placed_tokens s)))
+
+-- a fault of building is that of an expression in the text's derivation, and the span is that of its tokens
+pub record IsAtBuildFault (s : Text) (e : BuildError) (span : Span) : Type 0 where
+  pub derivation : Derivation
+  pub derives : Derives s derivation
+  pub sub : Subexpression
+  pub is : Contains (subexpressions 0 derivation) sub
+  pub fails : IsFaultOf e sub
+  pub place : IsSpanOf s (fault_tokens e sub.after sub.derivation) span
+
+abbrev pub IsAtPlainError : Text → PlainParseError → Span → Type 0
+IsAtPlainError s (fault e) span = IsAtBuildFault s e span
+IsAtPlainError s e span = Unit {0}
+
+-- tokens in a row, and of a fault of building its own where it is told which
 abbrev pub IsAtError : Text → ParseError → Span → Type 0
-IsAtError s e span = IsAtTokens s span × ((other : Span) → IsMark s e T_EOF (placed_tokens s) other → IsMark s e T_EOF (placed_tokens s) span)
+IsAtError s e span = IsAtTokens s span × IsAtPlainError s (plain_error_of e) span
 
 abbrev pub IsPlaceOf : Text → ParseError → Option Span → Type 0
 IsPlaceOf s errors.Memory found = found ≡ None

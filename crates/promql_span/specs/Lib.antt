@@ -1,6 +1,5 @@
 pub mod ByteEscapes
 pub mod CharSpans
-pub mod Marks
 pub mod PlacedTokens
 pub mod Snippets
 pub mod SpanSteps

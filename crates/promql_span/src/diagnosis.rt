@@ -9,16 +9,21 @@ ghost use Rattle.promql_grammar.specs.SymbolsLeft.{symbols_left};
 ghost use Rattle.promql_span.specs.Locations.{location_of};
 ghost use Rattle.promql_span.specs.PlacedTokens.{end_of, placed_tokens};
 ghost use Rattle.promql_span.specs.Snippets.{snippet_text};
-ghost use Rattle.promql_span.specs.TokenSpans.{IsAtTokens};
-ghost use Rattle.promql_span.specs.ErrorPlaces.{IsAtError, IsAtFault, IsPlaceOf, diagnosed_answer};
-ghost use Rattle.promql_span.specs.Findings.{IsFindingOf, IsFound, IsFoundAt};
+ghost use Rattle.promql_span.specs.TokenSpans.{IsAtTokens, span_over};
+ghost use Rattle.promql_span.specs.ErrorPlaces.{IsAtFault, IsPlaceOf, diagnosed_answer};
+ghost use Rattle.promql_span.specs.SpanSteps.{in_range};
+ghost use Rattle.promql_span.specs.Findings.{IsFindingOf, IsFound, IsFoundAt, IsPlacedFault};
 ghost use Rattle.promql_syntax.specs.ParseAnswers.{IsAnswerTo};
+ghost use Rattle.promql_syntax.specs.BuildErrors.{build_error_of};
+ghost use Rattle.promql_syntax.specs.declared.grammar.place.Place as Place;
+ghost use Rattle.promql_syntax.specs.declared.grammar.place.TokenRange as ranges;
 ghost use Rattle.promql_syntax.specs.ParseErrors.{error_of, error_of_build, first_error};
 
 use crate::location::Location;
-use crate::marks::mark_of;
 use crate::placed::PlacedTokens;
-use crate::places::{argument_span, char_span, end_of_text, span_between, token_left};
+use crate::places::{
+    argument_span, char_span, end_of_text, span_between, span_of_tokens, token_left,
+};
 use crate::snippets::snippet;
 use crate::span::Span;
 use promql_ast::Expr;
@@ -50,6 +55,7 @@ pub fn diagnose(alloc: Global, text: &str) -> Result<Expr, Diagnosis>
     ensures place { IfErr result (λ d. IsPlaceOf text.now d.error d.span) }
 {
     promql_ast::laws::checked_trees_are_typed();
+    crate::laws::tokens_are_placed();
     let mut tokens = Tokens::new(text);
     match parse_query(alloc, MAX_DEPTH, &mut tokens) {
         Ok(Ok(expr)) => Ok(Box::into_inner(expr)),
@@ -69,6 +75,8 @@ enum Finding {
 
 /// The error of tokens that are an expression, and build no tree.
 fn diagnose_building(text: &str, error: Box<BuildError>) -> Diagnosis
+    requires { (list : List Token) → tokens text.now ≡ Ok list
+        → IsPlacedFault text.now (build_error_of error.value) error.value.place }
     ensures error { result.error
         ≡ first_error (has_any (tokens text.now)) (error_of_build error.value) }
     ensures place { IsPlaceOf text.now result.error result.span }
@@ -118,7 +126,7 @@ fn span_of(text: &str, error: &ParseError, found: Finding) -> Option<Span>
         ParseError::Memory => None,
         ParseError::Lex(fault) => Some(lexical_span(text, *fault, found)),
         ParseError::Empty => Some(end_of_text(text)),
-        _ => Some(found_span(text, error, found)),
+        _ => Some(found_span(text, found)),
     }
 }
 
@@ -144,33 +152,28 @@ fn unclosed_span(text: &str, found: Finding) -> Span
 }
 
 /// The tokens that parsing found to be wrong.
-fn found_span(text: &str, error: &ParseError, found: Finding) -> Span
-    ensures { IsFoundAt text.now error.now found result }
+fn found_span(text: &str, found: Finding) -> Span
+    ensures { (error : ParseError) → IsFoundAt text.now error found result }
 {
     match found {
         Finding::Misfit(left) => token_left(text, left),
-        Finding::Fault(place) => fault_span(text, error, place),
+        Finding::Fault(place) => fault_span(text, place),
     }
 }
 
-/// The tokens that a fault is about: its mark, where the tokens around it show that.
-fn fault_span(text: &str, error: &ParseError, place: Place) -> Span
-    ensures { 0 < length (placed_tokens text.now) → IsAtError text.now error.now result }
+/// The tokens that a fault is about.
+fn fault_span(text: &str, place: Place) -> Span
+    ensures at { 0 < length (placed_tokens text.now) → IsAtTokens text.now result }
+    ensures is { (range : TokenRange) → place ≡ Place.Tokens range
+        → 0 < length (in_range range 0 (placed_tokens text.now))
+        → result ≡ span_over text.now (in_range range 0 (placed_tokens text.now)) }
 {
-    let part = part_of(text, range_of(place));
-    if let Some(mark) = mark_of(text, error, part.start) {
-        return mark;
-    }
     match place {
-        Place::Tokens(_) => span_between(text, part),
-        Place::Argument(_, index) => argument_span(text, part, index),
-    }
-}
-
-/// The tokens of a place, or those of the node whose argument it is.
-fn range_of(place: Place) -> TokenRange {
-    match place {
-        Place::Tokens(range) | Place::Argument(range, _) => range,
+        Place::Tokens(range) => match span_of_tokens(text, range) {
+            Some(span) => span,
+            None => span_between(text, part_of(text, range)),
+        },
+        Place::Argument(range, index) => argument_span(text, part_of(text, range), index),
     }
 }
 

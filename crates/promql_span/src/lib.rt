@@ -8,7 +8,6 @@ pub mod diagnosis;
 pub mod laws;
 pub mod limits;
 mod location;
-mod marks;
 mod placed;
 mod places;
 mod snippets;

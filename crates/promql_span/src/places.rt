@@ -3,12 +3,13 @@
 ghost use Rattle.std.specs.Prelude.{◌≡◌, ◌+◌, ◌<◌, ◌≤◌, ◌^◌, filter, length, None, Some};
 ghost use Rattle.promql_span.specs.CharSpans.{IsCharAt};
 ghost use Rattle.promql_span.specs.PlacedTokens.{end_of, first_span, last_tokens, placed_tokens, span_of};
-ghost use Rattle.promql_span.specs.SpanSteps.{cover, first_from, through};
+ghost use Rattle.promql_span.specs.SpanSteps.{cover, first_from, in_range, through};
 ghost use Rattle.promql_span.specs.TokenSpans.{IsAtTokens, begins_in, span_over, tokens_by};
 
 use crate::argument::argument_part;
 use crate::placed::PlacedTokens;
 use crate::span::Span;
+use promql_syntax::grammar::place::TokenRange;
 use promql_token::Lexeme;
 
 /// The end of a text: an empty span.
@@ -57,6 +58,21 @@ pub fn span_between(text: &str, part: Span) -> Span
         Some(span) => span,
         None => token_from(text, part.start),
     }
+}
+
+/// From the first to the last of the tokens with these indexes; `None` where the text has none of them.
+pub fn span_of_tokens(text: &str, range: TokenRange) -> Option<Span>
+    ensures { result ≡ cover None (in_range range 0 (placed_tokens text.now)) }
+{
+    let mut found = None;
+    let mut index: usize = 0;
+    for token in PlacedTokens::new(text) {
+        if range.start <= index && index < range.end {
+            found = Some(through(found, span_of(token)));
+        }
+        index = index.saturating_add(1);
+    }
+    found
 }
 
 /// The argument with this index, from 0, of the call or the aggregation whose tokens begin in this

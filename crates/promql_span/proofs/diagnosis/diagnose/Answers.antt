@@ -1,6 +1,7 @@
-use Rattle.std.proofs.Common.{ap, ◌∙◌}
+use Rattle.std.proofs.Common.{ap, ◌∙◌, arith}
 use Rattle.std.specs.Prelude.{Err}
 use Rattle.promql_syntax.proofs.AnswerLemmas.{drawn_answer, build_error_answer, read_error_answer, rejection_answer}
+use Rattle.promql_span.proofs.ErrorPlacing.{placed_fault}
 use Rattle.promql_span.proofs.diagnosis.diagnose.Goals as goal
 
 pub returns-in-Ok-Ok-clause-answer : goal.returns-in-Ok-Ok-clause-answer
@@ -16,3 +17,9 @@ pub returns-in-Err-clause-answer : goal.returns-in-Err-clause-answer
 returns-in-Err-clause-answer c =
     rw c.diagnose_reading.ensures.error (rejection_answer c.args.text.now _ (λ list is some.
     read_error_answer c.args.text.now list is some _ (c.new-tokens.ensures.whole list is) _ c.in-Err.error (rw c.in-Err.is at c.parse_query.ensures.whole) (λ none. c.parse_query.ensures.memory (c.in-Err.is ∙ ap Err none))))
+
+pub diagnose_building-requires : goal.diagnose_building-requires
+diagnose_building-requires c = λ list is.
+    let few = c.tokens_are_placed.ensures.few c.args.text.now in
+    rw c.in-Ok-Err.error-is (placed_fault c.tokens_are_placed.ensures.whole c.args.text.now list is (omega arith) _ _ (c.new-tokens.ensures.whole list is) (omega (arith, c.new-tokens.ensures.index)) _
+    (rw c.in-Ok-Err.field-0-is at rw c.in-Ok-Err.is at c.parse_query.ensures.place))
