@@ -25,7 +25,8 @@ DIST = Path(__file__).resolve().parent.parent / "dist"
 MATCHER = 'tenant="a"'
 # What one attack may take: processor seconds, the same by the clock four times over, and MB of memory.
 SECONDS, MEMORY = 10, 512
-TOO_DEEP, TOO_LARGE, UNCLOSED = "expression nested too deeply", "patterns are too large", "unclosed left parenthesis"
+TOO_DEEP, UNCLOSED = "expression nested too deeply", "unclosed left parenthesis"
+TOO_LARGE, TOO_LONG = "patterns are too large", "query is too long"
 
 counts = {True: 0, False: 0}
 
@@ -95,6 +96,11 @@ def matchers(count, pattern):
 QUERIES = {
     "510 parentheses": ("(" * 510 + "1" + ")" * 510, 0, ""),
     "512 parentheses": ("(" * 512 + "1" + ")" * 512, 4, TOO_DEEP),
+    "30,000 parentheses": ("(" * 30_000, 4, UNCLOSED),
+    "30,000 minus signs": ("-" * 30_000 + "1", 4, TOO_DEEP),
+    "8,000 powers": ("1 ^ " * 8_000 + "1", 4, TOO_DEEP),
+    "16,000 groups": ("{a=~`" + "(" * 16_000 + "b" + ")" * 16_000 + "`}", 4, "illegal regex for "),
+    "16,000 classes": ("{a=~`" + "[" * 16_000 + "b" + "]" * 16_000 + "`}", 4, "illegal regex for "),
     "100,000 parentheses": ("(" * 100_000, 4, UNCLOSED),
     "100,000 minus signs": ("-" * 100_000 + "1", 4, TOO_DEEP),
     "100,000 powers": ("1 ^ " * 100_000 + "1", 4, TOO_DEEP),
@@ -109,8 +115,9 @@ QUERIES = {
 }
 # Queries whose patterns are large together.
 LARGE_PATTERNS = {
-    "200 patterns of 720 letters": matchers(200, r"\w{720}"),
-    "249 kB of groups with names": "{a=~`" + named_groups(248_900) + "`}",
+    "200 patterns of 720 letters": (matchers(200, r"\w{720}"), TOO_LARGE),
+    "32 kB of groups with names": ("{a=~`" + named_groups(32_000) + "`}", TOO_LARGE),
+    "249 kB of groups with names": ("{a=~`" + named_groups(248_900) + "`}", TOO_LONG),
 }
 
 
@@ -133,11 +140,16 @@ def knows_limits():
 
 # Those that all programs but promql reject before they read them.
 OVER_LIMITS = {
-    "100,000 groups": TOO_LARGE,
-    "100,000 classes": TOO_LARGE,
+    "16,000 groups": TOO_LARGE,
+    "16,000 classes": TOO_LARGE,
+    "100,000 parentheses": TOO_LONG,
+    "100,000 minus signs": TOO_LONG,
+    "100,000 powers": TOO_LONG,
+    "100,000 groups": TOO_LONG,
+    "100,000 classes": TOO_LONG,
     "20 counts of a million": TOO_LARGE,
     "one count of a thousand millions": TOO_LARGE,
-    "100,000 matchers": "query is too long",
+    "100,000 matchers": TOO_LONG,
 }
 
 
@@ -152,10 +164,10 @@ def attack_by_queries():
     if not knows_limits():
         print("not tried: queries of large patterns: the programs of dist/ know no --max-patterns")
         return
-    for name, query in LARGE_PATTERNS.items():
+    for name, (query, said) in LARGE_PATTERNS.items():
         for program, ran in program_runs(query):
             # (promql has no limits: it reads these, one pattern compiled at a time)
-            is_so = ran.status == 14 and TOO_LARGE in ran.err if program.startswith("promql_") else ran.status == 0
+            is_so = ran.status == 14 and said in ran.err if program.startswith("promql_") else ran.status == 0
             check(f"{name}, {program}", is_so, (ran.status, ran.err))
 
 

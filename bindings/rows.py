@@ -27,6 +27,7 @@ from typing import NamedTuple
 ROOT = Path(__file__).resolve().parent.parent
 RUN = ROOT / "crates" / "promql_batch"
 # What the rows are run with: crates/promql_batch/args.
+MAX_LEN = 1_048_576
 MAX_PATTERNS = 32_000
 # The numbers of the calls in a file, and of the modes in promql.h.
 PRINT, CANONICAL, CHECK, _, ENFORCE = range(5)
@@ -188,7 +189,7 @@ def python_answer(call):
 def run_python(threads):
     import promql
 
-    promql.set_limits(max_patterns=MAX_PATTERNS)
+    promql.set_limits(max_len=MAX_LEN, max_patterns=MAX_PATTERNS)
     calls = list(all_calls())
     answers = [python_answer(it) for it in calls]
     failed = compare(calls, answers)

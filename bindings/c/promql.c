@@ -8,7 +8,7 @@
 #include <stdatomic.h>
 
 /* The limits of each call. */
-static atomic_size_t max_len = 1048576;
+static atomic_size_t max_len = 32768;
 static atomic_size_t max_pattern_size = 16000;
 
 /* What crates/promql_c exports. A slice of Rattle is a pointer that is not NULL, and a length of at most PTRDIFF_MAX. */

@@ -226,7 +226,7 @@ func call(query string, f function) (string, C.struct_promql_result) {
 	}
 }
 
-// SetLimits sets what each later query has to be within, in this process: at most so many bytes, 1,048,576 before the first call, and
+// SetLimits sets what each later query has to be within, in this process: at most so many bytes, 32,768 before the first call, and
 // patterns of at most this size together, 16,000. A query that is not gives a *QueryError that is ErrTooLarge, before it is parsed. A
 // matcher that is enforced, and the query with it, have the same limits; where they are not within them the error is ErrLargeEnforced.
 func SetLimits(maxLen, maxPatterns uint) {

@@ -137,8 +137,8 @@ func TestLargeEnforced(t *testing.T) {
 	if got, err := promql.Enforce("foo", "a=~'b{1229}'"); err != nil || got != `foo{a=~"b{1229}"}` {
 		t.Errorf("%q, %v", got, err)
 	}
-	promql.SetLimits(1048576, 31980)
-	defer promql.SetLimits(1048576, 16000)
+	promql.SetLimits(32768, 31980)
+	defer promql.SetLimits(32768, 16000)
 	if got, err := promql.Enforce("c + d", "a=~'b{1229}'"); err != nil || got != `c{a=~"b{1229}"} + d{a=~"b{1229}"}` {
 		t.Errorf("%q, %v", got, err)
 	}
@@ -199,7 +199,7 @@ func TestLimits(t *testing.T) {
 		t.Errorf("a pattern that is too large: %v", err)
 	}
 	promql.SetLimits(15, 39013)
-	defer promql.SetLimits(1048576, 16000)
+	defer promql.SetLimits(32768, 16000)
 	if err := promql.Check(`a{b=~"c{3000}"}`); err != nil {
 		t.Errorf("a pattern within its limits: %v", err)
 	}

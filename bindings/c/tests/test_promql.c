@@ -201,7 +201,7 @@ static void test_errors(void)
     promql_set_limits(15, 39013);
     CHECK(gives(of_query(CALL_CHECK, large), PROMQL_OK, ""));
     CHECK(gives(of_query(CALL_CHECK, "a + b + c + d + e"), PROMQL_TOO_LARGE, "query is too long: 17 bytes, at most 15"));
-    promql_set_limits(1048576, 16000);
+    promql_set_limits(32768, 16000);
     struct answer answer;
     struct request deep = in_mode(PROMQL_PRETTY, 512, SIZE_MAX, "1");
     CHECK(call_whole(&deep, &answer) && answer.result.status == PROMQL_OK && answer.result.length == 2 * 512 + 1);
@@ -248,14 +248,14 @@ static void test_large_enforcing(void)
     CHECK(gives(enforcing("fooa=~\"b{1229}\"", 12), PROMQL_OK, "foo{a=~\"b{1229}\"}"));
     CHECK(gives(enforcing("c + da=~\"b{1229}\"", 12), PROMQL_LARGE_ENFORCED, line));
     CHECK(has_place(enforcing("c + da=~\"b{1229}\"", 12), 0, 0, 0, 0));
-    promql_set_limits(1048576, 31980);
+    promql_set_limits(32768, 31980);
     CHECK(gives(enforcing("fooa=~\"b{1230}\"", 12), PROMQL_OK, "foo{a=~\"b{1230}\"}"));
     CHECK(gives(enforcing("c + da=~\"b{1229}\"", 12), PROMQL_OK, "c{a=~\"b{1229}\"} + d{a=~\"b{1229}\"}"));
     promql_set_limits(14, 16000);
     CHECK(gives(enforcing("fooa=\"1\"", 5), PROMQL_OK, "foo{a=\"1\"}"));
     CHECK(gives(enforcing("c + da=\"1\"", 5), PROMQL_LARGE_ENFORCED,
                 "the enforced query is not within the limits: query is too long: 19 bytes, at most 14"));
-    promql_set_limits(1048576, 16000);
+    promql_set_limits(32768, 16000);
 }
 
 /* Writes a text at this place, and returns where it ends. */
@@ -286,11 +286,25 @@ static void test_long_enforcing(size_t levels, size_t size)
     char *query = allocate((9 << levels) + size), *wanted = allocate((size + 12) << levels);
     *put(put_sums(query, levels, "ab"), matcher) = '\0';
     *put_sums(wanted, levels, leaf) = '\0';
+    promql_set_limits(1048576, 16000);
     CHECK(gives(enforcing(query, size), PROMQL_OK, wanted));
+    promql_set_limits(32768, 16000);
     free(wanted);
     free(query);
     free(leaf);
     free(matcher);
+}
+
+/* A query has as many bytes as the limits say before they are set, and no more. */
+static void test_longest_query(void)
+{
+    enum { SIZE = 32768 };
+    char *name = allocate(SIZE + 2);
+    memset(name, 'x', SIZE + 1);
+    name[SIZE + 1] = '\0';
+    CHECK(gives(of_query(CALL_CHECK, name), PROMQL_TOO_LARGE, "query is too long: 32769 bytes, at most 32768"));
+    CHECK(gives(of_query(CALL_CANONICAL, name + 1), PROMQL_OK, name + 1));
+    free(name);
 }
 
 /* A name of 10,000 bytes is collected. */
@@ -691,6 +705,7 @@ int main(int argc, char **argv)
     if (argc == 5 && strcmp(argv[1], "random") == 0) {
         test_random(argv[2], atol(argv[3]), (uint64_t)atol(argv[4]));
     } else {
+        test_longest_query(); /* first, before any call sets the limits */
         test_texts();
         test_errors();
         test_enforcing();

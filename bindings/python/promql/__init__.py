@@ -101,7 +101,7 @@ class TooLargeError(QueryError):
     """The query is too long, or its patterns are too large together (`set_limits`)."""
 
 
-def set_limits(*, max_len: int = 1_048_576, max_patterns: int = 16_000) -> None:
+def set_limits(*, max_len: int = 32_768, max_patterns: int = 16_000) -> None:
     """Sets what each later query has to be within, in this process: at most so many bytes, and patterns of at most this size together
     (docs/reference/programs.md, "Limits of a query"). A query that is not raises TooLargeError before it is parsed. A matcher that is
     enforced, and the query with it, have the same limits: where they are not within them, `enforce` raises LargeEnforcedError."""

@@ -126,15 +126,17 @@ class Queries(Served):
         self.assertEqual(self.ask(f"({drawn})")["note"], f"too large to draw: {page.MAX_NODES + 1} nodes")
 
     def test_long_queries(self):
-        arguments = "label_join(a, 'b'" + ", 'c'" * 20_000 + ")"
+        arguments = "label_join(a, 'b'" + ", 'c'" * 6_000 + ")"
         shown = self.ask(arguments)
         self.assertEqual(shown["line"], promql.canonical(arguments))
-        self.assertEqual(shown["note"], "too large to draw: 20,003 nodes")
-        matchers = f"x{{{','.join(f'{chr(97)}{n}={chr(34)}1{chr(34)}' for n in range(10_000))}}}"
-        self.assertGreater(len(matchers), 80_000)
+        self.assertEqual(shown["note"], "too large to draw: 6,003 nodes")
+        matchers = f"x{{{','.join(f'{chr(97)}{n}={chr(34)}1{chr(34)}' for n in range(3_000))}}}"
+        self.assertGreater(len(matchers), 25_000)
         self.assertEqual(self.ask(matchers)["drawing"].count("<rect "), 1)
-        self.assertEqual(self.ask("(" * 100_000)["error"]["parts"][0][:10], "(" * 10)
-        self.assertEqual(len("".join(self.ask("a " * 50_000)["error"]["parts"])), 100_000)
+        self.assertEqual(self.ask("(" * 30_000)["error"]["parts"][0][:10], "(" * 10)
+        self.assertEqual(len("".join(self.ask("a " * 16_000)["error"]["parts"])), 32_000)
+        longer = self.ask("(" * 100_000)["error"]
+        self.assertEqual((longer["message"], longer["parts"][0][:10]), ("query is too long: 100000 bytes, at most 32768", "(" * 10))
 
     def test_long_texts(self):
         wide = "(" * 400 + "label_join(a, 'b'" + ", 'c'" * 2_000 + ")" * 401

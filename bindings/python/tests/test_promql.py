@@ -68,7 +68,8 @@ class Texts(unittest.TestCase):
         self.assertEqual(str(raised.exception), "1:6: patterns are too large: 39013, at most 16000")
         self.assertEqual(query[raised.exception.start : raised.exception.end], '"c{3000}"')
         with self.assertRaises(promql.TooLargeError):
-            promql.canonical("a" * 1_048_577)
+            promql.canonical("a" * 32_769)
+        self.assertEqual(promql.canonical("a" * 32_768), "a" * 32_768)
         promql.set_limits(max_len=15, max_patterns=39_013)
         try:
             promql.check(query)
@@ -126,7 +127,11 @@ class Texts(unittest.TestCase):
         self.assertEqual(promql.canonical(query), " + ".join(["x"] * 500))
         self.assertGreater(len(promql.format(query, width=1)), _library.FIRST_SIZE)
         name = "x" * 1_000_000
-        self.assertEqual(promql.canonical(name), name)
+        promql.set_limits(max_len=len(name))
+        try:
+            self.assertEqual(promql.canonical(name), name)
+        finally:
+            promql.set_limits()
 
     def test_version(self):
         self.assertEqual(promql.version(), promql.__version__)

@@ -168,7 +168,7 @@ pub fn check(query: &str) -> Result<(), Error> {
     text_of(library::check(query)).map(drop)
 }
 
-/// Sets what each later query has to be within, in this process: at most so many bytes, 1,048,576 before the first call, and patterns
+/// Sets what each later query has to be within, in this process: at most so many bytes, 32,768 before the first call, and patterns
 /// of at most this size together, 16,000 (`docs/reference/programs.md` of the repository, "Limits of a query"). A matcher that is
 /// enforced, and the query with it, have the same limits.
 pub fn set_limits(max_len: usize, max_pattern_size: usize) {

@@ -40,7 +40,7 @@ if wanted, \"mode\" (\"pretty\", \"line\" or \"json\"), \"level\" and \"width\" 
 layout: indentations before it, and the most bytes of a line), and \"enforce\" (a
 matcher that is put into every selector of the query).
 An answer is {\"ok\":TEXT}, in mode json {\"ok\":VALUE}, or
-{\"code\":NUMBER,\"error\":MESSAGE}. A query of more than --max-len bytes (1048576), or
+{\"code\":NUMBER,\"error\":MESSAGE}. A query of more than --max-len bytes (32768), or
 with patterns that are together larger than --max-patterns (16000), is rejected
 before it is parsed.
 

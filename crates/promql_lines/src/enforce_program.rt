@@ -35,7 +35,7 @@ pub const ENFORCE_HELP: &str = "usage: promql_enforce MATCHER [--max-len N] [--m
 Reads a PromQL query from standard input, puts the matcher into every selector of
 it, and writes the query to standard output, on one line. MATCHER is written as
 between the braces of a selector: namespace=\"team-a\". A query of more than
---max-len bytes (1048576), or with patterns that are together larger than
+--max-len bytes (32768), or with patterns that are together larger than
 --max-patterns (16000), is rejected before it is parsed. MATCHER, and the query
 that is written, have the same limits.
 

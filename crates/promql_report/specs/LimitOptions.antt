@@ -45,4 +45,4 @@ limits_with limits (name ∷ value ∷ words) =
     option_and_then (λ n. option_and_then (λ changed. limits_with changed words) (with_option limits name n)) (number_in value)
 
 abbrev pub default_limits : Limits
-default_limits = record { max_len = 1048576; max_pattern_size = 16000 }
+default_limits = record { max_len = 32768; max_pattern_size = 16000 }

@@ -52,7 +52,7 @@ otherwise, to standard error, the line and the column of the error, its message,
 and the line of the query with a mark below. An escape of a byte past ASCII is
 accepted with a warning, since it means something else to Prometheus. A line feed
 at the end of the input is no part of the query. A query of more than --max-len
-bytes (1048576), or with patterns that are together larger than --max-patterns
+bytes (32768), or with patterns that are together larger than --max-patterns
 (16000), is rejected before it is parsed.
 
 Status: 0 the query is accepted, 4 it is rejected, 14 it is too long or its

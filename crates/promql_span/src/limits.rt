@@ -18,8 +18,8 @@ use promql_token::ids::{T_EQL_REGEX, T_NEQ_REGEX, T_STRING};
 use std::alloc::{AllocError, Global};
 use thiserror::Error;
 
-/// The most bytes of a query, unless something else is asked for: 1 MiB.
-pub const MAX_LEN: usize = 1_048_576;
+/// The most bytes of a query, unless something else is asked for: 32 KiB.
+pub const MAX_LEN: usize = 32_768;
 
 /// The greatest size of a query's patterns, unless something else is asked for.
 pub const MAX_PATTERN_SIZE: usize = 16_000;

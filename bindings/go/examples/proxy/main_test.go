@@ -132,8 +132,8 @@ func TestRejectedQueries(t *testing.T) {
 		{"POST", address, "multipart/form-data; boundary=x", multipart, `there has to be one parameter "query"`},
 		{"GET", address + "?query=a;query=b", "", "", "invalid semicolon separator in query"},
 		{"POST", address, form, "query=" + strings.Repeat("a", maxBody), "http: request body too large"},
-		{"POST", address, form, "query=" + strings.Repeat("a", maxBody-16),
-			"the enforced query is not within the limits: query is too long: 1048577 bytes, at most 1048576"},
+		{"POST", address, form, "query=" + strings.Repeat("a", 32752),
+			"the enforced query is not within the limits: query is too long: 32769 bytes, at most 32768"},
 	} {
 		status, body := do(t, it.method, it.address, it.contentType, it.body)
 		if kind, said := saidError(t, body); status != http.StatusBadRequest || kind != badData || said != it.said {
