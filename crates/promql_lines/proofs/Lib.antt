@@ -1,5 +1,6 @@
 pub mod Batches
 pub mod EnforcedTrees
+pub mod JsonTexts
 pub mod LineAnswers
 pub mod LinesRead
 pub mod MemoryAnswer

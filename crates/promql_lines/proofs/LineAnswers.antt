@@ -1,7 +1,11 @@
 -- The answer to a line.
-use Rattle.std.proofs.Common.{◌≡◌, ap, refl, ◌∙◌}
-use Rattle.std.specs.Prelude.{◌||◌, false, IfErr, Option, Some, None, Result, Ok, Err}
-use Rattle.serde_json.specs.Data.{Data}
+use Rattle.std.proofs.Common.{◌≡◌, String, ap, refl, string_bytes, sym}
+use Rattle.std.proofs.lemmas.Result.{IfOk-weaker}
+use Rattle.std.specs.Prelude.{false, IfErr, IfOk, Option, Some, None, Result, Ok, Err}
+use Rattle.std.specs.Str.{IsUtf8}
+use Rattle.std.specs.declared.alloc.Global.{Global}
+use Rattle.serde_json.specs.Data.{Data, string}
+use Rattle.serde_json.specs.Read.{read}
 use Rattle.serde_json.specs.Written.{has_float}
 use Rattle.promql_text.specs.Texts.{Text}
 use Rattle.promql_ast.specs.Tree.{Tree}
@@ -12,14 +16,36 @@ use Rattle.promql_run.specs.StepErrors.{IsShowError}
 use Rattle.promql_lines.specs.declared.settings.Settings.{Settings}
 use Rattle.promql_run.specs.declared.run.RunError.{RunError}
 use Rattle.promql_run.specs.declared.run.RunError.TheVariants.{Memory, Read, NotUtf8, Parse, Write, Json}
-use Rattle.promql_lines.specs.Batch.{Asks, FailsOnQuery, FailsWith, IsAsked, format_value, line_error_object, ok_object}
-use Rattle.promql_lines.specs.BatchSteps.{IsEnforceFaultOf}
+use Rattle.promql_lines.specs.Batch.{Asks, FailsOnQuery, FailsWith, IsAsked, IsOkLine, format_value, line_error_object}
+use Rattle.promql_lines.specs.BatchSteps.{IsEnforceFaultOf, IsOkText, IsQueryAnswer}
+use Rattle.promql_lines.specs.Requests.{format_in, format_with, matcher_in, query_in}
 use Rattle.promql_lines.specs.declared.line.LineError.{LineError}
 use Rattle.promql_lines.specs.declared.line.LineError.TheVariants.{Run, Rejected, NotARequest, Matcher, Info, LargeMatcher}
 use Rattle.promql_lines.specs.declared.request.Format.{Format}
 
-pub ok_is_finite : (built value : Data) → built ≡ ok_object value → has_float value ≡ false → has_float built ≡ false
-ok_is_finite built value is finite = ap has_float is ∙ ap (λ b. b || false) finite
+-- a line that is a query in quotes asks for it as the command says
+pub asks_in_quotes : (settings : Settings) (line query : Text) (format : Format) → IsUtf8 line → read line ≡ Some (string query) → format_with None None settings.mode ≡ Some format → Asks settings line query None format
+asks_in_quotes settings line query format utf8 is mode = record { utf8 = utf8; value = string query; is = is; query_is = refl; matcher_is = refl; format_is = mode }
+
+pub asks_by_value : (settings : Settings) (line query : Text) (matcher : Option Text) (format : Format) (value : Data) → IsUtf8 line → read line ≡ Some value
+    → Some query ≡ query_in value → matcher ≡ matcher_in value → Some format ≡ format_in settings.mode value → Asks settings line query matcher format
+asks_by_value settings line query matcher format value utf8 is query_is matcher_is format_is =
+    record { utf8 = utf8; value = value; is = is; query_is = sym query_is; matcher_is = sym matcher_is; format_is = sym format_is }
+
+-- what is printed of a query that was read, in an answer
+pub answer_of_query : (limits : Limits) (query : Text) (matcher : Option Text) (format : Format) (tree printed : Tree) (text : Text) → IsRead limits query tree → IsAsked limits matcher tree printed
+    → IsOkText (format_value format printed) text → IsQueryAnswer limits query matcher format text
+answer_of_query limits query matcher format tree printed text parsed asked shown =
+    record { value = shown.0; has = record { tree = tree; parsed = parsed; printed = printed; asked = asked; gives = shown.1 }; is = shown.2 }
+
+-- the answer to the query that a line asks for is that to the line
+answer_of_line : (settings : Settings) (line query : Text) (matcher : Option Text) (format : Format) (printed : Text) → Asks settings line query matcher format → IsQueryAnswer settings.limits query matcher format printed → IsOkLine settings line printed
+answer_of_line settings line query matcher format printed asks answer =
+    record { value = answer.value; has = record { query = query; matcher = matcher; format = format; asks = asks; has = answer.has }; is = answer.is }
+
+pub answered_line : {E : Type 0} (r : Result (String Global) E) (settings : Settings) (line query : Text) (matcher : Option Text) (format : Format) → Asks settings line query matcher format
+    → IfOk r (λ s. IsQueryAnswer settings.limits query matcher format (string_bytes s)) → IfOk r (λ s. IsOkLine settings line (string_bytes s))
+answered_line r settings line query matcher format asks = IfOk-weaker r _ _ (λ s. answer_of_line settings line query matcher format (string_bytes s) asks)
 
 pub error_is_finite : (built : Data) (fault : LineError) (message : Text) → built ≡ line_error_object fault message → has_float built ≡ false
 error_is_finite built (Run e) message is = ap has_float is

@@ -2,12 +2,13 @@
 //! them. docs/reference/programs.md has the rules.
 #![tactic(auto)]
 
-mod answer_value;
+mod answer_text;
 pub mod batch;
 pub mod batch_program;
 pub mod enforce_program;
 pub mod enforced_line;
 mod limit_checks;
 pub mod line;
+mod quoted_query;
 pub mod request;
 pub mod settings;

@@ -1,18 +1,18 @@
 //! The answer to one line of a batch: docs/reference/programs.md, "Answers".
 
-ghost use Rattle.std.specs.Prelude.{◌≡◌, Some, Ok, IfOk, IfErr, false, option_map, string_bytes};
+ghost use Rattle.std.specs.Prelude.{◌≡◌, Some, IfOk, IfErr, option_map, string_bytes};
 ghost use Rattle.std.specs.Str.{IsUtf8};
 ghost use Rattle.serde_json.specs.Read.{read};
 ghost use Rattle.serde_json.specs.View.{view};
-ghost use Rattle.serde_json.specs.Written.{compact_text, has_float};
 ghost use Rattle.promql_text.specs.Texts.{Text};
 ghost use Rattle.promql_ast.specs.View.{tree_of};
-ghost use Rattle.promql_lines.specs.BatchSteps.{IsEnforceFaultOf};
-ghost use Rattle.promql_lines.specs.Batch.{FailsOnQuery, FailsWith, HasQueryValue, HasValue, IsAsked, IsErrorText, IsLineAnswer, error_object, line_error_number, line_error_object, ok_object, rejection_object};
+ghost use Rattle.promql_lines.specs.BatchSteps.{IsEnforceFaultOf, IsQueryAnswer};
+ghost use Rattle.promql_lines.specs.Batch.{FailsOnQuery, FailsWith, IsAsked, IsErrorText, IsLineAnswer, IsOkLine, error_object, line_error_number, line_error_object, rejection_object};
 
-use crate::answer_value::render_value;
+use crate::answer_text::ok_answer;
 use crate::limit_checks::matcher_fault;
-use crate::request::{Format, format_in, matcher_in, query_in};
+use crate::quoted_query::quoted_query;
+use crate::request::{Format, default_format, format_in, matcher_in, query_in};
 use crate::settings::Settings;
 use promql_ast::{Expr, drop_expr};
 use promql_report::rejection::{Rejection, read_query};
@@ -71,7 +71,8 @@ pub struct LineAnswer {
     pub is_ok: bool,
 }
 
-/// The value of a line as JSON; `None` where it is none.
+/// The value of a line as JSON; `None` where it is none. Its frame holds what reads JSON, 16 kB.
+#[inline(never)]
 fn read_value(alloc: Global, line: &str) -> Result<Option<Value>, AllocError>
     ensures { IfOk result (λ value. read line.now ≡ option_map view value) }
 {
@@ -117,17 +118,16 @@ fn enforced(
     }
 }
 
-/// What a query, with a matcher in its selectors if there is one, is in a format.
-fn evaluate_query(
+/// The answer to a query in a format, with a matcher in its selectors if there is one.
+fn answer_query(
     alloc: Global,
     limits: &Limits,
     format: Format,
     query: &str,
     matcher: Option<&str>,
-) -> Result<Value, LineError>
-    ensures ok { IfOk result (λ v.
-        HasQueryValue limits.now query.now (option_map (λ s. s.now) matcher.entry) format (Ok (view v))) }
-    ensures finite { IfOk result (λ v. has_float (view v) ≡ false) }
+) -> Result<String, LineError>
+    ensures ok { IfOk result (λ s.
+        IsQueryAnswer limits.now query.now (option_map (λ s. s.now) matcher.entry) format (string_bytes s)) }
     ensures err { IfErr result (FailsOnQuery limits.now query.now (option_map (λ s. s.now) matcher.entry) format) }
 {
     let expr = match read_query(alloc, limits, query) {
@@ -136,19 +136,18 @@ fn evaluate_query(
         Err(_) => return Err(LineError::Run(RunError::Memory)),
     };
     let expr = enforced(alloc, limits, expr, matcher)?;
-    let value = render_value(alloc, format, &expr);
+    let answer = ok_answer(alloc, format, &expr);
     drop_expr(expr);
-    match value {
-        Ok(value) => Ok(value),
+    match answer {
+        Ok(text) => Ok(text),
         Err(error) => Err(LineError::Run(error)),
     }
 }
 
-/// What the query of a line's value is in its format.
-fn evaluate_value(alloc: Global, settings: &Settings, asked: &Value) -> Result<Value, LineError>
+/// The answer to a line with this value.
+fn answer_value(alloc: Global, settings: &Settings, asked: &Value) -> Result<String, LineError>
     ensures ok { (line : Text) → IsUtf8 line → read line ≡ Some (view asked.now)
-        → IfOk result (λ v. HasValue settings.now line (view v)) }
-    ensures finite { IfOk result (λ v. has_float (view v) ≡ false) }
+        → IfOk result (λ s. IsOkLine settings.now line (string_bytes s)) }
     ensures err { (line : Text) → IsUtf8 line → read line ≡ Some (view asked.now)
         → IfErr result (FailsWith settings.now line) }
 {
@@ -158,34 +157,49 @@ fn evaluate_value(alloc: Global, settings: &Settings, asked: &Value) -> Result<V
     let Some(format) = format_in(settings.mode, asked) else {
         return Err(LineError::NotARequest);
     };
-    evaluate_query(alloc, &settings.limits, format, query, matcher_in(asked))
+    answer_query(alloc, &settings.limits, format, query, matcher_in(asked))
 }
 
-/// What a line's query is in its format.
-fn evaluate(alloc: Global, settings: &Settings, line: &[u8]) -> Result<Value, LineError>
-    ensures ok { IfOk result (λ v. HasValue settings.now line.now (view v)) }
-    ensures finite { IfOk result (λ v. has_float (view v) ≡ false) }
+/// The answer to a line, by its value as JSON.
+fn answer_json(alloc: Global, settings: &Settings, line: &str) -> Result<String, LineError>
+    ensures ok { IfOk result (λ s. IsOkLine settings.now line.now (string_bytes s)) }
     ensures err { IfErr result (FailsWith settings.now line.now) }
 {
-    let Ok(text) = str::from_utf8(line) else {
-        return Err(LineError::Run(RunError::NotUtf8));
-    };
-    match read_value(alloc, text) {
+    match read_value(alloc, line) {
         Ok(Some(asked)) => {
-            let value = evaluate_value(alloc, settings, &asked);
+            let answer = answer_value(alloc, settings, &asked);
             drop(asked);
-            value
+            answer
         }
         Ok(None) => Err(LineError::NotARequest),
         Err(_) => Err(LineError::Run(RunError::Memory)),
     }
 }
 
-/// An object of the value.
-fn ok_value(alloc: Global, value: Value) -> Result<Value, AllocError>
-    ensures { IfOk result (λ v. view v ≡ ok_object (view value)) }
+/// The answer to a line that is text. Most are a query in quotes, of which no value is made.
+fn answer_text(alloc: Global, settings: &Settings, line: &str) -> Result<String, LineError>
+    ensures ok { IfOk result (λ s. IsOkLine settings.now line.now (string_bytes s)) }
+    ensures err { IfErr result (FailsWith settings.now line.now) }
 {
-    json!(in alloc; {"ok": value})
+    match quoted_query(alloc, line) {
+        Ok(Some(query)) => {
+            let format = default_format(settings.mode);
+            answer_query(alloc, &settings.limits, format, query.as_str(), None)
+        }
+        Ok(None) => answer_json(alloc, settings, line),
+        Err(_) => Err(LineError::Run(RunError::Memory)),
+    }
+}
+
+/// The answer `ok` to a line.
+fn answer_bytes(alloc: Global, settings: &Settings, line: &[u8]) -> Result<String, LineError>
+    ensures ok { IfOk result (λ s. IsOkLine settings.now line.now (string_bytes s)) }
+    ensures err { IfErr result (FailsWith settings.now line.now) }
+{
+    match str::from_utf8(line) {
+        Ok(text) => answer_text(alloc, settings, text),
+        Err(_) => Err(LineError::Run(RunError::NotUtf8)),
+    }
 }
 
 /// An object of an error's number and its message.
@@ -229,17 +243,6 @@ fn line_error_value(alloc: Global, error: &LineError, message: &str) -> Result<V
     }
 }
 
-/// The text of an object of the value.
-fn ok_text(alloc: Global, value: Value) -> Result<String, AllocError>
-    requires { has_float (view value) ≡ false }
-    ensures { IfOk result (λ s. string_bytes s ≡ compact_text (ok_object (view value))) }
-{
-    let object = ok_value(alloc, value)?;
-    let text = object.to_string(alloc);
-    drop(object);
-    text
-}
-
 /// The text of an object of the error.
 fn error_text(alloc: Global, error: &LineError) -> Result<String, AllocError>
     ensures { IfOk result (λ s. IsErrorText error.now (string_bytes s)) }
@@ -260,11 +263,8 @@ pub fn answer_line(
 ) -> Result<LineAnswer, AllocError>
     ensures { IfOk result (λ a. IsLineAnswer settings.now line.now (string_bytes a.text) a.is_ok) }
 {
-    match evaluate(alloc, settings, line) {
-        Ok(value) => Ok(LineAnswer {
-            text: ok_text(alloc, value)?,
-            is_ok: true,
-        }),
+    match answer_bytes(alloc, settings, line) {
+        Ok(text) => Ok(LineAnswer { text, is_ok: true }),
         Err(error) => Ok(LineAnswer {
             text: error_text(alloc, &error)?,
             is_ok: false,

@@ -1,6 +1,6 @@
 //! What a line of a batch asks for: docs/reference/programs.md, "Requests".
 
-ghost use Rattle.std.specs.Prelude.{◌≡◌, option_map, string_bytes};
+ghost use Rattle.std.specs.Prelude.{◌≡◌, None, Some, option_map, string_bytes};
 ghost use Rattle.std.specs.List.{list_all};
 ghost use Rattle.serde_json.specs.View.{view};
 ghost use Rattle.std.specs.BTreeMap.{keys};
@@ -96,6 +96,16 @@ fn format_with(level: Option<&Value>, width: Option<&Value>, mode: Mode) -> Opti
         (Mode::Line, None, None) => Some(Format::Line),
         (Mode::Json, None, None) => Some(Format::Json),
         _ => None,
+    }
+}
+
+/// The format of a request that names no mode, where the command names this one.
+pub fn default_format(mode: Mode) -> Format
+    ensures { spec.format_with None None mode ≡ Some result }
+{
+    match format_with(None, None, mode) {
+        Some(format) => format,
+        None => unreachable!(),
     }
 }
 

@@ -1,14 +1,15 @@
-use Rattle.std.proofs.Common.{ap, refl, sym, ◌∙◌, subst}
+use Rattle.std.proofs.Common.{ap, refl, string_bytes, sym, ◌∙◌, subst}
 use Rattle.std.proofs.lemmas.Result.{err_from_is_err_and}
-use Rattle.std.specs.Prelude.{Err, IfErr, option_map}
+use Rattle.std.specs.Prelude.{Err, IfErr, IfOk, option_map}
 use Rattle.promql_ast.specs.View.{tree_of}
 use Rattle.promql_report.specs.Rejecting.{IsReadAs}
 use Rattle.promql_run.specs.StepErrors.{IsShowError}
 use Rattle.promql_run.proofs.NoExtensions.{answers_are_plain}
 use Rattle.promql_lines.proofs.EnforcedTrees.{asked_low, asked_plain}
-use Rattle.promql_lines.proofs.LineAnswers.{fails_of_matcher, fails_of_rendering}
-use Rattle.promql_lines.specs.Batch.{FailsOnQuery}
-use Rattle.promql_lines.proofs.line.evaluate_query.Goals as goal
+use Rattle.promql_lines.proofs.LineAnswers.{answer_of_query, fails_of_matcher, fails_of_rendering}
+use Rattle.promql_lines.specs.Batch.{FailsOnQuery, format_value}
+use Rattle.promql_lines.specs.BatchSteps.{IsOkText}
+use Rattle.promql_lines.proofs.line.answer_query.Goals as goal
 
 pub returns-in_err-expr-clause-err : goal.returns-in_err-expr-clause-err
 returns-in_err-expr-clause-err c =
@@ -19,21 +20,28 @@ returns-in_err-expr-clause-err c =
     (subst (FailsOnQuery c.args.limits.now c.args.query.now matcher c.args.format) (sym same.2)
     (fails_of_matcher c.args.limits.now c.in_err-expr.field-0.0 c.args.query.now matcher c.args.format (tree_of c.in-Ok-Ok.expr) parsed c.in_err-expr.ensures.err))
 
-pub render_value-value-requires-clause-low : goal.render_value-value-requires-clause-low
-render_value-value-requires-clause-low c =
+pub ok_answer-answer-requires-clause-low : goal.ok_answer-answer-requires-clause-low
+ok_answer-answer-requires-clause-low c =
     let parsed = subst (IsReadAs c.args.limits.now c.args.query.now) c.in-Ok-Ok.field-0-is c.in-Ok-Ok.ensures in
     asked_low c.args.limits.now (option_map (λ s. s.now) c.args.matcher) (tree_of c.in-Ok-Ok.expr) (tree_of c.in_ok-expr.expr) c.in_ok-expr.ensures.ok (parsed.1.low (tree_of c.in-Ok-Ok.expr) refl)
 
-pub render_value-value-requires-clause-plain : goal.render_value-value-requires-clause-plain
-render_value-value-requires-clause-plain c =
+pub ok_answer-answer-requires-clause-plain : goal.ok_answer-answer-requires-clause-plain
+ok_answer-answer-requires-clause-plain c =
     let parsed = subst (IsReadAs c.args.limits.now c.args.query.now) c.in-Ok-Ok.field-0-is c.in-Ok-Ok.ensures in
     asked_plain c.args.limits.now (option_map (λ s. s.now) c.args.matcher) (tree_of c.in-Ok-Ok.expr) (tree_of c.in_ok-expr.expr) c.in_ok-expr.ensures.ok
     (answers_are_plain c.args.query.now (tree_of c.in-Ok-Ok.expr) parsed.1)
 
-pub returns-in-Err-value-clause-err : goal.returns-in-Err-value-clause-err
-returns-in-Err-value-clause-err c =
-    fails_of_rendering c.args.limits.now c.in-Err-value.error c.args.query.now (option_map (λ s. s.now) c.args.matcher) c.args.format (tree_of c.in-Ok-Ok.expr) (tree_of c.in_ok-expr.expr)
+pub returns-in-Err-answer-clause-err : goal.returns-in-Err-answer-clause-err
+returns-in-Err-answer-clause-err c =
+    fails_of_rendering c.args.limits.now c.in-Err-answer.error c.args.query.now (option_map (λ s. s.now) c.args.matcher) c.args.format (tree_of c.in-Ok-Ok.expr) (tree_of c.in_ok-expr.expr)
     (subst (IsReadAs c.args.limits.now c.args.query.now) c.in-Ok-Ok.field-0-is c.in-Ok-Ok.ensures)
     c.in_ok-expr.ensures.ok
-    (λ json. c.render_value-value.ensures.json (c.in-Err-value.is ∙ ap Err json))
-    (subst (λ r. IfErr r IsShowError) c.in-Err-value.is c.render_value-value.ensures.errors)
+    (λ json. c.ok_answer-answer.ensures.json (c.in-Err-answer.is ∙ ap Err json))
+    (subst (λ r. IfErr r IsShowError) c.in-Err-answer.is c.ok_answer-answer.ensures.errors)
+
+pub returns-in-Ok-clause-ok : goal.returns-in-Ok-clause-ok
+returns-in-Ok-clause-ok c =
+    answer_of_query c.args.limits.now c.args.query.now (option_map (λ s. s.now) c.args.matcher) c.args.format (tree_of c.in-Ok-Ok.expr) (tree_of c.in_ok-expr.expr) (string_bytes c.in-Ok.text)
+    (subst (IsReadAs c.args.limits.now c.args.query.now) c.in-Ok-Ok.field-0-is c.in-Ok-Ok.ensures)
+    c.in_ok-expr.ensures.ok
+    (subst (λ r. IfOk r (λ s. IsOkText (format_value c.args.format (tree_of c.in_ok-expr.expr)) (string_bytes s))) c.in-Ok.is c.ok_answer-answer.ensures.ok)
