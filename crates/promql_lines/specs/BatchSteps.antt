@@ -2,7 +2,7 @@
 use Rattle.std.specs.Prelude.{◌≡◌, ◌≢◌, ℕ, ◌++◌, List, [], ◌∷◌, All, Bool, Option, Some, None, Result, Ok}
 use Rattle.std.specs.Io.{StopsAt}
 use Rattle.std.specs.Io.KnownBytes.{Appends, Consumes}
-use Rattle.serde_json.specs.Data.{Data}
+use Rattle.serde_json.specs.Data.{Data, string}
 use Rattle.serde_json.specs.Written.{compact_text}
 use Rattle.promql_text.specs.Texts.{Text}
 use Rattle.promql_ast.specs.Tree.{Tree}
@@ -19,6 +19,7 @@ use Rattle.promql_lines.specs.declared.enforced_line.EnforcedLineError.TheVarian
 use Rattle.promql_lines.specs.declared.line.LineError.{LineError}
 use Rattle.promql_lines.specs.declared.line.LineError.TheVariants.{Run, Matcher, Info, LargeMatcher}
 use Rattle.promql_lines.specs.declared.request.Format.{Format}
+use Rattle.promql_lines.specs.declared.request.Format.TheVariants.{Pretty, Line, Json}
 use Rattle.promql_lines.specs.declared.settings.Settings.{Settings}
 
 abbrev pub HasNoFeed : Text → Type 0
@@ -45,6 +46,16 @@ abbrev pub IsPartlyAnswered : Settings → Text → Option (List ℕ) → Option
 IsPartlyAnswered settings line held held_after =
     (answer : Text) × (is_ok : Bool) × IsLineAnswer settings line answer is_ok
     × AppendsBeginning held held_after (answer ++ 10 ∷ [])
+
+-- there is a form, and this is its text
+abbrev pub IsFormText : Result Data JsonError → Text → Type 0
+IsFormText value printed = (d : Data) × (value ≡ Ok d) × (printed ≡ compact_text d)
+
+-- what is shown of a value in a format: the text that is the value, or that of the form
+abbrev pub IsShown : Format → Result Data JsonError → Text → Type 0
+IsShown (Pretty layout) value shown = value ≡ Ok (string shown)
+IsShown Line value shown = value ≡ Ok (string shown)
+IsShown Json value shown = IsFormText value shown
 
 -- there is a value, and this is the answer with it
 abbrev pub IsOkText : Result Data JsonError → Text → Type 0

@@ -1,21 +1,20 @@
 //! The answer to a query that has a value in a format: docs/reference/programs.md, "Answers". No value is made.
 
-ghost use Rattle.std.specs.Prelude.{◌≡◌, ◌++◌, ◌≤◌, Err, IfErr, IfOk, IsErrOf, codes, string_bytes};
-ghost use Rattle.serde_json.specs.Data.{string};
+ghost use Rattle.std.specs.Prelude.{◌≡◌, ◌++◌, ◌≤◌, Err, IfErr, IfOk, IsErrOf, Result, codes, string_bytes};
+ghost use Rattle.serde_json.specs.Data.{Data, string};
 ghost use Rattle.serde_json.specs.Written.{compact_text};
 ghost use Rattle.promql_ast.specs.Height.{height};
-ghost use Rattle.promql_ast.specs.Layout.{layout_of};
-ghost use Rattle.promql_ast.specs.Text as one_line;
 ghost use Rattle.promql_ast.specs.View.{tree_of};
 ghost use Rattle.promql_syntax.specs.declared.parser.TheConstants.{MAX_DEPTH};
 ghost use Rattle.promql_json.specs.Json as form;
+ghost use Rattle.promql_json.specs.declared.error.JsonError.{JsonError};
 ghost use Rattle.promql_json.specs.declared.error.JsonError.TheVariants.{NumberTooWide};
 ghost use Rattle.promql_run.specs.Extensions.{HasNoExtension};
 ghost use Rattle.promql_run.specs.StepErrors.{IsShowError};
 ghost use Rattle.promql_lines.specs.Batch.{format_value, ok_object};
-ghost use Rattle.promql_lines.specs.BatchSteps.{IsOkText};
+ghost use Rattle.promql_lines.specs.BatchSteps.{IsFormText, IsOkText, IsShown};
 
-use crate::request::{Format, Layout};
+use crate::request::Format;
 use json::Writer;
 use promql_ast::Expr;
 use promql_run::rendering::{json_text, pretty_text};
@@ -58,48 +57,44 @@ fn answer_of_text(alloc: Global, value: &str) -> Result<String, AllocError>
     }
 }
 
-fn pretty_answer(alloc: Global, layout: Layout, expr: &Expr) -> Result<String, AllocError>
-    requires { height (tree_of expr.now) ≤ MAX_DEPTH }
-    ensures { IfOk result (λ s. string_bytes s
-        ≡ compact_text (ok_object (string (layout_of (tree_of expr.now) layout.level layout.width)))) }
-{
-    let text = pretty_text(alloc, layout.level, layout.width, expr)?;
-    answer_of_text(alloc, text.as_str())
-}
-
-fn line_answer(alloc: Global, expr: &Expr) -> Result<String, AllocError>
-    ensures { IfOk result (λ s. string_bytes s
-        ≡ compact_text (ok_object (string (one_line.text (tree_of expr.now))))) }
-{
-    let text = expr.to_string(alloc)?;
-    answer_of_text(alloc, text.as_str())
-}
-
-fn json_answer(alloc: Global, expr: &Expr) -> Result<String, RunError>
+/// The text of an expression's JSON form.
+fn form_text(alloc: Global, expr: &Expr) -> Result<String, RunError>
     requires { HasNoExtension (tree_of expr.now) }
-    ensures ok { IfOk result (λ s. IsOkText (form.json (tree_of expr.now)) (string_bytes s)) }
+    ensures ok { IfOk result (λ s. IsFormText (form.json (tree_of expr.now)) (string_bytes s)) }
     ensures json { IsErrOf result RunError.Json →
         form.json (tree_of expr.now) ≡ Err NumberTooWide }
     ensures errors { IfErr result IsShowError }
 {
     match json_text(alloc, expr)? {
-        Some(text) => Ok(answer_of_json(alloc, text.as_str())?),
+        Some(text) => Ok(text),
         None => Err(RunError::Json),
     }
 }
 
-/// The answer to a query with this expression, in a format.
-pub fn ok_answer(alloc: Global, format: Format, expr: &Expr) -> Result<String, RunError>
+/// What is shown of an expression in a format: the text of a string, or that of its JSON form.
+pub fn shown_text(alloc: Global, format: Format, expr: &Expr) -> Result<String, RunError>
     requires low { height (tree_of expr.now) ≤ MAX_DEPTH }
     requires plain { HasNoExtension (tree_of expr.now) }
-    ensures ok { IfOk result (λ s. IsOkText (format_value format (tree_of expr.now)) (string_bytes s)) }
+    ensures ok { IfOk result (λ s. IsShown format (format_value format (tree_of expr.now)) (string_bytes s)) }
     ensures json { IsErrOf result RunError.Json →
         format_value format (tree_of expr.now) ≡ Err NumberTooWide }
     ensures errors { IfErr result IsShowError }
 {
     match format {
-        Format::Pretty(layout) => Ok(pretty_answer(alloc, layout, expr)?),
-        Format::Line => Ok(line_answer(alloc, expr)?),
-        Format::Json => json_answer(alloc, expr),
+        Format::Pretty(layout) => Ok(pretty_text(alloc, layout.level, layout.width, expr)?),
+        Format::Line => Ok(expr.to_string(alloc)?),
+        Format::Json => form_text(alloc, expr),
+    }
+}
+
+/// The answer with what is shown in a format.
+pub fn ok_answer(alloc: Global, format: Format, shown: &str) -> Result<String, AllocError>
+    ensures { IfOk result (λ s. (value : Result Data JsonError) → IsShown format value shown.now
+        → IsOkText value (string_bytes s)) }
+{
+    match format {
+        Format::Pretty(_) => answer_of_text(alloc, shown),
+        Format::Line => answer_of_text(alloc, shown),
+        Format::Json => answer_of_json(alloc, shown),
     }
 }

@@ -9,7 +9,7 @@ ghost use Rattle.promql_ast.specs.View.{tree_of};
 ghost use Rattle.promql_lines.specs.BatchSteps.{IsEnforceFaultOf, IsQueryAnswer};
 ghost use Rattle.promql_lines.specs.Batch.{FailsOnQuery, FailsWith, IsAsked, IsErrorText, IsLineAnswer, IsOkLine, error_object, line_error_number, line_error_object, rejection_object};
 
-use crate::answer_text::ok_answer;
+use crate::answer_text::{ok_answer, shown_text};
 use crate::limit_checks::matcher_fault;
 use crate::quoted_query::quoted_query;
 use crate::request::{Format, default_format, format_in, matcher_in, query_in};
@@ -136,11 +136,15 @@ fn answer_query(
         Err(_) => return Err(LineError::Run(RunError::Memory)),
     };
     let expr = enforced(alloc, limits, expr, matcher)?;
-    let answer = ok_answer(alloc, format, &expr);
+    let shown = shown_text(alloc, format, &expr);
     drop_expr(expr);
-    match answer {
-        Ok(text) => Ok(text),
-        Err(error) => Err(LineError::Run(error)),
+    let text = match shown {
+        Ok(text) => text,
+        Err(error) => return Err(LineError::Run(error)),
+    };
+    match ok_answer(alloc, format, text.as_str()) {
+        Ok(answer) => Ok(answer),
+        Err(_) => Err(LineError::Run(RunError::Memory)),
     }
 }
 

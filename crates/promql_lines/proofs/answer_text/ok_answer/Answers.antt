@@ -1,21 +1,26 @@
-use Rattle.std.proofs.Common.{ap}
+use Rattle.std.proofs.Common.{◌++◌, ap, ◌∙◌, codes, subst}
+use Rattle.std.proofs.lemmas.Result.{IfOk-weaker}
 use Rattle.serde_json.specs.Data.{string}
-use Rattle.promql_ast.specs.Layout.{layout_of}
-use Rattle.promql_ast.specs.Text as one_line
-use Rattle.promql_ast.specs.View.{tree_of}
-use Rattle.promql_lines.specs.Batch.{format_value}
+use Rattle.promql_lines.specs.BatchSteps.{IsShown}
+use Rattle.promql_lines.proofs.JsonTexts.{ok_text}
 use Rattle.promql_lines.proofs.answer_text.ok_answer.Goals as goal
 
-pub returns-in_ok-pretty_answer-in-Pretty-clause-ok : goal.returns-in_ok-pretty_answer-in-Pretty-clause-ok
-returns-in_ok-pretty_answer-in-Pretty-clause-ok c = (
-  string (layout_of (tree_of c.args.expr.now) c.in-Pretty.layout.level c.in-Pretty.layout.width),
-  ap (λ f. format_value f (tree_of c.args.expr.now)) c.in-Pretty.is,
-  c.in_ok-pretty_answer-in-Pretty.ensures,
-)
+pub returns-in-Pretty : goal.returns-in-Pretty
+returns-in-Pretty c =
+    IfOk-weaker c.answer_of_text.result _ _
+    (λ s is value shown. (string c.args.shown.now, subst (λ f. IsShown f value c.args.shown.now) c.in-Pretty.is shown, is))
+    c.answer_of_text.ensures
 
-pub returns-in_ok-line_answer-in-Line-clause-ok : goal.returns-in_ok-line_answer-in-Line-clause-ok
-returns-in_ok-line_answer-in-Line-clause-ok c = (
-  string (one_line.text (tree_of c.args.expr.now)),
-  ap (λ f. format_value f (tree_of c.args.expr.now)) c.in-Line.is,
-  c.in_ok-line_answer-in-Line.ensures,
-)
+pub returns-in-Line : goal.returns-in-Line
+returns-in-Line c =
+    IfOk-weaker c.answer_of_text-in-Line.result _ _
+    (λ s is value shown. (string c.args.shown.now, subst (λ f. IsShown f value c.args.shown.now) c.in-Line.is shown, is))
+    c.answer_of_text-in-Line.ensures
+
+pub returns-in-Json : goal.returns-in-Json
+returns-in-Json c =
+    IfOk-weaker c.answer_of_json.result _ _
+    (λ s is value shown.
+    let form = subst (λ f. IsShown f value c.args.shown.now) c.in-Json.is shown in
+    (form.0, form.1, is ∙ ap (λ b. codes "{\"ok\":" ++ (b ++ codes "}")) form.2 ∙ ok_text form.0))
+    c.answer_of_json.ensures

@@ -8,7 +8,7 @@ use Rattle.promql_run.proofs.NoExtensions.{answers_are_plain}
 use Rattle.promql_lines.proofs.EnforcedTrees.{asked_low, asked_plain}
 use Rattle.promql_lines.proofs.LineAnswers.{answer_of_query, fails_of_matcher, fails_of_rendering}
 use Rattle.promql_lines.specs.Batch.{FailsOnQuery, format_value}
-use Rattle.promql_lines.specs.BatchSteps.{IsOkText}
+use Rattle.promql_lines.specs.BatchSteps.{IsShown}
 use Rattle.promql_lines.proofs.line.answer_query.Goals as goal
 
 pub returns-in_err-expr-clause-err : goal.returns-in_err-expr-clause-err
@@ -20,28 +20,30 @@ returns-in_err-expr-clause-err c =
     (subst (FailsOnQuery c.args.limits.now c.args.query.now matcher c.args.format) (sym same.2)
     (fails_of_matcher c.args.limits.now c.in_err-expr.field-0.0 c.args.query.now matcher c.args.format (tree_of c.in-Ok-Ok.expr) parsed c.in_err-expr.ensures.err))
 
-pub ok_answer-answer-requires-clause-low : goal.ok_answer-answer-requires-clause-low
-ok_answer-answer-requires-clause-low c =
+pub shown_text-shown-requires-clause-low : goal.shown_text-shown-requires-clause-low
+shown_text-shown-requires-clause-low c =
     let parsed = subst (IsReadAs c.args.limits.now c.args.query.now) c.in-Ok-Ok.field-0-is c.in-Ok-Ok.ensures in
     asked_low c.args.limits.now (option_map (λ s. s.now) c.args.matcher) (tree_of c.in-Ok-Ok.expr) (tree_of c.in_ok-expr.expr) c.in_ok-expr.ensures.ok (parsed.1.low (tree_of c.in-Ok-Ok.expr) refl)
 
-pub ok_answer-answer-requires-clause-plain : goal.ok_answer-answer-requires-clause-plain
-ok_answer-answer-requires-clause-plain c =
+pub shown_text-shown-requires-clause-plain : goal.shown_text-shown-requires-clause-plain
+shown_text-shown-requires-clause-plain c =
     let parsed = subst (IsReadAs c.args.limits.now c.args.query.now) c.in-Ok-Ok.field-0-is c.in-Ok-Ok.ensures in
     asked_plain c.args.limits.now (option_map (λ s. s.now) c.args.matcher) (tree_of c.in-Ok-Ok.expr) (tree_of c.in_ok-expr.expr) c.in_ok-expr.ensures.ok
     (answers_are_plain c.args.query.now (tree_of c.in-Ok-Ok.expr) parsed.1)
 
-pub returns-in-Err-answer-clause-err : goal.returns-in-Err-answer-clause-err
-returns-in-Err-answer-clause-err c =
-    fails_of_rendering c.args.limits.now c.in-Err-answer.error c.args.query.now (option_map (λ s. s.now) c.args.matcher) c.args.format (tree_of c.in-Ok-Ok.expr) (tree_of c.in_ok-expr.expr)
+pub returns-in-Err-shown-clause-err : goal.returns-in-Err-shown-clause-err
+returns-in-Err-shown-clause-err c =
+    fails_of_rendering c.args.limits.now c.in-Err-shown.error c.args.query.now (option_map (λ s. s.now) c.args.matcher) c.args.format (tree_of c.in-Ok-Ok.expr) (tree_of c.in_ok-expr.expr)
     (subst (IsReadAs c.args.limits.now c.args.query.now) c.in-Ok-Ok.field-0-is c.in-Ok-Ok.ensures)
     c.in_ok-expr.ensures.ok
-    (λ json. c.ok_answer-answer.ensures.json (c.in-Err-answer.is ∙ ap Err json))
-    (subst (λ r. IfErr r IsShowError) c.in-Err-answer.is c.ok_answer-answer.ensures.errors)
+    (λ json. c.shown_text-shown.ensures.json (c.in-Err-shown.is ∙ ap Err json))
+    (subst (λ r. IfErr r IsShowError) c.in-Err-shown.is c.shown_text-shown.ensures.errors)
 
-pub returns-in-Ok-clause-ok : goal.returns-in-Ok-clause-ok
-returns-in-Ok-clause-ok c =
-    answer_of_query c.args.limits.now c.args.query.now (option_map (λ s. s.now) c.args.matcher) c.args.format (tree_of c.in-Ok-Ok.expr) (tree_of c.in_ok-expr.expr) (string_bytes c.in-Ok.text)
+pub returns-in-Ok-ok_answer-clause-ok : goal.returns-in-Ok-ok_answer-clause-ok
+returns-in-Ok-ok_answer-clause-ok c =
+    let format = c.args.format in let value = format_value c.args.format (tree_of c.in_ok-expr.expr) in
+    answer_of_query c.args.limits.now c.args.query.now (option_map (λ s. s.now) c.args.matcher) format (tree_of c.in-Ok-Ok.expr) (tree_of c.in_ok-expr.expr) (string_bytes c.in-Ok-ok_answer.answer)
     (subst (IsReadAs c.args.limits.now c.args.query.now) c.in-Ok-Ok.field-0-is c.in-Ok-Ok.ensures)
     c.in_ok-expr.ensures.ok
-    (subst (λ r. IfOk r (λ s. IsOkText (format_value c.args.format (tree_of c.in_ok-expr.expr)) (string_bytes s))) c.in-Ok.is c.ok_answer-answer.ensures.ok)
+    (c.in-Ok-ok_answer.ensures value
+    (subst (IsShown format value) (sym c.as_str.ensures.value) (subst (λ r. IfOk r (λ s. IsShown format value (string_bytes s))) c.in-Ok.is c.shown_text-shown.ensures.ok)))
