@@ -29,6 +29,11 @@ library_names() {
     awk -F: '!/^#/ && NF && split($1, words, " ") > 1 && words[2] == "staticlib" { print words[1] }' "$root/crates.txt"
 }
 
+# The files of dist/ that are copies of sources, which nothing is built of.
+copied_files() {
+    echo bindings/schema/promql.schema.json
+}
+
 # crate_lines CRATE..: these crates and those of the repository below them, lowest first, as 'NAME: DEP ..', where each DEP
 # is a crate of the repository.
 crate_lines() {

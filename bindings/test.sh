@@ -87,6 +87,18 @@ python_with_yaml() {
     return 1
 }
 
+# python_with_schemas: prints which Python has a validator for JSON Schema of 2020-12.
+python_with_schemas() {
+    local python
+    for python in python3 /usr/bin/python3; do
+        if "$python" -c 'from jsonschema import Draft202012Validator' 2>/dev/null; then
+            echo "$python"
+            return
+        fi
+    done
+    return 1
+}
+
 # install_missing: installs the packages of Debian whose commands are missing here.
 install_missing() {
     local -a missing=()
@@ -95,6 +107,7 @@ install_missing() {
     command -v cc >/dev/null || missing+=(gcc libc6-dev)
     command -v valgrind >/dev/null || missing+=(valgrind)
     python_with_yaml >/dev/null || missing+=(python3-ruamel.yaml)
+    python_with_schemas >/dev/null || missing+=(python3-jsonschema)
     python3 -c 'import pytest' 2>/dev/null || missing+=(python3-pytest)
     python3 -c 'import mypy' 2>/dev/null || missing+=(mypy)
     command -v chromium >/dev/null || missing+=(chromium)
@@ -273,10 +286,21 @@ test_rule_files() {
     fi
 }
 
+# The schema of the JSON form.
+test_schema() {
+    local python
+    if python=$(python_with_schemas); then
+        add 'the schema of the JSON form' "$python" "$here/schema/test_schema.py"
+    else
+        echo 'not tried: the schema of the JSON form: no Python here has jsonschema 4'
+    fi
+}
+
 test_python() {
     has python3 'the binding for Python' || return
     add 'Python' unit_tests "$here/python"
     test_rule_files
+    test_schema
     if has_module pytest 'the tests for Python by pytest'; then
         try 'the tests for Python by pytest' in_python "$here/python" -m pytest -q -p no:cacheprovider "$here/python/tests"
     fi
