@@ -97,6 +97,23 @@ library_fingerprint() {
     ) | sha256sum | cut -d' ' -f1
 }
 
+# The checksum of what the extension for Python is made from.
+extension_fingerprint() {
+    (cd "$root" && sha256sum bindings/python/promql/_native.c bindings/c/promql.h) | sha256sum | cut -d' ' -f1
+}
+
+# The folder of the headers of Python: PYTHON names another one than python3.
+python_headers() {
+    "${PYTHON:-python3}" -c 'import sysconfig; print(sysconfig.get_path("include"))'
+}
+
+# What the extension is made with here, which decides its bytes: the C compiler, and the version of Python's headers.
+extension_tools() {
+    local headers
+    headers=$(python_headers)
+    printf '%s, %s\n' "$("${CC:-cc}" --version | head -n 1)" "${headers##*/}"
+}
+
 # The folder of the kit that has the command rt.
 kit_folder() {
     local rt
@@ -183,6 +200,16 @@ why_release_stale() {
     local -a programs
     mapfile -t programs < <(program_names)
     why_stale "$root/dist/MADE_FROM" "$root/dist/$1" "$2" "${programs[@]}"
+}
+
+# why_extension_stale: the same for the extension for Python of dist/.
+why_extension_stale() {
+    local made=$root/dist/_native.made_from extension=$root/dist/_native.abi3.so why
+    why=$(why_other "$made" '' extension_fingerprint)
+    if [ -z "$why" ] && ! { [ -f "$extension" ] && is_listed "$made" "$extension"; }; then
+        why="_native.abi3.so is not the file that was released"
+    fi
+    printf '%s' "$why"
 }
 
 # why_library_stale KIT: the same for the library for C of dist/.

@@ -48,8 +48,9 @@ from_go() {
         "$work/bench_go" "$queries" "$runs"
 }
 
+# from_python [many]: by the extension; where PROMQL_EXTENSION is empty by ctypes.
 from_python() {
-    PYTHONDONTWRITEBYTECODE=1 PYTHONPATH=$here/python python3 "$here/python/bench.py" "$queries" "$runs"
+    PYTHONDONTWRITEBYTECODE=1 PYTHONPATH=$here/python python3 "$here/python/bench.py" "$queries" "$runs" "$@"
 }
 
 # A run makes each call 20 times.
@@ -83,6 +84,7 @@ print_table() {
         { figures[$1, $2, $3] = $4 }
         function cell(name, call, kind,    first, figure) {
             figure = figures[name, call, kind]
+            if (figure == "") return ""
             first = figures[names[1], call, kind]
             return name == names[1] || !first ? figure "       " : sprintf("%d %+5.0f%%", figure, 100 * (figure / first - 1))
         }
@@ -109,7 +111,11 @@ if has "${CC:-cc}" C; then
 fi
 if has cargo Rust; then measure nanoseconds Rust from_rust; fi
 if has go Go; then measure nanoseconds 'Go, cgo' from_go; fi
-if has python3 Python; then measure nanoseconds 'Python, ctypes' from_python; fi
+if has python3 Python; then
+    measure nanoseconds 'Python' from_python
+    measure nanoseconds 'Python, canonical_many' from_python many
+    PROMQL_EXTENSION='' measure nanoseconds 'Python, ctypes' from_python
+fi
 print_table nanoseconds
 print_table instructions
 echo "load of the machine: $(cut -d' ' -f1-3 /proc/loadavg)"

@@ -8,7 +8,7 @@ usage: bindings/rows.py c PROGRAM [THREADS]   through bindings/c/tests/test_prom
 Where THREADS are given, each makes all calls again beside the others, and is to get the same.
 
 The rows are the lines of crates/promql_batch/stdin with those of stdout. Each that asks for a query is printed in its mode, and
-checked; one that asks for a line is also printed by `canonical`. Of those with a matcher to enforce, each that asks for a line is one
+checked; one that asks for a line is also printed by `canonical`, and in Python by `canonical_many`. Of those with a matcher to enforce, each that asks for a line is one
 call. A line that is no request is no call, and is left out; a
 line that is not UTF-8 is passed on as the query. The last line is 'N passed, M failed'.
 
@@ -152,6 +152,18 @@ def run_c(program, threads):
     return len(calls) - failed, failed
 
 
+NOT_UTF8 = Answer(3, 0, 0, 0, 0, b"input is not UTF-8")
+
+
+def error_answer(error):
+    """The answer of a query that raises this error."""
+    import promql
+
+    start, end = (len(error.query[:at].encode()) for at in (error.start, error.end))
+    status = 14 if isinstance(error, promql.TooLargeError) else 4
+    return Answer(status, start, end, error.line, error.column, error.message.encode())
+
+
 def python_answer(call):
     """Makes the call by the public functions of the package, and returns its answer as that of the library."""
     import promql
@@ -171,9 +183,7 @@ def python_answer(call):
             text = compact(promql.parse(query)).decode()
         return Answer(0, 0, 0, 0, 0, text.encode())
     except promql.QueryError as error:
-        start, end = (len(query[:at].encode()) for at in (error.start, error.end))
-        status = 14 if isinstance(error, promql.TooLargeError) else 4
-        return Answer(status, start, end, error.line, error.column, error.message.encode())
+        return error_answer(error)
     except promql.NumberTooWideError as error:
         return Answer(6, 0, 0, 0, 0, str(error).encode())
     except promql.MatcherError as error:
@@ -183,7 +193,19 @@ def python_answer(call):
     except promql.LargeEnforcedError as error:
         return Answer(16, 0, 0, 0, 0, str(error).encode())
     except UnicodeEncodeError:
-        return Answer(3, 0, 0, 0, 0, b"input is not UTF-8")
+        return NOT_UTF8
+
+
+def at_once(calls):
+    """The answers of the calls of `canonical`, made by one call of `canonical_many`."""
+    import promql
+
+    queries = [call.query.decode(errors="surrogateescape") for call in calls]
+    for line in promql.canonical_many(queries):
+        if isinstance(line, promql.QueryError):
+            yield error_answer(line)
+        else:
+            yield Answer(0, 0, 0, 0, 0, line.encode()) if isinstance(line, str) else NOT_UTF8
 
 
 def run_python(threads):
@@ -193,6 +215,8 @@ def run_python(threads):
     calls = list(all_calls())
     answers = [python_answer(it) for it in calls]
     failed = compare(calls, answers)
+    lines = [it for it in calls if it.call == CANONICAL]
+    failed += compare(lines, at_once(lines))
     different = []
 
     def repeat():

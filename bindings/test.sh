@@ -19,7 +19,7 @@ passed=0
 failed=0
 work=$(mktemp -d)
 trap 'rm -rf "$work"' EXIT
-export here dist queries work PYTHONDONTWRITEBYTECODE=1
+export here root dist queries work PYTHONDONTWRITEBYTECODE=1
 
 # limited COMMAND..: runs a command, or one of the functions that are exported below, which ends in four minutes at the latest.
 limited() {
@@ -108,6 +108,7 @@ install_missing() {
     command -v valgrind >/dev/null || missing+=(valgrind)
     python_with_yaml >/dev/null || missing+=(python3-ruamel.yaml)
     python_with_schemas >/dev/null || missing+=(python3-jsonschema)
+    [ -f "$(python_headers)/Python.h" ] || missing+=(python3-dev)
     python3 -c 'import pytest' 2>/dev/null || missing+=(python3-pytest)
     python3 -c 'import mypy' 2>/dev/null || missing+=(mypy)
     command -v chromium >/dev/null || missing+=(chromium)
@@ -286,6 +287,49 @@ test_rule_files() {
     fi
 }
 
+# The extension that is built here is that of dist/, if both are made with the same tools of the same sources.
+extension_agrees() {
+    mkdir -p "$work/extension" && "$root/bin/link_extension" "$work/extension" || return
+    [ "$(extension_tools)" != "$(sed -n 2p "$dist/_native.made_from")" ] || [ -n "$(why_extension_stale)" ] ||
+        cmp "$work/extension/_native.abi3.so" "$dist/_native.abi3.so"
+}
+
+build_sanitized_extension() {
+    mkdir -p "$work/sanitized_extension" &&
+        "$root/bin/link_extension" "$work/sanitized_extension" -g -O1 "-fsanitize=address,undefined" -fno-sanitize-recover=all
+}
+
+# write_python FILE COMMAND..: makes the file a Python that runs under a command, its memory from malloc.
+write_python() {
+    local file=$1
+    shift
+    printf '#!/bin/sh\nPYTHONMALLOC=malloc exec %s "%s" "$@"\n' "$*" "$(python3 -c 'import sys; print(sys.executable)')" >"$file"
+    chmod +x "$file"
+}
+
+# The sanitizers do not see what Python itself reads, such as an object that the extension gave back too often; valgrind does. What it
+# says of values without a beginning is about Python.
+test_extension() {
+    local stale
+    stale=$(why_extension_stale)
+    if [ -n "$stale" ]; then echo "######## The extension for Python: $stale. bin/release makes it anew."; fi
+    if ! [ -f "$(python_headers)/Python.h" ]; then
+        echo "not tried: building the extension for Python: there is no $(python_headers)/Python.h"
+        return
+    fi
+    try 'the extension for Python is what its source builds to' extension_agrees
+    if has_sanitizers 'the extension for Python with sanitizers'; then
+        try 'building the extension for Python with sanitizers' build_sanitized_extension
+        write_python "$work/python_sanitized" "env LD_PRELOAD=$("${CC:-cc}" -print-file-name=libasan.so) ASAN_OPTIONS=detect_leaks=0"
+        python=$work/python_sanitized PROMQL_EXTENSION=$work/sanitized_extension/_native.abi3.so PROMQL_BROKEN=5000 \
+            add 'the extension for Python with sanitizers' unit_tests "$here/python" 'test_[cp]*.py'
+    fi
+    has valgrind 'the extension for Python under valgrind' || return
+    write_python "$work/python_valgrind" "valgrind --quiet --undef-value-errors=no --error-exitcode=99"
+    python=$work/python_valgrind PROMQL_BROKEN=500 \
+        add 'the extension for Python under valgrind' unit_tests "$here/python" test_calls.py -k Same -k Many -k Memory
+}
+
 # The schema of the JSON form.
 test_schema() {
     local python
@@ -299,6 +343,8 @@ test_schema() {
 test_python() {
     has python3 'the binding for Python' || return
     add 'Python' unit_tests "$here/python"
+    PROMQL_EXTENSION='' add 'Python by ctypes' unit_tests "$here/python"
+    test_extension
     test_rule_files
     test_schema
     if has_module pytest 'the tests for Python by pytest'; then
@@ -308,8 +354,10 @@ test_python() {
         try 'the types of the package' in_python "$here/python" -m mypy --strict --cache-dir "$work/mypy" "$here/python/promql"
     fi
     try 'the bench for Python' bench_prints in_python "$here/python" "$here/python/bench.py"
+    PROMQL_EXTENSION='' try 'the bench for Python by ctypes' bench_prints in_python "$here/python" "$here/python/bench.py"
     if has "${CHROMIUM:-chromium}" 'the page in Chromium'; then add 'the page in Chromium' unit_tests "$here/python" browser.py; fi
     add 'rows for Python, and again in eight threads' in_python "$here/python" "$here/rows.py" python 8
+    PROMQL_EXTENSION='' add 'rows for Python by ctypes' in_python "$here/python" "$here/rows.py" python
     has_module pip 'the wheel' || return
     try 'the wheel' install_wheel
     if [ -d "$work/site" ]; then PROMQL_BROKEN=1000 add 'Python, as pip installs it' unit_tests "$work/site"; fi
@@ -455,7 +503,8 @@ test_prometheus() {
 }
 
 export -f shows_own_names build_c bench_prints example_prints build_sanitized overrun_is_reported under_valgrind build_project
-export -f find_installed install_wheel in_python unit_tests print_counts
+export -f find_installed install_wheel in_python unit_tests print_counts extension_agrees build_sanitized_extension
+export -f extension_tools python_headers why_extension_stale why_other extension_fingerprint is_listed file_sum
 export -f in_cargo cargo_tests build_rust cache_keys in_go go_tests
 
 parts=(names c python scripts rust go examples)

@@ -1,5 +1,6 @@
 """Nanoseconds a query of `check` and of `canonical`, for the queries of a file, one a line, those without patterns and those with
 patterns apart: bench.py FILE [RUNS], where Python finds the package. bindings/bench.sh runs it beside those of the other languages.
+With `many` after RUNS: of `canonical_many` in place of `canonical`, for all queries in one call, and nothing of `check`.
 """
 
 import sys
@@ -28,10 +29,18 @@ def measure(call, queries, runs):
     return min(time_of_run(call, queries) for _ in range(runs)) // (TIMES * len(queries))
 
 
-def main(path, runs="60"):
+def measure_many(queries, runs):
+    """The same for all queries in one call."""
+    return measure(promql.canonical_many, [queries * TIMES], runs) // (TIMES * len(queries))
+
+
+def main(path, runs="60", how=""):
     lines = Path(path).read_text(encoding="utf-8").splitlines()
     for kind, with_patterns in ("plain", False), ("patterns", True):
         queries = [line for line in lines if has_pattern(line) == with_patterns]
+        if how == "many":
+            print("line", kind, measure_many(queries, int(runs)))
+            continue
         for name, call in ("check", promql.check), ("line", promql.canonical):
             print(name, kind, measure(call, queries, int(runs)))
 

@@ -51,7 +51,8 @@ def _contents(project, info):
     package = HERE / project["name"]
     for path in sorted([*package.glob("*.py"), package / "py.typed", *package.glob("static/*")]):
         yield f"{project['name']}/{path.relative_to(package).as_posix()}", path.read_bytes()
-    yield f"{project['name']}/libpromql.so", (ROOT / "dist" / "libpromql.so").read_bytes()
+    for built in "libpromql.so", "_native.abi3.so":
+        yield f"{project['name']}/{built}", (ROOT / "dist" / built).read_bytes()
     yield f"{info}/METADATA", _metadata(project).encode()
     yield f"{info}/WHEEL", f"Wheel-Version: 1.0\nGenerator: wheel_backend\nRoot-Is-Purelib: false\nTag: {TAG}\n".encode()
     yield f"{info}/LICENSE", (ROOT / "LICENSE").read_bytes()

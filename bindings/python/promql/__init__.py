@@ -7,16 +7,18 @@
 {'type': 'numberLiteral', 'val': '1'}
 
 Each function raises QueryError where the query is rejected, MemoryError where an allocation failed, UnicodeEncodeError where the
-query has a surrogate, and SmallStackError where the thread has little stack left. Any thread may call any of them at any time.
+query has a surrogate, TypeError where it is no str, and SmallStackError where the thread has little stack left. Any thread may call any of
+them at any time.
 """
 
 from __future__ import annotations
 
 import json
-from typing import Any, Dict, Tuple
+from operator import index
+from typing import Any, Dict, Iterable, List, Optional, Type, Union
 
-from . import _library
-from ._library import Mode, Result, Status
+from ._answers import Answer, Failure, Status
+from ._calls import calls as _caller
 
 __all__ = [
     "BareInfoError",
@@ -29,6 +31,7 @@ __all__ = [
     "TooLargeError",
     "UnfaithfulError",
     "canonical",
+    "canonical_many",
     "check",
     "collect",
     "enforce",
@@ -94,7 +97,7 @@ class QueryError(Error):
     def snippet(self) -> str:
         """The line of the query where the part begins, and a mark below that part."""
         start, end = (len(self.query[:at].encode()) for at in (self.start, self.end))
-        return _text(self.query, _library.snippet(self.query.encode(), start, end))
+        return _text(self.query, _caller.snippet(self.query, start, end))
 
 
 class TooLargeError(QueryError):
@@ -105,9 +108,7 @@ def set_limits(*, max_len: int = 32_768, max_patterns: int = 16_000) -> None:
     """Sets what each later query has to be within, in this process: at most so many bytes, and patterns of at most this size together
     (docs/reference/programs.md, "Limits of a query"). A query that is not raises TooLargeError before it is parsed. A matcher that is
     enforced, and the query with it, have the same limits: where they are not within them, `enforce` raises LargeEnforcedError."""
-    _look_at("max_len", max_len, _MAX_LIMIT)
-    _look_at("max_patterns", max_patterns, _MAX_LIMIT)
-    _library.set_limits(max_len, max_patterns)
+    _caller.set_limits(_number("max_len", max_len, _MAX_LIMIT), _number("max_patterns", max_patterns, _MAX_LIMIT))
 
 
 def parse(query: str) -> Dict[str, Any]:
@@ -116,7 +117,7 @@ def parse(query: str) -> Dict[str, Any]:
     Raises NumberTooWideError where the query has no JSON form. A tree that is nested more deeply than Python's recursion limit
     allows raises RecursionError; a query is nested at most 512 times.
     """
-    tree: Dict[str, Any] = json.loads(_text(query, _library.print_query(query.encode(), Mode.JSON)))
+    tree: Dict[str, Any] = json.loads(_text(query, _caller.json(query)))
     return tree
 
 
@@ -125,14 +126,24 @@ def format(query: str, *, width: int = 100, level: int = 0) -> str:
 
     Each line begins with `level` indentations of two spaces, which `width` does not count.
     """
-    _look_at("level", level, _MAX_LEVEL)
-    _look_at("width", width, _MAX_WIDTH)
-    return _text(query, _library.print_query(query.encode(), Mode.PRETTY, level, width))
+    return _text(query, _caller.format(query, _number("level", level, _MAX_LEVEL), _number("width", width, _MAX_WIDTH)))
 
 
 def canonical(query: str) -> str:
     """The query on one line. Queries that differ in nothing that means something have one line: the key of a cache."""
-    return _text(query, _library.canonical(query.encode()))
+    return _text(query, _caller.canonical(query))
+
+
+def canonical_many(queries: Iterable[str]) -> List[Union[str, QueryError, UnicodeEncodeError]]:
+    """For each query what `canonical` returns, or the QueryError or UnicodeEncodeError that it raises, in the order of the queries: one that
+    is rejected does not end it. Any other error is raised, and no list is returned then. It takes less time than as many calls."""
+    if isinstance(queries, str):
+        raise TypeError("expected an iterable of str, got a str")
+    lines, failures = _caller.canonical_many(queries)
+    answers: List[Any] = lines
+    for number, query, failure in failures:
+        answers[number] = _error_of_one(query, failure)
+    return answers
 
 
 def enforce(query: str, matcher: str) -> str:
@@ -143,52 +154,77 @@ def enforce(query: str, matcher: str) -> str:
     with it, is not within the limits of a query. What is returned was read again, and means the changed query
     (docs/guide/rewriting.md).
     """
-    return _text(query, _library.enforce(query.encode(), matcher.encode()))
+    return _text(query, _caller.enforce(query, matcher))
 
 
 def collect(query: str) -> Dict[str, Any]:
     """What a query names: `functions`, `labels` and `metrics`, lists of names in order, and `selectors`, dictionaries of `name`,
     `matchers`, `range`, `offset` and `at`, as they print (docs/guide/bindings.md, "What a query names")."""
-    names: Dict[str, Any] = json.loads(_text(query, _library.collect(query.encode())))
+    names: Dict[str, Any] = json.loads(_text(query, _caller.collect(query)))
     return names
 
 
 def check(query: str) -> None:
     """Returns where the query is accepted, and else raises QueryError."""
-    _text(query, _library.check(query.encode()))
+    _text(query, _caller.check(query))
 
 
 def version() -> str:
     """The version of the library."""
-    return _text("", _library.version())
+    return _text("", _caller.version())
 
 
-def _look_at(name: str, number: int, most: int) -> None:
+def _number(name: str, number: int, most: int) -> int:
+    """The number, which may be of any type that stands for a whole one."""
+    number = index(number)
     if not 0 <= number <= most:
         raise ValueError(f"{name} is not from 0 to {most}: {number}")
+    return number
 
 
-def _text(query: str, answer: Tuple[bytes, Result]) -> str:
+def _text(query: str, answer: Answer) -> str:
     """Returns the text of a call, or raises its error."""
-    text, result = answer[0].decode(), answer[1]
-    if result.status == Status.OK:
-        return text
-    if result.status in (Status.REJECTED, Status.TOO_LARGE):
-        start, end = (len(query.encode()[:at].decode()) for at in (result.start, result.end))
-        kind = QueryError if result.status == Status.REJECTED else TooLargeError
-        raise kind(text, query, start, end, result.line, result.column)
-    if result.status == Status.NUMBER_TOO_WIDE:
-        raise NumberTooWideError(text)
-    if result.status == Status.BAD_MATCHER:
-        raise MatcherError(text)
-    if result.status == Status.UNFAITHFUL:
-        raise UnfaithfulError(text)
-    if result.status == Status.BARE_INFO:
-        raise BareInfoError(text)
-    if result.status == Status.LARGE_ENFORCED:
-        raise LargeEnforcedError(text)
-    if result.status == Status.SMALL_STACK:
-        raise SmallStackError("the thread has less than 1.25 MiB of stack left")
-    if result.status == Status.OUT_OF_MEMORY:
-        raise MemoryError(text)
-    raise Error(text)
+    if isinstance(answer, str):
+        return answer
+    raise _error(query, answer)
+
+
+# The errors without a place.
+_ERRORS: Dict[int, Type[Exception]] = {
+    Status.NUMBER_TOO_WIDE: NumberTooWideError,
+    Status.BAD_MATCHER: MatcherError,
+    Status.UNFAITHFUL: UnfaithfulError,
+    Status.BARE_INFO: BareInfoError,
+    Status.LARGE_ENFORCED: LargeEnforcedError,
+    Status.OUT_OF_MEMORY: MemoryError,
+}
+
+
+def _error(query: str, failure: Failure) -> Exception:
+    """The error of a call about this query."""
+    status, message, first, last, line, column = failure
+    if status in (Status.REJECTED, Status.TOO_LARGE):
+        start, end = (len(str.encode(query)[:at].decode()) for at in (first, last))
+        kind = QueryError if status == Status.REJECTED else TooLargeError
+        return kind(message, query, start, end, line, column)
+    if status == Status.SMALL_STACK:
+        return SmallStackError("the thread has less than 1.25 MiB of stack left")
+    return _ERRORS.get(status, Error)(message)
+
+
+def _error_of_one(query: str, failure: Optional[Failure]) -> Union[QueryError, UnicodeEncodeError]:
+    """The error of one query among many, which has a surrogate where there is no failure. Raises what is no error of the query."""
+    if failure is None:
+        return _surrogate_error(query)
+    error = _error(query, failure)
+    if not isinstance(error, QueryError):
+        raise error
+    return error
+
+
+def _surrogate_error(query: str) -> UnicodeEncodeError:
+    try:
+        str.encode(query)
+    except UnicodeEncodeError as error:
+        return error
+    raise ValueError("the query has no surrogate")

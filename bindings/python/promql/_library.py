@@ -1,40 +1,14 @@
-"""The calls of libpromql.so, over bytes: promql.h says what each does."""
+"""The calls of libpromql.so by ctypes, over bytes and over texts: promql.h says what each does, and _answers.py what they give."""
 
 from __future__ import annotations
 
 import ctypes
-import os
-from enum import IntEnum
-from pathlib import Path
-from typing import Any, Tuple
+from typing import Any, Iterable, List, Optional, Tuple
+
+from ._answers import Answer, Failure, Lines, Mode, Status, library_path
 
 # Most texts have fewer bytes than these and so many for each byte of the query, so that a call is made once.
 FIRST_SIZE = 1024
-
-
-class Status(IntEnum):
-    OK = 0
-    OUT_OF_MEMORY = 1
-    NOT_UTF8 = 3
-    REJECTED = 4
-    NUMBER_TOO_WIDE = 6
-    BUFFER_TOO_SMALL = 8
-    UNKNOWN_MODE = 9
-    BAD_POINTER = 10
-    BAD_MATCHER = 11
-    UNFAITHFUL = 12
-    BARE_INFO = 13
-    TOO_LARGE = 14
-    SMALL_STACK = 15
-    LARGE_ENFORCED = 16
-
-
-class Mode(IntEnum):
-    LINE = 0
-    PRETTY = 1
-    JSON = 2
-
-
 # How much room a text of each mode has at first, for each byte of the query.
 _ROOM = {Mode.LINE: 2, Mode.PRETTY: 4, Mode.JSON: 32}
 
@@ -56,16 +30,6 @@ class Result(ctypes.Structure):
         ("line", ctypes.c_size_t),
         ("column", ctypes.c_size_t),
     ]
-
-
-def library_path() -> Path:
-    """The library of the variable PROMQL_LIBRARY, that of the package, or in a checkout that of its dist/."""
-    named = os.environ.get("PROMQL_LIBRARY")
-    if named:
-        return Path(named)
-    here = Path(__file__).resolve()
-    own = here.with_name("libpromql.so")
-    return own if own.is_file() else here.parents[3] / "dist" / "libpromql.so"
 
 
 _QUERY = [ctypes.c_char_p, ctypes.c_size_t]
@@ -108,29 +72,76 @@ def print_query(query: bytes, mode: Mode, level: int = 0, width: int = 0) -> Tup
     return call("promql_print", _ROOM[mode] * len(query), query, len(query), mode, level, width)
 
 
-def canonical(query: bytes) -> Tuple[bytes, Result]:
-    return call("promql_canonical", 2 * len(query), query, len(query))
+# ---- the calls over texts (Calls in _answers.py)
 
 
-def enforce(query: bytes, matcher: bytes) -> Tuple[bytes, Result]:
-    return call("promql_enforce", 2 * len(query), query, len(query), matcher, len(matcher))
+def _encoded(text: str) -> bytes:
+    if not isinstance(text, str):
+        raise TypeError(f"expected a str, got {type(text)!r}")
+    return str.encode(text)
 
 
-def collect(query: bytes) -> Tuple[bytes, Result]:
-    return call("promql_collect", 4 * len(query), query, len(query))
+def _answer(answer: Tuple[bytes, Result]) -> Answer:
+    text, result = answer[0].decode(), answer[1]
+    if result.status == Status.OK:
+        return text
+    return result.status, text, result.start, result.end, result.line, result.column
 
 
-def check(query: bytes) -> Tuple[bytes, Result]:
-    return call("promql_check", 0, query, len(query))
+def canonical(query: str) -> Answer:
+    encoded = _encoded(query)
+    return _answer(call("promql_canonical", 2 * len(encoded), encoded, len(encoded)))
 
 
-def snippet(query: bytes, start: int, end: int) -> Tuple[bytes, Result]:
-    return call("promql_snippet", 2 * len(query), query, len(query), start, end)
+def canonical_many(queries: Iterable[str]) -> Lines:
+    lines: List[Optional[str]] = []
+    failures: List[Tuple[int, str, Optional[Failure]]] = []
+    for query in queries:
+        try:
+            answer = canonical(query)
+        except UnicodeEncodeError:
+            failures.append((len(lines), query, None))
+            lines.append(None)
+            continue
+        if isinstance(answer, str):
+            lines.append(answer)
+        else:
+            failures.append((len(lines), query, answer))
+            lines.append(None)
+    return lines, failures
+
+
+def check(query: str) -> Answer:
+    encoded = _encoded(query)
+    return _answer(call("promql_check", 0, encoded, len(encoded)))
+
+
+def collect(query: str) -> Answer:
+    encoded = _encoded(query)
+    return _answer(call("promql_collect", 4 * len(encoded), encoded, len(encoded)))
+
+
+def enforce(query: str, matcher: str) -> Answer:
+    encoded, encoded_matcher = _encoded(query), _encoded(matcher)
+    return _answer(call("promql_enforce", 2 * len(encoded), encoded, len(encoded), encoded_matcher, len(encoded_matcher)))
+
+
+def format(query: str, level: int, width: int) -> Answer:
+    return _answer(print_query(_encoded(query), Mode.PRETTY, level, width))
+
+
+def json(query: str) -> Answer:
+    return _answer(print_query(_encoded(query), Mode.JSON))
+
+
+def snippet(query: str, start: int, end: int) -> Answer:
+    encoded = _encoded(query)
+    return _answer(call("promql_snippet", 2 * len(encoded), encoded, len(encoded), start, end))
 
 
 def set_limits(max_len: int, max_pattern_size: int) -> None:
     _library.promql_set_limits(max_len, max_pattern_size)
 
 
-def version() -> Tuple[bytes, Result]:
-    return call("promql_version", 0)
+def version() -> Answer:
+    return _answer(call("promql_version", 0))

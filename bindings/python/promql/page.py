@@ -19,7 +19,8 @@ from http.server import BaseHTTPRequestHandler, ThreadingHTTPServer
 from pathlib import Path
 from typing import Any, Dict, List, Tuple
 
-from . import QueryError, _library, canonical, drawing, format
+from . import QueryError, canonical, drawing, format
+from ._calls import calls
 from .visible import visible
 
 ADDRESS = "127.0.0.1"
@@ -49,7 +50,7 @@ _HEADERS = {
 # A page elsewhere may let a name of its own stand for this machine's address, but not for these.
 _LOOPBACK = re.compile(r"(?:localhost|127\.0\.0\.1|\[::1\])(?::\d{1,5})?", re.IGNORECASE)
 # (in a text of the JSON form the quotes have backslashes before them, so these are members)
-_NODE = re.compile(rb'"type":"(?:aggregation|unaryExpr|binaryExpr|parenExpr|subquery|\w+Literal|\w+Selector|call)"')
+_NODE = re.compile(r'"type":"(?:aggregation|unaryExpr|binaryExpr|parenExpr|subquery|\w+Literal|\w+Selector|call)"', re.ASCII)
 
 
 def describe(query: str) -> Dict[str, Any]:
@@ -72,9 +73,9 @@ def _error(error: QueryError) -> Dict[str, Any]:
 
 
 def _drawing(query: str) -> Dict[str, Any]:
-    text, result = _library.print_query(query.encode(), _library.Mode.JSON)
-    if result.status != _library.Status.OK:
-        return {"drawing": None, "note": f"no tree to draw: {text.decode()}"}
+    text = calls.json(query)
+    if not isinstance(text, str):
+        return {"drawing": None, "note": f"no tree to draw: {text[1]}"}
     nodes = sum(1 for _ in _NODE.finditer(text))
     if nodes > MAX_NODES:
         return {"drawing": None, "note": f"too large to draw: {nodes:,} nodes"}

@@ -64,7 +64,7 @@ def made_up_lines():
         try:
             query = json.loads(line)
             yield query, line_of(promql.parse(query))
-        except (ValueError, AttributeError, RecursionError):
+        except (ValueError, TypeError, RecursionError):
             pass
 
 

@@ -16,7 +16,8 @@ import xml.etree.ElementTree as ElementTree
 from pathlib import Path
 
 import promql
-from promql import _library, drawing, page
+from promql import drawing, page
+from promql._calls import calls
 from promql.visible import visible
 from serving import enter, served
 from test_promql import BROKEN, broken
@@ -153,7 +154,7 @@ class Queries(Served):
             'foo{type="call",b="\\"type\\":\\"call\\""}[5m]',
             "-sum by (type) (a) / (time() > bool -1 ^ a) or topk(2, rate(b[1m:]))",
         ):
-            text = _library.print_query(query.encode(), _library.Mode.JSON)[0]
+            text = calls.json(query)
             self.assertEqual(len(page._NODE.findall(text)), len(drawing.layout(json.loads(text))))
 
     def test_threads(self):

@@ -173,7 +173,7 @@ class Errors(unittest.TestCase):
             promql.canonical("\ud800")
 
     def test_statuses(self):
-        self.assertEqual(_library.canonical(b"\xff")[1].status, Status.NOT_UTF8)
+        self.assertEqual(_library.print_query(b"\xff", Mode.LINE)[1].status, Status.NOT_UTF8)
         self.assertEqual(_library.call("promql_print", 0, b"1", 1, 3, 0, 0)[1].status, Status.UNKNOWN_MODE)
         self.assertEqual(_library.call("promql_check", 0, None, 1)[1].status, Status.BAD_POINTER)
         self.assertEqual(_library.call("promql_check", 0, None, 0)[1].status, Status.REJECTED)
@@ -198,13 +198,14 @@ class Broken(unittest.TestCase):
         generator = random.Random(7)
         for _ in range(BROKEN):
             text = broken(generator)
-            checked, line = _library.check(text), _library.canonical(text)
+            checked = _library.call("promql_check", 0, text, len(text))
+            line = _library.call("promql_canonical", 2 * len(text), text, len(text))
             layout, tree = _library.print_query(text, Mode.PRETTY, 1, 20), _library.print_query(text, Mode.JSON)
             status = line[1].status
             self.assertIn(status, (Status.OK, Status.NOT_UTF8, Status.REJECTED), text)
             self.assertEqual((checked[1].status, layout[1].status), (status, status), text)
             if status == Status.OK:
-                self.assertEqual(_library.canonical(line[0])[0], line[0], text)
+                self.assertEqual(_library.print_query(line[0], Mode.LINE)[0], line[0], text)
                 self.assertEqual(layout[0].translate(None, b" \n"), line[0].translate(None, b" \n"), text)
                 self.assertIn(tree[1].status, (Status.OK, Status.NUMBER_TOO_WIDE), text)
             else:

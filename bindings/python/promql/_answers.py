@@ -1,0 +1,77 @@
+"""What the calls of the library give, whether the extension makes them (_native.c) or ctypes (_library.py): promql.h says what each does."""
+
+from __future__ import annotations
+
+import os
+from enum import IntEnum
+from pathlib import Path
+from typing import Iterable, List, Optional, Protocol, Tuple, Union
+
+
+class Status(IntEnum):
+    OK = 0
+    OUT_OF_MEMORY = 1
+    NOT_UTF8 = 3
+    REJECTED = 4
+    NUMBER_TOO_WIDE = 6
+    BUFFER_TOO_SMALL = 8
+    UNKNOWN_MODE = 9
+    BAD_POINTER = 10
+    BAD_MATCHER = 11
+    UNFAITHFUL = 12
+    BARE_INFO = 13
+    TOO_LARGE = 14
+    SMALL_STACK = 15
+    LARGE_ENFORCED = 16
+
+
+class Mode(IntEnum):
+    LINE = 0
+    PRETTY = 1
+    JSON = 2
+
+
+# The status of a call that has no text, its message, and the start, the end, the line and the column of its place; all in bytes.
+Failure = Tuple[int, str, int, int, int, int]
+# The text of a call, or why there is none.
+Answer = Union[str, Failure]
+# The lines of many queries, with None where there is none; and for each of these its number, the query, and why, or None where it has a
+# surrogate.
+Lines = Tuple[List[Optional[str]], List[Tuple[int, str, Optional[Failure]]]]
+
+
+class Calls(Protocol):
+    """The calls over texts. Each raises TypeError where a text is no str, UnicodeEncodeError where it has a surrogate, and MemoryError."""
+
+    def canonical(self, query: str, /) -> Answer: ...
+
+    def canonical_many(self, queries: Iterable[str], /) -> Lines: ...
+
+    def check(self, query: str, /) -> Answer: ...
+
+    def collect(self, query: str, /) -> Answer: ...
+
+    def enforce(self, query: str, matcher: str, /) -> Answer: ...
+
+    def format(self, query: str, level: int, width: int, /) -> Answer: ...
+
+    def json(self, query: str, /) -> Answer: ...
+
+    def set_limits(self, max_len: int, max_pattern_size: int, /) -> None: ...
+
+    def snippet(self, query: str, start: int, end: int, /) -> Answer: ...
+
+    def version(self) -> Answer: ...
+
+
+def library_path() -> Path:
+    """The library of the variable PROMQL_LIBRARY, that of the package, or in a checkout that of its dist/."""
+    named = os.environ.get("PROMQL_LIBRARY")
+    return Path(named) if named else packaged("libpromql.so")
+
+
+def packaged(name: str) -> Path:
+    """A file that was built for the package: beside this one, or in a checkout in its dist/."""
+    here = Path(__file__).resolve()
+    own = here.with_name(name)
+    return own if own.is_file() else here.parents[3] / "dist" / name

@@ -1,0 +1,495 @@
+/* The calls of libpromql.so over str, for CPython 3.8 and later: what _library.py does by ctypes, in less time. A function returns the
+ * text of its call as a str; where there is none a tuple (status, message, start, end, line, column), of which _answers.py tells more.
+ *
+ * Only the limited API of Python 3.8 is used, so that one file serves all versions. Its functions are called, and not its macros, where
+ * these are other code in other versions. */
+#define Py_LIMITED_API 0x03080000
+#define PY_SSIZE_T_CLEAN
+#include <Python.h>
+
+#include "promql.h"
+
+#include <dlfcn.h>
+#include <string.h>
+
+/* Room for the text of most queries, and how many queries canonical_many reads at once, of at most so many bytes together. */
+enum { SMALL_ROOM = 4096, FIRST_ROOM = 1024, BATCH = 64, BATCH_BYTES = 65536 };
+
+/* The lock of the interpreter is kept for a query of at most so many bytes (docs/guide/bindings.md, "Threads"). */
+enum { MOST_WITH_LOCK = 1024 };
+
+/* The calls of promql.h, of the library that `load` opened. */
+struct library {
+    __typeof__(promql_print) *print;
+    __typeof__(promql_canonical) *canonical;
+    __typeof__(promql_enforce) *enforce;
+    __typeof__(promql_collect) *collect;
+    __typeof__(promql_check) *check;
+    __typeof__(promql_snippet) *snippet;
+    __typeof__(promql_version) *version;
+    __typeof__(promql_set_limits) *set_limits;
+};
+
+enum call { PRINT, CANONICAL, ENFORCE, COLLECT, CHECK, SNIPPET, VERSION };
+
+/* A call with what it is given. `room` is how many bytes of text are likely for each byte of the query. */
+struct request {
+    enum call call;
+    size_t room;
+    const char *query;
+    size_t query_length;
+    const char *matcher;
+    size_t matcher_length;
+    uint32_t mode;
+    uint32_t level;
+    size_t width;
+    size_t start;
+    size_t end;
+};
+
+static uint32_t make_call(const struct library *library, const struct request *request, char *buffer, size_t size,
+                          struct promql_result *result)
+{
+    const char *query = request->query;
+    size_t length = request->query_length;
+    switch (request->call) {
+    case PRINT:
+        return library->print(query, length, request->mode, request->level, request->width, buffer, size, result);
+    case CANONICAL:
+        return library->canonical(query, length, buffer, size, result);
+    case ENFORCE:
+        return library->enforce(query, length, request->matcher, request->matcher_length, buffer, size, result);
+    case COLLECT:
+        return library->collect(query, length, buffer, size, result);
+    case CHECK:
+        return library->check(query, length, buffer, size, result);
+    case SNIPPET:
+        return library->snippet(query, length, request->start, request->end, buffer, size, result);
+    default:
+        return library->version(buffer, size, result);
+    }
+}
+
+/* ---- texts of Python */
+
+/* The library of the module, or NULL with an error where `load` was not called. */
+static const struct library *library_of(PyObject *module)
+{
+    const struct library *library = PyModule_GetState(module);
+    if (library == NULL || library->print == NULL) {
+        PyErr_SetString(PyExc_RuntimeError, "the library is not loaded");
+        return NULL;
+    }
+    return library;
+}
+
+/* A new reference to the bytes of a str, or NULL with an error. */
+static PyObject *encode(PyObject *text)
+{
+    if (!PyUnicode_Check(text)) {
+        PyObject *type = PyObject_Type(text);
+        PyErr_Format(PyExc_TypeError, "expected a str, got %R", type);
+        Py_DecRef(type);
+        return NULL;
+    }
+    return PyUnicode_AsUTF8String(text);
+}
+
+/* The str of a call's text, or the tuple of its error. */
+static PyObject *text_or_failure(const char *text, const struct promql_result *result)
+{
+    PyObject *decoded = PyUnicode_DecodeUTF8(text, (Py_ssize_t)result->length, NULL);
+    if (decoded == NULL || result->status == PROMQL_OK)
+        return decoded;
+    return Py_BuildValue("(INnnnn)", (unsigned int)result->status, decoded, (Py_ssize_t)result->start, (Py_ssize_t)result->end,
+                         (Py_ssize_t)result->line, (Py_ssize_t)result->column);
+}
+
+/* ---- one call */
+
+/* A buffer, which is at first on the stack. */
+struct room {
+    char *start;
+    size_t size;
+    char small[SMALL_ROOM];
+};
+
+static void leave_room(struct room *room)
+{
+    if (room->start != room->small)
+        PyMem_Free(room->start);
+}
+
+/* Makes room for at least so many bytes, and keeps none of those that it has. Returns 0, or -1 with an error. */
+static int make_room(struct room *room, size_t size)
+{
+    char *start;
+    leave_room(room);
+    room->start = room->small;
+    room->size = SMALL_ROOM;
+    if (size <= SMALL_ROOM)
+        return 0;
+    start = PyMem_Malloc(size);
+    if (start == NULL) {
+        PyErr_NoMemory();
+        return -1;
+    }
+    room->start = start;
+    room->size = size;
+    return 0;
+}
+
+/* Whether the call takes less time than another thread waits for the lock before it asks for it, 5 milliseconds: so a short query, which has
+ * no pattern, whose text is neither laid out nor has a matcher in each selector. */
+static int is_quick(const struct request *request)
+{
+    if (request->matcher != NULL || request->mode == PROMQL_PRETTY || request->query_length > MOST_WITH_LOCK)
+        return 0;
+    return request->query_length == 0 || memchr(request->query, '~', request->query_length) == NULL;
+}
+
+static void call_with_room(const struct library *library, const struct request *request, struct room *room,
+                           struct promql_result *result)
+{
+    if (is_quick(request)) {
+        make_call(library, request, room->start, room->size, result);
+        return;
+    }
+    Py_BEGIN_ALLOW_THREADS
+    make_call(library, request, room->start, room->size, result);
+    Py_END_ALLOW_THREADS
+}
+
+/* Makes the call with a buffer that is large enough, and returns its text or its error. */
+static PyObject *answer(const struct library *library, const struct request *request)
+{
+    struct room room;
+    struct promql_result result = {.length = FIRST_ROOM + request->room * request->query_length};
+    PyObject *made = NULL;
+    int status;
+    room.start = room.small;
+    do {
+        status = make_room(&room, result.length);
+        if (status == 0)
+            call_with_room(library, request, &room, &result);
+    } while (status == 0 && result.length > room.size);
+    if (status == 0)
+        made = text_or_failure(room.start, &result);
+    leave_room(&room);
+    return made;
+}
+
+/* The answer to a request about a query, which has all but its bytes. */
+static PyObject *answer_about(PyObject *module, PyObject *query, struct request request)
+{
+    const struct library *library = library_of(module);
+    PyObject *encoded = library == NULL ? NULL : encode(query);
+    PyObject *made;
+    if (encoded == NULL)
+        return NULL;
+    request.query = PyBytes_AsString(encoded);
+    request.query_length = (size_t)PyBytes_Size(encoded);
+    made = answer(library, &request);
+    Py_DecRef(encoded);
+    return made;
+}
+
+static PyObject *canonical(PyObject *module, PyObject *query)
+{
+    return answer_about(module, query, (struct request){.call = CANONICAL, .room = 2});
+}
+
+static PyObject *collect(PyObject *module, PyObject *query)
+{
+    return answer_about(module, query, (struct request){.call = COLLECT, .room = 4});
+}
+
+static PyObject *check(PyObject *module, PyObject *query)
+{
+    return answer_about(module, query, (struct request){.call = CHECK});
+}
+
+static PyObject *json(PyObject *module, PyObject *query)
+{
+    return answer_about(module, query, (struct request){.call = PRINT, .mode = PROMQL_JSON, .room = 32});
+}
+
+static PyObject *format(PyObject *module, PyObject *arguments)
+{
+    PyObject *query;
+    unsigned int level;
+    unsigned long long width;
+    if (!PyArg_ParseTuple(arguments, "OIK", &query, &level, &width))
+        return NULL;
+    return answer_about(module, query,
+                        (struct request){.call = PRINT, .mode = PROMQL_PRETTY, .level = level, .width = (size_t)width, .room = 4});
+}
+
+static PyObject *snippet(PyObject *module, PyObject *arguments)
+{
+    PyObject *query;
+    unsigned long long start, end;
+    if (!PyArg_ParseTuple(arguments, "OKK", &query, &start, &end))
+        return NULL;
+    return answer_about(module, query, (struct request){.call = SNIPPET, .start = (size_t)start, .end = (size_t)end, .room = 2});
+}
+
+static PyObject *enforce(PyObject *module, PyObject *arguments)
+{
+    const struct library *library = library_of(module);
+    PyObject *query, *matcher, *encoded, *encoded_matcher, *made = NULL;
+    struct request request = {.call = ENFORCE, .room = 2};
+    if (library == NULL || !PyArg_ParseTuple(arguments, "OO", &query, &matcher) || (encoded = encode(query)) == NULL)
+        return NULL;
+    encoded_matcher = encode(matcher);
+    if (encoded_matcher != NULL) {
+        request.query = PyBytes_AsString(encoded);
+        request.query_length = (size_t)PyBytes_Size(encoded);
+        request.matcher = PyBytes_AsString(encoded_matcher);
+        request.matcher_length = (size_t)PyBytes_Size(encoded_matcher);
+        made = answer(library, &request);
+        Py_DecRef(encoded_matcher);
+    }
+    Py_DecRef(encoded);
+    return made;
+}
+
+static PyObject *version(PyObject *module, PyObject *nothing)
+{
+    const struct library *library = library_of(module);
+    struct request request = {.call = VERSION};
+    (void)nothing;
+    return library == NULL ? NULL : answer(library, &request);
+}
+
+static PyObject *set_limits(PyObject *module, PyObject *arguments)
+{
+    const struct library *library = library_of(module);
+    unsigned long long max_len, max_pattern_size;
+    if (library == NULL || !PyArg_ParseTuple(arguments, "KK", &max_len, &max_pattern_size))
+        return NULL;
+    library->set_limits((size_t)max_len, (size_t)max_pattern_size);
+    return Py_BuildValue("");
+}
+
+/* ---- many queries */
+
+/* Queries that are read together, while the lock is released. One that has no bytes in UTF-8 has NULL for them. */
+struct batch {
+    Py_ssize_t count;
+    size_t bytes;
+    PyObject *queries[BATCH];
+    PyObject *encoded[BATCH];
+    const char *starts[BATCH];
+    size_t lengths[BATCH];
+    struct promql_result results[BATCH];
+};
+
+static void empty_batch(struct batch *batch)
+{
+    for (Py_ssize_t i = 0; i < batch->count; i++) {
+        Py_DecRef(batch->queries[i]);
+        Py_DecRef(batch->encoded[i]);
+    }
+    batch->count = 0;
+    batch->bytes = 0;
+}
+
+/* Puts a query, whose reference it takes, into the batch. Returns 0, or -1 with an error. */
+static int add_query(struct batch *batch, PyObject *query)
+{
+    PyObject *encoded = encode(query);
+    if (encoded == NULL && !PyErr_ExceptionMatches(PyExc_UnicodeEncodeError)) {
+        Py_DecRef(query);
+        return -1;
+    }
+    PyErr_Clear();
+    batch->queries[batch->count] = query;
+    batch->encoded[batch->count] = encoded;
+    batch->starts[batch->count] = encoded == NULL ? NULL : PyBytes_AsString(encoded);
+    batch->lengths[batch->count] = encoded == NULL ? 0 : (size_t)PyBytes_Size(encoded);
+    batch->bytes += batch->lengths[batch->count];
+    batch->count++;
+    return 0;
+}
+
+/* Takes queries from the iterator until the batch is full. Returns 0, or -1 with an error. */
+static int fill_batch(struct batch *batch, PyObject *iterator)
+{
+    while (batch->count < BATCH && batch->bytes < BATCH_BYTES) {
+        PyObject *query = PyIter_Next(iterator);
+        if (query == NULL)
+            return PyErr_Occurred() ? -1 : 0;
+        if (add_query(batch, query) != 0)
+            return -1;
+    }
+    return 0;
+}
+
+/* Prints the queries from `first` on into the room, one after the other, as far as it goes. Returns the number of the first whose text does
+ * not fit, and needs the room of its result; or how many there are. */
+static Py_ssize_t print_batch(const struct library *library, struct batch *batch, Py_ssize_t first, struct room *room)
+{
+    size_t used = 0;
+    Py_ssize_t i;
+    for (i = first; i < batch->count; i++) {
+        struct promql_result *result = &batch->results[i];
+        *result = (struct promql_result){.status = PROMQL_NOT_UTF8};
+        if (batch->starts[i] != NULL)
+            library->canonical(batch->starts[i], batch->lengths[i], room->start + used, room->size - used, result);
+        if (result->length > room->size - used)
+            break;
+        used += result->length;
+    }
+    return i;
+}
+
+/* Adds a line, or None and the number, the query and the error to the failures. Returns 0, or -1 with an error. */
+static int add_line(PyObject *lines, PyObject *failures, PyObject *query, PyObject *made)
+{
+    PyObject *failure;
+    int status;
+    if (PyUnicode_Check(made))
+        return PyList_Append(lines, made);
+    failure = Py_BuildValue("(nOO)", PyList_Size(lines), query, made);
+    status = failure == NULL ? -1 : PyList_Append(failures, failure);
+    Py_DecRef(failure);
+    return status == 0 ? PyList_Append(lines, Py_None) : -1;
+}
+
+/* Adds what the queries from `first` up to `end` gave. Returns 0, or -1 with an error. */
+static int add_lines(PyObject *lines, PyObject *failures, const struct batch *batch, Py_ssize_t first, Py_ssize_t end,
+                     const char *text)
+{
+    for (Py_ssize_t i = first; i < end; i++) {
+        const struct promql_result *result = &batch->results[i];
+        PyObject *made = batch->encoded[i] == NULL ? Py_BuildValue("") : text_or_failure(text, result);
+        int status = made == NULL ? -1 : add_line(lines, failures, batch->queries[i], made);
+        Py_DecRef(made);
+        if (status != 0)
+            return -1;
+        text += result->length;
+    }
+    return 0;
+}
+
+/* Adds what the queries of the batch give. Returns 0, or -1 with an error. */
+static int add_batch(const struct library *library, struct batch *batch, struct room *room, PyObject *lines, PyObject *failures)
+{
+    Py_ssize_t first = 0;
+    while (first < batch->count) {
+        Py_ssize_t end;
+        Py_BEGIN_ALLOW_THREADS
+        end = print_batch(library, batch, first, room);
+        Py_END_ALLOW_THREADS
+        if (add_lines(lines, failures, batch, first, end, room->start) != 0)
+            return -1;
+        if (end < batch->count && batch->results[end].length > room->size && make_room(room, batch->results[end].length) != 0)
+            return -1;
+        first = end;
+    }
+    return PyErr_CheckSignals();
+}
+
+static int add_all(const struct library *library, PyObject *iterator, PyObject *lines, PyObject *failures)
+{
+    struct batch batch;
+    struct room room;
+    int status;
+    batch.count = 0;
+    batch.bytes = 0;
+    room.start = room.small;
+    status = make_room(&room, BATCH_BYTES);
+    while (status == 0) {
+        status = fill_batch(&batch, iterator);
+        if (status != 0 || batch.count == 0)
+            break;
+        status = add_batch(library, &batch, &room, lines, failures);
+        empty_batch(&batch);
+    }
+    empty_batch(&batch);
+    leave_room(&room);
+    return status;
+}
+
+/* The lines of all queries, with None where there is none, and for each of these its number, the query, and the error; None for a query that
+ * has no bytes in UTF-8. */
+static PyObject *canonical_many(PyObject *module, PyObject *queries)
+{
+    const struct library *library = library_of(module);
+    PyObject *iterator = library == NULL ? NULL : PyObject_GetIter(queries);
+    PyObject *lines = PyList_New(0), *failures = PyList_New(0), *made = NULL;
+    if (iterator != NULL && lines != NULL && failures != NULL && add_all(library, iterator, lines, failures) == 0)
+        made = Py_BuildValue("(OO)", lines, failures);
+    Py_DecRef(iterator);
+    Py_DecRef(lines);
+    Py_DecRef(failures);
+    return made;
+}
+
+/* ---- the module */
+
+/* Finds a call of the library. Returns 0, or -1 with an error. */
+static int find(void *handle, const char *name, void *function)
+{
+    void *found = dlsym(handle, name);
+    if (found == NULL) {
+        PyErr_Format(PyExc_ImportError, "the library has no %s", name);
+        return -1;
+    }
+    memcpy(function, &found, sizeof found);
+    return 0;
+}
+
+/* Opens the library at a path, which is never closed. */
+static PyObject *load(PyObject *module, PyObject *path)
+{
+    struct library *library = PyModule_GetState(module), found;
+    char *name = PyBytes_AsString(path);
+    void *handle;
+    if (name == NULL)
+        return NULL;
+    if (library == NULL)
+        return PyErr_Format(PyExc_RuntimeError, "the module is not executed");
+    handle = dlopen(name, RTLD_NOW | RTLD_LOCAL);
+    if (handle == NULL)
+        return PyErr_Format(PyExc_ImportError, "%s", dlerror());
+    if (find(handle, "promql_print", &found.print) || find(handle, "promql_canonical", &found.canonical) ||
+        find(handle, "promql_enforce", &found.enforce) || find(handle, "promql_collect", &found.collect) ||
+        find(handle, "promql_check", &found.check) || find(handle, "promql_snippet", &found.snippet) ||
+        find(handle, "promql_version", &found.version) || find(handle, "promql_set_limits", &found.set_limits))
+        return NULL;
+    *library = found;
+    return Py_BuildValue("");
+}
+
+static PyMethodDef methods[] = {
+    {"load", load, METH_O, "Opens the library at this path, in bytes."},
+    {"canonical", canonical, METH_O, NULL},
+    {"canonical_many", canonical_many, METH_O, NULL},
+    {"check", check, METH_O, NULL},
+    {"collect", collect, METH_O, NULL},
+    {"enforce", enforce, METH_VARARGS, NULL},
+    {"format", format, METH_VARARGS, NULL},
+    {"json", json, METH_O, NULL},
+    {"set_limits", set_limits, METH_VARARGS, NULL},
+    {"snippet", snippet, METH_VARARGS, NULL},
+    {"version", version, METH_NOARGS, NULL},
+    {NULL, NULL, 0, NULL},
+};
+
+static PyModuleDef_Slot slots[] = {{0, NULL}};
+
+static struct PyModuleDef definition = {
+    PyModuleDef_HEAD_INIT,
+    .m_name = "promql._native",
+    .m_doc = "The calls of libpromql.so over str.",
+    .m_size = sizeof(struct library),
+    .m_methods = methods,
+    .m_slots = slots,
+};
+
+PyMODINIT_FUNC PyInit__native(void)
+{
+    return PyModuleDef_Init(&definition);
+}
