@@ -99,6 +99,18 @@ python_with_schemas() {
     return 1
 }
 
+# python_with_setuptools: prints which Python can build a wheel of the package without a network.
+python_with_setuptools() {
+    local python
+    for python in python3 /usr/bin/python3; do
+        if "$python" -c 'import setuptools as it, pip, venv, wheel; assert int(it.__version__.split(".")[0]) >= 64' 2>/dev/null; then
+            echo "$python"
+            return
+        fi
+    done
+    return 1
+}
+
 # install_missing: installs the packages of Debian whose commands are missing here.
 install_missing() {
     local -a missing=()
@@ -108,6 +120,7 @@ install_missing() {
     command -v valgrind >/dev/null || missing+=(valgrind)
     python_with_yaml >/dev/null || missing+=(python3-ruamel.yaml)
     python_with_schemas >/dev/null || missing+=(python3-jsonschema)
+    python_with_setuptools >/dev/null || missing+=(python3-pip python3-setuptools python3-wheel python3-venv)
     [ -f "$(python_headers)/Python.h" ] || missing+=(python3-dev)
     python3 -c 'import pytest' 2>/dev/null || missing+=(python3-pytest)
     python3 -c 'import mypy' 2>/dev/null || missing+=(mypy)
@@ -253,8 +266,8 @@ test_sanitized() {
 
 # The package as pip installs it, in a folder of its own.
 install_wheel() {
-    python3 -m pip wheel --quiet --no-deps --no-index --wheel-dir "$work/wheels" "$here/python" &&
-        python3 -m pip install --quiet --no-deps --no-index --target "$work/site" "$work"/wheels/promql-*.whl
+    "$python" -m pip wheel --quiet --no-build-isolation --no-deps --no-index --wheel-dir "$work/wheels" "$here/python" &&
+        "$python" -m pip install --quiet --no-deps --no-index --target "$work/site" "$work"/wheels/promql-*.whl
 }
 
 # in_python FOLDER ARGUMENT..: Python, or the one that the variable python names, which finds the package in this folder.
@@ -358,9 +371,19 @@ test_python() {
     if has "${CHROMIUM:-chromium}" 'the page in Chromium'; then add 'the page in Chromium' unit_tests "$here/python" browser.py; fi
     add 'rows for Python, and again in eight threads' in_python "$here/python" "$here/rows.py" python 8
     PROMQL_EXTENSION='' add 'rows for Python by ctypes' in_python "$here/python" "$here/rows.py" python
-    has_module pip 'the wheel' || return
-    try 'the wheel' install_wheel
-    if [ -d "$work/site" ]; then PROMQL_BROKEN=1000 add 'Python, as pip installs it' unit_tests "$work/site"; fi
+    test_wheel
+}
+
+test_wheel() {
+    local python
+    if ! python=$(python_with_setuptools); then
+        echo 'not tried: the wheel: no Python here has pip, setuptools of 64 or later, and wheel'
+        return
+    fi
+    export python
+    add "the wheel, by $python" unit_tests "$here/python" wheels.py
+    try "installing the wheel, by $python" install_wheel
+    if [ -d "$work/site" ]; then PROMQL_BROKEN=1000 add "Python, as pip installs it, by $python" unit_tests "$work/site"; fi
 }
 
 # ---- scripts of bin/
