@@ -46,7 +46,7 @@ TEXT = "another text of a name, a label, a value or a string"
 ALIKE = "another operator, time, mode or number of the same sort"
 LITERAL = "a literal of the other kind, where its text is both"
 MISSING = "a part that is missing"
-ARGUMENT = "an argument more, or one of another type"
+ARGUMENT = "an argument of another type"
 UNSEEN = (TEXT, ALIKE, LITERAL, MISSING, ARGUMENT)
 # Words of the same sort, and texts that may be any.
 PAIRS = (("sum", "avg"), ("topk", "bottomk"), ("+", "*"), ("==", ">"), ("and", "or"), ("start", "end"), ("smoothed", "anchored"))
@@ -84,7 +84,7 @@ def changes(form):
     """Yields what each change of a form is, and the changed form."""
     for path, kind in objects_in(form):
         node = object_at(form, path)
-        for change in (changed_members, changed_types, changed_words, changed_numbers, broken_relations, unseen_changes):
+        for change in CHANGES:
             for what, changed in change(kind, node):
                 yield f"{kind}: {what}" if what not in UNSEEN else what, replaced(form, path, changed)
 
@@ -133,6 +133,18 @@ def changed_numbers(kind, node):
                     yield f"{member} {number}", {**node, member: number}
 
 
+def changed_arguments(kind, node):
+    """A call has too few arguments or too many (docs/reference/functions.md, "Number of arguments")."""
+    if kind == "call":
+        types, variadic, arguments = len(node["func"]["argTypes"]), node["func"]["variadic"], node["args"]
+        least = types if variadic == 0 else max(types - 1, 0)
+        for count in range(least):
+            yield f"{count} arguments", {**node, "args": arguments[:count]}
+        if variadic >= 0:
+            more = [{"type": "numberLiteral", "val": "1"}] * (least + variadic + 1)
+            yield "too many arguments", {**node, "args": [*arguments, *more][: least + variadic + 1]}
+
+
 def broken_relations(kind, node):
     """Members that do not go together."""
     if kind == "aggregation":
@@ -172,5 +184,9 @@ def unseen_changes(kind, node):
             yield MISSING, {**node, member: None}
     if kind == "stringLiteral" and NUMBER.fullmatch(node["val"]) or kind == "numberLiteral":
         yield LITERAL, {**node, "type": "stringLiteral" if kind == "numberLiteral" else "numberLiteral"}
-    if kind == "call":
-        yield ARGUMENT, {**node, "args": [*node["args"], {"type": "stringLiteral", "val": "x"}]}
+    if kind == "call" and node["args"]:
+        other = "numberLiteral" if node["args"][0]["type"] == "stringLiteral" else "stringLiteral"
+        yield ARGUMENT, {**node, "args": [{"type": other, "val": "1"}, *node["args"][1:]]}
+
+
+CHANGES = (changed_members, changed_types, changed_words, changed_numbers, changed_arguments, broken_relations, unseen_changes)

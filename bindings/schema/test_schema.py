@@ -84,6 +84,8 @@ def shapes_in(form):
 def shape(value):
     if isinstance(value, list):
         return tuple(type(item).__name__ for item in value[:2])
+    if isinstance(value, dict) and "variadic" in value:
+        return len(value["argTypes"]), value["variadic"]
     return type(value).__name__
 
 
