@@ -7,8 +7,10 @@ from typing import Any, Iterable, List, Optional, Tuple
 
 from ._answers import Answer, Failure, Lines, Mode, Status, library_path
 
-# Most texts have fewer bytes than these and so many for each byte of the query, so that a call is made once.
+# Most texts have fewer bytes than these and so many for each byte of the query, so that a call is made once. Of those for the query there
+# are at most so many, so that one that is too large takes little more than itself.
 FIRST_SIZE = 1024
+MOST_ROOM = 16_777_216
 # How much room a text of each mode has at first, for each byte of the query.
 _ROOM = {Mode.LINE: 2, Mode.PRETTY: 4, Mode.JSON: 32}
 
@@ -59,7 +61,7 @@ _library = load()
 
 def call(name: str, room: int, *arguments: Any) -> Tuple[bytes, Result]:
     """Makes a call with a buffer that is large enough, at first with this room, and returns the text and the result."""
-    function, result, size = getattr(_library, name), Result(), FIRST_SIZE + room
+    function, result, size = getattr(_library, name), Result(), FIRST_SIZE + min(room, MOST_ROOM)
     while True:
         buffer = ctypes.create_string_buffer(size)
         function(*arguments, buffer, size, ctypes.byref(result))

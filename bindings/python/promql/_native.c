@@ -12,8 +12,12 @@
 #include <dlfcn.h>
 #include <string.h>
 
-/* Room for the text of most queries, and how many queries canonical_many reads at once, of at most so many bytes together. */
-enum { SMALL_ROOM = 4096, FIRST_ROOM = 1024, BATCH = 64, BATCH_BYTES = 65536 };
+/* Bytes of room on the stack; of the first room for a text, beside what is likely for each byte of its query; and the most of that, so that a
+ * query that is too large takes little more than itself. */
+enum { SMALL_ROOM = 4096, FIRST_ROOM = 1024, MOST_LIKELY = 16777216 };
+
+/* How many queries canonical_many reads at once, of at most so many bytes together. */
+enum { BATCH = 64, BATCH_BYTES = 65536 };
 
 /* The lock of the interpreter is kept for a query of at most so many bytes (docs/guide/bindings.md, "Threads"). */
 enum { MOST_WITH_LOCK = 1024 };
@@ -86,12 +90,8 @@ static const struct library *library_of(PyObject *module)
 /* A new reference to the bytes of a str, or NULL with an error. */
 static PyObject *encode(PyObject *text)
 {
-    if (!PyUnicode_Check(text)) {
-        PyObject *type = PyObject_Type(text);
-        PyErr_Format(PyExc_TypeError, "expected a str, got %R", type);
-        Py_DecRef(type);
-        return NULL;
-    }
+    if (!PyUnicode_Check(text))
+        return PyErr_Format(PyExc_TypeError, "expected a str, got %R", Py_TYPE(text));
     return PyUnicode_AsUTF8String(text);
 }
 
@@ -139,8 +139,14 @@ static int make_room(struct room *room, size_t size)
     return 0;
 }
 
-/* Whether the call takes less time than another thread waits for the lock before it asks for it, 5 milliseconds: so a short query, which has
- * no pattern, whose text is neither laid out nor has a matcher in each selector. */
+static size_t first_room(const struct request *request)
+{
+    size_t likely = request->room * request->query_length;
+    return FIRST_ROOM + (likely < MOST_LIKELY ? likely : MOST_LIKELY);
+}
+
+/* Whether the call takes less time than the 5 milliseconds that another thread waits for the lock before it asks for it: that is about a
+ * short query without a pattern, which is neither laid out nor gets a matcher. */
 static int is_quick(const struct request *request)
 {
     if (request->matcher != NULL || request->mode == PROMQL_PRETTY || request->query_length > MOST_WITH_LOCK)
@@ -164,7 +170,7 @@ static void call_with_room(const struct library *library, const struct request *
 static PyObject *answer(const struct library *library, const struct request *request)
 {
     struct room room;
-    struct promql_result result = {.length = FIRST_ROOM + request->room * request->query_length};
+    struct promql_result result = {.length = first_room(request)};
     PyObject *made = NULL;
     int status;
     room.start = room.small;
@@ -254,11 +260,10 @@ static PyObject *enforce(PyObject *module, PyObject *arguments)
     return made;
 }
 
-static PyObject *version(PyObject *module, PyObject *nothing)
+static PyObject *version(PyObject *module, PyObject *Py_UNUSED(nothing))
 {
     const struct library *library = library_of(module);
     struct request request = {.call = VERSION};
-    (void)nothing;
     return library == NULL ? NULL : answer(library, &request);
 }
 
@@ -478,15 +483,13 @@ static PyMethodDef methods[] = {
     {NULL, NULL, 0, NULL},
 };
 
-static PyModuleDef_Slot slots[] = {{0, NULL}};
-
 static struct PyModuleDef definition = {
     PyModuleDef_HEAD_INIT,
     .m_name = "promql._native",
     .m_doc = "The calls of libpromql.so over str.",
     .m_size = sizeof(struct library),
     .m_methods = methods,
-    .m_slots = slots,
+    .m_slots = (PyModuleDef_Slot[]){{0, NULL}},
 };
 
 PyMODINIT_FUNC PyInit__native(void)

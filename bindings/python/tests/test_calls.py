@@ -253,6 +253,23 @@ class Memory(unittest.TestCase):
             self.every_call()
         self.assertLess(tracemalloc.get_traced_memory()[0] - before, 4096)
 
+    def test_a_query_that_is_too_large(self):
+        query = "x" * 10_000_000
+        tracemalloc.start()
+        self.addCleanup(tracemalloc.stop)
+        for call in promql.parse, promql.canonical, promql.format, promql.check:
+            with self.assertRaises(promql.TooLargeError):
+                call(query)
+        self.assertLess(tracemalloc.get_traced_memory()[1], 60_000_000)
+
+    def test_large_texts(self):
+        """The text has more bytes than a room has at first."""
+        query = "label_join(a, 'b', 'c'" + ", 'd'" * 190_000 + ")"
+        literal = {"type": "stringLiteral", "val": "d"}
+        self.assertEqual(promql.parse(query)["args"][3:], [literal] * 190_000)
+        wide = "sum(a)" + "/sum(a)" * 100
+        self.assertEqual(promql.format(wide, level=512, width=0).replace(" ", "").replace("\n", ""), wide)
+
     def test_references(self):
         query = "".join(["a", " +b"])
         before = sys.getrefcount(query), sys.getrefcount(None)
