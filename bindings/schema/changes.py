@@ -3,7 +3,10 @@ schema does not see (UNSEEN)."""
 
 import re
 
-NODES = ("aggregation", "binaryExpr", "call", "matrixSelector", "numberLiteral", "parenExpr", "stringLiteral", "subquery", "unaryExpr", "vectorSelector")
+NODES = (
+    *("aggregation", "binaryExpr", "call", "matrixSelector", "numberLiteral"),
+    *("parenExpr", "stringLiteral", "subquery", "unaryExpr", "vectorSelector"),
+)
 # The objects that members have, where they have no nodes.
 PARTS = {
     "matchers": "matcher",

@@ -135,8 +135,10 @@ def canonical(query: str) -> str:
 
 
 def canonical_many(queries: Iterable[str]) -> List[Union[str, QueryError, UnicodeEncodeError]]:
-    """For each query what `canonical` returns, or the QueryError or UnicodeEncodeError that it raises, in the order of the queries: one that
-    is rejected does not end it. Any other error is raised, and no list is returned then. It takes less time than as many calls."""
+    """For each query what `canonical` returns, or the QueryError or UnicodeEncodeError that it raises, in the order of the queries.
+
+    So one that is rejected does not end it. Any other error is raised, and no list is returned then. It takes less time than as many calls.
+    """
     if isinstance(queries, str):
         raise TypeError("expected an iterable of str, got a str")
     lines, failures = _caller.canonical_many(queries)

@@ -1,4 +1,4 @@
-"""What the calls of the library give, whether the extension makes them (_native.c) or ctypes (_library.py): promql.h says what each does."""
+"""What the calls of the library give, by the extension (_native.c) or by ctypes (_library.py): promql.h says what each does."""
 
 from __future__ import annotations
 

@@ -12,8 +12,8 @@
 #include <dlfcn.h>
 #include <string.h>
 
-/* Bytes of room on the stack; of the first room for a text, beside what is likely for each byte of its query; and the most of that, so that a
- * query that is too large takes little more than itself. */
+/* Bytes of room on the stack; of the first room for a text, beside what is likely for each byte of its query; and the most of that, so that
+ * a query that is too large takes little more than itself. */
 enum { SMALL_ROOM = 4096, FIRST_ROOM = 1024, MOST_LIKELY = 16777216 };
 
 /* How many queries canonical_many reads at once, of at most so many bytes together. */
@@ -417,8 +417,8 @@ static int add_all(const struct library *library, PyObject *iterator, PyObject *
     return status;
 }
 
-/* The lines of all queries, with None where there is none, and for each of these its number, the query, and the error; None for a query that
- * has no bytes in UTF-8. */
+/* The lines of all queries, with None where there is none, and for each of these its number, the query, and the error: None for a query
+ * that has no bytes in UTF-8. */
 static PyObject *canonical_many(PyObject *module, PyObject *queries)
 {
     const struct library *library = library_of(module);

@@ -22,7 +22,10 @@ except ImportError:
 BROKEN = int(os.environ.get("PROMQL_BROKEN", "10000")) // 5
 NO_TEXTS = (None, 1, 0.5, b"up", b"\xff\xfe", bytearray(b"up"), ["up"], object(), str, memoryview(b"up"), (), {"up": 1})
 SURROGATES = ("\ud800", "a\udfff", "sum(a{b='\udc80'})", "\ud83d" + "a" * 5000)
-PIECES = ("sum", "(", ")", "{", "}", "[5m]", "a", "b", "=", '"', "'", "~", "!=", ",", " by ", "1", "é", "🦀", "\0", "\x7f", "\ud800", "\n", "@", "offset")
+PIECES = (
+    *("sum", "(", ")", "{", "}", "[5m]", "a", "b", "=", '"', "'", "~", "!=", ",", " by ", "1"),
+    *("é", "🦀", "\0", "\x7f", "\ud800", "\n", "@", "offset"),
+)
 # Each function of the calls with the arguments after the query.
 FUNCTIONS = (
     ("canonical",),
