@@ -366,6 +366,7 @@ test_go() {
     has go 'the binding for Go' || return
     try 'go vet' in_go . vet ./...
     add 'Go' go_tests
+    try 'the proxy in Go by the race detector' in_go . test -race ./cmd/promql-proxy/...
     try 'broken texts for Go by its fuzzer' in_go . test -run '^$' -fuzz FuzzQueries -fuzztime 10000x .
     try 'the programs for Go' in_go . build -o "$work/go_programs/" ./internal/rows ./internal/bench
     [ -x "$work/go_programs/rows" ] || return
@@ -412,7 +413,7 @@ test_attacks() {
     if has cargo 'small stacks for Rust'; then add 'small stacks for Rust' cargo_tests a_small_stack; fi
     if has go 'the proxy in Go'; then
         add 'small stacks for Go' go_tests . -run TestStacks
-        add 'the proxy in Go' go_tests ./examples/proxy
+        add 'the proxy in Go' go_tests ./cmd/promql-proxy/...
     fi
     has python3 'the page, the tools for rule files and the programs' || return
     add 'small stacks for Python' unit_tests "$here/python" test_promql.py -k Stacks

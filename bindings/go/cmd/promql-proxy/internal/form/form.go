@@ -1,0 +1,135 @@
+// Package form reads the parameters of a request: all of them, or an error. What is not read here gets nowhere.
+package form
+
+import (
+	"errors"
+	"fmt"
+	"io"
+	"mime"
+	"net/http"
+	"net/url"
+	"os"
+	"promql/cmd/promql-proxy/internal/failure"
+	"strings"
+	"unicode/utf8"
+)
+
+// MediaType is that of a body which is read.
+const MediaType = "application/x-www-form-urlencoded"
+
+// The most parameters of an address, and of a body, and the most bytes of one that has no limit of its own.
+const (
+	maxParameters = 1000
+	maxValue      = 4096
+)
+
+// Read returns the parameters of the address and those of the body, which has so many bytes at most. The body of a GET is not looked at:
+// it means nothing.
+func Read(w http.ResponseWriter, r *http.Request, maxBody int64) (address, body url.Values, failed *failure.Error) {
+	address, err := parse(r.URL.RawQuery)
+	if err != nil {
+		return nil, nil, failure.Bad(failure.Parameter, "the address: "+err.Error())
+	}
+	if r.Method == http.MethodGet {
+		return address, url.Values{}, nil
+	}
+	text, err := io.ReadAll(http.MaxBytesReader(w, r.Body, maxBody))
+	if err != nil {
+		return nil, nil, unread(err, maxBody)
+	}
+	if len(text) == 0 {
+		return address, url.Values{}, nil
+	}
+	if err := checkForm(r.Header); err != nil {
+		return nil, nil, failure.Bad(failure.Body, err.Error())
+	}
+	body, err = parse(string(text))
+	if err != nil {
+		return nil, nil, failure.Bad(failure.Parameter, "the body: "+err.Error())
+	}
+	return address, body, nil
+}
+
+func unread(err error, maxBody int64) *failure.Error {
+	var tooLarge *http.MaxBytesError
+	switch {
+	case errors.As(err, &tooLarge):
+		message := fmt.Sprintf("the body has more than %d bytes", maxBody)
+		return &failure.Error{Status: http.StatusRequestEntityTooLarge, Kind: failure.BadData, Reason: failure.Limit, Message: message}
+	case errors.Is(err, os.ErrDeadlineExceeded):
+		return &failure.Error{Status: http.StatusRequestTimeout, Kind: failure.Timeout, Reason: failure.Body, Message: "the body did not come in time"}
+	}
+	return failure.Bad(failure.Body, "the body cannot be read")
+}
+
+// checkForm says why the body is not a form that can be read as it is.
+func checkForm(header http.Header) error {
+	for _, encoding := range header.Values("Content-Encoding") {
+		if !strings.EqualFold(encoding, "identity") {
+			return fmt.Errorf("the body has a Content-Encoding")
+		}
+	}
+	types := header.Values("Content-Type")
+	if len(types) == 1 {
+		if found, _, err := mime.ParseMediaType(types[0]); err == nil && found == MediaType {
+			return nil
+		}
+	}
+	return fmt.Errorf("the body is not %s", MediaType)
+}
+
+func parse(text string) (url.Values, error) {
+	if strings.Count(text, "&") >= maxParameters {
+		return nil, fmt.Errorf("there are more than %d parameters", maxParameters)
+	}
+	values, err := url.ParseQuery(text)
+	if err != nil {
+		return nil, err
+	}
+	for name, all := range values {
+		for _, value := range append(all, name) {
+			if !utf8.ValidString(value) {
+				return nil, fmt.Errorf("a parameter is not UTF-8")
+			}
+		}
+	}
+	return values, nil
+}
+
+// Merge returns the parameters of both, those of the body first, as Prometheus reads them.
+func Merge(address, body url.Values) url.Values {
+	merged := url.Values{}
+	for _, values := range []url.Values{body, address} {
+		for name, all := range values {
+			merged[name] = append(merged[name], all...)
+		}
+	}
+	return merged
+}
+
+// Check says which parameter is neither one of those that may be there once, nor one of those that may be there several times, or is too
+// long. The texts of queries and selectors have limits of their own.
+func Check(values url.Values, once, several, texts map[string]bool) *failure.Error {
+	for name, all := range values {
+		switch {
+		case !once[name] && !several[name]:
+			return failure.Bad(failure.Parameter, fmt.Sprintf("the parameter %q is not passed on", shortened(name)))
+		case once[name] && len(all) != 1:
+			return failure.Bad(failure.Parameter, fmt.Sprintf("there has to be one parameter %q", name))
+		}
+		for _, value := range all {
+			if len(value) > maxValue && !texts[name] {
+				return failure.Bad(failure.Parameter, fmt.Sprintf("the parameter %q has more than %d bytes", name, maxValue))
+			}
+		}
+	}
+	return nil
+}
+
+// shortened returns a name of the client's for a message.
+func shortened(name string) string {
+	if len(name) <= 100 {
+		return name
+	}
+	return strings.ToValidUTF8(name[:100], "") + ".."
+}

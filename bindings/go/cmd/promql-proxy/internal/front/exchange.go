@@ -1,0 +1,183 @@
+package front
+
+import (
+	"context"
+	"errors"
+	"fmt"
+	"io"
+	"mime"
+	"net"
+	"net/http"
+	"net/url"
+	"promql/cmd/promql-proxy/internal/endpoint"
+	"promql/cmd/promql-proxy/internal/failure"
+	"promql/cmd/promql-proxy/internal/form"
+	"promql/cmd/promql-proxy/internal/tenant"
+	"promql/cmd/promql-proxy/internal/upstream"
+	"strings"
+	"time"
+)
+
+// exchange is a request and its response, and what the log and the metrics are told of it.
+type exchange struct {
+	*Front
+	http.ResponseWriter
+	request  *http.Request
+	begun    time.Time
+	endpoint string
+	tenant   tenant.Tenant
+	asked    []string
+	status   int
+	written  int64
+	gone     bool
+	failed   *failure.Error
+}
+
+// WriteHeader keeps the status.
+func (e *exchange) WriteHeader(status int) {
+	e.status = status
+	e.ResponseWriter.WriteHeader(status)
+}
+
+// Write counts the bytes, and keeps whether the client takes them.
+func (e *exchange) Write(text []byte) (int, error) {
+	written, err := e.ResponseWriter.Write(text)
+	e.written += int64(written)
+	e.gone = err != nil
+	return written, err
+}
+
+// serve answers the request, or says why not.
+func (e *exchange) serve() *failure.Error {
+	found, err := e.route()
+	if err != nil {
+		return err
+	}
+	address, body, err := form.Read(e.ResponseWriter, e.request, e.MaxBody)
+	if err != nil {
+		return err
+	}
+	e.asked = endpoint.Asked(address, body)
+	if e.tenant, err = e.Tenants.Of(e.request, address, body); err != nil {
+		return err
+	}
+	parameters, err := found.Parameters(address, body, e.tenant.Matcher())
+	if err != nil {
+		return err
+	}
+	// The request ends with the client's, so a client that leaves takes its query with it.
+	ctx, cancel := context.WithTimeout(e.request.Context(), e.Timeout)
+	defer cancel()
+	return e.pass(ctx, found, parameters)
+}
+
+// route finds the endpoint of the path as it was written.
+func (e *exchange) route() (*endpoint.Endpoint, *failure.Error) {
+	found := e.Table.Find(e.request.URL.EscapedPath())
+	if found == nil {
+		return nil, &failure.Error{Status: http.StatusNotFound, Kind: failure.NotFound, Reason: failure.Path, Message: "no such path"}
+	}
+	e.endpoint = found.Name
+	allowed := []string{http.MethodGet}
+	if found.Post {
+		allowed = append(allowed, http.MethodPost)
+	}
+	for _, method := range allowed {
+		if e.request.Method == method {
+			return found, nil
+		}
+	}
+	e.Header().Set("Allow", strings.Join(allowed, ", "))
+	message := "the method is not " + strings.Join(allowed, " or ")
+	return nil, &failure.Error{Status: http.StatusMethodNotAllowed, Kind: failure.BadData, Reason: failure.Method, Message: message}
+}
+
+// pass asks the server behind, and gives its answer back.
+func (e *exchange) pass(ctx context.Context, found *endpoint.Endpoint, parameters url.Values) *failure.Error {
+	question := upstream.Question{Method: e.request.Method, Path: e.request.URL.Path, Parameters: parameters}
+	if found.Filter == nil {
+		question.Client = e.request.Header
+	}
+	response, err := e.Upstream.Ask(ctx, question)
+	if err != nil {
+		return e.unanswered(ctx, err)
+	}
+	defer response.Body.Close()
+	e.Metrics.Upstream(response.StatusCode)
+	if response.StatusCode >= 400 && (found.Filter != nil || !isJSON(response)) {
+		return failedBehind(e.Header(), response)
+	}
+	if found.Filter != nil {
+		return e.filter(ctx, found, response)
+	}
+	upstream.CopyHeaders(e.Header(), response)
+	e.WriteHeader(response.StatusCode)
+	if _, err := io.Copy(e, response.Body); err != nil {
+		// The status is sent, so that the response is cut off is all that a client can be told.
+		e.failed = e.unanswered(ctx, err)
+		panic(http.ErrAbortHandler)
+	}
+	return nil
+}
+
+// filter answers with what the tenant may see.
+func (e *exchange) filter(ctx context.Context, found *endpoint.Endpoint, response *http.Response) *failure.Error {
+	text, err := upstream.ReadAll(response, e.MaxAnswer)
+	switch {
+	case errors.Is(err, upstream.ErrTooLarge):
+		message := fmt.Sprintf("the answer of the server behind has more than %d bytes", e.MaxAnswer)
+		return badGateway(failure.Limit, message, err)
+	case err != nil:
+		return e.unanswered(ctx, err)
+	}
+	kept, err := found.Filter(text, e.tenant.Allows)
+	if err != nil {
+		return badGateway(failure.Answer, "the answer of the server behind cannot be filtered", err)
+	}
+	e.Header().Set("Content-Type", "application/json")
+	e.WriteHeader(http.StatusOK)
+	// A client that is gone by now is not told.
+	_, _ = e.Write(kept)
+	return nil
+}
+
+// unanswered says why the server behind did not answer, or not to its end.
+func (e *exchange) unanswered(ctx context.Context, err error) *failure.Error {
+	var network net.Error
+	switch {
+	case e.gone || e.request.Context().Err() != nil:
+		return &failure.Error{Status: failure.ClientClosed, Kind: failure.Canceled, Reason: failure.ClientLeft, Message: "the client left"}
+	case errors.Is(ctx.Err(), context.DeadlineExceeded) || errors.As(err, &network) && network.Timeout():
+		message := "the server behind took too long"
+		return &failure.Error{Status: http.StatusGatewayTimeout, Kind: failure.Timeout, Reason: failure.UpstreamTime, Message: message, Cause: err}
+	}
+	return badGateway(failure.Upstream, "the server behind did not respond", err)
+}
+
+// failedBehind tells the error of a server behind that says it in another way than Prometheus, or one of an answer that is filtered.
+func failedBehind(header http.Header, response *http.Response) *failure.Error {
+	message := fmt.Sprintf("the server behind failed with status %d", response.StatusCode)
+	status, kind := response.StatusCode, failure.Unavailable
+	switch {
+	case status == http.StatusUnauthorized || status == http.StatusProxyAuthRequired:
+		// Those ask the client to say who it is, and the server behind is not told that.
+		status = http.StatusBadGateway
+	case status == http.StatusNotFound:
+		kind = failure.NotFound
+	case status < 500:
+		kind = failure.BadData
+	}
+	if after := response.Header.Get("Retry-After"); after != "" {
+		header.Set("Retry-After", after)
+	}
+	return &failure.Error{Status: status, Kind: kind, Reason: failure.Upstream, Message: message}
+}
+
+func badGateway(reason failure.Reason, message string, cause error) *failure.Error {
+	return &failure.Error{Status: http.StatusBadGateway, Kind: failure.Unavailable, Reason: reason, Message: message, Cause: cause}
+}
+
+func isJSON(response *http.Response) bool {
+	found, _, err := mime.ParseMediaType(response.Header.Get("Content-Type"))
+	return err == nil && found == "application/json"
+}

@@ -1,0 +1,36 @@
+// Package front is what clients reach: it takes a request apart, makes another one of it for the server behind, and gives the answer back.
+package front
+
+import (
+	"net/http"
+	"promql/cmd/promql-proxy/internal/endpoint"
+	"promql/cmd/promql-proxy/internal/logs"
+	"promql/cmd/promql-proxy/internal/metrics"
+	"promql/cmd/promql-proxy/internal/tenant"
+	"promql/cmd/promql-proxy/internal/upstream"
+	"time"
+)
+
+// Front is the handler of the clients' requests.
+type Front struct {
+	Upstream *upstream.Server
+	Tenants  tenant.Source
+	Table    *endpoint.Table
+	Metrics  *metrics.Metrics
+	Log      *logs.Logger
+	// LogQueries says that the log shows queries, selectors and messages about them.
+	LogQueries bool
+	// MaxBody and MaxAnswer are the most bytes of a request's body, and of an answer that is filtered.
+	MaxBody, MaxAnswer int64
+	// Timeout is how long the server behind may take for its whole answer.
+	Timeout time.Duration
+}
+
+func (f *Front) ServeHTTP(w http.ResponseWriter, r *http.Request) {
+	it := &exchange{Front: f, ResponseWriter: w, request: r, begun: time.Now(), endpoint: "none"}
+	f.Metrics.Begin()
+	defer it.end()
+	if err := it.serve(); err != nil {
+		it.refuse(err)
+	}
+}

@@ -1,0 +1,181 @@
+// Package metrics counts what the proxy does, and writes it in the text format of Prometheus. No label has a text of a client in it.
+package metrics
+
+import (
+	"fmt"
+	"io"
+	"promql"
+	"promql/cmd/promql-proxy/internal/failure"
+	"runtime"
+	"sort"
+	"strconv"
+	"sync"
+	"time"
+)
+
+// The upper bounds of the histogram of durations, in seconds.
+func bounds() []float64 {
+	return []float64{0.001, 0.005, 0.01, 0.05, 0.1, 0.5, 1, 5, 10, 30, 60, 120}
+}
+
+// request is what requests are counted by.
+type request struct {
+	endpoint, method string
+	status           int
+}
+
+// durations is a histogram: how many were within each bound, with those within the bounds before it.
+type durations struct {
+	within []uint64
+	count  uint64
+	sum    float64
+}
+
+// Metrics are the counters of one proxy.
+type Metrics struct {
+	mutex     sync.Mutex
+	started   time.Time
+	inFlight  int
+	requests  map[request]uint64
+	durations map[string]*durations
+	refused   map[failure.Reason]uint64
+	upstream  map[int]uint64
+}
+
+// New returns metrics that have counted nothing.
+func New(now time.Time) *Metrics {
+	return &Metrics{
+		started:   now,
+		requests:  map[request]uint64{},
+		durations: map[string]*durations{},
+		refused:   map[failure.Reason]uint64{},
+		upstream:  map[int]uint64{},
+	}
+}
+
+// Begin counts a request that is being answered.
+func (m *Metrics) Begin() {
+	m.mutex.Lock()
+	defer m.mutex.Unlock()
+	m.inFlight++
+}
+
+// End counts a request that was answered: by which endpoint, and with which status.
+func (m *Metrics) End(endpoint, method string, status int, took time.Duration) {
+	m.mutex.Lock()
+	defer m.mutex.Unlock()
+	m.inFlight--
+	m.requests[request{endpoint, known(method), status}]++
+	found, has := m.durations[endpoint]
+	if !has {
+		found = &durations{within: make([]uint64, len(bounds()))}
+		m.durations[endpoint] = found
+	}
+	for i, bound := range bounds() {
+		if took.Seconds() <= bound {
+			found.within[i]++
+		}
+	}
+	found.count++
+	found.sum += took.Seconds()
+}
+
+// Refuse counts a request that was not passed on, or whose answer was not.
+func (m *Metrics) Refuse(reason failure.Reason) {
+	m.mutex.Lock()
+	defer m.mutex.Unlock()
+	m.refused[reason]++
+}
+
+// Upstream counts a response of the server behind.
+func (m *Metrics) Upstream(status int) {
+	m.mutex.Lock()
+	defer m.mutex.Unlock()
+	m.upstream[status]++
+}
+
+// known returns a method that clients may name, and "other" for all that they make up.
+func known(method string) string {
+	switch method {
+	case "GET", "POST", "HEAD", "OPTIONS", "PUT", "DELETE", "PATCH":
+		return method
+	}
+	return "other"
+}
+
+// WriteTo writes all metrics.
+func (m *Metrics) WriteTo(out io.Writer) (int64, error) {
+	m.mutex.Lock()
+	defer m.mutex.Unlock()
+	var page page
+	page.head("promql_proxy_build_info", "gauge", "The version of the library, and that of Go.")
+	page.line("promql_proxy_build_info", 1, "version", promql.Version(), "goversion", runtime.Version())
+	page.head("promql_proxy_requests_total", "counter", "Requests that were answered.")
+	page.each(len(m.requests), func(add func(string, any, ...string)) {
+		for key, count := range m.requests {
+			add("promql_proxy_requests_total", count, "endpoint", key.endpoint, "method", key.method, "code", strconv.Itoa(key.status))
+		}
+	})
+	page.head("promql_proxy_requests_refused_total", "counter", "Requests that got an error of the proxy's own, by its reason.")
+	page.each(len(m.refused), func(add func(string, any, ...string)) {
+		for reason, count := range m.refused {
+			add("promql_proxy_requests_refused_total", count, "reason", string(reason))
+		}
+	})
+	page.head("promql_proxy_upstream_responses_total", "counter", "Responses of the server behind.")
+	page.each(len(m.upstream), func(add func(string, any, ...string)) {
+		for status, count := range m.upstream {
+			add("promql_proxy_upstream_responses_total", count, "code", strconv.Itoa(status))
+		}
+	})
+	m.writeDurations(&page)
+	m.writeProcess(&page)
+	return page.writeTo(out)
+}
+
+func (m *Metrics) writeDurations(page *page) {
+	const name = "promql_proxy_request_duration_seconds"
+	page.head(name, "histogram", "How long a request took, until its answer was written.")
+	endpoints := make([]string, 0, len(m.durations))
+	for endpoint := range m.durations {
+		endpoints = append(endpoints, endpoint)
+	}
+	sort.Strings(endpoints)
+	for _, endpoint := range endpoints {
+		found := m.durations[endpoint]
+		for i, bound := range bounds() {
+			page.line(name+"_bucket", found.within[i], "endpoint", endpoint, "le", strconv.FormatFloat(bound, 'g', -1, 64))
+		}
+		page.line(name+"_bucket", found.count, "endpoint", endpoint, "le", "+Inf")
+		page.line(name+"_sum", found.sum, "endpoint", endpoint)
+		page.line(name+"_count", found.count, "endpoint", endpoint)
+	}
+}
+
+func (m *Metrics) writeProcess(page *page) {
+	var memory runtime.MemStats
+	runtime.ReadMemStats(&memory)
+	for _, it := range []struct {
+		name, help string
+		value      any
+	}{
+		{"promql_proxy_requests_in_flight", "Requests that are being answered.", m.inFlight},
+		{"process_start_time_seconds", "When the process began, in seconds since 1970.", float64(m.started.UnixMilli()) / 1000},
+		{"go_goroutines", "Goroutines.", runtime.NumGoroutine()},
+		{"go_memstats_heap_alloc_bytes", "Bytes of the heap of Go; that of the library is not in it.", memory.HeapAlloc},
+	} {
+		page.head(it.name, "gauge", it.help)
+		page.line(it.name, it.value)
+	}
+}
+
+// ContentType is that of the text format.
+const ContentType = "text/plain; version=0.0.4; charset=utf-8"
+
+// number returns a value as the text format has it.
+func number(value any) string {
+	if float, is := value.(float64); is {
+		return strconv.FormatFloat(float, 'g', -1, 64)
+	}
+	return fmt.Sprint(value)
+}

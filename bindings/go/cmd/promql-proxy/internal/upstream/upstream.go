@@ -1,0 +1,181 @@
+// Package upstream asks the Prometheus behind the proxy. Each request is made anew, of what this package is given, so that the server
+// behind reads nothing else.
+package upstream
+
+import (
+	"context"
+	"encoding/json"
+	"errors"
+	"fmt"
+	"io"
+	"net"
+	"net/http"
+	"net/url"
+	"promql/cmd/promql-proxy/internal/form"
+	"strings"
+	"time"
+)
+
+// The headers that pass, of a request and of a response. Every other one is dropped: it could name a tenant, a path or a user to the
+// server behind, or turn the connection into another one.
+func requestHeaders() []string {
+	return []string{"Accept", "Accept-Encoding"}
+}
+
+func responseHeaders() []string {
+	return []string{"Content-Type", "Content-Encoding", "Content-Length", "Cache-Control", "Retry-After", "Vary"}
+}
+
+const (
+	dialTimeout = 10 * time.Second
+	idleTimeout = 2 * time.Minute
+	maxHeader   = 1 << 16
+	maxIdle     = 16
+	userAgent   = "promql-proxy"
+)
+
+// Server is a Prometheus.
+type Server struct {
+	address   *url.URL
+	transport http.RoundTripper
+}
+
+// New returns the server at an address such as http://localhost:9090, which has a scheme and a host, and no user, parameters or fragment.
+// It makes connections of its own, and none by way of the environment's proxies.
+func New(address string) (*Server, error) {
+	parsed, err := url.Parse(address)
+	if err != nil {
+		return nil, err
+	}
+	if parsed.Scheme != "http" && parsed.Scheme != "https" || parsed.Host == "" {
+		return nil, fmt.Errorf("%q is no address such as http://localhost:9090", address)
+	}
+	if parsed.User != nil || parsed.RawQuery != "" || parsed.Fragment != "" {
+		return nil, fmt.Errorf("an address has a scheme, a host and a path, and nothing else")
+	}
+	dialer := &net.Dialer{Timeout: dialTimeout}
+	transport := &http.Transport{
+		DialContext:            dialer.DialContext,
+		TLSHandshakeTimeout:    dialTimeout,
+		IdleConnTimeout:        idleTimeout,
+		MaxIdleConnsPerHost:    maxIdle,
+		MaxResponseHeaderBytes: maxHeader,
+		DisableCompression:     true,
+	}
+	return &Server{parsed, transport}, nil
+}
+
+// Question is what a Prometheus is asked.
+type Question struct {
+	Method     string
+	Path       string
+	Parameters url.Values
+	// Client has the headers of the client, of which some pass; nil where none does.
+	Client http.Header
+}
+
+// Ask sends a question. Where the server behind responds with another protocol or another place, that is an error.
+func (s *Server) Ask(ctx context.Context, question Question) (*http.Response, error) {
+	request, err := s.request(ctx, question)
+	if err != nil {
+		return nil, err
+	}
+	response, err := s.transport.RoundTrip(request)
+	if err != nil {
+		return nil, err
+	}
+	if response.StatusCode < 200 || 300 <= response.StatusCode && response.StatusCode < 400 {
+		response.Body.Close()
+		return nil, fmt.Errorf("status %d", response.StatusCode)
+	}
+	return response, nil
+}
+
+func (s *Server) request(ctx context.Context, question Question) (*http.Request, error) {
+	target := s.address.JoinPath(question.Path)
+	var body io.Reader
+	if question.Method == http.MethodPost {
+		body = strings.NewReader(question.Parameters.Encode())
+	} else {
+		target.RawQuery = question.Parameters.Encode()
+	}
+	request, err := http.NewRequestWithContext(ctx, question.Method, target.String(), body)
+	if err != nil {
+		return nil, err
+	}
+	copyHeaders(request.Header, question.Client, requestHeaders())
+	request.Header.Set("User-Agent", userAgent)
+	if body != nil {
+		request.Header.Set("Content-Type", form.MediaType)
+	}
+	return request, nil
+}
+
+// CopyHeaders copies the headers of a response that pass.
+func CopyHeaders(to http.Header, response *http.Response) {
+	copyHeaders(to, response.Header, responseHeaders())
+}
+
+func copyHeaders(to, from http.Header, names []string) {
+	for _, name := range names {
+		if values := from.Values(name); len(values) != 0 {
+			to[http.CanonicalHeaderKey(name)] = values
+		}
+	}
+}
+
+// ErrTooLarge says that an answer has more bytes than may be read.
+var ErrTooLarge = errors.New("the answer of the server behind is too large")
+
+// ReadAll returns the body of a response, which has so many bytes at most.
+func ReadAll(response *http.Response, most int64) ([]byte, error) {
+	text, err := io.ReadAll(io.LimitReader(response.Body, most+1))
+	if err == nil && int64(len(text)) > most {
+		return nil, ErrTooLarge
+	}
+	return text, err
+}
+
+const (
+	maxCheckAnswer = 1 << 16
+	checkPause     = 500 * time.Millisecond
+)
+
+// Wait asks the server a query without a selector until it answers, or until the context ends; then the error says why it did not.
+func (s *Server) Wait(ctx context.Context, tryTimeout time.Duration) error {
+	var last error
+	for {
+		err := s.check(ctx, tryTimeout)
+		if err == nil {
+			return nil
+		}
+		if ctx.Err() == nil || last == nil {
+			last = err
+		}
+		select {
+		case <-ctx.Done():
+			return last
+		case <-time.After(checkPause):
+		}
+	}
+}
+
+// check asks a query once.
+func (s *Server) check(ctx context.Context, timeout time.Duration) error {
+	ctx, cancel := context.WithTimeout(ctx, timeout)
+	defer cancel()
+	response, err := s.Ask(ctx, Question{Method: http.MethodGet, Path: "/api/v1/query", Parameters: url.Values{"query": {"1"}}})
+	if err != nil {
+		return err
+	}
+	defer response.Body.Close()
+	text, err := ReadAll(response, maxCheckAnswer)
+	if err != nil {
+		return err
+	}
+	var answer struct{ Status string }
+	if response.StatusCode != http.StatusOK || json.Unmarshal(text, &answer) != nil || answer.Status != "success" {
+		return fmt.Errorf("it does not answer /api/v1/query as a Prometheus does: status %d", response.StatusCode)
+	}
+	return nil
+}

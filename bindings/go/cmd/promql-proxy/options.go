@@ -1,0 +1,148 @@
+package main
+
+import (
+	"errors"
+	"flag"
+	"fmt"
+	"io"
+	"net/http"
+	"promql/cmd/promql-proxy/internal/endpoint"
+	"promql/cmd/promql-proxy/internal/logs"
+	"promql/cmd/promql-proxy/internal/tenant"
+	"promql/cmd/promql-proxy/internal/upstream"
+	"regexp"
+	"strings"
+	"time"
+)
+
+// options are what the command line says.
+type options struct {
+	listen, internalListen, upstream string
+	tenants                          tenant.Source
+	more                             words
+	readTimeout, writeTimeout        time.Duration
+	idleTimeout, upstreamTimeout     time.Duration
+	startTimeout, stopTimeout        time.Duration
+	maxBody, maxAnswer               int64
+	maxQuery, maxPatterns            uint
+	logQueries, version              bool
+	logLevel                         string
+}
+
+// words is a flag that may be given several times.
+type words []string
+
+func (w *words) String() string {
+	return strings.Join(*w, ",")
+}
+
+func (w *words) Set(word string) error {
+	*w = append(*w, word)
+	return nil
+}
+
+// errTold says that the command line is wrong, and that the user was told why.
+var errTold = errors.New("the command line is wrong")
+
+// read reads the command line.
+func read(arguments []string, out io.Writer) (*options, error) {
+	o := &options{}
+	flags := flag.NewFlagSet("promql-proxy", flag.ContinueOnError)
+	flags.SetOutput(out)
+	flags.StringVar(&o.listen, "listen", "localhost:9091", "the address for clients")
+	flags.StringVar(&o.internalListen, "internal-listen", "", "the address for metrics, health and readiness; none where it is empty")
+	flags.StringVar(&o.upstream, "upstream", "http://localhost:9090", "the Prometheus")
+	flags.StringVar(&o.tenants.Label, "label", "", "the label that names the tenant of a series, such as tenant")
+	flags.Var((*words)(&o.tenants.Fixed), "tenant", "the tenant of all clients; several times for several tenants")
+	flags.StringVar(&o.tenants.Header, "tenant-header", "", "the header that has the tenant of a request")
+	flags.StringVar(&o.tenants.Parameter, "tenant-parameter", "", "the parameter of the address that has the tenant of a request")
+	flags.BoolVar(&o.tenants.List, "tenant-list", false, "the header or the parameter has several tenants, with commas between them")
+	flags.Var(&o.more, "pass-parameter", "the name of one more parameter that the Prometheus gets; several times for several")
+	o.addLimits(flags)
+	flags.StringVar(&o.logLevel, "log-level", "info", "the least level that is logged: info, warn or error")
+	flags.BoolVar(&o.logQueries, "log-queries", false, "log queries, selectors and messages about them")
+	flags.BoolVar(&o.version, "version", false, "print the version and end")
+	if err := flags.Parse(arguments); err != nil {
+		if errors.Is(err, flag.ErrHelp) {
+			return nil, err
+		}
+		return nil, errTold
+	}
+	if flags.NArg() != 0 {
+		return nil, fmt.Errorf("there is more than options: %q", flags.Arg(0))
+	}
+	return o, nil
+}
+
+func (o *options) addLimits(flags *flag.FlagSet) {
+	flags.DurationVar(&o.readTimeout, "read-timeout", 10*time.Second, "how long a client may take to send a request")
+	flags.DurationVar(&o.writeTimeout, "write-timeout", 0, "how long a request may take in all; 0: the read and upstream timeouts and 10s more")
+	flags.DurationVar(&o.idleTimeout, "idle-timeout", 2*time.Minute, "how long a connection of a client may wait for a request")
+	flags.DurationVar(&o.upstreamTimeout, "upstream-timeout", 2*time.Minute, "how long the Prometheus may take")
+	flags.DurationVar(&o.startTimeout, "start-timeout", 30*time.Second, "how long to wait for the Prometheus at the start; 0: do not ask it")
+	flags.DurationVar(&o.stopTimeout, "stop-timeout", 30*time.Second, "how long requests may take after SIGTERM")
+	flags.Int64Var(&o.maxBody, "max-body", 1<<20, "the most bytes of a request's body")
+	flags.Int64Var(&o.maxAnswer, "max-answer", 32<<20, "the most bytes of an answer that is filtered")
+	flags.UintVar(&o.maxQuery, "max-query", 1<<20, "the most bytes of a query, as it is asked and as it is sent")
+	flags.UintVar(&o.maxPatterns, "max-patterns", 16000, "the largest size of a query's patterns together")
+}
+
+// The name of a header that may have the tenant.
+var headerName = regexp.MustCompile(`^[A-Za-z][A-Za-z0-9-]*$`)
+
+// check says what is wrong with the options.
+func (o *options) check() error {
+	if err := o.tenants.Check(); err != nil {
+		return err
+	}
+	if o.tenants.Header != "" && !isFree(o.tenants.Header) {
+		return fmt.Errorf("-tenant-header: %q is not the name of a header that can have a tenant", o.tenants.Header)
+	}
+	table := endpoint.NewTable(nil)
+	for _, name := range append([]string{o.tenants.Parameter}, o.more...) {
+		if table.Takes(name) {
+			return fmt.Errorf("-tenant-parameter, -pass-parameter: %q has a meaning of its own", name)
+		}
+	}
+	for _, name := range o.more {
+		if name == "" || name == o.tenants.Parameter {
+			return fmt.Errorf("-pass-parameter: %q is not passed on", name)
+		}
+	}
+	if _, err := logs.ParseLevel(o.logLevel); err != nil {
+		return fmt.Errorf("-log-level: %w", err)
+	}
+	if _, err := upstream.New(o.upstream); err != nil {
+		return fmt.Errorf("-upstream: %w", err)
+	}
+	return o.checkLimits()
+}
+
+// isFree says whether a header has no meaning to HTTP, so that it can have a tenant.
+func isFree(header string) bool {
+	switch http.CanonicalHeaderKey(header) {
+	case "Host", "Connection", "Keep-Alive", "Transfer-Encoding", "Content-Length", "Content-Type", "Content-Encoding", "Trailer", "Te",
+		"Upgrade", "Expect", "Accept", "Accept-Encoding":
+		return false
+	}
+	return headerName.MatchString(header)
+}
+
+func (o *options) checkLimits() error {
+	for _, it := range []time.Duration{o.readTimeout, o.idleTimeout, o.upstreamTimeout, o.stopTimeout} {
+		if it <= 0 {
+			return errors.New("a timeout is longer than nothing")
+		}
+	}
+	if o.startTimeout < 0 || o.maxBody < 1 || o.maxAnswer < 1 || o.maxQuery < 1 {
+		return errors.New("-start-timeout is at least 0, and the limits are at least 1")
+	}
+	least := o.readTimeout + o.upstreamTimeout
+	if o.writeTimeout == 0 {
+		o.writeTimeout = least + 10*time.Second
+	}
+	if o.writeTimeout <= least {
+		return fmt.Errorf("-write-timeout is longer than the read and the upstream timeout together: %v", least)
+	}
+	return nil
+}

@@ -1,0 +1,138 @@
+package main
+
+import (
+	"context"
+	"errors"
+	"fmt"
+	"net"
+	"net/http"
+	"promql"
+	"promql/cmd/promql-proxy/internal/endpoint"
+	"promql/cmd/promql-proxy/internal/front"
+	"promql/cmd/promql-proxy/internal/logs"
+	"promql/cmd/promql-proxy/internal/metrics"
+	"promql/cmd/promql-proxy/internal/upstream"
+	"time"
+)
+
+const (
+	maxHeader    = 1 << 16
+	checkTimeout = 5 * time.Second
+)
+
+// service is a proxy with its two servers.
+type service struct {
+	options  *options
+	log      *logs.Logger
+	behind   *upstream.Server
+	internal *front.Internal
+	clients  *http.Server
+	inside   *http.Server
+}
+
+// newService returns the service that the options, which are right, ask for.
+func newService(o *options, log *logs.Logger) (*service, error) {
+	behind, err := upstream.New(o.upstream)
+	if err != nil {
+		return nil, err
+	}
+	promql.SetLimits(o.maxQuery, o.maxPatterns)
+	counted := metrics.New(time.Now())
+	handler := &front.Front{
+		Upstream:   behind,
+		Tenants:    o.tenants,
+		Table:      endpoint.NewTable(o.more),
+		Metrics:    counted,
+		Log:        log,
+		LogQueries: o.logQueries,
+		MaxBody:    o.maxBody,
+		MaxAnswer:  o.maxAnswer,
+		Timeout:    o.upstreamTimeout,
+	}
+	s := &service{options: o, log: log, behind: behind, internal: &front.Internal{Metrics: counted}}
+	s.clients = s.server(handler, o.writeTimeout)
+	s.inside = s.server(s.internal, o.readTimeout)
+	return s, nil
+}
+
+// server returns a server in which no client holds a connection for longer than the timeouts.
+func (s *service) server(handler http.Handler, writeTimeout time.Duration) *http.Server {
+	return &http.Server{
+		Handler:           handler,
+		ReadHeaderTimeout: s.options.readTimeout,
+		ReadTimeout:       s.options.readTimeout,
+		WriteTimeout:      writeTimeout,
+		IdleTimeout:       s.options.idleTimeout,
+		MaxHeaderBytes:    maxHeader,
+		ErrorLog:          s.log.Standard(),
+	}
+}
+
+// run serves until the context ends, and then waits for the requests that are there.
+func (s *service) run(ctx context.Context) error {
+	ended := make(chan error, 2)
+	if s.options.internalListen != "" {
+		if err := s.start(s.inside, "internal", s.options.internalListen, ended); err != nil {
+			return err
+		}
+		defer s.inside.Close()
+	}
+	if err := s.wait(ctx); err != nil {
+		return err
+	}
+	if ctx.Err() != nil {
+		return nil
+	}
+	if err := s.start(s.clients, "clients", s.options.listen, ended); err != nil {
+		return err
+	}
+	defer s.clients.Close()
+	s.internal.SetReady(true)
+	select {
+	case err := <-ended:
+		return err
+	case <-ctx.Done():
+		return s.stop()
+	}
+}
+
+// wait waits for the server behind.
+func (s *service) wait(ctx context.Context) error {
+	if s.options.startTimeout == 0 {
+		return nil
+	}
+	waiting, cancel := context.WithTimeout(ctx, s.options.startTimeout)
+	defer cancel()
+	if err := s.behind.Wait(waiting, checkTimeout); err != nil && ctx.Err() == nil {
+		return fmt.Errorf("the server behind, %s: %w", s.options.upstream, err)
+	}
+	return nil
+}
+
+// start listens, and serves from then on.
+func (s *service) start(server *http.Server, name, address string, ended chan<- error) error {
+	listener, err := net.Listen("tcp", address)
+	if err != nil {
+		return err
+	}
+	s.log.Log(logs.Info, "listening", "for", name, "address", listener.Addr())
+	go func() {
+		if err := server.Serve(listener); !errors.Is(err, http.ErrServerClosed) {
+			ended <- err
+		}
+	}()
+	return nil
+}
+
+// stop takes no more requests, and gives those that are there their time.
+func (s *service) stop() error {
+	s.internal.SetReady(false)
+	s.log.Log(logs.Info, "stopping")
+	ctx, cancel := context.WithTimeout(context.Background(), s.options.stopTimeout)
+	defer cancel()
+	if err := s.clients.Shutdown(ctx); err != nil {
+		return fmt.Errorf("requests were cut off: %w", err)
+	}
+	s.log.Log(logs.Info, "stopped")
+	return nil
+}
