@@ -8,6 +8,8 @@
 # bindings/test.sh --prometheus  compares what queries give before a Prometheus as they are written, printed and enforced, in a minute
 #                                (bench/meaning), where Debian's package prometheus is installed; --install does not install it, since
 #                                Debian starts a service then
+# bindings/test.sh --proxy       holds the Go proxy against a Prometheus with several tenants, in half a minute, where that is installed
+#                                (docs/guide/proxy.md)
 set -u
 here=$(cd "$(dirname "$0")" && pwd)
 root=${here%/*}
@@ -436,6 +438,17 @@ test_prometheus() {
     add 'queries before a Prometheus' in_python "$here/python" "$root/bench/meaning/compare.py" --rows 500 --random 500
 }
 
+# The servers and the proxies are in the group of processes that `limited` ends.
+test_proxy() {
+    local command
+    for command in go prometheus promtool python3; do
+        has "$command" 'the proxy before a Prometheus' || return
+    done
+    try 'building the proxy' in_go . build -o "$work/promql-proxy" ./cmd/promql-proxy
+    [ -x "$work/promql-proxy" ] || return
+    add 'the proxy before a Prometheus' in_python "$here/python" "$here/proxy.py" "$work/promql-proxy"
+}
+
 export -f shows_own_names build_c bench_prints example_prints build_sanitized overrun_is_reported under_valgrind build_project
 export -f find_installed in_python unit_tests print_counts
 export -f in_cargo cargo_tests build_rust cache_keys in_go go_tests
@@ -446,8 +459,9 @@ case "${1:-}" in
 --install) install_missing ;;
 --attack) parts=(attacks) ;;
 --prometheus) parts=(prometheus) ;;
+--proxy) parts=(proxy) ;;
 *)
-    echo 'usage: bindings/test.sh [--install | --attack | --prometheus]' >&2
+    echo 'usage: bindings/test.sh [--install | --attack | --prometheus | --proxy]' >&2
     exit 64
     ;;
 esac

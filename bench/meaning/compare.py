@@ -234,9 +234,9 @@ class Maker:
 
 
 class Prometheus:
-    """A server on this machine with a store."""
+    """A server on this machine with a store, and with the settings of its configuration file."""
 
-    def __init__(self, folder, series):
+    def __init__(self, folder, series, settings="global: {}\n", more_options=()):
         folder.mkdir()
         lines = folder / "samples.txt"
         with lines.open("w") as file:
@@ -247,12 +247,12 @@ class Prometheus:
         made = subprocess.run(["promtool", "tsdb", "create-blocks-from", "openmetrics", lines, data], capture_output=True, text=True, check=False)
         if made.returncode != 0:
             raise SystemExit(f"promtool: {made.stdout}{made.stderr}")
-        (folder / "prometheus.yml").write_text("global: {}\n")
+        (folder / "prometheus.yml").write_text(settings)
         with socket.socket() as free:
             free.bind(("127.0.0.1", 0))
             self.port = free.getsockname()[1]
         options = [f"--config.file={folder}/prometheus.yml", f"--storage.tsdb.path={data}", f"--web.listen-address=127.0.0.1:{self.port}"]
-        options += ["--storage.tsdb.retention.time=100y", "--log.level=error"]
+        options += ["--storage.tsdb.retention.time=100y", "--log.level=error", *more_options]
         self.process = subprocess.Popen(["prometheus", *options], stdout=subprocess.DEVNULL, stderr=subprocess.DEVNULL)
         self.connection = None
         for _ in range(200):
