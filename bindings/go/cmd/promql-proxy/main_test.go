@@ -107,6 +107,43 @@ func TestWithoutAServerBehind(t *testing.T) {
 	}
 }
 
+// What the options bound is bounded in the servers.
+func TestBounds(t *testing.T) {
+	s := made(t, "http://localhost", "-read-timeout", "3s", "-upstream-timeout", "5s", "-idle-timeout", "7s")
+	if s.clients.ReadTimeout != 3*time.Second || s.clients.ReadHeaderTimeout != 3*time.Second || s.clients.IdleTimeout != 7*time.Second {
+		t.Errorf("%+v", s.clients)
+	}
+	if s.clients.WriteTimeout != 18*time.Second || s.inside.WriteTimeout != 3*time.Second || s.clients.MaxHeaderBytes != 65536 {
+		t.Errorf("%+v", s.clients)
+	}
+	if s = made(t, "http://localhost", "-write-timeout", "10m"); s.clients.WriteTimeout != 10*time.Minute {
+		t.Errorf("%+v", s.clients)
+	}
+	server, _, _ := behind(t)
+	process := start(t, server.URL, "-max-query", "30", "-max-body", "100", "-read-timeout", "300ms")
+	address := "http://" + process.clients + "/api/v1/query"
+	for query, wanted := range map[string]int{"bar": 200, "bar%2Bbar": 422, "b" + strings.Repeat("a", 31): 422} {
+		if status, text := get(address + "?query=" + query); status != wanted {
+			t.Errorf("%s: %d %s", query, status, text)
+		}
+	}
+	response, err := http.Post(address, "application/x-www-form-urlencoded", strings.NewReader("query=bar&time="+strings.Repeat("1", 100)))
+	if err != nil || response.StatusCode != http.StatusRequestEntityTooLarge {
+		t.Errorf("%v %v", response, err)
+	}
+	connection, err := net.Dial("tcp", process.clients)
+	if err != nil {
+		t.Fatal(err)
+	}
+	defer connection.Close()
+	_ = connection.SetDeadline(time.Now().Add(20 * time.Second))
+	_, _ = io.WriteString(connection, "GET /api/v1/query")
+	if text, err := io.ReadAll(connection); err != nil {
+		t.Errorf("a request that does not come: %v %s", err, text)
+	}
+	process.end(t)
+}
+
 // freeAddress returns an address of this machine that nothing listens on.
 func freeAddress(t *testing.T) string {
 	t.Helper()
@@ -194,6 +231,17 @@ func start(t *testing.T, upstream string, more ...string) *started {
 	return made
 }
 
+// end ends the process, which has nothing to answer.
+func (s *started) end(t *testing.T) {
+	t.Helper()
+	if err := s.Process.Signal(syscall.SIGTERM); err != nil {
+		t.Fatal(err)
+	}
+	if err := s.Wait(); err != nil {
+		t.Errorf("%v: %s", err, s.log)
+	}
+}
+
 // A request that is being answered ends before the process; none is taken from SIGTERM on.
 func TestGracefulEnd(t *testing.T) {
 	server, asked, release := behind(t)
@@ -249,10 +297,5 @@ func TestMetricsOfItsOwnListener(t *testing.T) {
 			t.Errorf("%d, no %s in %s", status, wanted, text)
 		}
 	}
-	if err := process.Process.Signal(syscall.SIGTERM); err != nil {
-		t.Fatal(err)
-	}
-	if err := process.Wait(); err != nil {
-		t.Errorf("%v: %s", err, process.log)
-	}
+	process.end(t)
 }

@@ -68,7 +68,7 @@ func TestServersThatFail(t *testing.T) {
 		"is not ready":        {said(503, http.Header{"Retry-After": {"9"}}, "secret"), query, 503, "unavailable", "the server behind failed with status 503"},
 		"rules, but an error": {said(500, isJSON, `{"status":"error","error":"secret"}`), rules, 500, "unavailable", "the server behind failed with status 500"},
 		"rules, but none":     {said(200, isJSON, `{"status":"success"}`), rules, 502, "unavailable", "the answer of the server behind cannot be filtered"},
-		"rules, failed":       {said(200, isJSON, `{"status":"error"}`), rules, 502, "unavailable", "the answer of the server behind cannot be filtered"},
+		"rules, failed":       {said(200, isJSON, `{"status":"error","data":{"groups":[]}}`), rules, 502, "unavailable", "the answer of the server behind cannot be filtered"},
 		"rules that end":      {said(200, isJSON, `{"status":"success","data":{"groups":[`), rules, 502, "unavailable", "the answer of the server behind cannot be filtered"},
 		"rules, zipped":       {said(200, zipped, "\x1f\x8b\x08"), rules, 502, "unavailable", "the answer of the server behind cannot be filtered"},
 		"labels of numbers": {

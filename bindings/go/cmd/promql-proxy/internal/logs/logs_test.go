@@ -11,10 +11,10 @@ func TestLines(t *testing.T) {
 	logger := New(&out, Warn)
 	logger.now = func() time.Time { return time.Unix(1700000000, 5e6) }
 	logger.Log(Info, "nothing")
-	logger.Log(Warn, "a request", "path", "/a/b", "empty", "", "text", "a\nlevel=error \x1b\u202e\xff\"", "pair", "a=b", "count", 7)
+	logger.Log(Warn, "a request", "path", "/a/b", "empty", "", "text", "a\nlevel=error \x1b\u202e\xffü\"", "pair", "a=b", "count", 7)
 	logger.Log(Error, "long", "text", strings.Repeat("a", 5000))
 	logger.Standard().Print("http: said\n")
-	wanted := `time=2023-11-14T22:13:20.005Z level=warn msg="a request" path=/a/b empty="" text="a\nlevel=error \x1b\u202e\xff\"" pair="a=b" count=7` + "\n" +
+	wanted := `time=2023-11-14T22:13:20.005Z level=warn msg="a request" path=/a/b empty="" text="a\nlevel=error \x1b\u202e\xff\u00fc\"" pair="a=b" count=7` + "\n" +
 		`time=2023-11-14T22:13:20.005Z level=error msg=long text=` + strings.Repeat("a", 4096) + "..\n" +
 		`time=2023-11-14T22:13:20.005Z level=warn msg=net/http said="http: said"` + "\n"
 	if out.String() != wanted {
