@@ -120,6 +120,12 @@ RULES_OF_OTHERS = """
     labels: {tenant: b}
   - record: hidden_of_none
     expr: vector(31337)
+  - record: hidden_in_great_letters
+    expr: vector(31337)
+    labels: {tenant: A}
+  - alert: HiddenWithBlank
+    expr: vector(31337)
+    labels: {tenant: "a "}
   - alert: HiddenAlert
     expr: vector(31337)
     labels: {tenant: b}

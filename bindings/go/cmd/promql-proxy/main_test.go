@@ -81,13 +81,13 @@ func made(t *testing.T, upstream string, more ...string) *service {
 func TestWithoutAServerBehind(t *testing.T) {
 	closed := httptest.NewServer(http.NotFoundHandler())
 	closed.Close()
-	err := made(t, closed.URL, "-start-timeout", "100ms").run(context.Background())
+	err := made(t, closed.URL, "-start-timeout", "1s").run(context.Background())
 	if err == nil || !strings.Contains(err.Error(), "connection refused") {
 		t.Errorf("%v", err)
 	}
 	other := httptest.NewServer(http.NotFoundHandler())
 	defer other.Close()
-	err = made(t, other.URL, "-start-timeout", "100ms").run(context.Background())
+	err = made(t, other.URL, "-start-timeout", "1s").run(context.Background())
 	if err == nil || !strings.Contains(err.Error(), "does not answer /api/v1/query as a Prometheus does: status 404") {
 		t.Errorf("%v", err)
 	}
@@ -120,7 +120,7 @@ func TestBounds(t *testing.T) {
 		t.Errorf("%+v", s.clients)
 	}
 	server, _, _ := behind(t)
-	process := start(t, server.URL, "-max-query", "30", "-max-body", "100", "-read-timeout", "300ms")
+	process := start(t, server.URL, "-max-query", "30", "-max-body", "100", "-read-timeout", "1s")
 	address := "http://" + process.clients + "/api/v1/query"
 	for query, wanted := range map[string]int{"bar": 200, "bar%2Bbar": 422, "b" + strings.Repeat("a", 31): 422} {
 		if status, text := get(address + "?query=" + query); status != wanted {

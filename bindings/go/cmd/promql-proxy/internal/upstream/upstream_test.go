@@ -47,15 +47,18 @@ func TestPaths(t *testing.T) {
 }
 
 func TestWait(t *testing.T) {
-	var answer atomic.Value
+	var answer, end atomic.Value
 	var tries atomic.Int32
 	server := httptest.NewServer(http.HandlerFunc(func(w http.ResponseWriter, r *http.Request) {
 		if r.RequestURI != "/api/v1/query?query=1" {
 			t.Errorf("asked %s", r.RequestURI)
 		}
-		if tries.Add(1) < 3 {
+		switch tries.Add(1) {
+		case 1, 2:
 			http.Error(w, "not ready", http.StatusServiceUnavailable)
 			return
+		case 9:
+			end.Load().(context.CancelFunc)()
 		}
 		_, _ = io.WriteString(w, answer.Load().(string))
 	}))
@@ -70,15 +73,12 @@ func TestWait(t *testing.T) {
 	}
 	for _, text := range []string{`{"status":"error"}`, "<html>", ""} {
 		answer.Store(text)
+		tries.Store(7)
 		ctx, cancel := context.WithCancel(context.Background())
-		cancel()
-		if err := behind.Wait(ctx, time.Minute); err == nil {
-			t.Errorf("%q: no error", text)
+		end.Store(cancel)
+		// The second try is cut off, and says less than the first.
+		if err := behind.Wait(ctx, time.Minute); err == nil || !strings.Contains(err.Error(), "as a Prometheus does: status 200") {
+			t.Errorf("%q: %v", text, err)
 		}
-	}
-	ctx, cancel := context.WithTimeout(context.Background(), 100*time.Millisecond)
-	defer cancel()
-	if err := behind.Wait(ctx, time.Minute); err == nil || !strings.Contains(err.Error(), "status 200") {
-		t.Errorf("%v", err)
 	}
 }
