@@ -38,7 +38,7 @@ import promql
 from proxy_requests import HONEST_EXEMPLARS, HONEST_PATHS, HONEST_QUERIES, MATCH_PATHS, NOW, SELECTORS_OF_NOW, SELECTORS_OF_SERIES, hostile_requests
 
 sys.path.insert(0, str(Path(__file__).resolve().parent.parent / "bench" / "meaning"))
-from compare import Prometheus, Series, rounded, samples_of  # type: ignore[import]  # noqa: E402
+from compare import Maker, Prometheus, Series, rounded, samples_of  # type: ignore[import]  # noqa: E402
 
 # What only others have in their data. A request may name it, as a client may guess a name; no answer does.
 HIDDEN = re.compile(rb"hidden|Hidden|31337")
@@ -66,11 +66,11 @@ def series_of(rng: random.Random, tenants: Sequence[str]) -> Iterator[Any]:
             labels["mark"] = "hidden_mark"
         for job in ("api", "web", "db"):
             for code in ("200", "500"):
-                yield Series("requests_total", {**labels, "job": job, "code": code}, samples_of(rng, "requests_total"))
+                yield Series("http_requests_total", {**labels, "job": job, "code": code}, samples_of(rng, "http_requests_total"))
             yield Series("memory_bytes", {**labels, "job": job}, samples_of(rng, "memory_bytes"))
             yield Series("up", {**labels, "job": job}, [1 if tenant == "a" else 0] * 240)
             for bound in ("1", "10", "+Inf"):
-                yield Series("seconds_bucket", {**labels, "job": job, "le": bound}, samples_of(rng, "seconds_bucket"))
+                yield Series("request_seconds_bucket", {**labels, "job": job, "le": bound}, samples_of(rng, "request_seconds_bucket"))
         if "mark" in labels:
             yield Series("hidden_metric", {**labels, "hidden_label": "hidden_value"}, [31337] * 240)
 
@@ -170,7 +170,10 @@ class Answer:
 def normal(value: Any) -> object:
     """A value of JSON without the times of now, each list in an order of its own."""
     if isinstance(value, dict):
-        left_out = ("evaluationTime", "lastEvaluation", "activeAt", "file", "timings")
+        left_out = {"evaluationTime", "lastEvaluation", "activeAt", "file", "timings"}
+        if value.get("errorType") == "execution":
+            # (the message names one of the series that do not match, any of them)
+            left_out.add("error")
         return {key: normal(it) for key, it in value.items() if key not in left_out}
     if isinstance(value, list):
         if len(value) == 2 and isinstance(value[0], float | int) and value[0] > NOW + 10**7:
@@ -385,6 +388,17 @@ def honest_others(world: World) -> None:
         check(f"{path}: others have more", bool(HIDDEN.search(among.body)), among.body)
 
 
+def random_queries(world: World) -> int:
+    """Queries by all functions and operators: how many there are. Of equal values `topk` and `bottomk` take any."""
+    maker, number = Maker(random.Random(1)), 0
+    while number < 200:
+        query = maker.query()
+        if not re.search(r"\b(topk|bottomk)\b", query):
+            number += 1
+            same_for_both(world, f"random {query}", get_text("/api/v1/query", {"query": query, "time": NOW}, AS_A))
+    return number
+
+
 def several_tenants(world: World) -> None:
     """A list of two tenants is those two, though one has a character of patterns."""
     allowed = 'tenant=~"a|c[.]d"'
@@ -420,11 +434,12 @@ def main() -> int:
         honest_federation(world)
         honest_others(world)
         several_tenants(world)
+        made = random_queries(world)
         attacks = hostile(world)
         alive = json.loads(get(world.many.port, "/api/v1/query", {"query": "count(hidden_metric)", "time": NOW}).body)
         check("the server has its data after all that", alive["data"]["result"][0]["value"][1] == "3", alive)
     asked = 2 * len(HONEST_QUERIES) + len(MATCH_PATHS) * len(SELECTORS_OF_SERIES) + len(SELECTORS_OF_NOW) + len(HONEST_EXEMPLARS) + len(HONEST_PATHS)
-    print(f"{asked} honest requests, of whose queries others change {changed}; {attacks} hostile ones")
+    print(f"{asked} honest requests, of whose queries others change {changed}; {made} random ones; {attacks} hostile ones")
     print(f"{counts[True]} passed, {counts[False]} failed")
     return 1 if counts[False] else 0
 
