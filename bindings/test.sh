@@ -416,6 +416,7 @@ test_attacks() {
     if has go 'the proxy in Go'; then
         add 'small stacks for Go' go_tests . -run TestStacks
         add 'the proxy in Go' go_tests ./cmd/promql-proxy/...
+        try 'requests for the proxy by its fuzzer' in_go . test -run '^$' -fuzz FuzzRequests -fuzztime 20000x ./cmd/promql-proxy/internal/front
     fi
     has python3 'the page, the tools for rule files and the programs' || return
     add 'small stacks for Python' unit_tests "$here/python" test_promql.py -k Stacks

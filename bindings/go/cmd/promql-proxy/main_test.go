@@ -10,6 +10,7 @@ import (
 	"net/http/httptest"
 	"os"
 	"os/exec"
+	"promql"
 	"promql/cmd/promql-proxy/internal/logs"
 	"strings"
 	"sync"
@@ -50,6 +51,13 @@ func TestCommandLines(t *testing.T) {
 		if status := run(it.arguments, &out, &log); status != usage || !strings.HasPrefix(log.String(), it.said) || out.String() != "" {
 			t.Errorf("%q: %d %s%s", it.arguments, status, out.String(), log.String())
 		}
+	}
+	// The limits are those of the process.
+	defer promql.SetLimits(1<<20, 16000)
+	var limited strings.Builder
+	status := run(append(right, "-max-query", "3"), io.Discard, &limited)
+	if said := "within -max-query and -max-patterns: the matcher"; status != failed || !strings.Contains(limited.String(), said) {
+		t.Errorf("a matcher over the limits: %d %s", status, limited.String())
 	}
 	var out, log strings.Builder
 	if status := run([]string{"-version"}, &out, &log); status != ended || out.String() != "promql-proxy 0.4.0\n" {

@@ -37,6 +37,9 @@ func newService(o *options, log *logs.Logger) (*service, error) {
 		return nil, err
 	}
 	promql.SetLimits(o.maxQuery, o.maxPatterns)
+	if err := o.tenants.Check(); err != nil {
+		return nil, fmt.Errorf("within -max-query and -max-patterns: %w", err)
+	}
 	counted := metrics.New(time.Now())
 	handler := &front.Front{
 		Upstream:   behind,

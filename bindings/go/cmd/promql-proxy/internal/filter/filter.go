@@ -3,6 +3,7 @@ package filter
 
 import (
 	"encoding/json"
+	"errors"
 	"fmt"
 )
 
@@ -108,7 +109,7 @@ func listIn(answer []byte, name string) ([]object, error) {
 		return nil, err
 	}
 	if read.Status != "success" {
-		return nil, fmt.Errorf("its status is not success")
+		return nil, errors.New("its status is not success")
 	}
 	return list(read.Data, name)
 }

@@ -66,7 +66,7 @@ func unread(err error, maxBody int64) *failure.Error {
 func checkForm(header http.Header) error {
 	for _, encoding := range header.Values("Content-Encoding") {
 		if !strings.EqualFold(encoding, "identity") {
-			return fmt.Errorf("the body has a Content-Encoding")
+			return errors.New("the body has a Content-Encoding")
 		}
 	}
 	types := header.Values("Content-Type")
@@ -89,7 +89,7 @@ func parse(text string) (url.Values, error) {
 	for name, all := range values {
 		for _, value := range append(all, name) {
 			if !utf8.ValidString(value) {
-				return nil, fmt.Errorf("a parameter is not UTF-8")
+				return nil, errors.New("a parameter is not UTF-8")
 			}
 		}
 	}

@@ -124,12 +124,19 @@ func serve(t *testing.T, tenants tenant.Source, answer http.HandlerFunc) *served
 // before starts a proxy before an address.
 func before(t *testing.T, address string, tenants tenant.Source) *served {
 	t.Helper()
+	log := &lines{}
+	front := frontOf(t, address, tenants, log)
+	return &served{Server: started(t, front, 0), front: front, log: log}
+}
+
+// frontOf returns the handler of a proxy before an address.
+func frontOf(t testing.TB, address string, tenants tenant.Source, log *lines) *Front {
+	t.Helper()
 	behind, err := upstream.New(address)
 	if err != nil {
 		t.Fatal(err)
 	}
-	log := &lines{}
-	front := &Front{
+	return &Front{
 		Upstream:  behind,
 		Tenants:   tenants,
 		Table:     endpoint.NewTable(nil),
@@ -139,7 +146,6 @@ func before(t *testing.T, address string, tenants tenant.Source) *served {
 		MaxAnswer: 1 << 20,
 		Timeout:   time.Minute,
 	}
-	return &served{Server: started(t, front, 0), front: front, log: log}
 }
 
 // started starts a server that waits so long for a request, or without end.

@@ -2,6 +2,7 @@
 package tenant
 
 import (
+	"errors"
 	"fmt"
 	"net/http"
 	"net/url"
@@ -37,12 +38,12 @@ func New(name string, values []string) (Tenant, error) {
 			return Tenant{}, err
 		}
 		if seen[value] {
-			return Tenant{}, fmt.Errorf("a tenant is there twice")
+			return Tenant{}, errors.New("a tenant is there twice")
 		}
 		seen[value] = true
 	}
 	if len(values) == 0 {
-		return Tenant{}, fmt.Errorf("there is no tenant")
+		return Tenant{}, errors.New("there is no tenant")
 	}
 	return Tenant{name, values}, nil
 }
@@ -50,13 +51,13 @@ func New(name string, values []string) (Tenant, error) {
 func check(value string) error {
 	switch {
 	case value == "":
-		return fmt.Errorf("the tenant is empty")
+		return errors.New("the tenant is empty")
 	case len(value) > MaxBytes:
 		return fmt.Errorf("the tenant has %d bytes, at most %d", len(value), MaxBytes)
 	case !utf8.ValidString(value):
-		return fmt.Errorf("the tenant is not UTF-8")
+		return errors.New("the tenant is not UTF-8")
 	case strings.IndexFunc(value, isControl) >= 0:
-		return fmt.Errorf("the tenant has a control character")
+		return errors.New("the tenant has a control character")
 	}
 	return nil
 }
@@ -113,7 +114,7 @@ func (s Source) Check() error {
 		return fmt.Errorf("the tenant comes from one of -tenant, -tenant-header and -tenant-parameter: %d of them are given", ways)
 	}
 	if s.List && len(s.Fixed) != 0 {
-		return fmt.Errorf("-tenant-list is for -tenant-header and -tenant-parameter: give -tenant several times")
+		return errors.New("-tenant-list is for -tenant-header and -tenant-parameter: give -tenant several times")
 	}
 	fixed := s.Fixed
 	if len(fixed) == 0 {

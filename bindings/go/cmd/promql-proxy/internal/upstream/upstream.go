@@ -51,7 +51,7 @@ func New(address string) (*Server, error) {
 		return nil, fmt.Errorf("%q is no address such as http://localhost:9090", address)
 	}
 	if parsed.User != nil || parsed.RawQuery != "" || parsed.Fragment != "" {
-		return nil, fmt.Errorf("an address has a scheme, a host and a path, and nothing else")
+		return nil, errors.New("an address has a scheme, a host and a path, and nothing else")
 	}
 	dialer := &net.Dialer{Timeout: dialTimeout}
 	transport := &http.Transport{
