@@ -225,14 +225,20 @@ def post(port: int, path: str, parameters: Parameters, *headers: str) -> Answer:
 # ---- the proxies
 
 
+def free_port() -> int:
+    """A port of this machine that nothing listens on."""
+    with socket.socket() as free:
+        free.bind(("127.0.0.1", 0))
+        return int(free.getsockname()[1])
+
+
 class Proxy:
     """The program before a server."""
 
     def __init__(self, program: str, server: Any, *options: str) -> None:
-        with socket.socket() as free:
-            free.bind(("127.0.0.1", 0))
-            self.port = free.getsockname()[1]
-        words = [program, "-listen", f"127.0.0.1:{self.port}", "-upstream", f"http://127.0.0.1:{server.port}", "-label", "tenant", *options]
+        self.port, self.inside = free_port(), free_port()
+        words = [program, "-listen", f"127.0.0.1:{self.port}", "-internal-listen", f"127.0.0.1:{self.inside}"]
+        words += ["-upstream", f"http://127.0.0.1:{server.port}", "-label", "tenant", *options]
         self.log = tempfile.TemporaryFile()
         self.process = subprocess.Popen(words, stdout=subprocess.DEVNULL, stderr=self.log)
         for _ in range(200):
@@ -263,7 +269,7 @@ class World:
         self.one = self.server(stack, folder / "one", port, ("a",), RULES_OF_A)
         self.proxies = []
         for server, *options in (
-            (self.many, "-tenant-header", "X-Tenant", "-internal-listen", "127.0.0.1:0"),
+            (self.many, "-tenant-header", "X-Tenant"),
             (self.one, "-tenant-header", "X-Tenant"),
             (self.many, "-tenant-header", "X-Tenant", "-tenant-list"),
             (self.many, "-tenant-parameter", "team"),
@@ -423,6 +429,15 @@ def hostile(world: World) -> int:
     return number
 
 
+def metrics(world: World) -> None:
+    """The metrics of the proxies, as the reader of Prometheus reads them."""
+    for proxy in world.proxies:
+        text = send(proxy.inside, request_text("GET", "/metrics")).body
+        read = subprocess.run(["promtool", "check", "metrics"], input=text, capture_output=True, check=False)
+        has_some = b'promql_proxy_requests_total{endpoint="query",method="GET",code="200"}' in text
+        check("the metrics", read.returncode == 0 and has_some, (read.stdout, read.stderr, text))
+
+
 def main() -> int:
     """Runs all comparisons."""
     with contextlib.ExitStack() as stack:
@@ -436,6 +451,7 @@ def main() -> int:
         several_tenants(world)
         made = random_queries(world)
         attacks = hostile(world)
+        metrics(world)
         alive = json.loads(get(world.many.port, "/api/v1/query", {"query": "count(hidden_metric)", "time": NOW}).body)
         check("the server has its data after all that", alive["data"]["result"][0]["value"][1] == "3", alive)
     asked = 2 * len(HONEST_QUERIES) + len(MATCH_PATHS) * len(SELECTORS_OF_SERIES) + len(SELECTORS_OF_NOW) + len(HONEST_EXEMPLARS) + len(HONEST_PATHS)

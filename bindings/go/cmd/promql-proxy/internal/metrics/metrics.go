@@ -2,7 +2,6 @@
 package metrics
 
 import (
-	"fmt"
 	"io"
 	"promql"
 	"promql/cmd/promql-proxy/internal/failure"
@@ -108,29 +107,38 @@ func (m *Metrics) WriteTo(out io.Writer) (int64, error) {
 	m.mutex.Lock()
 	defer m.mutex.Unlock()
 	var page page
-	page.head("promql_proxy_build_info", "gauge", "The version of the library, and that of Go.")
-	page.line("promql_proxy_build_info", 1, "version", promql.Version(), "goversion", runtime.Version())
-	page.head("promql_proxy_requests_total", "counter", "Requests that were answered.")
-	page.each(len(m.requests), func(add func(string, any, ...string)) {
-		for key, count := range m.requests {
-			add("promql_proxy_requests_total", count, "endpoint", key.endpoint, "method", key.method, "code", strconv.Itoa(key.status))
-		}
-	})
-	page.head("promql_proxy_requests_refused_total", "counter", "Requests that got an error of the proxy's own, by its reason.")
-	page.each(len(m.refused), func(add func(string, any, ...string)) {
-		for reason, count := range m.refused {
-			add("promql_proxy_requests_refused_total", count, "reason", string(reason))
-		}
-	})
-	page.head("promql_proxy_upstream_responses_total", "counter", "Responses of the server behind.")
-	page.each(len(m.upstream), func(add func(string, any, ...string)) {
-		for status, count := range m.upstream {
-			add("promql_proxy_upstream_responses_total", count, "code", strconv.Itoa(status))
-		}
-	})
-	m.writeDurations(&page)
 	m.writeProcess(&page)
+	m.writeCounters(&page)
+	m.writeDurations(&page)
 	return page.writeTo(out)
+}
+
+func (m *Metrics) writeProcess(page *page) {
+	version := labels("version", promql.Version(), "goversion", runtime.Version())
+	page.gauge("promql_proxy_build_info", "The version of the library, and that of Go.", version, 1)
+	page.gauge("promql_proxy_requests_in_flight", "Requests that are being answered.", "", m.inFlight)
+	started := float64(m.started.UnixMilli()) / 1000
+	page.gauge("process_start_time_seconds", "When the process began, in seconds since 1970.", "", started)
+	page.gauge("go_goroutines", "Goroutines.", "", runtime.NumGoroutine())
+	var memory runtime.MemStats
+	runtime.ReadMemStats(&memory)
+	page.gauge("go_memstats_heap_alloc_bytes", "Bytes of the heap of Go, without those of the library.", "", memory.HeapAlloc)
+}
+
+func (m *Metrics) writeCounters(page *page) {
+	requests, refused, upstream := map[string]uint64{}, map[string]uint64{}, map[string]uint64{}
+	for key, count := range m.requests {
+		requests[labels("endpoint", key.endpoint, "method", key.method, "code", strconv.Itoa(key.status))] = count
+	}
+	for reason, count := range m.refused {
+		refused[labels("reason", string(reason))] = count
+	}
+	for status, count := range m.upstream {
+		upstream[labels("code", strconv.Itoa(status))] = count
+	}
+	page.counter("promql_proxy_requests_total", "Requests that were answered.", requests)
+	page.counter("promql_proxy_requests_refused_total", "Requests that got an error of the proxy's own, by its reason.", refused)
+	page.counter("promql_proxy_upstream_responses_total", "Responses of the server behind.", upstream)
 }
 
 func (m *Metrics) writeDurations(page *page) {
@@ -144,38 +152,10 @@ func (m *Metrics) writeDurations(page *page) {
 	for _, endpoint := range endpoints {
 		found := m.durations[endpoint]
 		for i, bound := range bounds() {
-			page.line(name+"_bucket", found.within[i], "endpoint", endpoint, "le", strconv.FormatFloat(bound, 'g', -1, 64))
+			page.sample(name+"_bucket", labels("endpoint", endpoint, "le", strconv.FormatFloat(bound, 'g', -1, 64)), found.within[i])
 		}
-		page.line(name+"_bucket", found.count, "endpoint", endpoint, "le", "+Inf")
-		page.line(name+"_sum", found.sum, "endpoint", endpoint)
-		page.line(name+"_count", found.count, "endpoint", endpoint)
+		page.sample(name+"_bucket", labels("endpoint", endpoint, "le", "+Inf"), found.count)
+		page.sample(name+"_sum", labels("endpoint", endpoint), found.sum)
+		page.sample(name+"_count", labels("endpoint", endpoint), found.count)
 	}
-}
-
-func (m *Metrics) writeProcess(page *page) {
-	var memory runtime.MemStats
-	runtime.ReadMemStats(&memory)
-	for _, it := range []struct {
-		name, help string
-		value      any
-	}{
-		{"promql_proxy_requests_in_flight", "Requests that are being answered.", m.inFlight},
-		{"process_start_time_seconds", "When the process began, in seconds since 1970.", float64(m.started.UnixMilli()) / 1000},
-		{"go_goroutines", "Goroutines.", runtime.NumGoroutine()},
-		{"go_memstats_heap_alloc_bytes", "Bytes of the heap of Go; that of the library is not in it.", memory.HeapAlloc},
-	} {
-		page.head(it.name, "gauge", it.help)
-		page.line(it.name, it.value)
-	}
-}
-
-// ContentType is that of the text format.
-const ContentType = "text/plain; version=0.0.4; charset=utf-8"
-
-// number returns a value as the text format has it.
-func number(value any) string {
-	if float, is := value.(float64); is {
-		return strconv.FormatFloat(float, 'g', -1, 64)
-	}
-	return fmt.Sprint(value)
 }

@@ -1,0 +1,82 @@
+package metrics
+
+import (
+	"promql/cmd/promql-proxy/internal/failure"
+	"strings"
+	"testing"
+	"time"
+)
+
+const wantedPage = `# HELP promql_proxy_requests_total Requests that were answered.
+# TYPE promql_proxy_requests_total counter
+promql_proxy_requests_total{endpoint="none",method="other",code="404"} 1
+promql_proxy_requests_total{endpoint="query",method="GET",code="200"} 2
+promql_proxy_requests_total{endpoint="query",method="POST",code="400"} 1
+# HELP promql_proxy_requests_refused_total Requests that got an error of the proxy's own, by its reason.
+# TYPE promql_proxy_requests_refused_total counter
+promql_proxy_requests_refused_total{reason="path"} 1
+promql_proxy_requests_refused_total{reason="query"} 1
+# HELP promql_proxy_upstream_responses_total Responses of the server behind.
+# TYPE promql_proxy_upstream_responses_total counter
+promql_proxy_upstream_responses_total{code="200"} 2
+# HELP promql_proxy_request_duration_seconds How long a request took, until its answer was written.
+# TYPE promql_proxy_request_duration_seconds histogram
+promql_proxy_request_duration_seconds_bucket{endpoint="none",le="0.001"} 0
+promql_proxy_request_duration_seconds_bucket{endpoint="none",le="0.005"} 0
+promql_proxy_request_duration_seconds_bucket{endpoint="none",le="0.01"} 0
+promql_proxy_request_duration_seconds_bucket{endpoint="none",le="0.05"} 0
+promql_proxy_request_duration_seconds_bucket{endpoint="none",le="0.1"} 0
+promql_proxy_request_duration_seconds_bucket{endpoint="none",le="0.5"} 0
+promql_proxy_request_duration_seconds_bucket{endpoint="none",le="1"} 0
+promql_proxy_request_duration_seconds_bucket{endpoint="none",le="5"} 0
+promql_proxy_request_duration_seconds_bucket{endpoint="none",le="10"} 0
+promql_proxy_request_duration_seconds_bucket{endpoint="none",le="30"} 0
+promql_proxy_request_duration_seconds_bucket{endpoint="none",le="60"} 0
+promql_proxy_request_duration_seconds_bucket{endpoint="none",le="120"} 0
+promql_proxy_request_duration_seconds_bucket{endpoint="none",le="+Inf"} 1
+promql_proxy_request_duration_seconds_sum{endpoint="none"} 240
+promql_proxy_request_duration_seconds_count{endpoint="none"} 1
+promql_proxy_request_duration_seconds_bucket{endpoint="query",le="0.001"} 1
+promql_proxy_request_duration_seconds_bucket{endpoint="query",le="0.005"} 1
+promql_proxy_request_duration_seconds_bucket{endpoint="query",le="0.01"} 1
+promql_proxy_request_duration_seconds_bucket{endpoint="query",le="0.05"} 1
+promql_proxy_request_duration_seconds_bucket{endpoint="query",le="0.1"} 1
+promql_proxy_request_duration_seconds_bucket{endpoint="query",le="0.5"} 2
+promql_proxy_request_duration_seconds_bucket{endpoint="query",le="1"} 2
+promql_proxy_request_duration_seconds_bucket{endpoint="query",le="5"} 3
+promql_proxy_request_duration_seconds_bucket{endpoint="query",le="10"} 3
+promql_proxy_request_duration_seconds_bucket{endpoint="query",le="30"} 3
+promql_proxy_request_duration_seconds_bucket{endpoint="query",le="60"} 3
+promql_proxy_request_duration_seconds_bucket{endpoint="query",le="120"} 3
+promql_proxy_request_duration_seconds_bucket{endpoint="query",le="+Inf"} 3
+promql_proxy_request_duration_seconds_sum{endpoint="query"} 2.5
+promql_proxy_request_duration_seconds_count{endpoint="query"} 3
+`
+
+func TestPage(t *testing.T) {
+	counted := New(time.UnixMilli(1700000000250))
+	for i := 0; i < 5; i++ {
+		counted.Begin()
+	}
+	counted.End("query", "GET", 200, 500*time.Millisecond)
+	counted.End("query", "GET", 200, 2*time.Second)
+	counted.End("query", "POST", 400, 0)
+	counted.End("none", "X\"\n", 404, 4*time.Minute)
+	counted.Refuse(failure.Query)
+	counted.Refuse(failure.Path)
+	counted.Upstream(200)
+	counted.Upstream(200)
+	var out strings.Builder
+	if written, err := counted.WriteTo(&out); err != nil || written != int64(out.Len()) {
+		t.Errorf("%d %v", written, err)
+	}
+	process, counters, _ := strings.Cut(out.String(), "# HELP promql_proxy_requests_total")
+	if "# HELP promql_proxy_requests_total"+counters != wantedPage {
+		t.Error(out.String())
+	}
+	for _, wanted := range []string{"\npromql_proxy_requests_in_flight 1\n", "\nprocess_start_time_seconds 1.70000000025e+09\n", "\ngo_goroutines "} {
+		if !strings.Contains(process, wanted) {
+			t.Errorf("there is no %q in %s", wanted, process)
+		}
+	}
+}
