@@ -47,6 +47,21 @@ var errTold = errors.New("the command line is wrong")
 // read reads the command line.
 func read(arguments []string, out io.Writer) (*options, error) {
 	o := &options{}
+	flags := o.flags(out)
+	if err := flags.Parse(arguments); err != nil {
+		if errors.Is(err, flag.ErrHelp) {
+			return nil, err
+		}
+		return nil, errTold
+	}
+	if flags.NArg() != 0 {
+		return nil, fmt.Errorf("there is more than options: %q", flags.Arg(0))
+	}
+	return o, nil
+}
+
+// flags returns the flags that set the options.
+func (o *options) flags(out io.Writer) *flag.FlagSet {
 	flags := flag.NewFlagSet("promql-proxy", flag.ContinueOnError)
 	flags.SetOutput(out)
 	flags.StringVar(&o.listen, "listen", "localhost:9091", "the address for clients")
@@ -62,16 +77,7 @@ func read(arguments []string, out io.Writer) (*options, error) {
 	flags.StringVar(&o.logLevel, "log-level", "info", "the least level that is logged: info, warn or error")
 	flags.BoolVar(&o.logQueries, "log-queries", false, "log queries, selectors and messages about them")
 	flags.BoolVar(&o.version, "version", false, "print the version and end")
-	if err := flags.Parse(arguments); err != nil {
-		if errors.Is(err, flag.ErrHelp) {
-			return nil, err
-		}
-		return nil, errTold
-	}
-	if flags.NArg() != 0 {
-		return nil, fmt.Errorf("there is more than options: %q", flags.Arg(0))
-	}
-	return o, nil
+	return flags
 }
 
 func (o *options) addLimits(flags *flag.FlagSet) {

@@ -10,6 +10,7 @@ import (
 	"net/url"
 	"os"
 	"promql/cmd/promql-proxy/internal/failure"
+	"sort"
 	"strings"
 	"unicode/utf8"
 )
@@ -87,13 +88,20 @@ func parse(text string) (url.Values, error) {
 		return nil, err
 	}
 	for name, all := range values {
-		for _, value := range append(all, name) {
-			if !utf8.ValidString(value) {
-				return nil, errors.New("a parameter is not UTF-8")
-			}
+		if !utf8.ValidString(name) || !areUTF8(all) {
+			return nil, errors.New("a parameter is not UTF-8")
 		}
 	}
 	return values, nil
+}
+
+func areUTF8(texts []string) bool {
+	for _, text := range texts {
+		if !utf8.ValidString(text) {
+			return false
+		}
+	}
+	return true
 }
 
 // Merge returns the parameters of both, those of the body first, as Prometheus reads them.
@@ -110,7 +118,8 @@ func Merge(address, body url.Values) url.Values {
 // Check says which parameter is neither one of those that may be there once, nor one of those that may be there several times, or is too
 // long. The texts of queries and selectors have limits of their own.
 func Check(values url.Values, once, several, texts map[string]bool) *failure.Error {
-	for name, all := range values {
+	for _, name := range sorted(values) {
+		all := values[name]
 		switch {
 		case !once[name] && !several[name]:
 			return failure.Bad(failure.Parameter, fmt.Sprintf("the parameter %q is not passed on", shortened(name)))
@@ -124,6 +133,16 @@ func Check(values url.Values, once, several, texts map[string]bool) *failure.Err
 		}
 	}
 	return nil
+}
+
+// sorted returns the names in order, so that of several faults the same one is told each time.
+func sorted(values url.Values) []string {
+	names := make([]string, 0, len(values))
+	for name := range values {
+		names = append(names, name)
+	}
+	sort.Strings(names)
+	return names
 }
 
 // shortened returns a name of the client's for a message.
