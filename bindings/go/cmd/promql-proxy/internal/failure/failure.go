@@ -68,9 +68,7 @@ func Bad(reason Reason, message string) *Error {
 
 // Write responds as Prometheus does where a request fails.
 func (e *Error) Write(w http.ResponseWriter) {
-	header := w.Header()
-	header.Set("Content-Type", "application/json")
-	header.Set("X-Content-Type-Options", "nosniff")
+	w.Header().Set("Content-Type", "application/json")
 	w.WriteHeader(e.Status)
 	// The client may be gone: there is no one to tell then.
 	_ = json.NewEncoder(w).Encode(map[string]string{"status": "error", "errorType": string(e.Kind), "error": e.Message})

@@ -24,21 +24,18 @@ const (
 	maxValue      = 4096
 )
 
-// Read returns the parameters of the address and those of the body, which has so many bytes at most. The body of a GET is not looked at:
-// it means nothing.
+// Read returns the parameters of the address and those of the body, which has so many bytes at most. The body of a GET means nothing. It is
+// read all the same, since the server does not see a client leave whose body is not read.
 func Read(w http.ResponseWriter, r *http.Request, maxBody int64) (address, body url.Values, failed *failure.Error) {
 	address, err := parse(r.URL.RawQuery)
 	if err != nil {
 		return nil, nil, failure.Bad(failure.Parameter, "the address: "+err.Error())
 	}
-	if r.Method == http.MethodGet {
-		return address, url.Values{}, nil
-	}
 	text, err := io.ReadAll(http.MaxBytesReader(w, r.Body, maxBody))
 	if err != nil {
 		return nil, nil, unread(err, maxBody)
 	}
-	if len(text) == 0 {
+	if len(text) == 0 || r.Method == http.MethodGet {
 		return address, url.Values{}, nil
 	}
 	if err := checkForm(r.Header); err != nil {

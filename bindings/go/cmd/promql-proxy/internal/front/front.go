@@ -27,6 +27,11 @@ type Front struct {
 }
 
 func (f *Front) ServeHTTP(w http.ResponseWriter, r *http.Request) {
+	w.Header().Set("X-Content-Type-Options", "nosniff")
+	if f.Tenants.Header != "" {
+		// A cache on the way has an answer for each tenant.
+		w.Header().Set("Vary", f.Tenants.Header)
+	}
 	it := &exchange{Front: f, ResponseWriter: w, request: r, begun: time.Now(), endpoint: "none"}
 	f.Metrics.Begin()
 	defer it.end()

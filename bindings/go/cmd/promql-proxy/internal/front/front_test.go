@@ -181,8 +181,16 @@ func TestHeadersThatPass(t *testing.T) {
 	if found := proxy.behind.one(t); !reflect.DeepEqual(found.header, wanted) {
 		t.Errorf("Prometheus was sent %v", found.header)
 	}
-	if response.Header.Get("Set-Cookie") != "" || response.Header.Get("Content-Type") != "application/json" {
+	response.Header.Del("Date")
+	wanted = http.Header{
+		"Content-Type": {"application/json"}, "Content-Length": {"20"}, "Vary": {"X-Tenant", "Accept-Encoding"}, "X-Content-Type-Options": {"nosniff"},
+	}
+	if !reflect.DeepEqual(response.Header, wanted) {
 		t.Errorf("the client was sent %v", response.Header)
+	}
+	response, _ = proxy.do(t, request{method: "GET", target: "/api/v1/query"})
+	if found := response.Header["Vary"]; response.StatusCode != http.StatusBadRequest || !reflect.DeepEqual(found, []string{"X-Tenant"}) {
+		t.Errorf("%d %v", response.StatusCode, found)
 	}
 	proxy.do(t, request{method: "GET", target: "/api/v1/alerts", header: header})
 	if found := proxy.behind.one(t); !reflect.DeepEqual(found.header, http.Header{"User-Agent": {"promql-proxy"}}) {
@@ -192,6 +200,18 @@ func TestHeadersThatPass(t *testing.T) {
 
 // A client that leaves takes its query with it.
 func TestClientLeaves(t *testing.T) {
+	for _, it := range []request{
+		{method: "GET", target: "/api/v1/query?query=foo"},
+		{method: "GET", target: "/api/v1/query?query=foo", body: "query=bar"},
+		{method: "POST", target: "/api/v1/query", body: "query=foo"},
+		{method: "GET", target: "/api/v1/rules"},
+	} {
+		leave(t, it)
+	}
+}
+
+// leave sends a request, and leaves when the server behind is asked.
+func leave(t *testing.T, it request) {
 	begun, ended := make(chan struct{}), make(chan struct{})
 	proxy := serve(t, fixed("team-a"), func(w http.ResponseWriter, r *http.Request) {
 		close(begun)
@@ -199,10 +219,11 @@ func TestClientLeaves(t *testing.T) {
 		close(ended)
 	})
 	ctx, leave := context.WithCancel(context.Background())
-	request, err := http.NewRequestWithContext(ctx, "GET", proxy.URL+"/api/v1/query?query=foo", nil)
+	request, err := http.NewRequestWithContext(ctx, it.method, proxy.URL+it.target, strings.NewReader(it.body))
 	if err != nil {
 		t.Fatal(err)
 	}
+	request.Header.Set("Content-Type", formType)
 	go func() {
 		<-begun
 		leave()
@@ -214,6 +235,6 @@ func TestClientLeaves(t *testing.T) {
 	select {
 	case <-ended:
 	case <-time.After(10 * time.Second):
-		t.Error("the query went on")
+		t.Errorf("%v: the query went on", it)
 	}
 }

@@ -49,6 +49,7 @@ func (p *prometheus) ServeHTTP(w http.ResponseWriter, r *http.Request) {
 	}
 	w.Header().Set("Content-Type", "application/json")
 	w.Header().Set("Set-Cookie", "user=team-b")
+	w.Header().Set("Vary", "Accept-Encoding")
 	_, _ = io.WriteString(w, success)
 }
 

@@ -111,7 +111,7 @@ func (s *Server) request(ctx context.Context, question Question) (*http.Request,
 	return request, nil
 }
 
-// CopyHeaders copies the headers of a response that pass.
+// CopyHeaders adds the headers of a response that pass.
 func CopyHeaders(to http.Header, response *http.Response) {
 	copyHeaders(to, response.Header, responseHeaders())
 }
@@ -119,7 +119,8 @@ func CopyHeaders(to http.Header, response *http.Response) {
 func copyHeaders(to, from http.Header, names []string) {
 	for _, name := range names {
 		if values := from.Values(name); len(values) != 0 {
-			to[http.CanonicalHeaderKey(name)] = values
+			name = http.CanonicalHeaderKey(name)
+			to[name] = append(to[name], values...)
 		}
 	}
 }
