@@ -103,18 +103,24 @@ func TestServersThatAreNotThere(t *testing.T) {
 	}
 }
 
-func TestSlowServers(t *testing.T) {
-	proxy := serve(t, fixed("team-a"), func(w http.ResponseWriter, r *http.Request) { <-r.Context().Done() })
+// slow starts a proxy that waits for a short time for its server.
+func slow(t *testing.T, answer http.HandlerFunc) *served {
+	proxy := serve(t, fixed("team-a"), answer)
 	proxy.front.Timeout = 50 * time.Millisecond
+	return proxy
+}
+
+func TestSlowServers(t *testing.T) {
+	proxy := slow(t, func(w http.ResponseWriter, r *http.Request) { <-r.Context().Done() })
 	for _, path := range []string{query, rules} {
 		response, body := proxy.do(t, request{method: "GET", target: path})
 		checkError(t, path, response, body, http.StatusGatewayTimeout, "timeout")
 	}
-	proxy.behind.answer = func(w http.ResponseWriter, r *http.Request) {
+	proxy = slow(t, func(w http.ResponseWriter, r *http.Request) {
 		w.WriteHeader(http.StatusOK)
 		w.(http.Flusher).Flush()
 		<-r.Context().Done()
-	}
+	})
 	response, body := proxy.do(t, request{method: "GET", target: rules})
 	checkError(t, "rules that come slowly", response, body, http.StatusGatewayTimeout, "timeout")
 	proxy.checkCutOff(t, "an answer that comes slowly")

@@ -207,7 +207,7 @@ func TestSmuggling(t *testing.T) {
 		"NUL in a header":        {"GET /api/v1/query?query=foo HTTP/1.1\r\nHost: x\r\nX-A: a\x00b\r\n\r\n", 400, 0},
 		"NUL in the address":     {"GET /api/v1/query?query=foo\x00 HTTP/1.1\r\nHost: x\r\n\r\n", 400, 0},
 		"a line in the address":  {"GET /api/v1/query?query=foo%0d%0aX-Tenant:%20team HTTP/1.1\r\nHost: x\r\n\r\n", 400, 0},
-		"a long header":          {"GET /api/v1/query?query=foo HTTP/1.1\r\nHost: x\r\nX-A: " + strings.Repeat("a", 2<<20) + "\r\n\r\n", 431, 0},
+		"a long header":          {"GET /api/v1/query?query=foo HTTP/1.1\r\nHost: x\r\nX-A: " + strings.Repeat("a", 1<<20+8192) + "\r\n\r\n", 431, 0},
 	} {
 		response, body := proxy.raw(t, it.text)
 		if response.StatusCode != it.status {

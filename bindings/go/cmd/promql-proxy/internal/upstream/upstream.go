@@ -150,7 +150,7 @@ func (s *Server) Wait(ctx context.Context, tryTimeout time.Duration) error {
 		if err == nil {
 			return nil
 		}
-		if ctx.Err() == nil || last == nil {
+		if last == nil || !isCutOff(ctx, err) {
 			last = err
 		}
 		select {
@@ -159,6 +159,12 @@ func (s *Server) Wait(ctx context.Context, tryTimeout time.Duration) error {
 		case <-time.After(checkPause):
 		}
 	}
+}
+
+// isCutOff says whether a try ended for want of time, and so says less than the one before it.
+func isCutOff(ctx context.Context, err error) bool {
+	var network net.Error
+	return ctx.Err() != nil || errors.As(err, &network) && network.Timeout()
 }
 
 // check asks a query once.
