@@ -272,8 +272,11 @@ func TestGracefulEnd(t *testing.T) {
 	if found := <-answered; found != "200"+success {
 		t.Errorf("the request that was there: %s", found)
 	}
-	if err := process.Wait(); err != nil || !strings.Contains(process.log.String(), "msg=stopped") {
-		t.Errorf("%v: %s", err, process.log)
+	err := process.Wait()
+	for _, wanted := range []string{"msg=starting version=0.4.0 upstream=http://127.0.0.1:", " label=tenant tenant=a\n", "msg=stopping", "msg=stopped"} {
+		if err != nil || !strings.Contains(process.log.String(), wanted) {
+			t.Errorf("%v: no %q in %s", err, wanted, process.log)
+		}
 	}
 }
 

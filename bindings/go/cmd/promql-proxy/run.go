@@ -73,6 +73,8 @@ func (s *service) server(handler http.Handler, writeTimeout time.Duration) *http
 
 // run serves until the context ends, and then waits for the requests that are there.
 func (s *service) run(ctx context.Context) error {
+	s.log.Log(logs.Info, "starting", "version", promql.Version(), "upstream", s.options.upstream, "label", s.options.tenants.Label,
+		"tenant", s.options.tenants)
 	ended := make(chan error, 2)
 	if s.options.internalListen != "" {
 		if err := s.start(s.inside, "internal", s.options.internalListen, ended); err != nil {

@@ -130,6 +130,17 @@ func (s Source) Check() error {
 	return nil
 }
 
+// String says for the log where the tenant comes from.
+func (s Source) String() string {
+	switch {
+	case s.Header != "":
+		return "header " + s.Header
+	case s.Parameter != "":
+		return "parameter " + s.Parameter
+	}
+	return strings.Join(s.Fixed, ",")
+}
+
 func (s Source) ways() int {
 	ways := 0
 	for _, given := range []bool{s.Header != "", s.Parameter != "", len(s.Fixed) != 0} {
