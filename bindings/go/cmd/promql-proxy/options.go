@@ -25,6 +25,7 @@ type options struct {
 	startTimeout, stopTimeout        time.Duration
 	maxBody, maxAnswer               int64
 	maxQuery, maxPatterns            uint
+	maxRequests                      int
 	logQueries, version              bool
 	logLevel                         string
 }
@@ -87,6 +88,7 @@ func (o *options) addLimits(flags *flag.FlagSet) {
 	flags.DurationVar(&o.upstreamTimeout, "upstream-timeout", 2*time.Minute, "how long the Prometheus may take")
 	flags.DurationVar(&o.startTimeout, "start-timeout", 30*time.Second, "how long to wait for the Prometheus at the start; 0: do not ask it")
 	flags.DurationVar(&o.stopTimeout, "stop-timeout", 30*time.Second, "how long requests may take after SIGTERM")
+	flags.IntVar(&o.maxRequests, "max-requests", 512, "the most requests that are answered at a time; more get 503")
 	flags.Int64Var(&o.maxBody, "max-body", 1<<20, "the most bytes of a request's body")
 	flags.Int64Var(&o.maxAnswer, "max-answer", 32<<20, "the most bytes of an answer that is filtered")
 	flags.UintVar(&o.maxQuery, "max-query", 1<<20, "the most bytes of a query, as it is asked and as it is sent")
@@ -140,7 +142,7 @@ func (o *options) checkLimits() error {
 			return errors.New("a timeout is longer than nothing")
 		}
 	}
-	if o.startTimeout < 0 || o.maxBody < 1 || o.maxAnswer < 1 || o.maxQuery < 1 {
+	if o.startTimeout < 0 || o.maxBody < 1 || o.maxAnswer < 1 || o.maxQuery < 1 || o.maxRequests < 1 {
 		return errors.New("-start-timeout is at least 0, and the limits are at least 1")
 	}
 	least := o.readTimeout + o.upstreamTimeout

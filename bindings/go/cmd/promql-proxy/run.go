@@ -48,6 +48,7 @@ func newService(o *options, log *logs.Logger) (*service, error) {
 		Metrics:    counted,
 		Log:        log,
 		LogQueries: o.logQueries,
+		Places:     make(chan struct{}, o.maxRequests),
 		MaxBody:    o.maxBody,
 		MaxAnswer:  o.maxAnswer,
 		Timeout:    o.upstreamTimeout,

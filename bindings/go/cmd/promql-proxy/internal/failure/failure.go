@@ -33,6 +33,7 @@ const (
 	Query        Reason = "query"
 	Limit        Reason = "limit"
 	Memory       Reason = "memory"
+	Busy         Reason = "busy"
 	Upstream     Reason = "upstream"
 	UpstreamTime Reason = "upstream_timeout"
 	ClientLeft   Reason = "client_left"

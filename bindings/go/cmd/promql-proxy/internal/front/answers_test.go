@@ -129,13 +129,43 @@ func TestSlowServers(t *testing.T) {
 // checkCutOff says where the answer to a query looks whole.
 func (s *served) checkCutOff(t *testing.T, name string) {
 	t.Helper()
-	response, err := http.Get(s.URL + query)
+	// A connection that was used before would be tried again.
+	client := &http.Client{Transport: &http.Transport{DisableKeepAlives: true}}
+	response, err := client.Get(s.URL + query)
 	if err != nil {
 		return
 	}
 	defer response.Body.Close()
 	if text, err := io.ReadAll(response.Body); err == nil && response.StatusCode == http.StatusOK {
 		t.Errorf("%s looks whole: %d %s", name, response.StatusCode, text)
+	}
+}
+
+// Each place is one request, and is free again when that is answered, whatever came of it.
+func TestPlaces(t *testing.T) {
+	begun, release := make(chan bool), make(chan bool)
+	proxy := serve(t, fixed("team-a"), func(w http.ResponseWriter, r *http.Request) {
+		begun <- true
+		<-release
+		hijacked("HTTP/1.1 200 OK\r\nContent-Length: 100\r\n\r\n{")(w, r)
+	})
+	for round := 0; round < 2; round++ {
+		ended := make(chan bool)
+		for place := 0; place < 4; place++ {
+			go func() {
+				proxy.checkCutOff(t, "an answer that is cut off")
+				ended <- true
+			}()
+			<-begun
+		}
+		response, body := proxy.do(t, request{method: "GET", target: query})
+		checkError(t, "a fifth request", response, body, http.StatusServiceUnavailable, "unavailable")
+		response, body = proxy.do(t, request{method: "GET", target: "/"})
+		checkError(t, "another path", response, body, http.StatusNotFound, "not_found")
+		for place := 0; place < 4; place++ {
+			release <- true
+			<-ended
+		}
 	}
 }
 

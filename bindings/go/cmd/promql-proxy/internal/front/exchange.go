@@ -53,6 +53,19 @@ func (e *exchange) serve() *failure.Error {
 	if err != nil {
 		return err
 	}
+	select {
+	case e.Places <- struct{}{}:
+		defer func() { <-e.Places }()
+	default:
+		e.Header().Set("Retry-After", "1")
+		message := "there are too many requests"
+		return &failure.Error{Status: http.StatusServiceUnavailable, Kind: failure.Unavailable, Reason: failure.Busy, Message: message}
+	}
+	return e.answer(found)
+}
+
+// answer answers the request of an endpoint.
+func (e *exchange) answer(found *endpoint.Endpoint) *failure.Error {
 	address, body, err := form.Read(e.ResponseWriter, e.request, e.MaxBody)
 	if err != nil {
 		return err

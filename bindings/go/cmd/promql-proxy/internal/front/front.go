@@ -22,6 +22,9 @@ type Front struct {
 	LogQueries bool
 	// MaxBody and MaxAnswer are the most bytes of a request's body, and of an answer that is filtered.
 	MaxBody, MaxAnswer int64
+	// Places has a place for each request that may be answered at a time. Each call of the library has a thread of the system, of which
+	// a process of Go may have 10,000.
+	Places chan struct{}
 	// Timeout is how long the server behind may take for its whole answer.
 	Timeout time.Duration
 }

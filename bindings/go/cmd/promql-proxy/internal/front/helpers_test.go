@@ -143,6 +143,7 @@ func frontOf(t testing.TB, address string, tenants tenant.Source, log *lines) *F
 		Table:     endpoint.NewTable(nil),
 		Metrics:   metrics.New(time.Unix(0, 0)),
 		Log:       logs.New(log, logs.Info),
+		Places:    make(chan struct{}, 4),
 		MaxBody:   1 << 20,
 		MaxAnswer: 1 << 20,
 		Timeout:   time.Minute,
