@@ -53,7 +53,7 @@ func TestCommandLines(t *testing.T) {
 		}
 	}
 	// The limits are those of the process.
-	defer promql.SetLimits(1<<20, 16000)
+	defer promql.SetLimits(32768, 16000)
 	var limited strings.Builder
 	status := run(append(right, "-max-query", "3"), io.Discard, &limited)
 	if said := "within -max-query and -max-patterns: the matcher"; status != failed || !strings.Contains(limited.String(), said) {

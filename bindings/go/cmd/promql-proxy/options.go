@@ -91,7 +91,7 @@ func (o *options) addLimits(flags *flag.FlagSet) {
 	flags.IntVar(&o.maxRequests, "max-requests", 512, "the most requests that are answered at a time; more get 503")
 	flags.Int64Var(&o.maxBody, "max-body", 1<<20, "the most bytes of a request's body")
 	flags.Int64Var(&o.maxAnswer, "max-answer", 32<<20, "the most bytes of an answer that is filtered")
-	flags.UintVar(&o.maxQuery, "max-query", 1<<20, "the most bytes of a query, as it is asked and as it is sent")
+	flags.UintVar(&o.maxQuery, "max-query", 32768, "the most bytes of a query, as it is asked and as it is sent")
 	flags.UintVar(&o.maxPatterns, "max-patterns", 16000, "the largest size of a query's patterns together")
 }
 

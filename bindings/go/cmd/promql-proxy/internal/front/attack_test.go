@@ -97,8 +97,8 @@ func TestBodiesThatAreRefused(t *testing.T) {
 		"gzip, silent":  {request{contentType: formType, body: "\x1f\x8b\x08\x00"}, said{400, "bad_data", "the body: a parameter is not UTF-8"}},
 		"a long one":    {request{contentType: formType, body: "query=" + strings.Repeat("a", 1<<20)}, said{413, "bad_data", "the body has more than 1048576 bytes"}},
 		"a long query": {
-			request{contentType: formType, body: "query=" + strings.Repeat("a", 1<<20-6)},
-			said{422, "execution", "the enforced query is not within the limits: query is too long: 1048587 bytes, at most 1048576"},
+			request{contentType: formType, body: "query=" + strings.Repeat("a", 32762)},
+			said{422, "execution", "the enforced query is not within the limits: query is too long: 32779 bytes, at most 32768"},
 		},
 		"large patterns": {
 			request{contentType: formType, body: url.Values{"query": {`a{b=~"c{3000}"}`}}.Encode()},
