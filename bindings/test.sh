@@ -87,6 +87,11 @@ python_with_yaml() {
     return 1
 }
 
+# has_libyaml PYTHON: whether this Python has the quick reader of YAML.
+has_libyaml() {
+    "$1" -c 'from yaml import CSafeLoader' 2>/dev/null
+}
+
 # install_missing: installs the packages of Debian whose commands are missing here.
 install_missing() {
     local -a missing=()
@@ -95,6 +100,7 @@ install_missing() {
     command -v cc >/dev/null || missing+=(gcc libc6-dev)
     command -v valgrind >/dev/null || missing+=(valgrind)
     python_with_yaml >/dev/null || missing+=(python3-ruamel.yaml)
+    has_libyaml "$(python_with_yaml || echo /usr/bin/python3)" || missing+=(python3-yaml)
     python3 -c 'import pytest' 2>/dev/null || missing+=(python3-pytest)
     python3 -c 'import mypy' 2>/dev/null || missing+=(mypy)
     command -v chromium >/dev/null || missing+=(chromium)
@@ -270,6 +276,10 @@ test_rule_files() {
     elif [ "$python" != python3 ]; then
         export python
         add "rule files for Python, by $python" unit_tests "$here/python" test_rule_files.py
+        add "the readers of YAML for Python, by $python" unit_tests "$here/python" test_quick_yaml.py
+    fi
+    if [ -n "$python" ] && ! has_libyaml "$python"; then
+        echo "not tried: the readers of YAML side by side: $python has no PyYAML with libyaml"
     fi
 }
 

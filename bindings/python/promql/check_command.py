@@ -3,7 +3,7 @@
 from __future__ import annotations
 
 import argparse
-import sys
+from functools import partial
 from operator import itemgetter
 from typing import Any, List, Mapping, Tuple
 
@@ -11,12 +11,12 @@ import promql
 
 from .documents import Document, Status, read_document
 from .files import Fault, FileError, counted
+from .jobs import Report, add_arguments, as_bytes, work_on
 
 
 def add_parser(subparsers: Any) -> None:
     parser = subparsers.add_parser("check", help="check the queries of rule files and dashboards", description=__doc__)
-    parser.add_argument("files", nargs="+", metavar="FILE", help="a rule file, a dashboard (.json), or - for standard input")
-    parser.add_argument("--dashboard", action="store_true", help="all files are dashboards")
+    add_arguments(parser)
     parser.add_argument(
         "--variable",
         action="append",
@@ -36,26 +36,24 @@ def _variable(text: str) -> Tuple[str, str]:
 
 
 def _run(arguments: argparse.Namespace) -> int:
-    variables = dict(arguments.variable)
-    return max(_check_file(name, arguments.dashboard, variables) for name in arguments.files)
+    check = partial(_check_file, arguments.dashboard, dict(arguments.variable))
+    return work_on(arguments.files, check, arguments.jobs)
 
 
-def _check_file(name: str, is_dashboard: bool, variables: Mapping[str, str]) -> Status:
+def _check_file(is_dashboard: bool, variables: Mapping[str, str], name: str) -> Report:
     try:
         document = read_document(name, is_dashboard, variables)
     except FileError as error:
-        print(error, file=sys.stderr)
-        return Status.FAILED
+        return Report(Status.FAILED, b"", [str(error)])
     skipped = [query.whole(f"skipped: {query.skipped}") for query in document.queries if query.skipped]
     faults = _faults(document)
     shown = [(fault, document.source.shown) for fault in faults] + [(fault, document.source.located) for fault in skipped]
-    for fault, show in sorted(shown, key=itemgetter(0)):
-        print(show(fault), file=sys.stderr)
+    messages = [show(fault) for fault, show in sorted(shown, key=itemgetter(0))]
     parts = [document.summary(), counted(len(faults), "error", "errors")]
     if skipped:
         parts.insert(1, f"{len(skipped)} skipped")
-    print(f"{document.source.name}: {', '.join(parts)}", flush=True)
-    return Status.FOUND if faults else Status.FINE
+    summary = f"{document.source.name}: {', '.join(parts)}\n"
+    return Report(Status.FOUND if faults else Status.FINE, as_bytes(summary), messages)
 
 
 def _faults(document: Document) -> List[Fault]:

@@ -14,6 +14,7 @@ import promql
 
 from .documents import Document, Status, read_document
 from .files import BLANKS, STDIN, FileError, write_file
+from .jobs import Report, add_arguments, as_bytes, work_on
 from .queries import Query, SameQuery, edited
 
 _COMMENT = "it has a comment, which would be lost"
@@ -22,12 +23,11 @@ _LINE = re.compile(r"[^\n]*\n|[^\n]+")
 
 def add_parser(subparsers: Any) -> None:
     parser = subparsers.add_parser("format", help="lay out the queries of rule files and dashboards", description=__doc__)
-    parser.add_argument("files", nargs="+", metavar="FILE", help="a rule file, a dashboard (.json), or - for standard input")
+    add_arguments(parser)
     output = parser.add_mutually_exclusive_group()
     output.add_argument("--check", action="store_true", help="print the names of the files that would change")
     output.add_argument("--diff", action="store_true", help="print what would change")
     output.add_argument("--write", action="store_true", help="change the files")
-    parser.add_argument("--dashboard", action="store_true", help="all files are dashboards")
     parser.add_argument("--width", type=_width, default=100, help="columns of a line (100)")
     parser.add_argument("--enforce", metavar="MATCHER", help="put a matcher, such as namespace='team-a', into every selector")
     parser.set_defaults(run=_run)
@@ -73,24 +73,26 @@ def _run(arguments: argparse.Namespace) -> int:
     except FileError as error:
         print(error, file=sys.stderr)
         return Status.FAILED
-    return max(_format_file(name, arguments, printer) for name in arguments.files)
+    return work_on(arguments.files, partial(_format_file, arguments, printer), arguments.jobs, goes_on=True)
 
 
-def _format_file(name: str, arguments: argparse.Namespace, printer: Printer) -> Status:
+def _format_file(arguments: argparse.Namespace, printer: Printer, name: str) -> Report:
+    messages: List[str] = []
     try:
         document = read_document(name, arguments.dashboard)
-        text = _formatted(document, printer)
-        return _put_out(name, document, text, arguments)
+        text = _formatted(document, printer, messages)
+        status, out = _put_out(name, document, text, arguments)
+        return Report(status, as_bytes(out), messages)
     except FileError as error:
-        print(error, file=sys.stderr)
+        messages.append(str(error))
     except OSError as error:
-        print(f"{name}: {error.strerror}", file=sys.stderr)
-    return Status.FAILED
+        messages.append(f"{name}: {error.strerror}")
+    return Report(Status.FAILED, b"", messages)
 
 
-def _formatted(document: Document, printer: Printer) -> str:
-    """The text of the file with its queries as they are to be."""
-    changes = _changes(document, printer)
+def _formatted(document: Document, printer: Printer, messages: List[str]) -> str:
+    """The text of the file with its queries as they are to be; what is to be said of others is added to the messages."""
+    changes = _changes(document, printer, messages)
     if not changes:
         return document.source.text
     texts: Dict[str, List[str]] = {}
@@ -113,7 +115,7 @@ def _reads_as(document: Document, text: str, same_query: SameQuery) -> bool:
         return False
 
 
-def _changes(document: Document, printer: Printer) -> List[Tuple[Query, str]]:
+def _changes(document: Document, printer: Printer, messages: List[str]) -> List[Tuple[Query, str]]:
     """The queries that are to be written in another way, and how."""
     source, faults, changes = document.source, list(document.faults), []
     for query in document.queries:
@@ -126,7 +128,7 @@ def _changes(document: Document, printer: Printer) -> List[Tuple[Query, str]]:
         if left and printer.enforces:
             faults.append(query.whole(f"not enforced: {left}"))
         elif left:
-            print(source.located(query.whole(f"warning: left as it is: {left}")), file=sys.stderr)
+            messages.append(source.located(query.whole(f"warning: left as it is: {left}")))
         elif text != query.value.rstrip("\n"):
             changes.append((query, text))
     if faults:
@@ -159,26 +161,18 @@ def _rejected_at(query: str) -> Optional[int]:
     return None
 
 
-def _put_out(name: str, document: Document, text: str, arguments: argparse.Namespace) -> Status:
-    """Does with the new text of a file what the options say."""
+def _put_out(name: str, document: Document, text: str, arguments: argparse.Namespace) -> Tuple[Status, str]:
+    """Does with the new text of a file what the options say, and returns what is to be printed."""
     source = document.source
     changed = text != source.text
     if arguments.check or arguments.diff:
-        if changed:
-            _print(f"{source.name}\n" if arguments.check else "".join(_diff(source.name, source.text, text)))
-        return Status.FOUND if changed else Status.FINE
+        said = f"{source.name}\n" if arguments.check else "".join(_diff(source.name, source.text, text))
+        return (Status.FOUND, said) if changed else (Status.FINE, "")
     if not arguments.write or name == STDIN:
-        _print(source.mark + text)
-    elif changed:
+        return Status.FINE, source.mark + text
+    if changed:
         write_file(source, (source.mark + text).encode())
-    return Status.FINE
-
-
-def _print(text: str) -> None:
-    """Writes a text to standard output, with its own line ends."""
-    sys.stdout.flush()
-    sys.stdout.buffer.write(text.encode("utf-8", "surrogateescape"))
-    sys.stdout.buffer.flush()
+    return Status.FINE, ""
 
 
 def _diff(name: str, old: str, new: str) -> Iterator[str]:
