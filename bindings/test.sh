@@ -277,7 +277,9 @@ test_rule_files() {
         export python
         add "rule files for Python, by $python" unit_tests "$here/python" test_rule_files.py
         add "the readers of YAML for Python, by $python" unit_tests "$here/python" test_quick_yaml.py
+        add "checks of rules for Python, by $python" unit_tests "$here/python" test_rule_checks.py
     fi
+    has promtool 'verdicts on rule files beside those of promtool'
     if [ -n "$python" ] && ! has_libyaml "$python"; then
         echo "not tried: the readers of YAML side by side: $python has no PyYAML with libyaml"
     fi

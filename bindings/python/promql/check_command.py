@@ -5,7 +5,7 @@ from __future__ import annotations
 import argparse
 from functools import partial
 from operator import itemgetter
-from typing import Any, List, Mapping, Tuple
+from typing import Any, List, Tuple
 
 import promql
 
@@ -25,6 +25,7 @@ def add_parser(subparsers: Any) -> None:
         metavar="NAME=VALUE",
         help="put VALUE in the place of a variable of dashboards, such as __rate_interval=5m",
     )
+    parser.add_argument("--queries", action="store_true", help="check queries alone, and not names, labels, durations and templates")
     parser.set_defaults(run=_run)
 
 
@@ -36,23 +37,24 @@ def _variable(text: str) -> Tuple[str, str]:
 
 
 def _run(arguments: argparse.Namespace) -> int:
-    check = partial(_check_file, arguments.dashboard, dict(arguments.variable))
-    return work_on(arguments.files, check, arguments.jobs)
+    return work_on(arguments.files, partial(_check_file, arguments), arguments.jobs)
 
 
-def _check_file(is_dashboard: bool, variables: Mapping[str, str], name: str) -> Report:
+def _check_file(arguments: argparse.Namespace, name: str) -> Report:
     try:
-        document = read_document(name, is_dashboard, variables)
+        document = read_document(name, arguments.dashboard, dict(arguments.variable))
+        others, warnings = ([], []) if arguments.queries else document.checks()
     except FileError as error:
         return Report(Status.FAILED, b"", [str(error)])
     skipped = [query.whole(f"skipped: {query.skipped}") for query in document.queries if query.skipped]
-    faults = _faults(document)
-    shown = [(fault, document.source.shown) for fault in faults] + [(fault, document.source.located) for fault in skipped]
+    faults = {*_faults(document), *others}
+    source = document.source
+    shown = [(fault, source.shown) for fault in faults] + [(fault, source.located) for fault in (*skipped, *warnings)]
     messages = [show(fault) for fault, show in sorted(shown, key=itemgetter(0))]
     parts = [document.summary(), counted(len(faults), "error", "errors")]
     if skipped:
         parts.insert(1, f"{len(skipped)} skipped")
-    summary = f"{document.source.name}: {', '.join(parts)}\n"
+    summary = f"{source.name}: {', '.join(parts)}\n"
     return Report(Status.FOUND if faults else Status.FINE, as_bytes(summary), messages)
 
 

@@ -51,6 +51,9 @@ class Dashboard:
     def summary(self) -> str:
         return counted(len(self.queries), "query", "queries")
 
+    def checks(self) -> Tuple[List[Fault], List[Fault]]:
+        return [], []
+
     def same(self, text: str, same_query: SameQuery) -> bool:
         _load(replace(self.source, text=text))
         old, new = list(_tokens(self.source.text)), list(_tokens(text))

@@ -3,10 +3,10 @@
 from __future__ import annotations
 
 from enum import IntEnum
-from typing import List, Mapping, Optional, Protocol
+from typing import List, Mapping, Optional, Protocol, Tuple
 
 from .dashboards import Dashboard
-from .files import Fault, FileError, Source, read_source
+from .files import Fault, Source, nested_too_deeply, read_source
 from .queries import Query, SameQuery
 from .rule_files import RuleFile
 
@@ -29,6 +29,9 @@ class Document(Protocol):
     def summary(self) -> str:
         """How much there is in the file."""
 
+    def checks(self) -> Tuple[List[Fault], List[Fault]]:
+        """The faults beside the queries, and warnings."""
+
     def same(self, text: str, same_query: SameQuery) -> bool:
         """Whether this text of a file has what this one has, but for queries which are the same by `same_query`."""
 
@@ -41,4 +44,4 @@ def read_document(name: str, is_dashboard: bool, variables: Optional[Mapping[str
             return Dashboard(source, variables)
         return RuleFile(source)
     except RecursionError as error:
-        raise FileError(f"{name}: nested too deeply") from error
+        raise nested_too_deeply(name) from error

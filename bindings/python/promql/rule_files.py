@@ -10,10 +10,12 @@ from functools import partial
 from typing import Any, Callable, Dict, Iterator, List, Optional, Set, Tuple
 
 from .exact_yaml import ExactYaml, look_for_reader
-from .files import Fault, FileError, Source, counted
+from .files import Fault, FileError, Source, counted, nested_too_deeply
 from .queries import Query, SameQuery
 from .quick_yaml import QuickYaml, Unclear
+from .rule_checks import LOOKED_AT, RuleChecks
 from .scalars import Scalar
+from .yaml_mappings import Entry, Mappings
 from .yaml_nodes import Node, YamlText
 
 # The parts of a rule file that are in one, by the key; in a list it is None.
@@ -24,6 +26,7 @@ _PARTS = {
     ("rules", None): "rule",
     ("rule", "expr"): "expr",
 }
+_FIELDS = frozenset(("groups",))
 _USED_ELSEWHERE = "an alias has it in another place than `expr`"
 _COMMENT_BELOW = "the comment below it is so far in that it would become a part of it"
 # More rules than anyone writes: only aliases of lists that have aliases make so many.
@@ -47,6 +50,16 @@ class RuleFile:
 
     def summary(self) -> str:
         return counted(self._parts.rules, "rule", "rules")
+
+    def checks(self) -> Tuple[List[Fault], List[Fault]]:
+        found = RuleChecks(self._parts.mappings)
+        try:
+            for root in self._parts.yaml.roots:
+                if self._parts.mappings.entry(root, "groups"):
+                    found.look_at_file(root, _FIELDS)
+        except RecursionError as error:
+            raise nested_too_deeply(self.source.name) from error
+        return found.faults, found.warnings
 
     def same(self, text: str, same_query: SameQuery) -> bool:
         old, new = self._both(replace(self.source, text=text))
@@ -73,10 +86,9 @@ class _Parts:
         self.rules = 0
         # The key and the value of each `expr`, once for all its aliases.
         self._found: Dict[int, Tuple[Node, Node]] = {}
-        # How many rules a node has, and its entry of a key: each node is looked at once, however many aliases it has.
+        # How many rules a node has: each node is looked at once, however many aliases it has.
         self._counts: Dict[Tuple[str, int], int] = {}
-        self._entries: Dict[Tuple[int, str], Optional[Tuple[Node, Node]]] = {}
-        self._sought: Set[Tuple[int, str]] = set()
+        self.mappings = Mappings(source.name)
         for root in yaml.roots:
             self._look_at_document(root)
         self.queries = list(self._read_queries())
@@ -116,7 +128,7 @@ class _Parts:
         return self._once(key, entry[1], partial(self._count_items, name, count))
 
     def _count_items(self, name: str, count: Callable[[Node], int], items: Node) -> int:
-        return sum(self._once(name, item, count) for item in items.value if self._is_mapping(item, name))
+        return sum(self._once(name, item, count) for item in items.value if not item.is_null() and self._is_mapping(item, name))
 
     def _once(self, part: str, node: Node, count: Callable[[Node], int]) -> int:
         """What is counted in a node as this part of a rule file, where it was not counted before."""
@@ -125,28 +137,16 @@ class _Parts:
             self._counts[place] = count(node)
         return self._counts[place]
 
-    def _entry(self, mapping: Node, key: str) -> Optional[Tuple[Node, Node]]:
-        """The node of a key and that of its value, which may come from a mapping that is merged into this one."""
-        if mapping.kind != "mapping":
-            return None
-        place = (id(mapping), key)
-        if place in self._sought:
-            raise FileError(f"{self._source.name}: a mapping is merged into itself")
-        if place not in self._entries:
-            self._sought.add(place)
-            self._entries[place] = self._find_entry(mapping, key)
-            self._sought.remove(place)
-        return self._entries[place]
+    def _entry(self, mapping: Node, key: str) -> Optional[Entry]:
+        if mapping.kind == "mapping":
+            self._once("keys", mapping, self._look_at_keys)
+        return self.mappings.entry(mapping, key)
 
-    def _find_entry(self, mapping: Node, key: str) -> Optional[Tuple[Node, Node]]:
-        entries: List[Tuple[Node, Node]] = [entry for entry in mapping.value if entry[0].is_key(key)]
-        if len(entries) > 1:
-            self._complain(entries[1][0], f"`{key}` is there twice")
-        if entries:
-            return entries[0]
-        merged = [value for name, value in mapping.value if name.is_merge()]
-        parts = [part for value in merged for part in (value.value if value.kind == "sequence" else [value])]
-        return next(filter(None, (self._entry(part, key) for part in parts)), None)
+    def _look_at_keys(self, mapping: Node) -> int:
+        for name in self.mappings.repeated(mapping):
+            if name.value in LOOKED_AT:
+                self._complain(name, f"`{name.value}` is there twice")
+        return 0
 
     def _is_mapping(self, node: Node, name: str) -> bool:
         if node.kind != "mapping":
