@@ -278,6 +278,7 @@ test_rule_files() {
         add "rule files for Python, by $python" unit_tests "$here/python" test_rule_files.py
         add "the readers of YAML for Python, by $python" unit_tests "$here/python" test_quick_yaml.py
         add "checks of rules for Python, by $python" unit_tests "$here/python" test_rule_checks.py
+        add "files with rules for Python, by $python" unit_tests "$here/python" test_rule_documents.py
     fi
     has promtool 'verdicts on rule files beside those of promtool'
     if [ -n "$python" ] && ! has_libyaml "$python"; then

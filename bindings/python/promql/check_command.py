@@ -9,9 +9,10 @@ from typing import Any, List, Tuple
 
 import promql
 
-from .documents import Document, Status, read_document
+from .documents import Document, Status, read_document, skipped_notes
 from .files import Fault, FileError, counted
-from .jobs import Report, add_arguments, as_bytes, work_on
+from .jobs import Report, add_arguments, as_bytes, skipped_file, work_on
+from .targets import Target, targets_of
 
 
 def add_parser(subparsers: Any) -> None:
@@ -37,19 +38,23 @@ def _variable(text: str) -> Tuple[str, str]:
 
 
 def _run(arguments: argparse.Namespace) -> int:
-    return work_on(arguments.files, partial(_check_file, arguments), arguments.jobs)
+    targets = targets_of(arguments.files, arguments.dashboard)
+    return work_on(targets, partial(_check_file, arguments), arguments.jobs)
 
 
-def _check_file(arguments: argparse.Namespace, name: str) -> Report:
+def _check_file(arguments: argparse.Namespace, target: Target) -> Report:
     try:
-        document = read_document(name, arguments.dashboard, dict(arguments.variable))
-        others, warnings = ([], []) if arguments.queries else document.checks()
+        document = read_document(target, arguments.dashboard, dict(arguments.variable))
+        if not document:
+            return skipped_file(target, arguments.verbose)
+        others, notes = ([], []) if arguments.queries else document.checks()
     except FileError as error:
         return Report(Status.FAILED, b"", [str(error)])
+    notes += skipped_notes(document, arguments.verbose)
     skipped = [query.whole(f"skipped: {query.skipped}") for query in document.queries if query.skipped]
     faults = {*_faults(document), *others}
     source = document.source
-    shown = [(fault, source.shown) for fault in faults] + [(fault, source.located) for fault in (*skipped, *warnings)]
+    shown = [(fault, source.shown) for fault in faults] + [(fault, source.located) for fault in (*skipped, *notes)]
     messages = [show(fault) for fault, show in sorted(shown, key=itemgetter(0))]
     parts = [document.summary(), counted(len(faults), "error", "errors")]
     if skipped:

@@ -45,8 +45,10 @@ class Dashboard:
     def __init__(self, source: Source, variables: Optional[Mapping[str, str]] = None) -> None:
         self.source = source
         self.faults: List[Fault] = []
+        self.notes: List[Fault] = []
         self._document = _load(source)
         self.queries = list(self._read_queries(variables or {}))
+        self.is_known = bool(self.queries)
 
     def summary(self) -> str:
         return counted(len(self.queries), "query", "queries")

@@ -12,10 +12,11 @@ from typing import Any, Callable, Dict, Iterator, List, Optional, Tuple
 
 import promql
 
-from .documents import Document, Status, read_document
+from .documents import Document, Status, read_document, skipped_notes
 from .files import BLANKS, STDIN, FileError, write_file
-from .jobs import Report, add_arguments, as_bytes, work_on
+from .jobs import Report, add_arguments, as_bytes, skipped_file, work_on
 from .queries import Query, SameQuery, edited
+from .targets import Target, targets_of
 
 _COMMENT = "it has a comment, which would be lost"
 _LINE = re.compile(r"[^\n]*\n|[^\n]+")
@@ -73,13 +74,18 @@ def _run(arguments: argparse.Namespace) -> int:
     except FileError as error:
         print(error, file=sys.stderr)
         return Status.FAILED
-    return work_on(arguments.files, partial(_format_file, arguments, printer), arguments.jobs, goes_on=True)
+    targets = targets_of(arguments.files, arguments.dashboard)
+    return work_on(targets, partial(_format_file, arguments, printer), arguments.jobs, goes_on=True)
 
 
-def _format_file(arguments: argparse.Namespace, printer: Printer, name: str) -> Report:
+def _format_file(arguments: argparse.Namespace, printer: Printer, target: Target) -> Report:
     messages: List[str] = []
+    name = target.name
     try:
-        document = read_document(name, arguments.dashboard)
+        document = read_document(target, arguments.dashboard)
+        if not document:
+            return skipped_file(target, arguments.verbose)
+        messages += map(document.source.located, skipped_notes(document, arguments.verbose))
         text = _formatted(document, printer, messages)
         status, out = _put_out(name, document, text, arguments)
         return Report(status, as_bytes(out), messages)

@@ -11,6 +11,7 @@ from typing import Any, Callable, Iterator, List, NamedTuple, Sequence
 
 from .documents import Status
 from .files import STDIN
+from .targets import Target
 
 _MOST_JOBS = 256
 
@@ -35,14 +36,21 @@ def as_bytes(text: str) -> bytes:
     return text.encode("utf-8", "surrogateescape")
 
 
-Work = Callable[[str], Report]
+def skipped_file(target: Target, is_verbose: bool) -> Report:
+    """What is said of a file of a folder that is something else."""
+    return Report(Status.FINE, b"", [f"{target.name}: skipped: no rule file"] if is_verbose else [])
+
+
+Work = Callable[[Target], Report]
 
 
 def add_arguments(parser: Any) -> None:
     """What the commands over files have in common."""
-    parser.add_argument("files", nargs="+", metavar="FILE", help="a rule file, a dashboard (.json), or - for standard input")
+    files = "a rule file, a dashboard (.json), a folder with rule files, or - for standard input"
+    parser.add_argument("files", nargs="+", metavar="FILE", help=files)
     parser.add_argument("--dashboard", action="store_true", help="all files are dashboards")
     parser.add_argument("--jobs", type=_jobs, default=1, metavar="N", help="so many processes (1)")
+    parser.add_argument("-v", "--verbose", action="store_true", help="name what is skipped in files and folders")
 
 
 def _jobs(text: str) -> int:
@@ -51,13 +59,14 @@ def _jobs(text: str) -> int:
     return int(text)
 
 
-def work_on(names: List[str], work: Work, jobs: int, goes_on: bool = False) -> Status:
+def work_on(targets: List[Target], work: Work, jobs: int, goes_on: bool = False) -> Status:
     """Puts out what is said of each file, and returns the highest status. It can go on where the output cannot be written."""
-    jobs = min(jobs, len(names))
+    jobs = min(jobs, len(targets))
+    names = [target.name for target in targets]
     # (standard input is that of one process, and a file that is there twice is written once after the other)
     alone = jobs == 1 or STDIN in names or len({os.path.realpath(name) for name in names}) < len(names)
     worst = Status.FINE
-    for name, report in zip(names, map(work, names) if alone else _in_processes(names, work, jobs)):
+    for name, report in zip(names, map(work, targets) if alone else _in_processes(targets, work, jobs)):
         worst = max(worst, report.status)
         try:
             report.put_out()
@@ -69,26 +78,26 @@ def work_on(names: List[str], work: Work, jobs: int, goes_on: bool = False) -> S
     return worst
 
 
-def _in_processes(names: List[str], work: Work, jobs: int) -> Iterator[Report]:
+def _in_processes(targets: List[Target], work: Work, jobs: int) -> Iterator[Report]:
     """The reports of processes that take turns with the files, so that none is far ahead of what is put out."""
     context = multiprocessing.get_context("fork")
     readers: List[Connection] = []
     for number in range(jobs):
         reader, writer = context.Pipe(duplex=False)
         readers.append(reader)
-        context.Process(target=_send, args=(names[number::jobs], work, writer, list(readers)), daemon=True).start()
+        context.Process(target=_send, args=(targets[number::jobs], work, writer, list(readers)), daemon=True).start()
         writer.close()
-    for number, name in enumerate(names):
+    for number, target in enumerate(targets):
         try:
             report: Report = readers[number % jobs].recv()
         except EOFError:
-            report = Report(Status.FAILED, b"", [f"{name}: the process that had this file ended"])
+            report = Report(Status.FAILED, b"", [f"{target.name}: the process that had this file ended"])
         yield report
 
 
-def _send(names: List[str], work: Work, writer: Connection, readers: List[Connection]) -> None:
+def _send(targets: List[Target], work: Work, writer: Connection, readers: List[Connection]) -> None:
     """What a process does: where nobody reads its reports any more, it ends by SIGPIPE."""
     for reader in readers:
         reader.close()
-    for name in names:
-        writer.send(work(name))
+    for target in targets:
+        writer.send(work(target))

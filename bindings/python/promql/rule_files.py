@@ -14,12 +14,21 @@ from .files import Fault, FileError, Source, counted, nested_too_deeply
 from .queries import Query, SameQuery
 from .quick_yaml import QuickYaml, Unclear
 from .rule_checks import LOOKED_AT, RuleChecks
+from .rule_documents import WITH_QUERIES, Kind, RuleDocument, documents_of, is_logql, is_surely_of_rules
 from .scalars import Scalar
 from .yaml_mappings import Entry, Mappings
 from .yaml_nodes import Node, YamlText
 
 # The parts of a rule file that are in one, by the key; in a list it is None.
 _PARTS = {
+    ("document", "items"): "items",
+    ("items", None): "document",
+    ("document", "spec"): "spec",
+    ("spec", "groups"): "groups",
+    ("document", "tests"): "tests",
+    ("tests", None): "test",
+    ("test", "promql_expr_test"): "queries",
+    ("queries", None): "rule",
     ("document", "groups"): "groups",
     ("groups", None): "group",
     ("group", "rules"): "rules",
@@ -32,6 +41,7 @@ _COMMENT_BELOW = "the comment below it is so far in that it would become a part 
 # More rules than anyone writes: only aliases of lists that have aliases make so many.
 _MOST_RULES = 1_000_000
 _TOO_MANY = f"its aliases make more than {_MOST_RULES:,} rules of it"
+_LOKI = "a rule file of Loki, whose queries are LogQL"
 _UNREAD = "the places of its characters cannot be told: write it in another style of YAML"
 
 
@@ -47,16 +57,22 @@ class RuleFile:
             self._parts = _Parts(source, ExactYaml(source))
         self.queries = self._parts.queries
         self.faults = self._parts.faults
+        self.notes = self._parts.notes
+        self.is_known = any(is_surely_of_rules(document, self._parts.mappings) for document in self._parts.documents)
 
     def summary(self) -> str:
-        return counted(self._parts.rules, "rule", "rules")
+        parts = self._parts
+        tests = [counted(parts.tests, "query", "queries")] if parts.tests else []
+        return ", ".join(tests if tests and not parts.rules else [counted(parts.rules, "rule", "rules"), *tests])
 
     def checks(self) -> Tuple[List[Fault], List[Fault]]:
         found = RuleChecks(self._parts.mappings)
         try:
-            for root in self._parts.yaml.roots:
-                if self._parts.mappings.entry(root, "groups"):
-                    found.look_at_file(root, _FIELDS)
+            for document in self._parts.documents:
+                if document.kind is Kind.RULES and document.is_whole:
+                    found.look_at_file(document.owner, _FIELDS)
+                elif document.kind is Kind.RULES:
+                    found.look_at_groups(self._parts.mappings.value(document.owner, "groups"))
         except RecursionError as error:
             raise nested_too_deeply(self.source.name) from error
         return found.faults, found.warnings
@@ -84,32 +100,49 @@ class _Parts:
         self.yaml = yaml
         self.faults: List[Fault] = []
         self.rules = 0
+        self.tests = 0
         # The key and the value of each `expr`, once for all its aliases.
         self._found: Dict[int, Tuple[Node, Node]] = {}
         # How many rules a node has: each node is looked at once, however many aliases it has.
         self._counts: Dict[Tuple[str, int], int] = {}
+        # Those that are of Loki.
+        self._left: Set[int] = set()
         self.mappings = Mappings(source.name)
-        for root in yaml.roots:
-            self._look_at_document(root)
+        self.documents = [self._seen(document) for root in yaml.roots for document in documents_of(root, self.mappings)]
+        if self.rules + self.tests > _MOST_RULES:
+            raise FileError(f"{self._source.name}: {_TOO_MANY}")
+        self.has_rules = any(document.kind in WITH_QUERIES for document in self.documents)
+        places = [Fault(it.owner.start, it.owner.start, it.note) for it in self.documents if it.kind is Kind.OBJECT]
+        self.faults += [] if self.has_rules else places
+        self.notes = places if self.has_rules else []
         self.queries = list(self._read_queries())
 
-    def _look_at_document(self, root: Node) -> None:
-        if root.is_null():
-            return
-        if self._is_mapping(root, "the document") and not self._entry(root, "groups"):
-            self._complain(root, "this is no rule file: it has no `groups`")
-        self.rules += self._count_in(root, "groups", "a group", self._count_in_group)
-        if self.rules > _MOST_RULES:
-            raise FileError(f"{self._source.name}: {_TOO_MANY}")
+    def _seen(self, document: RuleDocument) -> RuleDocument:
+        """Looks for the queries of a document, which tell whether it is of Loki."""
+        count = len(self._found)
+        if document.kind is Kind.WRONG:
+            self._complain(document.owner, document.note)
+        elif document.kind is Kind.TESTS:
+            self.tests += self._count_in(document.owner, "tests", "a test", self._count_in_test)
+        elif document.kind is not Kind.OBJECT:
+            self.rules += self._count_in(document.owner, "groups", "a group", self._count_in_group)
+        found = [node for _, node in list(self._found.values())[count:]]
+        if document.kind is Kind.LOKI or document.kind is Kind.RULES and any(is_logql(node.value) for node in found):
+            self._left.update(map(id, found))
+            return document._replace(kind=Kind.LOKI)
+        return document
+
+    def _count_in_test(self, test: Node) -> int:
+        return self._count_in(test, "promql_expr_test", "a query", partial(self._look_at_rule, "a test of a query"))
 
     def _count_in_group(self, group: Node) -> int:
-        return self._count_in(group, "rules", "a rule", self._look_at_rule)
+        return self._count_in(group, "rules", "a rule", partial(self._look_at_rule, "a rule"))
 
-    def _look_at_rule(self, rule: Node) -> int:
+    def _look_at_rule(self, name: str, rule: Node) -> int:
         """Looks at a rule, and returns 1 where it has a query."""
         entry = self._entry(rule, "expr")
         if not entry or entry[1].is_null() or entry[1].is_plain(""):
-            self._complain(rule, "a rule without `expr`")
+            self._complain(rule, f"{name} without `expr`")
         elif not entry[1].is_text():
             self._complain(entry[1], "`expr` is not a text")
         else:
@@ -168,7 +201,7 @@ class _Parts:
             else:
                 comment_below = scalar.is_block() and scalar.has_comment_below()
                 kept = _USED_ELSEWHERE if id(node) in others else _COMMENT_BELOW if comment_below else ""
-                yield Query(node.value, offsets, scalar, kept=kept)
+                yield Query(node.value, offsets, scalar, _LOKI if id(node) in self._left else "", kept)
 
 
 def _children(part: str, node: Node) -> Iterator[Tuple[str, Node]]:

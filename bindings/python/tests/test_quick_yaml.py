@@ -15,6 +15,7 @@ from promql.exact_yaml import ExactYaml
 from promql.files import FileError, Source
 from promql.jobs import Report, work_on
 from promql.quick_yaml import QuickYaml, Unclear
+from promql.targets import Target
 from test_rule_files import FILES, NAMES, PLACES, RULE, Folder, file_of
 from written import rule_file
 
@@ -24,7 +25,7 @@ except ImportError as error:
     raise unittest.SkipTest("there is no PyYAML with libyaml here") from error
 
 # How many texts are made at random.
-RANDOM = int(os.environ.get("PROMQL_YAML_TEXTS", "150"))
+RANDOM = int(os.environ.get("PROMQL_YAML_TEXTS", "60"))
 PIECES = (
     *("a", "b c", "expr", 'up{job="x"}', " ", "  ", "\n", "\n  ", "\n    ", "\n- ", "\n  - ", ": ", ":", "- ", "? ", "[", "]", "{", "}"),
     *(", ", ",", '"', "'", "\\", "\\n", '\\"', "''", "#", " #c", "&x ", "*x", "|", ">", "|-", "|2", ">+", "|+\n ", "\r\n", "\r", "---\n"),
@@ -206,14 +207,14 @@ class Jobs(Folder):
         self.assertEqual(ran, (0, f"{path}: 1 rule, no errors\n<stdin>: 1 rule, no errors\n", ""))
 
     def test_a_process_that_ends(self):
-        def work(name):
-            if name == "b":
+        def work(target):
+            if target.name == "b":
                 os._exit(9)
-            return Report(Status.FINE, f"{name}\n".encode(), [])
+            return Report(Status.FINE, f"{target.name}\n".encode(), [])
 
         with mock.patch.object(Report, "put_out", lambda report: said.append((report.out, *report.err))):
             said = []
-            self.assertEqual(work_on(["a", "b", "c", "d"], work, 2), Status.FAILED)
+            self.assertEqual(work_on([Target(name) for name in "abcd"], work, 2), Status.FAILED)
         ended = "the process that had this file ended"
         self.assertEqual(said, [(b"a\n",), (b"", f"b: {ended}"), (b"c\n",), (b"", f"d: {ended}")])
         for process in multiprocessing.active_children():
