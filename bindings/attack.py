@@ -270,6 +270,8 @@ FILES = {
     "a" * 250 + ".yml": (RULE + "  - alert: B\n    expr: up==0\n", 0, "1 rule, no errors"),
     "digits.json": ('{"panels": [{"id": ' + "1" * 5000 + ', "targets": [{"expr": "up==0"}]}]}', 0, "1 query, no errors"),
     "nested.json": ("[" * 100_000, 2, "nested too deeply"),
+    "variables.json": ('{"targets": [{"expr": "' + "$a + " * 100_000 + '"}]}', 0, "1 skipped, no errors"),
+    "braces.json": ('{"targets": [{"expr": "' + "${" * 100_000 + '"}]}', 1, "1 query, 1 error"),
 }
 # The same of `check`.
 CHECKED_FILES = {

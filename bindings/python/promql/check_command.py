@@ -26,7 +26,9 @@ def add_parser(subparsers: Any) -> None:
         metavar="NAME=VALUE",
         help="put VALUE in the place of a variable of dashboards, such as __rate_interval=5m",
     )
-    parser.add_argument("--queries", action="store_true", help="check queries alone, and not names, labels, durations and templates")
+    parser.add_argument(
+        "--queries", action="store_true", help="check queries alone, and not names, labels, durations and templates"
+    )
     parser.set_defaults(run=_run)
 
 

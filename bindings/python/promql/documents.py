@@ -48,8 +48,8 @@ class Document(Protocol):
 def read_document(target: Target, is_dashboard: bool, variables: Optional[Mapping[str, str]] = None) -> Optional[Document]:
     """Reads a file, which is a dashboard where its name ends with .json, too.
 
-    There is nothing to read in a file that was found in a folder, and is something else. One that is not YAML is that where no line of
-    it begins with `groups:`, as in rules.
+    There is nothing to read in a file that was found in a folder, and is something else. One that is not YAML is that where no line
+    of it begins with `groups:`, as in rules.
     """
     if target.fault:
         raise FileError(target.fault)

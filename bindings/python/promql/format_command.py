@@ -19,6 +19,8 @@ from .queries import Query, SameQuery, edited
 from .targets import Target, targets_of
 
 _COMMENT = "it has a comment, which would be lost"
+_ANY_VALUES = "its variables of Grafana may have any values"
+_NOT_BACK = "its variables of Grafana would not come back"
 _LINE = re.compile(r"[^\n]*\n|[^\n]+")
 
 
@@ -49,12 +51,25 @@ class Printer:
     # The query that is to be there: the same, or one with a matcher in it.
     meant: Callable[[str], str]
 
-    def text(self, query: Query) -> str:
-        return promql.format(self.meant(query.text), width=query.spelling.room(self.width))
+    def text(self, query: Query) -> Optional[str]:
+        """The query as it is to be written; or nothing, where its variables would not come back."""
+        width = query.spelling.room(self.width)
+        if not query.variables:
+            return promql.format(self.meant(query.text), width=width)
+        try:
+            return query.variables.come_back(promql.format(query.laid_out, width=width))
+        except promql.QueryError:
+            return None
 
-    def means(self, new: str, old: str) -> bool:
-        """Whether a query is what the old one is to be."""
-        return promql.canonical(new) == promql.canonical(self.meant(old.rstrip(BLANKS)))
+    def means(self, new: str, query: Query) -> bool:
+        """Whether a text is what the query is to be."""
+        read = query.variables.stand_in(new) if query.variables else new
+        return read is not None and promql.canonical(read) == promql.canonical(self.meant(query.laid_out))
+
+    def why_left(self, query: Query) -> str:
+        """Why a query is not formatted, or nothing."""
+        left = query.skipped or _why_kept(query)
+        return left or (_ANY_VALUES if self.enforces and query.variables else "")
 
 
 def _enforcer(matcher: Optional[str]) -> Callable[[str], str]:
@@ -101,12 +116,13 @@ def _formatted(document: Document, printer: Printer, messages: List[str]) -> str
     changes = _changes(document, printer, messages)
     if not changes:
         return document.source.text
-    texts: Dict[str, List[str]] = {}
+    texts: Dict[str, List[Tuple[Query, str]]] = {}
     for query, text in changes:
-        texts.setdefault(query.value, []).append(text)
+        texts.setdefault(query.original, []).append((query, text))
 
     def same_query(old: str, new: str) -> bool:
-        return old == new or (new.rstrip(BLANKS) in texts.get(old, ()) and printer.means(new, old))
+        queries = [query for query, text in texts.get(old, ()) if text == new.rstrip(BLANKS)]
+        return old == new or any(printer.means(new, query) for query in queries[:1])
 
     text = edited(document.source.text, (query.spelling.edit(text) for query, text in changes))
     if not _reads_as(document, text, same_query):
@@ -126,16 +142,16 @@ def _changes(document: Document, printer: Printer, messages: List[str]) -> List[
     source, faults, changes = document.source, list(document.faults), []
     for query in document.queries:
         try:
-            left = query.skipped or _why_kept(query)
-            text = query.value if left else printer.text(query)
+            left = printer.why_left(query)
+            text = None if left else printer.text(query)
         except ValueError as error:
             faults.append(query.rejected(error))
             continue
-        if left and printer.enforces:
+        if text is None and printer.enforces:
             faults.append(query.whole(f"not enforced: {left}"))
-        elif left:
-            messages.append(source.located(query.whole(f"warning: left as it is: {left}")))
-        elif text != query.value.rstrip("\n"):
+        elif text is None:
+            messages.append(source.located(query.whole(f"warning: left as it is: {left or _NOT_BACK}")))
+        elif text != query.original.rstrip("\n"):
             changes.append((query, text))
     if faults:
         raise FileError("\n".join(source.shown(fault) for fault in sorted(faults)))

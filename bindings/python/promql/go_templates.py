@@ -1,7 +1,7 @@
 """The templates of Go that annotations and labels of alerts are: whether Prometheus would take one.
 
-This follows the grammar of Go's package `text/template`, with the functions and variables that Prometheus 2.42 has. A template is not run, so
-nothing is told of the types and numbers of arguments, or of fields that are not there.
+This follows the grammar of Go's package `text/template`, with the functions and variables that Prometheus 2.42 has. A template is not
+run, so nothing is told of the types and numbers of arguments, or of fields that are not there.
 """
 
 from __future__ import annotations
@@ -38,8 +38,12 @@ _NUMBER = re.compile(
     re.X,
 )
 _WHOLE = re.compile(r"[+-]?(?:0[xX][0-9a-fA-F_]+|0[oO][0-7_]+|0[bB][01_]+|0[0-7_]*|[1-9][0-9_]*)")
-_FLOAT = re.compile(r"[+-]?(?:[0-9][0-9_]*\.?[0-9_]*|\.[0-9][0-9_]*)(?:[eE][+-]?[0-9]+)?i?|[+-]?0[xX][0-9a-fA-F_.]+[pP][+-]?[0-9]+")
-_ESCAPE = r"\\(?:[abfnrtv\\%s]|[0-3][0-7]{2}|x[0-9a-fA-F]{2}|u(?![dD][89a-fA-F])[0-9a-fA-F]{4}|U00(?:0[0-9a-fA-F]|10)[0-9a-fA-F]{4})"
+_FLOAT = re.compile(
+    r"[+-]?(?:[0-9][0-9_]*\.?[0-9_]*|\.[0-9][0-9_]*)(?:[eE][+-]?[0-9]+)?i?|[+-]?0[xX][0-9a-fA-F_.]+[pP][+-]?[0-9]+"
+)
+_ESCAPE = (
+    r"\\(?:[abfnrtv\\%s]|[0-3][0-7]{2}|x[0-9a-fA-F]{2}|u(?![dD][89a-fA-F])[0-9a-fA-F]{4}|U00(?:0[0-9a-fA-F]|10)[0-9a-fA-F]{4})"
+)
 _STRING = re.compile(rf'"(?:[^"\\]|{_ESCAPE % chr(34)})*"|`[^`]*`')
 _CHAR = re.compile(rf"'(?:[^'\\]|{_ESCAPE % chr(39)})'")
 # What may follow a name.

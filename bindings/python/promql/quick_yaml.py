@@ -1,7 +1,7 @@
 """YAML by libyaml: some twenty times quicker than `exact_yaml`, for texts that both are known to read alike.
 
-The reader is the C code that PyYAML calls, and is asked for events alone: it makes no nodes, so nothing recurses. What is unusual in a text,
-or wrong, is left to `exact_yaml`, which then says what there is to say.
+The reader is the C code that PyYAML calls, and is asked for events alone: it makes no nodes, so nothing recurses. What is unusual in a
+text, or wrong, is left to `exact_yaml`, which then says what there is to say.
 """
 
 from __future__ import annotations
@@ -17,8 +17,7 @@ from .yaml_nodes import Node, Token
 # What libyaml, which reads YAML 1.1, may take otherwise: TABs, the line ends of Unicode, and what is not printed; directives, ends of
 # documents, and a comment at once after the sign of a block.
 _UNUSUAL = re.compile(
-    "[^\n\r -~\xa0-\u2027\u202a-\ud7ff\ue000-\ufefe\uff00-\ufffd\U00010000-\U0010ffff]"
-    r"|(?:^|\r)(?:%|\.\.\.)|[|>][-+0-9]*#",
+    "[^\n\r -~\xa0-\u2027\u202a-\ud7ff\ue000-\ufefe\uff00-\ufffd\U00010000-\U0010ffff]" r"|(?:^|\r)(?:%|\.\.\.)|[|>][-+0-9]*#",
     re.M,
 )
 _MOST_LEVELS = 100

@@ -1,6 +1,7 @@
 """What Prometheus asks of groups and rules beside their queries: names, labels, durations, fields and templates.
 
-The verdict is that of `promtool check rules` of Prometheus 2.42, but for what docs/guide/rule-files.md, "What differs from promtool", lists.
+The verdict is that of `promtool check rules` of Prometheus 2.42, but for what docs/guide/rule-files.md, "What differs from promtool",
+lists.
 """
 
 from __future__ import annotations
@@ -27,7 +28,9 @@ _MILLISECONDS = (31_536_000_000, 604_800_000, 86_400_000, 3_600_000, 60_000, 1_0
 # In nanoseconds.
 _LONGEST = 2**63 - 1
 _MOST_DIGITS = 18
-_NUMBER = re.compile(r"[-+]?(?:[0-9][0-9_]*(?:\.[0-9_]*)?|\.[0-9][0-9_]*)(?:[eE][-+]?[0-9]+)?|[-+]?0(?:x[0-9a-fA-F_]+|o[0-7_]+|b[01_]+)")
+_NUMBER = re.compile(
+    r"[-+]?(?:[0-9][0-9_]*(?:\.[0-9_]*)?|\.[0-9][0-9_]*)(?:[eE][-+]?[0-9]+)?|[-+]?0(?:x[0-9a-fA-F_]+|o[0-7_]+|b[01_]+)"
+)
 _LARGEST = 2**63 - 1
 
 # The name of a rule, and its labels.
@@ -111,7 +114,9 @@ class RuleChecks:
         if identity not in self._rules:
             self._rules.add(identity)
         elif identity[0] and self._is_new("same", rule):
-            self.warnings.append(Fault(rule.start, rule.start, "warning: a rule with this name and these labels is there before"))
+            self.warnings.append(
+                Fault(rule.start, rule.start, "warning: a rule with this name and these labels is there before")
+            )
 
     def _look_at_fields(self, mapping: Node, part: str, fields: FrozenSet[str]) -> None:
         """Complains of fields that are unknown or there twice, also in what is merged."""

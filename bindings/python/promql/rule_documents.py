@@ -1,4 +1,4 @@
-"""What a YAML document is to the tools for rule files: rules, tests of rules, an object of Kubernetes with rules, or none of these."""
+"""What a YAML document is to the tools for rule files: rules, tests of them, an object of Kubernetes with rules, or none of these."""
 
 from __future__ import annotations
 

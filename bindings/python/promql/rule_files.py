@@ -190,7 +190,11 @@ class _Parts:
         self.faults.append(Fault(node.start, node.start, message))
 
     def _read_queries(self) -> Iterator[Query]:
-        others = {id(node) for root in self.yaml.roots for part, node in _reached(root) if part == "other"} if self.yaml.has_aliases else ()
+        others = (
+            {id(node) for root in self.yaml.roots for part, node in _reached(root) if part == "other"}
+            if self.yaml.has_aliases
+            else ()
+        )
         for key, node in self._found.values():
             start, before, in_flow = self.yaml.token(key, node)
             scalar = Scalar(self._source.text, start, node.end, before, node.style, in_flow, key.column)

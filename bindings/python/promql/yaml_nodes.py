@@ -14,7 +14,9 @@ class Node:
 
     __slots__ = ("kind", "value", "tag", "style", "anchor", "start", "end", "column", "in_flow")
 
-    def __init__(self, kind: str, value: Any, tag: str, style: str, anchor: str, start: int, end: int, column: int, in_flow: bool) -> None:
+    def __init__(
+        self, kind: str, value: Any, tag: str, style: str, anchor: str, start: int, end: int, column: int, in_flow: bool
+    ) -> None:
         self.kind = kind
         # A text, a list of nodes, or a list of pairs.
         self.value = value
@@ -54,7 +56,7 @@ class Node:
 
 
 class Token(NamedTuple):
-    """Where a scalar begins without its anchor and its tag, where the token before it ends, and whether it is in brackets or braces."""
+    """Where a scalar begins without its anchor and its tag, where the token before it ends, and whether it is in braces or brackets."""
 
     start: int
     before: int

@@ -27,10 +27,11 @@ except ImportError as error:
 # How many texts are made at random.
 RANDOM = int(os.environ.get("PROMQL_YAML_TEXTS", "60"))
 PIECES = (
-    *("a", "b c", "expr", 'up{job="x"}', " ", "  ", "\n", "\n  ", "\n    ", "\n- ", "\n  - ", ": ", ":", "- ", "? ", "[", "]", "{", "}"),
-    *(", ", ",", '"', "'", "\\", "\\n", '\\"', "''", "#", " #c", "&x ", "*x", "|", ">", "|-", "|2", ">+", "|+\n ", "\r\n", "\r", "---\n"),
-    *("...\n", "<<: ", "~", "null", "%", "@", "`", "!", "é", "🦀", "sum(a)", "=", "!=", "\\x41", "\\\n", "\n\n", "\t", "yes", "{a: b}"),
-)
+    "a", "b c", "expr", 'up{job="x"}', " ", "  ", "\n", "\n  ", "\n    ", "\n- ", "\n  - ", ": ", ":", "- ", "? ", "[", "]",
+    "{", "}", ", ", ",", '"', "'", "\\", "\\n", '\\"', "''", "#", " #c", "&x ", "*x", "|", ">", "|-", "|2", ">+", "|+\n ",
+    "\r\n", "\r", "---\n", "...\n", "<<: ", "~", "null", "%", "@", "`", "!", "é", "🦀", "sum(a)", "=", "!=", "\\x41", "\\\n",
+    "\n\n", "\t", "yes", "{a: b}",
+)  # fmt: skip
 # What the files of the tests have that is left to the exact reader.
 LEFT = re.compile(r"!!str|\t|^\.\.\.", re.M)
 # Texts that libyaml and ruamel.yaml take otherwise, or that only one of them takes.

@@ -21,12 +21,13 @@ from test_rule_files import Folder, aliases
 PLACES = ("/etc/prometheus", "/usr/share/doc", "/usr/share/gocode/src/github.com")
 # Pieces of templates, right and wrong.
 PIECES = (
-    *("{{", "}}", "{{ ", " }}", " -}}", "{{- ", "{{/* c */}}", "$labels", "$value", "$x", "$", ".", ".a", ".Labels", " | ", "|", " ", "  "),
-    *("\n", "(", ")", '"a"', "`b`", "'c'", "1", "-1", "1.5", "5m", "0x1F", ".5", "humanize", "printf", "query", "foo", "true", "nil", "if"),
-    *("else", "end", "range", "with", "define", "template", "block", "break", "{{ if 1 }}", "{{ end }}", "{{ else }}", "{{ else if 1 }}"),
-    *('{{ range query "up" }}', "{{ with $x := 1 }}", '{{ define "a" }}', '{{ template "a" }}', '{{ block "a" . }}', "{{ break }}"),
-    *(":=", " := ", "=", ",", "$x := 1", "é", '"\\q"', "{", "}", "-", "+", "text", "and", "==", '"}}"', "{{ $value | humanize }}"),
-)
+    "{{", "}}", "{{ ", " }}", " -}}", "{{- ", "{{/* c */}}", "$labels", "$value", "$x", "$", ".", ".a", ".Labels", " | ", "|",
+    " ", "  ", "\n", "(", ")", '"a"', "`b`", "'c'", "1", "-1", "1.5", "5m", "0x1F", ".5", "humanize", "printf", "query",
+    "foo", "true", "nil", "if", "else", "end", "range", "with", "define", "template", "block", "break", "{{ if 1 }}",
+    "{{ end }}", "{{ else }}", "{{ else if 1 }}", '{{ range query "up" }}', "{{ with $x := 1 }}", '{{ define "a" }}',
+    '{{ template "a" }}', '{{ block "a" . }}', "{{ break }}", ":=", " := ", "=", ",", "$x := 1", "é", '"\\q"', "{", "}", "-",
+    "+", "text", "and", "==", '"}}"', "{{ $value | humanize }}",
+)  # fmt: skip
 
 
 def verdict(path):
@@ -45,7 +46,9 @@ def takes(template):
 
 def alerts(templates):
     """A rule file whose alerts have these texts as annotations."""
-    rules = (f"  - alert: A{number}\n    expr: up\n    annotations: {{a: {json.dumps(it)}}}\n" for number, it in enumerate(templates))
+    rules = (
+        f"  - alert: A{number}\n    expr: up\n    annotations: {{a: {json.dumps(it)}}}\n" for number, it in enumerate(templates)
+    )
     return RULES + "".join(rules)
 
 
@@ -77,7 +80,9 @@ class Files(Folder):
         self.assertEqual((ran.status, ran.out), (0, text.replace("==", " == ")))
 
     def test_all_faults(self):
-        text = "groups:\n- name: a\n  interval: 5\n  rules:\n  - record: b-c\n    expr: up ==\n    for: 5m\n    labels: {a: {}}\n"
+        text = (
+            "groups:\n- name: a\n  interval: 5\n  rules:\n  - record: b-c\n    expr: up ==\n    for: 5m\n    labels: {a: {}}\n"
+        )
         path = self.file(text)
         ran = run("check", path)
         said = [line.partition(f"{path}:")[2] for line in ran.err.split("\n") if str(path) in line]
@@ -159,7 +164,9 @@ class Promtool(Folder):
 
     @classmethod
     def setUpClass(cls):
-        version = subprocess.run(["promtool", "--version"], stdout=subprocess.PIPE, stderr=subprocess.STDOUT, check=False).stdout
+        version = subprocess.run(
+            ["promtool", "--version"], stdout=subprocess.PIPE, stderr=subprocess.STDOUT, check=False
+        ).stdout
         if b"version 2.42." not in version:
             raise unittest.SkipTest("promtool is not of 2.42")
 

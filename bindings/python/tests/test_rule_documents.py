@@ -50,7 +50,16 @@ LOGQL = (
     'sum_over_time({a="b"}|unwrap c [1m])',
 )
 # Queries that are not, right ones and wrong ones.
-PROMQL = ('foo{a="} |= `b`"}', "foo{a!=\"b\"} != 5", "foo{} | bar", "foo{} |= bar", "foo | json", '{a="b"} !~ c', '"} | json"', "a != \"b\"")
+PROMQL = (
+    'foo{a="} |= `b`"}',
+    'foo{a!="b"} != 5',
+    "foo{} | bar",
+    "foo{} |= bar",
+    "foo | json",
+    '{a="b"} !~ c',
+    '"} | json"',
+    'a != "b"',
+)
 
 
 def rule(query):
@@ -184,7 +193,9 @@ class Folders(Folder):
             ran = run("check", "--jobs", jobs, self.folder)
             self.assertEqual(ran, (0, "".join(f"{line}, no errors\n" for line in said), ""))
         others = ("deep/service.yaml", "empty.yml", "groups.yml", "helm.yaml")
-        self.assertEqual(run("check", "-v", self.folder).err, "".join(f"{self.folder}/{it}: skipped: no rule file\n" for it in others))
+        self.assertEqual(
+            run("check", "-v", self.folder).err, "".join(f"{self.folder}/{it}: skipped: no rule file\n" for it in others)
+        )
 
     def test_format(self):
         ran = run("format", "--check", self.folder)
