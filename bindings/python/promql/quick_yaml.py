@@ -1,4 +1,4 @@
-"""YAML by libyaml: some twenty times quicker than `exact_yaml`, for texts that both are known to read alike.
+"""YAML by libyaml: some ten times quicker than `exact_yaml`, for texts that both are known to read alike.
 
 The reader is the C code that PyYAML calls, and is asked for events alone: it makes no nodes, so nothing recurses. What is unusual in a
 text, or wrong, is left to `exact_yaml`, which then says what there is to say.

@@ -7,7 +7,7 @@ lists.
 from __future__ import annotations
 
 import re
-from typing import Dict, FrozenSet, List, Match, Optional, Set, Tuple
+from typing import Dict, FrozenSet, Iterator, List, Match, Optional, Set, Tuple
 
 from .files import Fault
 from .go_templates import TemplateError, check_template
@@ -126,11 +126,17 @@ class RuleChecks:
                 self._complain(key, "the name of a field is not a text")
             elif key.value not in fields and not key.is_merge():
                 self._complain(key, f"unknown field `{key.value}`")
-        for other in self._mappings.merged(mapping):
-            if other.kind != "mapping":
-                self._complain(mapping, "what is merged by `<<` is not a mapping")
-            elif self._is_new(f"merged into a {part}", other):
+        for other in self._merged(mapping):
+            if self._is_new(f"merged into a {part}", other):
                 self._look_at_fields(other, part, fields)
+
+    def _merged(self, mapping: Node) -> Iterator[Node]:
+        """The mappings that are merged into one; complains of what is none."""
+        for other in self._mappings.merged(mapping):
+            if other.kind == "mapping":
+                yield other
+            else:
+                self._complain(mapping, "what is merged by `<<` is not a mapping")
 
     def _look_at_keys(self, mapping: Node) -> None:
         if self._is_new("keys", mapping):
@@ -148,9 +154,9 @@ class RuleChecks:
             return False
         entries = self._labels(owner, name)
         if self._is_new(f"{name}, {is_template}", value):
-            for part in (value, *self._mappings.merged(value)):
-                if part.kind == "mapping":
-                    self._look_at_keys(part)
+            self._look_at_keys(value)
+            for part in self._merged(value):
+                self._look_at_keys(part)
             for key, text in entries:
                 self._look_at_label(key, text, name, is_template)
         return bool(entries)
@@ -236,6 +242,10 @@ def _is_number(node: Node) -> bool:
         return False
     text = node.value.replace("_", "")
     try:
-        return abs(int(text, 0) if text.lstrip("+-")[:2] in ("0x", "0o", "0b") else float(text)) <= _LARGEST
+        if text.lstrip("+-")[:2] in ("0x", "0o", "0b"):
+            return -_LARGEST - 1 <= int(text, 0) <= _LARGEST
+        if text.lstrip("+-").isdecimal() and len(text) <= _MOST_DIGITS + 2:
+            return int(text) <= _LARGEST
+        return float(text) <= _LARGEST
     except ValueError:
         return False

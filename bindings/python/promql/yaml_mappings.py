@@ -88,6 +88,7 @@ class Mappings:
                 if key.kind != "scalar":
                     continue
                 if key.value == "<<" and not key.style:
+                    found.repeated.extend([key] if found.merges else [])
                     found.merges.append(entry[1])
                 elif found.entries.setdefault(key.value, entry) is not entry:
                     found.repeated.append(key)

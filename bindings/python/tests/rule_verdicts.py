@@ -9,6 +9,107 @@ AFTER_ALERT = RULES + "  - alert: B\n    expr: up\n"
 AFTER_RECORD = RULES + "  - record: b:c\n    expr: up\n"
 LABELS = RULES + "  - {alert: A, expr: up, labels: &l {a: b}}\n  - {alert: B, expr: up, labels: "
 
+# Values of fields, right and wrong ones.
+_DURATIONS = (
+    "5m",
+    "1h30m",
+    "0",
+    "0s",
+    "5",
+    "30m1h",
+    "x",
+    "",
+    "[5m]",
+    "~",
+    "null",
+    '"5m"',
+    "1.5h",
+    "+5m",
+    "300y",
+    "292y",
+    "!!str 5m",
+)
+_NAMES = ("a", "B", "a:b", "5", "~", "null", '""', "[a]", "{a: b}", "true", "a: b", "a-b", "&n a", "é", "")
+_LABELS = (
+    *(
+        "{a: b}",
+        "{}",
+        "~",
+        "",
+        "{a-b: c}",
+        "{a: b, a: c}",
+        "[a]",
+        "x",
+        "{a: [b]}",
+        "{__name__: x}",
+        "{a: ~}",
+        "{5: b}",
+        "{'': b}",
+    ),
+    *(
+        "{a: '{{ $value }}'}",
+        "{a: '{{ $foo }}'}",
+        "{a: '{{ if }}'}",
+        "{<<: {a: b}, a: c}",
+        "{<<: [{a: b}, {a-c: d}]}",
+        "{<<: ~}",
+    ),
+)
+_LIMITS = (
+    "5",
+    "x",
+    "-1",
+    "1.5",
+    '"5"',
+    "0x10",
+    "~",
+    "",
+    "[1]",
+    "1_000",
+    "true",
+    "1e3",
+    "1e19",
+    "08",
+    "0x",
+    "5.",
+    ".inf",
+    str(2**63 - 1),
+)
+_EXPRESSIONS = ("up", "up ==", "'up'", "sum(up)", "rate(up)", "~", "", "[up]", "{a: b}", "5", "|\n      up == 0")
+# The values of each field of a rule, and how often it is there.
+_RULE = {
+    "alert": (("A", "B", "C"), _NAMES, 0.5),
+    "record": (("a:b", "c", "d"), _NAMES, 0.4),
+    "expr": (("up", "sum(up)"), _EXPRESSIONS, 0.95),
+    "for": (("5m",), _DURATIONS, 0.2),
+    "keep_firing_for": (("5m",), _DURATIONS, 0.1),
+    "labels": (("{a: b}",), _LABELS, 0.3),
+    "annotations": (("{a: '{{ $value }}'}",), _LABELS, 0.2),
+    "<<": (("{for: 5m}",), ("{labels: {a: b}}", "[{expr: up}]", "5", "{foo: bar}", "{for: 5}"), 0.05),
+    "foo": (("bar",), ("bar",), 0.02),
+}
+_GROUP = {
+    "name": (("g",), _NAMES, 0.95),
+    "interval": (("30s",), _DURATIONS, 0.2),
+    "limit": (("5",), _LIMITS, 0.2),
+    "foo": (("bar",), ("bar",), 0.02),
+}
+
+
+def file_at_random(generator):
+    """A rule file of one group with one rule or two, which is right or has some faults."""
+    rules = [_fields(generator, _RULE, "    ") for _ in range(generator.randrange(1, 3))]
+    group = _fields(generator, _GROUP, "  ") + "  rules:\n" + "".join(f"  - {rule[4:]}" for rule in rules if rule)
+    return f"groups:\n- {group[2:]}"
+
+
+def _fields(generator, fields, indent):
+    names = [name for name, (_, _, often) in fields.items() if generator.random() < often]
+    names += generator.sample(names, 1) if names and generator.random() < 0.02 else []
+    generator.shuffle(names)
+    return "".join(f"{indent}{name}: {generator.choice(fields[name][generator.random() < 0.15])}\n" for name in names)
+
+
 # fmt: off
 FILES = (
     ("", True, ""),
@@ -175,6 +276,11 @@ FILES = (
     (AFTER_ALERT + "    annotations: {a: '{{ $value | humanise }}'}\n", False, "6:22: not a template: there is no function `humanise`"),
     (AFTER_ALERT + "    annotations: {a: '{{ if $value }}x'}\n", False, "6:22: not a template: `{{ end }}` is missing"),
     (RULES + "  - {alert: B, expr: up, for: 1h, for: 2h}\n", False, "4:35: `for` is there twice"),
+    (AFTER_ALERT + "    labels: {<<: ~}\n", False, "6:13: what is merged by `<<` is not a mapping"),
+    (AFTER_ALERT + "    labels: {<<: {a: b}, <<: {c: d}}\n", False, "6:26: `<<` is there twice"),
+    (GROUP + "  limit: 9223372036854775807\n", True, ""),
+    (GROUP + "  limit: 9223372036854775808\n", False, "3:10: `limit` is not a number"),
+    (GROUP + "  limit: -9223372036854775809\n", True, ""),
     (LABELS + "{<<: *l, c: d}}\n", True, ""),
     (LABELS + "{<<: *l, a: d}}\n", True, ""),
     (LABELS + "{<<: *l, c-d: e}}\n", False, "5:43: not a label's name: `c-d`"),

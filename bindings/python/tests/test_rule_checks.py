@@ -14,7 +14,7 @@ import rule_verdicts
 from command_line import run
 from promql import quick_yaml
 from promql.go_templates import TemplateError, check_template
-from rule_verdicts import AFTER_ALERT, DIFFERENT, FILES, NO_TEMPLATES, RULES, TEMPLATES
+from rule_verdicts import AFTER_ALERT, DIFFERENT, FILES, NO_TEMPLATES, RULES, TEMPLATES, file_at_random
 from test_rule_files import Folder, aliases
 
 # Where packages of Debian have rule files.
@@ -191,6 +191,19 @@ class Promtool(Folder):
         wrong = self.rejected(templates)
         for number, template in enumerate(templates):
             self.assertEqual(takes(template), number not in wrong, template)
+
+    def test_files_at_random(self):
+        """Files with right and wrong values in each field."""
+        generator, paths = random.Random(5), []
+        for number in range(1500):
+            paths.append(self.file(file_at_random(generator), f"{number}.yml"))
+        command = ["promtool", "check", "rules", *paths]
+        said = subprocess.run(command, stdout=subprocess.PIPE, stderr=subprocess.STDOUT, check=False).stdout.decode()
+        wrong = set(re.findall(r"^(/\S+\.yml): ", said, re.M))
+        self.assertTrue(200 < len(wrong) < 1300, len(wrong))
+        for path in paths:
+            with self.subTest(path.read_text(encoding="utf-8")):
+                self.assertEqual(run("check", path).status != 0, str(path) in wrong)
 
     def test_files_of_packages(self):
         """What the packages of this machine have: the same verdict, but where a file has fields of later versions."""
