@@ -94,6 +94,8 @@ class RuleChecks:
         value = self._mappings.value(rule, "record")
         if value and record and not _METRIC.fullmatch(record):
             self._complain(value, f"not a metric's name: `{record}`")
+        for key in ("record", "alert", "expr"):
+            self._look_for_alias(rule, key)
         for key in ("for", "keep_firing_for"):
             if self._duration(rule, key) and record:
                 self._complain(self._place(rule, key), f"`{key}` is for alerts")
@@ -101,6 +103,13 @@ class RuleChecks:
         if annotations and record:
             self._complain(self._place(rule, "annotations"), "`annotations` are for alerts")
         self._look_at_labels(rule, "labels", is_template=bool(alert))
+
+    def _look_for_alias(self, rule: Node, key: str) -> None:
+        """Warns of an alias: a value that is before its key in the file."""
+        entry = self._mappings.entry(rule, key)
+        if entry and entry[1].start < entry[0].start:
+            name = f"warning: Prometheus 2.42 takes the name of this alias, `{entry[1].anchor}`, for `{key}`"
+            self.warnings.append(Fault(entry[0].start, entry[0].start, name))
 
     def _look_for_same(self, rule: Node) -> None:
         """Warns of a rule with the name and the labels of one before it."""

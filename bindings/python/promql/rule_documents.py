@@ -42,12 +42,12 @@ _PIPELINE = re.compile(
     |\|\s*(?:json|logfmt|regexp|pattern|unpack|unwrap|line_format|label_format|decolorize|drop|keep|distinct)\b)""",
     re.X,
 )
-_STRING = re.compile(r""""(?:[^"\\\n]|\\.)*"|'(?:[^'\\\n]|\\.)*'|`[^`]*`""")
+_STRING = re.compile(r""""(?:[^"\\\n]|\\.)*"|'(?:[^'\\\n]|\\.)*'|`[^`]*`|#[^\n]*""")
 
 
 def is_logql(query: str) -> bool:
     """Whether a query is surely of Loki, and not of Prometheus."""
-    return "{" in query and bool(_PIPELINE.search(_STRING.sub('""', query)))
+    return "{" in query and bool(_PIPELINE.search(_STRING.sub(lambda it: "" if it[0][0] == "#" else '""', query)))
 
 
 def documents_of(root: Node, mappings: Mappings) -> Iterator[RuleDocument]:

@@ -9,6 +9,7 @@ AFTER_ALERT = RULES + "  - alert: B\n    expr: up\n"
 AFTER_RECORD = RULES + "  - record: b:c\n    expr: up\n"
 LABELS = RULES + "  - {alert: A, expr: up, labels: &l {a: b}}\n  - {alert: B, expr: up, labels: "
 
+ALIAS = "warning: Prometheus 2.42 takes the name of this alias, `{}`, for `expr`"
 # Values of fields, right and wrong ones.
 _DURATIONS = (
     "5m",
@@ -236,8 +237,8 @@ FILES = (
     (AFTER_ALERT + "  - alert: B\n    expr: down\n    labels: {a: b}\n", True, ""),
     (AFTER_RECORD + "  - record: b:c\n    expr: down\n", True, "6:5: warning: a rule with this name and these labels is there before"),
     (RULES + "  - alert: A\n    expr: &x up ==\n", False, "5:19: invalid promql query"),
-    (RULES + "  - alert: A\n    expr: &x up\n  - alert: B\n    expr: *x\n", True, ""),
-    (RULES + "  - alert: A\n    expr: &x-y up\n  - alert: B\n    expr: *x-y\n", True, ""),
+    (RULES + "  - alert: A\n    expr: &x up\n  - alert: B\n    expr: *x\n", True, "7:5: " + ALIAS.format("x")),
+    (RULES + "  - alert: A\n    expr: &x-y up\n  - alert: B\n    expr: *x-y\n", True, "7:5: " + ALIAS.format("x-y")),
     (RULES + "  - &r\n    alert: A\n    expr: up\n  - <<: *r\n    alert: B\n", True, ""),
     (RULES + "  - &r {alert: A, expr: up}\n  - *r\n", True, "4:5: warning: a rule with this name and these labels is there before"),
     (RULES + "  - &r {alert: A, expr: up, foo: b}\n  - <<: *r\n    alert: B\n", False, "4:29: unknown field `foo`"),
@@ -292,7 +293,7 @@ DIFFERENT = (
     (GROUP + "  query_offset: 5s\n", False, ""),
     (GROUP + "  partial_response_strategy: warn\n", False, ""),
     (GROUP + "  labels: {a: b}\n", False, ""),
-    (RULES + "  - alert: A\n    expr: &x_- up\n  - alert: B\n    expr: *x_-\n", False, ""),
+    (RULES + "  - alert: A\n    expr: &x_- up\n  - alert: B\n    expr: *x_-\n", False, "7:5: " + ALIAS.format("x_-")),
     (AFTER_ALERT + "---\nfoo: bar\n", True, "7:1: this is no rule file: it has no `groups`"),
     (AFTER_ALERT + "---\ngroups: [{name: a, rules: [{alert: B, expr: 'up =='}]}]\n", True, "7:51: invalid promql query"),
     (RULES + "  - alert: B\n    expr:\tup\n", True, "5:10: not YAML: found character '\\t' that cannot start any token"),

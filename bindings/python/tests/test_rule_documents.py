@@ -56,6 +56,7 @@ PROMQL = (
     "foo{} | bar",
     "foo{} |= bar",
     "foo | json",
+    'foo  # not {a="b"} |= "c"',
     '{a="b"} !~ c',
     '"} | json"',
     'a != "b"',

@@ -256,7 +256,7 @@ class Places(Folder):
             for line_end in ("\n", "\r\n", "\r"):
                 with self.subTest(name, line_end=line_end):
                     path = self.file((RULE + lines + "\n").replace("\n", line_end))
-                    ran = run("check", path)
+                    ran = run("check", "--queries", path)
                     self.assertEqual(ran.status, 1)
                     self.assertEqual(ran.err.count(str(path)), 1, ran.err)
                     line, column = map(int, place.split(":"))
