@@ -26,6 +26,11 @@ _TOKEN = re.compile(
 )
 # After a backslash nobody knows what a variable makes.
 _ESCAPED = re.compile(r"\\(?:\$|\[\[)")
+# What may make one number of what is before and after it.
+_SIGN = re.compile(r"[-+](?=[0-9$\[])")
+_PART_OF_NUMBER = re.compile(r"[0-9.]*[eE]?[0-9.]*")
+# How errors begin that depend on the values of strings.
+_OF_VALUES = ("illegal regex", "vector selector must contain")
 # What a variable may be read as, beside the name of a function.
 _WORD, _NUMBER, _DURATION, _TIME, _MATCHER, _STRING = (
     ("word",),
@@ -67,6 +72,16 @@ class Place(NamedTuple):
     is_sure: bool
 
 
+class Span(NamedTuple):
+    """Where a variable is in a query that is checked."""
+
+    start: int
+    end: int
+    is_sure: bool
+    # Whether it is read as a function, whose arguments may then be wrong.
+    is_function: bool
+
+
 # The kinds that are read at places that have several, by the texts there.
 Choice = Dict[Tuple[str, Tuple[str, ...]], str]
 
@@ -89,9 +104,10 @@ class Variables:
     def are_told_apart(self) -> bool:
         return len(self._spelled) == len(self._texts)
 
-    def checked(self, text: PlacedText) -> Tuple[PlacedText, List[Tuple[int, int, bool]]]:
-        """The query as it is checked, and where the variables are in that, with whether their kind is sure."""
-        made, at, spans = PlacedText(), 0, []
+    def checked(self, text: PlacedText) -> Tuple[PlacedText, List[Span]]:
+        """The query as it is checked, and where the variables are in that."""
+        made, at = PlacedText(), 0
+        spans: List[Span] = []
         for place in places_of(text.text):
             in_string = place.kinds == _TEXT
             for start, end in [found.span() for found in _variables(text.text, place)] if in_string else [place[:2]]:
@@ -100,7 +116,7 @@ class Variables:
                 made.copy(text, at, start)
                 begin, at = len(made.text), end
                 made.put_all(self._texts[use], text.offsets[start])
-                spans.append((begin, len(made.text), place.is_sure))
+                spans.append(Span(begin, len(made.text), place.is_sure, use[1] in _FUNCTIONS))
         made.copy(text, at, len(text.text))
         return made, spans
 
@@ -126,7 +142,7 @@ class Variables:
 
     def _use(self, text: str, place: Place) -> Tuple[str, str]:
         spelling = text[place.start : place.end]
-        return spelling, self._choice.get((spelling, place.kinds), place.kinds[0])
+        return spelling, self._choice.get((spelling, place.kinds), (*place.kinds, "")[0])
 
 
 def _variables(text: str, place: Place) -> Iterator[Match[str]]:
@@ -152,7 +168,7 @@ def read_variables(text: PlacedText) -> Reading:
         try:
             promql.check(made.text)
         except promql.QueryError as error:
-            unknown = _unknown(text.text) if any(_is_doubtful(error, *span) for span in spans) else ""
+            unknown = _unknown(text.text) if any(_is_doubtful(error, span) for span in spans) else ""
             if error.start > best[0]:
                 best = error.start, Reading(variables, made, unknown)
         except ValueError:
@@ -167,16 +183,16 @@ def _unknown(query: str) -> str:
     return f"it is not read with its variables of Grafana ({', '.join(names)}): `check --variable NAME=VALUE` gives them values"
 
 
-def _is_doubtful(error: promql.QueryError, start: int, end: int, is_sure: bool) -> bool:
-    """Whether an error may be one of what stands in for a variable."""
-    touches = error.start <= end and start <= error.end
-    return touches and (not is_sure or error.message.startswith("illegal regex"))
+def _is_doubtful(error: promql.QueryError, span: Span) -> bool:
+    """Whether an error may be one of what stands in for a variable: it is there, or at the token after it."""
+    touches = span.start <= error.end and not error.query[span.end : error.start].strip()
+    return span.is_function or touches and (not span.is_sure or error.message.startswith(_OF_VALUES))
 
 
 def _trials(query: str) -> Iterator[Variables]:
     """The ways to read the variables of a query, the most likely one first."""
     places = list(places_of(query))
-    if len(VARIABLE.findall(query)) > _MOST_TEXTS:
+    if len(VARIABLE.findall(query)) > _MOST_TEXTS or any(not place.kinds for place in places):
         return
     open_places = sorted({(query[place.start : place.end], place.kinds) for place in places if len(place.kinds) > 1})
     most = min(_MOST_TRIALS, 1 + _MOST_READ // (len(query) + 1))
@@ -228,37 +244,39 @@ def places_of(query: str) -> Iterator[Place]:
 def _in_run(query: str, tokens: Sequence[Match[str]], number: int, opened: str) -> Iterator[Place]:
     """The variables of a token, or the token as a whole where it is none but with a value, as `[${x}s]`."""
     token = tokens[number]
-    before, after = (tokens[at][0] if 0 <= at < len(tokens) else "" for at in (number - 1, number + 1))
+    before, after = (tokens[at][0].lower() if 0 <= at < len(tokens) else "" for at in (number - 1, number + 1))
     if before in ("-", "+") and number > 1 and tokens[number - 2][0].lower() in ("offset", "@"):
-        before = tokens[number - 2][0]
-    rest = VARIABLE.sub("", token[0])
-    whole: Tuple[str, ...] = ()
-    if opened == "[" or before.lower() == "offset":
-        whole = _DURATION
-    elif before == "@":
-        whole = _TIME
-    elif "." in rest or token[0][0].isdigit():
-        whole = _NUMBER
-    if whole:
-        yield Place(*token.span(), whole, whole is not _NUMBER)
-    elif after == "(" and opened != "{":
-        yield Place(*token.span(), _functions(query), False)
-    elif VARIABLE.fullmatch(token[0]) and ":" not in (
-        query[token.start() - 1 : token.start()],
-        query[token.end() : token.end() + 1],
-    ):
-        yield Place(*token.span(), _kinds(query, token[0], before, after, opened), False)
-    else:
-        for found in VARIABLE.finditer(token[0]):
-            yield Place(token.start() + found.start(), token.start() + found.end(), _WORD, False)
+        before = tokens[number - 2][0].lower()
+    found = _as_token(query, token, before, after, opened)
+    if found:
+        yield Place(*token.span(), *found)
+        return
+    for variable in VARIABLE.finditer(token[0]):
+        yield Place(token.start() + variable.start(), token.start() + variable.end(), _WORD, False)
 
 
-def _kinds(query: str, variable: str, before: str, after: str, opened: str) -> Tuple[str, ...]:
+def _as_token(query: str, token: Match[str], before: str, after: str, opened: str) -> Optional[Tuple[Tuple[str, ...], bool]]:
+    """What a token with variables may be as a whole, and whether that is sure; or nothing where it is a name with variables in it."""
+    rest, is_variable = VARIABLE.sub("", token[0]), VARIABLE.fullmatch(token[0])
+    if not is_variable and _SIGN.match(query, token.end()) and _PART_OF_NUMBER.fullmatch(rest):
+        # (`1$x-5` may be one number, and has no white space then)
+        return (), False
+    if opened == "[" or before == "offset":
+        return _DURATION, True
+    if before == "@":
+        return _TIME, after != "("
+    if "." in rest or token[0][0].isdigit():
+        return _NUMBER, False
+    if opened != "{" and after in ("(", "by", "without"):
+        return _functions(query), False
+    is_part = ":" in (query[token.start() - 1 : token.start()], query[token.end() : token.end() + 1])
+    return None if is_part or not is_variable else (_kinds(token[0], before, after, opened), False)
+
+
+def _kinds(variable: str, before: str, after: str, opened: str) -> Tuple[str, ...]:
     """What a variable that is a token of its own may be, by what is around it; the most likely one first."""
     if opened == "{":
         return _WORD if after in ("=", "!") else _STRING if before in ("=", "~") else _MATCHER
-    if after.lower() in ("by", "without"):
-        return _functions(query)
     if variable.strip("${}[]").partition(":")[0] in _NUMBERS:
         return (*_NUMBER, *_WORD)
     return (*_WORD, *_NUMBER, *_STRING, *_RANGE)

@@ -129,6 +129,10 @@ LEFT = (
     "$left $right",
     'up{job="\\$job"}',
     "sum(a) $modifier",
+    "a == $modifier b",
+    "1${exponent}-5",
+    "[[exponent]]e+${digits}",
+    '{job!~"$job"}',
 )
 # Rejected, whatever the variables are: the query, and what its error begins at and says.
 WRONG = (

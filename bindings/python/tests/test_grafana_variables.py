@@ -16,6 +16,8 @@ from promql.queries import PlacedText
 from test_dashboards import Folder
 
 SPELLINGS = re.compile("|".join(map(re.escape, sorted(VALUES, key=len, reverse=True))))
+ROOT = Path(__file__).resolve().parents[3]
+TOKEN = re.compile(r"""(?s)"(?:[^"\\\n]|\\.)*"|'(?:[^'\\\n]|\\.)*'|`[^`]*`|[A-Za-z_:][\w:]*|[0-9][0-9a-zA-Z.]*|.""")
 # Where packages of Debian, as ceph-grafana-dashboards, have theirs.
 BOARDS = Path("/etc/grafana/dashboards")
 WORDS = ("quer", "skipped")
@@ -88,7 +90,7 @@ class Queries(Folder):
             path = self.board_of(query)
             ran = run("check", path)
             self.assertEqual(ran[:2], (0, f"{path}: 1 query, 1 skipped, no errors\n"), query)
-            names = ", ".join(name.strip("${}") for name in spellings(query))
+            names = ", ".join(name.strip("${}[]") for name in spellings(query))
             note = f"it is not read with its variables of Grafana ({names}): `check --variable NAME=VALUE` gives them values\n"
             self.assertIn(f"{path}:2:11: skipped: {note}", ran.err)
             ran = run("format", path)
@@ -138,6 +140,56 @@ class Queries(Folder):
             self.assertEqual(len(query), 100)
             self.assertEqual(self.formatted(query), query)
             self.assertIn("\n", self.formatted(query.replace('b"', 'bb"')))
+
+
+class Replaced(unittest.TestCase):
+    """Queries whose tokens are made variables: with the tokens as values, what is laid out means what they mean."""
+
+    def setUp(self):
+        self.generator = random.Random(13)
+        texts = (ROOT / "bench" / "queries" / "queries.txt").read_text(encoding="utf-8").splitlines()
+        rows = (line.split("\t") for path in (ROOT / "rows").glob("*.tsv") for line in path.read_text("utf-8").split("\n"))
+        texts += sorted(row[1] for row in rows if row[0] == "line" and len(row) > 3 and len(row[1]) < 300)
+        self.queries = [text for text in texts if not re.search(r"[$#]|\[\[|[eE][-+]", text) and accepts(text)]
+
+    def replaced(self, query):
+        """The query with up to three of its tokens, or parts of strings, as variables; and what they stand for."""
+        tokens = TOKEN.findall(query)
+        places = [number for number, token in enumerate(tokens) if re.match(r"[\w\"'`]", token, re.ASCII)]
+        values = {}
+        for number, place in enumerate(self.generator.sample(places, min(len(places), self.generator.randrange(1, 4)))):
+            token, spelling = tokens[place], self.generator.choice(("${v%d}", "${v%d:raw}", "[[v%d]]")) % number
+            start, end = (1, len(token) - 1) if token[0] in "\"'`" else (0, len(token))
+            if "\\" not in token and start < end:
+                values[spelling] = token[start:end]
+                tokens[place] = token[:start] + spelling + token[end:]
+        return "".join(tokens), values
+
+    def test_meaning(self):
+        accepted = 0
+        for _ in range(2500):
+            query = self.generator.choice(self.queries)
+            text, values = self.replaced(query)
+            reading = read(text)
+            if not values or not accepts(reading.text.text) or not accepts(reading.variables.text):
+                continue
+            width = self.generator.choice((20, 60, 100, 1000))
+            new = reading.variables.come_back(promql.format(reading.variables.text, width=width))
+            if new is None:
+                continue
+            accepted += 1
+            for spelling, value in values.items():
+                new = new.replace(spelling, value)
+            self.assertEqual(promql.canonical(new), promql.canonical(query), text)
+        self.assertGreater(accepted, 1200)
+
+
+def accepts(query):
+    try:
+        promql.check(query)
+    except promql.QueryError:
+        return False
+    return True
 
 
 @unittest.skipUnless(BOARDS.is_dir(), "there are no dashboards of packages here")
