@@ -103,6 +103,7 @@ install_missing() {
     has_libyaml "$(python_with_yaml || echo /usr/bin/python3)" || missing+=(python3-yaml)
     python3 -c 'import pytest' 2>/dev/null || missing+=(python3-pytest)
     python3 -c 'import mypy' 2>/dev/null || missing+=(mypy)
+    [ -d /etc/grafana/dashboards ] || missing+=(ceph-grafana-dashboards ceph-prometheus-alerts)
     command -v chromium >/dev/null || missing+=(chromium)
     command -v vim >/dev/null || missing+=(vim)
     command -v parallel >/dev/null || missing+=(parallel)
@@ -280,7 +281,8 @@ test_rule_files() {
         add "checks of rules for Python, by $python" unit_tests "$here/python" test_rule_checks.py
         add "files with rules for Python, by $python" unit_tests "$here/python" test_rule_documents.py
     fi
-    has promtool 'verdicts on rule files beside those of promtool'
+    has promtool 'verdicts on rule files beside those of promtool' && { promtool --version 2>&1 | grep -q 'version 2\.42\.' ||
+        echo 'not tried: verdicts on rule files beside those of promtool: promtool is not of 2.42'; }
     if [ -n "$python" ] && ! has_libyaml "$python"; then
         echo "not tried: the readers of YAML side by side: $python has no PyYAML with libyaml"
     fi
@@ -296,6 +298,7 @@ test_python() {
     if has_module mypy 'the types of the package'; then
         try 'the types of the package' in_python "$here/python" -m mypy --strict --cache-dir "$work/mypy" "$here/python/promql"
     fi
+    [ -d /etc/grafana/dashboards ] || echo 'not tried: dashboards of packages: ceph-grafana-dashboards is not installed'
     try 'the bench for Python' bench_prints in_python "$here/python" "$here/python/bench.py"
     if has "${CHROMIUM:-chromium}" 'the page in Chromium'; then add 'the page in Chromium' unit_tests "$here/python" browser.py; fi
     add 'rows for Python, and again in eight threads' in_python "$here/python" "$here/rows.py" python 8
@@ -429,6 +432,7 @@ test_attacks() {
     if python=$(python_with_yaml); then
         export python
         add 'rule files' unit_tests "$here/python" test_rule_files.py -k Checks -k Writing -k test_many_signs
+        add 'names, labels and templates of rules' unit_tests "$here/python" test_rule_checks.py -k Attacks -k test_deep
     fi
     add 'attacks on the programs, the library, rule files and the page' in_python "$here/python" "$here/attack.py"
 }
