@@ -24,7 +24,7 @@ _OPERANDS = {"bool", "number", "dot", "field", "identifier", "nil", "string", "v
 _CONSTANTS = {"bool", "number", "dot", "nil", "string"}
 
 _LEFT = re.compile(r"\{\{(-(?=[ \t\r\n]))?")
-_COMMENT = re.compile(r"[ \t\r\n]?/\*.*?\*/([ \t\r\n]-)?\}\}", re.S)
+_COMMENT = re.compile(r"[ \t\r\n]?/\*(?:(?!\*/).)*\*/(?:[ \t\r\n]-)?\}\}", re.S)
 _RIGHT = re.compile(r"([ \t\r\n]-)?\}\}")
 _SPACE = re.compile(r"[ \t\r\n]+")
 _TOKEN = re.compile(
@@ -37,9 +37,10 @@ _NUMBER = re.compile(
     |[0-9_]*(?:\.[0-9_]*)?(?:[eE][+-]?[0-9_]*)?)i?""",
     re.X,
 )
-_WHOLE = re.compile(r"[+-]?(?:0[xX][0-9a-fA-F_]+|0[oO][0-7_]+|0[bB][01_]+|0[0-7_]*|[1-9][0-9_]*)")
+_DIGITS = "[0-9](?:_?[0-9])*"
+_WHOLE = re.compile(r"[+-]?(?:0[xX](?:_?[0-9a-fA-F])+|0[oO](?:_?[0-7])+|0[bB](?:_?[01])+|0(?:_?[0-7])*|[1-9](?:_?[0-9])*)")
 _FLOAT = re.compile(
-    r"[+-]?(?:[0-9][0-9_]*\.?[0-9_]*|\.[0-9][0-9_]*)(?:[eE][+-]?[0-9]+)?i?|[+-]?0[xX][0-9a-fA-F_.]+[pP][+-]?[0-9]+"
+    rf"[+-]?(?:(?:{_DIGITS}\.?(?:{_DIGITS})?|\.{_DIGITS})(?:[eE][+-]?{_DIGITS})?i?|0[xX][0-9a-fA-F_.]+[pP][+-]?{_DIGITS})"
 )
 _ESCAPE = (
     r"\\(?:[abfnrtv\\%s]|[0-3][0-7]{2}|x[0-9a-fA-F]{2}|u(?![dD][89a-fA-F])[0-9a-fA-F]{4}|U00(?:0[0-9a-fA-F]|10)[0-9a-fA-F]{4})"
@@ -113,8 +114,10 @@ def _next_token(text: str, at: int) -> Tuple[_Token, int]:
     if kind == "number":
         return _number(text, at)
     if kind in ("variable", "field", "word"):
+        # (`\\w` has more than letters and decimal digits)
+        end = next((at + index for index, it in enumerate(token) if not (it in "$._" or it.isalpha() or it.isdecimal())), end)
         if not _TERMINATOR.match(text, end):
-            raise TemplateError(f"`{text[end]}` is unexpected after `{token}`")
+            raise TemplateError(f"`{text[end]}` is unexpected after `{text[at:end]}`")
         kind = _kind_of_name(kind, token)
     if (kind == "string" and not _STRING.fullmatch(token)) or (kind == "char" and not _CHAR.fullmatch(token)):
         raise TemplateError(f"{token} is not a text of Go")

@@ -301,6 +301,7 @@ DIFFERENT = (
     ("%YAML 1.2\n---\ngroups:\n- name: a\n  rules:\n  - alert: B\n    expr: up\n", False, ""),
 )
 TEMPLATES = (
+    "{{/**/}}", "{{- /* a\n*/ -}}", "{{/* } */}}{{ 1 }}", "{{/* }} */}}", "{{/*/**/}}",
     "}}", "{{ $labels.a }}", "{{$labels.a.b}}", "{{ .Labels.a }}", "{{ .Foo }}", "{{ $value | humanize }}", "{{ $value | }}",
     "{{ humanize $value }}", "{{ if $value }}x{{ end }}", "{{ if 1 }}a{{ else if 2 }}b{{ else }}c{{ end }}",
     "{{ range query \"up\" }}{{ .Labels.a }}{{ end }}", "{{ range $i, $x := query \"up\" }}{{ $x }}{{ end }}",
@@ -323,6 +324,8 @@ TEMPLATES = (
     "{{ range $value, $labels = . }}{{ end }}",
 )
 NO_TEMPLATES = (
+    "{{ 1_ }}", "{{ 0x_ }}", "{{ .a² }}", "{{ 1__0 }}", "{{ 1._5 }}", "{{ $x² := 1 }}",
+    "{{/* a */ b */}}", "{{- /* a */ }}", "{{/*/}}", "{{/* a */}", "{{/**/ -}} {{/*",
     "{{", "{{}}", "{{ }}", "{{ $foo }}", "{{ | humanize }}", "{{ if }}", "{{ if $value }}x", "{{ end }}", "{{ else }}",
     "{{ if 1 }}a{{ else }}b{{ else }}c{{ end }}", "{{ range $i, $x, $y := query \"up\" }}{{ end }}",
     "{{ with $x := query \"up\" }}{{ $x }}{{ end }}{{ $x }}", "{{ foo }}", "{{ \"a }}", "{{ `a }}", "{{ .. }}", "{{ 5.5.5 }}",
