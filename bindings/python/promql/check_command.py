@@ -13,6 +13,7 @@ from .documents import Document, Status, read_document, skipped_notes
 from .files import Fault, FileError, counted
 from .jobs import Report, add_arguments, as_bytes, skipped_file, work_on
 from .targets import Target, targets_of
+from .visible import visible
 
 
 def add_parser(subparsers: Any) -> None:
@@ -61,7 +62,7 @@ def _check_file(arguments: argparse.Namespace, target: Target) -> Report:
     parts = [document.summary(), counted(len(faults), "error", "errors")]
     if skipped:
         parts.insert(1, f"{len(skipped)} skipped")
-    summary = f"{source.name}: {', '.join(parts)}\n"
+    summary = f"{visible(source.name)}: {', '.join(parts)}\n"
     return Report(Status.FOUND if faults else Status.FINE, as_bytes(summary), messages)
 
 

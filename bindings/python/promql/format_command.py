@@ -17,6 +17,7 @@ from .files import BLANKS, STDIN, FileError, write_file
 from .jobs import Report, add_arguments, as_bytes, skipped_file, work_on
 from .queries import Query, SameQuery, edited
 from .targets import Target, targets_of
+from .visible import visible
 
 _COMMENT = "it has a comment, which would be lost"
 _ANY_VALUES = "its variables of Grafana may have any values"
@@ -188,7 +189,7 @@ def _put_out(name: str, document: Document, text: str, arguments: argparse.Names
     source = document.source
     changed = text != source.text
     if arguments.check or arguments.diff:
-        said = f"{source.name}\n" if arguments.check else "".join(_diff(source.name, source.text, text))
+        said = f"{visible(source.name)}\n" if arguments.check else "".join(_diff(source.name, source.text, text))
         return (Status.FOUND, said) if changed else (Status.FINE, "")
     if not arguments.write or name == STDIN:
         return Status.FINE, source.mark + text

@@ -12,6 +12,7 @@ from typing import Any, Callable, Iterator, List, NamedTuple, Sequence
 from .documents import Status
 from .files import STDIN
 from .targets import Target
+from .visible import visible
 
 _MOST_JOBS = 256
 
@@ -25,7 +26,7 @@ class Report(NamedTuple):
 
     def put_out(self) -> None:
         for message in self.err:
-            print(message, file=sys.stderr)
+            print(visible(message, "\t\n"), file=sys.stderr)
         sys.stdout.flush()
         sys.stdout.buffer.write(self.out)
         sys.stdout.buffer.flush()
@@ -73,7 +74,7 @@ def work_on(targets: List[Target], work: Work, jobs: int, goes_on: bool = False)
         except OSError as error:
             if not goes_on:
                 raise
-            print(f"{name}: {error.strerror}", file=sys.stderr)
+            print(visible(f"{name}: {error.strerror}"), file=sys.stderr)
             worst = Status.FAILED
     return worst
 
@@ -90,7 +91,7 @@ def _in_processes(targets: List[Target], work: Work, jobs: int) -> Iterator[Repo
     for number, target in enumerate(targets):
         try:
             report: Report = readers[number % jobs].recv()
-        except EOFError:
+        except (EOFError, OSError):
             report = Report(Status.FAILED, b"", [f"{target.name}: the process that had this file ended"])
         yield report
 

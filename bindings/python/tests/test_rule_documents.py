@@ -223,6 +223,22 @@ class Folders(Folder):
         self.assertEqual(run("check", empty), (2, "", said))
         self.assertEqual(run("format", empty, self.folder / "a.yml"), (2, AFTER_ALERT, said))
 
+    def test_what_a_terminal_obeys(self):
+        """The names of files are those of others, too: they are shown with escapes."""
+        folder = self.folder / "names"
+        folder.mkdir()
+        for number, text in enumerate((AFTER_ALERT.replace("expr: up", "expr: up+1"), SERVICE, AFTER_ALERT + "a: [", "groups: [" * 700)):
+            (folder / f"{number}\x1b[2J\u202e.yml").write_text(text)
+        (folder / "\x1b]0;x\x07").mkdir()
+        for command in (("check", "-v"), ("format", "--check", "-v"), ("check", "--jobs", "2"), ("check", "--queries")):
+            ran = run(*command, folder, folder / "\x1b]0;x\x07")
+            self.assertEqual(ran.status, 2)
+            for character in "\x1b\x07\u202e":
+                self.assertNotIn(character, ran.out + ran.err)
+            self.assertIn(r"0\x1b[2J\u{202e}.yml", ran.out)
+            self.assertIn(r"2\x1b[2J\u{202e}.yml", ran.err)
+            self.assertIn(r"\x1b]0;x\x07: no file in it ends in", ran.err)
+
     def test_links(self):
         """A link to a folder is not followed, nor is a file read that is no regular one."""
         (self.folder / "deep/loop").symlink_to(self.folder)
