@@ -32,29 +32,14 @@ _PART_OF_NUMBER = re.compile(r"[0-9.]*[eE]?[0-9.]*")
 # How errors begin that depend on the values of strings.
 _OF_VALUES = ("illegal regex", "vector selector must contain")
 # What a variable may be read as, beside the name of a function.
-_WORD, _NUMBER, _DURATION, _TIME, _MATCHER, _STRING = (
-    ("word",),
-    ("number",),
-    ("duration",),
-    ("time",),
-    ("matcher",),
-    ("string",),
-)
+_WORD, _NUMBER, _DURATION, _TIME = ("word",), ("number",), ("duration",), ("time",)
+_MATCHER, _STRING = ("matcher",), ("string",)
 # Series over a range.
 _RANGE = ("range",)
 # A string with variables in it.
 _TEXT = ("text",)
-_FUNCTIONS = (
-    "stdvar",
-    "sgn",
-    "last_over_time",
-    "quantile",
-    "group",
-    "ceil",
-    "present_over_time",
-    "quantile_over_time",
-    "scalar",
-)
+# A function of each type, or more.
+_FUNCTIONS = tuple("stdvar sgn last_over_time quantile group ceil present_over_time quantile_over_time scalar".split())
 _NUMBERS = ("__interval_ms", "__range_ms", "__range_s", "__from", "__to")
 _MOST_TRIALS = 64
 # Bytes that are read in all trials of a query, but for the first one.
@@ -63,7 +48,7 @@ _MOST_TEXTS = 600
 
 
 class Place(NamedTuple):
-    """A variable in a query, or a token that has some, as `${x}s` or a string: where it is, and the kinds that it may be read as."""
+    """A variable in a query, or a token that has some, as `${x}s` or a string: where it is, and what it may be read as."""
 
     start: int
     end: int

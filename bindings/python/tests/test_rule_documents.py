@@ -227,7 +227,9 @@ class Folders(Folder):
         """The names of files are those of others, too: they are shown with escapes."""
         folder = self.folder / "names"
         folder.mkdir()
-        for number, text in enumerate((AFTER_ALERT.replace("expr: up", "expr: up+1"), SERVICE, AFTER_ALERT + "a: [", "groups: [" * 700)):
+        for number, text in enumerate(
+            (AFTER_ALERT.replace("expr: up", "expr: up+1"), SERVICE, AFTER_ALERT + "a: [", "groups: [" * 700)
+        ):
             (folder / f"{number}\x1b[2J\u202e.yml").write_text(text)
         (folder / "\x1b]0;x\x07").mkdir()
         for command in (("check", "-v"), ("format", "--check", "-v"), ("check", "--jobs", "2"), ("check", "--queries")):
