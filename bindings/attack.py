@@ -261,7 +261,16 @@ def aliases(groups, rules):
     return f"r: &r [&q {{expr: up}}{', *q' * (rules - 1)}]\ng: &g {{name: a, rules: *r}}\ngroups: [*g{', *g' * (groups - 1)}]\n"
 
 
-# What is in a file, and the status of `check` and what it says.
+def labels(count):
+    """Rules whose labels merge nine times those of the rule before."""
+    rules = ["  - {alert: A0, expr: up, labels: &m0 {l0: x}}\n"]
+    for number in range(1, count):
+        merged = ", ".join([f"*m{number - 1}"] * 9)
+        rules.append(f"  - {{alert: A{number}, expr: up, labels: &m{number} {{<<: [{merged}], l{number}: x}}}}\n")
+    return RULE + "".join(rules)
+
+
+# What is in a file, and the status of `check --queries` and what it says.
 FILES = {
     "merges.yml": (merges(60), 0, "1 rule, no errors"),
     "aliases.yml": (aliases(5000, 5000), 2, "its aliases make more than 1,000,000 rules of it"),
@@ -273,7 +282,25 @@ FILES = {
     "a" * 250 + ".yml": (RULE + "  - alert: B\n    expr: up==0\n", 0, "1 rule, no errors"),
     "digits.json": ('{"panels": [{"id": ' + "1" * 5000 + ', "targets": [{"expr": "up==0"}]}]}', 0, "1 query, no errors"),
     "nested.json": ("[" * 100_000, 2, "nested too deeply"),
+    "variables.json": ('{"targets": [{"expr": "' + "$a + " * 100_000 + '"}]}', 0, "1 skipped, no errors"),
+    "braces.json": ('{"targets": [{"expr": "' + "${" * 100_000 + '"}]}', 1, "1 query, 1 error"),
 }
+# The same of `check`.
+CHECKED_FILES = {
+    "labels.yml": (labels(60), 0, "60 rules, no errors"),
+    "templates.yml": (RULE + "  - {alert: B, expr: up, annotations: {a: '{{ " + "(" * 100_000 + "'}}\n", 1, "1 rule, 1 error"),
+    "parentheses.yml": (RULE + "  - {alert: B, expr: up, annotations: {a: '{{ " + "(" * 9000 + "1" + ")" * 9000 + " }}'}}\n", 1, "nested too"),
+    "actions.yml": (RULE + "  - {alert: B, expr: up, annotations: {a: '" + "{{ 1 }}" * 30_000 + "'}}\n", 0, "no errors"),
+    "fields.yml": (RULE + "  - alert: B\n    expr: up\n    a: b\n" * 4000, 1, "4000 rules, 4000 errors"),
+    "digits.yml": (RULE + f"  - {{alert: B, expr: up, for: {'9' * 5000}m}}\n", 1, "longer than 292 years"),
+}
+
+
+def check_file(path, option, text, status, said):
+    """What `check` says of a file that it writes."""
+    path.write_text(text, encoding="utf-8")
+    ran = run([sys.executable, "-m", "promql", "check", option, path], seconds=20)
+    check(f"check {path.name}", ran.status == status and said in ran.out + ran.err, (ran.status, ran.out, ran.err[-300:]))
 
 
 def attack_files():
@@ -281,18 +308,17 @@ def attack_files():
     has_yaml = run([sys.executable, "-c", "import ruamel.yaml"]).status == 0
     if not has_yaml:
         print(f"not tried: rule files: {sys.executable} has no ruamel.yaml")
-    promql = [sys.executable, "-m", "promql"]
     with tempfile.TemporaryDirectory() as folder:
         for name, (text, status, said) in FILES.items():
             if name.endswith(".yml") and not has_yaml:
                 continue
             path = Path(folder, name)
-            path.write_text(text, encoding="utf-8")
-            ran = run([*promql, "check", path], seconds=20)
-            check(f"check {name}", ran.status == status and said in ran.out + ran.err, (ran.status, ran.out, ran.err[-300:]))
-            ran = run([*promql, "format", "--write", path], seconds=20)
+            check_file(path, "--queries", *FILES[name])
+            ran = run([sys.executable, "-m", "promql", "format", "--write", path], seconds=20)
             is_so = (ran.status, ran.out) == (2 if status else 0, "") and (not status or path.read_text(encoding="utf-8") == text)
             check(f"format --write {name}", is_so, (ran.status, ran.out, ran.err[-300:]))
+        for name, file in CHECKED_FILES.items() if has_yaml else ():
+            check_file(Path(folder, name), "--jobs=1", *file)
         check("nothing is left beside the files", not list(Path(folder).glob(".promql-*")), os.listdir(folder))
 
 

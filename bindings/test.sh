@@ -91,6 +91,11 @@ python_with_yaml() {
     return 1
 }
 
+# has_libyaml PYTHON: whether this Python has the quick reader of YAML.
+has_libyaml() {
+    "$1" -c 'from yaml import CSafeLoader' 2>/dev/null
+}
+
 # install_missing: installs the packages of Debian whose commands are missing here.
 install_missing() {
     local -a missing=()
@@ -102,8 +107,10 @@ install_missing() {
     python_with_schemas >/dev/null || missing+=(python3-jsonschema)
     python_with_setuptools >/dev/null || missing+=(python3-pip python3-setuptools python3-wheel python3-venv)
     [ -f "$(python_headers)/Python.h" ] || missing+=(python3-dev)
+    has_libyaml "$(python_with_yaml || echo /usr/bin/python3)" || missing+=(python3-yaml)
     python3 -c 'import pytest' 2>/dev/null || missing+=(python3-pytest)
     python3 -c 'import mypy' 2>/dev/null || missing+=(mypy)
+    [ -d /etc/grafana/dashboards ] || missing+=(ceph-grafana-dashboards ceph-prometheus-alerts)
     command -v chromium >/dev/null || missing+=(chromium)
     command -v vim >/dev/null || missing+=(vim)
     command -v parallel >/dev/null || missing+=(parallel)
@@ -274,6 +281,14 @@ test_rule_files() {
     elif [ "$python" != python3 ]; then
         export python
         add "rule files for Python, by $python" unit_tests "$here/python" test_rule_files.py
+        add "the readers of YAML for Python, by $python" unit_tests "$here/python" test_quick_yaml.py
+        add "checks of rules for Python, by $python" unit_tests "$here/python" test_rule_checks.py
+        add "files with rules for Python, by $python" unit_tests "$here/python" test_rule_documents.py
+    fi
+    has promtool 'verdicts on rule files beside those of promtool' && { promtool --version 2>&1 | grep -q 'version 2\.42\.' ||
+        echo 'not tried: verdicts on rule files beside those of promtool: promtool is not of 2.42'; }
+    if [ -n "$python" ] && ! has_libyaml "$python"; then
+        echo "not tried: the readers of YAML side by side: $python has no PyYAML with libyaml"
     fi
 }
 
@@ -290,6 +305,7 @@ test_python() {
     if has_module mypy 'the types of the package'; then
         try 'the types of the package' in_python "$here/python" -m mypy --strict --cache-dir "$work/mypy" "$here/python/promql"
     fi
+    [ -d /etc/grafana/dashboards ] || echo 'not tried: dashboards of packages: ceph-grafana-dashboards is not installed'
     try 'the bench for Python' bench_prints in_python "$here/python" "$here/python/bench.py"
     PROMQL_EXTENSION='' try 'the bench for Python by ctypes' bench_prints in_python "$here/python" "$here/python/bench.py"
     if has "${CHROMIUM:-chromium}" 'the page in Chromium'; then add 'the page in Chromium' unit_tests "$here/python" browser.py; fi
@@ -425,6 +441,7 @@ test_attacks() {
     if python=$(python_with_yaml); then
         export python
         add 'rule files' unit_tests "$here/python" test_rule_files.py -k Checks -k Writing -k test_many_signs
+        add 'names, labels and templates of rules' unit_tests "$here/python" test_rule_checks.py -k Attacks -k test_deep
     fi
     add 'attacks on the programs, the library, rule files and the page' in_python "$here/python" "$here/attack.py"
 }

@@ -3,20 +3,22 @@
 from __future__ import annotations
 
 import argparse
-import sys
+from functools import partial
 from operator import itemgetter
-from typing import Any, List, Mapping, Tuple
+from typing import Any, List, Tuple
 
 import promql
 
-from .documents import Document, Status, read_document
+from .documents import Document, Status, read_document, skipped_notes
 from .files import Fault, FileError, counted
+from .jobs import Report, add_arguments, as_bytes, skipped_file, work_on
+from .targets import Target, targets_of
+from .visible import visible
 
 
 def add_parser(subparsers: Any) -> None:
     parser = subparsers.add_parser("check", help="check the queries of rule files and dashboards", description=__doc__)
-    parser.add_argument("files", nargs="+", metavar="FILE", help="a rule file, a dashboard (.json), or - for standard input")
-    parser.add_argument("--dashboard", action="store_true", help="all files are dashboards")
+    add_arguments(parser)
     parser.add_argument(
         "--variable",
         action="append",
@@ -24,6 +26,9 @@ def add_parser(subparsers: Any) -> None:
         type=_variable,
         metavar="NAME=VALUE",
         help="put VALUE in the place of a variable of dashboards, such as __rate_interval=5m",
+    )
+    parser.add_argument(
+        "--queries", action="store_true", help="check queries alone, and not names, labels, durations and templates"
     )
     parser.set_defaults(run=_run)
 
@@ -36,26 +41,29 @@ def _variable(text: str) -> Tuple[str, str]:
 
 
 def _run(arguments: argparse.Namespace) -> int:
-    variables = dict(arguments.variable)
-    return max(_check_file(name, arguments.dashboard, variables) for name in arguments.files)
+    targets = targets_of(arguments.files, arguments.dashboard)
+    return work_on(targets, partial(_check_file, arguments), arguments.jobs)
 
 
-def _check_file(name: str, is_dashboard: bool, variables: Mapping[str, str]) -> Status:
+def _check_file(arguments: argparse.Namespace, target: Target) -> Report:
     try:
-        document = read_document(name, is_dashboard, variables)
+        document = read_document(target, arguments.dashboard, dict(arguments.variable))
+        if not document:
+            return skipped_file(target, arguments.verbose)
+        others, notes = ([], []) if arguments.queries else document.checks()
     except FileError as error:
-        print(error, file=sys.stderr)
-        return Status.FAILED
+        return Report(Status.FAILED, b"", [str(error)])
+    notes += skipped_notes(document, arguments.verbose)
     skipped = [query.whole(f"skipped: {query.skipped}") for query in document.queries if query.skipped]
-    faults = _faults(document)
-    shown = [(fault, document.source.shown) for fault in faults] + [(fault, document.source.located) for fault in skipped]
-    for fault, show in sorted(shown, key=itemgetter(0)):
-        print(show(fault), file=sys.stderr)
+    faults = {*_faults(document), *others}
+    source = document.source
+    shown = [(fault, source.shown) for fault in faults] + [(fault, source.located) for fault in (*skipped, *notes)]
+    messages = [show(fault) for fault, show in sorted(shown, key=itemgetter(0))]
     parts = [document.summary(), counted(len(faults), "error", "errors")]
     if skipped:
         parts.insert(1, f"{len(skipped)} skipped")
-    print(f"{document.source.name}: {', '.join(parts)}", flush=True)
-    return Status.FOUND if faults else Status.FINE
+    summary = f"{visible(source.name)}: {', '.join(parts)}\n"
+    return Report(Status.FOUND if faults else Status.FINE, as_bytes(summary), messages)
 
 
 def _faults(document: Document) -> List[Fault]:

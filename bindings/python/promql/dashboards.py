@@ -8,12 +8,11 @@ from dataclasses import replace
 from typing import Any, Dict, Iterator, List, Mapping, NamedTuple, Optional, Tuple
 
 from .files import BLANKS, Fault, FileError, Source, counted
+from .grafana_variables import VARIABLE, read_variables
 from .queries import Edit, PlacedText, Query, SameQuery
 
 _TOKEN = re.compile(r'"(?:[^"\\]|\\.)*"|[\[\]{}:,]|[^\s\[\]{}:,"]+')
 _PIECE = re.compile(r"[^\\]+|\\u[dD][89abAB]..\\u[dD][c-fC-F]..|\\u....|\\.")
-_NAME = r"([A-Za-z_]\w*)"
-_VARIABLE = re.compile(rf"\${_NAME}|\$\{{{_NAME}[^}}]*\}}|\[\[{_NAME}(?::\w+)?\]\]")
 
 JsonPath = Tuple[Any, ...]
 
@@ -45,11 +44,16 @@ class Dashboard:
     def __init__(self, source: Source, variables: Optional[Mapping[str, str]] = None) -> None:
         self.source = source
         self.faults: List[Fault] = []
+        self.notes: List[Fault] = []
         self._document = _load(source)
         self.queries = list(self._read_queries(variables or {}))
+        self.is_known = bool(self.queries)
 
     def summary(self) -> str:
         return counted(len(self.queries), "query", "queries")
+
+    def checks(self) -> Tuple[List[Fault], List[Fault]]:
+        return [], []
 
     def same(self, text: str, same_query: SameQuery) -> bool:
         _load(replace(self.source, text=text))
@@ -61,11 +65,15 @@ class Dashboard:
             if not _is_query(path, token) or not json.loads(token).strip(BLANKS):
                 continue
             string = JsonString(self.source.text, start, start + len(token))
-            text, missing = _substituted(string.read(), variables)
+            text = _substituted(string.read(), variables)
             skipped = self._other_language(path)
-            if missing and not skipped:
-                skipped = f"it has variables of Grafana ({', '.join(missing)}): `check --variable NAME=VALUE` gives them values"
-            yield Query(text.text, [*text.offsets, string.end - 1], string, skipped=skipped)
+            if skipped or not VARIABLE.search(text.text):
+                yield Query(text.text, [*text.offsets, string.end - 1], string, skipped=skipped)
+            else:
+                read = read_variables(text)
+                yield Query(
+                    read.text.text, [*read.text.offsets, string.end - 1], string, read.unknown, variables=read.variables
+                )
 
     def _other_language(self, path: JsonPath) -> str:
         """Why the query in this place is not of Prometheus, or nothing."""
@@ -129,16 +137,14 @@ def _at(document: Any, path: JsonPath) -> Dict[str, Any]:
     return document if isinstance(document, dict) else {}
 
 
-def _substituted(text: PlacedText, variables: Mapping[str, str]) -> Tuple[PlacedText, List[str]]:
-    """A text with the values of its variables, and the names of those that have none."""
-    made, at, missing = PlacedText(), 0, []
-    for found in _VARIABLE.finditer(text.text):
+def _substituted(text: PlacedText, variables: Mapping[str, str]) -> PlacedText:
+    """A text with the values of the variables that have one."""
+    made, at = PlacedText(), 0
+    for found in VARIABLE.finditer(text.text):
         name = found[1] or found[2] or found[3]
-        if name not in variables:
-            missing.append(name)
-            continue
-        made.copy(text, at, found.start())
-        made.put_all(variables[name], text.offsets[found.start()])
-        at = found.end()
+        if name in variables:
+            made.copy(text, at, found.start())
+            made.put_all(variables[name], text.offsets[found.start()])
+            at = found.end()
     made.copy(text, at, len(text.text))
-    return made, list(dict.fromkeys(missing))
+    return made

@@ -29,6 +29,10 @@ class FileError(Exception):
     """Why nothing is done with a file: what is printed of it."""
 
 
+def nested_too_deeply(name: str) -> FileError:
+    return FileError(f"{name}: nested too deeply")
+
+
 class Fault(NamedTuple):
     """What is wrong with the part `text[start:end]` of a file."""
 

@@ -12,22 +12,26 @@ from typing import Any, Callable, Dict, Iterator, List, Optional, Tuple
 
 import promql
 
-from .documents import Document, Status, read_document
+from .documents import Document, Status, read_document, skipped_notes
 from .files import BLANKS, STDIN, FileError, write_file
+from .jobs import Report, add_arguments, as_bytes, skipped_file, work_on
 from .queries import Query, SameQuery, edited
+from .targets import Target, targets_of
+from .visible import visible
 
 _COMMENT = "it has a comment, which would be lost"
+_ANY_VALUES = "its variables of Grafana may have any values"
+_NOT_BACK = "its variables of Grafana would not come back"
 _LINE = re.compile(r"[^\n]*\n|[^\n]+")
 
 
 def add_parser(subparsers: Any) -> None:
     parser = subparsers.add_parser("format", help="lay out the queries of rule files and dashboards", description=__doc__)
-    parser.add_argument("files", nargs="+", metavar="FILE", help="a rule file, a dashboard (.json), or - for standard input")
+    add_arguments(parser)
     output = parser.add_mutually_exclusive_group()
     output.add_argument("--check", action="store_true", help="print the names of the files that would change")
     output.add_argument("--diff", action="store_true", help="print what would change")
     output.add_argument("--write", action="store_true", help="change the files")
-    parser.add_argument("--dashboard", action="store_true", help="all files are dashboards")
     parser.add_argument("--width", type=_width, default=100, help="columns of a line (100)")
     parser.add_argument("--enforce", metavar="MATCHER", help="put a matcher, such as namespace='team-a', into every selector")
     parser.set_defaults(run=_run)
@@ -48,12 +52,25 @@ class Printer:
     # The query that is to be there: the same, or one with a matcher in it.
     meant: Callable[[str], str]
 
-    def text(self, query: Query) -> str:
-        return promql.format(self.meant(query.text), width=query.spelling.room(self.width))
+    def text(self, query: Query) -> Optional[str]:
+        """The query as it is to be written; or nothing, where its variables would not come back."""
+        width = query.spelling.room(self.width)
+        if not query.variables:
+            return promql.format(self.meant(query.text), width=width)
+        try:
+            return query.variables.come_back(promql.format(query.laid_out, width=width))
+        except promql.QueryError:
+            return None
 
-    def means(self, new: str, old: str) -> bool:
-        """Whether a query is what the old one is to be."""
-        return promql.canonical(new) == promql.canonical(self.meant(old.rstrip(BLANKS)))
+    def means(self, new: str, query: Query) -> bool:
+        """Whether a text is what the query is to be."""
+        read = query.variables.stand_in(new) if query.variables else new
+        return read is not None and promql.canonical(read) == promql.canonical(self.meant(query.laid_out))
+
+    def why_left(self, query: Query) -> str:
+        """Why a query is not formatted, or nothing."""
+        left = query.skipped or _why_kept(query)
+        return left or (_ANY_VALUES if self.enforces and query.variables else "")
 
 
 def _enforcer(matcher: Optional[str]) -> Callable[[str], str]:
@@ -73,32 +90,40 @@ def _run(arguments: argparse.Namespace) -> int:
     except FileError as error:
         print(error, file=sys.stderr)
         return Status.FAILED
-    return max(_format_file(name, arguments, printer) for name in arguments.files)
+    targets = targets_of(arguments.files, arguments.dashboard)
+    return work_on(targets, partial(_format_file, arguments, printer), arguments.jobs, goes_on=True)
 
 
-def _format_file(name: str, arguments: argparse.Namespace, printer: Printer) -> Status:
+def _format_file(arguments: argparse.Namespace, printer: Printer, target: Target) -> Report:
+    messages: List[str] = []
+    name = target.name
     try:
-        document = read_document(name, arguments.dashboard)
-        text = _formatted(document, printer)
-        return _put_out(name, document, text, arguments)
+        document = read_document(target, arguments.dashboard)
+        if not document:
+            return skipped_file(target, arguments.verbose)
+        messages += map(document.source.located, skipped_notes(document, arguments.verbose))
+        text = _formatted(document, printer, messages)
+        status, out = _put_out(name, document, text, arguments)
+        return Report(status, as_bytes(out), messages)
     except FileError as error:
-        print(error, file=sys.stderr)
+        messages.append(str(error))
     except OSError as error:
-        print(f"{name}: {error.strerror}", file=sys.stderr)
-    return Status.FAILED
+        messages.append(f"{name}: {error.strerror}")
+    return Report(Status.FAILED, b"", messages)
 
 
-def _formatted(document: Document, printer: Printer) -> str:
-    """The text of the file with its queries as they are to be."""
-    changes = _changes(document, printer)
+def _formatted(document: Document, printer: Printer, messages: List[str]) -> str:
+    """The text of the file with its queries as they are to be; what is to be said of others is added to the messages."""
+    changes = _changes(document, printer, messages)
     if not changes:
         return document.source.text
-    texts: Dict[str, List[str]] = {}
+    texts: Dict[str, List[Tuple[Query, str]]] = {}
     for query, text in changes:
-        texts.setdefault(query.value, []).append(text)
+        texts.setdefault(query.original, []).append((query, text))
 
     def same_query(old: str, new: str) -> bool:
-        return old == new or (new.rstrip(BLANKS) in texts.get(old, ()) and printer.means(new, old))
+        queries = [query for query, text in texts.get(old, ()) if text == new.rstrip(BLANKS)]
+        return old == new or any(printer.means(new, query) for query in queries[:1])
 
     text = edited(document.source.text, (query.spelling.edit(text) for query, text in changes))
     if not _reads_as(document, text, same_query):
@@ -113,21 +138,21 @@ def _reads_as(document: Document, text: str, same_query: SameQuery) -> bool:
         return False
 
 
-def _changes(document: Document, printer: Printer) -> List[Tuple[Query, str]]:
+def _changes(document: Document, printer: Printer, messages: List[str]) -> List[Tuple[Query, str]]:
     """The queries that are to be written in another way, and how."""
     source, faults, changes = document.source, list(document.faults), []
     for query in document.queries:
         try:
-            left = query.skipped or _why_kept(query)
-            text = query.value if left else printer.text(query)
+            left = printer.why_left(query)
+            text = None if left else printer.text(query)
         except ValueError as error:
             faults.append(query.rejected(error))
             continue
-        if left and printer.enforces:
+        if text is None and printer.enforces:
             faults.append(query.whole(f"not enforced: {left}"))
-        elif left:
-            print(source.located(query.whole(f"warning: left as it is: {left}")), file=sys.stderr)
-        elif text != query.value.rstrip("\n"):
+        elif text is None:
+            messages.append(source.located(query.whole(f"warning: left as it is: {left or _NOT_BACK}")))
+        elif text != query.original.rstrip("\n"):
             changes.append((query, text))
     if faults:
         raise FileError("\n".join(source.shown(fault) for fault in sorted(faults)))
@@ -159,26 +184,18 @@ def _rejected_at(query: str) -> Optional[int]:
     return None
 
 
-def _put_out(name: str, document: Document, text: str, arguments: argparse.Namespace) -> Status:
-    """Does with the new text of a file what the options say."""
+def _put_out(name: str, document: Document, text: str, arguments: argparse.Namespace) -> Tuple[Status, str]:
+    """Does with the new text of a file what the options say, and returns what is to be printed."""
     source = document.source
     changed = text != source.text
     if arguments.check or arguments.diff:
-        if changed:
-            _print(f"{source.name}\n" if arguments.check else "".join(_diff(source.name, source.text, text)))
-        return Status.FOUND if changed else Status.FINE
+        said = f"{visible(source.name)}\n" if arguments.check else "".join(_diff(source.name, source.text, text))
+        return (Status.FOUND, said) if changed else (Status.FINE, "")
     if not arguments.write or name == STDIN:
-        _print(source.mark + text)
-    elif changed:
+        return Status.FINE, source.mark + text
+    if changed:
         write_file(source, (source.mark + text).encode())
-    return Status.FINE
-
-
-def _print(text: str) -> None:
-    """Writes a text to standard output, with its own line ends."""
-    sys.stdout.flush()
-    sys.stdout.buffer.write(text.encode("utf-8", "surrogateescape"))
-    sys.stdout.buffer.flush()
+    return Status.FINE, ""
 
 
 def _diff(name: str, old: str, new: str) -> Iterator[str]:

@@ -2,7 +2,7 @@
 
 from __future__ import annotations
 
-from typing import Callable, Iterable, List, NamedTuple, Protocol, Sequence
+from typing import Callable, Iterable, List, NamedTuple, Optional, Protocol, Sequence
 
 import promql
 
@@ -51,9 +51,27 @@ class Spelling(Protocol):
         """What writes this query there instead."""
 
 
+class VariableTexts(Protocol):
+    """What stands in a query for the variables that its file has there."""
+
+    # The query as the file has it, and as it is laid out.
+    original: str
+    text: str
+
+    def put_back(self, text: str) -> str:
+        """A text with the variables in it again."""
+
+    def stand_in(self, query: str) -> Optional[str]:
+        """A query with the same variables as it is laid out, if it is one."""
+
+    def come_back(self, new: str) -> Optional[str]:
+        """The query that was laid out with its variables in it again, if they all come back."""
+
+
 class Query(NamedTuple):
     """A query of a file."""
 
+    # As it is checked.
     value: str
     # Of each character of the value, and of its end.
     offsets: Sequence[int]
@@ -61,10 +79,21 @@ class Query(NamedTuple):
     # Why it is neither checked nor formatted, or why it is not formatted.
     skipped: str = ""
     kept: str = ""
+    variables: Optional[VariableTexts] = None
 
     @property
     def text(self) -> str:
         return self.value.rstrip(BLANKS)
+
+    @property
+    def laid_out(self) -> str:
+        """The query as it is to be laid out."""
+        return self.variables.text.rstrip(BLANKS) if self.variables else self.text
+
+    @property
+    def original(self) -> str:
+        """The query as the file has it."""
+        return self.variables.original if self.variables else self.value
 
     def fault(self, start: int, end: int, message: str) -> Fault:
         """A fault of the part `text[start:end]` of the query."""
@@ -76,7 +105,8 @@ class Query(NamedTuple):
     def rejected(self, error: ValueError) -> Fault:
         """The fault of a query for which a function of the package raised this."""
         if isinstance(error, promql.QueryError):
-            return self.fault(error.start, error.end, error.message)
+            message = self.variables.put_back(error.message) if self.variables else error.message
+            return self.fault(error.start, error.end, message)
         if isinstance(error, UnicodeEncodeError):
             return self.fault(error.start, error.end, "half of a surrogate pair")
         return self.whole(str(error))

@@ -5,224 +5,222 @@ The reader of YAML only finds them. What is written is the text of the file, wit
 
 from __future__ import annotations
 
-import importlib
-import warnings
 from dataclasses import replace
 from functools import partial
-from typing import Any, Callable, Dict, Iterator, List, NamedTuple, Optional, Set, Tuple
+from typing import Any, Callable, Dict, Iterator, List, Optional, Set, Tuple
 
-from .files import Fault, FileError, Source, counted
+from .exact_yaml import ExactYaml, look_for_reader
+from .files import Fault, FileError, Source, counted, nested_too_deeply
 from .queries import Query, SameQuery
+from .quick_yaml import QuickYaml, Unclear
+from .rule_checks import LOOKED_AT, RuleChecks
+from .rule_documents import WITH_QUERIES, Kind, RuleDocument, documents_of, is_logql, is_surely_of_rules
 from .scalars import Scalar
+from .yaml_mappings import Entry, Mappings
+from .yaml_nodes import Node, YamlText
 
 # The parts of a rule file that are in one, by the key; in a list it is None.
 _PARTS = {
+    ("document", "items"): "items",
+    ("items", None): "document",
+    ("document", "spec"): "spec",
+    ("spec", "groups"): "groups",
+    ("document", "tests"): "tests",
+    ("tests", None): "test",
+    ("test", "promql_expr_test"): "queries",
+    ("queries", None): "rule",
     ("document", "groups"): "groups",
     ("groups", None): "group",
     ("group", "rules"): "rules",
     ("rules", None): "rule",
     ("rule", "expr"): "expr",
 }
-_TAGS = {f"tag:yaml.org,2002:{name}" for name in ("str", "int", "float", "bool", "timestamp")}
-_NULL = "tag:yaml.org,2002:null"
+_FIELDS = frozenset(("groups",))
 _USED_ELSEWHERE = "an alias has it in another place than `expr`"
 _COMMENT_BELOW = "the comment below it is so far in that it would become a part of it"
 # More rules than anyone writes: only aliases of lists that have aliases make so many.
 _MOST_RULES = 1_000_000
 _TOO_MANY = f"its aliases make more than {_MOST_RULES:,} rules of it"
+_LOKI = "a rule file of Loki, whose queries are LogQL"
 _UNREAD = "the places of its characters cannot be told: write it in another style of YAML"
-
-
-class _Token(NamedTuple):
-    """Where a scalar begins, where the token before it ends, and whether it is in brackets or braces."""
-
-    start: int
-    before: int
-    in_flow: bool
 
 
 class RuleFile:
     """A rule file, of one document or several."""
 
     def __init__(self, source: Source) -> None:
+        look_for_reader()
         self.source = source
-        self.faults: List[Fault] = []
-        self._rules = 0
-        # The key and the value of each `expr`, once for all its aliases.
-        self._found: Dict[int, Tuple[Any, Any]] = {}
-        # How many rules a node has, and its entry of a key: each node is looked at once, however many aliases it has.
-        self._counts: Dict[Tuple[str, int], int] = {}
-        self._entries: Dict[Tuple[int, str], Optional[Tuple[Any, Any]]] = {}
-        self._sought: Set[Tuple[int, str]] = set()
-        self._roots = _compose(source)
-        for root in self._roots:
-            self._look_at_document(root)
-        self.queries = list(self._read_queries())
+        try:
+            self._parts = _Parts(source, QuickYaml(source))
+        except Unclear:
+            self._parts = _Parts(source, ExactYaml(source))
+        self.queries = self._parts.queries
+        self.faults = self._parts.faults
+        self.notes = self._parts.notes
+        self.is_known = any(is_surely_of_rules(document, self._parts.mappings) for document in self._parts.documents)
 
     def summary(self) -> str:
-        return counted(self._rules, "rule", "rules")
+        parts = self._parts
+        tests = [counted(parts.tests, "query", "queries")] if parts.tests else []
+        return ", ".join(tests if tests and not parts.rules else [counted(parts.rules, "rule", "rules"), *tests])
+
+    def checks(self) -> Tuple[List[Fault], List[Fault]]:
+        found = RuleChecks(self._parts.mappings)
+        try:
+            for document in self._parts.documents:
+                if document.kind is Kind.RULES and document.is_whole:
+                    found.look_at_file(document.owner, _FIELDS)
+                elif document.kind is Kind.RULES:
+                    found.look_at_groups(self._parts.mappings.value(document.owner, "groups"))
+        except RecursionError as error:
+            raise nested_too_deeply(self.source.name) from error
+        return found.faults, found.warnings
 
     def same(self, text: str, same_query: SameQuery) -> bool:
-        roots = _compose(replace(self.source, text=text))
-        return len(roots) == len(self._roots) and all(_same(old, new, same_query) for old, new in zip(self._roots, roots))
+        old, new = self._both(replace(self.source, text=text))
+        return len(old) == len(new) and all(_same(*roots, same_query) for roots in zip(old, new))
 
-    def _look_at_document(self, root: Any) -> None:
-        if _is_null(root):
-            return
-        if self._is_mapping(root, "the document") and not self._entry(root, "groups"):
-            self._complain(root, "this is no rule file: it has no `groups`")
-        self._rules += self._count_in(root, "groups", "a group", self._count_in_group)
-        if self._rules > _MOST_RULES:
-            raise FileError(f"{self.source.name}: {_TOO_MANY}")
+    def _both(self, new: Source) -> Tuple[List[Node], List[Node]]:
+        """The documents of this file and those of a new one, by one reader."""
+        yaml = self._parts.yaml
+        if isinstance(yaml, QuickYaml):
+            try:
+                return yaml.roots, QuickYaml(new).roots
+            except Unclear:
+                yaml = ExactYaml(self.source)
+        return yaml.roots, ExactYaml(new).roots
 
-    def _count_in_group(self, group: Any) -> int:
-        return self._count_in(group, "rules", "a rule", self._look_at_rule)
 
-    def _look_at_rule(self, rule: Any) -> int:
+class _Parts:
+    """The rules of a file, and its queries."""
+
+    def __init__(self, source: Source, yaml: YamlText) -> None:
+        self._source = source
+        self.yaml = yaml
+        self.faults: List[Fault] = []
+        self.rules = 0
+        self.tests = 0
+        # The key and the value of each `expr`, once for all its aliases.
+        self._found: Dict[int, Tuple[Node, Node]] = {}
+        # How many rules a node has: each node is looked at once, however many aliases it has.
+        self._counts: Dict[Tuple[str, int], int] = {}
+        # Those that are of Loki.
+        self._left: Set[int] = set()
+        self.mappings = Mappings(source.name)
+        self.documents = [self._seen(document) for root in yaml.roots for document in documents_of(root, self.mappings)]
+        if self.rules + self.tests > _MOST_RULES:
+            raise FileError(f"{self._source.name}: {_TOO_MANY}")
+        self.has_rules = any(document.kind in WITH_QUERIES for document in self.documents)
+        places = [Fault(it.owner.start, it.owner.start, it.note) for it in self.documents if it.kind is Kind.OBJECT]
+        self.faults += [] if self.has_rules else places
+        self.notes = places if self.has_rules else []
+        self.queries = list(self._read_queries())
+
+    def _seen(self, document: RuleDocument) -> RuleDocument:
+        """Looks for the queries of a document, which tell whether it is of Loki."""
+        count = len(self._found)
+        if document.kind is Kind.WRONG:
+            self._complain(document.owner, document.note)
+        elif document.kind is Kind.TESTS:
+            self.tests += self._count_in(document.owner, "tests", "a test", self._count_in_test)
+        elif document.kind is not Kind.OBJECT:
+            self.rules += self._count_in(document.owner, "groups", "a group", self._count_in_group)
+        found = [node for _, node in list(self._found.values())[count:]]
+        if document.kind is Kind.LOKI or document.kind is Kind.RULES and any(is_logql(node.value) for node in found):
+            self._left.update(map(id, found))
+            return document._replace(kind=Kind.LOKI)
+        return document
+
+    def _count_in_test(self, test: Node) -> int:
+        return self._count_in(test, "promql_expr_test", "a query", partial(self._look_at_rule, "a test of a query"))
+
+    def _count_in_group(self, group: Node) -> int:
+        return self._count_in(group, "rules", "a rule", partial(self._look_at_rule, "a rule"))
+
+    def _look_at_rule(self, name: str, rule: Node) -> int:
         """Looks at a rule, and returns 1 where it has a query."""
         entry = self._entry(rule, "expr")
-        if not entry or _is_null(entry[1]) or _is_plain(entry[1], ""):
-            self._complain(rule, "a rule without `expr`")
-        elif entry[1].id != "scalar" or entry[1].tag not in _TAGS:
+        if not entry or entry[1].is_null() or entry[1].is_plain(""):
+            self._complain(rule, f"{name} without `expr`")
+        elif not entry[1].is_text():
             self._complain(entry[1], "`expr` is not a text")
         else:
             self._found.setdefault(id(entry[1]), entry)
             return 1
         return 0
 
-    def _count_in(self, owner: Any, key: str, name: str, count: Callable[[Any], int]) -> int:
+    def _count_in(self, owner: Node, key: str, name: str, count: Callable[[Node], int]) -> int:
         """How many rules there are in the list that a mapping has under a key, of mappings that have so many."""
         entry = self._entry(owner, key)
-        if not entry or _is_null(entry[1]):
+        if not entry or entry[1].is_null():
             return 0
-        if entry[1].id != "sequence":
+        if entry[1].kind != "sequence":
             self._complain(entry[1], f"`{key}` is not a list")
             return 0
         return self._once(key, entry[1], partial(self._count_items, name, count))
 
-    def _count_items(self, name: str, count: Callable[[Any], int], items: Any) -> int:
-        return sum(self._once(name, item, count) for item in items.value if self._is_mapping(item, name))
+    def _count_items(self, name: str, count: Callable[[Node], int], items: Node) -> int:
+        return sum(self._once(name, item, count) for item in items.value if not item.is_null() and self._is_mapping(item, name))
 
-    def _once(self, part: str, node: Any, count: Callable[[Any], int]) -> int:
+    def _once(self, part: str, node: Node, count: Callable[[Node], int]) -> int:
         """What is counted in a node as this part of a rule file, where it was not counted before."""
         place = (part, id(node))
         if place not in self._counts:
             self._counts[place] = count(node)
         return self._counts[place]
 
-    def _entry(self, mapping: Any, key: str) -> Optional[Tuple[Any, Any]]:
-        """The node of a key and that of its value, which may come from a mapping that is merged into this one."""
-        if mapping.id != "mapping":
-            return None
-        place = (id(mapping), key)
-        if place in self._sought:
-            raise FileError(f"{self.source.name}: a mapping is merged into itself")
-        if place not in self._entries:
-            self._sought.add(place)
-            self._entries[place] = self._find_entry(mapping, key)
-            self._sought.remove(place)
-        return self._entries[place]
+    def _entry(self, mapping: Node, key: str) -> Optional[Entry]:
+        if mapping.kind == "mapping":
+            self._once("keys", mapping, self._look_at_keys)
+        return self.mappings.entry(mapping, key)
 
-    def _find_entry(self, mapping: Any, key: str) -> Optional[Tuple[Any, Any]]:
-        entries: List[Tuple[Any, Any]] = [entry for entry in mapping.value if _is_key(entry[0], key)]
-        if len(entries) > 1:
-            self._complain(entries[1][0], f"`{key}` is there twice")
-        if entries:
-            return entries[0]
-        merged = [value for name, value in mapping.value if _is_merge(name)]
-        parts = [part for value in merged for part in (value.value if value.id == "sequence" else [value])]
-        return next(filter(None, (self._entry(part, key) for part in parts)), None)
+    def _look_at_keys(self, mapping: Node) -> int:
+        for name in self.mappings.repeated(mapping):
+            if name.value in LOOKED_AT:
+                self._complain(name, f"`{name.value}` is there twice")
+        return 0
 
-    def _is_mapping(self, node: Any, name: str) -> bool:
-        if node.id != "mapping":
+    def _is_mapping(self, node: Node, name: str) -> bool:
+        if node.kind != "mapping":
             self._complain(node, f"{name} is not a mapping")
-        return bool(node.id == "mapping")
+        return node.kind == "mapping"
 
-    def _complain(self, node: Any, message: str) -> None:
-        self.faults.append(Fault(node.start_mark.index, node.start_mark.index, message))
+    def _complain(self, node: Node, message: str) -> None:
+        self.faults.append(Fault(node.start, node.start, message))
 
     def _read_queries(self) -> Iterator[Query]:
-        tokens = _scan(self.source) if self._found else {}
-        others = {id(node) for root in self._roots for part, node in _reached(root) if part == "other"}
+        others = (
+            {id(node) for root in self.yaml.roots for part, node in _reached(root) if part == "other"}
+            if self.yaml.has_aliases
+            else ()
+        )
         for key, node in self._found.values():
-            start, before, in_flow = tokens[node.end_mark.index]
-            style = node.style or ""
-            scalar = Scalar(self.source.text, start, node.end_mark.index, before, style, in_flow, key.start_mark.column)
+            start, before, in_flow = self.yaml.token(key, node)
+            scalar = Scalar(self._source.text, start, node.end, before, node.style, in_flow, key.column)
             offsets = scalar.offsets(node.value)
             if offsets is None:
+                self.yaml.refuse()
                 self.faults.append(Fault(start, start, _UNREAD))
             else:
                 comment_below = scalar.is_block() and scalar.has_comment_below()
                 kept = _USED_ELSEWHERE if id(node) in others else _COMMENT_BELOW if comment_below else ""
-                yield Query(node.value, offsets, scalar, kept=kept)
+                yield Query(node.value, offsets, scalar, _LOKI if id(node) in self._left else "", kept)
 
 
-def _yaml() -> Any:
-    try:
-        return importlib.import_module("ruamel.yaml")
-    except ImportError as error:
-        raise FileError("rule files need ruamel.yaml: install python3-ruamel.yaml, or `pip install ruamel.yaml`") from error
-
-
-def _compose(source: Source) -> List[Any]:
-    """The nodes of each document of a file."""
-    yaml = _yaml()
-    try:
-        with warnings.catch_warnings():
-            # (an anchor may be there again)
-            warnings.simplefilter("ignore")
-            return list(yaml.YAML(typ="safe", pure=True).compose_all(source.text))
-    except yaml.error.MarkedYAMLError as error:
-        mark = error.problem_mark or error.context_mark
-        offset = mark.index if mark else 0
-        raise FileError(source.shown(Fault(offset, offset, f"not YAML: {error.problem or error.context}"))) from error
-    except yaml.reader.ReaderError as error:
-        fault = Fault(error.position, error.position, "not YAML: a character that is not allowed")
-        raise FileError(source.shown(fault)) from error
-    except (yaml.error.YAMLError, ValueError, OverflowError) as error:
-        raise FileError(f"{source.name}: not YAML: {error}") from error
-
-
-def _scan(source: Source) -> Dict[int, _Token]:
-    """The token of each scalar, by its end."""
-    found, before, depth = {}, 0, 0
-    for token in _yaml().YAML(typ="safe", pure=True).scan(source.text):
-        depth += {"[": 1, "{": 1, "]": -1, "}": -1}.get(token.id, 0)
-        if token.id == "<scalar>":
-            found[token.end_mark.index] = _Token(token.start_mark.index, before, depth > 0)
-        before = token.end_mark.index
-    return found
-
-
-def _is_key(node: Any, key: str) -> bool:
-    return bool(node.id == "scalar" and node.value == key)
-
-
-def _is_merge(node: Any) -> bool:
-    return _is_plain(node, "<<")
-
-
-def _is_plain(node: Any, text: str) -> bool:
-    return _is_key(node, text) and not node.style
-
-
-def _is_null(node: Any) -> bool:
-    return bool(node.id == "scalar" and node.tag == _NULL)
-
-
-def _children(part: str, node: Any) -> Iterator[Tuple[str, Any]]:
+def _children(part: str, node: Node) -> Iterator[Tuple[str, Node]]:
     """What is in a node, with the part of a rule file that it is. What is merged into a mapping is the same part."""
-    if node.id == "sequence":
+    if node.kind == "sequence":
         for item in node.value:
             yield _PARTS.get((part, None), part), item
-    elif node.id == "mapping":
+    elif node.kind == "mapping":
         for key, value in node.value:
             yield "other", key
-            name = key.value if key.id == "scalar" else None
-            yield part if _is_merge(key) else _PARTS.get((part, name), "other"), value
+            name = key.value if key.kind == "scalar" else None
+            yield part if key.is_merge() else _PARTS.get((part, name), "other"), value
 
 
-def _reached(root: Any) -> Iterator[Tuple[str, Any]]:
+def _reached(root: Node) -> Iterator[Tuple[str, Node]]:
     """Each node of a document, once for each part of a rule file that it is."""
     todo, seen = [("document", root)], set()
     while todo:
@@ -233,7 +231,7 @@ def _reached(root: Any) -> Iterator[Tuple[str, Any]]:
             todo += _children(part, node)
 
 
-def _same(old_root: Any, new_root: Any, same_query: SameQuery) -> bool:
+def _same(old_root: Node, new_root: Node, same_query: SameQuery) -> bool:
     """Whether two documents have the same nodes, but for the queries, which are compared by `same_query`."""
     todo, seen = [("document", old_root, new_root)], set()
     while todo:
@@ -241,8 +239,8 @@ def _same(old_root: Any, new_root: Any, same_query: SameQuery) -> bool:
         if (part, id(old), id(new)) in seen:
             continue
         seen.add((part, id(old), id(new)))
-        if part == "expr" and old.id == new.id == "scalar":
-            alike = same_query(old.value, new.value) and (old.anchor, _is_null(old)) == (new.anchor, _is_null(new))
+        if part == "expr" and old.kind == new.kind == "scalar":
+            alike = same_query(old.value, new.value) and (old.anchor, old.is_null()) == (new.anchor, new.is_null())
         else:
             alike = _shape(old) == _shape(new)
         if not alike:
@@ -251,7 +249,6 @@ def _same(old_root: Any, new_root: Any, same_query: SameQuery) -> bool:
     return True
 
 
-def _shape(node: Any) -> Tuple[Any, ...]:
+def _shape(node: Node) -> Tuple[Any, ...]:
     """What a node has beside the nodes in it."""
-    value = (node.value, node.style) if node.id == "scalar" else (len(node.value), node.flow_style)
-    return (node.id, node.tag, node.anchor, *value)
+    return (node.kind, node.tag, node.anchor, node.style, node.value if node.is_scalar() else len(node.value))

@@ -12,6 +12,8 @@ from .queries import Edit, PlacedText
 _BREAK = re.compile(BREAK)
 _LINE = re.compile(rf"([^\r\n]*)({BREAK}|\Z)")
 _FOLD = re.compile(rf"[ \t]*{BREAK}(?:[ \t]*{BREAK})*[ \t]*")
+# Characters that mean themselves, whichever quotes they are in.
+_RUN = re.compile(r"(?:[^\\' \t\r\n]|[ \t]+(?![ \t\r\n]))+")
 _CONTINUATION = re.compile(rf"\\{BREAK}((?:[ \t]*{BREAK})*)[ \t]*")
 _ESCAPE = re.compile(r"\\(?:x([0-9A-Fa-f]{2})|u([0-9A-Fa-f]{4})|U([0-9A-Fa-f]{8})|(.))")
 _BELOW = re.compile(rf"[^\r\n]*(?:{BREAK}[ \t]*)*{BREAK}( *)#")
@@ -112,8 +114,10 @@ def _flow(scalar: Scalar) -> PlacedText:
     quotes = len(scalar.style)
     source, at, end, text = scalar.source, scalar.start + quotes, scalar.end - quotes, PlacedText()
     while at < end:
-        fold = _FOLD.match(source, at, end)
-        if fold:
+        if run := _RUN.match(source, at, end):
+            text.put(run[0], at)
+            at = run.end()
+        elif fold := _FOLD.match(source, at, end):
             _fold(text, [found.start() for found in _BREAK.finditer(source, at, fold.end())])
             at = fold.end()
         elif scalar.style == '"' and source[at] == "\\":

@@ -49,7 +49,6 @@ class Boards(Folder):
         self.assertEqual(
             [line.split("warning: left as it is: ")[1] for line in ran.err.splitlines()],
             [
-                "it has variables of Grafana (job, __rate_interval): `check --variable NAME=VALUE` gives them values",
                 "its data source is of the type loki",
                 "it has a comment, which would be lost",
             ],
@@ -79,11 +78,11 @@ class Boards(Folder):
 
     def test_check(self):
         ran = run("check", BOARD)
-        self.assertEqual(ran[:2], (0, f"{BOARD}: 7 queries, 2 skipped, no errors\n"))
-        self.assertIn(f"{BOARD}:9:33: skipped: it has variables of Grafana (job, __rate_interval)", ran.err)
+        self.assertEqual(ran[:2], (0, f"{BOARD}: 7 queries, 1 skipped, no errors\n"))
+        self.assertIn(f"{BOARD}:12:19: skipped: its data source is of the type loki", ran.err)
         given = ("--variable", "job=shop", "--variable", "__rate_interval=5m")
         self.assertEqual(run("check", *given, BOARD)[:2], (0, f"{BOARD}: 7 queries, 1 skipped, no errors\n"))
-        self.assertIn("(__rate_interval)", run("check", *given[:2], BOARD).err)
+        self.assertEqual(run("check", *given[:2], "--variable", "__rate_interval=5x", BOARD).status, 1)
         self.assertEqual(run("check", "--dashboard", "-", stdin=BOARD.read_bytes()).status, 0)
 
     def test_statuses(self):

@@ -102,7 +102,7 @@ class Formatted(Folder):
                 self.assertEqual(run("format", path).out.encode(), wanted)
                 self.assertEqual(run("format", "--write", path).status, 0)
                 self.assertEqual(path.read_bytes(), wanted)
-                self.assertEqual(run("check", path).status, 0)
+                self.assertEqual(run("check", "--queries", path).status, 0)
 
     def test_again(self):
         for name in NAMES:
@@ -256,7 +256,7 @@ class Places(Folder):
             for line_end in ("\n", "\r\n", "\r"):
                 with self.subTest(name, line_end=line_end):
                     path = self.file((RULE + lines + "\n").replace("\n", line_end))
-                    ran = run("check", path)
+                    ran = run("check", "--queries", path)
                     self.assertEqual(ran.status, 1)
                     self.assertEqual(ran.err.count(str(path)), 1, ran.err)
                     line, column = map(int, place.split(":"))
@@ -266,7 +266,8 @@ class Places(Folder):
 
     def test_byte_order_mark(self):
         path = self.file("\ufeff{groups: [{rules: [{expr: a b}]}]}")
-        self.assertTrue(run("check", path).err.startswith(f"{path}:1:29: "), run("check", path).err)
+        ran = run("check", "--queries", path)
+        self.assertTrue(ran.err.startswith(f"{path}:1:29: "), ran.err)
 
     def test_long_lines(self):
         path = self.file(file_of("a + " * 100 + "b c"))
@@ -313,7 +314,7 @@ class Places(Folder):
 
 class Checks(Folder):
     def test_summary(self):
-        ran = run("check", *(FILES / f"{name}.yml" for name in NAMES))
+        ran = run("check", "--queries", *(FILES / f"{name}.yml" for name in NAMES))
         self.assertEqual((ran.status, ran.err), (0, ""))
         self.assertEqual(
             [line.rsplit(": ", 1)[1] for line in ran.out.splitlines()],
@@ -340,7 +341,7 @@ class Checks(Folder):
         ):
             with self.subTest(text):
                 path = self.file(text)
-                ran = run("check", path)
+                ran = run("check", "--queries", path)
                 self.assertEqual(ran.status, 1)
                 self.assertTrue(ran.err.startswith(f"{path}:{message}\n"), ran.err)
                 self.assertEqual(run("format", "--write", path).status, 2)
@@ -357,7 +358,7 @@ class Checks(Folder):
             "---\n---\n",
         ):
             path = self.file(text)
-            self.assertEqual(run("check", path)[:2], (0, f"{path}: no rules, no errors\n"), text)
+            self.assertEqual(run("check", "--queries", path)[:2], (0, f"{path}: no rules, no errors\n"), text)
             self.assertEqual(run("format", path)[:2], (0, text), text)
 
     def test_unreadable(self):
@@ -385,12 +386,12 @@ class Checks(Folder):
         """Each mapping is looked at once, however often it is merged."""
         merges = [f"m{i}: &m{i} {{<<: [{', '.join([f'*m{i - 1}'] * 9)}]}}" for i in range(1, 60)]
         text = "\n".join(["m0: &m0 {a: b}", *merges, "groups: [{rules: [{<<: *m59}, {<<: *m59, expr: up}]}]\n"])
-        ran = run("check", self.file(text))
+        ran = run("check", "--queries", self.file(text))
         self.assertEqual((ran.status, ran.out.split(": ")[1]), (1, "1 rule, 1 error\n"))
         self.assertIn("a rule without `expr`", ran.err)
 
     def test_aliases(self):
-        self.assertEqual(run("check", self.file(aliases(100, 100))).out.split(": ")[1], "10000 rules, no errors\n")
+        self.assertEqual(run("check", "--queries", self.file(aliases(100, 100))).out.split(": ")[1], "10000 rules, no errors\n")
 
     def test_keys_twice(self):
         for text in ("groups: []\ngroups: []\n", "groups: [{rules: [], rules: []}]", "groups: [{rules: [{expr: up, expr: up}]}]"):

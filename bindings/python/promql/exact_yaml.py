@@ -1,0 +1,103 @@
+"""YAML by ruamel.yaml, which decides: it is slow, tells where each token is, and has the messages."""
+
+from __future__ import annotations
+
+import importlib
+import importlib.util
+import warnings
+from typing import Any, Dict, List
+
+from .files import Fault, FileError, Source
+from .yaml_nodes import Node, Token
+
+
+class ExactYaml:
+    """A text as ruamel.yaml reads it."""
+
+    def __init__(self, source: Source) -> None:
+        self._source = source
+        self._tokens: Dict[int, Token] = {}
+        self.roots = _Converter().documents(_compose(source))
+        self.has_aliases = True
+
+    def refuse(self) -> None:
+        """No other reader knows better."""
+
+    def token(self, key: Node, value: Node) -> Token:
+        if not self._tokens:
+            self._tokens = _scan(self._source)
+        return self._tokens[value.end]
+
+
+class _Converter:
+    """Makes nodes of those of ruamel.yaml, without recursion, each once."""
+
+    def __init__(self) -> None:
+        self._made: Dict[int, Node] = {}
+        # The collections that have no nodes yet.
+        self._todo: List[Any] = []
+
+    def documents(self, roots: List[Any]) -> List[Node]:
+        made = [self._node(root) for root in roots]
+        while self._todo:
+            collection = self._todo.pop()
+            node = self._made[id(collection)]
+            if collection.id == "sequence":
+                node.value = [self._node(item) for item in collection.value]
+            else:
+                node.value = [(self._node(key), self._node(value)) for key, value in collection.value]
+        return made
+
+    def _node(self, found: Any) -> Node:
+        node = self._made.get(id(found))
+        if not node:
+            is_scalar = found.id == "scalar"
+            style = (found.style or "") if is_scalar else "{" * bool(found.flow_style)
+            start = found.start_mark
+            place = (start.index, found.end_mark.index, start.column)
+            node = Node(found.id, found.value, str(found.tag), style, found.anchor or "", *place, False)
+            self._made[id(found)] = node
+            if not is_scalar:
+                self._todo.append(found)
+        return node
+
+
+def look_for_reader() -> None:
+    """Says so where there is no ruamel.yaml."""
+    if not importlib.util.find_spec("ruamel") or not importlib.util.find_spec("ruamel.yaml"):
+        raise FileError("rule files need ruamel.yaml: install python3-ruamel.yaml, or `pip install ruamel.yaml`")
+
+
+def _yaml() -> Any:
+    look_for_reader()
+    return importlib.import_module("ruamel.yaml")
+
+
+def _compose(source: Source) -> List[Any]:
+    """The nodes of each document of a file."""
+    yaml = _yaml()
+    try:
+        with warnings.catch_warnings():
+            # (an anchor may be there again)
+            warnings.simplefilter("ignore")
+            return list(yaml.YAML(typ="safe", pure=True).compose_all(source.text))
+    except yaml.error.MarkedYAMLError as error:
+        mark = error.problem_mark or error.context_mark
+        offset = mark.index if mark else 0
+        raise FileError(source.shown(Fault(offset, offset, f"not YAML: {error.problem or error.context}"))) from error
+    except yaml.reader.ReaderError as error:
+        fault = Fault(error.position, error.position, "not YAML: a character that is not allowed")
+        raise FileError(source.shown(fault)) from error
+    except (yaml.error.YAMLError, ValueError, OverflowError) as error:
+        raise FileError(f"{source.name}: not YAML: {error}") from error
+
+
+def _scan(source: Source) -> Dict[int, Token]:
+    """The token of each scalar, by its end."""
+    found, before, depth = {}, 0, 0
+    for token in _yaml().YAML(typ="safe", pure=True).scan(source.text):
+        depth += {"[": 1, "{": 1, "]": -1, "}": -1}.get(token.id, 0)
+        if token.id == "<scalar>":
+            found[token.end_mark.index] = Token(token.start_mark.index, before, depth > 0)
+        before = token.end_mark.index
+    return found

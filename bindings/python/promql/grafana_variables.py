@@ -1,0 +1,272 @@
+"""Grafana's variables in queries: what stands in for one while a query is read and laid out, and how it comes back.
+
+PromQL has no variables. So each is read as a token of its kind that is nowhere else in the query: a word in a string or a name, a
+duration in brackets, a number. Where the place of a variable does not tell its kind, kinds are tried until the query is accepted. A
+string with variables is checked with words in it, and comes back as it is written, since its quotes may matter to a value.
+"""
+
+from __future__ import annotations
+
+import re
+from itertools import islice, product
+from typing import Dict, Iterator, List, Match, NamedTuple, Optional, Sequence, Tuple
+
+import promql
+
+from .queries import PlacedText
+
+_NAMES = r"[A-Za-z_]\w*"
+# `$x`, `${x}`, `${x:format}`, `${x.field}`, `[[x]]` and `[[x:format]]`.
+VARIABLE = re.compile(rf"\$({_NAMES})|\$\{{({_NAMES})(?:[^\w}}{{$][^}}{{$]*)?\}}|\[\[({_NAMES})(?::\w+)?\]\]", re.ASCII)
+_ANY = VARIABLE.pattern.replace(f"({_NAMES})", _NAMES)
+_TOKEN = re.compile(
+    rf"""(?P<string>"(?:[^"\\\n]|\\.)*"|'(?:[^'\\\n]|\\.)*'|`[^`]*`)|(?P<comment>\#[^\n]*)
+    |(?P<run>(?:{_ANY}|[A-Za-z0-9_.])+)|(?P<space>[ \t\r\n]+)|(?P<sign>.)""",
+    re.X | re.S | re.ASCII,
+)
+# After a backslash nobody knows what a variable makes.
+_ESCAPED = re.compile(r"\\(?:\$|\[\[)")
+# What may make one number of what is before and after it.
+_SIGN = re.compile(r"[-+](?=[0-9$\[])")
+_PART_OF_NUMBER = re.compile(r"[0-9.]*[eE]?[0-9.]*")
+# How errors begin that depend on the values of strings.
+_OF_VALUES = ("illegal regex", "vector selector must contain")
+# What a variable may be read as, beside the name of a function.
+_WORD, _NUMBER, _DURATION, _TIME = ("word",), ("number",), ("duration",), ("time",)
+_MATCHER, _STRING = ("matcher",), ("string",)
+# Series over a range.
+_RANGE = ("range",)
+# A string with variables in it.
+_TEXT = ("text",)
+# A function of each type, or more.
+_FUNCTIONS = tuple("stdvar sgn last_over_time quantile group ceil present_over_time quantile_over_time scalar".split())
+_NUMBERS = ("__interval_ms", "__range_ms", "__range_s", "__from", "__to")
+_MOST_TRIALS = 64
+# Bytes that are read in all trials of a query, but for the first one.
+_MOST_READ = 200_000
+_MOST_TEXTS = 600
+
+
+class Place(NamedTuple):
+    """A variable in a query, or a token that has some, as `${x}s` or a string: where it is, and what it may be read as."""
+
+    start: int
+    end: int
+    kinds: Tuple[str, ...]
+    # Whether the place tells the kind, so that an error there is one of the query.
+    is_sure: bool
+
+
+class Span(NamedTuple):
+    """Where a variable is in a query that is checked."""
+
+    start: int
+    end: int
+    is_sure: bool
+    # Whether it is read as a function, whose arguments may then be wrong.
+    is_function: bool
+
+
+# The kinds that are read at places that have several, by the texts there.
+Choice = Dict[Tuple[str, Tuple[str, ...]], str]
+
+
+class Variables:
+    """How the variables of a query are read: a text that stands in for each, by its kind and how it is spelled."""
+
+    def __init__(self, original: str, choice: Choice) -> None:
+        self.original = original
+        self._choice = choice
+        places = list(places_of(original))
+        words = {(found[0], "word") for place in places if place.kinds == _TEXT for found in _variables(original, place)}
+        used = sorted(words.union(self._use(original, place) for place in places))
+        self._texts = dict(zip(used, _texts(original, used)))
+        self._spelled = {text: spelling for (spelling, _), text in self._texts.items()}
+        found = sorted(self._spelled, key=len, reverse=True)
+        self._stand_ins = re.compile("|".join(map(re.escape, found)) or r"(?!)")
+        self.text = self.stand_in(original) or ""
+
+    def are_told_apart(self) -> bool:
+        return len(self._spelled) == len(self._texts)
+
+    def checked(self, text: PlacedText) -> Tuple[PlacedText, List[Span]]:
+        """The query as it is checked, and where the variables are in that."""
+        made, at = PlacedText(), 0
+        spans: List[Span] = []
+        for place in places_of(text.text):
+            in_string = place.kinds == _TEXT
+            for start, end in [found.span() for found in _variables(text.text, place)] if in_string else [place[:2]]:
+                spelling = text.text[start:end]
+                use = (spelling, "word") if in_string else self._use(text.text, place)
+                made.copy(text, at, start)
+                begin, at = len(made.text), end
+                made.put_all(self._texts[use], text.offsets[start])
+                spans.append(Span(begin, len(made.text), place.is_sure, use[1] in _FUNCTIONS))
+        made.copy(text, at, len(text.text))
+        return made, spans
+
+    def put_back(self, text: str) -> str:
+        """A text with the variables in it again."""
+        return self._stand_ins.sub(lambda found: self._spelled[found[0]], text)
+
+    def stand_in(self, query: str) -> Optional[str]:
+        """A query with these variables as it is laid out; or nothing where one has a place that this query has not."""
+        made, at = "", 0
+        for place in places_of(query):
+            stand_in = self._texts.get(self._use(query, place))
+            if stand_in is None:
+                return None
+            made, at = made + query[at : place.start] + stand_in, place.end
+        return made + query[at:]
+
+    def come_back(self, new: str) -> Optional[str]:
+        """The query that was laid out with its variables in it again; or nothing, where they would not all come back."""
+        query = self.put_back(new)
+        counts = [sorted(found[0] for found in self._stand_ins.finditer(text)) for text in (self.text, new)]
+        return query if counts[0] == counts[1] and self.stand_in(query) == new else None
+
+    def _use(self, text: str, place: Place) -> Tuple[str, str]:
+        spelling = text[place.start : place.end]
+        return spelling, self._choice.get((spelling, place.kinds), (*place.kinds, "")[0])
+
+
+def _variables(text: str, place: Place) -> Iterator[Match[str]]:
+    return VARIABLE.finditer(text, place.start, place.end)
+
+
+class Reading(NamedTuple):
+    """A query with variables, as it is read."""
+
+    # Nothing where there are too many.
+    variables: Optional[Variables]
+    # As it is checked.
+    text: PlacedText
+    # Why it is not known whether it is right, or nothing.
+    unknown: str
+
+
+def read_variables(text: PlacedText) -> Reading:
+    """The first reading of a query that is accepted, or the one that is accepted for the longest part."""
+    best: Tuple[int, Optional[Reading]] = (-1, None)
+    for variables in _trials(text.text):
+        made, spans = variables.checked(text)
+        try:
+            promql.check(made.text)
+        except promql.QueryError as error:
+            unknown = _unknown(text.text) if any(_is_doubtful(error, span) for span in spans) else ""
+            if error.start > best[0]:
+                best = error.start, Reading(variables, made, unknown)
+        except ValueError:
+            return Reading(variables, made, "")
+        else:
+            return Reading(variables, made, "")
+    return best[1] or Reading(None, text, _unknown(text.text))
+
+
+def _unknown(query: str) -> str:
+    names = dict.fromkeys(found[1] or found[2] or found[3] for found in VARIABLE.finditer(query))
+    return f"it is not read with its variables of Grafana ({', '.join(names)}): `check --variable NAME=VALUE` gives them values"
+
+
+def _is_doubtful(error: promql.QueryError, span: Span) -> bool:
+    """Whether an error may be one of what stands in for a variable: it is there, or at the token after it."""
+    touches = span.start <= error.end and not error.query[span.end : error.start].strip()
+    return span.is_function or touches and (not span.is_sure or error.message.startswith(_OF_VALUES))
+
+
+def _trials(query: str) -> Iterator[Variables]:
+    """The ways to read the variables of a query, the most likely one first."""
+    places = list(places_of(query))
+    if len(VARIABLE.findall(query)) > _MOST_TEXTS or any(not place.kinds for place in places):
+        return
+    open_places = sorted({(query[place.start : place.end], place.kinds) for place in places if len(place.kinds) > 1})
+    most = min(_MOST_TRIALS, 1 + _MOST_READ // (len(query) + 1))
+    for kinds in islice(product(*(kinds for _, kinds in open_places)), most):
+        variables = Variables(query, dict(zip(open_places, kinds)))
+        if variables.are_told_apart():
+            yield variables
+
+
+def _texts(query: str, uses: Sequence[Tuple[str, str]]) -> Iterator[str]:
+    """What stands in for variables that are spelled and used so: texts that the query has not, and that are printed as they are.
+
+    They depend on which variables there are, and not on their order, and words are as wide as the variables where they can be: so the
+    query that is laid out is laid out in the same way again.
+    """
+    word = next(word for word in ("zqv" + "v" * count for count in range(len(query) + 2)) if word not in query)
+    number = next((str(begin) for begin in range(7000, 10_000) if str(begin) not in query), "")
+    length = next((f"{hours}h11m11s" for hours in range(1, 24) if f"{hours}h11m11s" not in query), "")
+    for index, (spelling, kind) in enumerate(uses):
+        letters = f"{word}{chr(97 + index // 26)}{chr(97 + index % 26)}"
+        texts = {
+            "word": letters.ljust(len(spelling), "z"),
+            "text": '"' + letters.ljust(len(spelling) - 2, "z") + '"',
+            "string": '"' + letters.ljust(len(spelling) - 2, "z") + '"',
+            "matcher": f'{letters}="{"z" * (len(spelling) - len(letters) - 3)}"',
+            "number": f"{number}{100 + index}",
+            "duration": f"{length}{100 + index}ms",
+            "time": f"{number}{100 + index}.000",
+            "range": f"{letters}[{length}{100 + index}ms]",
+        }
+        yield texts.get(kind, kind)
+
+
+def places_of(query: str) -> Iterator[Place]:
+    """The variables of a query, in their order."""
+    tokens = [found for found in _TOKEN.finditer(query) if found.lastgroup != "space"]
+    opened: List[str] = []
+    for number, token in enumerate(tokens):
+        if token.lastgroup == "string" and VARIABLE.search(token[0]):
+            yield Place(*token.span(), _TEXT, not _ESCAPED.search(token[0]))
+        elif token.lastgroup == "run" and VARIABLE.search(token[0]):
+            yield from _in_run(query, tokens, number, opened[-1] if opened else "")
+        elif token[0] in ("(", "[", "{"):
+            opened.append(token[0])
+        elif token[0] in (")", "]", "}") and opened:
+            opened.pop()
+
+
+def _in_run(query: str, tokens: Sequence[Match[str]], number: int, opened: str) -> Iterator[Place]:
+    """The variables of a token, or the token as a whole where it is none but with a value, as `[${x}s]`."""
+    token = tokens[number]
+    before, after = (tokens[at][0].lower() if 0 <= at < len(tokens) else "" for at in (number - 1, number + 1))
+    if before in ("-", "+") and number > 1 and tokens[number - 2][0].lower() in ("offset", "@"):
+        before = tokens[number - 2][0].lower()
+    found = _as_token(query, token, before, after, opened)
+    if found:
+        yield Place(*token.span(), *found)
+        return
+    for variable in VARIABLE.finditer(token[0]):
+        yield Place(token.start() + variable.start(), token.start() + variable.end(), _WORD, False)
+
+
+def _as_token(query: str, token: Match[str], before: str, after: str, opened: str) -> Optional[Tuple[Tuple[str, ...], bool]]:
+    """What a token with variables may be as a whole, and whether that is sure; or nothing where it is a name with variables in it."""
+    rest, is_variable = VARIABLE.sub("", token[0]), VARIABLE.fullmatch(token[0])
+    if not is_variable and _SIGN.match(query, token.end()) and _PART_OF_NUMBER.fullmatch(rest):
+        # (`1$x-5` may be one number, and has no white space then)
+        return (), False
+    if opened == "[" or before == "offset":
+        return _DURATION, True
+    if before == "@":
+        return _TIME, after != "("
+    if "." in rest or token[0][0].isdigit():
+        return _NUMBER, False
+    if opened != "{" and after in ("(", "by", "without"):
+        return _functions(query), False
+    is_part = ":" in (query[token.start() - 1 : token.start()], query[token.end() : token.end() + 1])
+    return None if is_part or not is_variable else (_kinds(token[0], before, after, opened), False)
+
+
+def _kinds(variable: str, before: str, after: str, opened: str) -> Tuple[str, ...]:
+    """What a variable that is a token of its own may be, by what is around it; the most likely one first."""
+    if opened == "{":
+        return _WORD if after in ("=", "!") else _STRING if before in ("=", "~") else _MATCHER
+    if variable.strip("${}[]").partition(":")[0] in _NUMBERS:
+        return (*_NUMBER, *_WORD)
+    return (*_WORD, *_NUMBER, *_STRING, *_RANGE)
+
+
+def _functions(query: str) -> Tuple[str, ...]:
+    """What the name of a function may be read as: names that the query has not."""
+    return (*(name for name in _FUNCTIONS if name not in query), *_WORD)

@@ -1,0 +1,104 @@
+"""Work on many files, by several processes where that is asked for: what is said of each comes out in their order."""
+
+from __future__ import annotations
+
+import argparse
+import multiprocessing
+import os
+import sys
+from multiprocessing.connection import Connection
+from typing import Any, Callable, Iterator, List, NamedTuple, Sequence
+
+from .documents import Status
+from .files import STDIN
+from .targets import Target
+from .visible import visible
+
+_MOST_JOBS = 256
+
+
+class Report(NamedTuple):
+    """What a command says of a file."""
+
+    status: Status
+    out: bytes
+    err: Sequence[str]
+
+    def put_out(self) -> None:
+        for message in self.err:
+            print(visible(message, "\t\n"), file=sys.stderr)
+        sys.stdout.flush()
+        sys.stdout.buffer.write(self.out)
+        sys.stdout.buffer.flush()
+
+
+def as_bytes(text: str) -> bytes:
+    """A text of files and their names, which may have bytes that are no text."""
+    return text.encode("utf-8", "surrogateescape")
+
+
+def skipped_file(target: Target, is_verbose: bool) -> Report:
+    """What is said of a file of a folder that is something else."""
+    return Report(Status.FINE, b"", [f"{target.name}: skipped: no rule file"] if is_verbose else [])
+
+
+Work = Callable[[Target], Report]
+
+
+def add_arguments(parser: Any) -> None:
+    """What the commands over files have in common."""
+    files = "a rule file, a dashboard (.json), a folder with rule files, or - for standard input"
+    parser.add_argument("files", nargs="+", metavar="FILE", help=files)
+    parser.add_argument("--dashboard", action="store_true", help="all files are dashboards")
+    parser.add_argument("--jobs", type=_jobs, default=1, metavar="N", help="so many processes (1)")
+    parser.add_argument("-v", "--verbose", action="store_true", help="name what is skipped in files and folders")
+
+
+def _jobs(text: str) -> int:
+    if not text.isdecimal() or not 1 <= int(text) <= _MOST_JOBS:
+        raise argparse.ArgumentTypeError(f"not a number from 1 to {_MOST_JOBS}: {text!r}")
+    return int(text)
+
+
+def work_on(targets: List[Target], work: Work, jobs: int, goes_on: bool = False) -> Status:
+    """Puts out what is said of each file, and returns the highest status. It can go on where the output cannot be written."""
+    jobs = min(jobs, len(targets))
+    names = [target.name for target in targets]
+    # (standard input is that of one process, and a file that is there twice is written once after the other)
+    alone = jobs == 1 or STDIN in names or len({os.path.realpath(name) for name in names}) < len(names)
+    worst = Status.FINE
+    for name, report in zip(names, map(work, targets) if alone else _in_processes(targets, work, jobs)):
+        worst = max(worst, report.status)
+        try:
+            report.put_out()
+        except OSError as error:
+            if not goes_on:
+                raise
+            print(visible(f"{name}: {error.strerror}"), file=sys.stderr)
+            worst = Status.FAILED
+    return worst
+
+
+def _in_processes(targets: List[Target], work: Work, jobs: int) -> Iterator[Report]:
+    """The reports of processes that take turns with the files, so that none is far ahead of what is put out."""
+    context = multiprocessing.get_context("fork")
+    readers: List[Connection] = []
+    for number in range(jobs):
+        reader, writer = context.Pipe(duplex=False)
+        readers.append(reader)
+        context.Process(target=_send, args=(targets[number::jobs], work, writer, list(readers)), daemon=True).start()
+        writer.close()
+    for number, target in enumerate(targets):
+        try:
+            report: Report = readers[number % jobs].recv()
+        except (EOFError, OSError):
+            report = Report(Status.FAILED, b"", [f"{target.name}: the process that had this file ended"])
+        yield report
+
+
+def _send(targets: List[Target], work: Work, writer: Connection, readers: List[Connection]) -> None:
+    """What a process does: where nobody reads its reports any more, it ends by SIGPIPE."""
+    for reader in readers:
+        reader.close()
+    for target in targets:
+        writer.send(work(target))

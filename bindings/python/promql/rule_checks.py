@@ -1,0 +1,260 @@
+"""What Prometheus asks of groups and rules beside their queries: names, labels, durations, fields and templates.
+
+The verdict is that of `promtool check rules` of Prometheus 2.42, but for what docs/guide/rule-files.md, "What differs from promtool",
+lists.
+"""
+
+from __future__ import annotations
+
+import re
+from typing import Dict, FrozenSet, Iterator, List, Match, Optional, Set, Tuple
+
+from .files import Fault
+from .go_templates import TemplateError, check_template
+from .yaml_mappings import Mappings
+from .yaml_nodes import Node
+
+# `query_offset` and `labels` of a group are of later versions than 2.42, and `partial_response_strategy` is of Thanos.
+_GROUP_FIELDS = frozenset(("name", "interval", "limit", "rules", "query_offset", "labels", "partial_response_strategy"))
+_RULE_FIELDS = frozenset(("record", "alert", "expr", "for", "keep_firing_for", "labels", "annotations"))
+# The keys about which the reader of rules complains itself where they are there twice.
+LOOKED_AT = ("groups", "rules", "expr")
+
+_LABEL = re.compile(r"[a-zA-Z_][a-zA-Z0-9_]*")
+_METRIC = re.compile(r"[a-zA-Z_:][a-zA-Z0-9_:]*")
+_SURROGATE = re.compile("[\ud800-\udfff]")
+_DURATION = re.compile(r"(?:(\d+)y)?(?:(\d+)w)?(?:(\d+)d)?(?:(\d+)h)?(?:(\d+)m)?(?:(\d+)s)?(?:(\d+)ms)?", re.ASCII)
+_MILLISECONDS = (31_536_000_000, 604_800_000, 86_400_000, 3_600_000, 60_000, 1_000, 1)
+# In nanoseconds.
+_LONGEST = 2**63 - 1
+_MOST_DIGITS = 18
+_NUMBER = re.compile(
+    r"[-+]?(?:[0-9][0-9_]*(?:\.[0-9_]*)?|\.[0-9][0-9_]*)(?:[eE][-+]?[0-9]+)?|[-+]?0(?:x[0-9a-fA-F_]+|o[0-7_]+|b[01_]+)"
+)
+_LARGEST = 2**63 - 1
+
+# The name of a rule, and its labels.
+_Identity = Tuple[str, FrozenSet[Tuple[str, str]]]
+
+
+class RuleChecks:
+    """What is found in the groups of a file: faults, and warnings of what Prometheus takes."""
+
+    def __init__(self, mappings: Mappings) -> None:
+        self.faults: List[Fault] = []
+        self.warnings: List[Fault] = []
+        self._mappings = mappings
+        # Each node is looked at once as what it is, however many aliases it has.
+        self._seen: Set[Tuple[str, int]] = set()
+        self._names: Set[str] = set()
+        self._rules: Set[_Identity] = set()
+        self._identities: Dict[int, _Identity] = {}
+
+    def look_at_file(self, root: Node, fields: FrozenSet[str]) -> None:
+        """Looks at a mapping with `groups`, of which these are all fields."""
+        if root.kind == "mapping":
+            self._look_at_fields(root, "file", fields)
+        self.look_at_groups(self._mappings.value(root, "groups"))
+
+    def look_at_groups(self, groups: Optional[Node]) -> None:
+        self._names, self._rules = set(), set()
+        for group in _items(groups):
+            name = self._text(group, "name")
+            if name and name in self._names:
+                self._complain(self._place(group, "name"), f"a group `{name}` is there before")
+            self._names.add(name)
+            if self._is_new("group", group):
+                self._look_at_group(group, name)
+
+    def _look_at_group(self, group: Node, name: str) -> None:
+        self._look_at_fields(group, "group", _GROUP_FIELDS)
+        value = self._mappings.value(group, "name")
+        if value and not value.is_scalar():
+            self._complain(self._place(group, "name"), "`name` is not a text")
+        elif not name:
+            self._complain(self._place(group, "name"), "a group without `name`")
+        for key in ("interval", "query_offset"):
+            self._duration(group, key)
+        limit = self._mappings.value(group, "limit")
+        if limit and not limit.is_null() and not _is_number(limit):
+            self._complain(limit, "`limit` is not a number")
+        self._look_at_labels(group, "labels", is_template=False)
+        for rule in _items(self._mappings.value(group, "rules")):
+            if self._is_new("rule", rule):
+                self._look_at_rule(rule)
+            self._look_for_same(rule)
+
+    def _look_at_rule(self, rule: Node) -> None:
+        self._look_at_fields(rule, "rule", _RULE_FIELDS)
+        record, alert = self._name(rule, "record"), self._name(rule, "alert")
+        if record and alert:
+            self._complain(self._place(rule, "alert"), "a rule with both `record` and `alert`")
+        if not record and not alert:
+            self._complain(rule, "a rule without `record` or `alert`")
+        value = self._mappings.value(rule, "record")
+        if value and record and not _METRIC.fullmatch(record):
+            self._complain(value, f"not a metric's name: `{record}`")
+        for key in ("record", "alert", "expr"):
+            self._look_for_alias(rule, key)
+        for key in ("for", "keep_firing_for"):
+            if self._duration(rule, key) and record:
+                self._complain(self._place(rule, key), f"`{key}` is for alerts")
+        annotations = self._look_at_labels(rule, "annotations", is_template=bool(alert))
+        if annotations and record:
+            self._complain(self._place(rule, "annotations"), "`annotations` are for alerts")
+        self._look_at_labels(rule, "labels", is_template=bool(alert))
+
+    def _look_for_alias(self, rule: Node, key: str) -> None:
+        """Warns of an alias: a value that is before its key in the file."""
+        entry = self._mappings.entry(rule, key)
+        if entry and entry[1].start < entry[0].start:
+            name = f"warning: Prometheus 2.42 takes the name of this alias, `{entry[1].anchor}`, for `{key}`"
+            self.warnings.append(Fault(entry[0].start, entry[0].start, name))
+
+    def _look_for_same(self, rule: Node) -> None:
+        """Warns of a rule with the name and the labels of one before it."""
+        if id(rule) not in self._identities:
+            name = self._name(rule, "alert") or self._name(rule, "record")
+            entries = [entry for entry in self._labels(rule, "labels") if entry[0].is_scalar() and entry[1].is_scalar()]
+            # (an own label comes before one that is merged)
+            labels = {key.value: value.value for key, value in reversed(entries)}
+            self._identities[id(rule)] = (name, frozenset(labels.items()))
+        identity = self._identities[id(rule)]
+        if identity not in self._rules:
+            self._rules.add(identity)
+        elif identity[0] and self._is_new("same", rule):
+            self.warnings.append(
+                Fault(rule.start, rule.start, "warning: a rule with this name and these labels is there before")
+            )
+
+    def _look_at_fields(self, mapping: Node, part: str, fields: FrozenSet[str]) -> None:
+        """Complains of fields that are unknown or there twice, also in what is merged."""
+        self._look_at_keys(mapping)
+        for key, _ in mapping.value:
+            if not key.is_scalar():
+                self._complain(key, "the name of a field is not a text")
+            elif key.value not in fields and not key.is_merge():
+                self._complain(key, f"unknown field `{key.value}`")
+        for other in self._merged(mapping):
+            if self._is_new(f"merged into a {part}", other):
+                self._look_at_fields(other, part, fields)
+
+    def _merged(self, mapping: Node) -> Iterator[Node]:
+        """The mappings that are merged into one; complains of what is none."""
+        for other in self._mappings.merged(mapping):
+            if other.kind == "mapping":
+                yield other
+            else:
+                self._complain(mapping, "what is merged by `<<` is not a mapping")
+
+    def _look_at_keys(self, mapping: Node) -> None:
+        if self._is_new("keys", mapping):
+            for key in self._mappings.repeated(mapping):
+                if key.value not in LOOKED_AT:
+                    self._complain(key, f"`{key.value}` is there twice")
+
+    def _look_at_labels(self, owner: Node, name: str, is_template: bool) -> bool:
+        """Looks at labels or annotations, and returns whether there are some."""
+        value = self._mappings.value(owner, name)
+        if not value or value.is_null():
+            return False
+        if value.kind != "mapping":
+            self._complain(value, f"`{name}` is not a mapping")
+            return False
+        entries = self._labels(owner, name)
+        if self._is_new(f"{name}, {is_template}", value):
+            self._look_at_keys(value)
+            for part in self._merged(value):
+                self._look_at_keys(part)
+            for key, text in entries:
+                self._look_at_label(key, text, name, is_template)
+        return bool(entries)
+
+    def _labels(self, owner: Node, name: str) -> List[Tuple[Node, Node]]:
+        value = self._mappings.value(owner, name)
+        return list(self._mappings.entries(value)) if value and value.kind == "mapping" else []
+
+    def _look_at_label(self, key: Node, value: Node, name: str, is_template: bool) -> None:
+        one = "an annotation" if name == "annotations" else "a label"
+        if not key.is_scalar() or not _LABEL.fullmatch(key.value):
+            self._complain(key, f"not {one}'s name" + (f": `{key.value}`" if key.is_scalar() else ""))
+        elif key.value == "__name__" and name == "labels":
+            self._complain(key, "`__name__` is no label of a rule")
+        if not value.is_scalar():
+            self._complain(value, f"{one}'s value is not a text")
+        elif not value.value.isascii() and _SURROGATE.search(value.value):
+            self._complain(value, "half of a surrogate pair")
+        elif is_template:
+            try:
+                check_template(value.value)
+            except TemplateError as error:
+                self._complain(value, f"not a template: {error}")
+
+    def _duration(self, owner: Node, key: str) -> int:
+        """The nanoseconds of a duration; 0 for none, and for what is no duration, of which it complains."""
+        value = self._mappings.value(owner, key)
+        if not value or value.is_null():
+            return 0
+        text = value.value if value.is_scalar() else ""
+        found = _DURATION.fullmatch(text) if text else None
+        if text == "0":
+            return 0
+        if not found:
+            self._complain(value if text else self._place(owner, key), f"`{key}` is not a duration")
+            return 0
+        length = _nanoseconds(found)
+        if length > _LONGEST:
+            self._complain(value, f"`{key}` is longer than 292 years")
+        return length
+
+    def _text(self, owner: Node, key: str) -> str:
+        value = self._mappings.value(owner, key)
+        return str(value.value) if value and value.is_scalar() and not value.is_null() else ""
+
+    def _name(self, rule: Node, key: str) -> str:
+        """The name of a rule, where it has one: `~` and `null` are texts there."""
+        value = self._mappings.value(rule, key)
+        return str(value.value) if value and value.is_scalar() else ""
+
+    def _place(self, owner: Node, key: str) -> Node:
+        """Where to complain about a field: at its key, or at what should have it."""
+        entry = self._mappings.entry(owner, key)
+        return entry[0] if entry else owner
+
+    def _is_new(self, part: str, node: Node) -> bool:
+        place = (part, id(node))
+        is_new = place not in self._seen
+        self._seen.add(place)
+        return is_new
+
+    def _complain(self, node: Node, message: str) -> None:
+        end = node.end if node.is_scalar() and not node.anchor and node.style not in ("|", ">") else node.start
+        self.faults.append(Fault(node.start, end, message))
+
+
+def _items(node: Optional[Node]) -> List[Node]:
+    """The mappings of a list."""
+    return [item for item in node.value if item.kind == "mapping"] if node and node.kind == "sequence" else []
+
+
+def _nanoseconds(duration: Match[str]) -> int:
+    """The length of a duration, or one that is too long."""
+    numbers = [(number or "0").lstrip("0") for number in duration.groups()]
+    if max(map(len, numbers)) > _MOST_DIGITS:
+        return _LONGEST + 1
+    return sum(int(number or 0) * unit for number, unit in zip(numbers, _MILLISECONDS)) * 1_000_000
+
+
+def _is_number(node: Node) -> bool:
+    """Whether Prometheus reads a whole number: it takes one with a fraction, and leaves that out."""
+    if not node.is_scalar() or node.style or not _NUMBER.fullmatch(node.value):
+        return False
+    text = node.value.replace("_", "")
+    try:
+        if text.lstrip("+-")[:2] in ("0x", "0o", "0b"):
+            return -_LARGEST - 1 <= int(text, 0) <= _LARGEST
+        if text.lstrip("+-").isdecimal() and len(text) <= _MOST_DIGITS + 2:
+            return int(text) <= _LARGEST
+        return float(text) <= _LARGEST
+    except ValueError:
+        return False

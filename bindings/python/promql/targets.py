@@ -1,0 +1,38 @@
+"""The files that a command is to work on: those that are named, and those in folders that are named."""
+
+from __future__ import annotations
+
+import os
+from typing import Iterator, List, NamedTuple, Sequence
+
+
+class Target(NamedTuple):
+    """A file to work on."""
+
+    name: str
+    # Whether it was found in a folder: then it may be something else than a rule file.
+    is_found: bool = False
+    # Why it cannot be worked on.
+    fault: str = ""
+
+
+def targets_of(names: Sequence[str], is_dashboard: bool) -> List[Target]:
+    """The files, those of a folder in its place: what ends in .yml or .yaml, or in .json where dashboards are asked for."""
+    ends = (".json",) if is_dashboard else (".yml", ".yaml")
+    return [target for name in names for target in (_in_folder(name, ends) if os.path.isdir(name) else [Target(name)])]
+
+
+def _in_folder(folder: str, ends: Sequence[str]) -> Iterator[Target]:
+    errors: List[OSError] = []
+    paths: List[str] = []
+    # (links to folders are not followed, and what begins with a dot is left out, as by a shell)
+    for place, folders, files in os.walk(folder, onerror=errors.append):
+        folders[:] = [name for name in folders if not name.startswith(".")]
+        found = (os.path.join(place, name) for name in files if name.endswith(tuple(ends)) and not name.startswith("."))
+        paths += filter(os.path.isfile, found)
+    for error in errors:
+        yield Target(str(error.filename), fault=f"{error.filename}: {error.strerror}")
+    if not paths and not errors:
+        yield Target(folder, fault=f"{folder}: no file in it ends in {' or '.join(ends)}")
+    for path in sorted(paths):
+        yield Target(path, is_found=True)

@@ -1,0 +1,95 @@
+"""The entries of YAML's mappings, with those that are merged into them by `<<`."""
+
+from __future__ import annotations
+
+from typing import Dict, Iterator, List, NamedTuple, Optional, Set, Tuple
+
+from .files import FileError
+from .yaml_nodes import Node
+
+Entry = Tuple[Node, Node]
+# More entries than anyone writes: only mappings that merge the same ones again and again have so many.
+_MOST_ENTRIES = 1_000_000
+
+
+class _Mapping(NamedTuple):
+    """What a mapping itself has."""
+
+    entries: Dict[str, Entry]
+    # The values of `<<`.
+    merges: List[Node]
+    # The keys that are there before.
+    repeated: List[Node]
+
+
+class Mappings:
+    """The mappings of a file. Each is looked at once for a key, however often it is merged."""
+
+    def __init__(self, name: str) -> None:
+        self._name = name
+        self._read: Dict[int, _Mapping] = {}
+        self._merged_entries: Dict[Tuple[int, str], Optional[Entry]] = {}
+        self._sought: Set[Tuple[int, str]] = set()
+        self._walked = 0
+
+    def entry(self, mapping: Node, key: str) -> Optional[Entry]:
+        """The node of a key and that of its value, which may come from a mapping that is merged into this one."""
+        if mapping.kind != "mapping":
+            return None
+        own = self._own(mapping)
+        if key in own.entries or not own.merges:
+            return own.entries.get(key)
+        place = (id(mapping), key)
+        if place in self._sought:
+            raise FileError(f"{self._name}: a mapping is merged into itself")
+        if place not in self._merged_entries:
+            self._sought.add(place)
+            self._merged_entries[place] = next(filter(None, (self.entry(part, key) for part in self.merged(mapping))), None)
+            self._sought.remove(place)
+        return self._merged_entries[place]
+
+    def value(self, mapping: Node, key: str) -> Optional[Node]:
+        entry = self.entry(mapping, key)
+        return entry[1] if entry else None
+
+    def entries(self, mapping: Node) -> Iterator[Entry]:
+        """All entries, the own ones before those that are merged; a key may be there again."""
+        todo, seen = [mapping], {id(mapping)}
+        while todo:
+            part = todo.pop()
+            for key, value in part.value if part.kind == "mapping" else ():
+                self._walked += 1
+                if self._walked > _MOST_ENTRIES:
+                    raise FileError(f"{self._name}: its merge keys make more than {_MOST_ENTRIES:,} entries of it")
+                if not key.is_merge():
+                    yield key, value
+            parts = [other for other in self.merged(part) if id(other) not in seen]
+            seen.update(map(id, parts))
+            todo += reversed(parts)
+
+    def merged(self, mapping: Node) -> Iterator[Node]:
+        """What is merged into a mapping."""
+        for value in self._own(mapping).merges if mapping.kind == "mapping" else ():
+            if value.kind == "sequence":
+                yield from value.value
+            else:
+                yield value
+
+    def repeated(self, mapping: Node) -> List[Node]:
+        """The keys of a mapping that it has before."""
+        return self._own(mapping).repeated
+
+    def _own(self, mapping: Node) -> _Mapping:
+        found = self._read.get(id(mapping))
+        if not found:
+            found = self._read[id(mapping)] = _Mapping({}, [], [])
+            for entry in mapping.value:
+                key = entry[0]
+                if key.kind != "scalar":
+                    continue
+                if key.value == "<<" and not key.style:
+                    found.repeated.extend([key] if found.merges else [])
+                    found.merges.append(entry[1])
+                elif found.entries.setdefault(key.value, entry) is not entry:
+                    found.repeated.append(key)
+        return found

@@ -1,0 +1,231 @@
+"""Tests of the two readers of YAML, and of several processes: what one says, the other one says as well."""
+
+import multiprocessing
+import os
+import random
+import re
+import unittest
+from unittest import mock
+
+import test_rule_files
+from command_line import run
+from promql import quick_yaml, rule_files
+from promql.documents import Status
+from promql.exact_yaml import ExactYaml
+from promql.files import FileError, Source
+from promql.jobs import Report, work_on
+from promql.quick_yaml import QuickYaml, Unclear
+from promql.targets import Target
+from test_rule_files import FILES, NAMES, PLACES, RULE, Folder, file_of
+from written import rule_file
+
+try:
+    from yaml import CSafeLoader as _
+except ImportError as error:
+    raise unittest.SkipTest("there is no PyYAML with libyaml here") from error
+
+# How many texts are made at random.
+RANDOM = int(os.environ.get("PROMQL_YAML_TEXTS", "60"))
+PIECES = (
+    "a", "b c", "expr", 'up{job="x"}', " ", "  ", "\n", "\n  ", "\n    ", "\n- ", "\n  - ", ": ", ":", "- ", "? ", "[", "]",
+    "{", "}", ", ", ",", '"', "'", "\\", "\\n", '\\"', "''", "#", " #c", "&x ", "*x", "|", ">", "|-", "|2", ">+", "|+\n ",
+    "\r\n", "\r", "---\n", "...\n", "<<: ", "~", "null", "%", "@", "`", "!", "é", "🦀", "sum(a)", "=", "!=", "\\x41", "\\\n",
+    "\n\n", "\t", "yes", "{a: b}",
+)  # fmt: skip
+# What the files of the tests have that is left to the exact reader.
+LEFT = re.compile(r"!!str|\t|^\.\.\.", re.M)
+# Texts that libyaml and ruamel.yaml take otherwise, or that only one of them takes.
+UNUSUAL = {
+    "a TAB": "a:\tb\n",
+    "a line end of Unicode": "a: b\n  \u2028 c\n",
+    "a control character": "a: \x01\n",
+    "a mark of byte order within": "a: \ufeffb\n",
+    "a directive": "%YAML 1.1\n---\na: b\n",
+    "the end of a document": "a: b\n...\n...\n",
+    "a comment at once after the sign of a block": "a: |#c\n  b\n",
+    "a tag": "a: !!str b\n",
+    "a value of YAML 1.1": "a: =\n",
+    "an anchor with a colon": "a: &b: c\nd: e\n",
+    "an alias with a colon": "? *b: c\n: d\n",
+    "an alias of nothing": "a: *b\n",
+    "a block that is the document": "|\n#a\n",
+    "no YAML": "a: [b\n",
+    "101 lists in lists": "- " * 101 + "a\n",
+    "200,000 brackets": "[" * 200_000,
+}
+
+
+def exactly(cases):
+    """The same tests where there is no quick reader."""
+
+    class Exactly(cases):
+        def setUp(self):
+            super().setUp()
+            patched = mock.patch.object(quick_yaml, "_loader", lambda: None)
+            patched.start()
+            self.addCleanup(patched.stop)
+
+    Exactly.__name__ = Exactly.__qualname__ = f"{cases.__name__}Exactly"
+    return Exactly
+
+
+for name in ("Formatted", "Comments", "Places", "Checks", "Enforcing", "Random"):
+    globals()[f"{name}Exactly"] = exactly(getattr(test_rule_files, name))
+
+
+def flat(roots):
+    """Each node of the documents with what it has, and a number for what comes again; an empty one has no place of its own."""
+    numbers, found, todo = {}, [], list(reversed(roots))
+    while todo:
+        node = todo.pop()
+        if id(node) in numbers:
+            found.append(numbers[id(node)])
+            continue
+        numbers[id(node)] = len(numbers)
+        is_scalar = node.is_scalar()
+        place = () if node.is_plain("") else (node.start, node.column, node.end if is_scalar else None)
+        value = node.value if is_scalar else len(node.value)
+        found.append((node.kind, value, node.style, node.anchor, place, node.is_null(), node.is_text()))
+        todo += reversed(node.value if node.kind == "sequence" else sum(node.value, ()) if node.kind == "mapping" else ())
+    return found
+
+
+def parts(source, reader):
+    """The queries that a reader finds, with all their places, and the faults; or the error."""
+    try:
+        found = rule_files._Parts(source, reader(source))
+    except FileError as error:
+        return str(error)
+    return found.queries, sorted(found.faults), found.rules
+
+
+class Readers(unittest.TestCase):
+    def compare(self, text):
+        """Whether the quick reader takes a text; it then is read as the exact one reads it."""
+        source = Source("a.yml", text, "")
+        try:
+            quick = QuickYaml(source)
+            found = parts(source, QuickYaml)
+        except Unclear:
+            return False
+        self.assertEqual(flat(quick.roots), flat(ExactYaml(source).roots), repr(text))
+        self.assertEqual(found, parts(source, ExactYaml), repr(text))
+        return True
+
+    def test_files(self):
+        for name in NAMES:
+            for end in ("", ".formatted"):
+                data = (FILES / f"{name}{end}.yml").read_bytes().decode("utf-8-sig")
+                self.assertEqual(self.compare(data), not LEFT.search(data), name)
+
+    def test_places(self):
+        for name, (lines, *_) in PLACES.items():
+            for line_end in ("\n", "\r\n", "\r"):
+                text = (RULE + lines + "\n").replace("\n", line_end)
+                self.assertEqual(self.compare(text), not LEFT.search(text), name)
+
+    def test_unusual(self):
+        for name, text in UNUSUAL.items():
+            self.assertFalse(self.compare(text), name)
+
+    def test_at_random(self):
+        """Texts of pieces of YAML, alone and as the value of a rule."""
+        generator, taken = random.Random(3), 0
+        for number in range(40 * RANDOM):
+            text = "".join(generator.choice(PIECES) for _ in range(generator.randrange(1, 16)))
+            taken += self.compare("groups:\n- rules:\n  - expr: " + text if number % 2 else text)
+        self.assertGreater(taken, 5 * RANDOM)
+
+    def test_rule_files_at_random(self):
+        """Rule files, and the same with some characters changed."""
+        generator, taken = random.Random(4), 0
+        queries = (test_rule_files.ROOT / "bench" / "queries" / "queries.txt").read_text(encoding="utf-8").splitlines()
+        for _ in range(RANDOM):
+            text = re.sub(r"!!str |\t", "", rule_file(generator, generator.sample(queries, 3))[0])
+            self.assertTrue(self.compare(text), text)
+            for _ in range(3):
+                at = generator.randrange(len(text))
+                taken += self.compare(text[:at] + generator.choice((*PIECES, "")) + text[at + generator.randrange(3) :])
+        self.assertGreater(taken, RANDOM // 2)
+
+
+class WithoutLibyaml(Folder):
+    def test_same_answers(self):
+        path = self.file(file_of("up=="))
+        quick = run("check", path)
+        with mock.patch.object(quick_yaml, "_loader", lambda: None):
+            self.assertEqual(run("check", path), quick)
+
+    def test_unclear_after_formatting(self):
+        """Where only the new text is unclear, both are read exactly."""
+        path = self.file(file_of("up==0"))
+        with mock.patch.object(rule_files, "QuickYaml", once(QuickYaml)):
+            self.assertEqual(run("format", path)[:2], (0, file_of("up == 0")))
+
+
+def once(reader):
+    """This reader, which takes one text and then no other one."""
+    taken = []
+
+    class Once(reader):
+        def __init__(self, source):
+            if taken:
+                raise Unclear
+            taken.append(source)
+            super().__init__(source)
+
+    return Once
+
+
+class Jobs(Folder):
+    def files(self, count):
+        """So many files: of each three one is fine, one is messy and one is rejected."""
+        texts = ("up == 0", "up==0", "up ==")
+        return [self.file(file_of(texts[number % 3]), f"{number}.yml") for number in range(count)]
+
+    def test_same_as_one(self):
+        names = [*self.files(20), self.folder / "none.yml"]
+        for command in (("check",), ("format",), ("format", "--check"), ("format", "--diff")):
+            alone = run(*command, *names)
+            for jobs in (2, 3, 21, 200):
+                self.assertEqual(run(*command, "--jobs", jobs, *names), alone, (command, jobs))
+
+    def test_write(self):
+        names = self.files(20)
+        self.assertEqual(run("format", "--write", "--jobs", 3, *names).status, 2)
+        wanted = [file_of(("up == 0", "up == 0", "up ==")[number % 3]) for number in range(20)]
+        self.assertEqual([path.read_text() for path in names], wanted)
+
+    def test_twice(self):
+        """A file that is there twice, by a link as well, is formatted as if it were formatted again."""
+        path, link = self.file(file_of("up==0")), self.folder / "link.yml"
+        link.symlink_to(path)
+        self.assertEqual(run("format", "--write", "--jobs", 3, path, path, link), (0, "", ""))
+
+    def test_standard_input(self):
+        path = self.file(file_of("up == 0"))
+        ran = run("check", "--jobs", 2, path, "-", stdin=file_of("up").encode())
+        self.assertEqual(ran, (0, f"{path}: 1 rule, no errors\n<stdin>: 1 rule, no errors\n", ""))
+
+    def test_a_process_that_ends(self):
+        def work(target):
+            if target.name == "b":
+                os._exit(9)
+            return Report(Status.FINE, f"{target.name}\n".encode(), [])
+
+        with mock.patch.object(Report, "put_out", lambda report: said.append((report.out, *report.err))):
+            said = []
+            self.assertEqual(work_on([Target(name) for name in "abcd"], work, 2), Status.FAILED)
+        ended = "the process that had this file ended"
+        self.assertEqual(said, [(b"a\n",), (b"", f"b: {ended}"), (b"c\n",), (b"", f"d: {ended}")])
+        for process in multiprocessing.active_children():
+            process.join(10)
+        self.assertEqual(multiprocessing.active_children(), [])
+
+    def test_options(self):
+        for wrong in ("0", "-1", "x", "1000", ""):
+            self.assertEqual(run("check", "--jobs", wrong, self.folder / "a.yml").status, 2)
+
+
+if __name__ == "__main__":
+    unittest.main()
