@@ -24,6 +24,8 @@ trap 'rm -rf "$work"' EXIT
 export here root dist queries work PYTHONDONTWRITEBYTECODE=1
 # shellcheck source=bindings/test_python.sh
 . "$here/test_python.sh"
+# shellcheck source=bindings/test_install.sh
+. "$here/test_install.sh"
 
 # limited COMMAND..: runs a command, or one of the functions that are exported below, which ends in four minutes at the latest.
 limited() {
@@ -103,6 +105,10 @@ install_missing() {
     command -v cargo >/dev/null || missing+=(cargo)
     command -v cc >/dev/null || missing+=(gcc libc6-dev)
     command -v valgrind >/dev/null || missing+=(valgrind)
+    command -v make >/dev/null || missing+=(make)
+    command -v groff >/dev/null || missing+=(groff)
+    command -v fish >/dev/null || missing+=(fish)
+    command -v zsh >/dev/null || missing+=(zsh)
     python_with_yaml >/dev/null || missing+=(python3-ruamel.yaml)
     python_with_schemas >/dev/null || missing+=(python3-jsonschema)
     python_with_setuptools >/dev/null || missing+=(python3-pip python3-setuptools python3-wheel python3-venv)
@@ -319,7 +325,7 @@ test_python() {
 test_scripts() {
     local script
     has mypy 'the types of the scripts' || return
-    for script in count_definitions list_edits prove test_vendor vendor; do
+    for script in count_definitions list_edits manuals prove test_vendor vendor; do
         try "the types of bin/$script" mypy --strict --cache-dir "$work/mypy" "$root/bin/$script"
     done
 }
@@ -471,7 +477,7 @@ export -f shows_own_names build_c bench_prints example_prints build_sanitized ov
 export -f find_installed in_python unit_tests print_counts
 export -f in_cargo cargo_tests build_rust cache_keys in_go go_tests
 
-parts=(names c python scripts rust go examples)
+parts=(names c install python scripts rust go examples)
 case "${1:-}" in
 '') ;;
 --install) install_missing ;;

@@ -1,0 +1,30 @@
+# make install [PREFIX=/usr/local] [DESTDIR=]
+#     installs what dist/ has: the programs, with manual pages and completions for bash, zsh and fish, and the library for C, with what
+#     pkg-config and CMake find it by. Nothing is built.
+# make uninstall [PREFIX=/usr/local] [DESTDIR=]
+#     removes these files.
+PREFIX = /usr/local
+to = $(DESTDIR)$(PREFIX)
+programs = promql promql_batch promql_check promql_enforce
+files = $(programs:%=bin/%) include/promql.h lib/libpromql.a lib/libpromql.so lib/pkgconfig/promql.pc \
+    $(addprefix lib/cmake/promql/, promql-config.cmake promql-config-version.cmake promql_targets.cmake) \
+    $(programs:%=share/man/man1/%.1) $(programs:%=share/bash-completion/completions/%) \
+    $(programs:%=share/zsh/site-functions/_%) $(programs:%=share/fish/vendor_completions.d/%.fish) \
+    share/doc/promql/LICENSE share/doc/promql/NOTICE
+
+.PHONY: help install uninstall
+help:
+	@sed -n 's/^# \{0,1\}//p' Makefile
+
+install:
+	install -d "$(to)/bin" "$(to)/include" "$(to)/lib/pkgconfig" "$(to)/share/doc/promql"
+	install -m 755 $(programs:%=dist/%) "$(to)/bin"
+	install -m 644 dist/promql.h "$(to)/include"
+	install -m 644 dist/libpromql.a dist/libpromql.so "$(to)/lib"
+	install -m 644 bindings/c/promql.pc "$(to)/lib/pkgconfig"
+	install -m 644 LICENSE NOTICE "$(to)/share/doc/promql"
+	umask 022 && bin/manuals "$(to)/share"
+	umask 022 && ! command -v cmake >/dev/null || cmake -DTO="$(to)/lib/cmake/promql" -P bindings/c/install_package.cmake
+
+uninstall:
+	cd "$(to)" && rm -f $(files)

@@ -1,0 +1,11 @@
+# The targets promql::promql (shared) and promql::static of a library in one folder, with its header in another.
+function(promql_add_targets libraries headers)
+  if(TARGET promql::promql)
+    return()
+  endif()
+  add_library(promql::promql SHARED IMPORTED GLOBAL)
+  add_library(promql::static STATIC IMPORTED GLOBAL)
+  set_target_properties(promql::promql PROPERTIES IMPORTED_LOCATION "${libraries}/libpromql.so")
+  set_target_properties(promql::static PROPERTIES IMPORTED_LOCATION "${libraries}/libpromql.a")
+  set_target_properties(promql::promql promql::static PROPERTIES INTERFACE_INCLUDE_DIRECTORIES "${headers}")
+endfunction()
