@@ -106,8 +106,8 @@ uint32_t promql_check(const char *query, size_t query_length, char *buffer, size
 uint32_t promql_snippet(const char *query, size_t query_length, size_t start, size_t end, char *buffer,
                         size_t buffer_size, struct promql_result *result);
 
-/* Sets what a query has to be within, for each later call of the process but promql_snippet: at most so many bytes, 1048576 before
- * the first such call, and patterns of at most this size together, 16000 (docs/reference/programs.md, "Limits of a query"). A matcher
+/* Sets what a query has to be within, for each later call of the process but promql_snippet: at most so many bytes, 32768 before the
+ * first such call, and patterns of at most this size together, 16000 (docs/reference/programs.md, "Limits of a query"). A matcher
  * that is enforced, and the query with it, have the same limits. 0 is a bound as any other. A call that is made meanwhile may see one of
  * the two changed and not the other. */
 void promql_set_limits(size_t max_len, size_t max_pattern_size);
