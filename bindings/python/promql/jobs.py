@@ -62,12 +62,8 @@ def _jobs(text: str) -> int:
 
 def work_on(targets: List[Target], work: Work, jobs: int, goes_on: bool = False) -> Status:
     """Puts out what is said of each file, and returns the highest status. It can go on where the output cannot be written."""
-    jobs = min(jobs, len(targets))
-    names = [target.name for target in targets]
-    # (standard input is that of one process, and a file that is there twice is written once after the other)
-    alone = jobs == 1 or STDIN in names or len({os.path.realpath(name) for name in names}) < len(names)
     worst = Status.FINE
-    for name, report in zip(names, map(work, targets) if alone else _in_processes(targets, work, jobs)):
+    for name, report in zip([target.name for target in targets], reports_of(targets, work, jobs)):
         worst = max(worst, report.status)
         try:
             report.put_out()
@@ -77,6 +73,15 @@ def work_on(targets: List[Target], work: Work, jobs: int, goes_on: bool = False)
             print(visible(f"{name}: {error.strerror}"), file=sys.stderr)
             worst = Status.FAILED
     return worst
+
+
+def reports_of(targets: List[Target], work: Work, jobs: int) -> Iterator[Report]:
+    """What is said of each file, in their order."""
+    jobs = min(jobs, len(targets))
+    names = [target.name for target in targets]
+    # (standard input is that of one process, and a file that is there twice is written once after the other)
+    alone = jobs == 1 or STDIN in names or len({os.path.realpath(name) for name in names}) < len(names)
+    return map(work, targets) if alone else _in_processes(targets, work, jobs)
 
 
 def _in_processes(targets: List[Target], work: Work, jobs: int) -> Iterator[Report]:

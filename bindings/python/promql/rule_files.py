@@ -60,6 +60,14 @@ class RuleFile:
         self.notes = self._parts.notes
         self.is_known = any(is_surely_of_rules(document, self._parts.mappings) for document in self._parts.documents)
 
+    @property
+    def mappings(self) -> Mappings:
+        return self._parts.mappings
+
+    @property
+    def documents(self) -> List[RuleDocument]:
+        return self._parts.documents
+
     def summary(self) -> str:
         parts = self._parts
         tests = [counted(parts.tests, "query", "queries")] if parts.tests else []

@@ -1,0 +1,108 @@
+"""A linter of queries: what the library accepts and is most likely not meant (docs/guide/lint.md).
+
+>>> from promql.lint import lint
+>>> for finding in lint('up{job=~"shop"} == 0'):
+...     print(finding.code, finding.message)
+P103 the pattern matches one text alone: write `job="shop"`
+"""
+
+from __future__ import annotations
+
+from typing import Callable, Iterable, List, Optional
+
+import promql
+
+from . import alert_rules, counter_rules, label_rules, matcher_rules, operator_rules, style_rules
+from .comments import ignored_in
+from .findings import Finding, Fix, Severity, Span, TextEdit
+from .fixes import all_fixed, checked
+from .subject import RuleContext, Subject
+from .table import REJECTED, RULES, Rule, Selection, known_codes, unknown_words
+
+__all__ = [
+    "Finding",
+    "Fix",
+    "RULES",
+    "Rule",
+    "RuleContext",
+    "Selection",
+    "Severity",
+    "Span",
+    "TextEdit",
+    "fix",
+    "known_codes",
+    "lint",
+]
+
+# The modules whose functions are the rules of the table.
+_MODULES = (matcher_rules, counter_rules, operator_rules, label_rules, alert_rules, style_rules)
+# Functions that are gone, and what is there for them.
+_GONE = {
+    "holt_winters": "it is `double_exponential_smoothing` since Prometheus 3.0",
+    "count_scalar": "it is gone since Prometheus 2.0: `scalar(count(..))`",
+    "drop_common_labels": "it is gone since Prometheus 2.0: `sum without (..)`",
+}
+
+
+def lint(
+    query: str,
+    *,
+    select: Iterable[str] = (),
+    ignore: Iterable[str] = (),
+    context: Optional[RuleContext] = None,
+) -> List[Finding]:
+    """What is found in a query, in the order of the places. Codes are selected and left out by the texts that they begin with.
+
+    A query that is rejected has one finding, P001. The context tells of the rule that has the query, which some rules ask for. Comments
+    `# promql: ignore P103` in the query leave out codes. Raises ValueError where a text begins no code.
+    """
+    return _look(query, selection_of(select, ignore), context or RuleContext())
+
+
+def fix(
+    query: str,
+    *,
+    select: Iterable[str] = (),
+    ignore: Iterable[str] = (),
+    context: Optional[RuleContext] = None,
+) -> str:
+    """The query with the fixes of all findings that have one. Each was checked: the changed query is read again, and has the tree that the
+    fix intends, and the comments."""
+    selection = selection_of(select, ignore)
+    return all_fixed(query, lambda text: _look(text, selection, context or RuleContext()))
+
+
+def selection_of(select: Iterable[str], ignore: Iterable[str]) -> Selection:
+    selection = Selection(tuple(select), tuple(ignore))
+    unknown = unknown_words((*selection.selected, *selection.ignored))
+    if unknown:
+        raise ValueError(f"no rule has a code that begins with {unknown[0]}")
+    return selection
+
+
+def _look(query: str, selection: Selection, context: RuleContext) -> List[Finding]:
+    return look_at(query, selection, context, lambda text: True)
+
+
+def look_at(query: str, selection: Selection, context: RuleContext, is_written: Callable[[str], bool]) -> List[Finding]:
+    """The same for a query of a file, of which texts may stand there for variables."""
+    try:
+        tree = promql.parse(query)
+    except promql.QueryError as error:
+        return [_rejected(error)] if selection.has(REJECTED) else []
+    subject = Subject(query, tree, context, is_written)
+    ignored = ignored_in(query)
+    found = [
+        Finding(remark.span, rule.code, remark.message, rule.severity, checked(query, remark.fix))
+        for rule in selection.rules()
+        if not ignored.has(rule.code)
+        for remark in rule.look(subject)
+    ]
+    return sorted(found, key=lambda it: it[:3])
+
+
+def _rejected(error: promql.QueryError) -> Finding:
+    message = error.message
+    name = error.query[error.start : error.end].partition("(")[0].strip()
+    hint = f": {_GONE[name]}" if name in _GONE and "unknown function" in message else ""
+    return Finding(Span(error.start, error.end), REJECTED, message + hint, Severity.ERROR)

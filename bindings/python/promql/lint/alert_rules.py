@@ -1,0 +1,74 @@
+"""Rules about alerts: P501 to P503."""
+
+from __future__ import annotations
+
+from typing import Iterator
+
+from .findings import Remark, Severity, TextEdit, Tree
+from .subject import Subject
+from .table import rule
+from .trees import inner, is_comparison, is_scalar, without_bool
+
+
+@rule("P501", "alert-without-condition", Severity.WARNING)
+def alert_without_condition(subject: Subject) -> Iterator[Remark]:
+    """An alert whose query has a value as long as its series are there."""
+    if subject.context.alert and not _is_meant_to_fire(subject.tree) and not has_condition(subject.tree):
+        if not any(is_comparison(node) and node["bool"] for node in subject.nodes):
+            message = "no condition: the alert fires as long as there are series, since nothing of the query compares their values"
+            yield Remark(subject.whole, message)
+
+
+@rule("P502", "bool-in-alert", Severity.ERROR)
+def bool_in_alert(subject: Subject) -> Iterator[Remark]:
+    """An alert that fires for 0 as for 1."""
+    node = inner(subject.tree)
+    if not subject.context.alert or not is_comparison(node) or not node["bool"] or has_condition(node):
+        return
+    place = subject.place(node)
+    span = place.bool if place and place.bool else subject.span(node)
+    fix = None
+    if place and place.bool and not (is_scalar(node["lhs"]) and is_scalar(node["rhs"])):
+        start = place.bool.start
+        while subject.text[start - 1] in " \t":
+            start -= 1
+        fix = subject.fix([TextEdit(start, place.bool.end, "")], [(node, without_bool(node))])
+    yield Remark(span, "the alert fires always: with `bool` a comparison has the value 0 where it is false", fix)
+
+
+@rule("P503", "lost-template-label", Severity.WARNING)
+def lost_template_label(subject: Subject) -> Iterator[Remark]:
+    """A label that a template of the alert shows, and that its series cannot have."""
+    if not subject.context.alert or not subject.context.template_labels:
+        return
+    labels = subject.labels.of(subject.tree)
+    for label in sorted(subject.context.template_labels):
+        if label != "__name__" and not labels.may_have(label):
+            message = f"a template has `$labels.{label}`, which is empty: no series of the query has this label"
+            yield Remark(subject.whole, message)
+
+
+def _is_meant_to_fire(node: Tree) -> bool:
+    """Whether an alert always fires, as its author surely knows: to show that alerts arrive."""
+    node = inner(node)
+    return node["type"] == "numberLiteral" or node["type"] == "call" and node["func"]["name"] in ("vector", "time")
+
+
+def has_condition(node: Tree) -> bool:
+    """Whether an expression may have no value although its series are there."""
+    node = inner(node)
+    kind = node["type"]
+    if kind in ("vectorSelector", "matrixSelector"):
+        # (a rule may record what is there in bad times alone)
+        return node["name"] is None or ":" in node["name"] or node["name"] in ("ALERTS", "ALERTS_FOR_STATE")
+    if kind == "binaryExpr":
+        left, right = has_condition(node["lhs"]), has_condition(node["rhs"])
+        if node["op"] == "or":
+            return left and right
+        return left or right or node["op"] in ("and", "unless") or is_comparison(node) and not node["bool"]
+    if kind == "call":
+        name = node["func"]["name"]
+        if name in ("absent", "absent_over_time"):
+            return True
+        return name not in ("scalar", "vector") and any(map(has_condition, node["args"]))
+    return "expr" in node and has_condition(node["expr"])

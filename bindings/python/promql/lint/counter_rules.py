@@ -1,0 +1,116 @@
+"""Rules about counters and ranges: P201 to P207."""
+
+from __future__ import annotations
+
+from typing import Iterator, Optional
+
+from .findings import Remark, Severity, Tree
+from .subject import Subject
+from .table import rule
+from .trees import duration_text, inner
+
+_RATES = ("rate", "irate", "increase")
+# What ends the name of a counter, or of a part of a histogram or a summary.
+_COUNTER_ENDINGS = ("_total", "_count", "_sum", "_bucket")
+_OF_GAUGES = ("delta", "idelta", "deriv", "predict_linear", "double_exponential_smoothing")
+_SUMS = ("sum", "avg", "min", "max", "count", "group", "stddev", "stdvar", "quantile")
+
+
+def _name_of_argument(subject: Subject, call: Tree) -> Optional[str]:
+    """The metric whose range is the first argument of a call."""
+    node = inner(call["args"][0])
+    return subject.metric(node) if node["type"] == "matrixSelector" else None
+
+
+@rule("P201", "rate-of-recorded", Severity.WARNING)
+def rate_of_recorded(subject: Subject) -> Iterator[Remark]:
+    """A rate of a metric whose name is that of a recording rule for something else than a counter."""
+    for call in subject.calls(*_RATES):
+        name = _name_of_argument(subject, call)
+        if name and ":" in name.strip(":") and not name.endswith(_COUNTER_ENDINGS):
+            function = call["func"]["name"]
+            yield Remark(subject.span(call), f"`{function}` needs a counter, and `{name}` is recorded by a rule")
+
+
+@rule("P202", "rate-of-no-counter", Severity.INFO, is_default=False)
+def rate_of_no_counter(subject: Subject) -> Iterator[Remark]:
+    """A rate of a metric whose name has no ending of a counter."""
+    for call in subject.calls(*_RATES):
+        name = _name_of_argument(subject, call)
+        if name and ":" not in name and not name.endswith(_COUNTER_ENDINGS):
+            function, endings = call["func"]["name"], ", ".join(f"`{it}`" for it in _COUNTER_ENDINGS)
+            message = f"`{function}` needs a counter, and `{name}` is none by its name, which ends in none of {endings}"
+            yield Remark(subject.span(call), message)
+
+
+@rule("P203", "counter-as-gauge", Severity.WARNING)
+def counter_as_gauge(subject: Subject) -> Iterator[Remark]:
+    """A function for gauges over a counter, which falls to zero where its process starts anew."""
+    for call in subject.calls(*_OF_GAUGES):
+        name = _name_of_argument(subject, call)
+        if name and name.endswith(("_total", "_bucket")):
+            function = call["func"]["name"]
+            other = "`rate` or `increase`" if function in ("delta", "idelta") else "`rate` in a subquery"
+            yield Remark(subject.span(call), f"`{function}` is for gauges, and `{name}` is a counter: use {other}")
+
+
+@rule("P204", "rate-of-sum", Severity.ERROR)
+def rate_of_sum(subject: Subject) -> Iterator[Remark]:
+    """A rate over a subquery of an aggregation, where resets of the single counters are lost."""
+    for call in subject.calls(*_RATES):
+        node = inner(call["args"][0])
+        below = inner(node["expr"]) if node["type"] == "subquery" else None
+        if below and below["type"] == "aggregation" and below["op"] in _SUMS:
+            function, op = call["func"]["name"], below["op"]
+            message = f"`{function}` of `{op}` sees no reset of a single counter: take the `{function}` first, then the `{op}`"
+            yield Remark(subject.span(call), message)
+
+
+@rule("P205", "rate-of-rate", Severity.ERROR)
+def rate_of_rate(subject: Subject) -> Iterator[Remark]:
+    """A rate over a subquery of what goes up and down."""
+    for call in subject.calls(*_RATES):
+        node = inner(call["args"][0])
+        below = inner(node["expr"]) if node["type"] == "subquery" else None
+        if below and below["type"] == "call" and below["func"]["name"] in (*_RATES, *_OF_GAUGES):
+            function, other = call["func"]["name"], below["func"]["name"]
+            yield Remark(subject.span(call), f"`{function}` needs a counter, and what `{other}` gives is none")
+
+
+@rule("P206", "irate-in-alert", Severity.WARNING)
+def irate_in_alert(subject: Subject) -> Iterator[Remark]:
+    """`irate` in an alert, which looks at two samples and so forgets at once."""
+    if subject.context.alert:
+        for call in subject.calls("irate", "idelta"):
+            function = call["func"]["name"]
+            other = "rate" if function == "irate" else "delta"
+            yield Remark(subject.head(call), f"`{function}` looks at the last two samples alone: use `{other}` in an alert")
+
+
+@rule("P207", "short-range", Severity.WARNING)
+def short_range(subject: Subject) -> Iterator[Remark]:
+    """A range in which there are too few samples, or between which samples are never looked at."""
+    for node in subject.of_type("matrixSelector"):
+        length, text = node["range"], duration_text(node["range"])
+        place = subject.place(node)
+        span = place.range if place and place.range else subject.span(node)
+        if not subject.is_written(subject.text[span.start : span.end]) or _is_in_subquery(subject, node):
+            continue
+        recorded = subject.context.recorded.get(subject.metric(node) or "")
+        interval = subject.context.interval
+        call = subject.parent(node)
+        is_rate = call and call["type"] == "call" and call["func"]["name"] in (*_RATES, *_OF_GAUGES)
+        if recorded and is_rate and length < 2 * recorded:
+            message = f"{text} may have one sample alone, since a rule records the metric every {duration_text(recorded)}"
+            yield Remark(span, message)
+        elif interval and length < interval:
+            message = f"the group is evaluated every {duration_text(interval)}, and so what is not in these {text} is never seen"
+            yield Remark(span, message)
+
+
+def _is_in_subquery(subject: Subject, node: Tree) -> bool:
+    """Whether a node is evaluated many times for each evaluation of the query."""
+    above = subject.parent(node)
+    while above and above["type"] != "subquery":
+        above = subject.parent(above)
+    return above is not None

@@ -1,0 +1,158 @@
+"""What is found in the queries of a file, with places there, and the file with its fixes."""
+
+from __future__ import annotations
+
+from difflib import SequenceMatcher
+from typing import Callable, Dict, List, NamedTuple, Optional, Sequence, Tuple
+
+from ..documents import Document
+from ..files import BLANKS, Fault, FileError, Source
+from ..queries import Edit, Query, SameQuery, edited
+from ..rule_files import RuleFile
+from ..scalars import Scalar
+from . import look_at
+from .findings import Finding, Fix, TextEdit
+from .fixes import all_fixed, edited_query
+from .rule_places import RulePlace, rules_of
+from .silence import Silences
+from .subject import RuleContext
+from .table import Selection
+
+# A longer part that changed is written whole.
+_LONGEST_COMPARED = 4_000
+
+
+class FileFinding(NamedTuple):
+    """A finding, and the part of the file that it is about."""
+
+    start: int
+    end: int
+    finding: Finding
+    # The changed query, where there is a fix, and the edits of the file that make it, where it spells the query plainly.
+    fixed_query: Optional[str]
+    edits: Tuple[Edit, ...]
+
+
+class FileLinter:
+    """Looks at the queries of one file."""
+
+    def __init__(self, document: Document, selection: Selection) -> None:
+        self._document = document
+        self._selection = selection
+        source = document.source
+        self._silences = Silences(source) if isinstance(document, RuleFile) else None
+        self._rules: Dict[int, List[RulePlace]] = {}
+        for rule in rules_of(document) if isinstance(document, RuleFile) else ():
+            self._rules.setdefault(rule.query_end, []).append(rule)
+
+    def findings(self) -> List[FileFinding]:
+        found = [
+            self._placed(query, finding)
+            for query in self._document.queries
+            if not query.skipped
+            for finding in self._look_at_query(query, query.text)
+        ]
+        return sorted(found, key=lambda it: (it.start, it.end, it.finding.code, it.finding.message))
+
+    def _rules_of(self, query: Query) -> Sequence[RulePlace]:
+        spelling = query.spelling
+        return self._rules.get(spelling.end, ()) if isinstance(spelling, Scalar) else ()
+
+    def _look_at_query(self, query: Query, text: str) -> List[Finding]:
+        """What is found in a text in the place of a query, for each of the rules that have it."""
+        variables = query.variables
+        is_written: Callable[[str], bool] = lambda part: not variables or variables.put_back(part) == part
+        rules = self._rules_of(query)
+        found: Dict[Tuple[int, int, str, str], Finding] = {}
+        for context, start, end in [(it.context, it.start, it.end) for it in rules] or [self._bare(query)]:
+            ignored = self._silences and self._silences.between(start, end, self._document.source.text)
+            for finding in look_at(text, self._selection, context, is_written):
+                if not ignored or not ignored.has(finding.code):
+                    found[(*finding.span, finding.code, finding.message)] = finding
+        return list(found.values())
+
+    @staticmethod
+    def _bare(query: Query) -> Tuple[RuleContext, int, int]:
+        return RuleContext(), query.offsets[0], query.offsets[-1]
+
+    def _placed(self, query: Query, finding: Finding) -> FileFinding:
+        start, end = (query.offsets[at] for at in finding.span)
+        message = query.variables.put_back(finding.message) if query.variables else finding.message
+        fix = None if query.variables or query.kept else finding.fix
+        made = edited_query(query.text, fix.edits) if fix else None
+        edits = self._plain_edits(query, fix.edits) if fix else None
+        return FileFinding(start, end, finding._replace(message=message, fix=fix), made, tuple(edits or ()))
+
+    def _plain_edits(self, query: Query, edits: Sequence[TextEdit]) -> Optional[List[Edit]]:
+        """Edits of the file, where it has the parts of the query as they are."""
+        source, made = self._document.source.text, []
+        for edit in edits:
+            start, end = query.offsets[edit.start], query.offsets[edit.end]
+            if edit.start == edit.end and edit.start:
+                # (nothing is between two characters, where line ends are folded, too)
+                start = end = query.offsets[edit.start - 1] + 1
+            if source[start:end] != query.text[edit.start : edit.end]:
+                return None
+            made.append(Edit(start, end, edit.text))
+        return made
+
+    # ---- fixes
+
+    def fixed(self) -> Tuple[str, int]:
+        """The text of the file with all fixes in it, and how many queries that changes."""
+        changes = [change for change in map(self._change, self._document.queries) if change]
+        source = self._document.source
+        if not changes:
+            return source.text, 0
+        texts = {query.text: text for query, text in changes}
+        for plainly in (True, False):
+            edits = [edit for query, text in changes for edit in self._edits(query, text, plainly)]
+            made = edited(source.text, edits)
+            if self._reads_as(made, lambda old, new: old == new or texts.get(old.rstrip(BLANKS)) == new.rstrip(BLANKS)):
+                return made, len(changes)
+        raise FileError(f"{source.name}: left as it is: fixed, it would not be read as the same")
+
+    def _change(self, query: Query) -> Optional[Tuple[Query, str]]:
+        if query.skipped or query.kept or query.variables:
+            return None
+        text = all_fixed(query.text, lambda text: self._look_at_query(query, text))
+        return (query, text) if text != query.text else None
+
+    def _edits(self, query: Query, text: str, plainly: bool) -> List[Edit]:
+        """What writes another text in the place of a query: edits of the parts that differ, or one of the whole."""
+        plain = self._plain_edits(query, _changed_parts(query.text, text)) if plainly else None
+        return plain if plain is not None else [query.spelling.edit(text)]
+
+    def _reads_as(self, text: str, same_query: SameQuery) -> bool:
+        try:
+            return self._document.same(text, same_query)
+        except FileError:
+            return False
+
+
+def _changed_parts(old: str, new: str) -> List[TextEdit]:
+    """The parts of a text that differ from a new one."""
+    first = next((at for at, pair in enumerate(zip(old, new)) if pair[0] != pair[1]), min(len(old), len(new)))
+    rest = min(len(old), len(new)) - first
+    last = next((at for at in range(rest) if old[-1 - at] != new[-1 - at]), rest)
+    before, after = old[first : len(old) - last], new[first : len(new) - last]
+    if max(len(before), len(after)) > _LONGEST_COMPARED:
+        return [TextEdit(first, first + len(before), after)]
+    parts = SequenceMatcher(None, before, after, autojunk=False).get_opcodes()
+    return [TextEdit(first + it[1], first + it[2], after[it[3] : it[4]]) for it in parts if it[0] != "equal"]
+
+
+def fault_of(found: FileFinding) -> Fault:
+    """A finding as a message for people."""
+    finding = found.finding
+    hint = " (--fix)" if finding.fix else ""
+    return Fault(found.start, found.end, f"{finding.severity.value} {finding.code}: {finding.message}{hint}")
+
+
+def place_of(source: Source, offset: int) -> Tuple[int, int]:
+    """The line and the column of a character, from 1."""
+    number, begin, _ = source.line_around(offset)
+    return number, offset - begin + 1
+
+
+__all__ = ["FileFinding", "FileLinter", "Fix", "fault_of", "place_of"]

@@ -1,0 +1,56 @@
+"""What a linter says of a query: findings with their places, and fixes."""
+
+from __future__ import annotations
+
+from enum import Enum
+from typing import Any, Dict, NamedTuple, Optional, Tuple
+
+Tree = Dict[str, Any]
+
+
+class Severity(Enum):
+    """How bad a finding is; also its text."""
+
+    ERROR = "error"
+    WARNING = "warning"
+    INFO = "info"
+
+
+class Span(NamedTuple):
+    """The part `query[start:end]` of a query."""
+
+    start: int
+    end: int
+
+
+class TextEdit(NamedTuple):
+    """A text in place of the part `query[start:end]`."""
+
+    start: int
+    end: int
+    text: str
+
+
+class Fix(NamedTuple):
+    """Edits of a query, none of which overlaps another, and the JSON form that the changed query is to have."""
+
+    edits: Tuple[TextEdit, ...]
+    meant: Tree
+
+
+class Remark(NamedTuple):
+    """What a rule says of a part of a query."""
+
+    span: Span
+    message: str
+    fix: Optional[Fix] = None
+
+
+class Finding(NamedTuple):
+    """What a rule says of a query: the remark, with the rule's code and severity."""
+
+    span: Span
+    code: str
+    message: str
+    severity: Severity
+    fix: Optional[Fix] = None

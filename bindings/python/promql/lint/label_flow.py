@@ -1,0 +1,158 @@
+"""Which labels the series of an expression may have, and which they surely have, as far as the query tells."""
+
+from __future__ import annotations
+
+from typing import Callable, Dict, FrozenSet, NamedTuple, Optional
+
+from . import patterns
+from .findings import Tree
+from .trees import NAME, fills, inner, is_scalar, matching_of
+
+_NONE: FrozenSet[str] = frozenset()
+# The aggregations that give some of their series as they are.
+_CHOOSING = ("topk", "bottomk", "limitk", "limit_ratio")
+_SET_OPERATORS = ("and", "or", "unless")
+
+
+class Labels(NamedTuple):
+    """The labels of the series of an expression."""
+
+    # All that there may be; any, where it is None.
+    only: Optional[FrozenSet[str]] = None
+    # Those that there are not, where there may be any.
+    without: FrozenSet[str] = _NONE
+    # Those that each series has.
+    sure: FrozenSet[str] = _NONE
+
+    def may_have(self, label: str) -> bool:
+        return label in self.only if self.only is not None else label not in self.without
+
+    def kept(self, labels: FrozenSet[str]) -> Labels:
+        """Only these."""
+        return Labels(frozenset(filter(self.may_have, labels)), _NONE, self.sure & labels)
+
+    def dropped(self, labels: FrozenSet[str]) -> Labels:
+        if self.only is not None:
+            return Labels(self.only - labels, _NONE, self.sure - labels)
+        return Labels(None, self.without | labels, self.sure - labels)
+
+    def added(self, label: str) -> Labels:
+        """With one more, which a series may have or not."""
+        one = frozenset((label,))
+        only = self.only | one if self.only is not None else None
+        return Labels(only, self.without - one, self.sure - one)
+
+    def both(self, other: Labels) -> Labels:
+        """Those of series that have the same labels in both."""
+        sure = self.sure | other.sure
+        if self.only is not None:
+            return Labels(frozenset(filter(other.may_have, self.only)), _NONE, sure)
+        if other.only is not None:
+            return Labels(frozenset(filter(self.may_have, other.only)), _NONE, sure)
+        return Labels(None, self.without | other.without, sure)
+
+    def either(self, other: Labels) -> Labels:
+        """Those of series of the one or of the other."""
+        sure = self.sure & other.sure
+        if self.only is not None and other.only is not None:
+            return Labels(self.only | other.only, _NONE, sure)
+        unbounded = [it for it in (self, other) if it.only is None]
+        without = frozenset.intersection(*(it.without for it in unbounded))
+        bounded = [it.only for it in (self, other) if it.only is not None]
+        return Labels(None, without.difference(*bounded), sure)
+
+
+_EMPTY = Labels(_NONE)
+_ANY = Labels()
+
+
+class LabelFlow:
+    """The labels of the series of each node, of which each is looked at once."""
+
+    def __init__(self) -> None:
+        self._found: Dict[int, Labels] = {}
+
+    def of(self, node: Tree) -> Labels:
+        """The labels of the series of an expression."""
+        node = inner(node)
+        if id(node) not in self._found:
+            read: Callable[[Tree], Labels] = getattr(self, f"_of_{node['type']}", lambda node: _EMPTY)
+            self._found[id(node)] = read(node)
+        return self._found[id(node)]
+
+    def _of_vectorSelector(self, node: Tree) -> Labels:
+        if "or_matchers" in node:
+            return _ANY
+        absent = frozenset(it["name"] for it in node["matchers"] if it["type"] == "=" and it["value"] == "")
+        sure = frozenset(it["name"] for it in node["matchers"] if _needs_value(it)) - {NAME}
+        return Labels(None, absent, sure - absent)
+
+    _of_matrixSelector = _of_vectorSelector
+
+    def _of_unaryExpr(self, node: Tree) -> Labels:
+        return self.of(node["expr"])
+
+    _of_subquery = _of_unaryExpr
+
+    def _of_aggregation(self, node: Tree) -> Labels:
+        below = self.of(node["expr"])
+        if node["op"] in _CHOOSING:
+            return below
+        labels = frozenset(node["grouping"])
+        made = below.dropped(labels | {NAME}) if node["without"] else below.kept(labels)
+        parameter = node["param"] and inner(node["param"])
+        return made.added(parameter["val"]) if node["op"] == "count_values" and parameter else made
+
+    def _of_binaryExpr(self, node: Tree) -> Labels:
+        left, right = self.of(node["lhs"]), self.of(node["rhs"])
+        if node["op"] == "or":
+            return left.either(right)
+        if node["op"] in _SET_OPERATORS:
+            return left
+        scalars = [is_scalar(node[side]) for side in ("lhs", "rhs")]
+        if any(scalars):
+            return right if scalars[0] else left
+        matching = matching_of(node)
+        labels = frozenset(matching["labels"])
+        if isinstance(matching["card"], dict):
+            ((card, included),) = matching["card"].items()
+            many = left if card == "many-to-one" else right
+            for label in included:
+                many = many.added(label)
+            return many.either(right if many is left else left) if fills(node) else many
+        joined = left.either(right) if fills(node) else left.both(right)
+        return joined.kept(labels) if matching["on"] else joined.dropped(labels)
+
+    def _of_call(self, node: Tree) -> Labels:
+        name, arguments = node["func"]["name"], node["args"]
+        if name in ("absent", "absent_over_time"):
+            return _of_absent(inner(arguments[0]))
+        if name in ("vector", "scalar") or node["func"]["returnType"] == "scalar" or not arguments:
+            return _EMPTY
+        if name in ("histogram_quantile", "histogram_fraction"):
+            return self.of(arguments[-1]).dropped(frozenset(("le",)))
+        if name in ("label_replace", "label_join"):
+            label = inner(arguments[1])
+            return self.of(arguments[0]).added(label["val"]) if label["type"] == "stringLiteral" else _ANY
+        if name in ("info", "histogram_quantiles"):
+            return _ANY
+        vectors = [it for it, kind in zip(arguments, node["func"]["argTypes"]) if kind in ("vector", "matrix")]
+        return self.of(vectors[0]) if len(vectors) == 1 else _ANY
+
+
+def _needs_value(matcher: Tree) -> bool:
+    """Whether a series without the label does not match."""
+    kind, value = matcher["type"], matcher["value"]
+    if kind in ("=", "!="):
+        return bool((value == "") == (kind == "!="))
+    return patterns.matches(value, "") is (kind == "!~")
+
+
+def _of_absent(node: Tree) -> Labels:
+    """A series has a label where one `=` of the selector, and no other matcher, is about it."""
+    if node["type"] not in ("vectorSelector", "matrixSelector") or "or_matchers" in node:
+        return _EMPTY
+    names = [it["name"] for it in node["matchers"]]
+    equal = (it["name"] for it in node["matchers"] if it["type"] == "=" and it["value"] and names.count(it["name"]) == 1)
+    labels = frozenset(equal) - {NAME}
+    return Labels(labels, _NONE, labels)

@@ -1,0 +1,88 @@
+"""Rules about labels that are not there any more: P401 to P404."""
+
+from __future__ import annotations
+
+from typing import FrozenSet, Iterator, List, Sequence, Tuple
+
+from .findings import Remark, Severity, Span, Tree
+from .label_flow import Labels
+from .subject import Subject
+from .table import rule
+from .trees import fills, is_scalar, matching_of
+
+
+def _label_spans(subject: Subject, node: Tree, labels: Sequence[str], of_group: bool = False) -> List[Span]:
+    """Where each of the labels of a node is, or the node."""
+    place = subject.place(node)
+    spans = (place.group if of_group else place.labels) if place else ()
+    return list(spans) if len(spans) == len(labels) else [subject.span(node)] * len(labels)
+
+
+def _matched(subject: Subject) -> Iterator[Tuple[Tree, Labels, Labels]]:
+    """Each operator between two vectors, with the labels of both."""
+    for node in subject.of_type("binaryExpr"):
+        if not is_scalar(node["lhs"]) and not is_scalar(node["rhs"]):
+            yield node, subject.labels.of(node["lhs"]), subject.labels.of(node["rhs"])
+
+
+@rule("P401", "lost-label", Severity.WARNING)
+def lost_label(subject: Subject) -> Iterator[Remark]:
+    """A label after `by` that the series of the aggregation do not have."""
+    for node in subject.of_type("aggregation"):
+        if node["without"] or not node["grouping"]:
+            continue
+        below = subject.labels.of(node["expr"])
+        for label, span in zip(node["grouping"], _label_spans(subject, node, node["grouping"])):
+            if subject.is_written(label) and not below.may_have(label):
+                yield Remark(span, f"no series has the label `{label}` here: what is below does not keep it")
+
+
+@rule("P402", "unmatched-label", Severity.WARNING)
+def unmatched_label(subject: Subject) -> Iterator[Remark]:
+    """A label after `on` that one side cannot have, or one after `ignoring` that neither side can have."""
+    for node, left, right in _matched(subject):
+        labels = matching_of(node)["labels"]
+        for label, span in zip(labels, _label_spans(subject, node, labels)):
+            lacking = [side for side, it in (("left", left), ("right", right)) if not it.may_have(label)]
+            if not subject.is_written(label):
+                continue
+            if matching_of(node)["on"] and lacking:
+                sides = f"the {lacking[0]} side has" if len(lacking) == 1 else "the sides have"
+                yield Remark(span, f"`on` has the label `{label}`, which {sides} not")
+            elif not matching_of(node)["on"] and len(lacking) == 2:
+                yield Remark(span, f"`ignoring` has the label `{label}`, which no side has")
+
+
+@rule("P403", "grouped-label", Severity.WARNING)
+def grouped_label(subject: Subject) -> Iterator[Remark]:
+    """A label after `group_left` or `group_right` that the one side cannot have."""
+    for node, left, right in _matched(subject):
+        card = matching_of(node)["card"]
+        if not isinstance(card, dict):
+            continue
+        ((name, labels),) = card.items()
+        one, word = (right, "group_left") if name == "many-to-one" else (left, "group_right")
+        for label, span in zip(labels, _label_spans(subject, node, labels, of_group=True)):
+            if subject.is_written(label) and not one.may_have(label):
+                side = "right" if word == "group_left" else "left"
+                yield Remark(span, f"`{word}` takes the label `{label}` from the {side} side, which has none")
+
+
+@rule("P404", "never-matched", Severity.ERROR)
+def never_matched(subject: Subject) -> Iterator[Remark]:
+    """Sides of an operator of which one surely has a label that the other cannot have."""
+    for node, left, right in _matched(subject):
+        if node["op"] == "or" or fills(node):
+            continue
+        for side, has, other in (("left", left, right), ("right", right, left)):
+            lacking = [it for it in sorted(_compared(node, has.sure)) if not other.may_have(it)]
+            if lacking and all(map(subject.is_written, lacking)):
+                message = f"no series match: those of the {side} side have the label `{lacking[0]}`, and those of the other have not"
+                yield Remark(subject.head(node), message)
+                break
+
+
+def _compared(node: Tree, labels: FrozenSet[str]) -> FrozenSet[str]:
+    """Those of the labels that have to be equal on both sides."""
+    named = frozenset(matching_of(node)["labels"])
+    return labels & named if matching_of(node)["on"] else labels - named

@@ -1,0 +1,189 @@
+"""Rules about matchers and their patterns: P101 to P109."""
+
+from __future__ import annotations
+
+from typing import Dict, Iterator, List, Optional, Tuple
+
+from . import patterns
+from .findings import Fix, Remark, Severity, Span, TextEdit, Tree
+from .strings import requoted
+from .subject import SeenMatcher, Subject
+from .table import rule
+from .trees import NAME
+
+_OF_PATTERNS = {"=~": "=", "!~": "!="}
+# A selector, and its matchers that all have to hold.
+_Group = Tuple[Tree, List[SeenMatcher]]
+
+
+def _groups(subject: Subject) -> Iterator[_Group]:
+    """The groups of matchers of each selector, without those whose value is not as it was written."""
+    for node in subject.of_type("vectorSelector", "matrixSelector"):
+        for group in subject.matcher_groups(node):
+            yield node, [it for it in group if subject.is_written(it.value)]
+
+
+def _matchers(subject: Subject) -> Iterator[Tuple[Tree, SeenMatcher]]:
+    for node in subject.of_type("vectorSelector", "matrixSelector"):
+        yield from ((node, it) for it in subject.matchers(node) if subject.is_written(it.value))
+
+
+def _with_pattern(subject: Subject) -> Iterator[Tuple[Tree, SeenMatcher]]:
+    return ((node, it) for node, it in _matchers(subject) if it.operator in _OF_PATTERNS)
+
+
+def _span(subject: Subject, node: Tree, matcher: SeenMatcher) -> Span:
+    return matcher.place.whole if matcher.place else subject.span(node)
+
+
+def _shown(matcher: SeenMatcher) -> str:
+    return f"{matcher.name}{matcher.operator}{requoted('', matcher.value)}"
+
+
+def _written_anew(subject: Subject, matcher: SeenMatcher, operator: str, value: str) -> Optional[Fix]:
+    """A fix that writes a matcher with another operator and another value."""
+    if not matcher.place:
+        return None
+    place, edits = matcher.place, []
+    if operator != matcher.operator:
+        edits.append(TextEdit(*place.operator, operator))
+    if value != matcher.value:
+        edits.append(TextEdit(*place.value, requoted(subject.text[place.value.start : place.value.end], value)))
+    return subject.fix(edits, [(matcher.tree, {"name": matcher.name, "type": operator, "value": value})])
+
+
+def _left_out(subject: Subject, node: Tree, matcher: SeenMatcher) -> Optional[Fix]:
+    """A fix that leaves out a matcher of braces without `or`, with a comma beside it."""
+    place = subject.place(node)
+    if not matcher.place or not place or not place.braces or "or_matchers" in node:
+        return None
+    start, end = matcher.place.whole
+    after = subject.text[end : place.braces.end]
+    before = subject.text[place.braces.start : start]
+    if after.lstrip().startswith(","):
+        end += len(after) - len(after.lstrip()[1:].lstrip())
+    elif before.rstrip().endswith(","):
+        start = place.braces.start + len(before.rstrip()) - 1
+    elif len(node["matchers"]) == 1 and node["name"] is not None:
+        start, end = place.braces
+    return subject.fix([TextEdit(start, end, "")], [(matcher.tree, None)])
+
+
+@rule("P101", "pattern-of-go", Severity.ERROR)
+def pattern_of_go(subject: Subject) -> Iterator[Remark]:
+    """Prometheus rejects a pattern, which is read here."""
+    for node, matcher in _with_pattern(subject):
+        reasons = [it.why for it in patterns.differences(matcher.value) if it.is_rejected]
+        count = patterns.counts_multiply_to(matcher.value)
+        if not reasons and count > 1_000:
+            reasons.append(f"its counts multiply to {count:,}, above 1,000")
+        for reason in reasons[:1]:
+            yield Remark(_span(subject, node, matcher), f"Prometheus rejects the pattern: {reason}")
+
+
+@rule("P102", "pattern-read-otherwise", Severity.WARNING)
+def pattern_read_otherwise(subject: Subject) -> Iterator[Remark]:
+    """Prometheus reads a pattern as another one."""
+    for node, matcher in _with_pattern(subject):
+        found = list(patterns.differences(matcher.value))
+        if found and not any(it.is_rejected for it in found):
+            yield Remark(_span(subject, node, matcher), f"Prometheus reads the pattern otherwise: {found[0].why}")
+
+
+@rule("P103", "pattern-of-one-text", Severity.WARNING)
+def pattern_of_one_text(subject: Subject) -> Iterator[Remark]:
+    """A pattern that matches one text is a text."""
+    for node, matcher in _with_pattern(subject):
+        text = patterns.literal(patterns.without_anchors(matcher.value))
+        if text is None:
+            continue
+        operator = _OF_PATTERNS[matcher.operator]
+        wanted = f"{matcher.name}{operator}{requoted('', text)}"
+        fix = _written_anew(subject, matcher, operator, text)
+        yield Remark(_span(subject, node, matcher), f"the pattern matches one text alone: write `{wanted}`", fix)
+
+
+@rule("P104", "needless-anchor", Severity.WARNING)
+def needless_anchor(subject: Subject) -> Iterator[Remark]:
+    """`^` and `$` at the ends of a pattern mean nothing."""
+    for node, matcher in _with_pattern(subject):
+        rest = patterns.without_anchors(matcher.value)
+        if rest == matcher.value or patterns.literal(rest) is not None or patterns.matches_everything(rest):
+            continue
+        fix = _written_anew(subject, matcher, matcher.operator, rest)
+        message = "a pattern always has to match the whole value: its anchors are needless"
+        yield Remark(_span(subject, node, matcher), message, fix)
+
+
+@rule("P105", "pattern-of-a-part", Severity.INFO, is_default=False)
+def pattern_of_a_part(subject: Subject) -> Iterator[Remark]:
+    """A pattern that begins and ends with `.*`."""
+    for node, matcher in _with_pattern(subject):
+        pattern = matcher.value
+        parts = patterns.branches(pattern) or []
+        is_of_part = pattern.startswith((".*", ".+")) and pattern.endswith((".*", ".+")) and len(pattern) > 4
+        if is_of_part and (len(parts) == 1 or not parts) and pattern[-3] != "\\":
+            message = "the pattern looks for a part of the value: it may find more than is meant, and takes longer than others"
+            yield Remark(_span(subject, node, matcher), message)
+
+
+@rule("P106", "matches-all", Severity.WARNING)
+def matches_all(subject: Subject) -> Iterator[Remark]:
+    """A matcher that every value matches, also none."""
+    for node, matcher in _with_pattern(subject):
+        if matcher.operator == "=~" and patterns.matches_everything(matcher.value):
+            fix = _left_out(subject, node, matcher)
+            message = f"`{_shown(matcher)}` matches every series, also those without the label: leave it out"
+            yield Remark(_span(subject, node, matcher), message, fix)
+
+
+@rule("P107", "matches-none", Severity.ERROR)
+def matches_none(subject: Subject) -> Iterator[Remark]:
+    """A matcher that no value matches."""
+    for node, matcher in _with_pattern(subject):
+        if matcher.operator == "!~" and patterns.matches_everything(matcher.value):
+            yield Remark(_span(subject, node, matcher), f"`{_shown(matcher)}` matches no series")
+
+
+def _matches(matcher: SeenMatcher, value: str) -> Optional[bool]:
+    """Whether a value matches, where that can be told."""
+    if matcher.operator in ("=", "!="):
+        return (matcher.value == value) == (matcher.operator == "=")
+    found = patterns.matches(matcher.value, value)
+    return None if found is None else found == (matcher.operator == "=~")
+
+
+def _by_label(subject: Subject) -> Iterator[Tuple[Tree, SeenMatcher, List[SeenMatcher]]]:
+    """The first `=` of a label in a group of matchers, and the other matchers of that label."""
+    for node, group in _groups(subject):
+        labels: Dict[str, List[SeenMatcher]] = {}
+        if node["name"] is not None and subject.metric(node):
+            labels[NAME] = [SeenMatcher(NAME, "=", node["name"], node, None)]
+        for matcher in group:
+            labels.setdefault(matcher.name, []).append(matcher)
+        for matchers in labels.values():
+            equal = [it for it in matchers if it.operator == "="]
+            if equal:
+                yield node, equal[0], [it for it in matchers if it is not equal[0]]
+
+
+@rule("P108", "matchers-exclude-each-other", Severity.ERROR)
+def matchers_exclude_each_other(subject: Subject) -> Iterator[Remark]:
+    """Two matchers of a selector that no series matches both."""
+    for node, equal, others in _by_label(subject):
+        for other in others:
+            if _matches(other, equal.value) is False:
+                message = f"no series matches both `{_shown(equal)}` and `{_shown(other)}`"
+                yield Remark(_span(subject, node, other), message)
+
+
+@rule("P109", "needless-matcher", Severity.WARNING)
+def needless_matcher(subject: Subject) -> Iterator[Remark]:
+    """A matcher that every series matches which another one of the selector lets through."""
+    for node, equal, others in _by_label(subject):
+        for other in others:
+            if _matches(other, equal.value):
+                is_alone = not (other.operator == "=~" and patterns.matches_everything(other.value))
+                message = f"`{_shown(equal)}` is there, so `{_shown(other)}` says nothing more: leave it out"
+                if is_alone:
+                    yield Remark(_span(subject, node, other), message, _left_out(subject, node, other))

@@ -1,0 +1,135 @@
+"""Rules about operators, and about numbers beside them: P301 to P307."""
+
+from __future__ import annotations
+
+from typing import Iterator, Optional, Tuple
+
+from .findings import Remark, Severity, Tree
+from .subject import Subject
+from .table import rule
+from .trees import inner, is_comparison, number_of
+
+_TURNED = {"<": ">", ">": "<", "<=": ">=", ">=": "<=", "==": "==", "!=": "!="}
+# What gives at least 1, or nothing at all.
+_COUNTS = ("count", "group")
+_COUNTING_CALLS = ("count_over_time", "absent", "absent_over_time", "present_over_time")
+
+
+def _comparisons_with_number(subject: Subject) -> Iterator[Tuple[Tree, Tree, str, float]]:
+    """Each comparison with a number: it, its other side, and the operator and the number as they are to its right."""
+    for node in filter(is_comparison, subject.nodes):
+        left, right = number_of(node["lhs"]), number_of(node["rhs"])
+        if right is not None and left is None:
+            yield node, inner(node["lhs"]), node["op"], right
+        elif left is not None and right is None:
+            yield node, inner(node["rhs"]), _TURNED[node["op"]], left
+
+
+@rule("P301", "constant-comparison", Severity.WARNING)
+def constant_comparison(subject: Subject) -> Iterator[Remark]:
+    """A comparison whose sides are constants."""
+    for node in filter(is_comparison, subject.nodes):
+        if _is_constant(node["lhs"]) and _is_constant(node["rhs"]):
+            yield Remark(subject.span(node), f"`{subject.shown(node)}` compares constants: it is always the same")
+
+
+def _is_constant(node: Tree) -> bool:
+    node = inner(node)
+    kind = node["type"]
+    if kind == "numberLiteral":
+        return True
+    if kind == "unaryExpr":
+        return _is_constant(node["expr"])
+    if kind == "binaryExpr":
+        return _is_constant(node["lhs"]) and _is_constant(node["rhs"])
+    return kind == "call" and node["func"]["name"] in ("vector", "pi") and all(map(_is_constant, node["args"]))
+
+
+@rule("P302", "equal-to-fraction", Severity.WARNING)
+def equal_to_fraction(subject: Subject) -> Iterator[Remark]:
+    """`==` or `!=` with a number that is not whole."""
+    for node, _, operator, number in _comparisons_with_number(subject):
+        if operator in ("==", "!=") and number % 1 and abs(number) != float("inf") and number == number:
+            message = f"a computed number is seldom equal to {number}: compare with a range around it"
+            yield Remark(subject.span(node), message)
+
+
+@rule("P303", "never-true", Severity.ERROR)
+def never_true(subject: Subject) -> Iterator[Remark]:
+    """A comparison with a number that a count never has: where there is nothing to count, it has no value, and not 0."""
+    for node, side, operator, number in _comparisons_with_number(subject):
+        name = _counting(side)
+        if not name or node["bool"]:
+            continue
+        is_one = name in ("group", "absent", "absent_over_time", "present_over_time")
+        if _is_below(operator, number, 1) or is_one and operator == "==" and number != 1:
+            message = f"never true: `{name}` of nothing is nothing and not 0; `absent(..)` or `.. or vector(0)` tell"
+            yield Remark(subject.span(node), message)
+
+
+def _counting(node: Tree) -> Optional[str]:
+    """The name of an aggregation or a call whose value is at least 1 where there is one."""
+    if node["type"] == "aggregation" and node["op"] in _COUNTS:
+        return str(node["op"])
+    if node["type"] == "call" and node["func"]["name"] in _COUNTING_CALLS:
+        return str(node["func"]["name"])
+    return None
+
+
+def _is_below(operator: str, number: float, least: float) -> bool:
+    """Whether no number from `least` on compares so."""
+    return (
+        operator == "==" and number < least or operator == "<" and number <= least or operator == "<=" and number < least
+    )
+
+
+@rule("P304", "quantile-out-of-range", Severity.ERROR)
+def quantile_out_of_range(subject: Subject) -> Iterator[Remark]:
+    """A quantile that is not from 0 to 1."""
+    asked = [(node, node["args"][0]) for node in subject.calls("histogram_quantile", "quantile_over_time")]
+    asked += [(node, node["param"]) for node in subject.of_type("aggregation") if node["op"] == "quantile"]
+    for node, parameter in asked:
+        number = number_of(parameter)
+        if number is not None and not 0 <= number <= 1 and subject.is_written(inner(parameter).get("val", "")):
+            message = f"a quantile is from 0 to 1: that of {number:g} is infinite"
+            yield Remark(subject.span(parameter), message)
+
+
+@rule("P305", "bool-kept-as-filter", Severity.WARNING)
+def bool_kept_as_filter(subject: Subject) -> Iterator[Remark]:
+    """`bool` of a comparison whose 0 and 1 are compared again as if it filtered, by `and` or `unless`."""
+    for node in subject.of_type("binaryExpr"):
+        if node["op"] not in ("and", "unless"):
+            continue
+        side = inner(node["rhs"])
+        if is_comparison(side) and side["bool"]:
+            place = subject.place(side)
+            span = place.bool if place and place.bool else subject.span(side)
+            message = f"`{node['op']}` asks whether there is a value, and with `bool` there always is one: leave `bool` out"
+            yield Remark(span, message)
+
+
+@rule("P306", "no-bucket-label", Severity.ERROR)
+def no_bucket_label(subject: Subject) -> Iterator[Remark]:
+    """A quantile of buckets without the label `le`."""
+    for node in subject.calls("histogram_quantile"):
+        argument = node["args"][1]
+        names = [subject.metric(it) or "" for it in _nodes_below(argument)]
+        if names and all(name.endswith("_bucket") for name in names) and not subject.labels.of(argument).may_have("le"):
+            message = "`histogram_quantile` needs the label `le` of the buckets, and here it is not kept: add it to `by`"
+            yield Remark(subject.span(argument), message)
+
+
+def _nodes_below(tree: Tree) -> Iterator[Tree]:
+    """The selectors below a node."""
+    return Subject("", tree).of_type("vectorSelector", "matrixSelector")
+
+
+@rule("P307", "experimental-function", Severity.INFO, is_default=False)
+def experimental_function(subject: Subject) -> Iterator[Remark]:
+    """A function that Prometheus has only where it is asked for."""
+    for node in subject.of_type("call"):
+        if node["func"]["experimental"]:
+            name = node["func"]["name"]
+            message = f"`{name}` is experimental: Prometheus needs `--enable-feature=promql-experimental-functions`"
+            yield Remark(subject.head(node), message)

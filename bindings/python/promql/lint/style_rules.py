@@ -1,0 +1,53 @@
+"""Rules about what a query has for nothing: P601 and P602."""
+
+from __future__ import annotations
+
+from typing import Iterator, Optional
+
+from .findings import Remark, Severity, TextEdit, Tree
+from .subject import Subject
+from .table import rule
+
+# What is one thing without parentheses.
+_PRIMARY = ("parenExpr", "numberLiteral", "stringLiteral", "vectorSelector", "matrixSelector", "call", "aggregation", "subquery")
+
+
+@rule("P601", "needless-parentheses", Severity.INFO)
+def needless_parentheses(subject: Subject) -> Iterator[Remark]:
+    """Parentheses around what is one thing anyway: a name, a call, all of an argument or of the query."""
+    for node in subject.of_type("parenExpr"):
+        place = subject.place(node)
+        reason = _why_needless(subject, node)
+        if not reason or not place:
+            continue
+        start, end = place.whole
+        edits = [TextEdit(start, start + 1, _between(subject, start)), TextEdit(end - 1, end, "")]
+        yield Remark(subject.span(node), f"needless parentheses around {reason}", subject.fix(edits, [(node, node["expr"])]))
+
+
+def _between(subject: Subject, start: int) -> str:
+    """What keeps the words on both sides of a parenthesis apart."""
+    before, after = subject.text[start - 1 : start], subject.text[start + 1 : start + 2]
+    return " " if (before.isalnum() or before == "_") and not after.isspace() else ""
+
+
+def _why_needless(subject: Subject, node: Tree) -> Optional[str]:
+    above, below = subject.parent(node), node["expr"]
+    if above is None:
+        return "the whole query"
+    if above["type"] in ("call", "aggregation"):
+        return "a whole argument"
+    if above["type"] == "parenExpr" or below["type"] == "parenExpr":
+        return "other parentheses" if below["type"] == "parenExpr" else None
+    return f"`{subject.shown(below)}`" if below["type"] in _PRIMARY and above["type"] == "binaryExpr" else None
+
+
+@rule("P602", "empty-braces", Severity.INFO)
+def empty_braces(subject: Subject) -> Iterator[Remark]:
+    """Braces without a matcher."""
+    for node in subject.of_type("vectorSelector", "matrixSelector"):
+        place = subject.place(node)
+        if node["name"] is not None and not node["matchers"] and "or_matchers" not in node and place and place.braces:
+            if subject.text[place.braces.start + 1 : place.braces.end - 1].strip() == "":
+                fix = subject.fix([TextEdit(*place.braces, "")], [])
+                yield Remark(place.braces, "needless braces: there is no matcher in them", fix)

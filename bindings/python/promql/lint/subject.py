@@ -1,0 +1,152 @@
+"""A query as the rules look at it: its tree with the places of nodes, and the rule of a file that it is in."""
+
+from __future__ import annotations
+
+from dataclasses import dataclass, field
+from functools import cached_property
+from typing import Any, Callable, Dict, FrozenSet, Iterator, List, Mapping, NamedTuple, Optional, Tuple
+
+from ..labels import children_of
+from .findings import Fix, Span, TextEdit, Tree
+from .label_flow import LabelFlow
+from .places import MatcherPlace, NodePlace, places_of
+from .trees import NAME
+
+
+@dataclass(frozen=True)
+class RuleContext:
+    """The rule of a file that has the query."""
+
+    # The name of the rule: one of both is there.
+    alert: str = ""
+    record: str = ""
+    # How often the group is evaluated, in milliseconds, where the group says it.
+    interval: Optional[int] = None
+    # The labels of the query that the templates of the alert name.
+    template_labels: FrozenSet[str] = frozenset()
+    # The metrics that this file records in groups with an interval, and the interval.
+    recorded: Mapping[str, int] = field(default_factory=dict)
+
+
+class SeenMatcher(NamedTuple):
+    """A matcher of a selector, with its place if that is known."""
+
+    name: str
+    operator: str
+    value: str
+    tree: Tree
+    place: Optional[MatcherPlace]
+
+
+class Subject:
+    """A query, and what is known of it."""
+
+    def __init__(
+        self,
+        text: str,
+        tree: Tree,
+        context: Optional[RuleContext] = None,
+        is_written: Callable[[str], bool] = lambda text: True,
+    ) -> None:
+        self.text = text
+        self.tree = tree
+        self.context = context or RuleContext()
+        # Whether a text of the query is as somebody wrote it, and not what stands there for a variable.
+        self.is_written = is_written
+
+    @property
+    def whole(self) -> Span:
+        return Span(0, len(self.text))
+
+    @cached_property
+    def _places(self) -> Dict[int, NodePlace]:
+        return places_of(self.text, self.tree)
+
+    @cached_property
+    def labels(self) -> LabelFlow:
+        """Which labels the series of each node may have."""
+        return LabelFlow()
+
+    @cached_property
+    def _parents(self) -> Dict[int, Tree]:
+        return {id(child): node for node in self.nodes for child in children_of(node)}
+
+    @cached_property
+    def nodes(self) -> List[Tree]:
+        """All nodes, each before those below it."""
+        found: List[Tree] = []
+        todo = [self.tree]
+        while todo:
+            node = todo.pop()
+            found.append(node)
+            todo += reversed(children_of(node))
+        return found
+
+    def of_type(self, *types: str) -> Iterator[Tree]:
+        return (node for node in self.nodes if node["type"] in types)
+
+    def place(self, node: Tree) -> Optional[NodePlace]:
+        return self._places.get(id(node))
+
+    def span(self, node: Tree) -> Span:
+        """Where a node is, or the whole query."""
+        place = self.place(node)
+        return place.whole if place else self.whole
+
+    def head(self, node: Tree) -> Span:
+        """Where the name or the operator of a node is, or the whole query."""
+        place = self.place(node)
+        return place.head if place else self.whole
+
+    def parent(self, node: Tree) -> Optional[Tree]:
+        return self._parents.get(id(node))
+
+    def shown(self, node: Tree) -> str:
+        """The text of a node, on one line and cut off where it is long."""
+        span = self.span(node)
+        text = " ".join(self.text[span.start : span.end].split())
+        return text if len(text) <= 60 else text[:59] + "…"
+
+    def calls(self, *names: str) -> Iterator[Tree]:
+        return (node for node in self.of_type("call") if node["func"]["name"] in names)
+
+    def matcher_groups(self, node: Tree) -> List[List[SeenMatcher]]:
+        """The matchers of a selector that all have to hold, for each group of an `or`."""
+        groups = [[*node["matchers"], *group] for group in node.get("or_matchers", [[]])]
+        listed = [*node["matchers"], *(it for group in node.get("or_matchers", ()) for it in group)]
+        place = self.place(node)
+        places = place.matchers if place and len(place.matchers) == len(listed) else (None,) * len(listed)
+        seen = {id(it): self._seen(it, where) for it, where in zip(listed, places)}
+        return [[seen[id(it)] for it in group] for group in groups]
+
+    def _seen(self, matcher: Tree, place: Optional[MatcherPlace]) -> SeenMatcher:
+        if place and self.text[place.operator.start : place.operator.end] != matcher["type"]:
+            place = None
+        return SeenMatcher(matcher["name"], matcher["type"], matcher["value"], matcher, place)
+
+    def matchers(self, node: Tree) -> List[SeenMatcher]:
+        """Each matcher of a selector, once."""
+        return list({id(it.tree): it for group in self.matcher_groups(node) for it in group}.values())
+
+    def metric(self, node: Tree) -> Optional[str]:
+        """The name of the metric that a selector reads, where it is one that somebody wrote."""
+        name: Optional[str] = node["name"]
+        if name is None:
+            names = [it["value"] for it in node["matchers"] if it["name"] == NAME and it["type"] == "="]
+            name = names[0] if names else None
+        return name if name and self.is_written(name) else None
+
+    def fix(self, edits: List[TextEdit], changes: List[Tuple[Tree, Any]]) -> Fix:
+        """Edits that are meant to put other values in the places of parts of the tree. None for a part leaves it out of its list."""
+        meant: Tree = _changed(self.tree, {id(old): new for old, new in changes})
+        return Fix(tuple(edits), meant)
+
+
+def _changed(value: Any, changes: Dict[int, Any]) -> Any:
+    if id(value) in changes:
+        return changes[id(value)]
+    if isinstance(value, dict):
+        return {key: _changed(item, changes) for key, item in value.items()}
+    if isinstance(value, list):
+        return [_changed(item, changes) for item in value if changes.get(id(item), item) is not None]
+    return value

@@ -1,0 +1,68 @@
+"""The table of the linter's rules, and which of them are asked for."""
+
+from __future__ import annotations
+
+from typing import Callable, Dict, Iterable, Iterator, List, NamedTuple, Tuple
+
+from .findings import Remark, Severity
+from .subject import Subject
+
+Look = Callable[[Subject], Iterator[Remark]]
+
+
+class Rule(NamedTuple):
+    """A rule: its code, its name, how bad a finding is, and what looks for it."""
+
+    code: str
+    name: str
+    severity: Severity
+    look: Look
+    # Whether it is asked for where nothing is said.
+    is_default: bool = True
+
+
+RULES: Dict[str, Rule] = {}
+# What is no rule of its own: the library rejects the query.
+REJECTED = "P001"
+
+
+def rule(code: str, name: str, severity: Severity, is_default: bool = True) -> Callable[[Look], Look]:
+    """Enters a function into the table as the rule of this code."""
+
+    def enter(look: Look) -> Look:
+        assert code not in RULES, code
+        RULES[code] = Rule(code, name, severity, look, is_default)
+        return look
+
+    return enter
+
+
+def known_codes() -> List[str]:
+    return sorted([REJECTED, *RULES])
+
+
+class Selection(NamedTuple):
+    """Which codes are asked for: by codes, by what these begin with (`P1`), or all."""
+
+    selected: Tuple[str, ...] = ()
+    ignored: Tuple[str, ...] = ()
+
+    def has(self, code: str) -> bool:
+        if any(is_meant(code, word) for word in self.ignored):
+            return False
+        if self.selected:
+            return any(is_meant(code, word) for word in self.selected)
+        return code == REJECTED or RULES[code].is_default
+
+    def rules(self) -> Iterator[Rule]:
+        return (RULES[code] for code in sorted(RULES) if self.has(code))
+
+
+def is_meant(code: str, word: str) -> bool:
+    """Whether a word of a list of codes means this code."""
+    return word == "all" or code.startswith(word)
+
+
+def unknown_words(words: Iterable[str]) -> List[str]:
+    """The words that mean no code."""
+    return [word for word in words if not any(is_meant(code, word) for code in known_codes())]

@@ -1,0 +1,128 @@
+"""python3 -m promql lint: says what is most likely not meant in queries of rule files and dashboards, or in queries that are given."""
+
+from __future__ import annotations
+
+import argparse
+import json
+import sys
+from functools import partial
+from typing import Any, List, Tuple
+
+from .documents import Document, Status, read_document, skipped_notes
+from .files import STDIN, FileError, Source, counted, read_source, write_file
+from .jobs import Report, add_arguments, as_bytes, reports_of, skipped_file, work_on
+from .lint.file_findings import FileFinding, FileLinter, fault_of
+from .lint.given_queries import GivenQuery
+from .lint.outputs import as_json, as_sarif
+from .lint.table import RULES, Selection, unknown_words
+from .targets import Target, targets_of
+from .visible import visible
+
+
+def add_parser(subparsers: Any) -> None:
+    parser = subparsers.add_parser("lint", help="find what is most likely not meant in queries", description=__doc__)
+    add_arguments(parser)
+    (files,) = [action for action in parser._actions if action.dest == "files"]
+    files.nargs, files.help = "*", f"{files.help}; without one and without --query, standard input is a query"
+    parser.add_argument("-q", "--query", action="append", default=[], metavar="QUERY", help="look at this query; may be there again")
+    parser.add_argument("--select", action="append", default=[], type=_codes, metavar="CODES", help="look for these codes alone: P101,P2")
+    parser.add_argument("--ignore", action="append", default=[], type=_codes, metavar="CODES", help="leave these codes out")
+    parser.add_argument("--fix", action="store_true", help="change the files by what is safe; print queries that are given")
+    parser.add_argument("--output", choices=("text", "json", "sarif"), default="text", help="how findings are printed (text)")
+    parser.add_argument("--rules", action="store_true", help="print the codes of the rules, and end")
+    parser.set_defaults(run=_run)
+
+
+def _codes(text: str) -> Tuple[str, ...]:
+    words = tuple(word.strip() for word in text.split(",") if word.strip())
+    unknown = unknown_words(words)
+    if unknown or not words:
+        raise argparse.ArgumentTypeError(f"no rule has a code that begins with {(unknown or [text])[0]!r}")
+    return words
+
+
+def _run(arguments: argparse.Namespace) -> int:
+    if arguments.rules:
+        return _print_rules()
+    targets = [Target(f"<query {number}>") for number in range(1, len(arguments.query) + 1)]
+    targets += targets_of(arguments.files, arguments.dashboard)
+    targets = targets or [Target(STDIN)]
+    work = partial(_lint_file, arguments, Selection(*(tuple(sum(it, ())) for it in (arguments.select, arguments.ignore))))
+    if arguments.output == "text":
+        return work_on(targets, work, arguments.jobs, goes_on=arguments.fix)
+    worst, lines = Status.FINE, b""
+    for report in reports_of(targets, work, arguments.jobs):
+        worst, lines = max(worst, report.status), lines + report.out
+        report._replace(out=b"").put_out()
+    findings = [json.loads(line) for line in lines.splitlines()]
+    made = findings if arguments.output == "json" else as_sarif(findings)
+    sys.stdout.write(json.dumps(made, indent=2) + "\n")
+    return worst
+
+
+def _print_rules() -> int:
+    for code in sorted(RULES):
+        rule = RULES[code]
+        asked = "" if rule.is_default else ", by --select alone"
+        print(f"{code} {rule.name} ({rule.severity.value}{asked}): {(rule.look.__doc__ or '').splitlines()[0]}")
+    return Status.FINE
+
+
+def _read(arguments: argparse.Namespace, target: Target) -> Any:
+    if target.name.startswith("<query "):
+        number = int(target.name[len("<query ") : -1])
+        return GivenQuery(Source(target.name, arguments.query[number - 1], ""))
+    if target.name == STDIN and not arguments.files:
+        source = read_source(STDIN)
+        return GivenQuery(source)
+    return read_document(target, arguments.dashboard)
+
+
+def _lint_file(arguments: argparse.Namespace, selection: Selection, target: Target) -> Report:
+    try:
+        document = _read(arguments, target)
+        if not document:
+            return skipped_file(target, arguments.verbose)
+        if arguments.fix:
+            return _fix_file(arguments, selection, target, document)
+        return _report(arguments, document, FileLinter(document, selection).findings(), [])
+    except FileError as error:
+        return Report(Status.FAILED, b"", [str(error)])
+    except OSError as error:
+        return Report(Status.FAILED, b"", [f"{target.name}: {error.strerror}"])
+    except RecursionError:
+        return Report(Status.FAILED, b"", [f"{target.name}: a query is nested too deeply for the linter"])
+
+
+def _fix_file(arguments: argparse.Namespace, selection: Selection, target: Target, document: Document) -> Report:
+    """Writes the file, or prints it where it is none, and reports what is left."""
+    text, count = FileLinter(document, selection).fixed()
+    source = document.source
+    fixed = Source(source.name, text, source.mark)
+    is_given = isinstance(document, GivenQuery)
+    if is_given or target.name == STDIN:
+        left = FileLinter(GivenQuery(fixed), selection).findings() if is_given else []
+        shown = [fixed.shown(fault_of(it)) for it in left]
+        end = "" if text.endswith("\n") or not is_given else "\n"
+        return Report(Status.FOUND if left else Status.FINE, as_bytes(source.mark + text + end), shown)
+    if count:
+        write_file(source, (source.mark + text).encode())
+        document = read_document(target, arguments.dashboard) or document
+    notes = [counted(count, "query fixed", "queries fixed")] if count else []
+    return _report(arguments, document, FileLinter(document, selection).findings(), notes)
+
+
+def _report(arguments: argparse.Namespace, document: Document, found: List[FileFinding], notes: List[str]) -> Report:
+    source = document.source
+    status = Status.FOUND if found or document.faults else Status.FINE
+    err = [source.located(fault) for fault in skipped_notes(document, arguments.verbose)]
+    skipped = [query.whole(f"skipped: {query.skipped}") for query in document.queries if query.skipped]
+    err += [source.shown(fault) for fault in document.faults]
+    err += [source.located(fault) for fault in skipped] if arguments.verbose else []
+    if arguments.output != "text":
+        return Report(status, b"".join(json.dumps(as_json(source, it)).encode() + b"\n" for it in found), err)
+    counts = [f"{len(skipped)} skipped"] if skipped else []
+    counts += [*notes, counted(len(found), "finding", "findings")]
+    lines = [visible(source.shown(fault_of(it)), "\t\n") for it in found]
+    lines.append(f"{visible(source.name)}: {', '.join([document.summary(), *counts])}")
+    return Report(status, as_bytes("\n".join(lines) + "\n"), err)
