@@ -124,4 +124,5 @@ def main():
                 print("   ", kind + ":", json.dumps(pattern, ensure_ascii=False))
 
 
-main()
+if __name__ == "__main__":
+    main()

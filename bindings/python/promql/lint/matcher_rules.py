@@ -6,10 +6,10 @@ from typing import Dict, Iterator, List, Optional, Tuple
 
 from . import patterns
 from .findings import Fix, Remark, Severity, Span, TextEdit, Tree
+from .go_patterns import why_rejected
 from .strings import requoted
 from .subject import SeenMatcher, Subject
 from .table import rule
-from .trees import NAME
 
 _OF_PATTERNS = {"=~": "=", "!~": "!="}
 # A selector, and its matchers that all have to hold.
@@ -73,11 +73,8 @@ def _left_out(subject: Subject, node: Tree, matcher: SeenMatcher) -> Optional[Fi
 def pattern_of_go(subject: Subject) -> Iterator[Remark]:
     """Prometheus rejects a pattern, which is read here."""
     for node, matcher in _with_pattern(subject):
-        reasons = [it.why for it in patterns.differences(matcher.value) if it.is_rejected]
-        count = patterns.counts_multiply_to(matcher.value)
-        if not reasons and count > 1_000:
-            reasons.append(f"its counts multiply to {count:,}, above 1,000")
-        for reason in reasons[:1]:
+        reason = why_rejected(matcher.value)
+        if reason:
             yield Remark(_span(subject, node, matcher), f"Prometheus rejects the pattern: {reason}")
 
 
@@ -85,9 +82,9 @@ def pattern_of_go(subject: Subject) -> Iterator[Remark]:
 def pattern_read_otherwise(subject: Subject) -> Iterator[Remark]:
     """Prometheus reads a pattern as another one."""
     for node, matcher in _with_pattern(subject):
-        found = list(patterns.differences(matcher.value))
-        if found and not any(it.is_rejected for it in found):
-            yield Remark(_span(subject, node, matcher), f"Prometheus reads the pattern otherwise: {found[0].why}")
+        why = patterns.difference(matcher.value)
+        if why and not why_rejected(matcher.value):
+            yield Remark(_span(subject, node, matcher), f"Prometheus reads the pattern otherwise: {why}")
 
 
 @rule("P103", "pattern-of-one-text", Severity.WARNING)
@@ -157,8 +154,6 @@ def _by_label(subject: Subject) -> Iterator[Tuple[Tree, SeenMatcher, List[SeenMa
     """The first `=` of a label in a group of matchers, and the other matchers of that label."""
     for node, group in _groups(subject):
         labels: Dict[str, List[SeenMatcher]] = {}
-        if node["name"] is not None and subject.metric(node):
-            labels[NAME] = [SeenMatcher(NAME, "=", node["name"], node, None)]
         for matcher in group:
             labels.setdefault(matcher.name, []).append(matcher)
         for matchers in labels.values():

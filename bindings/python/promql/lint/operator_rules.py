@@ -2,6 +2,7 @@
 
 from __future__ import annotations
 
+import math
 from typing import Iterator, Optional, Tuple
 
 from .findings import Remark, Severity, Tree
@@ -19,9 +20,9 @@ def _comparisons_with_number(subject: Subject) -> Iterator[Tuple[Tree, Tree, str
     """Each comparison with a number: it, its other side, and the operator and the number as they are to its right."""
     for node in filter(is_comparison, subject.nodes):
         left, right = number_of(node["lhs"]), number_of(node["rhs"])
-        if right is not None and left is None:
+        if left is None and right is not None and subject.is_as_written(node["rhs"]):
             yield node, inner(node["lhs"]), node["op"], right
-        elif left is not None and right is None:
+        elif right is None and left is not None and subject.is_as_written(node["lhs"]):
             yield node, inner(node["rhs"]), _TURNED[node["op"]], left
 
 
@@ -29,7 +30,7 @@ def _comparisons_with_number(subject: Subject) -> Iterator[Tuple[Tree, Tree, str
 def constant_comparison(subject: Subject) -> Iterator[Remark]:
     """A comparison whose sides are constants."""
     for node in filter(is_comparison, subject.nodes):
-        if _is_constant(node["lhs"]) and _is_constant(node["rhs"]):
+        if _is_constant(node["lhs"]) and _is_constant(node["rhs"]) and subject.is_as_written(node):
             yield Remark(subject.span(node), f"`{subject.shown(node)}` compares constants: it is always the same")
 
 
@@ -49,7 +50,7 @@ def _is_constant(node: Tree) -> bool:
 def equal_to_fraction(subject: Subject) -> Iterator[Remark]:
     """`==` or `!=` with a number that is not whole."""
     for node, _, operator, number in _comparisons_with_number(subject):
-        if operator in ("==", "!=") and number % 1 and abs(number) != float("inf") and number == number:
+        if operator in ("==", "!=") and math.isfinite(number) and number % 1:
             message = f"a computed number is seldom equal to {number}: compare with a range around it"
             yield Remark(subject.span(node), message)
 
@@ -90,8 +91,8 @@ def quantile_out_of_range(subject: Subject) -> Iterator[Remark]:
     asked += [(node, node["param"]) for node in subject.of_type("aggregation") if node["op"] == "quantile"]
     for node, parameter in asked:
         number = number_of(parameter)
-        if number is not None and not 0 <= number <= 1 and subject.is_written(inner(parameter).get("val", "")):
-            message = f"a quantile is from 0 to 1: that of {number:g} is infinite"
+        if number is not None and not 0 <= number <= 1 and subject.is_as_written(parameter):
+            message = f"a quantile is from 0 to 1: with {number:g} it is no number of the series"
             yield Remark(subject.span(parameter), message)
 
 

@@ -3,22 +3,16 @@
 from __future__ import annotations
 
 import re
-from typing import Iterator, List, NamedTuple, Optional, Tuple
+from typing import List, Match, Optional, Tuple
 
-_MOST = 1_000
-_COUNT = re.compile(r"\{(\d+)(?:(,)(\d*))?\}")
+_COUNT = re.compile(r"\{(?:0|[1-9]\d*)(?:,(?:0|[1-9]\d*)?)?\}")
 _REPEAT = re.compile(r"[*+?]|\{\d+(?:,\d*)?\}")
 # What means itself, outside of classes.
 _LITERAL = re.compile(r"[^.^$()\[\]{}\\|*+?]|\\[^A-Za-z0-9<>\x80-\U0010ffff]")
-_FLAGS = re.compile(r"\(\?([A-Za-z-]*)([:)])")
-_RUST_ESCAPES = {"u": "`\\u`", "U": "`\\U`"}
-
-
-class Difference(NamedTuple):
-    """Why a pattern is not to Prometheus what it is here."""
-
-    is_rejected: bool
-    why: str
+_ESCAPE = re.compile(r"\\[pPx]\{[^}]*\}|\\[bB](\{[^}]*\})?|\\.", re.S)
+_POSIX = re.compile(r"\[:\^?[a-z]+:\]")
+# A count in the crate `regex` and not in Go: with white space, or with zeros before it.
+_SPACED_COUNT = re.compile(r"\{(?:\s+\d+\s*|\s*\d+\s+|0\d+)(?:,\s*\d*\s*)?\}|\{\d+,(?:\s+\d*\s*|\d*\s+|0\d+)\}")
 
 
 def literal(pattern: str) -> Optional[str]:
@@ -87,133 +81,47 @@ def _matches_simple(part: str, text: str) -> Optional[bool]:
     return bool(re.fullmatch(expression, text)) if stars <= 4 else None
 
 
-def differences(pattern: str) -> Iterator[Difference]:
-    """How a pattern that is read here differs for Prometheus, whose patterns are those of Go."""
-    yield from _Scan(pattern).differences()
+def difference(pattern: str) -> str:
+    """How Prometheus, whose patterns are those of Go, reads a pattern otherwise than it is read here; or nothing."""
+    at = 0
+    while at < len(pattern):
+        if pattern[at] == "[":
+            end, why = _class_at(pattern, at)
+        else:
+            end, why = at + 1, ""
+            escape = _ESCAPE.match(pattern, at)
+            if escape:
+                end, why = escape.end(), _of_escape(escape)
+            elif spaced := _SPACED_COUNT.match(pattern, at):
+                why = f"`{spaced[0]}` is no count there, but means itself"
+        if why:
+            return why
+        at = end
+    return ""
 
 
-class _Scan:
-    """A walk over the items of a pattern."""
-
-    def __init__(self, pattern: str) -> None:
-        self._pattern = pattern
-        self._at = 0
-        # For each group that is open, the greatest count in it.
-        self._counts: List[int] = [1]
-
-    def differences(self) -> Iterator[Difference]:
-        repeats = 0
-        last = 1
-        while self._at < len(self._pattern):
-            piece = self._pattern[self._at]
-            repeat = _REPEAT.match(self._pattern, self._at)
-            if repeat:
-                yield from self._repeated(repeat[0], repeats)
-                last = self._multiply(repeat[0], last)
-                repeats += 1
-                self._at = repeat.end()
-                if repeats == 1 and self._pattern[self._at : self._at + 1] == "?":
-                    self._at += 1
-                continue
-            repeats = 0
-            if piece == ")":
-                last = self._counts.pop() if len(self._counts) > 1 else 1
-                self._at += 1
-                self._counts[-1] = max(self._counts[-1], last)
-                continue
-            last = 1
-            if piece == "\\":
-                yield from self._escape()
-            elif piece == "(":
-                yield from self._group()
-            elif piece == "[":
-                yield from self._class()
-            elif piece == "{":
-                yield from self._brace()
-            else:
-                self._at += 1
-
-    def _repeated(self, repeat: str, repeats: int) -> Iterator[Difference]:
-        if repeats:
-            yield Difference(True, f"it repeats what is repeated, by `{repeat}`")
-        if max(_numbers(repeat)) > _MOST:
-            yield Difference(True, f"`{repeat}` repeats more than 1,000 times")
-
-    def _multiply(self, repeat: str, last: int) -> int:
-        """The greatest count so far, with this one of an item whose own is known."""
-        count = last * max(1, *_numbers(repeat))
-        self._counts[-1] = max(self._counts[-1], count)
-        return count
-
-    def product(self) -> int:
-        """The greatest product of the counts."""
-        list(self.differences())
-        return self._counts[0]
-
-    def _escape(self) -> Iterator[Difference]:
-        letter = self._pattern[self._at + 1 : self._at + 2]
-        if letter in ("<", ">"):
-            yield Difference(False, f"`\\{letter}` is the character `{letter}` there, and the edge of a word here")
-        elif letter in ("u", "U"):
-            yield Difference(True, f"it knows no `\\{letter}`")
-        elif self._pattern.startswith((r"\b{", r"\B{"), self._at) and not _COUNT.match(self._pattern, self._at + 2):
-            yield Difference(False, "after `\\b` braces are characters there, and of the edge here")
-        elif letter in ("p", "P"):
-            name = re.compile(r"\\[pP](\{[^}]*\}|.)").match(self._pattern, self._at)
-            if name and re.search(r"[=:!]|\s", name[1]):
-                yield Difference(True, f"it knows no class `{name[1]}`")
-        braces = re.compile(r"\\[pPx]\{[^}]*\}").match(self._pattern, self._at)
-        self._at = braces.end() if braces else self._at + 2
-
-    def _group(self) -> Iterator[Difference]:
-        flags = _FLAGS.match(self._pattern, self._at)
-        if flags:
-            others = set(flags[1]) - set("imsU-")
-            for letter in sorted(others):
-                yield Difference(True, f"it knows no flag `{letter}`")
-        elif self._pattern.startswith("(?<", self._at):
-            yield Difference(True, "before Go 1.22 a name of a group is written `(?P<name>`")
-        self._at = flags.end() if flags else self._at + 1
-        if not flags or flags[2] == ":":
-            self._counts.append(1)
-
-    def _brace(self) -> Iterator[Difference]:
-        spaced = re.compile(r"\{\s*\d*\s*(?:,\s*\d*\s*)?\}").match(self._pattern, self._at)
-        if spaced and re.search(r"\d", spaced[0]) and re.search(r"\s", spaced[0]):
-            yield Difference(False, f"`{spaced[0]}` is no count there")
-        self._at += 1
-
-    def _class(self) -> Iterator[Difference]:
-        """A class, which may have others in it here."""
-        begin = self._at
-        self._at += 2 if self._pattern.startswith("[^", self._at) else 1
-        first = self._at
-        while self._at < len(self._pattern):
-            piece = self._pattern[self._at]
-            two = self._pattern[self._at : self._at + 2]
-            posix = re.compile(r"\[:\^?[a-z]+:\]").match(self._pattern, self._at)
-            if posix:
-                self._at = posix.end()
-            elif piece == "]" and self._at > first:
-                break
-            elif piece == "\\":
-                yield from self._escape()
-            elif two in ("&&", "~~") or two == "--" and self._at > first:
-                is_rejected = two == "--"
-                yield Difference(is_rejected, f"`{two}` in a class is an operator here, and none there")
-                self._at += 2
-            elif piece == "[":
-                yield Difference(False, f"`[` in the class `{self._pattern[begin : self._at]}` opens a class here, and none there")
-                self._at = len(self._pattern)
-            else:
-                self._at += 1
-        self._at += 1
+def _of_escape(escape: Match[str]) -> str:
+    if escape[0] in (r"\<", r"\>"):
+        return f"`{escape[0]}` is the character `{escape[0][1]}` there, and an edge of a word here"
+    if escape[1] and not _COUNT.fullmatch(escape[1]):
+        return f"`{escape[1]}` means itself there, and is a part of `{escape[0][:2]}` here"
+    return ""
 
 
-def _numbers(repeat: str) -> Tuple[int, ...]:
-    return tuple(int(number) for number in re.findall(r"\d+", repeat)) or (0,)
-
-
-def counts_multiply_to(pattern: str) -> int:
-    """The greatest number of times that an item is repeated by counts in counts."""
-    return _Scan(pattern).product()
+def _class_at(pattern: str, at: int) -> Tuple[int, str]:
+    """Where a class ends, and what is otherwise in it."""
+    begin = at
+    at += 2 if pattern.startswith("[^", at) else 1
+    first = at
+    while at < len(pattern):
+        if found := _POSIX.match(pattern, at) or _ESCAPE.match(pattern, at):
+            at = found.end()
+        elif pattern[at] == "]" and at > first:
+            break
+        elif pattern.startswith(("&&", "~~"), at) or pattern.startswith("--", at) and at > first:
+            return at, f"`{pattern[at : at + 2]}` in a class is an operator here, and none there"
+        elif pattern[at] == "[":
+            return at, f"`[` in the class `{pattern[begin : at]}..` opens another class here, and means itself there"
+        else:
+            at += 1
+    return at + 1, ""

@@ -4,6 +4,7 @@ from __future__ import annotations
 
 from typing import Iterator, Optional
 
+from ..labels import kind_of
 from .findings import Remark, Severity, TextEdit, Tree
 from .subject import Subject
 from .table import rule
@@ -39,7 +40,7 @@ def _why_needless(subject: Subject, node: Tree) -> Optional[str]:
         return "a whole argument"
     if above["type"] == "parenExpr" or below["type"] == "parenExpr":
         return "other parentheses" if below["type"] == "parenExpr" else None
-    return f"`{subject.shown(below)}`" if below["type"] in _PRIMARY and above["type"] == "binaryExpr" else None
+    return f"one {kind_of(below)}" if below["type"] in _PRIMARY and above["type"] == "binaryExpr" else None
 
 
 @rule("P602", "empty-braces", Severity.INFO)

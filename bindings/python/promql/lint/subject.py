@@ -12,6 +12,9 @@ from .label_flow import LabelFlow
 from .places import MatcherPlace, NodePlace, places_of
 from .trees import NAME
 
+# Of a text in a message.
+_LONGEST = 60
+
 
 @dataclass(frozen=True)
 class RuleContext:
@@ -98,6 +101,11 @@ class Subject:
         place = self.place(node)
         return place.head if place else self.whole
 
+    def is_as_written(self, node: Tree) -> bool:
+        """Whether the text of a node is as somebody wrote it."""
+        span = self.span(node)
+        return self.is_written(self.text[span.start : span.end])
+
     def parent(self, node: Tree) -> Optional[Tree]:
         return self._parents.get(id(node))
 
@@ -105,7 +113,7 @@ class Subject:
         """The text of a node, on one line and cut off where it is long."""
         span = self.span(node)
         text = " ".join(self.text[span.start : span.end].split())
-        return text if len(text) <= 60 else text[:59] + "…"
+        return text if len(text) <= _LONGEST else text[: _LONGEST - 1] + "…"
 
     def calls(self, *names: str) -> Iterator[Tree]:
         return (node for node in self.of_type("call") if node["func"]["name"] in names)

@@ -1,0 +1,351 @@
+"""Tests of the linter's rules: those of docs/guide/lint.md by its examples, and more texts for each."""
+
+import json
+import re
+import unittest
+from pathlib import Path
+
+import promql
+from promql.lint import RULES, RuleContext, Severity, fix, known_codes, lint
+from promql.lint.fixes import edited_query
+from promql.lint.places import places_of
+from promql.lint.tokens import tokens_of
+
+ROOT = Path(__file__).resolve().parents[3]
+PAGE = ROOT / "docs" / "guide" / "lint.md"
+ENTRY = re.compile(r"^### (P\d{3}) ([\w-]+)\n(.*?)(?=^##)", re.M | re.S)
+EXAMPLE = re.compile(r"^- (Bad|Good): `([^`]+)`", re.M)
+# What some rules have to know of the rule that has the query.
+ALERT = RuleContext(alert="A", template_labels=frozenset(("zone",)))
+CONTEXTS = {
+    "P206": ALERT,
+    "P207": RuleContext(alert="A", interval=300_000),
+    "P501": RuleContext(alert="A"),
+    "P502": RuleContext(alert="A"),
+    "P503": ALERT,
+}
+# For each code queries with what is marked in them, and the query with the fix where there is one.
+FOUND = (
+    ("P001", "holt_winters(up[5m], 1, 1)", "holt_winters", None),
+    ("P101", 'up{a=~"(?x)b"}', 'a=~"(?x)b"', None),
+    ("P101", 'up{a=~"x**"}', 'a=~"x**"', None),
+    ("P101", 'up{a=~"x{1001}"}', 'a=~"x{1001}"', None),
+    ("P101", 'up{a="b" or a!~"(?<n>a)"}', 'a!~"(?<n>a)"', None),
+    ("P101", r'up{a=~"\\p{greek}"}', r'a=~"\\p{greek}"', None),
+    ("P102", 'up{a=~"[a[b]]c"}', 'a=~"[a[b]]c"', None),
+    ("P102", 'up{a=~"x{01}"}', 'a=~"x{01}"', None),
+    ("P102", r'up{a=~"\\bx\\>"}', r'a=~"\\bx\\>"', None),
+    ("P103", 'up{a=~"b"}', 'a=~"b"', 'up{a="b"}'),
+    ("P103", "up{ a !~ '^b$' , c=\"d\" }", "a !~ '^b$'", "up{ a != 'b' , c=\"d\" }"),
+    ("P103", r'up{a=~"b\\.c"}', r'a=~"b\\.c"', 'up{a="b.c"}'),
+    ("P103", r"up{a=~`b\.c`}", r"a=~`b\.c`", "up{a=`b.c`}"),
+    ("P103", 'up{a=~""}', 'a=~""', 'up{a=""}'),
+    ("P103", 'a + up{"b c"=~"d"} # e', '"b c"=~"d"', 'a + up{"b c"="d"} # e'),
+    ("P103", '{__name__=~"up"}', '__name__=~"up"', '{__name__="up"}'),
+    ("P103", 'up{a=~"\U0001f600"}', 'a=~"\U0001f600"', 'up{a="\U0001f600"}'),
+    ("P104", 'up{a=~"^b.*"}', 'a=~"^b.*"', 'up{a=~"b.*"}'),
+    ("P104", 'up{a=~"b|c$"}', 'a=~"b|c$"', 'up{a=~"b|c"}'),
+    ("P104", r'up{a=~"^b.\\\\$"}', r'a=~"^b.\\\\$"', r'up{a=~"b.\\\\"}'),
+    ("P105", 'up{a=~".*b.*"}', 'a=~".*b.*"', None),
+    ("P105", 'up{a!~".+b(c|d).+"}', 'a!~".+b(c|d).+"', None),
+    ("P106", 'up{a=~".*"}', 'a=~".*"', "up"),
+    ("P106", 'up{b="c", a=~"^.*$"}', 'a=~"^.*$"', 'up{b="c"}'),
+    ("P106", 'up{a=~".*", b="c"}', 'a=~".*"', 'up{b="c"}'),
+    ("P106", 'up{a=~"b|.*",}', 'a=~"b|.*"', "up{}"),
+    ("P106", 'up{a=~".*" or b="c"}', 'a=~".*"', None),
+    ("P107", 'up{a!~".*"}', 'a!~".*"', None),
+    ("P108", 'up{a="b",a="c"}', 'a="c"', None),
+    ("P108", 'up{a!="b",a="b"}', 'a!="b"', None),
+    ("P108", 'up{a="b",a=~"c.*|d"}', 'a=~"c.*|d"', None),
+    ("P108", '{__name__="up",__name__!="up"}', '__name__!="up"', None),
+    ("P108", 'up{a="",a!=""}', 'a!=""', None),
+    ("P109", 'up{a="b",a="b"}', 'a="b"', 'up{a="b"}'),
+    ("P109", 'up{a!~"c.?",a="b"}', 'a!~"c.?"', 'up{a="b"}'),
+    ("P109", 'up{a="b",a=~"b.*"}', 'a=~"b.*"', 'up{a="b"}'),
+    ("P201", "sum(rate((job:x:sum)[5m:]) + increase(job:x:rate5m[5m]))", "increase(job:x:rate5m[5m])", None),
+    ("P202", "rate(x[5m])", "rate(x[5m])", None),
+    ("P203", "1 + deriv(x_total[5m])", "deriv(x_total[5m])", None),
+    ("P203", 'predict_linear({"x_total"}[5m], 60)', 'predict_linear({"x_total"}[5m], 60)', None),
+    ("P204", "increase((sum by (a) (x))[5m:])", "increase((sum by (a) (x))[5m:])", None),
+    ("P205", "rate(deriv(x[5m])[1h:])", "rate(deriv(x[5m])[1h:])", None),
+    ("P206", "sum(IRATE(x[5m])) > 1", None, None),
+    ("P206", "sum(irate(x[5m])) > 1", "irate", None),
+    ("P207", "rate(x[4m]) > 1", "[4m]", None),
+    ("P301", "1 > bool 2", "1 > bool 2", None),
+    ("P301", "vector(-1) == (2 * 3)", "vector(-1) == (2 * 3)", None),
+    ("P302", "up == 0.5", "up == 0.5", None),
+    ("P302", "-.5 != up", "-.5 != up", None),
+    ("P303", "count(up) == 0", "count(up) == 0", None),
+    ("P303", "0 >= count by (a) (up)", "0 >= count by (a) (up)", None),
+    ("P303", "absent(up) == 0", "absent(up) == 0", None),
+    ("P303", "(count_over_time(up[5m])) < 1", "(count_over_time(up[5m])) < 1", None),
+    ("P304", "histogram_quantile(95, x)", "95", None),
+    ("P304", "quantile by (a) (-0.1, x)", "-0.1", None),
+    ("P305", "x unless on (a) (y == bool 1)", "bool", None),
+    ("P306", "histogram_quantile(0.9, sum(rate(x_bucket[5m])))", "sum(rate(x_bucket[5m]))", None),
+    ("P306", "histogram_quantile(0.9, sum without (le) (x_bucket))", "sum without (le) (x_bucket)", None),
+    ("P307", "sort_by_label(x, 'a')", "sort_by_label", None),
+    ("P401", "sum(sum by (a) (x)) by (b)", "b", None),
+    ("P401", "sum by (le) (histogram_quantile(0.9, x))", "le", None),
+    ("P401", "max by (a, c) (absent(x{a='b'}))", "c", None),
+    ("P401", "sum by (a) (x{a=''})", "a", None),
+    ("P401", "sum by (a) (x * on (b) y)", "a", None),
+    ("P401", "sum by (a) (x * ignoring (a) y)", "a", None),
+    ("P402", "x * on (a, b) sum by (b) (y)", "a", None),
+    ("P402", "sum by (a) (x) * ignoring (b) sum by (a) (y)", "b", None),
+    ("P403", "x * on (a) group_left (b, c) sum by (a, b) (y)", "c", None),
+    ("P403", "sum by (a) (y) * on (a) group_right (b) x", "b", None),
+    ("P404", "x{a='b'} / sum(y)", "/", None),
+    ("P404", "sum by (b) (y) and x{a='b'}", "and", None),
+    ("P404", "x{a=~'b.+'} / ignoring (c) sum by (c) (y)", "/", None),
+    ("P501", "up", "up", None),
+    ("P501", "up > 1 or vector(0)", "up > 1 or vector(0)", None),
+    ("P501", "sum(rate(x_total[5m])) * 2", "sum(rate(x_total[5m])) * 2", None),
+    ("P502", "up == bool 0", "bool", "up == 0"),
+    ("P502", "(a > bool ignoring (b) c)", "bool", "(a > ignoring (b) c)"),
+    ("P503", "sum(up) == 0", "sum(up) == 0", None),
+    ("P503", "absent(up == 0)", "absent(up == 0)", None),
+    ("P601", "(up)", "(up)", "up"),
+    ("P601", "a and(b)", "(b)", "a and b"),
+    ("P601", "sum((a + b))", "(a + b)", "sum(a + b)"),
+    ("P601", "((a + b)) * 2", "((a + b))", "(a + b) * 2"),
+    ("P601", "sum(a) / (sum(b)) # (c)", "(sum(b))", "sum(a) / sum(b) # (c)"),
+    ("P602", "a{ } + b{c='d'}", "{ }", "a + b{c='d'}"),
+)
+# For each code queries in which it is not found.
+NOT_FOUND = (
+    ("P001", "up"),
+    ("P101", r'up{a=~"(?i)b[[:alpha:]]+\\p{Greek}\\pL(?P<n>x)(?:y)(?s:z)"}'),
+    ("P101", 'up{a=~"x{500}y{500}z{"}'),
+    ("P101", 'up{a="(?x)"}'),
+    ("P102", r'up{a=~"[\\w.-]+x{2,3}\\b[[:digit:]]"}'),
+    ("P103", 'up{a=~"b|c"}'),
+    ("P103", 'up{a=~"b."}'),
+    ("P103", 'up{a=~"(b)"}'),
+    ("P103", 'up{a=~"(?i)b"}'),
+    ("P104", r'up{a=~".b\\$"}'),
+    ("P104", 'up{a=~"b.*"}'),
+    ("P105", r'up{a=~".*b\\.*"}'),
+    ("P105", 'up{a=~".*b"}'),
+    ("P105", 'up{a=~".*b|c.*"}'),
+    ("P106", 'up{a=~".+"}'),
+    ("P106", r'up{a=~"\\.*"}'),
+    ("P107", 'up{a!~".+"}'),
+    ("P108", 'up{a="b",c!="b"}'),
+    ("P108", 'up{a="b" or a="c"}'),
+    ("P108", 'up{a="b",a=~"[a-c]"}'),
+    ("P108", 'up{a=~"b.*",a!~"b.*"}'),
+    ("P109", 'up{a="b" or a="b"}'),
+    ("P201", "rate(job:x_total[5m])"),
+    ("P201", "rate(x[5m])"),
+    ("P201", "avg_over_time(job:x:rate5m[5m])"),
+    ("P203", "delta(x[5m])"),
+    ("P204", "rate(x_total[5m:])"),
+    ("P204", "sum_over_time(sum(x)[5m:])"),
+    ("P205", "max_over_time(rate(x_total[5m])[1h:])"),
+    ("P206", "rate(x[5m])"),
+    ("P207", "max_over_time(rate(x[1m])[10m:1m]) > 1"),
+    ("P207", "x offset 1m > 1"),
+    ("P301", "vector(time()) > 2"),
+    ("P302", "up == 0"),
+    ("P302", "up == Inf"),
+    ("P302", "up != NaN"),
+    ("P302", "up < 0.5"),
+    ("P303", "count(up) < 2"),
+    ("P303", "(count(up) or vector(0)) == 0"),
+    ("P303", "count(up) == bool 0"),
+    ("P303", "sum(up) == 0"),
+    ("P303", "absent(up) == 1"),
+    ("P304", "histogram_quantile(1, x)"),
+    ("P304", "histogram_quantile(scalar(x), y)"),
+    ("P305", "x and y == 1"),
+    ("P306", "histogram_quantile(0.9, sum(rate(x[5m])))"),
+    ("P306", "histogram_quantile(0.9, sum by (le) (x_bucket))"),
+    ("P306", "histogram_quantile(0.9, sum without (a) (x_bucket))"),
+    ("P401", "sum by (a) (topk(2, x))"),
+    ("P401", "sum by (a) (label_replace(sum(x), 'a', '$1', 'b', '(.*)'))"),
+    ("P401", "sum by (a) (count_values('a', x))"),
+    ("P401", "sum by (a) (x * on (b) group_left (a) y)"),
+    ("P401", "sum by (a) (sum(x) or y)"),
+    ("P401", "sum by (a) (sum without (b) (x))"),
+    ("P402", "x * on (a) y"),
+    ("P402", "x * on () sum(y)"),
+    ("P402", "sum by (a) (x) * ignoring (a) sum(y)"),
+    ("P403", "x * on (a) group_left (b) y"),
+    ("P404", "x{a='b'} / on () sum(y)"),
+    ("P404", "x / sum(y)"),
+    ("P404", "x{a='b'} or sum(y)"),
+    ("P404", "x{a=~'b.*|'} / sum(y)"),
+    ("P404", "x{a!='b'} / sum(y)"),
+    ("P404", "x{a='b'} * 2"),
+    ("P501", "vector(1)"),
+    ("P501", "up == 0 or absent(up)"),
+    ("P501", "max(job:x:bad)"),
+    ("P501", "x unless y"),
+    ("P501", "sum(x > 1) / sum(y)"),
+    ("P502", "sum(up == bool 0) > 1"),
+    ("P502", "(x > 1) == bool 2"),
+    ("P503", "up == 0"),
+    ("P503", "sum by (zone) (up) == 0"),
+    ("P601", "(a + b) * 2"),
+    ("P601", "(a / b) > 1"),
+    ("P601", "(a > 1) and (b > 2)"),
+    ("P601", "(-a) ^ 2"),
+    ("P602", "up{a='b'}"),
+)
+
+
+def found_by(code, query):
+    return [it for it in lint(query, select=(code,), context=CONTEXTS.get(code))]
+
+
+class Rules(unittest.TestCase):
+    def test_found(self):
+        for code, query, marked, fixed in FOUND:
+            with self.subTest(code=code, query=query):
+                findings = found_by(code, query)
+                texts = [query[it.span.start : it.span.end] for it in findings if it.code == code]
+                if marked is None:
+                    # (names of functions are in small letters, and all else is rejected)
+                    self.assertEqual(texts, [])
+                    continue
+                self.assertIn(marked, texts)
+                edited = [edited_query(query, it.fix.edits) for it in findings if it.fix]
+                self.assertEqual(edited[:1], [fixed] if fixed else [])
+
+    def test_not_found(self):
+        for code, query in NOT_FOUND:
+            with self.subTest(code=code, query=query):
+                promql.check(query)
+                self.assertEqual(found_by(code, query), [])
+
+    def test_each_code_is_tried(self):
+        self.assertEqual({code for code, *_ in FOUND}, set(known_codes()))
+        self.assertLessEqual({code for code, _ in NOT_FOUND}, set(known_codes()))
+
+    def test_page(self):
+        entries = {code: (name, text) for code, name, text in ENTRY.findall(PAGE.read_text() + "##")}
+        self.assertEqual(list(entries), sorted(RULES))
+        for code, (name, text) in entries.items():
+            with self.subTest(code=code):
+                self.assertEqual(name, RULES[code].name)
+                self.assertEqual("Only if selected" in text, not RULES[code].is_default)
+                self.assertEqual([kind for kind, _ in EXAMPLE.findall(text)], ["Bad", "Good"])
+                (_, bad), (_, good) = EXAMPLE.findall(text)
+                self.assertEqual({it.code for it in found_by(code, bad)}, {code})
+                self.assertEqual([it.code for it in lint(good, context=CONTEXTS.get(code))], [])
+                self.assertEqual("Fixed" in text, any(it.fix for it in found_by(code, bad)))
+
+    def test_fixes_together(self):
+        self.assertEqual(fix("((up{ a=~'^b$',c=~'.*' })) # ((d))"), "up{ a='b' } # ((d))")
+        self.assertEqual(fix("up{}\n  ==  # why\n  (1)"), "up\n  ==  # why\n  1")
+        self.assertEqual(fix("up{a=~'b'}", ignore=("P103",)), "up{a=~'b'}")
+        self.assertEqual(fix("up +"), "up +")
+
+    def test_fix_that_would_lose_a_comment(self):
+        query = "up{ # why\n}"
+        self.assertEqual([it.fix for it in lint(query)], [])
+        self.assertEqual(fix(query), query)
+
+    def test_selection(self):
+        query = 'sum((rate(x{a=~"b"}[5m]))) # promql: ignore P601 they help'
+        self.assertEqual([it.code for it in lint(query)], ["P103"])
+        self.assertEqual([it.code for it in lint(query, select=("all",))], ["P202", "P103"])
+        self.assertEqual([it.code for it in lint(query, select=("P2",))], ["P202"])
+        self.assertEqual([it.code for it in lint(query, ignore=("P1",))], [])
+        self.assertEqual(lint("up{a=~'b'} # promql: ignore"), [])
+        self.assertEqual(len(lint("up{a=~'b'} + on () up{c='# promql: ignore'}")), 1)
+        for words in (("P9",), ("x",)):
+            with self.assertRaises(ValueError):
+                lint("up", select=words)
+
+    def test_findings(self):
+        (finding,) = lint("up{a=~'b'}")
+        self.assertEqual(finding.severity, Severity.WARNING)
+        (rejected,) = lint("holt_winters(x[5m], 1, 1)")
+        self.assertIn("double_exponential_smoothing", rejected.message)
+        self.assertEqual(lint("up +", ignore=("P001",)), [])
+
+    def test_recorded_metrics(self):
+        context = RuleContext(record="a:b", recorded={"job:x_total": 60_000})
+        self.assertEqual([it.code for it in lint("rate(job:x_total[1m])", context=context)], ["P207"])
+        self.assertEqual(lint("rate(job:x_total[2m])", context=context), [])
+        self.assertEqual(lint("sum_over_time(job:x_total[1m])", context=context), [])
+
+
+class ManyQueries(unittest.TestCase):
+    """All rules over the queries of rows/ and bench/queries."""
+
+    @classmethod
+    def setUpClass(cls):
+        texts = (ROOT / "bench" / "queries" / "queries.txt").read_text().splitlines()
+        for path in sorted((ROOT / "rows").glob("*.tsv")):
+            if path.stat().st_size < 400_000:
+                texts += [cell for line in path.read_text(errors="replace").splitlines() for cell in line.split("\t")]
+        cls.queries = [text for text in list(dict.fromkeys(texts))[::3] if len(text) < 2_000 and cls.accepted(text)]
+
+    @staticmethod
+    def accepted(text):
+        try:
+            return bool(promql.parse(text))
+        except (ValueError, RecursionError):
+            return False
+
+    def test_places(self):
+        self.assertGreater(len(self.queries), 1_000)
+        without = 0
+        for query in self.queries:
+            tree = promql.parse(query)
+            try:
+                places = places_of(query, tree)
+            except RecursionError:
+                continue
+            without += not places
+            spans = [(it.whole.start, it.whole.end) for it in places.values()]
+            self.assertTrue(all(0 <= start < end <= len(query) for start, end in spans), query)
+        self.assertLess(without, 4)
+
+    def test_findings_and_fixes(self):
+        context = RuleContext(alert="A", interval=60_000, template_labels=frozenset(("a", "job")))
+        fixes = 0
+        for query in self.queries:
+            try:
+                findings = lint(query, select=("all",), context=context)
+            except RecursionError:
+                continue
+            for finding in findings:
+                self.assertTrue(0 <= finding.span.start <= finding.span.end <= len(query), query)
+                if finding.fix:
+                    fixes += 1
+                    changed = edited_query(query, finding.fix.edits)
+                    self.assertEqual(promql.parse(changed), finding.fix.meant, query)
+                    self.assertEqual(tokens_of(changed)[1], tokens_of(query)[1])
+        self.assertGreater(fixes, 100)
+
+    def test_fixed_queries_have_no_fix(self):
+        for query in self.queries[::3]:
+            try:
+                again = [it for it in lint(fix(query)) if it.fix]
+            except RecursionError:
+                continue
+            self.assertEqual(again, [], query)
+
+    def test_fixes_keep_the_meaning(self):
+        """But for parentheses, braces and matchers, the tree is the same."""
+        for query in self.queries[::3]:
+            try:
+                fixed = fix(query, select=("P6",))
+            except RecursionError:
+                continue
+            self.assertEqual(bare(promql.parse(fixed)), bare(promql.parse(query)), query)
+
+
+def bare(tree):
+    """A tree without parentheses."""
+    if isinstance(tree, dict):
+        return bare(tree["expr"]) if tree.get("type") == "parenExpr" else {key: bare(value) for key, value in tree.items()}
+    return [bare(item) for item in tree] if isinstance(tree, list) else tree
+
+
+if __name__ == "__main__":
+    unittest.main()
