@@ -290,6 +290,7 @@ test_rule_files() {
         add "the readers of YAML for Python, by $python" unit_tests "$here/python" test_quick_yaml.py
         add "checks of rules for Python, by $python" unit_tests "$here/python" test_rule_checks.py
         add "files with rules for Python, by $python" unit_tests "$here/python" test_rule_documents.py
+        add "the linter for Python, by $python" unit_tests "$here/python" test_lint_command.py
     fi
     has promtool 'verdicts on rule files beside those of promtool' && { promtool --version 2>&1 | grep -q 'version 2\.42\.' ||
         echo 'not tried: verdicts on rule files beside those of promtool: promtool is not of 2.42'; }

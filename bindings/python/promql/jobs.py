@@ -45,10 +45,10 @@ def skipped_file(target: Target, is_verbose: bool) -> Report:
 Work = Callable[[Target], Report]
 
 
-def add_arguments(parser: Any) -> None:
-    """What the commands over files have in common."""
+def add_arguments(parser: Any, without_file: str = "") -> None:
+    """What the commands over files have in common. Some do something without a file."""
     files = "a rule file, a dashboard (.json), a folder with rule files, or - for standard input"
-    parser.add_argument("files", nargs="+", metavar="FILE", help=files)
+    parser.add_argument("files", nargs="*" if without_file else "+", metavar="FILE", help=files + without_file)
     parser.add_argument("--dashboard", action="store_true", help="all files are dashboards")
     parser.add_argument("--jobs", type=_jobs, default=1, metavar="N", help="so many processes (1)")
     parser.add_argument("-v", "--verbose", action="store_true", help="name what is skipped in files and folders")

@@ -21,9 +21,7 @@ from .visible import visible
 
 def add_parser(subparsers: Any) -> None:
     parser = subparsers.add_parser("lint", help="find what is most likely not meant in queries", description=__doc__)
-    add_arguments(parser)
-    (files,) = [action for action in parser._actions if action.dest == "files"]
-    files.nargs, files.help = "*", f"{files.help}; without one and without --query, standard input is a query"
+    add_arguments(parser, "; without one and without --query, standard input is a query")
     parser.add_argument("-q", "--query", action="append", default=[], metavar="QUERY", help="look at this query; may be there again")
     parser.add_argument("--select", action="append", default=[], type=_codes, metavar="CODES", help="look for these codes alone: P101,P2")
     parser.add_argument("--ignore", action="append", default=[], type=_codes, metavar="CODES", help="leave these codes out")

@@ -12,7 +12,7 @@ from promql.lint.places import places_of
 from promql.lint.tokens import tokens_of
 
 ROOT = Path(__file__).resolve().parents[3]
-PAGE = ROOT / "docs" / "guide" / "lint.md"
+PAGE = ROOT / "docs/guide/lint.md"
 ENTRY = re.compile(r"^### (P\d{3}) ([\w-]+)\n(.*?)(?=^##)", re.M | re.S)
 EXAMPLE = re.compile(r"^- (Bad|Good): `([^`]+)`", re.M)
 # What some rules have to know of the rule that has the query.
@@ -101,8 +101,8 @@ FOUND = (
     ("P501", "up", "up", None),
     ("P501", "up > 1 or vector(0)", "up > 1 or vector(0)", None),
     ("P501", "sum(rate(x_total[5m])) * 2", "sum(rate(x_total[5m])) * 2", None),
-    ("P502", "up == bool 0", "bool", "up == 0"),
-    ("P502", "(a > bool ignoring (b) c)", "bool", "(a > ignoring (b) c)"),
+    ("P502", "up == bool 0", "bool", None),
+    ("P502", "(a > bool ignoring (b) c)", "bool", None),
     ("P503", "sum(up) == 0", "sum(up) == 0", None),
     ("P503", "absent(up == 0)", "absent(up == 0)", None),
     ("P601", "(up)", "(up)", "up"),
@@ -125,6 +125,7 @@ NOT_FOUND = (
     ("P103", 'up{a=~"(?i)b"}'),
     ("P104", r'up{a=~".b\\$"}'),
     ("P104", 'up{a=~"b.*"}'),
+    ("P104", 'up{a=~"(?x)b.*$"}'),
     ("P105", r'up{a=~".*b\\.*"}'),
     ("P105", 'up{a=~".*b"}'),
     ("P105", 'up{a=~".*b|c.*"}'),

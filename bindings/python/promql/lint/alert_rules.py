@@ -4,10 +4,10 @@ from __future__ import annotations
 
 from typing import Iterator
 
-from .findings import Remark, Severity, TextEdit, Tree
+from .findings import Remark, Severity, Tree
 from .subject import Subject
 from .table import rule
-from .trees import inner, is_comparison, is_scalar, without_bool
+from .trees import inner, is_comparison
 
 
 @rule("P501", "alert-without-condition", Severity.WARNING)
@@ -27,13 +27,7 @@ def bool_in_alert(subject: Subject) -> Iterator[Remark]:
         return
     place = subject.place(node)
     span = place.bool if place and place.bool else subject.span(node)
-    fix = None
-    if place and place.bool and not (is_scalar(node["lhs"]) and is_scalar(node["rhs"])):
-        start = place.bool.start
-        while subject.text[start - 1] in " \t":
-            start -= 1
-        fix = subject.fix([TextEdit(start, place.bool.end, "")], [(node, without_bool(node))])
-    yield Remark(span, "the alert fires always: with `bool` a comparison has the value 0 where it is false", fix)
+    yield Remark(span, "the alert fires always: with `bool` a comparison has the value 0 where it is false")
 
 
 @rule("P503", "lost-template-label", Severity.WARNING)

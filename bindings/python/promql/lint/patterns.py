@@ -10,6 +10,7 @@ _REPEAT = re.compile(r"[*+?]|\{\d+(?:,\d*)?\}")
 # What means itself, outside of classes.
 _LITERAL = re.compile(r"[^.^$()\[\]{}\\|*+?]|\\[^A-Za-z0-9<>\x80-\U0010ffff]")
 _ESCAPE = re.compile(r"\\[pPx]\{[^}]*\}|\\[bB](\{[^}]*\})?|\\.", re.S)
+_HAS_FLAGS = re.compile(r"\(\?[a-zA-Z-]")
 _POSIX = re.compile(r"\[:\^?[a-z]+:\]")
 # A count in the crate `regex` and not in Go: with white space, or with zeros before it.
 _SPACED_COUNT = re.compile(r"\{(?:\s+\d+\s*|\s*\d+\s+|0\d+)(?:,\s*\d*\s*)?\}|\{\d+,(?:\s+\d*\s*|\d*\s+|0\d+)\}")
@@ -41,6 +42,8 @@ def branches(pattern: str) -> Optional[List[str]]:
 
 def without_anchors(pattern: str) -> str:
     """The pattern without `^` at its begin and `$` at its end, where they mean nothing: a matcher's pattern has to match all of a text."""
+    if _HAS_FLAGS.search(pattern):
+        return pattern
     if pattern.startswith("^") and not _REPEAT.match(pattern, 1):
         pattern = pattern[1:]
     if pattern.endswith("$") and len(pattern) - len(pattern[:-1].rstrip("\\")) - 1 in range(0, len(pattern), 2):

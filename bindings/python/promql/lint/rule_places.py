@@ -83,7 +83,7 @@ def _template_labels(mappings: Mappings, rule: Node) -> FrozenSet[str]:
 
 
 def _end(rule: Node) -> int:
-    """Where the last text of a rule ends. (A mapping of YAML has the comments after it, too.)"""
+    """Where the last text of a rule ends. (A mapping of YAML has the comments after it, too, and what an alias stands for is before it.)"""
     end, todo, seen = rule.start, [rule], set()
     while todo:
         node = todo.pop()
@@ -96,4 +96,4 @@ def _end(rule: Node) -> int:
             todo += node.value
         elif node.kind == "mapping":
             todo += [part for entry in node.value for part in entry]
-    return min(end, rule.end)
+    return end

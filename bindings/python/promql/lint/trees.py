@@ -44,11 +44,6 @@ def matching_of(node: Tree) -> Tree:
     return matching
 
 
-def without_bool(node: Tree) -> Tree:
-    """A comparison as it is without `bool`."""
-    return {**node, "bool": False, "matching": None if node["matching"] == _PLAIN else node["matching"]}
-
-
 def fills(node: Tree) -> bool:
     """Whether a side of an operator has values where the other has series."""
     return any(value is not None for value in matching_of(node)["fillValues"].values())

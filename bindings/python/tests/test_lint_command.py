@@ -1,0 +1,288 @@
+"""Tests of `python -m promql lint`."""
+
+import json
+import random
+import re
+import unittest
+from pathlib import Path
+
+from command_line import run
+from promql import lint
+from test_dashboards import Folder
+from written import STYLES, write
+
+try:
+    import ruamel.yaml
+except ImportError:
+    ruamel = None
+
+HERE = Path(__file__).resolve().parent
+PAGE = HERE.parents[2] / "docs/guide/lint.md"
+HAS_YAML = unittest.skipUnless(ruamel, "there is no ruamel.yaml here")
+# Where a package of Debian, ceph-prometheus-alerts, has its rules, and ceph-grafana-dashboards its dashboards.
+ALERTS = Path("/etc/prometheus/ceph/ceph_default_alerts.yml")
+BOARDS = Path("/etc/grafana/dashboards/ceph-dashboard")
+RULES = """\
+groups:
+  - name: shop  # comments stay
+    interval: 5m
+    rules:
+      - alert: Down
+        expr: 'up{job=~''shop''} == 0'   # why
+        annotations: {summary: "{{ $labels.zone }}"}
+      - record: job:errors:rate1m
+        expr: |
+          sum by (job) (
+            rate(errors_total{job=~"^shop-.+$"}[1m])  # no anchors
+          )
+"""
+FIXED = RULES.replace("=~''shop''", "=''shop''").replace('"^shop-.+$"', '"shop-.+"')
+# Queries with fixes.
+FIXABLE = (
+    'sum(rate(errors_total{job=~"^shop$",zone=~".*"}[5m])) by (job) > (1)',
+    "up{job=~'shop'}",
+    "((a + b)) * (c)",
+    'x{} + y{a="b", a="b"}',
+    'count({job=~"a\\\\.b"}) > 1',
+    'sum(up{é=~"🦀"}) > 0 # ((why))',
+    'sum(\n  # why\n  (up{job=~"shop"})\n) == 0',
+)
+
+
+class Queries(Folder):
+    def test_queries(self):
+        ran = run("lint", "--query", 'up{job=~"shop"} == 0', "--query", "up")
+        self.assertEqual((ran.status, ran.err), (1, ""))
+        self.assertEqual(
+            ran.out.splitlines(),
+            [
+                '<query 1>:1:4: warning P103: the pattern matches one text alone: write `job="shop"` (--fix)',
+                'up{job=~"shop"} == 0',
+                "   ^~~~~~~~~~~",
+                "<query 1>: 1 query, 1 finding",
+                "<query 2>: 1 query, no findings",
+            ],
+        )
+
+    def test_standard_input(self):
+        self.assertEqual(run("lint", stdin=b"up\n"), (0, "<stdin>: 1 query, no findings\n", ""))
+        self.assertEqual(run("lint", "--fix", stdin=b"(up{})\n"), (0, "up\n", ""))
+        self.assertEqual(run("lint", "--fix", stdin=b"up"), (0, "up\n", ""))
+        ran = run("lint", "--fix", stdin=b"(up{a='b',a='c'})")
+        self.assertEqual((ran.status, ran.out), (1, "up{a='b',a='c'}\n"))
+        self.assertIn("<stdin>:1:10: error P108: ", ran.err)
+        ran = run("lint", stdin=b"up\xff")
+        self.assertEqual((ran.status, ran.out, ran.err), (2, "", "-: not UTF-8 at byte 2\n"))
+
+    def test_rejected(self):
+        ran = run("lint", stdin=b"sum(\n  rate(foo))")
+        self.assertEqual(ran.status, 1)
+        self.assertIn("<stdin>:2:8: error P001: expected type matrix in call to function 'rate', got vector\n  rate(foo))\n", ran.out)
+
+    def test_deep(self):
+        ran = run("lint", stdin=b"-" * 500 + b"a")
+        self.assertEqual((ran.status, ran.out), (2, ""))
+        self.assertEqual(ran.err, "-: a query is nested too deeply for the linter\n")
+
+    def test_codes(self):
+        query = "sum((rate(x{a=~'b'}[5m])))"
+        self.assertEqual(run("lint", "--query", query, "--ignore", "P1,P601").status, 0)
+        self.assertIn("P202", run("lint", "--query", query, "--select", "P2").out)
+        self.assertEqual(run("lint", "--query", query, "--select", "P3", "--select", "P4").status, 0)
+        self.assertEqual(run("lint", "--query", query, "--select", "all", "--ignore", "P").status, 0)
+        for words in ("P9", "x", ","):
+            ran = run("lint", "--query", query, "--select", words)
+            self.assertEqual(ran.status, 2)
+            self.assertIn("no rule has a code that begins with", ran.err)
+        listed = run("lint", "--rules").out.splitlines()
+        self.assertEqual([line[:4] for line in listed], sorted(lint.RULES))
+
+    def test_json(self):
+        ran = run("lint", "--output", "json", "--query", 'up{\n a=~"b"}', "--query", "sum(", "--query", "up")
+        first, second = json.loads(ran.out)
+        self.assertEqual((ran.status, ran.err), (1, ""))
+        place = {"line": 2, "column": 2, "endLine": 2, "endColumn": 8}
+        self.assertEqual({key: first[key] for key in place}, place)
+        self.assertEqual((first["file"], first["code"], first["name"]), ("<query 1>", "P103", "pattern-of-one-text"))
+        self.assertEqual(first["severity"], "warning")
+        edit = {"line": 2, "column": 3, "endLine": 2, "endColumn": 5, "text": "="}
+        self.assertEqual(first["fix"], {"query": 'up{\n a="b"}', "edits": [edit]})
+        self.assertEqual((second["file"], second["code"], second["fix"]), ("<query 2>", "P001", None))
+        self.assertEqual(json.loads(run("lint", "--output", "json", "--query", "up").out), [])
+
+    def test_sarif(self):
+        ran = run("lint", "--output", "sarif", "--query", "up{a=~'b'} or (up)")
+        (made,) = json.loads(ran.out)["runs"]
+        self.assertEqual(ran.status, 1)
+        self.assertEqual(made["columnKind"], "unicodeCodePoints")
+        rules = made["tool"]["driver"]["rules"]
+        self.assertEqual([it["id"] for it in rules], ["P103", "P601"])
+        self.assertEqual([it["defaultConfiguration"]["level"] for it in rules], ["warning", "note"])
+        results = made["results"]
+        self.assertEqual([rules[it["ruleIndex"]]["id"] for it in results], [it["ruleId"] for it in results])
+        region = results[0]["locations"][0]["physicalLocation"]["region"]
+        self.assertEqual(region, {"startLine": 1, "startColumn": 4, "endLine": 1, "endColumn": 10})
+        (replacement,) = results[0]["fixes"][0]["artifactChanges"][0]["replacements"]
+        self.assertEqual(replacement["insertedContent"], {"text": "="})
+
+
+class Boards(Folder):
+    def test_board(self):
+        path = self.board('"sum(up{job=~\\"shop\\"})"')
+        ran = run("lint", path)
+        self.assertEqual(ran.status, 1)
+        self.assertIn(f"{path}:2:18: warning P103: ", ran.out)
+        self.assertEqual(run("lint", "--fix", path), (0, f"{path}: 1 query, 1 query fixed, no findings\n", ""))
+        self.assertIn('"sum(up{job=\\"shop\\"})"', path.read_text())
+
+    def test_variables(self):
+        for query in ("up{job=~'$job'}", "rate($x[$__interval])", "up == $y", "up{a='$x',a='$y'}", "quantile($q, up)", "[[f]](up)"):
+            path = self.board(json.dumps(query))
+            self.assertEqual(run("lint", path).status, 0, query)
+        path = self.board(json.dumps("up{job=~'$job',zone=~'a'}"))
+        self.assertIn(f"{path}:2:26: warning P103: the pattern matches one text alone: write `zone=\"a\"`\n", run("lint", path).out)
+        before = path.read_text()
+        self.assertEqual(run("lint", "--fix", path).status, 1)
+        self.assertEqual(path.read_text(), before)
+
+    def test_skipped(self):
+        path = self.board('"{a=\\"b\\"} |= \\"c\\""', before='"datasource": {"type": "loki"}, ')
+        self.assertEqual(run("lint", path), (0, f"{path}: 1 query, 1 skipped, no findings\n", ""))
+        self.assertIn("skipped: its data source is of the type loki", run("lint", "-v", path).err)
+
+    @unittest.skipUnless(BOARDS.is_dir(), "ceph-grafana-dashboards is not installed")
+    def test_boards_of_a_package(self):
+        ran = run("lint", "--dashboard", "--output", "json", BOARDS)
+        found = json.loads(ran.out)
+        self.assertEqual(ran.err, "")
+        self.assertEqual({it["code"] for it in found}, {"P103", "P601", "P602"})
+        # (those written as a pattern have no `.` and no `|`)
+        values = [re.search(r'write `proxy="(frontend|backend)"`', it["message"]) for it in found if it["code"] == "P103"]
+        self.assertTrue(values and all(values))
+
+
+@HAS_YAML
+class Files(Folder):
+    def file(self, text, name="a.yml"):
+        path = self.folder / name
+        path.write_bytes(text.encode())
+        return path
+
+    def codes(self, path, *arguments):
+        return [(it["code"], it["line"]) for it in json.loads(run("lint", "--output", "json", *arguments, path).out)]
+
+    def test_file(self):
+        path = self.file(RULES)
+        ran = run("lint", path)
+        self.assertEqual((ran.status, ran.err), (1, ""))
+        self.assertEqual(self.codes(path), [("P103", 6), ("P104", 11), ("P207", 11)])
+        self.assertIn(f"{path}:6:19: warning P103: ", ran.out)
+        self.assertIn(f"{path}: 2 rules, 3 findings\n", ran.out)
+        self.assertIn("the group is evaluated every 5m", ran.out)
+        self.assertEqual(run("lint", "--jobs", "2", path, self.file(RULES, "b.yml")).status, 1)
+
+    def test_fix(self):
+        path = self.file(RULES)
+        ran = run("lint", "--fix", path)
+        self.assertEqual((ran.status, ran.err), (1, ""))
+        self.assertIn(f"{path}: 2 rules, 2 queries fixed, 1 finding\n", ran.out)
+        self.assertEqual(path.read_text(), FIXED)
+        ran = run("lint", "--fix", "-", stdin=RULES.encode())
+        self.assertEqual(ran.out, FIXED)
+        self.assertEqual(run("lint", "--fix", "--select", "P3", path).status, 0)
+        self.assertEqual(path.read_text(), FIXED)
+
+    def test_contexts(self):
+        path = self.file(RULES.replace("expr: 'up{job=~''shop''} == 0'", "expr: sum(up)"))
+        self.assertEqual(self.codes(path, "--select", "P5"), [("P501", 6), ("P503", 6)])
+        path = self.file(RULES.replace("{{ $labels.zone }}", "{{ if $labels.zone }}{{ $labels.zone }}{{ end }}").replace("== 0", "> bool 0"))
+        self.assertEqual(self.codes(path, "--select", "P5"), [("P502", 6)])
+
+    def test_aliases(self):
+        text = "groups:\n- name: a\n  rules:\n  - record: b\n    expr: &x irate(c[5m]) > (1)\n  - alert: D\n    expr: *x\n"
+        path = self.file(text)
+        self.assertEqual(self.codes(path), [("P206", 5), ("P601", 5)])
+        self.assertEqual(run("lint", "--fix", path).status, 1)
+        self.assertEqual(path.read_text(), text.replace("(1)", "1"))
+        kept = text + "    annotations: {e: *x}\n"
+        path = self.file(kept)
+        self.assertEqual(run("lint", "--fix", path).status, 1)
+        self.assertEqual(path.read_text(), kept)
+
+    def test_recorded(self):
+        rules = "groups:\n- name: a\n  interval: 1m\n  rules:\n  - {record: b_total, expr: sum(c)}\n- name: d\n  rules:\n"
+        path = self.file(rules + "  - {record: e, expr: 'rate(b_total[90s])'}\n")
+        self.assertEqual(self.codes(path), [("P207", 8)])
+        path = self.file(rules + "  - {record: e, expr: 'rate(b_total[2m])'}\n")
+        self.assertEqual(self.codes(path), [])
+
+    def test_silenced(self):
+        for place, comment in (
+            ("      - alert", "      # promql: ignore P1\n      - alert"),
+            ("   # why", "   # promql: ignore P103"),
+            ("   # why", "   # promql: ignore"),
+            ("        annotations", "        # promql: ignore P103 since\n        annotations"),
+            ("  # comments stay", "  # promql: ignore-file P103"),
+        ):
+            path = self.file(RULES.replace(place, comment, 1))
+            self.assertEqual([code for code, _ in self.codes(path)], ["P104", "P207"], comment)
+        path = self.file(RULES.replace("# no anchors", "# promql: ignore P104, P2"))
+        self.assertEqual(self.codes(path), [("P103", 6)])
+        path = self.file(RULES.replace("  - name: shop  #", "  - name: shop  # promql: ignore #"))
+        self.assertEqual(len(self.codes(path)), 3)
+        path = self.file(RULES.replace("      - record", "      # promql: ignore P104,P207\n      - record"))
+        self.assertEqual(self.codes(path), [("P103", 6)])
+
+    def test_no_rule_file(self):
+        path = self.file("a: b\n")
+        ran = run("lint", path)
+        self.assertEqual((ran.status, ran.out), (1, f"{path}: no rules, no findings\n"))
+        self.assertIn("this is no rule file", ran.err)
+        self.assertEqual(run("lint", self.file("a: [")).status, 2)
+        self.assertEqual(run("lint", self.folder / "none.yml").status, 2)
+        self.assertEqual(run("lint", self.folder).status, 0)
+
+    def test_styles(self):
+        """Fixed files have the fixed queries, and all else as it was."""
+        generator = random.Random(3)
+        for number in range(60):
+            rules, wanted = [], []
+            for query, style in [(generator.choice(FIXABLE), generator.choice(STYLES)) for _ in range(4)]:
+                written = write(generator, query, style, 8)
+                if written:
+                    rules.append(f"  - record: r{len(rules)}  # a comment\n    expr: {written.text}\n    labels: {{a: b}} # d\n")
+                    wanted.append(query)
+            if not rules:
+                continue
+            path = self.file("groups:\n- name: a\n  rules:\n" + "".join(rules), f"{number}.yml")
+            before = path.read_text()
+            old = self.loaded(before)
+            found = [rule["expr"] for rule in old["groups"][0]["rules"]]
+            ran = run("lint", "--fix", path)
+            self.assertLess(ran.status, 2, ran.err + before)
+            new = self.loaded(path.read_text())
+            for rule, query in zip(old["groups"][0]["rules"], found):
+                rule["expr"] = lint.fix(query.rstrip())
+            for rule in new["groups"][0]["rules"]:
+                rule["expr"] = rule["expr"].rstrip()
+            self.assertEqual(new, old, before)
+            self.assertEqual(path.read_text().count("# a comment"), len(rules))
+
+    @staticmethod
+    def loaded(text):
+        return ruamel.yaml.YAML(typ="safe", pure=True).load(text)
+
+    @unittest.skipUnless(ALERTS.is_file(), "ceph-prometheus-alerts is not installed")
+    def test_rules_of_a_package(self):
+        self.assertEqual(self.codes(ALERTS), [])
+        self.assertEqual([code for code, _ in self.codes(ALERTS, "--select", "all")], ["P202"])
+
+    def test_page(self):
+        """What the page shows is what is printed."""
+        file, shown = re.search(r"```yaml\n(groups:.*?)```\n\n```sh\n\$ [^\n]*\n(.*?)```", PAGE.read_text(), re.S).groups()
+        path = self.file(file, "alerts.yml")
+        self.assertEqual(run("lint", path).out.replace(str(path), "alerts.yml"), shown)
+
+
+if __name__ == "__main__":
+    unittest.main()
