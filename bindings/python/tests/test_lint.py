@@ -6,8 +6,8 @@ import unittest
 from pathlib import Path
 
 import promql
-from promql.lint import RULES, RuleContext, Severity, fix, known_codes, lint
-from promql.lint.fixes import edited_query
+from promql.lint import RULES, RuleContext, Selection, Severity, fix, known_codes, lint, look_at_tree
+from promql.lint.fixes import edited_query, meant_by
 from promql.lint.places import places_of
 from promql.lint.tokens import tokens_of
 
@@ -107,6 +107,7 @@ FOUND = (
     ("P503", "absent(up == 0)", "absent(up == 0)", None),
     ("P601", "(up)", "(up)", "up"),
     ("P601", "a and(b)", "(b)", "a and b"),
+    ("P601", "a and (b)or c", "(b)", "a and b or c"),
     ("P601", "sum((a + b))", "(a + b)", "sum(a + b)"),
     ("P601", "((a + b)) * 2", "((a + b))", "(a + b) * 2"),
     ("P601", "sum(a) / (sum(b)) # (c)", "(sum(b))", "sum(a) / sum(b) # (c)"),
@@ -311,7 +312,8 @@ class ManyQueries(unittest.TestCase):
         fixes = 0
         for query in self.queries:
             try:
-                findings = lint(query, select=("all",), context=context)
+                tree = promql.parse(query)
+                findings = look_at_tree(query, tree, Selection(("all",)), context)
             except RecursionError:
                 continue
             for finding in findings:
@@ -319,7 +321,7 @@ class ManyQueries(unittest.TestCase):
                 if finding.fix:
                     fixes += 1
                     changed = edited_query(query, finding.fix.edits)
-                    self.assertEqual(promql.parse(changed), finding.fix.meant, query)
+                    self.assertEqual(promql.parse(changed), meant_by(tree, finding.fix), query)
                     self.assertEqual(tokens_of(changed)[1], tokens_of(query)[1])
         self.assertGreater(fixes, 100)
 

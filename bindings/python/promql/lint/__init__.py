@@ -8,15 +8,15 @@ P103 the pattern matches one text alone: write `job="shop"`
 
 from __future__ import annotations
 
-from typing import Callable, Iterable, List, Optional
+from typing import Iterable, List, Optional
 
 import promql
 
 from . import alert_rules, counter_rules, label_rules, matcher_rules, operator_rules, style_rules
 from .comments import ignored_in
-from .findings import Finding, Fix, Severity, Span, TextEdit
+from .findings import Finding, Fix, Severity, Span, TextEdit, Tree
 from .fixes import all_fixed, checked
-from .subject import RuleContext, Subject
+from .subject import IsWritten, RuleContext, Subject, always
 from .table import REJECTED, RULES, Rule, Selection, known_codes, unknown_words
 
 __all__ = [
@@ -56,7 +56,7 @@ def lint(
     A query that is rejected has one finding, P001. The context tells of the rule that has the query, which some rules ask for. Comments
     `# promql: ignore P103` in the query leave out codes. Raises ValueError where a text begins no code.
     """
-    return _look(query, selection_of(select, ignore), context or RuleContext())
+    return look_at(query, selection_of(select, ignore), context or RuleContext())
 
 
 def fix(
@@ -69,7 +69,7 @@ def fix(
     """The query with the fixes of all findings that have one. Each was checked: the changed query is read again, and has the tree that the
     fix intends, and the comments."""
     selection = selection_of(select, ignore)
-    return all_fixed(query, lambda text: _look(text, selection, context or RuleContext()))
+    return all_fixed(query, lambda text, tree: look_at_tree(text, tree, selection, context or RuleContext()))
 
 
 def selection_of(select: Iterable[str], ignore: Iterable[str]) -> Selection:
@@ -80,20 +80,23 @@ def selection_of(select: Iterable[str], ignore: Iterable[str]) -> Selection:
     return selection
 
 
-def _look(query: str, selection: Selection, context: RuleContext) -> List[Finding]:
-    return look_at(query, selection, context, lambda text: True)
-
-
-def look_at(query: str, selection: Selection, context: RuleContext, is_written: Callable[[str], bool]) -> List[Finding]:
+def look_at(query: str, selection: Selection, context: RuleContext, is_written: IsWritten = always) -> List[Finding]:
     """The same for a query of a file, of which texts may stand there for variables."""
     try:
         tree = promql.parse(query)
     except promql.QueryError as error:
         return [_rejected(error)] if selection.has(REJECTED) else []
+    return look_at_tree(query, tree, selection, context, is_written)
+
+
+def look_at_tree(
+    query: str, tree: Tree, selection: Selection, context: RuleContext, is_written: IsWritten = always
+) -> List[Finding]:
+    """The same for a query that was read."""
     subject = Subject(query, tree, context, is_written)
     ignored = ignored_in(query)
     found = [
-        Finding(remark.span, rule.code, remark.message, rule.severity, checked(query, remark.fix))
+        Finding(remark.span, rule.code, remark.message, rule.severity, checked(query, tree, remark.fix))
         for rule in selection.rules()
         if not ignored.has(rule.code)
         for remark in rule.look(subject)

@@ -3,19 +3,20 @@
 from __future__ import annotations
 
 from difflib import SequenceMatcher
-from typing import Callable, Dict, List, NamedTuple, Optional, Sequence, Tuple
+from typing import Dict, List, NamedTuple, Optional, Sequence, Tuple
 
 from ..documents import Document
 from ..files import BLANKS, Fault, FileError, Source
 from ..queries import Edit, Query, SameQuery, edited
 from ..rule_files import RuleFile
 from ..scalars import Scalar
-from . import look_at
-from .findings import Finding, Fix, TextEdit
+from . import look_at, look_at_tree
+from .comments import Ignored
+from .findings import Finding, TextEdit, Tree
 from .fixes import all_fixed, edited_query
 from .rule_places import RulePlace, rules_of
 from .silence import Silences
-from .subject import RuleContext
+from .subject import IsWritten, RuleContext, always
 from .table import Selection
 
 # A longer part that changed is written whole.
@@ -50,7 +51,7 @@ class FileLinter:
             self._placed(query, finding)
             for query in self._document.queries
             if not query.skipped
-            for finding in self._look_at_query(query, query.text)
+            for finding in self._look_at_query(query)
         ]
         return sorted(found, key=lambda it: (it.start, it.end, it.finding.code, it.finding.message))
 
@@ -58,18 +59,28 @@ class FileLinter:
         spelling = query.spelling
         return self._rules.get(spelling.end, ()) if isinstance(spelling, Scalar) else ()
 
-    def _look_at_query(self, query: Query, text: str) -> List[Finding]:
-        """What is found in a text in the place of a query, for each of the rules that have it."""
-        variables = query.variables
-        is_written: Callable[[str], bool] = lambda part: not variables or variables.put_back(part) == part
-        rules = self._rules_of(query)
+    def _look_at_query(self, query: Query) -> List[Finding]:
+        """What is found in a query, for each of the rules that have it."""
         found: Dict[Tuple[int, int, str, str], Finding] = {}
-        for context, start, end in [(it.context, it.start, it.end) for it in rules] or [self._bare(query)]:
-            ignored = self._silences and self._silences.between(start, end, self._document.source.text)
-            for finding in look_at(text, self._selection, context, is_written):
-                if not ignored or not ignored.has(finding.code):
+        for context, ignored in self._contexts(query):
+            for finding in look_at(query.text, self._selection, context, self._is_written(query)):
+                if not ignored.has(finding.code):
                     found[(*finding.span, finding.code, finding.message)] = finding
         return list(found.values())
+
+    def _contexts(self, query: Query) -> List[Tuple[RuleContext, Ignored]]:
+        """The rules that have a query, and what comments silence there."""
+        places = [(it.context, it.start, it.end) for it in self._rules_of(query)] or [self._bare(query)]
+        silences = self._silences
+        return [(context, silences.between(start, end) if silences else Ignored()) for context, start, end in places]
+
+    @staticmethod
+    def _is_written(query: Query) -> IsWritten:
+        variables = query.variables
+        if not variables:
+            return always
+        put_back = variables.put_back
+        return lambda part: put_back(part) == part
 
     @staticmethod
     def _bare(query: Query) -> Tuple[RuleContext, int, int]:
@@ -115,7 +126,15 @@ class FileLinter:
     def _change(self, query: Query) -> Optional[Tuple[Query, str]]:
         if query.skipped or query.kept or query.variables:
             return None
-        text = all_fixed(query.text, lambda text: self._look_at_query(query, text))
+        contexts = self._contexts(query)
+
+        def look(text: str, tree: Tree) -> List[Finding]:
+            # (what a fix changes is in all rules that have the query)
+            context, _ = contexts[0]
+            found = look_at_tree(text, tree, self._selection, context)
+            return [it for it in found if not any(ignored.has(it.code) for _, ignored in contexts)]
+
+        text = all_fixed(query.text, look)
         return (query, text) if text != query.text else None
 
     def _edits(self, query: Query, text: str, plainly: bool) -> List[Edit]:
@@ -154,5 +173,3 @@ def place_of(source: Source, offset: int) -> Tuple[int, int]:
     number, begin, _ = source.line_around(offset)
     return number, offset - begin + 1
 
-
-__all__ = ["FileFinding", "FileLinter", "Fix", "fault_of", "place_of"]

@@ -6,6 +6,8 @@ from enum import Enum
 from typing import Any, Dict, NamedTuple, Optional, Tuple
 
 Tree = Dict[str, Any]
+# Parts of a tree, and what is to be there instead; None for a part leaves it out of its list.
+Changes = Tuple[Tuple[Tree, Any], ...]
 
 
 class Severity(Enum):
@@ -32,10 +34,10 @@ class TextEdit(NamedTuple):
 
 
 class Fix(NamedTuple):
-    """Edits of a query, none of which overlaps another, and the JSON form that the changed query is to have."""
+    """Edits of a query, none of which overlaps another, and what they are meant to change in its JSON form."""
 
     edits: Tuple[TextEdit, ...]
-    meant: Tree
+    changes: Changes
 
 
 class Remark(NamedTuple):

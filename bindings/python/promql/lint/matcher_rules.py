@@ -49,7 +49,7 @@ def _written_anew(subject: Subject, matcher: SeenMatcher, operator: str, value: 
         edits.append(TextEdit(*place.operator, operator))
     if value != matcher.value:
         edits.append(TextEdit(*place.value, requoted(subject.text[place.value.start : place.value.end], value)))
-    return subject.fix(edits, [(matcher.tree, {"name": matcher.name, "type": operator, "value": value})])
+    return Fix(tuple(edits), ((matcher.tree, {"name": matcher.name, "type": operator, "value": value}),))
 
 
 def _left_out(subject: Subject, node: Tree, matcher: SeenMatcher) -> Optional[Fix]:
@@ -66,7 +66,7 @@ def _left_out(subject: Subject, node: Tree, matcher: SeenMatcher) -> Optional[Fi
         start = place.braces.start + len(before.rstrip()) - 1
     elif len(node["matchers"]) == 1 and node["name"] is not None:
         start, end = place.braces
-    return subject.fix([TextEdit(start, end, "")], [(matcher.tree, None)])
+    return Fix((TextEdit(start, end, ""),), ((matcher.tree, None),))
 
 
 @rule("P101", "pattern-of-go", Severity.ERROR)

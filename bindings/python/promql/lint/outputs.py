@@ -7,7 +7,6 @@ from typing import Any, Dict, List
 import promql
 
 from ..files import Source
-from ..queries import Edit
 from .file_findings import FileFinding, place_of
 from .findings import Severity
 from .table import REJECTED, RULES
@@ -90,5 +89,3 @@ def _sarif_region(place: Json) -> Json:
     names = ("startLine", "startColumn", "endLine", "endColumn")
     return dict(zip(names, (place["line"], place["column"], place["endLine"], place["endColumn"])))
 
-
-__all__ = ["Edit", "as_json", "as_sarif"]

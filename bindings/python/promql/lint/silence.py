@@ -22,7 +22,8 @@ class Silences:
     """The comments of a YAML file."""
 
     def __init__(self, source: Source) -> None:
-        self.of_file = Ignored()
+        self._text = source.text
+        self._of_file = Ignored()
         self._silences: List[_Silence] = []
         if "promql:" in source.text:
             self._read(source.text)
@@ -35,7 +36,7 @@ class Silences:
             words = []
             for is_of_file, silenced in comments_of(line[0]):
                 if is_of_file:
-                    self.of_file = Ignored(self.of_file.words + silenced)
+                    self._of_file = Ignored(self._of_file.words + silenced)
                 else:
                     words.append(silenced)
             if is_comment:
@@ -46,8 +47,8 @@ class Silences:
                 self._silences += [_Silence(line.start(), silenced) for silenced in waiting + words]
                 waiting = []
 
-    def between(self, start: int, end: int, text: str) -> Ignored:
+    def between(self, start: int, end: int) -> Ignored:
         """What is silenced in the lines of this part of the file."""
-        begin = max(text.rfind("\n", 0, start), text.rfind("\r", 0, start)) + 1
+        begin = max(self._text.rfind("\n", 0, start), self._text.rfind("\r", 0, start)) + 1
         words = [word for it in self._silences if begin <= it.about < max(end, start + 1) for word in it.words]
-        return Ignored((*self.of_file.words, *words))
+        return Ignored((*self._of_file.words, *words))

@@ -2,13 +2,15 @@
 
 from __future__ import annotations
 
+import re
 from typing import Iterator, Optional
 
 from ..labels import kind_of
-from .findings import Remark, Severity, TextEdit, Tree
+from .findings import Fix, Remark, Severity, TextEdit, Tree
 from .subject import Subject
 from .table import rule
 
+_WORD = re.compile(r"\w")
 # What is one thing without parentheses.
 _PRIMARY = ("parenExpr", "numberLiteral", "stringLiteral", "vectorSelector", "matrixSelector", "call", "aggregation", "subquery")
 
@@ -22,14 +24,14 @@ def needless_parentheses(subject: Subject) -> Iterator[Remark]:
         if not reason or not place:
             continue
         start, end = place.whole
-        edits = [TextEdit(start, start + 1, _between(subject, start)), TextEdit(end - 1, end, "")]
-        yield Remark(subject.span(node), f"needless parentheses around {reason}", subject.fix(edits, [(node, node["expr"])]))
+        edits = (TextEdit(start, start + 1, _between(subject, start)), TextEdit(end - 1, end, _between(subject, end - 1)))
+        yield Remark(subject.span(node), f"needless parentheses around {reason}", Fix(edits, ((node, node["expr"]),)))
 
 
-def _between(subject: Subject, start: int) -> str:
+def _between(subject: Subject, at: int) -> str:
     """What keeps the words on both sides of a parenthesis apart."""
-    before, after = subject.text[start - 1 : start], subject.text[start + 1 : start + 2]
-    return " " if (before.isalnum() or before == "_") and not after.isspace() else ""
+    before, after = subject.text[at - 1 : at] if at else "", subject.text[at + 1 : at + 2]
+    return " " if _WORD.match(before if subject.text[at] == "(" else after) and not (before + after).isspace() else ""
 
 
 def _why_needless(subject: Subject, node: Tree) -> Optional[str]:
@@ -50,5 +52,5 @@ def empty_braces(subject: Subject) -> Iterator[Remark]:
         place = subject.place(node)
         if node["name"] is not None and not node["matchers"] and "or_matchers" not in node and place and place.braces:
             if subject.text[place.braces.start + 1 : place.braces.end - 1].strip() == "":
-                fix = subject.fix([TextEdit(*place.braces, "")], [])
+                fix = Fix((TextEdit(*place.braces, ""),), ())
                 yield Remark(place.braces, "needless braces: there is no matcher in them", fix)

@@ -4,10 +4,10 @@ from __future__ import annotations
 
 from dataclasses import dataclass, field
 from functools import cached_property
-from typing import Any, Callable, Dict, FrozenSet, Iterator, List, Mapping, NamedTuple, Optional, Tuple
+from typing import Callable, Dict, FrozenSet, Iterator, List, Mapping, NamedTuple, Optional, Tuple
 
 from ..labels import children_of
-from .findings import Fix, Span, TextEdit, Tree
+from .findings import Span, Tree
 from .label_flow import LabelFlow
 from .places import MatcherPlace, NodePlace, places_of
 from .trees import NAME
@@ -31,6 +31,13 @@ class RuleContext:
     recorded: Mapping[str, int] = field(default_factory=dict)
 
 
+IsWritten = Callable[[str], bool]
+
+
+def always(text: str) -> bool:
+    return True
+
+
 class SeenMatcher(NamedTuple):
     """A matcher of a selector, with its place if that is known."""
 
@@ -49,7 +56,7 @@ class Subject:
         text: str,
         tree: Tree,
         context: Optional[RuleContext] = None,
-        is_written: Callable[[str], bool] = lambda text: True,
+        is_written: IsWritten = always,
     ) -> None:
         self.text = text
         self.tree = tree
@@ -143,18 +150,3 @@ class Subject:
             names = [it["value"] for it in node["matchers"] if it["name"] == NAME and it["type"] == "="]
             name = names[0] if names else None
         return name if name and self.is_written(name) else None
-
-    def fix(self, edits: List[TextEdit], changes: List[Tuple[Tree, Any]]) -> Fix:
-        """Edits that are meant to put other values in the places of parts of the tree. None for a part leaves it out of its list."""
-        meant: Tree = _changed(self.tree, {id(old): new for old, new in changes})
-        return Fix(tuple(edits), meant)
-
-
-def _changed(value: Any, changes: Dict[int, Any]) -> Any:
-    if id(value) in changes:
-        return changes[id(value)]
-    if isinstance(value, dict):
-        return {key: _changed(item, changes) for key, item in value.items()}
-    if isinstance(value, list):
-        return [_changed(item, changes) for item in value if changes.get(id(item), item) is not None]
-    return value
