@@ -18,13 +18,13 @@ _Group = Tuple[Tree, List[SeenMatcher]]
 
 def _groups(subject: Subject) -> Iterator[_Group]:
     """The groups of matchers of each selector, without those whose value is not as it was written."""
-    for node in subject.of_type("vectorSelector", "matrixSelector"):
+    for node in subject.selectors:
         for group in subject.matcher_groups(node):
             yield node, [it for it in group if subject.is_written(it.value)]
 
 
 def _matchers(subject: Subject) -> Iterator[Tuple[Tree, SeenMatcher]]:
-    for node in subject.of_type("vectorSelector", "matrixSelector"):
+    for node in subject.selectors:
         yield from ((node, it) for it in subject.matchers(node) if subject.is_written(it.value))
 
 

@@ -123,7 +123,7 @@ def no_bucket_label(subject: Subject) -> Iterator[Remark]:
 
 def _nodes_below(tree: Tree) -> Iterator[Tree]:
     """The selectors below a node."""
-    return Subject("", tree).of_type("vectorSelector", "matrixSelector")
+    return iter(Subject("", tree).selectors)
 
 
 @rule("P307", "experimental-function", Severity.INFO, is_default=False)

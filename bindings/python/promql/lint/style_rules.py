@@ -48,7 +48,7 @@ def _why_needless(subject: Subject, node: Tree) -> Optional[str]:
 @rule("P602", "empty-braces", Severity.INFO)
 def empty_braces(subject: Subject) -> Iterator[Remark]:
     """Braces without a matcher."""
-    for node in subject.of_type("vectorSelector", "matrixSelector"):
+    for node in subject.selectors:
         place = subject.place(node)
         if node["name"] is not None and not node["matchers"] and "or_matchers" not in node and place and place.braces:
             if subject.text[place.braces.start + 1 : place.braces.end - 1].strip() == "":

@@ -4,7 +4,7 @@ from __future__ import annotations
 
 from dataclasses import dataclass, field
 from functools import cached_property
-from typing import Callable, Dict, FrozenSet, Iterator, List, Mapping, NamedTuple, Optional, Tuple
+from typing import Callable, Dict, FrozenSet, Iterator, List, Mapping, NamedTuple, Optional, Sequence
 
 from ..labels import children_of
 from .findings import Span, Tree
@@ -63,6 +63,7 @@ class Subject:
         self.context = context or RuleContext()
         # Whether a text of the query is as somebody wrote it, and not what stands there for a variable.
         self.is_written = is_written
+        self._groups: Dict[int, List[List[SeenMatcher]]] = {}
 
     @property
     def whole(self) -> Span:
@@ -92,8 +93,20 @@ class Subject:
             todo += reversed(children_of(node))
         return found
 
-    def of_type(self, *types: str) -> Iterator[Tree]:
-        return (node for node in self.nodes if node["type"] in types)
+    @cached_property
+    def _by_type(self) -> Dict[str, List[Tree]]:
+        found: Dict[str, List[Tree]] = {}
+        for node in self.nodes:
+            found.setdefault(node["type"], []).append(node)
+        return found
+
+    def of_type(self, type: str) -> Sequence[Tree]:
+        return self._by_type.get(type, ())
+
+    @cached_property
+    def selectors(self) -> List[Tree]:
+        """The selectors, those with a range among them."""
+        return [*self.of_type("vectorSelector"), *self.of_type("matrixSelector")]
 
     def place(self, node: Tree) -> Optional[NodePlace]:
         return self._places.get(id(node))
@@ -127,6 +140,11 @@ class Subject:
 
     def matcher_groups(self, node: Tree) -> List[List[SeenMatcher]]:
         """The matchers of a selector that all have to hold, for each group of an `or`."""
+        if id(node) not in self._groups:
+            self._groups[id(node)] = self._read_groups(node)
+        return self._groups[id(node)]
+
+    def _read_groups(self, node: Tree) -> List[List[SeenMatcher]]:
         groups = [[*node["matchers"], *group] for group in node.get("or_matchers", [[]])]
         listed = [*node["matchers"], *(it for group in node.get("or_matchers", ()) for it in group)]
         place = self.place(node)

@@ -2,6 +2,7 @@
 
 from __future__ import annotations
 
+from functools import lru_cache
 from typing import Callable, Dict, Iterable, Iterator, List, NamedTuple, Tuple
 
 from .findings import Remark, Severity
@@ -54,8 +55,13 @@ class Selection(NamedTuple):
             return any(is_meant(code, word) for word in self.selected)
         return code == REJECTED or RULES[code].is_default
 
-    def rules(self) -> Iterator[Rule]:
-        return (RULES[code] for code in sorted(RULES) if self.has(code))
+    def rules(self) -> Tuple[Rule, ...]:
+        return _selected(self)
+
+
+@lru_cache(maxsize=16)
+def _selected(selection: Selection) -> Tuple[Rule, ...]:
+    return tuple(RULES[code] for code in sorted(RULES) if selection.has(code))
 
 
 def is_meant(code: str, word: str) -> bool:
