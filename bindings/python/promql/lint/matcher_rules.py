@@ -40,9 +40,17 @@ def _shown(matcher: SeenMatcher) -> str:
     return f"{matcher.name}{matcher.operator}{requoted('', matcher.value)}"
 
 
-def _written_anew(subject: Subject, matcher: SeenMatcher, operator: str, value: str) -> Optional[Fix]:
+def _gives_labels(subject: Subject, node: Tree) -> bool:
+    """Whether the matchers of a selector say which labels the result of a call has."""
+    above = subject.parent(node)
+    while above and not (above["type"] == "call" and above["func"]["name"] in ("absent", "absent_over_time", "info")):
+        above = subject.parent(above)
+    return above is not None
+
+
+def _written_anew(subject: Subject, node: Tree, matcher: SeenMatcher, operator: str, value: str) -> Optional[Fix]:
     """A fix that writes a matcher with another operator and another value."""
-    if not matcher.place:
+    if not matcher.place or _gives_labels(subject, node):
         return None
     place, edits = matcher.place, []
     if operator != matcher.operator:
@@ -55,7 +63,7 @@ def _written_anew(subject: Subject, matcher: SeenMatcher, operator: str, value: 
 def _left_out(subject: Subject, node: Tree, matcher: SeenMatcher) -> Optional[Fix]:
     """A fix that leaves out a matcher of braces without `or`, with a comma beside it."""
     place = subject.place(node)
-    if not matcher.place or not place or not place.braces or "or_matchers" in node:
+    if not matcher.place or not place or not place.braces or "or_matchers" in node or _gives_labels(subject, node):
         return None
     start, end = matcher.place.whole
     after = subject.text[end : place.braces.end]
@@ -96,7 +104,7 @@ def pattern_of_one_text(subject: Subject) -> Iterator[Remark]:
             continue
         operator = _OF_PATTERNS[matcher.operator]
         wanted = f"{matcher.name}{operator}{requoted('', text)}"
-        fix = _written_anew(subject, matcher, operator, text)
+        fix = _written_anew(subject, node, matcher, operator, text)
         yield Remark(_span(subject, node, matcher), f"the pattern matches one text alone: write `{wanted}`", fix)
 
 
@@ -107,7 +115,7 @@ def needless_anchor(subject: Subject) -> Iterator[Remark]:
         rest = patterns.without_anchors(matcher.value)
         if rest == matcher.value or patterns.literal(rest) is not None or patterns.matches_everything(rest):
             continue
-        fix = _written_anew(subject, matcher, matcher.operator, rest)
+        fix = _written_anew(subject, node, matcher, matcher.operator, rest)
         message = "a pattern always has to match the whole value: its anchors are needless"
         yield Remark(_span(subject, node, matcher), message, fix)
 
