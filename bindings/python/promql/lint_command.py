@@ -5,13 +5,14 @@ from __future__ import annotations
 import argparse
 import json
 import sys
+from dataclasses import replace
 from functools import partial
 from typing import Any, List, Tuple
 
 from .documents import Document, Status, read_document, skipped_notes
 from .files import STDIN, FileError, Source, counted, read_source, write_file
 from .jobs import Report, add_arguments, as_bytes, reports_of, skipped_file, work_on
-from .lint.file_findings import FileFinding, FileLinter, fault_of
+from .lint.file_findings import FileLinter, fault_of
 from .lint.given_queries import GivenQuery
 from .lint.outputs import as_json, as_sarif
 from .lint.table import RULES, Selection, unknown_words
@@ -83,39 +84,40 @@ def _lint_file(arguments: argparse.Namespace, selection: Selection, target: Targ
             return skipped_file(target, arguments.verbose)
         if arguments.fix:
             return _fix_file(arguments, selection, target, document)
-        return _report(arguments, document, FileLinter(document, selection).findings(), [])
+        return _report(arguments, document, selection, [])
     except FileError as error:
         return Report(Status.FAILED, b"", [str(error)])
     except OSError as error:
         return Report(Status.FAILED, b"", [f"{target.name}: {error.strerror}"])
-    except RecursionError:
-        return Report(Status.FAILED, b"", [f"{target.name}: a query is nested too deeply for the linter"])
 
 
 def _fix_file(arguments: argparse.Namespace, selection: Selection, target: Target, document: Document) -> Report:
     """Writes the file, or prints it where it is none, and reports what is left."""
     text, count = FileLinter(document, selection).fixed()
     source = document.source
-    fixed = Source(source.name, text, source.mark)
-    is_given = isinstance(document, GivenQuery)
-    if is_given or target.name == STDIN:
-        left = FileLinter(GivenQuery(fixed), selection).findings() if is_given else []
-        shown = [fixed.shown(fault_of(it)) for it in left]
-        end = "" if text.endswith("\n") or not is_given else "\n"
-        return Report(Status.FOUND if left else Status.FINE, as_bytes(source.mark + text + end), shown)
+    if isinstance(document, GivenQuery):
+        linter = FileLinter(GivenQuery(replace(source, text=text)), selection)
+        found = linter.findings()
+        status = Status.FAILED if linter.left else Status.FOUND if found else Status.FINE
+        faults = [*map(fault_of, found), *linter.left]
+        shown = [replace(source, text=text).shown(fault) for fault in faults]
+        return Report(status, as_bytes(text if text.endswith("\n") else f"{text}\n"), shown)
+    if target.name == STDIN:
+        return Report(Status.FINE, as_bytes(source.mark + text), [])
     if count:
         write_file(source, (source.mark + text).encode())
         document = read_document(target, arguments.dashboard) or document
-    notes = [counted(count, "query fixed", "queries fixed")] if count else []
-    return _report(arguments, document, FileLinter(document, selection).findings(), notes)
+    return _report(arguments, document, selection, [counted(count, "query fixed", "queries fixed")] if count else [])
 
 
-def _report(arguments: argparse.Namespace, document: Document, found: List[FileFinding], notes: List[str]) -> Report:
+def _report(arguments: argparse.Namespace, document: Document, selection: Selection, notes: List[str]) -> Report:
     source = document.source
-    status = Status.FOUND if found or document.faults else Status.FINE
-    err = [source.located(fault) for fault in skipped_notes(document, arguments.verbose)]
+    linter = FileLinter(document, selection)
+    found = linter.findings()
+    status = Status.FAILED if linter.left else Status.FOUND if found or document.faults else Status.FINE
     skipped = [query.whole(f"skipped: {query.skipped}") for query in document.queries if query.skipped]
-    err += [source.shown(fault) for fault in document.faults]
+    err = [source.located(fault) for fault in skipped_notes(document, arguments.verbose)]
+    err += [source.shown(fault) for fault in (*document.faults, *linter.left)]
     err += [source.located(fault) for fault in skipped] if arguments.verbose else []
     if arguments.output != "text":
         return Report(status, b"".join(json.dumps(as_json(source, it)).encode() + b"\n" for it in found), err)

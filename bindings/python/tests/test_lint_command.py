@@ -3,6 +3,9 @@
 import json
 import random
 import re
+import subprocess
+import sys
+import time
 import unittest
 from pathlib import Path
 
@@ -80,9 +83,22 @@ class Queries(Folder):
         self.assertIn("<stdin>:2:8: error P001: expected type matrix in call to function 'rate', got vector\n  rate(foo))\n", ran.out)
 
     def test_deep(self):
-        ran = run("lint", stdin=b"-" * 500 + b"a")
-        self.assertEqual((ran.status, ran.out), (2, ""))
-        self.assertEqual(ran.err, "-: a query is nested too deeply for the linter\n")
+        query = "-" * 500 + "a"
+        ran = run("lint", f"--query={query}", "--query", "(up)")
+        self.assertEqual((ran.status, "P601" in ran.out), (2, True))
+        self.assertIn("<query 1>:1:1: not looked at: nested too deeply for the linter\n", ran.err)
+        ran = run("lint", "--fix", f"--query={query}")
+        self.assertEqual((ran.status, ran.out), (2, query + "\n"))
+
+    def test_slow_patterns(self):
+        """What would take long by a matcher that tries one way after another."""
+        pattern = ".*x" * 40 + "y"
+        query = 'up{a="' + "x" * 300 + '",' + ",".join(f'b{number}="{"x" * 100}",b{number}=~"{pattern}"' for number in range(20)) + "}"
+        begin = time.monotonic()
+        self.assertEqual(run("lint", "--query", query).out.count("P108"), 20)
+        parentheses = "(" * 200 + "up" + ")" * 200
+        self.assertEqual(run("lint", "--fix", "--query", parentheses), (0, "up\n", ""))
+        self.assertLess(time.monotonic() - begin, 30)
 
     def test_codes(self):
         query = "sum((rate(x{a=~'b'}[5m])))"
@@ -267,6 +283,19 @@ class Files(Folder):
                 rule["expr"] = rule["expr"].rstrip()
             self.assertEqual(new, old, before)
             self.assertEqual(path.read_text().count("# a comment"), len(rules))
+
+    def test_made_files(self):
+        """Files as people write them, with their queries fixed, are accepted, and nothing is left to fix."""
+        folder = self.folder / "made"
+        subprocess.run([sys.executable, HERE.parents[2] / "bench" / "rules" / "generate.py", folder, "12"], check=True)
+        ran = run("lint", "--fix", folder)
+        self.assertEqual((ran.status, ran.err), (1, ""))
+        self.assertIn("query fixed", ran.out)
+        self.assertNotIn("(--fix)", ran.out)
+        self.assertEqual(run("check", folder).status, 0)
+        before = [path.read_bytes() for path in sorted(folder.iterdir())]
+        self.assertNotIn("fixed", run("lint", "--fix", folder).out)
+        self.assertEqual([path.read_bytes() for path in sorted(folder.iterdir())], before)
 
     @staticmethod
     def loaded(text):

@@ -42,17 +42,19 @@ class FileLinter:
         self._selection = selection
         source = document.source
         self._silences = Silences(source) if isinstance(document, RuleFile) else None
+        # The queries that are not looked at.
+        self.left: List[Fault] = []
         self._rules: Dict[int, List[RulePlace]] = {}
         for rule in rules_of(document) if isinstance(document, RuleFile) else ():
             self._rules.setdefault(rule.query_end, []).append(rule)
 
     def findings(self) -> List[FileFinding]:
-        found = [
-            self._placed(query, finding)
-            for query in self._document.queries
-            if not query.skipped
-            for finding in self._look_at_query(query)
-        ]
+        found: List[FileFinding] = []
+        for query in self._document.queries:
+            try:
+                found += [self._placed(query, it) for it in self._look_at_query(query)] if not query.skipped else []
+            except RecursionError:
+                self.left.append(query.whole("not looked at: nested too deeply for the linter"))
         return sorted(found, key=lambda it: (it.start, it.end, it.finding.code, it.finding.message))
 
     def _rules_of(self, query: Query) -> Sequence[RulePlace]:
@@ -134,7 +136,10 @@ class FileLinter:
             found = look_at_tree(text, tree, self._selection, context)
             return [it for it in found if not any(ignored.has(it.code) for _, ignored in contexts)]
 
-        text = all_fixed(query.text, look)
+        try:
+            text = all_fixed(query.text, look)
+        except RecursionError:
+            return None
         return (query, text) if text != query.text else None
 
     def _edits(self, query: Query, text: str, plainly: bool) -> List[Edit]:

@@ -3,8 +3,10 @@
 from __future__ import annotations
 
 import re
-from typing import List, Match, Optional, Tuple
+from typing import List, Match, NamedTuple, Optional, Set, Tuple
 
+# Characters of a text, times those of a pattern.
+_MOST_STEPS = 1_000_000
 _COUNT = re.compile(r"\{(?:0|[1-9]\d*)(?:,(?:0|[1-9]\d*)?)?\}")
 _REPEAT = re.compile(r"[*+?]|\{\d+(?:,\d*)?\}")
 # What means itself, outside of classes.
@@ -57,31 +59,59 @@ def matches_everything(pattern: str) -> bool:
 
 
 def matches(pattern: str, text: str) -> Optional[bool]:
-    """Whether a pattern of simple items, which are characters and points with or without a repetition, matches a text."""
+    """Whether a pattern matches a text, where its items are characters and points, each with or without `*`, `+` or `?`."""
     parts = branches(pattern)
-    if parts is None or "\n" in text or len(text) > 200:
+    if parts is None or "\n" in text or len(pattern) * len(text) > _MOST_STEPS:
         return None
-    answers = [_matches_simple(part, text) for part in parts]
+    read = [_items(part) for part in parts]
+    answers = [None if items is None else _match(items, text) for items in read]
     return True if True in answers else None if None in answers else False
 
 
-def _matches_simple(part: str, text: str) -> Optional[bool]:
-    expression, at, stars = "", 0, 0
+class _Item(NamedTuple):
+    """A character, or any where it is empty; whether it may be left out, and whether it may be there again."""
+
+    character: str
+    is_optional: bool
+    is_repeated: bool
+
+
+def _items(part: str) -> Optional[List[_Item]]:
+    """The items of a part of a pattern, if all are simple."""
+    items: List[_Item] = []
+    at = 0
     while at < len(part):
         found = _LITERAL.match(part, at)
-        if found:
-            expression += re.escape(found[0][-1])
-        elif part[at] == ".":
-            found = re.compile(r"\.[*+?]?").match(part, at)
-            assert found
-            expression += found[0]
-            stars += len(found[0]) - 1
-        else:
+        if not found and part[at] != ".":
             return None
-        at = found.end()
+        at = found.end() if found else at + 1
+        repeat = part[at : at + 1]
+        items.append(_Item(found[0][-1] if found else "", repeat in ("*", "?"), repeat in ("*", "+")))
+        at += repeat in ("*", "+", "?") and bool(repeat)
         if _REPEAT.match(part, at):
             return None
-    return bool(re.fullmatch(expression, text)) if stars <= 4 else None
+    return items
+
+
+def _match(items: List[_Item], text: str) -> bool:
+    """Whether items match all of a text: which of them may come next is told character by character."""
+    places = _onward({0}, items)
+    for character in text:
+        read = {at for at in places if at < len(items) and items[at].character in ("", character)}
+        places = _onward({at + 1 for at in read} | {at for at in read if items[at].is_repeated}, items)
+    return len(items) in places
+
+
+def _onward(places: Set[int], items: List[_Item]) -> Set[int]:
+    """The places, and those after items that may be left out."""
+    found = set(places)
+    todo = list(places)
+    while todo:
+        at = todo.pop()
+        if at < len(items) and items[at].is_optional and at + 1 not in found:
+            found.add(at + 1)
+            todo.append(at + 1)
+    return found
 
 
 def difference(pattern: str) -> str:
