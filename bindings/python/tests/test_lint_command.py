@@ -208,6 +208,15 @@ class Files(Folder):
         self.assertEqual(run("lint", "--fix", "--select", "P3", path).status, 0)
         self.assertEqual(path.read_text(), FIXED)
 
+    def test_parentheses_on_lines_of_their_own(self):
+        text = "groups:\n- name: a\n  rules:\n  - record: b\n    expr: |\n        (\n          c\n        and\n          d\n        )\n    labels: {e: f}\n"
+        path = self.file(text)
+        self.assertEqual(run("lint", "--fix", path).status, 0)
+        self.assertEqual(path.read_text(), text.replace("(\n          c", "c").replace("\n        )\n", "\n"))
+        path = self.file(text.replace("(\n", "(  # why\n", 1))
+        self.assertEqual(run("lint", "--fix", path).status, 0)
+        self.assertIn("# why", path.read_text())
+
     def test_contexts(self):
         path = self.file(RULES.replace("expr: 'up{job=~''shop''} == 0'", "expr: sum(up)"))
         self.assertEqual(self.codes(path, "--select", "P5"), [("P501", 6), ("P503", 6)])

@@ -3,7 +3,7 @@
 from __future__ import annotations
 
 from difflib import SequenceMatcher
-from typing import Dict, List, NamedTuple, Optional, Sequence, Tuple
+from typing import Dict, List, NamedTuple, Optional, Sequence, Set, Tuple
 
 from ..documents import Document
 from ..files import BLANKS, Fault, FileError, Source
@@ -21,6 +21,9 @@ from .table import Selection
 
 # A longer part that changed is written whole.
 _LONGEST_COMPARED = 4_000
+
+# A query, and the text that is to be there instead.
+_Change = Tuple[Query, str]
 
 
 class FileFinding(NamedTuple):
@@ -104,7 +107,8 @@ class FileLinter:
             if edit.start == edit.end and edit.start:
                 # (nothing is between two characters, where line ends are folded, too)
                 start = end = query.offsets[edit.start - 1] + 1
-            if source[start:end] != query.text[edit.start : edit.end]:
+            # (a block has the indentation of its lines as well)
+            if source[start:end].split() != query.text[edit.start : edit.end].split():
                 return None
             made.append(Edit(start, end, edit.text))
         return made
@@ -114,18 +118,29 @@ class FileLinter:
     def fixed(self) -> Tuple[str, int]:
         """The text of the file with all fixes in it, and how many queries that changes."""
         changes = [change for change in map(self._change, self._document.queries) if change]
+        text = self._with(changes)
+        if text is None:
+            changes = [change for change in changes if self._with([change]) is not None]
+            text = self._with(changes)
+        if text is None:
+            raise FileError(f"{self._document.source.name}: left as it is: fixed, it would not be read as the same")
+        return text, len(changes)
+
+    def _with(self, changes: Sequence[_Change]) -> Optional[str]:
+        """The text of the file with these changes, where it is read as that."""
         source = self._document.source
         if not changes:
-            return source.text, 0
-        texts = {query.text: text for query, text in changes}
+            return source.text
+        texts: Dict[str, Set[str]] = {}
+        for query, text in changes:
+            texts.setdefault(query.text, set()).add(text.rstrip(BLANKS))
         for plainly in (True, False):
-            edits = [edit for query, text in changes for edit in self._edits(query, text, plainly)]
-            made = edited(source.text, edits)
-            if self._reads_as(made, lambda old, new: old == new or texts.get(old.rstrip(BLANKS)) == new.rstrip(BLANKS)):
-                return made, len(changes)
-        raise FileError(f"{source.name}: left as it is: fixed, it would not be read as the same")
+            made = edited(source.text, (edit for query, text in changes for edit in self._edits(query, text, plainly)))
+            if self._reads_as(made, lambda old, new: old == new or new.rstrip(BLANKS) in texts.get(old.rstrip(BLANKS), ())):
+                return made
+        return None
 
-    def _change(self, query: Query) -> Optional[Tuple[Query, str]]:
+    def _change(self, query: Query) -> Optional[_Change]:
         if query.skipped or query.kept or query.variables:
             return None
         contexts = self._contexts(query)

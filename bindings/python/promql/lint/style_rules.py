@@ -3,14 +3,15 @@
 from __future__ import annotations
 
 import re
-from typing import Iterator, Optional
+from typing import Iterator, Optional, Tuple
 
 from ..labels import kind_of
-from .findings import Fix, Remark, Severity, TextEdit, Tree
+from .findings import Fix, Remark, Severity, Span, TextEdit, Tree
 from .subject import Subject
 from .table import rule
 
-_WORD = re.compile(r"\w")
+_WORD = re.compile(r"[\w:]")
+_ENDS_WORD = re.compile(r"[\w:]\Z")
 # What is one thing without parentheses.
 _PRIMARY = ("parenExpr", "numberLiteral", "stringLiteral", "vectorSelector", "matrixSelector", "call", "aggregation", "subquery")
 
@@ -23,15 +24,19 @@ def needless_parentheses(subject: Subject) -> Iterator[Remark]:
         reason = _why_needless(subject, node)
         if not reason or not place:
             continue
-        start, end = place.whole
-        edits = (TextEdit(start, start + 1, _between(subject, start)), TextEdit(end - 1, end, _between(subject, end - 1)))
-        yield Remark(subject.span(node), f"needless parentheses around {reason}", Fix(edits, ((node, node["expr"]),)))
+        yield Remark(subject.span(node), f"needless parentheses around {reason}", Fix(_without(subject.text, place.whole), ((node, node["expr"]),)))
 
 
-def _between(subject: Subject, at: int) -> str:
-    """What keeps the words on both sides of a parenthesis apart."""
-    before, after = subject.text[at - 1 : at] if at else "", subject.text[at + 1 : at + 2]
-    return " " if _WORD.match(before if subject.text[at] == "(" else after) and not (before + after).isspace() else ""
+def _without(query: str, span: Span) -> Tuple[TextEdit, ...]:
+    """Edits that take parentheses away, with the white space in them where no comment may need it."""
+    start, end = span
+    first, last = start + 1, end - 1
+    if "#" not in query:
+        first += len(query[first:last]) - len(query[first:last].lstrip())
+        last -= len(query[first:last]) - len(query[first:last].rstrip())
+    before = " " if _ENDS_WORD.search(query, 0, start) and _WORD.match(query, first) else ""
+    after = " " if _ENDS_WORD.search(query, 0, last) and _WORD.match(query, end) else ""
+    return TextEdit(start, first, before), TextEdit(last, end, after)
 
 
 def _why_needless(subject: Subject, node: Tree) -> Optional[str]:
