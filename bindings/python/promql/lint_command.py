@@ -43,6 +43,9 @@ def _codes(text: str) -> Tuple[str, ...]:
 def _run(arguments: argparse.Namespace) -> int:
     if arguments.rules:
         return _print_rules()
+    if arguments.fix and arguments.output != "text" and (arguments.query or STDIN in (arguments.files or [STDIN])):
+        print("--fix prints queries and standard input with their fixes, and no other output", file=sys.stderr)
+        return Status.FAILED
     targets = [Target(f"<query {number}>") for number in range(1, len(arguments.query) + 1)]
     targets += targets_of(arguments.files, arguments.dashboard)
     targets = targets or [Target(STDIN)]

@@ -125,6 +125,8 @@ class Queries(Folder):
         self.assertEqual(first["fix"], {"query": 'up{\n a="b"}', "edits": [edit]})
         self.assertEqual((second["file"], second["code"], second["fix"]), ("<query 2>", "P001", None))
         self.assertEqual(json.loads(run("lint", "--output", "json", "--query", "up").out), [])
+        for words in (("--query", "up"), (), ("-",)):
+            self.assertEqual(run("lint", "--fix", "--output", "json", *words).status, 2)
 
     def test_sarif(self):
         ran = run("lint", "--output", "sarif", "--query", "up{a=~'b'} or (up)")
@@ -209,7 +211,8 @@ class Files(Folder):
         self.assertEqual(path.read_text(), FIXED)
 
     def test_parentheses_on_lines_of_their_own(self):
-        text = "groups:\n- name: a\n  rules:\n  - record: b\n    expr: |\n        (\n          c\n        and\n          d\n        )\n    labels: {e: f}\n"
+        query = "        (\n          c\n        and\n          d\n        )\n"
+        text = f"groups:\n- name: a\n  rules:\n  - record: b\n    expr: |\n{query}    labels: {{e: f}}\n"
         path = self.file(text)
         self.assertEqual(run("lint", "--fix", path).status, 0)
         self.assertEqual(path.read_text(), text.replace("(\n          c", "c").replace("\n        )\n", "\n"))
@@ -220,7 +223,8 @@ class Files(Folder):
     def test_contexts(self):
         path = self.file(RULES.replace("expr: 'up{job=~''shop''} == 0'", "expr: sum(up)"))
         self.assertEqual(self.codes(path, "--select", "P5"), [("P501", 6), ("P503", 6)])
-        path = self.file(RULES.replace("{{ $labels.zone }}", "{{ if $labels.zone }}{{ $labels.zone }}{{ end }}").replace("== 0", "> bool 0"))
+        asked = "{{ if $labels.zone }}{{ $labels.zone }}{{ end }}"
+        path = self.file(RULES.replace("{{ $labels.zone }}", asked).replace("== 0", "> bool 0"))
         self.assertEqual(self.codes(path, "--select", "P5"), [("P502", 6)])
 
     def test_aliases(self):

@@ -2,7 +2,7 @@
 
 from __future__ import annotations
 
-from typing import Callable, Dict, FrozenSet, NamedTuple, Optional
+from typing import Callable, Dict, FrozenSet, NamedTuple, Optional, Set
 
 from . import patterns
 from .findings import Tree
@@ -149,10 +149,16 @@ def _needs_value(matcher: Tree) -> bool:
 
 
 def _of_absent(node: Tree) -> Labels:
-    """A series has a label where one `=` of the selector, and no other matcher, is about it."""
+    """A series has the labels of matchers with `=`, but for those with another matcher after it."""
     if node["type"] not in ("vectorSelector", "matrixSelector") or "or_matchers" in node:
         return _EMPTY
-    names = [it["name"] for it in node["matchers"]]
-    equal = (it["name"] for it in node["matchers"] if it["type"] == "=" and it["value"] and names.count(it["name"]) == 1)
-    labels = frozenset(equal) - {NAME}
-    return Labels(labels, _NONE, labels)
+    labels: Set[str] = set()
+    equal: Set[str] = set()
+    for matcher in node["matchers"]:
+        name = matcher["name"]
+        if matcher["type"] == "=" and matcher["value"] and name != NAME and name not in equal:
+            equal.add(name)
+            labels.add(name)
+        else:
+            labels.discard(name)
+    return Labels(frozenset(labels), _NONE, frozenset(labels))

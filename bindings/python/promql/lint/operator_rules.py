@@ -64,7 +64,9 @@ def never_true(subject: Subject) -> Iterator[Remark]:
             continue
         is_one = name in ("group", "absent", "absent_over_time", "present_over_time")
         if _is_below(operator, number, 1) or is_one and operator == "==" and number != 1:
-            message = f"never true: `{name}` of nothing is nothing and not 0; `absent(..)` or `.. or vector(0)` tell"
+            tells = f"`{name}` gives 1 or nothing" if is_one else f"of nothing `{name}` gives nothing and not 0"
+            hint = "" if name.startswith("absent") else "; `absent(..)` and `.. or vector(0)` ask for that"
+            message = f"never true: {tells}{hint}"
             yield Remark(subject.span(node), message)
 
 

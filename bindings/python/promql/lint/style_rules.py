@@ -24,7 +24,8 @@ def needless_parentheses(subject: Subject) -> Iterator[Remark]:
         reason = _why_needless(subject, node)
         if not reason or not place:
             continue
-        yield Remark(subject.span(node), f"needless parentheses around {reason}", Fix(_without(subject.text, place.whole), ((node, node["expr"]),)))
+        fix = Fix(_without(subject.text, place.whole), ((node, node["expr"]),))
+        yield Remark(subject.span(node), f"needless parentheses around {reason}", fix)
 
 
 def _without(query: str, span: Span) -> Tuple[TextEdit, ...]:
