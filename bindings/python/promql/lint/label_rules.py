@@ -1,4 +1,4 @@
-"""Rules about labels that are not there any more: P401 to P404."""
+"""Rules about labels that are not there, or not for sure: P401 to P405."""
 
 from __future__ import annotations
 
@@ -8,7 +8,7 @@ from .findings import Remark, Severity, Span, Tree
 from .label_flow import Labels
 from .subject import Subject
 from .table import rule
-from .trees import fills, is_scalar, matching_of
+from .trees import NAME, fills, inner, is_scalar, matching_of
 
 
 def _label_spans(subject: Subject, node: Tree, labels: Sequence[str], of_group: bool = False) -> List[Span]:
@@ -80,6 +80,19 @@ def never_matched(subject: Subject) -> Iterator[Remark]:
                 message = f"no series match: those of the {side} side have the label `{lacking[0]}`, and those of the other have not"
                 yield Remark(subject.head(node), message)
                 break
+
+
+@rule("P405", "label-by-order", Severity.WARNING)
+def label_by_order(subject: Subject) -> Iterator[Remark]:
+    """`absent` of a selector with two matchers of a label, whose order tells whether the result has this label."""
+    for node in subject.calls("absent", "absent_over_time"):
+        selector = inner(node["args"][0])
+        matchers = selector.get("matchers", ())
+        for label in sorted({it["name"] for it in matchers if it["type"] == "=" and it["name"] != NAME}):
+            if len([it for it in matchers if it["name"] == label]) > 1:
+                name = node["func"]["name"]
+                message = f"whether what `{name}` gives has the label `{label}` goes by the order of its two matchers: keep one"
+                yield Remark(subject.span(selector), message)
 
 
 def _compared(node: Tree, labels: FrozenSet[str]) -> FrozenSet[str]:
