@@ -96,6 +96,7 @@ FOUND = (
     ("P401", "sum by (a) (x * ignoring (a) y)", "a", None),
     ("P402", "x * on (a, b) sum by (b) (y)", "a", None),
     ("P402", "sum by (a) (x) * ignoring (b) sum by (a) (y)", "b", None),
+    ("P402", "absent(up{job='a'}) * on (job, instance) up", "instance", None),
     ("P403", "x * on (a) group_left (b, c) sum by (a, b) (y)", "c", None),
     ("P403", "sum by (a) (y) * on (a) group_right (b) x", "b", None),
     ("P404", "x{a='b'} / sum(y)", "/", None),

@@ -210,6 +210,25 @@ class Files(Folder):
         self.assertEqual(run("lint", "--fix", "--select", "P3", path).status, 0)
         self.assertEqual(path.read_text(), FIXED)
 
+    def test_windows(self):
+        text = "\ufeff" + RULES.replace("\n", "\r\n")
+        path = self.file(text)
+        self.assertEqual(run("lint", "--fix", path).status, 1)
+        self.assertEqual(path.read_bytes().decode(), "\ufeff" + FIXED.replace("\n", "\r\n"))
+        silenced = text.replace("        annotations", "        # promql: ignore P1\r\n        annotations")
+        self.assertEqual([code for code, _ in self.codes(self.file(silenced))], ["P104", "P207"])
+
+    def test_objects(self):
+        """Rules in an object of Kubernetes, and unit tests, whose queries are of no rule."""
+        indented = RULES.replace("\n", "\n  ")
+        path = self.file(f"apiVersion: monitoring.coreos.com/v1\nkind: PrometheusRule\nspec:\n  {indented}\n")
+        self.assertEqual([code for code, _ in self.codes(path)], ["P103", "P104", "P207"])
+        self.assertEqual(run("lint", "--fix", path).status, 1)
+        self.assertIn(FIXED.replace("\n", "\n  ").rstrip(), path.read_text())
+        path = self.file("tests:\n- promql_expr_test:\n  - {expr: (up), eval_time: 1m}\n")
+        self.assertEqual(self.codes(path), [("P601", 3)])
+        self.assertEqual(run("lint", "--fix", path), (0, f"{path}: 1 query, 1 query fixed, no findings\n", ""))
+
     def test_parentheses_on_lines_of_their_own(self):
         query = "        (\n          c\n        and\n          d\n        )\n"
         text = f"groups:\n- name: a\n  rules:\n  - record: b\n    expr: |\n{query}    labels: {{e: f}}\n"
