@@ -3,6 +3,7 @@
 import json
 import random
 import re
+import shutil
 import subprocess
 import sys
 import time
@@ -158,10 +159,36 @@ class Boards(Folder):
             path = self.board(json.dumps(query))
             self.assertEqual(run("lint", path).status, 0, query)
         path = self.board(json.dumps("up{job=~'$job',zone=~'a'}"))
-        self.assertIn(f"{path}:2:26: warning P103: the pattern matches one text alone: write `zone=\"a\"`\n", run("lint", path).out)
-        before = path.read_text()
-        self.assertEqual(run("lint", "--fix", path).status, 1)
-        self.assertEqual(path.read_text(), before)
+        self.assertIn(f"{path}:2:26: warning P103: the pattern matches one text alone: write `zone=\"a\"` (--fix)\n", run("lint", path).out)
+        self.assertEqual(run("lint", "--fix", path).status, 0)
+        self.assertIn(json.dumps("up{job=~'$job',zone='a'}"), path.read_text())
+
+    def test_fixes_beside_variables(self):
+        for query, fixed in (
+            (
+                'sum((rate(${m}_total{a=~"$x",b=~"^c.+$"}[$__interval]))) > ($y)',
+                'sum(rate(${m}_total{a=~"$x",b=~"c.+"}[$__interval])) > ($y)',
+            ),
+            ("[[f]]({}) + $z{}", None),
+            ("$x{a=~'b'} + up{c=~'$y', d=~'.*'}", "$x{a='b'} + up{c=~'$y'}"),
+            ('up{a=~"b\\\\.c"} / on ($l) ($x)', 'up{a="b.c"} / on ($l) ($x)'),
+            ("($x + 1) + (($y)) + ($f(up)) + (up{a='$x'})", "($x + 1) + ($y) + ($f(up)) + up{a='$x'}"),
+        ):
+            path = self.board(json.dumps(query))
+            before = path.read_text()
+            ran = run("lint", "--fix", path)
+            self.assertLess(ran.status, 2, ran.err)
+            self.assertEqual(path.read_text(), before.replace(json.dumps(query), json.dumps(fixed or query)), ran.out)
+
+    @unittest.skipUnless(BOARDS.is_dir(), "ceph-grafana-dashboards is not installed")
+    def test_fixes_of_a_package(self):
+        shutil.copytree(BOARDS, self.folder / "boards")
+        before = json.loads(run("lint", "--dashboard", "--output", "json", self.folder).out)
+        run("lint", "--dashboard", "--fix", self.folder)
+        self.assertEqual(run("check", "--dashboard", self.folder).status, 0)
+        after = json.loads(run("lint", "--dashboard", "--output", "json", self.folder).out)
+        self.assertGreater(len(before), 40)
+        self.assertLess(len(after), 5)
 
     def test_skipped(self):
         path = self.board('"{a=\\"b\\"} |= \\"c\\""', before='"datasource": {"type": "loki"}, ')

@@ -2,18 +2,22 @@
 
 from __future__ import annotations
 
+import json
+from dataclasses import replace
 from difflib import SequenceMatcher
-from typing import Dict, List, NamedTuple, Optional, Sequence, Set, Tuple
+from typing import Dict, List, NamedTuple, Optional, Sequence, Tuple
 
+from ..dashboards import Dashboard, JsonString
 from ..documents import Document
 from ..files import BLANKS, Fault, FileError, Source
-from ..queries import Edit, Query, SameQuery, edited
+from ..queries import Edit, Query, edited
 from ..rule_files import RuleFile
 from ..scalars import Scalar
 from . import look_at, look_at_tree
 from .comments import Ignored
 from .findings import Finding, TextEdit, Tree
 from .fixes import all_fixed, edited_query
+from .given_queries import GivenQuery
 from .rule_places import RulePlace, rules_of
 from .silence import Silences
 from .subject import IsWritten, RuleContext, always
@@ -93,24 +97,29 @@ class FileLinter:
 
     def _placed(self, query: Query, finding: Finding) -> FileFinding:
         start, end = (query.offsets[at] for at in finding.span)
-        message = query.variables.put_back(finding.message) if query.variables else finding.message
-        fix = None if query.variables or query.kept else finding.fix
-        made = edited_query(query.text, fix.edits) if fix else None
+        fix = None if query.kept else finding.fix
         edits = self._plain_edits(query, fix.edits) if fix else None
-        return FileFinding(start, end, finding._replace(message=message, fix=fix), made, tuple(edits or ()))
+        if query.variables and edits is None:
+            fix = None
+        made = _with_variables(query, edited_query(query.text, fix.edits)) if fix else None
+        shown = finding._replace(message=_with_variables(query, finding.message), fix=fix)
+        return FileFinding(start, end, shown, made, tuple(edits or ()))
 
     def _plain_edits(self, query: Query, edits: Sequence[TextEdit]) -> Optional[List[Edit]]:
         """Edits of the file, where it has the parts of the query as they are."""
         source, made = self._document.source.text, []
         for edit in edits:
             start, end = query.offsets[edit.start], query.offsets[edit.end]
-            if edit.start == edit.end and edit.start:
+            if edit.start == edit.end and edit.start and not isinstance(query.spelling, JsonString):
                 # (nothing is between two characters, where line ends are folded, too)
                 start = end = query.offsets[edit.start - 1] + 1
+            is_json = isinstance(query.spelling, JsonString)
             # (a block has the indentation of its lines as well)
-            if source[start:end].split() != query.text[edit.start : edit.end].split():
+            if not is_json and source[start:end].split() != query.text[edit.start : edit.end].split():
                 return None
-            made.append(Edit(start, end, edit.text))
+            if not self._is_written(query)(edit.text):
+                return None
+            made.append(Edit(start, end, json.dumps(edit.text, ensure_ascii=source.isascii())[1:-1] if is_json else edit.text))
         return made
 
     # ---- fixes
@@ -131,24 +140,24 @@ class FileLinter:
         source = self._document.source
         if not changes:
             return source.text
-        texts: Dict[str, Set[str]] = {}
-        for query, text in changes:
-            texts.setdefault(query.text, set()).add(text.rstrip(BLANKS))
+        wanted = {id(query): text.rstrip(BLANKS) for query, text in changes}
+        texts = [wanted.get(id(query), query.text) for query in self._document.queries]
         for plainly in (True, False):
-            made = edited(source.text, (edit for query, text in changes for edit in self._edits(query, text, plainly)))
-            if self._reads_as(made, lambda old, new: old == new or new.rstrip(BLANKS) in texts.get(old.rstrip(BLANKS), ())):
+            edits = [self._edits(query, text, plainly) for query, text in changes]
+            made = edited(source.text, (edit for some in edits for edit in some))
+            if all(edits) and self._has(made, texts):
                 return made
         return None
 
     def _change(self, query: Query) -> Optional[_Change]:
-        if query.skipped or query.kept or query.variables:
+        if query.skipped or query.kept:
             return None
         contexts = self._contexts(query)
 
         def look(text: str, tree: Tree) -> List[Finding]:
             # (what a fix changes is in all rules that have the query)
             context, _ = contexts[0]
-            found = look_at_tree(text, tree, self._selection, context)
+            found = look_at_tree(text, tree, self._selection, context, self._is_written(query))
             return [it for it in found if not any(ignored.has(it.code) for _, ignored in contexts)]
 
         try:
@@ -158,15 +167,34 @@ class FileLinter:
         return (query, text) if text != query.text else None
 
     def _edits(self, query: Query, text: str, plainly: bool) -> List[Edit]:
-        """What writes another text in the place of a query: edits of the parts that differ, or one of the whole."""
-        plain = self._plain_edits(query, _changed_parts(query.text, text)) if plainly else None
-        return plain if plain is not None else [query.spelling.edit(text)]
+        """What writes another text in the place of a query: edits of the parts that differ, or one of the whole. There is none of a whole
+        query with variables, since others stand there for them."""
+        plain = self._plain_edits(query, _changed_parts(query.text, text)) if plainly or query.variables else None
+        if plain is None:
+            return [] if query.variables else [query.spelling.edit(text)]
+        return plain
 
-    def _reads_as(self, text: str, same_query: SameQuery) -> bool:
+    def _has(self, text: str, queries: Sequence[str]) -> bool:
+        """Whether a text of the file is read as these queries, and all else in it as before."""
+        source = replace(self._document.source, text=text)
         try:
-            return self._document.same(text, same_query)
+            read = [query.text for query in _read_again(self._document, source).queries]
+            return read == list(queries) and self._document.same(text, lambda old, new: True)
         except FileError:
             return False
+
+
+def _read_again(document: Document, source: Source) -> Document:
+    """The document of this kind that another text is."""
+    if isinstance(document, RuleFile):
+        return RuleFile(source)
+    if isinstance(document, Dashboard):
+        return Dashboard(source)
+    return GivenQuery(source)
+
+
+def _with_variables(query: Query, text: str) -> str:
+    return query.variables.put_back(text) if query.variables else text
 
 
 def _changed_parts(old: str, new: str) -> List[TextEdit]:

@@ -48,7 +48,11 @@ def _why_needless(subject: Subject, node: Tree) -> Optional[str]:
         return "a whole argument"
     if above["type"] == "parenExpr" or below["type"] == "parenExpr":
         return "other parentheses" if below["type"] == "parenExpr" else None
-    return f"one {kind_of(below)}" if below["type"] in _PRIMARY and above["type"] == "binaryExpr" else None
+    if below["type"] not in _PRIMARY or above["type"] != "binaryExpr":
+        return None
+    # (a variable may be more than one thing)
+    head = subject.head(below)
+    return f"one {kind_of(below)}" if subject.is_written(subject.text[head.start : head.end]) else None
 
 
 @rule("P602", "empty-braces", Severity.INFO)
