@@ -461,6 +461,7 @@ test_prometheus() {
     has promtool 'queries before a Prometheus' || return
     has python3 'queries before a Prometheus' || return
     add 'queries before a Prometheus' in_python "$here/python" "$root/bench/meaning/compare.py" --rows 500 --random 500
+    add 'the linter before a Prometheus' in_python "$here/python" "$root/bench/meaning/lint.py" 500
 }
 
 # The servers and the proxies are in the group of processes that `limited` ends.
