@@ -2,7 +2,7 @@
  *
  * Each call reads its query, writes a text to the start of its buffer, and says in `result` what it did; it returns the
  * status. A query is UTF-8 and need not end with a 0; no 0 is written after a text. A call keeps nothing and shares nothing
- * but the limits that promql_set_limits sets, so any thread may make any call at any time.
+ * but the limits that promql_set_limits and promql_set_max_output set, so any thread may make any call at any time.
  *
  *     char buffer[1024];
  *     struct promql_result result;
@@ -45,7 +45,7 @@ enum promql_mode {
  * A thread needs more than these, for what it does itself. */
 #define PROMQL_STACK 1310720
 
-/* 0, or why the buffer does not have what was asked for. With 1 to 6, 9, 11 to 14 and 16 the text is the message of the
+/* 0, or why the buffer does not have what was asked for. With 1 to 6, 9, 11 to 14, 16 and 18 the text is the message of the
  * error. */
 enum promql_status {
     PROMQL_OK = 0,
@@ -62,7 +62,8 @@ enum promql_status {
     PROMQL_BARE_INFO = 13,       /* the query has info without a second argument: no matcher limits the series that it reads */
     PROMQL_TOO_LARGE = 14,       /* the query is too long, or its patterns are too large: the result has the place */
     PROMQL_SMALL_STACK = 15,     /* the thread has fewer than PROMQL_STACK bytes of stack left; there is no text */
-    PROMQL_LARGE_ENFORCED = 16   /* the matcher, or the query with it, is not within the limits of a query */
+    PROMQL_LARGE_ENFORCED = 16,  /* the matcher, or the query with it, is not within the limits of a query */
+    PROMQL_LONG_OUTPUT = 18      /* promql_print, promql_canonical: the text has more bytes than promql_set_max_output says */
 };
 
 struct promql_result {
@@ -111,6 +112,10 @@ uint32_t promql_snippet(const char *query, size_t query_length, size_t start, si
  * that is enforced, and the query with it, have the same limits. 0 is a bound as any other. A call that is made meanwhile may see one of
  * the two changed and not the other. */
 void promql_set_limits(size_t max_len, size_t max_pattern_size);
+
+/* Sets how many bytes a text of promql_print or promql_canonical has at most, for each later call of the process: 4194304 before the
+ * first such call. The buffer bounds what the caller keeps, and this what the library makes. */
+void promql_set_max_output(size_t bytes);
 
 /* The version of the library. */
 uint32_t promql_version(char *buffer, size_t buffer_size, struct promql_result *result);

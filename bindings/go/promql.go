@@ -42,6 +42,8 @@ var (
 	// ErrLargeEnforced says that a matcher, or the query with it, is too long, or that its patterns are too large together (SetLimits). An
 	// error that is this one says which, and why.
 	ErrLargeEnforced = errors.New("the matcher, or the query with it, is not within the limits")
+	// ErrLongOutput says that what would be returned is too long (SetMaxOutput). An error that is this one has the numbers.
+	ErrLongOutput = errors.New("output is too long")
 	// ErrSmallStack says that the thread has less than 1.25 MiB of stack left, and a query may need as much. Calls run on the stacks
 	// of the system's threads, which have as much as `ulimit -s` said when the process began: 8 MiB, mostly.
 	ErrSmallStack = errors.New("the thread has less than 1.25 MiB of stack left")
@@ -79,17 +81,18 @@ func (e *QueryError) Snippet() string {
 	return text
 }
 
-// largeEnforced is ErrLargeEnforced with the message of the library.
-type largeEnforced struct {
+// detailed is one of the errors above with the message of the library.
+type detailed struct {
+	cause   error
 	message string
 }
 
-func (e largeEnforced) Error() string {
+func (e detailed) Error() string {
 	return e.message
 }
 
-func (e largeEnforced) Unwrap() error {
-	return ErrLargeEnforced
+func (e detailed) Unwrap() error {
+	return e.cause
 }
 
 // Option is how Format lays a query out.
@@ -233,6 +236,12 @@ func SetLimits(maxLen, maxPatterns uint) {
 	C.promql_set_limits(C.size_t(maxLen), C.size_t(maxPatterns))
 }
 
+// SetMaxOutput sets how many bytes what Canonical, Format and JSON return has at most, in this process: 4,194,304 before the first call. Where
+// there are more the error is ErrLongOutput.
+func SetMaxOutput(bytes uint) {
+	C.promql_set_max_output(C.size_t(bytes))
+}
+
 // textOf makes a call and returns its text, or its error.
 func textOf(query string, f function) (string, error) {
 	text, result := call(query, f)
@@ -271,7 +280,9 @@ func textOf(query string, f function) (string, error) {
 	case C.PROMQL_BARE_INFO:
 		return "", ErrBareInfo
 	case C.PROMQL_LARGE_ENFORCED:
-		return "", largeEnforced{text}
+		return "", detailed{ErrLargeEnforced, text}
+	case C.PROMQL_LONG_OUTPUT:
+		return "", detailed{ErrLongOutput, text}
 	case C.PROMQL_SMALL_STACK:
 		return "", ErrSmallStack
 	}

@@ -202,6 +202,15 @@ static void test_errors(void)
     CHECK(gives(of_query(CALL_CHECK, large), PROMQL_OK, ""));
     CHECK(gives(of_query(CALL_CHECK, "a + b + c + d + e"), PROMQL_TOO_LARGE, "query is too long: 17 bytes, at most 15"));
     promql_set_limits(32768, 16000);
+    promql_set_max_output(5);
+    CHECK(gives(in_mode(PROMQL_LINE, 0, 0, "a+b"), PROMQL_OK, "a + b"));
+    CHECK(gives(in_mode(PROMQL_LINE, 0, 0, "a + cd"), PROMQL_LONG_OUTPUT, "output is too long: 6 bytes, at most 5"));
+    CHECK(has_place(in_mode(PROMQL_LINE, 0, 0, "a + cd"), 0, 0, 0, 0));
+    CHECK(gives(in_mode(PROMQL_PRETTY, 3, 9, "a"), PROMQL_LONG_OUTPUT, "output is too long: 7 bytes, at most 5"));
+    CHECK(gives(in_mode(PROMQL_JSON, 0, 0, "1"), PROMQL_LONG_OUTPUT, "output is too long: 34 bytes, at most 5"));
+    CHECK(gives(of_query(CALL_CANONICAL, "a + cd"), PROMQL_LONG_OUTPUT, "output is too long: 6 bytes, at most 5"));
+    CHECK(gives(of_query(CALL_CANONICAL, "a + "), PROMQL_REJECTED, "invalid promql query"));
+    promql_set_max_output(4194304);
     struct answer answer;
     struct request deep = in_mode(PROMQL_PRETTY, 512, SIZE_MAX, "1");
     CHECK(call_whole(&deep, &answer) && answer.result.status == PROMQL_OK && answer.result.length == 2 * 512 + 1);

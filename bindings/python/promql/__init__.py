@@ -24,6 +24,7 @@ __all__ = [
     "BareInfoError",
     "Error",
     "LargeEnforcedError",
+    "LongOutputError",
     "MatcherError",
     "NumberTooWideError",
     "QueryError",
@@ -67,6 +68,10 @@ class LargeEnforcedError(Error):
     """The matcher, or the query with it, is too long, or its patterns are too large together (`set_limits`)."""
 
 
+class LongOutputError(Error):
+    """What would be returned is too long (`set_limits`)."""
+
+
 class SmallStackError(Error):
     """The thread has less stack left than 1.25 MiB, and a query may need as much: see `threading.stack_size`."""
 
@@ -104,11 +109,13 @@ class TooLargeError(QueryError):
     """The query is too long, or its patterns are too large together (`set_limits`)."""
 
 
-def set_limits(*, max_len: int = 32_768, max_patterns: int = 16_000) -> None:
+def set_limits(*, max_len: int = 32_768, max_patterns: int = 16_000, max_output: int = 4_194_304) -> None:
     """Sets what each later query has to be within, in this process: at most so many bytes, and patterns of at most this size together
     (docs/reference/programs.md, "Limits of a query"). A query that is not raises TooLargeError before it is parsed. A matcher that is
-    enforced, and the query with it, have the same limits: where they are not within them, `enforce` raises LargeEnforcedError."""
-    _caller.set_limits(_number("max_len", max_len, _MAX_LIMIT), _number("max_patterns", max_patterns, _MAX_LIMIT))
+    enforced, and the query with it, have the same limits: where they are not within them, `enforce` raises LargeEnforcedError.
+    `canonical`, `format` and `parse` raise LongOutputError where the text that they make has more than `max_output` bytes."""
+    limits = {"max_len": max_len, "max_patterns": max_patterns, "max_output": max_output}
+    _caller.set_limits(*(_number(name, limit, _MAX_LIMIT) for name, limit in limits.items()))
 
 
 def parse(query: str) -> Dict[str, Any]:
@@ -198,6 +205,7 @@ _ERRORS: Dict[int, Type[Exception]] = {
     Status.UNFAITHFUL: UnfaithfulError,
     Status.BARE_INFO: BareInfoError,
     Status.LARGE_ENFORCED: LargeEnforcedError,
+    Status.LONG_OUTPUT: LongOutputError,
     Status.OUT_OF_MEMORY: MemoryError,
 }
 

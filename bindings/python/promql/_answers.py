@@ -23,6 +23,7 @@ class Status(IntEnum):
     TOO_LARGE = 14
     SMALL_STACK = 15
     LARGE_ENFORCED = 16
+    LONG_OUTPUT = 18
 
 
 class Mode(IntEnum):
@@ -57,7 +58,7 @@ class Calls(Protocol):
 
     def json(self, query: str, /) -> Answer: ...
 
-    def set_limits(self, max_len: int, max_pattern_size: int, /) -> None: ...
+    def set_limits(self, max_len: int, max_pattern_size: int, max_output: int, /) -> None: ...
 
     def snippet(self, query: str, start: int, end: int, /) -> Answer: ...
 

@@ -53,6 +53,7 @@ def load() -> ctypes.CDLL:
         function = getattr(library, name)
         function.argtypes, function.restype = arguments, ctypes.c_uint32
     library.promql_set_limits.argtypes, library.promql_set_limits.restype = [ctypes.c_size_t, ctypes.c_size_t], None
+    library.promql_set_max_output.argtypes, library.promql_set_max_output.restype = [ctypes.c_size_t], None
     return library
 
 
@@ -141,8 +142,9 @@ def snippet(query: str, start: int, end: int) -> Answer:
     return _answer(call("promql_snippet", 2 * len(encoded), encoded, len(encoded), start, end))
 
 
-def set_limits(max_len: int, max_pattern_size: int) -> None:
+def set_limits(max_len: int, max_pattern_size: int, max_output: int) -> None:
     _library.promql_set_limits(max_len, max_pattern_size)
+    _library.promql_set_max_output(max_output)
 
 
 def version() -> Answer:

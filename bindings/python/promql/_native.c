@@ -32,6 +32,7 @@ struct library {
     __typeof__(promql_snippet) *snippet;
     __typeof__(promql_version) *version;
     __typeof__(promql_set_limits) *set_limits;
+    __typeof__(promql_set_max_output) *set_max_output;
 };
 
 enum call { PRINT, CANONICAL, ENFORCE, COLLECT, CHECK, SNIPPET, VERSION };
@@ -270,10 +271,11 @@ static PyObject *version(PyObject *module, PyObject *Py_UNUSED(nothing))
 static PyObject *set_limits(PyObject *module, PyObject *arguments)
 {
     const struct library *library = library_of(module);
-    unsigned long long max_len, max_pattern_size;
-    if (library == NULL || !PyArg_ParseTuple(arguments, "KK", &max_len, &max_pattern_size))
+    unsigned long long max_len, max_pattern_size, max_output;
+    if (library == NULL || !PyArg_ParseTuple(arguments, "KKK", &max_len, &max_pattern_size, &max_output))
         return NULL;
     library->set_limits((size_t)max_len, (size_t)max_pattern_size);
+    library->set_max_output((size_t)max_output);
     return Py_BuildValue("");
 }
 
@@ -462,7 +464,8 @@ static PyObject *load(PyObject *module, PyObject *path)
     if (find(handle, "promql_print", &found.print) || find(handle, "promql_canonical", &found.canonical) ||
         find(handle, "promql_enforce", &found.enforce) || find(handle, "promql_collect", &found.collect) ||
         find(handle, "promql_check", &found.check) || find(handle, "promql_snippet", &found.snippet) ||
-        find(handle, "promql_version", &found.version) || find(handle, "promql_set_limits", &found.set_limits))
+        find(handle, "promql_version", &found.version) || find(handle, "promql_set_limits", &found.set_limits) ||
+        find(handle, "promql_set_max_output", &found.set_max_output))
         return NULL;
     *library = found;
     return Py_BuildValue("");

@@ -78,6 +78,18 @@ class Texts(unittest.TestCase):
         finally:
             promql.set_limits()
 
+    def test_long_output(self):
+        promql.set_limits(max_output=5)
+        try:
+            self.assertEqual(promql.canonical("a+b"), "a + b")
+            for call in (promql.canonical, promql.format, promql.parse):
+                with self.assertRaises(promql.LongOutputError) as raised:
+                    call("a + bc")
+                self.assertRegex(str(raised.exception), r"^output is too long: \d+ bytes, at most 5$")
+            promql.check("a + bc")
+        finally:
+            promql.set_limits()
+
     def test_enforce(self):
         self.assertEqual(promql.enforce("sum(rate(foo[5m])) / bar", "a='1'"), 'sum(rate(foo{a="1"}[5m])) / bar{a="1"}')
         self.assertEqual(promql.enforce("{a='é' or b='2'}", "c!~'x'"), '{a="é", c!~"x" or b="2", c!~"x"}')

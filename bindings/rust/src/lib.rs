@@ -39,6 +39,8 @@ pub enum Error {
     BareInfo,
     /// The matcher, or the query with it, is too long, or its patterns are too large together ([`set_limits`]): which, and why.
     LargeEnforced(String),
+    /// What would be returned is too long ([`set_max_output`]): the numbers.
+    LongOutput(String),
     /// The thread has less than 1.25 MiB of stack left, and a query may need as much. Threads of `std::thread` have 2 MiB.
     SmallStack,
 }
@@ -78,7 +80,9 @@ impl fmt::Display for Error {
             Error::NumberTooWide => f.write_str("number too wide for JSON"),
             Error::NotAMatcher => f.write_str(NOT_A_MATCHER),
             Error::MetricName => f.write_str("a matcher of the metric name cannot be enforced"),
-            Error::Unfaithful(message) | Error::LargeEnforced(message) => f.write_str(message),
+            Error::Unfaithful(message) | Error::LargeEnforced(message) | Error::LongOutput(message) => {
+                f.write_str(message)
+            }
             Error::BareInfo => {
                 f.write_str("info without a selector reads series that no matcher limits")
             }
@@ -112,8 +116,8 @@ impl Default for Layout {
 ///
 /// # Errors
 ///
-/// `TooLarge` where the query is not within its limits, else `Rejected` where it is rejected; `OutOfMemory` where an allocation failed,
-/// `SmallStack` where the thread has little stack left.
+/// `TooLarge` where the query is not within its limits, else `Rejected` where it is rejected; `LongOutput` where the line is too long;
+/// `OutOfMemory` where an allocation failed, `SmallStack` where the thread has little stack left.
 pub fn canonical(query: &str) -> Result<String, Error> {
     text_of(library::canonical(query))
 }
@@ -175,6 +179,12 @@ pub fn set_limits(max_len: usize, max_pattern_size: usize) {
     library::set_limits(max_len, max_pattern_size);
 }
 
+/// Sets how many bytes what [`canonical`], [`format`] and [`json`] return has at most, in this process: 4,194,304 before the first
+/// call.
+pub fn set_max_output(bytes: usize) {
+    library::set_max_output(bytes);
+}
+
 /// The version of the library.
 pub fn version() -> String {
     library::version().0
@@ -194,6 +204,7 @@ fn text_of((text, answer): (String, Answer)) -> Result<String, Error> {
         library::BARE_INFO => Err(Error::BareInfo),
         library::SMALL_STACK => Err(Error::SmallStack),
         library::LARGE_ENFORCED => Err(Error::LargeEnforced(text)),
+        library::LONG_OUTPUT => Err(Error::LongOutput(text)),
         status => unreachable!("status {status}: {text}"),
     }
 }

@@ -25,6 +25,7 @@ pub const BARE_INFO: u32 = 13;
 pub const TOO_LARGE: u32 = 14;
 pub const SMALL_STACK: u32 = 15;
 pub const LARGE_ENFORCED: u32 = 16;
+pub const LONG_OUTPUT: u32 = 18;
 
 /// Those of `enum promql_mode` that have no call of their own.
 #[derive(Clone, Copy)]
@@ -89,6 +90,7 @@ extern "C" {
         result: *mut Answer,
     ) -> u32;
     fn promql_set_limits(max_len: usize, max_pattern_size: usize);
+    fn promql_set_max_output(bytes: usize);
     fn promql_version(buffer: *mut u8, buffer_size: usize, result: *mut Answer) -> u32;
 }
 
@@ -153,6 +155,11 @@ pub fn snippet(query: &str, start: usize, end: usize) -> (String, Answer) {
 pub fn set_limits(max_len: usize, max_pattern_size: usize) {
     // SAFETY: the call takes numbers alone.
     unsafe { promql_set_limits(max_len, max_pattern_size) }
+}
+
+pub fn set_max_output(bytes: usize) {
+    // SAFETY: the call takes a number alone.
+    unsafe { promql_set_max_output(bytes) }
 }
 
 pub fn version() -> (String, Answer) {

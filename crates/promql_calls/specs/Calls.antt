@@ -1,22 +1,23 @@
 -- What each call makes of a query (docs/guide/bindings.md, "Calls").
-use Rattle.std.specs.Prelude.{◌≡◌, ◌⊎◌, [], Option, Some, None, Result, Ok, Err}
+use Rattle.std.specs.Prelude.{◌≡◌, ◌⊎◌, ◌≤◌, [], length, Option, Some, None, Result, Ok, Err}
 use Rattle.std.specs.Str.{IsUtf8}
 use Rattle.promql_text.specs.Texts.{Text}
 use Rattle.promql_span.specs.declared.span.Span.{Span}
 use Rattle.promql_ast.specs.Tree.{Tree}
+use Rattle.promql_span.specs.QueryLimits.{IsLongOutput}
 use Rattle.promql_span.specs.declared.limits.Limits.{Limits}
 use Rattle.promql_json.specs.declared.error.JsonError.{JsonError}
 use Rattle.promql_json.specs.declared.error.JsonError.TheVariants as json_errors
 use Rattle.promql_rewrite.specs.declared.matcher_text.MatcherError.TheVariants as matcher_error
 use Rattle.promql_report.specs.Checking.{marked_line}
 use Rattle.promql_report.specs.Rejecting.{IsParsed, IsRead, IsRejection}
+use Rattle.promql_lines.specs.Batch.{format_text}
 use Rattle.promql_lines.specs.EnforcedLines.{FailsToEnforce, IsEnforcedLine}
 use Rattle.promql_lines.specs.declared.enforced_line.EnforcedLineError.TheVariants as enforced
 use Rattle.promql_lines.specs.declared.request.Format.{Format}
 use Rattle.promql_calls.specs.declared.call_error.CallError.{CallError}
 use Rattle.promql_calls.specs.declared.call_error.CallError.TheVariants as errors
 use Rattle.promql_calls.specs.CollectedTexts.{IsCollectedText}
-use Rattle.promql_calls.specs.Formats.{format_text}
 
 -- the query has a tree, and this is its text in the format, or why it has none
 pub record HasText (limits : Limits) (query : Text) (format : Format) (made : Result Text JsonError) : Type 0 where
@@ -39,8 +40,9 @@ HasNoTree limits query e = IsUnread query e
 -- "print": the text in the format, if one was asked for
 abbrev pub IsPrintOf : Limits → Text → Option Format → Result Text CallError → Type 0
 IsPrintOf limits query None made = made ≡ Err errors.UnknownMode
-IsPrintOf limits query (Some format) (Ok text) = HasText limits query format (Ok text)
+IsPrintOf limits query (Some format) (Ok text) = HasText limits query format (Ok text) × (length text ≤ limits.max_output)
 IsPrintOf limits query (Some format) (Err errors.NumberTooWide) = HasText limits query format (Err json_errors.NumberTooWide)
+IsPrintOf limits query (Some format) (Err (errors.LongOutput fault)) = (text : Text) × HasText limits query format (Ok text) × IsLongOutput text limits fault
 IsPrintOf limits query (Some format) (Err e) = HasNoTree limits query e
 
 -- "enforce": the line with the matcher in every selector; the matcher counts only where the query has a tree, and one that is not

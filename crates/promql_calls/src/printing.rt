@@ -1,23 +1,18 @@
 //! What a call makes of a query: its text in a format, nothing where it is accepted, or its line with a mark.
 
-ghost use Rattle.std.specs.Prelude.{◌≡◌, ◌≤◌, Some, Ok, Err, IfOk, IfErr, IsErrOf, string_bytes};
+ghost use Rattle.std.specs.Prelude.{◌≡◌, ◌≤◌, Some, IfOk, IfErr, length, string_bytes};
 ghost use Rattle.promql_grammar.specs.Results.{on_result};
-ghost use Rattle.promql_ast.specs.Height.{height};
-ghost use Rattle.promql_ast.specs.View.{tree_of};
-ghost use Rattle.promql_syntax.specs.declared.parser.TheConstants.{MAX_DEPTH};
-ghost use Rattle.promql_json.specs.declared.error.JsonError.TheVariants.{NumberTooWide};
-ghost use Rattle.promql_run.specs.Extensions.{HasNoExtension};
 ghost use Rattle.promql_calls.specs.Calls.{IsCheckOf, IsPrintOf, IsSnippetOf};
-ghost use Rattle.promql_calls.specs.Formats.{format_numbered, format_text};
-ghost use Rattle.promql_calls.specs.PrintErrors.{IsPrintError};
+ghost use Rattle.promql_calls.specs.Formats.{format_numbered};
+ghost use Rattle.promql_calls.specs.PrintErrors.{IsOutputFault};
 
 use crate::call_error::CallError;
-use promql_ast::{Expr, drop_expr};
+use promql_ast::drop_expr;
+use promql_lines::answer_text::shown_text;
 use promql_lines::request::{Format, Layout};
 use promql_report::rejection::read_query;
-use promql_run::rendering::{json_text, pretty_text};
 use promql_span::Span;
-use promql_span::limits::Limits;
+use promql_span::limits::{Limits, check_output};
 use std::alloc::Global;
 
 /// The greatest level of a layout.
@@ -41,19 +36,14 @@ pub(crate) fn format_of(mode: u32, level: u32, width: usize) -> Option<Format>
     }
 }
 
-/// The text of an expression in a format.
-fn expr_text(alloc: Global, format: Format, expr: &Expr) -> Result<String, CallError>
-    requires low { height (tree_of expr.now) ≤ MAX_DEPTH }
-    requires plain { HasNoExtension (tree_of expr.now) }
-    ensures ok { IfOk result (λ s. format_text format (tree_of expr.now) ≡ Ok (string_bytes s)) }
-    ensures json { IsErrOf result CallError.NumberTooWide →
-        format_text format (tree_of expr.now) ≡ Err NumberTooWide }
-    ensures errors { IfErr result IsPrintError }
+/// The text, if it is within the limits.
+fn within(limits: &Limits, text: String) -> Result<String, CallError>
+    ensures ok { IfOk result (λ s. (string_bytes s ≡ string_bytes text) × (length (string_bytes s) ≤ limits.now.max_output)) }
+    ensures err { IfErr result (IsOutputFault limits.now (string_bytes text)) }
 {
-    match format {
-        Format::Pretty(layout) => Ok(pretty_text(alloc, layout.level, layout.width, expr)?),
-        Format::Line => Ok(expr.to_string(alloc)?),
-        Format::Json => json_text(alloc, expr)?.ok_or(CallError::NumberTooWide),
+    match check_output(text.as_str(), limits) {
+        Ok(()) => Ok(text),
+        Err(fault) => Err(CallError::LongOutput(fault)),
     }
 }
 
@@ -71,9 +61,13 @@ fn print_text(
         Ok(Err(rejection)) => return Err(CallError::Rejected(rejection)),
         Err(_) => return Err(CallError::Memory),
     };
-    let printed = expr_text(alloc, format, &expr);
+    let shown = shown_text(alloc, format, &expr);
     drop_expr(expr);
-    printed
+    match shown {
+        Ok(Some(text)) => within(limits, text),
+        Ok(None) => Err(CallError::NumberTooWide),
+        Err(_) => Err(CallError::Memory),
+    }
 }
 
 /// The text of a query's tree in the format that was asked for.

@@ -2,7 +2,7 @@
 //! them. docs/reference/programs.md has the rules.
 #![tactic(auto)]
 
-mod answer_text;
+pub mod answer_text;
 pub mod batch;
 pub mod batch_program;
 pub mod enforce_program;
