@@ -37,6 +37,9 @@ void call_check(const struct limits *limits, const void *query, size_t query_len
                 size_t buffer_size, struct promql_result *result);
 void call_snippet(const void *query, size_t query_length, size_t start, size_t end, void *buffer, size_t buffer_size,
                   struct promql_result *result);
+void call_print_tree(const struct limits *limits, const void *tree, size_t tree_length, uint32_t mode,
+                     uint32_t level, size_t width, uint32_t parentheses, void *buffer, size_t buffer_size,
+                     struct promql_result *result);
 void call_version(void *buffer, size_t buffer_size, struct promql_result *result);
 
 /* Where a slice of no bytes begins if its pointer is NULL. */
@@ -181,6 +184,18 @@ uint32_t promql_snippet(const char *query, size_t query_length, size_t start, si
     if (!are_good(query, query_length, buffer, buffer_size, result))
         return refuse(PROMQL_BAD_POINTER, result);
     call_snippet(start_of(query), query_length, start, end, room_of(buffer), buffer_size, result);
+    return result->status;
+}
+
+uint32_t promql_print_tree(const char *tree, size_t tree_length, uint32_t mode, uint32_t level, size_t width,
+                           uint32_t parentheses, char *buffer, size_t buffer_size, struct promql_result *result)
+{
+    uint32_t status = look_at(tree, tree_length, buffer, buffer_size, result);
+    if (status != PROMQL_OK)
+        return refuse(status, result);
+    struct limits limits = limits_now();
+    call_print_tree(&limits, start_of(tree), tree_length, mode, level, width, parentheses, room_of(buffer),
+                    buffer_size, result);
     return result->status;
 }
 

@@ -37,6 +37,12 @@ var (
 	ErrMetricName = errors.New("a matcher of the metric name cannot be enforced")
 	// ErrUnfaithful says that the query that was made would not mean the changed query.
 	ErrUnfaithful = errors.New("the printed query does not mean the changed one")
+	// ErrNotATree says that a text is not JSON, or is the form of no tree. An error that is this one says where, as $.lhs.args[0].range, and
+	// what was expected there.
+	ErrNotATree = errors.New("the text is the form of no tree")
+	// ErrTooLargeTree says that the line of a tree is too long, or that its patterns are too large together (SetLimits). An error that is
+	// this one says which.
+	ErrTooLargeTree = errors.New("the line of the tree is not within the limits")
 	// ErrBareInfo says that a query calls info without a second argument, so that no matcher limits the series that this reads.
 	ErrBareInfo = errors.New("info without a selector reads series that no matcher limits")
 	// ErrLargeEnforced says that a matcher, or the query with it, is too long, or that its patterns are too large together (SetLimits). An
@@ -81,17 +87,17 @@ func (e *QueryError) Snippet() string {
 	return text
 }
 
-// detailed is one of the errors above with the message of the library.
-type detailed struct {
-	cause   error
+// explained is an error of this package with the message of the library.
+type explained struct {
 	message string
+	cause   error
 }
 
-func (e detailed) Error() string {
+func (e explained) Error() string {
 	return e.message
 }
 
-func (e detailed) Unwrap() error {
+func (e explained) Unwrap() error {
 	return e.cause
 }
 
@@ -140,6 +146,34 @@ func JSON(query string) ([]byte, error) {
 		return nil, err
 	}
 	return []byte(text), nil
+}
+
+// PrintTree returns the query that has the tree of this JSON form (docs/reference/json.md of the repository), on one line, or as Format does
+// where there are options; with parentheses where the tree needs them, if parentheses is true. What is returned is within the limits of a
+// query, was read again, and means the tree. The errors are ErrNotATree, ErrUnfaithful, ErrTooLargeTree and those without a place.
+func PrintTree(form []byte, parentheses bool, options ...Option) (string, error) {
+	made, mode := layout{width: 100}, C.uint32_t(C.PROMQL_LINE)
+	for _, set := range options {
+		set(&made)
+		mode = C.PROMQL_PRETTY
+	}
+	needed := C.uint32_t(0)
+	if parentheses {
+		needed = 1
+	}
+	text, result := call(string(form), func(query *C.char, length C.size_t, buffer *C.char, size C.size_t, result *C.struct_promql_result) {
+		C.promql_print_tree(query, length, mode, C.uint32_t(made.level), C.size_t(made.width), needed, buffer, size, result)
+	})
+	switch result.status {
+	case C.PROMQL_TOO_LARGE:
+		return "", explained{text, ErrTooLargeTree}
+	case C.PROMQL_UNFAITHFUL:
+		return "", explained{text, ErrUnfaithful}
+	case C.PROMQL_NOT_A_TREE:
+		return "", explained{text, ErrNotATree}
+	default:
+		return textOrError(string(form), text, result)
+	}
 }
 
 // Enforce returns the query on one line with a matcher in every selector, in each of its or-groups: that of a tenant, say. The matcher is
@@ -245,6 +279,11 @@ func SetMaxOutput(bytes uint) {
 // textOf makes a call and returns its text, or its error.
 func textOf(query string, f function) (string, error) {
 	text, result := call(query, f)
+	return textOrError(query, text, result)
+}
+
+// textOrError returns the text of a call, or its error.
+func textOrError(query, text string, result C.struct_promql_result) (string, error) {
 	switch result.status {
 	case C.PROMQL_OK:
 		return text, nil
@@ -280,9 +319,9 @@ func textOf(query string, f function) (string, error) {
 	case C.PROMQL_BARE_INFO:
 		return "", ErrBareInfo
 	case C.PROMQL_LARGE_ENFORCED:
-		return "", detailed{ErrLargeEnforced, text}
+		return "", explained{text, ErrLargeEnforced}
 	case C.PROMQL_LONG_OUTPUT:
-		return "", detailed{ErrLongOutput, text}
+		return "", explained{text, ErrLongOutput}
 	case C.PROMQL_SMALL_STACK:
 		return "", ErrSmallStack
 	}

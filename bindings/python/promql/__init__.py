@@ -17,7 +17,7 @@ import json
 from operator import index
 from typing import Any, Dict, Iterable, List, Optional, Type, Union
 
-from ._answers import Answer, Failure, Status
+from ._answers import Answer, Failure, Mode, Status
 from ._calls import calls as _caller
 
 __all__ = [
@@ -30,6 +30,8 @@ __all__ = [
     "QueryError",
     "SmallStackError",
     "TooLargeError",
+    "TooLargeTreeError",
+    "TreeError",
     "UnfaithfulError",
     "canonical",
     "canonical_many",
@@ -38,6 +40,7 @@ __all__ = [
     "enforce",
     "format",
     "parse",
+    "print_tree",
     "set_limits",
     "version",
 ]
@@ -77,7 +80,15 @@ class SmallStackError(Error):
 
 
 class UnfaithfulError(Error):
-    """The query that was made would not mean the changed query; there is none for which this was seen."""
+    """The query that was made would not mean the changed query, of which no case is known; or the text of a tree would not mean the tree."""
+
+
+class TreeError(Error):
+    """A value is the form of no tree: the message has the place, as `$.lhs.args[0].range`, and what was expected there."""
+
+
+class TooLargeTreeError(Error):
+    """The line of a tree is too long, or its patterns are too large together (`set_limits`)."""
 
 
 class QueryError(Error):
@@ -126,6 +137,20 @@ def parse(query: str) -> Dict[str, Any]:
     """
     tree: Dict[str, Any] = json.loads(_text(query, _caller.json(query)))
     return tree
+
+
+def print_tree(tree: Dict[str, Any], *, parentheses: bool = False, width: Optional[int] = None, level: int = 0) -> str:
+    """The query that has this tree, which is in the form that `parse` returns: on one line, or laid out where there is a `width`.
+
+    With `parentheses` the tree gets parentheses where it needs them. What is returned was read again, and means the tree
+    (docs/reference/json.md). Raises TreeError where the tree is no such form, UnfaithfulError where its line would not mean it,
+    because of a type or of parentheses, say, and TooLargeTreeError where the line is not within the limits of a query.
+    """
+    form = json.dumps(tree, ensure_ascii=False)
+    if width is None:
+        return _text("", _caller.print_tree(form, Mode.LINE, 0, 0, int(parentheses)), _TREE_ERRORS)
+    level, width = _number("level", level, _MAX_LEVEL), _number("width", width, _MAX_WIDTH)
+    return _text("", _caller.print_tree(form, Mode.PRETTY, level, width, int(parentheses)), _TREE_ERRORS)
 
 
 def format(query: str, *, width: int = 100, level: int = 0) -> str:
@@ -191,10 +216,16 @@ def _number(name: str, number: int, most: int) -> int:
     return number
 
 
-def _text(query: str, answer: Answer) -> str:
-    """Returns the text of a call, or raises its error."""
+# The errors of a call about a tree.
+_TREE_ERRORS: Dict[int, Type[Exception]] = {Status.TOO_LARGE: TooLargeTreeError, Status.NOT_A_TREE: TreeError}
+
+
+def _text(query: str, answer: Answer, kinds: Optional[Dict[int, Type[Exception]]] = None) -> str:
+    """Returns the text of a call, or raises its error, which is of one of these kinds where they have its status."""
     if isinstance(answer, str):
         return answer
+    if kinds is not None and answer[0] in kinds:
+        raise kinds[answer[0]](answer[1])
     raise _error(query, answer)
 
 

@@ -43,6 +43,7 @@ _SIGNATURES = {
     "promql_collect": [*_QUERY, *_BUFFER],
     "promql_check": [*_QUERY, *_BUFFER],
     "promql_snippet": [*_QUERY, ctypes.c_size_t, ctypes.c_size_t, *_BUFFER],
+    "promql_print_tree": [*_QUERY, ctypes.c_uint32, ctypes.c_uint32, ctypes.c_size_t, ctypes.c_uint32, *_BUFFER],
     "promql_version": _BUFFER,
 }
 
@@ -140,6 +141,11 @@ def json(query: str) -> Answer:
 def snippet(query: str, start: int, end: int) -> Answer:
     encoded = _encoded(query)
     return _answer(call("promql_snippet", 2 * len(encoded), encoded, len(encoded), start, end))
+
+
+def print_tree(form: str, mode: int, level: int, width: int, parentheses: int) -> Answer:
+    encoded = _encoded(form)
+    return _answer(call("promql_print_tree", len(encoded), encoded, len(encoded), mode, level, width, parentheses))
 
 
 def set_limits(max_len: int, max_pattern_size: int, max_output: int) -> None:

@@ -30,12 +30,13 @@ struct library {
     __typeof__(promql_collect) *collect;
     __typeof__(promql_check) *check;
     __typeof__(promql_snippet) *snippet;
+    __typeof__(promql_print_tree) *print_tree;
     __typeof__(promql_version) *version;
     __typeof__(promql_set_limits) *set_limits;
     __typeof__(promql_set_max_output) *set_max_output;
 };
 
-enum call { PRINT, CANONICAL, ENFORCE, COLLECT, CHECK, SNIPPET, VERSION };
+enum call { PRINT, CANONICAL, ENFORCE, COLLECT, CHECK, SNIPPET, PRINT_TREE, VERSION };
 
 /* A call with what it is given. `room` is how many bytes of text are likely for each byte of the query. */
 struct request {
@@ -48,6 +49,7 @@ struct request {
     uint32_t mode;
     uint32_t level;
     size_t width;
+    uint32_t parentheses;
     size_t start;
     size_t end;
 };
@@ -70,6 +72,9 @@ static uint32_t make_call(const struct library *library, const struct request *r
         return library->check(query, length, buffer, size, result);
     case SNIPPET:
         return library->snippet(query, length, request->start, request->end, buffer, size, result);
+    case PRINT_TREE:
+        return library->print_tree(query, length, request->mode, request->level, request->width, request->parentheses, buffer,
+                                   size, result);
     default:
         return library->version(buffer, size, result);
     }
@@ -239,6 +244,18 @@ static PyObject *snippet(PyObject *module, PyObject *arguments)
     if (!PyArg_ParseTuple(arguments, "OKK", &query, &start, &end))
         return NULL;
     return answer_about(module, query, (struct request){.call = SNIPPET, .start = (size_t)start, .end = (size_t)end, .room = 2});
+}
+
+static PyObject *print_tree(PyObject *module, PyObject *arguments)
+{
+    PyObject *form;
+    unsigned int mode, level, parentheses;
+    unsigned long long width;
+    if (!PyArg_ParseTuple(arguments, "OIIKI", &form, &mode, &level, &width, &parentheses))
+        return NULL;
+    return answer_about(module, form,
+                        (struct request){.call = PRINT_TREE, .mode = mode, .level = level, .width = (size_t)width,
+                                         .parentheses = parentheses, .room = 1});
 }
 
 static PyObject *enforce(PyObject *module, PyObject *arguments)
@@ -464,8 +481,8 @@ static PyObject *load(PyObject *module, PyObject *path)
     if (find(handle, "promql_print", &found.print) || find(handle, "promql_canonical", &found.canonical) ||
         find(handle, "promql_enforce", &found.enforce) || find(handle, "promql_collect", &found.collect) ||
         find(handle, "promql_check", &found.check) || find(handle, "promql_snippet", &found.snippet) ||
-        find(handle, "promql_version", &found.version) || find(handle, "promql_set_limits", &found.set_limits) ||
-        find(handle, "promql_set_max_output", &found.set_max_output))
+        find(handle, "promql_print_tree", &found.print_tree) || find(handle, "promql_version", &found.version) ||
+        find(handle, "promql_set_limits", &found.set_limits) || find(handle, "promql_set_max_output", &found.set_max_output))
         return NULL;
     *library = found;
     return Py_BuildValue("");
@@ -480,6 +497,7 @@ static PyMethodDef methods[] = {
     {"enforce", enforce, METH_VARARGS, NULL},
     {"format", format, METH_VARARGS, NULL},
     {"json", json, METH_O, NULL},
+    {"print_tree", print_tree, METH_VARARGS, NULL},
     {"set_limits", set_limits, METH_VARARGS, NULL},
     {"snippet", snippet, METH_VARARGS, NULL},
     {"version", version, METH_NOARGS, NULL},

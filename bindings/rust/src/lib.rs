@@ -33,8 +33,12 @@ pub enum Error {
     NotAMatcher,
     /// The matcher is one of the metric's name, `__name__`, which cannot be enforced.
     MetricName,
-    /// The query that was made would not mean the changed query: why.
+    /// The query that was made would not mean the changed query, or the tree: why.
     Unfaithful(String),
+    /// The text is not JSON, or is the form of no tree: where, as `$.lhs.args[0].range`, and what was expected there.
+    NotATree(String),
+    /// The line of a tree is too long, or its patterns are too large together ([`set_limits`]): which.
+    TooLargeTree(String),
     /// The query calls `info` without a second argument, so that no matcher limits the series that this reads.
     BareInfo,
     /// The matcher, or the query with it, is too long, or its patterns are too large together ([`set_limits`]): which, and why.
@@ -80,9 +84,11 @@ impl fmt::Display for Error {
             Error::NumberTooWide => f.write_str("number too wide for JSON"),
             Error::NotAMatcher => f.write_str(NOT_A_MATCHER),
             Error::MetricName => f.write_str("a matcher of the metric name cannot be enforced"),
-            Error::Unfaithful(message) | Error::LargeEnforced(message) | Error::LongOutput(message) => {
-                f.write_str(message)
-            }
+            Error::Unfaithful(message)
+            | Error::NotATree(message)
+            | Error::TooLargeTree(message)
+            | Error::LargeEnforced(message)
+            | Error::LongOutput(message) => f.write_str(message),
             Error::BareInfo => {
                 f.write_str("info without a selector reads series that no matcher limits")
             }
@@ -153,6 +159,26 @@ pub fn enforce(query: &str, matcher: &str) -> Result<String, Error> {
     text_of(library::enforce(query, matcher))
 }
 
+/// The query that has the tree of this JSON form (`docs/reference/json.md` of the repository), on one line, or laid out where there is a
+/// layout; with parentheses where the tree needs them, if `parentheses` is true. What is returned was read again, and means the tree.
+///
+/// # Errors
+///
+/// `NotATree` where the text is no such form; `TooLargeTree` where the line of the tree is not within the limits of a query; `Unfaithful`
+/// where it would not mean the tree; `LevelTooHigh`; `OutOfMemory` where an allocation failed, `SmallStack` where the thread has little
+/// stack left.
+pub fn print_tree(form: &str, parentheses: bool, layout: Option<Layout>) -> Result<String, Error> {
+    let (mode, Layout { width, level }) = match layout {
+        Some(layout) => (Mode::Pretty, layout),
+        None => (Mode::Line, Layout::default()),
+    };
+    let (text, answer) = library::print_tree(form, mode, level, width, parentheses);
+    match answer.status {
+        library::TOO_LARGE => Err(Error::TooLargeTree(text)),
+        _ => text_of((text, answer)),
+    }
+}
+
 /// What a query names, as JSON without a space: its functions, labels and metrics, and its selectors with their times
 /// (`docs/guide/bindings.md` of the repository, "What a query names").
 ///
@@ -203,6 +229,7 @@ fn text_of((text, answer): (String, Answer)) -> Result<String, Error> {
         library::UNFAITHFUL => Err(Error::Unfaithful(text)),
         library::BARE_INFO => Err(Error::BareInfo),
         library::SMALL_STACK => Err(Error::SmallStack),
+        library::NOT_A_TREE => Err(Error::NotATree(text)),
         library::LARGE_ENFORCED => Err(Error::LargeEnforced(text)),
         library::LONG_OUTPUT => Err(Error::LongOutput(text)),
         status => unreachable!("status {status}: {text}"),

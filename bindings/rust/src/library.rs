@@ -25,11 +25,13 @@ pub const BARE_INFO: u32 = 13;
 pub const TOO_LARGE: u32 = 14;
 pub const SMALL_STACK: u32 = 15;
 pub const LARGE_ENFORCED: u32 = 16;
+pub const NOT_A_TREE: u32 = 17;
 pub const LONG_OUTPUT: u32 = 18;
 
-/// Those of `enum promql_mode` that have no call of their own.
+/// `enum promql_mode`.
 #[derive(Clone, Copy)]
 pub enum Mode {
+    Line = 0,
     Pretty = 1,
     Json = 2,
 }
@@ -85,6 +87,17 @@ extern "C" {
         query_length: usize,
         start: usize,
         end: usize,
+        buffer: *mut u8,
+        buffer_size: usize,
+        result: *mut Answer,
+    ) -> u32;
+    fn promql_print_tree(
+        tree: *const u8,
+        tree_length: usize,
+        mode: u32,
+        level: u32,
+        width: usize,
+        parentheses: u32,
         buffer: *mut u8,
         buffer_size: usize,
         result: *mut Answer,
@@ -149,6 +162,13 @@ pub fn check(query: &str) -> (String, Answer) {
 pub fn snippet(query: &str, start: usize, end: usize) -> (String, Answer) {
     call(query.len(), |(buffer, size, answer)| unsafe {
         promql_snippet(query.as_ptr(), query.len(), start, end, buffer, size, answer);
+    })
+}
+
+pub fn print_tree(form: &str, mode: Mode, level: u16, width: usize, parentheses: bool) -> (String, Answer) {
+    let (tree, length) = (form.as_ptr(), form.len());
+    call(length, |(buffer, size, answer)| unsafe {
+        promql_print_tree(tree, length, mode as u32, level.into(), width, parentheses.into(), buffer, size, answer);
     })
 }
 
