@@ -317,6 +317,9 @@ test_python() {
     if has "${CHROMIUM:-chromium}" 'the page in Chromium'; then add 'the page in Chromium' unit_tests "$here/python" browser.py; fi
     add 'rows for Python, and again in eight threads' in_python "$here/python" "$here/rows.py" python 8
     PROMQL_EXTENSION='' add 'rows for Python by ctypes' in_python "$here/python" "$here/rows.py" python
+    try 'the tables of functions' python3 "$here/schema/write_functions.py" --check
+    add 'trees of the rows for Python' in_python "$here/python" "$here/trees.py" rows
+    add 'changed trees for Python' in_python "$here/python" "$here/trees.py" changed 10000 1
     test_wheel
 }
 

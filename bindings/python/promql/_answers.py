@@ -23,6 +23,7 @@ class Status(IntEnum):
     TOO_LARGE = 14
     SMALL_STACK = 15
     LARGE_ENFORCED = 16
+    NOT_A_TREE = 17
 
 
 class Mode(IntEnum):
@@ -56,6 +57,8 @@ class Calls(Protocol):
     def format(self, query: str, level: int, width: int, /) -> Answer: ...
 
     def json(self, query: str, /) -> Answer: ...
+
+    def print_tree(self, tree: str, mode: int, level: int, width: int, parentheses: bool, /) -> Answer: ...
 
     def set_limits(self, max_len: int, max_pattern_size: int, /) -> None: ...
 

@@ -38,6 +38,7 @@ _QUERY = [ctypes.c_char_p, ctypes.c_size_t]
 _BUFFER = [ctypes.c_char_p, ctypes.c_size_t, ctypes.POINTER(Result)]
 _SIGNATURES = {
     "promql_print": [*_QUERY, ctypes.c_uint32, ctypes.c_uint32, ctypes.c_size_t, *_BUFFER],
+    "promql_print_tree": [*_QUERY, ctypes.c_uint32, ctypes.c_uint32, ctypes.c_size_t, ctypes.c_uint32, *_BUFFER],
     "promql_canonical": [*_QUERY, *_BUFFER],
     "promql_enforce": [*_QUERY, *_QUERY, *_BUFFER],
     "promql_collect": [*_QUERY, *_BUFFER],
@@ -50,8 +51,10 @@ _SIGNATURES = {
 def load() -> ctypes.CDLL:
     library = ctypes.CDLL(str(library_path()))
     for name, arguments in _SIGNATURES.items():
-        function = getattr(library, name)
-        function.argtypes, function.restype = arguments, ctypes.c_uint32
+        # (an older library has fewer)
+        function = getattr(library, name, None)
+        if function is not None:
+            function.argtypes, function.restype = arguments, ctypes.c_uint32
     library.promql_set_limits.argtypes, library.promql_set_limits.restype = [ctypes.c_size_t, ctypes.c_size_t], None
     return library
 
@@ -134,6 +137,11 @@ def format(query: str, level: int, width: int) -> Answer:
 
 def json(query: str) -> Answer:
     return _answer(print_query(_encoded(query), Mode.JSON))
+
+
+def print_tree(tree: str, mode: int, level: int, width: int, parentheses: bool) -> Answer:
+    encoded = _encoded(tree)
+    return _answer(call("promql_print_tree", len(encoded), encoded, len(encoded), mode, level, width, int(parentheses)))
 
 
 def snippet(query: str, start: int, end: int) -> Answer:

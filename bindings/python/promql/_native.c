@@ -25,6 +25,7 @@ enum { MOST_WITH_LOCK = 1024 };
 /* The calls of promql.h, of the library that `load` opened. */
 struct library {
     __typeof__(promql_print) *print;
+    __typeof__(promql_print_tree) *print_tree;
     __typeof__(promql_canonical) *canonical;
     __typeof__(promql_enforce) *enforce;
     __typeof__(promql_collect) *collect;
@@ -34,9 +35,9 @@ struct library {
     __typeof__(promql_set_limits) *set_limits;
 };
 
-enum call { PRINT, CANONICAL, ENFORCE, COLLECT, CHECK, SNIPPET, VERSION };
+enum call { PRINT, PRINT_TREE, CANONICAL, ENFORCE, COLLECT, CHECK, SNIPPET, VERSION };
 
-/* A call with what it is given. `room` is how many bytes of text are likely for each byte of the query. */
+/* A call with what it is given: the query is a tree for PRINT_TREE. `room` is how many bytes of text are likely for each byte of it. */
 struct request {
     enum call call;
     size_t room;
@@ -47,6 +48,7 @@ struct request {
     uint32_t mode;
     uint32_t level;
     size_t width;
+    uint32_t parentheses;
     size_t start;
     size_t end;
 };
@@ -59,6 +61,9 @@ static uint32_t make_call(const struct library *library, const struct request *r
     switch (request->call) {
     case PRINT:
         return library->print(query, length, request->mode, request->level, request->width, buffer, size, result);
+    case PRINT_TREE:
+        return library->print_tree(query, length, request->mode, request->level, request->width, request->parentheses, buffer, size,
+                                   result);
     case CANONICAL:
         return library->canonical(query, length, buffer, size, result);
     case ENFORCE:
@@ -149,7 +154,8 @@ static size_t first_room(const struct request *request)
  * short query without a pattern, which is neither laid out nor gets a matcher. */
 static int is_quick(const struct request *request)
 {
-    if (request->matcher != NULL || request->mode == PROMQL_PRETTY || request->query_length > MOST_WITH_LOCK)
+    if (request->call == PRINT_TREE || request->matcher != NULL || request->mode == PROMQL_PRETTY ||
+        request->query_length > MOST_WITH_LOCK)
         return 0;
     return request->query_length == 0 || memchr(request->query, '~', request->query_length) == NULL;
 }
@@ -229,6 +235,19 @@ static PyObject *format(PyObject *module, PyObject *arguments)
         return NULL;
     return answer_about(module, query,
                         (struct request){.call = PRINT, .mode = PROMQL_PRETTY, .level = level, .width = (size_t)width, .room = 4});
+}
+
+static PyObject *print_tree(PyObject *module, PyObject *arguments)
+{
+    PyObject *tree;
+    unsigned int mode, level;
+    unsigned long long width;
+    int parentheses;
+    if (!PyArg_ParseTuple(arguments, "OIIKp", &tree, &mode, &level, &width, &parentheses))
+        return NULL;
+    return answer_about(module, tree,
+                        (struct request){.call = PRINT_TREE, .mode = mode, .level = level, .width = (size_t)width,
+                                         .parentheses = (uint32_t)parentheses, .room = 1});
 }
 
 static PyObject *snippet(PyObject *module, PyObject *arguments)
@@ -459,10 +478,11 @@ static PyObject *load(PyObject *module, PyObject *path)
     handle = dlopen(name, RTLD_NOW | RTLD_LOCAL);
     if (handle == NULL)
         return PyErr_Format(PyExc_ImportError, "%s", dlerror());
-    if (find(handle, "promql_print", &found.print) || find(handle, "promql_canonical", &found.canonical) ||
-        find(handle, "promql_enforce", &found.enforce) || find(handle, "promql_collect", &found.collect) ||
-        find(handle, "promql_check", &found.check) || find(handle, "promql_snippet", &found.snippet) ||
-        find(handle, "promql_version", &found.version) || find(handle, "promql_set_limits", &found.set_limits))
+    if (find(handle, "promql_print", &found.print) || find(handle, "promql_print_tree", &found.print_tree) ||
+        find(handle, "promql_canonical", &found.canonical) || find(handle, "promql_enforce", &found.enforce) ||
+        find(handle, "promql_collect", &found.collect) || find(handle, "promql_check", &found.check) ||
+        find(handle, "promql_snippet", &found.snippet) || find(handle, "promql_version", &found.version) ||
+        find(handle, "promql_set_limits", &found.set_limits))
         return NULL;
     *library = found;
     return Py_BuildValue("");
@@ -477,6 +497,7 @@ static PyMethodDef methods[] = {
     {"enforce", enforce, METH_VARARGS, NULL},
     {"format", format, METH_VARARGS, NULL},
     {"json", json, METH_O, NULL},
+    {"print_tree", print_tree, METH_VARARGS, NULL},
     {"set_limits", set_limits, METH_VARARGS, NULL},
     {"snippet", snippet, METH_VARARGS, NULL},
     {"version", version, METH_NOARGS, NULL},
