@@ -402,6 +402,9 @@ test_go() {
     add 'rows for Go, and again in eight goroutines' python3 "$here/rows.py" c "$work/go_programs/rows" 8
     try 'the calls of the rows' python3 "$here/rows.py" write "$work/calls"
     add 'broken texts for Go' "$work/go_programs/rows" random "$work/calls" 10000 1
+    try 'the queries of the rows' python3 "$here/trees.py" write "$work/queries"
+    add 'trees of the rows for Go' "$work/go_programs/rows" trees "$work/queries"
+    add 'changed trees for Go' "$work/go_programs/rows" changed "$work/queries" 10000 1
 }
 
 # ---- examples

@@ -208,11 +208,11 @@ def check_changed(count, seed):
 
 
 def main(words):
-    import promql
-
     if words[:1] == ["write"] and len(words) == 2:
         write_queries(Path(words[1]))
         return 0
+    import promql
+
     promql.set_limits(max_len=rows.MAX_LEN, max_patterns=rows.MAX_PATTERNS)
     if words == ["rows"]:
         report = check_rows()

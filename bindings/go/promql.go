@@ -72,7 +72,7 @@ func (e *QueryError) Error() string {
 
 // Snippet returns the line of the query where the part begins, a line feed, and a mark below that part.
 func (e *QueryError) Snippet() string {
-	start, end := C.size_t(max(e.Start, 0)), C.size_t(max(e.End, 0))
+	start, end := sizeOf(e.Start), sizeOf(e.End)
 	text, _ := call(e.Query, func(query *C.char, length C.size_t, buffer *C.char, size C.size_t, result *C.struct_promql_result) {
 		C.promql_snippet(query, length, start, end, buffer, size, result)
 	})
@@ -236,6 +236,11 @@ func SetLimits(maxLen, maxPatterns uint) {
 // textOf makes a call and returns its text, or its error.
 func textOf(query string, f function) (string, error) {
 	text, result := call(query, f)
+	return textOrError(query, text, result)
+}
+
+// textOrError returns the text of a call, or its error.
+func textOrError(query, text string, result C.struct_promql_result) (string, error) {
 	switch result.status {
 	case C.PROMQL_OK:
 		return text, nil
@@ -278,9 +283,10 @@ func textOf(query string, f function) (string, error) {
 	panic(fmt.Sprintf("promql: status %d: %s", result.status, text))
 }
 
-func max(a, b int) int {
-	if a > b {
-		return a
+// sizeOf returns a number as the library has it, 0 for one below.
+func sizeOf(number int) C.size_t {
+	if number < 0 {
+		return 0
 	}
-	return b
+	return C.size_t(number)
 }
