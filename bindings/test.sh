@@ -367,6 +367,9 @@ test_rust() {
     add 'rows for Rust, and again in eight threads' python3 "$here/rows.py" c "$work/target/release/examples/rows" 8
     try 'the calls of the rows' python3 "$here/rows.py" write "$work/calls"
     add 'broken texts for Rust' "$work/target/release/examples/rows" random "$work/calls" 10000 1
+    try 'the queries of the rows' python3 "$here/trees.py" write "$work/queries"
+    add 'trees of the rows for Rust' "$work/target/release/examples/rows" trees "$work/queries"
+    add 'changed trees for Rust' "$work/target/release/examples/rows" changed "$work/queries" 10000 1
 }
 
 # ---- Go

@@ -1,5 +1,6 @@
 //! The calls of libpromql: promql.h says what each does.
 
+use crate::Layout;
 use std::ptr;
 
 /// `struct promql_result`.
@@ -25,10 +26,13 @@ pub const BARE_INFO: u32 = 13;
 pub const TOO_LARGE: u32 = 14;
 pub const SMALL_STACK: u32 = 15;
 pub const LARGE_ENFORCED: u32 = 16;
+pub const NOT_A_TREE: u32 = 17;
 
-/// Those of `enum promql_mode` that have no call of their own.
+/// Those of `enum promql_mode` that are asked for.
 #[derive(Clone, Copy)]
 pub enum Mode {
+    #[cfg(print_tree)]
+    Line = 0,
     Pretty = 1,
     Json = 2,
 }
@@ -45,6 +49,18 @@ extern "C" {
         mode: u32,
         level: u32,
         width: usize,
+        buffer: *mut u8,
+        buffer_size: usize,
+        result: *mut Answer,
+    ) -> u32;
+    #[cfg(print_tree)]
+    fn promql_print_tree(
+        tree: *const u8,
+        tree_length: usize,
+        mode: u32,
+        level: u32,
+        width: usize,
+        parentheses: u32,
         buffer: *mut u8,
         buffer_size: usize,
         result: *mut Answer,
@@ -118,6 +134,21 @@ pub fn print(query: &str, mode: Mode, level: u16, width: usize) -> (String, Answ
     call(query.len(), |(buffer, size, answer)| unsafe {
         promql_print(query.as_ptr(), query.len(), mode as u32, level.into(), width, buffer, size, answer);
     })
+}
+
+/// Prints a tree, in parentheses where it needs them; `None` where the library is an older one.
+#[cfg(print_tree)]
+pub fn print_tree(tree: &str, layout: Option<Layout>) -> Option<(String, Answer)> {
+    let mode = layout.map_or(Mode::Line, |_| Mode::Pretty);
+    let Layout { width, level } = layout.unwrap_or_default();
+    Some(call(tree.len(), |(buffer, size, answer)| unsafe {
+        promql_print_tree(tree.as_ptr(), tree.len(), mode as u32, level.into(), width, 1, buffer, size, answer);
+    }))
+}
+
+#[cfg(not(print_tree))]
+pub fn print_tree(_tree: &str, _layout: Option<Layout>) -> Option<(String, Answer)> {
+    None
 }
 
 pub fn canonical(query: &str) -> (String, Answer) {
