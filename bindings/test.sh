@@ -398,7 +398,7 @@ test_go() {
     add 'Go' go_tests
     try 'the proxy in Go by the race detector' in_go . test -race ./cmd/promql-proxy/...
     try 'broken texts for Go by its fuzzer' in_go . test -run '^$' -fuzz FuzzQueries -fuzztime 10000x .
-    try 'the programs for Go' in_go . build -o "$work/go_programs/" ./internal/rows ./internal/bench
+    try 'the programs for Go' in_go . build -o "$work/go_programs/" ./internal/rows ./internal/bench ./examples/change_queries
     [ -x "$work/go_programs/rows" ] || return
     try 'the bench for Go' bench_prints "$work/go_programs/bench"
     has python3 'rows and broken texts for Go' || return
@@ -420,6 +420,27 @@ test_examples() {
         add 'a log of queries by parallel' python3 "$root/examples/query_log/test_query_log.py" answer
     fi
     test_dask
+    test_change_queries
+}
+
+# The examples that change queries, those that were built above.
+test_change_queries() {
+    local program
+    local -a programs=()
+    if ! nm --defined-only "$dist/libpromql.a" | grep -q ' promql_print_tree$'; then
+        echo 'not tried: the examples that change queries: the library has no promql_print_tree'
+        return
+    fi
+    printf '#!/bin/sh\nPYTHONPATH=%s exec python3 %s "$@"\n' "$here/python" "$here/python/examples/change_queries.py" >"$work/change_queries_py"
+    chmod +x "$work/change_queries_py"
+    if [ -x "$work/example" ]; then
+        try 'building the example that changes queries for C' "${CC:-cc}" -std=c99 -O2 -Wall -Wextra -Wpedantic -Werror -I"$dist" \
+            -o "$work/change_queries" "$here/c/change_queries.c" "$dist/libpromql.a"
+    fi
+    for program in change_queries_py change_queries go_programs/change_queries target/release/examples/change_queries; do
+        if [ -x "$work/$program" ]; then programs+=("$work/$program"); fi
+    done
+    add "queries that ${#programs[@]} languages change" python3 "$here/change_queries.py" "${programs[@]}"
 }
 
 # Debian has Dask for its own Python.
