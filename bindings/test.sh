@@ -398,6 +398,9 @@ test_go() {
     add 'Go' go_tests
     try 'the proxy in Go by the race detector' in_go . test -race ./cmd/promql-proxy/...
     try 'broken texts for Go by its fuzzer' in_go . test -run '^$' -fuzz FuzzQueries -fuzztime 10000x .
+    if has git 'a fork of the module for Go'; then
+        try 'a fork of the module for Go' env GOCACHE="$work/go" "$here/go/test_fork.sh" "$work/go_fork"
+    fi
     try 'the programs for Go' in_go . build -o "$work/go_programs/" ./internal/rows ./internal/bench ./examples/change_queries
     [ -x "$work/go_programs/rows" ] || return
     try 'the bench for Go' bench_prints "$work/go_programs/bench"
