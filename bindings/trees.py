@@ -112,7 +112,7 @@ def check_rows():
             continue
         try:
             line, why = str(expr), None
-        except tree.TreeError as error:
+        except tree.NodeError as error:
             line, why = "", DEEP if depth(form) > MOST_DEPTH else CUT if cuts_to_nothing(error) else None
             report.check(why is not None, f"no text: {query}: {error}")
         if line and line != promql.canonical(query):
@@ -200,7 +200,7 @@ def check_changed(count, seed):
             line = str(expr)
             report.check(normal(tree.parse(line)) == normal(expr), f"read otherwise: {line}: {expr!r}")
             report.reasons["printed"] += 1
-        except tree.TreeError as error:
+        except tree.NodeError as error:
             names_node = any(node is error.node for node in expr.walk()) and error.path.startswith("$") and error.message
             report.check(names_node, f"no node: {error!r}")
             report.reasons["not printed, with the reason"] += 1

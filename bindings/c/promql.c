@@ -24,6 +24,9 @@ void call_check(size_t max_len, size_t max_pattern_size, const void *query, size
                 size_t buffer_size, struct promql_result *result);
 void call_snippet(const void *query, size_t query_length, size_t start, size_t end, void *buffer, size_t buffer_size,
                   struct promql_result *result);
+void call_print_tree(size_t max_len, size_t max_pattern_size, const void *tree, size_t tree_length, uint32_t mode,
+                     uint32_t level, size_t width, uint32_t parentheses, void *buffer, size_t buffer_size,
+                     struct promql_result *result);
 void call_version(void *buffer, size_t buffer_size, struct promql_result *result);
 
 /* Where a slice of no bytes begins if its pointer is NULL. */
@@ -163,6 +166,17 @@ uint32_t promql_snippet(const char *query, size_t query_length, size_t start, si
     if (!are_good(query, query_length, buffer, buffer_size, result))
         return refuse(PROMQL_BAD_POINTER, result);
     call_snippet(start_of(query), query_length, start, end, room_of(buffer), buffer_size, result);
+    return result->status;
+}
+
+uint32_t promql_print_tree(const char *tree, size_t tree_length, uint32_t mode, uint32_t level, size_t width,
+                           uint32_t parentheses, char *buffer, size_t buffer_size, struct promql_result *result)
+{
+    uint32_t status = look_at(tree, tree_length, buffer, buffer_size, result);
+    if (status != PROMQL_OK)
+        return refuse(status, result);
+    call_print_tree(max_len, max_pattern_size, start_of(tree), tree_length, mode, level, width, parentheses, room_of(buffer),
+                    buffer_size, result);
     return result->status;
 }
 

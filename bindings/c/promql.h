@@ -45,7 +45,7 @@ enum promql_mode {
  * A thread needs more than these, for what it does itself. */
 #define PROMQL_STACK 1310720
 
-/* 0, or why the buffer does not have what was asked for. With 1 to 6, 9, 11 to 14 and 16 the text is the message of the
+/* 0, or why the buffer does not have what was asked for. With 1 to 6, 9, 11 to 14, 16 and 17 the text is the message of the
  * error. */
 enum promql_status {
     PROMQL_OK = 0,
@@ -58,11 +58,12 @@ enum promql_status {
     PROMQL_BAD_POINTER = 10,     /* a pointer is NULL though its length is not 0, a length is above PTRDIFF_MAX, or the
                                     result is NULL; there is no text */
     PROMQL_BAD_MATCHER = 11,     /* the matcher is none, or is of the metric's name, __name__ */
-    PROMQL_UNFAITHFUL = 12,      /* the text that was made would not mean the changed query */
+    PROMQL_UNFAITHFUL = 12,      /* the text that was made would not mean the changed query, or the tree */
     PROMQL_BARE_INFO = 13,       /* the query has info without a second argument: no matcher limits the series that it reads */
-    PROMQL_TOO_LARGE = 14,       /* the query is too long, or its patterns are too large: the result has the place */
+    PROMQL_TOO_LARGE = 14,       /* the query is too long, or its patterns are too large: the result has the place, but for a tree */
     PROMQL_SMALL_STACK = 15,     /* the thread has fewer than PROMQL_STACK bytes of stack left; there is no text */
-    PROMQL_LARGE_ENFORCED = 16   /* the matcher, or the query with it, is not within the limits of a query */
+    PROMQL_LARGE_ENFORCED = 16,  /* the matcher, or the query with it, is not within the limits of a query */
+    PROMQL_NOT_A_TREE = 17       /* the JSON text is the form of no tree: the message has the place */
 };
 
 struct promql_result {
@@ -105,6 +106,12 @@ uint32_t promql_check(const char *query, size_t query_length, char *buffer, size
    and marks of writing direction are escapes in it, as `\x1b`. */
 uint32_t promql_snippet(const char *query, size_t query_length, size_t start, size_t end, char *buffer,
                         size_t buffer_size, struct promql_result *result);
+
+/* Prints a tree that is given as JSON, in the form of promql_print with PROMQL_JSON (docs/reference/json.md, "From JSON to a text").
+ * The modes, `level` and `width` are those of promql_print. Where `parentheses` is not 0, parentheses are put where the tree needs them.
+ * The text is within the limits of a query; it was read again, and means the tree. */
+uint32_t promql_print_tree(const char *tree, size_t tree_length, uint32_t mode, uint32_t level, size_t width,
+                           uint32_t parentheses, char *buffer, size_t buffer_size, struct promql_result *result);
 
 /* Sets what a query has to be within, for each later call of the process but promql_snippet: at most so many bytes, 32768 before the
  * first such call, and patterns of at most this size together, 16000 (docs/reference/programs.md, "Limits of a query"). A matcher

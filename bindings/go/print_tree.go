@@ -22,87 +22,97 @@ import (
 	"unicode/utf8"
 )
 
-var (
-	// ErrNotATree says of a *TreeError that a part of the tree is none of a query.
-	ErrNotATree = errors.New("not the tree of a query")
-	// ErrNoPrintTree says that the library is an older one, which prints no trees.
-	ErrNoPrintTree = errors.New("the library has no promql_print_tree")
-)
+// ErrNoPrintTree says that the library is an older one, which prints no trees.
+var ErrNoPrintTree = errors.New("the library has no promql_print_tree")
 
-// TreeError says why a tree has no text. Path is that of the part at fault in the JSON form, as $.lhs.args[0], and Node the expression there,
+// notATree is PROMQL_NOT_A_TREE, which an older header has not.
+const notATree = 17
+
+// NodeError says why a tree has no text. Path is that of the part at fault in the JSON form, as $.lhs.args[0], and Node the expression there,
 // or the one that has it. It is ErrNotATree; ErrUnfaithful where the text would mean another tree, as with an argument of a wrong type;
-// ErrTooLarge; or ErrNotUTF8.
-type TreeError struct {
+// ErrTooLargeTree; or ErrNotUTF8.
+type NodeError struct {
 	Path    string
 	Message string
 	Node    Expr
 	cause   error
 }
 
-func (e *TreeError) Error() string {
+func (e *NodeError) Error() string {
 	return e.Path + ": " + e.Message
 }
 
 // Unwrap returns which of these errors it is.
-func (e *TreeError) Unwrap() error {
+func (e *NodeError) Unwrap() error {
 	return e.cause
 }
 
-// notATree is PROMQL_NOT_A_TREE of promql.h.
-const notATree = 17
-
-// Print returns the text of a tree on one line, in parentheses where the tree needs them. The library read what it printed again: it has
-// this tree. Where there is no such text the error is a *TreeError.
-func Print(expr Expr) (string, error) {
-	return printTree(expr, C.PROMQL_LINE, layout{})
-}
-
-// PrintLayout returns the text of a tree as Format lays out a query.
-func PrintLayout(expr Expr, options ...Option) (string, error) {
-	made := layout{width: 100}
-	for _, set := range options {
-		set(&made)
-	}
-	return printTree(expr, C.PROMQL_PRETTY, made)
-}
-
-func printTree(expr Expr, mode C.uint32_t, made layout) (string, error) {
+// PrintTree returns the query that has the tree of this JSON form (docs/reference/json.md of the repository), on one line, or as Format does
+// where there are options; with parentheses where the tree needs them, if parentheses is true. What is returned is within the limits of a
+// query, was read again, and means the tree. The errors are ErrNotATree, ErrUnfaithful, ErrTooLargeTree and those without a place.
+func PrintTree(form []byte, parentheses bool, options ...Option) (string, error) {
 	if C.has_print_tree() == 0 {
 		return "", ErrNoPrintTree
 	}
+	made, mode := layout{width: 100}, C.uint32_t(C.PROMQL_LINE)
+	for _, set := range options {
+		set(&made)
+		mode = C.PROMQL_PRETTY
+	}
+	needed := C.uint32_t(0)
+	if parentheses {
+		needed = 1
+	}
+	text, result := call(string(form), func(tree *C.char, length C.size_t, buffer *C.char, size C.size_t, result *C.struct_promql_result) {
+		C.promql_print_tree(tree, length, mode, C.uint32_t(made.level), C.size_t(made.width), needed, buffer, size, result)
+	})
+	switch result.status {
+	case C.PROMQL_TOO_LARGE:
+		return "", explained{text, ErrTooLargeTree}
+	case C.PROMQL_UNFAITHFUL:
+		return "", explained{text, ErrUnfaithful}
+	case notATree:
+		return "", explained{text, ErrNotATree}
+	default:
+		return textOrError(string(form), text, result)
+	}
+}
+
+// Print returns the text of a tree, on one line, or as Format does where there are options; in parentheses where the tree needs them. The
+// library read what it printed again: it has this tree. Where there is no such text the error is a *NodeError.
+func Print(expr Expr, options ...Option) (string, error) {
 	form, err := formOf(expr)
 	if err != nil {
 		return "", err
 	}
-	text, result := call(form, func(tree *C.char, length C.size_t, buffer *C.char, size C.size_t, result *C.struct_promql_result) {
-		C.promql_print_tree(tree, length, mode, C.uint32_t(made.level), C.size_t(made.width), 1, buffer, size, result)
-	})
-	switch result.status {
-	case notATree:
-		path, message := "$", text
-		if before, after, found := strings.Cut(text, ": "); found {
-			path, message = before, "expected "+after
-		}
-		return "", &TreeError{path, message, nodeAt(expr, path), ErrNotATree}
-	case C.PROMQL_UNFAITHFUL:
-		it := firstWithoutText(expr)
-		return "", &TreeError{it.path, text, it.node, ErrUnfaithful}
-	case C.PROMQL_TOO_LARGE:
-		return "", &TreeError{"$", text, expr, ErrTooLarge}
+	text, err := PrintTree(form, true, options...)
+	var said explained
+	if !errors.As(err, &said) {
+		return text, err
 	}
-	return textOrError(form, text, result)
+	failed := &NodeError{"$", said.message, expr, said.cause}
+	switch said.cause {
+	case ErrNotATree:
+		if path, expected, found := strings.Cut(said.message, ": "); found {
+			failed.Path, failed.Message, failed.Node = path, "expected "+expected, nodeAt(expr, path)
+		}
+	case ErrUnfaithful:
+		it := firstWithoutText(expr)
+		failed.Path, failed.Node = it.path, it.node
+	}
+	return "", failed
 }
 
 // formOf returns the JSON form of a tree, once it was seen to have one.
-func formOf(expr Expr) (string, error) {
+func formOf(expr Expr) ([]byte, error) {
 	for _, it := range placesIn("$", expr, nil) {
 		if it.node == nil {
-			return "", &TreeError{it.path, "expected an expression", nil, ErrNotATree}
+			return nil, &NodeError{it.path, "expected an expression", nil, ErrNotATree}
 		}
 		for _, text := range textsOf(it.node) {
 			// (json.Marshal would change it)
 			if !utf8.ValidString(text) {
-				return "", &TreeError{it.path, ErrNotUTF8.Error(), it.node, ErrNotUTF8}
+				return nil, &NodeError{it.path, ErrNotUTF8.Error(), it.node, ErrNotUTF8}
 			}
 		}
 	}
@@ -110,9 +120,9 @@ func formOf(expr Expr) (string, error) {
 	encoder := json.NewEncoder(&form)
 	encoder.SetEscapeHTML(false)
 	if err := encoder.Encode(expr); err != nil {
-		return "", &TreeError{"$", err.Error(), expr, ErrNotATree}
+		return nil, &NodeError{"$", err.Error(), expr, ErrNotATree}
 	}
-	return form.String(), nil
+	return form.Bytes(), nil
 }
 
 // textsOf returns the texts that an expression has, but for those of expressions below it.
@@ -198,9 +208,7 @@ func firstWithoutText(expr Expr) place {
 	for i := len(places) - 1; i > 0; i-- {
 		form, err := formOf(places[i].node)
 		if err == nil {
-			_, err = textOf(form, func(tree *C.char, length C.size_t, buffer *C.char, size C.size_t, result *C.struct_promql_result) {
-				C.promql_print_tree(tree, length, C.PROMQL_LINE, 0, 0, 1, buffer, size, result)
-			})
+			_, err = PrintTree(form, true)
 		}
 		if err != nil {
 			return places[i]

@@ -39,6 +39,12 @@ var (
 	ErrMetricName = errors.New("a matcher of the metric name cannot be enforced")
 	// ErrUnfaithful says that the query that was made would not mean the changed query.
 	ErrUnfaithful = errors.New("the printed query does not mean the changed one")
+	// ErrNotATree says that a text is not JSON, or is the form of no tree. An error that is this one says where, as $.lhs.args[0].range, and
+	// what was expected there.
+	ErrNotATree = errors.New("the text is the form of no tree")
+	// ErrTooLargeTree says that the line of a tree is too long, or that its patterns are too large together (SetLimits). An error that is
+	// this one says which.
+	ErrTooLargeTree = errors.New("the line of the tree is not within the limits")
 	// ErrBareInfo says that a query calls info without a second argument, so that no matcher limits the series that this reads.
 	ErrBareInfo = errors.New("info without a selector reads series that no matcher limits")
 	// ErrLargeEnforced says that a matcher, or the query with it, is too long, or that its patterns are too large together (SetLimits). An
@@ -81,17 +87,18 @@ func (e *QueryError) Snippet() string {
 	return text
 }
 
-// largeEnforced is ErrLargeEnforced with the message of the library.
-type largeEnforced struct {
+// explained is an error of this package with the message of the library.
+type explained struct {
 	message string
+	cause   error
 }
 
-func (e largeEnforced) Error() string {
+func (e explained) Error() string {
 	return e.message
 }
 
-func (e largeEnforced) Unwrap() error {
-	return ErrLargeEnforced
+func (e explained) Unwrap() error {
+	return e.cause
 }
 
 // Option is how Format lays a query out.
@@ -278,7 +285,7 @@ func textOrError(query, text string, result C.struct_promql_result) (string, err
 	case C.PROMQL_BARE_INFO:
 		return "", ErrBareInfo
 	case C.PROMQL_LARGE_ENFORCED:
-		return "", largeEnforced{text}
+		return "", explained{text, ErrLargeEnforced}
 	case C.PROMQL_SMALL_STACK:
 		return "", ErrSmallStack
 	}

@@ -238,7 +238,7 @@ func TestPrint(t *testing.T) {
 	if got, err := promql.Print(product); err != nil || got != "(a + b) * c" {
 		t.Errorf("%q, %v", got, err)
 	}
-	if got, err := promql.PrintLayout(product, promql.Width(5), promql.Level(1)); err != nil || !strings.HasPrefix(got, "    (\n") {
+	if got, err := promql.Print(product, promql.Width(5), promql.Level(1)); err != nil || !strings.HasPrefix(got, "    (\n") {
 		t.Errorf("%q, %v", got, err)
 	}
 }
@@ -256,11 +256,11 @@ func TestPrintErrors(t *testing.T) {
 		{&promql.BinaryExpr{Op: "+", LHS: promql.NewNumber(1), RHS: &promql.AggregateExpr{Op: "sum", Expr: wrong}}, wrong, "$.rhs.expr", promql.ErrUnfaithful},
 		{&promql.ParenExpr{Expr: pattern}, pattern, "$.expr", nil},
 		{&promql.ParenExpr{}, nil, "$.expr", promql.ErrNotATree},
-		{large, large, "$", promql.ErrTooLarge},
+		{large, large, "$", promql.ErrTooLargeTree},
 		{&promql.StringLiteral{Val: "\xff"}, &promql.StringLiteral{Val: "\xff"}, "$", promql.ErrNotUTF8},
 	} {
 		_, err := promql.Print(it.expr)
-		var wrong *promql.TreeError
+		var wrong *promql.NodeError
 		if !errors.As(err, &wrong) || !reflect.DeepEqual(wrong.Node, it.node) || !strings.HasPrefix(wrong.Path, it.path) || wrong.Message == "" {
 			t.Errorf("%d: %v", i, err)
 		}

@@ -17,7 +17,7 @@ import json
 from operator import index
 from typing import Any, Dict, Iterable, List, Optional, Type, Union
 
-from ._answers import Answer, Failure, Status
+from ._answers import Answer, Failure, Mode, Status
 from ._calls import calls as _caller
 
 __all__ = [
@@ -29,6 +29,8 @@ __all__ = [
     "QueryError",
     "SmallStackError",
     "TooLargeError",
+    "TooLargeTreeError",
+    "TreeError",
     "UnfaithfulError",
     "canonical",
     "canonical_many",
@@ -37,6 +39,7 @@ __all__ = [
     "enforce",
     "format",
     "parse",
+    "print_tree",
     "set_limits",
     "version",
 ]
@@ -72,7 +75,15 @@ class SmallStackError(Error):
 
 
 class UnfaithfulError(Error):
-    """The query that was made would not mean the changed query; there is none for which this was seen."""
+    """The query that was made would not mean the changed query, of which no case is known; or the text of a tree would not mean the tree."""
+
+
+class TreeError(Error):
+    """A value is the form of no tree: the message has the place, as `$.lhs.args[0].range`, and what was expected there."""
+
+
+class TooLargeTreeError(Error):
+    """The line of a tree is too long, or its patterns are too large together (`set_limits`)."""
 
 
 class QueryError(Error):
@@ -119,6 +130,20 @@ def parse(query: str) -> Dict[str, Any]:
     """
     tree: Dict[str, Any] = json.loads(_text(query, _caller.json(query)))
     return tree
+
+
+def print_tree(tree: Dict[str, Any], *, parentheses: bool = False, width: Optional[int] = None, level: int = 0) -> str:
+    """The query that has this tree, which is in the form that `parse` returns: on one line, or laid out where there is a `width`.
+
+    With `parentheses` the tree gets parentheses where it needs them. What is returned was read again, and means the tree
+    (docs/reference/json.md). Raises TreeError where the tree is no such form, UnfaithfulError where its line would not mean it,
+    because of a type or of parentheses, say, and TooLargeTreeError where the line is not within the limits of a query.
+    """
+    form = json.dumps(tree, ensure_ascii=False)
+    if width is None:
+        return _tree_text(_caller.print_tree(form, Mode.LINE, 0, 0, int(parentheses)))
+    level, width = _number("level", level, _MAX_LEVEL), _number("width", width, _MAX_WIDTH)
+    return _tree_text(_caller.print_tree(form, Mode.PRETTY, level, width, int(parentheses)))
 
 
 def format(query: str, *, width: int = 100, level: int = 0) -> str:
@@ -184,11 +209,28 @@ def _number(name: str, number: int, most: int) -> int:
     return number
 
 
+# The errors of a call about a tree.
+_TREE_ERRORS: Dict[int, Type[Exception]] = {Status.TOO_LARGE: TooLargeTreeError, Status.NOT_A_TREE: TreeError}
+
+
 def _text(query: str, answer: Answer) -> str:
     """Returns the text of a call, or raises its error."""
     if isinstance(answer, str):
         return answer
     raise _error(query, answer)
+
+
+def _tree_text(answer: Answer) -> str:
+    """Returns the text of a call about a tree, or raises its error."""
+    if isinstance(answer, str):
+        return answer
+    raise _tree_error(answer)
+
+
+def _tree_error(failure: Failure) -> Exception:
+    """The error of a call about a tree."""
+    status, message = failure[:2]
+    return _TREE_ERRORS[status](message) if status in _TREE_ERRORS else _error("", failure)
 
 
 # The errors without a place.

@@ -38,12 +38,12 @@ _QUERY = [ctypes.c_char_p, ctypes.c_size_t]
 _BUFFER = [ctypes.c_char_p, ctypes.c_size_t, ctypes.POINTER(Result)]
 _SIGNATURES = {
     "promql_print": [*_QUERY, ctypes.c_uint32, ctypes.c_uint32, ctypes.c_size_t, *_BUFFER],
-    "promql_print_tree": [*_QUERY, ctypes.c_uint32, ctypes.c_uint32, ctypes.c_size_t, ctypes.c_uint32, *_BUFFER],
     "promql_canonical": [*_QUERY, *_BUFFER],
     "promql_enforce": [*_QUERY, *_QUERY, *_BUFFER],
     "promql_collect": [*_QUERY, *_BUFFER],
     "promql_check": [*_QUERY, *_BUFFER],
     "promql_snippet": [*_QUERY, ctypes.c_size_t, ctypes.c_size_t, *_BUFFER],
+    "promql_print_tree": [*_QUERY, ctypes.c_uint32, ctypes.c_uint32, ctypes.c_size_t, ctypes.c_uint32, *_BUFFER],
     "promql_version": _BUFFER,
 }
 
@@ -139,14 +139,14 @@ def json(query: str) -> Answer:
     return _answer(print_query(_encoded(query), Mode.JSON))
 
 
-def print_tree(tree: str, mode: int, level: int, width: int, parentheses: bool) -> Answer:
-    encoded = _encoded(tree)
-    return _answer(call("promql_print_tree", len(encoded), encoded, len(encoded), mode, level, width, int(parentheses)))
-
-
 def snippet(query: str, start: int, end: int) -> Answer:
     encoded = _encoded(query)
     return _answer(call("promql_snippet", 2 * len(encoded), encoded, len(encoded), start, end))
+
+
+def print_tree(form: str, mode: int, level: int, width: int, parentheses: int) -> Answer:
+    encoded = _encoded(form)
+    return _answer(call("promql_print_tree", len(encoded), encoded, len(encoded), mode, level, width, parentheses))
 
 
 def set_limits(max_len: int, max_pattern_size: int) -> None:

@@ -25,19 +25,19 @@ enum { MOST_WITH_LOCK = 1024 };
 /* The calls of promql.h, of the library that `load` opened. */
 struct library {
     __typeof__(promql_print) *print;
-    __typeof__(promql_print_tree) *print_tree;
     __typeof__(promql_canonical) *canonical;
     __typeof__(promql_enforce) *enforce;
     __typeof__(promql_collect) *collect;
     __typeof__(promql_check) *check;
     __typeof__(promql_snippet) *snippet;
+    __typeof__(promql_print_tree) *print_tree;
     __typeof__(promql_version) *version;
     __typeof__(promql_set_limits) *set_limits;
 };
 
-enum call { PRINT, PRINT_TREE, CANONICAL, ENFORCE, COLLECT, CHECK, SNIPPET, VERSION };
+enum call { PRINT, CANONICAL, ENFORCE, COLLECT, CHECK, SNIPPET, PRINT_TREE, VERSION };
 
-/* A call with what it is given: the query is a tree for PRINT_TREE. `room` is how many bytes of text are likely for each byte of it. */
+/* A call with what it is given. `room` is how many bytes of text are likely for each byte of the query. */
 struct request {
     enum call call;
     size_t room;
@@ -61,9 +61,6 @@ static uint32_t make_call(const struct library *library, const struct request *r
     switch (request->call) {
     case PRINT:
         return library->print(query, length, request->mode, request->level, request->width, buffer, size, result);
-    case PRINT_TREE:
-        return library->print_tree(query, length, request->mode, request->level, request->width, request->parentheses, buffer, size,
-                                   result);
     case CANONICAL:
         return library->canonical(query, length, buffer, size, result);
     case ENFORCE:
@@ -74,6 +71,9 @@ static uint32_t make_call(const struct library *library, const struct request *r
         return library->check(query, length, buffer, size, result);
     case SNIPPET:
         return library->snippet(query, length, request->start, request->end, buffer, size, result);
+    case PRINT_TREE:
+        return library->print_tree(query, length, request->mode, request->level, request->width, request->parentheses, buffer,
+                                   size, result);
     default:
         return library->version(buffer, size, result);
     }
@@ -154,8 +154,7 @@ static size_t first_room(const struct request *request)
  * short query without a pattern, which is neither laid out nor gets a matcher. */
 static int is_quick(const struct request *request)
 {
-    if (request->call == PRINT_TREE || request->matcher != NULL || request->mode == PROMQL_PRETTY ||
-        request->query_length > MOST_WITH_LOCK)
+    if (request->matcher != NULL || request->mode == PROMQL_PRETTY || request->query_length > MOST_WITH_LOCK)
         return 0;
     return request->query_length == 0 || memchr(request->query, '~', request->query_length) == NULL;
 }
@@ -237,19 +236,6 @@ static PyObject *format(PyObject *module, PyObject *arguments)
                         (struct request){.call = PRINT, .mode = PROMQL_PRETTY, .level = level, .width = (size_t)width, .room = 4});
 }
 
-static PyObject *print_tree(PyObject *module, PyObject *arguments)
-{
-    PyObject *tree;
-    unsigned int mode, level;
-    unsigned long long width;
-    int parentheses;
-    if (!PyArg_ParseTuple(arguments, "OIIKp", &tree, &mode, &level, &width, &parentheses))
-        return NULL;
-    return answer_about(module, tree,
-                        (struct request){.call = PRINT_TREE, .mode = mode, .level = level, .width = (size_t)width,
-                                         .parentheses = (uint32_t)parentheses, .room = 1});
-}
-
 static PyObject *snippet(PyObject *module, PyObject *arguments)
 {
     PyObject *query;
@@ -257,6 +243,18 @@ static PyObject *snippet(PyObject *module, PyObject *arguments)
     if (!PyArg_ParseTuple(arguments, "OKK", &query, &start, &end))
         return NULL;
     return answer_about(module, query, (struct request){.call = SNIPPET, .start = (size_t)start, .end = (size_t)end, .room = 2});
+}
+
+static PyObject *print_tree(PyObject *module, PyObject *arguments)
+{
+    PyObject *form;
+    unsigned int mode, level, parentheses;
+    unsigned long long width;
+    if (!PyArg_ParseTuple(arguments, "OIIKI", &form, &mode, &level, &width, &parentheses))
+        return NULL;
+    return answer_about(module, form,
+                        (struct request){.call = PRINT_TREE, .mode = mode, .level = level, .width = (size_t)width,
+                                         .parentheses = parentheses, .room = 1});
 }
 
 static PyObject *enforce(PyObject *module, PyObject *arguments)
@@ -478,10 +476,10 @@ static PyObject *load(PyObject *module, PyObject *path)
     handle = dlopen(name, RTLD_NOW | RTLD_LOCAL);
     if (handle == NULL)
         return PyErr_Format(PyExc_ImportError, "%s", dlerror());
-    if (find(handle, "promql_print", &found.print) || find(handle, "promql_print_tree", &found.print_tree) ||
-        find(handle, "promql_canonical", &found.canonical) || find(handle, "promql_enforce", &found.enforce) ||
-        find(handle, "promql_collect", &found.collect) || find(handle, "promql_check", &found.check) ||
-        find(handle, "promql_snippet", &found.snippet) || find(handle, "promql_version", &found.version) ||
+    if (find(handle, "promql_print", &found.print) || find(handle, "promql_canonical", &found.canonical) ||
+        find(handle, "promql_enforce", &found.enforce) || find(handle, "promql_collect", &found.collect) ||
+        find(handle, "promql_check", &found.check) || find(handle, "promql_snippet", &found.snippet) ||
+        find(handle, "promql_print_tree", &found.print_tree) || find(handle, "promql_version", &found.version) ||
         find(handle, "promql_set_limits", &found.set_limits))
         return NULL;
     *library = found;

@@ -127,7 +127,7 @@ def _read_cardinality(members: Members) -> Cardinality:
 class Expr(Node):
     """An expression: one of the classes below it. `str` prints it on one line, in parentheses where the tree needs them.
 
-    What it prints was read again by the library, and has this tree. Where there is no such text TreeError is raised.
+    What it prints was read again by the library, and has this tree. Where there is no such text NodeError is raised.
     """
 
     # The `type` of its JSON form, and its fields that have the expressions below it, in the order of a walk.
@@ -168,7 +168,7 @@ class Expr(Node):
             left.extend(reversed(expr.children()))
 
     def to_json(self) -> Form:
-        """The JSON form, as dictionaries and lists. Raises TreeError where a call is of no function."""
+        """The JSON form, as dictionaries and lists. Raises NodeError where a call is of no function."""
         from ._printing import form_of
 
         return form_of(self)

@@ -4,22 +4,23 @@ from __future__ import annotations
 
 import json
 import re
-from operator import index
 from typing import Any, Dict, Iterator, List, Optional, Tuple, cast
 
 import promql
 
-from ._answers import Failure, Mode, Status
+from ._answers import Answer, Mode
 from ._calls import calls
 from ._members import FormError, Members
 from ._nodes import KINDS, Aggregation, Call, Expr
 from .forms import Form
 
 
-class TreeError(promql.Error):
+class NodeError(promql.Error):
     """A tree has no text: `message` says why.
 
-    `path` is that of the part at fault in the JSON form, as `$.lhs.args[0]`, and `node` the expression there, or the one that has it.
+    `path` is that of the part at fault in the JSON form, as `$.lhs.args[0]`, and `node` the expression there, or the one that has it. What
+    `promql.print_tree` would raise is its cause: TreeError where a part is none of a query, UnfaithfulError where the text would mean
+    another tree, TooLargeTreeError where it is too long.
     """
 
     def __init__(self, message: str, path: str, node: Expr) -> None:
@@ -32,10 +33,6 @@ class TreeError(promql.Error):
         return f"{self.path}: {self.message}"
 
 
-class LargeTreeError(TreeError):
-    """The text of a tree is too long, or its patterns are too large together (`promql.set_limits`)."""
-
-
 # ---- from and to the form
 
 
@@ -44,7 +41,7 @@ def form_of(tree: Expr) -> Form:
     places = list(_places(tree))
     for path, expr in reversed(places):
         if isinstance(expr, Call) and expr.function is None:
-            raise TreeError(f"there is no function '{expr.name}'", f"{path}.func.name", expr)
+            raise NodeError(f"there is no function '{expr.name}'", f"{path}.func.name", expr)
         form: Dict[str, Any] = {"type": expr.TYPE, **expr.members()}
         # (those of the children were made before, the last one first)
         for name in expr.CHILDREN:
@@ -109,31 +106,31 @@ def line_of(tree: Expr) -> str:
 
 
 def layout_of(tree: Expr, width: int, level: int) -> str:
-    return _printed(tree, Mode.PRETTY, index(level), index(width))
+    return _printed(tree, Mode.PRETTY, promql._number("level", level, promql._MAX_LEVEL), promql._number("width", width, promql._MAX_WIDTH))
 
 
 def _printed(tree: Expr, mode: Mode, level: int, width: int) -> str:
     answer = _answer(tree, mode, level, width)
     if isinstance(answer, str):
         return answer
-    status, message = answer[:2]
-    if status == Status.NOT_A_TREE:
-        path, colon, expected = message.partition(": ")
+    error = promql._tree_error(answer)
+    if isinstance(error, promql.TreeError):
+        path, colon, expected = str(error).partition(": ")
         if not colon:
             # (as of a tree that is deeper than the library reads)
-            raise TreeError(message, "$", tree)
-        raise TreeError(f"expected {expected}", path, _node_at(tree, path))
-    if status == Status.UNFAITHFUL:
+            raise NodeError(str(error), "$", tree) from error
+        raise NodeError(f"expected {expected}", path, _node_at(tree, path)) from error
+    if isinstance(error, promql.UnfaithfulError):
         path, node = _first_without_text(tree)
-        raise TreeError(message, path, node)
-    if status == Status.TOO_LARGE:
-        raise LargeTreeError(message, "$", tree)
-    raise promql._error("", answer)
+        raise NodeError(str(error), path, node) from error
+    if isinstance(error, promql.TooLargeTreeError):
+        raise NodeError(str(error), "$", tree) from error
+    raise error
 
 
-def _answer(tree: Expr, mode: Mode, level: int, width: int) -> Any:
+def _answer(tree: Expr, mode: Mode, level: int, width: int) -> Answer:
     form = json.dumps(form_of(tree), ensure_ascii=False, separators=(",", ":"))
-    return calls.print_tree(form, mode, level, width, True)
+    return calls.print_tree(form, mode, level, width, 1)
 
 
 def _first_without_text(tree: Expr) -> Tuple[str, Expr]:

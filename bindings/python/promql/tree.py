@@ -37,7 +37,7 @@ from ._nodes import (
     Subquery,
     Unary,
 )
-from ._printing import LargeTreeError, TreeError, tree_of
+from ._printing import NodeError, tree_of
 
 __all__ = [
     "Aggregation",
@@ -46,10 +46,10 @@ __all__ = [
     "Cardinality",
     "Expr",
     "FormError",
-    "LargeTreeError",
     "ManyToOne",
     "Matcher",
     "Matching",
+    "NodeError",
     "Number",
     "OneToMany",
     "Paren",
@@ -57,7 +57,6 @@ __all__ = [
     "Selector",
     "String",
     "Subquery",
-    "TreeError",
     "Unary",
     "from_json",
     "parse",
@@ -77,7 +76,7 @@ def from_json(form: object) -> Expr:
     """The tree of a JSON form, as `promql.parse` and `to_json` give it. Raises FormError where it is none, with the path of the first
     member at fault.
 
-    Types of expressions, names and patterns are not looked at: `str` raises TreeError where they are wrong.
+    Types of expressions, names and patterns are not looked at: `str` raises NodeError where they are wrong.
     """
     return tree_of(form)
 

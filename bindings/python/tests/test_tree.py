@@ -161,7 +161,7 @@ class Trees(unittest.TestCase):
         self.assertEqual(tree.parse("rate(a[1m])").function, FUNCTIONS["rate"])
         self.assertIsNone(Call("rates").function)
         expr = Binary(Number("1"), "+", Aggregation("sum", Call("rates")))
-        with self.assertRaises(tree.TreeError) as raised:
+        with self.assertRaises(tree.NodeError) as raised:
             expr.to_json()
         self.assertEqual(str(raised.exception), "$.rhs.expr.func.name: there is no function 'rates'")
         self.assertIs(raised.exception.node, expr.rhs.expr)
@@ -185,24 +185,26 @@ class Texts(unittest.TestCase):
         self.assertEqual(expr.format(), str(expr))
 
     def check_error(self, expr, path, node):
-        with self.assertRaises(tree.TreeError) as raised:
+        with self.assertRaises(tree.NodeError) as raised:
             str(expr)
         error = raised.exception
         self.assertEqual(error.node, node, error)
         self.assertTrue(error.path.startswith(path) and error.message, error)
+        return error
 
     def test_errors(self):
         wrong = Call("rate", (Selector("foo"),))
-        self.check_error(Binary(Number("1"), "+", Aggregation("sum", wrong)), "$.rhs.expr", wrong)
+        error = self.check_error(Binary(Number("1"), "+", Aggregation("sum", wrong)), "$.rhs.expr", wrong)
+        self.assertIsInstance(error.__cause__, promql.UnfaithfulError)
         self.check_error(Aggregation("sum", Call("round", ())), "$.expr", Call("round", ()))
         pattern = Selector("a", (Matcher("b", "=~", "("),))
         self.check_error(Paren(pattern), "$.expr", pattern)
-        self.check_error(RangeSelector("a", -1), "$.range", RangeSelector("a", -1))
+        error = self.check_error(RangeSelector("a", -1), "$.range", RangeSelector("a", -1))
+        self.assertIsInstance(error.__cause__, promql.TreeError)
 
     def test_large(self):
         pattern = Selector("a", (Matcher("b", "=~", "c{3000}"),))
-        with self.assertRaises(tree.LargeTreeError):
-            str(pattern)
+        self.assertIsInstance(self.check_error(pattern, "$", pattern).__cause__, promql.TooLargeTreeError)
 
     def test_deep(self):
         expr = Selector("a")

@@ -29,7 +29,7 @@ mod visitor;
 mod write_form;
 
 pub use function::{Function, ValueType, get_function};
-pub use print_tree::{TreeError, TreeFault, parse, print, print_layout};
+pub use print_tree::{NodeError, parse, print, print_layout};
 pub use read_form::FormError;
 pub use tree::*;
 pub use visitor::{ExprVisitor, ExprVisitorMut, walk_expr, walk_expr_mut};
@@ -57,16 +57,20 @@ pub enum Error {
     NotAMatcher,
     /// The matcher is one of the metric's name, `__name__`, which cannot be enforced.
     MetricName,
-    /// The query that was made would not mean the changed query: why.
+    /// The query that was made would not mean the changed query, or the tree: why.
     Unfaithful(String),
+    /// The text is not JSON, or is the form of no tree: where, as `$.lhs.args[0].range`, and what was expected there.
+    NotATree(String),
+    /// The line of a tree is too long, or its patterns are too large together ([`set_limits`]): which.
+    TooLargeTree(String),
     /// The query calls `info` without a second argument, so that no matcher limits the series that this reads.
     BareInfo,
     /// The matcher, or the query with it, is too long, or its patterns are too large together ([`set_limits`]): which, and why.
     LargeEnforced(String),
     /// The thread has less than 1.25 MiB of stack left, and a query may need as much. Threads of `std::thread` have 2 MiB.
     SmallStack,
-    /// The tree has no text.
-    Tree(TreeError),
+    /// An expression of a tree is at fault, so that the tree has no text.
+    Node(NodeError),
     /// The text is no JSON form of a query.
     Form(FormError),
     /// The library is an older one, which prints no trees.
@@ -108,12 +112,15 @@ impl fmt::Display for Error {
             Error::NumberTooWide => f.write_str("number too wide for JSON"),
             Error::NotAMatcher => f.write_str(NOT_A_MATCHER),
             Error::MetricName => f.write_str("a matcher of the metric name cannot be enforced"),
-            Error::Unfaithful(message) | Error::LargeEnforced(message) => f.write_str(message),
+            Error::Unfaithful(message)
+            | Error::NotATree(message)
+            | Error::TooLargeTree(message)
+            | Error::LargeEnforced(message) => f.write_str(message),
             Error::BareInfo => {
                 f.write_str("info without a selector reads series that no matcher limits")
             }
             Error::SmallStack => f.write_str("the thread has less than 1.25 MiB of stack left"),
-            Error::Tree(fault) => fault.fmt(f),
+            Error::Node(fault) => fault.fmt(f),
             Error::Form(fault) => fault.fmt(f),
             Error::NoPrintTree => f.write_str("the library has no promql_print_tree"),
         }
@@ -184,6 +191,26 @@ pub fn enforce(query: &str, matcher: &str) -> Result<String, Error> {
     text_of(library::enforce(query, matcher))
 }
 
+/// The query that has the tree of this JSON form (`docs/reference/json.md` of the repository), on one line, or laid out where there is a
+/// layout; with parentheses where the tree needs them, if `parentheses` is true. What is returned was read again, and means the tree.
+///
+/// # Errors
+///
+/// `NotATree` where the text is no such form; `TooLargeTree` where the line of the tree is not within the limits of a query; `Unfaithful`
+/// where it would not mean the tree; `LevelTooHigh`; `OutOfMemory` where an allocation failed, `SmallStack` where the thread has little
+/// stack left.
+pub fn print_tree(form: &str, parentheses: bool, layout: Option<Layout>) -> Result<String, Error> {
+    let (mode, Layout { width, level }) = match layout {
+        Some(layout) => (Mode::Pretty, layout),
+        None => (Mode::Line, Layout::default()),
+    };
+    let (text, answer) = library::print_tree(form, mode, level, width, parentheses);
+    match answer.status {
+        library::TOO_LARGE => Err(Error::TooLargeTree(text)),
+        _ => text_of((text, answer)),
+    }
+}
+
 /// What a query names, as JSON without a space: its functions, labels and metrics, and its selectors with their times
 /// (`docs/guide/bindings.md` of the repository, "What a query names").
 ///
@@ -228,6 +255,8 @@ fn text_of((text, answer): (String, Answer)) -> Result<String, Error> {
         library::UNFAITHFUL => Err(Error::Unfaithful(text)),
         library::BARE_INFO => Err(Error::BareInfo),
         library::SMALL_STACK => Err(Error::SmallStack),
+        library::NOT_A_TREE => Err(Error::NotATree(text)),
+        library::NO_PRINT_TREE => Err(Error::NoPrintTree),
         library::LARGE_ENFORCED => Err(Error::LargeEnforced(text)),
         status => unreachable!("status {status}: {text}"),
     }

@@ -1,6 +1,5 @@
 //! The calls of libpromql: promql.h says what each does.
 
-use crate::Layout;
 use std::ptr;
 
 /// `struct promql_result`.
@@ -27,11 +26,12 @@ pub const TOO_LARGE: u32 = 14;
 pub const SMALL_STACK: u32 = 15;
 pub const LARGE_ENFORCED: u32 = 16;
 pub const NOT_A_TREE: u32 = 17;
+/// No status of the library: it is an older one, which has no such call.
+pub const NO_PRINT_TREE: u32 = u32::MAX;
 
-/// Those of `enum promql_mode` that are asked for.
+/// `enum promql_mode`.
 #[derive(Clone, Copy)]
 pub enum Mode {
-    #[cfg(print_tree)]
     Line = 0,
     Pretty = 1,
     Json = 2,
@@ -49,18 +49,6 @@ extern "C" {
         mode: u32,
         level: u32,
         width: usize,
-        buffer: *mut u8,
-        buffer_size: usize,
-        result: *mut Answer,
-    ) -> u32;
-    #[cfg(print_tree)]
-    fn promql_print_tree(
-        tree: *const u8,
-        tree_length: usize,
-        mode: u32,
-        level: u32,
-        width: usize,
-        parentheses: u32,
         buffer: *mut u8,
         buffer_size: usize,
         result: *mut Answer,
@@ -104,6 +92,18 @@ extern "C" {
         buffer_size: usize,
         result: *mut Answer,
     ) -> u32;
+    #[cfg(print_tree)]
+    fn promql_print_tree(
+        tree: *const u8,
+        tree_length: usize,
+        mode: u32,
+        level: u32,
+        width: usize,
+        parentheses: u32,
+        buffer: *mut u8,
+        buffer_size: usize,
+        result: *mut Answer,
+    ) -> u32;
     fn promql_set_limits(max_len: usize, max_pattern_size: usize);
     fn promql_version(buffer: *mut u8, buffer_size: usize, result: *mut Answer) -> u32;
 }
@@ -136,21 +136,6 @@ pub fn print(query: &str, mode: Mode, level: u16, width: usize) -> (String, Answ
     })
 }
 
-/// Prints a tree, in parentheses where it needs them; `None` where the library is an older one.
-#[cfg(print_tree)]
-pub fn print_tree(tree: &str, layout: Option<Layout>) -> Option<(String, Answer)> {
-    let mode = layout.map_or(Mode::Line, |_| Mode::Pretty);
-    let Layout { width, level } = layout.unwrap_or_default();
-    Some(call(tree.len(), |(buffer, size, answer)| unsafe {
-        promql_print_tree(tree.as_ptr(), tree.len(), mode as u32, level.into(), width, 1, buffer, size, answer);
-    }))
-}
-
-#[cfg(not(print_tree))]
-pub fn print_tree(_tree: &str, _layout: Option<Layout>) -> Option<(String, Answer)> {
-    None
-}
-
 pub fn canonical(query: &str) -> (String, Answer) {
     call(query.len(), |(buffer, size, answer)| unsafe {
         promql_canonical(query.as_ptr(), query.len(), buffer, size, answer);
@@ -178,6 +163,19 @@ pub fn check(query: &str) -> (String, Answer) {
 pub fn snippet(query: &str, start: usize, end: usize) -> (String, Answer) {
     call(query.len(), |(buffer, size, answer)| unsafe {
         promql_snippet(query.as_ptr(), query.len(), start, end, buffer, size, answer);
+    })
+}
+
+#[cfg(not(print_tree))]
+pub fn print_tree(_form: &str, _mode: Mode, _level: u16, _width: usize, _parentheses: bool) -> (String, Answer) {
+    (String::new(), Answer { status: NO_PRINT_TREE, ..Answer::default() })
+}
+
+#[cfg(print_tree)]
+pub fn print_tree(form: &str, mode: Mode, level: u16, width: usize, parentheses: bool) -> (String, Answer) {
+    let (tree, length) = (form.as_ptr(), form.len());
+    call(length, |(buffer, size, answer)| unsafe {
+        promql_print_tree(tree, length, mode as u32, level.into(), width, parentheses.into(), buffer, size, answer);
     })
 }
 

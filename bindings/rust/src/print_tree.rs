@@ -1,36 +1,24 @@
 //! From a tree to its text.
 
-use crate::library::{self, Answer};
 use crate::tree::Expr;
-use crate::{Error, Layout, text_of};
+use crate::{Error, Layout};
 use std::error;
 use std::fmt;
 use std::str::FromStr;
 
 /// Why a tree has no text.
 #[derive(Clone, Debug, PartialEq, Eq)]
-pub struct TreeError {
-    /// What kind of fault it is.
-    pub kind: TreeFault,
-    /// The part at fault in the JSON form, as `$.lhs.args[0]`; [`TreeError::node`] finds the expression.
+pub struct NodeError {
+    /// The part at fault in the JSON form, as `$.lhs.args[0]`; [`NodeError::node`] finds the expression.
     pub path: String,
     /// What is wrong there.
     pub message: String,
+    /// What [`print_tree`](crate::print_tree()) says of the tree: `NotATree` where a part is none of a query, `Unfaithful` where the text would
+    /// mean another tree, `TooLargeTree` where it is too long.
+    pub cause: Box<Error>,
 }
 
-/// What kind of fault a tree has.
-#[derive(Clone, Copy, Debug, PartialEq, Eq)]
-#[non_exhaustive]
-pub enum TreeFault {
-    /// A part of it is none of a query.
-    NotATree,
-    /// Its text would be rejected, or mean another tree: an argument has a wrong type, say.
-    Unfaithful,
-    /// Its text is too long, or its patterns are too large together ([`set_limits`](crate::set_limits)).
-    TooLarge,
-}
-
-impl TreeError {
+impl NodeError {
     /// The expression of the tree at the path, or the last one on the way there.
     pub fn node<'a>(&self, tree: &'a Expr) -> &'a Expr {
         let places = places(tree);
@@ -39,13 +27,17 @@ impl TreeError {
     }
 }
 
-impl fmt::Display for TreeError {
+impl fmt::Display for NodeError {
     fn fmt(&self, f: &mut fmt::Formatter<'_>) -> fmt::Result {
         write!(f, "{}: {}", self.path, self.message)
     }
 }
 
-impl error::Error for TreeError {}
+impl error::Error for NodeError {
+    fn source(&self) -> Option<&(dyn error::Error + 'static)> {
+        Some(&*self.cause)
+    }
+}
 
 /// The tree of a query. Lengths of time are cut off to whole milliseconds, as in the JSON form.
 ///
@@ -61,7 +53,7 @@ pub fn parse(query: &str) -> Result<Expr, Error> {
 ///
 /// # Errors
 ///
-/// `Tree` where there is no such text; `OutOfMemory` and `SmallStack`; `NoPrintTree` where the library is an older one.
+/// `Node` where there is no such text; `OutOfMemory` and `SmallStack`; `NoPrintTree` where the library is an older one.
 pub fn print(tree: &Expr) -> Result<String, Error> {
     print_in_mode(tree, None)
 }
@@ -94,26 +86,22 @@ impl FromStr for Expr {
 }
 
 fn print_in_mode(tree: &Expr, layout: Option<Layout>) -> Result<String, Error> {
-    let answer = library::print_tree(&tree.to_json(), layout).ok_or(Error::NoPrintTree)?;
-    text_or_fault(tree, answer)
-}
-
-fn text_or_fault(tree: &Expr, (text, answer): (String, Answer)) -> Result<String, Error> {
-    let (kind, path, message) = match answer.status {
-        library::NOT_A_TREE => match text.split_once(": ") {
-            Some((path, expected)) => (TreeFault::NotATree, path.to_string(), format!("expected {expected}")),
-            None => (TreeFault::NotATree, String::from("$"), text),
-        },
-        library::UNFAITHFUL => (TreeFault::Unfaithful, first_without_text(tree), text),
-        library::TOO_LARGE => (TreeFault::TooLarge, String::from("$"), text),
-        _ => return text_of((text, answer)),
+    let cause = match crate::print_tree(&tree.to_json(), true, layout) {
+        Err(cause @ (Error::NotATree(_) | Error::Unfaithful(_) | Error::TooLargeTree(_))) => cause,
+        other => return other,
     };
-    Err(Error::Tree(TreeError { kind, path, message }))
+    let said = cause.to_string();
+    let (path, message) = match (&cause, said.split_once(": ")) {
+        (Error::NotATree(_), Some((path, expected))) => (path.to_string(), format!("expected {expected}")),
+        (Error::Unfaithful(_), _) => (first_without_text(tree), said),
+        _ => (String::from("$"), said),
+    };
+    Err(Error::Node(NodeError { path, message, cause: Box::new(cause) }))
 }
 
 /// The path of the lowest expression that has no text, though all below it have one: that is where the fault is.
 fn first_without_text(tree: &Expr) -> String {
-    let has_text = |expr: &Expr| library::print_tree(&expr.to_json(), None).map_or(false, |(_, answer)| answer.status == library::OK);
+    let has_text = |expr: &Expr| crate::print_tree(&expr.to_json(), true, None).is_ok();
     let found = places(tree).into_iter().rev().find(|(_, expr)| !has_text(expr));
     found.map_or_else(|| String::from("$"), |(path, _)| path)
 }

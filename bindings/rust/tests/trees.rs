@@ -223,9 +223,9 @@ fn trees_have_texts() {
 }
 
 /// The fault of a tree.
-fn fault(tree: &Expr) -> TreeError {
+fn fault(tree: &Expr) -> NodeError {
     match print(tree) {
-        Err(Error::Tree(fault)) => fault,
+        Err(Error::Node(fault)) => fault,
         other => panic!("{other:?}"),
     }
 }
@@ -236,7 +236,8 @@ fn faults_name_their_nodes() {
     let wrong = Expr::call("rate", [Expr::selector("foo")]);
     let tree = Expr::Binary(binary("+", number("1"), Expr::aggregate_by("sum", &[], wrong.clone()), None));
     let found = fault(&tree);
-    assert_eq!((found.kind, &*found.path, found.node(&tree)), (TreeFault::Unfaithful, "$.rhs.expr", &wrong));
+    assert_eq!((&*found.path, found.node(&tree)), ("$.rhs.expr", &wrong));
+    assert!(matches!(*found.cause, Error::Unfaithful(_)));
     let with_pattern = |value: &str| {
         let mut expr = Expr::selector("a");
         expr.as_selector_mut().unwrap().matchers.add(&Matcher::new(MatchOp::Re, "b", value));
@@ -244,6 +245,6 @@ fn faults_name_their_nodes() {
     };
     let tree = Expr::Paren(ParenExpr { expr: boxed(with_pattern("(")) });
     assert_eq!(fault(&tree).node(&tree), &with_pattern("("));
-    assert_eq!(fault(&with_pattern("c{3000}")).kind, TreeFault::TooLarge);
+    assert!(matches!(*fault(&with_pattern("c{3000}")).cause, Error::TooLargeTree(_)));
     assert_eq!(Expr::call("rates", []).to_string().get(..2), Some("<$"));
 }

@@ -230,7 +230,7 @@ func (r *report) checkChanged(expr promql.Expr) {
 		r.reasons["printed"]++
 		return
 	}
-	var fault *promql.TreeError
+	var fault *promql.NodeError
 	named := errors.As(err, &fault) && fault.Message != "" && strings.HasPrefix(fault.Path, "$")
 	for _, node := range nodes(expr) {
 		if named && node == fault.Node {

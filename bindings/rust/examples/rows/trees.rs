@@ -190,7 +190,7 @@ fn check_changed(report: &mut Report, tree: Expr) {
             let tree = normal(tree);
             report.check(again.as_ref() == Ok(&tree), || format!("read otherwise: {line}: {tree:?}"));
         }
-        Err(Error::Tree(fault)) => {
+        Err(Error::Node(fault)) => {
             report.reason("not printed, with the reason");
             let names_node = fault.path.starts_with('$') && !fault.message.is_empty();
             let is_in_tree = tree.walk().any(|expr| std::ptr::eq(expr, fault.node(&tree)));
