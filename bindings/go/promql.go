@@ -6,9 +6,11 @@
 // proved of the calls, and what is not, is in docs/guide/bindings.md of the repository.
 package promql
 
+// The library is that of lib/, as fork.sh leaves it, and else that of dist/ in the repository.
+
 /*
-#cgo CFLAGS: -I${SRCDIR}/../../dist
-#cgo LDFLAGS: ${SRCDIR}/../../dist/libpromql.a
+#cgo CFLAGS: -I${SRCDIR}/lib -I${SRCDIR}/../../dist
+#cgo LDFLAGS: -L${SRCDIR}/lib -L${SRCDIR}/../../dist -l:libpromql.a
 #include "promql.h"
 */
 import "C"
@@ -80,7 +82,7 @@ func (e *QueryError) Error() string {
 
 // Snippet returns the line of the query where the part begins, a line feed, and a mark below that part.
 func (e *QueryError) Snippet() string {
-	start, end := C.size_t(max(e.Start, 0)), C.size_t(max(e.End, 0))
+	start, end := sizeOf(e.Start), sizeOf(e.End)
 	text, _ := call(e.Query, func(query *C.char, length C.size_t, buffer *C.char, size C.size_t, result *C.struct_promql_result) {
 		C.promql_snippet(query, length, start, end, buffer, size, result)
 	})
@@ -146,34 +148,6 @@ func JSON(query string) ([]byte, error) {
 		return nil, err
 	}
 	return []byte(text), nil
-}
-
-// PrintTree returns the query that has the tree of this JSON form (docs/reference/json.md of the repository), on one line, or as Format does
-// where there are options; with parentheses where the tree needs them, if parentheses is true. What is returned is within the limits of a
-// query, was read again, and means the tree. The errors are ErrNotATree, ErrUnfaithful, ErrTooLargeTree and those without a place.
-func PrintTree(form []byte, parentheses bool, options ...Option) (string, error) {
-	made, mode := layout{width: 100}, C.uint32_t(C.PROMQL_LINE)
-	for _, set := range options {
-		set(&made)
-		mode = C.PROMQL_PRETTY
-	}
-	needed := C.uint32_t(0)
-	if parentheses {
-		needed = 1
-	}
-	text, result := call(string(form), func(query *C.char, length C.size_t, buffer *C.char, size C.size_t, result *C.struct_promql_result) {
-		C.promql_print_tree(query, length, mode, C.uint32_t(made.level), C.size_t(made.width), needed, buffer, size, result)
-	})
-	switch result.status {
-	case C.PROMQL_TOO_LARGE:
-		return "", explained{text, ErrTooLargeTree}
-	case C.PROMQL_UNFAITHFUL:
-		return "", explained{text, ErrUnfaithful}
-	case C.PROMQL_NOT_A_TREE:
-		return "", explained{text, ErrNotATree}
-	default:
-		return textOrError(string(form), text, result)
-	}
 }
 
 // Enforce returns the query on one line with a matcher in every selector, in each of its or-groups: that of a tenant, say. The matcher is
@@ -328,9 +302,10 @@ func textOrError(query, text string, result C.struct_promql_result) (string, err
 	panic(fmt.Sprintf("promql: status %d: %s", result.status, text))
 }
 
-func max(a, b int) int {
-	if a > b {
-		return a
+// sizeOf returns a number as the library has it, 0 for one below.
+func sizeOf(number int) C.size_t {
+	if number < 0 {
+		return 0
 	}
-	return b
+	return C.size_t(number)
 }

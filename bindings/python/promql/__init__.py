@@ -148,9 +148,9 @@ def print_tree(tree: Dict[str, Any], *, parentheses: bool = False, width: Option
     """
     form = json.dumps(tree, ensure_ascii=False)
     if width is None:
-        return _text("", _caller.print_tree(form, Mode.LINE, 0, 0, int(parentheses)), _TREE_ERRORS)
+        return _tree_text(_caller.print_tree(form, Mode.LINE, 0, 0, int(parentheses)))
     level, width = _number("level", level, _MAX_LEVEL), _number("width", width, _MAX_WIDTH)
-    return _text("", _caller.print_tree(form, Mode.PRETTY, level, width, int(parentheses)), _TREE_ERRORS)
+    return _tree_text(_caller.print_tree(form, Mode.PRETTY, level, width, int(parentheses)))
 
 
 def format(query: str, *, width: int = 100, level: int = 0) -> str:
@@ -220,13 +220,24 @@ def _number(name: str, number: int, most: int) -> int:
 _TREE_ERRORS: Dict[int, Type[Exception]] = {Status.TOO_LARGE: TooLargeTreeError, Status.NOT_A_TREE: TreeError}
 
 
-def _text(query: str, answer: Answer, kinds: Optional[Dict[int, Type[Exception]]] = None) -> str:
-    """Returns the text of a call, or raises its error, which is of one of these kinds where they have its status."""
+def _text(query: str, answer: Answer) -> str:
+    """Returns the text of a call, or raises its error."""
     if isinstance(answer, str):
         return answer
-    if kinds is not None and answer[0] in kinds:
-        raise kinds[answer[0]](answer[1])
     raise _error(query, answer)
+
+
+def _tree_text(answer: Answer) -> str:
+    """Returns the text of a call about a tree, or raises its error."""
+    if isinstance(answer, str):
+        return answer
+    raise _tree_error(answer)
+
+
+def _tree_error(failure: Failure) -> Exception:
+    """The error of a call about a tree."""
+    status, message = failure[:2]
+    return _TREE_ERRORS[status](message) if status in _TREE_ERRORS else _error("", failure)
 
 
 # The errors without a place.

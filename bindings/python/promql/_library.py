@@ -51,8 +51,10 @@ _SIGNATURES = {
 def load() -> ctypes.CDLL:
     library = ctypes.CDLL(str(library_path()))
     for name, arguments in _SIGNATURES.items():
-        function = getattr(library, name)
-        function.argtypes, function.restype = arguments, ctypes.c_uint32
+        # (an older library has fewer)
+        function = getattr(library, name, None)
+        if function is not None:
+            function.argtypes, function.restype = arguments, ctypes.c_uint32
     library.promql_set_limits.argtypes, library.promql_set_limits.restype = [ctypes.c_size_t, ctypes.c_size_t], None
     library.promql_set_max_output.argtypes, library.promql_set_max_output.restype = [ctypes.c_size_t], None
     return library

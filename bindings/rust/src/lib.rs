@@ -5,10 +5,34 @@
 //! # Ok::<(), promql_proved::Error>(())
 //! ```
 //!
+//! [`parse`] reads a query into an [`Expr`], which [`print`] prints again:
+//!
+//! ```
+//! # use promql_proved::{Expr, parse};
+//! let expr = parse("rate(foo[5m])")?;
+//! assert_eq!(expr.walk().filter_map(|it| it.as_selector()?.name.as_deref()).collect::<Vec<_>>(), ["foo"]);
+//! let total = Expr::aggregate_by("sum", &["job"], expr); // sum by (job) (rate(foo[5m]))
+//! # Ok::<(), promql_proved::Error>(())
+//! ```
+//!
 //! Any thread may call any function at any time. What is proved of the calls, and what is not, is in
 //! `docs/guide/bindings.md` of the repository.
 
+mod function;
+mod function_table;
+mod json;
 mod library;
+mod print_tree;
+mod read_form;
+mod tree;
+mod visitor;
+mod write_form;
+
+pub use function::{Function, ValueType, get_function};
+pub use print_tree::{NodeError, parse, print, print_layout};
+pub use read_form::FormError;
+pub use tree::*;
+pub use visitor::{ExprVisitor, ExprVisitorMut, walk_expr, walk_expr_mut};
 
 use library::{Answer, Mode};
 use std::error;
@@ -47,6 +71,12 @@ pub enum Error {
     LongOutput(String),
     /// The thread has less than 1.25 MiB of stack left, and a query may need as much. Threads of `std::thread` have 2 MiB.
     SmallStack,
+    /// An expression of a tree is at fault, so that the tree has no text.
+    Node(NodeError),
+    /// The text is no JSON form of a query.
+    Form(FormError),
+    /// The library is an older one, which prints no trees.
+    NoPrintTree,
 }
 
 /// Why and where a query is rejected.
@@ -93,9 +123,14 @@ impl fmt::Display for Error {
                 f.write_str("info without a selector reads series that no matcher limits")
             }
             Error::SmallStack => f.write_str("the thread has less than 1.25 MiB of stack left"),
+            Error::Node(fault) => fault.fmt(f),
+            Error::Form(fault) => fault.fmt(f),
+            Error::NoPrintTree => f.write_str("the library has no promql_print_tree"),
         }
     }
 }
+
+impl error::Error for Rejection {}
 
 impl error::Error for Error {}
 
@@ -230,6 +265,7 @@ fn text_of((text, answer): (String, Answer)) -> Result<String, Error> {
         library::BARE_INFO => Err(Error::BareInfo),
         library::SMALL_STACK => Err(Error::SmallStack),
         library::NOT_A_TREE => Err(Error::NotATree(text)),
+        library::NO_PRINT_TREE => Err(Error::NoPrintTree),
         library::LARGE_ENFORCED => Err(Error::LargeEnforced(text)),
         library::LONG_OUTPUT => Err(Error::LongOutput(text)),
         status => unreachable!("status {status}: {text}"),

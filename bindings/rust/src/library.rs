@@ -27,6 +27,8 @@ pub const SMALL_STACK: u32 = 15;
 pub const LARGE_ENFORCED: u32 = 16;
 pub const NOT_A_TREE: u32 = 17;
 pub const LONG_OUTPUT: u32 = 18;
+/// No status of the library: it is an older one, which has no such call.
+pub const NO_PRINT_TREE: u32 = u32::MAX;
 
 /// `enum promql_mode`.
 #[derive(Clone, Copy)]
@@ -91,6 +93,7 @@ extern "C" {
         buffer_size: usize,
         result: *mut Answer,
     ) -> u32;
+    #[cfg(print_tree)]
     fn promql_print_tree(
         tree: *const u8,
         tree_length: usize,
@@ -165,6 +168,12 @@ pub fn snippet(query: &str, start: usize, end: usize) -> (String, Answer) {
     })
 }
 
+#[cfg(not(print_tree))]
+pub fn print_tree(_form: &str, _mode: Mode, _level: u16, _width: usize, _parentheses: bool) -> (String, Answer) {
+    (String::new(), Answer { status: NO_PRINT_TREE, ..Answer::default() })
+}
+
+#[cfg(print_tree)]
 pub fn print_tree(form: &str, mode: Mode, level: u16, width: usize, parentheses: bool) -> (String, Answer) {
     let (tree, length) = (form.as_ptr(), form.len());
     call(length, |(buffer, size, answer)| unsafe {

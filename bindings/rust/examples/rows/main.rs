@@ -2,10 +2,16 @@
 //!
 //!     rows rows FILE [THREADS]      makes the calls of a file and prints what each gives
 //!     rows random FILE COUNT SEED   makes COUNT broken texts of the queries of such a file, and calls with each
+//!     rows trees FILE               makes trees of such queries, and texts of these again (bindings/trees.py says more)
+//!     rows changed FILE COUNT SEED  changes COUNT of these trees at random
 //!
 //! In THREADS threads each call is made again, and is to give the same.
 
+mod random;
+mod trees;
+
 use promql_proved::{Error, Layout, canonical, check, enforce, format, json, set_limits};
+use random::Random;
 use std::io::{self, BufWriter, Write};
 use std::{env, fs, str, thread};
 
@@ -77,40 +83,28 @@ fn rows(calls: &[Call<'_>], threads: usize) {
     out.flush().expect("standard output takes the answers");
 }
 
-/// Numbers that look random, by shifts of 64 bits.
-struct Random(u64);
-
-impl Random {
-    fn next(&mut self, bound: usize) -> usize {
-        self.0 ^= self.0 << 13;
-        self.0 ^= self.0 >> 7;
-        self.0 ^= self.0 << 17;
-        (self.0 % bound as u64) as usize
+/// Random bytes, or a query that is cut short or changed at some bytes.
+fn broken(random: &mut Random, calls: &[Call<'_>]) -> Vec<u8> {
+    let mut text = match random.next(4) {
+        0 => (0..random.next(64)).map(|_| random.next(256) as u8).collect(),
+        _ => calls[random.next(calls.len())].query.to_vec(),
+    };
+    if random.next(3) == 0 {
+        text.truncate(random.next(text.len() + 1));
     }
-
-    /// Random bytes, or a query that is cut short or changed at some bytes.
-    fn broken(&mut self, calls: &[Call<'_>]) -> Vec<u8> {
-        let mut text = match self.next(4) {
-            0 => (0..self.next(64)).map(|_| self.next(256) as u8).collect(),
-            _ => calls[self.next(calls.len())].query.to_vec(),
-        };
-        if self.next(3) == 0 {
-            text.truncate(self.next(text.len() + 1));
+    for _ in 0..random.next(4) {
+        if !text.is_empty() {
+            let at = random.next(text.len());
+            text[at] = random.next(256) as u8;
         }
-        for _ in 0..self.next(4) {
-            if !text.is_empty() {
-                let at = self.next(text.len());
-                text[at] = self.next(256) as u8;
-            }
-        }
-        text
     }
+    text
 }
 
-fn random(calls: &[Call<'_>], count: usize, seed: u64) {
-    let mut random = Random(2 * seed + 1);
+fn broken_texts(calls: &[Call<'_>], count: usize, seed: u64) {
+    let mut random = Random::new(seed);
     for _ in 0..count {
-        let text = random.broken(calls);
+        let text = broken(&mut random, calls);
         let query = String::from_utf8_lossy(&text);
         match canonical(&query) {
             Ok(line) => assert_eq!(canonical(&line).as_ref(), Ok(&line)),
@@ -126,6 +120,11 @@ fn random(calls: &[Call<'_>], count: usize, seed: u64) {
     println!("{count} passed, 0 failed");
 }
 
+/// The queries of the calls of a file.
+fn queries(bytes: &[u8]) -> Vec<&str> {
+    calls(bytes).iter().map(|call| str::from_utf8(call.query).expect("a query is UTF-8")).collect()
+}
+
 fn main() {
     let words: Vec<String> = env::args().skip(1).collect();
     let words: Vec<&str> = words.iter().map(String::as_str).collect();
@@ -136,7 +135,9 @@ fn main() {
     match words[..] {
         ["rows", _] => rows(&calls(&bytes), 0),
         ["rows", _, threads] => rows(&calls(&bytes), number(threads)),
-        ["random", _, count, seed] => random(&calls(&bytes), number(count), number(seed) as u64),
+        ["random", _, count, seed] => broken_texts(&calls(&bytes), number(count), number(seed) as u64),
+        ["trees", _] => trees::trees(&queries(&bytes)),
+        ["changed", _, count, seed] => trees::changed(&queries(&bytes), number(count), number(seed) as u64),
         _ => panic!("unknown arguments"),
     }
 }
