@@ -7,7 +7,7 @@ use promql_lines::batch::run_batch;
 use promql_lines::batch_program::{BATCH_HELP, BATCH_USAGE, batch_program};
 use promql_lines::settings::Settings;
 use promql_run::run::{Mode, RunError};
-use promql_span::limits::{Limits, MAX_LEN, MAX_PATTERN_SIZE};
+use promql_span::limits::{Limits, MAX_LEN, MAX_OUTPUT, MAX_PATTERN_SIZE};
 use std::alloc::{AllocError, Global};
 use std::io::BufReader;
 use std::process::Abort;
@@ -19,6 +19,7 @@ const LINE: Settings = Settings {
     limits: Limits {
         max_len: MAX_LEN,
         max_pattern_size: MAX_PATTERN_SIZE,
+        max_output: MAX_OUTPUT,
     },
 };
 
