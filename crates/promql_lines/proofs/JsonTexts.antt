@@ -21,9 +21,9 @@ unfolding json.value
 quoted_is_read s = ap (λ ts. option_and_then of_json (option_and_then (λ p. json.if_last p.0 p.1) (json.value max_depth ts))) (string_tokens s)
 
 -- the answer with a value
-pub ok_object : Data → Data
+abbrev pub ok_object : Data → Data
 ok_object value = object (member (codes "ok") value no_members)
 
 pub ok_text : (d : Data) → compact_text (ok_object d) ≡ codes "{\"ok\":" ++ (compact_text d ++ codes "}")
-unfolding serde_json_on_literals, ok_object
+unfolding serde_json_on_literals
 ok_text d = refl

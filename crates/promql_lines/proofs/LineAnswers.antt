@@ -1,5 +1,5 @@
 -- The answer to a line.
-use Rattle.std.proofs.Common.{◌≡◌, ◌≤◌, ◌++◌, String, ap, codes, length, refl, string_bytes, sym}
+use Rattle.std.proofs.Common.{◌≡◌, String, ap, refl, string_bytes, sym}
 use Rattle.std.proofs.lemmas.Result.{IfOk-weaker}
 use Rattle.std.specs.Prelude.{false, IfErr, IfOk, Option, Some, None, Result, Ok, Err}
 use Rattle.std.specs.Str.{IsUtf8}
@@ -11,11 +11,10 @@ use Rattle.promql_text.specs.Texts.{Text}
 use Rattle.promql_ast.specs.Tree.{Tree}
 use Rattle.promql_report.specs.Rejecting.{IsRead}
 use Rattle.promql_span.specs.declared.limits.Limits.{Limits}
-use Rattle.promql_json.specs.declared.error.JsonError.{JsonError}
 use Rattle.promql_lines.specs.declared.settings.Settings.{Settings}
 use Rattle.promql_run.specs.declared.run.RunError.TheVariants.{Memory, Read, NotUtf8, Parse, Write, Json}
-use Rattle.promql_lines.specs.Batch.{Asks, FailsOnQuery, FailsWith, HasQueryText, IsAsked, IsOkLine, IsQueryAnswer, format_text, line_error_object, value_text}
-use Rattle.promql_lines.specs.BatchSteps.{IsEnforceFaultOf, IsOutputFault}
+use Rattle.promql_lines.specs.Batch.{Asks, FailsOnQuery, FailsWith, IsOkLine, IsQueryAnswer, line_error_object}
+use Rattle.promql_lines.specs.BatchSteps.{IsEnforceFaultOf}
 use Rattle.promql_lines.specs.Requests.{format_in, format_with, matcher_in, query_in}
 use Rattle.promql_lines.specs.declared.line.LineError.{LineError}
 use Rattle.promql_lines.specs.declared.line.LineError.TheVariants.{Run, Rejected, NotARequest, Matcher, Info, LargeMatcher, LongOutput}
@@ -46,35 +45,6 @@ error_is_finite built (Matcher e) message is = ap has_float is
 error_is_finite built Info message is = ap has_float is
 error_is_finite built (LargeMatcher fault) message is = ap has_float is
 error_is_finite built (LongOutput fault) message is = ap has_float is
-
--- what is shown of a query that was read is its text
-pub text_of_query : {limits : Limits} {query : Text} {matcher : Option Text} {format : Format} (made : Result Text JsonError) (tree printed : Tree) → IsRead limits query tree → IsAsked limits matcher tree printed → format_text format printed ≡ made
-    → HasQueryText limits query matcher format made
-text_of_query made tree printed parsed asked gives = record { tree = tree; parsed = parsed; printed = printed; asked = asked; gives = gives }
-
--- and why there is no answer with it
-fails_of_output : (limits : Limits) (query : Text) (matcher : Option Text) (format : Format) (output : Text) (e : LineError) → HasQueryText limits query matcher format (Ok output) → IsOutputFault limits output e → FailsOnQuery limits query matcher format e
-fails_of_output limits query matcher format output (Run Memory) has fault = tt
-fails_of_output limits query matcher format output (LongOutput f) has fault = (output, has, fault)
-fails_of_output limits query matcher format output (Matcher e) has fault = absurd fault
-fails_of_output limits query matcher format output Info has fault = absurd fault
-fails_of_output limits query matcher format output (LargeMatcher f) has fault = absurd fault
-fails_of_output limits query matcher format output (Run Read) has fault = absurd fault
-fails_of_output limits query matcher format output (Run NotUtf8) has fault = absurd fault
-fails_of_output limits query matcher format output (Run (Parse e)) has fault = absurd fault
-fails_of_output limits query matcher format output (Run Write) has fault = absurd fault
-fails_of_output limits query matcher format output (Run Json) has fault = absurd fault
-fails_of_output limits query matcher format output (Rejected r) has fault = absurd fault
-fails_of_output limits query matcher format output NotARequest has fault = absurd fault
-
-pub answer_of_output : {E : Type 0} (r : Result (String Global) E) (limits : Limits) (query : Text) (matcher : Option Text) (format : Format) (output : Text) → HasQueryText limits query matcher format (Ok output)
-    → IfOk r (λ s. length output ≤ limits.max_output) → IfOk r (λ s. string_bytes s ≡ codes "{\"ok\":" ++ (value_text format output ++ codes "}")) → IfOk r (λ s. IsQueryAnswer limits query matcher format (string_bytes s))
-answer_of_output (Ok s) limits query matcher format output has short is = record { output = output; has = has; short = short; is = is }
-answer_of_output (Err e) limits query matcher format output has short is = tt
-
-pub error_of_output : {T : Type 0} (r : Result T LineError) (limits : Limits) (query : Text) (matcher : Option Text) (format : Format) (output : Text) → HasQueryText limits query matcher format (Ok output) → IfErr r (IsOutputFault limits output) → IfErr r (FailsOnQuery limits query matcher format)
-error_of_output (Ok s) limits query matcher format output has fault = tt
-error_of_output (Err e) limits query matcher format output has fault = fails_of_output limits query matcher format output e has fault
 
 -- an error of enforcing is one of a query that has the tree
 pub fails_of_matcher : (limits : Limits) (e : LineError) (query : Text) (matcher : Option Text) (format : Format) (t : Tree) → IsRead limits query t → IsEnforceFaultOf limits matcher t e → FailsOnQuery limits query matcher format e

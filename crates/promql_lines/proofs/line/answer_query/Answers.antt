@@ -1,14 +1,12 @@
-use Rattle.std.proofs.Common.{ap, refl, string_bytes, sym, ◌∙◌, subst}
+use Rattle.std.proofs.Common.{sym, subst}
 use Rattle.std.proofs.lemmas.Result.{err_from_is_err_and}
-use Rattle.std.specs.Prelude.{Err, IfErr, IfOk, option_map}
+use Rattle.std.specs.Prelude.{IfErr, option_map}
 use Rattle.promql_ast.specs.View.{tree_of}
 use Rattle.promql_report.specs.Rejecting.{IsReadAs}
-use Rattle.promql_run.specs.StepErrors.{IsShowError}
 use Rattle.promql_run.proofs.NoExtensions.{answers_are_plain}
 use Rattle.promql_lines.proofs.EnforcedTrees.{asked_low, asked_plain}
-use Rattle.promql_lines.proofs.LineAnswers.{answer_of_query, fails_of_matcher, fails_of_rendering}
-use Rattle.promql_lines.specs.Batch.{FailsOnQuery, format_value}
-use Rattle.promql_lines.specs.BatchSteps.{IsShown}
+use Rattle.promql_lines.proofs.LineAnswers.{fails_of_matcher}
+use Rattle.promql_lines.specs.Batch.{FailsOnQuery}
 use Rattle.promql_lines.proofs.line.answer_query.Goals as goal
 
 pub returns-in_err-expr-clause-err : goal.returns-in_err-expr-clause-err
