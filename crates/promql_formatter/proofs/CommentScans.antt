@@ -47,7 +47,7 @@ scanned (b ∷ bs) =
     (λ end. let no = no_hash b end in (rw (no, end) rest.0, rw end (ap (λ t. line_feed ∷ t) rest.0)))
     (λ apart. (
       by_bool (b == hash) _ (λ is. rw (is, apart) (ap (λ t. b ∷ t) rest.1 ∙ sym (begins b (lines bs) is))) (λ no. rw (no, apart) (rest.0 ∙ sym (skips b (lines bs) no))),
-      rw apart (ap (λ t. b ∷ t) rest.1 ∙ sym (goes_on b (lines bs)))
+      rw apart (ap (λ t. b ∷ t) rest.1 ∙ sym (goes_on b (lines bs))),
     ))
 
 -- the comments of all gaps
@@ -60,18 +60,18 @@ clamped_gap : (s : Text) (a m e : ℕ) → length s ≤ m → take (e - min a m)
 clamped_gap s a m e fits = elim (cases_lt a m) [
   | inl low ↦ let less : a ≤ m = omega arith in rw (min-eq_left less) refl
   | inr high ↦
-    let past : length s ≤ a = omega arith in
-    let ends : min a m ≡ m = min-eq_right high in
-    rw (ends, drop_all m s fits, drop_all a s past) (take-nil (e - m) ∙ sym (take-nil (e - a)))
+      let past : length s ≤ a = omega arith in
+      let ends : min a m ≡ m = min-eq_right high in
+      rw (ends, drop_all m s fits, drop_all a s past) (take-nil (e - m) ∙ sym (take-nil (e - a)))
 ]
 
 pub clamped_gaps : (s : Text) (a m : ℕ) (xs : List Lexeme) → length s ≤ m → gaps s (min a m) xs ≡ gaps s a xs
 clamped_gaps s a m [] fits = elim (cases_lt a m) [
   | inl low ↦ let less : a ≤ m = omega arith in rw (min-eq_left less) refl
   | inr high ↦
-    let past : length s ≤ a = omega arith in
-    let ends : min a m ≡ m = min-eq_right high in
-    rw (ends, drop_all m s fits, drop_all a s past) refl
+      let past : length s ≤ a = omega arith in
+      let ends : min a m ≡ m = min-eq_right high in
+      rw (ends, drop_all m s fits, drop_all a s past) refl
 ]
 clamped_gaps s a m (x ∷ xs) fits = ap (λ gap. gap ∷ gaps s (x.start + x.len) xs) (clamped_gap s a m x.start fits)
 

@@ -1,2 +1,3 @@
 pub mod Comments
 pub mod CommentScans
+pub mod Formats

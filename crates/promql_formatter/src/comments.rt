@@ -7,7 +7,6 @@ ghost use Rattle.promql_text.specs.Texts.{Text};
 ghost use Rattle.promql_formatter.specs.CommentScans.{scan};
 ghost use Rattle.promql_formatter.specs.Comments.{comment_lines, line_comment, lines};
 
-
 use promql_token::scan::Lexer;
 use std::alloc::{AllocError, Global};
 

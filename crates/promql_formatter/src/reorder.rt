@@ -53,7 +53,9 @@ pub(crate) fn reorder(alloc: Global, pieces: Pieces) -> Result<Pieces, AllocErro
         reordered.push(alloc, &pieces.bytes, *piece)?;
     }
     let Pieces {
-        bytes, comments, ..
+        bytes,
+        comments,
+        ..
     } = pieces;
     Ok(Pieces {
         bytes,
@@ -187,7 +189,9 @@ fn joined(
 ) -> Result<Vec<Piece>, AllocError> {
     let mut joined = Vec::with_capacity(alloc, list.len())?;
     for matcher in matchers {
-        if let Some(comma) = comma && !joined.is_empty() {
+        if let Some(comma) = comma
+            && !joined.is_empty()
+        {
             joined.push(comma)?;
         }
         for piece in list.get(matcher.start..matcher.end).unwrap_or(&[]) {

@@ -1,7 +1,9 @@
 //! One spelling for numbers, durations and strings: docs/reference/formatting.md, "Spelling".
 
 use promql_grammar::TokenKind;
-use promql_text::{DurationText, Quoted, QuoteError, parse_duration, parse_str_radix, unquote_string};
+use promql_text::{
+    DurationText, QuoteError, Quoted, parse_duration, parse_str_radix, unquote_string,
+};
 use std::alloc::{AllocError, Global};
 
 /// The spelling of a token's text; `None` where it stays as it is written.

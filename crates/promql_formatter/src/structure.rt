@@ -124,10 +124,23 @@ impl Structure {
         match level.context {
             Context::Expressions => self.take_expression(index, level.is_new, &mut step)?,
             Context::Labels => take_label(level.is_new, &mut step),
-            Context::Matchers => take_matcher(level.is_new, self.before, &mut step),
+            Context::Matchers => {
+                self.keep_after_or(&piece);
+                take_matcher(level.is_new, self.before, &mut step);
+            }
             Context::Value => take_value(&mut step),
         }
         self.finish(alloc, index, step)
+    }
+
+    /// Puts a comment after `or` on the line of it: between braces `or` is an operator only before a space.
+    fn keep_after_or(&mut self, piece: &Piece) {
+        if self.before != TokenKind::Operator(T_LOR) || !piece.has_comments() {
+            return;
+        }
+        if let Some(comment) = self.pieces.comments.get_mut(piece.first_comment) {
+            comment.own_line = false;
+        }
     }
 
     /// Writes down what was found of a token, and opens or closes brackets.

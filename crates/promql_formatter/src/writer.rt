@@ -103,8 +103,9 @@ impl Writer {
         Ok(())
     }
 
-    /// Begins a line.
+    /// Begins a line. At most half of the width is indentation.
     fn write_line(&mut self, indent: usize) -> Result<(), AllocError> {
+        let indent = indent.min(self.options.width / 2);
         self.out.push(b'\n')?;
         for _ in 0..indent {
             self.out.push(b' ')?;
@@ -164,7 +165,8 @@ impl Writer {
         if self.is_ended {
             self.continue_line()?;
         }
-        let is_broken = self.frame().is_broken && !fits(rest, self.room(), self.is_fresh, Until::End);
+        let is_broken = self.frame().is_broken
+            && !fits(rest, self.room(), self.is_fresh, Until::End);
         self.frames.push(Frame {
             is_broken,
             has_lines: false,

@@ -20,14 +20,16 @@ loop-token-preserved c =
     let clamp : gaps s c.saturating_add-at.result rest ≡ gaps s past rest = ap (λ n. gaps s n rest) c.saturating_add-at.ensures ∙ clamped_gaps s past _ rest fits in
     let is : gap ≡ take (x.start - c.loop-token.at) (drop c.loop-token.at s) = c.between.ensures ∙ ap (λ bytes. take (x.start - c.loop-token.at) (drop c.loop-token.at bytes)) c.as_bytes-bytes.ensures.value in
     let pushed : c.push_comments.new.out.items ≡ found ++ all (lines gap) = c.in_ok-push_comments.ensures in
-    let more : all (lines gap) ++ in_gaps (gaps s past rest) ≡ in_gaps (gaps s c.loop-token.at (x ∷ rest)) = ap (λ g. all (lines g) ++ in_gaps (gaps s past rest)) is in
-    (tt, tt,
+    let more : all (lines gap) ++ in_gaps (gaps s past rest) ≡ in_gaps (gaps s c.loop-token.at (x ∷ rest)) = ap (λ g. all (lines g) ++ in_gaps (gaps s past rest)) is in (
+      tt,
+      tt,
       ap (λ t. t ++ in_gaps (gaps s c.saturating_add-at.result rest)) pushed
-      ∙ ap (λ gs. (found ++ all (lines gap)) ++ in_gaps gs) clamp
-      ∙ append_assoc found (all (lines gap)) (in_gaps (gaps s past rest))
-      ∙ ap (λ t. found ++ t) more
-      ∙ ap (λ xs. found ++ in_gaps (gaps s c.loop-token.at xs)) (sym head)
-      ∙ c.loop-token.invariant.2)
+          ∙ ap (λ gs. (found ++ all (lines gap)) ++ in_gaps gs) clamp
+          ∙ append_assoc found (all (lines gap)) (in_gaps (gaps s past rest))
+          ∙ ap (λ t. found ++ t) more
+          ∙ ap (λ xs. found ++ in_gaps (gaps s c.loop-token.at xs)) (sym head)
+          ∙ c.loop-token.invariant.2,
+    )
 
 pub returns : goal.returns
 returns c =
