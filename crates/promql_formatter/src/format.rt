@@ -1,11 +1,11 @@
 //! A query over several lines, with its comments: docs/reference/formatting.md.
 
-ghost use Rattle.std.specs.Prelude.{◌≡◌, ◌≢◌, ◌↔◌, true, Ok, IfErr, IfOk, IsErrOf, IsTrue, string_bytes};
+ghost use Rattle.std.specs.Prelude.{◌≡◌, ◌≢◌, ◌↔◌, Err, Ok, IfOk, IsErrOf, IsTrue, string_bytes};
 ghost use Rattle.promql_ast.specs.Normal.{normal};
 ghost use Rattle.promql_ast.specs.View.{tree_of};
 ghost use Rattle.promql_span.specs.ErrorPlaces.{IsPlaceOf};
 ghost use Rattle.promql_span.specs.declared.diagnosis.Diagnosis.{Diagnosis};
-ghost use Rattle.promql_syntax.specs.ParseAnswers.{IsAnswerTo};
+ghost use Rattle.promql_syntax.specs.ParseAnswers.{IsAnswerTo, plain_error_of};
 ghost use Rattle.promql_formatter.specs.Comments.{comment_lines};
 ghost use Rattle.promql_formatter.specs.Formats.{IsFormatOf, IsKept, IsQuery, IsRejected};
 ghost use Rattle.promql_formatter.specs.declared.format_error.FormatError.TheVariants as errors;

@@ -8,8 +8,16 @@ use std::test::Fail;
 const REJECTED: [(&str, &str, usize); 5] = [
     ("", "no expression found in input", 0),
     ("a # b\n+", "invalid promql query", 7),
-    ("a[5m # b\n]", "unexpected character inside brackets: '#'", 5),
-    ("rate(a)", "expected type matrix in call to function 'rate', got vector", 5),
+    (
+        "a[5m # b\n]",
+        "unexpected character inside brackets: '#'",
+        5,
+    ),
+    (
+        "rate(a)",
+        "expected type matrix in call to function 'rate', got vector",
+        5,
+    ),
     ("a{b=~'['}", "illegal regex for [", 5),
 ];
 

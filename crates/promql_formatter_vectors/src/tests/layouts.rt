@@ -19,11 +19,7 @@ const LAYOUTS: [(&str, usize, &str); 16] = [
         30,
         "sum(\n  rate(foo{a=\"b\"}[5m])\n) * 60 > 1",
     ),
-    (
-        "f{a='1',b='2'}",
-        13,
-        "f{\n  a=\"1\",\n  b=\"2\",\n}",
-    ),
+    ("f{a='1',b='2'}", 13, "f{\n  a=\"1\",\n  b=\"2\",\n}"),
     ("{a='1' or b='2'}", 12, "{\n  a=\"1\"\n  or b=\"2\",\n}"),
     (
         "sum by(aaaaaaa,bbbbbbb)(c)",
