@@ -1,0 +1,3 @@
+pub mod Settings
+pub mod Layouts
+pub mod ProgramArguments
