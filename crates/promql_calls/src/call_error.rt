@@ -4,6 +4,7 @@ ghost use Rattle.std.specs.Prelude.{◌≡◌};
 ghost use Rattle.promql_calls.specs.CallResults.{error_status};
 
 use promql_lines::enforced_line::EnforcedLineError;
+use promql_lines::tree_text::TreeTextError;
 use promql_report::rejection::Rejection;
 use promql_span::limits::LongOutput;
 use std::alloc::AllocError;
@@ -33,6 +34,9 @@ pub enum CallError {
     /// The text is not within the limits.
     #[error("{0}")]
     LongOutput(LongOutput),
+    /// The tree that was given has no text.
+    #[error("{0}")]
+    NotPrinted(TreeTextError),
 }
 
 impl CallError {
@@ -48,6 +52,7 @@ impl CallError {
             CallError::UnknownMode => 9,
             CallError::NotEnforced(error) => u32::from(error.number()),
             CallError::LongOutput(_) => 18,
+            CallError::NotPrinted(error) => u32::from(error.number()),
         }
     }
 }

@@ -74,7 +74,8 @@ fn result_of(error: &CallError, length: usize) -> CallResult
         | CallError::NumberTooWide
         | CallError::UnknownMode
         | CallError::NotEnforced(_)
-        | CallError::LongOutput(_) => plain(error.status(), length),
+        | CallError::LongOutput(_)
+        | CallError::NotPrinted(_) => plain(error.status(), length),
     }
 }
 

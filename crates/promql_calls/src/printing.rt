@@ -37,7 +37,7 @@ pub(crate) fn format_of(mode: u32, level: u32, width: usize) -> Option<Format>
 }
 
 /// The text, if it is within the limits.
-fn within(limits: &Limits, text: String) -> Result<String, CallError>
+pub(crate) fn within(limits: &Limits, text: String) -> Result<String, CallError>
     ensures ok { IfOk result (λ s. (string_bytes s ≡ string_bytes text) × (length (string_bytes s) ≤ limits.now.max_output)) }
     ensures err { IfErr result (IsOutputFault limits.now (string_bytes text)) }
 {
