@@ -5,8 +5,7 @@ use Rattle.promql_ast.specs.Normal.{normal}
 use Rattle.promql_ast.specs.Tree.{Tree}
 use Rattle.promql_span.specs.ErrorPlaces.{IsPlaceOf}
 use Rattle.promql_span.specs.declared.diagnosis.Diagnosis.{Diagnosis}
-use Rattle.promql_syntax.specs.ParseAnswers.{IsAnswerTo, plain_error_of}
-use Rattle.promql_syntax.specs.declared.parser.ParseError.TheVariants as errors
+use Rattle.promql_syntax.specs.ParseAnswers.{IsAnswerTo, memory, plain_error_of}
 use Rattle.promql_formatter.specs.Comments.{comment_lines}
 
 -- where the spelling is kept, the tree stays as it is; else its normal form does
@@ -31,5 +30,5 @@ pub record IsQuery (text : Text) : Type 0 where
 -- the text is rejected, for this reason and at this place
 pub record IsRejected (text : Text) (d : Diagnosis) : Type 0 where
   pub answer : IsAnswerTo text (Err (plain_error_of d.error))
-  pub own : d.error ≢ errors.Memory
+  pub own : plain_error_of d.error ≢ memory
   pub place : IsPlaceOf text d.error d.span

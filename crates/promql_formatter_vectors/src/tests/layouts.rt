@@ -16,7 +16,7 @@ const LAYOUTS: [(&str, usize, &str); 16] = [
     ("sum(a)*60>1", 11, "sum(a) * 60\n> 1"),
     (
         "sum(rate(foo{a='b'}[5m]))*60>1",
-        30,
+        24,
         "sum(\n  rate(foo{a=\"b\"}[5m])\n) * 60 > 1",
     ),
     ("f{a='1',b='2'}", 13, "f{\n  a=\"1\",\n  b=\"2\",\n}"),
