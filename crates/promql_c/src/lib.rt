@@ -119,8 +119,7 @@ pub extern "C" fn call_print_tree(
     ensures { ShowsSome (IsTreePrintOf limits.now form.now (format_numbered mode level width) (not (parentheses == 0)))
         shown.new buffer.old buffer.new }
 {
-    *shown =
-        promql_calls::print_tree(alloc, limits, form, mode, level, width, parentheses, buffer);
+    *shown = promql_calls::print_tree(alloc, limits, form, mode, level, width, parentheses, buffer);
 }
 
 /// `promql_calls::version`.

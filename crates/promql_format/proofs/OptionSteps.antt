@@ -12,7 +12,7 @@ flag_first : (s : Settings) (w : String Global) (words : List (String Global)) �
 flag_first s w [] is = sym (ap (λ b. cond b (Some (with_flag s (string_bytes w))) None) is)
 flag_first s w (v ∷ words) is =
     sym (ap (λ b. cond b (settings_with (with_flag s (string_bytes w)) (map string_bytes (v ∷ words)))
-          (option_and_then (λ n. option_and_then (λ changed. settings_with changed (map string_bytes words)) (with_number s (string_bytes w) n)) (number_in (string_bytes v)))) is)
+    (option_and_then (λ n. option_and_then (λ changed. settings_with changed (map string_bytes words)) (with_number s (string_bytes w) n)) (number_in (string_bytes v)))) is)
 
 pub one_flag : (s : Settings) (words : List (String Global)) (word : String Global) → 1 ≤ length words → word ≡ get_or words 0 word → is_flag (string_bytes word) ≡ true
     → settings_with (with_flag s (string_bytes word)) (map string_bytes (take (length words - 1) (drop 1 words))) ≡ settings_with s (map string_bytes words)
@@ -28,6 +28,6 @@ pub one_number : (s changed : Settings) (w v : String Global) (n : ℕ) (words :
     → settings_with changed (map string_bytes words) ≡ settings_with s (map string_bytes (w ∷ v ∷ words))
 one_number s changed w v n words no read changes =
     sym (ap (λ b. cond b (settings_with (with_flag s (string_bytes w)) (map string_bytes (v ∷ words)))
-          (option_and_then (λ n. option_and_then (λ changed. settings_with changed (map string_bytes words)) (with_number s (string_bytes w) n)) (number_in (string_bytes v)))) no
+    (option_and_then (λ n. option_and_then (λ changed. settings_with changed (map string_bytes words)) (with_number s (string_bytes w) n)) (number_in (string_bytes v)))) no
     ∙ ap (λ o. option_and_then (λ n. option_and_then (λ changed. settings_with changed (map string_bytes words)) (with_number s (string_bytes w) n)) o) read
     ∙ ap (λ o. option_and_then (λ changed. settings_with changed (map string_bytes words)) o) changes)

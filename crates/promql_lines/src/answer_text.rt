@@ -34,11 +34,7 @@ const ROOM: usize = 32;
 /// # Errors
 ///
 /// `AllocError` where an allocation failed.
-pub fn shown_text(
-    alloc: Global,
-    format: Format,
-    expr: &Expr,
-) -> Result<Option<String>, AllocError>
+pub fn shown_text(alloc: Global, format: Format, expr: &Expr) -> Result<Option<String>, AllocError>
     requires low { height (tree_of expr.now) ≤ MAX_DEPTH }
     requires plain { HasNoExtension (tree_of expr.now) }
     ensures text { IfOk result (λ shown.

@@ -29,7 +29,8 @@ pub const BATCH_USAGE: &str =
 pub const BATCH_VERSION: &str = "promql_batch 0.4.0\n";
 
 /// What `--help` prints.
-pub const BATCH_HELP: &str = "usage: promql_batch pretty|line|json [--max-len N] [--max-patterns N] [--max-output N]
+pub const BATCH_HELP: &str =
+    "usage: promql_batch pretty|line|json [--max-len N] [--max-patterns N] [--max-output N]
        promql_batch --help | --version
 
 Reads a PromQL query from each line of standard input, and writes a JSON object

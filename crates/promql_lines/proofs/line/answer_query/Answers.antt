@@ -28,4 +28,3 @@ shown_text-shown-requires-clause-plain c =
     let parsed = subst (IsReadAs c.args.limits.now c.args.query.now) c.in-Ok-Ok.field-0-is c.in-Ok-Ok.ensures in
     asked_plain c.args.limits.now (option_map (λ s. s.now) c.args.matcher) (tree_of c.in-Ok-Ok.expr) (tree_of c.in_ok-expr.expr) c.in_ok-expr.ensures.ok
     (answers_are_plain c.args.query.now (tree_of c.in-Ok-Ok.expr) parsed.1)
-
