@@ -21,7 +21,7 @@ format_number error.Memory = 1
 format_number (error.Limit fault) = 14
 format_number (error.Rejected d) = 4
 format_number error.Unfaithful = 12
-format_number error.Unformatted = 17
+format_number error.Unformatted = 19
 
 -- the query is within its limits, and this is a layout of it
 pub record IsLayout (s : Settings) (query layout : Text) : Type 0 where
@@ -88,7 +88,7 @@ IsInputLayout s left left_after (Err e) = WritesNoLayout s e left left_after
 
 -- the statuses of these errors
 abbrev pub IsLayoutStatus : ℕ → Type 0
-IsLayoutStatus status = (status ≡ 4) ⊎ (status ≡ 12) ⊎ (status ≡ 14) ⊎ (status ≡ 17)
+IsLayoutStatus status = (status ≡ 4) ⊎ (status ≡ 12) ⊎ (status ≡ 14) ⊎ (status ≡ 19)
 
 -- each status of a query
 abbrev pub IsFormatStatus : ℕ → Type 0
