@@ -46,10 +46,10 @@ def form_of(tree: Expr) -> Form:
         # (those of the children were made before, the last one first)
         for name in expr.CHILDREN:
             value = getattr(expr, name)
-            if isinstance(value, tuple):
-                form[name] = [forms.pop() for _ in value]
-            elif value is not None:
+            if isinstance(value, Expr):
                 form[name] = forms.pop()
+            elif value is not None:
+                form[name] = [forms.pop() for _ in value]
         forms.append(form)
     return cast(Form, forms.pop())
 
@@ -63,10 +63,10 @@ def _places(tree: Expr) -> Iterator[Tuple[str, Expr]]:
         below: List[Tuple[str, Expr]] = []
         for name in expr.CHILDREN:
             value = getattr(expr, name)
-            if isinstance(value, tuple):
-                below.extend((f"{path}.{name}[{number}]", it) for number, it in enumerate(value))
-            elif value is not None:
+            if isinstance(value, Expr):
                 below.append((f"{path}.{name}", value))
+            elif value is not None:
+                below.extend((f"{path}.{name}[{number}]", it) for number, it in enumerate(value))
         left.extend(reversed(below))
 
 

@@ -21,6 +21,7 @@ import promql
 from ._members import FormError
 from ._nodes import (
     Aggregation,
+    At,
     Binary,
     Call,
     Cardinality,
@@ -41,6 +42,7 @@ from ._printing import NodeError, tree_of
 
 __all__ = [
     "Aggregation",
+    "At",
     "Binary",
     "Call",
     "Cardinality",
