@@ -93,6 +93,8 @@ func Print(expr Expr, options ...Option) (string, error) {
 	failed := &NodeError{"$", said.message, expr, said.cause}
 	switch said.cause {
 	case ErrNotATree:
+		// (the form is JSON, but may be deeper than the library reads)
+		failed.Message = "nested too deeply"
 		if path, expected, found := strings.Cut(said.message, ": "); found {
 			failed.Path, failed.Message, failed.Node = path, "expected "+expected, nodeAt(expr, path)
 		}

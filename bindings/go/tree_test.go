@@ -268,6 +268,13 @@ func TestPrintErrors(t *testing.T) {
 			t.Errorf("%d: %v", i, err)
 		}
 	}
+	var deep promql.Expr = promql.NewNumber(1)
+	for i := 0; i < 200; i++ {
+		deep = &promql.ParenExpr{Expr: deep}
+	}
+	if _, err := promql.Print(deep); err == nil || err.Error() != "$: nested too deeply" || !errors.Is(err, promql.ErrNotATree) {
+		t.Error(err)
+	}
 	if got := promql.NewCall("rates").String(); !strings.HasPrefix(got, "%!($.func") && !strings.HasPrefix(got, "%!($: ") {
 		t.Error(got)
 	}

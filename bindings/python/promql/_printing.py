@@ -117,8 +117,8 @@ def _printed(tree: Expr, mode: Mode, level: int, width: int) -> str:
     if isinstance(error, promql.TreeError):
         path, colon, expected = str(error).partition(": ")
         if not colon:
-            # (as of a tree that is deeper than the library reads)
-            raise NodeError(str(error), "$", tree) from error
+            # (the form is JSON, but deeper than the library reads)
+            raise NodeError("nested too deeply", "$", tree) from error
         raise NodeError(f"expected {expected}", path, _node_at(tree, path)) from error
     if isinstance(error, promql.UnfaithfulError):
         path, node = _first_without_text(tree)

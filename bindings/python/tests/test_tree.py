@@ -234,7 +234,7 @@ class Texts(unittest.TestCase):
         expr = Selector("a")
         for _ in range(200):
             expr = Paren(expr)
-        self.check_error(expr, "$", expr)
+        self.assertEqual(str(self.check_error(expr, "$", expr)), "$: nested too deeply")
 
 
 if __name__ == "__main__":
