@@ -15,6 +15,8 @@ import json
 import random
 import sys
 from collections import Counter
+from importlib.machinery import SourceFileLoader
+from importlib.util import module_from_spec, spec_from_loader
 from pathlib import Path
 
 import rows
@@ -29,10 +31,20 @@ MOST_DEPTH = 127
 sys.setrecursionlimit(100_000)  # JSON of high trees
 
 
+def queries_of_rows():
+    """The queries of all rows that print something, those of great heights among them."""
+    sys.dont_write_bytecode = True
+    loader = SourceFileLoader("row_files", str(rows.ROOT / "bin" / "rows"))
+    module = module_from_spec(spec_from_loader("row_files", loader))
+    loader.exec_module(module)
+    found = module.read_rows(sorted((rows.ROOT / "rows").glob("*.tsv")))
+    return [module.query_of(row.mode, row.text) for row in found if row.code == 0]
+
+
 def accepted_queries():
-    """The queries of the stored run that are accepted, and those of bench/queries, each once."""
+    """The queries that rows accept, those that the stored run asks again, and those of bench/queries, each once."""
     asked, replies = ((rows.RUN / name).read_bytes().split(b"\n")[:-1] for name in ("stdin", "stdout"))
-    found = []
+    found = queries_of_rows()
     for line, reply in zip(asked, replies):
         if b"ok" in reply and "ok" in json.loads(reply):
             request = json.loads(line)
