@@ -187,8 +187,8 @@ def changed(generator, trees):
         place = generator.randrange(len(nodes))
         node = nodes[place]
         if isinstance(node, (tree.Selector, tree.RangeSelector)) and generator.random() < 0.6:
-            matcher = tree.Matcher(generator.choice("abc"), generator.choice(("=", "!=", "=~", "!~")), generator.choice(("", "x", "é|.*", "(")))
-            return with_node(expr, place, node.with_matcher(matcher))
+            op, value = generator.choice(("=", "!=", "=~", "!~")), generator.choice(("", "x", "é|.*", "("))
+            return with_node(expr, place, node.with_matcher(tree.Matcher(generator.choice("abc"), op, value)))
         if isinstance(node, tree.Binary) and generator.random() < 0.6:
             return with_node(expr, place, node.replace(lhs=node.rhs, rhs=node.lhs))
         if generator.random() < 0.2:

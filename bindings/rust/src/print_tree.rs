@@ -13,8 +13,8 @@ pub struct NodeError {
     pub path: String,
     /// What is wrong there.
     pub message: String,
-    /// What [`print_tree`](crate::print_tree()) says of the tree: `NotATree` where a part is none of a query, `Unfaithful` where the text would
-    /// mean another tree, `TooLargeTree` where it is too long.
+    /// What [`print_tree`](crate::print_tree()) says of the tree: `NotATree` where a part is none of a query, `Unfaithful` where the text
+    /// would mean another tree, `TooLargeTree` where it is too long.
     pub cause: Box<Error>,
 }
 
