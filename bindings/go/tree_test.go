@@ -130,7 +130,7 @@ func TestTrees(t *testing.T) {
 
 func TestNoForms(t *testing.T) {
 	const up = `{"name":"up","matchers":[],"offset":0,"startOrEnd":null,"timestamp":null,"type":"vectorSelector"`
-	const time = `"func":{"argTypes":[],"experimental":false,"name":"time","returnType":"scalar","variadic":`
+	const function = `"func":{"argTypes":[],"experimental":false,"name":"time","returnType":"scalar","variadic":`
 	for made, want := range map[string]string{
 		"":                                       "$: not JSON",
 		"{} 1":                                   "$: not JSON",
@@ -144,9 +144,9 @@ func TestNoForms(t *testing.T) {
 		strings.Replace(up, "0", "-9223372036854775809", 1) + "}":                  "$.offset: expected a whole number from -2^63 to 2^64 - 1",
 		strings.Replace(up, "[]", `[{"name":"a","type":"~","value":""}]`, 1) + "}": "$.matchers[0].type: expected one of =, !=, =~, !~",
 		up + `,"or_matchers":[[],1]}`:                                              "$.or_matchers[1]: expected a list",
-		`{"type":"call","args":[` + up + `},1],` + time + `0}}`: "$.args[1]: expected an object",
-		`{"type":"call","args":[],` + time + `1}}`:              "$.func: expected the function time",
-		`{"type":"call","args":[],"func":{"name":"times"}}`:                                                                                   "$.func.name: expected the name of a function",
+		`{"type":"call","args":[` + up + `},1],` + function + `0}}`:                "$.args[1]: expected an object",
+		`{"type":"call","args":[],` + function + `1}}`:                             "$.func: expected the function time",
+		`{"type":"call","args":[],"func":{"name":"times"}}`:                        "$.func.name: expected the name of a function",
 	} {
 		_, err := promql.FromJSON([]byte(made))
 		var wrong *promql.FormError
