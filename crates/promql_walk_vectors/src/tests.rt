@@ -1,6 +1,7 @@
 //! Walks that look and walks that change, over trees read from texts and extensions made by hand; what has a form in JSON.
 
 mod changes;
+mod from_json;
 mod json;
 mod walks;
 
