@@ -95,8 +95,8 @@ func Print(expr Expr, options ...Option) (string, error) {
 	case ErrNotATree:
 		// (the form is JSON, but may be deeper than the library reads)
 		failed.Message = "nested too deeply"
-		if path, expected, found := strings.Cut(said.message, ": "); found {
-			failed.Path, failed.Message, failed.Node = path, "expected "+expected, nodeAt(expr, path)
+		if path, message, found := strings.Cut(said.message, ": "); found {
+			failed.Path, failed.Message, failed.Node = path, message, nodeAt(expr, path)
 		}
 	case ErrUnfaithful:
 		it := firstWithoutText(expr)

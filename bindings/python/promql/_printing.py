@@ -115,11 +115,11 @@ def _printed(tree: Expr, mode: Mode, level: int, width: int) -> str:
         return answer
     error = promql._tree_error(answer)
     if isinstance(error, promql.TreeError):
-        path, colon, expected = str(error).partition(": ")
+        path, colon, message = str(error).partition(": ")
         if not colon:
             # (the form is JSON, but deeper than the library reads)
             raise NodeError("nested too deeply", "$", tree) from error
-        raise NodeError(f"expected {expected}", path, _node_at(tree, path)) from error
+        raise NodeError(message, path, _node_at(tree, path)) from error
     if isinstance(error, promql.UnfaithfulError):
         path, node = _first_without_text(tree)
         raise NodeError(str(error), path, node) from error
