@@ -12,3 +12,4 @@ pub mod line;
 mod quoted_query;
 pub mod request;
 pub mod settings;
+pub mod tree_text;
