@@ -125,7 +125,7 @@ def check_rows():
         try:
             line, why = str(expr), None
         except tree.NodeError as error:
-            line, why = "", DEEP if depth(form) > MOST_DEPTH else CUT if cuts_to_nothing(error) else None
+            line, why = "", DEEP if depth(form) >= MOST_DEPTH else CUT if cuts_to_nothing(error) else None
             report.check(why is not None, f"no text: {query}: {error}")
         if line and line != promql.canonical(query):
             why = why_other_line(query, form, line)

@@ -15,6 +15,9 @@ from ._nodes import KINDS, Aggregation, Call, Expr
 from .forms import Form
 
 
+_TOO_DEEP = "nested too deeply"
+
+
 class NodeError(promql.Error):
     """A tree has no text: `message` says why.
 
@@ -118,7 +121,7 @@ def _printed(tree: Expr, mode: Mode, level: int, width: int) -> str:
         path, colon, message = str(error).partition(": ")
         if not colon:
             # (the form is JSON, but deeper than the library reads)
-            raise NodeError("nested too deeply", "$", tree) from error
+            raise NodeError(_TOO_DEEP, "$", tree) from error
         raise NodeError(message, path, _node_at(tree, path)) from error
     if isinstance(error, promql.UnfaithfulError):
         path, node = _first_without_text(tree)
@@ -129,7 +132,11 @@ def _printed(tree: Expr, mode: Mode, level: int, width: int) -> str:
 
 
 def _answer(tree: Expr, mode: Mode, level: int, width: int) -> Answer:
-    form = json.dumps(form_of(tree), ensure_ascii=False, separators=(",", ":"))
+    try:
+        form = json.dumps(form_of(tree), ensure_ascii=False, separators=(",", ":"))
+    except RecursionError as error:
+        # (the library reads fewer levels than Python writes)
+        raise NodeError(_TOO_DEEP, "$", tree) from error
     return calls.print_tree(form, mode, level, width, 1)
 
 

@@ -67,7 +67,8 @@ __all__ = [
 
 
 def parse(query: str) -> Expr:
-    """The tree of a query. Raises what `promql.parse` raises: QueryError where the query is rejected.
+    """The tree of a query. Raises what `promql.parse` raises: QueryError where the query is rejected, and RecursionError where it is nested
+    more deeply than Python's recursion limit allows.
 
     Lengths of time are cut off to whole milliseconds, as in the JSON form.
     """

@@ -235,6 +235,11 @@ class Texts(unittest.TestCase):
         for _ in range(200):
             expr = Paren(expr)
         self.assertEqual(str(self.check_error(expr, "$", expr)), "$: nested too deeply")
+        for _ in range(2 * sys.getrecursionlimit()):
+            expr = Paren(expr)
+        with self.assertRaises(tree.NodeError) as raised:
+            str(expr)
+        self.assertEqual(raised.exception.message, "nested too deeply")
 
 
 if __name__ == "__main__":
