@@ -144,6 +144,23 @@ func TestLargeEnforced(t *testing.T) {
 	}
 }
 
+func TestPrintTree(t *testing.T) {
+	canPrint(t)
+	form, err := promql.JSON("foo / (1 + 2)")
+	if err != nil {
+		t.Fatal(err)
+	}
+	if line, err := promql.PrintTree(form, false); line != "foo / (1 + 2)" || err != nil {
+		t.Error(line, err)
+	}
+	if text, err := promql.PrintTree(form, true, promql.Width(7)); text != "  foo\n/\n  (1 + 2)" || err != nil {
+		t.Errorf("%q %v", text, err)
+	}
+	if _, err := promql.PrintTree([]byte("{}"), false); !errors.Is(err, promql.ErrNotATree) || err.Error() != "$.type: the type of a node" {
+		t.Error(err)
+	}
+}
+
 func TestCollect(t *testing.T) {
 	names, err := promql.Collect("sum by (b) (rate(foo{a='1'}[5m])) / {__name__='bar'} offset 1h")
 	if err != nil {

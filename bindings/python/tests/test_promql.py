@@ -122,6 +122,24 @@ class Texts(unittest.TestCase):
         with self.assertRaises(promql.QueryError):
             promql.collect("1 +")
 
+    @unittest.skipUnless(hasattr(_library._library, "promql_print_tree"), "the library has no promql_print_tree")
+    def test_print_tree(self):
+        tree = promql.parse("foo + on (b) bar{a='é'}")
+        self.assertEqual(promql.print_tree(tree), 'foo + on (b) bar{a="é"}')
+        product = {**promql.parse("1 * 2"), "lhs": promql.parse("1 + x")}
+        self.assertEqual(promql.print_tree(product, parentheses=True), "(1 + x) * 2")
+        self.assertEqual(promql.print_tree(product, parentheses=True, width=7, level=1), "    (1 + x)\n  *\n    2")
+        with self.assertRaisesRegex(promql.UnfaithfulError, "^the left side of an operator needs parentheses$"):
+            promql.print_tree(product)
+        with self.assertRaisesRegex(promql.TreeError, r"^\$\.lhs\.name: a text$"):
+            promql.print_tree({**tree, "lhs": {**tree["lhs"], "name": 1}})
+        promql.set_limits(max_len=20)
+        try:
+            with self.assertRaises(promql.TooLargeTreeError):
+                promql.print_tree(tree)
+        finally:
+            promql.set_limits()
+
     def test_long_texts(self):
         query = "+".join(["x"] * 500)
         self.assertEqual(promql.canonical(query), " + ".join(["x"] * 500))

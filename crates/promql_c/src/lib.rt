@@ -1,10 +1,10 @@
 //! What bindings/c/promql.c calls, once it has looked at the pointers: the calls of `promql_calls`, and no more.
 #![tactic(auto)]
 
-ghost use Rattle.std.specs.Prelude.{◌≡◌, Some, Ok};
+ghost use Rattle.std.specs.Prelude.{◌≡◌, ◌==◌, not, Some, Ok};
 ghost use Rattle.promql_lines.specs.declared.request.Format.TheVariants.{Line};
 ghost use Rattle.promql_calls.specs.CallResults.{Shows, ShowsSome};
-ghost use Rattle.promql_calls.specs.Calls.{IsCheckOf, IsCollectOf, IsEnforceOf, IsPrintOf, IsSnippetOf};
+ghost use Rattle.promql_calls.specs.Calls.{IsCheckOf, IsCollectOf, IsEnforceOf, IsPrintOf, IsSnippetOf, IsTreePrintOf};
 ghost use Rattle.promql_calls.specs.Formats.{format_numbered};
 ghost use Rattle.promql_calls.specs.declared.calls.TheConstants.{CALLS_VERSION};
 
@@ -121,6 +121,36 @@ pub extern "C" fn call_snippet(
         shown.new buffer.old buffer.new }
 {
     *shown = promql_calls::snippet(alloc, query, start, end, buffer);
+}
+
+/// `promql_calls::print_tree`.
+#[unsafe(no_mangle)]
+pub extern "C" fn call_print_tree(
+    alloc: Global,
+    max_len: usize,
+    max_pattern_size: usize,
+    form: &[u8],
+    mode: u32,
+    level: u32,
+    width: usize,
+    parentheses: u32,
+    buffer: &mut [u8],
+    shown: &mut CallResult,
+)
+    ensures { ShowsSome (IsTreePrintOf (record { max_len = max_len; max_pattern_size = max_pattern_size }) form.now (format_numbered mode level width) (not (parentheses == 0)))
+        shown.new buffer.old buffer.new }
+{
+    let limits = limits_of(max_len, max_pattern_size);
+    *shown = promql_calls::print_tree(
+        alloc,
+        &limits,
+        form,
+        mode,
+        level,
+        width,
+        parentheses,
+        buffer,
+    );
 }
 
 /// `promql_calls::version`.

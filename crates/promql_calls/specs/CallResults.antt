@@ -3,8 +3,9 @@ use Rattle.std.specs.Prelude.{◌≡◌, ℕ, ◌<◌, ◌≤◌, nat_le, if◌t
 use Rattle.promql_text.specs.Texts.{Text}
 use Rattle.promql_report.specs.Rejecting.{reason_number}
 use Rattle.promql_lines.specs.EnforcedLines.{enforce_number}
+use Rattle.promql_lines.specs.TreeTexts.{tree_text_number}
 use Rattle.promql_calls.specs.declared.call_error.CallError.{CallError}
-use Rattle.promql_calls.specs.declared.call_error.CallError.TheVariants.{Memory, NotUtf8, Rejected, NumberTooWide, UnknownMode, NotEnforced}
+use Rattle.promql_calls.specs.declared.call_error.CallError.TheVariants.{Memory, NotUtf8, Rejected, NumberTooWide, UnknownMode, NotEnforced, NotPrinted}
 use Rattle.promql_calls.specs.declared.call_result.CallResult.{CallResult}
 
 -- the text is at the start of the buffer, and the rest of it is as it was; where the text does not fit, all of it is
@@ -23,6 +24,7 @@ error_status (Rejected r) = reason_number r.reason
 error_status NumberTooWide = 6
 error_status UnknownMode = 9
 error_status (NotEnforced e) = enforce_number e
+error_status (NotPrinted e) = tree_text_number e
 
 -- a result without a place
 abbrev pub plain_result : ℕ → ℕ → CallResult

@@ -1,5 +1,5 @@
 -- What each call makes of a query (docs/guide/bindings.md, "Calls").
-use Rattle.std.specs.Prelude.{◌≡◌, ◌⊎◌, [], Option, Some, None, Result, Ok, Err}
+use Rattle.std.specs.Prelude.{◌≡◌, ◌⊎◌, Bool, [], Option, Some, None, Result, Ok, Err}
 use Rattle.std.specs.Str.{IsUtf8}
 use Rattle.promql_text.specs.Texts.{Text}
 use Rattle.promql_span.specs.declared.span.Span.{Span}
@@ -11,6 +11,7 @@ use Rattle.promql_rewrite.specs.declared.matcher_text.MatcherError.TheVariants a
 use Rattle.promql_report.specs.Checking.{marked_line}
 use Rattle.promql_report.specs.Rejecting.{IsParsed, IsRead, IsRejection}
 use Rattle.promql_lines.specs.EnforcedLines.{FailsToEnforce, IsEnforcedLine}
+use Rattle.promql_lines.specs.TreeTexts.{FailsToShowForm, IsTextOfForm}
 use Rattle.promql_lines.specs.declared.enforced_line.EnforcedLineError.TheVariants as enforced
 use Rattle.promql_lines.specs.declared.request.Format.{Format}
 use Rattle.promql_calls.specs.declared.call_error.CallError.{CallError}
@@ -67,3 +68,10 @@ IsCheckOf limits query (Err e) = HasNoTree limits query e
 abbrev pub IsSnippetOf : Text → Span → Result Text CallError → Type 0
 IsSnippetOf query span (Ok text) = IsUtf8 query × (text ≡ marked_line query span)
 IsSnippetOf query span (Err e) = IsUnread query e
+
+-- "print a tree": the text of the tree of this form, if a mode was asked for
+abbrev pub IsTreePrintOf : Limits → Text → Option Format → Bool → Result Text CallError → Type 0
+IsTreePrintOf limits form None parens made = made ≡ Err errors.UnknownMode
+IsTreePrintOf limits form (Some format) parens (Ok text) = IsUtf8 form × IsTextOfForm limits format parens form text
+IsTreePrintOf limits form (Some format) parens (Err (errors.NotPrinted e)) = IsUtf8 form × FailsToShowForm limits parens form e
+IsTreePrintOf limits form (Some format) parens (Err e) = IsUnread form e

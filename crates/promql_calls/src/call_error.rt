@@ -4,6 +4,7 @@ ghost use Rattle.std.specs.Prelude.{◌≡◌};
 ghost use Rattle.promql_calls.specs.CallResults.{error_status};
 
 use promql_lines::enforced_line::EnforcedLineError;
+use promql_lines::tree_text::TreeTextError;
 use promql_report::rejection::Rejection;
 use std::alloc::AllocError;
 use thiserror::Error;
@@ -29,6 +30,9 @@ pub enum CallError {
     /// The query has no line with the matcher in its selectors; that it is rejected is `Rejected`.
     #[error("{0}")]
     NotEnforced(EnforcedLineError),
+    /// The tree that was given has no text.
+    #[error("{0}")]
+    NotPrinted(TreeTextError),
 }
 
 impl CallError {
@@ -43,6 +47,7 @@ impl CallError {
             CallError::NumberTooWide => 6,
             CallError::UnknownMode => 9,
             CallError::NotEnforced(error) => u32::from(error.number()),
+            CallError::NotPrinted(error) => u32::from(error.number()),
         }
     }
 }

@@ -73,7 +73,8 @@ fn result_of(error: &CallError, length: usize) -> CallResult
         | CallError::NotUtf8
         | CallError::NumberTooWide
         | CallError::UnknownMode
-        | CallError::NotEnforced(_) => plain(error.status(), length),
+        | CallError::NotEnforced(_)
+        | CallError::NotPrinted(_) => plain(error.status(), length),
     }
 }
 

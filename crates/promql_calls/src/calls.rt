@@ -1,14 +1,15 @@
 //! The calls: from the bytes of a query into a caller's buffer. docs/guide/bindings.md, "Calls", has the rules.
 
-ghost use Rattle.std.specs.Prelude.{Some, Ok};
+ghost use Rattle.std.specs.Prelude.{◌==◌, not, Some, Ok};
 ghost use Rattle.promql_calls.specs.CallResults.{Shows, ShowsSome};
-ghost use Rattle.promql_calls.specs.Calls.{IsCheckOf, IsCollectOf, IsEnforceOf, IsPrintOf, IsSnippetOf};
+ghost use Rattle.promql_calls.specs.Calls.{IsCheckOf, IsCollectOf, IsEnforceOf, IsPrintOf, IsSnippetOf, IsTreePrintOf};
 ghost use Rattle.promql_calls.specs.Formats.{format_numbered};
 
 use crate::call_result::{CallResult, show, show_text};
 use crate::collecting::collect_query;
 use crate::enforcing::enforce_query;
 use crate::printing::{check_query, format_of, mark_query, print_query};
+use crate::tree_printing::print_form;
 use promql_lines::request::Format;
 use promql_span::Span;
 use promql_span::limits::Limits;
@@ -89,6 +90,32 @@ pub fn snippet(
         result buffer.old buffer.new }
 {
     let made = mark_query(alloc, query, Span { start, end });
+    show(alloc, made, buffer)
+}
+
+/// Prints the tree whose JSON form is given (docs/reference/json.md, "From JSON to a text"), in the modes of `print`; with
+/// parentheses where the tree needs them, if `parentheses` is not 0. The text is within the limits of a query, and means the
+/// tree.
+pub fn print_tree(
+    alloc: Global,
+    limits: &Limits,
+    form: &[u8],
+    mode: u32,
+    level: u32,
+    width: usize,
+    parentheses: u32,
+    buffer: &mut [u8],
+) -> CallResult
+    ensures { ShowsSome (IsTreePrintOf limits.now form.now (format_numbered mode level width) (not (parentheses == 0)))
+        result buffer.old buffer.new }
+{
+    let made = print_form(
+        alloc,
+        limits,
+        format_of(mode, level, width),
+        parentheses != 0,
+        form,
+    );
     show(alloc, made, buffer)
 }
 

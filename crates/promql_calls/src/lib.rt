@@ -3,7 +3,9 @@
 
 pub use call_error::CallError;
 pub use call_result::CallResult;
-pub use calls::{CALLS_VERSION, canonical, check, collect, enforce, print, snippet, version};
+pub use calls::{
+    CALLS_VERSION, canonical, check, collect, enforce, print, print_tree, snippet, version,
+};
 
 mod call_error;
 mod call_result;
@@ -11,3 +13,4 @@ mod calls;
 mod collecting;
 mod enforcing;
 mod printing;
+mod tree_printing;
