@@ -15,7 +15,7 @@ from __future__ import annotations
 
 import json
 from operator import index
-from typing import Any, Dict, Iterable, List, Optional, Type, Union
+from typing import Any, Dict, Iterable, List, Mapping, Optional, Type, Union
 
 from ._answers import Answer, Failure, Mode, Status
 from ._calls import calls as _caller
@@ -139,7 +139,7 @@ def parse(query: str) -> Dict[str, Any]:
     return tree
 
 
-def print_tree(tree: Dict[str, Any], *, parentheses: bool = False, width: Optional[int] = None, level: int = 0) -> str:
+def print_tree(tree: Mapping[str, object], *, parentheses: bool = False, width: Optional[int] = None, level: int = 0) -> str:
     """The query that has this tree, which is in the form that `parse` returns: on one line, or laid out where there is a `width`.
 
     With `parentheses` the tree gets parentheses where it needs them. What is returned was read again, and means the tree

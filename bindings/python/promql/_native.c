@@ -248,11 +248,14 @@ static PyObject *snippet(PyObject *module, PyObject *arguments)
 
 static PyObject *print_tree(PyObject *module, PyObject *arguments)
 {
+    const struct library *library = library_of(module);
     PyObject *form;
     unsigned int mode, level, parentheses;
     unsigned long long width;
-    if (!PyArg_ParseTuple(arguments, "OIIKI", &form, &mode, &level, &width, &parentheses))
+    if (library == NULL || !PyArg_ParseTuple(arguments, "OIIKI", &form, &mode, &level, &width, &parentheses))
         return NULL;
+    if (library->print_tree == NULL)
+        return PyErr_Format(PyExc_AttributeError, "the library has no promql_print_tree");
     return answer_about(module, form,
                         (struct request){.call = PRINT_TREE, .mode = mode, .level = level, .width = (size_t)width,
                                          .parentheses = parentheses, .room = 1});
@@ -481,9 +484,14 @@ static PyObject *load(PyObject *module, PyObject *path)
     if (find(handle, "promql_print", &found.print) || find(handle, "promql_canonical", &found.canonical) ||
         find(handle, "promql_enforce", &found.enforce) || find(handle, "promql_collect", &found.collect) ||
         find(handle, "promql_check", &found.check) || find(handle, "promql_snippet", &found.snippet) ||
-        find(handle, "promql_print_tree", &found.print_tree) || find(handle, "promql_version", &found.version) ||
-        find(handle, "promql_set_limits", &found.set_limits) || find(handle, "promql_set_max_output", &found.set_max_output))
+        find(handle, "promql_version", &found.version) || find(handle, "promql_set_limits", &found.set_limits) ||
+        find(handle, "promql_set_max_output", &found.set_max_output))
         return NULL;
+    /* (an older library has none) */
+    if (find(handle, "promql_print_tree", &found.print_tree)) {
+        PyErr_Clear();
+        found.print_tree = NULL;
+    }
     *library = found;
     return Py_BuildValue("");
 }

@@ -134,6 +134,7 @@ class Texts(unittest.TestCase):
         with self.assertRaises(promql.QueryError):
             promql.collect("1 +")
 
+    @unittest.skipUnless(hasattr(_library._library, "promql_print_tree"), "the library has no promql_print_tree")
     def test_print_tree(self):
         tree = promql.parse("foo + on (b) bar{a='é'}")
         self.assertEqual(promql.print_tree(tree), 'foo + on (b) bar{a="é"}')
