@@ -226,7 +226,7 @@ func TestLimits(t *testing.T) {
 }
 
 func TestVersion(t *testing.T) {
-	if got := promql.Version(); got != "0.4.0" {
+	if got := promql.Version(); got != "0.5.0" {
 		t.Error(got)
 	}
 }

@@ -44,7 +44,7 @@ __all__ = [
     "set_limits",
     "version",
 ]
-__version__ = "0.4.0"
+__version__ = "0.5.0"
 
 _MAX_LEVEL = 512
 _MAX_WIDTH = 2**64 - 1
