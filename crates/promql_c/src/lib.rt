@@ -148,7 +148,15 @@ pub extern "C" fn call_format(
 )
     ensures { ShowsSome (IsFormattedOf limits.now (not (keep_spelling == 0)) query.now) shown.new buffer.old buffer.new }
 {
-    *shown = calls::format(alloc, limits, query, width, indent_width, keep_spelling, buffer);
+    *shown = calls::format(
+        alloc,
+        limits,
+        query,
+        width,
+        indent_width,
+        keep_spelling,
+        buffer,
+    );
 }
 
 /// `calls::version`.
