@@ -1,6 +1,5 @@
 -- What the program writes of its input (docs/reference/programs.md, "One query, formatted").
-use Rattle.std.specs.Prelude.{◌≡◌, ◌≢◌, ◌⊎◌, ℕ, Bool, true, false, ◌++◌, List, [], Option, Result, Ok, Err, String, string_bytes, codes}
-use Rattle.std.specs.declared.alloc.Global.{Global}
+use Rattle.std.specs.Prelude.{◌≡◌, ◌≢◌, ◌⊎◌, ℕ, Bool, true, false, ◌++◌, List, [], Option, codes}
 use Rattle.std.specs.Str.{IsUtf8}
 use Rattle.std.specs.Io.KnownBytes.{Appends}
 use Rattle.promql_text.specs.Texts.{Text}
@@ -21,7 +20,7 @@ format_number error.Memory = 1
 format_number (error.Limit fault) = 14
 format_number (error.Rejected d) = 4
 format_number error.Unfaithful = 12
-format_number error.Unformatted = 17
+format_number error.Unformatted = 19
 
 -- the query is within its limits, and this is a layout of it
 pub record IsLayout (s : Settings) (query layout : Text) : Type 0 where
@@ -37,10 +36,9 @@ abbrev pub IsShown : Bool → Text → Text → Text → Type 0
 IsShown false query layout answer = answer ≡ layout ++ codes "\n"
 IsShown true query layout answer = IsFormatted query layout × (answer ≡ [])
 
-pub record IsFormatAnswer (s : Settings) (query answer : Text) : Type 0 where
-  pub layout : Text
-  pub is : IsLayout s query layout
-  pub shown : IsShown s.is_check query layout answer
+-- what is written of the query
+abbrev pub IsFormatAnswer : Settings → Text → Text → Type 0
+IsFormatAnswer s query answer = (layout : Text) × IsLayout s query layout × IsShown s.is_check query layout answer
 
 -- why there is none
 abbrev pub HasNoLayout : Settings → Text → LayoutError → Type 0
@@ -55,40 +53,30 @@ HasNoLayout s query error.Unformatted = (layout : Text) × IsLayout s query layo
 abbrev pub format_command : List Text → Option (Command Settings)
 format_command = command FORMAT_HELP.now FORMAT_VERSION.now settings_of
 
--- all of the input was read, it is a text, and the answer to it was written
-pub record WritesLayout (s : Settings) (left left_after held held_after : Option (List ℕ)) : Type 0 where
+-- all of the input was read, and it is a text with this property
+pub record IsInput (P : Text → Type 0) (left left_after : Option (List ℕ)) : Type 0 where
   pub query : Text
   pub read : HasRead left left_after query
   pub utf8 : IsUtf8 query
-  pub answer : Text
-  pub is : IsFormatAnswer s query answer
-  pub written : Appends held held_after answer
+  pub has : P query
+
+-- the answer to it was written
+abbrev pub WritesLayout : Settings → Option (List ℕ) → Option (List ℕ) → Option (List ℕ) → Option (List ℕ) → Type 0
+WritesLayout s left left_after held held_after =
+    IsInput (λ query. (answer : Text) × IsFormatAnswer s query answer × Appends held held_after answer) left left_after
 
 -- the same, where a write failed: a beginning of the answer was written
-pub record BeginsLayout (s : Settings) (left left_after held held_after : Option (List ℕ)) : Type 0 where
-  pub query : Text
-  pub read : HasRead left left_after query
-  pub utf8 : IsUtf8 query
-  pub answer : Text
-  pub is : IsFormatAnswer s query answer
-  pub begun : AppendsBeginning held held_after answer
+abbrev pub BeginsLayout : Settings → Option (List ℕ) → Option (List ℕ) → Option (List ℕ) → Option (List ℕ) → Type 0
+BeginsLayout s left left_after held held_after =
+    IsInput (λ query. (answer : Text) × IsFormatAnswer s query answer × AppendsBeginning held held_after answer) left left_after
 
--- all of the input was read, it is a text, and this is why there is no answer to it
-pub record WritesNoLayout (s : Settings) (e : LayoutError) (left left_after : Option (List ℕ)) : Type 0 where
-  pub query : Text
-  pub read : HasRead left left_after query
-  pub utf8 : IsUtf8 query
-  pub fails : HasNoLayout s query e
-
--- what became of the input
-abbrev pub IsInputLayout : Settings → Option (List ℕ) → Option (List ℕ) → Result (String Global) LayoutError → Type 0
-IsInputLayout s left left_after (Ok answer) =
-    (query : Text) × HasRead left left_after query × IsUtf8 query × IsFormatAnswer s query (string_bytes answer)
-IsInputLayout s left left_after (Err e) = WritesNoLayout s e left left_after
+-- this is why there is no answer to it
+abbrev pub WritesNoLayout : Settings → LayoutError → Option (List ℕ) → Option (List ℕ) → Type 0
+WritesNoLayout s e = IsInput (λ query. HasNoLayout s query e)
 
 -- the statuses of these errors
 abbrev pub IsLayoutStatus : ℕ → Type 0
-IsLayoutStatus status = (status ≡ 4) ⊎ (status ≡ 12) ⊎ (status ≡ 14) ⊎ (status ≡ 17)
+IsLayoutStatus status = (status ≡ 4) ⊎ (status ≡ 12) ⊎ (status ≡ 14) ⊎ (status ≡ 19)
 
 -- each status of a query
 abbrev pub IsFormatStatus : ℕ → Type 0

@@ -1,16 +1,12 @@
 -- The options of the program (docs/reference/programs.md, "One query, formatted").
 use Rattle.std.specs.Prelude.{ℕ, ◌||◌, Bool, true, false, bytes_eq, codes, if◌then◌else◌, List, [], ◌∷◌, Option, Some, None, option_and_then}
 use Rattle.promql_text.specs.Texts.{Text}
-use Rattle.promql_formatter.specs.declared.options.TheConstants.{DEFAULT_INDENT_WIDTH, DEFAULT_WIDTH}
 use Rattle.promql_report.specs.LimitOptions.{default_limits, number_in}
 use Rattle.promql_format.specs.declared.settings.Settings.{Settings}
 
 abbrev pub default_settings : Settings
-default_settings = record {
-  limits = default_limits;
-  options = record { width = DEFAULT_WIDTH; indent_width = DEFAULT_INDENT_WIDTH; keep_spelling = false };
-  is_check = false;
-}
+default_settings =
+    record { limits = default_limits; options = record { width = 100; indent_width = 2; keep_spelling = false }; is_check = false }
 
 -- options without a number
 abbrev pub is_flag : Text → Bool

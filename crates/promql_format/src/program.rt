@@ -6,7 +6,8 @@ ghost use Rattle.promql_text.specs.Texts.{Text};
 ghost use Rattle.promql_run.specs.Running.{IsNotUtf8, UnlessRead};
 ghost use Rattle.promql_run.specs.StepErrors.{IsInputError};
 ghost use Rattle.promql_report.specs.LimitOptions.{run, show};
-ghost use Rattle.promql_format.specs.Layouts.{BeginsLayout, IsFormatStatus, IsInputLayout, IsLayoutStatus, WritesLayout, WritesNoLayout, format_command, format_number};
+ghost use Rattle.promql_format.specs.InputLayouts.{IsInputLayout};
+ghost use Rattle.promql_format.specs.Layouts.{BeginsLayout, IsFormatStatus, IsLayoutStatus, WritesLayout, WritesNoLayout, format_command, format_number};
 ghost use Rattle.promql_format.specs.ProgramArguments.{format_seen};
 ghost use Rattle.promql_format.specs.Settings as spec;
 ghost use Rattle.promql_format.specs.declared.query_layout.LayoutError.{LayoutError};
@@ -43,7 +44,7 @@ written, and the status says whether the query is formatted. A query of more tha
 
 Status: 0 the query was written, or is formatted, 4 the query is rejected, 12 the
 query that was made does not read back, 14 the query is too long or its patterns
-are too large, 17 the query is not formatted, 1 out of memory, 2 a read failed,
+are too large, 19 the query is not formatted, 1 out of memory, 2 a read failed,
 3 the input is not UTF-8, 5 a write failed, 64 wrong arguments.
 ";
 

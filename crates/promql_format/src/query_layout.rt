@@ -42,7 +42,7 @@ impl LayoutError {
             LayoutError::Limit(_) => 14,
             LayoutError::Rejected(_) => 4,
             LayoutError::Unfaithful => 12,
-            LayoutError::Unformatted => 17,
+            LayoutError::Unformatted => 19,
         }
     }
 }
