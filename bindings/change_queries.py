@@ -72,7 +72,7 @@ def main(programs):
         same += [False] * (len(asked) - len(same))
         for query, is_same in zip(asked, same):
             if not is_same and failed < 20:
-                print(f"FAILED {program}: {query}")
+                print(f"FAILED {program}: {query[:200]}")
             passed, failed = passed + is_same, failed + (not is_same)
     print(f"{changed} of {len(asked)} queries are changed")
     print(f"{passed} passed, {failed} failed")

@@ -103,6 +103,7 @@ install_missing() {
     local -a missing=()
     command -v go >/dev/null || missing+=(golang-go)
     command -v cargo >/dev/null || missing+=(cargo)
+    compgen -G '/usr/share/cargo/registry/serde_json-1.*' >/dev/null || missing+=(librust-serde-json-dev)
     command -v cc >/dev/null || missing+=(gcc libc6-dev)
     command -v valgrind >/dev/null || missing+=(valgrind)
     command -v make >/dev/null || missing+=(make)
@@ -359,6 +360,7 @@ cache_keys() {
 test_rust() {
     has cargo 'the binding for Rust' || return
     add 'Rust' cargo_tests
+    test_serde
     try 'the examples for Rust' build_rust
     [ -x "$work/target/release/examples/rows" ] || return
     try 'the example for Rust' cache_keys
@@ -370,6 +372,24 @@ test_rust() {
     try 'the queries of the rows' python3 "$here/trees.py" write "$work/queries"
     add 'trees of the rows for Rust' "$work/target/release/examples/rows" trees "$work/queries"
     add 'changed trees for Rust' "$work/target/release/examples/rows" changed "$work/queries" 10000 1
+}
+
+# The crate for serde, where Debian has the crates that it needs.
+debian_crates=/usr/share/cargo/registry
+cargo_tests_with_serde() {
+    local said
+    said=$(CARGO_TARGET_DIR=$work/target cargo test --offline --quiet --manifest-path "$here/rust/serde/Cargo.toml" \
+        --config 'source.crates-io.replace-with="debian"' --config "source.debian.directory=\"$debian_crates\"" 2>&1)
+    printf '%s\n' "$said"
+    awk '/^test result:/ { passed += $4; failed += $6 } END { print passed + 0 " passed, " failed + 0 " failed"; exit passed == 0 }' <<<"$said"
+}
+
+test_serde() {
+    if compgen -G "$debian_crates/serde_json-1.*" >/dev/null; then
+        add 'trees by serde' cargo_tests_with_serde
+    else
+        echo 'not tried: trees by serde: librust-serde-json-dev is not installed'
+    fi
 }
 
 # ---- Go
@@ -508,7 +528,8 @@ test_proxy() {
 
 export -f shows_own_names build_c bench_prints example_prints build_sanitized overrun_is_reported under_valgrind build_project
 export -f find_installed in_python unit_tests print_counts
-export -f in_cargo cargo_tests build_rust cache_keys in_go go_tests
+export debian_crates
+export -f in_cargo cargo_tests cargo_tests_with_serde build_rust cache_keys in_go go_tests
 
 parts=(names c install python scripts rust go examples)
 case "${1:-}" in

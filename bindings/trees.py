@@ -15,6 +15,8 @@ import json
 import random
 import sys
 from collections import Counter
+from importlib.machinery import SourceFileLoader
+from importlib.util import module_from_spec, spec_from_loader
 from pathlib import Path
 
 import rows
@@ -29,10 +31,20 @@ MOST_DEPTH = 127
 sys.setrecursionlimit(100_000)  # JSON of high trees
 
 
+def queries_of_rows():
+    """The queries of all rows that print something, those of great heights among them."""
+    sys.dont_write_bytecode = True
+    loader = SourceFileLoader("row_files", str(rows.ROOT / "bin" / "rows"))
+    module = module_from_spec(spec_from_loader("row_files", loader))
+    loader.exec_module(module)
+    found = module.read_rows(sorted((rows.ROOT / "rows").glob("*.tsv")))
+    return [module.query_of(row.mode, row.text) for row in found if row.code == 0]
+
+
 def accepted_queries():
-    """The queries of the stored run that are accepted, and those of bench/queries, each once."""
+    """The queries that rows accept, those that the stored run asks again, and those of bench/queries, each once."""
     asked, replies = ((rows.RUN / name).read_bytes().split(b"\n")[:-1] for name in ("stdin", "stdout"))
-    found = []
+    found = queries_of_rows()
     for line, reply in zip(asked, replies):
         if b"ok" in reply and "ok" in json.loads(reply):
             request = json.loads(line)
@@ -113,7 +125,7 @@ def check_rows():
         try:
             line, why = str(expr), None
         except tree.NodeError as error:
-            line, why = "", DEEP if depth(form) > MOST_DEPTH else CUT if cuts_to_nothing(error) else None
+            line, why = "", DEEP if depth(form) >= MOST_DEPTH else CUT if cuts_to_nothing(error) else None
             report.check(why is not None, f"no text: {query}: {error}")
         if line and line != promql.canonical(query):
             why = why_other_line(query, form, line)
@@ -175,8 +187,8 @@ def changed(generator, trees):
         place = generator.randrange(len(nodes))
         node = nodes[place]
         if isinstance(node, (tree.Selector, tree.RangeSelector)) and generator.random() < 0.6:
-            matcher = tree.Matcher(generator.choice("abc"), generator.choice(("=", "!=", "=~", "!~")), generator.choice(("", "x", "é|.*", "(")))
-            return with_node(expr, place, node.with_matcher(matcher))
+            op, value = generator.choice(("=", "!=", "=~", "!~")), generator.choice(("", "x", "é|.*", "("))
+            return with_node(expr, place, node.with_matcher(tree.Matcher(generator.choice("abc"), op, value)))
         if isinstance(node, tree.Binary) and generator.random() < 0.6:
             return with_node(expr, place, node.replace(lhs=node.rhs, rhs=node.lhs))
         if generator.random() < 0.2:

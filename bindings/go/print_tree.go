@@ -28,9 +28,9 @@ var ErrNoPrintTree = errors.New("the library has no promql_print_tree")
 // notATree is PROMQL_NOT_A_TREE, which an older header has not.
 const notATree = 17
 
-// NodeError says why a tree has no text. Path is that of the part at fault in the JSON form, as $.lhs.args[0], and Node the expression there,
-// or the one that has it. It is ErrNotATree; ErrUnfaithful where the text would mean another tree, as with an argument of a wrong type;
-// ErrTooLargeTree; or ErrNotUTF8.
+// NodeError says why a tree has no text. Path is that of the part at fault in the JSON form, as $.lhs.args[0], and Node the expression
+// there, or the one that has it. It is ErrNotATree; ErrUnfaithful where the text would mean another tree, as with an argument of a wrong
+// type; ErrTooLargeTree; or ErrNotUTF8.
 type NodeError struct {
 	Path    string
 	Message string
@@ -93,8 +93,10 @@ func Print(expr Expr, options ...Option) (string, error) {
 	failed := &NodeError{"$", said.message, expr, said.cause}
 	switch said.cause {
 	case ErrNotATree:
-		if path, expected, found := strings.Cut(said.message, ": "); found {
-			failed.Path, failed.Message, failed.Node = path, "expected "+expected, nodeAt(expr, path)
+		// (the form is JSON, but may be deeper than the library reads)
+		failed.Message = "nested too deeply"
+		if path, message, found := strings.Cut(said.message, ": "); found {
+			failed.Path, failed.Message, failed.Node = path, message, nodeAt(expr, path)
 		}
 	case ErrUnfaithful:
 		it := firstWithoutText(expr)

@@ -139,6 +139,24 @@ func Format(query string, options ...Option) (string, error) {
 	})
 }
 
+// FormatQuery returns the query, laid out for people (docs/reference/formatting.md of the repository): comments stay, chains of operators are
+// flat, and a line has at most Width characters, its indentation counted, where it can be broken. With keepSpelling numbers, durations,
+// strings and the order of what is written stay, too. Level does nothing here. What is returned was read again, and has the query's
+// tree and comments.
+func FormatQuery(query string, keepSpelling bool, options ...Option) (string, error) {
+	made := layout{width: 100}
+	for _, set := range options {
+		set(&made)
+	}
+	var kept C.uint32_t
+	if keepSpelling {
+		kept = 1
+	}
+	return textOf(query, func(query *C.char, length C.size_t, buffer *C.char, size C.size_t, result *C.struct_promql_result) {
+		C.promql_format_query(query, length, C.size_t(made.width), 2, kept, buffer, size, result)
+	})
+}
+
 // JSON returns the tree of the query in its JSON form (docs/reference/json.md of the repository), without a space.
 func JSON(query string) ([]byte, error) {
 	text, err := textOf(query, func(query *C.char, length C.size_t, buffer *C.char, size C.size_t, result *C.struct_promql_result) {

@@ -19,8 +19,8 @@ func (e *FormError) Error() string {
 	return e.Path + ": " + e.Message
 }
 
-// Parse returns the tree of a query. Lengths of time are cut off to whole milliseconds, as in the JSON form. The errors are those of JSON: a
-// query that is rejected gives a *QueryError.
+// Parse returns the tree of a query. Lengths of time are cut off to whole milliseconds, as in the JSON form. The errors are those of JSON:
+// a query that is rejected gives a *QueryError.
 func Parse(query string) (Expr, error) {
 	form, err := JSON(query)
 	if err != nil {
@@ -29,8 +29,8 @@ func Parse(query string) (Expr, error) {
 	return FromJSON(form)
 }
 
-// FromJSON returns the tree of a JSON form, as JSON and json.Marshal give it, and a *FormError where it is none. Types of expressions, names
-// and patterns are not looked at: Print tells where they are wrong.
+// FromJSON returns the tree of a JSON form, as JSON and json.Marshal give it, and a *FormError where it is none. Types of expressions,
+// names and patterns are not looked at: Print tells where they are wrong.
 func FromJSON(form []byte) (Expr, error) {
 	decoder := json.NewDecoder(bytes.NewReader(form))
 	decoder.UseNumber()
@@ -66,9 +66,13 @@ func (r *formReader) expr(path string, value any) Expr {
 	var expr Expr
 	switch kind := o.text("type"); kind {
 	case "aggregation":
-		expr = &AggregateExpr{Op: o.text("op"), Expr: o.expr("expr"), Param: o.exprOrNil("param"), Grouping: o.texts("grouping"), Without: o.flag("without")}
+		expr = &AggregateExpr{
+			Op: o.text("op"), Expr: o.expr("expr"), Param: o.exprOrNil("param"), Grouping: o.texts("grouping"), Without: o.flag("without"),
+		}
 	case "binaryExpr":
-		expr = &BinaryExpr{Op: o.text("op"), LHS: o.expr("lhs"), RHS: o.expr("rhs"), VectorMatching: o.matching("matching"), ReturnBool: o.flag("bool")}
+		expr = &BinaryExpr{
+			Op: o.text("op"), LHS: o.expr("lhs"), RHS: o.expr("rhs"), VectorMatching: o.matching("matching"), ReturnBool: o.flag("bool"),
+		}
 	case "call":
 		expr = &Call{Func: o.function("func"), Args: o.exprs("args")}
 	case "matrixSelector":

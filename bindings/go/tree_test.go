@@ -130,6 +130,7 @@ func TestTrees(t *testing.T) {
 
 func TestNoForms(t *testing.T) {
 	const up = `{"name":"up","matchers":[],"offset":0,"startOrEnd":null,"timestamp":null,"type":"vectorSelector"`
+	const function = `"func":{"argTypes":[],"experimental":false,"name":"time","returnType":"scalar","variadic":`
 	for made, want := range map[string]string{
 		"":                                       "$: not JSON",
 		"{} 1":                                   "$: not JSON",
@@ -143,9 +144,9 @@ func TestNoForms(t *testing.T) {
 		strings.Replace(up, "0", "-9223372036854775809", 1) + "}":                  "$.offset: expected a whole number from -2^63 to 2^64 - 1",
 		strings.Replace(up, "[]", `[{"name":"a","type":"~","value":""}]`, 1) + "}": "$.matchers[0].type: expected one of =, !=, =~, !~",
 		up + `,"or_matchers":[[],1]}`:                                              "$.or_matchers[1]: expected a list",
-		`{"type":"call","args":[` + up + `},1],"func":{"argTypes":[],"experimental":false,"name":"time","returnType":"scalar","variadic":0}}`: "$.args[1]: expected an object",
-		`{"type":"call","args":[],"func":{"argTypes":[],"experimental":false,"name":"time","returnType":"scalar","variadic":1}}`:              "$.func: expected the function time",
-		`{"type":"call","args":[],"func":{"name":"times"}}`:                                                                                   "$.func.name: expected the name of a function",
+		`{"type":"call","args":[` + up + `},1],` + function + `0}}`:                "$.args[1]: expected an object",
+		`{"type":"call","args":[],` + function + `1}}`:                             "$.func: expected the function time",
+		`{"type":"call","args":[],"func":{"name":"times"}}`:                        "$.func.name: expected the name of a function",
 	} {
 		_, err := promql.FromJSON([]byte(made))
 		var wrong *promql.FormError
@@ -246,6 +247,7 @@ func TestPrint(t *testing.T) {
 func TestPrintErrors(t *testing.T) {
 	canPrint(t)
 	wrong := promql.NewCall("rate", selector("foo"))
+	sum := &promql.AggregateExpr{Op: "sum", Expr: wrong}
 	pattern := selector("a", promql.Matcher{Name: "b", Type: promql.MatchRegexp, Value: "("})
 	large := selector("a", promql.Matcher{Name: "b", Type: promql.MatchRegexp, Value: "c{3000}"})
 	for i, it := range []struct {
@@ -253,7 +255,7 @@ func TestPrintErrors(t *testing.T) {
 		path       string
 		cause      error
 	}{
-		{&promql.BinaryExpr{Op: "+", LHS: promql.NewNumber(1), RHS: &promql.AggregateExpr{Op: "sum", Expr: wrong}}, wrong, "$.rhs.expr", promql.ErrUnfaithful},
+		{&promql.BinaryExpr{Op: "+", LHS: promql.NewNumber(1), RHS: sum}, wrong, "$.rhs.expr", promql.ErrUnfaithful},
 		{&promql.ParenExpr{Expr: pattern}, pattern, "$.expr", nil},
 		{&promql.ParenExpr{}, nil, "$.expr", promql.ErrNotATree},
 		{large, large, "$", promql.ErrTooLargeTree},
@@ -267,6 +269,13 @@ func TestPrintErrors(t *testing.T) {
 		if it.cause != nil && !errors.Is(err, it.cause) {
 			t.Errorf("%d: %v", i, err)
 		}
+	}
+	var deep promql.Expr = promql.NewNumber(1)
+	for i := 0; i < 200; i++ {
+		deep = &promql.ParenExpr{Expr: deep}
+	}
+	if _, err := promql.Print(deep); err == nil || err.Error() != "$: nested too deeply" || !errors.Is(err, promql.ErrNotATree) {
+		t.Error(err)
 	}
 	if got := promql.NewCall("rates").String(); !strings.HasPrefix(got, "%!($.func") && !strings.HasPrefix(got, "%!($: ") {
 		t.Error(got)

@@ -43,7 +43,7 @@ def main() -> int:
         try:
             expr = tree.parse(line)
             print(f"{' '.join(names_in(expr))}: {change(expr, Matcher(label, '=', value), old, new, by)}")
-        except promql.Error as error:
+        except (promql.Error, RecursionError) as error:
             status = 1
             print("not changed")
             print(error, file=sys.stderr)

@@ -15,7 +15,7 @@ from __future__ import annotations
 
 import json
 from operator import index
-from typing import Any, Dict, Iterable, List, Optional, Type, Union
+from typing import Any, Dict, Iterable, List, Mapping, Optional, Type, Union
 
 from ._answers import Answer, Failure, Mode, Status
 from ._calls import calls as _caller
@@ -39,12 +39,13 @@ __all__ = [
     "collect",
     "enforce",
     "format",
+    "format_query",
     "parse",
     "print_tree",
     "set_limits",
     "version",
 ]
-__version__ = "0.4.0"
+__version__ = "0.5.0"
 
 _MAX_LEVEL = 512
 _MAX_WIDTH = 2**64 - 1
@@ -139,7 +140,7 @@ def parse(query: str) -> Dict[str, Any]:
     return tree
 
 
-def print_tree(tree: Dict[str, Any], *, parentheses: bool = False, width: Optional[int] = None, level: int = 0) -> str:
+def print_tree(tree: Mapping[str, object], *, parentheses: bool = False, width: Optional[int] = None, level: int = 0) -> str:
     """The query that has this tree, which is in the form that `parse` returns: on one line, or laid out where there is a `width`.
 
     With `parentheses` the tree gets parentheses where it needs them. What is returned was read again, and means the tree
@@ -159,6 +160,17 @@ def format(query: str, *, width: int = 100, level: int = 0) -> str:
     Each line begins with `level` indentations of two spaces, which `width` does not count.
     """
     return _text(query, _caller.format(query, _number("level", level, _MAX_LEVEL), _number("width", width, _MAX_WIDTH)))
+
+
+def format_query(query: str, *, width: int = 100, indent: int = 2, keep_spelling: bool = False) -> str:
+    """The query, laid out for people (docs/reference/formatting.md): comments stay, chains of operators are flat, and a line has at most
+    `width` characters, its indentation counted, where it can be broken. An indentation has `indent` spaces.
+
+    With `keep_spelling` numbers, durations, strings and the order of what is written stay, too. What is returned was read again: it has the
+    query's tree and comments. Raises UnfaithfulError where it has not; there is no query for which this was seen.
+    """
+    size, spaces = _number("width", width, _MAX_WIDTH), _number("indent", indent, _MAX_WIDTH)
+    return _text(query, _caller.format_query(query, size, spaces, int(keep_spelling)))
 
 
 def canonical(query: str) -> str:

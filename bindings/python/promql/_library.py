@@ -44,6 +44,7 @@ _SIGNATURES = {
     "promql_check": [*_QUERY, *_BUFFER],
     "promql_snippet": [*_QUERY, ctypes.c_size_t, ctypes.c_size_t, *_BUFFER],
     "promql_print_tree": [*_QUERY, ctypes.c_uint32, ctypes.c_uint32, ctypes.c_size_t, ctypes.c_uint32, *_BUFFER],
+    "promql_format_query": [*_QUERY, ctypes.c_size_t, ctypes.c_size_t, ctypes.c_uint32, *_BUFFER],
     "promql_version": _BUFFER,
 }
 
@@ -134,6 +135,11 @@ def enforce(query: str, matcher: str) -> Answer:
 
 def format(query: str, level: int, width: int) -> Answer:
     return _answer(print_query(_encoded(query), Mode.PRETTY, level, width))
+
+
+def format_query(query: str, width: int, indent_width: int, keep_spelling: int) -> Answer:
+    encoded = _encoded(query)
+    return _answer(call("promql_format_query", 4 * len(encoded), encoded, len(encoded), width, indent_width, keep_spelling))
 
 
 def json(query: str) -> Answer:

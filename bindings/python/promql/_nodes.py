@@ -5,16 +5,14 @@ from __future__ import annotations
 import dataclasses
 from dataclasses import dataclass
 from decimal import Decimal
-from typing import TYPE_CHECKING, Any, ClassVar, Dict, Iterator, List, Optional, Sequence, Tuple, Type, TypeVar, Union, cast
+from typing import Any, ClassVar, Dict, Iterator, List, Literal, Optional, Sequence, Tuple, Type, TypeVar, Union, cast
 
 from ._members import FormError, Members
+from .forms import Form, MatchOp, RangeMode, StartOrEnd
 from .functions import FUNCTIONS, Function
 
-if TYPE_CHECKING:
-    from .forms import Form, MatchOp, RangeMode, StartOrEnd
-
-    At = Union[int, StartOrEnd]
-
+# The time after `@`: milliseconds since the epoch, `start` or `end`.
+At = Union[int, StartOrEnd]
 AnyNode = TypeVar("AnyNode", bound="Node")
 AnyExpr = TypeVar("AnyExpr", bound="Expr")
 
@@ -73,7 +71,7 @@ class OneToMany(Node):
     labels: Tuple[str, ...] = ()
 
 
-Cardinality = Union[str, ManyToOne, OneToMany]
+Cardinality = Union[Literal["one-to-one", "many-to-many"], ManyToOne, OneToMany]
 
 
 @dataclass(frozen=True, repr=False)
@@ -113,7 +111,7 @@ class Matching(Node):
 
 def _read_cardinality(members: Members) -> Cardinality:
     if not isinstance(members.value("card"), dict):
-        return members.word("card", ("one-to-one", "many-to-many"))
+        return cast(Cardinality, members.word("card", ("one-to-one", "many-to-many")))
     card = members.below("card")
     is_many_to_one = card.has("many-to-one")
     labels = card.texts("many-to-one" if is_many_to_one else "one-to-many")
@@ -139,10 +137,10 @@ class Expr(Node):
         found: List[Expr] = []
         for name in self.CHILDREN:
             value = getattr(self, name)
-            if isinstance(value, tuple):
-                found.extend(value)
-            elif value is not None:
+            if isinstance(value, Expr):
                 found.append(value)
+            elif value is not None:
+                found.extend(value)
         return tuple(found)
 
     def with_children(self: AnyExpr, children: Sequence[Expr]) -> AnyExpr:
@@ -153,10 +151,10 @@ class Expr(Node):
         rest = iter(children)
         for name in self.CHILDREN:
             value = getattr(self, name)
-            if isinstance(value, tuple):
-                fields[name] = tuple(next(rest) for _ in value)
-            elif value is not None:
+            if isinstance(value, Expr):
                 fields[name] = next(rest)
+            elif value is not None:
+                fields[name] = tuple(next(rest) for _ in value)
         return self.replace(**fields) if fields else self
 
     def walk(self) -> Iterator[Expr]:
@@ -461,7 +459,7 @@ def _read_at(members: Members) -> Optional[At]:
         return timestamp
     if timestamp is not None:
         raise members.error("timestamp", "expected null beside startOrEnd")
-    return cast("At", members.word("startOrEnd", ("start", "end")))
+    return cast(At, members.word("startOrEnd", ("start", "end")))
 
 
 _ALL: Tuple[Type[Expr], ...] = (Aggregation, Binary, Call, Number, Paren, RangeSelector, Selector, String, Subquery, Unary)

@@ -15,6 +15,9 @@ from ._nodes import KINDS, Aggregation, Call, Expr
 from .forms import Form
 
 
+_TOO_DEEP = "nested too deeply"
+
+
 class NodeError(promql.Error):
     """A tree has no text: `message` says why.
 
@@ -46,10 +49,10 @@ def form_of(tree: Expr) -> Form:
         # (those of the children were made before, the last one first)
         for name in expr.CHILDREN:
             value = getattr(expr, name)
-            if isinstance(value, tuple):
-                form[name] = [forms.pop() for _ in value]
-            elif value is not None:
+            if isinstance(value, Expr):
                 form[name] = forms.pop()
+            elif value is not None:
+                form[name] = [forms.pop() for _ in value]
         forms.append(form)
     return cast(Form, forms.pop())
 
@@ -63,10 +66,10 @@ def _places(tree: Expr) -> Iterator[Tuple[str, Expr]]:
         below: List[Tuple[str, Expr]] = []
         for name in expr.CHILDREN:
             value = getattr(expr, name)
-            if isinstance(value, tuple):
-                below.extend((f"{path}.{name}[{number}]", it) for number, it in enumerate(value))
-            elif value is not None:
+            if isinstance(value, Expr):
                 below.append((f"{path}.{name}", value))
+            elif value is not None:
+                below.extend((f"{path}.{name}[{number}]", it) for number, it in enumerate(value))
         left.extend(reversed(below))
 
 
@@ -115,11 +118,11 @@ def _printed(tree: Expr, mode: Mode, level: int, width: int) -> str:
         return answer
     error = promql._tree_error(answer)
     if isinstance(error, promql.TreeError):
-        path, colon, expected = str(error).partition(": ")
+        path, colon, message = str(error).partition(": ")
         if not colon:
-            # (as of a tree that is deeper than the library reads)
-            raise NodeError(str(error), "$", tree) from error
-        raise NodeError(f"expected {expected}", path, _node_at(tree, path)) from error
+            # (the form is JSON, but deeper than the library reads)
+            raise NodeError(_TOO_DEEP, "$", tree) from error
+        raise NodeError(message, path, _node_at(tree, path)) from error
     if isinstance(error, promql.UnfaithfulError):
         path, node = _first_without_text(tree)
         raise NodeError(str(error), path, node) from error
@@ -129,7 +132,11 @@ def _printed(tree: Expr, mode: Mode, level: int, width: int) -> str:
 
 
 def _answer(tree: Expr, mode: Mode, level: int, width: int) -> Answer:
-    form = json.dumps(form_of(tree), ensure_ascii=False, separators=(",", ":"))
+    try:
+        form = json.dumps(form_of(tree), ensure_ascii=False, separators=(",", ":"))
+    except RecursionError as error:
+        # (the library reads fewer levels than Python writes)
+        raise NodeError(_TOO_DEEP, "$", tree) from error
     return calls.print_tree(form, mode, level, width, 1)
 
 

@@ -21,6 +21,7 @@ import promql
 from ._members import FormError
 from ._nodes import (
     Aggregation,
+    At,
     Binary,
     Call,
     Cardinality,
@@ -41,6 +42,7 @@ from ._printing import NodeError, tree_of
 
 __all__ = [
     "Aggregation",
+    "At",
     "Binary",
     "Call",
     "Cardinality",
@@ -65,7 +67,8 @@ __all__ = [
 
 
 def parse(query: str) -> Expr:
-    """The tree of a query. Raises what `promql.parse` raises: QueryError where the query is rejected.
+    """The tree of a query. Raises what `promql.parse` raises: QueryError where the query is rejected, and RecursionError where it is nested
+    more deeply than Python's recursion limit allows.
 
     Lengths of time are cut off to whole milliseconds, as in the JSON form.
     """

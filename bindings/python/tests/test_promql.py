@@ -78,6 +78,19 @@ class Texts(unittest.TestCase):
         finally:
             promql.set_limits()
 
+    def test_format_query(self):
+        query = "sum(rate(foo[5m]))by(job) # per job"
+        self.assertEqual(promql.format_query(query), "sum by (job) (rate(foo[5m])) # per job")
+        self.assertEqual(promql.format_query("a  or\tb", keep_spelling=True), "a or b")
+        for width in (0, 10, 40):
+            laid = promql.format_query(query, width=width, indent=4)
+            self.assertEqual(promql.canonical(laid), promql.canonical(query))
+            self.assertIn("# per job", laid)
+            self.assertEqual(promql.format_query(laid, width=width, indent=4), laid)
+        with self.assertRaises(promql.QueryError) as raised:
+            promql.format_query("1 +")
+        self.assertEqual(str(raised.exception), "1:4: invalid promql query")
+
     def test_long_output(self):
         promql.set_limits(max_output=5)
         try:
@@ -134,6 +147,7 @@ class Texts(unittest.TestCase):
         with self.assertRaises(promql.QueryError):
             promql.collect("1 +")
 
+    @unittest.skipUnless(hasattr(_library._library, "promql_print_tree"), "the library has no promql_print_tree")
     def test_print_tree(self):
         tree = promql.parse("foo + on (b) bar{a='é'}")
         self.assertEqual(promql.print_tree(tree), 'foo + on (b) bar{a="é"}')

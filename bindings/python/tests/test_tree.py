@@ -76,6 +76,17 @@ NO_FORMS = (
 )
 
 
+MATCH = """
+match expr:
+    case Call(name, (RangeSelector(range=length),)):
+        found.append(("call", name, length))
+    case Aggregation("sum", Selector(), grouping=labels):
+        found.append(("sum", labels))
+    case Binary(Selector(matchers=(Matcher(label, "="),)), "+", Number(value)):
+        found.append(("binary", label, value))
+"""
+
+
 def has_print_tree():
     try:
         calls.print_tree("1", 0, 0, 0, True)
@@ -138,6 +149,19 @@ class Trees(unittest.TestCase):
         tree.transform(tree.parse("a + b * c"), lambda it: seen.append(repr(it)) or it)
         self.assertEqual([it[:12] for it in seen], ["Selector('a'", "Selector('b'", "Selector('c'", "Binary(Selec", "Binary(Selec"])
         self.assertRaises(promql.QueryError, tree.parse, query)
+
+    @unittest.skipIf(sys.version_info < (3, 10), "this Python has no match")
+    def test_match(self):
+        names = dict(vars(tree), found=[])
+        for query in ("rate(foo[5m])", "sum by (job) (foo)", "foo{a='1'} + 2"):
+            exec(MATCH, {**names, "expr": tree.parse(query)})
+        self.assertEqual(names["found"], [("call", "rate", 300_000), ("sum", ("job",)), ("binary", "a", "2")])
+
+    def test_lists(self):
+        """Lists in place of tuples, as a caller may have them."""
+        expr = Call("rate", [RangeSelector("foo", 60_000, [Matcher("a", "=", "1")])])
+        self.assertEqual(tree.from_json(expr.to_json()), tree.parse("rate(foo{a='1'}[1m])"))
+        self.assertEqual(tree.transform(expr, with_matchers), tree.parse("rate(foo{a='1',t='1'}[1m])"))
 
     def test_high_trees(self):
         expr = Selector("a")
@@ -210,7 +234,12 @@ class Texts(unittest.TestCase):
         expr = Selector("a")
         for _ in range(200):
             expr = Paren(expr)
-        self.check_error(expr, "$", expr)
+        self.assertEqual(str(self.check_error(expr, "$", expr)), "$: nested too deeply")
+        for _ in range(2 * sys.getrecursionlimit()):
+            expr = Paren(expr)
+        with self.assertRaises(tree.NodeError) as raised:
+            str(expr)
+        self.assertEqual(raised.exception.message, "nested too deeply")
 
 
 if __name__ == "__main__":

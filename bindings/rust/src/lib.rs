@@ -172,6 +172,34 @@ pub fn format(query: &str, layout: Layout) -> Result<String, Error> {
     text_of(library::print(query, Mode::Pretty, layout.level, layout.width))
 }
 
+/// How [`format_query`] lays a query out.
+#[derive(Clone, Copy, Debug, PartialEq, Eq)]
+pub struct Style {
+    /// The most characters of a line, its indentation counted, where it can be broken.
+    pub width: usize,
+    /// The spaces of an indentation.
+    pub indent_width: usize,
+    /// Whether numbers, durations, strings and the order of what is written stay as they are.
+    pub keep_spelling: bool,
+}
+
+impl Default for Style {
+    /// Lines of at most 100 characters, indentations of two spaces, and one spelling for all.
+    fn default() -> Style {
+        Style { width: 100, indent_width: 2, keep_spelling: false }
+    }
+}
+
+/// The query, laid out for people (`docs/reference/formatting.md` of the repository): comments stay, and chains of operators are flat.
+/// What is returned was read again, and has the query's tree and comments.
+///
+/// # Errors
+///
+/// Those of [`canonical`], and `Unfaithful` where the layout does not read back.
+pub fn format_query(query: &str, style: Style) -> Result<String, Error> {
+    text_of(library::format_query(query, style.width, style.indent_width, style.keep_spelling))
+}
+
 /// The tree of the query in its JSON form (`docs/reference/json.md` of the repository), without a space.
 ///
 /// # Errors

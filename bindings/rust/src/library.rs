@@ -105,6 +105,16 @@ extern "C" {
         buffer_size: usize,
         result: *mut Answer,
     ) -> u32;
+    fn promql_format_query(
+        query: *const u8,
+        query_length: usize,
+        width: usize,
+        indent_width: usize,
+        keep_spelling: u32,
+        buffer: *mut u8,
+        buffer_size: usize,
+        result: *mut Answer,
+    ) -> u32;
     fn promql_set_limits(max_len: usize, max_pattern_size: usize);
     fn promql_set_max_output(bytes: usize);
     fn promql_version(buffer: *mut u8, buffer_size: usize, result: *mut Answer) -> u32;
@@ -141,6 +151,13 @@ pub fn print(query: &str, mode: Mode, level: u16, width: usize) -> (String, Answ
 pub fn canonical(query: &str) -> (String, Answer) {
     call(query.len(), |(buffer, size, answer)| unsafe {
         promql_canonical(query.as_ptr(), query.len(), buffer, size, answer);
+    })
+}
+
+pub fn format_query(query: &str, width: usize, indent_width: usize, keep_spelling: bool) -> (String, Answer) {
+    call(query.len(), |(buffer, size, answer)| unsafe {
+        let kept = keep_spelling.into();
+        promql_format_query(query.as_ptr(), query.len(), width, indent_width, kept, buffer, size, answer);
     })
 }
 

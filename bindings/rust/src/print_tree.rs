@@ -13,8 +13,8 @@ pub struct NodeError {
     pub path: String,
     /// What is wrong there.
     pub message: String,
-    /// What [`print_tree`](crate::print_tree()) says of the tree: `NotATree` where a part is none of a query, `Unfaithful` where the text would
-    /// mean another tree, `TooLargeTree` where it is too long.
+    /// What [`print_tree`](crate::print_tree()) says of the tree: `NotATree` where a part is none of a query, `Unfaithful` where the text
+    /// would mean another tree, `TooLargeTree` where it is too long.
     pub cause: Box<Error>,
 }
 
@@ -92,7 +92,9 @@ fn print_in_mode(tree: &Expr, layout: Option<Layout>) -> Result<String, Error> {
     };
     let said = cause.to_string();
     let (path, message) = match (&cause, said.split_once(": ")) {
-        (Error::NotATree(_), Some((path, expected))) => (path.to_string(), format!("expected {expected}")),
+        (Error::NotATree(_), Some((path, message))) => (path.to_string(), message.to_string()),
+        // (the form is JSON, but deeper than the library reads)
+        (Error::NotATree(_), None) => (String::from("$"), String::from("nested too deeply")),
         (Error::Unfaithful(_), _) => (first_without_text(tree), said),
         _ => (String::from("$"), said),
     };

@@ -247,4 +247,6 @@ fn faults_name_their_nodes() {
     assert_eq!(fault(&tree).node(&tree), &with_pattern("("));
     assert!(matches!(*fault(&with_pattern("c{3000}")).cause, Error::TooLargeTree(_)));
     assert_eq!(Expr::call("rates", []).to_string().get(..2), Some("<$"));
+    let deep = (0..200).fold(number("1"), |expr, _| Expr::Paren(ParenExpr { expr: boxed(expr) }));
+    assert_eq!(print(&deep).unwrap_err().to_string(), "$: nested too deeply");
 }

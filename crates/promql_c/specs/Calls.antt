@@ -4,7 +4,8 @@ use Rattle.std.specs.Str.{IsUtf8}
 use Rattle.promql_text.specs.Texts.{Text}
 use Rattle.promql_span.specs.declared.span.Span.{Span}
 use Rattle.promql_ast.specs.Tree.{Tree}
-use Rattle.promql_span.specs.QueryLimits.{IsLongOutput}
+use Rattle.promql_span.specs.QueryLimits.{IsLongOutput, IsWithin}
+use Rattle.promql_formatter.specs.Formats.{IsFormatOf}
 use Rattle.promql_span.specs.declared.limits.Limits.{Limits}
 use Rattle.promql_json.specs.declared.error.JsonError.{JsonError}
 use Rattle.promql_json.specs.declared.error.JsonError.TheVariants as json_errors
@@ -79,3 +80,10 @@ IsTreePrintOf limits form (Some format) parens (Err (errors.LongOutput fault)) =
     IsUtf8 form × ((text : Text) × IsTextOfForm limits format parens form text × IsLongOutput text limits fault)
 IsTreePrintOf limits form (Some format) parens (Err (errors.NotPrinted e)) = IsUtf8 form × FailsToShowForm limits parens form e
 IsTreePrintOf limits form (Some format) parens (Err e) = IsUnread form e
+
+-- "format": a layout for people, which has the query's tree and its comments
+abbrev pub IsFormattedOf : Limits → Bool → Text → Result Text CallError → Type 0
+IsFormattedOf limits keeps query (Ok layout) = IsUtf8 query × IsWithin query limits × IsFormatOf keeps query layout × (length layout ≤ limits.max_output)
+IsFormattedOf limits keeps query (Err (errors.LongOutput fault)) = IsUtf8 query × ((layout : Text) × IsFormatOf keeps query layout × IsLongOutput layout limits fault)
+IsFormattedOf limits keeps query (Err errors.NotFormatted) = IsUtf8 query × IsParsed limits query
+IsFormattedOf limits keeps query (Err e) = HasNoTree limits query e

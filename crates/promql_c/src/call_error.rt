@@ -34,6 +34,9 @@ pub enum CallError {
     /// The text is not within the limits.
     #[error("{0}")]
     LongOutput(LongOutput),
+    /// The layout of the query does not read back.
+    #[error("the formatted query does not read back")]
+    NotFormatted,
     /// The tree that was given has no text.
     #[error("{0}")]
     NotPrinted(TreeTextError),
@@ -52,6 +55,7 @@ impl CallError {
             CallError::UnknownMode => 9,
             CallError::NotEnforced(error) => u32::from(error.number()),
             CallError::LongOutput(_) => 18,
+            CallError::NotFormatted => 12,
             CallError::NotPrinted(error) => u32::from(error.number()),
         }
     }

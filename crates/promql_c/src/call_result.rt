@@ -75,6 +75,7 @@ fn result_of(error: &CallError, length: usize) -> CallResult
         | CallError::UnknownMode
         | CallError::NotEnforced(_)
         | CallError::LongOutput(_)
+        | CallError::NotFormatted
         | CallError::NotPrinted(_) => plain(error.status(), length),
     }
 }

@@ -2,21 +2,23 @@
 
 ghost use Rattle.std.specs.Prelude.{◌==◌, not, Some, Ok};
 ghost use Rattle.promql_c.specs.CallResults.{Shows, ShowsSome};
-ghost use Rattle.promql_c.specs.Calls.{IsCheckOf, IsCollectOf, IsEnforceOf, IsPrintOf, IsSnippetOf, IsTreePrintOf};
+ghost use Rattle.promql_c.specs.Calls.{IsCheckOf, IsCollectOf, IsEnforceOf, IsFormattedOf, IsPrintOf, IsSnippetOf, IsTreePrintOf};
 ghost use Rattle.promql_c.specs.Formats.{format_numbered};
 
 use crate::call_result::{CallResult, show, show_text};
 use crate::collecting::collect_query;
 use crate::enforcing::enforce_query;
+use crate::formatting::format_bytes;
 use crate::printing::{check_query, format_of, mark_query, print_query};
 use crate::tree_printing::print_form;
+use promql_formatter::FormatOptions;
 use promql_lines::request::Format;
 use promql_span::Span;
 use promql_span::limits::Limits;
 use std::alloc::Global;
 
 /// The version of the calls: a new call, or a new status of one, has a new version.
-pub const CALLS_VERSION: &str = "0.4.0";
+pub const CALLS_VERSION: &str = "0.5.0";
 
 /// Prints a query in the mode of this number: 0 on one line, 1 laid out, 2 as JSON. `level` counts indentations of two
 /// spaces, at most 512, and `width` is the most bytes that a line has, its indentation not counted; both are for a
@@ -116,6 +118,29 @@ pub fn print_tree(
         parentheses != 0,
         form,
     );
+    show(alloc, made, buffer)
+}
+
+/// Lays a query out for people (docs/reference/formatting.md): comments stay, and chains of operators are flat. Lines have at most
+/// `width` characters where they can be broken, and indentations of `indent_width` spaces. Where `keep_spelling` is not 0, numbers,
+/// durations, strings and the order of what is written stay as they are.
+pub fn format(
+    alloc: Global,
+    limits: &Limits,
+    query: &[u8],
+    width: usize,
+    indent_width: usize,
+    keep_spelling: u32,
+    buffer: &mut [u8],
+) -> CallResult
+    ensures { ShowsSome (IsFormattedOf limits.now (not (keep_spelling == 0)) query.now) result buffer.old buffer.new }
+{
+    let options = FormatOptions {
+        width,
+        indent_width,
+        keep_spelling: keep_spelling != 0,
+    };
+    let made = format_bytes(alloc, limits, &options, query);
     show(alloc, made, buffer)
 }
 

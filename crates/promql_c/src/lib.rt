@@ -5,7 +5,7 @@
 ghost use Rattle.std.specs.Prelude.{◌==◌, not, Some, Ok};
 ghost use Rattle.promql_lines.specs.declared.request.Format.TheVariants.{Line};
 ghost use Rattle.promql_c.specs.CallResults.{Shows, ShowsSome};
-ghost use Rattle.promql_c.specs.Calls.{IsCheckOf, IsCollectOf, IsEnforceOf, IsPrintOf, IsSnippetOf, IsTreePrintOf};
+ghost use Rattle.promql_c.specs.Calls.{IsCheckOf, IsCollectOf, IsEnforceOf, IsFormattedOf, IsPrintOf, IsSnippetOf, IsTreePrintOf};
 ghost use Rattle.promql_c.specs.Formats.{format_numbered};
 ghost use Rattle.promql_c.specs.declared.calls.TheConstants.{CALLS_VERSION};
 
@@ -20,6 +20,7 @@ mod call_result;
 mod calls;
 mod collecting;
 mod enforcing;
+mod formatting;
 mod printing;
 mod tree_printing;
 
@@ -131,6 +132,31 @@ pub extern "C" fn call_print_tree(
         shown.new buffer.old buffer.new }
 {
     *shown = calls::print_tree(alloc, limits, form, mode, level, width, parentheses, buffer);
+}
+
+/// `calls::format`.
+#[unsafe(no_mangle)]
+pub extern "C" fn call_format(
+    alloc: Global,
+    limits: &Limits,
+    query: &[u8],
+    width: usize,
+    indent_width: usize,
+    keep_spelling: u32,
+    buffer: &mut [u8],
+    shown: &mut CallResult,
+)
+    ensures { ShowsSome (IsFormattedOf limits.now (not (keep_spelling == 0)) query.now) shown.new buffer.old buffer.new }
+{
+    *shown = calls::format(
+        alloc,
+        limits,
+        query,
+        width,
+        indent_width,
+        keep_spelling,
+        buffer,
+    );
 }
 
 /// `calls::version`.

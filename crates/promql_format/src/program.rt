@@ -27,7 +27,7 @@ pub const FORMAT_USAGE: &str =
     "usage: promql_format [--width N] [--indent N] [--keep-spelling] [--check] [--max-len N] [--max-patterns N]\n";
 
 /// What `--version` prints.
-pub const FORMAT_VERSION: &str = "promql_format 0.4.0\n";
+pub const FORMAT_VERSION: &str = "promql_format 0.5.0\n";
 
 /// What `--help` prints.
 pub const FORMAT_HELP: &str =

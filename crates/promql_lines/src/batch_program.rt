@@ -26,7 +26,7 @@ pub const BATCH_USAGE: &str =
     "usage: promql_batch pretty|line|json [--max-len N] [--max-patterns N] [--max-output N]\n";
 
 /// What `--version` prints.
-pub const BATCH_VERSION: &str = "promql_batch 0.4.0\n";
+pub const BATCH_VERSION: &str = "promql_batch 0.5.0\n";
 
 /// What `--help` prints.
 pub const BATCH_HELP: &str =

@@ -118,7 +118,7 @@ func (r *report) checkLine(query string, form []byte, expr promql.Expr) {
 	}
 	again, _ := promql.JSON(line)
 	switch {
-	case err != nil && depth(form) > mostDepth:
+	case err != nil && depth(form) >= mostDepth:
 		r.reasons["a tree is deeper than the library reads"]++
 	case err != nil && bytes.Contains(form, []byte(`"range":0,`)), err == nil && bytes.Equal(form, again):
 		r.reasons["a length of time is below a millisecond"]++

@@ -99,7 +99,7 @@ fn check_line(report: &mut Report, query: &str, form: &str, tree: &Expr) {
     };
     if is_cut {
         report.reason("a length of time is below a millisecond");
-    } else if line.is_err() && depth(form) > MOST_DEPTH {
+    } else if line.is_err() && depth(form) >= MOST_DEPTH {
         report.reason("a tree is deeper than the library reads");
     } else {
         return report.check(false, || format!("another line: {query}: {line:?}"));
