@@ -3,9 +3,9 @@
 
     bench/format/formatted.py PROGRAM [--seed N] [--queries N] [--width N] [--keep-spelling]
 
-PROGRAM is a formatter that reads a query from standard input and takes `--width N` and `--keep-spelling`, as `promql_format` does. The
-queries are those of bench/queries/queries.txt, and the texts of rows/*.tsv that are accepted. Each is formatted as it is, and with comments
-between its tokens. Of each layout it is asked
+PROGRAM is a formatter that reads a query from standard input and takes `--width N`, `--keep-spelling` and bounds of a query, as
+`promql_format` does. The queries are those of bench/queries/queries.txt, and the texts of rows/*.tsv that are accepted. Each is formatted
+as it is, and with comments between its tokens. Of each layout it is asked
 
 - that it is a query with the same line (`dist/promql_batch` prints both), and with `--keep-spelling` the same tokens, but for commas
   that close a list;
@@ -27,10 +27,11 @@ BATCH = TOP / "dist" / "promql_batch"
 PIECE = re.compile(r'\s+("(?:[^"\\]|\\.)*")(?:\s+\*(\d+))?')
 TOKEN = re.compile(
     r"""(?P<string>"(?:\\.|[^"\\])*"|'(?:\\.|[^'\\])*'|`[^`]*`)"""
-    r"|(?P<comment>\#[^\n\r]*)|(?P<word>[A-Za-z_:0-9.]+)|(?P<space>\s+)|(?P<sign>=~|!~|!=|==|<=|>=|.)",
+    r"|(?P<comment>\#[^\n\r]*)|(?P<word>[0-9][0-9._]*[eE][+-]?[0-9_]+|[A-Za-z_:0-9.]+)|(?P<space>\s+)|(?P<sign>=~|!~|!=|==|<=|>=|.)",
     re.DOTALL,
 )
 LONGEST = 1500
+BOUNDS = ("--max-len", "10000000", "--max-patterns", "100000000")
 COMMENT_RATE = 0.25
 # After these words a comment would make another token of the word.
 BOUND_WORDS = ("fill", "fill_left", "fill_right", "or")
@@ -48,7 +49,7 @@ def field_text(field: str) -> str:
 def lines_of(texts: list[str]) -> list[str | None]:
     """The line of each text, or `None` where it is no query."""
     requests = "".join(json.dumps({"query": text}) + "\n" for text in texts)
-    command = [str(BATCH), "line", "--max-len", "10000000", "--max-patterns", "100000000"]
+    command = [str(BATCH), "line", *BOUNDS]
     done = subprocess.run(command, input=requests.encode(), capture_output=True, check=False)
     return [json.loads(answer).get("ok") for answer in done.stdout.splitlines()]
 
@@ -66,9 +67,10 @@ def queries() -> list[str]:
 
 
 def tokens(text: str) -> list[str]:
-    """The tokens of a text, without commas that close a list."""
+    """The tokens of a text, without commas that close a list. A colon is one by itself: between durations it may have spaces around it."""
     found = [match for match in TOKEN.finditer(text) if match.lastgroup not in ("space", "comment")]
-    words = [match.group() for match in found]
+    split = (re.findall(":|[^:]+", match.group()) if match.lastgroup == "word" else [match.group()] for match in found)
+    words = [word for parts in split for word in parts]
     return [word for word, after in zip(words, words[1:] + [""]) if word != "," or after not in (")", "}")]
 
 
@@ -98,7 +100,7 @@ def with_comments(text: str, rng: random.Random) -> str:
 
 def formatted(program: str, options: list[str], text: str) -> str | None:
     """What the program writes for a text, without the line feed at the end."""
-    done = subprocess.run([program, *options], input=text.encode(), capture_output=True, check=False)
+    done = subprocess.run([program, *BOUNDS, *options], input=text.encode(), capture_output=True, check=False)
     return done.stdout.decode().removesuffix("\n") if done.returncode == 0 else None
 
 
