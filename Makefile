@@ -5,7 +5,7 @@
 #     removes these files.
 PREFIX = /usr/local
 to = $(DESTDIR)$(PREFIX)
-programs = promql promql_batch promql_check promql_enforce
+programs = promql promql_batch promql_check promql_enforce promql_format
 files = $(programs:%=bin/%) include/promql.h lib/libpromql.a lib/libpromql.so lib/pkgconfig/promql.pc \
     $(addprefix lib/cmake/promql/, promql-config.cmake promql-config-version.cmake promql_targets.cmake) \
     $(programs:%=share/man/man1/%.1) $(programs:%=share/bash-completion/completions/%) \

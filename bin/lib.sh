@@ -202,6 +202,35 @@ why_release_stale() {
     why_stale "$root/dist/MADE_FROM" "$root/dist/$1" "$2" "${programs[@]}"
 }
 
+# release_listing NAME KIT: the kit's line, and for each file that decides which program of this name is run its path, its size, its inode and
+# when it changed. No program can set that time.
+release_listing() {
+    printf '%s\n' "$2"
+    (
+        cd "$root" || exit
+        find bin/lib.sh bin/run_program HANDLES crates.txt dist/MADE_FROM "dist/$1" "crates/$1/out/$1" "crates/$1/out/$1.made_from" \
+            crates/*/src crates/*/specs crates/*/proofs -type f -printf '%p %s %i %C@\n' 2>/dev/null
+    )
+}
+
+# stamped_program FILE LISTING: prints the program that was found for this listing, by its path from the top; fails where there is none.
+stamped_program() {
+    local stamp
+    [ -f "$1" ] || return
+    stamp=$(<"$1")
+    [ "${stamp#*$'\n'}" = "$2" ] && printf '%s\n' "${stamp%%$'\n'*}"
+}
+
+# write_stamp FILE PROGRAM LISTING: keeps which program was found. A file that changed in the last two seconds may change again at what the
+# system calls the same time, so then nothing is kept.
+write_stamp() {
+    local newest
+    newest=$(awk 'NR > 1 && $NF > newest { newest = $NF } END { printf "%d", newest }' <<<"$3")
+    if [ "$newest" -lt "$(($(date +%s) - 2))" ] && mkdir -p "${1%/*}"; then
+        printf '%s\n' "$2" "$3" >"$1.$$" && mv -f "$1.$$" "$1"
+    fi
+}
+
 # why_extension_stale: the same for the extension for Python of dist/.
 why_extension_stale() {
     local made=$root/dist/_native.made_from extension=$root/dist/_native.abi3.so why

@@ -2,7 +2,7 @@
 """Runs the rows through a binding, and compares what it gives with the stored answers of promql_batch, byte by byte.
 
 usage: bindings/rows.py c PROGRAM [THREADS]   through bindings/c/tests/test_promql.c, built as PROGRAM, or through those of
-                                              rust/examples/rows.rs and go/internal/rows
+                                              rust/examples/rows and go/internal/rows
        bindings/rows.py python [THREADS]      through the package promql, where Python finds it
        bindings/rows.py write FILE [COUNT]    writes the calls of COUNT rows, spread evenly, or of all
 Where THREADS are given, each makes all calls again beside the others, and is to get the same.

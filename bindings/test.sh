@@ -103,6 +103,7 @@ install_missing() {
     local -a missing=()
     command -v go >/dev/null || missing+=(golang-go)
     command -v cargo >/dev/null || missing+=(cargo)
+    compgen -G '/usr/share/cargo/registry/serde_json-1.*' >/dev/null || missing+=(librust-serde-json-dev)
     command -v cc >/dev/null || missing+=(gcc libc6-dev)
     command -v valgrind >/dev/null || missing+=(valgrind)
     command -v make >/dev/null || missing+=(make)
@@ -318,6 +319,9 @@ test_python() {
     if has "${CHROMIUM:-chromium}" 'the page in Chromium'; then add 'the page in Chromium' unit_tests "$here/python" browser.py; fi
     add 'rows for Python, and again in eight threads' in_python "$here/python" "$here/rows.py" python 8
     PROMQL_EXTENSION='' add 'rows for Python by ctypes' in_python "$here/python" "$here/rows.py" python
+    try 'the tables of functions' python3 "$here/schema/write_functions.py" --check
+    add 'trees of the rows for Python' in_python "$here/python" "$here/trees.py" rows
+    add 'changed trees for Python' in_python "$here/python" "$here/trees.py" changed 10000 1
     test_wheel
 }
 
@@ -357,6 +361,7 @@ cache_keys() {
 test_rust() {
     has cargo 'the binding for Rust' || return
     add 'Rust' cargo_tests
+    test_serde
     try 'the examples for Rust' build_rust
     [ -x "$work/target/release/examples/rows" ] || return
     try 'the example for Rust' cache_keys
@@ -365,6 +370,27 @@ test_rust() {
     add 'rows for Rust, and again in eight threads' python3 "$here/rows.py" c "$work/target/release/examples/rows" 8
     try 'the calls of the rows' python3 "$here/rows.py" write "$work/calls"
     add 'broken texts for Rust' "$work/target/release/examples/rows" random "$work/calls" 10000 1
+    try 'the queries of the rows' python3 "$here/trees.py" write "$work/queries"
+    add 'trees of the rows for Rust' "$work/target/release/examples/rows" trees "$work/queries"
+    add 'changed trees for Rust' "$work/target/release/examples/rows" changed "$work/queries" 10000 1
+}
+
+# The crate for serde, where Debian has the crates that it needs.
+debian_crates=/usr/share/cargo/registry
+cargo_tests_with_serde() {
+    local said
+    said=$(CARGO_TARGET_DIR=$work/target cargo test --offline --quiet --manifest-path "$here/rust/serde/Cargo.toml" \
+        --config 'source.crates-io.replace-with="debian"' --config "source.debian.directory=\"$debian_crates\"" 2>&1)
+    printf '%s\n' "$said"
+    awk '/^test result:/ { passed += $4; failed += $6 } END { print passed + 0 " passed, " failed + 0 " failed"; exit passed == 0 }' <<<"$said"
+}
+
+test_serde() {
+    if compgen -G "$debian_crates/serde_json-1.*" >/dev/null; then
+        add 'trees by serde' cargo_tests_with_serde
+    else
+        echo 'not tried: trees by serde: librust-serde-json-dev is not installed'
+    fi
 }
 
 # ---- Go
@@ -393,13 +419,19 @@ test_go() {
     add 'Go' go_tests
     try 'the proxy in Go by the race detector' in_go . test -race ./cmd/promql-proxy/...
     try 'broken texts for Go by its fuzzer' in_go . test -run '^$' -fuzz FuzzQueries -fuzztime 10000x .
-    try 'the programs for Go' in_go . build -o "$work/go_programs/" ./internal/rows ./internal/bench
+    if has git 'a fork of the module for Go'; then
+        try 'a fork of the module for Go' env GOCACHE="$work/go" "$here/go/test_fork.sh" "$work/go_fork"
+    fi
+    try 'the programs for Go' in_go . build -o "$work/go_programs/" ./internal/rows ./internal/bench ./examples/change_queries
     [ -x "$work/go_programs/rows" ] || return
     try 'the bench for Go' bench_prints "$work/go_programs/bench"
     has python3 'rows and broken texts for Go' || return
     add 'rows for Go, and again in eight goroutines' python3 "$here/rows.py" c "$work/go_programs/rows" 8
     try 'the calls of the rows' python3 "$here/rows.py" write "$work/calls"
     add 'broken texts for Go' "$work/go_programs/rows" random "$work/calls" 10000 1
+    try 'the queries of the rows' python3 "$here/trees.py" write "$work/queries"
+    add 'trees of the rows for Go' "$work/go_programs/rows" trees "$work/queries"
+    add 'changed trees for Go' "$work/go_programs/rows" changed "$work/queries" 10000 1
 }
 
 # ---- examples
@@ -412,6 +444,27 @@ test_examples() {
         add 'a log of queries by parallel' python3 "$root/examples/query_log/test_query_log.py" answer
     fi
     test_dask
+    test_change_queries
+}
+
+# The examples that change queries, those that were built above.
+test_change_queries() {
+    local program
+    local -a programs=()
+    if ! nm --defined-only "$dist/libpromql.a" | grep -q ' promql_print_tree$'; then
+        echo 'not tried: the examples that change queries: the library has no promql_print_tree'
+        return
+    fi
+    printf '#!/bin/sh\nPYTHONPATH=%s exec python3 %s "$@"\n' "$here/python" "$here/python/examples/change_queries.py" >"$work/change_queries_py"
+    chmod +x "$work/change_queries_py"
+    if [ -x "$work/example" ]; then
+        try 'building the example that changes queries for C' "${CC:-cc}" -std=c99 -O2 -Wall -Wextra -Wpedantic -Werror -I"$dist" \
+            -o "$work/change_queries" "$here/c/change_queries.c" "$dist/libpromql.a"
+    fi
+    for program in change_queries_py change_queries go_programs/change_queries target/release/examples/change_queries; do
+        if [ -x "$work/$program" ]; then programs+=("$work/$program"); fi
+    done
+    add "queries that ${#programs[@]} languages change" python3 "$here/change_queries.py" "${programs[@]}"
 }
 
 # Debian has Dask for its own Python.
@@ -477,7 +530,8 @@ test_proxy() {
 
 export -f shows_own_names build_c bench_prints example_prints build_sanitized overrun_is_reported under_valgrind build_project
 export -f find_installed in_python unit_tests print_counts
-export -f in_cargo cargo_tests build_rust cache_keys in_go go_tests
+export debian_crates
+export -f in_cargo cargo_tests cargo_tests_with_serde build_rust cache_keys in_go go_tests
 
 parts=(names c install python scripts rust go examples)
 case "${1:-}" in

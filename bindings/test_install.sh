@@ -1,7 +1,7 @@
 # shellcheck shell=bash
 # Functions of bindings/test.sh, which sources this file: the tests of `make install`, and of what CMake, man and the shells find then.
 : "${here:?}" "${root:?}" "${dist:?}" "${work:?}"
-programs=(promql promql_batch promql_check promql_enforce)
+programs=(promql promql_batch promql_check promql_enforce promql_format)
 prefix=$work/prefix
 share=$prefix/share
 
@@ -35,19 +35,20 @@ manuals_are_read() {
         said=$(groff -man -Tascii "$page" | sed 's/.\x08//g; s/\x1b\[[0-9]*m//g')
         printf '%s\n' "$said"
         grep -q "^ *0 *[a-z]" <<<"$said" && grep -q "^ *64 *wrong arguments" <<<"$said" || return
-        [ "$name" = promql ] || grep -q -- "$name .*\[--max-len N\]" <<<"$said" || return
+        [ "$name" = promql ] || tr -s ' \n' ' ' <<<"$said" | grep -q -- "$name .*\[--max-len N\]" || return
     done
 }
 
 # completed PROGRAM WORD BEFORE: what bash completes a word to after the one before it.
 completed() {
-    # shellcheck disable=SC1090 # one of the four
+    # shellcheck disable=SC1090 # one of the five
     (. "$share/bash-completion/completions/$1" && "_$1" "$1" "$2" "$3" && echo "${COMPREPLY[*]}")
 }
 
 bash_completes() {
     [ "$(completed promql p promql)" = pretty ] && [ "$(completed promql_batch l promql_batch)" = line ] &&
         [ "$(completed promql_check --max promql_check)" = '--max-len --max-patterns' ] &&
+        [ "$(completed promql_format --k promql_format)" = --keep-spelling ] && [ -z "$(completed promql_format '' --width)" ] &&
         [ -z "$(completed promql_enforce '' --max-len)" ] && [ -z "$(completed promql_enforce name promql_enforce)" ]
 }
 
@@ -78,7 +79,7 @@ cmake_user() {
 }
 
 found_by_cmake() {
-    cmake_user "$work/finds" 'find_package(promql 0.4 REQUIRED)' 'find_package(promql REQUIRED)' &&
+    cmake_user "$work/finds" 'find_package(promql 0.5 REQUIRED)' 'find_package(promql REQUIRED)' &&
         ! cmake_user "$work/finds_other" 'find_package(promql 0.3 REQUIRED)' && ! cmake_user "$work/finds_later" 'find_package(promql 0.5 REQUIRED)'
 }
 

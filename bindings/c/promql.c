@@ -10,20 +10,38 @@
 /* The limits of each call. */
 static atomic_size_t max_len = 32768;
 static atomic_size_t max_pattern_size = 16000;
+static atomic_size_t max_output = 4194304;
+
+/* `Limits` of crates/promql_span. */
+struct limits {
+    size_t max_len;
+    size_t max_pattern_size;
+    size_t max_output;
+};
+
+static struct limits limits_now(void)
+{
+    return (struct limits){max_len, max_pattern_size, max_output};
+}
 
 /* What crates/promql_c exports. A slice of Rattle is a pointer that is not NULL, and a length of at most PTRDIFF_MAX. */
-void call_print(size_t max_len, size_t max_pattern_size, const void *query, size_t query_length, uint32_t mode,
+void call_print(const struct limits *limits, const void *query, size_t query_length, uint32_t mode,
                 uint32_t level, size_t width, void *buffer, size_t buffer_size, struct promql_result *result);
-void call_canonical(size_t max_len, size_t max_pattern_size, const void *query, size_t query_length, void *buffer,
+void call_canonical(const struct limits *limits, const void *query, size_t query_length, void *buffer,
                     size_t buffer_size, struct promql_result *result);
-void call_enforce(size_t max_len, size_t max_pattern_size, const void *query, size_t query_length, const void *matcher,
+void call_enforce(const struct limits *limits, const void *query, size_t query_length, const void *matcher,
                   size_t matcher_length, void *buffer, size_t buffer_size, struct promql_result *result);
-void call_collect(size_t max_len, size_t max_pattern_size, const void *query, size_t query_length, void *buffer,
+void call_collect(const struct limits *limits, const void *query, size_t query_length, void *buffer,
                   size_t buffer_size, struct promql_result *result);
-void call_check(size_t max_len, size_t max_pattern_size, const void *query, size_t query_length, void *buffer,
+void call_check(const struct limits *limits, const void *query, size_t query_length, void *buffer,
                 size_t buffer_size, struct promql_result *result);
 void call_snippet(const void *query, size_t query_length, size_t start, size_t end, void *buffer, size_t buffer_size,
                   struct promql_result *result);
+void call_format(const struct limits *limits, const void *query, size_t query_length, size_t width, size_t indent_width,
+                 uint32_t keep_spelling, void *buffer, size_t buffer_size, struct promql_result *result);
+void call_print_tree(const struct limits *limits, const void *tree, size_t tree_length, uint32_t mode,
+                     uint32_t level, size_t width, uint32_t parentheses, void *buffer, size_t buffer_size,
+                     struct promql_result *result);
 void call_version(void *buffer, size_t buffer_size, struct promql_result *result);
 
 /* Where a slice of no bytes begins if its pointer is NULL. */
@@ -110,7 +128,8 @@ uint32_t promql_print(const char *query, size_t query_length, uint32_t mode, uin
     uint32_t status = look_at(query, query_length, buffer, buffer_size, result);
     if (status != PROMQL_OK)
         return refuse(status, result);
-    call_print(max_len, max_pattern_size, start_of(query), query_length, mode, level, width, room_of(buffer), buffer_size,
+    struct limits limits = limits_now();
+    call_print(&limits, start_of(query), query_length, mode, level, width, room_of(buffer), buffer_size,
                result);
     return result->status;
 }
@@ -121,7 +140,8 @@ uint32_t promql_canonical(const char *query, size_t query_length, char *buffer, 
     uint32_t status = look_at(query, query_length, buffer, buffer_size, result);
     if (status != PROMQL_OK)
         return refuse(status, result);
-    call_canonical(max_len, max_pattern_size, start_of(query), query_length, room_of(buffer), buffer_size, result);
+    struct limits limits = limits_now();
+    call_canonical(&limits, start_of(query), query_length, room_of(buffer), buffer_size, result);
     return result->status;
 }
 
@@ -132,7 +152,8 @@ uint32_t promql_enforce(const char *query, size_t query_length, const char *matc
                                                         : PROMQL_BAD_POINTER;
     if (status != PROMQL_OK)
         return refuse(status, result);
-    call_enforce(max_len, max_pattern_size, start_of(query), query_length, start_of(matcher), matcher_length,
+    struct limits limits = limits_now();
+    call_enforce(&limits, start_of(query), query_length, start_of(matcher), matcher_length,
                  room_of(buffer), buffer_size, result);
     return result->status;
 }
@@ -143,7 +164,8 @@ uint32_t promql_collect(const char *query, size_t query_length, char *buffer, si
     uint32_t status = look_at(query, query_length, buffer, buffer_size, result);
     if (status != PROMQL_OK)
         return refuse(status, result);
-    call_collect(max_len, max_pattern_size, start_of(query), query_length, room_of(buffer), buffer_size, result);
+    struct limits limits = limits_now();
+    call_collect(&limits, start_of(query), query_length, room_of(buffer), buffer_size, result);
     return result->status;
 }
 
@@ -153,7 +175,8 @@ uint32_t promql_check(const char *query, size_t query_length, char *buffer, size
     uint32_t status = look_at(query, query_length, buffer, buffer_size, result);
     if (status != PROMQL_OK)
         return refuse(status, result);
-    call_check(max_len, max_pattern_size, start_of(query), query_length, room_of(buffer), buffer_size, result);
+    struct limits limits = limits_now();
+    call_check(&limits, start_of(query), query_length, room_of(buffer), buffer_size, result);
     return result->status;
 }
 
@@ -166,10 +189,39 @@ uint32_t promql_snippet(const char *query, size_t query_length, size_t start, si
     return result->status;
 }
 
+uint32_t promql_format_query(const char *query, size_t query_length, size_t width, size_t indent_width, uint32_t keep_spelling,
+                             char *buffer, size_t buffer_size, struct promql_result *result)
+{
+    uint32_t status = look_at(query, query_length, buffer, buffer_size, result);
+    if (status != PROMQL_OK)
+        return refuse(status, result);
+    struct limits limits = limits_now();
+    call_format(&limits, start_of(query), query_length, width, indent_width, keep_spelling, room_of(buffer), buffer_size,
+                result);
+    return result->status;
+}
+
+uint32_t promql_print_tree(const char *tree, size_t tree_length, uint32_t mode, uint32_t level, size_t width,
+                           uint32_t parentheses, char *buffer, size_t buffer_size, struct promql_result *result)
+{
+    uint32_t status = look_at(tree, tree_length, buffer, buffer_size, result);
+    if (status != PROMQL_OK)
+        return refuse(status, result);
+    struct limits limits = limits_now();
+    call_print_tree(&limits, start_of(tree), tree_length, mode, level, width, parentheses, room_of(buffer),
+                    buffer_size, result);
+    return result->status;
+}
+
 void promql_set_limits(size_t len, size_t pattern_size)
 {
     max_len = len;
     max_pattern_size = pattern_size;
+}
+
+void promql_set_max_output(size_t bytes)
+{
+    max_output = bytes;
 }
 
 uint32_t promql_version(char *buffer, size_t buffer_size, struct promql_result *result)

@@ -6,9 +6,11 @@
 // proved of the calls, and what is not, is in docs/guide/bindings.md of the repository.
 package promql
 
+// The library is that of lib/, as fork.sh leaves it, and else that of dist/ in the repository.
+
 /*
-#cgo CFLAGS: -I${SRCDIR}/../../dist
-#cgo LDFLAGS: ${SRCDIR}/../../dist/libpromql.a
+#cgo CFLAGS: -I${SRCDIR}/lib -I${SRCDIR}/../../dist
+#cgo LDFLAGS: -L${SRCDIR}/lib -L${SRCDIR}/../../dist -l:libpromql.a
 #include "promql.h"
 */
 import "C"
@@ -37,11 +39,19 @@ var (
 	ErrMetricName = errors.New("a matcher of the metric name cannot be enforced")
 	// ErrUnfaithful says that the query that was made would not mean the changed query.
 	ErrUnfaithful = errors.New("the printed query does not mean the changed one")
+	// ErrNotATree says that a text is not JSON, or is the form of no tree. An error that is this one says where, as $.lhs.args[0].range, and
+	// what was expected there.
+	ErrNotATree = errors.New("the text is the form of no tree")
+	// ErrTooLargeTree says that the line of a tree is too long, or that its patterns are too large together (SetLimits). An error that is
+	// this one says which.
+	ErrTooLargeTree = errors.New("the line of the tree is not within the limits")
 	// ErrBareInfo says that a query calls info without a second argument, so that no matcher limits the series that this reads.
 	ErrBareInfo = errors.New("info without a selector reads series that no matcher limits")
 	// ErrLargeEnforced says that a matcher, or the query with it, is too long, or that its patterns are too large together (SetLimits). An
 	// error that is this one says which, and why.
 	ErrLargeEnforced = errors.New("the matcher, or the query with it, is not within the limits")
+	// ErrLongOutput says that what would be returned is too long (SetMaxOutput). An error that is this one has the numbers.
+	ErrLongOutput = errors.New("output is too long")
 	// ErrSmallStack says that the thread has less than 1.25 MiB of stack left, and a query may need as much. Calls run on the stacks
 	// of the system's threads, which have as much as `ulimit -s` said when the process began: 8 MiB, mostly.
 	ErrSmallStack = errors.New("the thread has less than 1.25 MiB of stack left")
@@ -72,24 +82,25 @@ func (e *QueryError) Error() string {
 
 // Snippet returns the line of the query where the part begins, a line feed, and a mark below that part.
 func (e *QueryError) Snippet() string {
-	start, end := C.size_t(max(e.Start, 0)), C.size_t(max(e.End, 0))
+	start, end := sizeOf(e.Start), sizeOf(e.End)
 	text, _ := call(e.Query, func(query *C.char, length C.size_t, buffer *C.char, size C.size_t, result *C.struct_promql_result) {
 		C.promql_snippet(query, length, start, end, buffer, size, result)
 	})
 	return text
 }
 
-// largeEnforced is ErrLargeEnforced with the message of the library.
-type largeEnforced struct {
+// explained is an error of this package with the message of the library.
+type explained struct {
 	message string
+	cause   error
 }
 
-func (e largeEnforced) Error() string {
+func (e explained) Error() string {
 	return e.message
 }
 
-func (e largeEnforced) Unwrap() error {
-	return ErrLargeEnforced
+func (e explained) Unwrap() error {
+	return e.cause
 }
 
 // Option is how Format lays a query out.
@@ -125,6 +136,24 @@ func Format(query string, options ...Option) (string, error) {
 	}
 	return textOf(query, func(query *C.char, length C.size_t, buffer *C.char, size C.size_t, result *C.struct_promql_result) {
 		C.promql_print(query, length, C.PROMQL_PRETTY, C.uint32_t(made.level), C.size_t(made.width), buffer, size, result)
+	})
+}
+
+// FormatQuery returns the query, laid out for people (docs/reference/formatting.md of the repository): comments stay, chains of operators are
+// flat, and a line has at most Width characters, its indentation counted, where it can be broken. With keepSpelling numbers, durations,
+// strings and the order of what is written stay, too. Level does nothing here. What is returned was read again, and has the query's
+// tree and comments.
+func FormatQuery(query string, keepSpelling bool, options ...Option) (string, error) {
+	made := layout{width: 100}
+	for _, set := range options {
+		set(&made)
+	}
+	var kept C.uint32_t
+	if keepSpelling {
+		kept = 1
+	}
+	return textOf(query, func(query *C.char, length C.size_t, buffer *C.char, size C.size_t, result *C.struct_promql_result) {
+		C.promql_format_query(query, length, C.size_t(made.width), 2, kept, buffer, size, result)
 	})
 }
 
@@ -233,9 +262,20 @@ func SetLimits(maxLen, maxPatterns uint) {
 	C.promql_set_limits(C.size_t(maxLen), C.size_t(maxPatterns))
 }
 
+// SetMaxOutput sets how many bytes what Canonical, Format and JSON return has at most, in this process: 4,194,304 before the first call. Where
+// there are more the error is ErrLongOutput.
+func SetMaxOutput(bytes uint) {
+	C.promql_set_max_output(C.size_t(bytes))
+}
+
 // textOf makes a call and returns its text, or its error.
 func textOf(query string, f function) (string, error) {
 	text, result := call(query, f)
+	return textOrError(query, text, result)
+}
+
+// textOrError returns the text of a call, or its error.
+func textOrError(query, text string, result C.struct_promql_result) (string, error) {
 	switch result.status {
 	case C.PROMQL_OK:
 		return text, nil
@@ -271,16 +311,19 @@ func textOf(query string, f function) (string, error) {
 	case C.PROMQL_BARE_INFO:
 		return "", ErrBareInfo
 	case C.PROMQL_LARGE_ENFORCED:
-		return "", largeEnforced{text}
+		return "", explained{text, ErrLargeEnforced}
+	case C.PROMQL_LONG_OUTPUT:
+		return "", explained{text, ErrLongOutput}
 	case C.PROMQL_SMALL_STACK:
 		return "", ErrSmallStack
 	}
 	panic(fmt.Sprintf("promql: status %d: %s", result.status, text))
 }
 
-func max(a, b int) int {
-	if a > b {
-		return a
+// sizeOf returns a number as the library has it, 0 for one below.
+func sizeOf(number int) C.size_t {
+	if number < 0 {
+		return 0
 	}
-	return b
+	return C.size_t(number)
 }

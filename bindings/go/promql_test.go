@@ -144,6 +144,23 @@ func TestLargeEnforced(t *testing.T) {
 	}
 }
 
+func TestPrintTree(t *testing.T) {
+	canPrint(t)
+	form, err := promql.JSON("foo / (1 + 2)")
+	if err != nil {
+		t.Fatal(err)
+	}
+	if line, err := promql.PrintTree(form, false); line != "foo / (1 + 2)" || err != nil {
+		t.Error(line, err)
+	}
+	if text, err := promql.PrintTree(form, true, promql.Width(7)); text != "  foo\n/\n  (1 + 2)" || err != nil {
+		t.Errorf("%q %v", text, err)
+	}
+	if _, err := promql.PrintTree([]byte("{}"), false); !errors.Is(err, promql.ErrNotATree) || err.Error() != "$.type: the type of a node" {
+		t.Error(err)
+	}
+}
+
 func TestCollect(t *testing.T) {
 	names, err := promql.Collect("sum by (b) (rate(foo{a='1'}[5m])) / {__name__='bar'} offset 1h")
 	if err != nil {
@@ -208,8 +225,31 @@ func TestLimits(t *testing.T) {
 	}
 }
 
+func TestFormatQuery(t *testing.T) {
+	query := "sum(rate(foo[5m]))by(job) # per job"
+	if got, err := promql.FormatQuery(query, false); err != nil || got != "sum by (job) (rate(foo[5m])) # per job" {
+		t.Errorf("%q, %v", got, err)
+	}
+	laid, err := promql.FormatQuery(query, true, promql.Width(10))
+	if err != nil || !strings.Contains(laid, "# per job") || !strings.Contains(laid, "\n") {
+		t.Errorf("%q, %v", laid, err)
+	}
+	var rejected *promql.QueryError
+	if _, err := promql.FormatQuery("1 +", false); !errors.As(err, &rejected) || rejected.Column != 4 {
+		t.Error(err)
+	}
+}
+
+func TestLongOutput(t *testing.T) {
+	promql.SetMaxOutput(5)
+	defer promql.SetMaxOutput(4194304)
+	if _, err := promql.Canonical("a + bc"); !errors.Is(err, promql.ErrLongOutput) || err.Error() != "output is too long: 6 bytes, at most 5" {
+		t.Error(err)
+	}
+}
+
 func TestVersion(t *testing.T) {
-	if got := promql.Version(); got != "0.4.0" {
+	if got := promql.Version(); got != "0.5.0" {
 		t.Error(got)
 	}
 }

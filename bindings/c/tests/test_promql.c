@@ -36,7 +36,7 @@ static void *allocate(size_t size)
 }
 
 /* A call with its arguments. */
-enum call { CALL_PRINT, CALL_CANONICAL, CALL_CHECK, CALL_SNIPPET, CALL_ENFORCE, CALL_COLLECT };
+enum call { CALL_PRINT, CALL_CANONICAL, CALL_CHECK, CALL_SNIPPET, CALL_ENFORCE, CALL_COLLECT, CALL_PRINT_TREE };
 
 struct request {
     enum call call;
@@ -57,6 +57,8 @@ static uint32_t make_call(const struct request *r, char *buffer, size_t size, st
         return promql_check(r->query, r->length, buffer, size, result);
     case CALL_COLLECT:
         return promql_collect(r->query, r->length, buffer, size, result);
+    case CALL_PRINT_TREE: /* (`end` says whether parentheses are put) */
+        return promql_print_tree(r->query, r->length, r->mode, r->level, r->width, (uint32_t)r->end, buffer, size, result);
     case CALL_ENFORCE: /* (the last `end` bytes are the matcher) */
         return promql_enforce(r->query, r->length - r->end, r->query + (r->length - r->end), r->end, buffer, size, result);
     default:
@@ -202,6 +204,15 @@ static void test_errors(void)
     CHECK(gives(of_query(CALL_CHECK, large), PROMQL_OK, ""));
     CHECK(gives(of_query(CALL_CHECK, "a + b + c + d + e"), PROMQL_TOO_LARGE, "query is too long: 17 bytes, at most 15"));
     promql_set_limits(32768, 16000);
+    promql_set_max_output(5);
+    CHECK(gives(in_mode(PROMQL_LINE, 0, 0, "a+b"), PROMQL_OK, "a + b"));
+    CHECK(gives(in_mode(PROMQL_LINE, 0, 0, "a + cd"), PROMQL_LONG_OUTPUT, "output is too long: 6 bytes, at most 5"));
+    CHECK(has_place(in_mode(PROMQL_LINE, 0, 0, "a + cd"), 0, 0, 0, 0));
+    CHECK(gives(in_mode(PROMQL_PRETTY, 3, 9, "a"), PROMQL_LONG_OUTPUT, "output is too long: 7 bytes, at most 5"));
+    CHECK(gives(in_mode(PROMQL_JSON, 0, 0, "1"), PROMQL_LONG_OUTPUT, "output is too long: 34 bytes, at most 5"));
+    CHECK(gives(of_query(CALL_CANONICAL, "a + cd"), PROMQL_LONG_OUTPUT, "output is too long: 6 bytes, at most 5"));
+    CHECK(gives(of_query(CALL_CANONICAL, "a + "), PROMQL_REJECTED, "invalid promql query"));
+    promql_set_max_output(4194304);
     struct answer answer;
     struct request deep = in_mode(PROMQL_PRETTY, 512, SIZE_MAX, "1");
     CHECK(call_whole(&deep, &answer) && answer.result.status == PROMQL_OK && answer.result.length == 2 * 512 + 1);
@@ -331,6 +342,15 @@ static void test_collecting(void)
     CHECK(gives(of_query(CALL_COLLECT, "1 +"), PROMQL_REJECTED, "invalid promql query"));
     CHECK(has_place(of_query(CALL_COLLECT, "1 +"), 3, 3, 1, 4));
     CHECK(gives(of_query(CALL_COLLECT, "\xff"), PROMQL_NOT_UTF8, "input is not UTF-8"));
+}
+
+static void test_trees(void)
+{
+    CHECK(gives(of_query(CALL_PRINT_TREE, "{\"type\": \"numberLiteral\", \"val\": \"1.5\"}"), PROMQL_OK, "1.5"));
+    CHECK(gives(of_query(CALL_PRINT_TREE, "{\"type\":\"numberLiteral\",\"val\":1.5}"), PROMQL_NOT_A_TREE, "$.val: a text"));
+    CHECK(has_place(of_query(CALL_PRINT_TREE, "{}"), 0, 0, 0, 0));
+    CHECK(gives(of_query(CALL_PRINT_TREE, "1 + 2"), PROMQL_NOT_A_TREE, "not JSON"));
+    CHECK(gives(of_query(CALL_PRINT_TREE, "\xff"), PROMQL_NOT_UTF8, "input is not UTF-8"));
 }
 
 static int is_empty(const struct promql_result *result, uint32_t status, size_t length)
@@ -715,6 +735,7 @@ int main(int argc, char **argv)
         test_long_enforcing(3, 10000);
         test_long_names();
         test_collecting();
+        test_trees();
         test_pointers();
         test_version();
         test_small_stacks();

@@ -15,20 +15,23 @@ from __future__ import annotations
 
 import json
 from operator import index
-from typing import Any, Dict, Iterable, List, Optional, Type, Union
+from typing import Any, Dict, Iterable, List, Mapping, Optional, Type, Union
 
-from ._answers import Answer, Failure, Status
+from ._answers import Answer, Failure, Mode, Status
 from ._calls import calls as _caller
 
 __all__ = [
     "BareInfoError",
     "Error",
     "LargeEnforcedError",
+    "LongOutputError",
     "MatcherError",
     "NumberTooWideError",
     "QueryError",
     "SmallStackError",
     "TooLargeError",
+    "TooLargeTreeError",
+    "TreeError",
     "UnfaithfulError",
     "canonical",
     "canonical_many",
@@ -36,11 +39,13 @@ __all__ = [
     "collect",
     "enforce",
     "format",
+    "format_query",
     "parse",
+    "print_tree",
     "set_limits",
     "version",
 ]
-__version__ = "0.4.0"
+__version__ = "0.5.0"
 
 _MAX_LEVEL = 512
 _MAX_WIDTH = 2**64 - 1
@@ -67,12 +72,24 @@ class LargeEnforcedError(Error):
     """The matcher, or the query with it, is too long, or its patterns are too large together (`set_limits`)."""
 
 
+class LongOutputError(Error):
+    """What would be returned is too long (`set_limits`)."""
+
+
 class SmallStackError(Error):
     """The thread has less stack left than 1.25 MiB, and a query may need as much: see `threading.stack_size`."""
 
 
 class UnfaithfulError(Error):
-    """The query that was made would not mean the changed query; there is none for which this was seen."""
+    """The query that was made would not mean the changed query, of which no case is known; or the text of a tree would not mean the tree."""
+
+
+class TreeError(Error):
+    """A value is the form of no tree: the message has the place, as `$.lhs.args[0].range`, and what was expected there."""
+
+
+class TooLargeTreeError(Error):
+    """The line of a tree is too long, or its patterns are too large together (`set_limits`)."""
 
 
 class QueryError(Error):
@@ -104,11 +121,13 @@ class TooLargeError(QueryError):
     """The query is too long, or its patterns are too large together (`set_limits`)."""
 
 
-def set_limits(*, max_len: int = 32_768, max_patterns: int = 16_000) -> None:
+def set_limits(*, max_len: int = 32_768, max_patterns: int = 16_000, max_output: int = 4_194_304) -> None:
     """Sets what each later query has to be within, in this process: at most so many bytes, and patterns of at most this size together
     (docs/reference/programs.md, "Limits of a query"). A query that is not raises TooLargeError before it is parsed. A matcher that is
-    enforced, and the query with it, have the same limits: where they are not within them, `enforce` raises LargeEnforcedError."""
-    _caller.set_limits(_number("max_len", max_len, _MAX_LIMIT), _number("max_patterns", max_patterns, _MAX_LIMIT))
+    enforced, and the query with it, have the same limits: where they are not within them, `enforce` raises LargeEnforcedError.
+    `canonical`, `format` and `parse` raise LongOutputError where the text that they make has more than `max_output` bytes."""
+    limits = {"max_len": max_len, "max_patterns": max_patterns, "max_output": max_output}
+    _caller.set_limits(*(_number(name, limit, _MAX_LIMIT) for name, limit in limits.items()))
 
 
 def parse(query: str) -> Dict[str, Any]:
@@ -121,12 +140,37 @@ def parse(query: str) -> Dict[str, Any]:
     return tree
 
 
+def print_tree(tree: Mapping[str, object], *, parentheses: bool = False, width: Optional[int] = None, level: int = 0) -> str:
+    """The query that has this tree, which is in the form that `parse` returns: on one line, or laid out where there is a `width`.
+
+    With `parentheses` the tree gets parentheses where it needs them. What is returned was read again, and means the tree
+    (docs/reference/json.md). Raises TreeError where the tree is no such form, UnfaithfulError where its line would not mean it,
+    because of a type or of parentheses, say, and TooLargeTreeError where the line is not within the limits of a query.
+    """
+    form = json.dumps(tree, ensure_ascii=False)
+    if width is None:
+        return _tree_text(_caller.print_tree(form, Mode.LINE, 0, 0, int(parentheses)))
+    level, width = _number("level", level, _MAX_LEVEL), _number("width", width, _MAX_WIDTH)
+    return _tree_text(_caller.print_tree(form, Mode.PRETTY, level, width, int(parentheses)))
+
+
 def format(query: str, *, width: int = 100, level: int = 0) -> str:
     """The query, laid out over several lines where one would have more than `width` bytes.
 
     Each line begins with `level` indentations of two spaces, which `width` does not count.
     """
     return _text(query, _caller.format(query, _number("level", level, _MAX_LEVEL), _number("width", width, _MAX_WIDTH)))
+
+
+def format_query(query: str, *, width: int = 100, indent: int = 2, keep_spelling: bool = False) -> str:
+    """The query, laid out for people (docs/reference/formatting.md): comments stay, chains of operators are flat, and a line has at most
+    `width` characters, its indentation counted, where it can be broken. An indentation has `indent` spaces.
+
+    With `keep_spelling` numbers, durations, strings and the order of what is written stay, too. What is returned was read again: it has the
+    query's tree and comments. Raises UnfaithfulError where it has not; there is no query for which this was seen.
+    """
+    size, spaces = _number("width", width, _MAX_WIDTH), _number("indent", indent, _MAX_WIDTH)
+    return _text(query, _caller.format_query(query, size, spaces, int(keep_spelling)))
 
 
 def canonical(query: str) -> str:
@@ -184,11 +228,28 @@ def _number(name: str, number: int, most: int) -> int:
     return number
 
 
+# The errors of a call about a tree.
+_TREE_ERRORS: Dict[int, Type[Exception]] = {Status.TOO_LARGE: TooLargeTreeError, Status.NOT_A_TREE: TreeError}
+
+
 def _text(query: str, answer: Answer) -> str:
     """Returns the text of a call, or raises its error."""
     if isinstance(answer, str):
         return answer
     raise _error(query, answer)
+
+
+def _tree_text(answer: Answer) -> str:
+    """Returns the text of a call about a tree, or raises its error."""
+    if isinstance(answer, str):
+        return answer
+    raise _tree_error(answer)
+
+
+def _tree_error(failure: Failure) -> Exception:
+    """The error of a call about a tree."""
+    status, message = failure[:2]
+    return _TREE_ERRORS[status](message) if status in _TREE_ERRORS else _error("", failure)
 
 
 # The errors without a place.
@@ -198,6 +259,7 @@ _ERRORS: Dict[int, Type[Exception]] = {
     Status.UNFAITHFUL: UnfaithfulError,
     Status.BARE_INFO: BareInfoError,
     Status.LARGE_ENFORCED: LargeEnforcedError,
+    Status.LONG_OUTPUT: LongOutputError,
     Status.OUT_OF_MEMORY: MemoryError,
 }
 

@@ -9,7 +9,7 @@ import signal
 import sys
 from typing import List, Optional, TextIO
 
-from . import check_command, format_command, lint_command, page
+from . import check_command, completion_command, format_command, lint_command, page
 from .documents import Status
 
 COMMANDS = (
@@ -17,6 +17,7 @@ COMMANDS = (
     format_command,
     lint_command,
     page,
+    completion_command,
 )
 
 

@@ -23,6 +23,8 @@ class Status(IntEnum):
     TOO_LARGE = 14
     SMALL_STACK = 15
     LARGE_ENFORCED = 16
+    NOT_A_TREE = 17
+    LONG_OUTPUT = 18
 
 
 class Mode(IntEnum):
@@ -55,9 +57,13 @@ class Calls(Protocol):
 
     def format(self, query: str, level: int, width: int, /) -> Answer: ...
 
+    def format_query(self, query: str, width: int, indent_width: int, keep_spelling: int, /) -> Answer: ...
+
     def json(self, query: str, /) -> Answer: ...
 
-    def set_limits(self, max_len: int, max_pattern_size: int, /) -> None: ...
+    def print_tree(self, form: str, mode: int, level: int, width: int, parentheses: int, /) -> Answer: ...
+
+    def set_limits(self, max_len: int, max_pattern_size: int, max_output: int, /) -> None: ...
 
     def snippet(self, query: str, start: int, end: int, /) -> Answer: ...
 

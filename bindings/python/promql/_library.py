@@ -43,6 +43,8 @@ _SIGNATURES = {
     "promql_collect": [*_QUERY, *_BUFFER],
     "promql_check": [*_QUERY, *_BUFFER],
     "promql_snippet": [*_QUERY, ctypes.c_size_t, ctypes.c_size_t, *_BUFFER],
+    "promql_print_tree": [*_QUERY, ctypes.c_uint32, ctypes.c_uint32, ctypes.c_size_t, ctypes.c_uint32, *_BUFFER],
+    "promql_format_query": [*_QUERY, ctypes.c_size_t, ctypes.c_size_t, ctypes.c_uint32, *_BUFFER],
     "promql_version": _BUFFER,
 }
 
@@ -50,9 +52,12 @@ _SIGNATURES = {
 def load() -> ctypes.CDLL:
     library = ctypes.CDLL(str(library_path()))
     for name, arguments in _SIGNATURES.items():
-        function = getattr(library, name)
-        function.argtypes, function.restype = arguments, ctypes.c_uint32
+        # (an older library has fewer)
+        function = getattr(library, name, None)
+        if function is not None:
+            function.argtypes, function.restype = arguments, ctypes.c_uint32
     library.promql_set_limits.argtypes, library.promql_set_limits.restype = [ctypes.c_size_t, ctypes.c_size_t], None
+    library.promql_set_max_output.argtypes, library.promql_set_max_output.restype = [ctypes.c_size_t], None
     return library
 
 
@@ -132,6 +137,11 @@ def format(query: str, level: int, width: int) -> Answer:
     return _answer(print_query(_encoded(query), Mode.PRETTY, level, width))
 
 
+def format_query(query: str, width: int, indent_width: int, keep_spelling: int) -> Answer:
+    encoded = _encoded(query)
+    return _answer(call("promql_format_query", 4 * len(encoded), encoded, len(encoded), width, indent_width, keep_spelling))
+
+
 def json(query: str) -> Answer:
     return _answer(print_query(_encoded(query), Mode.JSON))
 
@@ -141,8 +151,14 @@ def snippet(query: str, start: int, end: int) -> Answer:
     return _answer(call("promql_snippet", 2 * len(encoded), encoded, len(encoded), start, end))
 
 
-def set_limits(max_len: int, max_pattern_size: int) -> None:
+def print_tree(form: str, mode: int, level: int, width: int, parentheses: int) -> Answer:
+    encoded = _encoded(form)
+    return _answer(call("promql_print_tree", len(encoded), encoded, len(encoded), mode, level, width, parentheses))
+
+
+def set_limits(max_len: int, max_pattern_size: int, max_output: int) -> None:
     _library.promql_set_limits(max_len, max_pattern_size)
+    _library.promql_set_max_output(max_output)
 
 
 def version() -> Answer:

@@ -30,11 +30,14 @@ struct library {
     __typeof__(promql_collect) *collect;
     __typeof__(promql_check) *check;
     __typeof__(promql_snippet) *snippet;
+    __typeof__(promql_print_tree) *print_tree;
+    __typeof__(promql_format_query) *format_query;
     __typeof__(promql_version) *version;
     __typeof__(promql_set_limits) *set_limits;
+    __typeof__(promql_set_max_output) *set_max_output;
 };
 
-enum call { PRINT, CANONICAL, ENFORCE, COLLECT, CHECK, SNIPPET, VERSION };
+enum call { PRINT, CANONICAL, ENFORCE, COLLECT, CHECK, SNIPPET, PRINT_TREE, FORMAT_QUERY, VERSION };
 
 /* A call with what it is given. `room` is how many bytes of text are likely for each byte of the query. */
 struct request {
@@ -47,6 +50,9 @@ struct request {
     uint32_t mode;
     uint32_t level;
     size_t width;
+    uint32_t parentheses;
+    size_t indent_width;
+    uint32_t keep_spelling;
     size_t start;
     size_t end;
 };
@@ -69,6 +75,12 @@ static uint32_t make_call(const struct library *library, const struct request *r
         return library->check(query, length, buffer, size, result);
     case SNIPPET:
         return library->snippet(query, length, request->start, request->end, buffer, size, result);
+    case PRINT_TREE:
+        return library->print_tree(query, length, request->mode, request->level, request->width, request->parentheses, buffer,
+                                   size, result);
+    case FORMAT_QUERY:
+        return library->format_query(query, length, request->width, request->indent_width, request->keep_spelling, buffer, size,
+                                     result);
     default:
         return library->version(buffer, size, result);
     }
@@ -231,6 +243,18 @@ static PyObject *format(PyObject *module, PyObject *arguments)
                         (struct request){.call = PRINT, .mode = PROMQL_PRETTY, .level = level, .width = (size_t)width, .room = 4});
 }
 
+static PyObject *format_query(PyObject *module, PyObject *arguments)
+{
+    PyObject *query;
+    unsigned long long width, indent_width;
+    unsigned int keep_spelling;
+    if (!PyArg_ParseTuple(arguments, "OKKI", &query, &width, &indent_width, &keep_spelling))
+        return NULL;
+    return answer_about(module, query,
+                        (struct request){.call = FORMAT_QUERY, .width = (size_t)width, .indent_width = (size_t)indent_width,
+                                         .keep_spelling = keep_spelling, .room = 4});
+}
+
 static PyObject *snippet(PyObject *module, PyObject *arguments)
 {
     PyObject *query;
@@ -238,6 +262,21 @@ static PyObject *snippet(PyObject *module, PyObject *arguments)
     if (!PyArg_ParseTuple(arguments, "OKK", &query, &start, &end))
         return NULL;
     return answer_about(module, query, (struct request){.call = SNIPPET, .start = (size_t)start, .end = (size_t)end, .room = 2});
+}
+
+static PyObject *print_tree(PyObject *module, PyObject *arguments)
+{
+    const struct library *library = library_of(module);
+    PyObject *form;
+    unsigned int mode, level, parentheses;
+    unsigned long long width;
+    if (library == NULL || !PyArg_ParseTuple(arguments, "OIIKI", &form, &mode, &level, &width, &parentheses))
+        return NULL;
+    if (library->print_tree == NULL)
+        return PyErr_Format(PyExc_AttributeError, "the library has no promql_print_tree");
+    return answer_about(module, form,
+                        (struct request){.call = PRINT_TREE, .mode = mode, .level = level, .width = (size_t)width,
+                                         .parentheses = parentheses, .room = 1});
 }
 
 static PyObject *enforce(PyObject *module, PyObject *arguments)
@@ -270,10 +309,11 @@ static PyObject *version(PyObject *module, PyObject *Py_UNUSED(nothing))
 static PyObject *set_limits(PyObject *module, PyObject *arguments)
 {
     const struct library *library = library_of(module);
-    unsigned long long max_len, max_pattern_size;
-    if (library == NULL || !PyArg_ParseTuple(arguments, "KK", &max_len, &max_pattern_size))
+    unsigned long long max_len, max_pattern_size, max_output;
+    if (library == NULL || !PyArg_ParseTuple(arguments, "KKK", &max_len, &max_pattern_size, &max_output))
         return NULL;
     library->set_limits((size_t)max_len, (size_t)max_pattern_size);
+    library->set_max_output((size_t)max_output);
     return Py_BuildValue("");
 }
 
@@ -462,8 +502,15 @@ static PyObject *load(PyObject *module, PyObject *path)
     if (find(handle, "promql_print", &found.print) || find(handle, "promql_canonical", &found.canonical) ||
         find(handle, "promql_enforce", &found.enforce) || find(handle, "promql_collect", &found.collect) ||
         find(handle, "promql_check", &found.check) || find(handle, "promql_snippet", &found.snippet) ||
-        find(handle, "promql_version", &found.version) || find(handle, "promql_set_limits", &found.set_limits))
+        find(handle, "promql_version", &found.version) || find(handle, "promql_set_limits", &found.set_limits) ||
+        find(handle, "promql_set_max_output", &found.set_max_output) ||
+        find(handle, "promql_format_query", &found.format_query))
         return NULL;
+    /* (an older library has none) */
+    if (find(handle, "promql_print_tree", &found.print_tree)) {
+        PyErr_Clear();
+        found.print_tree = NULL;
+    }
     *library = found;
     return Py_BuildValue("");
 }
@@ -476,7 +523,9 @@ static PyMethodDef methods[] = {
     {"collect", collect, METH_O, NULL},
     {"enforce", enforce, METH_VARARGS, NULL},
     {"format", format, METH_VARARGS, NULL},
+    {"format_query", format_query, METH_VARARGS, NULL},
     {"json", json, METH_O, NULL},
+    {"print_tree", print_tree, METH_VARARGS, NULL},
     {"set_limits", set_limits, METH_VARARGS, NULL},
     {"snippet", snippet, METH_VARARGS, NULL},
     {"version", version, METH_NOARGS, NULL},

@@ -42,7 +42,7 @@ def _variable(text: str) -> Tuple[str, str]:
 
 def _run(arguments: argparse.Namespace) -> int:
     targets = targets_of(arguments.files, arguments.dashboard)
-    return work_on(targets, partial(_check_file, arguments), arguments.jobs)
+    return work_on(targets, partial(_check_file, arguments), arguments.jobs, color=arguments.color)
 
 
 def _check_file(arguments: argparse.Namespace, target: Target) -> Report:

@@ -91,7 +91,7 @@ def _run(arguments: argparse.Namespace) -> int:
         print(error, file=sys.stderr)
         return Status.FAILED
     targets = targets_of(arguments.files, arguments.dashboard)
-    return work_on(targets, partial(_format_file, arguments, printer), arguments.jobs, goes_on=True)
+    return work_on(targets, partial(_format_file, arguments, printer), arguments.jobs, goes_on=True, color=arguments.color)
 
 
 def _format_file(arguments: argparse.Namespace, printer: Printer, target: Target) -> Report:

@@ -9,6 +9,7 @@ import sys
 from multiprocessing.connection import Connection
 from typing import Any, Callable, Iterator, List, NamedTuple, Sequence
 
+from . import colors
 from .documents import Status
 from .files import STDIN
 from .targets import Target
@@ -24,9 +25,10 @@ class Report(NamedTuple):
     out: bytes
     err: Sequence[str]
 
-    def put_out(self) -> None:
+    def put_out(self, with_colors: bool = False) -> None:
         for message in self.err:
-            print(visible(message, "\t\n"), file=sys.stderr)
+            shown = visible(message, "\t\n")
+            print(colors.painted(shown) if with_colors else shown, file=sys.stderr)
         sys.stdout.flush()
         sys.stdout.buffer.write(self.out)
         sys.stdout.buffer.flush()
@@ -51,6 +53,7 @@ def add_arguments(parser: Any, without_file: str = "") -> None:
     parser.add_argument("files", nargs="*" if without_file else "+", metavar="FILE", help=files + without_file)
     parser.add_argument("--dashboard", action="store_true", help="all files are dashboards")
     parser.add_argument("--jobs", type=_jobs, default=1, metavar="N", help="so many processes (1)")
+    colors.add_argument(parser)
     parser.add_argument("-v", "--verbose", action="store_true", help="name what is skipped in files and folders")
 
 
@@ -60,13 +63,14 @@ def _jobs(text: str) -> int:
     return int(text)
 
 
-def work_on(targets: List[Target], work: Work, jobs: int, goes_on: bool = False) -> Status:
+def work_on(targets: List[Target], work: Work, jobs: int, goes_on: bool = False, color: str = "never") -> Status:
     """Puts out what is said of each file, and returns the highest status. It can go on where the output cannot be written."""
+    with_colors = colors.are_wanted(color, sys.stderr)
     worst = Status.FINE
     for name, report in zip([target.name for target in targets], reports_of(targets, work, jobs)):
         worst = max(worst, report.status)
         try:
-            report.put_out()
+            report.put_out(with_colors)
         except OSError as error:
             if not goes_on:
                 raise

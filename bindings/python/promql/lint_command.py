@@ -51,7 +51,7 @@ def _run(arguments: argparse.Namespace) -> int:
     targets = targets or [Target(STDIN)]
     work = partial(_lint_file, arguments, Selection(*(tuple(sum(it, ())) for it in (arguments.select, arguments.ignore))))
     if arguments.output == "text":
-        return work_on(targets, work, arguments.jobs, goes_on=arguments.fix)
+        return work_on(targets, work, arguments.jobs, goes_on=arguments.fix, color=arguments.color)
     worst, lines = Status.FINE, b""
     for report in reports_of(targets, work, arguments.jobs):
         worst, lines = max(worst, report.status), lines + report.out

@@ -40,6 +40,9 @@ FUNCTIONS = (
     ("enforce", "a=~'b|c'"),
     ("enforce", "\0"),
 )
+# (an older library has none)
+if hasattr(calls, "print_tree") and hasattr(_library._library, "promql_print_tree"):
+    FUNCTIONS += (("print_tree", 0, 0, 0, True), ("print_tree", 1, 2, 20, False), ("print_tree", 3, 0, 0, True))
 
 
 # Texts of these tests are longer than is allowed by default, and some are just within this.
@@ -120,6 +123,10 @@ class Same(unittest.TestCase):
             self.check(query)
             self.assertEqual(outcome(calls, "check", query)[0], UnicodeEncodeError)
             self.assertEqual(outcome(calls, "enforce", "up", query)[0], UnicodeEncodeError)
+
+    def test_trees(self):
+        for query in ("1", "-(a) + on (b) c", "sum by (a) (rate({b='\U0001f980'}[5m]))", "a" * 3000):
+            self.check(calls.json(query))
 
     def test_zero_bytes(self):
         for query in ("\0", "up\0", "'\0'", "a{b='\0'}", "\0" * 5000):

@@ -78,6 +78,31 @@ class Texts(unittest.TestCase):
         finally:
             promql.set_limits()
 
+    def test_format_query(self):
+        query = "sum(rate(foo[5m]))by(job) # per job"
+        self.assertEqual(promql.format_query(query), "sum by (job) (rate(foo[5m])) # per job")
+        self.assertEqual(promql.format_query("a  or\tb", keep_spelling=True), "a or b")
+        for width in (0, 10, 40):
+            laid = promql.format_query(query, width=width, indent=4)
+            self.assertEqual(promql.canonical(laid), promql.canonical(query))
+            self.assertIn("# per job", laid)
+            self.assertEqual(promql.format_query(laid, width=width, indent=4), laid)
+        with self.assertRaises(promql.QueryError) as raised:
+            promql.format_query("1 +")
+        self.assertEqual(str(raised.exception), "1:4: invalid promql query")
+
+    def test_long_output(self):
+        promql.set_limits(max_output=5)
+        try:
+            self.assertEqual(promql.canonical("a+b"), "a + b")
+            for call in (promql.canonical, promql.format, promql.parse):
+                with self.assertRaises(promql.LongOutputError) as raised:
+                    call("a + bc")
+                self.assertRegex(str(raised.exception), r"^output is too long: \d+ bytes, at most 5$")
+            promql.check("a + bc")
+        finally:
+            promql.set_limits()
+
     def test_enforce(self):
         self.assertEqual(promql.enforce("sum(rate(foo[5m])) / bar", "a='1'"), 'sum(rate(foo{a="1"}[5m])) / bar{a="1"}')
         self.assertEqual(promql.enforce("{a='é' or b='2'}", "c!~'x'"), '{a="é", c!~"x" or b="2", c!~"x"}')
@@ -121,6 +146,24 @@ class Texts(unittest.TestCase):
         )
         with self.assertRaises(promql.QueryError):
             promql.collect("1 +")
+
+    @unittest.skipUnless(hasattr(_library._library, "promql_print_tree"), "the library has no promql_print_tree")
+    def test_print_tree(self):
+        tree = promql.parse("foo + on (b) bar{a='é'}")
+        self.assertEqual(promql.print_tree(tree), 'foo + on (b) bar{a="é"}')
+        product = {**promql.parse("1 * 2"), "lhs": promql.parse("1 + x")}
+        self.assertEqual(promql.print_tree(product, parentheses=True), "(1 + x) * 2")
+        self.assertEqual(promql.print_tree(product, parentheses=True, width=7, level=1), "    (1 + x)\n  *\n    2")
+        with self.assertRaisesRegex(promql.UnfaithfulError, "^the left side of an operator needs parentheses$"):
+            promql.print_tree(product)
+        with self.assertRaisesRegex(promql.TreeError, r"^\$\.lhs\.name: a text$"):
+            promql.print_tree({**tree, "lhs": {**tree["lhs"], "name": 1}})
+        promql.set_limits(max_len=20)
+        try:
+            with self.assertRaises(promql.TooLargeTreeError):
+                promql.print_tree(tree)
+        finally:
+            promql.set_limits()
 
     def test_long_texts(self):
         query = "+".join(["x"] * 500)

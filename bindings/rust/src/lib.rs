@@ -5,10 +5,34 @@
 //! # Ok::<(), promql_proved::Error>(())
 //! ```
 //!
+//! [`parse`] reads a query into an [`Expr`], which [`print`] prints again:
+//!
+//! ```
+//! # use promql_proved::{Expr, parse};
+//! let expr = parse("rate(foo[5m])")?;
+//! assert_eq!(expr.walk().filter_map(|it| it.as_selector()?.name.as_deref()).collect::<Vec<_>>(), ["foo"]);
+//! let total = Expr::aggregate_by("sum", &["job"], expr); // sum by (job) (rate(foo[5m]))
+//! # Ok::<(), promql_proved::Error>(())
+//! ```
+//!
 //! Any thread may call any function at any time. What is proved of the calls, and what is not, is in
 //! `docs/guide/bindings.md` of the repository.
 
+mod function;
+mod function_table;
+mod json;
 mod library;
+mod print_tree;
+mod read_form;
+mod tree;
+mod visitor;
+mod write_form;
+
+pub use function::{Function, ValueType, get_function};
+pub use print_tree::{NodeError, parse, print, print_layout};
+pub use read_form::FormError;
+pub use tree::*;
+pub use visitor::{ExprVisitor, ExprVisitorMut, walk_expr, walk_expr_mut};
 
 use library::{Answer, Mode};
 use std::error;
@@ -33,14 +57,26 @@ pub enum Error {
     NotAMatcher,
     /// The matcher is one of the metric's name, `__name__`, which cannot be enforced.
     MetricName,
-    /// The query that was made would not mean the changed query: why.
+    /// The query that was made would not mean the changed query, or the tree: why.
     Unfaithful(String),
+    /// The text is not JSON, or is the form of no tree: where, as `$.lhs.args[0].range`, and what was expected there.
+    NotATree(String),
+    /// The line of a tree is too long, or its patterns are too large together ([`set_limits`]): which.
+    TooLargeTree(String),
     /// The query calls `info` without a second argument, so that no matcher limits the series that this reads.
     BareInfo,
     /// The matcher, or the query with it, is too long, or its patterns are too large together ([`set_limits`]): which, and why.
     LargeEnforced(String),
+    /// What would be returned is too long ([`set_max_output`]): the numbers.
+    LongOutput(String),
     /// The thread has less than 1.25 MiB of stack left, and a query may need as much. Threads of `std::thread` have 2 MiB.
     SmallStack,
+    /// An expression of a tree is at fault, so that the tree has no text.
+    Node(NodeError),
+    /// The text is no JSON form of a query.
+    Form(FormError),
+    /// The library is an older one, which prints no trees.
+    NoPrintTree,
 }
 
 /// Why and where a query is rejected.
@@ -78,14 +114,23 @@ impl fmt::Display for Error {
             Error::NumberTooWide => f.write_str("number too wide for JSON"),
             Error::NotAMatcher => f.write_str(NOT_A_MATCHER),
             Error::MetricName => f.write_str("a matcher of the metric name cannot be enforced"),
-            Error::Unfaithful(message) | Error::LargeEnforced(message) => f.write_str(message),
+            Error::Unfaithful(message)
+            | Error::NotATree(message)
+            | Error::TooLargeTree(message)
+            | Error::LargeEnforced(message)
+            | Error::LongOutput(message) => f.write_str(message),
             Error::BareInfo => {
                 f.write_str("info without a selector reads series that no matcher limits")
             }
             Error::SmallStack => f.write_str("the thread has less than 1.25 MiB of stack left"),
+            Error::Node(fault) => fault.fmt(f),
+            Error::Form(fault) => fault.fmt(f),
+            Error::NoPrintTree => f.write_str("the library has no promql_print_tree"),
         }
     }
 }
+
+impl error::Error for Rejection {}
 
 impl error::Error for Error {}
 
@@ -112,8 +157,8 @@ impl Default for Layout {
 ///
 /// # Errors
 ///
-/// `TooLarge` where the query is not within its limits, else `Rejected` where it is rejected; `OutOfMemory` where an allocation failed,
-/// `SmallStack` where the thread has little stack left.
+/// `TooLarge` where the query is not within its limits, else `Rejected` where it is rejected; `LongOutput` where the line is too long;
+/// `OutOfMemory` where an allocation failed, `SmallStack` where the thread has little stack left.
 pub fn canonical(query: &str) -> Result<String, Error> {
     text_of(library::canonical(query))
 }
@@ -125,6 +170,34 @@ pub fn canonical(query: &str) -> Result<String, Error> {
 /// Those of [`canonical`], and `LevelTooHigh`.
 pub fn format(query: &str, layout: Layout) -> Result<String, Error> {
     text_of(library::print(query, Mode::Pretty, layout.level, layout.width))
+}
+
+/// How [`format_query`] lays a query out.
+#[derive(Clone, Copy, Debug, PartialEq, Eq)]
+pub struct Style {
+    /// The most characters of a line, its indentation counted, where it can be broken.
+    pub width: usize,
+    /// The spaces of an indentation.
+    pub indent_width: usize,
+    /// Whether numbers, durations, strings and the order of what is written stay as they are.
+    pub keep_spelling: bool,
+}
+
+impl Default for Style {
+    /// Lines of at most 100 characters, indentations of two spaces, and one spelling for all.
+    fn default() -> Style {
+        Style { width: 100, indent_width: 2, keep_spelling: false }
+    }
+}
+
+/// The query, laid out for people (`docs/reference/formatting.md` of the repository): comments stay, and chains of operators are flat.
+/// What is returned was read again, and has the query's tree and comments.
+///
+/// # Errors
+///
+/// Those of [`canonical`], and `Unfaithful` where the layout does not read back.
+pub fn format_query(query: &str, style: Style) -> Result<String, Error> {
+    text_of(library::format_query(query, style.width, style.indent_width, style.keep_spelling))
 }
 
 /// The tree of the query in its JSON form (`docs/reference/json.md` of the repository), without a space.
@@ -147,6 +220,26 @@ pub fn json(query: &str) -> Result<String, Error> {
 /// `Unfaithful` where the line would not mean the changed query.
 pub fn enforce(query: &str, matcher: &str) -> Result<String, Error> {
     text_of(library::enforce(query, matcher))
+}
+
+/// The query that has the tree of this JSON form (`docs/reference/json.md` of the repository), on one line, or laid out where there is a
+/// layout; with parentheses where the tree needs them, if `parentheses` is true. What is returned was read again, and means the tree.
+///
+/// # Errors
+///
+/// `NotATree` where the text is no such form; `TooLargeTree` where the line of the tree is not within the limits of a query; `Unfaithful`
+/// where it would not mean the tree; `LevelTooHigh`; `OutOfMemory` where an allocation failed, `SmallStack` where the thread has little
+/// stack left.
+pub fn print_tree(form: &str, parentheses: bool, layout: Option<Layout>) -> Result<String, Error> {
+    let (mode, Layout { width, level }) = match layout {
+        Some(layout) => (Mode::Pretty, layout),
+        None => (Mode::Line, Layout::default()),
+    };
+    let (text, answer) = library::print_tree(form, mode, level, width, parentheses);
+    match answer.status {
+        library::TOO_LARGE => Err(Error::TooLargeTree(text)),
+        _ => text_of((text, answer)),
+    }
 }
 
 /// What a query names, as JSON without a space: its functions, labels and metrics, and its selectors with their times
@@ -175,6 +268,12 @@ pub fn set_limits(max_len: usize, max_pattern_size: usize) {
     library::set_limits(max_len, max_pattern_size);
 }
 
+/// Sets how many bytes what [`canonical`], [`format`] and [`json`] return has at most, in this process: 4,194,304 before the first
+/// call.
+pub fn set_max_output(bytes: usize) {
+    library::set_max_output(bytes);
+}
+
 /// The version of the library.
 pub fn version() -> String {
     library::version().0
@@ -193,7 +292,10 @@ fn text_of((text, answer): (String, Answer)) -> Result<String, Error> {
         library::UNFAITHFUL => Err(Error::Unfaithful(text)),
         library::BARE_INFO => Err(Error::BareInfo),
         library::SMALL_STACK => Err(Error::SmallStack),
+        library::NOT_A_TREE => Err(Error::NotATree(text)),
+        library::NO_PRINT_TREE => Err(Error::NoPrintTree),
         library::LARGE_ENFORCED => Err(Error::LargeEnforced(text)),
+        library::LONG_OUTPUT => Err(Error::LongOutput(text)),
         status => unreachable!("status {status}: {text}"),
     }
 }

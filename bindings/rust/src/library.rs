@@ -25,10 +25,15 @@ pub const BARE_INFO: u32 = 13;
 pub const TOO_LARGE: u32 = 14;
 pub const SMALL_STACK: u32 = 15;
 pub const LARGE_ENFORCED: u32 = 16;
+pub const NOT_A_TREE: u32 = 17;
+pub const LONG_OUTPUT: u32 = 18;
+/// No status of the library: it is an older one, which has no such call.
+pub const NO_PRINT_TREE: u32 = u32::MAX;
 
-/// Those of `enum promql_mode` that have no call of their own.
+/// `enum promql_mode`.
 #[derive(Clone, Copy)]
 pub enum Mode {
+    Line = 0,
     Pretty = 1,
     Json = 2,
 }
@@ -88,7 +93,30 @@ extern "C" {
         buffer_size: usize,
         result: *mut Answer,
     ) -> u32;
+    #[cfg(print_tree)]
+    fn promql_print_tree(
+        tree: *const u8,
+        tree_length: usize,
+        mode: u32,
+        level: u32,
+        width: usize,
+        parentheses: u32,
+        buffer: *mut u8,
+        buffer_size: usize,
+        result: *mut Answer,
+    ) -> u32;
+    fn promql_format_query(
+        query: *const u8,
+        query_length: usize,
+        width: usize,
+        indent_width: usize,
+        keep_spelling: u32,
+        buffer: *mut u8,
+        buffer_size: usize,
+        result: *mut Answer,
+    ) -> u32;
     fn promql_set_limits(max_len: usize, max_pattern_size: usize);
+    fn promql_set_max_output(bytes: usize);
     fn promql_version(buffer: *mut u8, buffer_size: usize, result: *mut Answer) -> u32;
 }
 
@@ -126,6 +154,13 @@ pub fn canonical(query: &str) -> (String, Answer) {
     })
 }
 
+pub fn format_query(query: &str, width: usize, indent_width: usize, keep_spelling: bool) -> (String, Answer) {
+    call(query.len(), |(buffer, size, answer)| unsafe {
+        let kept = keep_spelling.into();
+        promql_format_query(query.as_ptr(), query.len(), width, indent_width, kept, buffer, size, answer);
+    })
+}
+
 pub fn enforce(query: &str, matcher: &str) -> (String, Answer) {
     call(query.len(), |(buffer, size, answer)| unsafe {
         promql_enforce(query.as_ptr(), query.len(), matcher.as_ptr(), matcher.len(), buffer, size, answer);
@@ -150,9 +185,27 @@ pub fn snippet(query: &str, start: usize, end: usize) -> (String, Answer) {
     })
 }
 
+#[cfg(not(print_tree))]
+pub fn print_tree(_form: &str, _mode: Mode, _level: u16, _width: usize, _parentheses: bool) -> (String, Answer) {
+    (String::new(), Answer { status: NO_PRINT_TREE, ..Answer::default() })
+}
+
+#[cfg(print_tree)]
+pub fn print_tree(form: &str, mode: Mode, level: u16, width: usize, parentheses: bool) -> (String, Answer) {
+    let (tree, length) = (form.as_ptr(), form.len());
+    call(length, |(buffer, size, answer)| unsafe {
+        promql_print_tree(tree, length, mode as u32, level.into(), width, parentheses.into(), buffer, size, answer);
+    })
+}
+
 pub fn set_limits(max_len: usize, max_pattern_size: usize) {
     // SAFETY: the call takes numbers alone.
     unsafe { promql_set_limits(max_len, max_pattern_size) }
+}
+
+pub fn set_max_output(bytes: usize) {
+    // SAFETY: the call takes a number alone.
+    unsafe { promql_set_max_output(bytes) }
 }
 
 pub fn version() -> (String, Answer) {

@@ -1,6 +1,8 @@
 //! Each function, its errors, and calls side by side.
 
-use promql_proved::{Error, Layout, Rejection, canonical, check, collect, enforce, format, json, version};
+use promql_proved::{
+    Error, Layout, Rejection, canonical, check, collect, enforce, format, json, print_tree, version,
+};
 use std::thread;
 
 const LONG: &str = r#"sum by (job) (rate(http_requests_total{code=~"5.."}[5m])) / on (job) up > 0.125"#;
@@ -48,6 +50,20 @@ fn matchers_are_enforced() {
     assert_eq!(enforced.as_deref(), Ok(r#"info(b{a="1"}, {a="1",c="2"})"#));
     assert_eq!(enforce("sum(c) + topk(scalar(info(b)), d)", r#"a="1""#), Err(Error::BareInfo));
     assert!(matches!(enforce("1 +", r#"a="1""#), Err(Error::Rejected(found)) if found.range == (3..3)));
+}
+
+#[test]
+#[cfg_attr(not(print_tree), ignore = "the library has no promql_print_tree")]
+fn trees_are_printed() {
+    let tree = json("foo / 2").unwrap();
+    assert_eq!(print_tree(&tree, false, None).as_deref(), Ok("foo / 2"));
+    let deeper = tree.replace(r#"{"type":"numberLiteral","val":"2"}"#, &json("1 + 2").unwrap());
+    assert_eq!(print_tree(&deeper, true, None).as_deref(), Ok("foo / (1 + 2)"));
+    assert_eq!(print_tree(&deeper, true, Some(Layout { width: 1, level: 0 })).unwrap().lines().count(), 9);
+    let reason = "the right side of an operator needs parentheses";
+    assert_eq!(print_tree(&deeper, false, None), Err(Error::Unfaithful(reason.to_owned())));
+    let misfit = "$.op: an operator between two expressions";
+    assert_eq!(print_tree(&tree.replace("/", "?"), false, None), Err(Error::NotATree(misfit.to_owned())));
 }
 
 #[test]

@@ -2,11 +2,12 @@
 use Rattle.std.proofs.Common.{◌≡◌, ℕ, ◌+◌, max, Bool, true, false, if◌then◌else◌, List, [], ◌∷◌, ◌++◌, Some, codes, refl, sym, ap, ◌∙◌, append_assoc, append-nil}
 use Rattle.promql_text.specs.Texts.{joined_text}
 use Rattle.promql_kind.specs.Functions.{name_of}
-use Rattle.promql_ast.specs.Layout.{aggregate_lines, paren_lines, unary_line, binary_lines, subquery_lines, call_lines, layout_of, maybe_layout_of, layouts_of, lines, deepest, maybe_deepest, deepests, lines_deepest}
+use Rattle.promql_ast.specs.Layout.{aggregate_lines, paren_lines, unary_line, binary_lines, call_lines, layout_of, maybe_layout_of, layouts_of, lines, deepest, maybe_deepest, deepests, lines_deepest}
 use Rattle.promql_ast.specs.Lines.{is_longer, indent}
 use Rattle.promql_ast.specs.Decisions.{can_split, lines_by, lines_deepest_by, node_decisions, decisions, maybe_decisions, all_decisions, operand_decisions, decision, later, rest, maybe_rest, all_rest, layout_by, maybe_layout_by, layouts_by, deepest_by, maybe_deepest_by, all_deepest_by}
 use Rattle.promql_ast.specs.Text.{text}
 use Rattle.promql_ast.specs.Tree.{Tree, aggregate, unary, binary, paren, subquery, number, string, vector, matrix, call, extension, MaybeTree, absent, present, Trees, no_trees, first_tree}
+use Rattle.promql_ast.specs.node.Subquery.{subquery_text}
 
 -- a node on one line by `one`, and over several by `many`, for each of the two decisions
 split : {X : Type 0} (b : Bool) (parts bs : List Bool) (many : List Bool → X) (done one : X) → many (parts ++ bs) ≡ done
@@ -66,7 +67,7 @@ mutual
       λ i. binary_lines op m (p i) (q i) level)
   layout_by_is (paren e) level most bs =
       split (is_longer most (text (paren e))) (decisions e most) bs (λ cs. paren_lines (layout_by e (level + 1) cs) level) _ (indent level ++ text (paren e)) (ap (λ x. paren_lines x level) (layout_by_is e (level + 1) most bs))
-  layout_by_is (subquery e offset at range step) level most bs = ap (λ x. subquery_lines x offset at range step) (layout_by_is e level most bs)
+  layout_by_is (subquery e offset at range step) level most bs = ap (λ x. subquery_text x offset at range step) (layout_by_is e level most bs)
   layout_by_is (number n) level most bs = refl
   layout_by_is (string s) level most bs = refl
   layout_by_is (vector s) level most bs = refl

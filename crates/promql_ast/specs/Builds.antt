@@ -12,7 +12,7 @@ use Rattle.promql_ast.specs.Shifts.{Shift, Moment}
 use Rattle.promql_ast.specs.Tree.{Tree, aggregate, unary, subquery, number, string, vector, matrix, absent, present, Trees, no_trees, first_tree}
 use Rattle.promql_ast.specs.declared.fault.NodeFault.TheVariants.{UnaryLiteral, OffsetBeforeRange, AtBeforeRange, RangeBase, AtTwice, AtBase, OffsetTwice, OffsetBase, NoArguments, ArgumentCount, ModeTwice, ModeBase}
 use Rattle.promql_ast.specs.declared.range_mode.RangeMode.{RangeMode}
-use Rattle.promql_ast.specs.declared.range_mode.RangeMode.TheVariants.{Plain, Smoothed, Anchored}
+use Rattle.promql_ast.specs.declared.range_mode.RangeMode.TheVariants.{Plain}
 
 -- "Minus": a number changes its sign, everything else gets a node
 abbrev pub negate_tree : Tree → Tree
@@ -56,8 +56,7 @@ offset_given _ offset = rejected (node OffsetBase)
 -- "Range modes": once, on a matrix selector
 abbrev pub mode_given : Tree → RangeMode → Verdict
 mode_given (matrix s range Plain) mode = passes (matrix s range mode)
-mode_given (matrix s range Smoothed) mode = rejected (node ModeTwice)
-mode_given (matrix s range Anchored) mode = rejected (node ModeTwice)
+mode_given (matrix s range before) mode = rejected (node ModeTwice)
 mode_given _ mode = rejected (node ModeBase)
 
 -- "Aggregations": one argument; a parameter comes before it

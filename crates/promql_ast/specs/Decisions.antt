@@ -4,11 +4,12 @@ use Rattle.promql_text.specs.NumberText.{number_text}
 use Rattle.promql_text.specs.Quoting.{quoted_text}
 use Rattle.promql_text.specs.Texts.{Text, joined_text}
 use Rattle.promql_kind.specs.Functions.{name_of}
-use Rattle.promql_ast.specs.Layout.{aggregate_lines, unary_line, binary_lines, paren_lines, subquery_lines, call_lines}
+use Rattle.promql_ast.specs.Layout.{aggregate_lines, unary_line, binary_lines, paren_lines, call_lines}
 use Rattle.promql_ast.specs.Lines.{indent, is_longer}
 use Rattle.promql_ast.specs.Text.{text}
 use Rattle.promql_ast.specs.Tree.{Tree, aggregate, unary, binary, paren, subquery, number, string, vector, matrix, call, extension, MaybeTree, absent, present, Trees, no_trees, first_tree}
 use Rattle.promql_ast.specs.node.Matrix.{matrix_text}
+use Rattle.promql_ast.specs.node.Subquery.{subquery_text}
 use Rattle.promql_ast.specs.node.Vector.{vector_text}
 
 -- the kinds of nodes that have lines of their own
@@ -107,7 +108,7 @@ abbrev mutual
       if decision bs then binary_lines op m (layout_by l (level + 1) (later bs)) (layout_by r (level + 1) (rest l (later bs))) level
       else indent level ++ text (binary op l r m)
   layout_by (paren e) level bs = if decision bs then paren_lines (layout_by e (level + 1) (later bs)) level else indent level ++ text (paren e)
-  layout_by (subquery e offset at range step) level bs = subquery_lines (layout_by e level bs) offset at range step
+  layout_by (subquery e offset at range step) level bs = subquery_text (layout_by e level bs) offset at range step
   layout_by (number n) level bs = indent level ++ number_text n
   layout_by (string s) level bs = indent level ++ quoted_text s
   layout_by (vector s) level bs = indent level ++ vector_text s

@@ -1,21 +1,18 @@
 -- A tree laid out over lines (docs/reference/printing.md, "Nodes over several lines").
-use Rattle.std.specs.Prelude.{ℕ, ◌+◌, ◌==◌, max, Bool, true, false, if◌then◌else◌, List, [], ◌∷◌, ◌++◌, Option, Some, None, codes}
+use Rattle.std.specs.Prelude.{ℕ, ◌+◌, ◌==◌, max, Bool, true, false, not, ◌&&◌, if◌then◌else◌, List, [], ◌∷◌, ◌++◌, Option, Some, None, codes}
+use Rattle.std.specs.Option.{option_map_or}
 use Rattle.promql_text.specs.Bytes.{space}
-use Rattle.promql_text.specs.NumberText.{number_text}
-use Rattle.promql_text.specs.Quoting.{quoted_text}
 use Rattle.promql_text.specs.Texts.{Text, joined_text}
 use Rattle.promql_token.specs.Ids.{text_of}
 use Rattle.promql_kind.specs.Functions.{name_of}
 use Rattle.promql_kind.specs.Modifiers.{Clause, Matching}
+use Rattle.promql_ast.specs.Fold.{folded, within, maybe_within, all_within}
 use Rattle.promql_ast.specs.Lines.{indent, is_longer}
-use Rattle.promql_ast.specs.Shifts.{Shift, Moment, at_text, offset_text}
 use Rattle.promql_ast.specs.Text.{text}
 use Rattle.promql_ast.specs.Tree.{Tree, aggregate, unary, binary, paren, subquery, number, string, vector, matrix, call, extension, MaybeTree, absent, present, Trees, no_trees, first_tree}
 use Rattle.promql_ast.specs.node.Aggregate.{head_text}
 use Rattle.promql_ast.specs.node.Binary.{matching_text}
-use Rattle.promql_ast.specs.node.Matrix.{matrix_text}
-use Rattle.promql_ast.specs.node.Subquery.{range_text}
-use Rattle.promql_ast.specs.node.Vector.{vector_text}
+use Rattle.promql_ast.specs.node.Subquery.{subquery_text}
 
 -- the one line if it fits, else the lines
 abbrev pub line_or_lines : Text → Text → ℕ → ℕ → Text
@@ -29,8 +26,7 @@ without_indent (b ∷ t) = if b == space then without_indent t else b ∷ t
 -- ---- a node's lines from its parts' layouts
 
 abbrev pub param_lines : Option Text → Text
-param_lines None = []
-param_lines (Some t) = t ++ codes ",\n"
+param_lines p = option_map_or (λ t. t ++ codes ",\n") p []
 
 abbrev pub aggregate_lines : ℕ → Option Clause → Option Text → Text → ℕ → Text
 aggregate_lines op m p e level =
@@ -45,9 +41,6 @@ binary_lines op m l r level = l ++ (codes "\n" ++ (indent level ++ (text_of op +
 abbrev pub paren_lines : Text → ℕ → Text
 paren_lines e level = indent level ++ (codes "(\n" ++ (e ++ (codes "\n" ++ (indent level ++ codes ")"))))
 
-abbrev pub subquery_lines : Text → Option Shift → Option Moment → ℕ → Option ℕ → Text
-subquery_lines e offset at range step = e ++ (range_text range step ++ (at_text at ++ offset_text offset))
-
 abbrev pub call_lines : Text → Text → ℕ → Text
 call_lines name args level = indent level ++ (name ++ (codes "(\n" ++ (args ++ (codes "\n" ++ (indent level ++ codes ")")))))
 
@@ -61,14 +54,11 @@ abbrev mutual
   layout_of (binary op l r m) level most =
       line_or_lines (text (binary op l r m)) (binary_lines op m (layout_of l (level + 1) most) (layout_of r (level + 1) most) level) level most
   layout_of (paren e) level most = line_or_lines (text (paren e)) (paren_lines (layout_of e (level + 1) most) level) level most
-  layout_of (subquery e offset at range step) level most = subquery_lines (layout_of e level most) offset at range step
-  layout_of (number n) level most = indent level ++ number_text n
-  layout_of (string s) level most = indent level ++ quoted_text s
-  layout_of (vector s) level most = indent level ++ vector_text s
-  layout_of (matrix s range mode) level most = indent level ++ matrix_text s range mode
+  layout_of (subquery e offset at range step) level most = subquery_text (layout_of e level most) offset at range step
   layout_of (call f args) level most =
       line_or_lines (text (call f args)) (call_lines (name_of f) (joined_text (codes ",\n") (layouts_of args (level + 1) most)) level) level most
   layout_of (extension name gives es) level most = text (extension name gives es)
+  layout_of t level most = indent level ++ text t
 
   pub maybe_layout_of : MaybeTree → ℕ → ℕ → Option Text
   maybe_layout_of absent level most = None
@@ -100,33 +90,24 @@ is_leaf t = false
 
 -- ---- the deepest level that a layout indents to
 
-abbrev mutual
-  pub deepest : Tree → ℕ → ℕ → ℕ
-  deepest (aggregate op e p m) level most =
-      if is_longer most (text (aggregate op e p m)) then max level (max (maybe_deepest p (level + 1) most) (deepest e (level + 1) most)) else level
-  deepest (unary e) level most = max level (deepest e level most)
-  deepest (binary op l r m) level most =
-      if is_longer most (text (binary op l r m)) then max level (max (deepest l (level + 1) most) (deepest r (level + 1) most)) else level
-  deepest (paren e) level most = if is_longer most (text (paren e)) then max level (deepest e (level + 1) most) else level
-  deepest (subquery e offset at range step) level most = deepest e level most
-  deepest (number n) level most = level
-  deepest (string s) level most = level
-  deepest (vector s) level most = level
-  deepest (matrix s range mode) level most = level
-  deepest (call f args) level most = if is_longer most (text (call f args)) then max level (deepests args (level + 1) most) else level
-  deepest (extension name gives es) level most = 0
+-- of a node, by the deepest of its children at each level
+abbrev pub deepest_node : ℕ → Tree → (ℕ → ℕ) → ℕ → ℕ
+deepest_node most (unary e) below level = max level (below level)
+deepest_node most (subquery e offset at range step) below level = below level
+deepest_node most (extension name gives es) below level = 0
+deepest_node most t below level = if not (is_leaf t) && is_longer most (text t) then max level (below (level + 1)) else level
 
-  pub maybe_deepest : MaybeTree → ℕ → ℕ → ℕ
-  maybe_deepest absent level most = 0
-  maybe_deepest (present e) level most = deepest e level most
+abbrev pub deepest : Tree → ℕ → ℕ → ℕ
+deepest t level most = folded (λ n. 0) (λ f g n. max (f n) (g n)) (deepest_node most) t level
 
-  pub deepests : Trees → ℕ → ℕ → ℕ
-  deepests no_trees level most = 0
-  deepests (first_tree e es) level most = max (deepest e level most) (deepests es level most)
+abbrev pub maybe_deepest : MaybeTree → ℕ → ℕ → ℕ
+maybe_deepest p level most = maybe_within (λ n. 0) (λ f g n. max (f n) (g n)) (deepest_node most) p level
+
+abbrev pub deepests : Trees → ℕ → ℕ → ℕ
+deepests ts level most = all_within (λ n. 0) (λ f g n. max (f n) (g n)) (deepest_node most) ts level
 
 abbrev pub lines_deepest : Tree → ℕ → ℕ → ℕ
-lines_deepest (aggregate op e p m) level most = max level (max (maybe_deepest p (level + 1) most) (deepest e (level + 1) most))
-lines_deepest (binary op l r m) level most = max level (max (deepest l (level + 1) most) (deepest r (level + 1) most))
-lines_deepest (paren e) level most = max level (deepest e (level + 1) most)
-lines_deepest (call f args) level most = max level (deepests args (level + 1) most)
-lines_deepest t level most = level
+lines_deepest (unary e) level most = level
+lines_deepest (subquery e offset at range step) level most = level
+lines_deepest (extension name gives es) level most = level
+lines_deepest t level most = if is_leaf t then level else max level (within (λ n. 0) (λ f g n. max (f n) (g n)) (deepest_node most) t (level + 1))

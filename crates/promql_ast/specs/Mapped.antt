@@ -3,7 +3,7 @@
 use Rattle.std.specs.Prelude.{Option}
 use Rattle.promql_kind.specs.Modifiers.{Clause, Matching}
 use Rattle.promql_ast.specs.Selectors.{Selector}
-use Rattle.promql_ast.specs.Tree.{Tree, aggregate, unary, binary, paren, subquery, number, string, vector, matrix, call, extension, MaybeTree, absent, present, Trees, no_trees, first_tree}
+use Rattle.promql_ast.specs.Tree.{Tree, aggregate, unary, binary, paren, subquery, vector, matrix, call, extension, MaybeTree, absent, present, Trees, no_trees, first_tree}
 
 module _ (on_selector : Selector → Selector) (on_clause : Option Clause → Option Clause) (on_matching : Option Matching → Option Matching) where
   abbrev mutual
@@ -13,12 +13,11 @@ module _ (on_selector : Selector → Selector) (on_clause : Option Clause → Op
     mapped (binary op l r m) = binary op (mapped l) (mapped r) (on_matching m)
     mapped (paren e) = paren (mapped e)
     mapped (subquery e offset at range step) = subquery (mapped e) offset at range step
-    mapped (number n) = number n
-    mapped (string s) = string s
     mapped (vector s) = vector (on_selector s)
     mapped (matrix s range mode) = matrix (on_selector s) range mode
     mapped (call f args) = call f (all_mapped args)
     mapped (extension name gives es) = extension name gives (all_mapped es)
+    mapped t = t
 
     pub maybe_mapped : MaybeTree → MaybeTree
     maybe_mapped absent = absent

@@ -11,10 +11,8 @@ normal_selector (selector name matchers offset at) = selector name (normal_match
 
 -- an aggregation's empty list after `by` is left out
 abbrev pub normal_clause : Option Clause → Option Clause
-normal_clause None = None
 normal_clause (Some (including [])) = None
-normal_clause (Some (including (l ∷ ls))) = Some (including (l ∷ ls))
-normal_clause (Some (excluding ls)) = Some (excluding ls)
+normal_clause m = m
 
 -- an empty list after `ignoring` is left out where no grouping follows
 abbrev pub normal_matched : Bool → Option Clause → Option Clause

@@ -1,33 +1,34 @@
-//! What bindings/c/promql.c calls, once it has looked at the pointers: the calls of `promql_calls`, and no more.
+//! Calls over bytes and numbers alone, for callers in other languages (docs/guide/bindings.md, "Calls"), and each under the
+//! name by which bindings/c/promql.c calls it, once it has looked at the pointers.
 #![tactic(auto)]
 
-ghost use Rattle.std.specs.Prelude.{◌≡◌, Some, Ok};
+ghost use Rattle.std.specs.Prelude.{◌==◌, not, Some, Ok};
 ghost use Rattle.promql_lines.specs.declared.request.Format.TheVariants.{Line};
-ghost use Rattle.promql_calls.specs.CallResults.{Shows, ShowsSome};
-ghost use Rattle.promql_calls.specs.Calls.{IsCheckOf, IsCollectOf, IsEnforceOf, IsPrintOf, IsSnippetOf};
-ghost use Rattle.promql_calls.specs.Formats.{format_numbered};
-ghost use Rattle.promql_calls.specs.declared.calls.TheConstants.{CALLS_VERSION};
+ghost use Rattle.promql_c.specs.CallResults.{Shows, ShowsSome};
+ghost use Rattle.promql_c.specs.Calls.{IsCheckOf, IsCollectOf, IsEnforceOf, IsFormattedOf, IsPrintOf, IsSnippetOf, IsTreePrintOf};
+ghost use Rattle.promql_c.specs.Formats.{format_numbered};
+ghost use Rattle.promql_c.specs.declared.calls.TheConstants.{CALLS_VERSION};
 
-use promql_calls::CallResult;
+pub use call_error::CallError;
+pub use call_result::CallResult;
+pub use calls::CALLS_VERSION;
 use promql_span::limits::Limits;
 use std::alloc::Global;
 
-/// The limits of these numbers.
-fn limits_of(max_len: usize, max_pattern_size: usize) -> Limits
-    ensures { result ≡ record { max_len = max_len; max_pattern_size = max_pattern_size } }
-{
-    Limits {
-        max_len,
-        max_pattern_size,
-    }
-}
+mod call_error;
+mod call_result;
+mod calls;
+mod collecting;
+mod enforcing;
+mod formatting;
+mod printing;
+mod tree_printing;
 
-/// `promql_calls::print`.
+/// `calls::print`.
 #[unsafe(no_mangle)]
 pub extern "C" fn call_print(
     alloc: Global,
-    max_len: usize,
-    max_pattern_size: usize,
+    limits: &Limits,
     query: &[u8],
     mode: u32,
     level: u32,
@@ -35,79 +36,70 @@ pub extern "C" fn call_print(
     buffer: &mut [u8],
     shown: &mut CallResult,
 )
-    ensures { ShowsSome (IsPrintOf (record { max_len = max_len; max_pattern_size = max_pattern_size }) query.now (format_numbered mode level width))
+    ensures { ShowsSome (IsPrintOf limits.now query.now (format_numbered mode level width))
         shown.new buffer.old buffer.new }
 {
-    let limits = limits_of(max_len, max_pattern_size);
-    *shown = promql_calls::print(alloc, &limits, query, mode, level, width, buffer);
+    *shown = calls::print(alloc, limits, query, mode, level, width, buffer);
 }
 
-/// `promql_calls::canonical`.
+/// `calls::canonical`.
 #[unsafe(no_mangle)]
 pub extern "C" fn call_canonical(
     alloc: Global,
-    max_len: usize,
-    max_pattern_size: usize,
+    limits: &Limits,
     query: &[u8],
     buffer: &mut [u8],
     shown: &mut CallResult,
 )
-    ensures { ShowsSome (IsPrintOf (record { max_len = max_len; max_pattern_size = max_pattern_size }) query.now (Some Line)) shown.new buffer.old buffer.new }
+    ensures { ShowsSome (IsPrintOf limits.now query.now (Some Line)) shown.new buffer.old buffer.new }
 {
-    let limits = limits_of(max_len, max_pattern_size);
-    *shown = promql_calls::canonical(alloc, &limits, query, buffer);
+    *shown = calls::canonical(alloc, limits, query, buffer);
 }
 
-/// `promql_calls::enforce`.
+/// `calls::enforce`.
 #[unsafe(no_mangle)]
 pub extern "C" fn call_enforce(
     alloc: Global,
-    max_len: usize,
-    max_pattern_size: usize,
+    limits: &Limits,
     query: &[u8],
     matcher: &[u8],
     buffer: &mut [u8],
     shown: &mut CallResult,
 )
-    ensures { ShowsSome (IsEnforceOf (record { max_len = max_len; max_pattern_size = max_pattern_size }) query.now matcher.now) shown.new buffer.old buffer.new }
+    ensures { ShowsSome (IsEnforceOf limits.now query.now matcher.now) shown.new buffer.old buffer.new }
 {
-    let limits = limits_of(max_len, max_pattern_size);
-    *shown = promql_calls::enforce(alloc, &limits, query, matcher, buffer);
+    *shown = calls::enforce(alloc, limits, query, matcher, buffer);
 }
 
-/// `promql_calls::collect`.
+/// `calls::collect`.
 #[unsafe(no_mangle)]
 pub extern "C" fn call_collect(
     alloc: Global,
-    max_len: usize,
-    max_pattern_size: usize,
+    limits: &Limits,
     query: &[u8],
     buffer: &mut [u8],
     shown: &mut CallResult,
 )
-    ensures { ShowsSome (IsCollectOf (record { max_len = max_len; max_pattern_size = max_pattern_size }) query.now) shown.new buffer.old buffer.new }
+    ensures { ShowsSome (IsCollectOf limits.now query.now) shown.new buffer.old buffer.new }
 {
-    let limits = limits_of(max_len, max_pattern_size);
-    *shown = promql_calls::collect(alloc, &limits, query, buffer);
+    *shown = calls::collect(alloc, limits, query, buffer);
 }
 
-/// `promql_calls::check`.
+/// `calls::check`.
 #[unsafe(no_mangle)]
 pub extern "C" fn call_check(
     alloc: Global,
-    max_len: usize,
-    max_pattern_size: usize,
+    limits: &Limits,
     query: &[u8],
     buffer: &mut [u8],
     shown: &mut CallResult,
 )
-    ensures { ShowsSome (IsCheckOf (record { max_len = max_len; max_pattern_size = max_pattern_size }) query.now) shown.new buffer.old buffer.new }
+    ensures { ShowsSome (IsCheckOf limits.now query.now) shown.new buffer.old buffer.new }
 {
-    let limits = limits_of(max_len, max_pattern_size);
-    *shown = promql_calls::check(alloc, &limits, query, buffer);
+    *shown = calls::check(alloc, limits, query, buffer);
 }
 
-/// `promql_calls::snippet`.
+/// `calls::snippet`.
 #[unsafe(no_mangle)]
 pub extern "C" fn call_snippet(
     alloc: Global,
@@ -120,13 +112,57 @@ pub extern "C" fn call_snippet(
     ensures { ShowsSome (IsSnippetOf query.now (record { start = start; end = end }))
         shown.new buffer.old buffer.new }
 {
-    *shown = promql_calls::snippet(alloc, query, start, end, buffer);
+    *shown = calls::snippet(alloc, query, start, end, buffer);
 }
 
-/// `promql_calls::version`.
+/// `calls::print_tree`.
+#[unsafe(no_mangle)]
+pub extern "C" fn call_print_tree(
+    alloc: Global,
+    limits: &Limits,
+    form: &[u8],
+    mode: u32,
+    level: u32,
+    width: usize,
+    parentheses: u32,
+    buffer: &mut [u8],
+    shown: &mut CallResult,
+)
+    ensures { ShowsSome (IsTreePrintOf limits.now form.now (format_numbered mode level width) (not (parentheses == 0)))
+        shown.new buffer.old buffer.new }
+{
+    *shown = calls::print_tree(alloc, limits, form, mode, level, width, parentheses, buffer);
+}
+
+/// `calls::format`.
+#[unsafe(no_mangle)]
+pub extern "C" fn call_format(
+    alloc: Global,
+    limits: &Limits,
+    query: &[u8],
+    width: usize,
+    indent_width: usize,
+    keep_spelling: u32,
+    buffer: &mut [u8],
+    shown: &mut CallResult,
+)
+    ensures { ShowsSome (IsFormattedOf limits.now (not (keep_spelling == 0)) query.now) shown.new buffer.old buffer.new }
+{
+    *shown = calls::format(
+        alloc,
+        limits,
+        query,
+        width,
+        indent_width,
+        keep_spelling,
+        buffer,
+    );
+}
+
+/// `calls::version`.
 #[unsafe(no_mangle)]
 pub extern "C" fn call_version(buffer: &mut [u8], shown: &mut CallResult)
     ensures { Shows (Ok CALLS_VERSION.now) shown.new buffer.old buffer.new }
 {
-    *shown = promql_calls::version(buffer);
+    *shown = calls::version(buffer);
 }

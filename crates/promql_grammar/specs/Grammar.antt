@@ -107,9 +107,6 @@ FitsMatching (matching k text ls g) f ts = FitsGroup g f ts
 -- the conditions hold everywhere in the derivation
 abbrev mutual
   pub IsWellFormed : Derivation → Type 0
-  IsWellFormed (number text) = Unit {0}
-  IsWellFormed (duration text) = Unit {0}
-  IsWellFormed (string text) = Unit {0}
   IsWellFormed (selector k text b) = (may_be_name k ≡ true) × IsAnyBraces b
   IsWellFormed (nameless b) = IsBraces b
   IsWellFormed (paren d) = IsWellFormed d
@@ -118,6 +115,7 @@ abbrev mutual
   IsWellFormed (postfixed d p) = IsWellFormed d × IsBase d × IsPostfix p
   IsWellFormed (unary op text d) = (is_plus_or_minus op ≡ true) × IsWellFormed d × FitsUnary d
   IsWellFormed (binary op text m l r) = IsWellFormed l × IsWellFormed r × IsModifier m × FitsLeft op (openness l) × FitsRight op r × FitsMatching m.matching m.fills (yield r)
+  IsWellFormed d = Unit {0}
 
   pub AreWellFormed : Arguments → Type 0
   AreWellFormed none = Unit {0}

@@ -1,5 +1,6 @@
 -- The parts of an expression that hold no expression, and their tokens (docs/reference/grammar.md, "Parts").
-use Rattle.std.specs.Prelude.{◌≡◌, ℕ, ◌==◌, Bool, true, false, Option, Some, None, List, [], ◌∷◌, ◌++◌}
+use Rattle.std.specs.Prelude.{◌≡◌, ℕ, ◌==◌, Bool, true, false, Option, IfSome, List, [], ◌∷◌, ◌++◌}
+use Rattle.std.specs.Option.{option_map_or}
 use Rattle.promql_text.specs.Texts.{Text}
 use Rattle.promql_token.specs.declared.ids.TheConstants.{T_NEQ, T_LOR, T_SUB}
 use Rattle.promql_grammar.specs.declared.token_kinds.TokenKind.{TokenKind}
@@ -150,8 +151,7 @@ yield_fills (left_right text v text' w) = word kind.FillLeft text ∷ (yield_val
 yield_fills (right_left text v text' w) = word kind.FillRight text ∷ (yield_value v ++ word kind.FillLeft text' ∷ yield_value w)
 
 abbrev pub yield_flag : Option Text → List Symbol
-yield_flag None = []
-yield_flag (Some text) = word kind.Bool text ∷ []
+yield_flag flag = option_map_or (λ text. word kind.Bool text ∷ []) flag []
 
 abbrev pub yield_modifier : Modifier → List Symbol
 yield_modifier m = yield_flag m.flag ++ (yield_matching m.matching ++ yield_fills m.fills)
@@ -230,8 +230,7 @@ yield_braces no_item = punct kind.LeftBrace ∷ punct kind.RightBrace ∷ []
 yield_braces (items is) = punct kind.LeftBrace ∷ yield_items is
 
 abbrev pub yield_any_braces : Option Braces → List Symbol
-yield_any_braces None = []
-yield_any_braces (Some b) = yield_braces b
+yield_any_braces b = option_map_or yield_braces b []
 
 abbrev pub IsItem : Item → Type 0
 IsItem (matcher k text s value) = is_matcher_name k ≡ true
@@ -247,8 +246,7 @@ IsBraces no_item = Unit {0}
 IsBraces (items is) = AreItems is
 
 abbrev pub IsAnyBraces : Option Braces → Type 0
-IsAnyBraces None = Unit {0}
-IsAnyBraces (Some b) = IsBraces b
+IsAnyBraces b = IfSome b IsBraces
 
 -- "Postfixes": what may follow a base
 pub data Postfix : Type 0 where
@@ -270,8 +268,7 @@ is_mode_word kind.Anchored = true
 is_mode_word _ = false
 
 abbrev pub yield_step : Option Time → List Symbol
-yield_step None = []
-yield_step (Some t) = yield_time t
+yield_step step = option_map_or yield_time step []
 
 abbrev pub yield_postfix : Postfix → List Symbol
 yield_postfix (range t) = punct kind.LeftBracket ∷ (yield_time t ++ punct kind.RightBracket ∷ [])
@@ -282,9 +279,8 @@ yield_postfix (offset text s t) = word kind.Offset text ∷ (yield_signed s ++ y
 yield_postfix (mode k text) = word k text ∷ []
 
 abbrev pub IsPostfix : Postfix → Type 0
-IsPostfix (range t) = Unit {0}
-IsPostfix (subquery t s) = Unit {0}
 IsPostfix (at_number s text) = IsSigned s
 IsPostfix (at_bound k text) = is_bound_word k ≡ true
 IsPostfix (offset text s t) = IsSigned s
 IsPostfix (mode k text) = is_mode_word k ≡ true
+IsPostfix p = Unit {0}

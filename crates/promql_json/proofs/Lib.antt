@@ -2,4 +2,5 @@ pub mod FaultOrder
 pub mod Forms
 pub mod JsonTokens
 pub mod NoFloat
+pub mod ReadForms
 pub mod SameJsonErrors

@@ -1,5 +1,5 @@
 -- The JSON form of a tree (docs/reference/json.md, "Nodes" and "What has no form").
-use Rattle.std.specs.Prelude.{◌≡◌, ℕ, ◌^◌, ◌||◌, ℤ, pos, neg_ℤ, int_lt, int_le, List, [], ◌∷◌, Bool, if◌then◌else◌, Option, Some, None, Result, Ok, Err, codes}
+use Rattle.std.specs.Prelude.{◌≡◌, ℕ, ◌^◌, ◌||◌, ℤ, pos, neg_ℤ, int_lt, int_le, List, [], ◌∷◌, Bool, if◌then◌else◌, Option, Some, None, option_and_then, Result, Ok, Err, codes}
 use Rattle.serde_json.specs.Data.{Data, null, boolean, string as text, array, object, Items, no_items, item, Members, no_members, put}
 use Rattle.promql_text.specs.Texts.{Text}
 use Rattle.promql_label.specs.PlainMatchers.{plain_matchers}
@@ -105,25 +105,18 @@ abbrev pub width_fault : ℤ → Option JsonError
 width_fault z = if is_wide z then Some NumberTooWide else None
 
 abbrev pub step_fault : Option ℕ → Option JsonError
-step_fault None = None
-step_fault (Some n) = width_fault (millis n)
+step_fault step = option_and_then (λ n. width_fault (millis n)) step
 
 abbrev pub selector_fault : Selector → Option JsonError
 selector_fault (selector name ms offset at) = width_fault (shift_millis offset)
 
 -- what is at fault in a node by itself
 abbrev pub own_fault : Tree → Option JsonError
-own_fault (aggregate op e p m) = None
-own_fault (unary e) = None
-own_fault (binary op l r m) = None
-own_fault (paren e) = None
 own_fault (subquery e offset at range step) = first_of (width_fault (shift_millis offset)) (first_of (width_fault (millis range)) (step_fault step))
-own_fault (number n) = None
-own_fault (string s) = None
 own_fault (vector s) = selector_fault s
 own_fault (matrix s range mode) = first_of (selector_fault s) (width_fault (millis range))
-own_fault (call f args) = None
 own_fault (extension name gives es) = Some Extension
+own_fault _ = None
 
 -- the first fault at the nodes before whose children a walk comes
 abbrev pub first_fault : List Event → Option JsonError

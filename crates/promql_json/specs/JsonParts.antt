@@ -1,5 +1,6 @@
 -- The JSON form of what nodes hold beside their parts (docs/reference/json.md, "Parts").
 use Rattle.std.specs.Prelude.{ℕ, ◌/◌, ℤ, pos, neg_ℤ, List, [], ◌∷◌, map, Bool, false, not, Option, Some, None, codes}
+use Rattle.std.specs.Option.{option_map_or}
 use Rattle.serde_json.specs.Data.{Data, null, boolean, number, string, array, object, Members, no_members, put}
 use Rattle.serde_json.specs.Find.{of_integer}
 use Rattle.serde_json.specs.View.{items_of}
@@ -66,12 +67,10 @@ matchers_json (plain_matchers plain groups) = object (with_groups groups (member
 -- ---- "Modifiers"
 
 abbrev pub optional_labels : Option Clause → List Text
-optional_labels None = []
-optional_labels (Some c) = clause_labels c
+optional_labels m = option_map_or clause_labels m []
 
 abbrev pub is_excluding : Option Clause → Bool
-is_excluding None = false
-is_excluding (Some c) = not (is_including c)
+is_excluding m = option_map_or (λ c. not (is_including c)) m false
 
 abbrev pub cardinality_json : Cardinality → Data
 cardinality_json one_to_one = string (codes "one-to-one")
@@ -107,16 +106,13 @@ shift_millis (Some (back n)) = millis n
 shift_millis (Some (ahead n)) = neg_ℤ (millis n)
 
 abbrev pub start_or_end : Option Moment → Data
-start_or_end None = null
 start_or_end (Some at_start) = string (codes "start")
 start_or_end (Some at_end) = string (codes "end")
-start_or_end (Some (at_time t)) = null
+start_or_end _ = null
 
 abbrev pub timestamp : Option Moment → Data
-timestamp None = null
-timestamp (Some at_start) = null
-timestamp (Some at_end) = null
 timestamp (Some (at_time t)) = whole t
+timestamp _ = null
 
 -- `rangeMode` only where there is one
 abbrev pub with_mode : RangeMode → Members → Members

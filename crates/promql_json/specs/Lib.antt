@@ -1,5 +1,7 @@
 pub mod Events
+pub mod FormMembers
 pub mod Json
 pub mod JsonFaults
 pub mod JsonParts
 pub mod JsonTokens
+pub mod Readable

@@ -312,7 +312,7 @@ pub(crate) fn write_mode(out: &mut JsonWriter, mode: RangeMode) -> Result<(), Al
     }
 }
 
-fn type_name(value_type: ValueType) -> &'static str
+pub(crate) fn type_name(value_type: ValueType) -> &'static str
     ensures { result.now ≡ type_text value_type }
 {
     match value_type {

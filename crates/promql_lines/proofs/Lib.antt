@@ -5,3 +5,4 @@ pub mod LineAnswers
 pub mod LinesRead
 pub mod MemoryAnswer
 pub mod RequestMembers
+pub mod TreeMeans

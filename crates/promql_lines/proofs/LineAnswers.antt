@@ -11,16 +11,13 @@ use Rattle.promql_text.specs.Texts.{Text}
 use Rattle.promql_ast.specs.Tree.{Tree}
 use Rattle.promql_report.specs.Rejecting.{IsRead}
 use Rattle.promql_span.specs.declared.limits.Limits.{Limits}
-use Rattle.promql_json.specs.declared.error.JsonError.TheVariants.{NumberTooWide}
-use Rattle.promql_run.specs.StepErrors.{IsShowError}
 use Rattle.promql_lines.specs.declared.settings.Settings.{Settings}
-use Rattle.promql_run.specs.declared.run.RunError.{RunError}
 use Rattle.promql_run.specs.declared.run.RunError.TheVariants.{Memory, Read, NotUtf8, Parse, Write, Json}
-use Rattle.promql_lines.specs.Batch.{Asks, FailsOnQuery, FailsWith, IsAsked, IsOkLine, format_value, line_error_object}
-use Rattle.promql_lines.specs.BatchSteps.{IsEnforceFaultOf, IsOkText, IsQueryAnswer}
+use Rattle.promql_lines.specs.Batch.{Asks, FailsOnQuery, FailsWith, IsOkLine, IsQueryAnswer, line_error_object}
+use Rattle.promql_lines.specs.BatchSteps.{IsEnforceFaultOf}
 use Rattle.promql_lines.specs.Requests.{format_in, format_with, matcher_in, query_in}
 use Rattle.promql_lines.specs.declared.line.LineError.{LineError}
-use Rattle.promql_lines.specs.declared.line.LineError.TheVariants.{Run, Rejected, NotARequest, Matcher, Info, LargeMatcher}
+use Rattle.promql_lines.specs.declared.line.LineError.TheVariants.{Run, Rejected, NotARequest, Matcher, Info, LargeMatcher, LongOutput}
 use Rattle.promql_lines.specs.declared.request.Format.{Format}
 
 -- a line that is a query in quotes asks for it as the command says
@@ -32,16 +29,9 @@ pub asks_by_value : (settings : Settings) (line query : Text) (matcher : Option 
 asks_by_value settings line query matcher format value utf8 is query_is matcher_is format_is =
     record { utf8 = utf8; value = value; is = is; query_is = sym query_is; matcher_is = sym matcher_is; format_is = sym format_is }
 
--- what is printed of a query that was read, in an answer
-pub answer_of_query : (limits : Limits) (query : Text) (matcher : Option Text) (format : Format) (tree printed : Tree) (text : Text) → IsRead limits query tree → IsAsked limits matcher tree printed
-    → IsOkText (format_value format printed) text → IsQueryAnswer limits query matcher format text
-answer_of_query limits query matcher format tree printed text parsed asked shown =
-    record { value = shown.0; has = record { tree = tree; parsed = parsed; printed = printed; asked = asked; gives = shown.1 }; is = shown.2 }
-
 -- the answer to the query that a line asks for is that to the line
-answer_of_line : (settings : Settings) (line query : Text) (matcher : Option Text) (format : Format) (printed : Text) → Asks settings line query matcher format → IsQueryAnswer settings.limits query matcher format printed → IsOkLine settings line printed
-answer_of_line settings line query matcher format printed asks answer =
-    record { value = answer.value; has = record { query = query; matcher = matcher; format = format; asks = asks; has = answer.has }; is = answer.is }
+answer_of_line : (settings : Settings) (line query : Text) (matcher : Option Text) (format : Format) (answer : Text) → Asks settings line query matcher format → IsQueryAnswer settings.limits query matcher format answer → IsOkLine settings line answer
+answer_of_line settings line query matcher format answer asks has = record { query = query; matcher = matcher; format = format; asks = asks; has = has }
 
 pub answered_line : {E : Type 0} (r : Result (String Global) E) (settings : Settings) (line query : Text) (matcher : Option Text) (format : Format) → Asks settings line query matcher format
     → IfOk r (λ s. IsQueryAnswer settings.limits query matcher format (string_bytes s)) → IfOk r (λ s. IsOkLine settings line (string_bytes s))
@@ -54,16 +44,7 @@ error_is_finite built NotARequest message is = ap has_float is
 error_is_finite built (Matcher e) message is = ap has_float is
 error_is_finite built Info message is = ap has_float is
 error_is_finite built (LargeMatcher fault) message is = ap has_float is
-
--- an error of rendering is one of the query
-pub fails_of_rendering : (limits : Limits) (e : RunError) (query : Text) (matcher : Option Text) (format : Format) (tree printed : Tree) → IsRead limits query tree → IsAsked limits matcher tree printed
-    → (e ≡ Json → format_value format printed ≡ Err NumberTooWide) → IsShowError e → FailsOnQuery limits query matcher format (Run e)
-fails_of_rendering limits Memory query matcher format tree printed parsed asked wide errors = tt
-fails_of_rendering limits Json query matcher format tree printed parsed asked wide errors = record { tree = tree; parsed = parsed; printed = printed; asked = asked; gives = wide refl }
-fails_of_rendering limits Read query matcher format tree printed parsed asked wide errors = absurd errors
-fails_of_rendering limits NotUtf8 query matcher format tree printed parsed asked wide errors = absurd errors
-fails_of_rendering limits (Parse e) query matcher format tree printed parsed asked wide errors = absurd errors
-fails_of_rendering limits Write query matcher format tree printed parsed asked wide errors = absurd errors
+error_is_finite built (LongOutput fault) message is = ap has_float is
 
 -- an error of enforcing is one of a query that has the tree
 pub fails_of_matcher : (limits : Limits) (e : LineError) (query : Text) (matcher : Option Text) (format : Format) (t : Tree) → IsRead limits query t → IsEnforceFaultOf limits matcher t e → FailsOnQuery limits query matcher format e
@@ -79,6 +60,7 @@ fails_of_matcher limits (Run NotUtf8) query matcher format t parsed fault = absu
 fails_of_matcher limits (Run (Parse e)) query matcher format t parsed fault = absurd fault
 fails_of_matcher limits (Run Write) query matcher format t parsed fault = absurd fault
 fails_of_matcher limits (Run Json) query matcher format t parsed fault = absurd fault
+fails_of_matcher limits (LongOutput f) query matcher format t parsed fault = absurd fault
 fails_of_matcher limits (Rejected r) query matcher format t parsed fault = absurd fault
 fails_of_matcher limits NotARequest query matcher format t parsed fault = absurd fault
 
@@ -90,6 +72,7 @@ fails_in_vain settings line query matcher format (Rejected r) asks fails = recor
 fails_in_vain settings line query matcher format (Matcher e) asks fails = record { query = query; matcher = matcher; format = format; asks = asks; fails = fails }
 fails_in_vain settings line query matcher format Info asks fails = record { query = query; matcher = matcher; format = format; asks = asks; fails = fails }
 fails_in_vain settings line query matcher format (LargeMatcher f) asks fails = record { query = query; matcher = matcher; format = format; asks = asks; fails = fails }
+fails_in_vain settings line query matcher format (LongOutput f) asks fails = record { query = query; matcher = matcher; format = format; asks = asks; fails = fails }
 fails_in_vain settings line query matcher format (Run Read) asks fails = absurd fails
 fails_in_vain settings line query matcher format (Run NotUtf8) asks fails = absurd fails
 fails_in_vain settings line query matcher format (Run (Parse e)) asks fails = absurd fails

@@ -1,5 +1,5 @@
 -- What a batch answers to its lines (docs/reference/programs.md).
-use Rattle.std.specs.Prelude.{◌≡◌, ◌≢◌, ◌⊎◌, ℕ, ◌++◌, ◌&&◌, List, [], ◌∷◌, All, Bool, true, false, Option, Some, None, Result, Ok, Err, codes, map}
+use Rattle.std.specs.Prelude.{◌≡◌, ◌≢◌, ◌⊎◌, ◌≤◌, ℕ, ◌++◌, ◌&&◌, length, List, [], ◌∷◌, All, Bool, true, false, Option, Some, None, Result, Ok, Err, codes, map}
 use Rattle.std.specs.Str.{IsUtf8}
 use Rattle.std.specs.Io.{StopsAt}
 use Rattle.std.specs.Io.KnownBytes.{Appends, Consumes}
@@ -7,6 +7,7 @@ use Rattle.serde_json.specs.Data.{Data, string, number, unsigned, object, no_mem
 use Rattle.serde_json.specs.Read.{read}
 use Rattle.serde_json.specs.Written.{compact_text}
 use Rattle.promql_text.specs.Texts.{Text}
+use Rattle.promql_grammar.specs.Results.{on_result}
 use Rattle.promql_ast.specs.Layout.{layout_of}
 use Rattle.promql_ast.specs.Text as one_line
 use Rattle.promql_ast.specs.Tree.{Tree}
@@ -16,12 +17,13 @@ use Rattle.promql_json.specs.declared.error.JsonError.TheVariants.{NumberTooWide
 use Rattle.promql_report.specs.declared.rejection.Rejection.{Rejection}
 use Rattle.promql_run.specs.declared.run.RunError.TheVariants as error
 use Rattle.promql_report.specs.Rejecting.{IsRead, IsRejection, reason_number}
+use Rattle.promql_span.specs.QueryLimits.{IsLongOutput}
 use Rattle.promql_span.specs.declared.limits.Limits.{Limits}
 use Rattle.promql_run.specs.Running.{error_number}
 use Rattle.promql_lines.specs.EnforcedLines.{FailsToEnforce, IsEnforcedWithin}
 use Rattle.promql_lines.specs.declared.enforced_line.EnforcedLineError.TheVariants as enforced
 use Rattle.promql_lines.specs.declared.line.LineError.{LineError}
-use Rattle.promql_lines.specs.declared.line.LineError.TheVariants.{Run, Rejected, NotARequest, Matcher, Info, LargeMatcher}
+use Rattle.promql_lines.specs.declared.line.LineError.TheVariants.{Run, Rejected, NotARequest, Matcher, Info, LargeMatcher, LongOutput}
 use Rattle.promql_lines.specs.declared.request.Format.{Format}
 use Rattle.promql_lines.specs.declared.request.Format.TheVariants.{Pretty, Line, Json}
 use Rattle.promql_lines.specs.declared.settings.Settings.{Settings}
@@ -29,11 +31,16 @@ use Rattle.promql_lines.specs.Requests.{query_in, matcher_in, format_in}
 
 -- ---- one line
 
--- "Answers": the value of a tree in a format, or why it has none
-abbrev pub format_value : Format → Tree → Result Data JsonError
-format_value (Pretty layout) t = Ok (string (layout_of t layout.level layout.width))
-format_value Line t = Ok (string (one_line.text t))
-format_value Json t = json t
+-- the text of a tree in a format, or why it has none
+abbrev pub format_text : Format → Tree → Result Text JsonError
+format_text (Pretty layout) t = Ok (layout_of t layout.level layout.width)
+format_text Line t = Ok (one_line.text t)
+format_text Json t = on_result compact_text (json t)
+
+-- "Answers": that of a form as it is, and others as strings
+abbrev pub value_text : Format → Text → Text
+value_text Json output = output
+value_text format output = compact_text (string output)
 
 -- the line asks for this query in this format, with this matcher in its selectors if there is one
 pub record Asks (settings : Settings) (line query : Text) (matcher : Option Text) (format : Format) : Type 0 where
@@ -55,31 +62,40 @@ abbrev pub IsAsked : Limits → Option Text → Tree → Tree → Type 0
 IsAsked limits None t u = u ≡ t
 IsAsked limits (Some matcher) t u = IsEnforcedWithin limits matcher t u
 
--- the query has a tree, and this is the value of what is printed of it in the format, or why that has none
-pub record HasQueryValue (limits : Limits) (query : Text) (matcher : Option Text) (format : Format) (value : Result Data JsonError) : Type 0 where
+-- the query has a tree, and this is the text of what is printed of it in the format, or why that has none
+pub record HasQueryText (limits : Limits) (query : Text) (matcher : Option Text) (format : Format) (made : Result Text JsonError) : Type 0 where
   pub tree : Tree
   pub parsed : IsRead limits query tree
   pub printed : Tree
   pub asked : IsAsked limits matcher tree printed
-  pub gives : format_value format printed ≡ value
+  pub gives : format_text format printed ≡ made
+
+-- there is a text, it is within the limits, and this is the answer with it
+pub record IsQueryAnswer (limits : Limits) (query : Text) (matcher : Option Text) (format : Format) (answer : Text) : Type 0 where
+  pub output : Text
+  pub has : HasQueryText limits query matcher format (Ok output)
+  pub short : length output ≤ limits.max_output
+  pub is : answer ≡ codes "{\"ok\":" ++ (value_text format output ++ codes "}")
 
 -- when a query has this error; one of the matcher is that of a query which is enforced alone
 abbrev pub FailsOnQuery : Limits → Text → Option Text → Format → LineError → Type 0
 FailsOnQuery limits query matcher format (Run error.Memory) = Unit {0}
 FailsOnQuery limits query matcher format (Rejected rejection) = IsRejection limits query rejection
-FailsOnQuery limits query matcher format (Run error.Json) = HasQueryValue limits query matcher format (Err NumberTooWide)
+FailsOnQuery limits query matcher format (Run error.Json) = HasQueryText limits query matcher format (Err NumberTooWide)
+FailsOnQuery limits query matcher format (LongOutput fault) =
+    (output : Text) × HasQueryText limits query matcher format (Ok output) × IsLongOutput output limits fault
 FailsOnQuery limits query (Some text) format (LargeMatcher fault) = FailsToEnforce limits query text (enforced.LargeMatcher fault)
 FailsOnQuery limits query (Some text) format (Matcher e) = FailsToEnforce limits query text (enforced.Matcher e)
 FailsOnQuery limits query (Some text) format Info = FailsToEnforce limits query text enforced.Info
 FailsOnQuery limits query matcher format _ = ⊥
 
--- the line asks for a query that has this value
-pub record HasValue (settings : Settings) (line : Text) (value : Data) : Type 0 where
+-- the line asks for a query that has this answer
+pub record IsOkLine (settings : Settings) (line answer : Text) : Type 0 where
   pub query : Text
   pub matcher : Option Text
   pub format : Format
   pub asks : Asks settings line query matcher format
-  pub has : HasQueryValue settings.limits query matcher format (Ok value)
+  pub has : IsQueryAnswer settings.limits query matcher format answer
 
 -- the line asks for a query that has this error
 pub record AsksInVain (settings : Settings) (line : Text) (e : LineError) : Type 0 where
@@ -96,6 +112,7 @@ line_error_number NotARequest = 7
 line_error_number (Matcher e) = 11
 line_error_number Info = 13
 line_error_number (LargeMatcher fault) = 16
+line_error_number (LongOutput fault) = 18
 
 -- "Errors": when a line has this error
 abbrev pub FailsWith : Settings → Text → LineError → Type 0
@@ -103,9 +120,6 @@ FailsWith settings line NotARequest = IsUtf8 line × AsksNothing settings line
 FailsWith settings line (Run error.NotUtf8) = ¬ IsUtf8 line
 FailsWith settings line (Run error.Memory) = Unit {0}
 FailsWith settings line e = AsksInVain settings line e
-
-abbrev pub ok_object : Data → Data
-ok_object value = object (member (codes "ok") value no_members)
 
 abbrev pub error_object : ℕ → Text → Data
 error_object code message =
@@ -124,11 +138,6 @@ rejection_object code message r =
 abbrev pub line_error_object : LineError → Text → Data
 line_error_object (Rejected rejection) message = rejection_object (reason_number rejection.reason) message rejection
 line_error_object e message = error_object (line_error_number e) message
-
-pub record IsOkLine (settings : Settings) (line printed : Text) : Type 0 where
-  pub value : Data
-  pub has : HasValue settings line value
-  pub is : printed ≡ compact_text (ok_object value)
 
 -- the error's number, some message and, of a query that is rejected, the place
 abbrev pub IsErrorText : LineError → Text → Type 0

@@ -5,3 +5,5 @@ pub mod ProgramArguments
 pub mod EnforcedLines
 pub mod EnforcedSteps
 pub mod Requests
+pub mod TreeTexts
+pub mod TreeTextSteps

@@ -1,24 +1,23 @@
-//! The answer to a query that has a value in a format: docs/reference/programs.md, "Answers". No value is made.
+//! The answer to a query that has a text in a format: docs/reference/programs.md, "Answers". No value is made.
 
-ghost use Rattle.std.specs.Prelude.{◌≡◌, ◌++◌, ◌≤◌, Err, IfErr, IfOk, IsErrOf, Result, codes, string_bytes};
-ghost use Rattle.serde_json.specs.Data.{Data, string};
+ghost use Rattle.std.specs.Prelude.{◌≡◌, ◌++◌, ◌≤◌, Ok, Err, IfErr, IfNone, IfOk, IfSome, codes, length, string_bytes};
+ghost use Rattle.serde_json.specs.Data.{string};
 ghost use Rattle.serde_json.specs.Written.{compact_text};
 ghost use Rattle.promql_ast.specs.Height.{height};
 ghost use Rattle.promql_ast.specs.View.{tree_of};
 ghost use Rattle.promql_syntax.specs.declared.parser.TheConstants.{MAX_DEPTH};
-ghost use Rattle.promql_json.specs.Json as form;
-ghost use Rattle.promql_json.specs.declared.error.JsonError.{JsonError};
 ghost use Rattle.promql_json.specs.declared.error.JsonError.TheVariants.{NumberTooWide};
 ghost use Rattle.promql_run.specs.Extensions.{HasNoExtension};
-ghost use Rattle.promql_run.specs.StepErrors.{IsShowError};
-ghost use Rattle.promql_lines.specs.Batch.{format_value, ok_object};
-ghost use Rattle.promql_lines.specs.BatchSteps.{IsFormText, IsOkText, IsShown};
+ghost use Rattle.promql_lines.specs.Batch.{format_text, value_text};
+ghost use Rattle.promql_lines.specs.BatchSteps.{IsOutputFault};
 
+use crate::line::LineError;
 use crate::request::Format;
 use json::Writer;
 use promql_ast::Expr;
 use promql_run::rendering::{json_text, pretty_text};
 use promql_run::run::RunError;
+use promql_span::limits::{Limits, check_output};
 use std::alloc::{AllocError, Global};
 
 /// What an answer has before its value, and after it.
@@ -28,6 +27,27 @@ const AFTER_VALUE: &str = "}";
 
 /// How many bytes an answer has beside its string and what is escaped in that, and some more for a few escapes.
 const ROOM: usize = 32;
+
+/// The text of an expression in a format; `None` where a number of milliseconds is too wide for JSON. An expression that was
+/// read is low enough for a layout, and has no extension.
+///
+/// # Errors
+///
+/// `AllocError` where an allocation failed.
+pub fn shown_text(alloc: Global, format: Format, expr: &Expr) -> Result<Option<String>, AllocError>
+    requires low { height (tree_of expr.now) ≤ MAX_DEPTH }
+    requires plain { HasNoExtension (tree_of expr.now) }
+    ensures text { IfOk result (λ shown.
+        IfSome shown (λ s. format_text format (tree_of expr.now) ≡ Ok (string_bytes s))) }
+    ensures wide { IfOk result (λ shown.
+        IfNone shown (format_text format (tree_of expr.now) ≡ Err NumberTooWide)) }
+{
+    match format {
+        Format::Pretty(layout) => Ok(Some(pretty_text(alloc, layout.level, layout.width, expr)?)),
+        Format::Line => Ok(Some(expr.to_string(alloc)?)),
+        Format::Json => json_text(alloc, expr),
+    }
+}
 
 /// The answer whose value has this text.
 fn answer_of_json(alloc: Global, value: &str) -> Result<String, AllocError>
@@ -43,7 +63,8 @@ fn answer_of_json(alloc: Global, value: &str) -> Result<String, AllocError>
 
 /// The answer whose value is this text, as a JSON string.
 fn answer_of_text(alloc: Global, value: &str) -> Result<String, AllocError>
-    ensures { IfOk result (λ s. string_bytes s ≡ compact_text (ok_object (string value.now))) }
+    ensures { IfOk result (λ s. string_bytes s
+        ≡ codes "{\"ok\":" ++ (compact_text (string value.now) ++ codes "}")) }
 {
     let room = value.len().saturating_add(ROOM);
     let mut answer = Writer::new(Vec::with_capacity(alloc, room)?);
@@ -57,44 +78,35 @@ fn answer_of_text(alloc: Global, value: &str) -> Result<String, AllocError>
     }
 }
 
-/// The text of an expression's JSON form.
-fn form_text(alloc: Global, expr: &Expr) -> Result<String, RunError>
-    requires { HasNoExtension (tree_of expr.now) }
-    ensures ok { IfOk result (λ s. IsFormText (form.json (tree_of expr.now)) (string_bytes s)) }
-    ensures json { IsErrOf result RunError.Json →
-        form.json (tree_of expr.now) ≡ Err NumberTooWide }
-    ensures errors { IfErr result IsShowError }
-{
-    match json_text(alloc, expr)? {
-        Some(text) => Ok(text),
-        None => Err(RunError::Json),
-    }
-}
-
-/// What is shown of an expression in a format: the text of a string, or that of its JSON form.
-pub fn shown_text(alloc: Global, format: Format, expr: &Expr) -> Result<String, RunError>
-    requires low { height (tree_of expr.now) ≤ MAX_DEPTH }
-    requires plain { HasNoExtension (tree_of expr.now) }
-    ensures ok { IfOk result (λ s. IsShown format (format_value format (tree_of expr.now)) (string_bytes s)) }
-    ensures json { IsErrOf result RunError.Json →
-        format_value format (tree_of expr.now) ≡ Err NumberTooWide }
-    ensures errors { IfErr result IsShowError }
-{
-    match format {
-        Format::Pretty(layout) => Ok(pretty_text(alloc, layout.level, layout.width, expr)?),
-        Format::Line => Ok(expr.to_string(alloc)?),
-        Format::Json => form_text(alloc, expr),
-    }
-}
-
 /// The answer with what is shown in a format.
-pub fn ok_answer(alloc: Global, format: Format, shown: &str) -> Result<String, AllocError>
-    ensures { IfOk result (λ s. (value : Result Data JsonError) → IsShown format value shown.now
-        → IsOkText value (string_bytes s)) }
+fn ok_answer(alloc: Global, format: Format, shown: &str) -> Result<String, AllocError>
+    ensures { IfOk result (λ s. string_bytes s
+        ≡ codes "{\"ok\":" ++ (value_text format shown.now ++ codes "}")) }
 {
     match format {
         Format::Pretty(_) => answer_of_text(alloc, shown),
         Format::Line => answer_of_text(alloc, shown),
         Format::Json => answer_of_json(alloc, shown),
+    }
+}
+
+/// The answer with what is shown in a format, if that is within the limits.
+pub(crate) fn answer_within(
+    alloc: Global,
+    limits: &Limits,
+    format: Format,
+    shown: &str,
+) -> Result<String, LineError>
+    ensures short { IfOk result (λ s. length shown.now ≤ limits.now.max_output) }
+    ensures ok { IfOk result (λ s. string_bytes s
+        ≡ codes "{\"ok\":" ++ (value_text format shown.now ++ codes "}")) }
+    ensures err { IfErr result (IsOutputFault limits.now shown.now) }
+{
+    if let Err(fault) = check_output(shown, limits) {
+        return Err(LineError::LongOutput(fault));
+    }
+    match ok_answer(alloc, format, shown) {
+        Ok(answer) => Ok(answer),
+        Err(_) => Err(LineError::Run(RunError::Memory)),
     }
 }

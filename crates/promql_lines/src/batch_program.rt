@@ -23,13 +23,14 @@ pub const ERRORS_STATUS: u8 = 4;
 
 /// The line that is printed for wrong arguments, and the first of the help.
 pub const BATCH_USAGE: &str =
-    "usage: promql_batch pretty|line|json [--max-len N] [--max-patterns N]\n";
+    "usage: promql_batch pretty|line|json [--max-len N] [--max-patterns N] [--max-output N]\n";
 
 /// What `--version` prints.
-pub const BATCH_VERSION: &str = "promql_batch 0.4.0\n";
+pub const BATCH_VERSION: &str = "promql_batch 0.5.0\n";
 
 /// What `--help` prints.
-pub const BATCH_HELP: &str = "usage: promql_batch pretty|line|json [--max-len N] [--max-patterns N]
+pub const BATCH_HELP: &str =
+    "usage: promql_batch pretty|line|json [--max-len N] [--max-patterns N] [--max-output N]
        promql_batch --help | --version
 
 Reads a PromQL query from each line of standard input, and writes a JSON object
@@ -42,7 +43,8 @@ matcher that is put into every selector of the query).
 An answer is {\"ok\":TEXT}, in mode json {\"ok\":VALUE}, or
 {\"code\":NUMBER,\"error\":MESSAGE}. A query of more than --max-len bytes (32768), or
 with patterns that are together larger than --max-patterns (16000), is rejected
-before it is parsed.
+before it is parsed. A TEXT, or the text of a VALUE, of more than --max-output
+bytes (4194304) is an error.
 
 Status: 0 each line was answered with ok, 4 some line has an error, 1 out of
 memory, 2 a read failed, 5 a write failed, 64 wrong arguments.

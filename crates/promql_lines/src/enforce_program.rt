@@ -26,7 +26,7 @@ use std::io::{Read, Write};
 pub const ENFORCE_USAGE: &str = "usage: promql_enforce MATCHER [--max-len N] [--max-patterns N]\n";
 
 /// What `--version` prints.
-pub const ENFORCE_VERSION: &str = "promql_enforce 0.4.0\n";
+pub const ENFORCE_VERSION: &str = "promql_enforce 0.5.0\n";
 
 /// What `--help` prints.
 pub const ENFORCE_HELP: &str = "usage: promql_enforce MATCHER [--max-len N] [--max-patterns N]

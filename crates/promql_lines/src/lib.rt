@@ -2,7 +2,7 @@
 //! them. docs/reference/programs.md has the rules.
 #![tactic(auto)]
 
-mod answer_text;
+pub mod answer_text;
 pub mod batch;
 pub mod batch_program;
 pub mod enforce_program;
@@ -12,3 +12,4 @@ pub mod line;
 mod quoted_query;
 pub mod request;
 pub mod settings;
+pub mod tree_text;

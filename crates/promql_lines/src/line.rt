@@ -6,10 +6,10 @@ ghost use Rattle.serde_json.specs.Read.{read};
 ghost use Rattle.serde_json.specs.View.{view};
 ghost use Rattle.promql_text.specs.Texts.{Text};
 ghost use Rattle.promql_ast.specs.View.{tree_of};
-ghost use Rattle.promql_lines.specs.BatchSteps.{IsEnforceFaultOf, IsQueryAnswer};
-ghost use Rattle.promql_lines.specs.Batch.{FailsOnQuery, FailsWith, IsAsked, IsErrorText, IsLineAnswer, IsOkLine, error_object, line_error_number, line_error_object, rejection_object};
+ghost use Rattle.promql_lines.specs.BatchSteps.{IsEnforceFaultOf};
+ghost use Rattle.promql_lines.specs.Batch.{FailsOnQuery, FailsWith, IsAsked, IsErrorText, IsLineAnswer, IsOkLine, IsQueryAnswer, error_object, line_error_number, line_error_object, rejection_object};
 
-use crate::answer_text::{ok_answer, shown_text};
+use crate::answer_text::{answer_within, shown_text};
 use crate::limit_checks::matcher_fault;
 use crate::quoted_query::quoted_query;
 use crate::request::{Format, default_format, format_in, matcher_in, query_in};
@@ -18,7 +18,7 @@ use promql_ast::{Expr, drop_expr};
 use promql_report::rejection::{Rejection, read_query};
 use promql_rewrite::{EnforceTextError, MatcherError, enforce_text};
 use promql_run::run::RunError;
-use promql_span::limits::{LimitFault, Limits};
+use promql_span::limits::{LimitFault, Limits, LongOutput};
 use serde_json::{Category, Value, json};
 use std::alloc::{AllocError, Global};
 use thiserror::Error;
@@ -44,6 +44,9 @@ pub enum LineError {
     /// The text that the line's matcher is read in is not within the limits of the query, and nothing of it was read.
     #[error("the matcher is not within the limits: {0}")]
     LargeMatcher(LimitFault),
+    /// What is printed of the query is not within the limits.
+    #[error("{0}")]
+    LongOutput(LongOutput),
 }
 
 impl LineError {
@@ -58,6 +61,7 @@ impl LineError {
             LineError::Matcher(_) => 11,
             LineError::Info => 13,
             LineError::LargeMatcher(_) => 16,
+            LineError::LongOutput(_) => 18,
         }
     }
 }
@@ -138,12 +142,9 @@ fn answer_query(
     let expr = enforced(alloc, limits, expr, matcher)?;
     let shown = shown_text(alloc, format, &expr);
     drop_expr(expr);
-    let text = match shown {
-        Ok(text) => text,
-        Err(error) => return Err(LineError::Run(error)),
-    };
-    match ok_answer(alloc, format, text.as_str()) {
-        Ok(answer) => Ok(answer),
+    match shown {
+        Ok(Some(text)) => answer_within(alloc, limits, format, text.as_str()),
+        Ok(None) => Err(LineError::Run(RunError::Json)),
         Err(_) => Err(LineError::Run(RunError::Memory)),
     }
 }
@@ -243,7 +244,8 @@ fn line_error_value(alloc: Global, error: &LineError, message: &str) -> Result<V
         | LineError::NotARequest
         | LineError::Matcher(_)
         | LineError::Info
-        | LineError::LargeMatcher(_) => error_value(alloc, code, message),
+        | LineError::LargeMatcher(_)
+        | LineError::LongOutput(_) => error_value(alloc, code, message),
     }
 }
 

@@ -35,6 +35,7 @@ abbrev pub with_option : Limits → Text → ℕ → Option Limits
 with_option limits name n =
     if bytes_eq name (codes "--max-len") then Some (record limits { max_len = n })
     else if bytes_eq name (codes "--max-patterns") then Some (record limits { max_pattern_size = n })
+    else if bytes_eq name (codes "--max-output") then Some (record limits { max_output = n })
     else None
 
 -- options, each with its number; the last of one name counts
@@ -45,4 +46,4 @@ limits_with limits (name ∷ value ∷ words) =
     option_and_then (λ n. option_and_then (λ changed. limits_with changed words) (with_option limits name n)) (number_in value)
 
 abbrev pub default_limits : Limits
-default_limits = record { max_len = 32768; max_pattern_size = 16000 }
+default_limits = record { max_len = 32768; max_pattern_size = 16000; max_output = 4194304 }

@@ -41,7 +41,7 @@ const BYTE_ESCAPE: &str = "warning: this escape is a character here, and a byte 
 const BYTE_ORDER_MARK: &str = ", a byte order mark at the start of the text";
 
 /// What `--version` prints.
-pub const CHECK_VERSION: &str = "promql_check 0.4.0\n";
+pub const CHECK_VERSION: &str = "promql_check 0.5.0\n";
 
 /// What `--help` prints.
 pub const CHECK_HELP: &str = "usage: promql_check [--max-len N] [--max-patterns N]

@@ -3,7 +3,7 @@
 ghost use Rattle.std.specs.Prelude.{◌≡◌, map, string_bytes};
 ghost use Rattle.promql_report.specs.LimitOptions as spec;
 
-use promql_span::limits::{Limits, MAX_LEN, MAX_PATTERN_SIZE};
+use promql_span::limits::{Limits, MAX_LEN, MAX_OUTPUT, MAX_PATTERN_SIZE};
 
 /// Whether the words are this option alone.
 pub fn is_only(words: &[String], option: &str) -> bool
@@ -22,11 +22,12 @@ pub fn default_limits() -> Limits
     Limits {
         max_len: MAX_LEN,
         max_pattern_size: MAX_PATTERN_SIZE,
+        max_output: MAX_OUTPUT,
     }
 }
 
-/// These limits as options change them, `--max-len N` and `--max-patterns N`, the last of one name; `None` where the words are no
-/// such options.
+/// These limits as options change them, `--max-len N`, `--max-patterns N` and `--max-output N`, the last of one name; `None`
+/// where the words are no such options.
 pub fn limits_with(limits: Limits, words: &[String]) -> Option<Limits>
     ensures { result ≡ spec.limits_with limits (map string_bytes words.now) }
 {
@@ -50,6 +51,10 @@ fn with_option(limits: Limits, name: &str, number: usize) -> Option<Limits>
         }),
         "--max-patterns" => Some(Limits {
             max_pattern_size: number,
+            ..limits
+        }),
+        "--max-output" => Some(Limits {
+            max_output: number,
             ..limits
         }),
         _ => None,

@@ -51,3 +51,4 @@ pub mod SecondMatchers
 pub mod SomeNames
 pub mod TreeRows
 pub mod TypedChecks
+pub mod TypedNodes

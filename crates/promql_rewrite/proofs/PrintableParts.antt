@@ -20,7 +20,8 @@ use Rattle.promql_ast.specs.Typed.{IsManyToMany}
 use Rattle.promql_ast.specs.check.BinaryChecks.{settle_matching, settled_set}
 use Rattle.promql_ast.proofs.PrintedMoments.{size_reads}
 use Rattle.promql_syntax.specs.Asking.{under}
-use Rattle.promql_syntax.specs.PartBuilding.{at_fault, number_fault, number_value, pattern_operator, signed_number}
+use Rattle.promql_syntax.specs.BuildErrors as errors
+use Rattle.promql_syntax.specs.PartBuilding.{at_fault, number_value, pattern_operator, signed_number, on_error}
 use Rattle.promql_syntax.proofs.Printable.{IsAnyMoment, IsMoment, IsShift}
 use Rattle.promql_syntax.proofs.PrintedMatcherLists.{AllStand, AreAnyMatchers, GroupsStand, Stands}
 use Rattle.promql_syntax.proofs.PrintedModifiers.{Alike, AreFills, IsGroupedAfter, IsMatched, IsWritten}
@@ -47,8 +48,8 @@ is_offset (Some (back n)) h = is_time n h
 is_offset (Some (ahead n)) h = is_time n h
 
 signed_reads : (b : Bool) (text : Text) (n : Number) → read_number text ≡ Ok n → signed_number (sign b) text ≡ Ok (cond b (neg n) n)
-signed_reads true text n e = then_leads (number_value text) _ n _ (ap number_fault e) refl
-signed_reads false text n e = then_leads (number_value text) _ n _ (ap number_fault e) refl
+signed_reads true text n e = then_leads (number_value text) _ n _ (ap (on_error errors.number) e) refl
+signed_reads false text n e = then_leads (number_value text) _ n _ (ap (on_error errors.number) e) refl
 
 -- milliseconds of 64 bits print as seconds that are read as they are
 is_moment : (t : ℤ) → FitsSigned w64 t → IsMoment (at_time t)

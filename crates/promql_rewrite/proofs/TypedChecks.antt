@@ -31,10 +31,10 @@ use Rattle.promql_rewrite.specs.PrintableConditions.{IsNegated}
 
 -- ---- faults that do not apply
 
-no_fault : (f : Option Fault) (v : Verdict) → f ≡ None → unless f v ≡ v
+pub no_fault : (f : Option Fault) (v : Verdict) → f ≡ None → unless f v ≡ v
 no_fault f v e = ap (λ f. unless f v) e
 
-not_when : (b : Bool) (f : Fault) → b ≡ false → when b f ≡ None
+pub not_when : (b : Bool) (f : Fault) → b ≡ false → when b f ≡ None
 not_when b f e = ap (λ b. when b f) e
 
 -- ---- tests

@@ -9,9 +9,10 @@ use Rattle.promql_label.specs.PlainMatchers.{PlainMatcher, plain_matcher, equal,
 use Rattle.promql_label.specs.SortedTexts.{text_order}
 use Rattle.promql_kind.specs.Functions.{name_of as function_name}
 use Rattle.promql_kind.specs.Modifiers.{Matching, matching, clause_labels, grouping}
+use Rattle.promql_ast.specs.Fold.{within, maybe_within, all_within}
 use Rattle.promql_ast.specs.Selectors.{Selector, selector}
 use Rattle.promql_ast.specs.Shifts.{Shift, shift_of, Moment, moment_of}
-use Rattle.promql_ast.specs.Tree.{Tree, aggregate, unary, binary, paren, subquery, number, string, vector, matrix, call, extension, MaybeTree, absent, present, Trees, no_trees, first_tree}
+use Rattle.promql_ast.specs.Tree.{Tree, aggregate, binary, vector, matrix, call, MaybeTree, Trees}
 use Rattle.promql_rewrite.specs.declared.collecting.CollectedSelector.{CollectedSelector}
 
 -- exactly the texts of the list, each once, in byte order
@@ -22,27 +23,14 @@ pub record IsSetOf (texts set : List Text) : Type 0 where
 -- ---- the nodes of a tree
 
 -- the nodes within a node, in the order of the text, each before those within it
-abbrev mutual
-  pub nodes_within : Tree → List Tree
-  nodes_within (aggregate op e p m) = maybe_nodes p ++ (e ∷ nodes_within e)
-  nodes_within (unary e) = e ∷ nodes_within e
-  nodes_within (binary op l r m) = (l ∷ nodes_within l) ++ (r ∷ nodes_within r)
-  nodes_within (paren e) = e ∷ nodes_within e
-  nodes_within (subquery e offset at range step) = e ∷ nodes_within e
-  nodes_within (number n) = []
-  nodes_within (string s) = []
-  nodes_within (vector s) = []
-  nodes_within (matrix s range mode) = []
-  nodes_within (call f args) = all_nodes args
-  nodes_within (extension name gives es) = all_nodes es
+abbrev pub nodes_within : Tree → List Tree
+nodes_within = within [] ◌++◌ ◌∷◌
 
-  pub maybe_nodes : MaybeTree → List Tree
-  maybe_nodes absent = []
-  maybe_nodes (present e) = e ∷ nodes_within e
+abbrev pub maybe_nodes : MaybeTree → List Tree
+maybe_nodes = maybe_within [] ◌++◌ ◌∷◌
 
-  pub all_nodes : Trees → List Tree
-  all_nodes no_trees = []
-  all_nodes (first_tree e es) = (e ∷ nodes_within e) ++ all_nodes es
+abbrev pub all_nodes : Trees → List Tree
+all_nodes = all_within [] ◌++◌ ◌∷◌
 
 -- a node, and those within it
 abbrev pub nodes_of : Tree → List Tree

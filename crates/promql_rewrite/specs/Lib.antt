@@ -1,5 +1,6 @@
 pub mod AddedParens
 pub mod Answered
+pub mod CheckedNodes
 pub mod CollectedNames
 pub mod Collecting
 pub mod EnforceErrors

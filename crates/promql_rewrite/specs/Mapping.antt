@@ -4,7 +4,7 @@ use Rattle.promql_label.specs.PlainMatchers.{plain_matchers}
 use Rattle.promql_kind.specs.Functions.{Signature}
 use Rattle.promql_ast.specs.Mapped.{mapped, maybe_mapped, all_mapped}
 use Rattle.promql_ast.specs.Selectors.{Selector, selector}
-use Rattle.promql_ast.specs.Tree.{Tree, aggregate, unary, binary, paren, subquery, number, string, vector, matrix, call, extension, MaybeTree, absent, present, Trees, no_trees, first_tree}
+use Rattle.promql_ast.specs.Tree.{Tree, aggregate, unary, binary, paren, subquery, vector, matrix, call, extension, MaybeTree, absent, present, Trees, no_trees, first_tree}
 use Rattle.promql_rewrite.specs.Enforcing.{is_info}
 use Rattle.promql_rewrite.specs.declared.mapping.SelectorKind.{SelectorKind}
 use Rattle.promql_rewrite.specs.declared.mapping.SelectorKind.TheVariants.{DataLabels, Series}
@@ -27,12 +27,11 @@ abbrev mutual
   selectors_in k (binary op l r m) = selectors_in k l ++ selectors_in k r
   selectors_in k (paren e) = selectors_in k e
   selectors_in k (subquery e offset at range step) = selectors_in k e
-  selectors_in k (number n) = []
-  selectors_in k (string s) = []
   selectors_in k (vector s) = (k, s) ∷ []
   selectors_in k (matrix s range mode) = (k, s) ∷ []
   selectors_in k (call f args) = arg_selectors k (kind_after f k) args
   selectors_in k (extension name gives es) = arg_selectors k k es
+  selectors_in k t = []
 
   pub param_selectors : SelectorKind → MaybeTree → List KindedSelector
   param_selectors k absent = []

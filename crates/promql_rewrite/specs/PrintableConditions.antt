@@ -1,5 +1,5 @@
 -- What is asked of the parts of a node that reads back from what it prints (docs/guide/rewriting.md, "Trees of your own").
-use Rattle.std.specs.Prelude.{◌≡◌, ◌≢◌, ◌⊎◌, ◌*◌, ◌^◌, ◌<◌, ℕ, min, Bool, true, false, if◌then◌else◌, [], ◌∷◌, Option, Some, None, FitsSigned}
+use Rattle.std.specs.Prelude.{◌≡◌, ◌≢◌, ◌⊎◌, ◌*◌, ◌^◌, ◌<◌, ℕ, min, Bool, true, false, if◌then◌else◌, [], ◌∷◌, Option, Some, None, FitsSigned, IfSome}
 use Rattle.std.specs.Int.{w64}
 use Rattle.std.specs.List.{AllByRecursion}
 use Rattle.promql_text.specs.Texts.{Text}
@@ -10,7 +10,7 @@ use Rattle.promql_token.specs.declared.ids.TheConstants.{T_POW}
 use Rattle.promql_grammar.specs.Grammar.{precedence}
 use Rattle.promql_grammar.specs.Symbols.{may_be_name, token_kind}
 use Rattle.promql_label.specs.PlainMatchers.{PlainMatchers, plain_matchers}
-use Rattle.promql_ast.specs.Shifts.{Shift, back, ahead, Moment, at_start, at_end, at_time}
+use Rattle.promql_ast.specs.Shifts.{Shift, back, ahead, Moment, at_time}
 use Rattle.promql_ast.specs.Tree.{Tree, unary, binary, number, MaybeTree, absent, present}
 
 -- ---- values
@@ -20,8 +20,7 @@ abbrev pub PrintableTime : ℕ → Type 0
 PrintableTime n = (0 < n) × (n < 2 ^ 64 * 1_000_000_000)
 
 abbrev pub PrintableStep : Option ℕ → Type 0
-PrintableStep None = Unit {0}
-PrintableStep (Some n) = PrintableTime n
+PrintableStep step = IfSome step PrintableTime
 
 abbrev pub PrintableOffset : Option Shift → Type 0
 PrintableOffset None = Unit {0}
@@ -30,21 +29,17 @@ PrintableOffset (Some (ahead n)) = PrintableTime n
 
 -- milliseconds of 64 bits
 abbrev pub PrintableAt : Option Moment → Type 0
-PrintableAt None = Unit {0}
-PrintableAt (Some at_start) = Unit {0}
-PrintableAt (Some at_end) = Unit {0}
 PrintableAt (Some (at_time t)) = FitsSigned w64 t
+PrintableAt _ = Unit {0}
 
 abbrev pub PrintableFill : Option Number → Type 0
-PrintableFill None = Unit {0}
-PrintableFill (Some n) = IsNumber n
+PrintableFill n = IfSome n IsNumber
 
 -- ---- names and parameters
 
 -- a word that may be the name of a metric
 abbrev pub PrintableName : Option Text → Type 0
-PrintableName None = Unit {0}
-PrintableName (Some name) = (is_word name ≡ true) × (may_be_name (token_kind (word_id name [])) ≡ true)
+PrintableName name = IfSome name (λ w. (is_word w ≡ true) × (may_be_name (token_kind (word_id w [])) ≡ true))
 
 -- an aggregator that takes a parameter has one, and no other has
 abbrev pub has_param : MaybeTree → Bool

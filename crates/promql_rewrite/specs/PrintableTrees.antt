@@ -7,8 +7,9 @@ use Rattle.promql_label.specs.Answers.{Answer}
 use Rattle.promql_label.specs.PlainMatchers.{every}
 use Rattle.promql_kind.specs.Functions.{function_named, name_of}
 use Rattle.promql_kind.specs.Modifiers.{fills, matching}
+use Rattle.promql_ast.specs.Fold.{folded, maybe_within, all_within}
 use Rattle.promql_ast.specs.Selectors.{Selector, selector}
-use Rattle.promql_ast.specs.Tree.{Tree, aggregate, unary, binary, paren, subquery, number, string, vector, matrix, call, extension, MaybeTree, absent, present, Trees, no_trees, first_tree}
+use Rattle.promql_ast.specs.Tree.{Tree, binary, subquery, number, vector, matrix, call, MaybeTree, Trees}
 use Rattle.promql_ast.specs.Typed.{Typed}
 use Rattle.promql_syntax.specs.declared.parser.TheConstants.{MAX_DEPTH}
 use Rattle.promql_rewrite.specs.Answered.{IsAnswered}
@@ -42,27 +43,18 @@ IsPlaced t = Obeys reason.LeftSide t × Obeys reason.RightSide t × Obeys reason
 -- ---- heights
 
 -- the height of the tree as it is read: a number below zero is a minus and a number
-abbrev mutual
-  pub printed_height : Tree → ℕ
-  printed_height (aggregate op e p m) = 1 + max (maybe_printed_height p) (printed_height e)
-  printed_height (unary e) = 1 + printed_height e
-  printed_height (binary op l r m) = 1 + max (printed_height l) (printed_height r)
-  printed_height (paren e) = 1 + printed_height e
-  printed_height (subquery e offset at range step) = 1 + printed_height e
-  printed_height (number n) = if is_below_zero n then 2 else 1
-  printed_height (string s) = 1
-  printed_height (vector s) = 1
-  printed_height (matrix s range mode) = 1
-  printed_height (call f args) = 1 + all_printed_height args
-  printed_height (extension name gives es) = 1 + all_printed_height es
+abbrev pub own_height : Tree → ℕ → ℕ
+own_height (number n) below = if is_below_zero n then 2 else 1
+own_height t below = 1 + below
 
-  pub maybe_printed_height : MaybeTree → ℕ
-  maybe_printed_height absent = 0
-  maybe_printed_height (present e) = printed_height e
+abbrev pub printed_height : Tree → ℕ
+printed_height = folded 0 max own_height
 
-  pub all_printed_height : Trees → ℕ
-  all_printed_height no_trees = 0
-  all_printed_height (first_tree e es) = max (printed_height e) (all_printed_height es)
+abbrev pub maybe_printed_height : MaybeTree → ℕ
+maybe_printed_height = maybe_within 0 max own_height
+
+abbrev pub all_printed_height : Trees → ℕ
+all_printed_height = all_within 0 max own_height
 
 -- ---- all that a tree decides by itself
 

@@ -1,5 +1,5 @@
 -- A metric or a label by another name (docs/guide/rewriting.md, "Renaming").
-use Rattle.std.specs.Prelude.{Bool, false, not, ◌&&◌, if◌then◌else◌, List, [], ◌∷◌, Option, Result, Ok, codes, map, option_map, unwrap_or}
+use Rattle.std.specs.Prelude.{Bool, false, not, ◌&&◌, if◌then◌else◌, List, [], ◌∷◌, Option, Result, Ok, codes, map, option_map}
 use Rattle.std.specs.List.{list_any}
 use Rattle.std.specs.Str.{bytes_eq}
 use Rattle.promql_text.specs.Texts.{Text}
@@ -8,11 +8,11 @@ use Rattle.promql_grammar.specs.Symbols.{may_be_name, token_kind}
 use Rattle.promql_grammar.specs.SourceTokens.{Token, tokens}
 use Rattle.promql_label.specs.Labels.{is_among}
 use Rattle.promql_label.specs.PlainMatchers.{PlainMatcher, plain_matcher, PlainMatchers, plain_matchers, every, name_of}
-use Rattle.promql_kind.specs.Modifiers.{Cardinality, one_to_one, many_to_one, one_to_many, many_to_many, Clause, including, excluding, clause_labels, Matching, matching}
+use Rattle.promql_kind.specs.Modifiers.{Cardinality, one_to_one, many_to_one, one_to_many, many_to_many, Clause, including, excluding, Matching, matching}
 use Rattle.promql_ast.specs.Mapped.{mapped, maybe_mapped, all_mapped}
 use Rattle.promql_ast.specs.Selectors.{Selector, selector}
-use Rattle.promql_ast.specs.Tree.{Tree, aggregate, binary, vector, matrix, MaybeTree, Trees}
-use Rattle.promql_rewrite.specs.Collecting.{is_metric_name, matching_labels, nodes_of}
+use Rattle.promql_ast.specs.Tree.{Tree, vector, matrix, MaybeTree, Trees}
+use Rattle.promql_rewrite.specs.Collecting.{is_metric_name, nodes_of, own_labels}
 
 -- the old name and the new one, of a metric or of a label
 pub data Renaming : Type 0 where
@@ -66,11 +66,9 @@ module _ (r : Renaming) where
 
 -- the labels of a node's matchers, or after its `by`, `without`, `on`, `ignoring`, `group_left` and `group_right`
 abbrev pub listed_labels : Tree → List Text
-listed_labels (aggregate op e p m) = unwrap_or (option_map clause_labels m) []
-listed_labels (binary op l r m) = unwrap_or (option_map matching_labels m) []
 listed_labels (vector (selector name cs offset at)) = map name_of (every cs)
 listed_labels (matrix (selector name cs offset at) range mode) = map name_of (every cs)
-listed_labels _ = []
+listed_labels t = own_labels t
 
 -- a node lists both labels
 abbrev pub lists_both : Text → Text → Tree → Bool

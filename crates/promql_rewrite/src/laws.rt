@@ -17,6 +17,7 @@ ghost use Rattle.promql_syntax.specs.ParseAnswers.{HasTree};
 ghost use Rattle.promql_syntax.specs.declared.parser.TheConstants.{MAX_DEPTH};
 ghost use Rattle.promql_rewrite.specs.AddedParens.{AddsParens};
 ghost use Rattle.promql_rewrite.specs.Answered.{IsAnswered};
+ghost use Rattle.promql_rewrite.specs.CheckedNodes.{PassesUnchanged};
 ghost use Rattle.promql_rewrite.specs.Collecting.{IsSetOf, called_functions, named_labels, named_metrics};
 ghost use Rattle.promql_rewrite.specs.Enforcing.{enforced, enforced_selector};
 ghost use Rattle.promql_rewrite.specs.Everywhere.{Everywhere};
@@ -39,6 +40,14 @@ pub fn enforced_trees_are_typed()
     ensures typed { (c : PlainMatcher) (t : Tree) → name_of c ≢ codes "__name__"
         → Typed t → Typed (enforced c t) }
 {}
+
+/// A tree is well typed exactly if each of its nodes passes its checks, and is left as it is by them. Of a matrix selector that
+/// is asked of its selector.
+pub fn well_typed_trees_pass_their_checks()
+    ensures { (t : Tree) → Typed t ↔ Everywhere PassesUnchanged t }
+{
+    promql_ast::laws::checked_trees_are_typed();
+}
 
 /// A matcher that is enforced twice is there once.
 pub fn enforced_once()

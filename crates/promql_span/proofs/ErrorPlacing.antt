@@ -156,8 +156,7 @@ placed_fault law s list is few n ts symbols count e placed =
       derivation = there.derivation;
       derives = record { formed = there.formed; spells = ap (on_result (map symbol_of)) is ∙ ap Ok (sym symbols ∙ sym there.spells) };
       sub = fault.sub;
-      is = fault.is;
-      fails = fault.fault;
+      first = fault.first;
       there = subst (λ k. AreTokens k (fault_tokens (build_error_of e) fault.sub.after fault.sub.derivation) e.place) many fault.place;
     }
 
@@ -167,8 +166,7 @@ fault_at s e place span placed at is = record {
   derivation = placed.derivation;
   derives = placed.derives;
   sub = placed.sub;
-  is = placed.is;
-  fails = placed.fails;
+  first = placed.first;
   place = span_at s (fault_tokens e placed.sub.after placed.sub.derivation) place span placed.there is;
 }
 

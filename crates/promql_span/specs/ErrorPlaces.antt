@@ -1,6 +1,5 @@
 -- The place of an error in its text (docs/reference/grammar.md, "Places of errors").
 use Rattle.std.specs.Prelude.{ℕ, ◌≡◌, ◌⊎◌, ◌<◌, ◌≤◌, ◌-◌, length, take, Option, Some, None, Result, Ok, Err}
-use Rattle.std.specs.List.{Contains}
 use Rattle.promql_text.specs.Texts.{Text}
 use Rattle.promql_token.specs.declared.fault.LexFaultKind.{LexFaultKind}
 use Rattle.promql_token.specs.declared.fault.LexFaultKind.TheVariants.{UnclosedParen}
@@ -16,7 +15,7 @@ use Rattle.promql_syntax.specs.declared.parser.ParseError.{ParseError}
 use Rattle.promql_syntax.specs.declared.parser.ParseError.TheVariants as errors
 use Rattle.promql_grammar.specs.Grammar.{Derivation}
 use Rattle.promql_syntax.specs.BuildErrors.{BuildError}
-use Rattle.promql_syntax.specs.FaultTokens.{IsFaultOf, Subexpression, fault_tokens, subexpressions}
+use Rattle.promql_syntax.specs.FaultTokens.{IsFirstFault, Subexpression, fault_tokens, subexpressions}
 use Rattle.promql_syntax.specs.ParseAnswers.{Derives, PlainParseError, fault, plain_error_of}
 
 -- the character at a place, or the end
@@ -33,13 +32,12 @@ abbrev pub IsSpanOf : Text → Option (ℕ × ℕ) → Span → Type 0
 IsSpanOf s None span = Unit {0}
 IsSpanOf s (Some left) span = left.1 < left.0 → span ≡ span_over s (take (left.0 - left.1) (last_tokens left.0 (placed_tokens s)))
 
--- a fault of building is that of an expression in the text's derivation, and the span is that of its tokens
+-- a fault of building is that of the first expression in the text's derivation that does not build, and the span is that of its tokens
 pub record IsAtBuildFault (s : Text) (e : BuildError) (span : Span) : Type 0 where
   pub derivation : Derivation
   pub derives : Derives s derivation
   pub sub : Subexpression
-  pub is : Contains (subexpressions 0 derivation) sub
-  pub fails : IsFaultOf e sub
+  pub first : IsFirstFault e (subexpressions 0 derivation) sub
   pub place : IsSpanOf s (fault_tokens e sub.after sub.derivation) span
 
 abbrev pub IsAtPlainError : Text → PlainParseError → Span → Type 0

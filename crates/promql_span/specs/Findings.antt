@@ -1,6 +1,5 @@
 -- What parsing finds to be wrong, by the indexes of tokens. Private: nothing rests on believing it.
 use Rattle.std.specs.Prelude.{◌≡◌, ◌<◌, length}
-use Rattle.std.specs.List.{Contains}
 use Rattle.promql_text.specs.Texts.{Text}
 use Rattle.promql_grammar.specs.Misfits.{AreMisfits}
 use Rattle.promql_grammar.specs.declared.read_error.ReadError.{ReadError}
@@ -9,7 +8,7 @@ use Rattle.promql_span.specs.PlacedTokens.{first_span, last_tokens, placed_token
 use Rattle.promql_span.specs.ErrorPlaces.{IsAtError}
 use Rattle.promql_grammar.specs.Grammar.{Derivation}
 use Rattle.promql_syntax.specs.BuildErrors.{BuildError}
-use Rattle.promql_syntax.specs.FaultTokens.{IsFaultOf, Subexpression, fault_tokens, subexpressions}
+use Rattle.promql_syntax.specs.FaultTokens.{IsFirstFault, Subexpression, fault_tokens, subexpressions}
 use Rattle.promql_syntax.specs.ParseAnswers.{Derives, PlainParseError, fault, plain_error_of, too_deep}
 use Rattle.promql_syntax.specs.Placing.{AreTokens}
 use Rattle.promql_syntax.specs.declared.grammar.place.Place.{Place}
@@ -24,13 +23,12 @@ abbrev pub IsMisfit : Text → Finding → Type 0
 IsMisfit s (Misfit left) = AreMisfits (symbols_at s (placed_tokens s)) (symbols_at s (last_tokens left (placed_tokens s)))
 IsMisfit s (Fault place) = ⊥
 
--- a fault of building is that of an expression in the text's derivation, and this is the place of its tokens
+-- a fault of building is that of the first expression in the text's derivation that does not build, and this is the place of its tokens
 pub record IsPlacedFault (s : Text) (e : BuildError) (place : Place) : Type 0 where
   pub derivation : Derivation
   pub derives : Derives s derivation
   pub sub : Subexpression
-  pub is : Contains (subexpressions 0 derivation) sub
-  pub fails : IsFaultOf e sub
+  pub first : IsFirstFault e (subexpressions 0 derivation) sub
   pub there : AreTokens (length (placed_tokens s)) (fault_tokens e sub.after sub.derivation) place
 
 abbrev pub IsPlacedError : Text → PlainParseError → Place → Type 0

@@ -10,6 +10,7 @@ use Rattle.promql_span.specs.PlacedTokens.{first_span, placed_tokens}
 use Rattle.promql_span.specs.declared.limits.LimitFault.{LimitFault}
 use Rattle.promql_span.specs.declared.limits.LimitFault.TheVariants.{Memory, TooLong, PatternsTooLarge}
 use Rattle.promql_span.specs.declared.limits.Limits.{Limits}
+use Rattle.promql_span.specs.declared.limits.LongOutput.{LongOutput}
 use Rattle.promql_span.specs.declared.span.Span.{Span}
 
 -- the measure of the pattern that is the value of a string; none where it has no value
@@ -49,3 +50,7 @@ IsLimitFault s limits Memory = Unit {0}
 IsLimitFault s limits (TooLong len most) = (len ≡ length s) × (most ≡ limits.max_len) × (most < len)
 IsLimitFault s limits (PatternsTooLarge size most place) =
     (length s ≤ limits.max_len) × (size ≡ patterns_size s) × (most ≡ limits.max_pattern_size) × (most < size) × IsAtPassing s most place
+
+-- what is printed of it is too long
+abbrev pub IsLongOutput : Text → Limits → LongOutput → Type 0
+IsLongOutput output limits fault = (fault.len ≡ length output) × (fault.most ≡ limits.max_output) × (fault.most < fault.len)

@@ -1,5 +1,5 @@
-//! The limits of a query, which are checked before it is parsed and anything of it is compiled: docs/reference/programs.md,
-//! "Limits of a query".
+//! The limits of a query, which are checked before it is parsed and anything of it is compiled, and of what is printed of it:
+//! docs/reference/programs.md, "Limits of a query".
 
 ghost use Rattle.std.specs.Prelude.{◌≡◌, ◌++◌, ◌-◌, ◌^◌, ◌&&◌, ◌==◌, [], ◌∷◌, drop, if◌then◌else◌, length, min, ℕ, IfErr, IfOk, List, MatchOption, OnOk};
 ghost use Rattle.std.specs.Prelude.{◌<◌, ◌≤◌};
@@ -24,26 +24,33 @@ pub const MAX_LEN: usize = 32_768;
 /// The greatest size of a query's patterns, unless something else is asked for.
 pub const MAX_PATTERN_SIZE: usize = 16_000;
 
-/// How long a query may be, and how large its patterns may be together.
+/// The most bytes of what is printed of a query, unless something else is asked for: 4 MiB.
+pub const MAX_OUTPUT: usize = 4_194_304;
+
+/// How long a query may be, how large its patterns may be together, and how long what is printed of it may be.
+#[repr(C)]
 #[derive(Clone, Copy, Debug, PartialEq, Eq)]
 pub struct Limits {
     /// The most bytes.
     pub max_len: usize,
     /// The greatest sum of the measures of its patterns (`promql_label::pattern_measure`).
     pub max_pattern_size: usize,
+    /// The most bytes of its text in a format.
+    pub max_output: usize,
 }
 
 impl Default for Limits {
     ghost use Rattle.std.specs.Prelude.{◌≡◌};
-    ghost use Rattle.promql_span.specs.declared.limits.TheConstants.{MAX_LEN, MAX_PATTERN_SIZE};
+    ghost use Rattle.promql_span.specs.declared.limits.TheConstants.{MAX_LEN, MAX_OUTPUT, MAX_PATTERN_SIZE};
 
-    ghost is_default = { λ l. l ≡ record { max_len = MAX_LEN; max_pattern_size = MAX_PATTERN_SIZE } };
+    ghost is_default = { λ l. l ≡ record { max_len = MAX_LEN; max_pattern_size = MAX_PATTERN_SIZE; max_output = MAX_OUTPUT } };
 
-    /// `MAX_LEN` and `MAX_PATTERN_SIZE`.
+    /// `MAX_LEN`, `MAX_PATTERN_SIZE` and `MAX_OUTPUT`.
     fn default() -> Limits {
         Limits {
             max_len: MAX_LEN,
             max_pattern_size: MAX_PATTERN_SIZE,
+            max_output: MAX_OUTPUT,
         }
     }
 }
@@ -72,6 +79,16 @@ pub enum LimitFault {
         /// The string of the pattern with which the sum is more than that.
         place: Span,
     },
+}
+
+/// What is printed of a query has too many bytes.
+#[derive(Clone, Copy, Debug, PartialEq, Eq, Error)]
+#[error("output is too long: {len} bytes, at most {most}")]
+pub struct LongOutput {
+    /// Its bytes.
+    pub len: usize,
+    /// The most that it may have.
+    pub most: usize,
 }
 
 impl From<AllocError> for LimitFault {
@@ -109,6 +126,23 @@ pub fn check_limits(alloc: Global, text: &str, limits: &Limits) -> Result<(), Li
         None => Ok(()),
         Some(place) => Err(LimitFault::PatternsTooLarge { size, most, place }),
     }
+}
+
+/// Checks that what is printed of a query is within its limits.
+///
+/// # Errors
+///
+/// `LongOutput` where it has more bytes.
+pub fn check_output(output: &str, limits: &Limits) -> Result<(), LongOutput>
+    ensures within { OnOk result (length output.now ≤ limits.now.max_output) }
+    ensures fault { IfErr result (spec.IsLongOutput output.now limits.now) }
+{
+    let len = output.len();
+    let most = limits.max_output;
+    if len > most {
+        return Err(LongOutput { len, most });
+    }
+    Ok(())
 }
 
 /// What the patterns of some tokens come to.

@@ -339,7 +339,7 @@ module _ (is_such : Text → Bool) where
   aggregate_back op m ts u e q =
       let a = aggregates op m ts u e in
       let parts = subst (TreePatterns is_such) a.is q in
-      subst (AllPatterns is_such) (sym a.all) (arguments_patterns a.param a.tree parts.1 parts.0)
+      subst (AllPatterns is_such) (sym a.all) (arguments_patterns a.param a.tree parts.0 parts.1)
 
   -- ---- any derivation
 
@@ -441,7 +441,7 @@ module _ (is_such : Text → Bool) where
 
   mutual
     pub normal_patterns : (t : Tree) → TreePatterns is_such t → TreePatterns is_such (normal t)
-    normal_patterns (aggregate op e p m) h = (normal_patterns e h.0, maybe_normal_patterns p h.1)
+    normal_patterns (aggregate op e p m) h = (maybe_normal_patterns p h.0, normal_patterns e h.1)
     normal_patterns (unary e) h = normal_patterns e h
     normal_patterns (binary op l r m) h = (normal_patterns l h.0, normal_patterns r h.1)
     normal_patterns (paren e) h = normal_patterns e h

@@ -2,6 +2,7 @@
 use Rattle.std.proofs.Common.{◌≡◌, ℕ, Bool, true, false, cond, refl, sym, subst, ◌∙◌, ap, List, [], ◌∷◌, length, Some, None}
 use Rattle.std.specs.Prelude.{Result, Ok, Err}
 use Rattle.std.proofs.lemmas.Bool.{cond-true, cond-false}
+use Rattle.std.proofs.lemmas.List.Elements.{All-nil}
 use Rattle.std.specs.declared.alloc.Global.{Global}
 use Rattle.std.specs.declared.boxed.Box.{Box}
 use Rattle.promql_text.specs.Texts.{Text}
@@ -22,7 +23,7 @@ use Rattle.promql_syntax.specs.declared.grammar.parsed.ParsedExpr.{ParsedExpr}
 use Rattle.promql_syntax.specs.ParsesPart.{ParsesAskedPart, IsBuiltBy}
 use Rattle.promql_syntax.specs.Asking.{EndsIn}
 use Rattle.promql_syntax.specs.Building.{build}
-use Rattle.promql_syntax.specs.FaultTokens.{PartsBuild, here, subexpressions}
+use Rattle.promql_syntax.specs.FaultTokens.{Builds, here, subexpressions}
 use Rattle.promql_syntax.specs.ParsesExpr.{IsExprOf, IsPlaced, ParsesBase, FailsBase, tree_result}
 use Rattle.promql_syntax.proofs.FaultPlacing.{IsWhole, whole_placed}
 use Rattle.promql_syntax.specs.PartBuilding.{braces_value}
@@ -35,11 +36,11 @@ no_braces (punct kind.LeftBrace ∷ ts) none = absurd (none refl)
 no_braces ts none = refl
 
 -- a form that holds no expression, and whose faults are about tokens of their own
-atom_of : (builds : Bool) (n k : ℕ) (parsed : ParsedExpr) (d : grammar.Derivation) → IsWhole d → PartsBuild d → subexpressions k d ≡ here k d ∷ [] → parsed.height ≡ grammar.height d → (builds ≡ true → EndsIn (build d) (tree_result parsed)) → IsExprOf builds n k parsed d
-atom_of builds n k parsed d whole parts alone tall ends = record {
+atom_of : (builds : Bool) (n k : ℕ) (parsed : ParsedExpr) (d : grammar.Derivation) → IsWhole d → subexpressions k d ≡ here k d ∷ [] → parsed.height ≡ grammar.height d → (builds ≡ true → EndsIn (build d) (tree_result parsed)) → IsExprOf builds n k parsed d
+atom_of builds n k parsed d whole alone tall ends = record {
   tall = tall;
   built = ends;
-  placed = λ on fits. subst (λ l. IsPlaced n l parsed.value) (sym alone) (whole_placed n k d [] parsed.value whole parts (ends on));
+  placed = λ on fits. subst (λ l. IsPlaced n l parsed.value) (sym alone) (whole_placed n k d [] parsed.value whole (All-nil Builds) (ends on));
 }
 
 module _ (w : TokenKind) (text : Text) (ts : List Symbol) where
@@ -47,21 +48,21 @@ module _ (w : TokenKind) (text : Text) (ts : List Symbol) where
   number_base {builds} n parsed is ends low = record {
     derivation = grammar.number text;
     is = λ k h. ap (λ v. parse_atom k h v text ts) is;
-    built = atom_of builds n (length ts) parsed (grammar.number text) tt tt refl low (λ on. ends);
+    built = atom_of builds n (length ts) parsed (grammar.number text) tt refl low (λ on. ends);
   }
 
   pub duration_base : {builds : Bool} (n : ℕ) (parsed : ParsedExpr) → w ≡ kind.Duration → EndsIn (build (grammar.duration text)) (tree_result parsed) → parsed.height ≡ 1 → ParsesBase builds n parsed ts (λ k h. parse_atom k h w text ts)
   duration_base {builds} n parsed is ends low = record {
     derivation = grammar.duration text;
     is = λ k h. ap (λ v. parse_atom k h v text ts) is;
-    built = atom_of builds n (length ts) parsed (grammar.duration text) tt tt refl low (λ on. ends);
+    built = atom_of builds n (length ts) parsed (grammar.duration text) tt refl low (λ on. ends);
   }
 
   pub string_base : {builds : Bool} (n : ℕ) (parsed : ParsedExpr) → w ≡ kind.String → EndsIn (build (grammar.string text)) (tree_result parsed) → parsed.height ≡ 1 → ParsesBase builds n parsed ts (λ k h. parse_atom k h w text ts)
   string_base {builds} n parsed is ends low = record {
     derivation = grammar.string text;
     is = λ k h. ap (λ v. parse_atom k h v text ts) is;
-    built = atom_of builds n (length ts) parsed (grammar.string text) tt tt refl low (λ on. ends);
+    built = atom_of builds n (length ts) parsed (grammar.string text) tt refl low (λ on. ends);
   }
 
   pub nameless_fails : (e : Failure) → w ≡ kind.LeftBrace → Fails e (parse_braces ts) → FailsBase e (λ k n. parse_atom k n w text ts)
@@ -72,7 +73,7 @@ module _ (w : TokenKind) (text : Text) (ts : List Symbol) where
   nameless_base {builds} n matchers us parsed is read built low = record {
     derivation = grammar.nameless read.part;
     is = λ k h. ap (λ v. parse_atom k h v text ts) is ∙ ap (λ o. o then λ b. parse_postfixes k h (grammar.nameless b.0) b.1) read.is;
-    built = atom_of builds n (length us) parsed (grammar.nameless read.part) tt tt refl low (λ on. built read.part (read.built on));
+    built = atom_of builds n (length us) parsed (grammar.nameless read.part) tt refl low (λ on. built read.part (read.built on));
   }
 
   named_read : (k n : ℕ) → may_be_name w ≡ true → parse_selector k n w text ts ≡ (parse_optional_braces ts then λ x. parse_postfixes k n (grammar.selector w text x.0) x.1)
@@ -83,7 +84,7 @@ module _ (w : TokenKind) (text : Text) (ts : List Symbol) where
   bare_base {builds} n parsed may none built low = record {
     derivation = grammar.selector w text None;
     is = λ k h. named_read k h may ∙ ap (λ o. o then λ x. parse_postfixes k h (grammar.selector w text x.0) x.1) (no_braces ts none);
-    built = atom_of builds n (length ts) parsed (grammar.selector w text None) tt tt refl low (λ on. built w);
+    built = atom_of builds n (length ts) parsed (grammar.selector w text None) tt refl low (λ on. built w);
   }
 
   pub selected_fails : (e : Failure) → Fails e (parse_braces ts) → FailsBase e (λ k n. parse_selector_braces k n w text ts)
@@ -94,7 +95,7 @@ module _ (w : TokenKind) (text : Text) (ts : List Symbol) where
   selected_base {builds} n matchers us parsed read built low = record {
     derivation = grammar.selector w text (Some read.part);
     is = λ k h. ap (λ o. o then λ b. parse_postfixes k h (grammar.selector w text (Some b.0)) b.1) read.is;
-    built = atom_of builds n (length us) parsed (grammar.selector w text (Some read.part)) tt tt refl low (λ on. built w read.part (read.built on));
+    built = atom_of builds n (length us) parsed (grammar.selector w text (Some read.part)) tt refl low (λ on. built w read.part (read.built on));
   }
 
 -- a token that is no name, and one that is

@@ -1,8 +1,7 @@
 -- Where the fault of an expression is: in a part of it, or its own.
-use Rattle.std.proofs.Common.{◌≡◌, ℕ, ◌+◌, refl, sym, subst, List, [], ◌∷◌, ◌++◌, None}
-use Rattle.std.specs.Prelude.{Result, Ok, Err}
-use Rattle.std.specs.List.{Contains}
-use Rattle.std.proofs.lemmas.List.Elements.{Contains-append_left, Contains-append_right, Contains-push}
+use Rattle.std.proofs.Common.{◌≡◌, ◌∙◌, ℕ, ◌+◌, refl, sym, ap, subst, List, [], ◌∷◌, ◌++◌, append_assoc, None}
+use Rattle.std.specs.Prelude.{All, Result, Ok, Err}
+use Rattle.std.proofs.lemmas.List.Elements.{All-append, All-push}
 use Rattle.std.specs.declared.alloc.Global.{Global}
 use Rattle.std.specs.declared.boxed.Box.{Box}
 use Rattle.promql_ast.specs.Faults as trees
@@ -12,50 +11,68 @@ use Rattle.promql_grammar.specs.GrammarParts as part
 use Rattle.promql_syntax.specs.Asking.{EndsIn}
 use Rattle.promql_syntax.specs.BuildErrors.{BuildError, number, quoted, duration, at, pattern, unknown_function, check, build_error_of}
 use Rattle.promql_syntax.specs.Building.{build}
-use Rattle.promql_syntax.specs.FaultTokens.{PartsBuild, Subexpression, fault_tokens, here}
+use Rattle.promql_ast.specs.View.{tree_of}
+use Rattle.promql_syntax.specs.FaultTokens.{Builds, Subexpression, fault_tokens, here}
 use Rattle.promql_syntax.specs.ParsesExpr.{IsFaultIn, IsPlaced, view_boxed}
 use Rattle.promql_syntax.specs.Placing.{AreTokens}
 use Rattle.promql_syntax.specs.declared.grammar.build_error.BuildError as code
 use Rattle.promql_syntax.specs.declared.grammar.place.Place.{Place}
 
--- ---- elements
-
-pub first_of : (x : Subexpression) (xs : List Subexpression) → Contains (x ∷ xs) x
-first_of x xs = Contains-append_left (x ∷ []) xs x (Contains-push [] x)
-
-abbrev pub Within : List Subexpression → List Subexpression → Type 0
-Within subs more = (s : Subexpression) → Contains subs s → Contains more s
-
-pub after_first : (x : Subexpression) (xs : List Subexpression) → Within xs (x ∷ xs)
-after_first x xs = λ s is. Contains-append_right (x ∷ []) xs s is
-
-pub on_left : (xs ys : List Subexpression) → Within xs (xs ++ ys)
-on_left xs ys = λ s is. Contains-append_left xs ys s is
-
-pub on_right : (xs ys : List Subexpression) → Within ys (xs ++ ys)
-on_right xs ys = λ s is. Contains-append_right xs ys s is
-
 -- ---- a fault in a part
 
-pub lifted : (n : ℕ) (subs more : List Subexpression) (e : code.BuildError) → Within subs more → IsFaultIn n subs e → IsFaultIn n more e
-lifted n subs more e within fault = record { sub = fault.sub; is = within fault.sub fault.is; fault = fault.fault; place = fault.place }
+-- in the first of two lists
+pub in_first : (n : ℕ) (xs ys : List Subexpression) (e : code.BuildError) → IsFaultIn n xs e → IsFaultIn n (xs ++ ys) e
+in_first n xs ys e fault =
+    let found = fault.first in
+    record {
+      sub = fault.sub;
+      first = record {
+        before = found.before;
+        rest = found.rest ++ ys;
+        are = ap (λ l. l ++ ys) found.are ∙ append_assoc found.before (fault.sub ∷ found.rest) ys;
+        built = found.built;
+        fails = found.fails;
+      };
+      place = fault.place;
+    }
 
-pub passed_on : {V W : Type 0} (n : ℕ) (subs more : List Subexpression) (held : Result V (Box code.BuildError Global)) (made : Result W (Box code.BuildError Global)) (e : Box code.BuildError Global) → held ≡ Err e → made ≡ Err e → Within subs more → IsPlaced n subs held → IsPlaced n more made
-passed_on n subs more held made e is made_is within placed =
-    subst (λ r. IsPlaced n more r) (sym made_is) (lifted n subs more e.value within (subst (λ r. IsPlaced n subs r) is placed))
+-- in the second, where all of the first build
+pub in_second : (n : ℕ) (xs ys : List Subexpression) (e : code.BuildError) → All Builds xs → IsFaultIn n ys e → IsFaultIn n (xs ++ ys) e
+in_second n xs ys e build fault =
+    let found = fault.first in
+    record {
+      sub = fault.sub;
+      first = record {
+        before = xs ++ found.before;
+        rest = found.rest;
+        are = ap (λ l. xs ++ l) found.are ∙ sym (append_assoc xs found.before (fault.sub ∷ found.rest));
+        built = All-append Builds xs found.before build found.built;
+        fails = found.fails;
+      };
+      place = fault.place;
+    }
 
-pub none_placed : {V : Type 0} (n : ℕ) (subs : List Subexpression) (made : Result V (Box code.BuildError Global)) (x : V) → made ≡ Ok x → IsPlaced n subs made
-none_placed n subs made x is = subst (λ r. IsPlaced n subs r) (sym is) tt
+pub second_placed : {V : Type 0} (n : ℕ) (xs ys : List Subexpression) (held : Result V (Box code.BuildError Global)) → All Builds xs → IsPlaced n ys held → IsPlaced n (xs ++ ys) held
+second_placed n xs ys (Ok x) build placed = All-append Builds xs ys build placed
+second_placed n xs ys (Err e) build placed = in_second n xs ys e.value build placed
+
+-- the parts of what is built build
+pub parts_built : {V : Type 0} (n : ℕ) (subs : List Subexpression) (held : Result V (Box code.BuildError Global)) (x : V) → held ≡ Ok x → IsPlaced n subs held → All Builds subs
+parts_built n subs held x is placed = subst (λ r. IsPlaced n subs r) is placed
+
+-- an error of the parts is the whole's
+pub passed_on : {V W : Type 0} (n : ℕ) (subs more : List Subexpression) (held : Result V (Box code.BuildError Global)) (made : Result W (Box code.BuildError Global)) (e : Box code.BuildError Global) → held ≡ Err e → made ≡ Err e → IsPlaced n subs held → IsPlaced n (subs ++ more) made
+passed_on n subs more held made e is made_is placed =
+    subst (λ r. IsPlaced n (subs ++ more) r) (sym made_is) (in_first n subs more e.value (subst (λ r. IsPlaced n subs r) is placed))
 
 -- ---- a fault of its own
 
-pub own_placed : (n k : ℕ) (d : grammar.Derivation) (more : List Subexpression) (made : Result (Box Expr Global) (Box code.BuildError Global)) → PartsBuild d → EndsIn (build d) (view_boxed made)
-    → ((e : Box code.BuildError Global) → made ≡ Err e → AreTokens n (fault_tokens (build_error_of e.value) k d) e.value.place) → IsPlaced n (here k d ∷ more) made
-own_placed n k d more (Ok x) parts ends place = tt
-own_placed n k d more (Err e) parts ends place = record {
+pub own_placed : (n k : ℕ) (d : grammar.Derivation) (parts : List Subexpression) (made : Result (Box Expr Global) (Box code.BuildError Global)) → All Builds parts → EndsIn (build d) (view_boxed made)
+    → ((e : Box code.BuildError Global) → made ≡ Err e → AreTokens n (fault_tokens (build_error_of e.value) k d) e.value.place) → IsPlaced n (parts ++ here k d ∷ []) made
+own_placed n k d parts (Ok x) built ends place = All-push Builds parts (here k d) built (tree_of x.value, ends)
+own_placed n k d parts (Err e) built ends place = record {
   sub = here k d;
-  is = first_of (here k d) more;
-  fault = record { parts = parts; fails = ends };
+  first = record { before = parts; rest = []; are = refl; built = built; fails = ends };
   place = place e refl;
 }
 
@@ -86,5 +103,5 @@ none_whole d k (check f) is = refl
 pub no_tokens : (n : ℕ) (left : _) (place : Place) → left ≡ None → AreTokens n left place
 no_tokens n left place none = subst (λ o. AreTokens n o place) (sym none) tt
 
-pub whole_placed : (n k : ℕ) (d : grammar.Derivation) (more : List Subexpression) (made : Result (Box Expr Global) (Box code.BuildError Global)) → IsWhole d → PartsBuild d → EndsIn (build d) (view_boxed made) → IsPlaced n (here k d ∷ more) made
-whole_placed n k d more made whole parts ends = own_placed n k d more made parts ends (λ e is. no_tokens n _ e.value.place (none_whole d k (build_error_of e.value) whole))
+pub whole_placed : (n k : ℕ) (d : grammar.Derivation) (parts : List Subexpression) (made : Result (Box Expr Global) (Box code.BuildError Global)) → IsWhole d → All Builds parts → EndsIn (build d) (view_boxed made) → IsPlaced n (parts ++ here k d ∷ []) made
+whole_placed n k d parts made whole built ends = own_placed n k d parts made built ends (λ e is. no_tokens n _ e.value.place (none_whole d k (build_error_of e.value) whole))

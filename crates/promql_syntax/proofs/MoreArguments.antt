@@ -1,6 +1,5 @@
 -- Building arguments with one more after them.
 use Rattle.std.proofs.Common.{◌≡◌, ◌⊎◌, ℕ, ◌+◌, ◌<◌, ◌^◌, ◌∙◌, Bool, true, inl, inr, ⊎_elim, max, refl, sym, ap, ap₂, subst, arith, List, [], ◌∷◌, ◌++◌, map, length, append-nil, append_assoc}
-use Rattle.std.specs.List.{Contains}
 use Rattle.std.specs.Prelude.{Result, Ok, Err}
 use Rattle.promql_ast.specs.Arguments.{append_tree}
 use Rattle.promql_ast.specs.View.{trees}
@@ -13,8 +12,7 @@ use Rattle.promql_syntax.specs.BuildErrors.{BuildError}
 use Rattle.promql_syntax.specs.ParsesExpr.{IsExprOf, AreArgsOf, trees_result, append_derivation, IsPlaced}
 use Rattle.promql_syntax.specs.declared.grammar.parsed.ParsedExpr.{ParsedExpr}
 use Rattle.promql_syntax.specs.declared.grammar.parsed.ParsedArgs.{ParsedArgs}
-use Rattle.promql_syntax.specs.FaultTokens.{rest_count, subexpressions, subexpressions_of}
-use Rattle.promql_syntax.proofs.FaultPlacing.{Within, on_left, on_right}
+use Rattle.promql_syntax.specs.FaultTokens.{Subexpression, rest_count, subexpressions, subexpressions_of}
 use Rattle.promql_syntax.proofs.Ending.{then_value, then_fault, ends_known}
 
 -- ---- what comes first ends in an error, or in a value that leads on
@@ -158,11 +156,8 @@ append_subexpressions k (grammar.more e ds) d =
     ap₂ (λ xs ys. xs ++ ys) (ap (λ j. subexpressions j e) counts) (append_subexpressions k ds d)
     ∙ sym (append_assoc (subexpressions (rest_count ds + (1 + (length (yield d) + k))) e) (subexpressions_of (1 + (length (yield d) + k)) ds) (subexpressions k d))
 
-pub in_first : (k : ℕ) (ds : grammar.Arguments) (d : grammar.Derivation) → Within (subexpressions_of (1 + (length (yield d) + k)) ds) (subexpressions_of k (append_derivation ds d))
-in_first k ds d = λ s is. subst (λ l. Contains l s) (sym (append_subexpressions k ds d)) (on_left (subexpressions_of (1 + (length (yield d) + k)) ds) (subexpressions k d) s is)
-
-pub in_last : (k : ℕ) (ds : grammar.Arguments) (d : grammar.Derivation) → Within (subexpressions k d) (subexpressions_of k (append_derivation ds d))
-in_last k ds d = λ s is. subst (λ l. Contains l s) (sym (append_subexpressions k ds d)) (on_right (subexpressions_of (1 + (length (yield d) + k)) ds) (subexpressions k d) s is)
+pub appended : (P : List Subexpression → Type 0) (k : ℕ) (ds : grammar.Arguments) (d : grammar.Derivation) → P (subexpressions_of (1 + (length (yield d) + k)) ds ++ subexpressions k d) → P (subexpressions_of k (append_derivation ds d))
+appended P k ds d = subst P (sym (append_subexpressions k ds d))
 
 pub appended_trees : {X : Type 0} (f : X → Tree) (xs : List X) (x : X) → trees (map f (xs ++ x ∷ [])) ≡ append_tree (trees (map f xs)) (f x)
 appended_trees f [] x = refl

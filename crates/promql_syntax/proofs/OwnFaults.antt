@@ -1,6 +1,6 @@
 -- The tokens of a fault of an operator, a postfix or a call.
-use Rattle.std.proofs.Common.{◌≡◌, ℕ, ◌+◌, ◌<◌, ◌^◌, refl, sym, subst, arith, ◌∷◌, Some, None, length}
-use Rattle.std.specs.Prelude.{Result, Ok, Err, IfErr, IfOk, IfSome, MatchResult, Option}
+use Rattle.std.proofs.Common.{◌≡◌, ℕ, ◌+◌, ◌<◌, ◌^◌, refl, sym, subst, arith, List, [], ◌∷◌, ◌++◌, Some, None, length}
+use Rattle.std.specs.Prelude.{All, Result, Ok, Err, IfErr, IfOk, IfSome, MatchResult, Option}
 use Rattle.std.specs.declared.alloc.Global.{Global}
 use Rattle.std.specs.declared.boxed.Box.{Box}
 use Rattle.promql_text.specs.Texts.{Text}
@@ -18,16 +18,16 @@ use Rattle.promql_grammar.specs.GrammarParts.{yield_postfix}
 use Rattle.promql_syntax.specs.Asking.{EndsIn}
 use Rattle.promql_syntax.specs.BuildErrors.{BuildError, number, quoted, duration, at, pattern, unknown_function, check, build_error_of, view_result}
 use Rattle.promql_syntax.specs.Building.{build}
-use Rattle.promql_syntax.specs.FaultTokens.{PartsBuild, fault_tokens, here, subexpressions}
+use Rattle.promql_syntax.specs.FaultTokens.{Builds, Subexpression, fault_tokens, here}
 use Rattle.promql_syntax.specs.ParsesExpr.{IsPlaced, view_boxed}
 use Rattle.promql_syntax.specs.PartBuilding.{modifier_value}
-use Rattle.promql_syntax.specs.Placing.{AreTokens, HasModifierPlace, IsCallAt, IsCheck, IsModifierAt, IsPostfixAt, left_after, modifier_place, tokens_between}
+use Rattle.promql_syntax.specs.Placing.{AreTokens, HasModifierPlace, IsCallAt, IsCheck, IsModifierAt, IsPostfixAt, modifier_place, tokens_between}
 use Rattle.promql_syntax.specs.Postfixes.{IsMomentAt, change_of, change_value}
 use Rattle.promql_syntax.specs.declared.grammar.build_error.BuildError as code
 use Rattle.promql_syntax.specs.declared.grammar.place.Extent.{Extent}
 use Rattle.promql_syntax.specs.declared.grammar.place.Place.{Place}
 use Rattle.promql_syntax.specs.declared.grammar.postfix.Postfix as code_postfix
-use Rattle.promql_syntax.proofs.FaultPlacing.{Within, after_first, on_left, on_right, no_tokens, own_placed}
+use Rattle.promql_syntax.proofs.FaultPlacing.{no_tokens, own_placed}
 use Rattle.promql_syntax.proofs.TokenFaults.{FailsByToken, IsPartFault, IsTokenFault, change_by, modifier_by, none_by_token}
 
 pub if_ok_all : {X E : Type 0} {P Q S R : X → Type 0} (r : Result X E) → IfOk r P → IfOk r Q → IfOk r S → ((x : X) → P x → Q x → S x → R x) → IfOk r R
@@ -39,20 +39,14 @@ pub of_error : {X E : Type 0} (P : E → Type 0) (r : Result X E) (e : E) → r 
 of_error P r e is holds = subst (λ v. IfErr v P) is holds
 
 -- an error that was made
-pub error_placed : (n k : ℕ) (d : grammar.Derivation) (more : _) (made : Result (Box Expr Global) (Box code.BuildError Global)) (e : Box code.BuildError Global) → made ≡ Err e → PartsBuild d → EndsIn (build d) (view_boxed made)
-    → AreTokens n (fault_tokens (build_error_of e.value) k d) e.value.place → IsPlaced n (here k d ∷ more) made
-error_placed n k d more made e is parts ends place =
-    own_placed n k d more made parts ends (λ f same. let one : f ≡ e = cc in subst (λ g. AreTokens n (fault_tokens (build_error_of g.value) k d) g.value.place) (sym one) place)
+pub error_placed : (n k : ℕ) (d : grammar.Derivation) (parts : List Subexpression) (made : Result (Box Expr Global) (Box code.BuildError Global)) (e : Box code.BuildError Global) → made ≡ Err e → All Builds parts → EndsIn (build d) (view_boxed made)
+    → AreTokens n (fault_tokens (build_error_of e.value) k d) e.value.place → IsPlaced n (parts ++ here k d ∷ []) made
+error_placed n k d parts made e is built ends place =
+    own_placed n k d parts made built ends (λ f same. let one : f ≡ e = cc in subst (λ g. AreTokens n (fault_tokens (build_error_of g.value) k d) g.value.place) (sym one) place)
 
 -- ---- operators
 
 module _ (k op : ℕ) (text : Text) (m : part.Modifier) (l r : grammar.Derivation) where
-  pub in_left : Within (subexpressions (left_after k m r) l) (subexpressions k (grammar.binary op text m l r))
-  in_left = λ s is. after_first (here k (grammar.binary op text m l r)) _ s (on_left (subexpressions (left_after k m r) l) (subexpressions k r) s is)
-
-  pub in_right : Within (subexpressions k r) (subexpressions k (grammar.binary op text m l r))
-  in_right = λ s is. after_first (here k (grammar.binary op text m l r)) _ s (on_right (subexpressions (left_after k m r) l) (subexpressions k r) s is)
-
   module _ (n : ℕ) (extent : Extent) (there : IsModifierAt n k extent m r) (fits : n < 2 ^ 64) where
     at_modifier : (place : Place) → place ≡ tokens_between extent.modifier extent.right → AreTokens n (fault_tokens (check trees.bool_modifier) k (grammar.binary op text m l r)) place
     at_modifier place same = subst (AreTokens n (fault_tokens (check trees.bool_modifier) k (grammar.binary op text m l r))) (sym same) (there fits)

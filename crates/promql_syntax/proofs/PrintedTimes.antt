@@ -14,7 +14,8 @@ use Rattle.promql_ast.specs.AtTimes.{at_of_millis, at_of_number}
 use Rattle.promql_ast.specs.Shifts.{Shift, back, ahead, Moment, at_time, time_text}
 use Rattle.promql_ast.proofs.PrintedMoments.{millis_fits, size_reads, size_text}
 use Rattle.promql_syntax.specs.Building.{bound_moment}
-use Rattle.promql_syntax.specs.PartBuilding.{at_fault, moment_value, number_fault, number_value, shift, shift_value, signed_number, time_value}
+use Rattle.promql_syntax.specs.BuildErrors as errors
+use Rattle.promql_syntax.specs.PartBuilding.{at_fault, moment_value, number_value, shift, shift_value, signed_number, time_value, on_error}
 use Rattle.promql_grammar.specs.GrammarParts.{is_minus}
 use Rattle.promql_syntax.proofs.PrintedParts.{seconds_text, sign}
 use Rattle.promql_syntax.proofs.Printable.{IsMoment, IsShift}
@@ -41,8 +42,8 @@ unfolding seconds_text
 seconds_are t = sym (size_text (unsigned_abs t))
 
 number_after : (b : Bool) (text : Text) (n : Number) → read_number text ≡ Ok n → signed_number (sign b) text ≡ Ok (cond b (neg n) n)
-number_after true text n e = then_leads (number_value text) _ n _ (ap number_fault e) refl
-number_after false text n e = then_leads (number_value text) _ n _ (ap number_fault e) refl
+number_after true text n e = then_leads (number_value text) _ n _ (ap (on_error errors.number) e) refl
+number_after false text n e = then_leads (number_value text) _ n _ (ap (on_error errors.number) e) refl
 
 moment_again : (t : ℤ) → FitsSigned w64 t → IsMoment (at_time t)
 moment_again t fits =

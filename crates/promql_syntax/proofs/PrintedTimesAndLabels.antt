@@ -26,7 +26,8 @@ use Rattle.promql_text.proofs.ShortNumbers.{zeroless}
 use Rattle.promql_grammar.specs.Results.{◌then◌}
 use Rattle.promql_grammar.specs.GrammarParts as part
 use Rattle.promql_syntax.specs.BuildErrors.{BuildError}
-use Rattle.promql_syntax.specs.PartBuilding.{string_value, number_value, number_fault, signed_number, duration_value, duration_fault, time_value, step_value}
+use Rattle.promql_syntax.specs.BuildErrors as errors
+use Rattle.promql_syntax.specs.PartBuilding.{string_value, number_value, signed_number, duration_value, time_value, step_value, on_error}
 use Rattle.promql_grammar.specs.GrammarParts.{is_minus}
 use Rattle.promql_syntax.proofs.PrintedParts.{sign, magnitude, time}
 use Rattle.promql_syntax.proofs.SingleAnswers.{then_steps, then_leads, same_ok}
@@ -64,12 +65,12 @@ below_zero NaN is minus = cc
 pub number_is : (text : Text) (n : Number) → number_value text ≡ Ok n → (read_number text ≡ Ok n) × IsNumber n
 number_is text n e = go (read_number text) refl e
   where
-    go : (r : Result Number NumberFault) → read_number text ≡ r → number_fault r ≡ Ok n → (read_number text ≡ Ok n) × IsNumber n
+    go : (r : Result Number NumberFault) → read_number text ≡ r → on_error errors.number r ≡ Ok n → (read_number text ≡ Ok n) × IsNumber n
     go (Ok m) is e = let same : m ≡ n = cc in let both : read_number text ≡ Ok n = is ∙ ap Ok same in (both, read_in_form text n both)
     go (Err f) is e = cc
 
 pub number_again : (n : Number) → IsNumber n → number_value (number_text n) ≡ Ok n
-number_again n is = ap number_fault (reads_back n is)
+number_again n is = ap (on_error errors.number) (reads_back n is)
 
 -- a sign and the number without it are the number
 pub signed_again : (n : Number) → IsNumber n → signed_number (sign (is_below_zero n)) (number_text (magnitude n)) ≡ Ok n
@@ -129,7 +130,7 @@ duration_is s n e = go (length s == 0) e
 duration_value_is : (s : Text) (n : ℕ) → duration_value s ≡ Ok n → IsTime n
 duration_value_is s n e = go (duration_of s) refl e
   where
-    go : (r : Result ℕ DurationFault) → duration_of s ≡ r → duration_fault r ≡ Ok n → IsTime n
+    go : (r : Result ℕ DurationFault) → duration_of s ≡ r → on_error errors.duration r ≡ Ok n → IsTime n
     go (Ok m) is e = let same : m ≡ n = cc in subst IsTime same (duration_is s m is)
     go (Err f) is e = cc
 
@@ -138,7 +139,7 @@ time_is (part.seconds text) n e = duration_value_is text n e
 time_is (part.duration text) n e = duration_value_is text n e
 
 duration_again : (n : ℕ) → IsTime n → duration_value (duration_text n) ≡ Ok n
-duration_again n is = ap duration_fault (duration_reads n is.some is.less)
+duration_again n is = ap (on_error errors.duration) (duration_reads n is.some is.less)
 
 pub time_again : (n : ℕ) → IsTime n → time_value (time n) ≡ Ok n
 time_again n is = go (n % nanos_of Milli == 0)

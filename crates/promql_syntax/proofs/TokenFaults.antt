@@ -19,7 +19,8 @@ use Rattle.promql_ast.specs.declared.at_modifier.AtFault.{AtFault}
 use Rattle.promql_ast.specs.declared.at_modifier.AtModifier.{AtModifier}
 use Rattle.promql_syntax.specs.BuildErrors.{BuildError, number, quoted, duration, at, pattern, unknown_function, check}
 use Rattle.promql_syntax.specs.FaultTokens.{fault_tokens}
-use Rattle.promql_syntax.specs.PartBuilding.{unquoted_or_error, string_value, number_fault, number_value, signed_number, label_value, name_values, label_values, group_value, matching_value, fill_value, fills_value, is_blank, modifier_value, duration_fault, time_value, step_value, shift_value, at_fault, moment_value}
+use Rattle.promql_syntax.specs.BuildErrors as errors
+use Rattle.promql_syntax.specs.PartBuilding.{unquoted_or_error, string_value, number_value, signed_number, label_value, name_values, label_values, group_value, matching_value, fill_value, fills_value, is_blank, modifier_value, time_value, step_value, shift_value, at_fault, moment_value, on_error}
 use Rattle.promql_syntax.specs.Postfixes.{change_value}
 
 abbrev pub IsTokenFault : BuildError → Type 0
@@ -45,7 +46,7 @@ unquoted_by None = tt
 string_by : (text : Text) → FailsByToken (string_value text)
 string_by text = unquoted_by (unquoted_text text)
 
-number_by : (r : Result Number NumberFault) → FailsByToken (number_fault r)
+number_by : (r : Result Number NumberFault) → FailsByToken (on_error errors.number r)
 number_by (Ok n) = tt
 number_by (Err f) = tt
 
@@ -100,7 +101,7 @@ abbrev pub IsPartFault : BuildError → Type 0
 IsPartFault (check f) = ⊥
 IsPartFault e = Unit {0}
 
-duration_by : {A : Type 0} (r : Result A DurationFault) → IfErr (duration_fault r) IsPartFault
+duration_by : {A : Type 0} (r : Result A DurationFault) → IfErr (on_error errors.duration r) IsPartFault
 duration_by (Ok n) = tt
 duration_by (Err f) = tt
 
@@ -112,7 +113,7 @@ step_by : (s : Option part.Time) → IfErr (step_value s) IsPartFault
 step_by None = tt
 step_by (Some t) = by_then IsPartFault (time_value t) _ (time_by t) (λ n. tt)
 
-number_part : (r : Result Number NumberFault) → IfErr (number_fault r) IsPartFault
+number_part : (r : Result Number NumberFault) → IfErr (on_error errors.number r) IsPartFault
 number_part (Ok n) = tt
 number_part (Err f) = tt
 

@@ -1,5 +1,6 @@
 -- Building that asks `regex` about patterns (docs/reference/grammar.md, "Answers about patterns").
 use Rattle.std.specs.Prelude.{◌≡◌, List, [], ◌∷◌, Result, Ok, Err}
+use Rattle.std.specs.List.{AllByRecursion}
 use Rattle.promql_text.specs.Texts.{Text}
 use Rattle.promql_label.specs.Answers.{Answer, Allows}
 use Rattle.promql_syntax.specs.BuildErrors.{BuildError}
@@ -29,8 +30,7 @@ pub record Asked : Type 0 where
 
 -- `regex` allows each of the answers
 abbrev pub AreAllowed : List Asked → Type 0
-AreAllowed [] = Unit {0}
-AreAllowed (a ∷ more) = Allows a.about a.answer × AreAllowed more
+AreAllowed = AllByRecursion (λ a. Allows a.about a.answer)
 
 -- the questions are these, in this order, and with these answers the end is the result
 abbrev pub Ends : {A : Type 0} → Asking A → List Asked → Result A BuildError → Type 0
@@ -49,8 +49,7 @@ under answers (asks v next) = under answers (next (answers v))
 
 -- each answer of the list is the pattern's one answer
 abbrev pub AreAnswersOf : (Text → Answer) → List Asked → Type 0
-AreAnswersOf answers [] = Unit {0}
-AreAnswersOf answers (a ∷ more) = (a.answer ≡ answers a.about) × AreAnswersOf answers more
+AreAnswersOf answers = AllByRecursion (λ a. a.answer ≡ answers a.about)
 
 -- building ends in the result, with answers that are allowed
 pub record EndsIn {A : Type 0} (building : Asking A) (result : Result A BuildError) : Type 0 where

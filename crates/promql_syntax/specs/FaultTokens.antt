@@ -1,15 +1,15 @@
 -- Which tokens a fault of building is about (docs/reference/grammar.md, "Places of errors"). Places in a text are told by how many of its
 -- tokens are left.
-use Rattle.std.specs.Prelude.{ℕ, ◌+◌, Option, Some, None, List, [], ◌∷◌, ◌++◌, length, Ok, Err}
+use Rattle.std.specs.Prelude.{◌≡◌, ℕ, ◌+◌, Option, Some, None, List, [], ◌∷◌, ◌++◌, All, length, Ok, Err}
 use Rattle.promql_grammar.specs.Grammar as grammar
 use Rattle.promql_grammar.specs.Grammar.{Derivation, Arguments, yield, yield_arguments}
 use Rattle.promql_grammar.specs.GrammarParts as part
 use Rattle.promql_grammar.specs.GrammarParts.{yield_after, yield_modifier, yield_postfix, yield_signed}
 use Rattle.promql_ast.specs.Faults.{node, bool_modifier, label_twice, no_grouping, vector_matching}
-use Rattle.promql_ast.specs.Tree.{Tree, Trees}
+use Rattle.promql_ast.specs.Tree.{Tree}
 use Rattle.promql_syntax.specs.Asking.{EndsIn}
 use Rattle.promql_syntax.specs.BuildErrors.{BuildError, at, check, unknown_function}
-use Rattle.promql_syntax.specs.Building.{build, build_all}
+use Rattle.promql_syntax.specs.Building.{build}
 
 -- an expression in another, and how many tokens come after it
 pub record Subexpression : Type 0 where
@@ -25,17 +25,17 @@ rest_count grammar.none = 0
 rest_count (grammar.more d ds) = 1 + (length (yield d) + rest_count ds)
 
 abbrev mutual
-  -- those of an expression that k tokens come after, itself first
+  -- those of an expression that k tokens come after, in the order in which they are built: itself after its parts
   pub subexpressions : ℕ → Derivation → List Subexpression
-  subexpressions k (grammar.paren d) = here k (grammar.paren d) ∷ subexpressions (1 + k) d
-  subexpressions k (grammar.call w text ds) = here k (grammar.call w text ds) ∷ subexpressions_of (1 + k) ds
+  subexpressions k (grammar.paren d) = subexpressions (1 + k) d ++ here k (grammar.paren d) ∷ []
+  subexpressions k (grammar.call w text ds) = subexpressions_of (1 + k) ds ++ here k (grammar.call w text ds) ∷ []
   subexpressions k (grammar.aggregate op text c ds) =
-      here k (grammar.aggregate op text c ds) ∷ subexpressions_of (1 + (length (yield_after c) + k)) ds
-  subexpressions k (grammar.postfixed d p) = here k (grammar.postfixed d p) ∷ subexpressions (length (yield_postfix p) + k) d
-  subexpressions k (grammar.unary op text d) = here k (grammar.unary op text d) ∷ subexpressions k d
+      subexpressions_of (1 + (length (yield_after c) + k)) ds ++ here k (grammar.aggregate op text c ds) ∷ []
+  subexpressions k (grammar.postfixed d p) = subexpressions (length (yield_postfix p) + k) d ++ here k (grammar.postfixed d p) ∷ []
+  subexpressions k (grammar.unary op text d) = subexpressions k d ++ here k (grammar.unary op text d) ∷ []
   subexpressions k (grammar.binary op text m l r) =
-      here k (grammar.binary op text m l r)
-      ∷ (subexpressions (1 + (length (yield_modifier m) + (length (yield r) + k))) l ++ subexpressions k r)
+      (subexpressions (1 + (length (yield_modifier m) + (length (yield r) + k))) l ++ subexpressions k r)
+      ++ here k (grammar.binary op text m l r) ∷ []
   subexpressions k d = here k d ∷ []
 
   -- those of arguments that k tokens come after
@@ -43,18 +43,16 @@ abbrev mutual
   subexpressions_of k grammar.none = []
   subexpressions_of k (grammar.more d ds) = subexpressions (rest_count ds + k) d ++ subexpressions_of k ds
 
-abbrev pub Builds : Derivation → Type 0
-Builds d = (t : Tree) × EndsIn (build d) (Ok t)
+abbrev pub Builds : Subexpression → Type 0
+Builds sub = (t : Tree) × EndsIn (build sub.derivation) (Ok t)
 
--- the expressions in it build
-abbrev pub PartsBuild : Derivation → Type 0
-PartsBuild (grammar.paren d) = Builds d
-PartsBuild (grammar.call w text ds) = (ts : Trees) × EndsIn (build_all ds) (Ok ts)
-PartsBuild (grammar.aggregate op text c ds) = (ts : Trees) × EndsIn (build_all ds) (Ok ts)
-PartsBuild (grammar.postfixed d p) = Builds d
-PartsBuild (grammar.unary op text d) = Builds d
-PartsBuild (grammar.binary op text m l r) = Builds l × Builds r
-PartsBuild d = Unit {0}
+-- the first of these that does not build has the fault
+pub record IsFirstFault (fault : BuildError) (subs : List Subexpression) (sub : Subexpression) : Type 0 where
+  pub before : List Subexpression
+  pub rest : List Subexpression
+  pub are : subs ≡ before ++ sub ∷ rest
+  pub built : All Builds before
+  pub fails : EndsIn (build sub.derivation) (Err fault)
 
 -- the tokens that a fault of an expression is about, where it is told which: how many are left from the first of them, and after the last
 abbrev modifier_tokens : ℕ → part.Modifier → Derivation → Option (ℕ × ℕ)
@@ -70,8 +68,3 @@ fault_tokens (check (label_twice label)) k (grammar.binary op text m l r) = modi
 fault_tokens (check (no_grouping set)) k (grammar.binary op text m l r) = modifier_tokens k m r
 fault_tokens (check vector_matching) k (grammar.binary op text m l r) = modifier_tokens k m r
 fault_tokens fault k d = None
-
--- one of these has the fault, though what is in it builds
-pub record IsFaultOf (fault : BuildError) (sub : Subexpression) : Type 0 where
-  pub parts : PartsBuild sub.derivation
-  pub fails : EndsIn (build sub.derivation) (Err fault)

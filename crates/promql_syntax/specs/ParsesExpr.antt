@@ -1,6 +1,5 @@
 -- What the parser's functions return, beside what parsing gives. Private: nothing rests on believing it.
-use Rattle.std.specs.Prelude.{◌≡◌, ◌+◌, ◌<◌, ◌≤◌, ◌^◌, ℕ, Bool, true, length, List, Option, Some, None, Result, Ok, Err, MatchResult}
-use Rattle.std.specs.List.{Contains}
+use Rattle.std.specs.Prelude.{◌≡◌, ◌+◌, ◌<◌, ◌≤◌, ◌^◌, ℕ, Bool, true, length, List, All, Option, Some, None, Result, Ok, Err, MatchResult}
 use Rattle.promql_grammar.specs.Failures.{Fails, Failure}
 use Rattle.promql_ast.specs.Faults.{Verdict, passes, rejected}
 use Rattle.promql_ast.specs.Tree.{Tree, Trees}
@@ -21,7 +20,7 @@ use Rattle.promql_syntax.specs.declared.grammar.parsed.ParsedExpr.{ParsedExpr}
 use Rattle.promql_syntax.specs.Asking.{EndsIn}
 use Rattle.promql_syntax.specs.Building.{build, build_all}
 use Rattle.promql_syntax.specs.BuildErrors.{BuildError, build_error_of, check, view_result}
-use Rattle.promql_syntax.specs.FaultTokens.{IsFaultOf, Subexpression, fault_tokens, subexpressions, subexpressions_of}
+use Rattle.promql_syntax.specs.FaultTokens.{Builds, IsFirstFault, Subexpression, fault_tokens, subexpressions, subexpressions_of}
 use Rattle.promql_syntax.specs.PartBuilding.{modifier_value}
 use Rattle.promql_syntax.specs.Placing.{AreTokens}
 use Rattle.promql_syntax.specs.declared.grammar.build_error.BuildError as code
@@ -48,15 +47,15 @@ abbrev pub append_derivation : grammar.Arguments → grammar.Derivation → gram
 append_derivation grammar.none d = grammar.more d grammar.none
 append_derivation (grammar.more e ds) d = grammar.more e (append_derivation ds d)
 
--- an error is that of one of these, at its tokens
+-- an error is that of the first of these that does not build, at its tokens
 pub record IsFaultIn (n : ℕ) (subs : List Subexpression) (e : code.BuildError) : Type 0 where
   pub sub : Subexpression
-  pub is : Contains subs sub
-  pub fault : IsFaultOf (build_error_of e) sub
+  pub first : IsFirstFault (build_error_of e) subs sub
   pub place : AreTokens n (fault_tokens (build_error_of e) sub.after sub.derivation) e.place
 
+-- all of these build, or the first that does not has the error
 abbrev pub IsPlaced : {V : Type 0} → ℕ → List Subexpression → Result V (Box code.BuildError Global) → Type 0
-IsPlaced n subs (Ok value) = Unit {0}
+IsPlaced n subs (Ok value) = All Builds subs
 IsPlaced n subs (Err e) = IsFaultIn n subs e.value
 
 -- what was built of a derivation where it is built, and its height; an error's place by how many of n tokens are left, k of them

@@ -1,17 +1,16 @@
 -- What the parts of an expression build (docs/reference/grammar.md, "Building"): each from left to right, up to its
 -- first error.
 use Rattle.std.specs.Prelude.{ℕ, Bool, true, false, if◌then◌else◌, Option, Some, None, is_some, List, [], ◌∷◌, Result, Ok, Err, codes}
+use Rattle.std.specs.Option.{option_map_or}
 use Rattle.promql_text.specs.Texts.{Text}
 use Rattle.promql_text.specs.declared.number.Number.{Number}
-use Rattle.promql_text.specs.declared.number.NumberFault.{NumberFault}
-use Rattle.promql_text.specs.declared.duration.DurationFault.{DurationFault}
 use Rattle.promql_text.specs.Durations.{duration_of}
 use Rattle.promql_text.specs.NumberText.{read_number}
 use Rattle.promql_text.specs.Quoting.{unquoted_text}
 use Rattle.promql_text.specs.Values.{neg}
 use Rattle.promql_grammar.specs.declared.token_kinds.TokenKind.{TokenKind}
 use Rattle.promql_grammar.specs.declared.token_kinds.TokenKind.TheVariants as kind
-use Rattle.promql_grammar.specs.Results.{◌then◌}
+use Rattle.promql_grammar.specs.Results.{on_result, ◌then◌}
 use Rattle.promql_grammar.specs.GrammarParts as part
 use Rattle.promql_grammar.specs.GrammarParts.{is_minus}
 use Rattle.promql_label.specs.Answers.{Answer, built, rejected}
@@ -24,6 +23,11 @@ use Rattle.promql_ast.specs.declared.at_modifier.AtModifier.{AtModifier}
 use Rattle.promql_syntax.specs.Asking.{Asking, gives, fails, asks, ◌giving◌, known}
 use Rattle.promql_syntax.specs.BuildErrors.{BuildError, number, quoted, duration, at, pattern}
 
+-- a value, or the fault as an error of building
+abbrev pub on_error : {A F : Type 0} → (F → BuildError) → Result A F → Result A BuildError
+on_error error (Ok x) = Ok x
+on_error error (Err fault) = Err (error fault)
+
 -- "Strings"
 abbrev pub unquoted_or_error : Option Text → Result Text BuildError
 unquoted_or_error (Some text) = Ok text
@@ -33,24 +37,16 @@ abbrev pub string_value : Text → Result Text BuildError
 string_value text = unquoted_or_error (unquoted_text text)
 
 -- "Numbers"
-abbrev pub number_fault : {A : Type 0} → Result A NumberFault → Result A BuildError
-number_fault (Ok n) = Ok n
-number_fault (Err fault) = Err (number fault)
-
 abbrev pub number_value : Text → Result Number BuildError
-number_value text = number_fault (read_number text)
+number_value text = on_error number (read_number text)
 
 -- "Signs"
 abbrev pub signed_number : part.Signed → Text → Result Number BuildError
 signed_number s text = number_value text then λ n. Ok (if is_minus s then neg n else n)
 
 -- "Times": nanoseconds
-abbrev pub duration_fault : {A : Type 0} → Result A DurationFault → Result A BuildError
-duration_fault (Ok n) = Ok n
-duration_fault (Err fault) = Err (duration fault)
-
 abbrev pub duration_value : Text → Result ℕ BuildError
-duration_value text = duration_fault (duration_of text)
+duration_value text = on_error duration (duration_of text)
 
 abbrev pub time_value : part.Time → Result ℕ BuildError
 time_value (part.seconds text) = duration_value text
@@ -68,8 +64,7 @@ abbrev pub shift_value : part.Signed → part.Time → Result Shift BuildError
 shift_value s t = time_value t then λ n. Ok (shift s n)
 
 abbrev pub at_fault : Result AtModifier AtFault → Result Moment BuildError
-at_fault (Ok m) = Ok (moment_of m)
-at_fault (Err fault) = Err (at fault)
+at_fault m = on_error at (on_result moment_of m)
 
 abbrev pub moment_value : part.Signed → Text → Result Moment BuildError
 moment_value s text = signed_number s text then λ n. at_fault (at_of_number n)
@@ -171,5 +166,4 @@ braces_value part.no_item = gives (plain_matchers [] [])
 braces_value (part.items is) = items_value (plain_matchers [] []) part.comma is
 
 abbrev pub any_braces_value : Option part.Braces → Asking PlainMatchers
-any_braces_value None = gives (plain_matchers [] [])
-any_braces_value (Some b) = braces_value b
+any_braces_value b = option_map_or braces_value b (gives (plain_matchers [] []))

@@ -5,7 +5,8 @@ use Rattle.promql_ast.specs.Height.{height, greatest_height}
 use Rattle.promql_ast.specs.Tree.{Tree, Trees, no_trees, first_tree}
 use Rattle.promql_ast.specs.View.{trees}
 use Rattle.promql_walk.specs.Children.{children, with_children}
-use Rattle.promql_walk.specs.Changes.{Edit, IsEnd, Changes, ends_before, ends_below, goes_through, ChangesEach, no_more, ends_here, goes_on, ChangesBelow}
+use Rattle.promql_walk.specs.ChangedChildren.{ChangesBelow}
+use Rattle.promql_walk.specs.Changes.{Edit, IsEnd, Changes, ends_before, ends_below, goes_through, ChangesEach, no_more, ends_here, goes_on}
 
 -- ---- lists
 

@@ -40,8 +40,3 @@ mutual
     goes_on : {s : S} {t : Tree} {ts : Trees} {u : S} {x : Tree} {a : Result Bool E} {v : S} {xs : Trees}
         → Changes pre post s t (Ok true) u x → ChangesEach pre post u ts a v xs
         → ChangesEach pre post s (first_tree t ts) a v (first_tree x xs)
-
--- the same of a node's children alone
-abbrev pub ChangesBelow : {S E : Type 0} → Edit S E → Edit S E → S → Tree → Result Bool E → S → Tree → Type 0
-ChangesBelow pre post s t a u x =
-    (ys : Trees) × (ChangesEach pre post s (children t) a u ys × (x ≡ with_children t ys))

@@ -1,5 +1,5 @@
 -- The children of a node (docs/reference/walks.md, "Order").
-use Rattle.promql_ast.specs.Tree.{Tree, aggregate, unary, binary, paren, subquery, number, string, vector, matrix, call, extension, absent, present, Trees, no_trees, first_tree}
+use Rattle.promql_ast.specs.Tree.{Tree, aggregate, unary, binary, paren, subquery, call, extension, absent, present, Trees, no_trees, first_tree}
 
 -- in their order
 abbrev pub children : Tree → Trees
@@ -9,12 +9,9 @@ children (unary e) = first_tree e no_trees
 children (binary op l r m) = first_tree l (first_tree r no_trees)
 children (paren e) = first_tree e no_trees
 children (subquery e offset at range step) = first_tree e no_trees
-children (number n) = no_trees
-children (string s) = no_trees
-children (vector s) = no_trees
-children (matrix s range mode) = no_trees
 children (call f args) = args
 children (extension name gives es) = es
+children t = no_trees
 
 -- the node with as many others in their places
 abbrev pub with_children : Tree → Trees → Tree

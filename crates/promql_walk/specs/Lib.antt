@@ -1,3 +1,4 @@
 pub mod Changes
+pub mod ChangedChildren
 pub mod Children
 pub mod WalkSteps

@@ -4,7 +4,8 @@ ghost use Rattle.std.specs.Prelude.{◌≡◌, ◌≤◌, Bool, true, Result, Ok
 ghost use Rattle.promql_ast.specs.Height.{height};
 ghost use Rattle.promql_ast.specs.Tree.{Tree};
 ghost use Rattle.promql_ast.specs.View.{aggregate_tree, binary_tree, call_tree, children_of, extension_tree, tree_of, trees_of};
-ghost use Rattle.promql_walk.specs.Changes.{Changes, ChangesBelow, ChangesEach, EditsOr};
+ghost use Rattle.promql_walk.specs.ChangedChildren.{ChangesBelow};
+ghost use Rattle.promql_walk.specs.Changes.{Changes, ChangesEach, EditsOr};
 
 use promql_ast::{AggregateExpr, BinaryExpr, Call, Expr, Extension};
 

@@ -3,6 +3,8 @@
 //
 //	rows rows FILE [GOROUTINES]
 //	rows random FILE COUNT SEED   makes COUNT broken texts of the queries of such a file, and calls with each
+//	rows trees FILE               makes trees of such queries, and texts of these again (bindings/trees.py says more)
+//	rows changed FILE COUNT SEED  changes COUNT of these trees at random
 package main
 
 import (
@@ -159,7 +161,7 @@ func number(word string) int {
 func main() {
 	words := os.Args[1:]
 	if len(words) < 2 {
-		log.Fatal("usage: rows rows FILE [GOROUTINES] | rows random FILE COUNT SEED")
+		log.Fatal("usage: rows rows FILE [GOROUTINES] | rows random FILE COUNT SEED | rows trees FILE | rows changed FILE COUNT SEED")
 	}
 	data, err := os.ReadFile(words[1])
 	if err != nil {
@@ -173,6 +175,10 @@ func main() {
 		rows(calls(data), number(words[2]))
 	case words[0] == "random" && len(words) == 4:
 		brokenTexts(calls(data), number(words[2]), int64(number(words[3])))
+	case words[0] == "trees" && len(words) == 2:
+		trees(calls(data))
+	case words[0] == "changed" && len(words) == 4:
+		changed(calls(data), number(words[2]), int64(number(words[3])))
 	default:
 		log.Fatal("unknown arguments")
 	}

@@ -1,14 +1,12 @@
-use Rattle.std.proofs.Common.{ap, refl, string_bytes, sym, ◌∙◌, subst}
+use Rattle.std.proofs.Common.{refl, sym, subst}
 use Rattle.std.proofs.lemmas.Result.{err_from_is_err_and}
-use Rattle.std.specs.Prelude.{Err, IfErr, IfOk, option_map}
+use Rattle.std.specs.Prelude.{IfErr, option_map}
 use Rattle.promql_ast.specs.View.{tree_of}
 use Rattle.promql_report.specs.Rejecting.{IsReadAs}
-use Rattle.promql_run.specs.StepErrors.{IsShowError}
 use Rattle.promql_run.proofs.NoExtensions.{answers_are_plain}
 use Rattle.promql_lines.proofs.EnforcedTrees.{asked_low, asked_plain}
-use Rattle.promql_lines.proofs.LineAnswers.{answer_of_query, fails_of_matcher, fails_of_rendering}
-use Rattle.promql_lines.specs.Batch.{FailsOnQuery, format_value}
-use Rattle.promql_lines.specs.BatchSteps.{IsShown}
+use Rattle.promql_lines.proofs.LineAnswers.{fails_of_matcher}
+use Rattle.promql_lines.specs.Batch.{FailsOnQuery}
 use Rattle.promql_lines.proofs.line.answer_query.Goals as goal
 
 pub returns-in_err-expr-clause-err : goal.returns-in_err-expr-clause-err
@@ -30,20 +28,3 @@ shown_text-shown-requires-clause-plain c =
     let parsed = subst (IsReadAs c.args.limits.now c.args.query.now) c.in-Ok-Ok.field-0-is c.in-Ok-Ok.ensures in
     asked_plain c.args.limits.now (option_map (λ s. s.now) c.args.matcher) (tree_of c.in-Ok-Ok.expr) (tree_of c.in_ok-expr.expr) c.in_ok-expr.ensures.ok
     (answers_are_plain c.args.query.now (tree_of c.in-Ok-Ok.expr) parsed.1)
-
-pub returns-in-Err-shown-clause-err : goal.returns-in-Err-shown-clause-err
-returns-in-Err-shown-clause-err c =
-    fails_of_rendering c.args.limits.now c.in-Err-shown.error c.args.query.now (option_map (λ s. s.now) c.args.matcher) c.args.format (tree_of c.in-Ok-Ok.expr) (tree_of c.in_ok-expr.expr)
-    (subst (IsReadAs c.args.limits.now c.args.query.now) c.in-Ok-Ok.field-0-is c.in-Ok-Ok.ensures)
-    c.in_ok-expr.ensures.ok
-    (λ json. c.shown_text-shown.ensures.json (c.in-Err-shown.is ∙ ap Err json))
-    (subst (λ r. IfErr r IsShowError) c.in-Err-shown.is c.shown_text-shown.ensures.errors)
-
-pub returns-in-Ok-ok_answer-clause-ok : goal.returns-in-Ok-ok_answer-clause-ok
-returns-in-Ok-ok_answer-clause-ok c =
-    let format = c.args.format in let value = format_value c.args.format (tree_of c.in_ok-expr.expr) in
-    answer_of_query c.args.limits.now c.args.query.now (option_map (λ s. s.now) c.args.matcher) format (tree_of c.in-Ok-Ok.expr) (tree_of c.in_ok-expr.expr) (string_bytes c.in-Ok-ok_answer.answer)
-    (subst (IsReadAs c.args.limits.now c.args.query.now) c.in-Ok-Ok.field-0-is c.in-Ok-Ok.ensures)
-    c.in_ok-expr.ensures.ok
-    (c.in-Ok-ok_answer.ensures value
-    (subst (IsShown format value) (sym c.as_str.ensures.value) (subst (λ r. IfOk r (λ s. IsShown format value (string_bytes s))) c.in-Ok.is c.shown_text-shown.ensures.ok)))

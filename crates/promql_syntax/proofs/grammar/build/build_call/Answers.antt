@@ -1,4 +1,4 @@
-use Rattle.std.proofs.Common.{ℕ, ◌+◌, Bool, ◌∙◌, ap, arith}
+use Rattle.std.proofs.Common.{ℕ, ◌+◌, Bool, ◌∙◌, ap, arith, [], ◌∷◌}
 use Rattle.std.specs.Prelude.{Err}
 use Rattle.promql_ast.specs.View.{tree_of, trees_of}
 use Rattle.promql_grammar.specs.Grammar as grammar
@@ -9,9 +9,9 @@ use Rattle.promql_syntax.specs.Building.{build_all, build_call}
 use Rattle.promql_syntax.proofs.Ending.{then_value, then_fault}
 use Rattle.promql_syntax.proofs.BuiltForms.{is_expr_of, with_trees, with_no_trees, call_ends, unknown_ends}
 use Rattle.promql_syntax.specs.BuildErrors.{build_error_of}
-use Rattle.promql_syntax.specs.FaultTokens.{here, subexpressions, subexpressions_of}
+use Rattle.promql_syntax.specs.FaultTokens.{here, subexpressions_of}
 use Rattle.promql_syntax.specs.Placing.{IsCallAt}
-use Rattle.promql_syntax.proofs.FaultPlacing.{after_first, no_tokens, own_placed, passed_on}
+use Rattle.promql_syntax.proofs.FaultPlacing.{no_tokens, own_placed, parts_built, passed_on}
 use Rattle.promql_syntax.proofs.OwnFaults.{error_placed, if_ok_all, name_tokens, none_checked, of_error}
 use Rattle.promql_syntax.proofs.grammar.build.build_call.Goals as goal
 
@@ -19,7 +19,7 @@ pub returns-in-Err-clause-built : goal.returns-in-Err-clause-built
 returns-in-Err-clause-built c = λ builds n k kind ds there args.
     is_expr_of builds n k _ (grammar.call kind c.args.name.now ds) _ _ c.parsed_error.ensures.value c.parsed_error.ensures.tall (let same = args.tall in omega arith)
     (λ on. then_fault (build_all ds) (λ ts. build_call c.args.name.now (function_named c.args.name.now) ts) _ (with_no_trees c.args.args (build_all ds) c.in-Err.error c.in-Err.is (args.built on)))
-    (λ on built fits. passed_on n (subexpressions_of (1 + k) ds) (subexpressions k (grammar.call kind c.args.name.now ds)) _ _ c.in-Err.error c.in-Err.is c.parsed_error.ensures.is (after_first (here k (grammar.call kind c.args.name.now ds)) (subexpressions_of (1 + k) ds)) (args.placed on fits))
+    (λ on built fits. passed_on n (subexpressions_of (1 + k) ds) (here k (grammar.call kind c.args.name.now ds) ∷ []) _ _ c.in-Err.error c.in-Err.is c.parsed_error.ensures.is (args.placed on fits))
 
 pub returns-in_ok-expr-in-Some-clause-built : goal.returns-in_ok-expr-in-Some-clause-built
 returns-in_ok-expr-in-Some-clause-built c =
@@ -27,7 +27,7 @@ returns-in_ok-expr-in-Some-clause-built c =
     is_expr_of builds n k parsed (grammar.call kind c.args.name.now ds) _ _ value tall (let same = args.tall in omega arith)
     (λ on. then_value (build_all ds) (λ ts. build_call c.args.name.now (function_named c.args.name.now) ts) (trees_of c.in-Ok.args.args.items) _ (with_trees c.args.args (build_all ds) c.in-Ok.args c.in-Ok.is (args.built on))
     (call_ends c.args.name.now (function_named c.args.name.now) _ _ _ (rw c.in-Some.is at c.in_ok-func.ensures.found) (ap tree_of c.in_ok-expr-in-Some.ensures.ok ∙ c.new_call.ensures)))
-    (λ on built fits. own_placed n k (grammar.call kind c.args.name.now ds) (subexpressions_of (1 + k) ds) parsed.value (trees_of c.in-Ok.args.args.items, with_trees c.args.args (build_all ds) c.in-Ok.args c.in-Ok.is (args.built on)) built
+    (λ on built fits. own_placed n k (grammar.call kind c.args.name.now ds) (subexpressions_of (1 + k) ds) parsed.value (parts_built n (subexpressions_of (1 + k) ds) c.args.args.value c.in-Ok.args c.in-Ok.is (args.placed on fits)) built
     (λ e is. no_tokens n _ e.value.place (none_checked k kind c.args.name.now ds (build_error_of e.value) (of_error _ parsed.value e is placed)))))
 
 pub returns-in_ok-error-in-None-clause-built : goal.returns-in_ok-error-in-None-clause-built
@@ -35,5 +35,5 @@ returns-in_ok-error-in-None-clause-built c = λ builds n k kind ds there args.
     is_expr_of builds n k _ (grammar.call kind c.args.name.now ds) _ _ (c.parsed_error-in-None.ensures.value ∙ ap Err c.in_ok-error-in-None.ensures.fault) c.parsed_error-in-None.ensures.tall (let same = args.tall in omega arith)
     (λ on. then_value (build_all ds) (λ ts. build_call c.args.name.now (function_named c.args.name.now) ts) (trees_of c.in-Ok.args.args.items) _ (with_trees c.args.args (build_all ds) c.in-Ok.args c.in-Ok.is (args.built on))
     (unknown_ends c.args.name.now _ (function_named c.args.name.now) _ (rw c.in-None.is at c.in_ok-func.ensures.found) c.in_ok-name-in-None.ensures.ok))
-    (λ on built fits. error_placed n k (grammar.call kind c.args.name.now ds) (subexpressions_of (1 + k) ds) _ c.in_ok-error-in-None.error c.parsed_error-in-None.ensures.is (trees_of c.in-Ok.args.args.items, with_trees c.args.args (build_all ds) c.in-Ok.args c.in-Ok.is (args.built on)) built
+    (λ on built fits. error_placed n k (grammar.call kind c.args.name.now ds) (subexpressions_of (1 + k) ds) _ c.in_ok-error-in-None.error c.parsed_error-in-None.ensures.is (parts_built n (subexpressions_of (1 + k) ds) c.args.args.value c.in-Ok.args c.in-Ok.is (args.placed on fits)) built
     (name_tokens n k c.args.extent.now kind c.args.name.now _ ds _ _ there fits c.in_ok-error-in-None.ensures.fault (λ few. c.in_ok-error-in-None.ensures.place ∙ c.token.ensures few)))

@@ -1,0 +1,70 @@
+"""Tests of completions: python3 -m unittest discover -s tests, where Python finds the package."""
+
+import shutil
+import subprocess
+import tempfile
+import unittest
+from pathlib import Path
+
+from command_line import run
+
+# The words before the one that is completed, its beginning, and what may come there.
+COMPLETED = (
+    ((), "", ["check", "completion", "format", "lint", "serve"]),
+    ((), "ch", ["check"]),
+    (("check",), "--c", ["--color"]),
+    (("format",), "--wi", ["--width"]),
+    (("format", "a.yml", "--color"), "", ["always", "auto", "never"]),
+    (("completion",), "b", ["bash"]),
+    (("lint", "a.yml", "--output"), "", ["json", "sarif", "text"]),
+    (("serve",), "--p", ["--port"]),
+)
+
+
+def ran(*command):
+    return subprocess.run(command, stdout=subprocess.PIPE, check=True, timeout=60).stdout.decode().split()
+
+
+class Completions(unittest.TestCase):
+    def setUp(self):
+        folder = tempfile.TemporaryDirectory()
+        self.addCleanup(folder.cleanup)
+        self.folder = Path(folder.name)
+
+    def script(self, shell):
+        """A file with what a shell reads."""
+        said = run("completion", shell)
+        self.assertEqual((said.status, said.err), (0, ""))
+        path = self.folder / f"script.{shell}"
+        path.write_text(said.out)
+        return str(path)
+
+    @unittest.skipUnless(shutil.which("bash"), "there is no bash here")
+    def test_bash(self):
+        call = '. "$1"; shift; COMP_WORDS=("$@"); COMP_CWORD=$(($# - 1)); _promql; printf "%s\\n" "${COMPREPLY[@]}"'
+        script = self.script("bash")
+        for before, word, wanted in COMPLETED:
+            found = ran("bash", "-c", call, "bash", script, "promql", *before, word)
+            self.assertEqual(sorted(set(found) - {"--help"}), wanted, (before, word))
+        # (a file comes by the shell's own completion)
+        self.assertEqual(ran("bash", "-c", call, "bash", script, "promql", "check", ""), [])
+        self.assertEqual(ran("bash", "-c", '. "$1"; complete -p promql', "bash", script)[-1], "promql")
+
+    @unittest.skipUnless(shutil.which("zsh"), "there is no zsh here")
+    def test_zsh(self):
+        script = self.script("zsh")
+        subprocess.run(["zsh", "-n", script], check=True, timeout=60)
+        given = 'autoload -Uz compinit; compinit -u -D; . "$1"; echo $_comps[promql]'
+        self.assertEqual(ran("zsh", "-fc", given, "zsh", script), ["_promql"])
+
+    @unittest.skipUnless(shutil.which("fish"), "there is no fish here")
+    def test_fish(self):
+        script = self.script("fish")
+        for before, word, wanted in COMPLETED:
+            line = " ".join(("promql", *before, word))
+            found = ran("env", f"HOME={self.folder}", "fish", "--no-config", "-c", f"source '{script}'; complete -C '{line}' | cut -f 1")
+            self.assertEqual(sorted(found), wanted, line)
+
+
+if __name__ == "__main__":
+    unittest.main()

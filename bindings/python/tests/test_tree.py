@@ -1,0 +1,246 @@
+"""Tests of promql.tree: python3 -m unittest discover -s tests, where Python finds the package. bindings/trees.py has those over the rows."""
+
+import pickle
+import sys
+import unittest
+from decimal import Decimal
+
+import promql
+from promql import tree
+from promql._calls import calls
+from promql.functions import FUNCTIONS
+from promql.tree import (
+    Aggregation,
+    Binary,
+    Call,
+    ManyToOne,
+    Matcher,
+    Matching,
+    Number,
+    OneToMany,
+    Paren,
+    RangeSelector,
+    Selector,
+    String,
+    Subquery,
+    Unary,
+)
+
+# A query and its tree.
+TREES = (
+    ("1", Number("1")),
+    ("'a\"b'", String('a"b')),
+    ("-(foo)", Unary(Paren(Selector("foo")))),
+    ("{a='1', b!~'2'}", Selector(None, (Matcher("a", "=", "1"), Matcher("b", "!~", "2")))),
+    ("foo{a='1' or b=~'2', c!='3'} offset -5m @ end()", Selector(
+        "foo",
+        or_matchers=((Matcher("a", "=", "1"),), (Matcher("b", "=~", "2"), Matcher("c", "!=", "3"))),
+        offset=-300_000,
+        at="end",
+    )),
+    ("foo[5m] anchored @ -1.5", RangeSelector("foo", 300_000, at=-1500, mode="anchored")),
+    ("up[1h:]", Subquery(Selector("up"), 3_600_000)),
+    ("up[1h:5m] @ start() offset 1m", Subquery(Selector("up"), 3_600_000, 300_000, 60_000, "start")),
+    ("sum without (a) (up)", Aggregation("sum", Selector("up"), ("a",), without=True)),
+    ("topk by (a, b) (5, up)", Aggregation("topk", Selector("up"), ("a", "b"), param=Number("5"))),
+    ("time()", Call("time")),
+    ("round(a, 2)", Call("round", (Selector("a"), Number("2")))),
+    ("a == bool 1", Binary(Selector("a"), "==", Number("1"), True, Matching())),
+    ("a and on (b) c", Binary(Selector("a"), "and", Selector("c"), matching=Matching(True, ("b",), "many-to-many"))),
+    ("a / ignoring (b) group_left (c) d", Binary(
+        Selector("a"), "/", Selector("d"), matching=Matching(labels=("b",), card=ManyToOne(("c",)))
+    )),
+    ("a + on (b) group_right fill_left (1) d", Binary(
+        Selector("a"), "+", Selector("d"), matching=Matching(True, ("b",), OneToMany(), fill_left="1")
+    )),
+)
+NAME = {"name": "up", "matchers": [], "offset": 0, "startOrEnd": None, "timestamp": None, "type": "vectorSelector"}
+# What is no form, and what is said of it.
+NO_FORMS = (
+    (None, "$: expected an object"),
+    ({}, "$.type: expected such a member"),
+    ({"type": "number"}, "$.type: expected one of aggregation, binaryExpr, call, numberLiteral, parenExpr, matrixSelector, vectorSelector, "
+     "stringLiteral, subquery, unaryExpr"),
+    ({"type": "numberLiteral", "val": 1}, "$.val: expected a string"),
+    ({"type": "numberLiteral", "val": "1", "more": 0}, "$.more: unknown member"),
+    ({"type": "parenExpr", "expr": {**NAME, "offset": 1.5}}, "$.expr.offset: expected a whole number"),
+    ({"type": "parenExpr", "expr": {**NAME, "offset": True}}, "$.expr.offset: expected a whole number"),
+    ({"type": "unaryExpr", "op": "+", "expr": NAME}, "$.op: expected one of -"),
+    ({**NAME, "matchers": [{"name": "a", "type": "=", "value": "1"}, {"name": "b"}]}, "$.matchers[1].type: expected such a member"),
+    ({**NAME, "or_matchers": [[], [{"name": "a", "type": "~", "value": "1"}]]}, "$.or_matchers[1][0].type: expected one of =, !=, =~, !~"),
+    ({**NAME, "or_matchers": []}, "$.or_matchers: expected a group"),
+    ({**NAME, "startOrEnd": "end", "timestamp": 1}, "$.timestamp: expected null beside startOrEnd"),
+    ({"type": "call", "args": [NAME, 1], "func": FUNCTIONS["abs"].to_json()}, "$.args[1]: expected an object"),
+    ({"type": "call", "args": [], "func": {"name": "rates"}}, "$.func.name: expected the name of a function"),
+    ({"type": "call", "args": [], "func": {**FUNCTIONS["abs"].to_json(), "variadic": 1}}, "$.func: expected the function abs"),
+)
+
+
+MATCH = """
+match expr:
+    case Call(name, (RangeSelector(range=length),)):
+        found.append(("call", name, length))
+    case Aggregation("sum", Selector(), grouping=labels):
+        found.append(("sum", labels))
+    case Binary(Selector(matchers=(Matcher(label, "="),)), "+", Number(value)):
+        found.append(("binary", label, value))
+"""
+
+
+def has_print_tree():
+    try:
+        calls.print_tree("1", 0, 0, 0, True)
+    except AttributeError:
+        return False
+    return True
+
+
+def with_matchers(expr):
+    return expr.with_matcher(Matcher("t", "=", "1")) if isinstance(expr, (Selector, RangeSelector)) else expr
+
+
+class Trees(unittest.TestCase):
+    def test_parse(self):
+        for query, wanted in TREES:
+            expr = tree.parse(query)
+            self.assertEqual(expr, wanted, query)
+            self.assertEqual(expr.to_json(), promql.parse(query))
+            self.assertEqual(tree.from_json(expr.to_json()), expr)
+            self.assertEqual(eval(repr(expr), vars(tree)), expr)
+            self.assertEqual(pickle.loads(pickle.dumps(expr)), expr)
+        with self.assertRaises(promql.QueryError):
+            tree.parse("1 +")
+
+    def test_repr(self):
+        self.assertEqual(repr(tree.parse("rate(foo[5m])")), "Call('rate', args=(RangeSelector('foo', 300000),))")
+        self.assertEqual(repr(Matching(True, ("a",))), "Matching(on=True, labels=('a',))")
+
+    def test_no_forms(self):
+        for form, message in NO_FORMS:
+            with self.assertRaises(tree.FormError) as raised:
+                tree.from_json(form)
+            self.assertEqual(str(raised.exception), message)
+
+    def test_frozen(self):
+        expr = tree.parse("up")
+        with self.assertRaises(AttributeError):
+            expr.name = "down"
+        self.assertEqual(len({tree.parse("a + b"), tree.parse("a+b"), tree.parse("a - b")}), 2)
+
+    def test_walk(self):
+        found = [type(expr).__name__ for expr in tree.parse("topk(5, rate(a[1m])) + -b").walk()]
+        self.assertEqual(found, ["Binary", "Aggregation", "Number", "Call", "RangeSelector", "Unary", "Selector"])
+        self.assertEqual(tree.parse("topk(5, a)").children(), (Number("5"), Selector("a")))
+
+    def test_replace(self):
+        expr = tree.parse("sum(up)")
+        self.assertEqual(expr.replace(op="max", grouping=("job",)), tree.parse("max by (job) (up)"))
+        self.assertEqual(expr.with_children([Selector("down")]), tree.parse("sum(down)"))
+        self.assertRaises(TypeError, expr.replace, name="up")
+        self.assertRaises(ValueError, expr.with_children, [])
+
+    def test_transform(self):
+        query = "sum(rate(a{b='1' or c='2'}[5m])) / topk(scalar(d), e[5m:])"
+        changed = tree.transform(tree.parse("sum(rate(a{b='1' or c='2'}[5m])) / d"), with_matchers)
+        self.assertEqual(changed, tree.parse("sum(rate(a{b='1',t='1' or c='2',t='1'}[5m])) / d{t='1'}"))
+        expr = tree.parse("a + -b")
+        self.assertIs(tree.transform(expr, lambda it: it), expr)
+        seen = []
+        tree.transform(tree.parse("a + b * c"), lambda it: seen.append(repr(it)) or it)
+        self.assertEqual([it[:12] for it in seen], ["Selector('a'", "Selector('b'", "Selector('c'", "Binary(Selec", "Binary(Selec"])
+        self.assertRaises(promql.QueryError, tree.parse, query)
+
+    @unittest.skipIf(sys.version_info < (3, 10), "this Python has no match")
+    def test_match(self):
+        names = dict(vars(tree), found=[])
+        for query in ("rate(foo[5m])", "sum by (job) (foo)", "foo{a='1'} + 2"):
+            exec(MATCH, {**names, "expr": tree.parse(query)})
+        self.assertEqual(names["found"], [("call", "rate", 300_000), ("sum", ("job",)), ("binary", "a", "2")])
+
+    def test_lists(self):
+        """Lists in place of tuples, as a caller may have them."""
+        expr = Call("rate", [RangeSelector("foo", 60_000, [Matcher("a", "=", "1")])])
+        self.assertEqual(tree.from_json(expr.to_json()), tree.parse("rate(foo{a='1'}[1m])"))
+        self.assertEqual(tree.transform(expr, with_matchers), tree.parse("rate(foo{a='1',t='1'}[1m])"))
+
+    def test_high_trees(self):
+        expr = Selector("a")
+        for _ in range(5 * sys.getrecursionlimit()):
+            expr = Paren(expr)
+        count = sum(1 for _ in expr.walk())
+        self.assertEqual(count, 5 * sys.getrecursionlimit() + 1)
+        changed = tree.transform(expr, lambda it: it.expr if isinstance(it, Paren) else it)
+        self.assertEqual(changed, Selector("a"))
+        self.assertEqual(sum(1 for _ in tree.from_json(expr.to_json()).walk()), count)
+
+    def test_numbers(self):
+        for value, text in (
+            *((0, "0"), (-3, "-3"), (0.5, "0.5"), (1e21, "1000000000000000000000"), (-0.0, "0"), (1e-7, "0.0000001")),
+            *((Decimal("1.50"), "1.5"), (float("inf"), "Inf"), (float("-inf"), "-Inf"), (float("nan"), "NaN"), (100, "100")),
+        ):
+            self.assertEqual(Number.of(value), Number(text))
+        self.assertEqual(Number("0.1").decimal(), Decimal("0.1"))
+
+    def test_functions(self):
+        self.assertEqual(tree.parse("rate(a[1m])").function, FUNCTIONS["rate"])
+        self.assertIsNone(Call("rates").function)
+        expr = Binary(Number("1"), "+", Aggregation("sum", Call("rates")))
+        with self.assertRaises(tree.NodeError) as raised:
+            expr.to_json()
+        self.assertEqual(str(raised.exception), "$.rhs.expr.func.name: there is no function 'rates'")
+        self.assertIs(raised.exception.node, expr.rhs.expr)
+
+
+@unittest.skipUnless(has_print_tree(), "the library has no promql_print_tree")
+class Texts(unittest.TestCase):
+    def test_lines(self):
+        for query, expr in TREES:
+            self.assertEqual(str(expr), promql.canonical(query))
+
+    def test_parentheses(self):
+        total = Binary(Selector("a"), "+", Selector("b"))
+        self.assertEqual(str(Binary(total, "*", Selector("c"))), "(a + b) * c")
+        self.assertEqual(str(Subquery(total, 60_000)), "(a + b)[1m:]")
+        self.assertEqual(str(Aggregation("sum", total)), "sum(a + b)")
+
+    def test_layouts(self):
+        expr = tree.parse("sum by (job) (rate(foo[5m]))")
+        self.assertEqual(expr.format(width=20, level=1), promql.format(str(expr), width=20, level=1))
+        self.assertEqual(expr.format(), str(expr))
+
+    def check_error(self, expr, path, node):
+        with self.assertRaises(tree.NodeError) as raised:
+            str(expr)
+        error = raised.exception
+        self.assertEqual(error.node, node, error)
+        self.assertTrue(error.path.startswith(path) and error.message, error)
+        return error
+
+    def test_errors(self):
+        wrong = Call("rate", (Selector("foo"),))
+        error = self.check_error(Binary(Number("1"), "+", Aggregation("sum", wrong)), "$.rhs.expr", wrong)
+        self.assertIsInstance(error.__cause__, promql.UnfaithfulError)
+        self.check_error(Aggregation("sum", Call("round", ())), "$.expr", Call("round", ()))
+        pattern = Selector("a", (Matcher("b", "=~", "("),))
+        self.check_error(Paren(pattern), "$.expr", pattern)
+        error = self.check_error(RangeSelector("a", -1), "$.range", RangeSelector("a", -1))
+        self.assertIsInstance(error.__cause__, promql.TreeError)
+
+    def test_large(self):
+        pattern = Selector("a", (Matcher("b", "=~", "c{3000}"),))
+        self.assertIsInstance(self.check_error(pattern, "$", pattern).__cause__, promql.TooLargeTreeError)
+
+    def test_deep(self):
+        expr = Selector("a")
+        for _ in range(200):
+            expr = Paren(expr)
+        self.assertEqual(str(self.check_error(expr, "$", expr)), "$: nested too deeply")
+        for _ in range(2 * sys.getrecursionlimit()):
+            expr = Paren(expr)
+        with self.assertRaises(tree.NodeError) as raised:
+            str(expr)
+        self.assertEqual(raised.exception.message, "nested too deeply")
+
+
+if __name__ == "__main__":
+    unittest.main()

@@ -1,0 +1,134 @@
+//! From a tree to its text.
+
+use crate::tree::Expr;
+use crate::{Error, Layout};
+use std::error;
+use std::fmt;
+use std::str::FromStr;
+
+/// Why a tree has no text.
+#[derive(Clone, Debug, PartialEq, Eq)]
+pub struct NodeError {
+    /// The part at fault in the JSON form, as `$.lhs.args[0]`; [`NodeError::node`] finds the expression.
+    pub path: String,
+    /// What is wrong there.
+    pub message: String,
+    /// What [`print_tree`](crate::print_tree()) says of the tree: `NotATree` where a part is none of a query, `Unfaithful` where the text
+    /// would mean another tree, `TooLargeTree` where it is too long.
+    pub cause: Box<Error>,
+}
+
+impl NodeError {
+    /// The expression of the tree at the path, or the last one on the way there.
+    pub fn node<'a>(&self, tree: &'a Expr) -> &'a Expr {
+        let places = places(tree);
+        let is_on_way = |path: &str| self.path == path || self.path.strip_prefix(path).map_or(false, |rest| rest.starts_with('.'));
+        places.iter().rev().find(|(path, _)| is_on_way(path)).map_or(tree, |(_, expr)| *expr)
+    }
+}
+
+impl fmt::Display for NodeError {
+    fn fmt(&self, f: &mut fmt::Formatter<'_>) -> fmt::Result {
+        write!(f, "{}: {}", self.path, self.message)
+    }
+}
+
+impl error::Error for NodeError {
+    fn source(&self) -> Option<&(dyn error::Error + 'static)> {
+        Some(&*self.cause)
+    }
+}
+
+/// The tree of a query. Lengths of time are cut off to whole milliseconds, as in the JSON form.
+///
+/// # Errors
+///
+/// Those of [`json`](crate::json).
+pub fn parse(query: &str) -> Result<Expr, Error> {
+    let form = crate::json(query)?;
+    Expr::from_json(&form).map_err(Error::Form)
+}
+
+/// The text of a tree on one line, in parentheses where the tree needs them. The library read what it printed again: it has this tree.
+///
+/// # Errors
+///
+/// `Node` where there is no such text; `OutOfMemory` and `SmallStack`; `NoPrintTree` where the library is an older one.
+pub fn print(tree: &Expr) -> Result<String, Error> {
+    print_in_mode(tree, None)
+}
+
+/// The text of a tree, laid out as by [`format`](crate::format).
+///
+/// # Errors
+///
+/// Those of [`print`], and `LevelTooHigh`.
+pub fn print_layout(tree: &Expr, layout: Layout) -> Result<String, Error> {
+    print_in_mode(tree, Some(layout))
+}
+
+impl fmt::Display for Expr {
+    /// What [`print`] gives, or its error within `<` and `>`.
+    fn fmt(&self, f: &mut fmt::Formatter<'_>) -> fmt::Result {
+        match print(self) {
+            Ok(line) => f.write_str(&line),
+            Err(error) => write!(f, "<{error}>"),
+        }
+    }
+}
+
+impl FromStr for Expr {
+    type Err = Error;
+
+    fn from_str(query: &str) -> Result<Expr, Error> {
+        parse(query)
+    }
+}
+
+fn print_in_mode(tree: &Expr, layout: Option<Layout>) -> Result<String, Error> {
+    let cause = match crate::print_tree(&tree.to_json(), true, layout) {
+        Err(cause @ (Error::NotATree(_) | Error::Unfaithful(_) | Error::TooLargeTree(_))) => cause,
+        other => return other,
+    };
+    let said = cause.to_string();
+    let (path, message) = match (&cause, said.split_once(": ")) {
+        (Error::NotATree(_), Some((path, message))) => (path.to_string(), message.to_string()),
+        // (the form is JSON, but deeper than the library reads)
+        (Error::NotATree(_), None) => (String::from("$"), String::from("nested too deeply")),
+        (Error::Unfaithful(_), _) => (first_without_text(tree), said),
+        _ => (String::from("$"), said),
+    };
+    Err(Error::Node(NodeError { path, message, cause: Box::new(cause) }))
+}
+
+/// The path of the lowest expression that has no text, though all below it have one: that is where the fault is.
+fn first_without_text(tree: &Expr) -> String {
+    let has_text = |expr: &Expr| crate::print_tree(&expr.to_json(), true, None).is_ok();
+    let found = places(tree).into_iter().rev().find(|(_, expr)| !has_text(expr));
+    found.map_or_else(|| String::from("$"), |(path, _)| path)
+}
+
+/// The expressions of a tree with their paths, in the order of a walk.
+fn places(tree: &Expr) -> Vec<(String, &Expr)> {
+    let mut found = Vec::new();
+    let mut left = vec![(String::from("$"), tree)];
+    while let Some((path, expr)) = left.pop() {
+        let names = names_of_children(expr);
+        let below = names.into_iter().zip(expr.children());
+        let below: Vec<(String, &Expr)> = below.map(|(name, child)| (format!("{path}.{name}"), child)).collect();
+        left.extend(below.into_iter().rev());
+        found.push((path, expr));
+    }
+    found
+}
+
+/// The members of the JSON form that have the children.
+fn names_of_children(expr: &Expr) -> Vec<String> {
+    let count = expr.children().len();
+    match expr {
+        Expr::Aggregate(_) if count == 2 => vec![String::from("param"), String::from("expr")],
+        Expr::Binary(_) => vec![String::from("lhs"), String::from("rhs")],
+        Expr::Call(_) => (0..count).map(|number| format!("args[{number}]")).collect(),
+        _ => vec![String::from("expr"); count],
+    }
+}

@@ -1,0 +1,377 @@
+//! The nodes of a tree.
+
+use crate::function::{Function, get_function};
+use std::mem;
+
+/// An expression of a query. The names are those of the crate `promql-parser`.
+///
+/// [`parse`](crate::parse) and `FromStr` read one, [`print`](crate::print) and `Display` print it, and [`Expr::to_json`] and
+/// [`Expr::from_json`] are the ways to and from the JSON form (`docs/reference/json.md` of the repository), which has all that a tree has.
+/// Times and lengths of time are whole milliseconds.
+#[derive(Clone, Debug, PartialEq, Eq, Hash)]
+pub enum Expr {
+    /// An aggregation, as `sum by (job) (up)`.
+    Aggregate(AggregateExpr),
+    /// A minus before an expression.
+    Unary(UnaryExpr),
+    /// Two expressions and an operator.
+    Binary(BinaryExpr),
+    /// An expression in parentheses.
+    Paren(ParenExpr),
+    /// A subquery, as `up[1h:5m]`.
+    Subquery(SubqueryExpr),
+    /// A number.
+    NumberLiteral(NumberLiteral),
+    /// A string.
+    StringLiteral(StringLiteral),
+    /// A selector, as `up{job="a"}`.
+    VectorSelector(VectorSelector),
+    /// A selector with a range, as `up[5m]`.
+    MatrixSelector(MatrixSelector),
+    /// A call of a function.
+    Call(Call),
+}
+
+/// An aggregation.
+#[derive(Clone, Debug, PartialEq, Eq, Hash)]
+pub struct AggregateExpr {
+    /// The operator: `sum`, `topk` and so on.
+    pub op: String,
+    /// What is aggregated.
+    pub expr: Box<Expr>,
+    /// What operators such as `topk` have before the expression.
+    pub param: Option<Box<Expr>>,
+    /// The labels after `by`, or after `without`.
+    pub grouping: Vec<String>,
+    /// Whether the word is `without`.
+    pub without: bool,
+}
+
+/// A minus before an expression.
+#[derive(Clone, Debug, PartialEq, Eq, Hash)]
+pub struct UnaryExpr {
+    /// The operand.
+    pub expr: Box<Expr>,
+}
+
+/// A binary expression.
+#[derive(Clone, Debug, PartialEq, Eq, Hash)]
+pub struct BinaryExpr {
+    /// The operator: `+`, `==`, `and` and so on.
+    pub op: String,
+    /// The left side.
+    pub lhs: Box<Expr>,
+    /// The right side.
+    pub rhs: Box<Expr>,
+    /// Whether the word `bool` is there.
+    pub return_bool: bool,
+    /// How the sides match.
+    pub matching: Option<VectorMatching>,
+}
+
+/// How the sides of a binary expression match.
+#[derive(Clone, Debug, Default, PartialEq, Eq, Hash)]
+pub struct VectorMatching {
+    /// How many elements of one side match how many of the other.
+    pub card: VectorMatchCardinality,
+    /// Whether the sides match by these labels, after `on`, or by all but these, after `ignoring`.
+    pub on: bool,
+    /// The labels after `on` or `ignoring`.
+    pub labels: Vec<String>,
+    /// The numbers for elements without a match.
+    pub fill_values: VectorMatchFillValues,
+}
+
+/// How many elements of one side match how many of the other.
+#[derive(Clone, Debug, Default, PartialEq, Eq, Hash)]
+pub enum VectorMatchCardinality {
+    /// One matches one.
+    #[default]
+    OneToOne,
+    /// `group_left`, with its labels.
+    ManyToOne(Vec<String>),
+    /// `group_right`, with its labels.
+    OneToMany(Vec<String>),
+    /// As with `and`, `or` and `unless`, and no other operator.
+    ManyToMany,
+}
+
+/// The numbers after `fill_left` and `fill_right`, as they print.
+#[derive(Clone, Debug, Default, PartialEq, Eq, Hash)]
+pub struct VectorMatchFillValues {
+    /// The number for the left side.
+    pub lhs: Option<String>,
+    /// The number for the right side.
+    pub rhs: Option<String>,
+}
+
+/// An expression in parentheses.
+#[derive(Clone, Debug, PartialEq, Eq, Hash)]
+pub struct ParenExpr {
+    /// The expression inside.
+    pub expr: Box<Expr>,
+}
+
+/// A subquery.
+#[derive(Clone, Debug, PartialEq, Eq, Hash)]
+pub struct SubqueryExpr {
+    /// The expression before the bracket.
+    pub expr: Box<Expr>,
+    /// The range in milliseconds.
+    pub range: u64,
+    /// The step in milliseconds.
+    pub step: Option<u64>,
+    /// The offset in milliseconds, negative for one into the future.
+    pub offset: i128,
+    /// The time after `@`.
+    pub at: Option<AtModifier>,
+}
+
+/// A number. It has at most 38 digits, and they are exact, so its value is a text.
+#[derive(Clone, Debug, PartialEq, Eq, Hash)]
+pub struct NumberLiteral {
+    /// The number as it prints: `0.5`, `-Inf`, `NaN`.
+    pub val: String,
+}
+
+/// A string.
+#[derive(Clone, Debug, PartialEq, Eq, Hash)]
+pub struct StringLiteral {
+    /// The text without its quotes.
+    pub val: String,
+}
+
+/// A selector.
+#[derive(Clone, Debug, Default, PartialEq, Eq, Hash)]
+pub struct VectorSelector {
+    /// The name before the braces.
+    pub name: Option<String>,
+    /// The matchers between the braces.
+    pub matchers: Matchers,
+    /// The offset in milliseconds, negative for one into the future.
+    pub offset: i128,
+    /// The time after `@`.
+    pub at: Option<AtModifier>,
+}
+
+/// A selector with a range. The offset and the time after `@` are those of its selector.
+#[derive(Clone, Debug, PartialEq, Eq, Hash)]
+pub struct MatrixSelector {
+    /// The selector.
+    pub vs: VectorSelector,
+    /// The range in milliseconds.
+    pub range: u64,
+    /// How samples at the ends of the range are taken.
+    pub mode: RangeMode,
+}
+
+/// How samples at the ends of a range are taken.
+#[derive(Clone, Copy, Debug, Default, PartialEq, Eq, Hash)]
+pub enum RangeMode {
+    /// No word.
+    #[default]
+    Plain,
+    /// The word `smoothed`.
+    Smoothed,
+    /// The word `anchored`.
+    Anchored,
+}
+
+/// The time after `@`.
+#[derive(Clone, Copy, Debug, PartialEq, Eq, Hash)]
+pub enum AtModifier {
+    /// The word `start`.
+    Start,
+    /// The word `end`.
+    End,
+    /// Milliseconds since the epoch.
+    At(i64),
+}
+
+/// The matchers of a selector.
+#[derive(Clone, Debug, Default, PartialEq, Eq, Hash)]
+pub struct Matchers {
+    /// Those that are in no group.
+    pub matchers: Vec<Matcher>,
+    /// The groups between `or`.
+    pub or_matchers: Vec<Vec<Matcher>>,
+}
+
+impl Matchers {
+    /// Adds a matcher: to each group, where there are groups.
+    pub fn add(&mut self, matcher: &Matcher) {
+        if self.or_matchers.is_empty() {
+            self.matchers.push(matcher.clone());
+        }
+        for group in &mut self.or_matchers {
+            group.push(matcher.clone());
+        }
+    }
+}
+
+/// A matcher of a label.
+#[derive(Clone, Debug, PartialEq, Eq, Hash)]
+pub struct Matcher {
+    /// The operator.
+    pub op: MatchOp,
+    /// The label.
+    pub name: String,
+    /// The value, a pattern for `Re` and `NotRe`.
+    pub value: String,
+}
+
+impl Matcher {
+    /// A matcher of these parts.
+    pub fn new(op: MatchOp, name: &str, value: &str) -> Matcher {
+        Matcher { op, name: name.to_string(), value: value.to_string() }
+    }
+}
+
+/// The operator of a matcher.
+#[derive(Clone, Copy, Debug, PartialEq, Eq, Hash)]
+pub enum MatchOp {
+    /// `=`
+    Equal,
+    /// `!=`
+    NotEqual,
+    /// `=~`
+    Re,
+    /// `!~`
+    NotRe,
+}
+
+/// A call of a function.
+#[derive(Clone, Debug, PartialEq, Eq, Hash)]
+pub struct Call {
+    /// The name of the function.
+    pub name: String,
+    /// The arguments.
+    pub args: Vec<Expr>,
+}
+
+impl Call {
+    /// The function, with its types; `None` where there is none of this name.
+    pub fn function(&self) -> Option<&'static Function> {
+        get_function(&self.name)
+    }
+}
+
+impl NumberLiteral {
+    /// The value, rounded where it has more digits than an `f64`.
+    pub fn to_f64(&self) -> f64 {
+        self.val.parse().unwrap_or(f64::NAN)
+    }
+}
+
+impl From<f64> for NumberLiteral {
+    /// The number that `Display` shows of the value.
+    fn from(value: f64) -> NumberLiteral {
+        let val = match value {
+            _ if value.is_infinite() => String::from(if value > 0.0 { "Inf" } else { "-Inf" }),
+            _ if value == 0.0 => String::from("0"),
+            _ => value.to_string(),
+        };
+        NumberLiteral { val }
+    }
+}
+
+impl From<f64> for Expr {
+    fn from(value: f64) -> Expr {
+        Expr::NumberLiteral(value.into())
+    }
+}
+
+impl From<VectorSelector> for Expr {
+    fn from(selector: VectorSelector) -> Expr {
+        Expr::VectorSelector(selector)
+    }
+}
+
+impl Expr {
+    /// The selector of this name.
+    pub fn selector(name: &str) -> Expr {
+        VectorSelector { name: Some(name.to_string()), ..VectorSelector::default() }.into()
+    }
+
+    /// A call of the function of this name. One of another name has no text: [`print`](crate::print) says so.
+    pub fn call(name: &str, args: impl Into<Vec<Expr>>) -> Expr {
+        Expr::Call(Call { name: name.to_string(), args: args.into() })
+    }
+
+    /// An aggregation of an expression, by these labels.
+    pub fn aggregate_by(op: &str, labels: &[&str], expr: Expr) -> Expr {
+        let grouping = labels.iter().map(ToString::to_string).collect();
+        Expr::Aggregate(AggregateExpr { op: op.to_string(), expr: Box::new(expr), param: None, grouping, without: false })
+    }
+
+    /// The selector of a selector or of one with a range.
+    pub fn as_selector(&self) -> Option<&VectorSelector> {
+        match self {
+            Expr::VectorSelector(selector) | Expr::MatrixSelector(MatrixSelector { vs: selector, .. }) => Some(selector),
+            _ => None,
+        }
+    }
+
+    /// The same, to be changed.
+    pub fn as_selector_mut(&mut self) -> Option<&mut VectorSelector> {
+        match self {
+            Expr::VectorSelector(selector) | Expr::MatrixSelector(MatrixSelector { vs: selector, .. }) => Some(selector),
+            _ => None,
+        }
+    }
+
+    /// The expressions right below: the parameter of an aggregation comes before what is aggregated.
+    pub fn children(&self) -> Vec<&Expr> {
+        match self {
+            Expr::Aggregate(it) => it.param.iter().map(|param| &**param).chain([&*it.expr]).collect(),
+            Expr::Binary(it) => vec![&it.lhs, &it.rhs],
+            Expr::Call(it) => it.args.iter().collect(),
+            Expr::Paren(ParenExpr { expr }) | Expr::Unary(UnaryExpr { expr }) => vec![expr],
+            Expr::Subquery(it) => vec![&it.expr],
+            Expr::NumberLiteral(_) | Expr::StringLiteral(_) | Expr::VectorSelector(_) | Expr::MatrixSelector(_) => Vec::new(),
+        }
+    }
+
+    /// The same, to be changed.
+    pub fn children_mut(&mut self) -> Vec<&mut Expr> {
+        match self {
+            Expr::Aggregate(it) => it.param.iter_mut().map(|param| &mut **param).chain([&mut *it.expr]).collect(),
+            Expr::Binary(it) => vec![&mut it.lhs, &mut it.rhs],
+            Expr::Call(it) => it.args.iter_mut().collect(),
+            Expr::Paren(ParenExpr { expr }) | Expr::Unary(UnaryExpr { expr }) => vec![expr],
+            Expr::Subquery(it) => vec![&mut it.expr],
+            Expr::NumberLiteral(_) | Expr::StringLiteral(_) | Expr::VectorSelector(_) | Expr::MatrixSelector(_) => Vec::new(),
+        }
+    }
+
+    /// This expression and all below it: each before those below it, and these in the order of [`Expr::children`].
+    pub fn walk(&self) -> Walk<'_> {
+        Walk { left: vec![self] }
+    }
+
+    /// The tree that the function makes of this one: it is called with each expression, once those below it are what it returned for them,
+    /// and returns what takes its place.
+    pub fn transform(mut self, function: &mut impl FnMut(Expr) -> Expr) -> Expr {
+        for child in self.children_mut() {
+            let taken = mem::replace(child, Expr::StringLiteral(StringLiteral { val: String::new() }));
+            *child = taken.transform(function);
+        }
+        function(self)
+    }
+}
+
+/// The expressions of a tree: what [`Expr::walk`] gives.
+#[derive(Clone, Debug)]
+pub struct Walk<'a> {
+    left: Vec<&'a Expr>,
+}
+
+impl<'a> Iterator for Walk<'a> {
+    type Item = &'a Expr;
+
+    fn next(&mut self) -> Option<&'a Expr> {
+        let expr = self.left.pop()?;
+        self.left.extend(expr.children().into_iter().rev());
+        Some(expr)
+    }
+}

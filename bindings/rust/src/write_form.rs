@@ -1,0 +1,175 @@
+//! From a tree to its JSON form.
+
+use crate::json::write_string;
+use crate::tree::*;
+
+impl Expr {
+    /// The JSON form, without a space and with the members of objects in byte order, as the library writes it.
+    pub fn to_json(&self) -> String {
+        let mut out = String::new();
+        write_expr(&mut out, self);
+        out
+    }
+}
+
+fn write_expr(out: &mut String, expr: &Expr) {
+    match expr {
+        Expr::Aggregate(it) => {
+            write_expr(named(out, "{\"expr\":"), &it.expr);
+            write_texts(named(out, ",\"grouping\":"), &it.grouping);
+            write_string(named(out, ",\"op\":"), &it.op);
+            write_or_null(named(out, ",\"param\":"), it.param.as_deref(), write_expr);
+            out.push_str(&format!(",\"type\":\"aggregation\",\"without\":{}}}", it.without));
+        }
+        Expr::Binary(it) => write_binary(out, it),
+        Expr::Call(it) => {
+            write_list(named(out, "{\"args\":"), &it.args, write_expr);
+            write_function(named(out, ",\"func\":"), it);
+            out.push_str(",\"type\":\"call\"}");
+        }
+        Expr::MatrixSelector(it) => {
+            let mode = match it.mode {
+                RangeMode::Plain => "",
+                RangeMode::Smoothed => ",\"rangeMode\":\"smoothed\"",
+                RangeMode::Anchored => ",\"rangeMode\":\"anchored\"",
+            };
+            write_selector(out, &it.vs, &format!(",\"range\":{}{mode}", it.range));
+            out.push_str(",\"type\":\"matrixSelector\"}");
+        }
+        Expr::NumberLiteral(it) => write_literal(out, "numberLiteral", &it.val),
+        Expr::Paren(it) => {
+            write_expr(named(out, "{\"expr\":"), &it.expr);
+            out.push_str(",\"type\":\"parenExpr\"}");
+        }
+        Expr::StringLiteral(it) => write_literal(out, "stringLiteral", &it.val),
+        Expr::Subquery(it) => write_subquery(out, it),
+        Expr::Unary(it) => {
+            write_expr(named(out, "{\"expr\":"), &it.expr);
+            out.push_str(",\"op\":\"-\",\"type\":\"unaryExpr\"}");
+        }
+        Expr::VectorSelector(it) => {
+            write_selector(out, it, "");
+            out.push_str(",\"type\":\"vectorSelector\"}");
+        }
+    }
+}
+
+/// Writes the text before a value, which is to be written next.
+fn named<'a>(out: &'a mut String, text: &str) -> &'a mut String {
+    out.push_str(text);
+    out
+}
+
+fn write_literal(out: &mut String, kind: &str, val: &str) {
+    write_string(named(out, &format!("{{\"type\":\"{kind}\",\"val\":")), val);
+    out.push('}');
+}
+
+fn write_or_null<T: ?Sized>(out: &mut String, value: Option<&T>, write: impl Fn(&mut String, &T)) {
+    match value {
+        Some(value) => write(out, value),
+        None => out.push_str("null"),
+    }
+}
+
+fn write_list<T>(out: &mut String, items: &[T], write: impl Fn(&mut String, &T)) {
+    out.push('[');
+    for (number, item) in items.iter().enumerate() {
+        if number > 0 {
+            out.push(',');
+        }
+        write(out, item);
+    }
+    out.push(']');
+}
+
+fn write_texts(out: &mut String, texts: &[String]) {
+    write_list(out, texts, |out, text| write_string(out, text));
+}
+
+fn write_text_or_null(out: &mut String, text: &Option<String>) {
+    write_or_null(out, text.as_deref(), write_string);
+}
+
+fn write_binary(out: &mut String, it: &BinaryExpr) {
+    out.push_str(&format!("{{\"bool\":{}", it.return_bool));
+    write_expr(named(out, ",\"lhs\":"), &it.lhs);
+    write_or_null(named(out, ",\"matching\":"), it.matching.as_ref(), write_matching);
+    write_string(named(out, ",\"op\":"), &it.op);
+    write_expr(named(out, ",\"rhs\":"), &it.rhs);
+    out.push_str(",\"type\":\"binaryExpr\"}");
+}
+
+fn write_matching(out: &mut String, it: &VectorMatching) {
+    out.push_str("{\"card\":");
+    match &it.card {
+        VectorMatchCardinality::OneToOne => out.push_str("\"one-to-one\""),
+        VectorMatchCardinality::ManyToMany => out.push_str("\"many-to-many\""),
+        VectorMatchCardinality::ManyToOne(labels) => {
+            write_texts(named(out, "{\"many-to-one\":"), labels);
+            out.push('}');
+        }
+        VectorMatchCardinality::OneToMany(labels) => {
+            write_texts(named(out, "{\"one-to-many\":"), labels);
+            out.push('}');
+        }
+    }
+    write_text_or_null(named(out, ",\"fillValues\":{\"lhs\":"), &it.fill_values.lhs);
+    write_text_or_null(named(out, ",\"rhs\":"), &it.fill_values.rhs);
+    write_texts(named(out, "},\"include\":[],\"labels\":"), &it.labels);
+    out.push_str(&format!(",\"on\":{}}}", it.on));
+}
+
+fn write_subquery(out: &mut String, it: &SubqueryExpr) {
+    let (start_or_end, timestamp) = words_of(it.at);
+    write_expr(named(out, "{\"expr\":"), &it.expr);
+    out.push_str(&format!(",\"offset\":{},\"range\":{},\"startOrEnd\":{start_or_end}", it.offset, it.range));
+    write_or_null(named(out, ",\"step\":"), it.step.as_ref(), |out, step| out.push_str(&step.to_string()));
+    out.push_str(&format!(",\"timestamp\":{timestamp},\"type\":\"subquery\"}}"));
+}
+
+/// Writes an object with the members of a selector, and with those of its range, but for its type and its end.
+fn write_selector(out: &mut String, it: &VectorSelector, range: &str) {
+    let (start_or_end, timestamp) = words_of(it.at);
+    write_list(named(out, "{\"matchers\":"), &it.matchers.matchers, write_matcher);
+    write_text_or_null(named(out, ",\"name\":"), &it.name);
+    out.push_str(&format!(",\"offset\":{}", it.offset));
+    if !it.matchers.or_matchers.is_empty() {
+        let write_group = |out: &mut String, group: &Vec<Matcher>| write_list(out, group, write_matcher);
+        write_list(named(out, ",\"or_matchers\":"), &it.matchers.or_matchers, write_group);
+    }
+    out.push_str(&format!("{range},\"startOrEnd\":{start_or_end},\"timestamp\":{timestamp}"));
+}
+
+fn write_matcher(out: &mut String, it: &Matcher) {
+    write_string(named(out, "{\"name\":"), &it.name);
+    let op = match it.op {
+        MatchOp::Equal => "=",
+        MatchOp::NotEqual => "!=",
+        MatchOp::Re => "=~",
+        MatchOp::NotRe => "!~",
+    };
+    write_string(named(out, &format!(",\"type\":\"{op}\",\"value\":")), &it.value);
+    out.push('}');
+}
+
+/// The values of `startOrEnd` and `timestamp`.
+fn words_of(at: Option<AtModifier>) -> (&'static str, String) {
+    match at {
+        None => ("null", String::from("null")),
+        Some(AtModifier::Start) => ("\"start\"", String::from("null")),
+        Some(AtModifier::End) => ("\"end\"", String::from("null")),
+        Some(AtModifier::At(milliseconds)) => ("null", milliseconds.to_string()),
+    }
+}
+
+/// Writes the function of a call. One without a row of the table has no types, and is no function to the library.
+fn write_function(out: &mut String, call: &Call) {
+    let function = call.function();
+    let types = function.map_or(&[][..], |it| it.arg_types);
+    write_list(named(out, "{\"argTypes\":"), types, |out, it| write_string(out, it.text()));
+    out.push_str(&format!(",\"experimental\":{}", function.map_or(false, |it| it.experimental)));
+    write_string(named(out, ",\"name\":"), &call.name);
+    write_string(named(out, ",\"returnType\":"), function.map_or("vector", |it| it.return_type.text()));
+    out.push_str(&format!(",\"variadic\":{}}}", function.map_or(0, |it| it.variadic)));
+}

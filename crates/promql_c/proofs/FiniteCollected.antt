@@ -1,0 +1,33 @@
+-- What a query names, as JSON, has no number.
+use Rattle.std.proofs.Common.{◌≡◌, refl, List, [], ◌∷◌, map}
+use Rattle.std.specs.Prelude.{false, Option, Some, None}
+use Rattle.std.proofs.lemmas.Bool.{or_from}
+use Rattle.serde_json.specs.Data.{Data, string}
+use Rattle.serde_json.specs.View.{items_of}
+use Rattle.serde_json.specs.Written.{has_float, items_have_float}
+use Rattle.promql_text.specs.Texts.{Text}
+use Rattle.promql_rewrite.specs.Collecting.{Selection, selected}
+use Rattle.promql_json.specs.JsonParts.{or_null}
+use Rattle.promql_c.specs.CollectedJson.{at_value, collected_value, maybe_text, offset_value, range_value, selector_value, selectors, texts}
+
+no_numbers : {A : Type 0} (f : A → Data) → ((a : A) → has_float (f a) ≡ false) → (xs : List A) → items_have_float (items_of (map f xs)) ≡ false
+no_numbers f none [] = refl
+no_numbers f none (x ∷ xs) = or_from (has_float (f x)) _ (none x) (no_numbers f none xs)
+
+or_null_no_number : {A : Type 0} (f : A → Data) → ((a : A) → has_float (f a) ≡ false) → (o : Option A) → has_float (or_null f o) ≡ false
+or_null_no_number f none None = refl
+or_null_no_number f none (Some a) = none a
+
+selector_no_number : (s : Selection) → has_float (selector_value s) ≡ false
+selector_no_number (selected name matchers range offset at) =
+    or_from _ _ (or_null_no_number _ (λ m. refl) at)
+    (or_from _ _ (or_null_no_number _ (λ t. refl) name) (or_from _ _ (or_null_no_number _ (λ s. refl) offset)
+    (or_from _ _ (or_null_no_number _ (λ n. refl) range) refl)))
+
+texts_no_number : (ts : List Text) → has_float (texts ts) ≡ false
+texts_no_number ts = no_numbers string (λ t. refl) ts
+
+pub collected_no_number : (functions labels metrics : List Text) (found : List Selection) → has_float (collected_value functions labels metrics found) ≡ false
+collected_no_number functions labels metrics found =
+    or_from _ _ (texts_no_number functions) (or_from _ _ (texts_no_number labels) (or_from _ _ (texts_no_number metrics)
+    (or_from _ _ (no_numbers selector_value selector_no_number found) refl)))

@@ -1,0 +1,11 @@
+-- In which formats a call prints a query (docs/guide/bindings.md, "Calls").
+use Rattle.std.specs.Prelude.{ℕ, ◌==◌, nat_le, if◌then◌else◌, Option, Some, None}
+use Rattle.promql_lines.specs.declared.request.Format.{Format}
+use Rattle.promql_lines.specs.declared.request.Format.TheVariants.{Pretty, Line, Json}
+
+-- the format of a mode's number, with the level and the width of a layout
+abbrev pub format_numbered : ℕ → ℕ → ℕ → Option Format
+format_numbered mode level width =
+    if mode == 0 then Some Line
+    else (if mode == 1 then (if nat_le level 512 then Some (Pretty (record { level = level; width = width })) else None)
+    else (if mode == 2 then Some Json else None))

@@ -1,0 +1,152 @@
+//! The calls: from the bytes of a query into a caller's buffer. docs/guide/bindings.md, "Calls", has the rules.
+
+ghost use Rattle.std.specs.Prelude.{◌==◌, not, Some, Ok};
+ghost use Rattle.promql_c.specs.CallResults.{Shows, ShowsSome};
+ghost use Rattle.promql_c.specs.Calls.{IsCheckOf, IsCollectOf, IsEnforceOf, IsFormattedOf, IsPrintOf, IsSnippetOf, IsTreePrintOf};
+ghost use Rattle.promql_c.specs.Formats.{format_numbered};
+
+use crate::call_result::{CallResult, show, show_text};
+use crate::collecting::collect_query;
+use crate::enforcing::enforce_query;
+use crate::formatting::format_bytes;
+use crate::printing::{check_query, format_of, mark_query, print_query};
+use crate::tree_printing::print_form;
+use promql_formatter::FormatOptions;
+use promql_lines::request::Format;
+use promql_span::Span;
+use promql_span::limits::Limits;
+use std::alloc::Global;
+
+/// The version of the calls: a new call, or a new status of one, has a new version.
+pub const CALLS_VERSION: &str = "0.5.0";
+
+/// Prints a query in the mode of this number: 0 on one line, 1 laid out, 2 as JSON. `level` counts indentations of two
+/// spaces, at most 512, and `width` is the most bytes that a line has, its indentation not counted; both are for a
+/// layout alone.
+pub fn print(
+    alloc: Global,
+    limits: &Limits,
+    query: &[u8],
+    mode: u32,
+    level: u32,
+    width: usize,
+    buffer: &mut [u8],
+) -> CallResult
+    ensures { ShowsSome (IsPrintOf limits.now query.now (format_numbered mode level width))
+        result buffer.old buffer.new }
+{
+    let made = print_query(alloc, limits, format_of(mode, level, width), query);
+    show(alloc, made, buffer)
+}
+
+/// Prints a query on one line, which is the line of its normal form too: the key of a cache (docs/guide/cache.md).
+pub fn canonical(alloc: Global, limits: &Limits, query: &[u8], buffer: &mut [u8]) -> CallResult
+    ensures { ShowsSome (IsPrintOf limits.now query.now (Some Format.Line)) result buffer.old buffer.new }
+{
+    let made = print_query(alloc, limits, Some(Format::Line), query);
+    show(alloc, made, buffer)
+}
+
+/// Prints a query on one line with a matcher in every selector. The matcher is written as between the braces of a selector:
+/// `namespace="team-a"`, say. The line is within the limits, too; it is read again before, and means the enforced query
+/// (docs/guide/rewriting.md).
+pub fn enforce(
+    alloc: Global,
+    limits: &Limits,
+    query: &[u8],
+    matcher: &[u8],
+    buffer: &mut [u8],
+) -> CallResult
+    ensures { ShowsSome (IsEnforceOf limits.now query.now matcher.now) result buffer.old buffer.new }
+{
+    let made = enforce_query(alloc, limits, query, matcher);
+    show(alloc, made, buffer)
+}
+
+/// Shows what a query names, as JSON: its functions, labels and metrics, and its selectors with their times
+/// (docs/guide/bindings.md, "What a query names").
+pub fn collect(alloc: Global, limits: &Limits, query: &[u8], buffer: &mut [u8]) -> CallResult
+    ensures { ShowsSome (IsCollectOf limits.now query.now) result buffer.old buffer.new }
+{
+    let made = collect_query(alloc, limits, query);
+    show(alloc, made, buffer)
+}
+
+/// Checks a query: an empty text where it is accepted, and else the error and its place.
+pub fn check(alloc: Global, limits: &Limits, query: &[u8], buffer: &mut [u8]) -> CallResult
+    ensures { ShowsSome (IsCheckOf limits.now query.now) result buffer.old buffer.new }
+{
+    let made = check_query(alloc, limits, query);
+    show(alloc, made, buffer)
+}
+
+/// Shows the line of a query where the part from `start` up to `end` begins, with a mark below it, as `promql_check` does.
+pub fn snippet(
+    alloc: Global,
+    query: &[u8],
+    start: usize,
+    end: usize,
+    buffer: &mut [u8],
+) -> CallResult
+    ensures { ShowsSome (IsSnippetOf query.now (record { start = start; end = end }))
+        result buffer.old buffer.new }
+{
+    let made = mark_query(alloc, query, Span { start, end });
+    show(alloc, made, buffer)
+}
+
+/// Prints the tree whose JSON form is given (docs/reference/json.md, "From JSON to a text"), in the modes of `print`; with
+/// parentheses where the tree needs them, if `parentheses` is not 0. The text is within the limits of a query, and means the
+/// tree.
+pub fn print_tree(
+    alloc: Global,
+    limits: &Limits,
+    form: &[u8],
+    mode: u32,
+    level: u32,
+    width: usize,
+    parentheses: u32,
+    buffer: &mut [u8],
+) -> CallResult
+    ensures { ShowsSome (IsTreePrintOf limits.now form.now (format_numbered mode level width) (not (parentheses == 0)))
+        result buffer.old buffer.new }
+{
+    let made = print_form(
+        alloc,
+        limits,
+        format_of(mode, level, width),
+        parentheses != 0,
+        form,
+    );
+    show(alloc, made, buffer)
+}
+
+/// Lays a query out for people (docs/reference/formatting.md): comments stay, and chains of operators are flat. Lines have at most
+/// `width` characters where they can be broken, and indentations of `indent_width` spaces. Where `keep_spelling` is not 0, numbers,
+/// durations, strings and the order of what is written stay as they are.
+pub fn format(
+    alloc: Global,
+    limits: &Limits,
+    query: &[u8],
+    width: usize,
+    indent_width: usize,
+    keep_spelling: u32,
+    buffer: &mut [u8],
+) -> CallResult
+    ensures { ShowsSome (IsFormattedOf limits.now (not (keep_spelling == 0)) query.now) result buffer.old buffer.new }
+{
+    let options = FormatOptions {
+        width,
+        indent_width,
+        keep_spelling: keep_spelling != 0,
+    };
+    let made = format_bytes(alloc, limits, &options, query);
+    show(alloc, made, buffer)
+}
+
+/// Shows `CALLS_VERSION`.
+pub fn version(buffer: &mut [u8]) -> CallResult
+    ensures { Shows (Ok CALLS_VERSION.now) result buffer.old buffer.new }
+{
+    show_text(CALLS_VERSION, buffer)
+}

@@ -1,0 +1,47 @@
+//! The text of a tree that is given as JSON.
+
+ghost use Rattle.std.specs.Prelude.{Some, string_bytes};
+ghost use Rattle.promql_grammar.specs.Results.{on_result};
+ghost use Rattle.promql_c.specs.Calls.{IsTreePrintOf};
+
+use crate::call_error::CallError;
+use crate::printing::within;
+use promql_lines::request::Format;
+use promql_lines::tree_text::tree_text;
+use promql_span::limits::Limits;
+use std::alloc::Global;
+
+/// The text of the tree whose form a text is, in a format.
+fn print_text(
+    alloc: Global,
+    limits: &Limits,
+    format: Format,
+    parens: bool,
+    form: &str,
+) -> Result<String, CallError>
+    ensures { IsTreePrintOf limits.now form.now (Some format) parens (on_result (λ s. string_bytes s) result) }
+{
+    match tree_text(alloc, limits, format, parens, form) {
+        Ok(text) => within(limits, text),
+        Err(error) => Err(CallError::NotPrinted(error)),
+    }
+}
+
+/// The text of the tree whose form is given, in the format that was asked for.
+pub(crate) fn print_form(
+    alloc: Global,
+    limits: &Limits,
+    asked: Option<Format>,
+    parens: bool,
+    form: &[u8],
+) -> Result<String, CallError>
+    ensures { IsTreePrintOf limits.now form.now asked parens (on_result (λ s. string_bytes s) result) }
+{
+    let Some(format) = asked else {
+        return Err(CallError::UnknownMode);
+    };
+    let Ok(form) = str::from_utf8(form) else {
+        return Err(CallError::NotUtf8);
+    };
+    print_text(alloc, limits, format, parens, form)
+}

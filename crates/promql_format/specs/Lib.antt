@@ -1,0 +1,4 @@
+pub mod Settings
+pub mod Layouts
+pub mod InputLayouts
+pub mod ProgramArguments

@@ -1,0 +1,38 @@
+-- The options of the program (docs/reference/programs.md, "One query, formatted").
+use Rattle.std.specs.Prelude.{ℕ, ◌||◌, Bool, true, false, bytes_eq, codes, if◌then◌else◌, List, [], ◌∷◌, Option, Some, None, option_and_then}
+use Rattle.promql_text.specs.Texts.{Text}
+use Rattle.promql_report.specs.LimitOptions.{default_limits, number_in}
+use Rattle.promql_format.specs.declared.settings.Settings.{Settings}
+
+abbrev pub default_settings : Settings
+default_settings =
+    record { limits = default_limits; options = record { width = 100; indent_width = 2; keep_spelling = false }; is_check = false }
+
+-- options without a number
+abbrev pub is_flag : Text → Bool
+is_flag word = bytes_eq word (codes "--check") || bytes_eq word (codes "--keep-spelling")
+
+abbrev pub with_flag : Settings → Text → Settings
+with_flag s word =
+    if bytes_eq word (codes "--check") then record s { is_check = true }
+    else record s { options = record s.options { keep_spelling = true } }
+
+-- options with one
+abbrev pub with_number : Settings → Text → ℕ → Option Settings
+with_number s name n =
+    if bytes_eq name (codes "--width") then Some (record s { options = record s.options { width = n } })
+    else if bytes_eq name (codes "--indent") then Some (record s { options = record s.options { indent_width = n } })
+    else if bytes_eq name (codes "--max-len") then Some (record s { limits = record s.limits { max_len = n } })
+    else if bytes_eq name (codes "--max-patterns") then Some (record s { limits = record s.limits { max_pattern_size = n } })
+    else None
+
+-- options, in any order; the last of one name counts
+abbrev pub settings_with : Settings → List Text → Option Settings
+settings_with s [] = Some s
+settings_with s (word ∷ []) = if is_flag word then Some (with_flag s word) else None
+settings_with s (word ∷ value ∷ words) =
+    if is_flag word then settings_with (with_flag s word) (value ∷ words)
+    else option_and_then (λ n. option_and_then (λ changed. settings_with changed words) (with_number s word n)) (number_in value)
+
+abbrev pub settings_of : List Text → Option Settings
+settings_of = settings_with default_settings

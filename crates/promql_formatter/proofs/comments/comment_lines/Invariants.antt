@@ -1,0 +1,14 @@
+use Rattle.std.proofs.Common.{◌≡◌, ◌++◌, map}
+use Rattle.promql_token.specs.Scan.{items_left}
+use Rattle.promql_token.specs.Trivia.{lexemes}
+use Rattle.promql_token.specs.Vocabulary.{concat_texts}
+use Rattle.promql_formatter.specs.Comments.{comment_lines, gaps}
+use Rattle.promql_formatter.proofs.CommentScans.{in_gaps}
+use Rattle.promql_formatter.proofs.comments.comment_lines.Given as goal
+
+-- the comments so far, and those to come
+abbrev pub invariant-loop-token : goal.invariant-loop-token
+invariant-loop-token l =
+    (goal.iterator-loop-token).can_next l.token-iterator ×
+    (goal.iterator-loop-token).is_finite l.token-iterator ×
+    (l.found.items ++ in_gaps (gaps l.text l.at (lexemes (items_left l.token-iterator))) ≡ comment_lines l.text)

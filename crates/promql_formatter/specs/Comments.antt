@@ -1,0 +1,31 @@
+-- The comments of a text (docs/reference/formatting.md, "Comments").
+use Rattle.std.specs.Prelude.{ℕ, ◌+◌, ◌-◌, ◌==◌, if◌then◌else◌, List, [], ◌∷◌, ◌++◌, drop, map, take}
+use Rattle.promql_text.specs.Bytes.{hash, line_feed}
+use Rattle.promql_text.specs.Texts.{Text}
+use Rattle.promql_token.specs.declared.lexeme.Lexeme.{Lexeme}
+use Rattle.promql_token.specs.Lexing.{items}
+use Rattle.promql_token.specs.Trivia.{lexemes}
+use Rattle.promql_token.specs.Vocabulary.{concat_texts, is_line_end}
+
+-- what comes before each token from `at` on, and after the last
+abbrev pub gaps : Text → ℕ → List Lexeme → List Text
+gaps s at [] = drop at s ∷ []
+gaps s at (x ∷ xs) = take (x.start - at) (drop at s) ∷ gaps s (x.start + x.len) xs
+
+-- the lines between line ends, of which the first is given
+abbrev pub cut : Text → List Text → List Text
+cut line [] = line ∷ []
+cut line (first ∷ rest) = (line ++ first) ∷ rest
+
+abbrev pub lines : Text → List Text
+lines [] = [] ∷ []
+lines (b ∷ bs) = if is_line_end b then [] ∷ lines bs else cut (b ∷ []) (lines bs)
+
+-- the comment of a line with its end, from the first `#` on
+abbrev pub line_comment : Text → Text
+line_comment [] = []
+line_comment (b ∷ bs) = if b == hash then (b ∷ bs) ++ line_feed ∷ [] else line_comment bs
+
+-- the comments between the tokens, in order, each as a line
+abbrev pub comment_lines : Text → Text
+comment_lines s = concat_texts (map (λ gap. concat_texts (map line_comment (lines gap))) (gaps s 0 (lexemes (items s))))

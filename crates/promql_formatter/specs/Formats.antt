@@ -1,0 +1,34 @@
+-- Formatted texts (docs/reference/formatting.md, "What is promised").
+use Rattle.std.specs.Prelude.{◌≡◌, ◌≢◌, Bool, true, false, Ok, Err}
+use Rattle.promql_text.specs.Texts.{Text}
+use Rattle.promql_ast.specs.Normal.{normal}
+use Rattle.promql_ast.specs.Tree.{Tree}
+use Rattle.promql_span.specs.ErrorPlaces.{IsPlaceOf}
+use Rattle.promql_span.specs.declared.diagnosis.Diagnosis.{Diagnosis}
+use Rattle.promql_syntax.specs.ParseAnswers.{IsAnswerTo, memory, plain_error_of}
+use Rattle.promql_formatter.specs.Comments.{comment_lines}
+
+-- where the spelling is kept, the tree stays as it is; else its normal form does
+abbrev pub IsKept : Bool → Tree → Tree → Type 0
+IsKept true t read = read ≡ t
+IsKept false t read = normal read ≡ normal t
+
+-- both texts are queries, of one tree, and have the same comments
+pub record IsFormatOf (keep_spelling : Bool) (text out : Text) : Type 0 where
+  pub tree : Tree
+  pub answer : IsAnswerTo text (Ok tree)
+  pub read : Tree
+  pub reads : IsAnswerTo out (Ok read)
+  pub same : IsKept keep_spelling tree read
+  pub comments : comment_lines out ≡ comment_lines text
+
+-- the text is accepted
+pub record IsQuery (text : Text) : Type 0 where
+  pub tree : Tree
+  pub answer : IsAnswerTo text (Ok tree)
+
+-- the text is rejected, for this reason and at this place
+pub record IsRejected (text : Text) (d : Diagnosis) : Type 0 where
+  pub answer : IsAnswerTo text (Err (plain_error_of d.error))
+  pub own : plain_error_of d.error ≢ memory
+  pub place : IsPlaceOf text d.error d.span

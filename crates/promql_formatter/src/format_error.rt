@@ -1,0 +1,30 @@
+//! Why a text has no layout.
+
+use promql_span::diagnosis::Diagnosis;
+use std::alloc::AllocError;
+use thiserror::Error;
+
+/// Why a text is not formatted.
+#[derive(PartialEq, Eq, Debug, Drop, Error)]
+pub enum FormatError {
+    /// An allocation failed.
+    #[error("out of memory")]
+    Memory,
+    /// The text is no query: why, and where.
+    #[error("{}", .0.error)]
+    Rejected(Diagnosis),
+    /// The layout that was made is not given out, since it does not read back with the same tree and comments.
+    #[error("the formatted query does not read back")]
+    Unfaithful,
+}
+
+impl From<AllocError> for FormatError {
+    ghost use Rattle.std.specs.Prelude.{◌≡◌};
+    ghost use Rattle.promql_formatter.specs.declared.format_error.FormatError.TheVariants.{Memory};
+
+    ghost from_gives = { λ _ e. e ≡ Memory };
+
+    fn from(_e: AllocError) -> FormatError {
+        FormatError::Memory
+    }
+}

@@ -1,0 +1,195 @@
+//! Writes items into lines: docs/reference/formatting.md, "Lines".
+
+use crate::comments::between;
+use crate::fits::{Until, fits, has_lines};
+use crate::items::{Item, Text};
+use crate::options::FormatOptions;
+use crate::piece::Break;
+use std::alloc::{AllocError, Global};
+
+/// A group that is open.
+#[derive(Clone, Copy)]
+struct Frame {
+    /// Whether it has several lines.
+    is_broken: bool,
+    /// Whether it is a chain with an operator that begins a line.
+    has_lines: bool,
+    /// The spaces before a line of it.
+    indent: usize,
+    /// The spaces before its closing bracket.
+    close_indent: usize,
+}
+
+/// What is written so far.
+#[derive(Drop)]
+struct Writer {
+    out: Vec<u8>,
+    frames: Vec<Frame>,
+    options: FormatOptions,
+    /// How many characters the line has.
+    column: usize,
+    /// How many spaces the line begins with.
+    line_indent: usize,
+    /// Whether nothing is on the line but its indentation.
+    is_fresh: bool,
+    /// Whether the line ends with a comment.
+    is_ended: bool,
+}
+
+/// Writes the items, whose texts are in these bytes.
+pub(crate) fn written(
+    alloc: Global,
+    bytes: &[u8],
+    items: &[Item],
+    options: &FormatOptions,
+) -> Result<Vec<u8>, AllocError> {
+    let mut writer = Writer {
+        out: Vec::with_capacity(alloc, bytes.len())?,
+        frames: Vec::new(alloc),
+        options: *options,
+        column: 0,
+        line_indent: 0,
+        is_fresh: true,
+        is_ended: false,
+    };
+    let mut after: usize = 0;
+    for item in items {
+        after = after.saturating_add(1);
+        writer.write(bytes, *item, items.get(after..).unwrap_or(&[]))?;
+    }
+    Ok(writer.out)
+}
+
+impl Writer {
+    /// Writes an item, before the others.
+    fn write(&mut self, bytes: &[u8], item: Item, rest: &[Item]) -> Result<(), AllocError> {
+        match item {
+            Item::Text(text) => self.write_text(bytes, text),
+            Item::Comment(text) => self.write_comment(bytes, text),
+            Item::Break(place) => self.write_break(place, rest),
+            Item::Comma if self.frame().is_broken => self.write_bytes(b",", 1),
+            Item::Comma => Ok(()),
+            Item::BeginBracket => self.begin_bracket(rest),
+            Item::BeginChain => self.begin_chain(rest),
+            Item::End => {
+                self.frames.pop();
+                Ok(())
+            }
+        }
+    }
+
+    /// The group around; that of the whole text has several lines.
+    fn frame(&self) -> Frame {
+        match self.frames.last() {
+            Some(frame) => *frame,
+            None => Frame {
+                is_broken: true,
+                has_lines: false,
+                indent: 0,
+                close_indent: 0,
+            },
+        }
+    }
+
+    /// How many characters are left on the line.
+    fn room(&self) -> usize {
+        self.options.width.saturating_sub(self.column)
+    }
+
+    fn write_bytes(&mut self, text: &[u8], width: usize) -> Result<(), AllocError> {
+        self.out.extend_from_slice(text)?;
+        self.column = self.column.saturating_add(width);
+        self.is_fresh = false;
+        Ok(())
+    }
+
+    /// Begins a line. At most half of the width is indentation.
+    fn write_line(&mut self, indent: usize) -> Result<(), AllocError> {
+        let indent = indent.min(self.options.width / 2);
+        self.out.push(b'\n')?;
+        for _ in 0..indent {
+            self.out.push(b' ')?;
+        }
+        self.column = indent;
+        self.line_indent = indent;
+        self.is_fresh = true;
+        self.is_ended = false;
+        Ok(())
+    }
+
+    /// Begins a line where none may be broken, after a comment.
+    fn continue_line(&mut self) -> Result<(), AllocError> {
+        let indent = self.frame().indent;
+        self.write_line(indent.saturating_add(self.options.indent_width))
+    }
+
+    fn write_text(&mut self, bytes: &[u8], text: Text) -> Result<(), AllocError> {
+        if self.is_ended {
+            self.continue_line()?;
+        }
+        if text.is_apart && !self.is_fresh {
+            self.write_bytes(b" ", 1)?;
+        }
+        self.write_bytes(between(bytes, text.start, text.end), text.width)
+    }
+
+    fn write_comment(&mut self, bytes: &[u8], text: Text) -> Result<(), AllocError> {
+        if self.is_ended || (text.is_apart && !self.is_fresh) {
+            self.continue_line()?;
+        }
+        if !self.is_fresh {
+            self.write_bytes(b" ", 1)?;
+        }
+        self.write_bytes(between(bytes, text.start, text.end), text.width)?;
+        self.is_ended = true;
+        Ok(())
+    }
+
+    fn write_break(&mut self, place: Break, rest: &[Item]) -> Result<(), AllocError> {
+        let frame = self.frame();
+        let is_due = match place {
+            Break::No => false,
+            Break::Fill => self.is_ended || !fits(rest, self.room(), false, Until::Break),
+            Break::Lines | Break::Close => true,
+        };
+        if !is_due || !frame.is_broken || self.out.is_empty() || (self.is_fresh && !self.is_ended) {
+            return Ok(());
+        }
+        match place {
+            Break::Close => self.write_line(frame.close_indent),
+            _ => self.write_line(frame.indent),
+        }
+    }
+
+    fn begin_bracket(&mut self, rest: &[Item]) -> Result<(), AllocError> {
+        if self.is_ended {
+            self.continue_line()?;
+        }
+        let is_broken = self.frame().is_broken
+            && !fits(rest, self.room(), self.is_fresh, Until::End);
+        self.frames.push(Frame {
+            is_broken,
+            has_lines: false,
+            indent: self.line_indent.saturating_add(self.options.indent_width),
+            close_indent: self.line_indent,
+        })?;
+        Ok(())
+    }
+
+    fn begin_chain(&mut self, rest: &[Item]) -> Result<(), AllocError> {
+        let around = self.frame();
+        let is_broken = around.is_broken && !fits(rest, self.room(), self.is_fresh, Until::End);
+        let indent = if around.has_lines {
+            around.indent.saturating_add(self.options.indent_width)
+        } else {
+            around.indent
+        };
+        self.frames.push(Frame {
+            is_broken,
+            has_lines: is_broken && has_lines(rest),
+            indent,
+            close_indent: indent,
+        })?;
+        Ok(())
+    }
+}

@@ -1,0 +1,116 @@
+//! The members of an object, read in byte order of their names. Private.
+
+ghost use Rattle.std.specs.Prelude.{◌≡◌, ◌≢◌, IfErr, IfNone, IfOk, IfSome, OnErr, OnOk};
+ghost use Rattle.serde_json.specs.Data.{Data, Members, member, no_members};
+ghost use Rattle.serde_json.specs.View.{members_view, view};
+ghost use Rattle.promql_json.specs.declared.from_error.FromJsonError.TheVariants.{Memory};
+
+use crate::from_error::{Expected, FromJsonError};
+use serde_json::{Map, Value};
+use std::alloc::{AllocError, Global};
+use std::collections::btree_map::Iter;
+
+/// The members of an object that are left to be read.
+#[derive(Drop)]
+pub(crate) struct Fields<'v> {
+    rest: Iter<'v, String, Value>,
+}
+
+impl<'v> Fields<'v> {
+    pub(crate) fn new(members: &'v Map<String, Value>) -> Fields<'v>
+        ensures { result.rest ≡ members.now.entries }
+    {
+        Fields {
+            rest: members.iter(),
+        }
+    }
+
+    /// The value of the next member, which has to have this name.
+    pub(crate) fn next(&mut self, alloc: Global, name: &str) -> Result<&'v Value, FromJsonError>
+        ensures ok { IfOk result (λ v. members_view self.old.rest
+            ≡ member name.now (view v.now) (members_view self.new.rest)) }
+        ensures err { IfErr result (λ e. e ≢ Memory → (d : Data) (ms : Members)
+            → members_view self.old.rest ≢ member name.now d ms) }
+    {
+        match self.rest.next() {
+            Some((key, value)) => {
+                let key = key.as_str();
+                if key == name {
+                    Ok(value)
+                } else if key < name {
+                    Err(FromJsonError::at(alloc, key, Expected::Unknown))
+                } else {
+                    Err(FromJsonError::at(alloc, name, Expected::Missing))
+                }
+            }
+            None => Err(FromJsonError::at(alloc, name, Expected::Missing)),
+        }
+    }
+
+    /// The value of the next member if that has this name.
+    pub(crate) fn next_if(&mut self, name: &str) -> Result<Option<&'v Value>, AllocError>
+        ensures some { IfOk result (λ found. IfSome found (λ v. members_view self.old.rest
+            ≡ member name.now (view v.now) (members_view self.new.rest))) }
+        ensures same { IfOk result (λ found. IfNone found
+            (members_view self.new.rest ≡ members_view self.old.rest)) }
+        ensures none { IfOk result (λ found. IfNone found ((d : Data) (ms : Members)
+            → members_view self.old.rest ≢ member name.now d ms)) }
+    {
+        let mut ahead = self.rest.clone()?;
+        match ahead.next() {
+            Some((key, value)) if key.as_str() == name => {
+                self.rest = ahead;
+                Ok(Some(value))
+            }
+            _ => Ok(None),
+        }
+    }
+
+    /// No member may be left.
+    pub(crate) fn end(&mut self, alloc: Global) -> Result<(), FromJsonError>
+        ensures ok { OnOk result (members_view self.old.rest ≡ no_members) }
+        ensures err { OnErr result (members_view self.old.rest ≢ no_members) }
+    {
+        match self.rest.next() {
+            Some((key, _)) => Err(FromJsonError::at(alloc, key.as_str(), Expected::Unknown)),
+            None => Ok(()),
+        }
+    }
+
+    /// The values of the next two members.
+    pub(crate) fn two(
+        &mut self,
+        alloc: Global,
+        first: &str,
+        second: &str,
+    ) -> Result<(&'v Value, &'v Value), FromJsonError>
+        ensures ok { IfOk result (λ v. members_view self.old.rest
+            ≡ member first.now (view v.0.now)
+            (member second.now (view v.1.now) (members_view self.new.rest))) }
+        ensures err { IfErr result (λ e. e ≢ Memory → (c d : Data) (ms : Members)
+            → members_view self.old.rest ≢ member first.now c (member second.now d ms)) }
+    {
+        let one = self.next(alloc, first)?;
+        let two = self.next(alloc, second)?;
+        Ok((one, two))
+    }
+
+    /// The values of the next three members.
+    pub(crate) fn three(
+        &mut self,
+        alloc: Global,
+        first: &str,
+        second: &str,
+        third: &str,
+    ) -> Result<(&'v Value, &'v Value, &'v Value), FromJsonError>
+        ensures ok { IfOk result (λ v. members_view self.old.rest
+            ≡ member first.now (view v.0.now) (member second.now (view v.1.now)
+            (member third.now (view v.2.now) (members_view self.new.rest)))) }
+        ensures err { IfErr result (λ e. e ≢ Memory → (b c d : Data) (ms : Members)
+            → members_view self.old.rest ≢ member first.now b (member second.now c (member third.now d ms))) }
+    {
+        let (one, two) = self.two(alloc, first, second)?;
+        let three = self.next(alloc, third)?;
+        Ok((one, two, three))
+    }
+}

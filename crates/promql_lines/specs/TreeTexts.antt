@@ -1,0 +1,73 @@
+-- The text of a tree that is given as JSON (docs/reference/json.md, "From JSON to a text").
+use Rattle.std.specs.Prelude.{◌≡◌, ◌≢◌, ℕ, Bool, true, false, Some, Result, Ok, Err}
+use Rattle.serde_json.specs.Data.{Data}
+use Rattle.serde_json.specs.Read.{read}
+use Rattle.serde_json.specs.Written.{compact_text}
+use Rattle.promql_text.specs.Texts.{Text}
+use Rattle.promql_grammar.specs.Results.{on_result}
+use Rattle.promql_span.specs.QueryLimits.{IsWithin}
+use Rattle.promql_span.specs.declared.limits.Limits.{Limits}
+use Rattle.promql_ast.specs.Layout.{layout_of}
+use Rattle.promql_ast.specs.Text.{text as line_text}
+use Rattle.promql_ast.specs.Tree.{Tree}
+use Rattle.promql_json.specs.Json.{json}
+use Rattle.promql_json.specs.declared.from_error.FromJsonError.TheVariants as from
+use Rattle.promql_rewrite.specs.Faithful.{IsLineOf, Means}
+use Rattle.promql_rewrite.specs.Parenthesizing.{parenthesized}
+use Rattle.promql_rewrite.specs.Reasons.{IsReason}
+use Rattle.promql_lines.specs.EnforcedLines.{IsOver}
+use Rattle.promql_lines.specs.declared.request.Format.{Format}
+use Rattle.promql_lines.specs.declared.request.Format.TheVariants as format
+use Rattle.promql_lines.specs.declared.tree_text.TreeTextError.{TreeTextError}
+use Rattle.promql_lines.specs.declared.tree_text.TreeTextError.TheVariants as error
+
+abbrev pub tree_text_number : TreeTextError → ℕ
+tree_text_number error.Memory = 1
+tree_text_number (error.NotATree e) = 17
+tree_text_number (error.Large fault) = 14
+tree_text_number (error.NotPrintable reason) = 12
+tree_text_number (error.Unfaithful e) = 12
+tree_text_number (error.NoForm e) = 6
+
+-- the text is JSON, and the form of the tree
+abbrev pub IsFormTree : Text → Tree → Type 0
+IsFormTree form t = (d : Data) × (read form ≡ Some d) × (json t ≡ Ok d)
+
+-- the tree, or the tree with parentheses where it needs them
+abbrev pub has_parens : Bool → Tree → Tree
+has_parens true t = parenthesized t
+has_parens false t = t
+
+-- the line of the tree is within the limits, and means the tree
+abbrev pub IsLineWithin : Limits → Tree → Text → Type 0
+IsLineWithin limits t line = IsWithin line limits × IsLineOf t line
+
+-- what the text of a tree is in a format; a layout means the tree
+abbrev pub IsFormatOf : Format → Tree → Text → Type 0
+IsFormatOf format.Line t s = s ≡ line_text t
+IsFormatOf (format.Pretty layout) t s = (s ≡ layout_of t layout.level layout.width) × Means s t
+IsFormatOf format.Json t s = on_result compact_text (json t) ≡ Ok s
+
+abbrev pub IsTextOfTree : Limits → Format → Tree → Text → Type 0
+IsTextOfTree limits f t s = IsLineWithin limits t (line_text t) × IsFormatOf f t s
+
+-- the text of the tree whose form is given
+abbrev pub IsTextOfForm : Limits → Format → Bool → Text → Text → Type 0
+IsTextOfForm limits f parens form s = (t : Tree) × IsFormTree form t × IsTextOfTree limits f (has_parens parens t) s
+
+-- ---- why there is none
+
+-- the line is not within the limits; or it is, and this is why it does not mean the tree
+abbrev pub FailsToShowTree : Limits → Tree → TreeTextError → Type 0
+FailsToShowTree limits t error.Memory = Unit {0}
+FailsToShowTree limits t (error.Large fault) = IsOver limits (line_text t) fault
+FailsToShowTree limits t (error.NotPrintable reason) = IsWithin (line_text t) limits × IsReason reason t
+FailsToShowTree limits t (error.Unfaithful e) = IsLineWithin limits t (line_text t)
+FailsToShowTree limits t (error.NoForm e) = IsLineWithin limits t (line_text t) × (json t ≡ Err e)
+FailsToShowTree limits t (error.NotATree e) = ⊥
+
+-- the tree has a form, or a form is given that is none, or the tree has no text
+abbrev pub FailsToShowForm : Limits → Bool → Text → TreeTextError → Type 0
+FailsToShowForm limits parens form error.Memory = Unit {0}
+FailsToShowForm limits parens form (error.NotATree e) = e ≢ from.Memory
+FailsToShowForm limits parens form e = (t : Tree) × IsFormTree form t × FailsToShowTree limits (has_parens parens t) e

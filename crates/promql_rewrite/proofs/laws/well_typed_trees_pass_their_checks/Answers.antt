@@ -1,0 +1,5 @@
+use Rattle.promql_rewrite.proofs.TypedNodes.{passes_typed, typed_passes}
+use Rattle.promql_rewrite.proofs.laws.well_typed_trees_pass_their_checks.Goals as goal
+
+pub returns : goal.returns
+returns c = λ t. (typed_passes t, passes_typed c.checked_trees_are_typed.ensures t)

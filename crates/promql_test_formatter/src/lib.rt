@@ -1,0 +1,5 @@
+//! The tests of queries that are formatted for people.
+#![tactic(auto)]
+
+#[cfg(test)]
+mod tests;

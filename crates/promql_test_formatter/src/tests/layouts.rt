@@ -1,0 +1,91 @@
+//! Where lines are broken (docs/reference/formatting.md, "Lines", "Chains").
+
+use promql_formatter::{FormatError, FormatOptions, format_query};
+use std::alloc::Global;
+use std::test::Fail;
+
+/// A query, a width, and the layout.
+const LAYOUTS: [(&str, usize, &str); 16] = [
+    ("a", 100, "a"),
+    ("a", 0, "a"),
+    ("a+b", 100, "a + b"),
+    ("a+b", 5, "a + b"),
+    ("aaa+bbb", 5, "aaa\n+ bbb"),
+    ("sum(a)+sum(b)", 10, "sum(a)\n+ sum(b)"),
+    ("sum(a)*60>1", 9, "sum(a)\n* 60 > 1"),
+    ("sum(a)*60>1", 11, "sum(a) * 60\n> 1"),
+    (
+        "sum(rate(foo{a='b'}[5m]))*60>1",
+        24,
+        "sum(\n  rate(foo{a=\"b\"}[5m])\n) * 60 > 1",
+    ),
+    ("f{a='1',b='2'}", 13, "f{\n  a=\"1\",\n  b=\"2\",\n}"),
+    ("{a='1' or b='2'}", 12, "{\n  a=\"1\"\n  or b=\"2\",\n}"),
+    (
+        "sum by(aaaaaaa,bbbbbbb)(c)",
+        12,
+        "sum by (\n  aaaaaaa,\n  bbbbbbb,\n) (c)",
+    ),
+    ("a or b or c", 8, "a\nor b\nor c"),
+    ("a or b unless c", 8, "a\nor b\n  unless c"),
+    (
+        "sum(a)*bool_c+on(x)group_left(y)sum(d)",
+        30,
+        "sum(a) * bool_c\n+ on (x) group_left (y) sum(d)",
+    ),
+    (
+        "(sum(a)+sum(b)-sum(c))/d",
+        18,
+        "(\n  sum(a)\n  + sum(b)\n  - sum(c)\n) / d",
+    ),
+];
+
+/// The layout at this width.
+fn at_width(alloc: Global, query: &str, width: usize) -> Result<String, FormatError> {
+    let mut options = FormatOptions::new();
+    options.width = width;
+    format_query(alloc, query, &options)
+}
+
+#[test]
+fn lines_are_broken_by_width(rt: HostRuntime) -> Result<(), Fail> {
+    let alloc = rt.alloc();
+    for (query, width, layout) in LAYOUTS {
+        assert_eq!(rt; at_width(alloc, query, width)?.as_str(), layout);
+        assert_eq!(rt; at_width(alloc, layout, width)?.as_str(), layout);
+    }
+    Ok(())
+}
+
+/// So many operands with `or` between them.
+fn alternatives(alloc: Global, count: usize, separator: &str) -> Result<String, FormatError> {
+    let mut query = String::new(alloc);
+    for index in 0..count {
+        if index > 0 {
+            query.push_str(separator)?;
+        }
+        query.push_str("sum(a)")?;
+    }
+    Ok(query)
+}
+
+#[test]
+fn a_long_chain_is_flat(rt: HostRuntime) -> Result<(), Fail> {
+    let alloc = rt.alloc();
+    let query = alternatives(alloc, 500, " or ")?;
+    let layout = alternatives(alloc, 500, "\nor ")?;
+    assert_eq!(rt; at_width(alloc, &query, 100)?, layout);
+    Ok(())
+}
+
+#[test]
+fn indentation_has_its_width(rt: HostRuntime) -> Result<(), Fail> {
+    let options = FormatOptions {
+        width: 8,
+        indent_width: 4,
+        keep_spelling: false,
+    };
+    let layout = format_query(rt.alloc(), "sum(sum(aaaa))", &options)?;
+    assert_eq!(rt; layout.as_str(), "sum(\n    sum(\n    aaaa\n    )\n)");
+    Ok(())
+}

@@ -1,0 +1,186 @@
+//! Batches over readers and writers in memory, and over some that fail.
+
+use super::streams::{FlakyReader, FlakyWriter};
+use super::{check_value, texts};
+use promql_io::ended::Ended;
+use promql_lines::batch::run_batch;
+use promql_lines::batch_program::{BATCH_HELP, BATCH_USAGE, batch_program};
+use promql_lines::settings::Settings;
+use promql_run::run::{Mode, RunError};
+use promql_span::limits::{Limits, MAX_LEN, MAX_OUTPUT, MAX_PATTERN_SIZE};
+use std::alloc::{AllocError, Global};
+use std::io::BufReader;
+use std::process::Abort;
+use std::test::Fail;
+
+/// The settings of a batch in the mode `line`.
+const LINE: Settings = Settings {
+    mode: Mode::Line,
+    limits: Limits {
+        max_len: MAX_LEN,
+        max_pattern_size: MAX_PATTERN_SIZE,
+        max_output: MAX_OUTPUT,
+    },
+};
+
+const LINES: &[u8] = b"\"1+2\"\n{\"query\":\"a\",\"mode\":\"json\"}\n\n\"a b\"\n\xff\n\"x\"";
+
+const ANSWERS: &[u8] = b"{\"ok\":\"1 + 2\"}
+{\"ok\":{\"matchers\":[],\"name\":\"a\",\"offset\":0,\"startOrEnd\":null,\"timestamp\":null,\"type\":\"vectorSelector\"}}
+{\"code\":7,\"error\":\"line is not a request\"}
+{\"code\":4,\"column\":3,\"end\":3,\"error\":\"invalid promql query\",\"line\":1,\"start\":2}
+{\"code\":3,\"error\":\"input is not UTF-8\"}
+{\"ok\":\"x\"}
+";
+
+#[test]
+fn lines_and_their_answers(rt: HostRuntime) -> Result<(), Fail> {
+    let alloc = rt.alloc();
+    let mut writer = Ended::new(Vec::new(alloc));
+    let answer = run_batch(alloc, &LINE, &mut Ended::new(LINES), &mut writer);
+    check_value(&rt, answer, Ok(false), &LINES);
+    assert!(rt; writer.inner().as_slice() == ANSWERS && !writer.is_pending());
+    Ok(())
+}
+
+/// What is written of a batch in the mode `line`, and whether each answer is an `ok`.
+fn check_batch(rt: &impl Abort, alloc: Global, input: &[u8], want: &[u8], all_ok: bool) {
+    let mut reader = Ended::new(input);
+    let mut writer = Ended::new(Vec::new(alloc));
+    let answer = run_batch(alloc, &LINE, &mut reader, &mut writer);
+    check_value(rt, answer, Ok(all_ok), &input);
+    assert!(rt; writer.inner().as_slice() == want, "at {input:?}");
+}
+
+#[test]
+fn ends_of_the_input(rt: HostRuntime) -> Result<(), Fail> {
+    let alloc = rt.alloc();
+    check_batch(&rt, alloc, b"", b"", true);
+    check_batch(&rt, alloc, b"\"1\"", b"{\"ok\":\"1\"}\n", true);
+    check_batch(&rt, alloc, b"\"1\"\n", b"{\"ok\":\"1\"}\n", true);
+    let empty = b"{\"code\":7,\"error\":\"line is not a request\"}\n";
+    check_batch(&rt, alloc, b"\n", empty, false);
+    Ok(())
+}
+
+#[test]
+fn a_reader_that_fails(rt: HostRuntime) -> Result<(), Fail> {
+    let alloc = rt.alloc();
+    // 8 bytes are 4 reads.
+    for fails_at in 2..=4 {
+        let flaky = FlakyReader {
+            left: b"\"1\"\n\"2\"\n",
+            calls: 0,
+            fails_at,
+        };
+        let mut reader = Ended::new(BufReader::with_capacity(alloc, 2, flaky)?);
+        let mut writer = Ended::new(Vec::new(alloc));
+        // The fake error is an interruption, after which the read is made again.
+        let answer = run_batch(alloc, &LINE, &mut reader, &mut writer);
+        check_value(&rt, answer, Ok(true), &fails_at);
+        assert!(rt; !reader.has_failed());
+        assert!(rt; writer.inner().as_slice() == b"{\"ok\":\"1\"}\n{\"ok\":\"2\"}\n".as_slice());
+    }
+    Ok(())
+}
+
+#[test]
+fn a_writer_that_fails(rt: HostRuntime) -> Result<(), Fail> {
+    let alloc = rt.alloc();
+    let want = b"{\"ok\":\"1\"}\n{\"code\":7,\"error\":\"line is not a request\"}\n";
+    // 10 bytes and 42 are 18 writes, their line feeds two, and the flush is one more.
+    for fails_at in 1..=22 {
+        let mut reader = Ended::new(b"\"1\"\n1\n".as_slice());
+        let mut writer = Ended::new(FlakyWriter::new(alloc, fails_at, 0));
+        let answer = run_batch(alloc, &LINE, &mut reader, &mut writer);
+        let want_answer = if fails_at <= 21 {
+            Err(RunError::Write)
+        } else {
+            Ok(false)
+        };
+        check_value(&rt, answer, want_answer, &fails_at);
+        assert_eq!(rt; writer.has_failed(), fails_at <= 21);
+        assert_eq!(rt; writer.inner().calls, fails_at.min(21));
+        assert!(rt;
+            want.starts_with(writer.inner().held.as_slice()),
+            "at {fails_at}"
+        );
+    }
+    Ok(())
+}
+
+/// The status of the program with a word after its name, and what it writes to its two outputs.
+fn check_program(
+    rt: &impl Abort,
+    alloc: Global,
+    words: &[&str],
+    input: &[u8],
+    want: (u8, &str, &str),
+) -> Result<(), AllocError> {
+    let args = texts(alloc, words)?;
+    let mut reader = Ended::new(input);
+    let mut writer = Ended::new(Vec::new(alloc));
+    let mut errors = Ended::new(Vec::new(alloc));
+    let status = batch_program(
+        alloc,
+        args.as_slice(),
+        &mut reader,
+        &mut writer,
+        &mut errors,
+    );
+    assert_eq!(rt; status, want.0);
+    assert!(rt; writer.inner().as_slice() == want.1.as_bytes());
+    assert!(rt; errors.inner().as_slice() == want.2.as_bytes());
+    Ok(())
+}
+
+#[test]
+fn statuses_of_batches(rt: HostRuntime) -> Result<(), Fail> {
+    let alloc = rt.alloc();
+    check_program(
+        &rt,
+        alloc,
+        &["", "line"],
+        b"\"1\"\n",
+        (0, "{\"ok\":\"1\"}\n", ""),
+    )?;
+    check_program(
+        &rt,
+        alloc,
+        &["", "json"],
+        b"1",
+        (4, "{\"code\":7,\"error\":\"line is not a request\"}\n", ""),
+    )?;
+    check_program(
+        &rt,
+        alloc,
+        &["", "line", "--max-patterns", "9", "--max-len", "10"],
+        b"\"{a=~'bcd'}\"\n\"{a=~'bcde'}\"\n\"foo + bar+a\"\n",
+        (
+            4,
+            "{\"ok\":\"{a=~\\\"bcd\\\"}\"}\n{\"code\":14,\"column\":12,\"end\":11,\"error\":\"query is too long: 11 bytes, at most 10\",\"line\":1,\"start\":11}\n{\"code\":14,\"column\":12,\"end\":11,\"error\":\"query is too long: 11 bytes, at most 10\",\"line\":1,\"start\":11}\n",
+            "",
+        ),
+    )?;
+    check_program(
+        &rt,
+        alloc,
+        &["", "line", "--max-patterns", "9"],
+        b"\"{a=~'bcde'}\"\n",
+        (
+            4,
+            "{\"code\":14,\"column\":5,\"end\":10,\"error\":\"patterns are too large: 10, at most 9\",\"line\":1,\"start\":4}\n",
+            "",
+        ),
+    )?;
+    check_program(&rt, alloc, &["", "--help"], b"\"1\"", (0, BATCH_HELP, ""))?;
+    check_program(&rt, alloc, &["", "lines"], b"\"1\"", (64, "", BATCH_USAGE))?;
+    check_program(
+        &rt,
+        alloc,
+        &["", "line", "line"],
+        b"\"1\"",
+        (64, "", BATCH_USAGE),
+    )?;
+    Ok(())
+}
