@@ -213,7 +213,7 @@ class Jobs(Folder):
                 os._exit(9)
             return Report(Status.FINE, f"{target.name}\n".encode(), [])
 
-        with mock.patch.object(Report, "put_out", lambda report: said.append((report.out, *report.err))):
+        with mock.patch.object(Report, "put_out", lambda report, with_colors: said.append((report.out, *report.err))):
             said = []
             self.assertEqual(work_on([Target(name) for name in "abcd"], work, 2), Status.FAILED)
         ended = "the process that had this file ended"
