@@ -9,12 +9,13 @@ import signal
 import sys
 from typing import List, Optional, TextIO
 
-from . import check_command, format_command, page
+from . import check_command, format_command, lsp_command, page
 from .documents import Status
 
 COMMANDS = (
     check_command,
     format_command,
+    lsp_command,
     page,
 )
 
