@@ -32,7 +32,7 @@ def main(arguments: Optional[List[str]] = None) -> int:
 
 def program() -> int:
     """The same as a program: it ends by the signal where nobody reads its output, and says so where that cannot be written."""
-    if "serve" in sys.argv[1:2]:
+    if sys.argv[1:2] in (["serve"], ["lsp"]):
         return main()
     signal.signal(signal.SIGPIPE, signal.SIG_DFL)
     # (a stream that was closed is None, and `print` takes standard output for that)

@@ -32,7 +32,8 @@ class Client:
         self.diagnostics = {}
         self.number = 0
         threading.Thread(target=self._read, daemon=True).start()
-        threading.Thread(target=self._listen, daemon=True).start()
+        self.listener = threading.Thread(target=self._listen, daemon=True)
+        self.listener.start()
         if initialize:
             item = {"completionItem": {"snippetSupport": snippets}}
             self.capabilities = self.request("initialize", {"capabilities": {"textDocument": {"completion": item}}})["capabilities"]
@@ -125,4 +126,6 @@ class Client:
             pass
         status = self.process.wait(timeout=30)
         self.process.stdout.close()
+        self.listener.join(10)
+        self.process.stderr.close()
         return status

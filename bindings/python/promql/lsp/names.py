@@ -36,7 +36,7 @@ def names_of(text: str) -> Names:
             for matcher in part.matchers:
                 if matcher.name:
                     labels.add(_plain(matcher.name))
-                    if matcher.sign and matcher.sign.text in ("=", "!="):
+                    if matcher.sign and matcher.sign.text in ("=", "!=") and _plain(matcher.value):
                         values.add((_plain(matcher.name), _plain(matcher.value)))
     return Names(tuple(metrics), tuple(sorted(labels - {"__name__"})), tuple(sorted(values)))
 

@@ -144,7 +144,8 @@ def _end(rule: Node) -> Tuple[int, bool]:
         if node.start < rule.start or node.anchor or node.is_merge():
             is_whole = False
         elif node.kind == "scalar":
-            end = max(end, node.end)
+            # (one without a character has a place that each reader of YAML tells in its own way)
+            end = max(end, node.end if node.end > node.start else 0)
         else:
             todo += node.value if node.kind == "sequence" else [part for pair in node.value for part in pair]
     return end, is_whole and not todo
@@ -168,7 +169,7 @@ def _rule(file: RuleFile, node: Node, end: int, is_whole: bool, queries: List[Pl
 def read_lines(text: str, start: int, end: int) -> Optional[List[Rule]]:
     """The rules of some lines of a file, which are read by themselves; nothing where they are no rules by themselves."""
     before = lines_before(text[start:end])
-    if before is None:
+    if before is None or not _stays_inside(text[start:end]):
         return None
     try:
         found = read_rules(before + text[start:end])
@@ -177,6 +178,14 @@ def read_lines(text: str, start: int, end: int) -> Optional[List[Rule]]:
     if not found or not all(rule.is_alone for rule in found):
         return None
     return [rule.moved(start - len(before)) for rule in found]
+
+
+def _stays_inside(lines: str) -> bool:
+    """Whether no line but that of a rule is as far out as the first one, so that what comes after these lines is read as before."""
+    first, *others = _LINE_BEGINS.split(lines)
+    column = len(first) - len(first.lstrip(" "))
+    item = " " * column + "- "
+    return all(line.startswith((" " * (column + 1), item)) or not line.strip(" ") for line in others)
 
 
 def lines_before(lines: str) -> Optional[str]:
