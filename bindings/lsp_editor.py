@@ -69,13 +69,13 @@ class Editor:
             "XDG_CACHE_HOME": folder,
         }
         command = ["nvim", "--headless", "-n", "-u", str(start), "--listen", self.socket]
-        self.process = subprocess.Popen(command, env=self.environment, stdin=subprocess.DEVNULL, stdout=subprocess.DEVNULL, stderr=subprocess.DEVNULL, cwd=folder)
+        unused = {"stdin": subprocess.DEVNULL, "stdout": subprocess.DEVNULL, "stderr": subprocess.DEVNULL}
+        self.process = subprocess.Popen(command, env=self.environment, cwd=folder, **unused)
         self.wait("the editor", lambda: os.path.exists(self.socket), bool)
 
     def remote(self, *arguments):
-        ran = subprocess.run(
-            ["nvim", "--server", self.socket, *arguments], env=self.environment, stdout=subprocess.PIPE, stderr=subprocess.STDOUT, timeout=60
-        )
+        command = ["nvim", "--server", self.socket, *arguments]
+        ran = subprocess.run(command, env=self.environment, stdout=subprocess.PIPE, stderr=subprocess.STDOUT, timeout=60)
         return ran.stdout.decode()
 
     def keys(self, keys):
@@ -144,7 +144,7 @@ class Editor:
 
     def close(self):
         """Ends the editor, and returns whether the server ended as well."""
-        servers = self.lua("local found = {} for _, it in ipairs(vim.lsp.get_active_clients()) do table.insert(found, it.id) end return #found")
+        servers = self.lua("return #vim.lsp.get_active_clients()")
         children = subprocess.run(["pgrep", "-P", str(self.process.pid)], stdout=subprocess.PIPE).stdout.split()
         self.keys("<Esc>:qall!<CR>")
         self.process.wait(timeout=PATIENCE)
@@ -231,7 +231,9 @@ def completed(editor, text, keys):
     editor.edit("complete.promql", text)
     ready(editor)
     editor.keys(f"A{keys}<C-x><C-o>")
-    return editor.wait_lua("local found = {} for _, it in ipairs(vim.fn.complete_info({'items'}).items) do table.insert(found, it.word) end return found", bool)
+    return editor.wait_lua(
+        "local found = {} for _, it in ipairs(vim.fn.complete_info({'items'}).items) do table.insert(found, it.word) end return found", bool
+    )
 
 
 def test_completion(editor):
@@ -261,12 +263,16 @@ def test_navigation(editor):
     place = "return {vim.fn.expand('%:t'), vim.fn.line('.'), vim.fn.col('.')}"
     check("definition", editor.wait_lua(place, lambda it: it[0] == "rules.yml"), ["rules.yml", 4, 13])
     editor.lua("vim.lsp.buf.references()")
-    listed = "local found = {} for _, it in ipairs(vim.fn.getqflist()) do table.insert(found, vim.fn.bufname(it.bufnr) .. ':' .. it.lnum) end return found"
+    listed = (
+        "local found = {} for _, it in ipairs(vim.fn.getqflist()) do"
+        " table.insert(found, vim.fn.bufname(it.bufnr) .. ':' .. it.lnum) end return found"
+    )
     check("references", editor.wait_lua(listed, bool), lambda it: sorted(it) == ["query.promql:1", "rules.yml:4", "rules.yml:8"])
     editor.keys(":cclose<CR>")
     editor.put_cursor("errors:rate5m")
     editor.lua("vim.lsp.buf.rename('job:faults:rate5m')")
-    check("rename in a rule file", editor.wait("the new text", editor.text, lambda it: "faults" in it), RULES.replace("job:errors", "job:faults"))
+    found = editor.wait("the new text", editor.text, lambda it: "faults" in it)
+    check("rename in a rule file", found, RULES.replace("job:errors", "job:faults"))
     editor.keys(":write<CR>:buffer query.promql<CR>")
     check("rename in another file", editor.wait("the other file", editor.text, lambda it: "/ 2" in it), QUERY.replace("errors", "faults"))
 
@@ -282,7 +288,8 @@ def test_requests(editor):
         found = found.get("parent")
     check("selection ranges", widths, [1, 3, 5, 7, 12, 14, 18, 20, 23, 0])
     found = editor.asked("textDocument/semanticTokens/full", "{}")["data"]
-    check("semantic tokens", found, [0, 0, 3, 0, 0, 0, 4, 4, 0, 0, 0, 5, 1, 6, 0, 0, 2, 1, 7, 0, 0, 1, 1, 2, 0, 0, 1, 3, 3, 0, 0, 5, 2, 5, 0])
+    wanted = [(0, 3, 0), (4, 4, 0), (5, 1, 6), (2, 1, 7), (1, 1, 2), (1, 3, 3), (5, 2, 5)]
+    check("semantic tokens", found, [number for place, length, kind in wanted for number in (0, place, length, kind, 0)])
     check("an unknown method", editor.asked("textDocument/unheardOf", "{}"), lambda it: it["code"] == -32601)
 
 

@@ -10,7 +10,8 @@
 #                                Debian starts a service then
 # bindings/test.sh --proxy       holds the Go proxy against a Prometheus with several tenants, in half a minute, where that is installed
 #                                (docs/guide/proxy.md)
-# bindings/test.sh --editor      tries the language server in Neovim, in half a minute, where that is installed (docs/guide/editor.md)
+# bindings/test.sh --editor      tries the language server in Neovim, and in Emacs, in half a minute, where they are installed
+#                                (docs/guide/editor.md)
 set -u
 here=$(cd "$(dirname "$0")" && pwd)
 root=${here%/*}
@@ -487,6 +488,11 @@ test_editor() {
         return
     fi
     add 'the language server in Neovim' "$python" "$here/lsp_editor.py"
+    if has emacs 'the language server in Emacs' && emacs --batch --eval "(require 'eglot)" 2>/dev/null; then
+        add 'the language server in Emacs' python3 "$here/lsp_emacs.py"
+    else
+        echo 'not tried: the language server in Emacs: there is no Eglot here'
+    fi
 }
 
 export -f shows_own_names build_c bench_prints example_prints build_sanitized overrun_is_reported under_valgrind build_project

@@ -187,8 +187,16 @@ class Telling(WithServer):
     def test_signatures(self):
         for text, label, active in (
             ("rate(|", "rate(range: matrix): vector", 0),
-            ("label_replace(a, 'b',| ", "label_replace(v: vector, target: string, replacement: string, source: string, pattern: string): vector", 2),
-            ("label_join(a, 'b', ',', 'c', |'d')", "label_join(v: vector, target: string, separator: string, [source: string, ..]): vector", 3),
+            (
+                "label_replace(a, 'b',| ",
+                "label_replace(v: vector, target: string, replacement: string, source: string, pattern: string): vector",
+                2,
+            ),
+            (
+                "label_join(a, 'b', ',', 'c', |'d')",
+                "label_join(v: vector, target: string, separator: string, [source: string, ..]): vector",
+                3,
+            ),
             ("topk by (a) (3, |b)", "topk(k: scalar, v: vector): vector", 1),
             ("sum(rate(a{b='(',c|", "rate(range: matrix): vector", 0),
             ("abs(a, |", "abs(v: vector): vector", 1),
@@ -405,7 +413,8 @@ class Protocol(unittest.TestCase):
             (b"Content-Length: %d\r\n\r\n" % (messages.MOST_BYTES + 1) + bytes(messages.MOST_BYTES + 1), b""),
         ):
             self.assertEqual(messages.read_body(io.BytesIO(text)), wanted)
-        for text in (b"\r\n", b"Content-Length: -1\r\n\r\n", b"Content-Length: x\r\n\r\n", b"a" * 5_000, b"Content-Length: 9999999999999999\r\n\r\n"):
+        lengths = [b"Content-Length: %s\r\n\r\n" % length for length in (b"-1", b"x", b"9" * 16)]
+        for text in (b"\r\n", b"a" * 5_000, *lengths):
             with self.assertRaises(messages.BrokenStream):
                 messages.read_body(io.BytesIO(text))
 
@@ -529,7 +538,8 @@ class Served(unittest.TestCase):
         self.assertEqual(prometheus.known().metrics, set())
 
     def test_elsewhere(self):
-        for url in ("http://example.org", "http://127.0.0.1.example.org", "file:///etc/passwd", "http://10.0.0.1", "localhost:9090", "http://"):
+        others = ("http://example.org", "http://127.0.0.1.example.org", "http://10.0.0.1")
+        for url in (*others, "file:///etc/passwd", "localhost:9090", "http://"):
             with self.assertRaises(NotHere):
                 Prometheus(url)
         for url in ("http://localhost:9090", "http://127.0.0.1", "http://[::1]:9090/prefix/"):

@@ -51,6 +51,9 @@ groups:
 BROKEN = RULES.replace("''x'''", "absent(up)'")
 
 
+NEW = ["a", "ab c", " ", "𝄞", "\n", ": ", "#", "'", '"', "- x", "{", "&a", "", "\n  - record: x\n    expr: up\n"]
+
+
 def places(text, part):
     return [found.start() for found in re.finditer(re.escape(part), text)]
 
@@ -87,8 +90,9 @@ class Files(unittest.TestCase):
             found = self.client.open(path.as_uri(), text, "yaml")
             ran = run("check", path)
             wanted = sorted(re.findall(r"^\S+?:(\d+):(\d+): (.*)$", ran.err, re.M))
-            shown = sorted((str(it["range"]["start"]["line"] + 1), str(it["range"]["start"]["character"] + 1), it["message"]) for it in found)
-            self.assertEqual(shown, [it for it in wanted if not it[2].startswith("skipped: ")], path)
+            places = [(it["range"]["start"], it["message"]) for it in found]
+            told = sorted((str(place["line"] + 1), str(place["character"] + 1), message) for place, message in places)
+            self.assertEqual(told, [it for it in wanted if not it[2].startswith("skipped: ")], path)
         (found,) = self.client.open(URI, RULES, "yaml")
         self.assertEqual(found["message"], "binary expression must contain only scalar and instant vector types")
         self.assertEqual(found["range"]["start"]["line"], 9)
@@ -154,7 +158,8 @@ class Files(unittest.TestCase):
             uri = f"file:///{number}.yml"
             self.assertEqual(self.client.open(uri, text, "yaml"), [], text)
             begin = text.index(scalar.text)
-            for word, told in (("rate", "How fast"), ("errors_total", "Selects the series of `errors_total`"), ("other_metric", "other_metric")):
+            words = (("rate", "How fast"), ("errors_total", "Selects the series of `errors_total`"), ("other_metric", "other_metric"))
+            for word, told in words:
                 offset = begin + scalar.offsets[query.index(word)]
                 found = self.at("hover", text, offset + 1, uri)
                 self.assertIn(told, found["contents"]["value"], text)
@@ -246,7 +251,8 @@ class Files(unittest.TestCase):
             words.append(BROKEN.split("\n")[line][character : character + data[at + 2]])
         self.assertEqual(
             words,
-            ["sum", "by", "job", "up", "zone", "=", '"west"', "job:up:sum", "==", "0", "and", "on", "job", "absent", "up", "job:up:sum", "<", "3"],
+            ["sum", "by", "job", "up", "zone", "=", '"west"', "job:up:sum", "==", "0", "and", "on", "job", "absent", "up"]
+            + ["job:up:sum", "<", "3"],
         )
         span = Lines(BROKEN).range(BROKEN.index("Few"), len(BROKEN))
         part = self.client.request("textDocument/semanticTokens/range", {"textDocument": {"uri": URI}, "range": span})["data"]
@@ -269,7 +275,7 @@ class Changes(unittest.TestCase):
                     rule = chance.choice(document.rules)
                     start = chance.randrange(rule.start, rule.end + 2)
                 end = min(start + chance.choice((0, 0, 0, 1, 3)), len(text))
-                new = chance.choice(["a", "ab c", " ", "𝄞", "\n", ": ", "#", "'", '"', "- x", "{", "&a", "", "\n  - record: x\n    expr: up\n"])
+                new = chance.choice(NEW)
                 lines = document.lines
                 whole = lines.range(start, end)
                 document.change({"range": whole, "text": new})
@@ -361,7 +367,8 @@ class Changes(unittest.TestCase):
 
 def shown(rules):
     """What there is to compare of rules."""
-    return [
-        (rule.start, rule.end, rule.record, rule.record_start, rule.alert, [(it.text, [it.offset(at) for at in range(len(it.text) + 1)]) for it in rule.queries])
-        for rule in rules
-    ]
+    found = []
+    for rule in rules:
+        queries = [(it.text, [it.offset(at) for at in range(len(it.text) + 1)]) for it in rule.queries]
+        found.append((rule.start, rule.end, rule.record, rule.record_start, rule.alert, queries))
+    return found

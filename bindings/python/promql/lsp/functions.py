@@ -58,7 +58,7 @@ days_in_month | times: vector? | vector | How many days the month of each time h
 deg | v: vector | vector | Radians as degrees.
 delta | range: matrix | vector | The difference between the last and the first value of a gauge, drawn out to the whole range.
 deriv | range: matrix | vector | The slope of a gauge by the second, by a line of least squares.
-double_exponential_smoothing! | range: matrix, smoothing: scalar, trend: scalar | vector | The value of each series, smoothed with its trend.
+double_exponential_smoothing! | range: matrix, smoothing: scalar, trend: scalar | vector | Each series, smoothed with its trend.
 end! | | scalar | The end of the range that the query is evaluated over, in seconds.
 exp | v: vector | vector | The exponential function of each sample.
 first_over_time! | range: matrix | vector | The oldest sample of each series in the range.
@@ -67,7 +67,7 @@ histogram_avg | v: vector | vector | The mean of what each native histogram obse
 histogram_count | v: vector | vector | How many observations each native histogram has.
 histogram_fraction | lower: scalar, upper: scalar, v: vector | vector | Which part of the observations of a histogram is between two bounds.
 histogram_quantile | quantile: scalar, buckets: vector | vector | A quantile of the observations of each histogram, from its buckets.
-histogram_quantiles! | buckets: vector, label: string, quantile: scalar, quantile: scalar+9 | vector | Several quantiles of each histogram.
+histogram_quantiles! | buckets: vector, label: string, quantile: scalar, quantile: scalar+9 | vector | Quantiles of each histogram.
 histogram_stddev | v: vector | vector | The standard deviation of what each native histogram observed.
 histogram_stdvar | v: vector | vector | The variance of what each native histogram observed.
 histogram_sum | v: vector | vector | The sum of what each native histogram observed.
@@ -77,7 +77,7 @@ increase | range: matrix | vector | How much a counter grew in the range, with i
 info! | v: vector, selector: vector? | vector | The vector with labels of the info series that belong to it.
 irate | range: matrix | vector | How fast a counter grew by the second between its last two samples.
 label_join | v: vector, target: string, separator: string, source: string* | vector | A label that is other labels, joined by a separator.
-label_replace | v: vector, target: string, replacement: string, source: string, pattern: string | vector | A label made of another by a pattern.
+label_replace | v: vector, target: string, replacement: string, source: string, pattern: string | vector | A label made of another.
 last_over_time | range: matrix | vector | The newest sample of each series in the range.
 ln | v: vector | vector | The natural logarithm of each sample.
 log10 | v: vector | vector | The decimal logarithm of each sample.

@@ -136,13 +136,14 @@ def _word_kind(text: str, word: str, end: int) -> str:
 
 
 def token_at(tokens: Tuple[Token, ...], offset: int) -> int:
-    """The number of the token in which a place is, or of the one that ends there, or -1. A word is preferred to a sign."""
+    """The number of the token in which a place is, or of the one that ends there, or -1. A word is preferred to a sign,
+    and of two signs the one that begins there."""
     best = -1
     for number, token in enumerate(tokens):
         if token.start > offset:
             break
         if token.start <= offset < token.end:
-            if best == -1 or token.kind != SIGN:
+            if best == -1 or token.kind != SIGN or tokens[best].kind == SIGN:
                 best = number
         elif token.end == offset and token.kind != COMMENT:
             best = number
