@@ -97,6 +97,30 @@ class Diagnostics(WithServer):
         with self.assertRaises(Refused):
             self.client.request("textDocument/formatting", {"textDocument": {"uri": URI}, "options": {}})
 
+    def test_long_and_deep(self):
+        """What is long or nested is told of within bounds, whether the library takes it or not."""
+        for text in (
+            "a+" * 16_000 + "a",
+            "a+" * 500 + "a",
+            "-" * 30_000 + "a",
+            "(" * 30_000,
+            "(" * 90 + "a" + ")" * 90,
+            "sum by (b) (" * 90 + "a" + ")" * 90,
+            "sum by (b) (" * 300 + "a" + ")" * 300,
+            "a{" + 'b="c",' * 5_000 + "}",
+            "a[" * 10_000,
+            '"' * 30_001,
+            "f(" * 10_000,
+            ",".join("ab" for _ in range(10_000)),
+        ):
+            self.open(text)
+            for character in (0, len(text) // 2, len(text)):
+                for method in ("hover", "completion", "signatureHelp", "references", "prepareRename"):
+                    self.client.at(method, URI, 0, character, context={})
+                params = {"textDocument": {"uri": URI}, "positions": [{"line": 0, "character": character}]}
+                self.client.request("textDocument/selectionRange", params)
+            self.client.request("textDocument/semanticTokens/full", {"textDocument": {"uri": URI}})
+
     def test_closed(self):
         self.open("(")
         self.client.notify("textDocument/didClose", {"textDocument": {"uri": URI}})

@@ -51,9 +51,13 @@ class Node:
         self.parts: List[Tuple[int, int]] = []
 
     def walk(self) -> Iterator[Node]:
-        yield self
-        for child in self.children:
-            yield from child.walk()
+        """The node and all that are in it, in their order."""
+        # (a long sum is as deep as it is long, so nothing recurses)
+        todo = [self]
+        while todo:
+            node = todo.pop()
+            yield node
+            todo += reversed(node.children)
 
     def path(self, offset: int) -> List[Node]:
         """The nodes around a place, the outermost one first."""
@@ -330,7 +334,7 @@ class _Reader:
         return self._at >= len(self._tokens)
 
 
-@lru_cache(maxsize=1_024)
+@lru_cache(maxsize=32)
 def nodes_of(text: str) -> Tuple[Node, ...]:
     """The outermost nodes of a query: one where it is accepted."""
     reader = _Reader([token for token in tokens_of(text) if token.kind != COMMENT])

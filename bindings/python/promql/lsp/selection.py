@@ -8,6 +8,8 @@ from .nodes import path_at
 from .tokens import COMMENT, SIGN, STRING, string_content, token_at, tokens_of
 
 Span = Tuple[int, int]
+# Of more spans than these only the smallest ones are told, and the whole query.
+_MOST_SPANS = 200
 
 
 def spans_around(text: str, offset: int) -> List[Span]:
@@ -42,4 +44,4 @@ def _nested(spans: List[Span], offset: int) -> List[Span]:
         is_around = start <= offset <= end and end > start
         if is_around and (not kept or start <= kept[-1][0] and kept[-1][1] <= end):
             kept.append((start, end))
-    return kept
+    return kept if len(kept) <= _MOST_SPANS else [*kept[:_MOST_SPANS], kept[-1]]

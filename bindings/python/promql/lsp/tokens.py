@@ -103,7 +103,8 @@ _KINDS = {
 }
 
 
-@lru_cache(maxsize=8_192)
+# (few: those of a long query that is typed in are large)
+@lru_cache(maxsize=32)
 def tokens_of(text: str) -> Tuple[Token, ...]:
     """The tokens of a text, with its comments; none where it is longer than a query may be."""
     if len(text) > LONGEST:
