@@ -68,7 +68,7 @@ def _openings(tokens: List[Token]) -> List[Opening]:
         if token.kind != SIGN:
             continue
         if token.text in "([{":
-            opening = _opening(token, tokens[:number][-1:], waiting)
+            opening = _opening(token, tokens[number - 1] if number else None, waiting)
             if opening.kind == LABEL_LIST:
                 waiting = tokens[number - 2] if number > 1 and tokens[number - 2].kind == AGGREGATOR else None
             else:
@@ -82,8 +82,7 @@ def _openings(tokens: List[Token]) -> List[Opening]:
     return found
 
 
-def _opening(sign: Token, last: List[Token], waiting: Optional[Token]) -> Opening:
-    before = last[0] if last else None
+def _opening(sign: Token, before: Optional[Token], waiting: Optional[Token]) -> Opening:
     if sign.text != "(":
         head = before if before and before.kind in (NAME, AGGREGATOR, KEYWORD) and before.end == sign.start else None
         return Opening(BRACES if sign.text == "{" else BRACKETS, sign, head, 0)
