@@ -7,12 +7,12 @@ from typing import List, Optional, Tuple
 
 import promql
 
-from ..files import BLANKS, FileError, Source
+from ..files import BLANKS, FileError
 from ..format_command import Printer
 from ..queries import Edit, Query, edited
 from ..rule_files import RuleFile
 from .nodes import path_at
-from .rules import NAME, Rule, lines_before
+from .rules import Rule, file_of, lines_before
 from .tokens import COMMENT, LONGEST, tokens_of
 
 WIDTH = 100
@@ -31,7 +31,7 @@ Span = Tuple[int, int]
 
 def rule_file_edits(text: str, span: Optional[Span]) -> List[Edit]:
     """The edits that lay out the queries of a rule file, or those of them that are in a part of it. What is rejected is left."""
-    file = RuleFile(Source(NAME, text, ""))
+    file = file_of(text)
     printer = Printer(WIDTH, False, str)
     changes = [(query, new) for query in file.queries if _is_in(query, span) for new in [_laid_out(printer, query)] if new is not None]
     if not changes:

@@ -4,6 +4,7 @@ from __future__ import annotations
 
 import re
 from bisect import bisect_right
+from functools import lru_cache
 from typing import Iterable, Iterator, List, NamedTuple, Optional, Sequence, Tuple
 
 import promql
@@ -106,6 +107,12 @@ class Rule(NamedTuple):
         return self._replace(start=self.start + by, end=self.end + by, record_start=places[0], record_end=places[1])
 
 
+@lru_cache(maxsize=1)
+def file_of(text: str) -> RuleFile:
+    """A rule file. (It is often asked for again: a text is laid out that was read before.)"""
+    return RuleFile(Source(NAME, text, ""))
+
+
 def read_rules(text: str) -> List[Rule]:
     """The rules of a file. Raises FileError where there are none to read."""
     return rules_of(RuleFile(Source(NAME, text, "")))
@@ -197,7 +204,7 @@ def lines_before(lines: str) -> Optional[str]:
 def problems_of(text: str) -> Tuple[Optional[List[Rule]], List[Problem]]:
     """The rules of a file, where it can be read, and what is wrong with it. In a file that is none of rules nothing is."""
     try:
-        file = RuleFile(Source(NAME, text, ""))
+        file = file_of(text)
     except RecursionError:
         return None, [Problem(0, 0, ERROR, "nested too deeply")]
     except FileError as error:
