@@ -10,7 +10,7 @@ from command_line import run
 
 # The words before the one that is completed, its beginning, and what may come there.
 COMPLETED = (
-    ((), "", ["check", "completion", "format", "serve"]),
+    ((), "", ["check", "completion", "format", "lsp", "serve"]),
     ((), "ch", ["check"]),
     (("check",), "--c", ["--color"]),
     (("format",), "--wi", ["--width"]),
