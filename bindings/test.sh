@@ -10,6 +10,8 @@
 #                                Debian starts a service then
 # bindings/test.sh --proxy       holds the Go proxy against a Prometheus with several tenants, in half a minute, where that is installed
 #                                (docs/guide/proxy.md)
+# bindings/test.sh --editor      tries the language server in Neovim, and in Emacs, in half a minute, where they are installed
+#                                (docs/guide/editor.md)
 set -u
 here=$(cd "$(dirname "$0")" && pwd)
 root=${here%/*}
@@ -120,6 +122,7 @@ install_missing() {
     [ -d /etc/grafana/dashboards ] || missing+=(ceph-grafana-dashboards ceph-prometheus-alerts)
     command -v chromium >/dev/null || missing+=(chromium)
     command -v vim >/dev/null || missing+=(vim)
+    command -v nvim >/dev/null || missing+=(neovim)
     command -v parallel >/dev/null || missing+=(parallel)
     /usr/bin/python3 -c 'import dask.distributed' 2>/dev/null || missing+=(python3-distributed)
     [ ${#missing[@]} = 0 ] && return
@@ -292,6 +295,7 @@ test_rule_files() {
         add "checks of rules for Python, by $python" unit_tests "$here/python" test_rule_checks.py
         add "files with rules for Python, by $python" unit_tests "$here/python" test_rule_documents.py
         add "the linter for Python, by $python" unit_tests "$here/python" test_lint_command.py
+        add "the language server with rule files, by $python" unit_tests "$here/python" test_lsp_rules.py
     fi
     has promtool 'verdicts on rule files beside those of promtool' && { promtool --version 2>&1 | grep -q 'version 2\.42\.' ||
         echo 'not tried: verdicts on rule files beside those of promtool: promtool is not of 2.42'; }
@@ -528,6 +532,24 @@ test_proxy() {
     add 'the proxy before a Prometheus' in_python "$here/python" "$here/proxy.py" "$work/promql-proxy"
 }
 
+# ---- an editor
+
+# The editor and the server are in the group of processes that `limited` ends.
+test_editor() {
+    local python
+    has nvim 'the language server in Neovim' || return
+    if ! python=$(python_with_yaml); then
+        echo 'not tried: the language server in Neovim: no Python here has ruamel.yaml'
+        return
+    fi
+    add 'the language server in Neovim' "$python" "$here/lsp_editor.py"
+    if has emacs 'the language server in Emacs' && emacs --batch --eval "(require 'eglot)" 2>/dev/null; then
+        add 'the language server in Emacs' python3 "$here/lsp_emacs.py"
+    else
+        echo 'not tried: the language server in Emacs: there is no Eglot here'
+    fi
+}
+
 export -f shows_own_names build_c bench_prints example_prints build_sanitized overrun_is_reported under_valgrind build_project
 export -f find_installed in_python unit_tests print_counts
 export debian_crates
@@ -540,8 +562,9 @@ case "${1:-}" in
 --attack) parts=(attacks) ;;
 --prometheus) parts=(prometheus) ;;
 --proxy) parts=(proxy) ;;
+--editor) parts=(editor) ;;
 *)
-    echo 'usage: bindings/test.sh [--install | --attack | --prometheus | --proxy]' >&2
+    echo 'usage: bindings/test.sh [--install | --attack | --prometheus | --proxy | --editor]' >&2
     exit 64
     ;;
 esac

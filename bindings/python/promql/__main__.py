@@ -9,13 +9,14 @@ import signal
 import sys
 from typing import List, Optional, TextIO
 
-from . import check_command, completion_command, format_command, lint_command, page
+from . import check_command, completion_command, format_command, lint_command, lsp_command, page
 from .documents import Status
 
 COMMANDS = (
     check_command,
     format_command,
     lint_command,
+    lsp_command,
     page,
     completion_command,
 )
@@ -33,7 +34,7 @@ def main(arguments: Optional[List[str]] = None) -> int:
 
 def program() -> int:
     """The same as a program: it ends by the signal where nobody reads its output, and says so where that cannot be written."""
-    if "serve" in sys.argv[1:2]:
+    if sys.argv[1:2] in (["serve"], ["lsp"]):
         return main()
     signal.signal(signal.SIGPIPE, signal.SIG_DFL)
     # (a stream that was closed is None, and `print` takes standard output for that)

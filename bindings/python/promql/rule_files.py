@@ -68,6 +68,25 @@ class RuleFile:
     def documents(self) -> List[RuleDocument]:
         return self._parts.documents
 
+    def rules(self) -> Iterator[Node]:
+        """The mapping of each rule of Prometheus, once for all its aliases."""
+        seen: Set[int] = set()
+        owners = [document.owner for document in self._parts.documents if document.kind is Kind.RULES]
+        for group in self._items(owners, "groups"):
+            for rule in self._items([group], "rules"):
+                if rule.kind == "mapping" and id(rule) not in seen:
+                    seen.add(id(rule))
+                    yield rule
+
+    def value(self, rule: Node, key: str) -> Optional[Node]:
+        """What a rule has under a key."""
+        return self._parts.mappings.value(rule, key)
+
+    def _items(self, owners: List[Node], key: str) -> Iterator[Node]:
+        for owner in owners:
+            items = self._parts.mappings.value(owner, key)
+            yield from items.value if items and items.kind == "sequence" else ()
+
     def summary(self) -> str:
         parts = self._parts
         tests = [counted(parts.tests, "query", "queries")] if parts.tests else []

@@ -10,7 +10,7 @@ from command_line import run
 
 # The words before the one that is completed, its beginning, and what may come there.
 COMPLETED = (
-    ((), "", ["check", "completion", "format", "lint", "serve"]),
+    ((), "", ["check", "completion", "format", "lint", "lsp", "serve"]),
     ((), "ch", ["check"]),
     (("check",), "--c", ["--color"]),
     (("format",), "--wi", ["--width"]),

@@ -1,0 +1,163 @@
+"""What may be written at a place of a query."""
+
+from __future__ import annotations
+
+from typing import Any, Dict, Iterable, Iterator, List, NamedTuple, Optional
+
+from .context import BRACES, BRACKETS, LABEL_LIST, Context, context_at
+from .functions import AGGREGATIONS, FUNCTIONS, WORDS, Function
+from .names import Known
+from .tokens import AGGREGATOR, COMPARISONS, ERROR, KEYWORD, SIGN, STRING, WORD_OPERATOR, Token
+
+# The kinds of the protocol.
+_FUNCTION, _FIELD, _VARIABLE, _VALUE, _KEYWORD, _OPERATOR = 3, 5, 6, 12, 14, 24
+_DURATIONS = ("1m", "5m", "10m", "15m", "30m", "1h", "6h", "12h", "1d", "1w")
+_MATCHER_SIGNS = ("=", "!=", "=~", "!~")
+_MATCHING_WORDS = ("on", "ignoring", "group_left", "group_right")
+# A list is not longer than this, and then says that there are more.
+MOST_ITEMS = 500
+
+
+class Item(NamedTuple):
+    label: str
+    kind: int
+    detail: str = ""
+    documentation: str = ""
+    # What is written, with `$0` for the place after it, where that is not the label.
+    snippet: str = ""
+
+
+class Completion(NamedTuple):
+    items: List[Item]
+    # The part of the query that an item replaces.
+    start: int
+    end: int
+
+
+def complete(text: str, offset: int, known: Known) -> Optional[Completion]:
+    context = context_at(text, offset)
+    if context is None:
+        return None
+    word = context.word
+    if word and word.kind in (STRING, ERROR):
+        return Completion(list(_in_string(context, known)), word.start + 1, offset)
+    start = word.start if word else offset
+    return Completion(list(_items(context, known)), start, offset)
+
+
+def _in_string(context: Context, known: Known) -> Iterator[Item]:
+    """The values of a label, or in a string alone the names of metrics."""
+    inner, sign, label = context.inner, context.previous(), context.previous(2)
+    if not inner or inner.kind != BRACES or not sign:
+        return
+    if sign.kind == SIGN and sign.text in _MATCHER_SIGNS and label:
+        name = label.text.strip("\"'`")
+        values = known.metrics if name == "__name__" else known.values.get(name, set())
+        yield from _each(values, _VALUE, f"value of {name}")
+    elif sign.text in ("{", ","):
+        yield from _each(known.metrics, _VARIABLE, "metric")
+
+
+def _items(context: Context, known: Known) -> Iterator[Item]:
+    inner = context.inner
+    if inner and inner.kind == BRACES:
+        yield from _in_braces(context, known)
+    elif inner and inner.kind == BRACKETS:
+        yield from _each(_DURATIONS, _VALUE, "duration")
+    elif inner and inner.kind == LABEL_LIST:
+        yield from _each(known.labels, _FIELD, "label")
+    elif _closed_by(context) in _MATCHING_WORDS:
+        if _closed_by(context) in ("on", "ignoring"):
+            yield from map(_word, ("group_left", "group_right"))
+        yield from _operands(context, known)
+    elif _ends_operand(context.previous()):
+        yield from _after_operand(context)
+    else:
+        yield from _operands(context, known)
+
+
+def _in_braces(context: Context, known: Known) -> Iterator[Item]:
+    last = context.previous()
+    if last and last.text in ("{", ",") or last and last.kind == WORD_OPERATOR:
+        for label in sorted(known.labels | {"__name__"}):
+            yield Item(label, _FIELD, "label", "", f'{label}="$0"')
+    elif last and last.kind == SIGN:
+        name = context.previous(2)
+        values = known.values.get(name.text, set()) if name else set()
+        yield from (Item(f'"{value}"', _VALUE, "value") for value in sorted(values))
+    elif last and last.kind != STRING:
+        yield from _each(_MATCHER_SIGNS, _OPERATOR, "")
+
+
+def _ends_operand(last: Optional[Token]) -> bool:
+    """Whether an operator may come after this token, and no operand."""
+    if last is None or last.kind in (WORD_OPERATOR, ERROR):
+        return False
+    if last.kind == KEYWORD:
+        return last.lower in ("smoothed", "anchored")
+    return last.kind != SIGN or last.text in (")", "}", "]")
+
+
+def _after_operand(context: Context) -> Iterator[Item]:
+    last = context.previous()
+    words = ["and", "or", "unless", "atan2", "offset"]
+    if last and (last.kind == AGGREGATOR or _closed_by(context) == AGGREGATOR):
+        words += ["by", "without"]
+    if last and last.text == "]":
+        words += ["smoothed", "anchored"]
+    return map(_word, words)
+
+
+def _closed_by(context: Context) -> str:
+    """What is before the parentheses that end here: the kind of its token, or a keyword itself."""
+    depth = 0
+    for number in range(len(context.before) - 1, -1, -1):
+        token = context.before[number]
+        depth += {")": 1, "(": -1}.get(token.text, 0) if token.kind == SIGN else 0
+        if depth == 0:
+            head = context.before[number - 1] if number and token.text == "(" else None
+            return "" if head is None else head.lower if head.kind == KEYWORD else head.kind
+    return ""
+
+
+def _operands(context: Context, known: Known) -> Iterator[Item]:
+    last = context.previous()
+    if last and (last.kind == WORD_OPERATOR or last.kind == SIGN and last.text in (*COMPARISONS, "+", "-", "*", "/", "%", "^")):
+        yield from map(_word, [*(["bool"] if last.text in COMPARISONS else []), "on", "ignoring"])
+    if last and last.kind == SIGN and last.text == "@":
+        yield from (Item(f"{name}()", _KEYWORD, "", WORDS[name]) for name in ("start", "end"))
+        return
+    if last and last.kind == KEYWORD and last.lower == "offset":
+        yield from _each(_DURATIONS, _VALUE, "duration")
+        return
+    for function in (*FUNCTIONS.values(), *AGGREGATIONS.values()):
+        yield _called(function)
+    yield from _each(known.metrics, _VARIABLE, "metric")
+
+
+def _called(function: Function) -> Item:
+    needed = [parameter for parameter in function.parameters if not parameter.is_optional]
+    places = ", ".join(f"${{{number}:{parameter.name}}}" for number, parameter in enumerate(needed, 1))
+    return Item(function.name, _FUNCTION, function.signature, function.sentence, f"{function.name}({places})$0")
+
+
+def _word(word: str) -> Item:
+    return Item(word, _KEYWORD, "", WORDS[word])
+
+
+def _each(names: Iterable[str], kind: int, detail: str) -> Iterator[Item]:
+    for name in sorted(names) if isinstance(names, set) else names:
+        yield Item(name, kind, detail)
+
+
+def shown(item: Item, edit_range: Any, snippets: bool) -> Dict[str, Any]:
+    """An item as the protocol has it."""
+    text = item.snippet if item.snippet and snippets else item.label
+    found: Dict[str, Any] = {"label": item.label, "kind": item.kind, "textEdit": {"range": edit_range, "newText": text}}
+    if item.detail:
+        found["detail"] = item.detail
+    if item.documentation:
+        found["documentation"] = item.documentation
+    if text != item.label:
+        found["insertTextFormat"] = 2
+    return found

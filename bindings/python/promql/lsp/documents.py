@@ -1,0 +1,160 @@
+"""The documents that an editor has open."""
+
+from __future__ import annotations
+
+import re
+from bisect import bisect_right
+from typing import Any, Iterator, List, NamedTuple, Optional, Tuple
+
+import promql
+
+from .messages import INVALID_PARAMS, ProtocolError
+from .positions import Lines, Range
+from .rules import ERROR, PlacedQuery, Problem, Rule, read_lines
+
+# A document is not looked at where it is larger.
+MOST_CHARACTERS = 8 * 1024 * 1024
+_YAML = re.compile(r"\.ya?ml$", re.I)
+_BLANK_REST = re.compile(r"[ \t]*")
+
+
+def _blanks(text: str, at: int) -> int:
+    """How many blanks come there."""
+    found = _BLANK_REST.match(text, at)
+    return len(found[0]) if found else 0
+
+
+class Place(NamedTuple):
+    """A place in a query of a document."""
+
+    query: PlacedQuery
+    at: int
+
+
+class Document:
+    """A text with its version."""
+
+    def __init__(self, uri: str, language: str, version: int, text: str) -> None:
+        self.uri = uri
+        self.version = version
+        self.is_rule_file = language != "promql" and (language.startswith("yaml") or bool(_YAML.search(uri)))
+        self.rules: List[Rule] = []
+        # Whether the rules are those of the text as it is, and whether what can be told of the text was told.
+        self.is_read = False
+        self.is_settled = False
+        self.set_text(text)
+
+    @property
+    def is_large(self) -> bool:
+        """Whether it is larger than what is looked at."""
+        return len(self.text) > MOST_CHARACTERS
+
+    def set_text(self, text: str) -> None:
+        self._put(text)
+        self.is_read = self.is_settled = not self.is_rule_file
+        if self.is_large:
+            self.rules, self.is_read, self.is_settled = [], False, True
+        elif not self.is_rule_file:
+            self.rules = [Rule(0, len(text), False, "", 0, 0, "", [PlacedQuery(text, range(len(text) + 1))])]
+
+    def _put(self, text: str) -> None:
+        self.text = text
+        self._lines: Optional[Lines] = None
+
+    @property
+    def lines(self) -> Lines:
+        if self._lines is None:
+            self._lines = Lines(self.text)
+        return self._lines
+
+    def change(self, change: Any) -> None:
+        """Makes a change of the protocol: of a part, or of all."""
+        text = change.get("text") if isinstance(change, dict) else None
+        if not isinstance(text, str):
+            raise ProtocolError(INVALID_PARAMS, "a change without a text")
+        if change.get("range") is None:
+            self.set_text(text)
+            return
+        start, end = self.lines.span(change["range"])
+        new = self.text[:start] + text + self.text[end:]
+        if not self.is_rule_file or len(new) > MOST_CHARACTERS:
+            self.set_text(new)
+            return
+        old = self.text
+        self._put(new)
+        self._move_rules(old, start, end, len(text) - (end - start))
+
+    def _move_rules(self, old: str, start: int, end: int, by: int) -> None:
+        """Reads the rule again in which a change is, and moves those after it. A change anywhere else may be one of all: then those
+        that are whole stay till the file is read."""
+        number = bisect_right([rule.start for rule in self.rules], start) - 1
+        before, rule = self.rules[: max(number, 0)], self.rules[number] if number >= 0 else None
+        after = [other.moved(by) for other in self.rules[number + 1 :] if other.start >= end]
+        if rule and rule.is_alone and end <= rule.end + _blanks(old, rule.end):
+            found = read_lines(self.text, rule.start, rule.end + _blanks(old, rule.end) + by)
+            self.is_read = self.is_read and found is not None
+            self.is_settled = self.is_settled and found is not None
+            self.rules = before + (found or []) + after
+        else:
+            self.is_read = self.is_settled = False
+            self.rules = before + [it for it in (rule,) if it and it.end <= start] + after
+
+    def settle(self, rules: Optional[List[Rule]]) -> None:
+        """Takes the rules that were read of the text as it is; where there are none to read, those of before stay."""
+        self.is_settled, self.is_read = True, rules is not None
+        self.rules = self.rules if rules is None else rules
+
+    def queries(self) -> Iterator[PlacedQuery]:
+        for rule in self.rules:
+            yield from rule.queries
+
+    def place(self, offset: int) -> Optional[Place]:
+        """The query at a place; the blanks after it on its line are of it, too."""
+        number = bisect_right([rule.start for rule in self.rules], offset) - 1
+        for rule in self.rules[max(number, 0) : number + 1]:
+            for query in rule.queries:
+                if query.start <= offset <= query.end or self._is_after(query, offset):
+                    return Place(query, query.inside(offset))
+        return None
+
+    def _is_after(self, query: PlacedQuery, offset: int) -> bool:
+        return query.end <= offset <= query.end + _blanks(self.text, query.end)
+
+    def record_at(self, offset: int) -> str:
+        """The name that a rule records, at its place."""
+        number = bisect_right([rule.start for rule in self.rules], offset) - 1
+        for rule in self.rules[max(number, 0) : number + 1]:
+            if rule.record and rule.record_start <= offset <= rule.record_end:
+                return rule.record
+        return ""
+
+    def range_in(self, query: PlacedQuery, start: int, end: int) -> Range:
+        """The range of a part of a query."""
+        return self.lines.range(*query.span(start, end))
+
+
+def query_problems(text: str) -> List[Problem]:
+    """What is wrong with a query that is a document. One without a token is no fault while it is written."""
+    try:
+        if text.strip():
+            promql.check(text)
+    except promql.QueryError as error:
+        return [Problem(error.start, error.end, ERROR, error.message)]
+    except UnicodeEncodeError as error:
+        return [Problem(error.start, error.end, ERROR, "half of a surrogate pair")]
+    except ValueError as error:
+        return [Problem(0, len(text), ERROR, str(error))]
+    return []
+
+
+def diagnostics(document: Document, problems: List[Problem]) -> List[Any]:
+    """The problems as the protocol has them."""
+    return [
+        {
+            "range": document.lines.range(problem.start, problem.end),
+            "severity": problem.severity,
+            "source": "promql",
+            "message": problem.message,
+        }
+        for problem in problems
+    ]

@@ -1,0 +1,118 @@
+"""From a metric to the rule that records it and to its uses, and a new name for all of them."""
+
+from __future__ import annotations
+
+import re
+from typing import Any, Dict, Iterable, Iterator, List, NamedTuple, Optional, Tuple
+
+import promql
+
+from ..queries import Edit, edited
+from .documents import Document
+from .messages import INVALID_PARAMS, REQUEST_FAILED, ProtocolError
+from .names import names_of
+from .rules import PlacedQuery, read_lines
+
+_METRIC = re.compile(r"[A-Za-z_:][A-Za-z0-9_:]*")
+
+
+class Named(NamedTuple):
+    """The name of a metric at a place of a document, `text[start:end]` of it."""
+
+    name: str
+    start: int
+    end: int
+
+
+def metric_at(document: Document, offset: int) -> Optional[Named]:
+    """The metric that is named at a place, in a query or as what a rule records."""
+    for rule in document.rules:
+        if rule.record and rule.record_start <= offset <= rule.record_end:
+            return Named(rule.record, rule.record_start, rule.record_end)
+    place = document.place(offset)
+    for use in place.query.names.metrics if place else ():
+        if place and use.start <= place.at <= use.end:
+            return Named(use.name, *place.query.span(use.start, use.end))
+    return None
+
+
+def records(documents: Iterable[Document], name: str) -> Iterator[Tuple[Document, int, int]]:
+    """The places where rules record a metric."""
+    for document in documents:
+        for rule in document.rules:
+            if rule.record == name:
+                yield document, rule.record_start, rule.record_end
+
+
+def uses(documents: Iterable[Document], name: str) -> Iterator[Tuple[Document, int, int]]:
+    """The places where queries name a metric."""
+    for document in documents:
+        for query in document.queries():
+            for use in query.names.metrics:
+                if use.name == name:
+                    yield (document, *query.span(use.start, use.end))
+
+
+def location(document: Document, start: int, end: int) -> Dict[str, Any]:
+    return {"uri": document.uri, "range": document.lines.range(start, end)}
+
+
+def rename(documents: List[Document], name: str, new: str) -> Dict[str, Any]:
+    """The edits of each document that give a metric another name. Raises where one of them would do anything else."""
+    if not _METRIC.fullmatch(new) or new.endswith(":") or new.startswith(":"):
+        raise ProtocolError(INVALID_PARAMS, f"not a name of a metric: {new!r}")
+    changes: Dict[str, Any] = {}
+    for document in documents:
+        places = [place[1:] for place in (*records([document], name), *uses([document], name))]
+        if not places:
+            continue
+        if not document.is_read:
+            raise ProtocolError(REQUEST_FAILED, "a document with this metric cannot be read as it is")
+        if any(document.text[start:end] != name for start, end in places):
+            raise ProtocolError(REQUEST_FAILED, "the name is written with escapes in one place")
+        _look_at(document, name, new)
+        edits = [{"range": document.lines.range(start, end), "newText": new} for start, end in sorted({*places})]
+        changes[document.uri] = edits
+    if not changes:
+        raise ProtocolError(REQUEST_FAILED, "there is no metric of this name")
+    return {"changes": changes}
+
+
+def _look_at(document: Document, name: str, new: str) -> None:
+    """Raises where the new name would make a query another one than the old with the names exchanged."""
+    for rule in document.rules:
+        own = [query for query in rule.queries if any(use.name == name for use in query.names.metrics)]
+        for query in own:
+            _look_at_query(query, name, new)
+        if (own or rule.record == name) and rule.is_alone:
+            edits = [Edit(*query.span(use.start, use.end), new) for query in own for use in query.names.metrics if use.name == name]
+            if rule.record == name:
+                edits.append(Edit(rule.record_start, rule.record_end, new))
+            text = edited(document.text[: rule.end], edits)
+            found = read_lines(text, rule.start, len(text))
+            record = new if rule.record == name else rule.record
+            wanted = [_renamed(query, name, new) for query in rule.queries]
+            if not found or len(found) != 1 or found[0].record != record or [it.text for it in found[0].queries] != wanted:
+                raise ProtocolError(REQUEST_FAILED, f"a rule would not be read the same with the name {new!r}")
+
+
+def _renamed(query: PlacedQuery, name: str, new: str) -> str:
+    return edited(query.text, [Edit(use.start, use.end, new) for use in query.names.metrics if use.name == name])
+
+
+def _look_at_query(query: PlacedQuery, name: str, new: str) -> None:
+    try:
+        before = promql.collect(query.text)["metrics"]
+    except ValueError:
+        # (a query that is rejected has nothing to lose but its places)
+        return
+    text = _renamed(query, name, new)
+    try:
+        after = promql.collect(text)["metrics"]
+    except ValueError as error:
+        raise ProtocolError(REQUEST_FAILED, f"a query would be rejected with the name {new!r}: {error}") from error
+    # (a name that the query has in a form which is not renamed stays)
+    if set(after) not in ({new if it == name else it for it in before}, {*before, new}):
+        raise ProtocolError(REQUEST_FAILED, f"a query would be another one with the name {new!r}")
+    if len(names_of(text).metrics) != len(query.names.metrics):
+        raise ProtocolError(REQUEST_FAILED, f"a query would be another one with the name {new!r}")

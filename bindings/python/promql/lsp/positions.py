@@ -1,0 +1,80 @@
+"""Places of a text: offsets of characters, and the lines and UTF-16 units that editors count."""
+
+from __future__ import annotations
+
+import re
+from bisect import bisect_right
+from typing import Any, Dict, List, Tuple
+
+from .messages import INVALID_PARAMS, ProtocolError
+
+_BREAK = re.compile(r"\r\n|\r|\n")
+_WIDE = re.compile("[\U00010000-\U0010ffff]")
+
+Range = Dict[str, Dict[str, int]]
+
+
+class Lines:
+    """The lines of a text."""
+
+    def __init__(self, text: str) -> None:
+        self.text = text
+        breaks = [found.span() for found in _BREAK.finditer(text)]
+        self._begins: List[int] = [0, *(end for _, end in breaks)]
+        self._ends: List[int] = [*(begin for begin, _ in breaks), len(text)]
+        # (most texts have no character of two units, and then units are characters)
+        self._is_narrow = text.isascii() or not _WIDE.search(text)
+
+    def line_begin(self, offset: int) -> int:
+        """Where the line of a character begins."""
+        return self._begins[bisect_right(self._begins, offset) - 1]
+
+    def point(self, offset: int) -> Tuple[int, int]:
+        """The line of a character, and the UTF-16 units before it there."""
+        offset = min(max(offset, 0), len(self.text))
+        number = bisect_right(self._begins, offset) - 1
+        begin = self._begins[number]
+        end = min(offset, self._ends[number])
+        return number, end - begin if self._is_narrow else units(self.text[begin:end])
+
+    def position(self, offset: int) -> Dict[str, int]:
+        line, character = self.point(offset)
+        return {"line": line, "character": character}
+
+    def range(self, start: int, end: int) -> Range:
+        return {"start": self.position(start), "end": self.position(end)}
+
+    def offset(self, position: Any) -> int:
+        """The offset of a position. One past a line's end is the end of that line, one past the last line the text's end."""
+        line, character = whole(position, "line"), whole(position, "character")
+        if line >= len(self._begins):
+            return len(self.text)
+        begin, end = self._begins[line], self._ends[line]
+        if self._is_narrow:
+            return min(begin + character, end)
+        at = begin
+        while at < end and character > 0:
+            character -= 2 if self.text[at] > "\uffff" else 1
+            # (within a character of two units is before it)
+            at += character >= 0
+        return at
+
+    def span(self, given: Any) -> Tuple[int, int]:
+        """The offsets of a range."""
+        if not isinstance(given, dict):
+            raise ProtocolError(INVALID_PARAMS, "no range")
+        start, end = self.offset(given.get("start")), self.offset(given.get("end"))
+        return min(start, end), max(start, end)
+
+
+def units(text: str) -> int:
+    """How many UTF-16 units a text has."""
+    return len(text) + len(_WIDE.findall(text))
+
+
+def whole(holder: Any, name: str) -> int:
+    """A number of a message that counts something."""
+    number = holder.get(name) if isinstance(holder, dict) else None
+    if not isinstance(number, int) or isinstance(number, bool) or number < 0:
+        raise ProtocolError(INVALID_PARAMS, f"`{name}` is no number from 0 on")
+    return number

@@ -1,0 +1,248 @@
+"""What a rule file has, as an editor is told of it: its rules with the places of their queries, and what is wrong with them."""
+
+from __future__ import annotations
+
+import re
+from bisect import bisect_right
+from functools import lru_cache
+from typing import Iterable, Iterator, List, NamedTuple, Optional, Sequence, Tuple
+
+import promql
+
+from ..files import Fault, FileError, Source
+from ..queries import Query
+from ..rule_files import RuleFile
+from ..yaml_nodes import Node
+from .names import names_of
+from .roles import roles_of
+
+ERROR, WARNING = 1, 2
+NAME = "document"
+_GROUPS = re.compile(r"^\s*groups:", re.M)
+_PLACE = re.compile(rf"{NAME}:(\d+):(\d+): ([^\n]*)")
+_MOST_NODES = 10_000
+# Lines that are longer are not read by themselves.
+_LONGEST_LINES = 16_384
+_LINE_BEGINS = re.compile(r"\r\n|\r|\n")
+
+
+class Problem(NamedTuple):
+    """What is wrong with the part `text[start:end]` of a document."""
+
+    start: int
+    end: int
+    severity: int
+    message: str
+
+
+class PlacedQuery:
+    """A query of a document, with the place of each of its characters."""
+
+    def __init__(self, text: str, offsets: Sequence[int]) -> None:
+        self.text = text
+        self.names = names_of(text)
+        self.roles = roles_of(text)
+        # Whether its characters are beside each other on one line.
+        self.is_line = offsets[len(text)] - offsets[0] == len(text) and "\n" not in text and "\r" not in text
+        self.start = offsets[0]
+        self.end = offsets[len(text)]
+        if self.is_line:
+            self._runs = [(0, self.start)]
+        else:
+            self._runs = list(_runs(offsets[: len(text)])) or [(0, self.start)]
+
+    def moved(self, by: int) -> None:
+        self.start += by
+        self.end += by
+        self._runs = [(at, offset + by) for at, offset in self._runs]
+
+    def offset(self, at: int) -> int:
+        """The place in the document of a character of the query, or of its end."""
+        if at >= len(self.text):
+            return self.end
+        begin, offset = self._runs[bisect_right(self._runs, (at, self.end + 1)) - 1]
+        return offset + at - begin
+
+    def span(self, start: int, end: int) -> Tuple[int, int]:
+        """The part of the document that has this part of the query."""
+        return self.offset(start), max(self.offset(end - 1) + 1, self.offset(start)) if end > start else self.offset(end)
+
+    def inside(self, offset: int) -> int:
+        """The character of the query that is at a place of the document, or the next one before it."""
+        if offset >= self.end:
+            return len(self.text)
+        number = max(sum(1 for _, begin in self._runs if begin <= offset) - 1, 0)
+        at, begin = self._runs[number]
+        stop = self._runs[number + 1][0] if number + 1 < len(self._runs) else len(self.text)
+        return min(max(at + offset - begin, at), stop)
+
+
+def _runs(offsets: Sequence[int]) -> Iterator[Tuple[int, int]]:
+    """Where the places of characters do not count up."""
+    before = -2
+    for at, offset in enumerate(offsets):
+        if offset != before + 1:
+            yield at, offset
+        before = offset
+
+
+class Rule(NamedTuple):
+    """A rule, `text[start:end]` from the begin of its first line on, or a query that is in none."""
+
+    start: int
+    end: int
+    # Whether its lines are its own, so that they are read alone.
+    is_alone: bool
+    # The name of what it records, with its place.
+    record: str
+    record_start: int
+    record_end: int
+    alert: str
+    queries: List[PlacedQuery]
+
+    def moved(self, by: int) -> Rule:
+        for query in self.queries:
+            query.moved(by)
+        places = (self.record_start + by, self.record_end + by) if self.record else (0, 0)
+        return self._replace(start=self.start + by, end=self.end + by, record_start=places[0], record_end=places[1])
+
+
+@lru_cache(maxsize=1)
+def file_of(text: str) -> RuleFile:
+    """A rule file. (It is often asked for again: a text is laid out that was read before.)"""
+    return RuleFile(Source(NAME, text, ""))
+
+
+def read_rules(text: str) -> List[Rule]:
+    """The rules of a file. Raises FileError where there are none to read."""
+    return rules_of(RuleFile(Source(NAME, text, "")))
+
+
+def rules_of(file: RuleFile) -> List[Rule]:
+    text = file.source.text
+    queries = sorted((query for query in file.queries if not query.skipped), key=lambda query: query.offsets[0])
+    found: List[Rule] = []
+    used = 0
+    for node in sorted(file.rules(), key=lambda rule: rule.start):
+        end, is_whole = _end(node)
+        while used < len(queries) and queries[used].offsets[0] < node.start:
+            found.append(_lone(queries[used]))
+            used += 1
+        own: List[PlacedQuery] = []
+        while used < len(queries) and queries[used].offsets[0] < end:
+            own.append(PlacedQuery(queries[used].text, queries[used].offsets))
+            used += 1
+        found.append(_rule(file, node, end, is_whole, own, text))
+    found += map(_lone, queries[used:])
+    return found
+
+
+def _lone(query: Query) -> Rule:
+    placed = PlacedQuery(query.text, query.offsets)
+    return Rule(placed.start, placed.end, False, "", 0, 0, "", [placed])
+
+
+def _end(rule: Node) -> Tuple[int, bool]:
+    """Where the last scalar of a rule ends, and whether all of it is there, so that no part of it is an alias."""
+    end, is_whole, todo, count = rule.start, not rule.anchor, [rule], 0
+    while todo and count < _MOST_NODES:
+        node = todo.pop()
+        count += 1
+        if node.start < rule.start or node.anchor or node.is_merge():
+            is_whole = False
+        elif node.kind == "scalar":
+            # (one without a character has a place that each reader of YAML tells in its own way)
+            end = max(end, node.end if node.end > node.start else 0)
+        else:
+            todo += node.value if node.kind == "sequence" else [part for pair in node.value for part in pair]
+    return end, is_whole and not todo
+
+
+def _rule(file: RuleFile, node: Node, end: int, is_whole: bool, queries: List[PlacedQuery], text: str) -> Rule:
+    begin = max(text.rfind("\n", 0, node.start), text.rfind("\r", 0, node.start)) + 1
+    is_alone = is_whole and text[begin : node.start].strip(" ") == "-" and not node.style
+    record, alert = file.value(node, "record"), file.value(node, "alert")
+    name, place = "", (0, 0)
+    if record and record.is_text() and node.start <= record.start < end:
+        quotes = len(record.style) if record.style in ("'", '"') else 0
+        place = record.start + quotes, record.end - quotes
+        # (a name with an escape, a tag or an anchor has no place)
+        name = record.value if text[slice(*place)] == record.value else ""
+    title = str(alert.value) if alert and alert.is_scalar() else ""
+    end_of_rule = node.start + len(text[node.start : end].rstrip(" \r\n"))
+    return Rule(begin, end_of_rule, is_alone, name, *place, title, queries)
+
+
+def read_lines(text: str, start: int, end: int) -> Optional[List[Rule]]:
+    """The rules of some lines of a file, which are read by themselves; nothing where they are no rules by themselves."""
+    before = lines_before(text[start:end])
+    if before is None or not _stays_inside(text[start:end]):
+        return None
+    try:
+        found = read_rules(before + text[start:end])
+    except (FileError, RecursionError):
+        return None
+    if not found or not all(rule.is_alone for rule in found):
+        return None
+    return [rule.moved(start - len(before)) for rule in found]
+
+
+def _stays_inside(lines: str) -> bool:
+    """Whether no line but that of a rule is as far out as the first one, so that what comes after these lines is read as before."""
+    first, *others = _LINE_BEGINS.split(lines)
+    column = len(first) - len(first.lstrip(" "))
+    item = " " * column + "- "
+    return all(line.startswith((" " * (column + 1), item)) or not line.strip(" ") for line in others)
+
+
+def lines_before(lines: str) -> Optional[str]:
+    """What makes a file of the lines of a rule; nothing where they cannot be read by themselves."""
+    # (a list may be as far in as its key, so this one is as far in as any list of rules)
+    return f"groups:\n- name: {NAME}\n  rules:\n" if lines.startswith("  ") and len(lines) <= _LONGEST_LINES else None
+
+
+def problems_of(text: str) -> Tuple[Optional[List[Rule]], List[Problem]]:
+    """The rules of a file, where it can be read, and what is wrong with it. In a file that is none of rules nothing is."""
+    try:
+        file = file_of(text)
+    except RecursionError:
+        return None, [Problem(0, 0, ERROR, "nested too deeply")]
+    except FileError as error:
+        return None, [_unread(text, str(error))] if _GROUPS.search(text) else []
+    if not file.is_known:
+        return rules_of(file), []
+    found = list(_query_problems(file.queries))
+    faults = list(file.faults)
+    warnings: List[Fault] = []
+    try:
+        others, warnings = file.checks()
+        faults += others
+    except (FileError, RecursionError) as error:
+        faults.append(Fault(0, 0, str(error)))
+    found += _problems({*faults}, ERROR)
+    found += _problems({*warnings}, WARNING)
+    return rules_of(file), sorted(found)
+
+
+def _problems(faults: Iterable[Fault], severity: int) -> List[Problem]:
+    return [Problem(fault.start, fault.end, severity, fault.message) for fault in faults]
+
+
+def _query_problems(queries: List[Query]) -> Iterator[Problem]:
+    for query in queries:
+        try:
+            if not query.skipped:
+                promql.check(query.text)
+        except ValueError as error:
+            fault = query.rejected(error)
+            yield Problem(fault.start, fault.end, ERROR, fault.message)
+
+
+def _unread(text: str, message: str) -> Problem:
+    """The problem of a text that is not YAML, at the place that the message has."""
+    place = _PLACE.match(message)
+    if not place:
+        return Problem(0, 0, ERROR, message.partition("\n")[0])
+    begins = [0, *(found.end() for found in _LINE_BEGINS.finditer(text))]
+    offset = begins[min(int(place[1]), len(begins)) - 1] + int(place[2]) - 1
+    return Problem(offset, offset, ERROR, place[3])
