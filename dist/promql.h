@@ -2,7 +2,7 @@
  *
  * Each call reads its query, writes a text to the start of its buffer, and says in `result` what it did; it returns the
  * status. A query is UTF-8 and need not end with a 0; no 0 is written after a text. A call keeps nothing and shares nothing
- * but the limits that promql_set_limits sets, so any thread may make any call at any time.
+ * but the limits that promql_set_limits and promql_set_max_output set, so any thread may make any call at any time.
  *
  *     char buffer[1024];
  *     struct promql_result result;
@@ -32,7 +32,7 @@ extern "C" {
 #endif
 
 /* The version of this header; promql_version has that of the library. */
-#define PROMQL_VERSION "0.4.0"
+#define PROMQL_VERSION "0.5.0"
 
 /* How promql_print prints. */
 enum promql_mode {
@@ -45,7 +45,7 @@ enum promql_mode {
  * A thread needs more than these, for what it does itself. */
 #define PROMQL_STACK 1310720
 
-/* 0, or why the buffer does not have what was asked for. With 1 to 6, 9, 11 to 14 and 16 the text is the message of the
+/* 0, or why the buffer does not have what was asked for. With 1 to 6, 9, 11 to 14, 16 to 18 the text is the message of the
  * error. */
 enum promql_status {
     PROMQL_OK = 0,
@@ -58,11 +58,13 @@ enum promql_status {
     PROMQL_BAD_POINTER = 10,     /* a pointer is NULL though its length is not 0, a length is above PTRDIFF_MAX, or the
                                     result is NULL; there is no text */
     PROMQL_BAD_MATCHER = 11,     /* the matcher is none, or is of the metric's name, __name__ */
-    PROMQL_UNFAITHFUL = 12,      /* the text that was made would not mean the changed query */
+    PROMQL_UNFAITHFUL = 12,      /* the text that was made would not mean the query, or the tree */
     PROMQL_BARE_INFO = 13,       /* the query has info without a second argument: no matcher limits the series that it reads */
-    PROMQL_TOO_LARGE = 14,       /* the query is too long, or its patterns are too large: the result has the place */
+    PROMQL_TOO_LARGE = 14,       /* the query is too long, or its patterns are too large: the result has the place, but for a tree */
     PROMQL_SMALL_STACK = 15,     /* the thread has fewer than PROMQL_STACK bytes of stack left; there is no text */
-    PROMQL_LARGE_ENFORCED = 16   /* the matcher, or the query with it, is not within the limits of a query */
+    PROMQL_LARGE_ENFORCED = 16,  /* the matcher, or the query with it, is not within the limits of a query */
+    PROMQL_NOT_A_TREE = 17,      /* the JSON text is the form of no tree: the message has the place */
+    PROMQL_LONG_OUTPUT = 18      /* the text has more bytes than promql_set_max_output says */
 };
 
 struct promql_result {
@@ -106,11 +108,28 @@ uint32_t promql_check(const char *query, size_t query_length, char *buffer, size
 uint32_t promql_snippet(const char *query, size_t query_length, size_t start, size_t end, char *buffer,
                         size_t buffer_size, struct promql_result *result);
 
+/* Prints a tree that is given as JSON, in the form of promql_print with PROMQL_JSON (docs/reference/json.md, "From JSON to a text").
+ * The modes, `level` and `width` are those of promql_print. Where `parentheses` is not 0, parentheses are put where the tree needs them.
+ * The text is within the limits of a query; it was read again, and means the tree. */
+uint32_t promql_print_tree(const char *tree, size_t tree_length, uint32_t mode, uint32_t level, size_t width,
+                           uint32_t parentheses, char *buffer, size_t buffer_size, struct promql_result *result);
+
 /* Sets what a query has to be within, for each later call of the process but promql_snippet: at most so many bytes, 32768 before the
  * first such call, and patterns of at most this size together, 16000 (docs/reference/programs.md, "Limits of a query"). A matcher
  * that is enforced, and the query with it, have the same limits. 0 is a bound as any other. A call that is made meanwhile may see one of
  * the two changed and not the other. */
 void promql_set_limits(size_t max_len, size_t max_pattern_size);
+
+/* Lays a query out for people: comments stay, chains of operators are flat, and lines have at most `width` characters where they can
+ * be broken, with indentations of `indent_width` spaces. Where `keep_spelling` is not 0, numbers, durations, strings and the order of what
+ * is written stay as they are. The text was read again: it has the query's tree and its comments (docs/reference/formatting.md). */
+uint32_t promql_format_query(const char *query, size_t query_length, size_t width, size_t indent_width, uint32_t keep_spelling,
+                             char *buffer, size_t buffer_size, struct promql_result *result);
+
+/* Sets how many bytes a text of promql_print, promql_canonical, promql_print_tree or promql_format_query
+ * has at most, for each later call of the process: 4194304 before the
+ * first such call. The buffer bounds what the caller keeps, and this what the library makes. */
+void promql_set_max_output(size_t bytes);
 
 /* The version of the library. */
 uint32_t promql_version(char *buffer, size_t buffer_size, struct promql_result *result);

@@ -47,10 +47,11 @@ if hasattr(calls, "print_tree") and hasattr(_library._library, "promql_print_tre
 
 # Texts of these tests are longer than is allowed by default, and some are just within this.
 MAX_LEN = 1_048_576
+MAX_OUTPUT = 8_388_608
 
 
 def setUpModule():
-    promql.set_limits(max_len=MAX_LEN)
+    promql.set_limits(max_len=MAX_LEN, max_output=MAX_OUTPUT)
 
 
 def tearDownModule():
