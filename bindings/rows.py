@@ -192,6 +192,8 @@ def python_answer(call):
         return Answer(13, 0, 0, 0, 0, str(error).encode())
     except promql.LargeEnforcedError as error:
         return Answer(16, 0, 0, 0, 0, str(error).encode())
+    except promql.LongOutputError as error:
+        return Answer(18, 0, 0, 0, 0, str(error).encode())
     except UnicodeEncodeError:
         return NOT_UTF8
 

@@ -59,7 +59,7 @@ fn trees_are_printed() {
     assert_eq!(print_tree(&tree, false, None).as_deref(), Ok("foo / 2"));
     let deeper = tree.replace(r#"{"type":"numberLiteral","val":"2"}"#, &json("1 + 2").unwrap());
     assert_eq!(print_tree(&deeper, true, None).as_deref(), Ok("foo / (1 + 2)"));
-    assert_eq!(print_tree(&deeper, true, Some(Layout { width: 1, level: 0 })).unwrap().lines().count(), 9);
+    assert_eq!(print_tree(&deeper, true, Some(Layout { width: 1, level: 0 })).unwrap().lines().count(), 7);
     let reason = "the right side of an operator needs parentheses";
     assert_eq!(print_tree(&deeper, false, None), Err(Error::Unfaithful(reason.to_owned())));
     let misfit = "$.op: an operator between two expressions";

@@ -82,6 +82,8 @@ func answer(it call) string {
 		return fmt.Sprintf("13 0 0 0 0 %d\n%s\n", len(err.Error()), err)
 	case errors.Is(err, promql.ErrLargeEnforced):
 		return fmt.Sprintf("16 0 0 0 0 %d\n%s\n", len(err.Error()), err)
+	case errors.Is(err, promql.ErrLongOutput):
+		return fmt.Sprintf("18 0 0 0 0 %d\n%s\n", len(err.Error()), err)
 	case errors.Is(err, promql.ErrNumberTooWide):
 		return fmt.Sprintf("6 0 0 0 0 %d\n%s\n", len(err.Error()), err)
 	}

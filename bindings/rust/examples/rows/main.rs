@@ -61,6 +61,7 @@ fn answer(call: &Call<'_>) -> Vec<u8> {
         Err(error @ (Error::NotAMatcher | Error::MetricName)) => line(11, [0; 4], &error.to_string()),
         Err(error @ Error::BareInfo) => line(13, [0; 4], &error.to_string()),
         Err(Error::LargeEnforced(message)) => line(16, [0; 4], &message),
+        Err(Error::LongOutput(message)) => line(18, [0; 4], &message),
         Err(error) => line(1, [0; 4], &error.to_string()),
     }
 }
