@@ -1,24 +1,20 @@
 -- The cut, told by the tokens before each place; and its last token.
-use Rattle.std.proofs.Common.{◌≡◌, ℕ, suc, ◌+◌, ◌-◌, ◌<◌, ◌≤◌, Bool, true, false, cond, List, [], ◌∷◌, ◌++◌, length, take, drop, Option, Some, None, Ok, Err, refl, sym, ap, ◌∙◌, subst, inl, inr, ◌⊎◌, ⊎_elim, arith, eqb-true, length-drop}
-use Rattle.std.specs.Prelude.{◌==◌, not, ◌&&◌, ◌||◌, MatchBool}
-use Rattle.std.specs.List.{find, list_all, list_any, prefix_len}
+use Rattle.std.proofs.Common.{◌≡◌, ℕ, suc, ◌+◌, ◌-◌, ◌<◌, Bool, true, false, cond, List, [], ◌∷◌, length, take, drop, Option, Some, None, Ok, Err, refl, sym, ap, ◌∙◌, subst, inl, inr, ◌⊎◌, ⊎_elim, arith, eqb-true}
+use Rattle.std.specs.Prelude.{◌==◌, not, ◌||◌}
+use Rattle.std.specs.List.{find, list_any, prefix_len}
 use Rattle.std.proofs.lemmas.Bool.{cond_both}
 use Rattle.std.proofs.lemmas.Grind.{common_steps}
-use Rattle.std.proofs.lemmas.List.{drop-drop}
 use Rattle.promql_token.specs.declared.fault.LexFaultKind.TheVariants.{UnclosedParen}
-use Rattle.promql_token.specs.declared.lexeme.Lexeme.{Lexeme}
 use Rattle.promql_token.specs.declared.state.Bracket.TheVariants as bracket
 use Rattle.promql_token.specs.declared.state.Mode.{Mode}
 use Rattle.promql_token.specs.declared.state.Mode.TheVariants as mode
 use Rattle.promql_token.specs.declared.state.State.{State}
 use Rattle.promql_text.specs.Texts.{Text}
-use Rattle.promql_token.specs.Cut.{count_of, is_bound, mode_by, mode_at, state_at, ids_after, IsCut, CutOnce, EndsOnce}
-use Rattle.promql_token.specs.Lexing.{ScannedText, Found, found, scanned_text, len_of, goes_on, state_after_scan, cut, pieces, start, lex, place_items, collect_items, item}
+use Rattle.promql_token.specs.Cut.{count_of, is_bound, mode_by, mode_at, state_at, ids_after}
+use Rattle.promql_token.specs.Lexing.{ScannedText, found, scanned_text, state_after_scan, cut, start}
 use Rattle.promql_token.specs.TokenScanning.{Scanned, scan_in_mode, end_in, scan_token, after_trivia, after, depth_after, mode_after, mode_after_something, mode_after_colon, trivia_len}
 use Rattle.promql_token.proofs.TestsAndCounts.{by_bool}
 use Rattle.promql_token.proofs.Inner.{Inner, begun_inner}
-use Rattle.promql_token.proofs.Spans.{front_ok}
-use Rattle.promql_token.proofs.Steps.{cut_is, pieces_are, found_fits}
 
 -- ---- the state of a place, by the tokens before it
 
@@ -162,115 +158,5 @@ next_at before state z (Ok t) h is = record {
 next_at before state z (Err f) h is = record { depth = h.depth; mode = h.mode }
 
 -- what a place's first reading is, and what is after it
-record Splits (before : List ℕ) (state : State) (z : Text) (w : ScannedText) (ws : List ScannedText) : Type 0 where
-  first : w ≡ (found (state_at before) z).scanned_text
-  rest : ws ≡ cond (goes_on w) (pieces (state_after_scan state w) (drop ((found (state_at before) z).trivia + len_of w) z)) []
-
-splits : (before : List ℕ) (state : State) (z : Text) (w : ScannedText) (ws : List ScannedText) → IsAt before state → pieces state z ≡ w ∷ ws → Splits before state z w ws
-splits before state z w ws h is =
-    let f = found state z in
-    let head = sym (pieces_are state z) ∙ is in
-    let first : f.scanned_text ≡ w = cc in
-    let rest : cond (goes_on f.scanned_text) (pieces (state_after_scan state f.scanned_text) (drop (f.trivia + len_of f.scanned_text) z)) [] ≡ ws = cc in
-    let same = is_state before state h in
-    record {
-      first = sym first ∙ ap (λ s. (found s z).scanned_text) same;
-      rest = sym rest ∙ (λ i. cond (goes_on (first i)) (pieces (state_after_scan state (first i)) (drop ((found (same i) z).trivia + len_of (first i)) z)) []);
-    }
-
-is_cut : (ws : List ScannedText) (before : List ℕ) (state : State) (z : Text) → IsAt before state → pieces state z ≡ ws → IsCut before z ws
-is_cut [] before state z h is = let head = pieces_are state z in absurd (cc)
-is_cut (w ∷ ws) before state z h is =
-    let s = splits before state z w ws h is in
-    let at = next_at before state z w h (sym (s.first ∙ ap (λ s. (found s z).scanned_text) (sym (is_state before state h)))) in
-    let after_it : Text = drop ((found (state_at before) z).trivia + len_of w) z in (
-      s.first,
-      elim (goes_on w) as (λ b. ws ≡ cond b (pieces (state_after_scan state w) after_it) [] → MatchBool b (IsCut (ids_after before w) after_it ws) (ws ≡ [])) [
-        | true ↦ λ e. is_cut ws (ids_after before w) (state_after_scan state w) after_it at (sym e)
-        | false ↦ λ e. e
-      ] s.rest,
-    )
-
-only_cut : (ws : List ScannedText) (before : List ℕ) (state : State) (z : Text) → IsAt before state → IsCut before z ws → ws ≡ pieces state z
-only_cut [] before state z h c = absurd c
-only_cut (w ∷ ws) before state z h c =
-    let same = is_state before state h in
-    let f = found state z in
-    let first : w ≡ f.scanned_text = c.0 ∙ ap (λ s. (found s z).scanned_text) (sym same) in
-    let at = next_at before state z w h (sym first) in
-    let after_it : Text = drop ((found (state_at before) z).trivia + len_of w) z in
-    let rest : ws ≡ cond (goes_on w) (pieces (state_after_scan state w) after_it) [] =
-    elim (goes_on w) as (λ b. MatchBool b (IsCut (ids_after before w) after_it ws) (ws ≡ []) → ws ≡ cond b (pieces (state_after_scan state w) after_it) []) [
-      | true ↦ λ more. only_cut ws (ids_after before w) (state_after_scan state w) after_it at more
-      | false ↦ λ e. e
-    ] c.1 in
-    (λ i. first i ∷ (rest ∙ (λ j. cond (goes_on (first j)) (pieces (state_after_scan state (first j)) (drop ((found (sym same j) z).trivia + len_of (first j)) z)) [])) i)
-    ∙ sym (pieces_are state z)
-
 pub at_start : IsAt [] start
 at_start = record { depth = refl; mode = refl }
-
-pub cut_once : CutOnce
-cut_once s = (is_cut (pieces start s) [] start s at_start refl, λ ws c. only_cut ws [] start s at_start c)
-
--- ---- the last token
-
-abbrev EndsAt : Text → List Lexeme → Type 0
-EndsAt s xs = (front : List Lexeme) × (xs ≡ front ++ (record { id = 6; start = length s; len = 0 } ∷ [])) × (list_all (λ x. not (x.id == 6)) front ≡ true)
-
-none_left : (fs : List Found) (at : ℕ) (xs : List Lexeme) → fs ≡ [] → collect_items (place_items at fs) ≡ Ok xs → xs ≡ []
-none_left [] at [] e is = refl
-none_left [] at (x ∷ xs) e is = cc
-none_left (f ∷ fs) at xs e is = cc
-
--- T_EOF comes after a trivia that goes to the end
-end_place : (state : State) (z : Text) (id : ℕ) (t : Text) → (found state z).scanned_text ≡ Ok (id, t) → (id == 6) ≡ true → ((found state z).trivia ≡ length z) × (t ≡ [])
-unfolding found
-end_place state z id t is end =
-    let n = trivia_len state.mode z in
-    let fits = (found_fits state z).0 in
-    ⊎_elim (λ e. let none = ap length e.0 in (omega (arith, fits, length-drop n z), e.2))
-    (λ inner. let never = inner.0 in absurd (cc))
-    (front_inner (after_trivia n state) (drop n z) id t is)
-
-last : (s : Text) (at g : ℕ) (w : ScannedText) (fs : List Found) (xs : List Lexeme)
-    → ((id : ℕ) (t : Text) → w ≡ Ok (id, t) → (id == 6) ≡ true → (at + g ≡ length s) × (t ≡ []))
-    → (goes_on w ≡ false → fs ≡ [])
-    → (goes_on w ≡ true → (ys : List Lexeme) → collect_items (place_items (at + g + len_of w) fs) ≡ Ok ys → EndsAt s ys)
-    → collect_items (item (at + g) w ∷ place_items (at + g + len_of w) fs) ≡ Ok xs → EndsAt s xs
-last s at g (Err e) fs xs end stop more all = absurd (cc)
-last s at g (Ok t) fs xs end stop more all =
-    let x : Lexeme = record { id = t.0; start = at + g; len = length t.1 } in
-    let parts = front_ok x (collect_items (place_items (at + g + length t.1) fs)) xs all in
-    by_bool (t.0 == 6)
-    (λ is.
-    let e = end t.0 t.1 refl is in
-    let none = none_left fs (at + g + length t.1) parts.0 (stop (ap not is)) parts.1 in
-    ([], sym parts.2 ∙ (λ i. record { id = eqb-true t.0 6 is i; start = e.0 i; len = length (e.1 i) } ∷ none i), refl))
-    (λ apart.
-    let rest = more (ap not apart) parts.0 parts.1 in
-    (x ∷ rest.0, sym parts.2 ∙ ap (λ l. x ∷ l) rest.1, ap (λ b. not b && list_all (λ x. not (x.id == 6)) rest.0) apart ∙ rest.2))
-
-ends : (s : Text) (fs : List Found) (state : State) (at : ℕ) (xs : List Lexeme) → at ≤ length s → cut state (drop at s) ≡ fs → collect_items (place_items at fs) ≡ Ok xs → EndsAt s xs
-ends s [] state at xs within is all = let head = cut_is state (drop at s) in absurd (cc)
-ends s (f ∷ fs) state at xs within is all =
-    let z = drop at s in
-    let f0 = found state z in
-    let head = sym is ∙ cut_is state z in
-    let first : f ≡ f0 = cc in
-    let rest : fs ≡ cond (goes_on f0.scanned_text) (cut (state_after_scan state f0.scanned_text) (drop (f0.trivia + len_of f0.scanned_text) z)) [] = cc in
-    let fits : f.trivia + len_of f.scanned_text ≤ length z = subst (λ g. g.trivia + len_of g.scanned_text ≤ length z) (sym first) (found_fits state z).0 in
-    let here : ℕ = at + f.trivia + len_of f.scanned_text in
-    let at_rest : drop here s ≡ drop (f0.trivia + len_of f0.scanned_text) z =
-    let e : at + f0.trivia + len_of f0.scanned_text ≡ at + (f0.trivia + len_of f0.scanned_text) = omega arith in
-    ap (λ h. drop (at + h.trivia + len_of h.scanned_text) s) first ∙ ap (λ n. drop n s) e ∙ sym (drop-drop (f0.trivia + len_of f0.scanned_text) at s) in
-    last s at f.trivia f.scanned_text fs xs
-    (λ id t w end. let e = end_place state z id t (sym (ap (λ g. g.scanned_text) first) ∙ w) end in let trivia = ap (λ g. g.trivia) first in (omega (arith, e.0, length-drop at s), e.1))
-    (λ stop. rest ∙ ap (λ b. cond b (cut (state_after_scan state f0.scanned_text) (drop (f0.trivia + len_of f0.scanned_text) z)) []) (sym (ap (λ g. goes_on g.scanned_text) first) ∙ stop))
-    (λ goes ys. ends s fs (state_after_scan state f0.scanned_text) here ys (omega (arith, length-drop at s))
-    (ap (cut (state_after_scan state f0.scanned_text)) at_rest ∙ sym (rest ∙ ap (λ b. cond b (cut (state_after_scan state f0.scanned_text) (drop (f0.trivia + len_of f0.scanned_text) z)) []) (sym (ap (λ g. goes_on g.scanned_text) first) ∙ goes))))
-    all
-
-pub ends_once : EndsOnce
-unfolding lex
-ends_once s xs is = ends s (cut start s) start 0 xs (omega arith) refl is

@@ -3,7 +3,7 @@ use Rattle.std.specs.Prelude.{◌≡◌, ◌≢◌, ◌+◌, ◌<◌, ◌≤◌}
 use Rattle.promql_token.specs.declared.ids.TheConstants.{T_EOF}
 use Rattle.promql_token.specs.declared.cursor.Cursor as code
 use Rattle.promql_token.specs.declared.lexeme.Lexeme.{Lexeme}
-use Rattle.promql_token.specs.Laws.{IsPlaced}
+use Rattle.promql_token.specs.Trivia.{IsPlaced}
 use Rattle.promql_token.specs.TokenScanning.{after}
 
 -- a cursor moves past a token, and stays before the end

@@ -1,10 +1,7 @@
--- Laws of the token list (docs/proofs/proofs.md, "Laws of tokens").
+-- What goes on with a token, and what does not: the statements of lemmas. Private: nothing rests on believing it.
 use Rattle.std.specs.Prelude.{◌≡◌, ℕ, ◌+◌, ◌-◌, ◌<◌, ◌≤◌, Bool, true, false, not, ◌&&◌, ◌||◌, if◌then◌else◌, ◌==◌, List, [], ◌∷◌, ◌++◌, length, take, drop, map, slice_index, Ok}
-use Rattle.std.specs.Char.{is_ascii_digit, is_ascii_whitespace}
-use Rattle.std.specs.List.{list_all}
-use Rattle.std.specs.Str.{IsUtf8, IsCharBoundary}
+use Rattle.std.specs.Char.{is_ascii_digit}
 use Rattle.promql_token.specs.declared.class.Class.TheVariants as class
-use Rattle.promql_token.specs.declared.ids.TheConstants.{T_EOF}
 use Rattle.promql_token.specs.declared.lexeme.Lexeme.{Lexeme}
 use Rattle.promql_token.specs.declared.state.Mode.{Mode}
 use Rattle.promql_token.specs.declared.state.Mode.TheVariants as mode
@@ -12,17 +9,10 @@ use Rattle.promql_token.specs.declared.state.State.{State}
 use Rattle.promql_text.specs.Bytes.{point, colon, less, equal, greater, tilde}
 use Rattle.promql_text.specs.Texts.{Text}
 use Rattle.promql_token.specs.Classes.{is_in, is_label, is_letter}
-use Rattle.promql_token.specs.Lexing.{found, len_of, goes_on, state_after_scan, cut, pieces, start, lex, tokens, slice_texts}
+use Rattle.promql_token.specs.Lexing.{pieces, start, lex, tokens, slice_texts}
 use Rattle.promql_token.specs.TokenScanning.{trivia_from, scan_token, after}
-use Rattle.promql_token.specs.States.{mode_after_something}
 use Rattle.promql_token.specs.Vocabulary.{begins_numeral, braces_id, is_quote, word_id}
 pub use Rattle.promql_token.specs.Vocabulary.{is_exponent, is_sign, is_word}
-
--- ---- the cut
-
--- the cut of a text is what is at its front, and the cut of what is after it
-abbrev pub Cuts : Type 0
-Cuts = (state : State) (z : Text) → let f = found state z in cut state z ≡ f ∷ (if goes_on f.scanned_text then cut (state_after_scan state f.scanned_text) (drop (f.trivia + len_of f.scanned_text) z) else [])
 
 -- ---- spans
 
@@ -42,17 +32,6 @@ Spans = (s : Text) (xs : List Lexeme) → lex s ≡ Ok xs → InOrder s 0 xs × 
 -- a text whose pieces are all tokens has these tokens
 abbrev pub Lexes : Type 0
 Lexes = (s : Text) (ts : List (ℕ × Text)) → pieces start s ≡ map (λ t. Ok t) ts → tokens s ≡ Ok ts
-
--- a token begins and ends between characters, so that its text is a text
-abbrev pub IsPlaced : Text → Lexeme → Type 0
-IsPlaced s x = IsCharBoundary s x.start × IsCharBoundary s (x.start + x.len)
-
-abbrev pub ArePlaced : Text → List Lexeme → Type 0
-ArePlaced s [] = Unit {0}
-ArePlaced s (x ∷ xs) = IsPlaced s x × ArePlaced s xs
-
-abbrev pub Places : Type 0
-Places = (s : Text) (xs : List Lexeme) → IsUtf8 s → lex s ≡ Ok xs → ArePlaced s xs
 
 -- ---- neighbours
 
@@ -107,11 +86,3 @@ JoinsWord = (depth : ℕ) (w r : Text) → is_word w ≡ true → is_in class.Wo
 abbrev pub JoinsName : Type 0
 JoinsName = (depth : ℕ) (w r : Text) → is_label w ≡ true → is_in class.Name (slice_index r 0) ≡ false
     → let state : State = record { depth = depth; mode = mode.Braces } in pieces state (w ++ r) ≡ Ok (braces_id w r, w) ∷ pieces state r
-
--- white space before a token changes nothing, but directly after `[`
-abbrev pub SkipsWhite : Type 0
-SkipsWhite = (state : State) (g r : Text) → mode_after_something state.mode ≡ state.mode → list_all is_ascii_whitespace g ≡ true → pieces state (g ++ r) ≡ pieces state r
-
--- the end outside, with no parenthesis open
-abbrev pub Ends : Type 0
-Ends = pieces start [] ≡ Ok (T_EOF, []) ∷ []

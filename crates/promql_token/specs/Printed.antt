@@ -1,4 +1,4 @@
--- Tokens that a printer writes, before what follows them (docs/proofs/proofs.md, "Laws of tokens").
+-- Tokens that a printer writes, before what follows them: the statements of lemmas. Private: nothing rests on believing it.
 use Rattle.std.specs.Prelude.{◌≡◌, ℕ, ◌<◌, Bool, true, false, ◌==◌, List, [], ◌∷◌, ◌++◌, length, Ok}
 use Rattle.std.specs.List.{list_all}
 use Rattle.promql_token.specs.declared.ids.TheConstants.{T_DURATION, T_NUMBER, T_STRING}

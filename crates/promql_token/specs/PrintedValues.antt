@@ -1,4 +1,4 @@
--- Values that printers write, before what follows them (docs/proofs/proofs.md, "Laws of tokens").
+-- Values that printers write, before what follows them: the statements of lemmas. Private: nothing rests on believing it.
 use Rattle.std.specs.Prelude.{◌≡◌, ℕ, ◌*◌, ◌^◌, ◌%◌, ◌<◌, true, false, ◌==◌, if◌then◌else◌, ◌∷◌, ◌++◌, slice_index, Ok}
 use Rattle.promql_text.specs.Bytes.{colon}
 use Rattle.promql_text.specs.Durations.{nanos_of}

@@ -1,4 +1,4 @@
--- What the text of a token outside braces says of its id (docs/proofs/proofs.md, "Laws of tokens").
+-- What the text of a token outside braces says of its id: the statement of a lemma. Private: nothing rests on believing it.
 use Rattle.std.specs.Prelude.{◌≡◌, ◌⊎◌, ℕ, Bool, true, false, ◌||◌, if◌then◌else◌, ◌==◌, List, [], ◌∷◌, slice_index, Ok}
 use Rattle.std.specs.List.{list_any}
 use Rattle.promql_token.specs.declared.class.Class.TheVariants as class

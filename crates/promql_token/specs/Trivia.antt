@@ -2,7 +2,7 @@
 use Rattle.std.specs.Prelude.{◌≡◌, ◌⊎◌, ℕ, ◌+◌, ◌-◌, ◌≤◌, Bool, true, false, not, ◌==◌, List, [], ◌∷◌, ◌++◌, length, take, drop, Result, Ok}
 use Rattle.std.specs.Char.{is_ascii_whitespace}
 use Rattle.std.specs.List.{list_all}
-use Rattle.std.specs.Str.{IsUtf8}
+use Rattle.std.specs.Str.{IsCharBoundary, IsUtf8}
 use Rattle.promql_token.specs.declared.fault.LexFault.{LexFault}
 use Rattle.promql_token.specs.declared.lexeme.Lexeme.{Lexeme}
 use Rattle.promql_token.specs.declared.state.Mode.{Mode}
@@ -10,7 +10,6 @@ use Rattle.promql_token.specs.declared.state.Mode.TheVariants as mode
 use Rattle.promql_text.specs.Bytes.{hash}
 use Rattle.promql_text.specs.Texts.{Text}
 use Rattle.promql_token.specs.States.{mode_at}
-use Rattle.promql_token.specs.Laws.{IsPlaced}
 use Rattle.promql_token.specs.Lexing.{items}
 use Rattle.promql_token.specs.Vocabulary.{is_line_end, concat_texts, next}
 
@@ -39,6 +38,10 @@ IsTriviaIn m g r = (ps : List Text) × (g ≡ concat_texts ps) × AreBlank ps r 
 abbrev pub lexemes : List (Result Lexeme LexFault) → List Lexeme
 lexemes (Ok x ∷ rs) = x ∷ lexemes rs
 lexemes rs = []
+
+-- a token begins and ends between characters, so that its text is a text
+abbrev pub IsPlaced : Text → Lexeme → Type 0
+IsPlaced s x = IsCharBoundary s x.start × IsCharBoundary s (x.start + x.len)
 
 -- from `at` on, after tokens with these ids, spans are in order and between characters, and only trivia lie between them
 abbrev pub AreSpans : Text → List ℕ → ℕ → List Lexeme → Type 0

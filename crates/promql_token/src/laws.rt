@@ -3,16 +3,11 @@
 ghost use Rattle.std.specs.Prelude.{◌≡◌, ℕ, map};
 ghost use Rattle.promql_text.specs.Equalities.{ClonesKeep, IsSameBy};
 ghost use Rattle.promql_token.specs.Begins as begin;
-ghost use Rattle.promql_token.specs.Cut as lexing_is_compositional;
 ghost use Rattle.promql_token.specs.FaultPlaces as places;
 ghost use Rattle.promql_token.specs.Trivia as trivia;
 ghost use Rattle.promql_token.specs.Ids as ids;
-ghost use Rattle.promql_token.specs.Laws as spec;
 ghost use Rattle.promql_token.specs.Lexing.{lex};
-ghost use Rattle.promql_token.specs.Printed as printed_forms_are_tokens;
-ghost use Rattle.promql_token.specs.PrintedValues as values;
 ghost use Rattle.promql_token.specs.TokenRows as rows;
-ghost use Rattle.promql_token.specs.TokenSpelling as spelling;
 ghost use Rattle.promql_token.specs.TokenTables as tables;
 ghost use Rattle.promql_token.specs.TokenLists as lists;
 ghost use Rattle.promql_token.specs.Tokens.{id_and_text};
@@ -25,49 +20,6 @@ ghost use Rattle.promql_token.specs.declared.lexeme.Lexeme.{Lexeme};
 
 use crate::token::{Token, TokenType};
 use crate::{fault, lexeme};
-
-/// The cut of a text is what it begins with, and the cut of the rest.
-#[tactic(auto, using(crate::proofs::Steps::cut_is))]
-pub fn lexing_is_compositional()
-    ensures { spec.Cuts }
-{}
-
-/// A text is cut in one way, told by the tokens before each place, and T_EOF is its last token
-/// alone.
-pub fn tokenization_is_unique()
-    ensures cut { lexing_is_compositional.CutOnce }
-    ensures end { lexing_is_compositional.EndsOnce }
-{}
-
-/// Strings, decimal numbers and durations are tokens before a text that doesn't go on with
-/// them.
-pub fn printed_forms_are_tokens()
-    ensures string { printed_forms_are_tokens.JoinsString }
-    ensures number { printed_forms_are_tokens.JoinsNumber }
-    ensures duration { printed_forms_are_tokens.JoinsDuration }
-{}
-
-/// The text of a string is a token before any text, and the texts of numbers that are not below
-/// zero and of durations above zero are tokens before a text that doesn't go on with them.
-pub fn printed_values()
-    ensures string { values.JoinsQuoted }
-    ensures number { values.JoinsNumberText }
-    ensures time { values.JoinsTime }
-{}
-
-/// White space before a token changes nothing, but directly after `[`.
-pub fn skips_white()
-    ensures white { spec.SkipsWhite }
-    ensures end { spec.Ends }
-{}
-
-/// Spans are in order with only trivia between, each token's text is the slice at its span, a text
-/// whose pieces are all tokens has these tokens, and tokens begin and end between characters.
-pub fn spans()
-    ensures spans { spec.Spans }
-    ensures lexes { spec.Lexes }
-    ensures places { spec.Places }
-{}
 
 /// Tokens, also those before a fault, have spans in order and between characters, and only white
 /// space and comments lie between them, in brackets only white space.
@@ -89,19 +41,6 @@ pub fn only_tokens()
 pub fn begins()
     ensures token { begin.Begins }
     ensures fault { places.Faults }
-{}
-
-/// What is one token alone is that token before a text that doesn't go on with it.
-pub fn tokens_concatenate()
-    ensures token { spec.Joins }
-    ensures word { spec.JoinsWord }
-    ensures name { spec.JoinsName }
-{}
-
-/// Outside braces each token is a word with its id, or has the id of no word, and no number begins
-/// with a sign.
-pub fn tokens_are_spelled()
-    ensures { spelling.Spelled }
 {}
 
 /// Kinds of tokens are equal exactly if they have one id, and tokens exactly if they have one id and
