@@ -22,6 +22,7 @@ pub mod Good
 pub mod TokenKindRows
 pub mod LabelLists
 pub mod AtomBases
+pub mod CountedTokens
 pub mod LexedBraces
 pub mod LexedEnds
 pub mod LexedStarts
