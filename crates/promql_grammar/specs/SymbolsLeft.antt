@@ -1,5 +1,5 @@
 -- What is left of a text's tokens. Private: nothing rests on believing it.
-use Rattle.std.specs.Prelude.{◌≡◌, ℕ, ◌+◌, ◌<◌, ◌^◌, List, [], ◌∷◌, ◌++◌, length, map, if◌then◌else◌}
+use Rattle.std.specs.Prelude.{◌≡◌, ℕ, ◌+◌, ◌<◌, ◌^◌, Bool, List, [], ◌∷◌, ◌++◌, length, map, if◌then◌else◌, Option, None, Some}
 use Rattle.promql_token.specs.Cursor.{tokens_left, ends_in_fault}
 use Rattle.promql_token.specs.declared.cursor.Cursor as token
 use Rattle.promql_grammar.specs.declared.token_kinds.TokenKind.TheVariants as kind
@@ -12,17 +12,22 @@ use Rattle.promql_grammar.specs.declared.tokens.Lookahead.TheVariants.{Token, Fa
 abbrev pub fault_symbol : Symbol
 fault_symbol = word kind.Other []
 
--- the symbols that a cursor gives
-abbrev pub cursor_symbols : token.Cursor → List Symbol
-cursor_symbols c = map symbol_of (tokens_left c) ++ (if ends_in_fault c then fault_symbol ∷ [] else [])
-
-abbrev pub symbols_from : Lookahead → token.Cursor → List Symbol
-symbols_from (Token k text) rest = symbol k text.now ∷ cursor_symbols rest
+abbrev pub symbols_from : Lookahead → List Symbol → List Symbol
+symbols_from (Token k text) rest = symbol k text.now ∷ rest
 symbols_from Fault rest = fault_symbol ∷ []
 symbols_from End rest = []
 
+-- what comes where a cursor's tokens end: the fault, if there is one, or something in place of the fault or the end
+abbrev pub last_symbols : Bool → Option Lookahead → List Symbol
+last_symbols faulty None = if faulty then fault_symbol ∷ [] else []
+last_symbols faulty (Some last) = symbols_from last []
+
+-- the symbols that a cursor gives, and what comes then
+abbrev pub cursor_symbols : token.Cursor → Option Lookahead → List Symbol
+cursor_symbols c last = map symbol_of (tokens_left c) ++ last_symbols (ends_in_fault c) last
+
 abbrev pub symbols_left : code.Tokens → List Symbol
-symbols_left ts = symbols_from ts.lookahead ts.rest
+symbols_left ts = symbols_from ts.lookahead (cursor_symbols ts.rest ts.last)
 
 -- how many tokens were taken, so the index of the first that is left
 abbrev pub tokens_taken : code.Tokens → ℕ

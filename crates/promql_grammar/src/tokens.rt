@@ -1,12 +1,12 @@
 //! The tokens of a text before its end, or its lexical fault.
 
-ghost use Rattle.std.specs.Prelude.{◌≡◌, ◌==◌, ◌<◌, ◌^◌, List, [], ◌∷◌, ◌++◌, false, length, drop, Ok, Err, map, IfErr, IfOk, MatchBool, MatchOption, OnErr};
-ghost use Rattle.promql_token.specs.Cursor.{tokens_up_to_fault};
+ghost use Rattle.std.specs.Prelude.{◌≡◌, ◌==◌, ◌<◌, ◌^◌, List, [], ◌∷◌, ◌++◌, false, length, drop, None, Ok, Err, map, IfErr, IfOk, MatchBool, MatchOption, OnErr};
+ghost use Rattle.promql_token.specs.Cursor.{ends_in_fault, tokens_left, tokens_up_to_fault};
 ghost use Rattle.promql_grammar.specs.Symbols.{symbol, symbol_of};
 ghost use Rattle.promql_grammar.specs.declared.read_error.ReadError.TheVariants.{Syntax};
 ghost use Rattle.promql_grammar.specs.SourceTokens.{Token, tokens, has_any};
 ghost use Rattle.promql_grammar.specs.Eating.{Eats, HasNo};
-ghost use Rattle.promql_grammar.specs.SymbolsLeft.{CountsTaken, symbols_left, cursor_symbols, fault_symbol, tokens_taken};
+ghost use Rattle.promql_grammar.specs.SymbolsLeft.{CountsTaken, symbols_left, cursor_symbols, symbols_from, fault_symbol, tokens_taken};
 
 use crate::read_error::ReadError;
 use crate::token_kinds::{TokenKind, token_kind};
@@ -39,11 +39,13 @@ pub enum Lookahead<'a> {
 
 /// The tokens that are left of a text, before its end or its lexical fault, with a lookahead of
 /// one. Those after the first are lexed when they become the first. A lexical fault comes last, as
-/// a token of a kind that no expression has.
+/// a token of a kind that no expression has, or another token in its place or that of the end.
 #[derive(Clone, Copy)]
 pub struct Tokens<'a> {
     lookahead: Lookahead<'a>,
     rest: Cursor<'a>,
+    /// What comes in place of the end or the fault, if not that itself.
+    last: Option<Lookahead<'a>>,
     /// How many were taken.
     index: usize,
 }
@@ -60,6 +62,23 @@ impl<'a> Tokens<'a> {
         let mut tokens = Tokens {
             lookahead: Lookahead::End,
             rest: Cursor::new(text),
+            last: None,
+            index: 0,
+        };
+        tokens.fill();
+        tokens
+    }
+
+    /// The tokens of a text before its end or its lexical fault, and then `last` in place of that.
+    pub fn ending_with(text: &'a str, last: Lookahead<'a>) -> Tokens<'a>
+        ensures tokens { symbols_left result
+            ≡ map symbol_of (tokens_up_to_fault text.now) ++ symbols_from last.entry [] }
+        ensures index { tokens_taken result ≡ 0 }
+    {
+        let mut tokens = Tokens {
+            lookahead: Lookahead::End,
+            rest: Cursor::new(text),
+            last: Some(last),
             index: 0,
         };
         tokens.fill();
@@ -69,11 +88,11 @@ impl<'a> Tokens<'a> {
     /// Lexes the next token into the lookahead.
     #[inline(never)]
     fn fill(&mut self)
-        ensures symbols { symbols_left self.new ≡ cursor_symbols self.old.rest }
+        ensures symbols { symbols_left self.new ≡ cursor_symbols self.old.rest self.old.last }
         ensures index { tokens_taken self.new ≡ tokens_taken self.old }
     {
         if self.rest.is_at_end() {
-            self.lookahead = Lookahead::End;
+            self.end();
             return;
         }
         if let Some((id, text)) = self.rest.next_if_word() {
@@ -86,12 +105,30 @@ impl<'a> Tokens<'a> {
     // As `fill`, for what comes less often than the end and words, which save fewer registers without it.
     #[inline(never)]
     fn fill_with_any(&mut self)
-        ensures symbols { symbols_left self.new ≡ cursor_symbols self.old.rest }
+        ensures symbols { symbols_left self.new ≡ cursor_symbols self.old.rest self.old.last }
         ensures index { tokens_taken self.new ≡ tokens_taken self.old }
     {
         match self.rest.next() {
             Some((id, text)) => self.lookahead = Lookahead::Token(token_kind(id), text),
-            None if self.rest.is_at_fault() => self.lookahead = Lookahead::Fault,
+            None if self.last.is_none() && self.rest.is_at_fault() => {
+                self.lookahead = Lookahead::Fault;
+            }
+            None => self.end(),
+        }
+    }
+
+    // As `fill`, where neither a token nor a fault comes next, or something in place of the fault.
+    fn end(&mut self)
+        requires end { tokens_left self.old.rest ≡ [] }
+        requires fault { self.old.last ≡ None → ends_in_fault self.old.rest ≡ false }
+        ensures symbols { symbols_left self.new ≡ cursor_symbols self.old.rest self.old.last }
+        ensures index { tokens_taken self.new ≡ tokens_taken self.old }
+    {
+        match self.last {
+            Some(last) => {
+                self.lookahead = last;
+                self.last = Some(Lookahead::End);
+            }
             None => self.lookahead = Lookahead::End,
         }
     }
