@@ -11,7 +11,9 @@ pub use lex::lexer;
 pub use promql_ast::{Prettier, PrettyError, Tally};
 pub use promql_span::Span;
 pub use promql_span::diagnosis::{Diagnosis, diagnose};
+pub use promql_span::expected::{ExpectedTokens, expected_tokens};
 pub use promql_span::limits::{LimitFault, Limits, check_limits};
+pub use promql_span::unexpected::{Unexpected, unexpected_at};
 pub use promql_syntax::parser::{MAX_DEPTH, ParseError, parse};
 
 pub mod ast;

@@ -1,6 +1,8 @@
 pub mod EscapeSteps
 pub mod Covered
 pub mod LineParts
+pub mod Respelling
+pub mod GoingOn
 pub mod OrderedTokens
 pub mod PlacedTexts
 pub mod TakenTokens

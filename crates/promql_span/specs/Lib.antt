@@ -4,8 +4,10 @@ pub mod PlacedTokens
 pub mod Snippets
 pub mod SpanSteps
 pub mod TokenSpans
+pub mod TokensBefore
 pub mod TokensLeft
 pub mod ErrorPlaces
+pub mod ExpectedTokens
 pub mod Findings
 pub mod Locations
 pub mod MeasuredTokens

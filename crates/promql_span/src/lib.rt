@@ -5,6 +5,8 @@
 mod argument;
 mod byte_escapes;
 pub mod diagnosis;
+pub mod expected;
+mod kind_names;
 pub mod laws;
 pub mod limits;
 mod location;
@@ -12,6 +14,7 @@ mod placed;
 mod places;
 mod snippets;
 mod span;
+pub mod unexpected;
 mod visibility;
 
 pub use byte_escapes::byte_escape;

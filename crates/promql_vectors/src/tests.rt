@@ -3,6 +3,7 @@
 mod calls;
 mod canonical;
 mod dashboards;
+mod expected;
 mod facade;
 mod faults;
 mod layouts;

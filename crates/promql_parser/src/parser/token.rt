@@ -14,4 +14,5 @@ pub use promql_token::ids::{
     T_STARTSYMBOLS_START, T_STDDEV, T_STDVAR, T_STEP, T_STRING, T_SUB, T_SUM, T_TIMES, T_TOPK,
     T_WITHOUT,
 };
+pub use promql_grammar::{TokenKind, token_kind};
 pub use promql_token::{Token, TokenId, TokenType, get_keyword_token, token_display};
