@@ -345,12 +345,19 @@ in_cargo() {
     CARGO_TARGET_DIR=$work/target cargo "$@" --offline --quiet --manifest-path "$here/rust/Cargo.toml"
 }
 
+# print_cargo_counts SAID: prints how many tests passed and failed by what cargo said, and fails where none passed.
+print_cargo_counts() {
+    local passed lost
+    read -r passed lost < <(awk '/^test result:/ { passed += $4; lost += $6 } END { print passed + 0, lost + 0 }' <<<"$1")
+    print_counts "$passed" "$lost" && [ "$passed" -gt 0 ]
+}
+
 # cargo_tests [NAME]: the tests of the crate and of its documents, or those of this name, with 'N passed, M failed' as the last line.
 cargo_tests() {
     local said
     said=$(in_cargo test "$@" 2>&1)
     printf '%s\n' "$said"
-    awk '/^test result:/ { passed += $4; failed += $6 } END { print passed + 0 " passed, " failed + 0 " failed"; exit passed == 0 }' <<<"$said"
+    print_cargo_counts "$said"
 }
 
 build_rust() {
@@ -386,7 +393,7 @@ cargo_tests_with_serde() {
     said=$(CARGO_TARGET_DIR=$work/target cargo test --offline --quiet --manifest-path "$here/rust/serde/Cargo.toml" \
         --config 'source.crates-io.replace-with="debian"' --config "source.debian.directory=\"$debian_crates\"" 2>&1)
     printf '%s\n' "$said"
-    awk '/^test result:/ { passed += $4; failed += $6 } END { print passed + 0 " passed, " failed + 0 " failed"; exit passed == 0 }' <<<"$said"
+    print_cargo_counts "$said"
 }
 
 test_serde() {
@@ -551,7 +558,7 @@ test_editor() {
 }
 
 export -f shows_own_names build_c bench_prints example_prints build_sanitized overrun_is_reported under_valgrind build_project
-export -f find_installed in_python unit_tests print_counts
+export -f find_installed in_python unit_tests print_counts print_cargo_counts
 export debian_crates
 export -f in_cargo cargo_tests cargo_tests_with_serde build_rust cache_keys in_go go_tests
 

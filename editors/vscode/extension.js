@@ -7,9 +7,11 @@ const { LanguageClient } = require("vscode-languageclient/node");
 let client;
 
 async function activate() {
-  const [command, ...args] = workspace.getConfiguration("promql").get("command");
+  const settings = workspace.getConfiguration("promql");
+  const [command, ...args] = settings.get("command");
   const documentSelector = [{ language: "promql" }, { language: "yaml" }];
-  client = new LanguageClient("promql", "PromQL", { command, args }, { documentSelector });
+  const initializationOptions = { lint: settings.get("lint"), style: settings.get("style") };
+  client = new LanguageClient("promql", "PromQL", { command, args }, { documentSelector, initializationOptions });
   await client.start();
 }
 

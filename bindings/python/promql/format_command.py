@@ -20,9 +20,12 @@ from .targets import Target, targets_of
 from .visible import visible
 
 _COMMENT = "it has a comment, which would be lost"
+_NEEDS_LINES = "it has a comment, and has to stay on one line here"
 _ANY_VALUES = "its variables of Grafana may have any values"
 _NOT_BACK = "its variables of Grafana would not come back"
 _LINE = re.compile(r"[^\n]*\n|[^\n]+")
+# How a query is laid out: as `promql pretty` does, or for people, as `promql_format` does, with its comments.
+PRETTY, PEOPLE = STYLES = ("pretty", "people")
 
 
 def add_parser(subparsers: Any) -> None:
@@ -33,6 +36,7 @@ def add_parser(subparsers: Any) -> None:
     output.add_argument("--diff", action="store_true", help="print what would change")
     output.add_argument("--write", action="store_true", help="change the files")
     parser.add_argument("--width", type=_width, default=100, help="columns of a line (100)")
+    parser.add_argument("--style", choices=STYLES, default=PRETTY, help="how queries are laid out: people keeps comments (pretty)")
     parser.add_argument("--enforce", metavar="MATCHER", help="put a matcher, such as namespace='team-a', into every selector")
     parser.set_defaults(run=_run)
 
@@ -51,16 +55,20 @@ class Printer:
     enforces: bool
     # The query that is to be there: the same, or one with a matcher in it.
     meant: Callable[[str], str]
+    style: str = PRETTY
 
     def text(self, query: Query) -> Optional[str]:
         """The query as it is to be written; or nothing, where its variables would not come back."""
         width = query.spelling.room(self.width)
         if not query.variables:
-            return promql.format(self.meant(query.text), width=width)
+            return self._laid_out(self.meant(query.text), width)
         try:
-            return query.variables.come_back(promql.format(query.laid_out, width=width))
+            return query.variables.come_back(self._laid_out(query.laid_out, width))
         except promql.QueryError:
             return None
+
+    def _laid_out(self, query: str, width: int) -> str:
+        return promql.format_query(query, width=width) if self.style == PEOPLE else promql.format(query, width=width)
 
     def means(self, new: str, query: Query) -> bool:
         """Whether a text is what the query is to be."""
@@ -69,8 +77,19 @@ class Printer:
 
     def why_left(self, query: Query) -> str:
         """Why a query is not formatted, or nothing."""
-        left = query.skipped or _why_kept(query)
+        left = query.skipped or self._why_kept(query)
         return left or (_ANY_VALUES if self.enforces and query.variables else "")
+
+    def _why_kept(self, query: Query) -> str:
+        """Why an accepted query is not formatted, or nothing."""
+        promql.check(query.text)
+        if query.kept or not has_comment(query.text):
+            return query.kept
+        if self.enforces or self.style == PRETTY:
+            return _COMMENT
+        # (a comment ends with its line)
+        has_lines = query.spelling.room(self.width) < sys.maxsize or "\n" not in promql.format_query(query.laid_out, width=sys.maxsize)
+        return "" if has_lines else _NEEDS_LINES
 
 
 def _enforcer(matcher: Optional[str]) -> Callable[[str], str]:
@@ -86,7 +105,7 @@ def _enforcer(matcher: Optional[str]) -> Callable[[str], str]:
 
 def _run(arguments: argparse.Namespace) -> int:
     try:
-        printer = Printer(arguments.width, arguments.enforce is not None, _enforcer(arguments.enforce))
+        printer = Printer(arguments.width, arguments.enforce is not None, _enforcer(arguments.enforce), arguments.style)
     except FileError as error:
         print(error, file=sys.stderr)
         return Status.FAILED
@@ -159,13 +178,7 @@ def _changes(document: Document, printer: Printer, messages: List[str]) -> List[
     return changes
 
 
-def _why_kept(query: Query) -> str:
-    """Why an accepted query is not formatted, or nothing."""
-    promql.check(query.text)
-    return query.kept or (_COMMENT if _has_comment(query.text) else "")
-
-
-def _has_comment(query: str) -> bool:
+def has_comment(query: str) -> bool:
     """Whether an accepted query has a comment.
 
     A `#` is in a string or a comment. In a string a `;` may be as well, and outside of strings nowhere: so the first `#` of a

@@ -7,6 +7,8 @@ import os
 import sys
 from typing import TYPE_CHECKING, Any, Optional
 
+from .format_command import PRETTY, STYLES
+
 if TYPE_CHECKING:
     from .lsp.prometheus import Prometheus
 
@@ -19,6 +21,8 @@ def add_parser(subparsers: Any) -> None:
         metavar="URL",
         help="complete the names of metrics and labels of a Prometheus on this machine, too",
     )
+    parser.add_argument("--style", choices=STYLES, default=PRETTY, help="how queries of rule files are laid out (pretty)")
+    parser.add_argument("--no-lint", action="store_true", help="show no findings of the linter")
     parser.add_argument("--stdio", action="store_true", help="the only way, which some editors ask for")
     parser.set_defaults(run=_run)
 
@@ -35,12 +39,13 @@ def _prometheus(url: str) -> Prometheus:
 def _run(arguments: argparse.Namespace) -> int:
     # (what no other command needs is not imported for them)
     from .lsp.server import Server
+    from .lsp.settings import Settings
 
     prometheus: Optional[Prometheus] = arguments.prometheus
     source, target = sys.stdin.buffer, sys.stdout.buffer
     # (what anything else writes there would be read as a message)
     sys.stdout = sys.stderr
-    server = Server(source, target, prometheus)
+    server = Server(source, target, prometheus, Settings(arguments.style, not arguments.no_lint))
     status = server.run()
     if server.is_reading:
         # (Python does not end while a thread waits for standard input)

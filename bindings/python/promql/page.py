@@ -19,7 +19,7 @@ from http.server import BaseHTTPRequestHandler, ThreadingHTTPServer
 from pathlib import Path
 from typing import Any, Dict, List, Tuple
 
-from . import QueryError, canonical, drawing, format
+from . import QueryError, canonical, drawing, format_query
 from ._calls import calls
 from .visible import visible
 
@@ -54,12 +54,12 @@ _NODE = re.compile(r'"type":"(?:aggregation|unaryExpr|binaryExpr|parenExpr|subqu
 
 
 def describe(query: str) -> Dict[str, Any]:
-    """What the page shows of a query: its `line`, its layout `pretty` and its `drawing`, or an `error` with its place.
+    """What the page shows of a query: its `line`, its `layout` and its `drawing`, or an `error` with its place.
 
     A text is None where it is too long to show; `note` says why there is no drawing.
     """
     try:
-        texts = {"line": canonical(query), "pretty": format(query)}
+        texts = {"line": canonical(query), "layout": format_query(query)}
     except QueryError as error:
         return {"error": _error(error)}
     return {**{name: text if len(text) <= MAX_TEXT else None for name, text in texts.items()}, **_drawing(query)}

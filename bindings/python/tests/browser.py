@@ -23,7 +23,11 @@ from serving import enter, served, url_of
 
 CHROMIUM = os.environ.get("CHROMIUM", "chromium")
 OPTIONS = ("--headless", "--no-sandbox", "--disable-gpu", "--disable-dev-shm-usage", "--hide-scrollbars", "--remote-debugging-pipe")
-SHOWN_IN_GUIDE = 'sum(rate(errors_total{code=~"5..",job="api"}[5m]))BY(job)\n / on(job) sum(rate(requests_total[5m]))by(job) > 0.05'
+SHOWN_IN_GUIDE = (
+    "# errors of each job\n"
+    'sum(rate(errors_total{code=~"5..",job="api"}[5m]))BY(job) # all codes\n'
+    " / on(job) sum(rate(requests_total[5m]))by(job) > 0.05"
+)
 SECONDS = 30
 
 
@@ -132,7 +136,7 @@ class Page(unittest.TestCase):
         self.browser.wait_shown("accepted")
         self.assertEqual(self.browser.value("document.getElementById('query').value"), query)
         self.assertEqual(self.browser.text("line"), promql.canonical(query))
-        self.assertEqual(self.browser.text("pretty"), promql.format(query))
+        self.assertEqual(self.browser.text("layout"), promql.format_query(query))
         labels = self.browser.value("[...document.querySelectorAll('#drawing .label')].map((it) => it.textContent)")
         self.assertEqual(labels, ["/", "sum", "foo", "sum", 'bar{a="é🦀 +#&"}'])
         self.assertEqual(self.browser.complaints, [])

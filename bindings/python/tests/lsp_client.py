@@ -18,9 +18,9 @@ class Refused(Exception):
 
 
 class Client:
-    """Starts a server, and ends it."""
+    """Starts a server, and ends it. It shows no findings of the linter where nothing else is asked for."""
 
-    def __init__(self, *arguments, initialize=True, snippets=True):
+    def __init__(self, *arguments, initialize=True, snippets=True, options={"lint": False}):
         environment = {**os.environ, "PYTHONPATH": str(PACKAGE)}
         command = [sys.executable, "-m", "promql", "lsp", *arguments]
         self.process = subprocess.Popen(
@@ -36,7 +36,8 @@ class Client:
         self.listener.start()
         if initialize:
             item = {"completionItem": {"snippetSupport": snippets}}
-            self.capabilities = self.request("initialize", {"capabilities": {"textDocument": {"completion": item}}})["capabilities"]
+            params = {"capabilities": {"textDocument": {"completion": item}}, "initializationOptions": options}
+            self.capabilities = self.request("initialize", params)["capabilities"]
             self.notify("initialized", {})
 
     def _read(self):

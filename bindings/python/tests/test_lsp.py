@@ -14,7 +14,8 @@ from pathlib import Path
 
 import promql
 from lsp_client import Client, Refused
-from promql.lsp import messages
+from promql.lint import table
+from promql.lsp import findings, messages
 from promql.lsp.functions import AGGREGATIONS, FUNCTIONS, WORDS
 from promql.lsp.hover import type_of
 from promql.lsp.nodes import nodes_of
@@ -159,20 +160,57 @@ class Edits(WithServer):
         edits = self._edits("formatting", "sum(rate(foo[5m]))by(job)\n")
         self.assertEqual(edits, ["sum by (job) (rate(foo[5m]))\n"])
         self.assertEqual(self._edits("formatting", "up"), [])
-        for text in ("up # all", "up +"):
-            with self.assertRaises(Refused) as caught:
-                self._edits("formatting", text)
-            self.assertEqual(caught.exception.code, messages.REQUEST_FAILED)
+        self.assertEqual(self._edits("formatting", "# all\nsum(a)by(b)  # one\n"), ["# all\nsum by (b) (a) # one\n"])
+        with self.assertRaises(Refused) as caught:
+            self._edits("formatting", "up +")
+        self.assertEqual(caught.exception.code, messages.REQUEST_FAILED)
 
     def test_layout_of_part(self):
         text = "a  +  sum(rate(foo[5m]))by(job)"
         part = Lines(text).range(text.index("sum"), text.index(")by"))
         self.assertEqual(self._edits("rangeFormatting", text, range=part), ["sum by (job) (rate(foo[5m]))"])
+        text = "abs(\n    sum( # all\n  rate(foo[5m]))by(job)\n)"
+        part = Lines(text).range(text.index("sum"), text.index(")by"))
+        self.assertEqual(self._edits("rangeFormatting", text, range=part), ["sum( # all\n      rate(foo[5m])\n    ) by (job)"])
 
     def _edits(self, method, text, **more):
         self.open(text)
         found = self.client.request(f"textDocument/{method}", {"textDocument": {"uri": URI}, "options": {}, **more})
         return [edit["newText"] for edit in found]
+
+
+class Linting(unittest.TestCase):
+    def found(self, text, *arguments, options=None):
+        client = Client(*arguments, options=options)
+        found = client.open(URI, text)
+        self.assertEqual((client.close(), b"".join(client.said)), (0, b""))
+        return found
+
+    def test_findings(self):
+        text = 'rate(up{job=~"shop"}[5m])'
+        (finding,) = self.found(text)
+        self.assertEqual((finding["code"], finding["severity"]), ("P103", 2))
+        self.assertEqual(finding["range"], Lines(text).range(text.index("job"), text.index("}")))
+        page, _, heading = finding["codeDescription"]["href"].partition("#")
+        self.assertEqual((Path(page[len("file://") :]), heading), (ROOT / "docs/guide/lint.md", "p103-pattern-of-one-text"))
+        self.assertEqual(self.found(text + " # promql: ignore P103"), [])
+
+    def test_each_rule_has_its_heading(self):
+        headings = re.findall(r"^### (.+)$", (ROOT / "docs/guide/lint.md").read_text(), re.M)
+        anchors = {heading.lower().replace(" ", "-") for heading in headings}
+        self.assertEqual({findings.page_of(code).partition("#")[2] for code in table.RULES}, anchors)
+        self.assertEqual((findings.page_of(""), findings.page_of("P001")), ("", ""))
+
+    def test_rejected(self):
+        (error,) = self.found('up{job=~"shop"} +')
+        self.assertEqual((error["severity"], "code" in error), (1, False))
+
+    def test_off(self):
+        text = 'up{job=~"shop"}'
+        self.assertEqual(len(self.found(text, options={"lint": "?"})), 1)
+        self.assertEqual(self.found(text, options={"lint": False}), [])
+        self.assertEqual(self.found(text, "--no-lint"), [])
+        self.assertEqual(len(self.found(text, "--no-lint", options={"lint": True})), 1)
 
 
 class Telling(WithServer):

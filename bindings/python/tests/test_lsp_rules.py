@@ -3,17 +3,20 @@
 import random
 import re
 import sys
+import tempfile
 import time
 import unittest
 from pathlib import Path
+from unittest import mock
 
 from command_line import run
 from lsp_client import Client, Refused
-from promql.lsp import messages
+from promql.lsp import layout, messages
 from promql.lsp.documents import Document
-from promql.lsp.layout import lines_edits, rule_file_edits
+from promql.lsp.layout import RuleLayouts, lines_edits, rule_file_edits
 from promql.lsp.positions import Lines
 from promql.lsp.rules import problems_of, read_rules
+from promql.queries import edited
 from written import STYLES, rule_file, write
 
 try:
@@ -114,14 +117,59 @@ class Files(unittest.TestCase):
         self.assertIn("Selects the series of `up`", self.at("hover", BROKEN, BROKEN.index("up{"), OTHER)["contents"]["value"])
 
     def test_layout(self):
-        """It is that of `python -m promql format`."""
+        """It is that of `python -m promql format`, but that a query with a comment is laid out for people."""
+        people = Client("--style", "people")
         for path in sorted(FILES.glob("*.yml")):
             if path.name.endswith(".formatted.yml"):
                 continue
-            text = path.read_bytes().decode()
-            self.client.open(path.as_uri(), text, "yaml")
-            edits = self.client.request("textDocument/formatting", {"textDocument": {"uri": path.as_uri()}, "options": {}})
-            self.assertEqual(apply(text, edits), path.with_suffix(".formatted.yml").read_bytes().decode(), path)
+            text, formatted = self.formatted(self.client, path), run("format", path)
+            if "it has a comment" in formatted.err:
+                with tempfile.NamedTemporaryFile("w", suffix=".yml", newline="") as file:
+                    file.write(text)
+                    file.flush()
+                    self.assertEqual(run("format", file.name).out, text)
+                    self.assertNotEqual(text, formatted.out)
+            else:
+                self.assertEqual(text, path.with_suffix(".formatted.yml").read_bytes().decode(), path)
+            self.assertEqual(self.formatted(people, path), run("format", "--style", "people", path).out, path)
+        self.assertEqual(people.close(), 0)
+
+    def formatted(self, client, path):
+        text = path.read_bytes().decode()
+        client.open(path.as_uri(), text, "yaml")
+        params = {"textDocument": {"uri": path.as_uri()}, "options": {}}
+        return apply(text, client.request("textDocument/formatting", params))
+
+    def test_lint(self):
+        client = Client(options={})
+        text = RULES.replace("up{", 'up{zone=~"a",')
+        found = {it.get("code"): it for it in client.open(URI, text, "yaml")}
+        self.assertEqual((found[None]["severity"], found["P103"]["severity"]), (1, 2))
+        self.assertEqual(self.parts(text, [found["P103"]]), ['zone=~"a"'])
+        text += "# promql: ignore-file P103\n"
+        client.change(URI, 2, {"text": text})
+        self.assertNotIn("P103", [it.get("code") for it in client.wait_for_diagnostics(URI, 2)])
+        self.assertEqual(client.close(), 0)
+
+    def test_layout_again(self):
+        """Only rules that were changed are looked at again."""
+        text = lsp_files.rule_file(200).replace(" / ", "  / ")
+        rules, _ = problems_of(text)
+        layouts = RuleLayouts()
+        self.assertIsNone(layouts.edits(text, rules, "pretty"))
+        whole = rule_file_edits(text, None)
+        self.assertGreater(len(whole), 50)
+        layouts.learn(text, rules, whole)
+        with mock.patch.object(layout, "rule_file_edits", side_effect=AssertionError):
+            self.assertEqual(layouts.edits(text, rules, "pretty"), whole)
+        new = edited(text, whole)
+        rules, _ = problems_of(new)
+        with mock.patch.object(layout, "rule_file_edits", side_effect=AssertionError):
+            self.assertEqual(layouts.edits(new, rules, "pretty"), [])
+        changed = new.replace(" > ", "  >  ", 1)
+        self.assertNotEqual(changed, new)
+        rules, _ = problems_of(changed)
+        self.assertEqual(layouts.edits(changed, rules, "pretty"), rule_file_edits(changed, None))
 
     def test_layout_of_part(self):
         text = BROKEN.replace("job:up:sum == 0", "job:up:sum  ==  0").replace("< 3", "<   3")

@@ -95,13 +95,17 @@ class Queries(Served):
     def test_accepted(self):
         shown = self.ask("sum(foo)/sum(bar{a='é🦀'})")
         self.assertEqual(shown["line"], 'sum(foo) / sum(bar{a="é🦀"})')
-        self.assertEqual(shown["pretty"], promql.format("sum(foo)/sum(bar{a='é🦀'})"))
+        self.assertEqual(shown["layout"], promql.format_query("sum(foo)/sum(bar{a='é🦀'})"))
         self.assertEqual(shown["drawing"], drawing.svg(promql.parse("sum(foo)/sum(bar{a='é🦀'})")))
         self.assertIsNone(shown["note"])
 
     def test_laid_out(self):
-        query = " + ".join(["some_metric"] * 12)
-        self.assertGreater(self.ask(query)["pretty"].count("\n"), 9)
+        query = " + ".join(["rate(some_metric[5m])"] * 12)
+        self.assertGreater(self.ask(query)["layout"].count("\n"), 9)
+
+    def test_comments(self):
+        shown = self.ask("# all\nsum(foo)by(job) # one")
+        self.assertEqual((shown["line"], shown["layout"]), ("sum by (job) (foo)", "# all\nsum by (job) (foo) # one"))
 
     def test_rejected(self):
         for query, place, parts in (
@@ -140,9 +144,9 @@ class Queries(Served):
         self.assertEqual((longer["message"], longer["parts"][0][:10]), ("query is too long: 100000 bytes, at most 32768", "(" * 10))
 
     def test_long_texts(self):
-        wide = "(" * 400 + "label_join(a, 'b'" + ", 'c'" * 2_000 + ")" * 401
+        wide = "(" * 400 + "label_join(a,'b'" + ",''" * 10_500 + ")" * 401
         shown = self.ask(wide)
-        self.assertEqual((shown["line"], shown["pretty"]), (promql.canonical(wide), None))
+        self.assertEqual((shown["line"], shown["layout"]), (promql.canonical(wide), None))
 
     def test_number_too_wide(self):
         shown = self.ask("a[18446744073709551616ms]")

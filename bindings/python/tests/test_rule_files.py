@@ -210,6 +210,46 @@ class Formatted(Folder):
         self.assertEqual(diff.count("\\ No newline at end of file\n"), 2)
 
 
+class People(Folder):
+    """`format --style people`."""
+
+    def formatted(self, query):
+        path = self.file(file_of("", "|\n" + "".join(f"      {line}\n" for line in query.split("\n"))))
+        return run("format", "--style", "people", path)
+
+    def test_comments(self):
+        for query, wanted in (
+            ("up  # c", "up # c"),
+            ("#c\nup  ", "#c\nup"),
+            ("# by job\nsum(a{b='1'} # one\n) by (job)", '# by job\nsum(\n  a{b="1"} # one\n) by (job)'),
+            ("rate(a[5m] #c\noffset 1m)", "rate(\n  a[5m] #c\n    offset 1m\n)"),
+        ):
+            with self.subTest(query):
+                ran = self.formatted(query)
+                self.assertEqual(ran, (0, file_of("", "|\n" + "".join(f"      {line}\n" for line in wanted.split("\n"))), ""))
+                self.assertEqual(run("format", "--style", "people", "--check", self.file(ran.out)), (0, "", ""))
+
+    def test_no_indentation_is_told(self):
+        """No line before the others is farther in, so that the block need not say how far in it is."""
+        text = run("format", "--style", "people", self.file(file_of(TWO_LINES))).out
+        self.assertIn("    expr: |-\n      sum by (job) (rate(errors", text)
+        self.assertIn('\n      / sum by (job) (rate(requests_total{job="api"}[5m]))\n', text)
+        self.assertEqual(run("format", "--style", "people", "--check", self.file(text)), (0, "", ""))
+        self.assertIn("expr: |2-\n", run("format", self.file(text)).out)
+
+    def test_in_braces(self):
+        """A comment ends with its line, so that a query of several lines stays as it is where there are no blocks."""
+        text = 'groups: [{name: a, rules: [{record: b, expr: "up{} # c"}, {record: c, expr: "up # c\\n+ 1"}, {record: d, expr: a+b}]}]\n'
+        ran = run("format", "--style", "people", self.file(text))
+        self.assertEqual((ran.status, ran.out), (0, text.replace("a+b", "a + b")))
+        self.assertEqual(ran.err.count("it has a comment, and has to stay on one line here"), 1)
+
+    def test_enforced(self):
+        ran = run("format", "--style", "people", "--enforce", "a='b'", self.file(file_of("", "|\n      up # c\n")))
+        self.assertEqual(ran.status, 2)
+        self.assertIn("not enforced: it has a comment, which would be lost", ran.err)
+
+
 class Comments(Folder):
     def test_kept(self):
         for query in (
@@ -647,7 +687,7 @@ class Page(Folder):
         for name, text in re.findall(r"`(\w+\.yml)`:\n\n```yaml\n(.*?)^```$", page, re.M | re.S):
             self.file(text, name)
         sessions = re.findall(r"^```sh\n\$ python3 (.*?)\n(.*?)^```$", page, re.M | re.S)
-        self.assertEqual(len(sessions), 3)
+        self.assertEqual(len(sessions), 4)
         for arguments, wanted in sessions:
             command = [sys.executable, *arguments.split()]
             ran = subprocess.run(command, cwd=self.folder, stdout=subprocess.PIPE, stderr=subprocess.STDOUT, check=False)

@@ -80,23 +80,26 @@ def selection_of(select: Iterable[str], ignore: Iterable[str]) -> Selection:
     return selection
 
 
-def look_at(query: str, selection: Selection, context: RuleContext, is_written: IsWritten = always) -> List[Finding]:
-    """The same for a query of a file, of which texts may stand there for variables."""
+def look_at(
+    query: str, selection: Selection, context: RuleContext, is_written: IsWritten = always, has_fixes: bool = True
+) -> List[Finding]:
+    """The same for a query of a file, of which texts may stand there for variables. To check a fix the query is read again, so it takes
+    less time without fixes."""
     try:
         tree = promql.parse(query)
     except promql.QueryError as error:
         return [_rejected(error)] if selection.has(REJECTED) else []
-    return look_at_tree(query, tree, selection, context, is_written)
+    return look_at_tree(query, tree, selection, context, is_written, has_fixes)
 
 
 def look_at_tree(
-    query: str, tree: Tree, selection: Selection, context: RuleContext, is_written: IsWritten = always
+    query: str, tree: Tree, selection: Selection, context: RuleContext, is_written: IsWritten = always, has_fixes: bool = True
 ) -> List[Finding]:
     """The same for a query that was read."""
     subject = Subject(query, tree, context, is_written)
     ignored = ignored_in(query)
     found = [
-        Finding(remark.span, rule.code, remark.message, rule.severity, checked(query, tree, remark.fix))
+        Finding(remark.span, rule.code, remark.message, rule.severity, checked(query, tree, remark.fix) if has_fixes else None)
         for rule in selection.rules()
         if not ignored.has(rule.code)
         for remark in rule.look(subject)

@@ -5,7 +5,7 @@ from __future__ import annotations
 import json
 from dataclasses import replace
 from difflib import SequenceMatcher
-from typing import Dict, List, NamedTuple, Optional, Sequence, Tuple
+from typing import Callable, Dict, List, NamedTuple, Optional, Sequence, Tuple
 
 from ..dashboards import Dashboard, JsonString
 from ..documents import Document
@@ -26,6 +26,8 @@ from .table import Selection
 # A longer part that changed is written whole.
 _LONGEST_COMPARED = 4_000
 
+# What looks at a query, as `look_at` does.
+LookAt = Callable[[str, Selection, RuleContext, IsWritten], List[Finding]]
 # A query, and the text that is to be there instead.
 _Change = Tuple[Query, str]
 
@@ -44,9 +46,10 @@ class FileFinding(NamedTuple):
 class FileLinter:
     """Looks at the queries of one file."""
 
-    def __init__(self, document: Document, selection: Selection) -> None:
+    def __init__(self, document: Document, selection: Selection, look: LookAt = look_at) -> None:
         self._document = document
         self._selection = selection
+        self._look_at = look
         source = document.source
         self._silences = Silences(source) if isinstance(document, RuleFile) else None
         # The queries that are not looked at.
@@ -72,7 +75,7 @@ class FileLinter:
         """What is found in a query, for each of the rules that have it."""
         found: Dict[Tuple[int, int, str, str], Finding] = {}
         for context, ignored in self._contexts(query):
-            for finding in look_at(query.text, self._selection, context, self._is_written(query)):
+            for finding in self._look_at(query.text, self._selection, context, self._is_written(query)):
                 if not ignored.has(finding.code):
                     found[(*finding.span, finding.code, finding.message)] = finding
         return list(found.values())

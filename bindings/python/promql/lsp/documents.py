@@ -10,7 +10,10 @@ import promql
 
 from .messages import INVALID_PARAMS, ProtocolError
 from .positions import Lines, Range
-from .rules import ERROR, PlacedQuery, Problem, Rule, read_lines
+from .findings import lint_problems, page_of
+from .layout import RuleLayouts
+from .problems import ERROR, Problem
+from .rules import PlacedQuery, Rule, read_lines
 
 # A document is not looked at where it is larger.
 MOST_CHARACTERS = 8 * 1024 * 1024
@@ -39,6 +42,7 @@ class Document:
         self.version = version
         self.is_rule_file = language != "promql" and (language.startswith("yaml") or bool(_YAML.search(uri)))
         self.rules: List[Rule] = []
+        self.layouts = RuleLayouts()
         # Whether the rules are those of the text as it is, and whether what can be told of the text was told.
         self.is_read = False
         self.is_settled = False
@@ -133,8 +137,8 @@ class Document:
         return self.lines.range(*query.span(start, end))
 
 
-def query_problems(text: str) -> List[Problem]:
-    """What is wrong with a query that is a document. One without a token is no fault while it is written."""
+def query_problems(text: str, lints: bool = False) -> List[Problem]:
+    """What is wrong with a query that is a document, or likely to be. One without a token is no fault while it is written."""
     try:
         if text.strip():
             promql.check(text)
@@ -144,17 +148,18 @@ def query_problems(text: str) -> List[Problem]:
         return [Problem(error.start, error.end, ERROR, "half of a surrogate pair")]
     except ValueError as error:
         return [Problem(0, len(text), ERROR, str(error))]
-    return []
+    return lint_problems(text) if lints and text.strip() else []
 
 
 def diagnostics(document: Document, problems: List[Problem]) -> List[Any]:
     """The problems as the protocol has them."""
-    return [
-        {
-            "range": document.lines.range(problem.start, problem.end),
-            "severity": problem.severity,
-            "source": "promql",
-            "message": problem.message,
-        }
-        for problem in problems
-    ]
+    return [_diagnostic(document, problem) for problem in problems]
+
+
+def _diagnostic(document: Document, problem: Problem) -> Any:
+    place = document.lines.range(problem.start, problem.end)
+    found = {"range": place, "severity": problem.severity, "source": "promql", "message": problem.message}
+    if problem.code:
+        found["code"] = problem.code
+    page = page_of(problem.code)
+    return {**found, "codeDescription": {"href": page}} if page else found

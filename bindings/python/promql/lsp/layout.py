@@ -3,12 +3,12 @@
 from __future__ import annotations
 
 import re
-from typing import List, Optional, Tuple
+from typing import Dict, Iterator, List, NamedTuple, Optional, Tuple
 
 import promql
 
 from ..files import BLANKS, FileError
-from ..format_command import Printer
+from ..format_command import PEOPLE, PRETTY, Printer, has_comment
 from ..queries import Edit, Query, edited
 from ..rule_files import RuleFile
 from .nodes import path_at
@@ -16,10 +16,12 @@ from .rules import Rule, file_of, lines_before
 from .tokens import COMMENT, LONGEST, tokens_of
 
 WIDTH = 100
-_FEW = 10
+# How many rules are looked at while the editor waits.
+_FEW = 40
 # Blank lines and comments.
 _BETWEEN = re.compile(r"[ \t]*(?:#[^\r\n]*)?(?:(?:\r\n|\r|\n)[ \t]*(?:#[^\r\n]*)?)*")
-_HAS_COMMENT = "left as it is: it has a comment, which would be lost"
+_LINE_END = re.compile(r"[\r\n]")
+_NOT_SAME = "left as it is: formatted, it would not be read as the same"
 
 
 class LeftError(Exception):
@@ -29,59 +31,49 @@ class LeftError(Exception):
 Span = Tuple[int, int]
 
 
-def rule_file_edits(text: str, span: Optional[Span]) -> List[Edit]:
+def rule_file_edits(text: str, span: Optional[Span], style: str = PRETTY) -> List[Edit]:
     """The edits that lay out the queries of a rule file, or those of them that are in a part of it. What is rejected is left."""
     file = file_of(text)
-    printer = Printer(WIDTH, False, str)
-    changes = [(query, new) for query in file.queries if _is_in(query, span) for new in [_laid_out(printer, query)] if new is not None]
+    printers = _Printers(style)
+    changes = [(query, new) for query in file.queries if _is_in(query, span) for new in [printers.laid_out(query)] if new is not None]
     if not changes:
         return []
     edits = [query.spelling.edit(new) for query, new in changes]
-    if not _means_the_same(file, printer, changes, edited(text, edits)):
-        raise LeftError("left as it is: formatted, it would not be read as the same")
+    if not _means_the_same(file, printers, changes, edited(text, edits)):
+        raise LeftError(_NOT_SAME)
     return sorted(edits)
 
 
-def lines_edits(text: str, rules: List[Rule], span: Span) -> Optional[List[Edit]]:
-    """The same for a part of a file that is read, where few rules are in it; nothing where they have to be looked at with all others."""
-    begins = [*(rule.start for rule in rules), len(text)]
-    found: List[Edit] = []
-    inside = [number for number, rule in enumerate(rules) if rule.start <= span[1] and span[0] <= begins[number + 1]]
-    for number in inside:
-        rule, next_begin = rules[number], begins[number + 1]
-        if len(inside) > _FEW or not rule.is_alone or not _BETWEEN.fullmatch(text, rule.end, next_begin):
+class _Printers:
+    """How queries are written: those with a comment for people, since every other layout loses it."""
+
+    def __init__(self, style: str) -> None:
+        self._of_others = Printer(WIDTH, False, str, style)
+        self._of_noted = Printer(WIDTH, False, str, PEOPLE)
+
+    def of(self, query: Query) -> Printer:
+        return self._of_noted if "#" in query.text and has_comment(query.text) else self._of_others
+
+    def laid_out(self, query: Query) -> Optional[str]:
+        """The query as it is to be written, where it is written in another way."""
+        try:
+            printer = self.of(query)
+            text = None if printer.why_left(query) else printer.text(query)
+        except ValueError:
             return None
-        if rule.end < span[0]:
-            continue
-        # (with the comments after it, which a block may not take in)
-        before = lines_before(text[rule.start : next_begin])
-        if before is None:
-            return None
-        by = rule.start - len(before)
-        part = (max(span[0] - by, 0), max(span[1] - by, 0))
-        edits = rule_file_edits(before + text[rule.start : next_begin], part)
-        found += [Edit(edit.start + by, edit.end + by, edit.text) for edit in edits]
-    return found
+        return text if text != query.original.rstrip("\n") else None
 
 
 def _is_in(query: Query, span: Optional[Span]) -> bool:
     return span is None or query.offsets[0] <= span[1] and span[0] <= query.offsets[-1]
 
 
-def _laid_out(printer: Printer, query: Query) -> Optional[str]:
-    try:
-        text = None if printer.why_left(query) else printer.text(query)
-    except ValueError:
-        return None
-    return text if text != query.original.rstrip("\n") else None
-
-
-def _means_the_same(file: RuleFile, printer: Printer, changes: List[Tuple[Query, str]], text: str) -> bool:
+def _means_the_same(file: RuleFile, printers: _Printers, changes: List[Tuple[Query, str]], text: str) -> bool:
     queries = {(query.original, new): query for query, new in changes}
 
     def same_query(old: str, new: str) -> bool:
         query = queries.get((old, new.rstrip(BLANKS)))
-        return old == new or query is not None and printer.means(new, query)
+        return old == new or query is not None and printers.of(query).means(new, query)
 
     try:
         return file.same(text, same_query)
@@ -89,12 +81,89 @@ def _means_the_same(file: RuleFile, printer: Printer, changes: List[Tuple[Query,
         return False
 
 
+# ---- rules by themselves
+
+
+class _Part(NamedTuple):
+    """The lines of a rule, with the comments after them, which a block may not take in."""
+
+    start: int
+    text: str
+
+
+def lines_edits(text: str, rules: List[Rule], span: Span, style: str = PRETTY) -> Optional[List[Edit]]:
+    """The edits of a part of a file that is read, where few rules are in it; nothing where they have to be looked at with all others."""
+    begins = [*(rule.start for rule in rules), len(text)]
+    inside = [rule for number, rule in enumerate(rules) if rule.start <= span[1] and span[0] <= begins[number + 1]]
+    parts = [_part(text, rule) for rule in inside]
+    if len(inside) > _FEW or None in parts:
+        return None
+    found = [_edits_of(part, style, span) for rule, part in zip(inside, parts) if part and rule.end >= span[0]]
+    return [edit for edits in found for edit in edits] if None not in found else None
+
+
+def _part(text: str, rule: Rule) -> Optional[_Part]:
+    """A rule whose lines can be looked at by themselves."""
+    between = _BETWEEN.match(text, rule.end)
+    end = between.end() if between else rule.end
+    # (a rule without a query may be of a file whose queries are not PromQL)
+    if not rule.is_alone or not rule.queries or end < len(text) and not _LINE_END.search(text, rule.end, end):
+        return None
+    lines = text[rule.start : end]
+    return _Part(rule.start, lines) if lines_before(lines) is not None else None
+
+
+def _edits_of(part: _Part, style: str, span: Optional[Span] = None) -> List[Edit]:
+    before = lines_before(part.text) or ""
+    by = part.start - len(before)
+    inside = (max(span[0] - by, 0), max(span[1] - by, 0)) if span else None
+    edits = rule_file_edits(before + part.text, inside, style)
+    return [Edit(edit.start + by, edit.end + by, edit.text) for edit in edits]
+
+
+class RuleLayouts:
+    """What laying out the rules of a file came to, by their lines: so only rules that are new or were changed are looked at again."""
+
+    def __init__(self) -> None:
+        # The edits of a rule, counted from its first line on.
+        self._known: Dict[str, Tuple[Edit, ...]] = {}
+
+    def edits(self, text: str, rules: List[Rule], style: str) -> Optional[List[Edit]]:
+        """The edits of a file that is read; nothing where it has to be looked at as a whole, since many of its rules are new."""
+        parts = [_part(text, rule) for rule in rules]
+        unknown = [part for part in parts if part and part.text not in self._known]
+        if None in parts or len(unknown) > _FEW:
+            return None
+        for part in unknown:
+            self._known[part.text] = tuple(_moved(_edits_of(part, style), -part.start))
+        if len(self._known) > 4 * len(parts) + _FEW:
+            self._known = {part.text: self._known[part.text] for part in parts if part}
+        return [edit for part in parts if part for edit in _moved(self._known[part.text], part.start)]
+
+    def learn(self, text: str, rules: List[Rule], edits: List[Edit]) -> None:
+        """Keeps the edits of a file that was looked at as a whole, of which each rule's are those in its lines. A rule that they were
+        made in is laid out."""
+        at = 0
+        for part in filter(None, (_part(text, rule) for rule in rules)):
+            own: List[Edit] = []
+            while at < len(edits) and edits[at].start < part.start + len(part.text):
+                own += [edits[at]] if edits[at].start >= part.start else []
+                at += 1
+            relative = tuple(_moved(own, -part.start))
+            self._known[part.text] = relative
+            self._known[edited(part.text, relative)] = ()
+
+
+def _moved(edits: "List[Edit] | Tuple[Edit, ...]", by: int) -> Iterator[Edit]:
+    return (Edit(edit.start + by, edit.end + by, edit.text) for edit in edits)
+
+
+# ---- a query in a document of its own
+
+
 def query_edits(text: str) -> List[Edit]:
-    """The edit that lays out a query, whose text ends in a line end if it did."""
-    if any(token.kind == COMMENT for token in tokens_of(text)):
-        promql.check(text)
-        raise LeftError(_HAS_COMMENT)
-    new = promql.format(text, width=WIDTH) + "\n" * text.endswith("\n")
+    """The edit that lays out a query for people, whose text ends in a line end if it did."""
+    new = promql.format_query(text, width=WIDTH) + "\n" * text.endswith("\n")
     return [Edit(0, len(text), new)] if new != text else []
 
 
@@ -105,15 +174,18 @@ def node_edits(text: str, span: Span) -> List[Edit]:
     if not around or len(text) > LONGEST:
         return query_edits(text)
     node = around[-1]
-    if any(token.kind == COMMENT and node.start <= token.start < node.end for token in tokens_of(text)):
-        raise LeftError(_HAS_COMMENT)
     line = text[text.rfind("\n", 0, node.start) + 1 : node.start]
-    level = min((len(line) - len(line.lstrip(" "))) // 2, WIDTH // 4)
-    new = promql.format(text[node.start : node.end], width=WIDTH - 2 * level, level=level).lstrip(" ")
-    edit = Edit(node.start, node.end, new)
-    if promql.canonical(edited(text, [edit])) != promql.canonical(text):
-        raise LeftError("left as it is: formatted, it would not be read as the same")
-    return [edit] if new != text[node.start : node.end] else []
+    indentation = line[: min(len(line) - len(line.lstrip(" ")), WIDTH // 2)]
+    laid_out = promql.format_query(text[node.start : node.end], width=WIDTH - len(indentation))
+    edit = Edit(node.start, node.end, laid_out.replace("\n", "\n" + indentation))
+    new = edited(text, [edit])
+    if promql.canonical(new) != promql.canonical(text) or _comments(new) != _comments(text):
+        raise LeftError(_NOT_SAME)
+    return [edit] if edit.text != text[node.start : node.end] else []
+
+
+def _comments(text: str) -> List[str]:
+    return [text[token.start : token.end] for token in tokens_of(text) if token.kind == COMMENT]
 
 
 def _trimmed(text: str, span: Span) -> Span:
@@ -121,5 +193,3 @@ def _trimmed(text: str, span: Span) -> Span:
     part = text[slice(*span)]
     start = span[0] + len(part) - len(part.lstrip())
     return start, max(start, span[1] - len(part) + len(part.rstrip()))
-
-

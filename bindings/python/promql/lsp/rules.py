@@ -13,10 +13,11 @@ from ..files import Fault, FileError, Source
 from ..queries import Query
 from ..rule_files import RuleFile
 from ..yaml_nodes import Node
+from .findings import lint_problems_of_file
 from .names import names_of
+from .problems import ERROR, WARNING, Problem
 from .roles import roles_of
 
-ERROR, WARNING = 1, 2
 NAME = "document"
 _GROUPS = re.compile(r"^\s*groups:", re.M)
 _PLACE = re.compile(rf"{NAME}:(\d+):(\d+): ([^\n]*)")
@@ -24,15 +25,6 @@ _MOST_NODES = 10_000
 # Lines that are longer are not read by themselves.
 _LONGEST_LINES = 16_384
 _LINE_BEGINS = re.compile(r"\r\n|\r|\n")
-
-
-class Problem(NamedTuple):
-    """What is wrong with the part `text[start:end]` of a document."""
-
-    start: int
-    end: int
-    severity: int
-    message: str
 
 
 class PlacedQuery:
@@ -201,8 +193,8 @@ def lines_before(lines: str) -> Optional[str]:
     return f"groups:\n- name: {NAME}\n  rules:\n" if lines.startswith("  ") and len(lines) <= _LONGEST_LINES else None
 
 
-def problems_of(text: str) -> Tuple[Optional[List[Rule]], List[Problem]]:
-    """The rules of a file, where it can be read, and what is wrong with it. In a file that is none of rules nothing is."""
+def problems_of(text: str, lints: bool = False) -> Tuple[Optional[List[Rule]], List[Problem]]:
+    """The rules of a file, where it can be read, and what is wrong with it, or likely to be. In a file that is none of rules nothing is."""
     try:
         file = file_of(text)
     except RecursionError:
@@ -221,6 +213,7 @@ def problems_of(text: str) -> Tuple[Optional[List[Rule]], List[Problem]]:
         faults.append(Fault(0, 0, str(error)))
     found += _problems({*faults}, ERROR)
     found += _problems({*warnings}, WARNING)
+    found += lint_problems_of_file(file) if lints else []
     return rules_of(file), sorted(found)
 
 

@@ -35,7 +35,8 @@ from .messages import (
     write_message,
 )
 from .prometheus import Prometheus
-from .rules import ERROR, Problem
+from .problems import ERROR, Problem
+from .settings import Settings
 from .work import FORMAT, READ, Done, Job
 
 # A rule file is read again when nothing was written in it for so many seconds.
@@ -64,10 +65,15 @@ class Asked(NamedTuple):
     document: Document
     text: str
     request: Optional[Union[int, str]] = None
+    # Whether all of the document is to be laid out.
+    is_whole: bool = False
 
 
 class Server:
-    def __init__(self, source: BinaryIO, target: BinaryIO, prometheus: Optional[Prometheus] = None) -> None:
+    def __init__(
+        self, source: BinaryIO, target: BinaryIO, prometheus: Optional[Prometheus] = None, settings: Settings = Settings()
+    ) -> None:
+        self._settings = settings
         self._source = source
         self._target = target
         self._events: "queue.Queue[Any]" = queue.Queue(_MOST_WAITING)
@@ -216,6 +222,7 @@ class Server:
         for name in ("capabilities", "textDocument", "completion", "completionItem", "snippetSupport"):
             at = at.get(name) if isinstance(at, dict) else None
         self._workspace.has_snippets = at is True
+        self._settings = self._settings.with_options(params.get("initializationOptions") if isinstance(params, dict) else None)
         if self._workspace.prometheus:
             self._workspace.prometheus.known()
         return {"capabilities": CAPABILITIES, "serverInfo": {"name": "promql", "version": promql.__version__}}
@@ -263,7 +270,7 @@ class Server:
         elif document.is_rule_file:
             self._unread[document.uri] = time.monotonic() + (0 if at_once else PAUSE)
         else:
-            self._show(document, query_problems(document.text))
+            self._show(document, query_problems(document.text, self._settings.lints))
 
     def _show(self, document: Document, problems: List[Problem]) -> None:
         self._publish(document.uri, document.version, diagnostics(document, problems))
@@ -285,8 +292,8 @@ class Server:
             edits = self._few_edits(document, span)
             if edits is not None:
                 return _text_edits(document, edits)
-            job = Job(next(self._numbers), FORMAT, document.text, span)
-            self._jobs.append((job, Asked(document, document.text, request)))
+            job = Job(next(self._numbers), FORMAT, document.text, self._settings, span)
+            self._jobs.append((job, Asked(document, document.text, request, span is None)))
             return End()
         try:
             edits = node_edits(document.text, span) if span else query_edits(document.text)
@@ -296,8 +303,12 @@ class Server:
 
     def _few_edits(self, document: Document, span: Optional[Tuple[int, int]]) -> Optional[List[Edit]]:
         """The edits of few rules, which are made at once."""
+        if not document.is_read:
+            return None
         try:
-            return lines_edits(document.text, document.rules, span) if span and document.is_read else None
+            if span:
+                return lines_edits(document.text, document.rules, span, self._settings.style)
+            return document.layouts.edits(document.text, document.rules, self._settings.style)
         except (LeftError, FileError, ValueError):
             # (told by the helper)
             return None
@@ -313,6 +324,8 @@ class Server:
         is_current = document.text == asked.text and self._workspace.documents.get(document.uri) is document
         if asked.request is not None:
             self._finish_request(asked.request, done, document, is_current)
+            if asked.is_whole and is_current and document.is_read and done.result is not None:
+                document.layouts.learn(document.text, document.rules, done.result)
         elif is_current:
             rules, problems = done.result if done.result else (None, [Problem(0, 0, ERROR, done.failure)])
             document.settle(rules)
@@ -354,7 +367,7 @@ class Server:
             if uri is None or not document:
                 return
             del self._unread[uri]
-            job, asked = Job(next(self._numbers), READ, document.text), Asked(document, document.text)
+            job, asked = Job(next(self._numbers), READ, document.text, self._settings), Asked(document, document.text)
         self._asked[job.number] = asked
         self._helper.submit(job)
 

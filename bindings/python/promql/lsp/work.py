@@ -9,6 +9,7 @@ from typing import IO, Any, NamedTuple, Optional, Tuple
 from ..files import FileError
 from .layout import LeftError, rule_file_edits
 from .rules import problems_of
+from .settings import Settings
 
 READ, FORMAT = "read", "format"
 _LENGTH = struct.Struct(">Q")
@@ -20,6 +21,7 @@ class Job(NamedTuple):
     number: int
     kind: str
     text: str
+    settings: Settings
     span: Optional[Tuple[int, int]] = None
 
 
@@ -48,7 +50,9 @@ def receive(stream: IO[bytes]) -> Any:
 
 def work(job: Job) -> Done:
     try:
-        return Done(job.number, problems_of(job.text) if job.kind == READ else rule_file_edits(job.text, job.span))
+        if job.kind == READ:
+            return Done(job.number, problems_of(job.text, job.settings.lints))
+        return Done(job.number, rule_file_edits(job.text, job.span, job.settings.style))
     except (LeftError, FileError, ValueError) as error:
         return Done(job.number, None, str(error).partition("\n")[0] or "left as it is")
     except (MemoryError, RecursionError) as error:

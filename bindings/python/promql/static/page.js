@@ -34,13 +34,13 @@ function showDrawing(drawing, note) {
   showText("note", note ?? "");
 }
 
-function showResult({ error, line, pretty, drawing, note }) {
+function showResult({ error, line, layout, drawing, note }) {
   if (error) {
     showError(error);
     return;
   }
   showText("line", line);
-  showText("pretty", pretty);
+  showText("layout", layout);
   showDrawing(drawing, note);
   showOnly("accepted");
 }
