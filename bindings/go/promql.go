@@ -121,7 +121,7 @@ func Level(level uint16) Option {
 	return func(l *layout) { l.level = level }
 }
 
-// Canonical returns the query on one line. Queries that differ in nothing that means something have one line: the key of a cache.
+// Canonical returns the query on one line, the same for each spelling of the query: the key of a cache.
 func Canonical(query string) (string, error) {
 	return textOf(query, func(query *C.char, length C.size_t, buffer *C.char, size C.size_t, result *C.struct_promql_result) {
 		C.promql_canonical(query, length, buffer, size, result)

@@ -174,7 +174,7 @@ def format_query(query: str, *, width: int = 100, indent: int = 2, keep_spelling
 
 
 def canonical(query: str) -> str:
-    """The query on one line. Queries that differ in nothing that means something have one line: the key of a cache."""
+    """The query on one line, the same for each spelling of the query: the key of a cache."""
     return _text(query, _caller.canonical(query))
 
 

@@ -153,7 +153,7 @@ impl Default for Layout {
     }
 }
 
-/// The query on one line. Queries that differ in nothing that means something have one line: the key of a cache.
+/// The query on one line, the same for each spelling of the query: the key of a cache.
 ///
 /// # Errors
 ///
