@@ -9,6 +9,7 @@ ghost use Rattle.promql_span.specs.PlacedTokens.{placed_tokens};
 ghost use Rattle.promql_span.specs.TokensBefore.{IsListed, symbols_of_text};
 
 use crate::placed::PlacedTokens;
+use promql_ast::drop_expr;
 use promql_grammar::tokens::Lookahead;
 use promql_grammar::{ReadError, TokenKind, Tokens, token_kind};
 use promql_syntax::grammar::expression::parse_query;
@@ -160,6 +161,10 @@ fn rejects(alloc: Global, tokens: &mut Tokens<'_>) -> Result<bool, AllocError>
     match parse_query(alloc, MAX_DEPTH, tokens) {
         Err(ReadError::Syntax) => Ok(true),
         Err(ReadError::Memory) => Err(AllocError),
-        Err(ReadError::TooDeep) | Ok(_) => Ok(false),
+        Err(ReadError::TooDeep) | Ok(Err(_)) => Ok(false),
+        Ok(Ok(expr)) => {
+            drop_expr(Box::into_inner(expr));
+            Ok(false)
+        }
     }
 }
