@@ -6,17 +6,19 @@ ghost use Rattle.serde_json.specs.Read.{read};
 ghost use Rattle.serde_json.specs.View.{view};
 ghost use Rattle.promql_text.specs.Texts.{Text};
 ghost use Rattle.promql_ast.specs.View.{tree_of};
-ghost use Rattle.promql_lines.specs.BatchSteps.{IsEnforceFaultOf};
-ghost use Rattle.promql_lines.specs.Batch.{FailsOnQuery, FailsWith, IsAsked, IsErrorText, IsLineAnswer, IsOkLine, IsQueryAnswer, error_object, line_error_number, line_error_object, rejection_object};
+ghost use Rattle.promql_lines.specs.BatchSteps.{IsEnforceFaultOf, IsOkLine};
+ghost use Rattle.promql_lines.specs.Batch.{FailsOnQuery, FailsWith, IsAsked, IsErrorText, IsLineAnswer, IsQueryAnswer, error_object, line_error_number, line_error_object, rejection_object};
 
-use crate::answer_text::{answer_within, shown_text};
+use crate::answer_text::answer_within;
 use crate::limit_checks::matcher_fault;
 use crate::quoted_query::quoted_query;
-use crate::request::{Format, default_format, format_in, matcher_in, query_in};
+use crate::request::{format_in, matcher_in, query_in};
 use crate::settings::Settings;
 use promql_ast::{Expr, drop_expr};
 use promql_report::rejection::{Rejection, read_query};
 use promql_rewrite::{EnforceTextError, MatcherError, enforce_text};
+use promql_run::format::Format;
+use promql_run::rendering::shown_text;
 use promql_run::run::RunError;
 use promql_span::limits::{LimitFault, Limits, LongOutput};
 use serde_json::{Category, Value, json};
@@ -131,8 +133,9 @@ fn answer_query(
     matcher: Option<&str>,
 ) -> Result<String, LineError>
     ensures ok { IfOk result (λ s.
-        IsQueryAnswer limits.now query.now (option_map (λ s. s.now) matcher.entry) format (string_bytes s)) }
-    ensures err { IfErr result (FailsOnQuery limits.now query.now (option_map (λ s. s.now) matcher.entry) format) }
+        IsQueryAnswer limits.now (string_bytes s) query.now (option_map (λ s. s.now) matcher.entry) format) }
+    ensures err { IfErr result (λ e.
+        FailsOnQuery limits.now e query.now (option_map (λ s. s.now) matcher.entry) format) }
 {
     let expr = match read_query(alloc, limits, query) {
         Ok(Ok(expr)) => expr,
@@ -159,7 +162,7 @@ fn answer_value(alloc: Global, settings: &Settings, asked: &Value) -> Result<Str
     let Some(query) = query_in(asked) else {
         return Err(LineError::NotARequest);
     };
-    let Some(format) = format_in(settings.mode, asked) else {
+    let Some(format) = format_in(settings.format, asked) else {
         return Err(LineError::NotARequest);
     };
     answer_query(alloc, &settings.limits, format, query, matcher_in(asked))
@@ -188,8 +191,13 @@ fn answer_text(alloc: Global, settings: &Settings, line: &str) -> Result<String,
 {
     match quoted_query(alloc, line) {
         Ok(Some(query)) => {
-            let format = default_format(settings.mode);
-            answer_query(alloc, &settings.limits, format, query.as_str(), None)
+            answer_query(
+                alloc,
+                &settings.limits,
+                settings.format,
+                query.as_str(),
+                None,
+            )
         }
         Ok(None) => answer_json(alloc, settings, line),
         Err(_) => Err(LineError::Run(RunError::Memory)),
