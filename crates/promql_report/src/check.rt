@@ -110,7 +110,7 @@ fn report_rejection(alloc: Global, query: &str, rejection: &Rejection) -> Result
     ensures { IfOk result (λ s. IsReport query.now rejection.now.location rejection.now.span
         (string_bytes s)) }
 {
-    let mut message = rejection.reason.to_string(alloc)?;
+    let mut message = rejection.message(alloc, query)?;
     if query.starts_with('\u{feff}') {
         message.push_str(BYTE_ORDER_MARK)?;
     }

@@ -24,14 +24,14 @@ const ROWS: [Row; 27] = [
         b"1 +",
         4,
         "",
-        "1:4: invalid promql query\n1 +\n   ^\n",
+        "1:4: unexpected end of query, expected expression, \"bool\", \"ignoring\", \"on\", \"fill\", \"fill_left\" or \"fill_right\"\n1 +\n   ^\n",
     ),
     (
         &[""],
         b"1 +\n",
         4,
         "",
-        "1:4: invalid promql query\n1 +\n   ^\n",
+        "1:4: unexpected end of query, expected expression, \"bool\", \"ignoring\", \"on\", \"fill\", \"fill_left\" or \"fill_right\"\n1 +\n   ^\n",
     ),
     (
         &[""],
@@ -66,7 +66,7 @@ const ROWS: [Row; 27] = [
         b"foo{a=\"\x07\x1b\"} b",
         4,
         "",
-        "1:13: invalid promql query\nfoo{a=\"\\x07\\x1b\"} b\n                  ^\n",
+        "1:13: unexpected identifier \"b\", expected \"[\", operator, \"@\", \"offset\", \"smoothed\", \"anchored\" or end of query; an operator is missing before it\nfoo{a=\"\\x07\\x1b\"} b\n                  ^\n",
     ),
     (
         &[""],
@@ -80,7 +80,7 @@ const ROWS: [Row; 27] = [
         b"a\rb c",
         4,
         "",
-        "1:3: invalid promql query\na\\x0db c\n     ^\n",
+        "1:3: unexpected identifier \"b\", expected \"{\", \"[\", \"(\", operator, \"@\", \"offset\", \"smoothed\", \"anchored\" or end of query; an operator is missing before it\na\\x0db c\n     ^\n",
     ),
     (
         &[""],
