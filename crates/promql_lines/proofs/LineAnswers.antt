@@ -1,22 +1,25 @@
 -- The answer to a line.
-use Rattle.std.proofs.Common.{◌≡◌, ◌∙◌, String, ap, refl, string_bytes, sym}
+use Rattle.std.proofs.Common.{◌≡◌, ◌∙◌, List, [], ◌∷◌, map, String, ap, refl, string_bytes, sym}
+use Rattle.std.proofs.lemmas.Bool.{or_from}
 use Rattle.std.proofs.lemmas.Result.{IfOk-weaker}
 use Rattle.std.specs.Prelude.{false, IfErr, IfOk, Option, Some, None, option_and_then, option_map, Result, Ok, Err}
 use Rattle.std.specs.Str.{IsUtf8}
 use Rattle.std.specs.declared.alloc.Global.{Global}
-use Rattle.serde_json.specs.Data.{Data, string}
+use Rattle.serde_json.specs.Data.{Data, Members, string}
 use Rattle.serde_json.specs.Read.{read}
-use Rattle.serde_json.specs.Written.{has_float}
+use Rattle.serde_json.specs.View.{items_of}
+use Rattle.serde_json.specs.Written.{has_float, items_have_float, members_have_float}
 use Rattle.promql_text.specs.Texts.{Text}
 use Rattle.promql_ast.specs.Tree.{Tree}
 use Rattle.promql_report.specs.Rejecting.{IsRead}
 use Rattle.promql_span.specs.declared.limits.Limits.{Limits}
 use Rattle.promql_lines.specs.declared.settings.Settings.{Settings}
 use Rattle.promql_run.specs.declared.run.RunError.TheVariants.{Memory, Read, NotUtf8, Parse, Write, Json}
-use Rattle.promql_lines.specs.Batch.{FailsOnQuery, FailsWith, IsQueryAnswer, line_error_object}
+use Rattle.promql_lines.specs.Batch.{FailsOnQuery, FailsWith, IsQueryAnswer, line_error_object, with_expectation}
 use Rattle.promql_lines.specs.BatchSteps.{IsEnforceFaultOf, IsOkLine}
 use Rattle.promql_lines.specs.Requests.{format_in, format_with, matcher_in, query_in, requested}
 use Rattle.promql_lines.specs.declared.line.LineError.{LineError}
+use Rattle.promql_lines.specs.declared.rejected_query.Expectation.{Expectation}
 use Rattle.promql_lines.specs.declared.line.LineError.TheVariants.{Run, Rejected, NotARequest, Matcher, Info, LargeMatcher, LongOutput}
 use Rattle.promql_run.specs.declared.format.Format.{Format}
 use Rattle.promql_run.specs.declared.format.Format.TheVariants as formats
@@ -49,9 +52,17 @@ pub answered_line : {E : Type 0} (r : Result (String Global) E) (settings : Sett
     → IfOk r (λ s. IsQueryAnswer settings.limits (string_bytes s) query matcher format) → IfOk r (λ s. IsOkLine settings line (string_bytes s))
 answered_line r settings line query matcher format utf8 asks = IfOk-weaker r _ _ (λ s has. (query, matcher, format, utf8, asks, has))
 
+texts_are_finite : (ts : List Text) → items_have_float (items_of (map string ts)) ≡ false
+texts_are_finite [] = refl
+texts_are_finite (t ∷ ts) = texts_are_finite ts
+
+expectation_is_finite : (o : Option Expectation) (ms : Members) → members_have_float ms ≡ false → members_have_float (with_expectation o ms) ≡ false
+expectation_is_finite None ms finite = finite
+expectation_is_finite (Some e) ms finite = or_from _ _ (texts_are_finite (map (λ name. name.now) e.expected.items)) finite
+
 pub error_is_finite : (built : Data) (fault : LineError) (message : Text) → built ≡ line_error_object fault message → has_float built ≡ false
 error_is_finite built (Run e) message is = ap has_float is
-error_is_finite built (Rejected r) message is = ap has_float is
+error_is_finite built (Rejected r) message is = ap has_float is ∙ expectation_is_finite r.expectation _ refl
 error_is_finite built NotARequest message is = ap has_float is
 error_is_finite built (Matcher e) message is = ap has_float is
 error_is_finite built Info message is = ap has_float is

@@ -1,17 +1,17 @@
 -- What a batch answers to its lines (docs/reference/programs.md).
-use Rattle.std.specs.Prelude.{◌≡◌, ◌≢◌, ◌⊎◌, ◌≤◌, ℕ, ◌++◌, length, List, [], ◌∷◌, All, Bool, true, false, IfSome, Option, Some, None, Result, Ok, Err, codes, map}
+use Rattle.std.specs.Prelude.{◌≡◌, ◌≢◌, ◌⊎◌, ◌≤◌, ℕ, ◌++◌, length, List, [], ◌∷◌, All, Bool, true, false, IfSome, Option, Some, None, Result, Ok, Err, codes, map, string_bytes}
 use Rattle.std.specs.List.{AllByRecursion, list_all}
 use Rattle.std.specs.Str.{IsUtf8}
 use Rattle.std.specs.Io.{StopsAt}
 use Rattle.std.specs.Io.KnownBytes.{Appends, Consumes}
-use Rattle.serde_json.specs.Data.{Data, string, number, unsigned, object, no_members, member}
+use Rattle.serde_json.specs.Data.{Data, Members, string, number, unsigned, object, no_members, member}
 use Rattle.serde_json.specs.Written.{compact_text}
 use Rattle.promql_text.specs.Texts.{Text}
 use Rattle.promql_ast.specs.Tree.{Tree}
 use Rattle.promql_io.specs.Ended.{AppendsBeginning}
+use Rattle.promql_json.specs.JsonParts.{list}
 use Rattle.promql_json.specs.declared.error.JsonError.{JsonError}
 use Rattle.promql_json.specs.declared.error.JsonError.TheVariants.{NumberTooWide}
-use Rattle.promql_report.specs.declared.rejection.Rejection.{Rejection}
 use Rattle.promql_run.specs.declared.run.RunError.TheVariants as error
 use Rattle.promql_report.specs.Rejecting.{IsRead, IsRejection, reason_number}
 use Rattle.promql_span.specs.QueryLimits.{IsLongOutput}
@@ -23,6 +23,8 @@ use Rattle.promql_lines.specs.declared.line.LineError.{LineError}
 use Rattle.promql_lines.specs.declared.line.LineError.TheVariants.{Run, Rejected, NotARequest, Matcher, Info, LargeMatcher, LongOutput}
 use Rattle.promql_run.specs.declared.format.Format.{Format}
 use Rattle.promql_run.specs.declared.format.Format.TheVariants.{Json}
+use Rattle.promql_lines.specs.declared.rejected_query.Expectation.{Expectation}
+use Rattle.promql_lines.specs.declared.rejected_query.RejectedQuery.{RejectedQuery}
 use Rattle.promql_lines.specs.declared.settings.Settings.{Settings}
 use Rattle.promql_lines.specs.Requests.{requested}
 
@@ -56,7 +58,7 @@ IsQueryAnswer limits answer query matcher format =
 -- when a query has this error; one of the matcher is that of a query which is enforced alone
 abbrev pub FailsOnQuery : Limits → LineError → Text → Option Text → Format → Type 0
 FailsOnQuery limits (Run error.Memory) query matcher format = Unit {0}
-FailsOnQuery limits (Rejected rejection) query matcher format = IsRejection limits query rejection
+FailsOnQuery limits (Rejected r) query matcher format = IsRejection limits query r.rejection
 FailsOnQuery limits (Run error.Json) query matcher format = HasQueryText limits query matcher format (Err NumberTooWide)
 FailsOnQuery limits (LongOutput fault) query matcher format =
     (output : Text) × HasQueryText limits query matcher format (Ok output) × IsLongOutput output limits fault
@@ -67,7 +69,7 @@ FailsOnQuery limits _ query matcher format = ⊥
 
 abbrev pub line_error_number : LineError → ℕ
 line_error_number (Run e) = error_number e
-line_error_number (Rejected rejection) = reason_number rejection.reason
+line_error_number (Rejected r) = reason_number r.rejection.reason
 line_error_number NotARequest = 7
 line_error_number (Matcher e) = 11
 line_error_number Info = 13
@@ -85,18 +87,27 @@ abbrev pub error_object : ℕ → Text → Data
 error_object code message =
     object (member (codes "code") (number (unsigned code)) (member (codes "error") (string message) no_members))
 
+abbrev pub texts : List Text → Data
+texts ts = list (map string ts)
+
+-- of a syntax error, what was expected and what was found
+abbrev pub with_expectation : Option Expectation → Members → Members
+with_expectation None ms = ms
+with_expectation (Some e) ms = member (codes "expected") (texts (map (λ name. name.now) e.expected.items)) (member (codes "found") (string (string_bytes e.found)) ms)
+
 -- the same with the place of the error in the query
-abbrev pub rejection_object : ℕ → Text → Rejection → Data
+abbrev pub rejection_object : ℕ → Text → RejectedQuery → Data
 rejection_object code message r =
     object (member (codes "code") (number (unsigned code))
-    (member (codes "column") (number (unsigned r.location.column))
-    (member (codes "end") (number (unsigned r.span.end))
+    (member (codes "column") (number (unsigned r.rejection.location.column))
+    (member (codes "end") (number (unsigned r.rejection.span.end))
     (member (codes "error") (string message)
-    (member (codes "line") (number (unsigned r.location.line))
-    (member (codes "start") (number (unsigned r.span.start)) no_members))))))
+    (with_expectation r.expectation
+    (member (codes "line") (number (unsigned r.rejection.location.line))
+    (member (codes "start") (number (unsigned r.rejection.span.start)) no_members)))))))
 
 abbrev pub line_error_object : LineError → Text → Data
-line_error_object (Rejected rejection) message = rejection_object (reason_number rejection.reason) message rejection
+line_error_object (Rejected r) message = rejection_object (reason_number r.rejection.reason) message r
 line_error_object e message = error_object (line_error_number e) message
 
 -- the error's number, some message and, of a query that is rejected, the place

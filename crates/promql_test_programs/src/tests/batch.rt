@@ -29,7 +29,7 @@ const LINES: &[u8] = b"\"1+2\"\n{\"query\":\"a\",\"mode\":\"json\"}\n\n\"a b\"\n
 const ANSWERS: &[u8] = b"{\"ok\":\"1 + 2\"}
 {\"ok\":{\"matchers\":[],\"name\":\"a\",\"offset\":0,\"startOrEnd\":null,\"timestamp\":null,\"type\":\"vectorSelector\"}}
 {\"code\":7,\"error\":\"line is not a request\"}
-{\"code\":4,\"column\":3,\"end\":3,\"error\":\"invalid promql query\",\"line\":1,\"start\":2}
+{\"code\":4,\"column\":3,\"end\":3,\"error\":\"invalid promql query\",\"expected\":[\"\\\"{\\\"\",\"\\\"[\\\"\",\"\\\"(\\\"\",\"operator\",\"\\\"@\\\"\",\"\\\"offset\\\"\",\"\\\"smoothed\\\"\",\"\\\"anchored\\\"\",\"end of query\"],\"found\":\"identifier \\\"b\\\"\",\"line\":1,\"start\":2}
 {\"code\":3,\"error\":\"input is not UTF-8\"}
 {\"ok\":\"x\"}
 ";
