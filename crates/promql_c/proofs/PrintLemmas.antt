@@ -17,7 +17,7 @@ use Rattle.promql_c.specs.declared.call_error.CallError.{CallError}
 use Rattle.promql_c.specs.declared.call_error.CallError.TheVariants.{Memory, NotUtf8, Rejected, NumberTooWide, UnknownMode, NotEnforced, LongOutput, NotFormatted, NotPrinted}
 
 pub text_of_tree : {limits : Limits} {query : Text} {format : Format} (made : Result Text JsonError) (tree : Tree) → IsUtf8 query → IsRead limits query tree → format_text format tree ≡ made → HasText limits query format made
-text_of_tree made tree utf8 parsed gives = (utf8, tree, parsed, (tree, refl, gives))
+text_of_tree made tree utf8 parsed gives = record { utf8 = utf8; has = (tree, parsed, (tree, refl, gives)) }
 
 -- a text that is printed if it is within the limits
 pub print_of_text : (limits : Limits) (r : Result (String Global) CallError) (query text : Text) (format : Format) → HasText limits query format (Ok text) → IfOk r (λ s. (string_bytes s ≡ text) × (length (string_bytes s) ≤ limits.max_output))

@@ -22,8 +22,9 @@ use Rattle.promql_c.specs.declared.call_error.CallError.TheVariants as errors
 use Rattle.promql_c.specs.CollectedTexts.{IsCollectedText}
 
 -- the query has a tree, and this is its text in the format, or why it has none
-abbrev pub HasText : Limits → Text → Format → Result Text JsonError → Type 0
-HasText limits query format made = IsUtf8 query × HasQueryText limits query None format made
+pub record HasText (limits : Limits) (query : Text) (format : Format) (made : Result Text JsonError) : Type 0 where
+  pub utf8 : IsUtf8 query
+  pub has : HasQueryText limits query None format made
 
 -- an allocation failed, or the query is not valid UTF-8
 abbrev pub IsUnread : Text → CallError → Type 0

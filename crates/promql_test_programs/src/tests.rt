@@ -5,7 +5,6 @@ mod check;
 mod failures;
 mod options;
 mod program;
-mod rows;
 mod runs;
 mod streams;
 
