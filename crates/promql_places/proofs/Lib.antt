@@ -1,0 +1,10 @@
+pub mod BuiltNodes
+pub mod BuiltTrees
+pub mod CursorSteps
+pub mod PassedTrees
+pub mod PlaceSteps
+pub mod PlacedAnswers
+pub mod PlacedNodes
+pub mod ShiftSteps
+pub mod SignedTrees
+pub mod SkippedParts

@@ -1,0 +1,72 @@
+-- What is found of an accepted text.
+use Rattle.std.proofs.Common.{◌≡◌, ◌+◌, List, [], ◌∷◌, ◌++◌, Result, Ok, Err, refl, sym, ap, subst, ◌∙◌, arith, length, map}
+use Rattle.std.specs.List.{AllByRecursion}
+use Rattle.std.proofs.lemmas.List.{length-map}
+use Rattle.promql_text.specs.Texts.{Text}
+use Rattle.promql_ast.specs.Tree.{Tree}
+use Rattle.promql_grammar.specs.Grammar.{Derivation, yield}
+use Rattle.promql_grammar.specs.Results.{on_result}
+use Rattle.promql_grammar.specs.SourceTokens.{tokens}
+use Rattle.promql_grammar.specs.Symbols.{symbol_of}
+use Rattle.promql_span.specs.PlacedTokens.{TokensArePlaced, placed_tokens}
+use Rattle.promql_syntax.specs.Asking.{EndsIn}
+use Rattle.promql_syntax.specs.Building.{build}
+use Rattle.promql_syntax.specs.ParseAnswers.{BeginsNone, Derives, IsAnswerTo, empty, lexical, memory, syntax, too_deep}
+use Rattle.promql_places.specs.CursorTokens.{IsOver, kinds_left, lexeme_kind, span_in}
+use Rattle.promql_places.specs.NodePlaces.{ArePlaces, LiesWithin, nodes}
+use Rattle.promql_places.specs.Passing.{Passes, pass}
+use Rattle.promql_places.specs.Skipping.{kind_of, kinds}
+use Rattle.promql_places.specs.declared.placing.Placing.{Placing}
+use Rattle.promql_places.proofs.BuiltNodes.{builds_nodes, nodes_lie}
+use Rattle.promql_places.proofs.PassedTrees.{counts, passed_whole}
+use Rattle.promql_places.proofs.PlacedNodes.{derived_kinds, places_are}
+
+-- the derivation of a text that was answered by a tree
+record IsAnswered (s : Text) (t : Tree) : Type 0 where
+  derivation : Derivation
+  derives : Derives s derivation
+  builds : EndsIn (build derivation) (Ok t)
+
+answered : (s : Text) (t : Tree) → IsAnswerTo s (Ok t) → IsAnswered s t
+answered s t answer =
+    let served = answer.served (λ e. cc) in
+    let is = served.1.built (Ok t) refl in
+    record { derivation = is.derivation; derives = is.derives; builds = record { answers = served.0; allowed = served.1.allowed; ends = is.ends } }
+
+-- memory may run out later
+begun : (s : Text) (d : Derivation) → Derives s d → BeginsNone s → ⊥
+begun s d derives none =
+    let spelled : Ok (map symbol_of (none.token ∷ none.rest)) ≡ (let r : Result (List _) _ = Ok (yield d) in r) = sym (ap (on_result (map symbol_of)) none.is) ∙ derives.spells in
+    let same : yield d ≡ symbol_of none.token ∷ map symbol_of none.rest = cc in
+    none.none d (map symbol_of none.rest) derives.formed same
+
+pub memory_instead : (s : Text) (t : Tree) → IsAnswerTo s (Ok t) → IsAnswerTo s (Err memory)
+memory_instead s t answer =
+    let a = answered s t answer in
+    record {
+      served = λ h. absurd (h refl);
+      syntax = λ e. cc;
+      too_deep = λ e. cc;
+      empty = (λ e. cc, λ h. let no = answer.empty.1 h in cc);
+      lexical = λ f. (λ e. cc, λ h. let no = (answer.lexical f).1 h in cc);
+      early = λ none. absurd (begun s a.derivation a.derives none);
+      typed = λ u e. cc;
+      low = λ u e. cc;
+    }
+
+-- a pass over all tokens finds the places
+pub found : (s : Text) (t : Tree) (old new : Placing) → TokensArePlaced → IsAnswerTo s (Ok t) → IsOver s old.tokens → kinds_left old.tokens ≡ map lexeme_kind (placed_tokens s) → old.places.items ≡ []
+    → Passes (pass t (kinds_left old.tokens)) old new → ArePlaces s t new.places.items
+found s t old new placed answer over all none passes =
+    let a = answered s t answer in
+    let d = a.derivation in
+    let same : kinds (yield d) ≡ map lexeme_kind (placed_tokens s) = derived_kinds s d placed a.derives in
+    let given : pass t (kinds_left old.tokens) ≡ (counts (nodes 0 d), []) = ap (pass t) (all ∙ sym same) ∙ passed_whole d t a.builds a.derives.formed in
+    let count : length (yield d) + 0 ≡ length (placed_tokens s) = let one = length-map (yield d) kind_of in let two = length-map (placed_tokens s) lexeme_kind in let both = ap length same in omega arith in
+    let lie : AllByRecursion (LiesWithin 0 (length (placed_tokens s))) (nodes 0 d) = subst (λ n. AllByRecursion (LiesWithin 0 n) (nodes 0 d)) count (nodes_lie d 0) in
+    record {
+      derivation = d;
+      derives = a.derives;
+      build = builds_nodes 0 d t a.builds;
+      are = passes.places s over ∙ ap (λ l. l ++ map (span_in s) (pass t (kinds_left old.tokens)).0) none ∙ ap (λ r. map (span_in s) r.0) given ∙ places_are s (nodes 0 d) lie;
+    }

@@ -1,0 +1,109 @@
+-- Where the nodes of a tree are in its text (docs/reference/walks.md, "Places").
+use Rattle.std.specs.Prelude.{◌≡◌, ◌⊎◌, ℕ, ◌+◌, ◌<◌, ◌≤◌, Bool, true, false, not, ◌&&◌, ◌==◌, if◌then◌else◌, List, [], ◌∷◌, ◌++◌, length, map, Ok, take}
+use Rattle.std.specs.List.{AllByRecursion}
+use Rattle.promql_text.specs.Texts.{Text}
+use Rattle.promql_token.specs.declared.ids.TheConstants.{T_SUB}
+use Rattle.promql_token.specs.declared.lexeme.Lexeme.{Lexeme}
+use Rattle.promql_grammar.specs.Grammar as grammar
+use Rattle.promql_grammar.specs.Grammar.{Derivation, Arguments, yield}
+use Rattle.promql_grammar.specs.GrammarParts as part
+use Rattle.promql_grammar.specs.GrammarParts.{yield_after, yield_modifier, yield_postfix}
+use Rattle.promql_ast.specs.Fold.{within}
+use Rattle.promql_ast.specs.Tree.{Tree}
+use Rattle.promql_syntax.specs.Asking.{EndsIn}
+use Rattle.promql_syntax.specs.Building.{build}
+use Rattle.promql_syntax.specs.FaultTokens.{Subexpression, here, rest_count}
+use Rattle.promql_syntax.specs.ParseAnswers.{Derives}
+use Rattle.promql_span.specs.PlacedTokens.{last_tokens, placed_tokens}
+use Rattle.promql_span.specs.TokenSpans.{span_over}
+use Rattle.promql_span.specs.declared.span.Span.{Span}
+
+-- a number, maybe with signs
+abbrev pub is_number : Derivation → Bool
+is_number (grammar.number text) = true
+is_number (grammar.duration text) = true
+is_number (grammar.unary op text d) = is_number d
+is_number d = false
+
+-- a plus has no node, and neither has a minus before a number
+abbrev pub has_node : ℕ → Derivation → Bool
+has_node op d = op == T_SUB && not (is_number d)
+
+-- a node, and those below it
+abbrev pub node : ℕ → Derivation → List Subexpression → List Subexpression
+node k d below = here k d ∷ below
+
+abbrev mutual
+  -- the nodes below that of an expression which k tokens come after, each before those below it. What has no node of its
+  -- own, a sign or a postfix other than a subquery, belongs to the node of what it changes.
+  pub nodes_below : ℕ → Derivation → List Subexpression
+  nodes_below k (grammar.paren d) = node (1 + k) d (nodes_below (1 + k) d)
+  nodes_below k (grammar.call w text ds) = argument_nodes (1 + k) ds
+  nodes_below k (grammar.aggregate op text c ds) = argument_nodes (1 + (length (yield_after c) + k)) ds
+  nodes_below k (grammar.postfixed d (part.subquery t s)) =
+      let after = length (yield_postfix (part.subquery t s)) + k in node after d (nodes_below after d)
+  nodes_below k (grammar.postfixed d p) = nodes_below (length (yield_postfix p) + k) d
+  nodes_below k (grammar.unary op text d) = if has_node op d then node k d (nodes_below k d) else nodes_below k d
+  nodes_below k (grammar.binary op text m l r) =
+      let after = 1 + (length (yield_modifier m) + (length (yield r) + k)) in
+      node after l (nodes_below after l) ++ node k r (nodes_below k r)
+  nodes_below k d = []
+
+  -- those of arguments that k tokens come after
+  pub argument_nodes : ℕ → Arguments → List Subexpression
+  argument_nodes k grammar.none = []
+  argument_nodes k (grammar.more d ds) = node (rest_count ds + k) d (nodes_below (rest_count ds + k) d) ++ argument_nodes k ds
+
+-- the nodes of an expression
+abbrev pub nodes : ℕ → Derivation → List Subexpression
+nodes k d = node k d (nodes_below k d)
+
+-- ---- the nodes of a tree
+
+abbrev pub nodes_within : Tree → List Tree
+nodes_within = within [] ◌++◌ ◌∷◌
+
+-- in the order of a walk: a node, and those within it
+abbrev pub tree_nodes : Tree → List Tree
+tree_nodes t = t ∷ nodes_within t
+
+-- each of the expressions builds its node
+abbrev pub BuildEach : List Subexpression → List Tree → Type 0
+BuildEach [] [] = Unit {0}
+BuildEach (sub ∷ subs) (t ∷ ts) = EndsIn (build sub.derivation) (Ok t) × BuildEach subs ts
+BuildEach subs ts = ⊥
+
+-- ---- their places
+
+-- the tokens of an expression in this text
+abbrev pub tokens_of : Text → Subexpression → List Lexeme
+tokens_of s sub = let count = length (yield sub.derivation) in take count (last_tokens (count + sub.after) (placed_tokens s))
+
+-- from the first of them through the last
+abbrev pub place_of : Text → Subexpression → Span
+place_of s sub = span_over s (tokens_of s sub)
+
+-- the places of the nodes of a text's tree: those of the expressions that build them
+pub record ArePlaces (s : Text) (t : Tree) (places : List Span) : Type 0 where
+  pub derivation : Derivation
+  pub derives : Derives s derivation
+  pub build : BuildEach (nodes 0 derivation) (tree_nodes t)
+  pub are : places ≡ map (place_of s) (nodes 0 derivation)
+
+-- ---- laws
+
+-- an expression has tokens, which lie within these: k come after the last, and n are left at the first
+pub record LiesWithin (k n : ℕ) (sub : Subexpression) : Type 0 where
+  pub some : 0 < length (yield sub.derivation)
+  pub ends : k ≤ sub.after
+  pub begins : length (yield sub.derivation) + sub.after ≤ n
+
+-- the second of two expressions lies within the first, or begins after it
+abbrev pub IsNested : Subexpression → Subexpression → Type 0
+IsNested a b =
+    LiesWithin a.after (length (yield a.derivation) + a.after) b ⊎ (length (yield b.derivation) + b.after ≤ a.after)
+
+-- and so of all, in their order
+abbrev pub AreNested : List Subexpression → Type 0
+AreNested [] = Unit {0}
+AreNested (x ∷ xs) = AllByRecursion (IsNested x) xs × AreNested xs

@@ -1,0 +1,26 @@
+//! Laws: the contracts of functions that do nothing.
+
+ghost use Rattle.std.specs.Prelude.{ℕ, ◌+◌, Ok, length};
+ghost use Rattle.std.specs.List.{AllByRecursion};
+ghost use Rattle.promql_ast.specs.Tree.{Tree};
+ghost use Rattle.promql_grammar.specs.Grammar.{Derivation, yield};
+ghost use Rattle.promql_syntax.specs.Asking.{EndsIn};
+ghost use Rattle.promql_syntax.specs.Building.{build};
+ghost use Rattle.promql_places.specs.NodePlaces.{AreNested, BuildEach, LiesWithin, nodes, nodes_below, tree_nodes};
+
+/// The expressions of a derivation that are nodes build the nodes of its tree, in the order of a walk.
+pub fn nodes_are_built()
+    ensures { (k : ℕ) (d : Derivation) (t : Tree) → EndsIn (build d) (Ok t)
+        → BuildEach (nodes k d) (tree_nodes t) }
+{}
+
+/// The nodes below an expression have tokens, which lie within those of the expression.
+pub fn nodes_lie_within()
+    ensures { (k : ℕ) (d : Derivation)
+        → AllByRecursion (LiesWithin k (length (yield d) + k)) (nodes_below k d) }
+{}
+
+/// Of two nodes the one that comes later in a walk lies within the other, or begins after it.
+pub fn nodes_nest()
+    ensures { (k : ℕ) (d : Derivation) → AreNested (nodes k d) }
+{}

@@ -1,0 +1,5 @@
+//! Queries with the places of their nodes, and texts that have none.
+
+mod errors;
+mod lengths;
+mod pictures;
