@@ -1,15 +1,15 @@
 #!/usr/bin/env python3
 """Finds what is expected at the place of each syntax error of rows/*.tsv, without `expected_tokens`. README.md says how.
 
-usage: bench/places/expected.py BATCH CHECK    compares the messages of CHECK with what is found here
-       bench/places/expected.py BATCH --print  prints the message of each row, without its hint, after its query as JSON and a TAB
+usage: bench/places/expected.py PROGRAM            compares the sixth column of the rows with what is found here
+       bench/places/expected.py PROGRAM --write    writes that column where it is missing
 
-BATCH is a promql_batch: it is asked which texts it accepts, and with which message it rejects others. CHECK is a promql_check.
+PROGRAM is a promql_batch: it is asked which texts it accepts, and with which message it rejects others.
 """
 
 import json
-import subprocess
 import sys
+from pathlib import Path
 from typing import Generator, Iterator
 
 from lexing import AGGREGATORS, FILLS, KEYWORDS, WORD_OPERATORS, Token, lex
@@ -18,6 +18,8 @@ from oracle import SYNTAX, Judge, fits, misfit, rejected_rows
 # A generator of questions, texts, that takes the messages with which they are rejected.
 Search = Generator[list[bytes], list[str | None], list[str]]
 
+# What stands among kinds for the end of the text.
+END = ""
 NAMES = {"number": "number", "duration": "duration", "string": "string", "identifier": "identifier", "metric": "metric name"}
 SIGNS = "+ - * / % ^ == != >= > <= <".split()
 # The kinds of tokens in the order of their ids, each with a text: docs/reference/tokens.md, "Ids".
@@ -55,7 +57,7 @@ def goes_on(front: bytes, count: int, kind: str, sample: str) -> Generator[list[
 
 
 def expected_at(text: bytes) -> Search:
-    """The token of a text that does not fit, and the kinds of tokens that are expected, and `end`."""
+    """What is found where a token of a text does not fit, and the names of what is expected there."""
     tokens, _ = lex(text)
     at = yield from misfit(text, tokens)
     front = text[: tokens[at - 1].end] if at else b""
@@ -65,19 +67,13 @@ def expected_at(text: bytes) -> Search:
             kinds.append(kind)
     (message,) = yield [front]
     if at and not lex(front)[1] and message != SYNTAX:
-        kinds.append("end")
-    return [message_of(tokens[at] if at < len(tokens) else None, kinds)]
-
-
-def message_of(found: Token | None, kinds: list[str]) -> str:
-    """What is unexpected and what was expected, as docs/reference/grammar.md, "What is expected", has it."""
-    names = list(dict.fromkeys(name_of(kind, kinds) for kind in kinds))
-    expected = names[0] if len(names) == 1 else ", ".join(names[:-1]) + " or " + names[-1]
-    return f"unexpected {found_name(found)}, expected {expected}"
+        kinds.append(END)
+    names = dict.fromkeys(name_of(kind, kinds) for kind in kinds)
+    return [found_name(tokens[at] if at < len(tokens) else None), *names]
 
 
 def name_of(kind: str, kinds: list[str]) -> str:
-    if kind == "end":
+    if kind == END:
         return "end of query"
     if "number" in kinds and "{" in kinds and kind in BEGINNINGS:
         return "expression"
@@ -98,38 +94,33 @@ def found_name(found: Token | None) -> str:
     return f'{NAMES.get(kind, kind)} "{text}"' if kind in NAMES or kind == "aggregation" else f'"{text}"'
 
 
-def shown(check: str, query: bytes) -> str:
-    """The message of a promql_check about a query, without its line and column."""
-    ran = subprocess.run([check], input=query, stderr=subprocess.PIPE, check=False)
-    return ran.stderr.decode().split("\n")[0].split(": ", 1)[1]
-
-
-def messages(judge: Judge) -> Iterator[tuple[str, bytes, str]]:
-    """The place, the query and the message of each row with a syntax error."""
-    rows = [(f"rows/{path.name}:{number + 1}", text) for path, number, _, text, message in rejected_rows() if message == SYNTAX]
-    rows = [(place, text) for place, text in rows if len(text) < 2000]
-    texts = list(dict.fromkeys(text for _, text in rows))
+def found_in_rows(judge: Judge, is_complete: bool) -> Iterator[tuple[Path, int, list[str], str]]:
+    """Each row with a syntax error, or each that lacks its sixth column: its file, the number of its line, its columns, and the sixth."""
+    rows = [(path, number, columns, text) for path, number, columns, text, message in rejected_rows() if message == SYNTAX]
+    rows = [row for row in rows if is_complete or len(row[2]) == 5]
+    texts = list(dict.fromkeys(text for *_, text in rows))
     found = dict(zip(texts, judge.run([expected_at(text) for text in texts])))
-    for place, text in rows:
-        yield place, text, found[text][0]
+    for path, number, columns, text in rows:
+        yield path, number, columns, json.dumps(found[text], ensure_ascii=False)
 
 
 def main(words: list[str]) -> None:
-    if len(words) != 2:
+    if not words or words[1:] not in ([], ["--write"]):
         sys.exit(__doc__)
+    files: dict[Path, list[str]] = {}
     count = differ = 0
-    for place, text, message in messages(Judge(words[0])):
+    for path, number, columns, column in found_in_rows(Judge(words[0]), not words[1:]):
         count += 1
-        if words[1] == "--print":
-            print(json.dumps(text.decode()), message, sep="\t")
-            continue
-        found = shown(words[1], text)
-        if found.split("; ")[0] != message and found != message:
+        if len(columns) == 5 and words[1:]:
+            lines = files.setdefault(path, path.read_text(encoding="utf-8").split("\n"))
+            lines[number] = "\t".join([*columns, column])
+        elif columns[5:] != [column]:
             differ += 1
-            print(f"{place}: {found}, and {message} here")
-    if words[1] != "--print":
-        print(f"{count} messages, {differ} differ")
-        sys.exit(1 if differ else 0)
+            print(f"rows/{path.name}:{number + 1}: {columns[5:]}, and {column} here: {columns[1][:200]}")
+    for path, lines in files.items():
+        path.write_text("\n".join(lines), encoding="utf-8")
+    print(f"{count} rows, {differ} differ")
+    sys.exit(1 if differ else 0)
 
 
 if __name__ == "__main__":

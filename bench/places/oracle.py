@@ -267,7 +267,7 @@ def main(words):
         if len(columns) == 4 and words[1:]:
             lines = files.setdefault(path, path.read_text(encoding="utf-8").split("\n"))
             lines[number] = "\t".join([*columns, place])
-        elif columns[4:] != [place]:
+        elif columns[4:5] != [place]:
             differ += 1
             print(f"rows/{path.name}:{number + 1}: {columns[4:]}, and {place} here: {columns[1][:200]}")
     for path, lines in files.items():

@@ -8,7 +8,7 @@ use Rattle.serde_json.specs.Written.{has_float, items_have_float}
 use Rattle.promql_text.specs.Texts.{Text}
 use Rattle.promql_rewrite.specs.Collecting.{Selection, selected}
 use Rattle.promql_json.specs.JsonParts.{or_null}
-use Rattle.promql_c.specs.CollectedJson.{at_value, collected_value, maybe_text, offset_value, range_value, selector_value, selectors, texts}
+use Rattle.promql_c.specs.CollectedJson.{collected_value, selector_value, texts}
 
 no_numbers : {A : Type 0} (f : A → Data) → ((a : A) → has_float (f a) ≡ false) → (xs : List A) → items_have_float (items_of (map f xs)) ≡ false
 no_numbers f none [] = refl

@@ -44,7 +44,5 @@ Shows (Ok text) r old new = (r ≡ plain_result (text_status (length text) (leng
 Shows (Err e) r old new = (message : Text) × (r ≡ error_result e (length message)) × IsStored message old new
 
 -- the same, where it made something that is so
-pub record ShowsSome (IsMade : Result Text CallError → Type 0) (r : CallResult) (old new : List ℕ) : Type 0 where
-  pub made : Result Text CallError
-  pub is : IsMade made
-  pub shows : Shows made r old new
+abbrev pub ShowsSome : (Result Text CallError → Type 0) → CallResult → List ℕ → List ℕ → Type 0
+ShowsSome IsMade r old new = (made : Result Text CallError) × IsMade made × Shows made r old new

@@ -12,21 +12,18 @@ use Rattle.promql_json.specs.declared.error.JsonError.TheVariants as json_errors
 use Rattle.promql_rewrite.specs.declared.matcher_text.MatcherError.TheVariants as matcher_error
 use Rattle.promql_report.specs.Checking.{marked_line}
 use Rattle.promql_report.specs.Rejecting.{IsParsed, IsRead, IsRejection}
-use Rattle.promql_lines.specs.Batch.{format_text}
+use Rattle.promql_lines.specs.Batch.{HasQueryText}
 use Rattle.promql_lines.specs.EnforcedLines.{FailsToEnforce, IsEnforcedLine}
 use Rattle.promql_lines.specs.TreeTexts.{FailsToShowForm, IsTextOfForm}
 use Rattle.promql_lines.specs.declared.enforced_line.EnforcedLineError.TheVariants as enforced
-use Rattle.promql_lines.specs.declared.request.Format.{Format}
+use Rattle.promql_run.specs.declared.format.Format.{Format}
 use Rattle.promql_c.specs.declared.call_error.CallError.{CallError}
 use Rattle.promql_c.specs.declared.call_error.CallError.TheVariants as errors
 use Rattle.promql_c.specs.CollectedTexts.{IsCollectedText}
 
 -- the query has a tree, and this is its text in the format, or why it has none
-pub record HasText (limits : Limits) (query : Text) (format : Format) (made : Result Text JsonError) : Type 0 where
-  pub utf8 : IsUtf8 query
-  pub tree : Tree
-  pub parsed : IsRead limits query tree
-  pub gives : format_text format tree ≡ made
+abbrev pub HasText : Limits → Text → Format → Result Text JsonError → Type 0
+HasText limits query format made = IsUtf8 query × HasQueryText limits query None format made
 
 -- an allocation failed, or the query is not valid UTF-8
 abbrev pub IsUnread : Text → CallError → Type 0

@@ -1,7 +1,7 @@
 -- In which formats a call prints a query (docs/guide/bindings.md, "Calls").
 use Rattle.std.specs.Prelude.{ℕ, ◌==◌, nat_le, if◌then◌else◌, Option, Some, None}
-use Rattle.promql_lines.specs.declared.request.Format.{Format}
-use Rattle.promql_lines.specs.declared.request.Format.TheVariants.{Pretty, Line, Json}
+use Rattle.promql_run.specs.declared.format.Format.{Format}
+use Rattle.promql_run.specs.declared.format.Format.TheVariants.{Pretty, Line, Json}
 
 -- the format of a mode's number, with the level and the width of a layout
 abbrev pub format_numbered : ℕ → ℕ → ℕ → Option Format

@@ -1,6 +1,7 @@
 pub mod CallResults
 pub mod Calls
 pub mod CollectedJson
+pub mod CollectedParts
 pub mod CollectedTexts
 pub mod Formats
 pub mod PrintErrors

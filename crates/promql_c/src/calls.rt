@@ -12,7 +12,7 @@ use crate::formatting::format_bytes;
 use crate::printing::{check_query, format_of, mark_query, print_query};
 use crate::tree_printing::print_form;
 use promql_formatter::FormatOptions;
-use promql_lines::request::Format;
+use promql_run::format::Format;
 use promql_span::Span;
 use promql_span::limits::Limits;
 use std::alloc::Global;

@@ -10,6 +10,7 @@ ghost use Rattle.promql_ast.specs.View.{tree_of};
 ghost use Rattle.promql_rewrite.specs.Collecting.{selected_of};
 ghost use Rattle.promql_c.specs.Calls.{IsCollectOf};
 ghost use Rattle.promql_c.specs.CollectedJson as spec;
+ghost use Rattle.promql_c.specs.CollectedParts as part;
 ghost use Rattle.promql_c.specs.CollectedTexts.{IsCollectedText};
 
 use crate::call_error::CallError;
@@ -34,7 +35,7 @@ fn texts_value(alloc: Global, texts: &[String]) -> Result<Value, AllocError>
 }
 
 fn name_value(alloc: Global, name: &Option<String>) -> Result<Value, AllocError>
-    ensures { IfOk result (λ v. view v ≡ spec.maybe_text (option_map string_bytes name.now)) }
+    ensures { IfOk result (λ v. view v ≡ part.maybe_text (option_map string_bytes name.now)) }
 {
     match name {
         Some(name) => Value::try_from_str(alloc, name.as_str()),
@@ -43,7 +44,7 @@ fn name_value(alloc: Global, name: &Option<String>) -> Result<Value, AllocError>
 }
 
 fn range_value(alloc: Global, range: &Option<Duration>) -> Result<Value, AllocError>
-    ensures { IfOk result (λ v. view v ≡ spec.range_value (option_map as_nanos range.now)) }
+    ensures { IfOk result (λ v. view v ≡ part.range_value (option_map as_nanos range.now)) }
 {
     match range {
         Some(range) => Ok(Value::String(display_duration(alloc, range)?)),
@@ -52,7 +53,7 @@ fn range_value(alloc: Global, range: &Option<Duration>) -> Result<Value, AllocEr
 }
 
 fn offset_value(alloc: Global, offset: &Option<Offset>) -> Result<Value, AllocError>
-    ensures { IfOk result (λ v. view v ≡ spec.offset_value (option_map shift_of offset.now)) }
+    ensures { IfOk result (λ v. view v ≡ part.offset_value (option_map shift_of offset.now)) }
 {
     match offset {
         Some(offset) => Ok(Value::String(offset.to_string(alloc)?)),
@@ -61,7 +62,7 @@ fn offset_value(alloc: Global, offset: &Option<Offset>) -> Result<Value, AllocEr
 }
 
 fn at_value(alloc: Global, at: &Option<AtModifier>) -> Result<Value, AllocError>
-    ensures { IfOk result (λ v. view v ≡ spec.at_value (option_map moment_of at.now)) }
+    ensures { IfOk result (λ v. view v ≡ part.at_value (option_map moment_of at.now)) }
 {
     match at {
         Some(at) => Ok(Value::String(at.to_string(alloc)?)),
@@ -83,7 +84,7 @@ fn selector_value(alloc: Global, selector: &CollectedSelector) -> Result<Value, 
 }
 
 fn selectors_value(alloc: Global, selectors: &[CollectedSelector]) -> Result<Value, AllocError>
-    ensures { IfOk result (λ v. view v ≡ spec.selectors (map selected_of selectors.now)) }
+    ensures { IfOk result (λ v. view v ≡ part.selectors (map selected_of selectors.now)) }
 {
     let mut list = Vec::with_capacity(alloc, selectors.len())?;
     for selector in selectors {

@@ -3,7 +3,7 @@
 #![tactic(auto)]
 
 ghost use Rattle.std.specs.Prelude.{◌==◌, not, Some, Ok};
-ghost use Rattle.promql_lines.specs.declared.request.Format.TheVariants.{Line};
+ghost use Rattle.promql_run.specs.declared.format.Format.TheVariants.{Line};
 ghost use Rattle.promql_c.specs.CallResults.{Shows, ShowsSome};
 ghost use Rattle.promql_c.specs.Calls.{IsCheckOf, IsCollectOf, IsEnforceOf, IsFormattedOf, IsPrintOf, IsSnippetOf, IsTreePrintOf};
 ghost use Rattle.promql_c.specs.Formats.{format_numbered};

@@ -8,9 +8,9 @@ ghost use Rattle.promql_c.specs.PrintErrors.{IsOutputFault};
 
 use crate::call_error::CallError;
 use promql_ast::drop_expr;
-use promql_lines::answer_text::shown_text;
-use promql_lines::request::{Format, Layout};
 use promql_report::rejection::read_query;
+use promql_run::format::{Format, Layout};
+use promql_run::rendering::shown_text;
 use promql_span::Span;
 use promql_span::limits::{Limits, check_output};
 use std::alloc::Global;

@@ -6,8 +6,8 @@ ghost use Rattle.promql_c.specs.Calls.{IsTreePrintOf};
 
 use crate::call_error::CallError;
 use crate::printing::within;
-use promql_lines::request::Format;
 use promql_lines::tree_text::tree_text;
+use promql_run::format::Format;
 use promql_span::limits::Limits;
 use std::alloc::Global;
 

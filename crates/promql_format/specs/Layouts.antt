@@ -1,14 +1,11 @@
 -- What the program writes of its input (docs/reference/programs.md, "One query, formatted").
 use Rattle.std.specs.Prelude.{◌≡◌, ◌≢◌, ◌⊎◌, ℕ, Bool, true, false, ◌++◌, List, [], Option, codes}
-use Rattle.std.specs.Str.{IsUtf8}
-use Rattle.std.specs.Io.KnownBytes.{Appends}
 use Rattle.promql_text.specs.Texts.{Text}
-use Rattle.promql_io.specs.Ended.{AppendsBeginning}
-use Rattle.promql_io.specs.Inputs.{HasRead}
 use Rattle.promql_span.specs.QueryLimits.{IsLimitFault, IsWithin}
 use Rattle.promql_span.specs.declared.limits.LimitFault.TheVariants as limit
 use Rattle.promql_formatter.specs.Formats.{IsFormatOf, IsQuery, IsRejected}
-use Rattle.promql_report.specs.LimitOptions.{Command, command}
+use Rattle.promql_run.specs.Programs.{Command}
+use Rattle.promql_report.specs.LimitOptions.{command}
 use Rattle.promql_format.specs.Settings.{settings_of}
 use Rattle.promql_format.specs.declared.program.TheConstants.{FORMAT_HELP, FORMAT_VERSION}
 use Rattle.promql_format.specs.declared.query_layout.LayoutError.{LayoutError}
@@ -23,9 +20,8 @@ format_number error.Unfaithful = 12
 format_number error.Unformatted = 19
 
 -- the query is within its limits, and this is a layout of it
-pub record IsLayout (s : Settings) (query layout : Text) : Type 0 where
-  pub within : IsWithin query s.limits
-  pub format : IsFormatOf s.options.keep_spelling query layout
+abbrev pub IsLayout : Settings → Text → Text → Type 0
+IsLayout s query layout = IsWithin query s.limits × IsFormatOf s.options.keep_spelling query layout
 
 -- the text is its layout, with a line feed or without
 abbrev pub IsFormatted : Text → Text → Type 0
@@ -52,32 +48,3 @@ HasNoLayout s query error.Unformatted = (layout : Text) × IsLayout s query layo
 
 abbrev pub format_command : List Text → Option (Command Settings)
 format_command = command FORMAT_HELP.now FORMAT_VERSION.now settings_of
-
--- all of the input was read, and it is a text with this property
-pub record IsInput (P : Text → Type 0) (left left_after : Option (List ℕ)) : Type 0 where
-  pub query : Text
-  pub read : HasRead left left_after query
-  pub utf8 : IsUtf8 query
-  pub has : P query
-
--- the answer to it was written
-abbrev pub WritesLayout : Settings → Option (List ℕ) → Option (List ℕ) → Option (List ℕ) → Option (List ℕ) → Type 0
-WritesLayout s left left_after held held_after =
-    IsInput (λ query. (answer : Text) × IsFormatAnswer s query answer × Appends held held_after answer) left left_after
-
--- the same, where a write failed: a beginning of the answer was written
-abbrev pub BeginsLayout : Settings → Option (List ℕ) → Option (List ℕ) → Option (List ℕ) → Option (List ℕ) → Type 0
-BeginsLayout s left left_after held held_after =
-    IsInput (λ query. (answer : Text) × IsFormatAnswer s query answer × AppendsBeginning held held_after answer) left left_after
-
--- this is why there is no answer to it
-abbrev pub WritesNoLayout : Settings → LayoutError → Option (List ℕ) → Option (List ℕ) → Type 0
-WritesNoLayout s e = IsInput (λ query. HasNoLayout s query e)
-
--- the statuses of these errors
-abbrev pub IsLayoutStatus : ℕ → Type 0
-IsLayoutStatus status = (status ≡ 4) ⊎ (status ≡ 12) ⊎ (status ≡ 14) ⊎ (status ≡ 19)
-
--- each status of a query
-abbrev pub IsFormatStatus : ℕ → Type 0
-IsFormatStatus status = (status ≡ 0) ⊎ (status ≡ 1) ⊎ (status ≡ 2) ⊎ (status ≡ 3) ⊎ IsLayoutStatus status ⊎ (status ≡ 5)

@@ -1,4 +1,2 @@
 pub mod Settings
 pub mod Layouts
-pub mod InputLayouts
-pub mod ProgramArguments

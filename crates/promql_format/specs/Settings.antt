@@ -35,4 +35,5 @@ settings_with s (word ∷ value ∷ words) =
     else option_and_then (λ n. option_and_then (λ changed. settings_with changed words) (with_number s word n)) (number_in value)
 
 abbrev pub settings_of : List Text → Option Settings
-settings_of = settings_with default_settings
+settings_of [] = None
+settings_of (own ∷ words) = settings_with default_settings words

@@ -1,24 +1,15 @@
 //! The program as a function of its arguments, its input and its two outputs: docs/reference/programs.md, "One query, formatted".
 
-ghost use Rattle.std.specs.Prelude.{◌≡◌, ◌≢◌, ◌⊎◌, ◌↔◌, false, true, Some, None, IfErr, IsErrOf, IfOk, MatchResult, map, option_map, string_bytes};
-ghost use Rattle.std.specs.Io.KnownBytes.{Appends};
-ghost use Rattle.promql_text.specs.Texts.{Text};
-ghost use Rattle.promql_run.specs.Running.{IsNotUtf8, UnlessRead};
-ghost use Rattle.promql_run.specs.StepErrors.{IsInputError};
-ghost use Rattle.promql_report.specs.LimitOptions.{run, show};
-ghost use Rattle.promql_format.specs.InputLayouts.{IsInputLayout};
-ghost use Rattle.promql_format.specs.Layouts.{BeginsLayout, IsFormatStatus, IsLayoutStatus, WritesLayout, WritesNoLayout, format_command, format_number};
-ghost use Rattle.promql_format.specs.ProgramArguments.{format_seen};
-ghost use Rattle.promql_format.specs.Settings as spec;
-ghost use Rattle.promql_format.specs.declared.query_layout.LayoutError.{LayoutError};
-ghost use Rattle.promql_format.specs.declared.settings.Settings as settings;
+ghost use Rattle.std.specs.Prelude.{map, string_bytes};
+ghost use Rattle.promql_run.specs.Programs.{AnswersQuery, Obeys};
+ghost use Rattle.promql_format.specs.Layouts.{HasNoLayout, IsFormatAnswer, format_command, format_number};
 
-use crate::query_layout::{LayoutError, query_layout};
+use crate::query_layout::query_layout;
 use crate::settings::{Settings, settings_of};
 use promql_io::ended::Ended;
-use promql_report::limit_options::is_only;
-use promql_run::program::USAGE_STATUS;
-use promql_run::run::{RunError, read_input, write_text};
+use promql_report::limit_options::asked_text;
+use promql_run::output::{show_text, show_usage, write_answer};
+use promql_run::run::read_text;
 use std::alloc::Global;
 use std::io::{Read, Write};
 
@@ -48,67 +39,6 @@ are too large, 19 the query is not formatted, 1 out of memory, 2 a read failed,
 3 the input is not UTF-8, 5 a write failed, 64 wrong arguments.
 ";
 
-/// Reads all of the input, and returns what is written of the query in it.
-fn format_input<R: Read>(
-    alloc: Global,
-    settings: &Settings,
-    reader: &mut Ended<R>,
-) -> Result<Result<String, LayoutError>, RunError>
-    ensures ok { IfOk result (IsInputLayout settings.now (R.remaining reader.old.inner) (R.remaining reader.new.inner)) }
-    ensures quiet { MatchResult result (λ _. reader.new.failed ≡ reader.old.failed)
-        (λ e. UnlessRead e (reader.new.failed ≡ reader.old.failed)) }
-    ensures read { IsErrOf result RunError.Read → reader.new.failed ≡ true }
-    ensures not_utf8 { IsErrOf result RunError.NotUtf8
-        → IsNotUtf8 (R.remaining reader.old.inner) (R.remaining reader.new.inner) }
-    ensures errors { IfErr result IsInputError }
-{
-    let input = read_input(alloc, reader)?;
-    let Ok(query) = str::from_utf8(input.as_slice()) else {
-        return Err(RunError::NotUtf8);
-    };
-    Ok(query_layout(alloc, settings, query))
-}
-
-/// What the arguments ask for.
-#[derive(Clone, Copy)]
-enum Asked {
-    /// To show this text, the help or the version.
-    Show(&'static str),
-    /// To format a query so.
-    Format(Settings),
-}
-
-/// What the arguments ask for, the program's own name first; `None` where that is nothing known.
-fn command_of(args: &[String]) -> Option<Asked>
-    ensures { option_map format_seen result ≡ format_command (map string_bytes args.now) }
-{
-    let [_, words @ ..] = args else {
-        return None;
-    };
-    if is_only(words, "--help") {
-        return Some(Asked::Show(FORMAT_HELP));
-    }
-    if is_only(words, "--version") {
-        return Some(Asked::Show(FORMAT_VERSION));
-    }
-    let settings = settings_of(words)?;
-    Some(Asked::Format(settings))
-}
-
-/// Writes the text, and returns the status.
-fn show<W: Write>(writer: &mut Ended<W>, text: &str) -> u8
-    ensures text { result ≡ 0
-        → Appends (W.contents writer.old.inner) (W.contents writer.new.inner) text.now }
-    ensures flushed { result ≡ 0 → writer.new.pending ≡ false }
-    ensures known { (result ≡ 0) ⊎ (result ≡ 5) }
-    ensures write { result ≡ 5 → writer.new.failed ≡ true }
-{
-    match write_text(writer, text) {
-        Ok(()) => 0,
-        Err(_) => 5,
-    }
-}
-
 /// Writes the layout of the input's query, or compares the two, and returns the status.
 fn write_layout<R: Read, W: Write, E: Write>(
     alloc: Global,
@@ -117,43 +47,22 @@ fn write_layout<R: Read, W: Write, E: Write>(
     writer: &mut Ended<W>,
     errors: &mut Ended<E>,
 ) -> u8
-    ensures ok { result ≡ 0 → WritesLayout settings.now
-        (R.remaining reader.old.inner) (R.remaining reader.new.inner)
-        (W.contents writer.old.inner) (W.contents writer.new.inner) }
-    ensures flushed { result ≡ 0 → writer.new.pending ≡ false }
-    ensures silent { result ≡ 0 → errors.new ≡ errors.old }
-    ensures none { IsLayoutStatus result → (e : LayoutError) × (format_number e ≡ result)
-        × WritesNoLayout settings.now e
-        (R.remaining reader.old.inner) (R.remaining reader.new.inner) }
-    ensures unwritten { result ≢ 0 → result ≢ 5 → writer.new ≡ writer.old }
-    ensures known { IsFormatStatus result }
-    ensures read { result ≡ 2 → reader.new.failed ≡ true }
-    ensures quiet { result ≢ 2 → reader.new.failed ≡ reader.old.failed }
-    ensures not_utf8 { result ≡ 3
-        → IsNotUtf8 (R.remaining reader.old.inner) (R.remaining reader.new.inner) }
-    ensures write { result ≡ 5 → writer.new.failed ≡ true }
-    ensures begun { result ≡ 5 → BeginsLayout settings.now
-        (R.remaining reader.old.inner) (R.remaining reader.new.inner)
-        (W.contents writer.old.inner) (W.contents writer.new.inner) }
+    ensures { AnswersQuery R.remaining W.contents (IsFormatAnswer settings.now) format_number
+        (λ e query. HasNoLayout settings.now query e)
+        reader.old reader.new writer.old writer.new errors.old errors.new result }
 {
-    let answer = match format_input(alloc, settings, reader) {
-        Ok(Ok(answer)) => answer,
-        Ok(Err(error)) => {
-            let _ = writeln!(errors, "{error}");
-            return error.number();
-        }
+    let query = match read_text(alloc, reader) {
+        Ok(query) => query,
         Err(error) => {
             let _ = writeln!(errors, "{error}");
             return error.number();
         }
     };
-    let written = write_text(writer, answer.as_str());
-    drop(answer);
-    match written {
-        Ok(()) => 0,
+    match query_layout(alloc, settings, query.as_str()) {
+        Ok(answer) => write_answer(writer, errors, answer.as_str()),
         Err(error) => {
             let _ = writeln!(errors, "{error}");
-            5
+            error.number()
         }
     }
 }
@@ -169,50 +78,17 @@ pub fn format_program<R: Read, W: Write, E: Write>(
     writer: &mut Ended<W>,
     errors: &mut Ended<E>,
 ) -> u8
-    // Other arguments than options, `--help` or `--version`: the usage line is all that happens.
-    ensures usage { (result ≡ USAGE_STATUS) ↔ (format_command (map string_bytes args.now) ≡ None) }
-    ensures usage_reads_nothing { result ≡ USAGE_STATUS → reader.new ≡ reader.old }
-    ensures usage_writes_nothing { result ≡ USAGE_STATUS → writer.new ≡ writer.old }
-    ensures usage_line { result ≡ USAGE_STATUS → errors.new.failed ≡ false →
-        Appends (E.contents errors.old.inner) (E.contents errors.new.inner) FORMAT_USAGE.now }
-    // `--help`, `--version`: that text is printed, and nothing is read.
-    ensures show_reads_nothing { (text : Text) → format_command (map string_bytes args.now)
-        ≡ Some (show text) → reader.new ≡ reader.old }
-    ensures show_text { (text : Text) → format_command (map string_bytes args.now)
-        ≡ Some (show text) → result ≡ 0
-        → Appends (W.contents writer.old.inner) (W.contents writer.new.inner) text }
-    ensures show_status { (text : Text) → format_command (map string_bytes args.now)
-        ≡ Some (show text) → (result ≡ 0) ⊎ (result ≡ 5) }
-    // Options: the query of the input is written in its layout, or is its layout; or nothing is written.
-    ensures ok { (s : settings.Settings) → format_command (map string_bytes args.now)
-        ≡ Some (run s) → result ≡ 0 → WritesLayout s
-        (R.remaining reader.old.inner) (R.remaining reader.new.inner)
-        (W.contents writer.old.inner) (W.contents writer.new.inner) }
-    ensures flushed { result ≡ 0 → writer.new.pending ≡ false }
-    ensures silent { result ≡ 0 → errors.new ≡ errors.old }
-    ensures none { (s : settings.Settings) → format_command (map string_bytes args.now)
-        ≡ Some (run s) → IsLayoutStatus result
-        → (e : LayoutError) × (format_number e ≡ result) × WritesNoLayout s e
-        (R.remaining reader.old.inner) (R.remaining reader.new.inner) }
-    ensures unwritten { result ≢ 0 → result ≢ 5 → writer.new ≡ writer.old }
-    // Each other status is that of an error.
-    ensures known { IsFormatStatus result ⊎ (result ≡ USAGE_STATUS) }
-    ensures read { result ≡ 2 → reader.new.failed ≡ true }
-    ensures quiet { result ≢ 2 → reader.new.failed ≡ reader.old.failed }
-    ensures not_utf8 { result ≡ 3
-        → IsNotUtf8 (R.remaining reader.old.inner) (R.remaining reader.new.inner) }
-    ensures write { result ≡ 5 → writer.new.failed ≡ true }
-    ensures begun { (s : settings.Settings) → format_command (map string_bytes args.now)
-        ≡ Some (run s) → result ≡ 5 → BeginsLayout s
-        (R.remaining reader.old.inner) (R.remaining reader.new.inner)
-        (W.contents writer.old.inner) (W.contents writer.new.inner) }
+    ensures { Obeys W.contents E.contents FORMAT_USAGE.now
+        (λ s. AnswersQuery R.remaining W.contents (IsFormatAnswer s) format_number (λ e query. HasNoLayout s query e)
+        reader.old reader.new writer.old writer.new errors.old errors.new result)
+        reader.old reader.new writer.old writer.new errors.old errors.new result
+        (format_command (map string_bytes args.now)) }
 {
-    match command_of(args) {
-        Some(Asked::Show(text)) => show(writer, text),
-        Some(Asked::Format(settings)) => write_layout(alloc, &settings, reader, writer, errors),
-        None => {
-            let _ = write_text(errors, FORMAT_USAGE);
-            USAGE_STATUS
-        }
+    if let Some(text) = asked_text(args, FORMAT_HELP, FORMAT_VERSION) {
+        return show_text(writer, text);
     }
+    let Some(settings) = settings_of(args) else {
+        return show_usage(errors, FORMAT_USAGE);
+    };
+    write_layout(alloc, &settings, reader, writer, errors)
 }

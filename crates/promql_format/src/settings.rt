@@ -98,9 +98,12 @@ fn settings_with(settings: Settings, words: &[String]) -> Option<Settings>
     Some(changed)
 }
 
-/// The settings of the words after the program's name; `None` where they are no such options.
-pub fn settings_of(words: &[String]) -> Option<Settings>
-    ensures { result ≡ spec.settings_of (map string_bytes words.now) }
+/// The settings that the arguments ask for, the program's own name first; `None` where they are no such options.
+pub fn settings_of(args: &[String]) -> Option<Settings>
+    ensures { result ≡ spec.settings_of (map string_bytes args.now) }
 {
+    let [_, words @ ..] = args else {
+        return None;
+    };
     settings_with(default_settings(), words)
 }

@@ -2,6 +2,7 @@
 use Rattle.std.proofs.Common.{◌≡◌, ℕ, List, [], ◌∷◌, ◌++◌, None, Some, inl, inr, refl, sym, ap, ◌∙◌, append_assoc, append-nil, subst}
 use Rattle.std.specs.Prelude.{◌&&◌, ◌≢◌, Bool, true, false, Option, map}
 use Rattle.std.specs.Io.KnownBytes.{Appends, Consumes, Keeps}
+use Rattle.std.specs.List.{AllByRecursion, list_all}
 use Rattle.std.proofs.lemmas.List.Elements.{All-head, All-tail}
 use Rattle.promql_text.specs.Texts.{Text}
 use Rattle.promql_io.proofs.KnownBytes.{appends_keeps, appends_more, appends_none, consumes_more, consumes_none}
@@ -9,8 +10,8 @@ use Rattle.promql_lines.specs.declared.settings.Settings.{Settings}
 use Rattle.promql_run.specs.declared.run.RunError.{RunError}
 use Rattle.promql_run.specs.declared.run.RunError.TheVariants as error
 use Rattle.promql_run.specs.Running.{UnlessWrite}
-use Rattle.promql_lines.specs.Batch.{Answer, HaveNoFeed, IsAll, AnswerEach, AnswersBefore, AnswersLines, AreAnswered, AreLines, BeginsToAnswer, IsLineAnswer, IsOpen, are_ok, ended_lines}
-use Rattle.promql_lines.specs.BatchSteps.{HasNoFeed, IsAnswered, IsLineRead, IsPartRead, IsPartlyAnswered}
+use Rattle.promql_lines.specs.Batch.{Answer, AnswersBefore, AnswersLines, AreLines, AreWritten, BeginsToAnswer, IsLineAnswer, IsOpen, ended_lines}
+use Rattle.promql_lines.specs.BatchSteps.{HasNoFeed, HaveNoFeed, IsAll, IsAnswered, IsLineRead, IsPartRead, IsPartlyAnswered}
 use Rattle.promql_lines.specs.declared.batch.LineEnd.{LineEnd}
 use Rattle.promql_lines.specs.declared.batch.LineEnd.TheVariants.{Feed, Input}
 
@@ -25,11 +26,9 @@ none_more : (lines : List Text) (line : Text) → HaveNoFeed lines → HasNoFeed
 none_more [] line all last = (last, tt)
 none_more (first ∷ lines) line all last = (all.0, none_more lines line all.1 last)
 
-each_more : (settings : Settings) (lines : List Text) (answers : List Answer) (line : Text) (answer : Answer) → AnswerEach settings lines answers → IsLineAnswer settings line answer.text answer.is_ok → AnswerEach settings (lines ++ line ∷ []) (answers ++ answer ∷ [])
-each_more settings [] [] line answer each is = (is, tt)
-each_more settings (l ∷ lines) (a ∷ answers) line answer each is = (each.0, each_more settings lines answers line answer each.1 is)
-each_more settings [] (a ∷ answers) line answer each is = absurd each
-each_more settings (l ∷ lines) [] line answer each is = absurd each
+each_more : (settings : Settings) (answers : List Answer) (answer : Answer) → AllByRecursion (λ a. IsLineAnswer settings a.line a.text a.is_ok) answers → IsLineAnswer settings answer.line answer.text answer.is_ok → AllByRecursion (λ a. IsLineAnswer settings a.line a.text a.is_ok) (answers ++ answer ∷ [])
+each_more settings [] answer each is = (is, tt)
+each_more settings (a ∷ answers) answer each is = (each.0, each_more settings answers answer each.1 is)
 
 and_assoc : (a b c : Bool) → (a && (b && c)) ≡ ((a && b) && c)
 and_assoc true b c = refl
@@ -39,58 +38,70 @@ and_true : (a : Bool) → (a && true) ≡ a
 and_true true = refl
 and_true false = refl
 
-ok_more : (answers : List Answer) (answer : Answer) → are_ok (answers ++ answer ∷ []) ≡ (are_ok answers && answer.is_ok)
+ok_more : (answers : List Answer) (answer : Answer) → list_all (λ a. a.is_ok) (answers ++ answer ∷ []) ≡ (list_all (λ a. a.is_ok) answers && answer.is_ok)
 ok_more [] answer = and_true answer.is_ok
-ok_more (a ∷ answers) answer = ap (λ b. a.is_ok && b) (ok_more answers answer) ∙ and_assoc a.is_ok (are_ok answers) answer.is_ok
+ok_more (a ∷ answers) answer = ap (λ b. a.is_ok && b) (ok_more answers answer) ∙ and_assoc a.is_ok (list_all (λ a. a.is_ok) answers) answer.is_ok
 
-texts_more : (answers : List Answer) (answer : Answer) → map (λ a. a.text) (answers ++ answer ∷ []) ≡ map (λ a. a.text) answers ++ answer.text ∷ []
-texts_more [] answer = refl
-texts_more (a ∷ answers) answer = ap (λ rest. a.text ∷ rest) (texts_more answers answer)
+parts_more : (f : Answer → Text) (answers : List Answer) (answer : Answer) → map f answers ++ f answer ∷ [] ≡ map f (answers ++ answer ∷ [])
+parts_more f [] answer = refl
+parts_more f (a ∷ answers) answer = ap (λ rest. f a ∷ rest) (parts_more f answers answer)
 
-answered_none : (settings : Settings) → AreAnswered settings [] [] true
-answered_none settings = record { answers = []; each = tt; is = refl; ok = refl }
+abbrev lines_of : List Answer → List Text
+lines_of = map (λ a. a.line)
 
-answered_more : (settings : Settings) (lines : List Text) (line printed answer : Text) (all_ok is_ok : Bool) → AreAnswered settings lines printed all_ok → IsLineAnswer settings line answer is_ok → AreAnswered settings (lines ++ line ∷ []) (printed ++ (answer ++ 10 ∷ [])) (all_ok && is_ok)
-answered_more settings lines line printed answer all_ok is_ok so_far is =
-    let last : Answer = record { text = answer; is_ok = is_ok } in
-    let texts = map (λ a. a.text) so_far.answers in
+-- ---- the answers that were written
+
+written_none : (settings : Settings) (held : Option (List ℕ)) → AreWritten settings held held []
+written_none settings held = record { each = tt; written = appends_none held }
+
+written_more : (settings : Settings) (answers : List Answer) (answer : Answer) (held held_now held_after : Option (List ℕ)) → AreWritten settings held held_now answers → IsLineAnswer settings answer.line answer.text answer.is_ok → Appends held_now held_after (answer.text ++ 10 ∷ []) → AreWritten settings held held_after (answers ++ answer ∷ [])
+written_more settings answers answer held held_now held_after so_far is written =
+    let texts = map (λ a. a.text) answers in
+    let all : ended_lines texts ++ (answer.text ++ 10 ∷ []) ≡ ended_lines (map (λ a. a.text) (answers ++ answer ∷ [])) =
+    sym (ended_more texts answer.text) ∙ ap ended_lines (parts_more (λ a. a.text) answers answer) in
     record {
-      answers = so_far.answers ++ last ∷ [];
-      each = each_more settings lines so_far.answers line last so_far.each is;
-      is = ap (λ p. p ++ (answer ++ 10 ∷ [])) so_far.is ∙ sym (ended_more texts answer) ∙ sym (ap ended_lines (texts_more so_far.answers last));
-      ok = ap (λ b. b && is_ok) so_far.ok ∙ sym (ok_more so_far.answers last);
+      each = each_more settings answers answer so_far.each is;
+      written = subst (Appends held held_after) all (appends_more held held_now held_after (ended_lines texts) (answer.text ++ 10 ∷ []) so_far.written written);
     }
+
+written_kept : (settings : Settings) (answers : List Answer) (held held_now held_after : Option (List ℕ)) → AreWritten settings held held_now answers → Keeps held_now held_after → AreWritten settings held held_after answers
+written_kept settings answers held held_now held_after so_far same = record {
+  each = so_far.each;
+  written = appends_keeps held held_now held_after (ended_lines (map (λ a. a.text) answers)) so_far.written same;
+}
 
 -- ---- a batch so far
 
 -- these lines were read and answered, and nothing else
 pub record Progress (settings : Settings) (left left_now held held_now : Option (List ℕ)) (all_ok : Bool) : Type 0 where
-  pub lines : List Text
-  pub single : HaveNoFeed lines
-  pub read : Consumes left left_now (ended_lines lines)
-  pub printed : Text
-  pub answered : AreAnswered settings lines printed all_ok
-  pub written : Appends held held_now printed
+  pub answers : List Answer
+  pub single : HaveNoFeed (lines_of answers)
+  pub read : Consumes left left_now (ended_lines (lines_of answers))
+  pub written : AreWritten settings held held_now answers
+  pub ok : all_ok ≡ list_all (λ a. a.is_ok) answers
 
 pub nothing_yet : (settings : Settings) (left held : Option (List ℕ)) → Progress settings left left held held true
-nothing_yet settings left held = record {
-  lines = [];
-  single = tt;
-  read = consumes_none left;
-  printed = [];
-  answered = answered_none settings;
-  written = appends_none held;
-}
+nothing_yet settings left held = record { answers = []; single = tt; read = consumes_none left; written = written_none settings held; ok = refl }
+
+-- one more line with its answer
+abbrev answer_to : Text → Text → Bool → Answer
+answer_to line text is_ok = record { line = line; text = text; is_ok = is_ok }
+
+ok_with : (answers : List Answer) (answer : Answer) (all_ok : Bool) → all_ok ≡ list_all (λ a. a.is_ok) answers → (all_ok && answer.is_ok) ≡ list_all (λ a. a.is_ok) (answers ++ answer ∷ [])
+ok_with answers answer all_ok so_far = ap (λ b. b && answer.is_ok) so_far ∙ sym (ok_more answers answer)
 
 pub line_more : (settings : Settings) (left left_now left_after held held_now held_after : Option (List ℕ)) (line : Text) (all_ok is_ok : Bool) → Progress settings left left_now held held_now all_ok → IsLineRead left_now left_after line (Some Feed) → IsAnswered settings line held_now held_after is_ok → Progress settings left left_after held held_after (all_ok && is_ok)
-line_more settings left left_now left_after held held_now held_after line all_ok is_ok so_far read answered = record {
-  lines = so_far.lines ++ line ∷ [];
-  single = none_more so_far.lines line so_far.single read.1;
-  read = subst (Consumes left left_after) (sym (ended_more so_far.lines line)) (consumes_more left left_now left_after (ended_lines so_far.lines) (line ++ 10 ∷ []) so_far.read read.0);
-  printed = so_far.printed ++ (answered.0 ++ 10 ∷ []);
-  answered = answered_more settings so_far.lines line so_far.printed answered.0 all_ok is_ok so_far.answered answered.1;
-  written = appends_more held held_now held_after so_far.printed (answered.0 ++ 10 ∷ []) so_far.written answered.2;
-}
+line_more settings left left_now left_after held held_now held_after line all_ok is_ok so_far read answered =
+    let answer = answer_to line answered.0 is_ok in
+    let lines = lines_of so_far.answers in
+    let more = parts_more (λ a. a.line) so_far.answers answer in
+    record {
+      answers = so_far.answers ++ answer ∷ [];
+      single = subst HaveNoFeed more (none_more lines line so_far.single read.1);
+      read = subst (Consumes left left_after) (sym (ended_more lines line) ∙ ap ended_lines more) (consumes_more left left_now left_after (ended_lines lines) (line ++ 10 ∷ []) so_far.read read.0);
+      written = written_more settings so_far.answers answer held held_now held_after so_far.written answered.1 answered.2;
+      ok = ok_with so_far.answers answer all_ok so_far.ok;
+    }
 
 -- ---- how a batch ends
 
@@ -100,16 +111,17 @@ all_read (Some xs) None front back first all = absurd first
 all_read (Some xs) (Some ys) front back first all = first ∙ ap (λ rest. front ++ rest) all
 
 pub input_ends : (settings : Settings) (left left_now left_after held held_now held_after : Option (List ℕ)) (line : Text) (all_ok : Bool) → Progress settings left left_now held held_now all_ok → IsLineRead left_now left_after line None → Keeps held_now held_after → AnswersLines settings left left_after held held_after all_ok
-input_ends settings left left_now left_after held held_now held_after line all_ok so_far read same = record {
-  input = ended_lines so_far.lines;
-  all = subst (IsAll left) (append-nil (ended_lines so_far.lines)) (all_read left left_now (ended_lines so_far.lines) [] so_far.read read.1);
-  read = subst (Consumes left left_after) (append-nil (ended_lines so_far.lines)) (consumes_more left left_now left_after (ended_lines so_far.lines) [] so_far.read read.0);
-  lines = so_far.lines;
-  are = record { single = so_far.single; whole = inl refl };
-  printed = so_far.printed;
-  answers = so_far.answered;
-  written = appends_keeps held held_now held_after so_far.printed so_far.written same;
-}
+input_ends settings left left_now left_after held held_now held_after line all_ok so_far read same =
+    let whole = ended_lines (lines_of so_far.answers) in
+    record {
+      input = whole;
+      all = subst (IsAll left) (append-nil whole) (all_read left left_now whole [] so_far.read read.1);
+      read = subst (Consumes left left_after) (append-nil whole) (consumes_more left left_now left_after whole [] so_far.read read.0);
+      answers = so_far.answers;
+      are = record { single = so_far.single; whole = inl refl };
+      written = written_kept settings so_far.answers held held_now held_after so_far.written same;
+      ok = so_far.ok;
+    }
 
 -- the last byte of a line is none but a line feed
 open_line : (front line : Text) → HasNoFeed line → line ≢ [] → IsOpen (front ++ line)
@@ -126,65 +138,55 @@ last_lines lines line single none some = record {
 }
 
 pub last_line_ends : (settings : Settings) (left left_now left_after held held_now held_mid held_after : Option (List ℕ)) (line : Text) (all_ok is_ok : Bool) → Progress settings left left_now held held_now all_ok → IsLineRead left_now left_after line (Some Input) → IsAnswered settings line held_now held_mid is_ok → Keeps held_mid held_after → AnswersLines settings left left_after held held_after (all_ok && is_ok)
-last_line_ends settings left left_now left_after held held_now held_mid held_after line all_ok is_ok so_far read answered same = record {
-  input = ended_lines so_far.lines ++ line;
-  all = all_read left left_now (ended_lines so_far.lines) line so_far.read read.2;
-  read = consumes_more left left_now left_after (ended_lines so_far.lines) line so_far.read read.0;
-  lines = so_far.lines ++ line ∷ [];
-  are = last_lines so_far.lines line so_far.single read.1 read.3;
-  printed = so_far.printed ++ (answered.0 ++ 10 ∷ []);
-  answers = answered_more settings so_far.lines line so_far.printed answered.0 all_ok is_ok so_far.answered answered.1;
-  written = appends_keeps held held_mid held_after (so_far.printed ++ (answered.0 ++ 10 ∷ [])) (appends_more held held_now held_mid so_far.printed (answered.0 ++ 10 ∷ []) so_far.written answered.2) same;
-}
+last_line_ends settings left left_now left_after held held_now held_mid held_after line all_ok is_ok so_far read answered same =
+    let answer = answer_to line answered.0 is_ok in
+    let lines = lines_of so_far.answers in
+    record {
+      input = ended_lines lines ++ line;
+      all = all_read left left_now (ended_lines lines) line so_far.read read.2;
+      read = consumes_more left left_now left_after (ended_lines lines) line so_far.read read.0;
+      answers = so_far.answers ++ answer ∷ [];
+      are = subst (AreLines (ended_lines lines ++ line)) (parts_more (λ a. a.line) so_far.answers answer) (last_lines lines line so_far.single read.1 read.3);
+      written = written_kept settings (so_far.answers ++ answer ∷ []) held held_mid held_after
+          (written_more settings so_far.answers answer held held_now held_mid so_far.written answered.1 answered.2) same;
+      ok = ok_with so_far.answers answer all_ok so_far.ok;
+    }
 
 pub reading_fails : (settings : Settings) (left left_now left_after held held_now : Option (List ℕ)) (all_ok : Bool) → Progress settings left left_now held held_now all_ok → IsPartRead left_now left_after → AnswersBefore settings left left_after held held_now
 reading_fails settings left left_now left_after held held_now all_ok so_far part = record {
-  lines = so_far.lines;
+  answers = so_far.answers;
   part = part.0;
-  read = consumes_more left left_now left_after (ended_lines so_far.lines) part.0 so_far.read part.1;
+  read = consumes_more left left_now left_after (ended_lines (lines_of so_far.answers)) part.0 so_far.read part.1;
   single = so_far.single;
   within = part.2;
-  printed = so_far.printed;
-  all_ok = all_ok;
-  answers = so_far.answered;
   written = so_far.written;
 }
 
+-- a beginning of the answer to a line that ends the input so was written
+begins : (settings : Settings) (left left_now left_after held held_now held_after : Option (List ℕ)) (line input : Text) (all_ok : Bool) (so_far : Progress settings left left_now held held_now all_ok) → Consumes left left_after input → AreLines input (lines_of so_far.answers ++ line ∷ []) → IsPartlyAnswered settings line held_now held_after → BeginsToAnswer settings left left_after held held_after
+begins settings left left_now left_after held held_now held_after line input all_ok so_far read are part = record {
+  answers = so_far.answers;
+  last = answer_to line part.0 part.1;
+  input = input;
+  read = read;
+  are = are;
+  held_before = held_now;
+  written = so_far.written;
+  is = part.2;
+  begun = part.3;
+}
+
 pub writing_fails : (settings : Settings) (left left_now left_after held held_now held_after : Option (List ℕ)) (line : Text) (end : LineEnd) (all_ok : Bool) → Progress settings left left_now held held_now all_ok → IsLineRead left_now left_after line (Some end) → IsPartlyAnswered settings line held_now held_after → BeginsToAnswer settings left left_after held held_after
-writing_fails settings left left_now left_after held held_now held_after line Feed all_ok so_far read part = record {
-  lines = so_far.lines;
-  line = line;
-  input = ended_lines so_far.lines ++ (line ++ 10 ∷ []);
-  read = consumes_more left left_now left_after (ended_lines so_far.lines) (line ++ 10 ∷ []) so_far.read read.0;
-  are = record { single = none_more so_far.lines line so_far.single read.1; whole = inl (ended_more so_far.lines line) };
-  printed = so_far.printed;
-  all_ok = all_ok;
-  answers = so_far.answered;
-  answer = part.0;
-  is_ok = part.1;
-  is = part.2;
-  front = part.3.front;
-  rest = part.3.rest;
-  whole = part.3.whole;
-  written = appends_more held held_now held_after so_far.printed part.3.front so_far.written part.3.appends;
-}
-writing_fails settings left left_now left_after held held_now held_after line Input all_ok so_far read part = record {
-  lines = so_far.lines;
-  line = line;
-  input = ended_lines so_far.lines ++ line;
-  read = consumes_more left left_now left_after (ended_lines so_far.lines) line so_far.read read.0;
-  are = last_lines so_far.lines line so_far.single read.1 read.3;
-  printed = so_far.printed;
-  all_ok = all_ok;
-  answers = so_far.answered;
-  answer = part.0;
-  is_ok = part.1;
-  is = part.2;
-  front = part.3.front;
-  rest = part.3.rest;
-  whole = part.3.whole;
-  written = appends_more held held_now held_after so_far.printed part.3.front so_far.written part.3.appends;
-}
+writing_fails settings left left_now left_after held held_now held_after line Feed all_ok so_far read part =
+    let lines = lines_of so_far.answers in
+    begins settings left left_now left_after held held_now held_after line (ended_lines lines ++ (line ++ 10 ∷ [])) all_ok so_far
+    (consumes_more left left_now left_after (ended_lines lines) (line ++ 10 ∷ []) so_far.read read.0)
+    (record { single = none_more lines line so_far.single read.1; whole = inl (ended_more lines line) }) part
+writing_fails settings left left_now left_after held held_now held_after line Input all_ok so_far read part =
+    let lines = lines_of so_far.answers in
+    begins settings left left_now left_after held held_now held_after line (ended_lines lines ++ line) all_ok so_far
+    (consumes_more left left_now left_after (ended_lines lines) line so_far.read read.0)
+    (last_lines lines line so_far.single read.1 read.3) part
 
 pub unless_write : (e : RunError) (P : Type 0) → P → UnlessWrite e P
 unless_write error.Write P fact = tt

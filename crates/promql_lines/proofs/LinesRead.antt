@@ -7,8 +7,7 @@ use Rattle.std.specs.List.{slice_get}
 use Rattle.std.specs.Io.{StopsAt, appended_bytes}
 use Rattle.std.specs.Io.BufRead.{take_through}
 use Rattle.std.specs.Io.KnownBytes.{Consumes}
-use Rattle.promql_lines.specs.Batch.{IsAll}
-use Rattle.promql_lines.specs.BatchSteps.{HasNoFeed}
+use Rattle.promql_lines.specs.BatchSteps.{HasNoFeed, IsAll}
 
 -- the bytes before the last, and the last, are others
 no_feed : (line : List ℕ) (last : ℕ) → Some last ≡ slice_get line (length line - 1) → last ≢ 10 → All (λ b. b ≢ 10) (take (length line - 1) line) → HasNoFeed line

@@ -17,4 +17,4 @@ unfolding digits serde_json_on_literals
 memory_text = refl
 
 pub memory_is_answered : (settings : Settings) (line : Text) → IsLineAnswer settings line memory_answer false
-memory_is_answered settings line = record { fault = Run Memory; fails = tt; is = (codes "out of memory", memory_text) }
+memory_is_answered settings line = (Run Memory, tt, (codes "out of memory", memory_text))

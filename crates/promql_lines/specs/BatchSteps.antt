@@ -1,6 +1,7 @@
 -- What each step of a batch does. Private: nothing rests on believing it.
-use Rattle.std.specs.Prelude.{◌≡◌, ◌≢◌, ℕ, ◌++◌, List, [], ◌∷◌, All, Bool, Option, Some, None}
+use Rattle.std.specs.Prelude.{◌≡◌, ◌≢◌, ℕ, ◌++◌, List, [], ◌∷◌, All, Bool, true, IfSome, Option, Some, None}
 use Rattle.std.specs.Io.{StopsAt}
+use Rattle.std.specs.List.{AllByRecursion}
 use Rattle.std.specs.Io.KnownBytes.{Appends, Consumes}
 use Rattle.promql_text.specs.Texts.{Text}
 use Rattle.promql_ast.specs.Tree.{Tree}
@@ -9,7 +10,7 @@ use Rattle.promql_run.specs.declared.run.RunError.{RunError}
 use Rattle.promql_run.specs.declared.run.RunError.TheVariants as error
 use Rattle.promql_span.specs.QueryLimits.{IsLongOutput}
 use Rattle.promql_span.specs.declared.limits.Limits.{Limits}
-use Rattle.promql_lines.specs.Batch.{IsAll, IsLineAnswer}
+use Rattle.promql_lines.specs.Batch.{IsLineAnswer}
 use Rattle.promql_lines.specs.EnforcedLines.{FailsToShow}
 use Rattle.promql_lines.specs.declared.batch.LineEnd.{LineEnd}
 use Rattle.promql_lines.specs.declared.batch.LineEnd.TheVariants.{Feed, Input}
@@ -20,6 +21,13 @@ use Rattle.promql_lines.specs.declared.settings.Settings.{Settings}
 
 abbrev pub HasNoFeed : Text → Type 0
 HasNoFeed line = All (λ b. b ≢ 10) line
+
+abbrev pub HaveNoFeed : List Text → Type 0
+HaveNoFeed = AllByRecursion HasNoFeed
+
+-- these are all the bytes that are left, where those are known
+abbrev pub IsAll : Option (List ℕ) → Text → Type 0
+IsAll left input = IfSome left (λ bytes. bytes ≡ input)
 
 -- the next line was read, or there was none
 abbrev pub IsLineRead : Option (List ℕ) → Option (List ℕ) → Text → Option LineEnd → Type 0
@@ -42,6 +50,10 @@ abbrev pub IsPartlyAnswered : Settings → Text → Option (List ℕ) → Option
 IsPartlyAnswered settings line held held_after =
     (answer : Text) × (is_ok : Bool) × IsLineAnswer settings line answer is_ok
     × AppendsBeginning held held_after (answer ++ 10 ∷ [])
+
+-- the line is answered with this text, which is an `ok`
+abbrev pub IsOkLine : Settings → Text → Text → Type 0
+IsOkLine settings line printed = IsLineAnswer settings line printed true
 
 -- why there is no answer with an output
 abbrev pub IsOutputFault : Limits → Text → LineError → Type 0

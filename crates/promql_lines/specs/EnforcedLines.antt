@@ -1,9 +1,6 @@
 -- The line of a query with a matcher in its selectors (docs/guide/rewriting.md, "Enforcing"; docs/reference/programs.md, "One query,
 -- enforced").
-use Rattle.std.specs.Prelude.{◌≡◌, ◌≢◌, ◌⊎◌, ℕ, ◌++◌, List, [], ◌∷◌, Option, None, Result, Ok, Err, String, string_bytes, codes, option_map}
-use Rattle.std.specs.declared.alloc.Global.{Global}
-use Rattle.std.specs.Str.{IsUtf8}
-use Rattle.std.specs.Io.KnownBytes.{Appends}
+use Rattle.std.specs.Prelude.{◌≡◌, ◌≢◌, ℕ, ◌++◌, List, ◌∷◌, Option, None, Err, codes, option_map}
 use Rattle.promql_text.specs.Texts.{Text}
 use Rattle.promql_ast.specs.Text.{text as line_text}
 use Rattle.promql_ast.specs.Tree.{Tree}
@@ -12,15 +9,14 @@ use Rattle.promql_syntax.specs.declared.parser.ParseError.TheVariants as parse
 use Rattle.promql_rewrite.specs.Faithful.{IsLineOf, MeansOther}
 use Rattle.promql_rewrite.specs.MatcherTexts.{IsEnforcedBy, IsMatcherFault, MeetsBareInfo, selector_around}
 use Rattle.promql_rewrite.specs.declared.faithful.NotFaithful.TheVariants as faithful
-use Rattle.promql_io.specs.Ended.{AppendsBeginning}
-use Rattle.promql_report.specs.LimitOptions.{Command, command, default_limits, limits_with}
+use Rattle.promql_run.specs.Programs.{Command}
+use Rattle.promql_report.specs.LimitOptions.{command, default_limits, limits_with}
 use Rattle.promql_report.specs.Rejecting.{IsRead, IsRejection, reason_number}
 use Rattle.promql_span.specs.QueryLimits.{IsLimitFault, IsWithin}
 use Rattle.promql_span.specs.declared.limits.LimitFault.{LimitFault}
 use Rattle.promql_span.specs.declared.limits.LimitFault.TheVariants as limit
 use Rattle.promql_lines.specs.declared.enforce_program.TheConstants.{ENFORCE_HELP, ENFORCE_VERSION}
 use Rattle.promql_span.specs.declared.limits.Limits.{Limits}
-use Rattle.promql_io.specs.Inputs.{HasRead}
 use Rattle.promql_lines.specs.declared.enforced_line.EnforcedLineError.{EnforcedLineError}
 use Rattle.promql_lines.specs.declared.enforced_line.EnforcedLineError.TheVariants as error
 
@@ -76,51 +72,12 @@ FailsToEnforce limits query matcher e = (t : Tree) × IsRead limits query t × F
 
 -- a matcher and options
 abbrev pub enforce_with : List Text → Option (Text × Limits)
-enforce_with [] = None
-enforce_with (word ∷ words) = option_map (λ limits. (word, limits)) (limits_with default_limits words)
+enforce_with (own ∷ word ∷ words) = option_map (λ limits. (word, limits)) (limits_with default_limits words)
+enforce_with args = None
 
 abbrev pub enforce_command : List Text → Option (Command (Text × Limits))
 enforce_command = command ENFORCE_HELP.now ENFORCE_VERSION.now enforce_with
 
--- the line and a line feed
+-- what is written of a query: the line and a line feed
 abbrev pub IsEnforcedAnswer : Limits → Text → Text → Text → Type 0
-IsEnforcedAnswer limits query matcher answer = (line : Text) × IsEnforcedLine limits query matcher line × (answer ≡ line ++ codes "\n")
-
--- all of the input was read, it is a text, and the line of its query was written, with a line feed
-pub record Enforces (limits : Limits) (matcher : Text) (left left_after held held_after : Option (List ℕ)) : Type 0 where
-  pub query : Text
-  pub read : HasRead left left_after query
-  pub utf8 : IsUtf8 query
-  pub answer : Text
-  pub is : IsEnforcedAnswer limits query matcher answer
-  pub written : Appends held held_after answer
-
--- the same, where a write failed: a beginning of that was written
-pub record BeginsToEnforce (limits : Limits) (matcher : Text) (left left_after held held_after : Option (List ℕ)) : Type 0 where
-  pub query : Text
-  pub read : HasRead left left_after query
-  pub utf8 : IsUtf8 query
-  pub answer : Text
-  pub is : IsEnforcedAnswer limits query matcher answer
-  pub begun : AppendsBeginning held held_after answer
-
--- all of the input was read, it is a text, and this is why its query has no line
-pub record HasNoEnforcedLine (limits : Limits) (matcher : Text) (e : EnforcedLineError) (left left_after : Option (List ℕ)) : Type 0 where
-  pub query : Text
-  pub read : HasRead left left_after query
-  pub utf8 : IsUtf8 query
-  pub fails : FailsToEnforce limits query matcher e
-
--- what became of the input
-abbrev pub IsInputAnswer : Limits → Text → Option (List ℕ) → Option (List ℕ) → Result (String Global) EnforcedLineError → Type 0
-IsInputAnswer limits matcher left left_after (Ok answer) =
-    (query : Text) × HasRead left left_after query × IsUtf8 query × IsEnforcedAnswer limits query matcher (string_bytes answer)
-IsInputAnswer limits matcher left left_after (Err e) = HasNoEnforcedLine limits matcher e left left_after
-
--- the statuses of these errors
-abbrev pub IsLineStatus : ℕ → Type 0
-IsLineStatus status = (status ≡ 4) ⊎ (status ≡ 11) ⊎ (status ≡ 12) ⊎ (status ≡ 13) ⊎ (status ≡ 14) ⊎ (status ≡ 16)
-
--- each status of a matcher
-abbrev pub IsEnforceStatus : ℕ → Type 0
-IsEnforceStatus status = (status ≡ 0) ⊎ (status ≡ 1) ⊎ (status ≡ 2) ⊎ (status ≡ 3) ⊎ IsLineStatus status ⊎ (status ≡ 5)
+IsEnforcedAnswer limits matcher query answer = (line : Text) × IsEnforcedLine limits query matcher line × (answer ≡ line ++ codes "\n")

@@ -1,13 +1,10 @@
 -- The text of a tree that is given as JSON (docs/reference/json.md, "From JSON to a text").
-use Rattle.std.specs.Prelude.{◌≡◌, ◌≢◌, ℕ, Bool, true, false, Some, Result, Ok, Err}
+use Rattle.std.specs.Prelude.{◌≡◌, ◌≢◌, ℕ, Bool, if◌then◌else◌, Some, Ok, Err}
 use Rattle.serde_json.specs.Data.{Data}
 use Rattle.serde_json.specs.Read.{read}
-use Rattle.serde_json.specs.Written.{compact_text}
 use Rattle.promql_text.specs.Texts.{Text}
-use Rattle.promql_grammar.specs.Results.{on_result}
 use Rattle.promql_span.specs.QueryLimits.{IsWithin}
 use Rattle.promql_span.specs.declared.limits.Limits.{Limits}
-use Rattle.promql_ast.specs.Layout.{layout_of}
 use Rattle.promql_ast.specs.Text.{text as line_text}
 use Rattle.promql_ast.specs.Tree.{Tree}
 use Rattle.promql_json.specs.Json.{json}
@@ -15,9 +12,10 @@ use Rattle.promql_json.specs.declared.from_error.FromJsonError.TheVariants as fr
 use Rattle.promql_rewrite.specs.Faithful.{IsLineOf, Means}
 use Rattle.promql_rewrite.specs.Parenthesizing.{parenthesized}
 use Rattle.promql_rewrite.specs.Reasons.{IsReason}
+use Rattle.promql_run.specs.Running.{format_text}
 use Rattle.promql_lines.specs.EnforcedLines.{IsOver}
-use Rattle.promql_lines.specs.declared.request.Format.{Format}
-use Rattle.promql_lines.specs.declared.request.Format.TheVariants as format
+use Rattle.promql_run.specs.declared.format.Format.{Format}
+use Rattle.promql_run.specs.declared.format.Format.TheVariants as format
 use Rattle.promql_lines.specs.declared.tree_text.TreeTextError.{TreeTextError}
 use Rattle.promql_lines.specs.declared.tree_text.TreeTextError.TheVariants as error
 
@@ -35,18 +33,16 @@ IsFormTree form t = (d : Data) × (read form ≡ Some d) × (json t ≡ Ok d)
 
 -- the tree, or the tree with parentheses where it needs them
 abbrev pub has_parens : Bool → Tree → Tree
-has_parens true t = parenthesized t
-has_parens false t = t
+has_parens parens t = if parens then parenthesized t else t
 
 -- the line of the tree is within the limits, and means the tree
 abbrev pub IsLineWithin : Limits → Tree → Text → Type 0
 IsLineWithin limits t line = IsWithin line limits × IsLineOf t line
 
--- what the text of a tree is in a format; a layout means the tree
+-- the text of a tree in a format; a layout means the tree, too
 abbrev pub IsFormatOf : Format → Tree → Text → Type 0
-IsFormatOf format.Line t s = s ≡ line_text t
-IsFormatOf (format.Pretty layout) t s = (s ≡ layout_of t layout.level layout.width) × Means s t
-IsFormatOf format.Json t s = on_result compact_text (json t) ≡ Ok s
+IsFormatOf (format.Pretty layout) t s = (format_text (format.Pretty layout) t ≡ Ok s) × Means s t
+IsFormatOf f t s = format_text f t ≡ Ok s
 
 abbrev pub IsTextOfTree : Limits → Format → Tree → Text → Type 0
 IsTextOfTree limits f t s = IsLineWithin limits t (line_text t) × IsFormatOf f t s

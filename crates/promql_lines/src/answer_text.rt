@@ -1,21 +1,14 @@
 //! The answer to a query that has a text in a format: docs/reference/programs.md, "Answers". No value is made.
 
-ghost use Rattle.std.specs.Prelude.{◌≡◌, ◌++◌, ◌≤◌, Ok, Err, IfErr, IfNone, IfOk, IfSome, codes, length, string_bytes};
+ghost use Rattle.std.specs.Prelude.{◌≡◌, ◌++◌, ◌≤◌, IfErr, IfOk, codes, length, string_bytes};
 ghost use Rattle.serde_json.specs.Data.{string};
 ghost use Rattle.serde_json.specs.Written.{compact_text};
-ghost use Rattle.promql_ast.specs.Height.{height};
-ghost use Rattle.promql_ast.specs.View.{tree_of};
-ghost use Rattle.promql_syntax.specs.declared.parser.TheConstants.{MAX_DEPTH};
-ghost use Rattle.promql_json.specs.declared.error.JsonError.TheVariants.{NumberTooWide};
-ghost use Rattle.promql_run.specs.Extensions.{HasNoExtension};
-ghost use Rattle.promql_lines.specs.Batch.{format_text, value_text};
+ghost use Rattle.promql_lines.specs.Batch.{value_text};
 ghost use Rattle.promql_lines.specs.BatchSteps.{IsOutputFault};
 
 use crate::line::LineError;
-use crate::request::Format;
 use json::Writer;
-use promql_ast::Expr;
-use promql_run::rendering::{json_text, pretty_text};
+use promql_run::format::Format;
 use promql_run::run::RunError;
 use promql_span::limits::{Limits, check_output};
 use std::alloc::{AllocError, Global};
@@ -27,27 +20,6 @@ const AFTER_VALUE: &str = "}";
 
 /// How many bytes an answer has beside its string and what is escaped in that, and some more for a few escapes.
 const ROOM: usize = 32;
-
-/// The text of an expression in a format; `None` where a number of milliseconds is too wide for JSON. An expression that was
-/// read is low enough for a layout, and has no extension.
-///
-/// # Errors
-///
-/// `AllocError` where an allocation failed.
-pub fn shown_text(alloc: Global, format: Format, expr: &Expr) -> Result<Option<String>, AllocError>
-    requires low { height (tree_of expr.now) ≤ MAX_DEPTH }
-    requires plain { HasNoExtension (tree_of expr.now) }
-    ensures text { IfOk result (λ shown.
-        IfSome shown (λ s. format_text format (tree_of expr.now) ≡ Ok (string_bytes s))) }
-    ensures wide { IfOk result (λ shown.
-        IfNone shown (format_text format (tree_of expr.now) ≡ Err NumberTooWide)) }
-{
-    match format {
-        Format::Pretty(layout) => Ok(Some(pretty_text(alloc, layout.level, layout.width, expr)?)),
-        Format::Line => Ok(Some(expr.to_string(alloc)?)),
-        Format::Json => json_text(alloc, expr),
-    }
-}
 
 /// The answer whose value has this text.
 fn answer_of_json(alloc: Global, value: &str) -> Result<String, AllocError>

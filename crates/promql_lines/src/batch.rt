@@ -11,7 +11,8 @@ use crate::line::answer_line;
 use crate::settings::Settings;
 use promql_io::ended::Ended;
 use promql_io::reading::ReadFault;
-use promql_run::run::{RunError, flush, write_whole};
+use promql_io::writing::{WriteFailed, flush, write_whole};
+use promql_run::run::RunError;
 use std::alloc::Global;
 use std::io::{BufRead, Write};
 
@@ -55,14 +56,13 @@ fn read_line<R: BufRead>(
 }
 
 /// Writes a text and a line feed.
-fn write_line<W: Write>(writer: &mut Ended<W>, text: &str) -> Result<(), RunError>
+fn write_line<W: Write>(writer: &mut Ended<W>, text: &str) -> Result<(), WriteFailed>
     ensures ok { OnOk result (Appends (W.contents writer.old.inner)
         (W.contents writer.new.inner) (text.now ++ 10 ∷ [])) }
     ensures quiet { OnOk result (writer.new.failed ≡ writer.old.failed) }
     ensures begun { OnErr result (AppendsBeginning (W.contents writer.old.inner)
         (W.contents writer.new.inner) (text.now ++ 10 ∷ [])) }
     ensures failed { OnErr result (writer.new.failed ≡ true) }
-    ensures errors { IfErr result (λ e. e ≡ RunError.Write) }
 {
     write_whole(writer, text)?;
     write_whole(writer, "\n")
@@ -74,14 +74,13 @@ fn write_answer<W: Write>(
     settings: &Settings,
     line: &[u8],
     writer: &mut Ended<W>,
-) -> Result<bool, RunError>
+) -> Result<bool, WriteFailed>
     ensures ok { IfOk result (IsAnswered settings.now line.now (W.contents writer.old.inner)
         (W.contents writer.new.inner)) }
     ensures quiet { OnOk result (writer.new.failed ≡ writer.old.failed) }
     ensures begun { OnErr result (IsPartlyAnswered settings.now line.now (W.contents writer.old.inner)
         (W.contents writer.new.inner)) }
     ensures failed { OnErr result (writer.new.failed ≡ true) }
-    ensures errors { IfErr result (λ e. e ≡ RunError.Write) }
 {
     match answer_line(alloc, settings, line) {
         Ok(answer) => {

@@ -1,20 +1,17 @@
 //! The program for batches, as a function of its arguments, its input and its two outputs.
 
-ghost use Rattle.std.specs.Prelude.{◌≡◌, ◌≢◌, ◌⊎◌, ◌↔◌, false, true, Some, None, map, option_map, string_bytes};
-ghost use Rattle.std.specs.Io.KnownBytes.{Appends};
-ghost use Rattle.promql_text.specs.Texts.{Text};
+ghost use Rattle.std.specs.Prelude.{◌≡◌, ◌⊎◌, false, true, Some, None, map, string_bytes};
 ghost use Rattle.promql_lines.specs.declared.settings.Settings as batches;
 ghost use Rattle.promql_lines.specs.Batch.{AnswersBefore, AnswersLines, IsCutShort};
-ghost use Rattle.promql_report.specs.LimitOptions.{run, show};
+ghost use Rattle.promql_run.specs.Programs.{Obeys, Reads, run};
 ghost use Rattle.promql_lines.specs.BatchArguments.{batch_command, settings_of};
-ghost use Rattle.promql_lines.specs.ProgramArguments.{batch_seen};
 
 use crate::batch::run_batch;
 use crate::settings::Settings;
 use promql_io::ended::Ended;
-use promql_report::limit_options::{default_limits, is_only, limits_with};
-use promql_run::program::USAGE_STATUS;
-use promql_run::run::{Mode, write_text};
+use promql_report::limit_options::{asked_text, default_limits, limits_with};
+use promql_run::format::Format;
+use promql_run::output::{USAGE_STATUS, show_text, show_usage};
 use std::alloc::Global;
 use std::io::{BufRead, Write};
 
@@ -50,41 +47,16 @@ Status: 0 each line was answered with ok, 4 some line has an error, 1 out of
 memory, 2 a read failed, 5 a write failed, 64 wrong arguments.
 ";
 
-/// What the arguments ask for.
-#[derive(Clone, Copy)]
-enum Command {
-    /// This text, the help or the version.
-    Show(&'static str),
-    /// A batch with these settings.
-    Batch(Settings),
-}
-
-/// The settings that the words after the program's name ask for; `None` where those are nothing known.
-fn settings_of(words: &[String]) -> Option<Settings>
-    ensures { result ≡ settings_of (map string_bytes words.now) }
+/// The settings that the arguments ask for, the program's own name first; `None` where those are nothing known.
+fn settings_of(args: &[String]) -> Option<Settings>
+    ensures { result ≡ settings_of (map string_bytes args.now) }
 {
-    let [word, options @ ..] = words else {
+    let [_, word, options @ ..] = args else {
         return None;
     };
-    let mode = Mode::from_name(word.as_str())?;
+    let format = Format::from_name(word.as_str())?;
     let limits = limits_with(default_limits(), options)?;
-    Some(Settings { mode, limits })
-}
-
-/// What the arguments ask for, the program's own name first; `None` where that is nothing known.
-fn command_of(args: &[String]) -> Option<Command>
-    ensures { option_map batch_seen result ≡ batch_command (map string_bytes args.now) }
-{
-    let [_, words @ ..] = args else {
-        return None;
-    };
-    if is_only(words, "--help") {
-        return Some(Command::Show(BATCH_HELP));
-    }
-    if is_only(words, "--version") {
-        return Some(Command::Show(BATCH_VERSION));
-    }
-    Some(Command::Batch(settings_of(words)?))
+    Some(Settings { format, limits })
 }
 
 /// Runs the program for batches, and returns its status (docs/reference/programs.md, "Statuses of a batch").
@@ -98,20 +70,11 @@ pub fn batch_program<R: BufRead, W: Write, E: Write>(
     writer: &mut Ended<W>,
     errors: &mut Ended<E>,
 ) -> u8
-    // Other arguments than one known mode, with options or none, `--help` or `--version`: the usage line is all that happens.
-    ensures usage { (result ≡ USAGE_STATUS) ↔ (batch_command (map string_bytes args.now) ≡ None) }
-    ensures usage_reads_nothing { result ≡ USAGE_STATUS → reader.new ≡ reader.old }
-    ensures usage_writes_nothing { result ≡ USAGE_STATUS → writer.new ≡ writer.old }
-    ensures usage_line { result ≡ USAGE_STATUS → errors.new.failed ≡ false →
-        Appends (E.contents errors.old.inner) (E.contents errors.new.inner) BATCH_USAGE.now }
-    // `--help`, `--version`: that text is printed, and nothing is read.
-    ensures show_reads_nothing { (text : Text) → batch_command (map string_bytes args.now)
-        ≡ Some (show text) → reader.new ≡ reader.old }
-    ensures show_text { (text : Text) → batch_command (map string_bytes args.now)
-        ≡ Some (show text) → result ≡ 0
-        → Appends (W.contents writer.old.inner) (W.contents writer.new.inner) text }
-    ensures show_status { (text : Text) → batch_command (map string_bytes args.now)
-        ≡ Some (show text) → (result ≡ 0) ⊎ (result ≡ 5) }
+    // The usage line, the help or the version as the arguments ask, or a batch.
+    ensures obeys { Obeys W.contents E.contents BATCH_USAGE.now
+        (λ (settings : batches.Settings). Reads R.remaining reader.old reader.new result)
+        reader.old reader.new writer.old writer.new errors.old errors.new result
+        (batch_command (map string_bytes args.now)) }
     // A mode: each line is answered, and the status tells whether each with an `ok`.
     ensures ok { (settings : batches.Settings) → batch_command (map string_bytes args.now)
         ≡ Some (run settings) → result ≡ 0 → AnswersLines settings (R.remaining reader.old.inner)
@@ -129,25 +92,16 @@ pub fn batch_program<R: BufRead, W: Write, E: Write>(
         ≡ Some (run settings) → (result ≡ 1) ⊎ (result ≡ 2) → AnswersBefore settings
         (R.remaining reader.old.inner) (R.remaining reader.new.inner)
         (W.contents writer.old.inner) (W.contents writer.new.inner) }
-    ensures read { result ≡ 2 → reader.new.failed ≡ true }
-    ensures quiet { result ≢ 2 → reader.new.failed ≡ reader.old.failed }
     ensures write { result ≡ 5 → writer.new.failed ≡ true }
     ensures begun { (settings : batches.Settings) → batch_command (map string_bytes args.now)
         ≡ Some (run settings) → result ≡ 5 → IsCutShort settings (R.remaining reader.old.inner)
         (R.remaining reader.new.inner) (W.contents writer.old.inner) (W.contents writer.new.inner) }
 {
-    let settings = match command_of(args) {
-        Some(Command::Batch(settings)) => settings,
-        Some(Command::Show(text)) => {
-            return match write_text(writer, text) {
-                Ok(()) => 0,
-                Err(error) => error.number(),
-            };
-        }
-        None => {
-            let _ = write_text(errors, BATCH_USAGE);
-            return USAGE_STATUS;
-        }
+    if let Some(text) = asked_text(args, BATCH_HELP, BATCH_VERSION) {
+        return show_text(writer, text);
+    }
+    let Some(settings) = settings_of(args) else {
+        return show_usage(errors, BATCH_USAGE);
     };
     match run_batch(alloc, &settings, reader, writer) {
         Ok(true) => 0,

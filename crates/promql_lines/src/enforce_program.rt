@@ -1,23 +1,18 @@
 //! The program that enforces a matcher on a query, as a function of its arguments, its input and its two outputs:
 //! docs/reference/programs.md, "One query, enforced".
 
-ghost use Rattle.std.specs.Prelude.{◌≡◌, ◌≢◌, ◌⊎◌, ◌↔◌, false, true, Some, None, IfOk, IfErr, IsErrOf, MatchResult, map, option_map, string_bytes};
-ghost use Rattle.std.specs.Io.KnownBytes.{Appends};
+ghost use Rattle.std.specs.Prelude.{◌≡◌, IfErr, IfOk, map, option_map, string_bytes};
 ghost use Rattle.promql_text.specs.Texts.{Text};
-ghost use Rattle.promql_run.specs.Running.{IsNotUtf8, UnlessRead};
-ghost use Rattle.promql_run.specs.StepErrors.{IsInputError};
-ghost use Rattle.promql_lines.specs.EnforcedLines.{BeginsToEnforce, Enforces, FailsToEnforce, HasNoEnforcedLine, IsEnforcedAnswer, IsEnforceStatus, IsInputAnswer, IsLineStatus, enforce_command, enforce_number};
+ghost use Rattle.promql_run.specs.Programs.{AnswersQuery, Obeys};
 ghost use Rattle.promql_lines.specs.EnforcedLines as spec;
-ghost use Rattle.promql_report.specs.LimitOptions.{run, show};
-ghost use Rattle.promql_lines.specs.ProgramArguments.{enforce_seen};
+ghost use Rattle.promql_lines.specs.EnforcedLines.{FailsToEnforce, IsEnforcedAnswer, enforce_command, enforce_number};
 ghost use Rattle.promql_span.specs.declared.limits.Limits as spans;
-ghost use Rattle.promql_lines.specs.declared.enforced_line.EnforcedLineError.{EnforcedLineError};
 
 use crate::enforced_line::{EnforcedLineError, enforced_line};
 use promql_io::ended::Ended;
-use promql_report::limit_options::{default_limits, is_only, limits_with};
-use promql_run::program::USAGE_STATUS;
-use promql_run::run::{RunError, read_input, write_text};
+use promql_report::limit_options::{asked_text, default_limits, limits_with};
+use promql_run::output::{show_text, show_usage, write_answer};
+use promql_run::run::read_text;
 use promql_span::limits::Limits;
 use std::alloc::Global;
 use std::io::{Read, Write};
@@ -54,7 +49,7 @@ fn enforced_answer(
     query: &str,
     matcher: &str,
 ) -> Result<String, EnforcedLineError>
-    ensures ok { IfOk result (λ s. IsEnforcedAnswer limits.now query.now matcher.now (string_bytes s)) }
+    ensures ok { IfOk result (λ s. IsEnforcedAnswer limits.now matcher.now query.now (string_bytes s)) }
     ensures err { IfErr result (FailsToEnforce limits.now query.now matcher.now) }
 {
     let mut line = enforced_line(alloc, limits, query, matcher)?;
@@ -62,76 +57,15 @@ fn enforced_answer(
     Ok(line)
 }
 
-/// Reads all of the input, and returns what is written of the query in it.
-fn enforce_input<R: Read>(
-    alloc: Global,
-    limits: &Limits,
-    matcher: &str,
-    reader: &mut Ended<R>,
-) -> Result<Result<String, EnforcedLineError>, RunError>
-    ensures ok { IfOk result (IsInputAnswer limits.now matcher.now (R.remaining reader.old.inner) (R.remaining reader.new.inner)) }
-    ensures quiet { MatchResult result (λ _. reader.new.failed ≡ reader.old.failed)
-        (λ e. UnlessRead e (reader.new.failed ≡ reader.old.failed)) }
-    ensures read { IsErrOf result RunError.Read → reader.new.failed ≡ true }
-    ensures not_utf8 { IsErrOf result RunError.NotUtf8
-        → IsNotUtf8 (R.remaining reader.old.inner) (R.remaining reader.new.inner) }
-    ensures errors { IfErr result IsInputError }
+/// The matcher and the limits that the arguments ask for, the program's own name first; `None` where they are nothing known.
+fn enforce_with(args: &[String]) -> Option<(&str, Limits)>
+    ensures { option_map (λ asked. (asked.0.now, asked.1)) result ≡ spec.enforce_with (map string_bytes args.now) }
 {
-    let input = read_input(alloc, reader)?;
-    let Ok(query) = str::from_utf8(input.as_slice()) else {
-        return Err(RunError::NotUtf8);
-    };
-    Ok(enforced_answer(alloc, limits, query, matcher))
-}
-
-/// What the arguments ask for.
-#[derive(Clone, Copy)]
-enum Asked<'a> {
-    /// To show this text, the help or the version.
-    Show(&'static str),
-    /// To enforce the matcher of this text on a query within these limits.
-    Enforce(&'a str, Limits),
-}
-
-/// What the words after the program's name ask for, where that is no help; `None` where they are nothing known.
-fn enforce_with(words: &[String]) -> Option<Asked<'_>>
-    ensures { option_map enforce_seen result ≡ option_map run (spec.enforce_with (map string_bytes words.now)) }
-{
-    let [word, options @ ..] = words else {
+    let [_, word, options @ ..] = args else {
         return None;
     };
     let limits = limits_with(default_limits(), options)?;
-    Some(Asked::Enforce(word.as_str(), limits))
-}
-
-/// What the arguments ask for, the program's own name first; `None` where that is nothing known.
-fn command_of(args: &[String]) -> Option<Asked<'_>>
-    ensures { option_map enforce_seen result ≡ enforce_command (map string_bytes args.now) }
-{
-    let [_, words @ ..] = args else {
-        return None;
-    };
-    if is_only(words, "--help") {
-        return Some(Asked::Show(ENFORCE_HELP));
-    }
-    if is_only(words, "--version") {
-        return Some(Asked::Show(ENFORCE_VERSION));
-    }
-    enforce_with(words)
-}
-
-/// Writes the text, and returns the status.
-fn show<W: Write>(writer: &mut Ended<W>, text: &str) -> u8
-    ensures text { result ≡ 0
-        → Appends (W.contents writer.old.inner) (W.contents writer.new.inner) text.now }
-    ensures flushed { result ≡ 0 → writer.new.pending ≡ false }
-    ensures known { (result ≡ 0) ⊎ (result ≡ 5) }
-    ensures write { result ≡ 5 → writer.new.failed ≡ true }
-{
-    match write_text(writer, text) {
-        Ok(()) => 0,
-        Err(_) => 5,
-    }
+    Some((word.as_str(), limits))
 }
 
 /// Writes the query of the input with the matcher in every selector, and returns the status.
@@ -143,43 +77,22 @@ fn enforce<R: Read, W: Write, E: Write>(
     writer: &mut Ended<W>,
     errors: &mut Ended<E>,
 ) -> u8
-    ensures ok { result ≡ 0 → Enforces limits.now matcher.now
-        (R.remaining reader.old.inner) (R.remaining reader.new.inner)
-        (W.contents writer.old.inner) (W.contents writer.new.inner) }
-    ensures flushed { result ≡ 0 → writer.new.pending ≡ false }
-    ensures silent { result ≡ 0 → errors.new ≡ errors.old }
-    ensures none { IsLineStatus result → (e : EnforcedLineError) × (enforce_number e ≡ result)
-        × HasNoEnforcedLine limits.now matcher.now e
-        (R.remaining reader.old.inner) (R.remaining reader.new.inner) }
-    ensures unwritten { result ≢ 0 → result ≢ 5 → writer.new ≡ writer.old }
-    ensures known { IsEnforceStatus result }
-    ensures read { result ≡ 2 → reader.new.failed ≡ true }
-    ensures quiet { result ≢ 2 → reader.new.failed ≡ reader.old.failed }
-    ensures not_utf8 { result ≡ 3
-        → IsNotUtf8 (R.remaining reader.old.inner) (R.remaining reader.new.inner) }
-    ensures write { result ≡ 5 → writer.new.failed ≡ true }
-    ensures begun { result ≡ 5 → BeginsToEnforce limits.now matcher.now
-        (R.remaining reader.old.inner) (R.remaining reader.new.inner)
-        (W.contents writer.old.inner) (W.contents writer.new.inner) }
+    ensures { AnswersQuery R.remaining W.contents (IsEnforcedAnswer limits.now matcher.now) enforce_number
+        (λ e query. FailsToEnforce limits.now query matcher.now e)
+        reader.old reader.new writer.old writer.new errors.old errors.new result }
 {
-    let answer = match enforce_input(alloc, limits, matcher, reader) {
-        Ok(Ok(answer)) => answer,
-        Ok(Err(error)) => {
-            let _ = writeln!(errors, "{error}");
-            return error.number();
-        }
+    let query = match read_text(alloc, reader) {
+        Ok(query) => query,
         Err(error) => {
             let _ = writeln!(errors, "{error}");
             return error.number();
         }
     };
-    let written = write_text(writer, answer.as_str());
-    drop(answer);
-    match written {
-        Ok(()) => 0,
+    match enforced_answer(alloc, limits, query.as_str(), matcher) {
+        Ok(answer) => write_answer(writer, errors, answer.as_str()),
         Err(error) => {
             let _ = writeln!(errors, "{error}");
-            5
+            error.number()
         }
     }
 }
@@ -195,52 +108,18 @@ pub fn enforce_program<R: Read, W: Write, E: Write>(
     writer: &mut Ended<W>,
     errors: &mut Ended<E>,
 ) -> u8
-    // Other arguments than a matcher, with options or none, `--help` or `--version`: the usage line is all that happens.
-    ensures usage { (result ≡ USAGE_STATUS) ↔ (enforce_command (map string_bytes args.now) ≡ None) }
-    ensures usage_reads_nothing { result ≡ USAGE_STATUS → reader.new ≡ reader.old }
-    ensures usage_writes_nothing { result ≡ USAGE_STATUS → writer.new ≡ writer.old }
-    ensures usage_line { result ≡ USAGE_STATUS → errors.new.failed ≡ false →
-        Appends (E.contents errors.old.inner) (E.contents errors.new.inner) ENFORCE_USAGE.now }
-    // `--help`, `--version`: that text is printed, and nothing is read.
-    ensures show_reads_nothing { (text : Text) → enforce_command (map string_bytes args.now)
-        ≡ Some (show text) → reader.new ≡ reader.old }
-    ensures show_text { (text : Text) → enforce_command (map string_bytes args.now)
-        ≡ Some (show text) → result ≡ 0
-        → Appends (W.contents writer.old.inner) (W.contents writer.new.inner) text }
-    ensures show_status { (text : Text) → enforce_command (map string_bytes args.now)
-        ≡ Some (show text) → (result ≡ 0) ⊎ (result ≡ 5) }
-    // A matcher: the query of the input is written with it in every selector, or nothing is written.
-    ensures ok { (matcher : Text) (limits : spans.Limits) → enforce_command (map string_bytes args.now)
-        ≡ Some (run (matcher, limits)) → result ≡ 0 → Enforces limits matcher
-        (R.remaining reader.old.inner) (R.remaining reader.new.inner)
-        (W.contents writer.old.inner) (W.contents writer.new.inner) }
-    ensures flushed { result ≡ 0 → writer.new.pending ≡ false }
-    ensures silent { result ≡ 0 → errors.new ≡ errors.old }
-    ensures none { (matcher : Text) (limits : spans.Limits) → enforce_command (map string_bytes args.now)
-        ≡ Some (run (matcher, limits)) → IsLineStatus result
-        → (e : EnforcedLineError) × (enforce_number e ≡ result) × HasNoEnforcedLine limits matcher e
-        (R.remaining reader.old.inner) (R.remaining reader.new.inner) }
-    ensures unwritten { result ≢ 0 → result ≢ 5 → writer.new ≡ writer.old }
-    // Each other status is that of an error.
-    ensures known { IsEnforceStatus result ⊎ (result ≡ USAGE_STATUS) }
-    ensures read { result ≡ 2 → reader.new.failed ≡ true }
-    ensures quiet { result ≢ 2 → reader.new.failed ≡ reader.old.failed }
-    ensures not_utf8 { result ≡ 3
-        → IsNotUtf8 (R.remaining reader.old.inner) (R.remaining reader.new.inner) }
-    ensures write { result ≡ 5 → writer.new.failed ≡ true }
-    ensures begun { (matcher : Text) (limits : spans.Limits) → enforce_command (map string_bytes args.now)
-        ≡ Some (run (matcher, limits)) → result ≡ 5 → BeginsToEnforce limits matcher
-        (R.remaining reader.old.inner) (R.remaining reader.new.inner)
-        (W.contents writer.old.inner) (W.contents writer.new.inner) }
+    ensures { Obeys W.contents E.contents ENFORCE_USAGE.now
+        (λ (asked : Text × spans.Limits). AnswersQuery R.remaining W.contents (IsEnforcedAnswer asked.1 asked.0) enforce_number
+        (λ e query. FailsToEnforce asked.1 query asked.0 e)
+        reader.old reader.new writer.old writer.new errors.old errors.new result)
+        reader.old reader.new writer.old writer.new errors.old errors.new result
+        (enforce_command (map string_bytes args.now)) }
 {
-    match command_of(args) {
-        Some(Asked::Show(text)) => show(writer, text),
-        Some(Asked::Enforce(matcher, limits)) => {
-            enforce(alloc, &limits, matcher, reader, writer, errors)
-        }
-        None => {
-            let _ = write_text(errors, ENFORCE_USAGE);
-            USAGE_STATUS
-        }
+    if let Some(text) = asked_text(args, ENFORCE_HELP, ENFORCE_VERSION) {
+        return show_text(writer, text);
     }
+    let Some((matcher, limits)) = enforce_with(args) else {
+        return show_usage(errors, ENFORCE_USAGE);
+    };
+    enforce(alloc, &limits, matcher, reader, writer, errors)
 }

@@ -10,6 +10,7 @@ pub mod enforced_line;
 mod limit_checks;
 pub mod line;
 mod quoted_query;
+pub mod rejected_query;
 pub mod request;
 pub mod settings;
 pub mod tree_text;

@@ -1,22 +1,28 @@
 //! The answer to one line of a batch: docs/reference/programs.md, "Answers".
 
-ghost use Rattle.std.specs.Prelude.{◌≡◌, Some, IfOk, IfErr, option_map, string_bytes};
+ghost use Rattle.std.specs.Prelude.{◌≡◌, Option, Some, IfOk, IfErr, option_map, string_bytes};
 ghost use Rattle.std.specs.Str.{IsUtf8};
 ghost use Rattle.serde_json.specs.Read.{read};
 ghost use Rattle.serde_json.specs.View.{view};
 ghost use Rattle.promql_text.specs.Texts.{Text};
 ghost use Rattle.promql_ast.specs.View.{tree_of};
-ghost use Rattle.promql_lines.specs.BatchSteps.{IsEnforceFaultOf};
-ghost use Rattle.promql_lines.specs.Batch.{FailsOnQuery, FailsWith, IsAsked, IsErrorText, IsLineAnswer, IsOkLine, IsQueryAnswer, error_object, line_error_number, line_error_object, rejection_object};
+ghost use Rattle.promql_lines.specs.BatchSteps.{IsEnforceFaultOf, IsOkLine};
+ghost use Rattle.promql_lines.specs.Batch.{FailsOnQuery, FailsWith, IsAsked, IsErrorText, IsLineAnswer, IsQueryAnswer, error_object, line_error_number, line_error_object};
+ghost use Rattle.promql_report.specs.Rejecting.{IsRejection};
+ghost use Rattle.promql_run.specs.declared.format.Format.{Format};
+ghost use Rattle.promql_span.specs.declared.limits.Limits as spans;
 
-use crate::answer_text::{answer_within, shown_text};
+use crate::answer_text::answer_within;
 use crate::limit_checks::matcher_fault;
 use crate::quoted_query::quoted_query;
-use crate::request::{Format, default_format, format_in, matcher_in, query_in};
+use crate::rejected_query::RejectedQuery;
+use crate::request::{format_in, matcher_in, query_in};
 use crate::settings::Settings;
 use promql_ast::{Expr, drop_expr};
 use promql_report::rejection::{Rejection, read_query};
 use promql_rewrite::{EnforceTextError, MatcherError, enforce_text};
+use promql_run::format::Format;
+use promql_run::rendering::shown_text;
 use promql_run::run::RunError;
 use promql_span::limits::{LimitFault, Limits, LongOutput};
 use serde_json::{Category, Value, json};
@@ -31,7 +37,7 @@ pub enum LineError {
     Run(RunError),
     /// The query is not within its limits, or the parser rejects it.
     #[error("{0}")]
-    Rejected(Rejection),
+    Rejected(RejectedQuery),
     /// The line is not a JSON string, nor an object that asks for a query.
     #[error("line is not a request")]
     NotARequest,
@@ -56,7 +62,7 @@ impl LineError {
     {
         match self {
             LineError::Run(error) => error.number(),
-            LineError::Rejected(rejection) => rejection.reason.number(),
+            LineError::Rejected(query) => query.rejection.reason.number(),
             LineError::NotARequest => 7,
             LineError::Matcher(_) => 11,
             LineError::Info => 13,
@@ -122,6 +128,17 @@ fn enforced(
     }
 }
 
+/// The error of a query that is rejected.
+fn rejected(alloc: Global, query: &str, rejection: Rejection) -> LineError
+    ensures { (limits : spans.Limits) (matcher : Option Text) (format : Format)
+        → IsRejection limits query.now rejection → FailsOnQuery limits result query.now matcher format }
+{
+    match RejectedQuery::new(alloc, query, rejection) {
+        Ok(query) => LineError::Rejected(query),
+        Err(_) => LineError::Run(RunError::Memory),
+    }
+}
+
 /// The answer to a query in a format, with a matcher in its selectors if there is one.
 fn answer_query(
     alloc: Global,
@@ -131,12 +148,13 @@ fn answer_query(
     matcher: Option<&str>,
 ) -> Result<String, LineError>
     ensures ok { IfOk result (λ s.
-        IsQueryAnswer limits.now query.now (option_map (λ s. s.now) matcher.entry) format (string_bytes s)) }
-    ensures err { IfErr result (FailsOnQuery limits.now query.now (option_map (λ s. s.now) matcher.entry) format) }
+        IsQueryAnswer limits.now (string_bytes s) query.now (option_map (λ s. s.now) matcher.entry) format) }
+    ensures err { IfErr result (λ e.
+        FailsOnQuery limits.now e query.now (option_map (λ s. s.now) matcher.entry) format) }
 {
     let expr = match read_query(alloc, limits, query) {
         Ok(Ok(expr)) => expr,
-        Ok(Err(rejection)) => return Err(LineError::Rejected(rejection)),
+        Ok(Err(rejection)) => return Err(rejected(alloc, query, rejection)),
         Err(_) => return Err(LineError::Run(RunError::Memory)),
     };
     let expr = enforced(alloc, limits, expr, matcher)?;
@@ -159,7 +177,7 @@ fn answer_value(alloc: Global, settings: &Settings, asked: &Value) -> Result<Str
     let Some(query) = query_in(asked) else {
         return Err(LineError::NotARequest);
     };
-    let Some(format) = format_in(settings.mode, asked) else {
+    let Some(format) = format_in(settings.format, asked) else {
         return Err(LineError::NotARequest);
     };
     answer_query(alloc, &settings.limits, format, query, matcher_in(asked))
@@ -188,8 +206,13 @@ fn answer_text(alloc: Global, settings: &Settings, line: &str) -> Result<String,
 {
     match quoted_query(alloc, line) {
         Ok(Some(query)) => {
-            let format = default_format(settings.mode);
-            answer_query(alloc, &settings.limits, format, query.as_str(), None)
+            answer_query(
+                alloc,
+                &settings.limits,
+                settings.format,
+                query.as_str(),
+                None,
+            )
         }
         Ok(None) => answer_json(alloc, settings, line),
         Err(_) => Err(LineError::Run(RunError::Memory)),
@@ -214,32 +237,13 @@ fn error_value(alloc: Global, code: u8, message: &str) -> Result<Value, AllocErr
     json!(in alloc; {"code": code, "error": message})
 }
 
-/// An object of an error's number and its message, with the place of a rejection.
-fn rejection_value(
-    alloc: Global,
-    code: u8,
-    message: &str,
-    rejection: &Rejection,
-) -> Result<Value, AllocError>
-    ensures { IfOk result (λ v. view v ≡ rejection_object code message.now rejection.now) }
-{
-    json!(in alloc; {
-        "code": code,
-        "column": rejection.location.column,
-        "end": rejection.span.end,
-        "error": message,
-        "line": rejection.location.line,
-        "start": rejection.span.start
-    })
-}
-
 /// An object of an error of a line and its message.
 fn line_error_value(alloc: Global, error: &LineError, message: &str) -> Result<Value, AllocError>
     ensures { IfOk result (λ v. view v ≡ line_error_object error.now message.now) }
 {
     let code = error.number();
     match error {
-        LineError::Rejected(rejection) => rejection_value(alloc, code, message, rejection),
+        LineError::Rejected(query) => query.value(alloc, code, message),
         LineError::Run(_)
         | LineError::NotARequest
         | LineError::Matcher(_)

@@ -6,31 +6,11 @@ ghost use Rattle.serde_json.specs.View.{view};
 ghost use Rattle.std.specs.BTreeMap.{keys};
 ghost use Rattle.promql_lines.specs.Requests as spec;
 
-use promql_run::run::Mode;
+use promql_run::format::{Format, Layout};
 use serde_json::{Map, Value};
 
 /// The highest level of a layout.
 const MAX_LEVEL: u64 = 512;
-
-/// Where a query is laid out, and how wide.
-#[derive(Clone, Copy, PartialEq, Eq, Debug)]
-pub struct Layout {
-    /// Indentations of two spaces before its first line.
-    pub level: u16,
-    /// The most bytes that a line has, its indentation not counted.
-    pub width: usize,
-}
-
-/// How a query is printed.
-#[derive(Clone, Copy, PartialEq, Eq, Debug)]
-pub enum Format {
-    /// Laid out over several lines.
-    Pretty(Layout),
-    /// On one line.
-    Line,
-    /// As its JSON form.
-    Json,
-}
 
 /// The query that a line asks about; `None` where its value has none.
 pub fn query_in(value: &Value) -> Option<&str>
@@ -59,12 +39,12 @@ fn is_text(member: Option<&Value>) -> bool
     }
 }
 
-/// The mode of the member, or the command's.
-fn mode_in(asked: Mode, member: Option<&Value>) -> Option<Mode>
-    ensures { result ≡ spec.mode_in asked (option_map (λ v. view v.now) member.entry) }
+/// The format of the member's mode, or the command's.
+fn named_in(asked: Format, member: Option<&Value>) -> Option<Format>
+    ensures { result ≡ spec.named_in asked (option_map (λ v. view v.now) member.entry) }
 {
     match member {
-        Some(word) => Mode::from_name(word.as_str()?),
+        Some(word) => Format::from_name(word.as_str()?),
         None => Some(asked),
     }
 }
@@ -79,33 +59,22 @@ fn number_in(default: u64, most: u64, member: Option<&Value>) -> Option<u64>
     }
 }
 
-/// The format of a mode. Only a layout has a level and a width.
-fn format_with(level: Option<&Value>, width: Option<&Value>, mode: Mode) -> Option<Format>
+/// The format with this level and this width. Only a layout has them.
+fn format_with(level: Option<&Value>, width: Option<&Value>, format: Format) -> Option<Format>
     ensures { result ≡ spec.format_with (option_map (λ v. view v.now) level.entry)
-        (option_map (λ v. view v.now) width.entry) mode }
+        (option_map (λ v. view v.now) width.entry) format }
 {
-    match (mode, level, width) {
-        (Mode::Pretty, level, width) => {
-            let level = number_in(0, MAX_LEVEL, level)?;
-            let width = number_in(100, u64::MAX, width)?;
+    match (format, level, width) {
+        (Format::Pretty(layout), level, width) => {
+            let level = number_in(layout.level as u64, MAX_LEVEL, level)?;
+            let width = number_in(layout.width as u64, u64::MAX, width)?;
             Some(Format::Pretty(Layout {
                 level: level as u16,
                 width: width as usize,
             }))
         }
-        (Mode::Line, None, None) => Some(Format::Line),
-        (Mode::Json, None, None) => Some(Format::Json),
+        (other, None, None) => Some(other),
         _ => None,
-    }
-}
-
-/// The format of a request that names no mode, where the command names this one.
-pub fn default_format(mode: Mode) -> Format
-    ensures { spec.format_with None None mode ≡ Some result }
-{
-    match format_with(None, None, mode) {
-        Some(format) => format,
-        None => unreachable!(),
     }
 }
 
@@ -134,13 +103,13 @@ fn may_ask(value: &Value) -> bool
     }
 }
 
-/// How the query of a line is printed where the command names this mode; `None` where its value tells no format.
-pub fn format_in(asked: Mode, value: &Value) -> Option<Format>
+/// How the query of a line is printed where the command asks for this format; `None` where its value tells none.
+pub fn format_in(asked: Format, value: &Value) -> Option<Format>
     ensures { result ≡ spec.format_in asked (view value.now) }
 {
     if may_ask(value) && is_text(value.get("enforce")) {
-        let mode = mode_in(asked, value.get("mode"))?;
-        format_with(value.get("level"), value.get("width"), mode)
+        let format = named_in(asked, value.get("mode"))?;
+        format_with(value.get("level"), value.get("width"), format)
     } else {
         None
     }

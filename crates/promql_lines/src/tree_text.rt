@@ -6,12 +6,12 @@ ghost use Rattle.promql_lines.specs.TreeTexts.{FailsToShowForm, FailsToShowTree,
 ghost use Rattle.promql_lines.specs.TreeTextSteps.{FailsToReadForm, IsFormError, IsLayoutError};
 
 use crate::limit_checks::limit_fault;
-use crate::request::Format;
 use promql_ast::{Expr, drop_expr};
 use promql_json::{FromJsonError, JsonError, from_json_text, json_text};
 use promql_rewrite::{
     NotFaithful, NotPrintable, faithful_pretty, parenthesized, why_not_printable,
 };
+use promql_run::format::Format;
 use promql_span::limits::{LimitFault, Limits};
 use std::alloc::{AllocError, Global};
 use thiserror::Error;

@@ -18,7 +18,7 @@ ghost use Rattle.promql_rewrite.specs.Parenthesizing.{parenthesized};
 ghost use Rattle.promql_rewrite.specs.Renaming.{of_label, of_metric, renamed};
 ghost use Rattle.promql_lines.specs.EnforcedLines.{IsEnforcedLine};
 ghost use Rattle.promql_run.specs.Running.{IsPrinted};
-ghost use Rattle.promql_run.specs.declared.run.Mode.TheVariants.{Line, Pretty};
+ghost use Rattle.promql_run.specs.declared.format.Format.TheVariants.{Line, Pretty};
 ghost use Rattle.promql_span.specs.declared.limits.Limits.{Limits};
 ghost use Rattle.promql_meaning.specs.Relabeled.{relabeled, under_old_name};
 ghost use Rattle.promql_meaning.specs.Seen.{has_call_that_sees_beside, instants_of, seen};
@@ -97,11 +97,11 @@ pub fn enforced_lines_see_only_what_is_allowed()
 /// what `enforced_lines_see_only_what_is_allowed` speaks of, for the matcher that its argument is.
 pub fn programs_keep_what_is_meant()
     ensures line { (g : Text → Answer) (query printed : Text) (p : IsPrinted Line query printed)
-        → HasTree g query p.tree → (body : Text) × (printed ≡ body ++ 10 ∷ [])
-        × ((u : Tree) × HasTree g body u × ((s : Store) → seen s u ≡ seen s p.tree)) }
-    ensures pretty { (g : Text → Answer) (query printed : Text) (p : IsPrinted Pretty query printed)
-        → HasTree g query p.tree → (body : Text) × (printed ≡ body ++ 10 ∷ [])
-        × ((u : Tree) × HasTree g body u × ((s : Store) → seen s u ≡ seen s p.tree)) }
+        → HasTree g query p.1.tree → (body : Text) × (printed ≡ body ++ 10 ∷ [])
+        × ((u : Tree) × HasTree g body u × ((s : Store) → seen s u ≡ seen s p.1.tree)) }
+    ensures pretty { (g : Text → Answer) (query printed : Text) (p : IsPrinted (Pretty (record { level = 0; width = 100 })) query printed)
+        → HasTree g query p.1.tree → (body : Text) × (printed ≡ body ++ 10 ∷ [])
+        × ((u : Tree) × HasTree g body u × ((s : Store) → seen s u ≡ seen s p.1.tree)) }
     ensures enforce { (limits : Limits) (query matcher line : Text) → IsEnforcedLine limits query matcher line
         → (c : PlainMatcher) × IsEnforceable matcher c × IsEnforced query c line }
 {

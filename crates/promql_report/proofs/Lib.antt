@@ -1,3 +1,4 @@
+pub mod CheckAnswers
 pub mod LimitStatus
 pub mod NumberOptions
 pub mod OptionSteps

@@ -1,4 +1,4 @@
 pub mod Checking
-pub mod CheckArguments
+pub mod CheckedInputs
 pub mod LimitOptions
 pub mod Rejecting

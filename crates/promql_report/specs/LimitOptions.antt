@@ -1,28 +1,22 @@
 -- The options of the programs, which change the limits of queries (docs/reference/programs.md, "Limits of a query").
-use Rattle.std.specs.Prelude.{ℕ, ◌^◌, ◌&&◌, Bool, false, bytes_eq, codes, if◌then◌else◌, length, List, [], ◌∷◌, nat_lt, Option, Some, None, option_and_then, option_map}
+use Rattle.std.specs.Prelude.{ℕ, ◌^◌, ◌&&◌, bytes_eq, codes, if◌then◌else◌, length, List, [], ◌∷◌, nat_lt, Option, Some, None, option_and_then, option_map}
 use Rattle.std.specs.Char.{digit_value}
 use Rattle.std.specs.List.{list_all}
+use Rattle.std.specs.Option.{option_map_or}
 use Rattle.std.specs.Str.Parse.{digits_value, without_leading_plus}
 use Rattle.promql_text.specs.Texts.{Text}
+use Rattle.promql_run.specs.Programs.{Command, run, show}
 use Rattle.promql_span.specs.declared.limits.Limits.{Limits}
 
--- this option alone
-abbrev pub is_only : Text → List Text → Bool
-is_only option (word ∷ []) = bytes_eq word option
-is_only option words = false
+-- "Help and version": one of these texts, if its option is the only word after the program's own name
+abbrev pub asked_text : Text → Text → List Text → Option Text
+asked_text help version (own ∷ word ∷ []) =
+    if bytes_eq word (codes "--help") then Some help else if bytes_eq word (codes "--version") then Some version else None
+asked_text help version args = None
 
--- what the arguments of a program ask for: to show a text, or to run with settings
-pub data Command (A : Type 0) : Type 0 where
-  show : Text → Command A
-  run : A → Command A
-
--- the program's own name, and `--help` or `--version` alone, or what has settings
+-- that text, or what has settings
 abbrev pub command : {A : Type 0} → Text → Text → (List Text → Option A) → List Text → Option (Command A)
-command help version settings [] = None
-command help version settings (own ∷ words) =
-    if is_only (codes "--help") words then Some (show help)
-    else if is_only (codes "--version") words then Some (show version)
-    else option_map run (settings words)
+command help version settings args = option_map_or (λ text. Some (show text)) (asked_text help version args) (option_map run (settings args))
 
 -- a whole number below 2^64, in decimal digits, after a plus or not
 abbrev pub number_in : Text → Option ℕ

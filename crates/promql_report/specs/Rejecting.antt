@@ -1,7 +1,6 @@
 -- Why and where a query is rejected (docs/reference/programs.md, "Errors").
 use Rattle.std.specs.Prelude.{◌≡◌, ℕ, Option, Some, None, Result, Ok, Err}
-use Rattle.std.specs.Str.{chars}
-use Rattle.promql_span.specs.Locations.{line_of, column_of}
+use Rattle.promql_span.specs.Locations.{location_of}
 use Rattle.promql_text.specs.Texts.{Text}
 use Rattle.promql_ast.specs.Tree.{Tree}
 use Rattle.promql_ast.specs.View.{tree_of}
@@ -34,11 +33,9 @@ abbrev pub IsReason : Limits → Text → Reason → Span → Type 0
 IsReason limits query (Limit fault) span = IsLimitFault query limits fault × (limit_place query fault ≡ Some span)
 IsReason limits query (Parse e) span = IsWithin query limits × IsAnswerTo query (Err (plain_error_of e)) × IsPlaceOf query e (Some span)
 
--- this is why the query is rejected, at this part of it, which begins at this line and column
-pub record IsRejection (limits : Limits) (query : Text) (r : Rejection) : Type 0 where
-  pub is : IsReason limits query r.reason r.span
-  pub line : r.location.line ≡ line_of (chars query) r.span.start
-  pub column : r.location.column ≡ column_of (chars query) r.span.start
+-- this is why the query is rejected, at this part of it, and where that begins
+abbrev pub IsRejection : Limits → Text → Rejection → Type 0
+IsRejection limits query r = IsReason limits query r.reason r.span × (r.location ≡ location_of query r.span.start)
 
 -- the query is within its limits, and has this tree
 abbrev pub IsRead : Limits → Text → Tree → Type 0

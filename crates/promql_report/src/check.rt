@@ -1,25 +1,27 @@
 //! The program that checks a query, as a function of its arguments, its input and its two outputs:
 //! docs/reference/programs.md, "One query, checked".
 
-ghost use Rattle.std.specs.Prelude.{◌≡◌, ◌≢◌, ◌⊎◌, ◌↔◌, false, true, Some, None, IfNone, IfOk, IfErr, IfSome, IsErrOf, MatchResult, map, option_map, string_bytes};
+ghost use Rattle.std.specs.Prelude.{◌≡◌, ◌⊎◌, false, true, Some, None, IfNone, IfOk, IfErr, IfSome, IsErrOf, MatchResult, map, string_bytes};
 ghost use Rattle.std.specs.Io.KnownBytes.{Appends};
 ghost use Rattle.promql_text.specs.Texts.{Text};
 ghost use Rattle.promql_span.specs.ByteEscapes.{byte_escape};
 ghost use Rattle.promql_span.specs.Locations.{location_of};
 ghost use Rattle.promql_span.specs.declared.limits.Limits as spans;
 ghost use Rattle.promql_span.specs.declared.span.Span.{Span};
-ghost use Rattle.promql_report.specs.Checking.{IsChecked, IsQueryIn, IsReport, IsReported, IsSilent, IsWarned, check_command};
-ghost use Rattle.promql_report.specs.CheckArguments.{command_seen};
-ghost use Rattle.promql_report.specs.LimitOptions.{run, show};
-ghost use Rattle.promql_run.specs.Running.{IsNotUtf8, UnlessRead};
+ghost use Rattle.promql_report.specs.Checking.{HasQuery, IsQueryIn, IsReport, IsReported, IsSilent, IsWarned, check_command, check_limits};
+ghost use Rattle.promql_report.specs.CheckedInputs.{IsChecked};
+ghost use Rattle.promql_run.specs.Programs.{Obeys, Reads, run};
+ghost use Rattle.promql_io.specs.Inputs.{IsInput, IsNotUtf8};
+ghost use Rattle.promql_run.specs.Running.{UnlessRead};
 ghost use Rattle.promql_run.specs.StepErrors.{IsInputError};
 
-use crate::limit_options::{default_limits, is_only, limits_with};
+use crate::limit_options::{asked_text, default_limits, limits_with};
 use crate::rejection::{Rejection, read_query};
 use promql_ast::drop_expr;
 use promql_io::ended::Ended;
-use promql_run::program::USAGE_STATUS;
-use promql_run::run::{RunError, read_input, write_text};
+use promql_io::writing::write_text;
+use promql_run::output::{show_text, show_usage};
+use promql_run::run::{RunError, read_text};
 use promql_span::limits::Limits;
 use promql_span::{Location, Span, byte_escape, snippet, visible};
 use std::alloc::{AllocError, Global};
@@ -60,30 +62,14 @@ patterns are too large, 1 out of memory, 2 a read failed, 3 the input is not
 UTF-8, 5 a write failed, 64 wrong arguments.
 ";
 
-/// What the arguments ask for.
-#[derive(Clone, Copy)]
-enum CheckCommand {
-    /// This text, the help or the version.
-    Show(&'static str),
-    /// A check of the input, within these limits.
-    Check(Limits),
-}
-
-/// What the arguments ask for, the program's own name first; `None` where that is nothing known.
-fn command_of(args: &[String]) -> Option<CheckCommand>
-    ensures { option_map command_seen result ≡ check_command (map string_bytes args.now) }
+/// The limits that the arguments ask for, the program's own name first; `None` where they are no options.
+fn limits_of(args: &[String]) -> Option<Limits>
+    ensures { result ≡ check_limits (map string_bytes args.now) }
 {
     let [_, words @ ..] = args else {
         return None;
     };
-    if is_only(words, "--help") {
-        return Some(CheckCommand::Show(CHECK_HELP));
-    }
-    if is_only(words, "--version") {
-        return Some(CheckCommand::Show(CHECK_VERSION));
-    }
-    let limits = limits_with(default_limits(), words)?;
-    Some(CheckCommand::Check(limits))
+    limits_with(default_limits(), words)
 }
 
 /// What a check found of a query.
@@ -124,7 +110,7 @@ fn report_rejection(alloc: Global, query: &str, rejection: &Rejection) -> Result
     ensures { IfOk result (λ s. IsReport query.now rejection.now.location rejection.now.span
         (string_bytes s)) }
 {
-    let mut message = rejection.reason.to_string(alloc)?;
+    let mut message = rejection.message(alloc, query)?;
     if query.starts_with('\u{feff}') {
         message.push_str(BYTE_ORDER_MARK)?;
     }
@@ -162,24 +148,10 @@ fn query_in(text: &str) -> &str
     }
 }
 
-/// Reads all of the input, and checks the query in it.
-fn check_input<R: Read>(
-    alloc: Global,
-    limits: &Limits,
-    reader: &mut Ended<R>,
-) -> Result<Checked, RunError>
-    ensures ok { IfOk result (IsChecked limits.now (R.remaining reader.old.inner) (R.remaining reader.new.inner)) }
-    ensures quiet { MatchResult result (λ _. reader.new.failed ≡ reader.old.failed)
-        (λ e. UnlessRead e (reader.new.failed ≡ reader.old.failed)) }
-    ensures read { IsErrOf result RunError.Read → reader.new.failed ≡ true }
-    ensures not_utf8 { IsErrOf result RunError.NotUtf8
-        → IsNotUtf8 (R.remaining reader.old.inner) (R.remaining reader.new.inner) }
-    ensures errors { IfErr result IsInputError }
+/// Checks the query of a text.
+fn check_text(alloc: Global, limits: &Limits, text: &str) -> Result<Checked, AllocError>
+    ensures { IfOk result (IsChecked limits.now text.now) }
 {
-    let input = read_input(alloc, reader)?;
-    let Ok(text) = str::from_utf8(input.as_slice()) else {
-        return Err(RunError::NotUtf8);
-    };
     let query = query_in(text);
     match read_query(alloc, limits, query)? {
         Ok(expr) => {
@@ -196,6 +168,25 @@ fn check_input<R: Read>(
     }
 }
 
+/// Reads all of the input, and checks the query in it.
+fn check_input<R: Read>(
+    alloc: Global,
+    limits: &Limits,
+    reader: &mut Ended<R>,
+) -> Result<Checked, RunError>
+    ensures ok { IfOk result (λ found. IsInput (λ text. IsChecked limits.now text found)
+        (R.remaining reader.old.inner) (R.remaining reader.new.inner)) }
+    ensures quiet { MatchResult result (λ _. reader.new.failed ≡ reader.old.failed)
+        (λ e. UnlessRead e (reader.new.failed ≡ reader.old.failed)) }
+    ensures read { IsErrOf result RunError.Read → reader.new.failed ≡ true }
+    ensures not_utf8 { IsErrOf result RunError.NotUtf8
+        → IsNotUtf8 (R.remaining reader.old.inner) (R.remaining reader.new.inner) }
+    ensures errors { IfErr result IsInputError }
+{
+    let text = read_text(alloc, reader)?;
+    Ok(check_text(alloc, limits, text.as_str())?)
+}
+
 /// Runs the program that checks a query, and returns its status (docs/reference/programs.md, "One query, checked").
 ///
 /// `args` begins with the program's own name. A report, a warning, or the message of another error and a line feed, go to `errors`;
@@ -207,62 +198,35 @@ pub fn check_program<R: Read, W: Write, E: Write>(
     writer: &mut Ended<W>,
     errors: &mut Ended<E>,
 ) -> u8
-    // Other arguments than options, `--help` or `--version`: the usage line is all that happens.
-    ensures usage { (result ≡ USAGE_STATUS) ↔ (check_command (map string_bytes args.now) ≡ None) }
-    ensures usage_reads_nothing { result ≡ USAGE_STATUS → reader.new ≡ reader.old }
-    ensures usage_writes_nothing { result ≡ USAGE_STATUS → writer.new ≡ writer.old }
-    ensures usage_line { result ≡ USAGE_STATUS → errors.new.failed ≡ false →
-        Appends (E.contents errors.old.inner) (E.contents errors.new.inner) CHECK_USAGE.now }
-    // `--help`, `--version`: that text is printed, and nothing is read.
-    ensures show_reads_nothing { (text : Text) → check_command (map string_bytes args.now)
-        ≡ Some (show text) → reader.new ≡ reader.old }
-    ensures show_text { (text : Text) → check_command (map string_bytes args.now)
-        ≡ Some (show text) → result ≡ 0
-        → Appends (W.contents writer.old.inner) (W.contents writer.new.inner) text }
-    ensures show_flushed { (text : Text) → check_command (map string_bytes args.now)
-        ≡ Some (show text) → result ≡ 0 → writer.new.pending ≡ false }
-    ensures show_status { (text : Text) → check_command (map string_bytes args.now)
-        ≡ Some (show text) → (result ≡ 0) ⊎ (result ≡ 5) }
+    // The usage line, the help or the version as the arguments ask, or a check, which writes nothing but to `errors`.
+    ensures obeys { Obeys W.contents E.contents CHECK_USAGE.now
+        (λ (limits : spans.Limits). Reads R.remaining reader.old reader.new result × (writer.new ≡ writer.old))
+        reader.old reader.new writer.old writer.new errors.old errors.new result
+        (check_command (map string_bytes args.now)) }
     // A check: where the query is accepted, nothing is written, or the warning of a byte escape; and the report where it is rejected.
     ensures accepted { (limits : spans.Limits) → check_command (map string_bytes args.now)
         ≡ Some (run limits) → result ≡ 0
-        → (IsSilent limits (R.remaining reader.old.inner) (R.remaining reader.new.inner)
+        → (HasQuery (IsSilent limits) (R.remaining reader.old.inner) (R.remaining reader.new.inner)
         × (errors.new ≡ errors.old))
         ⊎ ((warning : Text)
-        × IsWarned limits (R.remaining reader.old.inner) (R.remaining reader.new.inner) warning
+        × HasQuery (IsWarned limits warning) (R.remaining reader.old.inner) (R.remaining reader.new.inner)
         × (errors.new.failed ≡ false
         → Appends (E.contents errors.old.inner) (E.contents errors.new.inner) warning)) }
     ensures rejected { (limits : spans.Limits) → check_command (map string_bytes args.now)
         ≡ Some (run limits) → (result ≡ REJECTED_STATUS) ⊎ (result ≡ LIMIT_STATUS) → (report : Text)
-        × IsReported limits (R.remaining reader.old.inner) (R.remaining reader.new.inner) result report
+        × HasQuery (IsReported limits result report) (R.remaining reader.old.inner) (R.remaining reader.new.inner)
         × (errors.new.failed ≡ false
         → Appends (E.contents errors.old.inner) (E.contents errors.new.inner) report) }
-    ensures unwritten { (limits : spans.Limits) → check_command (map string_bytes args.now)
-        ≡ Some (run limits) → writer.new ≡ writer.old }
-    ensures show_silent { (text : Text) → check_command (map string_bytes args.now)
-        ≡ Some (show text) → errors.new ≡ errors.old }
     // Each other status is that of an error.
-    ensures known { (result ≡ 0) ⊎ (result ≡ 1) ⊎ (result ≡ 2) ⊎ (result ≡ 3)
-        ⊎ (result ≡ REJECTED_STATUS) ⊎ (result ≡ LIMIT_STATUS) ⊎ (result ≡ 5)
-        ⊎ (result ≡ USAGE_STATUS) }
-    ensures read { result ≡ 2 → reader.new.failed ≡ true }
-    ensures quiet { result ≢ 2 → reader.new.failed ≡ reader.old.failed }
-    ensures not_utf8 { result ≡ 3
-        → IsNotUtf8 (R.remaining reader.old.inner) (R.remaining reader.new.inner) }
-    ensures write { result ≡ 5 → writer.new.failed ≡ true }
+    ensures known { (limits : spans.Limits) → check_command (map string_bytes args.now)
+        ≡ Some (run limits) → (result ≡ 0) ⊎ (result ≡ 1) ⊎ (result ≡ 2) ⊎ (result ≡ 3)
+        ⊎ (result ≡ REJECTED_STATUS) ⊎ (result ≡ LIMIT_STATUS) }
 {
-    let limits = match command_of(args) {
-        Some(CheckCommand::Check(limits)) => limits,
-        Some(CheckCommand::Show(text)) => {
-            return match write_text(writer, text) {
-                Ok(()) => 0,
-                Err(error) => error.number(),
-            };
-        }
-        None => {
-            let _ = write_text(errors, CHECK_USAGE);
-            return USAGE_STATUS;
-        }
+    if let Some(text) = asked_text(args, CHECK_HELP, CHECK_VERSION) {
+        return show_text(writer, text);
+    }
+    let Some(limits) = limits_of(args) else {
+        return show_usage(errors, CHECK_USAGE);
     };
     match check_input(alloc, &limits, reader) {
         Ok(Checked::Accepted) => 0,

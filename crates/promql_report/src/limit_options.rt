@@ -1,17 +1,27 @@
 //! The options of the programs, which change the limits of queries: docs/reference/programs.md, "Limits of a query".
 
-ghost use Rattle.std.specs.Prelude.{◌≡◌, map, string_bytes};
+ghost use Rattle.std.specs.Prelude.{◌≡◌, map, option_map, string_bytes};
 ghost use Rattle.promql_report.specs.LimitOptions as spec;
 
 use promql_span::limits::{Limits, MAX_LEN, MAX_OUTPUT, MAX_PATTERN_SIZE};
 
-/// Whether the words are this option alone.
-pub fn is_only(words: &[String], option: &str) -> bool
-    ensures { result ≡ spec.is_only option.now (map string_bytes words.now) }
+/// The text that the arguments ask for alone, the help or the version, the program's own name first; `None` where they are others.
+pub fn asked_text(
+    args: &[String],
+    help: &'static str,
+    version: &'static str,
+) -> Option<&'static str>
+    ensures { option_map (λ s. s.now) result ≡ spec.asked_text help.now version.now (map string_bytes args.now) }
 {
-    match words {
-        [word] => word.as_str() == option,
-        _ => false,
+    let [_, word] = args else {
+        return None;
+    };
+    if word.as_str() == "--help" {
+        Some(help)
+    } else if word.as_str() == "--version" {
+        Some(version)
+    } else {
+        None
     }
 }
 

@@ -7,6 +7,7 @@ ghost use Rattle.promql_report.specs.Rejecting.{IsReadAs, limit_place, reason_nu
 use promql_ast::Expr;
 use promql_span::diagnosis::{Diagnosis, diagnose};
 use promql_span::limits::{LimitFault, Limits, check_limits};
+use promql_span::unexpected::unexpected_at;
 use promql_span::{Location, Span, end_of_text};
 use promql_syntax::parser::ParseError;
 use std::alloc::{AllocError, Global};
@@ -45,6 +46,23 @@ pub struct Rejection {
     pub span: Span,
     /// The line and the column where that part begins.
     pub location: Location,
+}
+
+impl Rejection {
+    /// The message for people: of a syntax error what was found and what was expected (docs/reference/grammar.md, "What is
+    /// expected"), of any other the message of the reason. `query` is the query that it is of.
+    ///
+    /// # Errors
+    ///
+    /// `AllocError` where an allocation failed.
+    pub fn message(&self, alloc: Global, query: &str) -> Result<String, AllocError> {
+        match self.reason {
+            Reason::Parse(ParseError::Syntax) => {
+                unexpected_at(alloc, query, self.span.start)?.to_string(alloc)
+            }
+            _ => self.reason.to_string(alloc),
+        }
+    }
 }
 
 /// The tree of a query, or why and where it is rejected. A query that is not within its limits is not parsed.

@@ -1,6 +1,6 @@
 pub mod NoExtensions
 pub mod JsonForms
 pub mod Indentations
-pub mod Rejections
+pub mod InputsRead
 pub mod SameRunErrors
 pub mod Statuses

@@ -2,3 +2,4 @@ pub mod Extensions
 pub mod Running
 pub mod StepErrors
 pub mod ProgramArguments
+pub mod Programs

@@ -2,11 +2,6 @@
 use Rattle.promql_run.specs.declared.run.RunError.{RunError}
 use Rattle.promql_run.specs.declared.run.RunError.TheVariants as error
 
-abbrev pub IsReadError : RunError → Type 0
-IsReadError error.Memory = Unit {0}
-IsReadError error.Read = Unit {0}
-IsReadError _ = ⊥
-
 abbrev pub IsInputError : RunError → Type 0
 IsInputError error.Memory = Unit {0}
 IsInputError error.Read = Unit {0}

@@ -1,17 +1,18 @@
 //! Laws: the contracts of functions that do nothing.
 
 ghost use Rattle.promql_text.specs.Equalities.{IsSameBy};
-ghost use Rattle.promql_run.specs.declared.run.Mode as modes;
+ghost use Rattle.promql_run.specs.declared.format.Format as formats;
 ghost use Rattle.promql_run.specs.Running.{failure_of};
 
-use crate::run::{Mode, RunError};
+use crate::format::Format;
+use crate::run::RunError;
 
-/// Modes are equal exactly if they are one.
-pub fn equal_modes()
-    ensures { IsSameBy (λ (m : modes.Mode). m) ⟦<Mode as PartialEq>⟧.eq }
+/// Formats are equal exactly if they are one.
+pub fn equal_formats()
+    ensures { IsSameBy (λ (f : formats.Format). f) ⟦<Format as PartialEq>⟧.eq }
 {}
 
-/// Errors are equal exactly if they are of one kind, with the same data.
+/// Errors are equal exactly if they have one number and, of the parser, are its same errors.
 pub fn equal_errors()
     ensures { IsSameBy failure_of ⟦<RunError as PartialEq>⟧.eq }
 {

@@ -3,7 +3,9 @@
 //! queries, or enforce a matcher.
 #![tactic(auto)]
 
+pub mod format;
 pub mod laws;
+pub mod output;
 pub mod program;
 pub mod rendering;
 pub mod run;

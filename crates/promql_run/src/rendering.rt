@@ -1,22 +1,21 @@
-//! What is made of an expression: its text in a mode.
+//! What is made of an expression: its text in a format.
 
-ghost use Rattle.std.specs.Prelude.{◌≡◌, ◌≤◌, Ok, Err, IfOk, IfErr, IfNone, IfSome, IsErrOf, string_bytes};
+ghost use Rattle.std.specs.Prelude.{◌≡◌, ◌++◌, ◌∷◌, ◌≤◌, [], Ok, Err, IfOk, IfErr, IfNone, IfSome, IsErrOf, string_bytes};
+ghost use Rattle.promql_text.specs.Texts.{Text};
 ghost use Rattle.promql_ast.specs.Height.{height};
 ghost use Rattle.promql_ast.specs.Layout.{layout_of};
 ghost use Rattle.promql_ast.specs.View.{tree_of};
 ghost use Rattle.promql_syntax.specs.declared.parser.TheConstants.{MAX_DEPTH};
 ghost use Rattle.promql_json.specs.declared.error.JsonError.TheVariants.{NumberTooWide};
 ghost use Rattle.promql_run.specs.Extensions.{HasNoExtension};
-ghost use Rattle.promql_run.specs.Running.{IsModeLine, mode_text};
+ghost use Rattle.promql_run.specs.Running.{format_text};
 ghost use Rattle.promql_run.specs.StepErrors.{IsShowError};
 
-use crate::run::{Mode, RunError};
+use crate::format::Format;
+use crate::run::RunError;
 use promql_ast::{Expr, Prettier, PrettyError};
 use promql_json::JsonError;
 use std::alloc::{AllocError, Global};
-
-/// The most bytes of a line in the mode `pretty`.
-const PRETTY_WIDTH: usize = 100;
 
 /// The expression, laid out at a level of two spaces each, in lines of at most `width` bytes (docs/reference/printing.md). An
 /// expression that was read is low enough for each indentation.
@@ -49,9 +48,9 @@ pub fn pretty_text(
 pub fn json_text(alloc: Global, expr: &Expr) -> Result<Option<String>, AllocError>
     requires { HasNoExtension (tree_of expr.now) }
     ensures text { IfOk result (λ form.
-        IfSome form (λ s. mode_text Mode.Json (tree_of expr.now) ≡ Ok (string_bytes s))) }
+        IfSome form (λ s. format_text Format.Json (tree_of expr.now) ≡ Ok (string_bytes s))) }
     ensures wide { IfOk result (λ form.
-        IfNone form (mode_text Mode.Json (tree_of expr.now) ≡ Err NumberTooWide)) }
+        IfNone form (format_text Format.Json (tree_of expr.now) ≡ Err NumberTooWide)) }
 {
     match promql_json::json_text(alloc, expr) {
         Ok(text) => Ok(Some(text)),
@@ -61,32 +60,40 @@ pub fn json_text(alloc: Global, expr: &Expr) -> Result<Option<String>, AllocErro
     }
 }
 
-/// The text of an expression in a mode.
-fn render(alloc: Global, mode: Mode, expr: &Expr) -> Result<String, RunError>
+/// The text of an expression in a format; `None` where a number of milliseconds is too wide for JSON. An expression that was
+/// read is low enough for a layout, and has no extension.
+///
+/// # Errors
+///
+/// `AllocError` where an allocation failed.
+pub fn shown_text(alloc: Global, format: Format, expr: &Expr) -> Result<Option<String>, AllocError>
     requires low { height (tree_of expr.now) ≤ MAX_DEPTH }
     requires plain { HasNoExtension (tree_of expr.now) }
-    ensures ok { IfOk result (λ s. mode_text mode (tree_of expr.now) ≡ Ok (string_bytes s)) }
-    ensures json { IsErrOf result RunError.Json →
-        mode_text mode (tree_of expr.now) ≡ Err NumberTooWide }
-    ensures errors { IfErr result IsShowError }
+    ensures text { IfOk result (λ shown.
+        IfSome shown (λ s. format_text format (tree_of expr.now) ≡ Ok (string_bytes s))) }
+    ensures wide { IfOk result (λ shown.
+        IfNone shown (format_text format (tree_of expr.now) ≡ Err NumberTooWide)) }
 {
-    match mode {
-        Mode::Pretty => Ok(pretty_text(alloc, 0, PRETTY_WIDTH, expr)?),
-        Mode::Line => Ok(expr.to_string(alloc)?),
-        Mode::Json => json_text(alloc, expr)?.ok_or(RunError::Json),
+    match format {
+        Format::Pretty(layout) => Ok(Some(pretty_text(alloc, layout.level, layout.width, expr)?)),
+        Format::Line => Ok(Some(expr.to_string(alloc)?)),
+        Format::Json => json_text(alloc, expr),
     }
 }
 
-/// The text of an expression in a mode, with a line feed after it.
-pub(crate) fn render_line(alloc: Global, mode: Mode, expr: &Expr) -> Result<String, RunError>
+/// The text of an expression in a format, with a line feed after it.
+pub(crate) fn render_line(alloc: Global, format: Format, expr: &Expr) -> Result<String, RunError>
     requires low { height (tree_of expr.now) ≤ MAX_DEPTH }
     requires plain { HasNoExtension (tree_of expr.now) }
-    ensures ok { IfOk result (λ s. IsModeLine mode (tree_of expr.now) (string_bytes s)) }
+    ensures ok { IfOk result (λ s. (body : Text) × (format_text format (tree_of expr.now) ≡ Ok body)
+        × (string_bytes s ≡ body ++ 10 ∷ [])) }
     ensures json { IsErrOf result RunError.Json →
-        mode_text mode (tree_of expr.now) ≡ Err NumberTooWide }
+        format_text format (tree_of expr.now) ≡ Err NumberTooWide }
     ensures errors { IfErr result IsShowError }
 {
-    let mut line = render(alloc, mode, expr)?;
+    let Some(mut line) = shown_text(alloc, format, expr)? else {
+        return Err(RunError::Json);
+    };
     line.push_str("\n")?;
     Ok(line)
 }

@@ -5,6 +5,7 @@ mod check;
 mod failures;
 mod options;
 mod program;
+mod rows;
 mod runs;
 mod streams;
 

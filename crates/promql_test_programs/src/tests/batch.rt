@@ -6,7 +6,8 @@ use promql_io::ended::Ended;
 use promql_lines::batch::run_batch;
 use promql_lines::batch_program::{BATCH_HELP, BATCH_USAGE, batch_program};
 use promql_lines::settings::Settings;
-use promql_run::run::{Mode, RunError};
+use promql_run::format::Format;
+use promql_run::run::RunError;
 use promql_span::limits::{Limits, MAX_LEN, MAX_OUTPUT, MAX_PATTERN_SIZE};
 use std::alloc::{AllocError, Global};
 use std::io::BufReader;
@@ -15,7 +16,7 @@ use std::test::Fail;
 
 /// The settings of a batch in the mode `line`.
 const LINE: Settings = Settings {
-    mode: Mode::Line,
+    format: Format::Line,
     limits: Limits {
         max_len: MAX_LEN,
         max_pattern_size: MAX_PATTERN_SIZE,
@@ -28,7 +29,7 @@ const LINES: &[u8] = b"\"1+2\"\n{\"query\":\"a\",\"mode\":\"json\"}\n\n\"a b\"\n
 const ANSWERS: &[u8] = b"{\"ok\":\"1 + 2\"}
 {\"ok\":{\"matchers\":[],\"name\":\"a\",\"offset\":0,\"startOrEnd\":null,\"timestamp\":null,\"type\":\"vectorSelector\"}}
 {\"code\":7,\"error\":\"line is not a request\"}
-{\"code\":4,\"column\":3,\"end\":3,\"error\":\"invalid promql query\",\"line\":1,\"start\":2}
+{\"code\":4,\"column\":3,\"end\":3,\"error\":\"invalid promql query\",\"expected\":[\"\\\"{\\\"\",\"\\\"[\\\"\",\"\\\"(\\\"\",\"operator\",\"\\\"@\\\"\",\"\\\"offset\\\"\",\"\\\"smoothed\\\"\",\"\\\"anchored\\\"\",\"end of query\"],\"found\":\"identifier \\\"b\\\"\",\"line\":1,\"start\":2}
 {\"code\":3,\"error\":\"input is not UTF-8\"}
 {\"ok\":\"x\"}
 ";

@@ -1,5 +1,6 @@
 //! The program that checks a query, over its arguments, its input and its outputs.
 
+use super::rows::{Ends, Row};
 use super::streams::{FlakyReader, FlakyWriter};
 use super::texts;
 use promql_io::ended::Ended;
@@ -7,15 +8,6 @@ use promql_report::check::{CHECK_HELP, CHECK_USAGE, check_program};
 use std::alloc::Global;
 use std::process::Abort;
 use std::test::Fail;
-
-/// Arguments, input, status, standard output, standard error.
-type Row = (
-    &'static [&'static str],
-    &'static [u8],
-    u8,
-    &'static str,
-    &'static str,
-);
 
 const ROWS: [Row; 27] = [
     (&["promql_check"], b"1 + (foo - 2)", 0, "", ""),
@@ -32,14 +24,14 @@ const ROWS: [Row; 27] = [
         b"1 +",
         4,
         "",
-        "1:4: invalid promql query\n1 +\n   ^\n",
+        "1:4: unexpected end of query, expected expression, \"bool\", \"ignoring\", \"on\", \"fill\", \"fill_left\" or \"fill_right\"\n1 +\n   ^\n",
     ),
     (
         &[""],
         b"1 +\n",
         4,
         "",
-        "1:4: invalid promql query\n1 +\n   ^\n",
+        "1:4: unexpected end of query, expected expression, \"bool\", \"ignoring\", \"on\", \"fill\", \"fill_left\" or \"fill_right\"\n1 +\n   ^\n",
     ),
     (
         &[""],
@@ -74,7 +66,7 @@ const ROWS: [Row; 27] = [
         b"foo{a=\"\x07\x1b\"} b",
         4,
         "",
-        "1:13: invalid promql query\nfoo{a=\"\\x07\\x1b\"} b\n                  ^\n",
+        "1:13: unexpected identifier \"b\", expected \"[\", operator, \"@\", \"offset\", \"smoothed\", \"anchored\" or end of query; an operator is missing before it\nfoo{a=\"\\x07\\x1b\"} b\n                  ^\n",
     ),
     (
         &[""],
@@ -88,7 +80,7 @@ const ROWS: [Row; 27] = [
         b"a\rb c",
         4,
         "",
-        "1:3: invalid promql query\na\\x0db c\n     ^\n",
+        "1:3: unexpected identifier \"b\", expected \"{\", \"[\", \"(\", operator, \"@\", \"offset\", \"smoothed\", \"anchored\" or end of query; an operator is missing before it\na\\x0db c\n     ^\n",
     ),
     (
         &[""],
@@ -145,16 +137,15 @@ const ROWS: [Row; 27] = [
 
 /// The program with these arguments does what the row says.
 fn check_row(rt: &impl Abort, alloc: Global, args: &[String], row: &Row) {
-    let (words, input, status, line, report) = *row;
-    let mut reader = Ended::new(input);
-    let mut writer = Ended::new(Vec::new(alloc));
-    let mut errors = Ended::new(Vec::new(alloc));
-    let found = check_program(alloc, args, &mut reader, &mut writer, &mut errors);
-    assert_eq!(rt; found, status, "{words:?}");
-    assert!(rt; writer.inner().as_slice() == line.as_bytes(), "{words:?}");
-    assert!(rt; errors.inner().as_slice() == report.as_bytes(), "{input:?}");
-    let is_read = status != 64 && line.is_empty();
-    assert_eq!(rt; reader.inner().is_empty(), is_read, "{words:?}");
+    let mut ends = Ends::of_row(alloc, row);
+    let status = check_program(
+        alloc,
+        args,
+        &mut ends.reader,
+        &mut ends.writer,
+        &mut ends.errors,
+    );
+    ends.check(rt, row, status, row.2 != 64 && row.3.is_empty());
 }
 
 #[test]

@@ -3,7 +3,8 @@
 use super::check_value;
 use super::streams::{FlakyReader, FlakyWriter};
 use promql_io::ended::Ended;
-use promql_run::run::{Mode, RunError, run};
+use promql_run::format::{Format, PRETTY_LAYOUT};
+use promql_run::run::{RunError, run};
 use std::test::Fail;
 
 #[test]
@@ -17,7 +18,7 @@ fn a_reader_that_fails(rt: HostRuntime) -> Result<(), Fail> {
             fails_at,
         });
         let mut writer = Ended::new(Vec::new(alloc));
-        let answer = run(alloc, Mode::Line, &mut reader, &mut writer);
+        let answer = run(alloc, Format::Line, &mut reader, &mut writer);
         if fails_at <= 8 {
             check_value(&rt, answer, Err(RunError::Read), &fails_at);
             assert!(rt; reader.has_failed() && !writer.has_failed() && writer.inner().is_empty());
@@ -40,7 +41,7 @@ fn a_writer_that_fails(rt: HostRuntime) -> Result<(), Fail> {
         let input: &[u8] = b"1 + (foo - 2)";
         let mut reader = Ended::new(input);
         let mut writer = Ended::new(FlakyWriter::new(alloc, fails_at, 0));
-        let answer = run(alloc, Mode::Line, &mut reader, &mut writer);
+        let answer = run(alloc, Format::Line, &mut reader, &mut writer);
         let want = if fails_at <= 6 {
             Err(RunError::Write)
         } else {
@@ -63,7 +64,7 @@ fn a_writer_that_takes_nothing(rt: HostRuntime) -> Result<(), Fail> {
         let input: &[u8] = b"1 + (foo - 2)";
         let mut reader = Ended::new(input);
         let mut writer = Ended::new(FlakyWriter::new(alloc, 0, takes_none_at));
-        let answer = run(alloc, Mode::Line, &mut reader, &mut writer);
+        let answer = run(alloc, Format::Line, &mut reader, &mut writer);
         check_value(&rt, answer, Err(RunError::Write), &takes_none_at);
         assert!(rt; writer.has_failed());
         assert_eq!(rt; writer.inner().calls, takes_none_at);
@@ -75,11 +76,15 @@ fn a_writer_that_takes_nothing(rt: HostRuntime) -> Result<(), Fail> {
 #[test]
 fn one_row_for_failing_allocations(rt: HostRuntime) -> Result<(), Fail> {
     let alloc = rt.alloc();
-    for (mode, input, want) in [
-        (Mode::Pretty, "1 + (foo - 2)", "1 + (foo - 2)\n"),
-        (Mode::Line, "1-2-3", "1 - 2 - 3\n"),
+    for (format, input, want) in [
         (
-            Mode::Json,
+            Format::Pretty(PRETTY_LAYOUT),
+            "1 + (foo - 2)",
+            "1 + (foo - 2)\n",
+        ),
+        (Format::Line, "1-2-3", "1 - 2 - 3\n"),
+        (
+            Format::Json,
             "-(1)",
             "{\"expr\":{\"expr\":{\"type\":\"numberLiteral\",\"val\":\"1\"},\"type\":\"parenExpr\"},\"op\":\"-\",\"type\":\"unaryExpr\"}\n",
         ),
@@ -89,7 +94,7 @@ fn one_row_for_failing_allocations(rt: HostRuntime) -> Result<(), Fail> {
         let mut reader = Ended::new(input.as_bytes());
         let answer = {
             let mut writer = Ended::new(left);
-            run(alloc, mode, &mut reader, &mut writer)
+            run(alloc, format, &mut reader, &mut writer)
         };
         match answer {
             Ok(()) => assert!(rt; held.starts_with(want.as_bytes())),

@@ -1,5 +1,6 @@
 //! The program over its arguments, its input and its outputs.
 
+use super::rows::{Ends, Row};
 use super::streams::FlakyWriter;
 use super::texts;
 use promql_io::ended::Ended;
@@ -9,15 +10,6 @@ use std::process::Abort;
 use std::test::Fail;
 
 const USAGE: &str = "usage: promql pretty|line|json\n";
-
-/// Arguments, input, status, standard output, standard error.
-type Row = (
-    &'static [&'static str],
-    &'static [u8],
-    u8,
-    &'static str,
-    &'static str,
-);
 
 const ROWS: [Row; 13] = [
     (
@@ -61,18 +53,15 @@ const ROWS: [Row; 13] = [
 
 /// The program with these arguments does what the row says.
 fn check_row(rt: &impl Abort, alloc: Global, args: &[String], row: &Row) {
-    let (words, input, status, line, message) = *row;
-    let mut reader = Ended::new(input);
-    let mut writer = Ended::new(Vec::new(alloc));
-    let mut errors = Ended::new(Vec::new(alloc));
-    let found = program(alloc, args, &mut reader, &mut writer, &mut errors);
-    assert_eq!(rt; found, status, "{words:?}");
-    assert!(rt; writer.inner().as_slice() == line.as_bytes(), "{words:?}");
-    assert!(rt;
-        errors.inner().as_slice() == message.as_bytes(),
-        "{words:?}"
+    let mut ends = Ends::of_row(alloc, row);
+    let status = program(
+        alloc,
+        args,
+        &mut ends.reader,
+        &mut ends.writer,
+        &mut ends.errors,
     );
-    assert_eq!(rt; reader.inner().is_empty(), status != 64, "{words:?}");
+    ends.check(rt, row, status, row.2 != 64);
 }
 
 #[test]

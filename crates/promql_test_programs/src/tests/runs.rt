@@ -3,7 +3,8 @@
 use super::check_value;
 use promql_io::ended::Ended;
 use promql_parser::parser::ParseError;
-use promql_run::run::{Mode, RunError, run};
+use promql_run::format::{Format, PRETTY_LAYOUT};
+use promql_run::run::{RunError, run};
 use std::alloc::{AllocError, Global};
 use std::test::Fail;
 
@@ -34,7 +35,7 @@ fn bytes_in_and_out(rt: HostRuntime) -> Result<(), Fail> {
     for (input, want) in &ROWS {
         let mut reader = Ended::new(*input);
         let mut writer = Ended::new(Vec::new(alloc));
-        let answer = run(alloc, Mode::Line, &mut reader, &mut writer);
+        let answer = run(alloc, Format::Line, &mut reader, &mut writer);
         match want {
             Ok(bytes) => {
                 check_value(&rt, answer, Ok(()), input);
@@ -77,28 +78,36 @@ fn errors(rt: HostRuntime) -> Result<(), Fail> {
 
 #[test]
 fn modes(rt: HostRuntime) {
-    assert_eq!(rt; Mode::from_name("pretty"), Some(Mode::Pretty));
-    assert_eq!(rt; Mode::from_name("line"), Some(Mode::Line));
-    assert_eq!(rt; Mode::from_name("json"), Some(Mode::Json));
-    assert_eq!(rt; Mode::from_name("Line"), None);
-    assert_eq!(rt; Mode::from_name(""), None);
+    assert_eq!(rt;
+        Format::from_name("pretty"),
+        Some(Format::Pretty(PRETTY_LAYOUT))
+    );
+    assert_eq!(rt; Format::from_name("line"), Some(Format::Line));
+    assert_eq!(rt; Format::from_name("json"), Some(Format::Json));
+    assert_eq!(rt; Format::from_name("Line"), None);
+    assert_eq!(rt; Format::from_name(""), None);
 }
 
-// What a run in the mode prints of the text.
-fn answer(alloc: Global, mode: Mode, text: &str) -> Result<Vec<u8>, RunError> {
+// What a run in the format prints of the text.
+fn answer(alloc: Global, format: Format, text: &str) -> Result<Vec<u8>, RunError> {
     let mut reader = Ended::new(text.as_bytes());
     let mut written = Vec::new(alloc);
-    run(alloc, mode, &mut reader, &mut Ended::new(&mut written))?;
+    run(alloc, format, &mut reader, &mut Ended::new(&mut written))?;
     Ok(written)
 }
 
 #[test]
 fn laid_out(rt: HostRuntime) -> Result<(), Fail> {
     let alloc = rt.alloc();
-    let found = answer(alloc, Mode::Pretty, SUM)?;
+    let found = answer(alloc, Format::Pretty(PRETTY_LAYOUT), SUM)?;
     assert!(rt; found.as_slice() == SUM_LINES.as_bytes());
     let syntax = RunError::Parse(ParseError::Syntax);
-    check_value(&rt, answer(alloc, Mode::Pretty, "a b"), Err(syntax), &"a b");
+    check_value(
+        &rt,
+        answer(alloc, Format::Pretty(PRETTY_LAYOUT), "a b"),
+        Err(syntax),
+        &"a b",
+    );
     Ok(())
 }
 
@@ -112,17 +121,17 @@ fn as_json(rt: HostRuntime) -> Result<(), Fail> {
         ),
         ("-1e3", "{\"type\":\"numberLiteral\",\"val\":\"-1000\"}\n"),
     ] {
-        let found = answer(alloc, Mode::Json, text)?;
+        let found = answer(alloc, Format::Json, text)?;
         assert!(rt; found.as_slice() == want.as_bytes(), "{text}");
     }
     check_value(
         &rt,
-        answer(alloc, Mode::Json, WIDE),
+        answer(alloc, Format::Json, WIDE),
         Err(RunError::Json),
         &WIDE,
     );
     let empty = RunError::Parse(ParseError::Empty);
-    check_value(&rt, answer(alloc, Mode::Json, ""), Err(empty), &"");
+    check_value(&rt, answer(alloc, Format::Json, ""), Err(empty), &"");
     Ok(())
 }
 
@@ -145,7 +154,7 @@ fn inputs_of_many_blocks(rt: HostRuntime) -> Result<(), Fail> {
     ] {
         let name = padded(alloc, "", len, "")?;
         let want = padded(alloc, "", len, "\n")?;
-        let line = answer(alloc, Mode::Line, name.as_str())?;
+        let line = answer(alloc, Format::Line, name.as_str())?;
         assert!(rt; line.as_slice() == want.as_bytes(), "at {len}");
     }
     Ok(())
@@ -157,7 +166,7 @@ fn characters_across_blocks(rt: HostRuntime) -> Result<(), Fail> {
     for before in 4_088..4_096 {
         for back in ["é\n+ 2", "€\n+ 2", "\u{1f600}\n+ 2"] {
             let text = padded(alloc, "1 # ", before, back)?;
-            let line = answer(alloc, Mode::Line, text.as_str())?;
+            let line = answer(alloc, Format::Line, text.as_str())?;
             assert!(rt; line.as_slice() == b"1 + 2\n".as_slice(), "at {before}");
         }
     }

@@ -14,8 +14,8 @@ returns-in_err-expr-clause-err c =
     let matcher = option_map (λ s. s.now) c.args.matcher in
     let parsed = subst (IsReadAs c.args.limits.now c.args.query.now) c.in-Ok-Ok.field-0-is c.in-Ok-Ok.ensures in
     let same = err_from_is_err_and c.from_residual.result c.from_residual.ensures.1 in
-    subst (λ r. IfErr r (FailsOnQuery c.args.limits.now c.args.query.now matcher c.args.format)) (sym same.1)
-    (subst (FailsOnQuery c.args.limits.now c.args.query.now matcher c.args.format) (sym same.2)
+    subst (λ r. IfErr r (λ e. FailsOnQuery c.args.limits.now e c.args.query.now matcher c.args.format)) (sym same.1)
+    (subst (λ e. FailsOnQuery c.args.limits.now e c.args.query.now matcher c.args.format) (sym same.2)
     (fails_of_matcher c.args.limits.now c.in_err-expr.field-0.0 c.args.query.now matcher c.args.format (tree_of c.in-Ok-Ok.expr) parsed c.in_err-expr.ensures.err))
 
 pub shown_text-shown-requires-clause-low : goal.shown_text-shown-requires-clause-low

@@ -6,13 +6,13 @@ use Rattle.promql_lines.proofs.line.answer_value.Goals as goal
 pub returns-clause-ok : goal.returns-clause-ok
 returns-clause-ok c = λ line utf8 read.
     let settings = c.args.settings.now in let query = c.in-Some.query.now in let matcher = option_map (λ s. s.now) c.matcher_in.result in let format = c.in-Some-format_in.format in
-    answered_line c.answer_query.result settings line query matcher format
-    (asks_by_value settings line query matcher format (view c.args.asked.now) utf8 read c.in-Some.ensures c.matcher_in.ensures c.in-Some-format_in.ensures)
+    answered_line c.answer_query.result settings line query matcher format utf8
+    (asks_by_value settings.format line query matcher format (view c.args.asked.now) read c.in-Some.ensures c.matcher_in.ensures c.in-Some-format_in.ensures)
     c.answer_query.ensures.ok
 
 pub returns-clause-err : goal.returns-clause-err
 returns-clause-err c = λ line utf8 read.
     let settings = c.args.settings.now in let query = c.in-Some.query.now in let matcher = option_map (λ s. s.now) c.matcher_in.result in let format = c.in-Some-format_in.format in
-    failing_in_vain c.answer_query.result settings line query matcher format
-    (asks_by_value settings line query matcher format (view c.args.asked.now) utf8 read c.in-Some.ensures c.matcher_in.ensures c.in-Some-format_in.ensures)
+    failing_in_vain c.answer_query.result settings line query matcher format utf8
+    (asks_by_value settings.format line query matcher format (view c.args.asked.now) read c.in-Some.ensures c.matcher_in.ensures c.in-Some-format_in.ensures)
     c.answer_query.ensures.err

@@ -1,20 +1,32 @@
-use Rattle.std.proofs.Common.{sym, ◌∙◌, subst, ⊎_elim}
+use Rattle.std.proofs.Common.{ap, inr, map, option_map, string_bytes, sym, ◌∙◌, subst, ⊎_elim}
+use Rattle.promql_io.specs.Inputs.{IsInput}
 use Rattle.promql_run.specs.StepErrors.{IsInputError}
-use Rattle.promql_run.proofs.Statuses.{four_is_parse, none_is_zero, not_two}
+use Rattle.promql_run.proofs.Statuses.{four_is_parse, none_is_zero}
+use Rattle.promql_report.specs.CheckedInputs.{IsChecked}
+use Rattle.promql_report.specs.Checking.{check_limits}
+use Rattle.promql_report.specs.declared.check.TheConstants.{CHECK_HELP, CHECK_VERSION}
+use Rattle.promql_report.proofs.CheckAnswers.{one_setting, warned, written_unless_failed}
 use Rattle.promql_report.proofs.LimitStatus.{not_fourteen}
 use Rattle.promql_report.proofs.check.check_program.Goals as goal
 
-pub returns-in-Err-check_input-clause-accepted : goal.returns-in-Err-check_input-clause-accepted
-returns-in-Err-check_input-clause-accepted g c = λ limits asked zero. absurd (none_is_zero c.in-Err-check_input.error (sym c.number-in-Err-check_input.ensures ∙ zero))
+pub returns-in-Ok-Warned-clause-accepted : goal.returns-in-Ok-Warned-clause-accepted
+returns-in-Ok-Warned-clause-accepted g c = λ limits asked zero.
+    let none = sym c.asked_text.ensures ∙ ap (option_map (λ s. s.now)) c.in_default.is in
+    let same = one_setting CHECK_HELP.now CHECK_VERSION.now check_limits (map string_bytes c.args.args.now) c.in-Some-limits_of.limits limits none (sym c.limits_of.ensures ∙ c.in-Some-limits_of.is) asked in
+    inr (
+      c.as_str.result.now,
+      warned limits c.in-Ok-Warned.field-0 c.in-Ok-Warned.warning c.as_str.result.now _ _ c.in-Ok-Warned.field-0-is c.as_str.ensures.value
+          (subst (λ l. IsInput (λ text. IsChecked l text c.in-Ok-Warned.field-0) (g.R.Read.remaining c.args.reader.now.inner) (g.R.Read.remaining c.check_input.new.reader.inner)) same c.in-Ok-Warned.ensures.ok),
+      written_unless_failed c.write_text.result c.write_text.new.writer.failed c.write_text.ensures.ok c.write_text.ensures.failed,
+    )
 
-pub returns-in-Err-check_input-clause-rejected : goal.returns-in-Err-check_input-clause-rejected
-returns-in-Err-check_input-clause-rejected g c = λ limits asked status. ⊎_elim
+pub returns-in-Err-clause-accepted : goal.returns-in-Err-clause-accepted
+returns-in-Err-clause-accepted g c = λ limits asked zero. absurd (none_is_zero c.in-Err.error (sym c.number.ensures ∙ zero))
+
+pub returns-in-Err-clause-rejected : goal.returns-in-Err-clause-rejected
+returns-in-Err-clause-rejected g c = λ limits asked status. ⊎_elim
     (λ four.
-    let found = four_is_parse c.in-Err-check_input.error (sym c.number-in-Err-check_input.ensures ∙ four) in
-    absurd (subst IsInputError found.1 c.in-Err-check_input.ensures.errors))
-    (λ fourteen. absurd (not_fourteen c.in-Err-check_input.error (sym c.number-in-Err-check_input.ensures ∙ fourteen)))
+    let found = four_is_parse c.in-Err.error (sym c.number.ensures ∙ four) in
+    absurd (subst IsInputError found.1 c.in-Err.ensures.errors))
+    (λ fourteen. absurd (not_fourteen c.in-Err.error (sym c.number.ensures ∙ fourteen)))
     status
-
-pub returns-in-Err-check_input-clause-quiet : goal.returns-in-Err-check_input-clause-quiet
-returns-in-Err-check_input-clause-quiet g c = λ other.
-    not_two c.in-Err-check_input.error _ (λ two. other (c.number-in-Err-check_input.ensures ∙ two)) c.in-Err-check_input.ensures.quiet
