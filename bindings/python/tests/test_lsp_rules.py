@@ -17,6 +17,7 @@ from promql.lsp.layout import RuleLayouts, lines_edits, rule_file_edits
 from promql.lsp.positions import Lines
 from promql.lsp.rules import problems_of, read_rules
 from promql.queries import edited
+from promql.rule_files import RuleFile
 from written import STYLES, rule_file, write
 
 try:
@@ -151,6 +152,21 @@ class Files(unittest.TestCase):
         self.assertNotIn("P103", [it.get("code") for it in client.wait_for_diagnostics(URI, 2)])
         self.assertEqual(client.close(), 0)
 
+    def test_layout_of_few(self):
+        """Where few rules change only these are read again, and it comes to the same."""
+        generator = random.Random(11)
+        for _ in range(40):
+            text, _ = rule_file(generator, generator.sample(QUERIES, 6))
+            with mock.patch.object(layout, "_FEW", 0):
+                whole = rule_file_edits(text, None)
+            self.assertEqual(rule_file_edits(text, None), whole, text)
+        text = lsp_files.rule_file(60)
+        edits = rule_file_edits(text, None)
+        few = edited(text, edits[3:])
+        with mock.patch.object(RuleFile, "same", autospec=True, side_effect=RuleFile.same) as compared:
+            self.assertEqual(len(rule_file_edits(few, None)), 3)
+        self.assertEqual([len(call.args[0].queries) for call in compared.mock_calls], [1, 1, 1])
+
     def test_layout_again(self):
         """Only rules that were changed are looked at again."""
         text = lsp_files.rule_file(200).replace(" / ", "  / ")
@@ -160,11 +176,11 @@ class Files(unittest.TestCase):
         whole = rule_file_edits(text, None)
         self.assertGreater(len(whole), 50)
         layouts.learn(text, rules, whole)
-        with mock.patch.object(layout, "rule_file_edits", side_effect=AssertionError):
+        with mock.patch.object(layout, "_edits_in", side_effect=AssertionError):
             self.assertEqual(layouts.edits(text, rules, "pretty"), whole)
         new = edited(text, whole)
         rules, _ = problems_of(new)
-        with mock.patch.object(layout, "rule_file_edits", side_effect=AssertionError):
+        with mock.patch.object(layout, "_edits_in", side_effect=AssertionError):
             self.assertEqual(layouts.edits(new, rules, "pretty"), [])
         changed = new.replace(" > ", "  >  ", 1)
         self.assertNotEqual(changed, new)

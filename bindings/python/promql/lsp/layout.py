@@ -12,7 +12,7 @@ from ..format_command import PEOPLE, PRETTY, Printer, has_comment
 from ..queries import Edit, Query, edited
 from ..rule_files import RuleFile
 from .nodes import path_at
-from .rules import Rule, file_of, lines_before
+from .rules import Rule, file_of, lines_before, read_file, rules_at
 from .tokens import COMMENT, LONGEST, tokens_of
 
 WIDTH = 100
@@ -33,12 +33,18 @@ Span = Tuple[int, int]
 
 def rule_file_edits(text: str, span: Optional[Span], style: str = PRETTY) -> List[Edit]:
     """The edits that lay out the queries of a rule file, or those of them that are in a part of it. What is rejected is left."""
-    file = file_of(text)
-    printers = _Printers(style)
+    return _edits_in(file_of(text), span, style, by_rules=True)
+
+
+def _edits_in(file: RuleFile, span: Optional[Span], style: str, by_rules: bool) -> List[Edit]:
+    """The same. By rules, only those that change are read again, where they are few, and not all of the file."""
+    text, printers = file.source.text, _Printers(style)
     changes = [(query, new) for query in file.queries if _is_in(query, span) for new in [printers.laid_out(query)] if new is not None]
     if not changes:
         return []
     edits = [query.spelling.edit(new) for query, new in changes]
+    if by_rules and len(edits) <= _FEW and _means_the_same_by_rules(file, changes, edits, style):
+        return sorted(edits)
     if not _means_the_same(file, printers, changes, edited(text, edits)):
         raise LeftError(_NOT_SAME)
     return sorted(edits)
@@ -81,6 +87,18 @@ def _means_the_same(file: RuleFile, printers: _Printers, changes: List[Tuple[Que
         return False
 
 
+def _means_the_same_by_rules(file: RuleFile, changes: List[Tuple[Query, str]], edits: List[Edit], style: str) -> bool:
+    """Whether each edit is that of a rule which can be looked at by itself."""
+    text = file.source.text
+    rules = {rule.start if rule else -1: rule for rule in rules_at(file, [query.offsets[0] for query, _ in changes])}
+    parts = [_part(text, rule) if rule else None for rule in rules.values()]
+    try:
+        found = [edit for part in parts if part for edit in _edits_of(part, style)]
+    except (LeftError, FileError):
+        return False
+    return None not in parts and sorted(found) == sorted(edits)
+
+
 # ---- rules by themselves
 
 
@@ -106,8 +124,7 @@ def _part(text: str, rule: Rule) -> Optional[_Part]:
     """A rule whose lines can be looked at by themselves."""
     between = _BETWEEN.match(text, rule.end)
     end = between.end() if between else rule.end
-    # (a rule without a query may be of a file whose queries are not PromQL)
-    if not rule.is_alone or not rule.queries or end < len(text) and not _LINE_END.search(text, rule.end, end):
+    if not rule.is_alone or end < len(text) and not _LINE_END.search(text, rule.end, end):
         return None
     lines = text[rule.start : end]
     return _Part(rule.start, lines) if lines_before(lines) is not None else None
@@ -117,7 +134,7 @@ def _edits_of(part: _Part, style: str, span: Optional[Span] = None) -> List[Edit
     before = lines_before(part.text) or ""
     by = part.start - len(before)
     inside = (max(span[0] - by, 0), max(span[1] - by, 0)) if span else None
-    edits = rule_file_edits(before + part.text, inside, style)
+    edits = _edits_in(read_file(before + part.text), inside, style, by_rules=False)
     return [Edit(edit.start + by, edit.end + by, edit.text) for edit in edits]
 
 
@@ -132,7 +149,8 @@ class RuleLayouts:
         """The edits of a file that is read; nothing where it has to be looked at as a whole, since many of its rules are new."""
         parts = [_part(text, rule) for rule in rules]
         unknown = [part for part in parts if part and part.text not in self._known]
-        if None in parts or len(unknown) > _FEW:
+        # (a rule without a query may be of a file whose queries are not PromQL)
+        if None in parts or len(unknown) > _FEW or not all(rule.queries for rule in rules):
             return None
         for part in unknown:
             self._known[part.text] = tuple(_moved(_edits_of(part, style), -part.start))

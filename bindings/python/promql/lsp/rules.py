@@ -102,12 +102,16 @@ class Rule(NamedTuple):
 @lru_cache(maxsize=1)
 def file_of(text: str) -> RuleFile:
     """A rule file. (It is often asked for again: a text is laid out that was read before.)"""
+    return read_file(text)
+
+
+def read_file(text: str) -> RuleFile:
     return RuleFile(Source(NAME, text, ""))
 
 
 def read_rules(text: str) -> List[Rule]:
     """The rules of a file. Raises FileError where there are none to read."""
-    return rules_of(RuleFile(Source(NAME, text, "")))
+    return rules_of(read_file(text))
 
 
 def rules_of(file: RuleFile) -> List[Rule]:
@@ -127,6 +131,16 @@ def rules_of(file: RuleFile) -> List[Rule]:
         found.append(_rule(file, node, end, is_whole, own, text))
     found += map(_lone, queries[used:])
     return found
+
+
+def rules_at(file: RuleFile, offsets: Iterable[int]) -> Iterator[Optional[Rule]]:
+    """The rule that each of these places is in, without its queries."""
+    nodes = sorted(file.rules(), key=lambda rule: rule.start)
+    starts = [node.start for node in nodes]
+    for offset in offsets:
+        number = bisect_right(starts, offset) - 1
+        end, is_whole = _end(nodes[number]) if number >= 0 else (0, False)
+        yield _rule(file, nodes[number], end, is_whole, [], file.source.text) if offset < end else None
 
 
 def _lone(query: Query) -> Rule:
