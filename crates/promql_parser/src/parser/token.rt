@@ -1,5 +1,6 @@
 //! Tokens, and the ids of their kinds.
 
+pub use promql_grammar::{TokenKind, token_kind};
 pub use promql_token::ids::{
     T_ADD, T_AGGREGATORS_END, T_AGGREGATORS_START, T_ANCHORED, T_AT, T_ATAN2, T_AVG, T_BLANK,
     T_BOOL, T_BOTTOMK, T_BY, T_CLOSE_HIST, T_COLON, T_COMMA, T_COMMENT, T_COUNT, T_COUNT_VALUES,
@@ -14,5 +15,4 @@ pub use promql_token::ids::{
     T_STARTSYMBOLS_START, T_STDDEV, T_STDVAR, T_STEP, T_STRING, T_SUB, T_SUM, T_TIMES, T_TOPK,
     T_WITHOUT,
 };
-pub use promql_grammar::{TokenKind, token_kind};
 pub use promql_token::{Token, TokenId, TokenType, get_keyword_token, token_display};
