@@ -4,9 +4,8 @@ ghost use Rattle.std.specs.Prelude.{◌≡◌, IfOk, map};
 ghost use Rattle.serde_json.specs.View.{view};
 ghost use Rattle.promql_lines.specs.Batch.{rejection_object, texts};
 
-use promql_report::rejection::{Reason, Rejection};
-use promql_span::unexpected::{Unexpected, unexpected_at};
-use promql_syntax::parser::ParseError;
+use promql_report::rejection::Rejection;
+use promql_span::unexpected::Unexpected;
 use serde_json::{Value, json};
 use std::alloc::{AllocError, Global};
 use thiserror::Error;
@@ -87,28 +86,26 @@ impl RejectedQuery {
     }
 }
 
-/// What was expected where a query has a syntax error.
+/// What was expected where a query has a syntax error, if that is told.
 fn expectation_of(
     alloc: Global,
     query: &str,
     rejection: &Rejection,
 ) -> Result<Option<Expectation>, AllocError> {
-    match rejection.reason {
-        Reason::Parse(ParseError::Syntax) => {
-            Ok(Some(expectation_at(alloc, query, rejection.span.start)?))
-        }
-        _ => Ok(None),
+    match rejection.unexpected(alloc, query)? {
+        Some(unexpected) => Ok(Some(make_expectation(alloc, unexpected)?)),
+        None => Ok(None),
     }
 }
 
-/// What was expected at a byte of a query, and found.
-fn expectation_at(alloc: Global, query: &str, at: usize) -> Result<Expectation, AllocError> {
+/// What was expected, by names, and what was found.
+fn make_expectation(alloc: Global, unexpected: Unexpected<'_>) -> Result<Expectation, AllocError> {
     let Unexpected {
         found,
         expected,
         names,
         ..
-    } = unexpected_at(alloc, query, at)?;
+    } = unexpected;
     let found = Unexpected {
         found,
         expected,

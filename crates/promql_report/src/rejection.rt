@@ -7,7 +7,7 @@ ghost use Rattle.promql_report.specs.Rejecting.{IsReadAs, limit_place, reason_nu
 use promql_ast::Expr;
 use promql_span::diagnosis::{Diagnosis, diagnose};
 use promql_span::limits::{LimitFault, Limits, check_limits};
-use promql_span::unexpected::unexpected_at;
+use promql_span::unexpected::{Unexpected, unexpected_at};
 use promql_span::{Location, Span, end_of_text};
 use promql_syntax::parser::ParseError;
 use std::alloc::{AllocError, Global};
@@ -48,20 +48,53 @@ pub struct Rejection {
     pub location: Location,
 }
 
+/// The greatest sum of the measures of a query's patterns with which it is told what was expected.
+const MAX_EXPECTED_PATTERN_SIZE: usize = 640;
+
 impl Rejection {
-    /// The message for people: of a syntax error what was found and what was expected (docs/reference/grammar.md, "What is
-    /// expected"), of any other the message of the reason. `query` is the query that it is of.
+    /// What was found and what was expected at a syntax error (docs/reference/grammar.md, "What is expected"); `None` of any other
+    /// error, and of a query with large patterns. `query` is the query that it is of.
+    ///
+    /// # Errors
+    ///
+    /// `AllocError` where an allocation failed.
+    pub fn unexpected<'a>(
+        &self,
+        alloc: Global,
+        query: &'a str,
+    ) -> Result<Option<Unexpected<'a>>, AllocError> {
+        let is_syntax = matches!(self.reason, Reason::Parse(ParseError::Syntax));
+        if !is_syntax || has_large_patterns(alloc, query)? {
+            return Ok(None);
+        }
+        Ok(Some(unexpected_at(alloc, query, self.span.start)?))
+    }
+
+    /// The message for people: what was found and what was expected, where that is told, or else the message of the reason.
+    /// `query` is the query that it is of.
     ///
     /// # Errors
     ///
     /// `AllocError` where an allocation failed.
     pub fn message(&self, alloc: Global, query: &str) -> Result<String, AllocError> {
-        match self.reason {
-            Reason::Parse(ParseError::Syntax) => {
-                unexpected_at(alloc, query, self.span.start)?.to_string(alloc)
-            }
-            _ => self.reason.to_string(alloc),
+        match self.unexpected(alloc, query)? {
+            Some(unexpected) => unexpected.to_string(alloc),
+            None => self.reason.to_string(alloc),
         }
+    }
+}
+
+/// Whether the patterns of a query are too dear to be compiled once for each kind of token.
+fn has_large_patterns(alloc: Global, query: &str) -> Result<bool, AllocError> {
+    let limits = Limits {
+        max_len: query.len(),
+        max_pattern_size: MAX_EXPECTED_PATTERN_SIZE,
+        max_output: 0,
+    };
+    match check_limits(alloc, query, &limits) {
+        Ok(()) => Ok(false),
+        Err(LimitFault::Memory) => Err(AllocError),
+        Err(_) => Ok(true),
     }
 }
 
