@@ -10,7 +10,8 @@ Where THREADS are given, each makes all calls again beside the others, and is to
 The rows are the lines of crates/promql_batch/stdin with those of stdout. Each that asks for a query is printed in its mode, and
 checked; one that asks for a line is also printed by `canonical`, and in Python by `canonical_many`. Of those with a matcher to enforce, each that asks for a line is one
 call. A line that is no request is no call, and is left out; a
-line that is not UTF-8 is passed on as the query. The last line is 'N passed, M failed'.
+line that is not UTF-8 is passed on as the query. What promql_batch says of what was expected the library does not say, so that is
+left out. The last line is 'N passed, M failed'.
 
 A file of calls has for each a line 'CALL MODE LEVEL WIDTH START END LENGTH' of numbers, and then so many bytes and a line feed. Of
 those of a call that enforces, the last END are the matcher.
@@ -81,8 +82,17 @@ def compact(value):
     return json.dumps(value, ensure_ascii=False, separators=(",", ":"), sort_keys=True).encode()
 
 
+def without_expected(reply):
+    """An answer of promql_batch without what was expected, and found, at a syntax error."""
+    answer = json.loads(reply)
+    if "expected" not in answer:
+        return reply
+    return compact({name: value for name, value in answer.items() if name not in ("expected", "found")})
+
+
 def calls_of_row(place, asked, reply):
     """Yields the calls for a line of standard input, which promql_batch answers so."""
+    reply = without_expected(reply)
     code = json.loads(reply).get("code", 0)
     if code == 7:
         return
