@@ -25,6 +25,8 @@ from promql.lsp.tokens import AGGREGATORS, KEYWORDS, WORD_OPERATORS
 
 ROOT = Path(__file__).resolve().parents[3]
 URI = "file:///query.promql"
+# Links go to the guide of a checkout: a package that pip installed has none.
+IS_CHECKOUT = ROOT in Path(promql.__file__).resolve().parents
 
 
 class WithServer(unittest.TestCase):
@@ -191,10 +193,16 @@ class Linting(unittest.TestCase):
         (finding,) = self.found(text)
         self.assertEqual((finding["code"], finding["severity"]), ("P103", 2))
         self.assertEqual(finding["range"], Lines(text).range(text.index("job"), text.index("}")))
-        page, _, heading = finding["codeDescription"]["href"].partition("#")
-        self.assertEqual((Path(page[len("file://") :]), heading), (ROOT / "docs/guide/lint.md", "p103-pattern-of-one-text"))
+        self.assertEqual("codeDescription" in finding, IS_CHECKOUT)
         self.assertEqual(self.found(text + " # promql: ignore P103"), [])
 
+    @unittest.skipUnless(IS_CHECKOUT, "no guide beside the package")
+    def test_links(self):
+        (finding,) = self.found('rate(up{job=~"shop"}[5m])')
+        page, _, heading = finding["codeDescription"]["href"].partition("#")
+        self.assertEqual((Path(page[len("file://") :]), heading), (ROOT / "docs/guide/lint.md", "p103-pattern-of-one-text"))
+
+    @unittest.skipUnless(IS_CHECKOUT, "no guide beside the package")
     def test_each_rule_has_its_heading(self):
         headings = re.findall(r"^### (.+)$", (ROOT / "docs/guide/lint.md").read_text(), re.M)
         anchors = {heading.lower().replace(" ", "-") for heading in headings}
