@@ -1,1 +1,2 @@
+mod FileWords
 pub mod KnownBytes

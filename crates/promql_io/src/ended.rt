@@ -4,7 +4,9 @@ ghost use Rattle.std.specs.Prelude.{◌≡◌, ◌&&◌, ◌||◌, ◌+◌, ◌+
 ghost use Rattle.std.specs.Io.{ReadsAtMost, StartsWith, StopsAt, WritesAtMost, appended_bytes};
 ghost use Rattle.std.specs.Io.BufRead.{DropsThrough, take_through};
 ghost use Rattle.std.specs.Io.KnownBytes.{Consumes, IsAtEnd, Keeps, ReadConsumes, WriteAppends};
+ghost use Rattle.promql_io.specs.Ended.{IsClosedBy, has_feed};
 
+use crate::ahead::ReadsAhead;
 use crate::reading::ReadFault;
 use std::io;
 use std::io::{BufRead, ErrorKind, Read, Write};
@@ -17,6 +19,7 @@ pub struct Ended<T> {
     inner: T,
     failed: bool,
     pending: bool,
+    closed: bool,
 }
 
 impl<T> Ended<T> {
@@ -25,11 +28,13 @@ impl<T> Ended<T> {
         ensures inner { result.inner ≡ inner }
         ensures failed { result.failed ≡ false }
         ensures pending { result.pending ≡ false }
+        ensures closed { result.closed ≡ false }
     {
         Ended {
             inner,
             failed: false,
             pending: false,
+            closed: false,
         }
     }
 
@@ -52,6 +57,37 @@ impl<T> Ended<T> {
         ensures { result ≡ self.now.pending }
     {
         self.pending
+    }
+
+    /// Whether a write or a flush has failed because nobody reads what is written, as after the end of a pipe was closed.
+    pub fn is_closed(&self) -> bool
+        ensures { result ≡ self.now.closed }
+    {
+        self.closed
+    }
+}
+
+impl<T> Ended<T> {
+    /// Notes that a write or a flush failed so.
+    fn note_failure(&mut self, error: &io::Error)
+        ensures inner { self.new.inner ≡ self.old.inner }
+        ensures failed { self.new.failed ≡ true }
+        ensures pending { self.new.pending ≡ self.old.pending }
+        ensures closed { IsClosedBy error.now self.old.closed self.new.closed }
+    {
+        self.failed = true;
+        if error.kind() == ErrorKind::BrokenPipe {
+            self.closed = true;
+        }
+    }
+}
+
+impl<R: ReadsAhead> Ended<R> {
+    /// Whether the reader has read ahead to the end of a line, so that no read is needed for the next one.
+    pub fn has_line_ahead(&self) -> bool
+        ensures { result ≡ has_feed (R.ahead self.now.inner) }
+    {
+        self.inner.ahead().contains(&b'\n')
     }
 }
 
@@ -77,6 +113,7 @@ impl<R: BufRead> Ended<R> {
         ensures memory { IsErrOf result ReadFault.Memory → self.new.failed ≡ self.old.failed }
         ensures failed { IsErrOf result ReadFault.Read → self.new.failed ≡ true }
         ensures pending { self.new.pending ≡ self.old.pending }
+        ensures closed { self.new.closed ≡ self.old.closed }
     {
         match self.inner.read_until(byte, buf) {
             Ok(count) => Ok(count),
@@ -99,6 +136,7 @@ impl<R: Read> Read for Ended<R> {
             (R.remaining self.new.inner) result buf.new }
         ensures failed { self.new.failed ≡ (self.old.failed || is_err result) }
         ensures pending { self.new.pending ≡ self.old.pending }
+        ensures closed { self.new.closed ≡ self.old.closed }
     {
         let result = self.inner.read(buf);
         if result.is_err() {
@@ -109,18 +147,19 @@ impl<R: Read> Read for Ended<R> {
 }
 
 impl<W: Write> Write for Ended<W> {
-    ghost use Rattle.promql_io.specs.Ended.{takes_bytes, takes_nothing};
+    ghost use Rattle.promql_io.specs.Ended.{Closes, takes_bytes, takes_nothing};
 
     ghost contents = { λ ended. W.contents ended.inner };
 
     /// One call of the writer within. `failed` is set exactly where that call fails or takes nothing of a
-    /// text that is not empty, `pending` exactly where it takes a byte.
+    /// text that is not empty, `pending` exactly where it takes a byte, and `closed` exactly where it fails since nobody reads.
     fn write(&mut self, buf: &[u8]) -> io::Result<usize>
         ensures bound { WritesAtMost result buf.now }
         ensures bytes { WriteAppends (W.contents self.old.inner)
             (W.contents self.new.inner) result buf.now }
         ensures failed { self.new.failed ≡ (self.old.failed || takes_nothing result buf.now) }
         ensures pending { self.new.pending ≡ (self.old.pending || takes_bytes result) }
+        ensures closed { Closes result self.old.closed self.new.closed }
     {
         let result = self.inner.write(buf);
         match &result {
@@ -130,22 +169,23 @@ impl<W: Write> Write for Ended<W> {
                 }
             }
             Ok(_) => self.pending = true,
-            Err(_) => self.failed = true,
+            Err(error) => self.note_failure(error),
         }
         result
     }
 
-    /// One flush of the writer within. A flush that fails sets `failed`, one that succeeds clears `pending`.
+    /// One flush of the writer within. A flush that fails sets `failed`, and `closed` where nobody reads; one that succeeds clears
+    /// `pending`.
     fn flush(&mut self) -> io::Result<()>
         ensures bytes { Keeps (W.contents self.old.inner) (W.contents self.new.inner) }
         ensures failed { self.new.failed ≡ (self.old.failed || is_err result) }
         ensures pending { self.new.pending ≡ (self.old.pending && is_err result) }
+        ensures closed { Closes result self.old.closed self.new.closed }
     {
         let result = self.inner.flush();
-        if result.is_ok() {
-            self.pending = false;
-        } else {
-            self.failed = true;
+        match &result {
+            Ok(()) => self.pending = false,
+            Err(error) => self.note_failure(error),
         }
         result
     }

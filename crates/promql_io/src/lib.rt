@@ -2,7 +2,9 @@
 //! (docs/reference/programs.md, "Reading and writing").
 #![tactic(auto)]
 
+pub mod ahead;
 pub mod arguments;
 pub mod ended;
+pub mod input;
 pub mod reading;
 pub mod writing;

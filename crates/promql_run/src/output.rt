@@ -1,6 +1,6 @@
 //! What the programs write: a text that their arguments ask for, the answer to their input, or how they are used.
 
-ghost use Rattle.std.specs.Prelude.{◌≡◌, ◌⊎◌, false, true};
+ghost use Rattle.std.specs.Prelude.{◌≡◌, ◌⊎◌, false, true, if◌then◌else◌};
 ghost use Rattle.std.specs.Io.KnownBytes.{Appends};
 ghost use Rattle.promql_io.specs.Ended.{AppendsBeginning};
 
@@ -27,8 +27,22 @@ pub fn show_text<W: Write>(writer: &mut Ended<W>, text: &str) -> u8
     }
 }
 
-/// Writes the answer to an input, or else the message of a failed write to `errors`. Returns the status: 5 where a write or the
-/// flush failed.
+/// The status with which a process ends where nobody reads what it writes: a shell tells that of a program that SIGPIPE ended.
+pub const CLOSED_STATUS: u8 = 141;
+
+/// The status with which the process of a program ends, where the program has this one.
+pub fn exit_status<W>(status: u8, writer: &Ended<W>) -> u8
+    ensures { result ≡ if writer.now.closed then CLOSED_STATUS else status }
+{
+    if writer.is_closed() {
+        CLOSED_STATUS
+    } else {
+        status
+    }
+}
+
+/// Writes the answer to an input, or else the message of a failed write to `errors`, but where nobody reads. Returns the status: 5
+/// where a write or the flush failed.
 pub fn write_answer<W: Write, E: Write>(
     writer: &mut Ended<W>,
     errors: &mut Ended<E>,
@@ -42,11 +56,14 @@ pub fn write_answer<W: Write, E: Write>(
     ensures write { result ≡ 5 → writer.new.failed ≡ true }
     ensures begun { result ≡ 5
         → AppendsBeginning (W.contents writer.old.inner) (W.contents writer.new.inner) answer.now }
+    ensures closed { writer.new.closed ≡ true → errors.new ≡ errors.old }
 {
     match write_text(writer, answer) {
         Ok(()) => 0,
         Err(error) => {
-            let _ = writeln!(errors, "{error}");
+            if !writer.is_closed() {
+                let _ = writeln!(errors, "{error}");
+            }
             5
         }
     }

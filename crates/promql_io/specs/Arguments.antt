@@ -1,0 +1,23 @@
+-- The file among the arguments of a program (docs/reference/programs.md, "Files").
+use Rattle.std.specs.Prelude.{ℕ, suc, ◌+◌, ◌||◌, ◌==◌, Bool, true, false, not, bytes_eq, codes, drop, if◌then◌else◌, List, [], ◌∷◌, Option, None, Some, option_map}
+
+-- a word that begins with `-`, and is more than that
+abbrev pub is_option : List ℕ → Bool
+is_option (first ∷ b ∷ bytes) = first == 45
+is_option word = false
+
+-- an option that no value comes after
+abbrev pub is_flag : List ℕ → Bool
+is_flag word =
+    bytes_eq word (codes "--check") || bytes_eq word (codes "--keep-spelling") || bytes_eq word (codes "--help")
+    || bytes_eq word (codes "--version") || bytes_eq word (codes "-h")
+
+-- how many words are before the first one that is neither an option nor the value of one, as the first word may be
+abbrev pub file_at : Bool → List (List ℕ) → Option ℕ
+file_at is_value [] = None
+file_at true (value ∷ words) = option_map suc (file_at false words)
+file_at false (word ∷ words) = if is_option word then option_map suc (file_at (not (is_flag word)) words) else Some 0
+
+-- the same, where the first words are no file
+abbrev pub file_after : ℕ → List (List ℕ) → Option ℕ
+file_after before words = option_map (λ at. before + at) (file_at false (drop before words))
