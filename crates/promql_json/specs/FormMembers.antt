@@ -60,3 +60,19 @@ subquery_members expr offset at range step =
     (member (codes "step") (or_null (λ n. whole (millis n)) step)
     (member (codes "timestamp") (timestamp at)
     (member (codes "type") (text (codes "subquery")) no_members))))))
+
+abbrev pub modifier_members : Data → Data → Data → Data → Data → Members
+modifier_members card values include labels on =
+    member (codes "card") card
+    (member (codes "fillValues") values
+    (member (codes "include") include
+    (member (codes "labels") labels
+    (member (codes "on") on no_members))))
+
+abbrev pub function_members : Data → Data → Data → Data → Data → Members
+function_members types experimental name gives variadic =
+    member (codes "argTypes") types
+    (member (codes "experimental") experimental
+    (member (codes "name") name
+    (member (codes "returnType") gives
+    (member (codes "variadic") variadic no_members))))

@@ -5,3 +5,4 @@ pub mod JsonFaults
 pub mod JsonParts
 pub mod JsonTokens
 pub mod Readable
+pub mod ReadableBelow

@@ -1,17 +1,21 @@
--- Private: parts of trees that code can have. No contract of a public function speaks of it.
-use Rattle.std.specs.Prelude.{◌≡◌, ◌^◌, ◌||◌, ℤ, pos, neg_ℤ, int_lt, int_le, ◌&&◌, Bool, true, List, [], ◌∷◌, Option, Some, None}
+-- Which trees are read from their form (docs/reference/json.md, "From JSON to a tree").
+use Rattle.std.specs.Prelude.{◌≡◌, ◌≢◌, ◌≤◌, ◌^◌, ◌&&◌, ℕ, ℤ, pos, neg_ℤ, int_lt, int_le, Bool, true, not, [], ◌∷◌, Option, Some, None, Ok}
 use Rattle.std.specs.List.{AllByRecursion}
+use Rattle.serde_json.specs.Data.{Data}
 use Rattle.promql_text.specs.Values.{IsNumber}
 use Rattle.promql_text.specs.declared.number.Number.{Number}
-use Rattle.promql_token.specs.Ids.{is_one_of}
+use Rattle.promql_token.specs.Ids.{is_aggregator, is_one_of, is_operator}
+use Rattle.promql_token.specs.declared.ids.TheConstants.{T_AT, T_EQL_REGEX, T_NEQ_REGEX}
 use Rattle.promql_label.specs.Answers.{Allows, rejected}
 use Rattle.promql_label.specs.PlainMatchers.{PlainMatcher, plain_matcher, equal, not_equal, matches, matches_not, PlainMatchers, plain_matchers}
 use Rattle.promql_kind.specs.Functions.{function_named, name_of}
-use Rattle.promql_kind.specs.Modifiers.{Fills, fills, Matching, matching}
+use Rattle.promql_kind.specs.Modifiers.{fills, Matching, matching}
+use Rattle.promql_ast.specs.Fold.{folded}
+use Rattle.promql_ast.specs.Height.{height}
 use Rattle.promql_ast.specs.Selectors.{Selector, selector}
 use Rattle.promql_ast.specs.Shifts.{Moment, at_start, at_end, at_time}
-use Rattle.promql_ast.specs.Tree.{Tree, aggregate, unary, binary, paren, subquery, number, string, vector, matrix, call, extension, MaybeTree, absent, present, Trees, no_trees, first_tree}
-use Rattle.promql_json.specs.declared.read_values.TheConstants.{AGGREGATORS, OPERATORS}
+use Rattle.promql_ast.specs.Tree.{Tree, aggregate, binary, subquery, number, vector, matrix, call, extension}
+use Rattle.promql_json.specs.Json.{json}
 
 -- `regex` may not reject the value of a pattern
 abbrev pub ReadableMatcher : PlainMatcher → Type 0
@@ -19,6 +23,9 @@ ReadableMatcher (plain_matcher equal name value) = Unit {0}
 ReadableMatcher (plain_matcher not_equal name value) = Unit {0}
 ReadableMatcher (plain_matcher (matches w) name value) = ¬ Allows value rejected
 ReadableMatcher (plain_matcher (matches_not w) name value) = ¬ Allows value rejected
+
+abbrev pub ReadableMatchers : PlainMatchers → Type 0
+ReadableMatchers (plain_matchers plain groups) = AllByRecursion ReadableMatcher plain × AllByRecursion (AllByRecursion ReadableMatcher) groups
 
 -- 64 bits with a sign
 abbrev pub is_millis : ℤ → Bool
@@ -33,3 +40,34 @@ ReadableMoment (Some (at_time t)) = is_millis t ≡ true
 abbrev pub ReadableFill : Option Number → Type 0
 ReadableFill None = Unit {0}
 ReadableFill (Some n) = IsNumber n
+
+abbrev pub ReadableMatching : Option Matching → Type 0
+ReadableMatching None = Unit {0}
+ReadableMatching (Some (matching card clause return_bool (fills r l))) = ReadableFill r × ReadableFill l
+
+abbrev pub ReadableSelector : Selector → Type 0
+ReadableSelector (selector name matchers offset at) = ReadableMatchers matchers × ReadableMoment at
+
+-- an operator between two expressions: all but `=~`, `!~` and `@`
+abbrev pub is_binary_operator : ℕ → Bool
+is_binary_operator op = is_operator op && not (is_one_of (T_EQL_REGEX ∷ T_NEQ_REGEX ∷ T_AT ∷ []) op)
+
+-- what is asked of a node by itself: operators, numbers, times, functions and patterns of which code can make it
+abbrev pub HasReadableParts : Tree → Type 0
+HasReadableParts (aggregate op e p m) = is_aggregator op ≡ true
+HasReadableParts (binary op l r m) = (is_binary_operator op ≡ true) × ReadableMatching m
+HasReadableParts (subquery e offset at range step) = ReadableMoment at
+HasReadableParts (number v) = IsNumber v
+HasReadableParts (vector s) = ReadableSelector s
+HasReadableParts (matrix s range mode) = ReadableSelector s
+HasReadableParts (call f args) = function_named (name_of f) ≡ Some f
+HasReadableParts (extension name gives es) = ⊥
+HasReadableParts t = Unit {0}
+
+-- at most 512 nodes above one another, and each has such parts
+abbrev pub IsReadable : Tree → Type 0
+IsReadable t = (height t ≤ 512) × folded (Unit {0}) (λ A B. A × B) (λ t below. HasReadableParts t × below) t
+
+-- no such tree has the form
+abbrev pub IsNoForm : Data → Type 0
+IsNoForm d = (t : Tree) → IsReadable t → json t ≢ Ok d

@@ -1,11 +1,12 @@
 //! The members of an object, read in byte order of their names. Private.
 
 ghost use Rattle.std.specs.Prelude.{◌≡◌, ◌≢◌, IfErr, IfNone, IfOk, IfSome, OnErr, OnOk};
-ghost use Rattle.serde_json.specs.Data.{Data, Members, member, no_members};
+ghost use Rattle.serde_json.specs.Data.{Data, Members, member, no_members, string as text};
 ghost use Rattle.serde_json.specs.View.{members_view, view};
-ghost use Rattle.promql_json.specs.declared.from_error.FromJsonError.TheVariants.{Memory};
+ghost use Rattle.promql_json.specs.declared.from_error.ReadError.TheVariants.{Memory};
 
-use crate::from_error::{Expected, FromJsonError};
+use crate::from_error::{Expected, ReadError, member};
+use crate::read_values::expect_text;
 use serde_json::{Map, Value};
 use std::alloc::{AllocError, Global};
 use std::collections::btree_map::Iter;
@@ -26,7 +27,7 @@ impl<'v> Fields<'v> {
     }
 
     /// The value of the next member, which has to have this name.
-    pub(crate) fn next(&mut self, alloc: Global, name: &str) -> Result<&'v Value, FromJsonError>
+    pub(crate) fn next(&mut self, alloc: Global, name: &str) -> Result<&'v Value, ReadError>
         ensures ok { IfOk result (λ v. members_view self.old.rest
             ≡ member name.now (view v.now) (members_view self.new.rest)) }
         ensures err { IfErr result (λ e. e ≢ Memory → (d : Data) (ms : Members)
@@ -38,12 +39,12 @@ impl<'v> Fields<'v> {
                 if key == name {
                     Ok(value)
                 } else if key < name {
-                    Err(FromJsonError::at(alloc, key, Expected::Unknown))
+                    Err(ReadError::at(alloc, key, Expected::Unknown))
                 } else {
-                    Err(FromJsonError::at(alloc, name, Expected::Missing))
+                    Err(ReadError::at(alloc, name, Expected::Missing))
                 }
             }
-            None => Err(FromJsonError::at(alloc, name, Expected::Missing)),
+            None => Err(ReadError::at(alloc, name, Expected::Missing)),
         }
     }
 
@@ -67,14 +68,35 @@ impl<'v> Fields<'v> {
     }
 
     /// No member may be left.
-    pub(crate) fn end(&mut self, alloc: Global) -> Result<(), FromJsonError>
+    pub(crate) fn end(&mut self, alloc: Global) -> Result<(), ReadError>
         ensures ok { OnOk result (members_view self.old.rest ≡ no_members) }
         ensures err { OnErr result (members_view self.old.rest ≢ no_members) }
     {
         match self.rest.next() {
-            Some((key, _)) => Err(FromJsonError::at(alloc, key.as_str(), Expected::Unknown)),
+            Some((key, _)) => Err(ReadError::at(alloc, key.as_str(), Expected::Unknown)),
             None => Ok(()),
         }
+    }
+
+    /// No member may be left, and `node`, the member `type`, has to have this text.
+    pub(crate) fn end_of_node(
+        &mut self,
+        alloc: Global,
+        node: &Value,
+        type_name: &str,
+    ) -> Result<(), ReadError>
+        ensures ok { OnOk result (members_view self.old.rest ≡ no_members) }
+        ensures node { OnOk result (view node.now ≡ text type_name.now) }
+        ensures err { IfErr result (λ e. e ≢ Memory → members_view self.old.rest ≡ no_members
+            → view node.now ≢ text type_name.now) }
+    {
+        self.end(alloc)?;
+        member!(
+            alloc,
+            "type",
+            expect_text(alloc, node, type_name, Expected::Node)
+        );
+        Ok(())
     }
 
     /// The values of the next two members.
@@ -83,7 +105,7 @@ impl<'v> Fields<'v> {
         alloc: Global,
         first: &str,
         second: &str,
-    ) -> Result<(&'v Value, &'v Value), FromJsonError>
+    ) -> Result<(&'v Value, &'v Value), ReadError>
         ensures ok { IfOk result (λ v. members_view self.old.rest
             ≡ member first.now (view v.0.now)
             (member second.now (view v.1.now) (members_view self.new.rest))) }
@@ -102,7 +124,7 @@ impl<'v> Fields<'v> {
         first: &str,
         second: &str,
         third: &str,
-    ) -> Result<(&'v Value, &'v Value, &'v Value), FromJsonError>
+    ) -> Result<(&'v Value, &'v Value, &'v Value), ReadError>
         ensures ok { IfOk result (λ v. members_view self.old.rest
             ≡ member first.now (view v.0.now) (member second.now (view v.1.now)
             (member third.now (view v.2.now) (members_view self.new.rest)))) }

@@ -1,7 +1,7 @@
 //! Why a value is the JSON form of no tree: docs/reference/json.md, "From JSON to a tree".
 
 ghost use Rattle.std.specs.Prelude.{◌≡◌};
-ghost use Rattle.promql_json.specs.declared.from_error.FromJsonError.TheVariants.{Memory};
+ghost use Rattle.promql_json.specs.declared.from_error.ReadError.TheVariants.{Memory};
 
 use std::alloc::{AllocError, AllocFailed, Global};
 use std::fmt;
@@ -116,49 +116,70 @@ pub enum FromJsonError {
     Misfit(Misfit),
 }
 
-impl FromJsonError {
+/// Why a value is not read: what a `FromJsonError` of a value is.
+#[derive(Debug, Drop)]
+pub(crate) enum ReadError {
+    Memory,
+    Misfit(Misfit),
+}
+
+impl From<ReadError> for FromJsonError {
+    ghost use Rattle.std.specs.Prelude.{◌≡◌, ◌≢◌};
+    ghost use Rattle.promql_json.specs.declared.from_error.FromJsonError.TheVariants.{NotJson};
+    ghost use Rattle.promql_json.specs.declared.from_error.FromJsonError.TheVariants as surface;
+    ghost use Rattle.promql_json.specs.declared.from_error.ReadError.TheVariants.{Memory};
+
+    ghost from_gives = { λ x e. (x ≡ Memory → e ≡ surface.Memory) × (e ≢ NotJson) };
+
+    fn from(e: ReadError) -> FromJsonError {
+        match e {
+            ReadError::Memory => FromJsonError::Memory,
+            ReadError::Misfit(misfit) => FromJsonError::Misfit(misfit),
+        }
+    }
+}
+
+impl ReadError {
     /// An error at the place that is read.
-    pub(crate) fn here(alloc: Global, expected: Expected) -> FromJsonError {
-        FromJsonError::Misfit(Misfit {
+    pub(crate) fn here(alloc: Global, expected: Expected) -> ReadError {
+        ReadError::Misfit(Misfit {
             path: String::new(alloc),
             expected,
         })
     }
 
     /// An error at a member of the object that is read.
-    pub(crate) fn at(alloc: Global, name: &str, expected: Expected) -> FromJsonError {
-        FromJsonError::here(alloc, expected).inside(alloc, name)
+    pub(crate) fn at(alloc: Global, name: &str, expected: Expected) -> ReadError {
+        ReadError::here(alloc, expected).inside(alloc, name)
     }
 
     /// The error, seen from the object that has it in the member of this name.
-    pub(crate) fn inside(self, alloc: Global, name: &str) -> FromJsonError
+    pub(crate) fn inside(self, alloc: Global, name: &str) -> ReadError
         ensures { self ≡ Memory → result ≡ Memory }
     {
         match self {
-            FromJsonError::Memory => FromJsonError::Memory,
-            FromJsonError::NotJson => FromJsonError::NotJson,
-            FromJsonError::Misfit(misfit) => {
+            ReadError::Memory => ReadError::Memory,
+            ReadError::Misfit(misfit) => {
                 let Misfit { path, expected } = misfit;
                 match format!(in alloc; ".{name}{path}") {
-                    Ok(path) => FromJsonError::Misfit(Misfit { path, expected }),
-                    Err(_) => FromJsonError::Memory,
+                    Ok(path) => ReadError::Misfit(Misfit { path, expected }),
+                    Err(_) => ReadError::Memory,
                 }
             }
         }
     }
 
     /// The error, seen from the list that has it in the item of this index.
-    pub(crate) fn inside_item(self, alloc: Global, index: usize) -> FromJsonError
+    pub(crate) fn inside_item(self, alloc: Global, index: usize) -> ReadError
         ensures { self ≡ Memory → result ≡ Memory }
     {
         match self {
-            FromJsonError::Memory => FromJsonError::Memory,
-            FromJsonError::NotJson => FromJsonError::NotJson,
-            FromJsonError::Misfit(misfit) => {
+            ReadError::Memory => ReadError::Memory,
+            ReadError::Misfit(misfit) => {
                 let Misfit { path, expected } = misfit;
                 match format!(in alloc; "[{index}]{path}") {
-                    Ok(path) => FromJsonError::Misfit(Misfit { path, expected }),
-                    Err(_) => FromJsonError::Memory,
+                    Ok(path) => ReadError::Misfit(Misfit { path, expected }),
+                    Err(_) => ReadError::Memory,
                 }
             }
         }
@@ -177,24 +198,24 @@ macro_rules! member {
 
 pub(crate) use member;
 
-impl From<AllocError> for FromJsonError {
+impl From<AllocError> for ReadError {
     ghost use Rattle.std.specs.Prelude.{◌≡◌};
-    ghost use Rattle.promql_json.specs.declared.from_error.FromJsonError.TheVariants.{Memory};
+    ghost use Rattle.promql_json.specs.declared.from_error.ReadError.TheVariants.{Memory};
 
     ghost from_gives = { λ _ e. e ≡ Memory };
 
-    fn from(_e: AllocError) -> FromJsonError {
-        FromJsonError::Memory
+    fn from(_e: AllocError) -> ReadError {
+        ReadError::Memory
     }
 }
 
-impl<T: Drop> From<AllocFailed<T>> for FromJsonError {
+impl<T: Drop> From<AllocFailed<T>> for ReadError {
     ghost use Rattle.std.specs.Prelude.{◌≡◌};
-    ghost use Rattle.promql_json.specs.declared.from_error.FromJsonError.TheVariants.{Memory};
+    ghost use Rattle.promql_json.specs.declared.from_error.ReadError.TheVariants.{Memory};
 
     ghost from_gives = { λ _ e. e ≡ Memory };
 
-    fn from(_e: AllocFailed<T>) -> FromJsonError {
-        FromJsonError::Memory
+    fn from(_e: AllocFailed<T>) -> ReadError {
+        ReadError::Memory
     }
 }

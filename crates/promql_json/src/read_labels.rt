@@ -1,6 +1,6 @@
 //! Lists of labels and of matchers: docs/reference/json.md, "Parts". Private.
 
-ghost use Rattle.std.specs.Prelude.{◌≡◌, ◌≢◌, IfErr, IfOk, List, OnErr, true, codes, map, string_bytes};
+ghost use Rattle.std.specs.Prelude.{◌≡◌, ◌≢◌, IfErr, IfOk, List, OnErr, true, ◌∷◌, codes, map, string_bytes};
 ghost use Rattle.std.specs.List.{AllByRecursion};
 ghost use Rattle.serde_json.specs.Data.{Members, member, no_members, object, string};
 ghost use Rattle.serde_json.specs.View.{items_of, items_view, view};
@@ -12,10 +12,10 @@ ghost use Rattle.promql_label.specs.PlainMatchers.{Operator, PlainMatcher};
 ghost use Rattle.promql_json.specs.FormMembers.{groups_members};
 ghost use Rattle.promql_json.specs.JsonParts as spec;
 ghost use Rattle.promql_json.specs.Readable.{ReadableMatcher};
-ghost use Rattle.promql_json.specs.declared.from_error.FromJsonError.TheVariants.{Memory};
+ghost use Rattle.promql_json.specs.declared.from_error.ReadError.TheVariants.{Memory};
 
 use crate::fields::Fields;
-use crate::from_error::{Expected, FromJsonError, member};
+use crate::from_error::{Expected, ReadError, member};
 use crate::read_values::{read_list, read_object, read_text};
 use promql_label::{Labels, Matcher, MatcherError};
 use promql_token::TokenId;
@@ -23,7 +23,7 @@ use promql_token::ids::{T_EQL, T_EQL_REGEX, T_NEQ, T_NEQ_REGEX};
 use serde_json::Value;
 use std::alloc::Global;
 
-pub(crate) fn read_label(alloc: Global, value: &Value) -> Result<String, FromJsonError>
+pub(crate) fn read_label(alloc: Global, value: &Value) -> Result<String, ReadError>
     ensures ok { IfOk result (λ s. view value.now ≡ string (string_bytes s)) }
     ensures err { IfErr result (λ e. e ≢ Memory → (s : Text) → view value.now ≢ string s) }
 {
@@ -32,7 +32,7 @@ pub(crate) fn read_label(alloc: Global, value: &Value) -> Result<String, FromJso
 }
 
 /// A list of labels.
-pub(crate) fn read_labels(alloc: Global, value: &Value) -> Result<Labels, FromJsonError>
+pub(crate) fn read_labels(alloc: Global, value: &Value) -> Result<Labels, ReadError>
     ensures ok { IfOk result (λ labels. view value.now ≡ spec.labels_json (labels_of labels)) }
     ensures err { IfErr result (λ e. e ≢ Memory → (ls : List Text) → view value.now ≢ spec.labels_json ls) }
 {
@@ -42,7 +42,7 @@ pub(crate) fn read_labels(alloc: Global, value: &Value) -> Result<Labels, FromJs
     })
 }
 
-fn read_label_list(alloc: Global, list: &[Value]) -> Result<Vec<String>, FromJsonError>
+fn read_label_list(alloc: Global, list: &[Value]) -> Result<Vec<String>, ReadError>
     ensures ok { IfOk result (λ labels. map view list.now ≡ map string (map string_bytes labels.items)) }
     ensures err { IfErr result (λ e. e ≢ Memory → (ls : List Text) → items_view list.now ≢ items_of (map string ls)) }
 {
@@ -57,7 +57,7 @@ fn read_label_list(alloc: Global, list: &[Value]) -> Result<Vec<String>, FromJso
 }
 
 /// The id of a matcher's operator.
-fn read_match_op(alloc: Global, value: &Value) -> Result<TokenId, FromJsonError>
+fn read_match_op(alloc: Global, value: &Value) -> Result<TokenId, ReadError>
     ensures ok { IfOk result (λ id. view value.now ≡ spec.token_json id) }
     ensures known { IfOk result (λ id. is_operator_id id ≡ true) }
     ensures err { OnErr result ((op : Operator) → view value.now ≢ spec.operator_json op) }
@@ -67,17 +67,12 @@ fn read_match_op(alloc: Global, value: &Value) -> Result<TokenId, FromJsonError>
         Value::String(text) if text.as_str() == "!=" => Ok(T_NEQ),
         Value::String(text) if text.as_str() == "=~" => Ok(T_EQL_REGEX),
         Value::String(text) if text.as_str() == "!~" => Ok(T_NEQ_REGEX),
-        _ => Err(FromJsonError::here(alloc, Expected::MatchOp)),
+        _ => Err(ReadError::here(alloc, Expected::MatchOp)),
     }
 }
 
 /// The matcher of an operator, a name and a value.
-fn new_matcher(
-    alloc: Global,
-    id: TokenId,
-    name: &str,
-    value: &str,
-) -> Result<Matcher, FromJsonError>
+fn new_matcher(alloc: Global, id: TokenId, name: &str, value: &str) -> Result<Matcher, ReadError>
     requires { is_operator_id id ≡ true }
     ensures err { IfErr result (λ e. e ≢ Memory → (m : PlainMatcher) → ReadableMatcher m
         → spec.matcher_json m ≢ object (member (codes "name") (string name.now)
@@ -89,13 +84,13 @@ fn new_matcher(
     let value = String::from_str(alloc, value)?;
     match Matcher::new_matcher(alloc, id, name, value) {
         Ok(matcher) => Ok(matcher),
-        Err(MatcherError::Memory) => Err(FromJsonError::Memory),
-        Err(MatcherError::InvalidOp(_)) => Err(FromJsonError::at(alloc, "type", Expected::MatchOp)),
-        Err(MatcherError::Pattern(_)) => Err(FromJsonError::at(alloc, "value", Expected::Pattern)),
+        Err(MatcherError::Memory) => Err(ReadError::Memory),
+        Err(MatcherError::InvalidOp(_)) => Err(ReadError::at(alloc, "type", Expected::MatchOp)),
+        Err(MatcherError::Pattern(_)) => Err(ReadError::at(alloc, "value", Expected::Pattern)),
     }
 }
 
-fn read_matcher(alloc: Global, value: &Value) -> Result<Matcher, FromJsonError>
+fn read_matcher(alloc: Global, value: &Value) -> Result<Matcher, ReadError>
     ensures ok { IfOk result (λ m. view value.now ≡ spec.matcher_json (plain_matcher_of m)) }
     ensures err { IfErr result (λ e. e ≢ Memory → (m : PlainMatcher) → ReadableMatcher m → view value.now ≢ spec.matcher_json m) }
 {
@@ -108,7 +103,7 @@ fn read_matcher(alloc: Global, value: &Value) -> Result<Matcher, FromJsonError>
     new_matcher(alloc, id, name, value)
 }
 
-fn read_matcher_list(alloc: Global, list: &[Value]) -> Result<Vec<Matcher>, FromJsonError>
+fn read_matcher_list(alloc: Global, list: &[Value]) -> Result<Vec<Matcher>, ReadError>
     ensures ok { IfOk result (λ group. map view list.now
         ≡ map spec.matcher_json (map plain_matcher_of group.items)) }
     ensures err { IfErr result (λ e. e ≢ Memory → (ms : List PlainMatcher) → AllByRecursion ReadableMatcher ms
@@ -125,7 +120,7 @@ fn read_matcher_list(alloc: Global, list: &[Value]) -> Result<Vec<Matcher>, From
 }
 
 /// A list of matchers.
-pub(crate) fn read_group(alloc: Global, value: &Value) -> Result<Vec<Matcher>, FromJsonError>
+pub(crate) fn read_group(alloc: Global, value: &Value) -> Result<Vec<Matcher>, ReadError>
     ensures ok { IfOk result (λ group. view value.now
         ≡ spec.group_json (map plain_matcher_of group.items)) }
     ensures err { IfErr result (λ e. e ≢ Memory → (ms : List PlainMatcher) → AllByRecursion ReadableMatcher ms
@@ -135,7 +130,7 @@ pub(crate) fn read_group(alloc: Global, value: &Value) -> Result<Vec<Matcher>, F
     read_matcher_list(alloc, list)
 }
 
-fn read_group_list(alloc: Global, list: &[Value]) -> Result<Vec<Vec<Matcher>>, FromJsonError>
+fn read_group_list(alloc: Global, list: &[Value]) -> Result<Vec<Vec<Matcher>>, ReadError>
     ensures ok { IfOk result (λ groups. map view list.now
         ≡ map spec.group_json (map (λ g. map plain_matcher_of g.items) groups.items)) }
     ensures err { IfErr result (λ e. e ≢ Memory → (gs : List (List PlainMatcher)) → AllByRecursion (AllByRecursion ReadableMatcher) gs
@@ -152,13 +147,16 @@ fn read_group_list(alloc: Global, list: &[Value]) -> Result<Vec<Vec<Matcher>>, F
 }
 
 /// The or-groups, of which there is one at least.
-pub(crate) fn read_groups(alloc: Global, value: &Value) -> Result<Vec<Vec<Matcher>>, FromJsonError>
-    ensures { IfOk result (λ groups. (ms : Members) → member (codes "or_matchers") (view value.now) ms
+pub(crate) fn read_groups(alloc: Global, value: &Value) -> Result<Vec<Vec<Matcher>>, ReadError>
+    ensures ok { IfOk result (λ groups. (ms : Members) → member (codes "or_matchers") (view value.now) ms
         ≡ groups_members (map (λ g. map plain_matcher_of g.items) groups.items) ms) }
+    ensures err { IfErr result (λ e. e ≢ Memory → (g : List PlainMatcher) (gs : List (List PlainMatcher))
+        → AllByRecursion (AllByRecursion ReadableMatcher) (g ∷ gs)
+        → view value.now ≢ spec.list (map spec.group_json (g ∷ gs))) }
 {
     let list = read_list(alloc, value)?;
     if list.is_empty() {
-        return Err(FromJsonError::here(alloc, Expected::FullList));
+        return Err(ReadError::here(alloc, Expected::FullList));
     }
     read_group_list(alloc, list)
 }

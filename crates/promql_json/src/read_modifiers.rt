@@ -6,16 +6,16 @@ ghost use Rattle.serde_json.specs.View.{members_view, view};
 ghost use Rattle.promql_text.specs.Texts.{Text};
 ghost use Rattle.promql_text.specs.declared.number.Number.{Number as AnyNumber};
 ghost use Rattle.promql_label.specs.Labels.{labels_of};
-ghost use Rattle.promql_kind.specs.Functions.{name_of, signature_of};
+ghost use Rattle.promql_kind.specs.Functions.{Signature, function_named, name_of, signature_of};
 ghost use Rattle.promql_kind.specs.ModifierViews.{cardinality_of, clause_of, fills_of, matching_of};
-ghost use Rattle.promql_kind.specs.Modifiers.{Cardinality, Clause, fills, is_including_some};
+ghost use Rattle.promql_kind.specs.Modifiers.{Cardinality, Clause, Matching, fills, is_including_some};
 ghost use Rattle.promql_ast.specs.OptionalModifiers.{returns_bool};
 ghost use Rattle.promql_json.specs.JsonParts as spec;
-ghost use Rattle.promql_json.specs.Readable.{ReadableFill};
-ghost use Rattle.promql_json.specs.declared.from_error.FromJsonError.TheVariants.{Memory};
+ghost use Rattle.promql_json.specs.Readable.{ReadableFill, ReadableMatching};
+ghost use Rattle.promql_json.specs.declared.from_error.ReadError.TheVariants.{Memory};
 
 use crate::fields::Fields;
-use crate::from_error::{Expected, FromJsonError, member};
+use crate::from_error::{Expected, ReadError, member};
 use crate::parts::type_name;
 use crate::read_labels::read_labels;
 use crate::read_values::{
@@ -34,7 +34,7 @@ pub(crate) fn read_grouping(
     alloc: Global,
     grouping: &Value,
     without: &Value,
-) -> Result<Option<LabelModifier>, FromJsonError>
+) -> Result<Option<LabelModifier>, ReadError>
     ensures labels { IfOk result (λ m. view grouping.now
         ≡ spec.labels_json (spec.optional_labels (option_map clause_of m))) }
     ensures without { IfOk result (λ m. view without.now
@@ -60,7 +60,7 @@ fn read_matched(
     labels: &Value,
     on: &Value,
     is_grouping: bool,
-) -> Result<Option<LabelModifier>, FromJsonError>
+) -> Result<Option<LabelModifier>, ReadError>
     ensures labels { IfOk result (λ m. view labels.now
         ≡ spec.labels_json (spec.optional_labels (option_map clause_of m))) }
     ensures on { IfOk result (λ m. view on.now
@@ -85,7 +85,7 @@ fn read_grouped(
     alloc: Global,
     members: &Map<String, Value>,
     name: &str,
-) -> Result<Labels, FromJsonError>
+) -> Result<Labels, ReadError>
     ensures ok { IfOk result (λ labels. members_view members.now.entries
         ≡ member name.now (spec.labels_json (labels_of labels)) no_members) }
     ensures err { IfErr result (λ e. e ≢ Memory → (ls : List Text)
@@ -101,9 +101,11 @@ fn read_grouped(
 fn read_many(
     alloc: Global,
     members: &Map<String, Value>,
-) -> Result<VectorMatchCardinality, FromJsonError>
+) -> Result<VectorMatchCardinality, ReadError>
     ensures ok { IfOk result (λ card. object (members_view members.now.entries)
         ≡ spec.cardinality_json (cardinality_of card)) }
+    ensures err { IfErr result (λ e. e ≢ Memory → (card : Cardinality)
+        → object (members_view members.now.entries) ≢ spec.cardinality_json card) }
 {
     let mut fields = Fields::new(members);
     match fields.next_if("one-to-many")? {
@@ -116,8 +118,10 @@ fn read_many(
     }
 }
 
-fn read_cardinality(alloc: Global, value: &Value) -> Result<VectorMatchCardinality, FromJsonError>
+fn read_cardinality(alloc: Global, value: &Value) -> Result<VectorMatchCardinality, ReadError>
     ensures ok { IfOk result (λ card. view value.now ≡ spec.cardinality_json (cardinality_of card)) }
+    ensures err { IfErr result (λ e. e ≢ Memory → (card : Cardinality)
+        → view value.now ≢ spec.cardinality_json card) }
 {
     match value {
         Value::String(text) if text.as_str() == "one-to-one" => Ok(
@@ -127,11 +131,11 @@ fn read_cardinality(alloc: Global, value: &Value) -> Result<VectorMatchCardinali
             Ok(VectorMatchCardinality::ManyToMany)
         }
         Value::Object(members) => read_many(alloc, members),
-        _ => Err(FromJsonError::here(alloc, Expected::Cardinality)),
+        _ => Err(ReadError::here(alloc, Expected::Cardinality)),
     }
 }
 
-fn read_fills(alloc: Global, value: &Value) -> Result<VectorMatchFillValues, FromJsonError>
+fn read_fills(alloc: Global, value: &Value) -> Result<VectorMatchFillValues, ReadError>
     ensures ok { IfOk result (λ values. view value.now ≡ spec.fills_json (fills_of values)) }
     ensures err { IfErr result (λ e. e ≢ Memory → (r l : Option AnyNumber) → ReadableFill r → ReadableFill l
         → view value.now ≢ spec.fills_json (fills r l)) }
@@ -145,13 +149,14 @@ fn read_fills(alloc: Global, value: &Value) -> Result<VectorMatchFillValues, Fro
 }
 
 /// An empty list.
-fn expect_no_items(alloc: Global, value: &Value) -> Result<(), FromJsonError>
+fn expect_no_items(alloc: Global, value: &Value) -> Result<(), ReadError>
     ensures ok { OnOk result (view value.now ≡ spec.list []) }
+    ensures err { OnErr result (view value.now ≢ spec.list []) }
 {
     if read_list(alloc, value)?.is_empty() {
         Ok(())
     } else {
-        Err(FromJsonError::here(alloc, Expected::EmptyList))
+        Err(ReadError::here(alloc, Expected::EmptyList))
     }
 }
 
@@ -160,9 +165,11 @@ fn read_modifier(
     alloc: Global,
     members: &Map<String, Value>,
     return_bool: bool,
-) -> Result<BinModifier, FromJsonError>
+) -> Result<BinModifier, ReadError>
     ensures matching { IfOk result (λ m. object (members_view members.now.entries) ≡ spec.matching_json (matching_of m)) }
     ensures bool { IfOk result (λ m. m.return_bool ≡ return_bool) }
+    ensures err { IfErr result (λ e. e ≢ Memory → (m : Matching) → ReadableMatching (Some m)
+        → object (members_view members.now.entries) ≢ spec.matching_json m) }
 {
     let mut fields = Fields::new(members);
     let (card, values, include) = fields.three(alloc, "card", "fillValues", "include")?;
@@ -185,31 +192,34 @@ pub(crate) fn read_matching(
     alloc: Global,
     value: &Value,
     return_bool: bool,
-) -> Result<Option<BinModifier>, FromJsonError>
+) -> Result<Option<BinModifier>, ReadError>
     ensures matching { IfOk result (λ m. view value.now ≡ spec.or_null spec.matching_json (option_map matching_of m)) }
     ensures bool { IfOk result (λ m. returns_bool (option_map matching_of m) ≡ return_bool) }
+    ensures err { IfErr result (λ e. e ≢ Memory → (m : Option Matching) → ReadableMatching m
+        → returns_bool m ≡ return_bool → view value.now ≢ spec.or_null spec.matching_json m) }
 {
     match value {
         Value::Null => {
             if return_bool {
-                Err(FromJsonError::here(alloc, Expected::Object))
+                Err(ReadError::here(alloc, Expected::Object))
             } else {
                 Ok(None)
             }
         }
         Value::Object(members) => Ok(Some(read_modifier(alloc, members, return_bool)?)),
-        _ => Err(FromJsonError::here(alloc, Expected::Object)),
+        _ => Err(ReadError::here(alloc, Expected::Object)),
     }
 }
 
 // ---- functions
 
-fn expect_types(alloc: Global, value: &Value, types: &[ValueType]) -> Result<(), FromJsonError>
+fn expect_types(alloc: Global, value: &Value, types: &[ValueType]) -> Result<(), ReadError>
     ensures ok { OnOk result (view value.now ≡ spec.list (map spec.type_json types.now)) }
+    ensures err { IfErr result (λ e. e ≢ Memory → view value.now ≢ spec.list (map spec.type_json types.now)) }
 {
     let list = read_list(alloc, value)?;
     if list.len() != types.len() {
-        return Err(FromJsonError::here(alloc, Expected::FunctionPart));
+        return Err(ReadError::here(alloc, Expected::FunctionPart));
     }
     for i in 0..types.len() {
         match expect_text(alloc, &list[i], type_name(types[i]), Expected::FunctionPart) {
@@ -220,41 +230,45 @@ fn expect_types(alloc: Global, value: &Value, types: &[ValueType]) -> Result<(),
     Ok(())
 }
 
-fn expect_flag(alloc: Global, value: &Value, wanted: bool) -> Result<(), FromJsonError>
+fn expect_flag(alloc: Global, value: &Value, wanted: bool) -> Result<(), ReadError>
     ensures ok { OnOk result (view value.now ≡ boolean wanted) }
     ensures err { OnErr result (view value.now ≢ boolean wanted) }
 {
     match value {
         Value::Bool(flag) if *flag == wanted => Ok(()),
-        _ => Err(FromJsonError::here(alloc, Expected::FunctionPart)),
+        _ => Err(ReadError::here(alloc, Expected::FunctionPart)),
     }
 }
 
-fn expect_whole(alloc: Global, value: &Value, wanted: i64) -> Result<(), FromJsonError>
+fn expect_whole(alloc: Global, value: &Value, wanted: i64) -> Result<(), ReadError>
     ensures ok { OnOk result (view value.now ≡ spec.whole wanted) }
     ensures err { OnErr result (view value.now ≢ spec.whole wanted) }
 {
     match value.as_i64() {
         Some(z) if z == wanted => Ok(()),
-        _ => Err(FromJsonError::here(alloc, Expected::FunctionPart)),
+        _ => Err(ReadError::here(alloc, Expected::FunctionPart)),
     }
 }
 
 /// The function of the table that has a name.
 fn named_function(alloc: Global, name: &str) -> Result<Option<Function>, AllocError>
-    ensures { IfOk result (λ found. IfSome found (λ f. name_of (signature_of f) ≡ name.now)) }
+    ensures found { IfOk result (λ found. IfSome found (λ f. name_of (signature_of f) ≡ name.now)) }
+    ensures row { IfOk result (λ found. option_map signature_of found ≡ function_named name.now) }
 {
     get_function(alloc, name)
 }
 
 /// The function of a name.
-fn function_of_name(alloc: Global, value: &Value) -> Result<Function, FromJsonError>
+fn function_of_name(alloc: Global, value: &Value) -> Result<Function, ReadError>
     ensures ok { IfOk result (λ f. view value.now ≡ string (name_of (signature_of f))) }
+    ensures row { IfOk result (λ f. function_named (name_of (signature_of f)) ≡ Some (signature_of f)) }
+    ensures err { IfErr result (λ e. e ≢ Memory → (f : Signature) → function_named (name_of f) ≡ Some f
+        → view value.now ≢ string (name_of f)) }
 {
     let name = read_text(alloc, value)?;
     match named_function(alloc, name)? {
         Some(function) => Ok(function),
-        None => Err(FromJsonError::here(alloc, Expected::FunctionName)),
+        None => Err(ReadError::here(alloc, Expected::FunctionName)),
     }
 }
 
@@ -266,11 +280,16 @@ fn expect_function(
     experimental: &Value,
     return_type: &Value,
     variadic: &Value,
-) -> Result<(), FromJsonError>
+) -> Result<(), ReadError>
     ensures types { OnOk result (view types.now ≡ spec.list (map spec.type_json function.now.arg_types.items)) }
     ensures experimental { OnOk result (view experimental.now ≡ boolean function.now.experimental) }
     ensures gives { OnOk result (view return_type.now ≡ spec.type_json function.now.return_type) }
     ensures variadic { OnOk result (view variadic.now ≡ spec.whole function.now.variadic) }
+    ensures err { IfErr result (λ e. e ≢ Memory
+        → view types.now ≡ spec.list (map spec.type_json function.now.arg_types.items)
+        → view experimental.now ≡ boolean function.now.experimental
+        → view return_type.now ≡ spec.type_json function.now.return_type
+        → view variadic.now ≢ spec.whole function.now.variadic) }
 {
     member!(
         alloc,
@@ -298,8 +317,10 @@ fn expect_function(
 }
 
 /// A function of the table.
-pub(crate) fn read_function(alloc: Global, value: &Value) -> Result<Function, FromJsonError>
+pub(crate) fn read_function(alloc: Global, value: &Value) -> Result<Function, ReadError>
     ensures ok { IfOk result (λ f. view value.now ≡ spec.function_json (signature_of f)) }
+    ensures err { IfErr result (λ e. e ≢ Memory → (f : Signature) → function_named (name_of f) ≡ Some f
+        → view value.now ≢ spec.function_json f) }
 {
     let mut fields = Fields::new(read_object(alloc, value)?);
     let (types, experimental, name) = fields.three(alloc, "argTypes", "experimental", "name")?;

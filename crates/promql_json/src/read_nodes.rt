@@ -1,21 +1,31 @@
 //! From the JSON form to a tree: docs/reference/json.md, "From JSON to a tree".
 
-ghost use Rattle.std.specs.Prelude.{◌≡◌, None, Ok, IfOk, option_map, string_bytes};
+ghost use Rattle.std.specs.Prelude.{◌≡◌, ◌≢◌, ◌+◌, ℕ, true, None, Ok, Option, Some, IfErr, IfOk, option_map, string_bytes};
 ghost use Rattle.std.specs.Duration.{as_nanos};
 ghost use Rattle.serde_json.specs.Data.{Data, array, object};
 ghost use Rattle.serde_json.specs.Read.{read as read_text};
 ghost use Rattle.serde_json.specs.View.{items_view, members_view, view};
-ghost use Rattle.promql_ast.specs.Shifts.{moment_of, shift_of};
-ghost use Rattle.promql_ast.specs.Tree.{number, string};
+ghost use Rattle.promql_text.specs.Texts.{Text};
+ghost use Rattle.promql_text.specs.Values.{IsNumber};
+ghost use Rattle.promql_text.specs.declared.number.Number.{Number as AnyNumber};
+ghost use Rattle.promql_token.specs.Ids.{is_one_of};
+ghost use Rattle.promql_kind.specs.Functions.{Signature, function_named, name_of};
+ghost use Rattle.promql_kind.specs.Modifiers.{Clause, Matching};
+ghost use Rattle.promql_ast.specs.Shifts.{Moment, Shift, moment_of, shift_of};
+ghost use Rattle.promql_ast.specs.Tree.{MaybeTree, Tree, Trees, aggregate, binary, call, number, paren, string, subquery, unary};
 ghost use Rattle.promql_ast.specs.View.{aggregate_tree, binary_tree, call_tree, option_tree, paren_tree, subquery_tree, tree_of, trees_of, unary_tree};
 ghost use Rattle.promql_json.specs.FormMembers.{aggregate_members, binary_members, subquery_members};
-ghost use Rattle.promql_json.specs.Json.{args_items, first_of, json, json_value, param_json, step_fault, width_fault};
+ghost use Rattle.promql_json.specs.Json.{args_items, first_of, json, json_value, param_json, step_fault, type_name, width_fault};
 ghost use Rattle.promql_json.specs.JsonParts.{millis, shift_millis};
+ghost use Rattle.promql_json.specs.Readable.{IsNoForm, ReadableMatching, ReadableMoment};
+ghost use Rattle.promql_json.specs.ReadableBelow.{AllReadableBelow, MaybeReadableBelow, ReadableBelow};
+ghost use Rattle.promql_json.specs.declared.read_values.TheConstants.{AGGREGATORS as AGGREGATOR_IDS, OPERATORS as OPERATOR_IDS};
 ghost use Rattle.promql_json.specs.JsonFaults.{args_fault, json_fault, param_fault};
-ghost use Rattle.promql_json.specs.declared.from_error.FromJsonError.TheVariants.{Memory};
+ghost use Rattle.promql_json.specs.declared.from_error.FromJsonError.TheVariants as surface;
+ghost use Rattle.promql_json.specs.declared.from_error.ReadError.TheVariants.{Memory};
 
 use crate::fields::Fields;
-use crate::from_error::{Expected, FromJsonError, member};
+use crate::from_error::{Expected, FromJsonError, ReadError, member};
 use crate::read_labels::read_label;
 use crate::read_modifiers::{read_function, read_grouping, read_matching};
 use crate::read_selectors::{read_at, read_matrix, read_vector};
@@ -45,9 +55,11 @@ const MAX_HEIGHT: usize = 512;
 /// `Misfit` where the value is no such form, with the first place at fault; `Memory` where an allocation failed.
 #[tactic(auto, using(crate::proofs::ReadForms::has_form))]
 pub fn from_json(alloc: Global, value: &Value) -> Result<Expr, FromJsonError>
-    ensures { IfOk result (λ e. json (tree_of e) ≡ Ok (view value.now)) }
+    ensures ok { IfOk result (λ e. json (tree_of e) ≡ Ok (view value.now)) }
+    ensures err { IfErr result (λ e. e ≢ surface.Memory → IsNoForm (view value.now)) }
+    ensures kind { IfErr result (λ e. e ≢ surface.NotJson) }
 {
-    read_expr(alloc, value, MAX_HEIGHT)
+    Ok(read_expr(alloc, value, MAX_HEIGHT)?)
 }
 
 /// The expression whose JSON form a text is: `from_json` of the value of the text.
@@ -56,7 +68,10 @@ pub fn from_json(alloc: Global, value: &Value) -> Result<Expr, FromJsonError>
 ///
 /// `NotJson` where the text is not JSON, or has arrays and objects more than 127 deep in one another; else those of `from_json`.
 pub fn from_json_text(alloc: Global, text: &str) -> Result<Expr, FromJsonError>
-    ensures { IfOk result (λ e. (d : Data) × (read_text text.now ≡ Some d) × (json (tree_of e) ≡ Ok d)) }
+    ensures ok { IfOk result (λ e. (d : Data) × (read_text text.now ≡ Some d) × (json (tree_of e) ≡ Ok d)) }
+    ensures misfit { IfErr result (λ e. e ≢ surface.Memory → e ≢ surface.NotJson
+        → (d : Data) × (read_text text.now ≡ Some d) × IsNoForm d) }
+    ensures not_json { IfErr result (λ e. e ≡ surface.NotJson → read_text text.now ≡ None) }
 {
     match Value::from_str(alloc, text) {
         Ok(value) => from_json(alloc, &value),
@@ -74,9 +89,10 @@ fn read_child(
     name: &str,
     value: &Value,
     depth: usize,
-) -> Result<Box<Expr>, FromJsonError>
+) -> Result<Box<Expr>, ReadError>
     ensures ok { IfOk result (λ b. view value.now ≡ json_value (tree_of b.value)) }
     ensures fits { IfOk result (λ b. json_fault (tree_of b.value) ≡ None) }
+    ensures err { IfErr result (λ e. e ≢ Memory → (t : Tree) → ReadableBelow depth t → view value.now ≢ json_value t) }
 {
     match read_expr(alloc, value, depth) {
         Ok(expr) => Ok(Box::new(alloc, expr)?),
@@ -97,19 +113,16 @@ struct AggregateParts<'v> {
 fn aggregate_parts<'v>(
     alloc: Global,
     members: &'v Map<String, Value>,
-) -> Result<AggregateParts<'v>, FromJsonError>
+) -> Result<AggregateParts<'v>, ReadError>
     ensures ok { IfOk result (λ p. members_view members.now.entries
         ≡ aggregate_members (view p.expr.now) (view p.grouping.now) (view p.op.now) (view p.param.now) (view p.without.now)) }
+    ensures err { IfErr result (λ e. e ≢ Memory → (expr grouping op param without : Data)
+        → members_view members.now.entries ≢ aggregate_members expr grouping op param without) }
 {
     let mut fields = Fields::new(members);
     let (expr, grouping, op) = fields.three(alloc, "expr", "grouping", "op")?;
     let (param, node, without) = fields.three(alloc, "param", "type", "without")?;
-    fields.end(alloc)?;
-    member!(
-        alloc,
-        "type",
-        expect_text(alloc, node, "aggregation", Expected::Node)
-    );
+    fields.end_of_node(alloc, node, "aggregation")?;
     Ok(AggregateParts {
         expr,
         grouping,
@@ -120,13 +133,10 @@ fn aggregate_parts<'v>(
 }
 
 #[cycle(read)]
-fn read_param(
-    alloc: Global,
-    value: &Value,
-    depth: usize,
-) -> Result<Option<Box<Expr>>, FromJsonError>
+fn read_param(alloc: Global, value: &Value, depth: usize) -> Result<Option<Box<Expr>>, ReadError>
     ensures ok { IfOk result (λ p. view value.now ≡ param_json (option_tree p)) }
     ensures fits { IfOk result (λ p. param_fault (option_tree p) ≡ None) }
+    ensures err { IfErr result (λ e. e ≢ Memory → (p : MaybeTree) → MaybeReadableBelow depth p → view value.now ≢ param_json p) }
 {
     match value {
         Value::Null => Ok(None),
@@ -139,10 +149,13 @@ fn read_aggregate(
     alloc: Global,
     members: &Map<String, Value>,
     depth: usize,
-) -> Result<AggregateExpr, FromJsonError>
+) -> Result<AggregateExpr, ReadError>
     ensures ok { IfOk result (λ a. object (members_view members.now.entries)
         ≡ json_value (aggregate_tree a)) }
     ensures fits { IfOk result (λ a. json_fault (aggregate_tree a) ≡ None) }
+    ensures err { IfErr result (λ e. e ≢ Memory → (op : ℕ) (t : Tree) (p : MaybeTree) (m : Option Clause)
+        → is_one_of AGGREGATOR_IDS op ≡ true → MaybeReadableBelow depth p → ReadableBelow depth t
+        → object (members_view members.now.entries) ≢ json_value (aggregate op t p m)) }
 {
     let parts = aggregate_parts(alloc, members)?;
     let op = member!(
@@ -166,19 +179,16 @@ fn read_unary(
     alloc: Global,
     members: &Map<String, Value>,
     depth: usize,
-) -> Result<UnaryExpr, FromJsonError>
+) -> Result<UnaryExpr, ReadError>
     ensures ok { IfOk result (λ u. object (members_view members.now.entries)
         ≡ json_value (unary_tree u)) }
     ensures fits { IfOk result (λ u. json_fault (unary_tree u) ≡ None) }
+    ensures err { IfErr result (λ e. e ≢ Memory → (t : Tree) → ReadableBelow depth t
+        → object (members_view members.now.entries) ≢ json_value (unary t)) }
 {
     let mut fields = Fields::new(members);
     let (expr, op, node) = fields.three(alloc, "expr", "op", "type")?;
-    fields.end(alloc)?;
-    member!(
-        alloc,
-        "type",
-        expect_text(alloc, node, "unaryExpr", Expected::Node)
-    );
+    fields.end_of_node(alloc, node, "unaryExpr")?;
     member!(alloc, "op", expect_text(alloc, op, "-", Expected::Minus));
     let expr = read_child(alloc, "expr", expr, depth)?;
     Ok(UnaryExpr { expr })
@@ -197,19 +207,16 @@ struct BinaryParts<'v> {
 fn binary_parts<'v>(
     alloc: Global,
     members: &'v Map<String, Value>,
-) -> Result<BinaryParts<'v>, FromJsonError>
+) -> Result<BinaryParts<'v>, ReadError>
     ensures ok { IfOk result (λ p. members_view members.now.entries
         ≡ binary_members (view p.is_bool.now) (view p.lhs.now) (view p.matching.now) (view p.op.now) (view p.rhs.now)) }
+    ensures err { IfErr result (λ e. e ≢ Memory → (is_bool lhs matching op rhs : Data)
+        → members_view members.now.entries ≢ binary_members is_bool lhs matching op rhs) }
 {
     let mut fields = Fields::new(members);
     let (is_bool, lhs, matching) = fields.three(alloc, "bool", "lhs", "matching")?;
     let (op, rhs, node) = fields.three(alloc, "op", "rhs", "type")?;
-    fields.end(alloc)?;
-    member!(
-        alloc,
-        "type",
-        expect_text(alloc, node, "binaryExpr", Expected::Node)
-    );
+    fields.end_of_node(alloc, node, "binaryExpr")?;
     Ok(BinaryParts {
         is_bool,
         lhs,
@@ -224,10 +231,13 @@ fn read_binary(
     alloc: Global,
     members: &Map<String, Value>,
     depth: usize,
-) -> Result<BinaryExpr, FromJsonError>
+) -> Result<BinaryExpr, ReadError>
     ensures ok { IfOk result (λ b. object (members_view members.now.entries)
         ≡ json_value (binary_tree b)) }
     ensures fits { IfOk result (λ b. json_fault (binary_tree b) ≡ None) }
+    ensures err { IfErr result (λ e. e ≢ Memory → (op : ℕ) (l r : Tree) (m : Option Matching)
+        → is_one_of OPERATOR_IDS op ≡ true → ReadableMatching m → ReadableBelow depth l → ReadableBelow depth r
+        → object (members_view members.now.entries) ≢ json_value (binary op l r m)) }
 {
     let parts = binary_parts(alloc, members)?;
     let is_bool = member!(alloc, "bool", read_flag(alloc, parts.is_bool));
@@ -256,19 +266,16 @@ fn read_paren(
     alloc: Global,
     members: &Map<String, Value>,
     depth: usize,
-) -> Result<ParenExpr, FromJsonError>
+) -> Result<ParenExpr, ReadError>
     ensures ok { IfOk result (λ p. object (members_view members.now.entries)
         ≡ json_value (paren_tree p)) }
     ensures fits { IfOk result (λ p. json_fault (paren_tree p) ≡ None) }
+    ensures err { IfErr result (λ e. e ≢ Memory → (t : Tree) → ReadableBelow depth t
+        → object (members_view members.now.entries) ≢ json_value (paren t)) }
 {
     let mut fields = Fields::new(members);
     let (expr, node) = fields.two(alloc, "expr", "type")?;
-    fields.end(alloc)?;
-    member!(
-        alloc,
-        "type",
-        expect_text(alloc, node, "parenExpr", Expected::Node)
-    );
+    fields.end_of_node(alloc, node, "parenExpr")?;
     let expr = read_child(alloc, "expr", expr, depth)?;
     Ok(ParenExpr { expr })
 }
@@ -286,22 +293,20 @@ struct SubqueryParts<'v> {
 fn subquery_parts<'v>(
     alloc: Global,
     members: &'v Map<String, Value>,
-) -> Result<SubqueryParts<'v>, FromJsonError>
+) -> Result<SubqueryParts<'v>, ReadError>
     ensures ok { IfOk result (λ p. members_view members.now.entries ≡ subquery_members (view p.expr.now)
         (option_map shift_of p.offset) (option_map moment_of p.at) (as_nanos p.range) (option_map as_nanos p.step)) }
     ensures fits { IfOk result (λ p. first_of (width_fault (shift_millis (option_map shift_of p.offset)))
         (first_of (width_fault (millis (as_nanos p.range))) (step_fault (option_map as_nanos p.step))) ≡ None) }
+    ensures err { IfErr result (λ e. e ≢ Memory
+        → (expr : Data) (offset : Option Shift) (at : Option Moment) (range : ℕ) (step : Option ℕ) → ReadableMoment at
+        → members_view members.now.entries ≢ subquery_members expr offset at range step) }
 {
     let mut fields = Fields::new(members);
     let (expr, offset, range) = fields.three(alloc, "expr", "offset", "range")?;
     let (start_or_end, step, timestamp) = fields.three(alloc, "startOrEnd", "step", "timestamp")?;
     let node = fields.next(alloc, "type")?;
-    fields.end(alloc)?;
-    member!(
-        alloc,
-        "type",
-        expect_text(alloc, node, "subquery", Expected::Node)
-    );
+    fields.end_of_node(alloc, node, "subquery")?;
     let offset = member!(alloc, "offset", read_offset(alloc, offset));
     let range = member!(alloc, "range", read_length(alloc, range));
     let step = member!(alloc, "step", read_step(alloc, step));
@@ -320,10 +325,13 @@ fn read_subquery(
     alloc: Global,
     members: &Map<String, Value>,
     depth: usize,
-) -> Result<SubqueryExpr, FromJsonError>
+) -> Result<SubqueryExpr, ReadError>
     ensures ok { IfOk result (λ s. object (members_view members.now.entries)
         ≡ json_value (subquery_tree s)) }
     ensures fits { IfOk result (λ s. json_fault (subquery_tree s) ≡ None) }
+    ensures err { IfErr result (λ e. e ≢ Memory
+        → (t : Tree) (offset : Option Shift) (at : Option Moment) (range : ℕ) (step : Option ℕ) → ReadableMoment at → ReadableBelow depth t
+        → object (members_view members.now.entries) ≢ json_value (subquery t offset at range step)) }
 {
     let parts = subquery_parts(alloc, members)?;
     let expr = read_child(alloc, "expr", parts.expr, depth)?;
@@ -339,18 +347,15 @@ fn read_subquery(
 fn read_number_literal(
     alloc: Global,
     members: &Map<String, Value>,
-) -> Result<NumberLiteral, FromJsonError>
+) -> Result<NumberLiteral, ReadError>
     ensures ok { IfOk result (λ n. object (members_view members.now.entries)
         ≡ json_value (number n.val)) }
+    ensures err { IfErr result (λ e. e ≢ Memory → (n : AnyNumber) → IsNumber n
+        → object (members_view members.now.entries) ≢ json_value (number n)) }
 {
     let mut fields = Fields::new(members);
     let (node, val) = fields.two(alloc, "type", "val")?;
-    fields.end(alloc)?;
-    member!(
-        alloc,
-        "type",
-        expect_text(alloc, node, "numberLiteral", Expected::Node)
-    );
+    fields.end_of_node(alloc, node, "numberLiteral")?;
     Ok(NumberLiteral {
         val: member!(alloc, "val", read_number(alloc, val)),
     })
@@ -359,31 +364,25 @@ fn read_number_literal(
 fn read_string_literal(
     alloc: Global,
     members: &Map<String, Value>,
-) -> Result<StringLiteral, FromJsonError>
+) -> Result<StringLiteral, ReadError>
     ensures ok { IfOk result (λ s. object (members_view members.now.entries)
         ≡ json_value (string (string_bytes s.val))) }
+    ensures err { IfErr result (λ e. e ≢ Memory → (s : Text)
+        → object (members_view members.now.entries) ≢ json_value (string s)) }
 {
     let mut fields = Fields::new(members);
     let (node, val) = fields.two(alloc, "type", "val")?;
-    fields.end(alloc)?;
-    member!(
-        alloc,
-        "type",
-        expect_text(alloc, node, "stringLiteral", Expected::Node)
-    );
+    fields.end_of_node(alloc, node, "stringLiteral")?;
     Ok(StringLiteral {
         val: member!(alloc, "val", read_label(alloc, val)),
     })
 }
 
 #[cycle(read)]
-fn read_arg_list(
-    alloc: Global,
-    list: &[Value],
-    depth: usize,
-) -> Result<Vec<Box<Expr>>, FromJsonError>
+fn read_arg_list(alloc: Global, list: &[Value], depth: usize) -> Result<Vec<Box<Expr>>, ReadError>
     ensures ok { IfOk result (λ args. items_view list.now ≡ args_items (trees_of args.items)) }
     ensures fits { IfOk result (λ args. args_fault (trees_of args.items) ≡ None) }
+    ensures err { IfErr result (λ e. e ≢ Memory → (ts : Trees) → AllReadableBelow depth ts → items_view list.now ≢ args_items ts) }
 {
     let mut args = Vec::with_capacity(alloc, list.len())?;
     for i in 0..list.len() {
@@ -396,32 +395,26 @@ fn read_arg_list(
 }
 
 #[cycle(read)]
-fn read_args(alloc: Global, value: &Value, depth: usize) -> Result<Vec<Box<Expr>>, FromJsonError>
+fn read_args(alloc: Global, value: &Value, depth: usize) -> Result<Vec<Box<Expr>>, ReadError>
     ensures ok { IfOk result (λ args. view value.now ≡ array (args_items (trees_of args.items))) }
     ensures fits { IfOk result (λ args. args_fault (trees_of args.items) ≡ None) }
+    ensures err { IfErr result (λ e. e ≢ Memory → (ts : Trees) → AllReadableBelow depth ts → view value.now ≢ array (args_items ts)) }
 {
     let list = read_list(alloc, value)?;
     read_arg_list(alloc, list, depth)
 }
 
 #[cycle(read)]
-fn read_call(
-    alloc: Global,
-    members: &Map<String, Value>,
-    depth: usize,
-) -> Result<Call, FromJsonError>
+fn read_call(alloc: Global, members: &Map<String, Value>, depth: usize) -> Result<Call, ReadError>
     ensures ok { IfOk result (λ c. object (members_view members.now.entries)
         ≡ json_value (call_tree c)) }
     ensures fits { IfOk result (λ c. json_fault (call_tree c) ≡ None) }
+    ensures err { IfErr result (λ e. e ≢ Memory → (f : Signature) (ts : Trees) → function_named (name_of f) ≡ Some f → AllReadableBelow depth ts
+        → object (members_view members.now.entries) ≢ json_value (call f ts)) }
 {
     let mut fields = Fields::new(members);
     let (args, func, node) = fields.three(alloc, "args", "func", "type")?;
-    fields.end(alloc)?;
-    member!(
-        alloc,
-        "type",
-        expect_text(alloc, node, "call", Expected::Node)
-    );
+    fields.end_of_node(alloc, node, "call")?;
     let func = member!(alloc, "func", read_function(alloc, func));
     let args = member!(alloc, "args", read_args(alloc, args, depth));
     Ok(Call {
@@ -431,8 +424,11 @@ fn read_call(
 }
 
 /// The text of the member `type`; empty where there is none.
-fn type_of_node(members: &Map<String, Value>) -> &str {
-    match members.get("type") {
+#[tactic(auto, using(crate::proofs::ReadForms::type_found))]
+fn type_of_node(value: &Value) -> &str
+    ensures { (t : Tree) → view value.now ≡ json_value t → result.now ≡ type_name t }
+{
+    match value.get("type") {
         Some(Value::String(name)) => name.as_str(),
         _ => "",
     }
@@ -443,14 +439,18 @@ fn type_of_node(members: &Map<String, Value>) -> &str {
 #[tactic(auto, using(promql_ast::proofs::NodeParts::tree_of_call, promql_ast::proofs::NodeParts::tree_of_extension, promql_ast::proofs::NodeParts::tree_of_aggregate))]
 fn read_node(
     alloc: Global,
+    node: &str,
     members: &Map<String, Value>,
     depth: usize,
-) -> Result<Expr, FromJsonError>
+) -> Result<Expr, ReadError>
+    requires { (t : Tree) → object (members_view members.now.entries) ≡ json_value t → node.now ≡ type_name t }
     ensures ok { IfOk result (λ e. object (members_view members.now.entries)
         ≡ json_value (tree_of e)) }
     ensures fits { IfOk result (λ e. json_fault (tree_of e) ≡ None) }
+    ensures err { IfErr result (λ e. e ≢ Memory → (t : Tree) → ReadableBelow (depth + 1) t
+        → object (members_view members.now.entries) ≢ json_value t) }
 {
-    match type_of_node(members) {
+    match node {
         "aggregation" => Ok(Expr::Aggregate(read_aggregate(alloc, members, depth)?)),
         "unaryExpr" => Ok(Expr::Unary(read_unary(alloc, members, depth)?)),
         "binaryExpr" => Ok(Expr::Binary(read_binary(alloc, members, depth)?)),
@@ -461,18 +461,20 @@ fn read_node(
         "vectorSelector" => Ok(Expr::VectorSelector(read_vector(alloc, members)?)),
         "matrixSelector" => Ok(Expr::MatrixSelector(read_matrix(alloc, members)?)),
         "call" => Ok(Expr::Call(read_call(alloc, members, depth)?)),
-        _ => Err(FromJsonError::at(alloc, "type", Expected::Node)),
+        _ => Err(ReadError::at(alloc, "type", Expected::Node)),
     }
 }
 
 /// The expression of a value, of at most so many nodes above one another.
 #[cycle(read)]
-fn read_expr(alloc: Global, value: &Value, depth: usize) -> Result<Expr, FromJsonError>
+fn read_expr(alloc: Global, value: &Value, depth: usize) -> Result<Expr, ReadError>
     ensures ok { IfOk result (λ e. view value.now ≡ json_value (tree_of e)) }
     ensures fits { IfOk result (λ e. json_fault (tree_of e) ≡ None) }
+    ensures err { IfErr result (λ e. e ≢ Memory → (t : Tree) → ReadableBelow depth t → view value.now ≢ json_value t) }
 {
     if depth == 0 {
-        return Err(FromJsonError::here(alloc, Expected::LowTree));
+        return Err(ReadError::here(alloc, Expected::LowTree));
     }
-    read_node(alloc, read_object(alloc, value)?, depth - 1)
+    let members = read_object(alloc, value)?;
+    read_node(alloc, type_of_node(value), members, depth - 1)
 }

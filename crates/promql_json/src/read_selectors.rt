@@ -1,26 +1,30 @@
 //! Selectors of the JSON form: docs/reference/json.md, "Nodes". Private.
 
-ghost use Rattle.std.specs.Prelude.{◌≡◌, ◌≢◌, IfErr, IfOk, None, Option, codes, map, option_map, string_bytes};
+ghost use Rattle.std.specs.Prelude.{◌≡◌, ◌≢◌, ℕ, IfErr, IfOk, List, None, Option, codes, map, option_map, string_bytes};
 ghost use Rattle.std.specs.Duration.{as_nanos};
-ghost use Rattle.serde_json.specs.Data.{Members, member, object, string as text};
+ghost use Rattle.serde_json.specs.Data.{Data, Members, member, object, string as text};
 ghost use Rattle.serde_json.specs.View.{members_view, view};
 ghost use Rattle.promql_text.specs.Texts.{Text};
 ghost use Rattle.promql_label.specs.MatcherViews.{plain_matcher_of};
-ghost use Rattle.promql_ast.specs.Shifts.{moment_of};
+ghost use Rattle.promql_ast.specs.Shifts.{Moment, moment_of};
+ghost use Rattle.promql_ast.specs.Selectors.{Selector};
+ghost use Rattle.promql_ast.specs.Tree.{matrix, vector};
+ghost use Rattle.promql_ast.specs.declared.range_mode.RangeMode.{RangeMode as Mode};
 ghost use Rattle.promql_ast.specs.View.{matrix_tree, selector_of, vector_tree};
+ghost use Rattle.promql_label.specs.PlainMatchers.{PlainMatcher};
+ghost use Rattle.std.specs.List.{AllByRecursion};
+ghost use Rattle.promql_json.specs.Readable.{ReadableMatcher, ReadableMoment, ReadableSelector};
 ghost use Rattle.promql_json.specs.FormMembers.{begin_members, end_members, groups_members, mode_members};
 ghost use Rattle.promql_json.specs.Json.{json_value, selector_fault, width_fault};
 ghost use Rattle.promql_json.specs.JsonFaults.{json_fault};
 ghost use Rattle.promql_json.specs.JsonTokens.{moment_of_selector};
 ghost use Rattle.promql_json.specs.JsonParts as spec;
-ghost use Rattle.promql_json.specs.declared.from_error.FromJsonError.TheVariants.{Memory};
+ghost use Rattle.promql_json.specs.declared.from_error.ReadError.TheVariants.{Memory};
 
 use crate::fields::Fields;
-use crate::from_error::{Expected, FromJsonError, member};
+use crate::from_error::{Expected, ReadError, member};
 use crate::read_labels::{read_group, read_groups, read_label};
-use crate::read_values::{
-    expect_text, read_length, read_mode, read_offset, read_start_or_end, read_timestamp,
-};
+use crate::read_values::{read_length, read_mode, read_offset, read_start_or_end, read_timestamp};
 use promql_ast::{AtModifier, Expr, MatrixSelector, RangeMode, VectorSelector};
 use promql_label::{Matcher, Matchers};
 use serde_json::{Map, Value};
@@ -28,7 +32,7 @@ use std::alloc::Global;
 use std::time::Duration;
 
 /// A name, or none.
-fn read_name(alloc: Global, value: &Value) -> Result<Option<String>, FromJsonError>
+fn read_name(alloc: Global, value: &Value) -> Result<Option<String>, ReadError>
     ensures ok { IfOk result (λ name. view value.now
         ≡ spec.or_null text (option_map string_bytes name)) }
     ensures err { IfErr result (λ e. e ≢ Memory → (name : Option Text)
@@ -41,10 +45,16 @@ fn read_name(alloc: Global, value: &Value) -> Result<Option<String>, FromJsonErr
 }
 
 /// The or-groups, if the next member has them.
-fn next_groups(alloc: Global, fields: &mut Fields<'_>) -> Result<Vec<Vec<Matcher>>, FromJsonError>
+fn next_groups(alloc: Global, fields: &mut Fields<'_>) -> Result<Vec<Vec<Matcher>>, ReadError>
     ensures ok { IfOk result (λ groups. members_view fields.old.rest
         ≡ groups_members (map (λ g. map plain_matcher_of g.items) groups.items)
         (members_view fields.new.rest)) }
+    ensures err { IfErr result (λ e. e ≢ Memory → (gs : List (List PlainMatcher)) (name : Text) (d : Data) (ms : Members)
+        → AllByRecursion (AllByRecursion ReadableMatcher) gs → name ≢ codes "or_matchers"
+        → members_view fields.old.rest ≢ groups_members gs (member name d ms)) }
+    ensures rest { IfOk result (λ _. (gs : List (List PlainMatcher)) (name : Text) (d : Data) (ms : Members)
+        → name ≢ codes "or_matchers" → members_view fields.old.rest ≡ groups_members gs (member name d ms)
+        → members_view fields.new.rest ≡ member name d ms) }
 {
     match fields.next_if("or_matchers")? {
         Some(groups) => Ok(member!(alloc, "or_matchers", read_groups(alloc, groups))),
@@ -53,10 +63,16 @@ fn next_groups(alloc: Global, fields: &mut Fields<'_>) -> Result<Vec<Vec<Matcher
 }
 
 /// The selector of the members before a range or a time, without `@`.
-fn read_begin(alloc: Global, fields: &mut Fields<'_>) -> Result<VectorSelector, FromJsonError>
+fn read_begin(alloc: Global, fields: &mut Fields<'_>) -> Result<VectorSelector, ReadError>
     ensures ok { IfOk result (λ s. members_view fields.old.rest
         ≡ begin_members (selector_of s) (members_view fields.new.rest)) }
     ensures fits { IfOk result (λ s. selector_fault (selector_of s) ≡ None) }
+    ensures err { IfErr result (λ e. e ≢ Memory → (s : Selector) (name : Text) (d : Data) (ms : Members)
+        → ReadableSelector s → name ≢ codes "or_matchers"
+        → members_view fields.old.rest ≢ begin_members s (member name d ms)) }
+    ensures rest { IfOk result (λ _. (s : Selector) (name : Text) (d : Data) (ms : Members)
+        → name ≢ codes "or_matchers" → members_view fields.old.rest ≡ begin_members s (member name d ms)
+        → members_view fields.new.rest ≡ member name d ms) }
 {
     let (matchers, name, offset) = fields.three(alloc, "matchers", "name", "offset")?;
     let offset = member!(alloc, "offset", read_offset(alloc, offset));
@@ -79,11 +95,14 @@ pub(crate) fn read_at(
     alloc: Global,
     start_or_end: &Value,
     timestamp: &Value,
-) -> Result<Option<AtModifier>, FromJsonError>
+) -> Result<Option<AtModifier>, ReadError>
     ensures word { IfOk result (λ at. view start_or_end.now
         ≡ spec.start_or_end (option_map moment_of at)) }
     ensures time { IfOk result (λ at. view timestamp.now
         ≡ spec.timestamp (option_map moment_of at)) }
+    ensures err { IfErr result (λ e. e ≢ Memory → (at : Option Moment) → ReadableMoment at
+        → view start_or_end.now ≡ spec.start_or_end at
+        → view timestamp.now ≢ spec.timestamp at) }
 {
     let word = member!(alloc, "startOrEnd", read_start_or_end(alloc, start_or_end));
     Ok(member!(alloc, "timestamp", read_timestamp(alloc, timestamp, word)))
@@ -94,17 +113,14 @@ fn read_end(
     alloc: Global,
     fields: &mut Fields<'_>,
     type_name: &str,
-) -> Result<Option<AtModifier>, FromJsonError>
+) -> Result<Option<AtModifier>, ReadError>
     ensures ok { IfOk result (λ at. members_view fields.old.rest
         ≡ end_members (option_map moment_of at) type_name.now) }
+    ensures err { IfErr result (λ e. e ≢ Memory → (at : Option Moment) → ReadableMoment at
+        → members_view fields.old.rest ≢ end_members at type_name.now) }
 {
     let (start_or_end, timestamp, node) = fields.three(alloc, "startOrEnd", "timestamp", "type")?;
-    fields.end(alloc)?;
-    member!(
-        alloc,
-        "type",
-        expect_text(alloc, node, type_name, Expected::Node)
-    );
+    fields.end_of_node(alloc, node, type_name)?;
     read_at(alloc, start_or_end, timestamp)
 }
 
@@ -126,10 +142,12 @@ fn with_at(selector: VectorSelector, at: Option<AtModifier>) -> VectorSelector
 pub(crate) fn read_vector(
     alloc: Global,
     members: &Map<String, Value>,
-) -> Result<VectorSelector, FromJsonError>
+) -> Result<VectorSelector, ReadError>
     ensures ok { IfOk result (λ s. object (members_view members.now.entries)
         ≡ json_value (vector_tree s)) }
     ensures fits { IfOk result (λ s. json_fault (vector_tree s) ≡ None) }
+    ensures err { IfErr result (λ e. e ≢ Memory → (s : Selector) → ReadableSelector s
+        → object (members_view members.now.entries) ≢ json_value (vector s)) }
 {
     let mut fields = Fields::new(members);
     let selector = read_begin(alloc, &mut fields)?;
@@ -138,14 +156,18 @@ pub(crate) fn read_vector(
 }
 
 /// The range and its mode.
-fn read_range(
-    alloc: Global,
-    fields: &mut Fields<'_>,
-) -> Result<(Duration, RangeMode), FromJsonError>
+fn read_range(alloc: Global, fields: &mut Fields<'_>) -> Result<(Duration, RangeMode), ReadError>
     ensures ok { IfOk result (λ r. members_view fields.old.rest
         ≡ member (codes "range") (spec.whole (spec.millis (as_nanos r.0)))
         (mode_members r.1 (members_view fields.new.rest))) }
     ensures fits { IfOk result (λ r. width_fault (spec.millis (as_nanos r.0)) ≡ None) }
+    ensures err { IfErr result (λ e. e ≢ Memory → (range : ℕ) (mode : Mode) (name : Text) (d : Data) (ms : Members)
+        → name ≢ codes "rangeMode"
+        → members_view fields.old.rest ≢ member (codes "range") (spec.whole (spec.millis range)) (mode_members mode (member name d ms))) }
+    ensures rest { IfOk result (λ _. (range : ℕ) (mode : Mode) (name : Text) (d : Data) (ms : Members)
+        → name ≢ codes "rangeMode"
+        → members_view fields.old.rest ≡ member (codes "range") (spec.whole (spec.millis range)) (mode_members mode (member name d ms))
+        → members_view fields.new.rest ≡ member name d ms) }
 {
     let range = fields.next(alloc, "range")?;
     let range = member!(alloc, "range", read_length(alloc, range));
@@ -159,10 +181,12 @@ fn read_range(
 pub(crate) fn read_matrix(
     alloc: Global,
     members: &Map<String, Value>,
-) -> Result<MatrixSelector, FromJsonError>
+) -> Result<MatrixSelector, ReadError>
     ensures ok { IfOk result (λ m. object (members_view members.now.entries)
         ≡ json_value (matrix_tree m)) }
     ensures fits { IfOk result (λ m. json_fault (matrix_tree m) ≡ None) }
+    ensures err { IfErr result (λ e. e ≢ Memory → (s : Selector) (range : ℕ) (mode : Mode) → ReadableSelector s
+        → object (members_view members.now.entries) ≢ json_value (matrix s range mode)) }
 {
     let mut fields = Fields::new(members);
     let selector = read_begin(alloc, &mut fields)?;

@@ -9,15 +9,15 @@ ghost use Rattle.serde_json.specs.View.{items_view, members_view, view};
 ghost use Rattle.promql_text.specs.Texts.{Text};
 ghost use Rattle.promql_text.specs.Values.{IsNumber};
 ghost use Rattle.promql_text.specs.declared.number.Number.{Number as AnyNumber};
-ghost use Rattle.promql_token.specs.Ids.{text_of};
+ghost use Rattle.promql_token.specs.Ids.{is_one_of, text_of};
 ghost use Rattle.promql_ast.specs.Shifts.{Moment, moment_of, shift_of};
 ghost use Rattle.promql_json.specs.FormMembers.{mode_members};
 ghost use Rattle.promql_json.specs.Json.{step_fault, width_fault};
 ghost use Rattle.promql_json.specs.Readable.{ReadableFill, ReadableMoment, is_millis};
-ghost use Rattle.promql_json.specs.declared.from_error.FromJsonError.TheVariants.{Memory};
+ghost use Rattle.promql_json.specs.declared.from_error.ReadError.TheVariants.{Memory};
 ghost use Rattle.promql_json.specs.JsonParts as spec;
 
-use crate::from_error::{Expected, FromJsonError};
+use crate::from_error::{Expected, ReadError};
 use promql_ast::{AtModifier, Offset, RangeMode};
 use promql_text::{Number, parse_str_radix};
 use promql_token::TokenId;
@@ -54,46 +54,43 @@ pub(crate) const OPERATORS: [TokenId; 16] = [
     T_LAND, T_LOR, T_LUNLESS,
 ];
 
-pub(crate) fn read_object(
-    alloc: Global,
-    value: &Value,
-) -> Result<&Map<String, Value>, FromJsonError>
+pub(crate) fn read_object(alloc: Global, value: &Value) -> Result<&Map<String, Value>, ReadError>
     ensures ok { IfOk result (λ m. view value.now ≡ object (members_view m.now.entries)) }
     ensures err { OnErr result ((ms : Members) → view value.now ≢ object ms) }
 {
     match value {
         Value::Object(members) => Ok(members),
-        _ => Err(FromJsonError::here(alloc, Expected::Object)),
+        _ => Err(ReadError::here(alloc, Expected::Object)),
     }
 }
 
-pub(crate) fn read_list(alloc: Global, value: &Value) -> Result<&Vec<Value>, FromJsonError>
+pub(crate) fn read_list(alloc: Global, value: &Value) -> Result<&Vec<Value>, ReadError>
     ensures ok { IfOk result (λ l. view value.now ≡ array (items_view l.now.items)) }
     ensures err { OnErr result ((ds : Items) → view value.now ≢ array ds) }
 {
     match value {
         Value::Array(list) => Ok(list),
-        _ => Err(FromJsonError::here(alloc, Expected::List)),
+        _ => Err(ReadError::here(alloc, Expected::List)),
     }
 }
 
-pub(crate) fn read_text(alloc: Global, value: &Value) -> Result<&str, FromJsonError>
+pub(crate) fn read_text(alloc: Global, value: &Value) -> Result<&str, ReadError>
     ensures ok { IfOk result (λ s. view value.now ≡ string s.now) }
     ensures err { OnErr result ((s : Text) → view value.now ≢ string s) }
 {
     match value {
         Value::String(text) => Ok(text.as_str()),
-        _ => Err(FromJsonError::here(alloc, Expected::Text)),
+        _ => Err(ReadError::here(alloc, Expected::Text)),
     }
 }
 
-pub(crate) fn read_flag(alloc: Global, value: &Value) -> Result<bool, FromJsonError>
+pub(crate) fn read_flag(alloc: Global, value: &Value) -> Result<bool, ReadError>
     ensures ok { IfOk result (λ b. view value.now ≡ boolean b) }
     ensures err { OnErr result ((b : Bool) → view value.now ≢ boolean b) }
 {
     match value {
         Value::Bool(flag) => Ok(*flag),
-        _ => Err(FromJsonError::here(alloc, Expected::Flag)),
+        _ => Err(ReadError::here(alloc, Expected::Flag)),
     }
 }
 
@@ -103,13 +100,13 @@ pub(crate) fn expect_text(
     value: &Value,
     wanted: &str,
     expected: Expected,
-) -> Result<(), FromJsonError>
+) -> Result<(), ReadError>
     ensures ok { OnOk result (view value.now ≡ string wanted.now) }
     ensures err { OnErr result (view value.now ≢ string wanted.now) }
 {
     match value {
         Value::String(text) if text.as_str() == wanted => Ok(()),
-        _ => Err(FromJsonError::here(alloc, expected)),
+        _ => Err(ReadError::here(alloc, expected)),
     }
 }
 
@@ -132,34 +129,35 @@ pub(crate) fn read_id(
     value: &Value,
     ids: &[TokenId],
     expected: Expected,
-) -> Result<TokenId, FromJsonError>
+) -> Result<TokenId, ReadError>
     ensures ok { IfOk result (λ id. view value.now ≡ spec.token_json id) }
+    ensures err { OnErr result ((id : ℕ) → is_one_of ids.now id ≡ true → view value.now ≢ spec.token_json id) }
 {
     let text = read_text(alloc, value)?;
     match id_of_text(ids, text) {
         Some(id) => Ok(id),
-        None => Err(FromJsonError::here(alloc, expected)),
+        None => Err(ReadError::here(alloc, expected)),
     }
 }
 
 /// A number that prints as this text.
-fn number_of_text(alloc: Global, text: &str) -> Result<Number, FromJsonError>
+fn number_of_text(alloc: Global, text: &str) -> Result<Number, ReadError>
     ensures ok { IfOk result (λ n. spec.number_json n ≡ string text.now) }
     ensures err { IfErr result (λ e. e ≢ Memory → (n : AnyNumber) → IsNumber n → spec.number_json n ≢ string text.now) }
 {
     promql_text::laws::number_reads_back();
     let Ok(number) = parse_str_radix(text) else {
-        return Err(FromJsonError::here(alloc, Expected::Number));
+        return Err(ReadError::here(alloc, Expected::Number));
     };
     let printed = number.to_string(alloc)?;
     if printed.as_str() == text {
         Ok(number)
     } else {
-        Err(FromJsonError::here(alloc, Expected::Number))
+        Err(ReadError::here(alloc, Expected::Number))
     }
 }
 
-pub(crate) fn read_number(alloc: Global, value: &Value) -> Result<Number, FromJsonError>
+pub(crate) fn read_number(alloc: Global, value: &Value) -> Result<Number, ReadError>
     ensures ok { IfOk result (λ n. view value.now ≡ spec.number_json n) }
     ensures err { IfErr result (λ e. e ≢ Memory → (n : AnyNumber) → IsNumber n → view value.now ≢ spec.number_json n) }
 {
@@ -170,7 +168,7 @@ pub(crate) fn read_number(alloc: Global, value: &Value) -> Result<Number, FromJs
 pub(crate) fn read_optional_number(
     alloc: Global,
     value: &Value,
-) -> Result<Option<Number>, FromJsonError>
+) -> Result<Option<Number>, ReadError>
     ensures ok { IfOk result (λ n. view value.now ≡ spec.or_null spec.number_json n) }
     ensures err { IfErr result (λ e. e ≢ Memory → (n : Option AnyNumber) → ReadableFill n
         → view value.now ≢ spec.or_null spec.number_json n) }
@@ -182,18 +180,18 @@ pub(crate) fn read_optional_number(
 }
 
 /// A length of time.
-pub(crate) fn read_length(alloc: Global, value: &Value) -> Result<Duration, FromJsonError>
+pub(crate) fn read_length(alloc: Global, value: &Value) -> Result<Duration, ReadError>
     ensures ok { IfOk result (λ d. view value.now ≡ spec.whole (spec.millis (as_nanos d))) }
     ensures fits { IfOk result (λ d. width_fault (spec.millis (as_nanos d)) ≡ None) }
     ensures err { OnErr result ((n : ℕ) → view value.now ≢ spec.whole (spec.millis n)) }
 {
     match value.as_u64() {
         Some(millis) => Ok(Duration::from_millis(millis)),
-        None => Err(FromJsonError::here(alloc, Expected::Length)),
+        None => Err(ReadError::here(alloc, Expected::Length)),
     }
 }
 
-pub(crate) fn read_step(alloc: Global, value: &Value) -> Result<Option<Duration>, FromJsonError>
+pub(crate) fn read_step(alloc: Global, value: &Value) -> Result<Option<Duration>, ReadError>
     ensures ok { IfOk result (λ d. view value.now
         ≡ spec.or_null (λ n. spec.whole (spec.millis n)) (option_map as_nanos d)) }
     ensures fits { IfOk result (λ d. step_fault (option_map as_nanos d) ≡ None) }
@@ -207,18 +205,18 @@ pub(crate) fn read_step(alloc: Global, value: &Value) -> Result<Option<Duration>
 }
 
 /// A whole number that fits 64 bits with its sign.
-fn read_i64(alloc: Global, value: &Value) -> Result<i64, FromJsonError>
+fn read_i64(alloc: Global, value: &Value) -> Result<i64, ReadError>
     ensures ok { IfOk result (λ z. view value.now ≡ spec.whole z) }
     ensures err { OnErr result ((z : ℤ) → is_millis z ≡ true → view value.now ≢ spec.whole z) }
 {
     match value.as_i64() {
         Some(z) => Ok(z),
-        None => Err(FromJsonError::here(alloc, Expected::Millis)),
+        None => Err(ReadError::here(alloc, Expected::Millis)),
     }
 }
 
 /// An offset below zero.
-fn read_negative(alloc: Global, value: &Value) -> Result<Option<Offset>, FromJsonError>
+fn read_negative(alloc: Global, value: &Value) -> Result<Option<Offset>, ReadError>
     ensures ok { IfOk result (λ o. view value.now
         ≡ spec.whole (spec.shift_millis (option_map shift_of o))) }
     ensures fits { IfOk result (λ o. width_fault (spec.shift_millis (option_map shift_of o)) ≡ None) }
@@ -228,12 +226,12 @@ fn read_negative(alloc: Global, value: &Value) -> Result<Option<Offset>, FromJso
         Some(millis) if millis < 0 => Ok(Some(Offset::Neg(Duration::from_millis(
             millis.unsigned_abs(),
         )))),
-        _ => Err(FromJsonError::here(alloc, Expected::Millis)),
+        _ => Err(ReadError::here(alloc, Expected::Millis)),
     }
 }
 
 /// An offset; 0 is none.
-pub(crate) fn read_offset(alloc: Global, value: &Value) -> Result<Option<Offset>, FromJsonError>
+pub(crate) fn read_offset(alloc: Global, value: &Value) -> Result<Option<Offset>, ReadError>
     ensures ok { IfOk result (λ o. view value.now
         ≡ spec.whole (spec.shift_millis (option_map shift_of o))) }
     ensures fits { IfOk result (λ o. width_fault (spec.shift_millis (option_map shift_of o)) ≡ None) }
@@ -250,7 +248,7 @@ pub(crate) fn read_offset(alloc: Global, value: &Value) -> Result<Option<Offset>
 pub(crate) fn read_start_or_end(
     alloc: Global,
     value: &Value,
-) -> Result<Option<AtModifier>, FromJsonError>
+) -> Result<Option<AtModifier>, ReadError>
     ensures start { IfOk result (λ at. view value.now
         ≡ spec.start_or_end (option_map moment_of at)) }
     ensures null { IfOk result (λ at. spec.timestamp (option_map moment_of at) ≡ null) }
@@ -260,7 +258,7 @@ pub(crate) fn read_start_or_end(
         Value::Null => Ok(None),
         Value::String(text) if text.as_str() == "start" => Ok(Some(AtModifier::Start)),
         Value::String(text) if text.as_str() == "end" => Ok(Some(AtModifier::End)),
-        _ => Err(FromJsonError::here(alloc, Expected::StartOrEnd)),
+        _ => Err(ReadError::here(alloc, Expected::StartOrEnd)),
     }
 }
 
@@ -269,7 +267,7 @@ pub(crate) fn read_timestamp(
     alloc: Global,
     value: &Value,
     start_or_end: Option<AtModifier>,
-) -> Result<Option<AtModifier>, FromJsonError>
+) -> Result<Option<AtModifier>, ReadError>
     requires { spec.timestamp (option_map moment_of start_or_end) ≡ null }
     ensures same { IfOk result (λ at. spec.start_or_end (option_map moment_of start_or_end)
         ≡ spec.start_or_end (option_map moment_of at)) }
@@ -281,12 +279,12 @@ pub(crate) fn read_timestamp(
     match (value, start_or_end) {
         (Value::Null, at) => Ok(at),
         (_, None) => Ok(Some(AtModifier::At(read_i64(alloc, value)?))),
-        _ => Err(FromJsonError::here(alloc, Expected::NoTimestamp)),
+        _ => Err(ReadError::here(alloc, Expected::NoTimestamp)),
     }
 }
 
 /// The mode of a range that is not plain.
-pub(crate) fn read_mode(alloc: Global, value: &Value) -> Result<RangeMode, FromJsonError>
+pub(crate) fn read_mode(alloc: Global, value: &Value) -> Result<RangeMode, ReadError>
     ensures ok { IfOk result (λ mode. (ms : Members) → mode_members mode ms ≡ member (codes "rangeMode") (view value.now) ms) }
     ensures not_smoothed { OnErr result (view value.now ≢ string (codes "smoothed")) }
     ensures not_anchored { OnErr result (view value.now ≢ string (codes "anchored")) }
@@ -294,6 +292,6 @@ pub(crate) fn read_mode(alloc: Global, value: &Value) -> Result<RangeMode, FromJ
     match value {
         Value::String(text) if text.as_str() == "smoothed" => Ok(RangeMode::Smoothed),
         Value::String(text) if text.as_str() == "anchored" => Ok(RangeMode::Anchored),
-        _ => Err(FromJsonError::here(alloc, Expected::RangeMode)),
+        _ => Err(ReadError::here(alloc, Expected::RangeMode)),
     }
 }

@@ -1,4 +1,3 @@
-use Rattle.std.specs.List.{AllByRecursion}
 use Rattle.serde_json.specs.View.{view}
 use Rattle.promql_json.specs.JsonParts.{matcher_json}
 use Rattle.promql_json.specs.Readable.{ReadableMatcher}

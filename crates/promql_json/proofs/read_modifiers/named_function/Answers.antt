@@ -14,4 +14,4 @@ named (Ok None) name h = tt
 named (Err e) name h = tt
 
 pub returns : goal.returns
-returns c = named c.get_function.result c.args.name.now c.get_function.ensures.found
+returns c = record { found = named c.get_function.result c.args.name.now c.get_function.ensures.found; row = c.get_function.ensures.found }

@@ -1,0 +1,15 @@
+use Rattle.std.proofs.Common.{◌∙◌, ap, sym}
+use Rattle.serde_json.specs.View.{members_view}
+use Rattle.promql_json.proofs.ReadForms.{err_within, rest_of}
+use Rattle.promql_json.proofs.read_nodes.aggregate_parts.Goals as goal
+
+pub returns-in_err-expr-clause-err : goal.returns-in_err-expr-clause-err
+returns-in_err-expr-clause-err c =
+    err_within _ c.from_residual.result c.in_err-expr.field-0.0 c.from_residual.ensures.1
+    (λ other expr grouping op param without h. c.in_err-expr.ensures.err other expr grouping op _ (ap members_view c.new-fields.ensures ∙ h))
+
+pub returns-in_err-param-clause-err : goal.returns-in_err-param-clause-err
+returns-in_err-param-clause-err c =
+    err_within _ c.from_residual-in_err-param.result c.in_err-param.field-0.0 c.from_residual-in_err-param.ensures.1
+    (λ other expr grouping op param without h. c.in_err-param.ensures.err other param _ without _
+    (ap (λ m. rest_of (rest_of (rest_of m))) (sym c.in_ok-expr.ensures.ok ∙ ap members_view c.new-fields.ensures ∙ h)))
