@@ -1,5 +1,5 @@
 -- Why and where a query is rejected (docs/reference/programs.md, "Errors").
-use Rattle.std.specs.Prelude.{◌≡◌, ℕ, Option, Some, None, Result, Ok, Err}
+use Rattle.std.specs.Prelude.{◌≡◌, ◌≤◌, ℕ, MatchOption, Option, Some, None, Result, Ok, Err}
 use Rattle.promql_span.specs.Locations.{location_of}
 use Rattle.promql_text.specs.Texts.{Text}
 use Rattle.promql_ast.specs.Tree.{Tree}
@@ -7,12 +7,16 @@ use Rattle.promql_ast.specs.View.{tree_of}
 use Rattle.promql_ast.specs.declared.expr.Expr.{Expr}
 use Rattle.promql_span.specs.ErrorPlaces.{IsPlaceOf}
 use Rattle.promql_span.specs.PlacedTokens.{end_of}
-use Rattle.promql_span.specs.QueryLimits.{IsLimitFault, IsWithin}
+use Rattle.promql_span.specs.QueryLimits.{IsLimitFault, IsWithin, patterns_size}
+use Rattle.promql_span.specs.Unexpected.{IsUnexpected, unexpected_text}
+use Rattle.promql_span.specs.declared.unexpected.Unexpected.{Unexpected}
 use Rattle.promql_span.specs.declared.limits.LimitFault.{LimitFault}
 use Rattle.promql_span.specs.declared.limits.LimitFault.TheVariants.{Memory, TooLong, PatternsTooLarge}
 use Rattle.promql_span.specs.declared.limits.Limits.{Limits}
 use Rattle.promql_span.specs.declared.span.Span.{Span}
 use Rattle.promql_syntax.specs.ParseAnswers.{IsAnswerTo, plain_error_of}
+use Rattle.promql_syntax.specs.declared.parser.ParseError.TheVariants.{Syntax}
+use Rattle.promql_report.specs.declared.rejection.TheConstants.{MAX_EXPECTED_PATTERN_SIZE, PLAIN_SYNTAX_ERROR}
 use Rattle.promql_report.specs.declared.rejection.Reason.{Reason}
 use Rattle.promql_report.specs.declared.rejection.Reason.TheVariants.{Limit, Parse}
 use Rattle.promql_report.specs.declared.rejection.Rejection.{Rejection}
@@ -36,6 +40,21 @@ IsReason limits query (Parse e) span = IsWithin query limits × IsAnswerTo query
 -- this is why the query is rejected, at this part of it, and where that begins
 abbrev pub IsRejection : Limits → Text → Rejection → Type 0
 IsRejection limits query r = IsReason limits query r.reason r.span × (r.location ≡ location_of query r.span.start)
+
+-- what was expected is told of a syntax error alone, and where the patterns of the query measure at most MAX_EXPECTED_PATTERN_SIZE
+-- together
+abbrev pub TellsExpected : Text → Reason → Type 0
+TellsExpected query reason = (reason ≡ Parse Syntax) × (patterns_size query ≤ MAX_EXPECTED_PATTERN_SIZE)
+
+-- this was found and expected at the place of the rejection, where that is told; else nothing is
+abbrev pub IsTold : Text → Rejection → Option Unexpected → Type 0
+IsTold query r (Some u) = TellsExpected query r.reason × IsUnexpected query r.span.start u
+IsTold query r None = ¬ TellsExpected query r.reason
+
+-- the message for people: that, or the plain one where a syntax error does not tell it; others are those of their reasons
+abbrev pub IsMessage : Text → Rejection → Text → Type 0
+IsMessage query r message =
+    (told : Option Unexpected) × IsTold query r told × MatchOption told (r.reason ≡ Parse Syntax → message ≡ PLAIN_SYNTAX_ERROR.now) (λ u. message ≡ unexpected_text u)
 
 -- the query is within its limits, and has this tree
 abbrev pub IsRead : Limits → Text → Tree → Type 0

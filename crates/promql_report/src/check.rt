@@ -1,14 +1,14 @@
 //! The program that checks a query, as a function of its arguments, its input and its two outputs:
 //! docs/reference/programs.md, "One query, checked".
 
-ghost use Rattle.std.specs.Prelude.{◌≡◌, ◌⊎◌, false, true, Some, None, IfNone, IfOk, IfErr, IfSome, IsErrOf, MatchResult, map, string_bytes};
+ghost use Rattle.std.specs.Prelude.{◌≡◌, ◌⊎◌, ◌++◌, false, true, Some, None, IfNone, IfOk, IfErr, IfSome, IsErrOf, MatchResult, map, string_bytes};
 ghost use Rattle.std.specs.Io.KnownBytes.{Appends};
 ghost use Rattle.promql_text.specs.Texts.{Text};
 ghost use Rattle.promql_span.specs.ByteEscapes.{byte_escape};
 ghost use Rattle.promql_span.specs.Locations.{location_of};
 ghost use Rattle.promql_span.specs.declared.limits.Limits as spans;
 ghost use Rattle.promql_span.specs.declared.span.Span.{Span};
-ghost use Rattle.promql_report.specs.Checking.{HasQuery, IsQueryIn, IsReport, IsReported, IsSilent, IsWarned, check_command, check_limits};
+ghost use Rattle.promql_report.specs.Checking.{HasQuery, IsQueryIn, IsReport, IsReported, IsSilent, IsWarned, check_command, check_limits, report_text};
 ghost use Rattle.promql_report.specs.CheckedInputs.{IsChecked};
 ghost use Rattle.promql_run.specs.Programs.{Obeys, Reads, run};
 ghost use Rattle.promql_io.specs.Inputs.{IsInput, IsNotUtf8};
@@ -34,7 +34,7 @@ pub const REJECTED_STATUS: u8 = 4;
 pub const LIMIT_STATUS: u8 = 14;
 
 /// The line that is printed for wrong arguments, and the first of the help.
-pub const CHECK_USAGE: &str = "usage: promql_check [--max-len N] [--max-patterns N]\n";
+pub const CHECK_USAGE: &str = "usage: promql_check [FILE] [--max-len N] [--max-patterns N]\n";
 
 /// What is said of a byte escape: docs/reference/texts.md, "Byte escapes".
 const BYTE_ESCAPE: &str = "warning: this escape is a character here, and a byte in Prometheus";
@@ -46,20 +46,20 @@ const BYTE_ORDER_MARK: &str = ", a byte order mark at the start of the text";
 pub const CHECK_VERSION: &str = "promql_check 0.5.0\n";
 
 /// What `--help` prints.
-pub const CHECK_HELP: &str = "usage: promql_check [--max-len N] [--max-patterns N]
-       promql_check --help | --version
+pub const CHECK_HELP: &str = "usage: promql_check [FILE] [--max-len N] [--max-patterns N]
+       promql_check -h | --help | --version
 
-Reads a PromQL query from standard input. Prints nothing where it is accepted;
-otherwise, to standard error, the line and the column of the error, its message,
-and the line of the query with a mark below. An escape of a byte past ASCII is
-accepted with a warning, since it means something else to Prometheus. A line feed
-at the end of the input is no part of the query. A query of more than --max-len
-bytes (32768), or with patterns that are together larger than --max-patterns
-(16000), is rejected before it is parsed.
+Reads a PromQL query from FILE, or from standard input. Prints nothing where it is
+accepted; otherwise, to standard error, the line and the column of the error, its
+message, and the line of the query with a mark below. An escape of a byte past
+ASCII is accepted with a warning, since it means something else to Prometheus. A
+line feed at the end of the input is no part of the query. A query of more than
+--max-len bytes (32768), or with patterns that are together larger than
+--max-patterns (16000), is rejected before it is parsed.
 
 Status: 0 the query is accepted, 4 it is rejected, 14 it is too long or its
 patterns are too large, 1 out of memory, 2 a read failed, 3 the input is not
-UTF-8, 5 a write failed, 64 wrong arguments.
+UTF-8, 5 a write failed, 64 wrong arguments, 141 nobody reads what is written.
 ";
 
 /// The limits that the arguments ask for, the program's own name first; `None` where they are no options.
@@ -92,7 +92,7 @@ fn report(
     span: Span,
     message: &str,
 ) -> Result<String, AllocError>
-    ensures { IfOk result (λ s. IsReport query.now location span (string_bytes s)) }
+    ensures { IfOk result (λ s. string_bytes s ≡ report_text query.now location span message.now) }
 {
     let mut report = location.to_string(alloc)?;
     let message = visible(alloc, message)?;
@@ -107,13 +107,9 @@ fn report(
 
 /// Why and where the query is rejected.
 fn report_rejection(alloc: Global, query: &str, rejection: &Rejection) -> Result<String, AllocError>
-    ensures { IfOk result (λ s. IsReport query.now rejection.now.location rejection.now.span
-        (string_bytes s)) }
+    ensures { IfOk result (λ s. IsReport query.now rejection.now (string_bytes s)) }
 {
-    let mut message = rejection.message(alloc, query)?;
-    if query.starts_with('\u{feff}') {
-        message.push_str(BYTE_ORDER_MARK)?;
-    }
+    let message = with_note(query, rejection.message(alloc, query)?)?;
     report(
         alloc,
         query,
@@ -123,11 +119,23 @@ fn report_rejection(alloc: Global, query: &str, rejection: &Rejection) -> Result
     )
 }
 
+/// A message, and what is said of a byte order mark where the query begins with one.
+fn with_note(query: &str, message: String) -> Result<String, AllocError>
+    ensures { IfOk result (λ s. (string_bytes s ≡ string_bytes message)
+        ⊎ (string_bytes s ≡ string_bytes message ++ BYTE_ORDER_MARK.now)) }
+{
+    let mut said = message;
+    if query.starts_with('\u{feff}') {
+        said.push_str(BYTE_ORDER_MARK)?;
+    }
+    Ok(said)
+}
+
 /// The warning of the first byte escape of an accepted query, or None where it has none.
 fn warning(alloc: Global, query: &str) -> Result<Option<String>, AllocError>
     ensures none { IfOk result (λ o. IfNone o (byte_escape query.now ≡ None)) }
     ensures some { IfOk result (λ o. IfSome o (λ s. (span : Span) × (byte_escape query.now ≡ Some span)
-        × IsReport query.now (location_of query.now span.start) span (string_bytes s))) }
+        × (string_bytes s ≡ report_text query.now (location_of query.now span.start) span BYTE_ESCAPE.now))) }
 {
     match byte_escape(query) {
         Some(span) => {

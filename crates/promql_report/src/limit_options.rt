@@ -5,6 +5,13 @@ ghost use Rattle.promql_report.specs.LimitOptions as spec;
 
 use promql_span::limits::{Limits, MAX_LEN, MAX_OUTPUT, MAX_PATTERN_SIZE};
 
+/// Whether a word asks for the help.
+fn is_help(word: &str) -> bool
+    ensures { result ≡ spec.is_help word.now }
+{
+    matches!(word, "--help" | "-h")
+}
+
 /// The text that the arguments ask for alone, the help or the version, the program's own name first; `None` where they are others.
 pub fn asked_text(
     args: &[String],
@@ -16,7 +23,7 @@ pub fn asked_text(
     let [_, word] = args else {
         return None;
     };
-    if word.as_str() == "--help" {
+    if is_help(word.as_str()) {
         Some(help)
     } else if word.as_str() == "--version" {
         Some(version)

@@ -1,8 +1,12 @@
 //! The tree of a query, or why and where it is rejected.
 
-ghost use Rattle.std.specs.Prelude.{◌≡◌, IfOk};
+ghost use Rattle.std.specs.Prelude.{◌≡◌, ◌≤◌, IfOk, not, string_bytes};
+ghost use Rattle.std.specs.Bool.{Decides};
 ghost use Rattle.promql_span.specs.Locations.{location_of};
-ghost use Rattle.promql_report.specs.Rejecting.{IsReadAs, limit_place, reason_number};
+ghost use Rattle.promql_span.specs.QueryLimits.{patterns_size};
+ghost use Rattle.promql_syntax.specs.declared.parser.ParseError.TheVariants as parse_errors;
+ghost use Rattle.promql_report.specs.declared.rejection.Reason.TheVariants as reasons;
+ghost use Rattle.promql_report.specs.Rejecting.{IsMessage, IsReadAs, IsTold, limit_place, reason_number};
 
 use promql_ast::Expr;
 use promql_span::diagnosis::{Diagnosis, diagnose};
@@ -34,6 +38,24 @@ impl Reason {
             Reason::Limit(_) => 14,
         }
     }
+
+    /// Whether it is a syntax error.
+    fn is_syntax(&self) -> bool
+        ensures { Decides result (self.now ≡ reasons.Parse parse_errors.Syntax) }
+    {
+        matches!(self, Reason::Parse(ParseError::Syntax))
+    }
+
+    /// The message without what was expected.
+    pub fn plain_message(&self, alloc: Global) -> Result<String, AllocError>
+        ensures { self.now ≡ reasons.Parse parse_errors.Syntax → IfOk result (λ s. string_bytes s ≡ PLAIN_SYNTAX_ERROR.now) }
+    {
+        if self.is_syntax() {
+            String::from_str(alloc, PLAIN_SYNTAX_ERROR)
+        } else {
+            self.to_string(alloc)
+        }
+    }
 }
 
 /// Why and where a query is rejected.
@@ -49,7 +71,10 @@ pub struct Rejection {
 }
 
 /// The greatest sum of the measures of a query's patterns with which it is told what was expected.
-const MAX_EXPECTED_PATTERN_SIZE: usize = 640;
+pub const MAX_EXPECTED_PATTERN_SIZE: usize = 640;
+
+/// The message of a syntax error where it does not tell what was expected.
+pub const PLAIN_SYNTAX_ERROR: &str = "invalid promql query";
 
 impl Rejection {
     /// What was found and what was expected at a syntax error (docs/reference/grammar.md, "What is expected"); `None` of any other
@@ -62,9 +87,10 @@ impl Rejection {
         &self,
         alloc: Global,
         query: &'a str,
-    ) -> Result<Option<Unexpected<'a>>, AllocError> {
-        let is_syntax = matches!(self.reason, Reason::Parse(ParseError::Syntax));
-        if !is_syntax || has_large_patterns(alloc, query)? {
+    ) -> Result<Option<Unexpected<'a>>, AllocError>
+        ensures { IfOk result (IsTold query.now self.now) }
+    {
+        if !self.reason.is_syntax() || has_large_patterns(alloc, query)? {
             return Ok(None);
         }
         Ok(Some(unexpected_at(alloc, query, self.span.start)?))
@@ -76,16 +102,20 @@ impl Rejection {
     /// # Errors
     ///
     /// `AllocError` where an allocation failed.
-    pub fn message(&self, alloc: Global, query: &str) -> Result<String, AllocError> {
+    pub fn message(&self, alloc: Global, query: &str) -> Result<String, AllocError>
+        ensures { IfOk result (λ s. IsMessage query.now self.now (string_bytes s)) }
+    {
         match self.unexpected(alloc, query)? {
             Some(unexpected) => unexpected.to_string(alloc),
-            None => self.reason.to_string(alloc),
+            None => self.reason.plain_message(alloc),
         }
     }
 }
 
 /// Whether the patterns of a query are too dear to be compiled once for each kind of token.
-fn has_large_patterns(alloc: Global, query: &str) -> Result<bool, AllocError> {
+fn has_large_patterns(alloc: Global, query: &str) -> Result<bool, AllocError>
+    ensures { IfOk result (λ large. Decides (not large) (patterns_size query.now ≤ MAX_EXPECTED_PATTERN_SIZE)) }
+{
     let limits = Limits {
         max_len: query.len(),
         max_pattern_size: MAX_EXPECTED_PATTERN_SIZE,

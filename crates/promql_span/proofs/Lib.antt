@@ -1,6 +1,7 @@
 pub mod EscapeSteps
 pub mod Covered
 pub mod LineParts
+pub mod Naming
 pub mod Respelling
 pub mod GoingOn
 pub mod OrderedTokens

@@ -8,6 +8,8 @@ pub mod TokensBefore
 pub mod TokensLeft
 pub mod ErrorPlaces
 pub mod ExpectedTokens
+pub mod KindNames
+pub mod Unexpected
 pub mod Findings
 pub mod Locations
 pub mod MeasuredTokens

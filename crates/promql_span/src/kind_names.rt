@@ -1,11 +1,17 @@
 //! Kinds of tokens by their names for people: docs/reference/grammar.md, "What is expected".
 
+ghost use Rattle.std.specs.Prelude.{◌≡◌};
+ghost use Rattle.promql_grammar.specs.Symbols.{may_begin};
+ghost use Rattle.promql_span.specs.KindNames as spec;
+
 use promql_grammar::TokenKind;
 use promql_token::TokenId;
 use promql_token::ids::*;
 
 /// The name of a kind of tokens: what they are, or in quotes the one text that they have.
-pub fn kind_name(kind: TokenKind) -> &'static str {
+pub fn kind_name(kind: TokenKind) -> &'static str
+    ensures { result.now ≡ spec.kind_name kind }
+{
     match kind {
         TokenKind::Number => "number",
         TokenKind::Duration => "duration",
@@ -15,13 +21,6 @@ pub fn kind_name(kind: TokenKind) -> &'static str {
         TokenKind::Aggregator(_) => "aggregation",
         TokenKind::Operator(id) => operator_name(id),
         TokenKind::Other => "other token",
-        kind => text_name(kind),
-    }
-}
-
-/// The names of words and of punctuation.
-fn text_name(kind: TokenKind) -> &'static str {
-    match kind {
         TokenKind::By => "\"by\"",
         TokenKind::Without => "\"without\"",
         TokenKind::On => "\"on\"",
@@ -48,12 +47,14 @@ fn text_name(kind: TokenKind) -> &'static str {
         TokenKind::Equal => "\"=\"",
         TokenKind::EqualRegex => "\"=~\"",
         TokenKind::NotEqualRegex => "\"!~\"",
-        _ => "\"@\"",
+        TokenKind::At => "\"@\"",
     }
 }
 
 /// The names of operators.
-fn operator_name(id: TokenId) -> &'static str {
+fn operator_name(id: TokenId) -> &'static str
+    ensures { result.now ≡ spec.operator_name id }
+{
     match id {
         T_ADD => "\"+\"",
         T_SUB => "\"-\"",
@@ -75,7 +76,9 @@ fn operator_name(id: TokenId) -> &'static str {
 }
 
 /// Whether an expression may begin with a token of this kind.
-pub fn begins_expression(kind: TokenKind) -> bool {
+pub fn begins_expression(kind: TokenKind) -> bool
+    ensures { result ≡ may_begin kind }
+{
     match kind {
         TokenKind::Number
         | TokenKind::Duration

@@ -1,8 +1,16 @@
 //! The token of a query that does not fit, what was expected in its place, and what may be meant: docs/reference/grammar.md,
 //! "What is expected".
 
-ghost use Rattle.std.specs.Prelude.{IfOk, IfSome};
-ghost use Rattle.promql_span.specs.ExpectedTokens.{AreExpected, symbols_before};
+ghost use Rattle.std.specs.Prelude.{◌≡◌, ◌⊎◌, ◌&&◌, not, Bool, Contains, IfNone, IfOk, IfSome, None, OnOk, codes, map, option_map};
+ghost use Rattle.std.specs.Bool.{Decides};
+ghost use Rattle.std.specs.Fmt.{WritesStyledOnOk};
+ghost use Rattle.promql_text.specs.Texts.{Text, joined_text};
+ghost use Rattle.promql_grammar.specs.declared.token_kinds.TokenKind as kinds;
+ghost use Rattle.promql_grammar.specs.declared.token_kinds.TokenKind.TheVariants as kind;
+ghost use Rattle.promql_token.specs.declared.ids.TheConstants as ids;
+ghost use Rattle.promql_syntax.specs.declared.parser.ParseError.TheVariants as errors;
+ghost use Rattle.promql_span.specs.KindNames.{name_among};
+ghost use Rattle.promql_span.specs.Unexpected.{AreNames, IsUnexpected, expected_text, found_at, hint_text, token_name};
 
 use crate::diagnosis::Diagnosis;
 use crate::expected::{ExpectedTokens, expected_tokens};
@@ -10,7 +18,8 @@ use crate::kind_names::{begins_expression, kind_name};
 use crate::placed::PlacedTokens;
 use promql_grammar::{TokenKind, token_kind};
 use promql_syntax::parser::ParseError;
-use promql_token::Lexeme;
+use promql_text::{write_joined_by, write_plain};
+use promql_token::cursor::Cursor;
 use promql_token::ids::T_MUL;
 use std::alloc::{AllocError, Global};
 use std::fmt;
@@ -35,7 +44,7 @@ pub struct Unexpected<'a> {
 ///
 /// `AllocError` where an allocation failed.
 pub fn unexpected_at(alloc: Global, text: &str, at: usize) -> Result<Unexpected<'_>, AllocError>
-    ensures { IfOk result (λ u. AreExpected (symbols_before text.now at) u.expected.kinds.items u.expected.ends) }
+    ensures { IfOk result (IsUnexpected text.now at) }
 {
     let expected = expected_tokens(alloc, text, at)?;
     let names = names(alloc, &expected)?;
@@ -61,8 +70,9 @@ impl Diagnosis {
         alloc: Global,
         text: &'a str,
     ) -> Result<Option<Unexpected<'a>>, AllocError>
-        ensures { IfOk result (λ found. IfSome found (λ u. IfSome self.now.span (λ span.
-            AreExpected (symbols_before text.now span.start) u.expected.kinds.items u.expected.ends))) }
+        ensures some { IfOk result (λ found. IfSome found (λ u. (self.now.error ≡ errors.Syntax)
+            × IfSome self.now.span (λ span. IsUnexpected text.now span.start u))) }
+        ensures none { IfOk result (λ found. IfNone found (self.now.error ≡ errors.Syntax → self.now.span ≡ None)) }
     {
         match (&self.error, self.span) {
             (ParseError::Syntax, Some(span)) => Ok(Some(unexpected_at(alloc, text, span.start)?)),
@@ -72,19 +82,18 @@ impl Diagnosis {
 }
 
 /// The first token that begins at `at` or after it: its kind and text.
-fn token_from(text: &str, at: usize) -> Option<(TokenKind, &str)> {
-    for token in PlacedTokens::new(text) {
-        if at <= token.start {
-            return Some((token_kind(token.id), text_of(text, token)));
+fn token_from(text: &str, at: usize) -> Option<(TokenKind, &str)>
+    ensures { option_map (λ f. (f.0, f.1.now)) result ≡ found_at text.now at }
+{
+    crate::laws::tokens_are_placed();
+    let mut tokens = Cursor::new(text);
+    for place in PlacedTokens::new(text) {
+        let (id, token) = tokens.next()?;
+        if at <= place.start {
+            return Some((token_kind(id), token));
         }
     }
     None
-}
-
-/// The text of a token.
-fn text_of(text: &str, token: Lexeme) -> &str {
-    text.get(token.start..token.start.saturating_add(token.len))
-        .unwrap_or("")
 }
 
 /// The kind of the last token that begins before `at`.
@@ -99,7 +108,9 @@ fn last_before(text: &str, at: usize) -> Option<TokenKind> {
 }
 
 /// What is expected, by names for people, in the order of the kinds, and the end last.
-fn names(alloc: Global, expected: &ExpectedTokens) -> Result<Vec<&'static str>, AllocError> {
+fn names(alloc: Global, expected: &ExpectedTokens) -> Result<Vec<&'static str>, AllocError>
+    ensures { IfOk result (λ names. AreNames expected.now.kinds.items expected.now.ends (map (λ name. name.now) names.items)) }
+{
     let mut names = Vec::new(alloc);
     for kind in &expected.kinds {
         push_new(&mut names, expected.name_of(*kind))?;
@@ -111,7 +122,13 @@ fn names(alloc: Global, expected: &ExpectedTokens) -> Result<Vec<&'static str>, 
 }
 
 /// Appends a name that is not there yet.
-fn push_new(names: &mut Vec<&'static str>, name: &'static str) -> Result<(), AllocError> {
+fn push_new(names: &mut Vec<&'static str>, name: &'static str) -> Result<(), AllocError>
+    ensures has { OnOk result (Contains (map (λ n. n.now) names.new.items) name.now) }
+    ensures keeps { OnOk result ((n : Text) → Contains (map (λ n. n.now) names.old.items) n
+        → Contains (map (λ n. n.now) names.new.items) n) }
+    ensures only { OnOk result ((n : Text) → Contains (map (λ n. n.now) names.new.items) n
+        → Contains (map (λ n. n.now) names.old.items) n ⊎ (n ≡ name.now)) }
+{
     if !names.contains(&name) {
         names.push(name)?;
     }
@@ -120,7 +137,10 @@ fn push_new(names: &mut Vec<&'static str>, name: &'static str) -> Result<(), All
 
 impl ExpectedTokens {
     /// The name of a kind among those that are expected.
-    fn name_of(&self, kind: TokenKind) -> &'static str {
+    fn name_of(&self, kind: TokenKind) -> &'static str
+        ensures { (has : kinds.TokenKind → Bool) → ((k : kinds.TokenKind) → Decides (has k) (Contains self.now.kinds.items k))
+            → result.now ≡ name_among has kind }
+    {
         if self.has_expression() && begins_expression(kind) {
             "expression"
         } else if self.has_label() && kind != TokenKind::String && kind.may_be_label() {
@@ -133,17 +153,26 @@ impl ExpectedTokens {
     }
 
     /// Whether an expression may begin there.
-    fn has_expression(&self) -> bool {
+    fn has_expression(&self) -> bool
+        ensures { (has : kinds.TokenKind → Bool) → ((k : kinds.TokenKind) → Decides (has k) (Contains self.now.kinds.items k))
+            → result ≡ has kind.Number && has kind.LeftBrace }
+    {
         self.kinds.contains(&TokenKind::Number) && self.kinds.contains(&TokenKind::LeftBrace)
     }
 
     /// Whether a label may be there, and no expression.
-    fn has_label(&self) -> bool {
+    fn has_label(&self) -> bool
+        ensures { (has : kinds.TokenKind → Bool) → ((k : kinds.TokenKind) → Decides (has k) (Contains self.now.kinds.items k))
+            → result ≡ has kind.Identifier && not (has kind.Number) }
+    {
         self.kinds.contains(&TokenKind::Identifier) && !self.kinds.contains(&TokenKind::Number)
     }
 
     /// Whether an operator may follow.
-    fn has_operator(&self) -> bool {
+    fn has_operator(&self) -> bool
+        ensures { (has : kinds.TokenKind → Bool) → ((k : kinds.TokenKind) → Decides (has k) (Contains self.now.kinds.items k))
+            → result ≡ has (kind.Operator ids.T_MUL) }
+    {
         self.kinds.contains(&TokenKind::Operator(T_MUL))
     }
 }
@@ -198,51 +227,100 @@ fn is_joining(text: &str) -> bool {
         || text.eq_ignore_ascii_case("unless")
 }
 
+impl<'a> Unexpected<'a> {
+    /// What was found, for people: a token by its text, after what it is.
+    pub fn found_name(&self) -> FoundName<'a>
+        ensures { result.0 ≡ self.now.found }
+    {
+        FoundName(self.found)
+    }
+}
+
 impl fmt::Display for Unexpected<'_> {
+    ghost use Rattle.std.specs.Prelude.{Some};
+    ghost use Rattle.promql_span.specs.Unexpected.{unexpected_text};
+
+    ghost output = { λ u. Some (unexpected_text u) };
+
+    ghost styled_output = { λ u _. Some (unexpected_text u) };
+
     fn fmt<W: fmt::Write>(&self, f: &mut fmt::Formatter<W>) -> fmt::Result {
         f.write_str("unexpected ")?;
-        write_found(f, self.found)?;
+        FoundName(self.found).fmt(f)?;
         write_names(f, self.names.as_slice())?;
-        match self.hint {
-            Some(hint) => write!(f, "; {hint}"),
-            None => Ok(()),
+        write_hint(f, self.hint)
+    }
+}
+
+/// A token that was found, or the end, for people: it prints as `identifier "b"`.
+#[derive(Clone, Copy, Debug)]
+pub struct FoundName<'a>(pub Option<(TokenKind, &'a str)>);
+
+impl fmt::Display for FoundName<'_> {
+    ghost use Rattle.std.specs.Prelude.{Some, option_map};
+    ghost use Rattle.promql_span.specs.Unexpected.{found_name};
+
+    ghost output = { λ name. Some (found_name (option_map (λ f. (f.0, f.1.now)) name.0)) };
+
+    ghost styled_output = { λ name _. Some (found_name (option_map (λ f. (f.0, f.1.now)) name.0)) };
+
+    fn fmt<W: fmt::Write>(&self, f: &mut fmt::Formatter<W>) -> fmt::Result {
+        match self.0 {
+            Some((kind, text)) => write_token(f, kind, text),
+            None => f.write_str("end of query"),
         }
     }
 }
 
 /// Writes a token: its kind, and its text in quotes, which a string has already.
-fn write_found<W: fmt::Write>(
-    f: &mut fmt::Formatter<W>,
-    found: Option<(TokenKind, &str)>,
-) -> fmt::Result {
-    match found {
-        None => f.write_str("end of query"),
-        Some((TokenKind::String, text)) => write!(f, "string {text}"),
-        Some(
-            (
-                kind @ (TokenKind::Number
-                | TokenKind::Duration
-                | TokenKind::Identifier
-                | TokenKind::MetricIdentifier
-                | TokenKind::Aggregator(_)),
-                text,
-            ),
-        ) => write!(f, "{} \"{text}\"", kind_name(kind)),
-        Some((_, text)) => write!(f, "\"{text}\""),
+fn write_token<W: fmt::Write>(f: &mut fmt::Formatter<W>, kind: TokenKind, text: &str) -> fmt::Result
+    ensures { WritesStyledOnOk W.write_str_gives f.old result (token_name kind text.now) f.new }
+{
+    match kind {
+        TokenKind::String => write_plain(format_args!("string {text}"), f),
+        TokenKind::Number
+        | TokenKind::Duration
+        | TokenKind::Identifier
+        | TokenKind::MetricIdentifier
+        | TokenKind::Aggregator(_) => {
+            let name = kind_name(kind);
+            write_plain(format_args!("{name} \"{text}\""), f)
+        }
+        _ => write_plain(format_args!("\"{text}\""), f),
     }
 }
 
-/// Writes what was expected: names with commas between, and `or` before the last.
-fn write_names<W: fmt::Write>(f: &mut fmt::Formatter<W>, names: &[&'static str]) -> fmt::Result {
-    for (i, name) in names.iter().enumerate() {
-        if i == 0 {
-            f.write_str(", expected ")?;
-        } else if i + 1 == names.len() {
-            f.write_str(" or ")?;
-        } else {
-            f.write_str(", ")?;
-        }
-        f.write_str(name)?;
+/// Writes what was expected, if anything was: names with commas between, and `or` before the last one.
+fn write_names<W: fmt::Write>(f: &mut fmt::Formatter<W>, names: &[&'static str]) -> fmt::Result
+    ensures { WritesStyledOnOk W.write_str_gives f.old result (expected_text (map (λ n. n.now) names.now)) f.new }
+{
+    let Some((last, firsts)) = names.split_last() else {
+        return Ok(());
+    };
+    if firsts.is_empty() {
+        return write_plain(format_args!(", expected {last}"), f);
     }
-    Ok(())
+    f.write_str(", expected ")?;
+    write_firsts(f, firsts)?;
+    write_plain(format_args!(" or {last}"), f)
+}
+
+/// Writes names with commas between.
+fn write_firsts<W: fmt::Write>(f: &mut fmt::Formatter<W>, names: &[&'static str]) -> fmt::Result
+    ensures { WritesStyledOnOk W.write_str_gives f.old result (joined_text (codes ", ") (map (λ n. n.now) names.now)) f.new }
+{
+    let write = |name: &&str, f: &mut fmt::Formatter<W>| -> fmt::Result
+        ensures { WritesStyledOnOk W.write_str_gives f.old result name.now.now f.new }
+    { f.write_str(name) };
+    write_joined_by(names, ", ", f, write)
+}
+
+/// Writes what may be meant, if there is a hint.
+fn write_hint<W: fmt::Write>(f: &mut fmt::Formatter<W>, hint: Option<&'static str>) -> fmt::Result
+    ensures { WritesStyledOnOk W.write_str_gives f.old result (hint_text hint.entry) f.new }
+{
+    match hint {
+        Some(hint) => write_plain(format_args!("; {hint}"), f),
+        None => Ok(()),
+    }
 }
