@@ -1,10 +1,11 @@
 pub mod BuiltNodes
 pub mod BuiltTrees
 pub mod CursorSteps
+pub mod LyingParts
 pub mod PassedTrees
 pub mod PlaceSteps
 pub mod PlacedAnswers
 pub mod PlacedNodes
-pub mod ShiftSteps
 pub mod SignedTrees
-pub mod SkippedParts
+pub mod TakeSteps
+pub mod TakenParts

@@ -1,9 +1,8 @@
 -- The pass over the tokens of a derivation, guided by the tree that it builds, finds its nodes.
-use Rattle.std.proofs.Common.{◌≡◌, inl, inr, ℕ, ◌+◌, ◌≤◌, Bool, true, false, cond, not, List, [], ◌∷◌, ◌++◌, Option, Some, None, refl, sym, ap, subst, ◌∙◌, arith, append_assoc, append-nil, drop, length, length-append, map, min}
+use Rattle.std.proofs.Common.{◌≡◌, inl, inr, ℕ, ◌+◌, ◌≤◌, Bool, true, false, cond, not, List, [], ◌∷◌, ◌++◌, Option, None, refl, sym, ap, subst, ◌∙◌, arith, append_assoc, append-nil, drop, length, length-append, map, min}
 use Rattle.std.specs.Prelude.{◌==◌, ◌&&◌, ◌||◌}
 use Rattle.std.proofs.lemmas.Bool.{eqb-true}
 use Rattle.std.proofs.lemmas.Bool.Decides.{nat_tests}
-use Rattle.std.proofs.lemmas.List.{length-map}
 use Rattle.promql_text.specs.Texts.{Text}
 use Rattle.promql_token.specs.declared.ids.TheConstants.{T_ADD, T_POW, T_SUB}
 use Rattle.promql_grammar.specs.declared.token_kinds.TokenKind.{TokenKind}
@@ -11,7 +10,7 @@ use Rattle.promql_grammar.specs.declared.token_kinds.TokenKind.TheVariants as ki
 use Rattle.promql_grammar.specs.Grammar as grammar
 use Rattle.promql_grammar.specs.Grammar.{Derivation, Arguments, yield, yield_arguments, yield_rest, precedence, openness, FitsLeft, FitsMatching, IsBase, IsWellFormed, AreWellFormed, OpensNoParen}
 use Rattle.promql_grammar.specs.GrammarParts as part
-use Rattle.promql_grammar.specs.GrammarParts.{Braces, no_item, items, Clause, no_clause, before, after, Matching, matching, Fills, no_fill, bare, IsAnyBraces, IsBraces, IsClause, IsPostfix, yield_after, yield_before, yield_any_braces, yield_modifier, yield_postfix}
+use Rattle.promql_grammar.specs.GrammarParts.{Braces, no_item, items, Clause, no_clause, before, after, Matching, matching, Fills, no_fill, bare, IsAnyBraces, IsBraces, IsClause, IsPostfix, yield_after, yield_before, yield_any_braces, yield_fills, yield_modifier, yield_postfix}
 use Rattle.promql_grammar.specs.Symbols.{Symbol, punct, word, begins, is_plus_or_minus, is_word_operator, may_be_called, may_be_name}
 use Rattle.promql_grammar.proofs.Complete.{begins_here}
 use Rattle.promql_grammar.proofs.GrammarChoices.{if_false}
@@ -21,19 +20,24 @@ use Rattle.promql_kind.specs.Modifiers.{Clause as TreeClause}
 use Rattle.promql_syntax.specs.Building.{build, build_all}
 use Rattle.promql_syntax.specs.FaultTokens.{Subexpression, rest_count}
 use Rattle.promql_syntax.proofs.CheckedAgain.{arguments}
+use Rattle.promql_places.specs.NodeParts.{PartTokens, after_parts, before_parts, matching_parts, parts, piece, postfix_kind}
 use Rattle.promql_places.specs.NodePlaces.{argument_nodes, has_node, is_number, nodes, nodes_below}
-use Rattle.promql_places.specs.Passing.{Passed, around, inside, pass, pass_all, skip_empty, then_pass, then_skip}
-use Rattle.promql_places.specs.Skipping.{front, is_grouping_word, is_left_brace, is_shift, is_sign, kinds, skip_aggregate, skip_braces, skip_clause, skip_operator, skip_power_signs, skip_range, skip_selector, skip_shifts, skip_signs, skip_vector, when}
+use Rattle.promql_places.specs.PartSteps as step
+use Rattle.promql_places.specs.PartSteps.{PartSpan, Step, Taken, also, and_then}
+use Rattle.promql_places.specs.Passing.{NodeSpan, Passed, around, begin, inside, pass, pass_all, skip_empty, then_pass, then_skip, then_take}
+use Rattle.promql_places.specs.Skipping.{front, is_grouping_word, is_left_brace, is_shift, is_sign, kinds, skip_power_signs, skip_signs, when}
+use Rattle.promql_places.specs.declared.parts.PartKind.TheVariants as sort
 use Rattle.promql_places.proofs.BuiltTrees.{Alike, Gives, MinusOf, PostfixOf, Queried, Ranged, Sort, UnaryOf, more_arguments, no_arguments, others, queries, ranges, selects, shape, sort_of}
 use Rattle.promql_places.proofs.SignedTrees.{IsSigned, is_number_tree, number_is, plus_first, sign_skipped, signed}
-use Rattle.promql_places.proofs.SkippedParts.{HasNoParenWord, IsShift, braces_skipped, grouping_skipped, modifier_skipped, range_skipped, shift_skipped, subquery_skipped}
+use Rattle.promql_places.proofs.TakeSteps.{no_shift}
+use Rattle.promql_places.proofs.TakenParts.{HasNoParenWord, IsShift, any_braces_taken, braces_taken, first_is, grouping_taken, kinds_count, kinds_length, operator_taken, postfix_is, range_skipped, shift_taken, span_is, span_of, spans, spans_joined, subquery_skipped}
 
 -- ---- places by counts
 
-abbrev pub count_of : Subexpression → ℕ × ℕ
-count_of sub = (length (yield sub.derivation) + sub.after, sub.after)
+abbrev pub count_of : Subexpression → NodeSpan
+count_of sub = ((length (yield sub.derivation) + sub.after, sub.after), spans (parts sub.after sub.derivation))
 
-abbrev pub counts : List Subexpression → List (ℕ × ℕ)
+abbrev pub counts : List Subexpression → List NodeSpan
 counts subs = map count_of subs
 
 counts_joined : (xs ys : List Subexpression) → counts (xs ++ ys) ≡ counts xs ++ counts ys
@@ -51,28 +55,20 @@ abbrev pub IsStill : List TokenKind → Type 0
 IsStill ks = is_shift (front ks) ≡ false
 
 -- a selector and a subquery take shifts
-abbrev after_sort : Sort → List TokenKind → List TokenKind
-after_sort selects ks = skip_shifts ks
-after_sort ranges ks = skip_shifts ks
-after_sort (queries e) ks = skip_shifts ks
-after_sort others ks = ks
+abbrev after_sort : Sort → Step
+after_sort selects ks = step.shifts ks
+after_sort ranges ks = step.shifts ks
+after_sort (queries e) ks = step.shifts ks
+after_sort others ks = ([], ks)
 
 abbrev StillAfter : Sort → List TokenKind → Type 0
 StillAfter others ks = IsStill ks
 StillAfter s ks = Unit {0}
 
-still_shifts : (ks : List TokenKind) → IsStill ks → skip_shifts ks ≡ ks
-still_shifts [] h = refl
-still_shifts (kind.At ∷ ks) h = cc
-still_shifts (kind.Offset ∷ ks) h = cc
-still_shifts (kind.Smoothed ∷ ks) h = cc
-still_shifts (kind.Anchored ∷ ks) h = cc
-still_shifts (k ∷ ks) h = refl
-
-after_still : (s : Sort) (ks : List TokenKind) → IsStill ks → after_sort s ks ≡ ks
-after_still selects ks h = still_shifts ks h
-after_still ranges ks h = still_shifts ks h
-after_still (queries e) ks h = still_shifts ks h
+after_still : (s : Sort) (ks : List TokenKind) → IsStill ks → after_sort s ks ≡ ([], ks)
+after_still selects ks h = no_shift ks h
+after_still ranges ks h = no_shift ks h
+after_still (queries e) ks h = no_shift ks h
 after_still others ks h = refl
 
 still_after : (s : Sort) (ks : List TokenKind) → IsStill ks → StillAfter s ks
@@ -142,21 +138,25 @@ no_paren_word (grammar.binary op t m l r) rest h =
 
 -- ---- what the pass finds
 
+-- of an expression before these tokens, from which this is taken
+abbrev found : Derivation → List Symbol → Taken → Passed
+found d rest r = (spans (parts (length rest) d) ++ r.0, counts (nodes_below (length rest) d), r.1)
+
 abbrev Lands : Derivation → Tree → Type 0
 Lands d t = (rest : List Symbol) → Free (kinds rest) → StillAfter (sort_of t) (kinds rest)
-    → inside t (kinds (yield d ++ rest)) ≡ (counts (nodes_below (length rest) d), after_sort (sort_of t) (kinds rest))
+    → inside t (kinds (yield d ++ rest)) ≡ found d rest (after_sort (sort_of t) (kinds rest))
+
+abbrev passed_nodes : List Subexpression → List TokenKind → Passed
+passed_nodes subs ks = ([], counts subs, ks)
 
 abbrev PassesOver : Derivation → Tree → Type 0
-PassesOver d t = (rest : List Symbol) → Free (kinds rest) → IsStill (kinds rest) → pass t (kinds (yield d ++ rest)) ≡ (counts (nodes (length rest) d), kinds rest)
-
-kinds_length : (ts : List Symbol) → length (kinds ts) ≡ length ts
-kinds_length ts = length-map ts _
+PassesOver d t = (rest : List Symbol) → Free (kinds rest) → IsStill (kinds rest) → pass t (kinds (yield d ++ rest)) ≡ passed_nodes (nodes (length rest) d) (kinds rest)
 
 passes_over : (d : Derivation) (t : Tree) → Lands d t → PassesOver d t
 passes_over d t lands rest free still =
-    let all : length (kinds (yield d ++ rest)) ≡ length (yield d) + length rest = kinds_length (yield d ++ rest) ∙ length-append (yield d) rest in
-    ap (around (kinds (yield d ++ rest))) (lands rest free (still_after (sort_of t) (kinds rest) still) ∙ ap (λ ks. (counts (nodes_below (length rest) d), ks)) (after_still (sort_of t) (kinds rest) still))
-    ∙ (λ i. ((all i, kinds_length rest i) ∷ counts (nodes_below (length rest) d), kinds rest))
+    let own = append-nil (spans (parts (length rest) d)) in
+    ap (around (kinds (yield d ++ rest))) (lands rest free (still_after (sort_of t) (kinds rest) still) ∙ ap (found d rest) (after_still (sort_of t) (kinds rest) still))
+    ∙ (λ i. ([], ((kinds_count (yield d) rest i, kinds_length rest i), own i) ∷ counts (nodes_below (length rest) d), kinds rest))
 
 lands_as : (d : Derivation) (t u : Tree) → t ≡ u → Lands d u → Lands d t
 lands_as d t u same lands = subst (Lands d) (sym same) lands
@@ -165,18 +165,14 @@ lands_as d t u same lands = subst (Lands d) (sym same) lands
 
 selector_lands : (k : TokenKind) (t : Text) (b : Option Braces) (s : _) → may_be_name k ≡ true → IsAnyBraces b → Lands (grammar.selector k t b) (vector s)
 selector_lands k t b s name formed rest free still =
-    ap (λ ks. ([], skip_shifts (skip_selector ks))) (if_false _ _ _ (name_no_sign k name))
-    ∙ ap (λ ks. ([], skip_shifts (skip_braces ks))) (if_false (is_left_brace k) _ _ (name_no_brace k name))
-    ∙ ap (λ ks. ([], skip_shifts ks)) (braces_after b rest formed free)
-  where
-    braces_after : (b : Option Braces) (rest : List Symbol) → IsAnyBraces b → Free (kinds rest) → skip_braces (kinds (yield_any_braces b ++ rest)) ≡ kinds rest
-    braces_after None rest formed free = if_false _ _ _ free.brace
-    braces_after (Some no_item) rest formed free = braces_skipped no_item rest formed
-    braces_after (Some (items is)) rest formed free = braces_skipped (items is) rest formed
+    let own = span_is sort.Name (length (kinds (word k t ∷ (yield_any_braces b ++ rest)))) (length (kinds (yield_any_braces b ++ rest))) 1 (length (yield_any_braces b) + length rest) (omega (arith, kinds_count (yield_any_braces b) rest)) (kinds_count (yield_any_braces b) rest) in
+    ap (λ ks. then_take (begin []) (λ js. and_then (step.selector ks) step.shifts)) (if_false _ _ _ (name_no_sign k name))
+    ∙ ap (λ (r : Taken). then_take (begin []) (λ js. and_then (and_then r step.braces) step.shifts)) (if_false (is_left_brace k) _ _ (name_no_brace k name))
+    ∙ ap (λ (r : Taken). then_take (begin []) (λ js. and_then r step.shifts)) (first_is _ _ _ _ own (any_braces_taken b rest formed free.brace))
 
 nameless_lands : (b : Braces) (s : _) → IsBraces b → Lands (grammar.nameless b) (vector s)
 nameless_lands no_item s formed rest free still = refl
-nameless_lands (items is) s formed rest free still = ap (λ ks. ([], skip_shifts ks)) (braces_skipped (items is) rest formed)
+nameless_lands (items is) s formed rest free still = ap (λ (r : Taken). then_take (begin []) (λ js. and_then r step.shifts)) (braces_taken (items is) rest formed)
 
 -- ---- the ends of parts
 
@@ -217,18 +213,12 @@ rest_length (grammar.more d ds) rest =
 postfix_count : (p : part.Postfix) (rest : List Symbol) → length (yield_postfix p ++ rest) ≡ length (yield_postfix p) + length rest
 postfix_count p rest = length-append (yield_postfix p) rest
 
-same_first : {A B : Type 0} {a c : A} {b d : B} → (let x : A × B = (a, b) in x) ≡ (c, d) → a ≡ c
-same_first e = ap (λ x. x.0) e
-
-same_second : {A B : Type 0} {a c : A} {b d : B} → (let x : A × B = (a, b) in x) ≡ (c, d) → b ≡ d
-same_second e = ap (λ x. x.1) e
-
 -- trees of one sort are passed alike
 sorted : Sort → List TokenKind → Passed
-sorted selects = λ ks. ([], skip_vector ks)
-sorted ranges = λ ks. ([], skip_range (skip_vector ks))
-sorted (queries e) = λ ks. then_skip (pass e (skip_signs ks)) skip_range
-sorted others = λ ks. ([], ks)
+sorted selects = λ ks. then_take (begin ks) step.vector
+sorted ranges = λ ks. then_take (then_take (begin ks) step.ranged) step.range
+sorted (queries e) = λ ks. then_take (then_pass (then_skip (begin ks) skip_signs) (pass e)) step.range
+sorted others = λ ks. begin ks
 
 inside_sorted : (t : Tree) → ¬ (sort_of t ≡ others) → inside t ≡ sorted (sort_of t)
 unfolding sorted
@@ -240,7 +230,7 @@ inside_sorted t h = absurd (h refl)
 inside_sort : (s t : Tree) → Alike s t → inside s ≡ inside t
 inside_sort s t a = inside_sorted s a.takes ∙ ap sorted a.same ∙ sym (inside_sorted t (λ h. a.takes (a.same ∙ h)))
 
-after_alike : (s : Sort) (ks : List TokenKind) → ¬ (s ≡ others) → after_sort s ks ≡ skip_shifts ks
+after_alike : (s : Sort) (ks : List TokenKind) → ¬ (s ≡ others) → after_sort s ks ≡ step.shifts ks
 after_alike selects ks h = refl
 after_alike ranges ks h = refl
 after_alike (queries e) ks h = refl
@@ -252,40 +242,83 @@ still_alike ranges ks h = tt
 still_alike (queries e) ks h = tt
 still_alike others ks h = absurd (h refl)
 
+-- a part more, after those before it
+one_more : (ps : List PartTokens) (q : PartTokens) (r : Taken) → spans ps ++ (span_of q ∷ r.0) ≡ spans (ps ++ q ∷ []) ++ r.0
+one_more ps q r = sym (append_assoc (spans ps) (span_of q ∷ []) r.0) ∙ ap (λ l. l ++ r.0) (sym (spans_joined ps (q ∷ [])))
+
 -- a shift or a mode
 shift_lands : (d : Derivation) (p : part.Postfix) (s t : Tree) → IsPostfix p → IsShift p → Alike s t → Lands d s
-    → (rest : List Symbol) → Free (kinds rest) → inside t (kinds ((yield d ++ yield_postfix p) ++ rest)) ≡ (counts (nodes_below (length (yield_postfix p) + length rest) d), after_sort (sort_of t) (kinds rest))
+    → (rest : List Symbol) → Free (kinds rest) → inside t (kinds ((yield d ++ yield_postfix p) ++ rest))
+    ≡ (spans (parts (length (yield_postfix p) + length rest) d ++ piece (postfix_kind p) (length (yield_postfix p)) (length rest) ∷ []) ++ (after_sort (sort_of t) (kinds rest)).0, counts (nodes_below (length (yield_postfix p) + length rest) d), (after_sort (sort_of t) (kinds rest)).1)
 shift_lands d p s t formed is alike lands rest free =
     let other : ¬ (sort_of t ≡ others) = λ h. alike.takes (alike.same ∙ h) in
+    let n = length (yield_postfix p) + length rest in
     ap (λ ts. inside t (kinds ts)) (append_assoc (yield d) (yield_postfix p) rest)
     ∙ sym (ap (λ f. f (kinds (yield d ++ (yield_postfix p ++ rest)))) (inside_sort s t alike))
     ∙ lands (yield_postfix p ++ rest) (postfix_free p rest formed) (still_alike (sort_of s) (kinds (yield_postfix p ++ rest)) alike.takes)
-    ∙ ap (λ n. (counts (nodes_below n d), after_sort (sort_of s) (kinds (yield_postfix p ++ rest)))) (postfix_count p rest)
-    ∙ ap (λ ks. (counts (nodes_below (length (yield_postfix p) + length rest) d), ks))
-    (after_alike (sort_of s) (kinds (yield_postfix p ++ rest)) alike.takes ∙ shift_skipped p rest formed is ∙ sym (after_alike (sort_of t) (kinds rest) other))
+    ∙ ap (λ (r : Taken). found d (yield_postfix p ++ rest) r)
+    (after_alike (sort_of s) (kinds (yield_postfix p ++ rest)) alike.takes ∙ shift_taken p rest formed is ∙ ap (also (span_of (piece (postfix_kind p) (length (yield_postfix p)) (length rest)))) (sym (after_alike (sort_of t) (kinds rest) other)))
+    ∙ ap (λ m. (let q : Passed = (spans (parts m d) ++ (span_of (piece (postfix_kind p) (length (yield_postfix p)) (length rest)) ∷ (after_sort (sort_of t) (kinds rest)).0), counts (nodes_below m d), (after_sort (sort_of t) (kinds rest)).1) in q)) (postfix_count p rest)
+    ∙ ap (λ l. (let q : Passed = (l, counts (nodes_below n d), (after_sort (sort_of t) (kinds rest)).1) in q)) (one_more (parts n d) (piece (postfix_kind p) (length (yield_postfix p)) (length rest)) (after_sort (sort_of t) (kinds rest)))
+
+-- the range itself
+range_taken : (r : part.Time) (rest : List Symbol) → step.range (kinds (yield_postfix (part.range r) ++ rest)) ≡ also (span_of (piece sort.Range (length (yield_postfix (part.range r))) (length rest))) (step.shifts (kinds rest))
+range_taken r rest =
+    ap (λ js. (let q : Taken = and_then ((sort.Range, (length (kinds (yield_postfix (part.range r) ++ rest)), length js)) ∷ [], js) step.shifts in q)) (range_skipped r rest)
+    ∙ ap (λ x. also x (step.shifts (kinds rest))) (postfix_is (part.range r) rest)
+
+-- a selector before it
+ranged_taken : (d : Derivation) (r : part.Time) (s : _) (rest : List Symbol) → IsWellFormed d → IsBase d → Lands d (vector s)
+    → step.ranged (kinds (yield d ++ (yield_postfix (part.range r) ++ rest))) ≡ (spans (parts (length (yield_postfix (part.range r)) + length rest) d ++ piece sort.Selector (length (yield d)) (length (yield_postfix (part.range r)) + length rest) ∷ []), kinds (yield_postfix (part.range r) ++ rest))
+ranged_taken d r s rest formed base lands =
+    let p = part.range r in
+    let ks = kinds (yield d ++ (yield_postfix p ++ rest)) in
+    let n = length (yield_postfix p) + length rest in
+    let got : then_take (begin ks) step.vector ≡ found d (yield_postfix p ++ rest) ([], kinds (yield_postfix p ++ rest)) = lands (yield_postfix p ++ rest) (postfix_free p rest tt) tt in
+    let own : spans (parts (length (yield_postfix p ++ rest)) d) ++ [] ≡ spans (parts n d) = append-nil _ ∙ ap (λ m. spans (parts m d)) (postfix_count p rest) in
+    let count = kinds_count (yield d) (yield_postfix p ++ rest) in
+    let more = postfix_count p rest in
+    (λ i. (let x : Passed = got i in let q : Taken = (x.0 ++ (sort.Selector, (length (base_no_sign d (yield_postfix p ++ rest) formed base i), length x.2)) ∷ [], x.2) in q))
+    ∙ ap (λ l. (let q : Taken = (l ++ (sort.Selector, (length ks, length (kinds (yield_postfix p ++ rest)))) ∷ [], kinds (yield_postfix p ++ rest)) in q)) own
+    ∙ ap (λ (x : PartSpan). (let q : Taken = (spans (parts n d) ++ x ∷ [], kinds (yield_postfix p ++ rest)) in q)) (span_is sort.Selector _ _ (length (yield d)) n (omega arith) (omega (arith, kinds_count (yield_postfix p) rest)))
+    ∙ ap (λ l. (let q : Taken = (l, kinds (yield_postfix p ++ rest)) in q)) (sym (spans_joined (parts n d) (piece sort.Selector (length (yield d)) n ∷ [])))
+
+-- a selector has no nodes below it
+no_nodes : (d : Derivation) (s : _) (rest : List Symbol) → Lands d (vector s) → Free (kinds rest) → counts (nodes_below (length rest) d) ≡ []
+no_nodes d s rest lands free = sym (ap (λ (x : Passed). x.1) (lands rest free tt))
 
 -- a range
-range_lands : (d : Derivation) (r : part.Time) (s t : Tree) → Ranged s t → Lands d s → Lands (grammar.postfixed d (part.range r)) t
-range_lands d r s t is lands = lands_as (grammar.postfixed d (part.range r)) t (matrix is.chosen is.range is.mode) is.after (λ rest free still.
+range_lands : (d : Derivation) (r : part.Time) (s t : Tree) → IsWellFormed d → IsBase d → Ranged s t → Lands d s → Lands (grammar.postfixed d (part.range r)) t
+range_lands d r s t formed base is lands = lands_as (grammar.postfixed d (part.range r)) t (matrix is.chosen is.range is.mode) is.after (λ rest free still.
     let p = part.range r in
-    let base = subst (Lands d) is.before lands (yield_postfix p ++ rest) (postfix_free p rest tt) tt in
+    let n = length (yield_postfix p) + length rest in
+    let chosen = subst (Lands d) is.before lands in
+    let inner = parts n d ++ piece sort.Selector (length (yield d)) n ∷ [] in
+    let last = piece sort.Range (length (yield_postfix p)) (length rest) in
     ap (λ ts. inside (matrix is.chosen is.range is.mode) (kinds ts)) (append_assoc (yield d) (yield_postfix p) rest)
-    ∙ (λ i. ((base i).0, skip_range (base i).1))
-    ∙ ap (λ n. (counts (nodes_below n d), skip_range (kinds (yield_postfix p ++ rest)))) (postfix_count p rest)
-    ∙ ap (λ ks. (counts (nodes_below (length (yield_postfix p) + length rest) d), skip_shifts ks)) (range_skipped r rest))
+    ∙ ap (λ (x : Taken). then_take (let q : Passed = (x.0, [], x.1) in q) step.range) (ranged_taken d r is.chosen rest formed base chosen)
+    ∙ ap (λ (x : Taken). (let q : Passed = (spans inner ++ x.0, [], x.1) in q)) (range_taken r rest)
+    ∙ ap (λ l. (let q : Passed = (l, [], (step.shifts (kinds rest)).1) in q)) (one_more inner last (step.shifts (kinds rest)))
+    ∙ ap (λ l. (let q : Passed = (spans (inner ++ last ∷ []) ++ (step.shifts (kinds rest)).0, l, (step.shifts (kinds rest)).1) in q))
+    (sym (no_nodes d is.chosen (yield_postfix p ++ rest) chosen (postfix_free p rest tt)) ∙ ap (λ m. counts (nodes_below m d)) (postfix_count p rest)))
 
 -- a subquery
+subquery_taken : (r : part.Time) (e : Option part.Time) (rest : List Symbol) → step.range (kinds (yield_postfix (part.subquery r e) ++ rest)) ≡ also (span_of (piece sort.Range (length (yield_postfix (part.subquery r e))) (length rest))) (step.shifts (kinds rest))
+subquery_taken r e rest =
+    ap (λ js. (let q : Taken = and_then ((sort.Range, (length (kinds (yield_postfix (part.subquery r e) ++ rest)), length js)) ∷ [], js) step.shifts in q)) (subquery_skipped r e rest)
+    ∙ ap (λ x. also x (step.shifts (kinds rest))) (postfix_is (part.subquery r e) rest)
+
 subquery_lands : (d : Derivation) (r : part.Time) (e : Option part.Time) (s t : Tree) → IsWellFormed d → IsBase d → Queried s t → Lands d s → Lands (grammar.postfixed d (part.subquery r e)) t
 subquery_lands d r e s t formed base is lands = lands_as (grammar.postfixed d (part.subquery r e)) t (subquery s None None is.range is.step) is.is (λ rest free still.
     let p = part.subquery r e in
     ap (λ ts. inside (subquery s None None is.range is.step) (kinds ts)) (append_assoc (yield d) (yield_postfix p) rest)
-    ∙ ap (λ ks. then_skip (pass s ks) skip_range) (base_no_sign d (yield_postfix p ++ rest) formed base)
-    ∙ ap (λ x. then_skip x skip_range) (passes_over d s lands (yield_postfix p ++ rest) (postfix_free p rest tt) refl)
-    ∙ ap (λ n. (counts (nodes n d), skip_range (kinds (yield_postfix p ++ rest)))) (postfix_count p rest)
-    ∙ ap (λ ks. (counts (nodes (length (yield_postfix p) + length rest) d), skip_shifts ks)) (subquery_skipped r e rest))
+    ∙ ap (λ ks. then_take (then_pass (begin ks) (pass s)) step.range) (base_no_sign d (yield_postfix p ++ rest) formed base)
+    ∙ ap (λ (x : Passed). then_take (let q : Passed = ([], x.1, x.2) in q) step.range) (passes_over d s lands (yield_postfix p ++ rest) (postfix_free p rest tt) refl)
+    ∙ ap (λ n. then_take (passed_nodes (nodes n d) (kinds (yield_postfix p ++ rest))) step.range) (postfix_count p rest)
+    ∙ ap (λ (x : Taken). (let q : Passed = (x.0, counts (nodes (length (yield_postfix p) + length rest) d), x.1) in q)) (subquery_taken r e rest))
 
 postfix_lands : (d : Derivation) (p : part.Postfix) (s t : Tree) → IsWellFormed d → IsBase d → IsPostfix p → Lands d s → PostfixOf p s t → Lands (grammar.postfixed d p) t
-postfix_lands d (part.range r) s t formed base is lands of = range_lands d r s t of lands
+postfix_lands d (part.range r) s t formed base is lands of = range_lands d r s t formed base of lands
 postfix_lands d (part.subquery r e) s t formed base is lands of = subquery_lands d r e s t formed base of lands
 postfix_lands d (part.at_number e u) s t formed base is lands of = λ rest free still. shift_lands d (part.at_number e u) s t is tt of lands rest free
 postfix_lands d (part.at_bound k u) s t formed base is lands of = λ rest free still. shift_lands d (part.at_bound k u) s t is tt of lands rest free
@@ -297,14 +330,14 @@ postfix_lands d (part.mode k u) s t formed base is lands of = λ rest free still
 paren_lands : (d : Derivation) (s : Tree) → Lands d s → Lands (grammar.paren d) (paren s)
 paren_lands d s lands rest free still =
     ap (λ ts. inside (paren s) (kinds (punct kind.LeftParen ∷ ts))) (append_assoc (yield d) (punct kind.RightParen ∷ []) rest)
-    ∙ ap (λ x. then_skip x (drop 1)) (passes_over d s lands (punct kind.RightParen ∷ rest) (free_punct kind.RightParen rest refl refl) refl)
-    ∙ ap (λ n. (counts (nodes n d), kinds rest)) (one_more rest)
+    ∙ ap (λ (x : Passed). (let q : Passed = ([], x.1, drop 1 x.2) in q)) (passes_over d s lands (punct kind.RightParen ∷ rest) (free_punct kind.RightParen rest refl refl) refl)
+    ∙ ap (λ n. passed_nodes (nodes n d) (kinds rest)) (one_longer rest)
   where
-    one_more : (rest : List Symbol) → length (punct kind.RightParen ∷ rest) ≡ 1 + length rest
-    one_more rest = omega arith
+    one_longer : (rest : List Symbol) → length (punct kind.RightParen ∷ rest) ≡ 1 + length rest
+    one_longer rest = omega arith
 
 abbrev LandsAll : Arguments → Trees → Type 0
-LandsAll ds ts = (rest : List Symbol) → pass_all ts (skip_empty ts (kinds (yield_arguments ds ++ rest))) ≡ (counts (argument_nodes (1 + length rest) ds), kinds rest)
+LandsAll ds ts = (rest : List Symbol) → pass_all ts (skip_empty ts (kinds (yield_arguments ds ++ rest))) ≡ passed_nodes (argument_nodes (1 + length rest) ds) (kinds rest)
 
 -- after an argument and the token after it, the others are passed
 others_begin : (ds : Arguments) (ts : Trees) → Gives (build_all ds) ts → (rest : List Symbol) → drop 1 (kinds (yield_rest ds ++ rest)) ≡ skip_empty ts (kinds (yield_arguments ds ++ rest))
@@ -315,61 +348,93 @@ more_land : (d : Derivation) (ds : Arguments) (t : Tree) (ts : Trees) → Gives 
 more_land d ds t ts g lands more rest =
     ap (λ us. pass_all (first_tree t ts) (kinds us)) (append_assoc (yield d) (yield_rest ds) rest)
     ∙ ap (λ x. then_pass (then_skip x (drop 1)) (pass_all ts)) (passes_over d t lands (yield_rest ds ++ rest) (rest_free ds rest) (rest_still ds rest))
-    ∙ ap (λ n. then_pass (then_skip (counts (nodes n d), kinds (yield_rest ds ++ rest)) (drop 1)) (pass_all ts)) (rest_length ds rest)
-    ∙ ap (λ ks. then_pass (counts (nodes (rest_count ds + (1 + length rest)) d), ks) (pass_all ts)) (others_begin ds ts g rest)
-    ∙ ap (λ (x : Passed). (counts (nodes (rest_count ds + (1 + length rest)) d) ++ x.0, x.1)) (more rest)
-    ∙ ap (λ l. (l, kinds rest)) (sym (counts_joined (nodes (rest_count ds + (1 + length rest)) d) (argument_nodes (1 + length rest) ds)))
+    ∙ ap (λ n. then_pass (then_skip (passed_nodes (nodes n d) (kinds (yield_rest ds ++ rest))) (drop 1)) (pass_all ts)) (rest_length ds rest)
+    ∙ ap (λ ks. then_pass (passed_nodes (nodes (rest_count ds + (1 + length rest)) d) ks) (pass_all ts)) (others_begin ds ts g rest)
+    ∙ ap (λ (x : Passed). (let q : Passed = ([], counts (nodes (rest_count ds + (1 + length rest)) d) ++ x.1, x.2) in q)) (more rest)
+    ∙ ap (λ l. (let q : Passed = ([], l, kinds rest) in q)) (sym (counts_joined (nodes (rest_count ds + (1 + length rest)) d) (argument_nodes (1 + length rest) ds)))
 
 call_lands : (k : TokenKind) (text : Text) (ds : Arguments) (f : _) (ts : Trees) → may_be_called k ≡ true → LandsAll ds ts → Lands (grammar.call k text ds) (call f ts)
 call_lands k text ds f ts called more rest free still =
-    ap (λ ks. pass_all ts (skip_empty ts (drop 1 (drop 1 ks)))) (if_false _ _ _ (called_no_sign k called))
-    ∙ more rest
+    let args = kinds (yield_arguments ds ++ rest) in
+    let count = kinds_count (yield_arguments ds) rest in
+    let own = span_is sort.Name (length (k ∷ kind.LeftParen ∷ args)) (length (kind.LeftParen ∷ args)) 1 (1 + (length (yield_arguments ds) + length rest)) (omega arith) (omega arith) in
+    ap (λ ks. then_pass (let r = step.word sort.Name ks in let q : Passed = (r.0, [], skip_empty ts (drop 1 r.1)) in q) (pass_all ts)) (if_false _ _ _ (called_no_sign k called))
+    ∙ (λ i. (let x : Passed = more rest i in let q : Passed = (own i ∷ [], x.1, x.2) in q))
 
 -- an aggregation's parameter and expression are its arguments
-aggregate_inside : (op : ℕ) (e : Tree) (p : MaybeTree) (m : Option TreeClause) (ks : List TokenKind) → inside (aggregate op e p m) ks ≡ then_skip (pass_all (arguments p e) (skip_aggregate ks)) skip_clause
-aggregate_inside op e absent m ks = ap (λ l. (l, skip_clause (drop 1 (pass e (skip_aggregate ks)).1))) (sym (append-nil (pass e (skip_aggregate ks)).0))
-aggregate_inside op e (present q) m ks =
-    let first = pass q (skip_aggregate ks) in
-    let second = pass e (drop 1 first.1) in
-    ap (λ l. (first.0 ++ l, skip_clause (drop 1 second.1))) (sym (append-nil second.0))
+aggregate_inside : (op : ℕ) (e : Tree) (p : MaybeTree) (m : Option TreeClause) (ks : List TokenKind)
+    → inside (aggregate op e p m) ks ≡ then_take (then_pass (then_take (begin ks) step.aggregate) (pass_all (arguments p e))) step.clause
+aggregate_inside op e absent m ks =
+    let a = step.aggregate ks in
+    let x = pass e a.1 in
+    ap (λ l. (let q : Passed = (a.0 ++ (step.clause (drop 1 x.2)).0, l, (step.clause (drop 1 x.2)).1) in q)) (sym (append-nil x.1))
+aggregate_inside op e (present p) m ks =
+    let a = step.aggregate ks in
+    let x = pass p a.1 in
+    let y = pass e (drop 1 x.2) in
+    ap (λ l. (let q : Passed = (a.0 ++ (step.clause (drop 1 y.2)).0, x.1 ++ l, (step.clause (drop 1 y.2)).1) in q)) (sym (append-nil y.1))
 
 some_arguments : (p : MaybeTree) (e : Tree) (ks : List TokenKind) → skip_empty (arguments p e) ks ≡ ks
 some_arguments absent e ks = refl
 some_arguments (present q) e ks = refl
 
-before_skipped : (c : Clause) (ts : List Symbol) → IsClause c → skip_clause (kinds (yield_before c ++ punct kind.LeftParen ∷ ts)) ≡ kinds (punct kind.LeftParen ∷ ts)
-before_skipped no_clause ts h = refl
-before_skipped (before g) ts h = grouping_skipped g (punct kind.LeftParen ∷ ts) h
-before_skipped (after g) ts h = refl
+before_taken : (c : Clause) (ts : List Symbol) → IsClause c → step.clause (kinds (yield_before c ++ punct kind.LeftParen ∷ ts)) ≡ (spans (before_parts (length (punct kind.LeftParen ∷ ts)) c), kinds (punct kind.LeftParen ∷ ts))
+before_taken no_clause ts h = refl
+before_taken (before g) ts h = grouping_taken g (punct kind.LeftParen ∷ ts) h
+before_taken (after g) ts h = refl
 
-after_skipped : (c : Clause) (rest : List Symbol) → IsClause c → Free (kinds rest) → skip_clause (kinds (yield_after c ++ rest)) ≡ kinds rest
-after_skipped no_clause rest h free = if_false _ _ _ free.clause
-after_skipped (before g) rest h free = if_false _ _ _ free.clause
-after_skipped (after g) rest h free = grouping_skipped g rest h
+after_taken : (c : Clause) (rest : List Symbol) → IsClause c → Free (kinds rest) → step.clause (kinds (yield_after c ++ rest)) ≡ (spans (after_parts (length rest) c), kinds rest)
+after_taken no_clause rest h free = if_false _ _ _ free.clause
+after_taken (before g) rest h free = if_false _ _ _ free.clause
+after_taken (after g) rest h free = grouping_taken g rest h
+
+-- the operator, and a clause after it
+aggregate_taken : (op : ℕ) (text : Text) (c : Clause) (ds : Arguments) (rest : List Symbol) → IsClause c
+    → step.aggregate (kinds (yield (grammar.aggregate op text c ds) ++ rest)) ≡ (let inner = 1 + (length (yield_arguments ds) + (length (yield_after c) + length rest)) in let q : Taken = (spans (piece sort.Operator 1 (length (yield_before c) + inner) ∷ before_parts inner c), kinds (yield_arguments ds ++ (yield_after c ++ rest))) in q)
+aggregate_taken op text c ds rest formed =
+    let tail = yield_arguments ds ++ (yield_after c ++ rest) in
+    let inner = 1 + (length (yield_arguments ds) + (length (yield_after c) + length rest)) in
+    let one = length-append (yield_arguments ds) (yield_after c ++ rest) in
+    let two = length-append (yield_after c) rest in
+    let length_is : length (punct kind.LeftParen ∷ tail) ≡ inner = omega arith in
+    let count = kinds_count (yield_before c) (punct kind.LeftParen ∷ tail) in
+    let own = span_is sort.Operator (length (kinds (word (kind.Aggregator op) text ∷ (yield_before c ++ punct kind.LeftParen ∷ tail)))) (length (kinds (yield_before c ++ punct kind.LeftParen ∷ tail))) 1 (length (yield_before c) + inner) (omega arith) (omega arith) in
+    ap (λ ts. step.aggregate (kinds (word (kind.Aggregator op) text ∷ ts))) (tokens c ds rest)
+    ∙ ap (λ (r : Taken). (let q : Taken = (r.0, drop 1 r.1) in q)) (first_is _ _ _ _ own (before_taken c tail formed ∙ ap (λ n. (let q : Taken = (spans (before_parts n c), kinds (punct kind.LeftParen ∷ tail)) in q)) length_is))
+  where
+    tokens : (c : Clause) (ds : Arguments) (rest : List Symbol)
+        → (yield_before c ++ punct kind.LeftParen ∷ (yield_arguments ds ++ yield_after c)) ++ rest ≡ yield_before c ++ punct kind.LeftParen ∷ (yield_arguments ds ++ (yield_after c ++ rest))
+    tokens c ds rest = simp append_assoc
 
 aggregate_lands : (op : ℕ) (text : Text) (c : Clause) (ds : Arguments) (e : Tree) (p : MaybeTree) (m : Option TreeClause) → IsClause c → LandsAll ds (arguments p e) → Lands (grammar.aggregate op text c ds) (aggregate op e p m)
 aggregate_lands op text c ds e p m formed more rest free still =
     let tail = yield_after c ++ rest in
+    let inner = 1 + (length (yield_arguments ds) + (length (yield_after c) + length rest)) in
+    let ps = piece sort.Operator 1 (length (yield_before c) + inner) ∷ before_parts inner c in
+    let qs = after_parts (length rest) c in
+    let subs = argument_nodes (1 + (length (yield_after c) + length rest)) ds in
     aggregate_inside op e p m (kinds (yield (grammar.aggregate op text c ds) ++ rest))
-    ∙ ap (λ ts. then_skip (pass_all (arguments p e) (drop 1 (skip_clause (kinds ts)))) skip_clause) (parts c ds rest)
-    ∙ ap (λ ks. then_skip (pass_all (arguments p e) (drop 1 ks)) skip_clause) (before_skipped c (yield_arguments ds ++ tail) formed)
-    ∙ ap (λ ks. then_skip (pass_all (arguments p e) ks) skip_clause) (sym (some_arguments p e (kinds (yield_arguments ds ++ tail))))
-    ∙ ap (λ x. then_skip x skip_clause) (more tail)
-    ∙ ap (λ n. (counts (argument_nodes (1 + n) ds), skip_clause (kinds tail))) (length-append (yield_after c) rest)
-    ∙ ap (λ ks. (counts (argument_nodes (1 + (length (yield_after c) + length rest)) ds), ks)) (after_skipped c rest formed free)
-  where
-    parts : (c : Clause) (ds : Arguments) (rest : List Symbol)
-        → (yield_before c ++ punct kind.LeftParen ∷ (yield_arguments ds ++ yield_after c)) ++ rest ≡ yield_before c ++ punct kind.LeftParen ∷ (yield_arguments ds ++ (yield_after c ++ rest))
-    parts c ds rest = simp append_assoc
+    ∙ ap (λ (r : Taken). then_take (then_pass (let q : Passed = (r.0, [], r.1) in q) (pass_all (arguments p e))) step.clause) (aggregate_taken op text c ds rest formed)
+    ∙ ap (λ ks. then_take (then_pass (let q : Passed = (spans ps, [], ks) in q) (pass_all (arguments p e))) step.clause) (sym (some_arguments p e (kinds (yield_arguments ds ++ tail))))
+    ∙ ap (λ (x : Passed). then_take (let q : Passed = (spans ps, x.1, x.2) in q) step.clause) (more tail)
+    ∙ ap (λ n. then_take (let q : Passed = (spans ps, counts (argument_nodes (1 + n) ds), kinds tail) in q) step.clause) (length-append (yield_after c) rest)
+    ∙ ap (λ (r : Taken). (let q : Passed = (spans ps ++ r.0, counts subs, r.1) in q)) (after_taken c rest formed free)
+    ∙ ap (λ l. (let q : Passed = (l, counts subs, kinds rest) in q)) (sym (spans_joined ps qs) ∙ sym (append-nil (spans (ps ++ qs))))
 
 -- ---- unary operators
+
+-- a sign with a node or without
+abbrev own_or_folded : Bool → ℕ → Derivation → Taken → Passed
+own_or_folded b n d r = (spans (cond b (piece sort.Operator 1 (length (yield d) + n) ∷ []) (parts n d)) ++ r.0, counts (cond b (nodes n d) (nodes_below n d)), r.1)
 
 -- a minus before what is no number
 minus_lands : (op : ℕ) (text : Text) (d : Derivation) (s : Tree) → (op == T_SUB) ≡ true → is_number d ≡ false → Lands d s → Lands (grammar.unary op text d) (unary s)
 minus_lands op text d s minus no_number lands rest free still =
-    ap (λ ks. pass s (drop 1 ks)) (if_false (op == T_ADD) _ _ (no_plus op minus))
-    ∙ passes_over d s lands rest free still
-    ∙ ap (λ (b : Bool). (counts (cond b (nodes (length rest) d) (nodes_below (length rest) d)), kinds rest)) (sym (has op d minus no_number))
+    let count = kinds_count (yield d) rest in
+    let own = span_is sort.Operator (length (kind.Operator op ∷ kinds (yield d ++ rest))) (length (kinds (yield d ++ rest))) 1 (length (yield d) + length rest) (omega arith) (omega arith) in
+    ap (λ ks. then_pass (let r = step.word sort.Operator ks in let q : Passed = (r.0, [], r.1) in q) (pass s)) (if_false (op == T_ADD) _ _ (no_plus op minus))
+    ∙ (λ i. (let x : Passed = passes_over d s lands rest free still i in let q : Passed = (own i ∷ [], x.1, x.2) in q))
+    ∙ ap (λ (b : Bool). own_or_folded b (length rest) d ([], kinds rest)) (sym (has op d minus no_number))
   where
     no_plus : (op : ℕ) → (op == T_SUB) ≡ true → (op == T_ADD) ≡ false
     no_plus op h = ap (λ o. o == T_ADD) (eqb-true op T_SUB h)
@@ -382,11 +447,11 @@ folded_lands : (op : ℕ) (text : Text) (d : Derivation) (t u : Tree) → has_no
 folded_lands op text d t u none same first lands rest free still =
     first (kinds (yield d ++ rest))
     ∙ lands rest free (subst (λ o. StillAfter o (kinds rest)) same still)
-    ∙ ap (λ o. (counts (nodes_below (length rest) d), after_sort o (kinds rest))) (sym same)
-    ∙ ap (λ (b : Bool). (counts (cond b (nodes (length rest) d) (nodes_below (length rest) d)), after_sort (sort_of t) (kinds rest))) (sym none)
+    ∙ ap (λ o. found d rest (after_sort o (kinds rest))) (sym same)
+    ∙ ap (λ (b : Bool). own_or_folded b (length rest) d (after_sort (sort_of t) (kinds rest))) (sym none)
 
 number_first : (op : ℕ) (n m : _) (ks : List TokenKind) → is_plus_or_minus op ≡ true → inside (number m) (kind.Operator op ∷ ks) ≡ inside (number n) ks
-number_first op n m ks is = ap (λ js. ([], drop 1 js)) (sign_skipped op ks is)
+number_first op n m ks is = ap (λ js. begin (drop 1 js)) (sign_skipped op ks is)
 
 unary_minus : (op : ℕ) (text : Text) (d : Derivation) (s t : Tree) → is_plus_or_minus op ≡ true → (op == T_SUB) ≡ true → is_number_tree s ≡ is_number d → MinusOf s t → Lands d s → Lands (grammar.unary op text d) t
 unary_minus op text d (number n) t sign minus same (m, is) lands =
@@ -437,27 +502,33 @@ power_signs op d rest formed fits = by (op == T_POW) refl
     by true is = base_no_sign d rest formed (power_base d (subst (λ b. (cond b 7 (precedence op)) ≤ openness d) is fits))
     by false is = refl
 
-operator_skipped : (m : part.Modifier) (r : Derivation) (op : ℕ) (t : Text) (rest : List Symbol) → part.IsModifier m → IsWellFormed r → FitsMatching m.matching m.fills (yield r)
-    → skip_operator (kinds (word (kind.Operator op) t ∷ (yield_modifier m ++ (yield r ++ rest)))) ≡ kinds (yield r ++ rest)
-operator_skipped m r op t rest is formed fits =
+abbrev operator_parts : ℕ → part.Modifier → List PartTokens
+operator_parts n m = piece sort.Operator 1 (length (yield_modifier m) + n) ∷ matching_parts (length (yield_fills m.fills) + n) m.matching
+
+after_operator : (m : part.Modifier) (r : Derivation) (op : ℕ) (t : Text) (rest : List Symbol) → part.IsModifier m → IsWellFormed r → FitsMatching m.matching m.fills (yield r)
+    → step.operator (kinds (word (kind.Operator op) t ∷ (yield_modifier m ++ (yield r ++ rest)))) ≡ (spans (parts (length rest) (grammar.binary op t m r r)), kinds (yield r ++ rest))
+after_operator m r op t rest is formed fits =
     let begun : begins (yield r) ≡ true = ap begins (sym (append-nil (yield r))) ∙ begins_here r [] formed in
-    modifier_skipped m (yield r ++ rest) is (begins_here r rest formed) (no_paren_word r rest formed) (fits_more m.matching m.fills (yield r) rest begun fits)
+    operator_taken m op t (yield r ++ rest) is (begins_here r rest formed) (no_paren_word r rest formed) (fits_more m.matching m.fills (yield r) rest begun fits)
+    ∙ ap (λ n. (let q : Taken = (spans (operator_parts n m), kinds (yield r ++ rest)) in q)) (length-append (yield r) rest)
 
 binary_lands : (op : ℕ) (t : Text) (m : part.Modifier) (l r : Derivation) (x y : Tree) (z : _) → IsWellFormed (grammar.binary op t m l r) → Lands l x → Lands r y → Lands (grammar.binary op t m l r) (binary op x y z)
 binary_lands op t m l r x y z formed left right rest free still =
     let after_left = word (kind.Operator op) t ∷ (yield_modifier m ++ (yield r ++ rest)) in
     let count = 1 + (length (yield_modifier m) + (length (yield r) + length rest)) in
-    ap (λ ts. inside (binary op x y z) (kinds ts)) (parts op t m l r rest)
-    ∙ ap (λ ks. then_pass (then_skip (pass x ks) skip_operator) (pass y)) (power_signs op l after_left formed.0 formed.3)
-    ∙ ap (λ w. then_pass (then_skip w skip_operator) (pass y)) (passes_over l x left after_left (free_word (kind.Operator op) t (yield_modifier m ++ (yield r ++ rest)) refl refl) refl)
-    ∙ ap (λ n. then_pass (then_skip (counts (nodes n l), kinds after_left) skip_operator) (pass y)) (after_count op t m r rest)
-    ∙ ap (λ ks. then_pass (counts (nodes count l), ks) (pass y)) (operator_skipped m r op t rest formed.2 formed.1 formed.5)
-    ∙ ap (λ (w : Passed). (counts (nodes count l) ++ w.0, w.1)) (passes_over r y right rest free still)
-    ∙ ap (λ o. (o, kinds rest)) (sym (counts_joined (nodes count l) (nodes (length rest) r)))
+    let own = spans (parts (length rest) (grammar.binary op t m l r)) in
+    ap (λ ts. inside (binary op x y z) (kinds ts)) (tokens op t m l r rest)
+    ∙ ap (λ ks. then_pass (then_take (then_pass (begin ks) (pass x)) step.operator) (pass y)) (power_signs op l after_left formed.0 formed.3)
+    ∙ ap (λ (w : Passed). then_pass (then_take (let q : Passed = ([], w.1, w.2) in q) step.operator) (pass y)) (passes_over l x left after_left (free_word (kind.Operator op) t (yield_modifier m ++ (yield r ++ rest)) refl refl) refl)
+    ∙ ap (λ n. then_pass (then_take (passed_nodes (nodes n l) (kinds after_left)) step.operator) (pass y)) (after_count op t m r rest)
+    ∙ ap (λ (w : Taken). then_pass (let q : Passed = (w.0, counts (nodes count l), w.1) in q) (pass y)) (after_operator m r op t rest formed.2 formed.1 formed.5)
+    ∙ ap (λ (w : Passed). (let q : Passed = (own, counts (nodes count l) ++ w.1, w.2) in q)) (passes_over r y right rest free still)
+    ∙ ap (λ o. (let q : Passed = (own, o, kinds rest) in q)) (sym (counts_joined (nodes count l) (nodes (length rest) r)))
+    ∙ ap (λ o. (let q : Passed = (o, counts (nodes count l ++ nodes (length rest) r), kinds rest) in q)) (sym (append-nil own))
   where
-    parts : (op : ℕ) (t : Text) (m : part.Modifier) (l r : Derivation) (rest : List Symbol)
+    tokens : (op : ℕ) (t : Text) (m : part.Modifier) (l r : Derivation) (rest : List Symbol)
         → (yield l ++ word (kind.Operator op) t ∷ (yield_modifier m ++ yield r)) ++ rest ≡ yield l ++ word (kind.Operator op) t ∷ (yield_modifier m ++ (yield r ++ rest))
-    parts op t m l r rest = simp append_assoc
+    tokens op t m l r rest = simp append_assoc
 
     after_count : (op : ℕ) (t : Text) (m : part.Modifier) (r : Derivation) (rest : List Symbol)
         → length (word (kind.Operator op) t ∷ (yield_modifier m ++ (yield r ++ rest))) ≡ 1 + (length (yield_modifier m) + (length (yield r) + length rest))
@@ -499,7 +570,7 @@ mutual
       subst (LandsAll (grammar.more d ds)) (sym s.is) (more_land d ds s.tree s.trees s.others (lands d s.tree s.first formed.0) (lands_all ds s.trees s.others formed.1))
 
 -- a tree that a derivation builds is passed over exactly its tokens
-pub passed_whole : (d : Derivation) (t : Tree) → Gives (build d) t → IsWellFormed d → pass t (kinds (yield d)) ≡ (counts (nodes 0 d), [])
+pub passed_whole : (d : Derivation) (t : Tree) → Gives (build d) t → IsWellFormed d → pass t (kinds (yield d)) ≡ ([], counts (nodes 0 d), [])
 passed_whole d t g formed =
     ap (λ ts. pass t (kinds ts)) (sym (append-nil (yield d)))
     ∙ passes_over d t (lands d t g formed) [] (record { brace = refl; clause = refl }) refl

@@ -6,20 +6,20 @@ use Rattle.promql_text.specs.Texts.{Text}
 use Rattle.promql_ast.specs.Tree.{Tree}
 use Rattle.promql_grammar.specs.Grammar.{Derivation, yield}
 use Rattle.promql_grammar.specs.Results.{on_result}
-use Rattle.promql_grammar.specs.SourceTokens.{tokens}
 use Rattle.promql_grammar.specs.Symbols.{symbol_of}
 use Rattle.promql_span.specs.PlacedTokens.{TokensArePlaced, placed_tokens}
 use Rattle.promql_syntax.specs.Asking.{EndsIn}
 use Rattle.promql_syntax.specs.Building.{build}
-use Rattle.promql_syntax.specs.ParseAnswers.{BeginsNone, Derives, IsAnswerTo, empty, lexical, memory, syntax, too_deep}
-use Rattle.promql_places.specs.CursorTokens.{IsOver, kinds_left, lexeme_kind, span_in}
+use Rattle.promql_syntax.specs.ParseAnswers.{BeginsNone, Derives, IsAnswerTo, memory}
+use Rattle.promql_places.specs.CursorTokens.{kinds_left, lexeme_kind}
+use Rattle.promql_places.specs.NodeParts.{AreParts}
 use Rattle.promql_places.specs.NodePlaces.{ArePlaces, LiesWithin, nodes}
-use Rattle.promql_places.specs.Passing.{Passes, pass}
+use Rattle.promql_places.specs.Passing.{IsPlacing, Passed, Passes, lists_of, parts_in, pass, place_in}
 use Rattle.promql_places.specs.Skipping.{kind_of, kinds}
 use Rattle.promql_places.specs.declared.placing.Placing.{Placing}
 use Rattle.promql_places.proofs.BuiltNodes.{builds_nodes, nodes_lie}
 use Rattle.promql_places.proofs.PassedTrees.{counts, passed_whole}
-use Rattle.promql_places.proofs.PlacedNodes.{derived_kinds, places_are}
+use Rattle.promql_places.proofs.PlacedNodes.{derived_kinds, lists_are, places_are}
 
 -- the derivation of a text that was answered by a tree
 record IsAnswered (s : Text) (t : Tree) : Type 0 where
@@ -54,19 +54,42 @@ memory_instead s t answer =
       low = λ u e. cc;
     }
 
--- a pass over all tokens finds the places
-pub found : (s : Text) (t : Tree) (old new : Placing) → TokensArePlaced → IsAnswerTo s (Ok t) → IsOver s old.tokens → kinds_left old.tokens ≡ map lexeme_kind (placed_tokens s) → old.places.items ≡ []
-    → Passes (pass t (kinds_left old.tokens)) old new → ArePlaces s t new.places.items
-found s t old new placed answer over all none passes =
+-- a pass over all tokens
+record IsPassed (s : Text) (t : Tree) (old new : Placing) : Type 0 where
+  derivation : Derivation
+  derives : Derives s derivation
+  builds : EndsIn (build derivation) (Ok t)
+  places : new.places.items ≡ map (place_in s) (counts (nodes 0 derivation))
+  parts : lists_of new.parts.items ≡ map (parts_in s) (counts (nodes 0 derivation))
+  lie : AllByRecursion (LiesWithin 0 (length (placed_tokens s))) (nodes 0 derivation)
+
+passed : (s : Text) (t : Tree) (old new : Placing) → TokensArePlaced → IsAnswerTo s (Ok t) → IsPlacing s old → kinds_left old.tokens ≡ map lexeme_kind (placed_tokens s) → old.places.items ≡ [] → old.parts.items ≡ []
+    → Passes (pass t (kinds_left old.tokens)) old new [] [] → IsPassed s t old new
+passed s t old new placed answer over all none bare passes =
     let a = answered s t answer in
     let d = a.derivation in
     let same : kinds (yield d) ≡ map lexeme_kind (placed_tokens s) = derived_kinds s d placed a.derives in
-    let given : pass t (kinds_left old.tokens) ≡ (counts (nodes 0 d), []) = ap (pass t) (all ∙ sym same) ∙ passed_whole d t a.builds a.derives.formed in
+    let given : pass t (kinds_left old.tokens) ≡ ([], counts (nodes 0 d), []) = ap (pass t) (all ∙ sym same) ∙ passed_whole d t a.builds a.derives.formed in
     let count : length (yield d) + 0 ≡ length (placed_tokens s) = let one = length-map (yield d) kind_of in let two = length-map (placed_tokens s) lexeme_kind in let both = ap length same in omega arith in
-    let lie : AllByRecursion (LiesWithin 0 (length (placed_tokens s))) (nodes 0 d) = subst (λ n. AllByRecursion (LiesWithin 0 n) (nodes 0 d)) count (nodes_lie d 0) in
     record {
       derivation = d;
       derives = a.derives;
-      build = builds_nodes 0 d t a.builds;
-      are = passes.places s over ∙ ap (λ l. l ++ map (span_in s) (pass t (kinds_left old.tokens)).0) none ∙ ap (λ r. map (span_in s) r.0) given ∙ places_are s (nodes 0 d) lie;
+      builds = a.builds;
+      places = passes.places s over ∙ ap (λ l. l ++ map (place_in s) (pass t (kinds_left old.tokens)).1) none ∙ ap (λ (r : Passed). map (place_in s) r.1) given;
+      parts = passes.have s over ∙ ap (λ l. lists_of l ++ map (parts_in s) (pass t (kinds_left old.tokens)).1) bare ∙ ap (λ (r : Passed). map (parts_in s) r.1) given;
+      lie = subst (λ n. AllByRecursion (LiesWithin 0 n) (nodes 0 d)) count (nodes_lie d 0);
     }
+
+-- finds the places
+pub found : (s : Text) (t : Tree) (old new : Placing) → TokensArePlaced → IsPlacing s old → kinds_left old.tokens ≡ map lexeme_kind (placed_tokens s) → old.places.items ≡ [] → old.parts.items ≡ []
+    → Passes (pass t (kinds_left old.tokens)) old new [] [] → IsAnswerTo s (Ok t) → ArePlaces s t new.places.items
+found s t old new placed over all none bare passes answer =
+    let p = passed s t old new placed answer over all none bare passes in
+    record { derivation = p.derivation; derives = p.derives; build = builds_nodes 0 p.derivation t p.builds; are = p.places ∙ places_are s (nodes 0 p.derivation) p.lie }
+
+-- and the parts
+pub parts_found : (s : Text) (t : Tree) (old new : Placing) → TokensArePlaced → IsPlacing s old → kinds_left old.tokens ≡ map lexeme_kind (placed_tokens s) → old.places.items ≡ [] → old.parts.items ≡ []
+    → Passes (pass t (kinds_left old.tokens)) old new [] [] → IsAnswerTo s (Ok t) → AreParts s t (lists_of new.parts.items)
+parts_found s t old new placed over all none bare passes answer =
+    let p = passed s t old new placed answer over all none bare passes in
+    record { derivation = p.derivation; derives = p.derives; build = builds_nodes 0 p.derivation t p.builds; are = p.parts ∙ lists_are s (nodes 0 p.derivation) p.lie }

@@ -10,7 +10,6 @@ use Rattle.promql_token.specs.Lexing as lexing
 use Rattle.promql_token.specs.Lexing.{slice_texts, text_at}
 use Rattle.promql_grammar.specs.Grammar.{Derivation, yield}
 use Rattle.promql_grammar.specs.Results.{on_result}
-use Rattle.promql_grammar.specs.SourceTokens.{tokens}
 use Rattle.promql_grammar.specs.Symbols.{is_punct, punct, word, symbol, symbol_of, token_kind}
 use Rattle.promql_grammar.specs.declared.token_kinds.TokenKind.{TokenKind}
 use Rattle.promql_syntax.specs.FaultTokens.{Subexpression}
@@ -19,9 +18,14 @@ use Rattle.promql_span.specs.PlacedTokens.{TokensArePlaced, last_tokens, placed_
 use Rattle.promql_span.specs.TokenSpans.{last_of, span_over}
 use Rattle.promql_span.specs.declared.span.Span.{Span}
 use Rattle.promql_places.specs.CursorTokens.{first_start, last_end, lexeme_kind, span_in}
-use Rattle.promql_places.specs.NodePlaces.{LiesWithin, place_of}
+use Rattle.promql_places.specs.NodeParts.{LiesBetween, PartTokens, part_at, parts, parts_of}
+use Rattle.promql_places.specs.NodePlaces.{LiesWithin, place_of, tokens_at}
+use Rattle.promql_places.specs.PartSteps.{part_in}
+use Rattle.promql_places.specs.Passing.{parts_in, place_in}
 use Rattle.promql_places.specs.Skipping.{kind_of, kinds}
-use Rattle.promql_places.proofs.PassedTrees.{count_of, counts}
+use Rattle.promql_places.proofs.LyingParts.{parts_fit}
+use Rattle.promql_places.proofs.PassedTrees.{counts}
+use Rattle.promql_places.proofs.TakenParts.{spans}
 
 -- ---- the tokens of a derivation of a text
 
@@ -69,8 +73,9 @@ span_by s zs [] n some any = absurd (omega arith)
 span_by s zs (x ∷ xs) zero some any = absurd (omega arith)
 span_by s zs (x ∷ xs) (suc n) some any = ap (λ e. let span : Span = record { start = x.start; end = e } in span) (last_joined zs x (take n xs))
 
-pub place_is : (s : Text) (sub : Subexpression) → LiesWithin 0 (length (placed_tokens s)) sub → span_in s (count_of sub) ≡ place_of s sub
-place_is s sub lies = by (placed_tokens s) (length (yield sub.derivation)) sub.after lies.some lies.begins
+-- by counts of tokens, of which there is one at least
+pub tokens_are : (s : Text) (count after : ℕ) → 0 < count → count + after ≤ length (placed_tokens s) → span_in s (count + after, after) ≡ span_over s (tokens_at s count after)
+tokens_are s count after = by (placed_tokens s) count after
   where
     by : (all : List Lexeme) (count after : ℕ) → 0 < count → count + after ≤ length all
         → (let span : Span = record { start = first_start (last_tokens (count + after) all); end = last_end (take (length all - after) all) } in span) ≡ span_over s (take count (last_tokens (count + after) all))
@@ -81,6 +86,23 @@ place_is s sub lies = by (placed_tokens s) (length (yield sub.derivation)) sub.a
         ap (λ l. let span : Span = record { start = first_start (drop i all); end = last_end l } in span) (ap (λ n. take n all) whole ∙ take_sum i count all)
         ∙ span_by s (take i all) (drop i all) count some (omega arith)
 
-pub places_are : (s : Text) (subs : List Subexpression) → AllByRecursion (LiesWithin 0 (length (placed_tokens s))) subs → map (span_in s) (counts subs) ≡ map (place_of s) subs
+pub places_are : (s : Text) (subs : List Subexpression) → AllByRecursion (LiesWithin 0 (length (placed_tokens s))) subs → map (place_in s) (counts subs) ≡ map (place_of s) subs
 places_are s [] all = refl
-places_are s (sub ∷ subs) all = λ i. place_is s sub all.0 i ∷ places_are s subs all.1 i
+places_are s (sub ∷ subs) all =
+    let lies = all.0 in
+    λ i. tokens_are s (length (yield sub.derivation)) sub.after lies.some lies.begins i ∷ places_are s subs all.1 i
+
+parts_are : (s : Text) (sub : Subexpression) (ps : List PartTokens) → length (yield sub.derivation) + sub.after ≤ length (placed_tokens s) → AllByRecursion (LiesBetween sub.after (length (yield sub.derivation) + sub.after)) ps → map (part_in s) (spans ps) ≡ map (part_at s) ps
+parts_are s sub [] fits all = refl
+parts_are s sub (p ∷ ps) fits all =
+    let lies = all.0 in
+    let some = lies.some in
+    let begins = lies.begins in
+    let here : span_in s (p.count + p.after, p.after) ≡ span_over s (tokens_at s p.count p.after) = tokens_are s p.count p.after some (omega arith) in
+    λ i. record { kind = p.kind; span = here i } ∷ parts_are s sub ps fits all.1 i
+
+pub lists_are : (s : Text) (subs : List Subexpression) → AllByRecursion (LiesWithin 0 (length (placed_tokens s))) subs → map (parts_in s) (counts subs) ≡ map (parts_of s) subs
+lists_are s [] all = refl
+lists_are s (sub ∷ subs) all =
+    let lies = all.0 in
+    λ i. parts_are s sub (parts sub.after sub.derivation) lies.begins ((parts_fit sub.derivation sub.after).lie) i ∷ lists_are s subs all.1 i

@@ -75,9 +75,13 @@ BuildEach subs ts = ⊥
 
 -- ---- their places
 
--- the tokens of an expression in this text
+-- so many tokens of this text, up to so many last ones
+abbrev pub tokens_at : Text → ℕ → ℕ → List Lexeme
+tokens_at s count after = take count (last_tokens (count + after) (placed_tokens s))
+
+-- those of an expression
 abbrev pub tokens_of : Text → Subexpression → List Lexeme
-tokens_of s sub = let count = length (yield sub.derivation) in take count (last_tokens (count + sub.after) (placed_tokens s))
+tokens_of s sub = tokens_at s (length (yield sub.derivation)) sub.after
 
 -- from the first of them through the last
 abbrev pub place_of : Text → Subexpression → Span

@@ -1,10 +1,9 @@
--- Which tokens are skipped for the parts of an expression that hold no expression, by their kinds. Private: nothing rests on
--- believing it.
+-- Which tokens are skipped, by their kinds. Private: nothing rests on believing it.
 use Rattle.std.specs.Prelude.{ℕ, Bool, true, false, ◌==◌, if◌then◌else◌, List, [], ◌∷◌, drop, map}
-use Rattle.promql_token.specs.declared.ids.TheConstants.{T_ADD, T_POW}
+use Rattle.promql_token.specs.declared.ids.TheConstants.{T_ADD, T_LOR, T_POW}
 use Rattle.promql_grammar.specs.declared.token_kinds.TokenKind.{TokenKind}
 use Rattle.promql_grammar.specs.declared.token_kinds.TokenKind.TheVariants as kind
-use Rattle.promql_grammar.specs.GrammarParts.{is_bound_word, is_group_word, is_matching_word}
+use Rattle.promql_grammar.specs.GrammarParts.{is_bound_word}
 use Rattle.promql_grammar.specs.Symbols.{Symbol, punct, word, is_plus_or_minus}
 
 -- the kind of a symbol
@@ -92,28 +91,22 @@ abbrev pub skip_brackets : List TokenKind → List TokenKind
 skip_brackets [] = []
 skip_brackets (k ∷ ks) = if is_closing k then ks else skip_brackets ks
 
-abbrev pub skip_braces : List TokenKind → List TokenKind
-skip_braces ks = when (is_left_brace (front ks)) skip_brackets ks
+-- lists in brackets: whether one ends here, what separates its parts, and what is up to that or to the end
+abbrev pub ends_list : List TokenKind → Bool
+ends_list [] = true
+ends_list (k ∷ ks) = is_closing k
 
-abbrev pub skip_name : List TokenKind → List TokenKind
-skip_name ks = if is_left_brace (front ks) then ks else drop 1 ks
+abbrev pub is_separator : TokenKind → Bool
+is_separator kind.Comma = true
+is_separator (kind.Operator op) = op == T_LOR
+is_separator _ = false
 
--- a name, braces, or both
-abbrev pub skip_selector : List TokenKind → List TokenKind
-skip_selector ks = skip_braces (skip_name ks)
+abbrev pub skip_item : List TokenKind → List TokenKind
+skip_item [] = []
+skip_item (k ∷ ks) = if is_closing k then k ∷ ks else if is_separator k then k ∷ ks else skip_item ks
 
-abbrev pub skip_clause : List TokenKind → List TokenKind
-skip_clause ks = when (is_grouping_word (front ks)) skip_brackets ks
-
--- the labels of a grouping word, after it
-abbrev pub skip_labels : List TokenKind → List TokenKind
-skip_labels ks = when (is_left_paren (front ks)) skip_brackets ks
-
-abbrev pub skip_group : List TokenKind → List TokenKind
-skip_group ks = when (is_group_word (front ks)) (λ ks. skip_labels (drop 1 ks)) ks
-
-abbrev pub skip_matching : List TokenKind → List TokenKind
-skip_matching ks = when (is_matching_word (front ks)) (λ ks. skip_group (skip_brackets ks)) ks
+abbrev pub skip_separator : List TokenKind → List TokenKind
+skip_separator ks = when (is_separator (front ks)) (drop 1) ks
 
 abbrev pub skip_fill : List TokenKind → List TokenKind
 skip_fill ks = when (is_fill_word (front ks)) skip_brackets ks
@@ -121,24 +114,7 @@ skip_fill ks = when (is_fill_word (front ks)) skip_brackets ks
 abbrev pub skip_flag : List TokenKind → List TokenKind
 skip_flag ks = when (is_flag (front ks)) (drop 1) ks
 
-abbrev pub skip_modifier : List TokenKind → List TokenKind
-skip_modifier ks = skip_fill (skip_fill (skip_matching (skip_flag ks)))
-
--- shifts in time and range modes, one after the other: before one, in its value, in the parentheses of that
-abbrev mutual
-  pub skip_shifts : List TokenKind → List TokenKind
-  skip_shifts [] = []
-  skip_shifts (k ∷ ks) = if is_shift_word k then after_shift_word ks else if is_mode k then skip_shifts ks else k ∷ ks
-
-  pub after_shift_word : List TokenKind → List TokenKind
-  after_shift_word [] = []
-  after_shift_word (k ∷ ks) = if is_sign k then after_shift_word ks else if is_bound_word k then after_bound_word ks else skip_shifts ks
-
-  pub after_bound_word : List TokenKind → List TokenKind
-  after_bound_word [] = []
-  after_bound_word (k ∷ ks) = if is_closing k then skip_shifts ks else after_bound_word ks
-
--- one of them
+-- the value of a shift, and a shift with it
 abbrev pub skip_moment : List TokenKind → List TokenKind
 skip_moment ks = if is_bound_word (front ks) then skip_brackets ks else drop 1 ks
 
@@ -148,33 +124,10 @@ skip_value ks = skip_moment (skip_signs ks)
 abbrev pub skip_shift : List TokenKind → List TokenKind
 skip_shift ks = when (is_shift_word (front ks)) skip_value (drop 1 ks)
 
--- ---- before, between and after the children of a node
-
 -- signs, and a token
 abbrev pub skip_signed : List TokenKind → List TokenKind
 skip_signed ks = drop 1 (skip_signs ks)
 
-abbrev pub skip_minus : List TokenKind → List TokenKind
-skip_minus ks = drop 1 (skip_pluses ks)
-
 -- the signs before a power
 abbrev pub skip_power_signs : ℕ → List TokenKind → List TokenKind
 skip_power_signs op ks = when (op == T_POW) skip_signs ks
-
-abbrev pub skip_operator : List TokenKind → List TokenKind
-skip_operator ks = skip_modifier (drop 1 ks)
-
-abbrev pub skip_vector : List TokenKind → List TokenKind
-skip_vector ks = skip_shifts (skip_selector (skip_signs ks))
-
-abbrev pub skip_range : List TokenKind → List TokenKind
-skip_range ks = skip_shifts (skip_brackets ks)
-
-abbrev pub skip_call : List TokenKind → List TokenKind
-skip_call ks = drop 1 (skip_signed ks)
-
-abbrev pub skip_aggregate : List TokenKind → List TokenKind
-skip_aggregate ks = drop 1 (skip_clause (skip_signed ks))
-
-abbrev pub skip_aggregate_end : List TokenKind → List TokenKind
-skip_aggregate_end ks = skip_clause (drop 1 ks)

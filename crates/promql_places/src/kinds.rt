@@ -2,10 +2,12 @@
 
 ghost use Rattle.std.specs.Prelude.{◌≡◌};
 ghost use Rattle.promql_grammar.specs.GrammarParts as parts;
+ghost use Rattle.promql_places.specs.PartSteps as step;
 ghost use Rattle.promql_places.specs.Skipping as spec;
 
+use crate::parts::PartKind;
 use promql_grammar::TokenKind;
-use promql_token::ids::{T_ADD, T_SUB};
+use promql_token::ids::{T_ADD, T_LOR, T_SUB};
 
 pub fn is_plus(kind: TokenKind) -> bool
     ensures { result ≡ spec.is_plus kind }
@@ -27,6 +29,13 @@ pub fn is_closing(kind: TokenKind) -> bool
         kind,
         TokenKind::RightParen | TokenKind::RightBrace | TokenKind::RightBracket
     )
+}
+
+/// What separates the parts of a list: a comma or `or`.
+pub fn is_separator(kind: TokenKind) -> bool
+    ensures { result ≡ spec.is_separator kind }
+{
+    matches!(kind, TokenKind::Comma | TokenKind::Operator(T_LOR))
 }
 
 pub fn is_left_paren(kind: TokenKind) -> bool
@@ -91,6 +100,17 @@ pub fn is_shift(kind: TokenKind) -> bool
     ensures { result ≡ spec.is_shift kind }
 {
     is_shift_word(kind) || matches!(kind, TokenKind::Smoothed | TokenKind::Anchored)
+}
+
+/// The part that begins with this shift.
+pub fn shift_kind(kind: TokenKind) -> PartKind
+    ensures { result ≡ step.shift_kind kind }
+{
+    match kind {
+        TokenKind::At => PartKind::At,
+        TokenKind::Offset => PartKind::Offset,
+        _ => PartKind::Mode,
+    }
 }
 
 /// `start` and `end`.

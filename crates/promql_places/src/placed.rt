@@ -1,12 +1,15 @@
 //! From a text to its tree, with the places of the tree's nodes.
 
-ghost use Rattle.std.specs.Prelude.{IfErr, IfOk, Ok};
+ghost use Rattle.std.specs.Prelude.{IfErr, IfOk, Ok, map};
 ghost use Rattle.promql_ast.specs.View.{tree_of};
 ghost use Rattle.promql_span.specs.ErrorPlaces.{IsPlaceOf};
 ghost use Rattle.promql_syntax.specs.ParseAnswers.{IsAnswerTo};
+ghost use Rattle.promql_places.specs.NodeParts.{AreParts};
 ghost use Rattle.promql_places.specs.NodePlaces.{ArePlaces};
+ghost use Rattle.promql_places.specs.Passing.{lists_of};
 ghost use Rattle.promql_places.specs.PlacedAnswers.{placed_answer};
 
+use crate::parts::Part;
 use crate::placing::{Placing, place_expr};
 use promql_ast::{Expr, drop_expr};
 use promql_span::Span;
@@ -14,7 +17,7 @@ use promql_span::diagnosis::{Diagnosis, diagnose};
 use promql_syntax::parser::ParseError;
 use std::alloc::{AllocError, Global};
 
-/// A tree, with the places of its nodes.
+/// A tree, with the places of its nodes and of their parts.
 #[derive(Debug, Drop)]
 pub struct PlacedExpr {
     /// The tree, as `parse` returns it.
@@ -22,10 +25,13 @@ pub struct PlacedExpr {
     /// The part of the text that each node takes, in bytes, in the order in which `walk_expr` calls `pre_visit`: a node
     /// before its children.
     pub places: Vec<Span>,
+    /// The parts of each node, in the same order: its name, its matchers, what shifts it. Those of one node are in the order in
+    /// which they end.
+    pub parts: Vec<Vec<Part>>,
 }
 
 /// The tree of a text with the places of its nodes, or its error with the place (docs/reference/walks.md, "Places"). The text
-/// is lexed once more than by `parse`, and the list of places is allocated.
+/// is lexed once more than by `parse`, and the lists of places and parts are allocated.
 ///
 /// # Errors
 ///
@@ -34,10 +40,16 @@ pub fn parse_placed(alloc: Global, text: &str) -> Result<PlacedExpr, Diagnosis>
     ensures answer { IsAnswerTo text.now (placed_answer result) }
     ensures place { IfErr result (λ d. IsPlaceOf text.now d.error d.span) }
     ensures places { IfOk result (λ p. ArePlaces text.now (tree_of p.expr) p.places.items) }
+    ensures parts { IfOk result (λ p. AreParts text.now
+        (tree_of p.expr) (map (λ ps. ps.items) p.parts.items)) }
 {
     let expr = diagnose(alloc, text)?;
-    match find_places(alloc, text, &expr) {
-        Ok(places) => Ok(PlacedExpr { expr, places }),
+    match placed_nodes(alloc, text, &expr) {
+        Ok(placing) => Ok(PlacedExpr {
+            expr,
+            places: placing.places,
+            parts: placing.parts,
+        }),
         Err(AllocError) => {
             drop_expr(expr);
             Err(Diagnosis {
@@ -48,13 +60,29 @@ pub fn parse_placed(alloc: Global, text: &str) -> Result<PlacedExpr, Diagnosis>
     }
 }
 
-/// The places of the nodes of this text's tree.
-fn find_places(alloc: Global, text: &str, expr: &Expr) -> Result<Vec<Span>, AllocError>
+/// The places of the nodes of this text's tree, in the order of a walk: what `parse_placed` returns beside the tree, for one that was
+/// parsed before.
+///
+/// # Errors
+///
+/// `AllocError` where an allocation failed.
+pub fn find_places(alloc: Global, text: &str, expr: &Expr) -> Result<Vec<Span>, AllocError>
     ensures { IfOk result (λ places. IsAnswerTo text.now (Ok (tree_of expr.now))
         → ArePlaces text.now (tree_of expr.now) places.items) }
+{
+    let placing = placed_nodes(alloc, text, expr)?;
+    Ok(placing.places)
+}
+
+/// The nodes of this text's tree.
+fn placed_nodes<'a>(alloc: Global, text: &'a str, expr: &Expr) -> Result<Placing<'a>, AllocError>
+    ensures places { IfOk result (λ p. IsAnswerTo text.now (Ok (tree_of expr.now))
+        → ArePlaces text.now (tree_of expr.now) p.places.items) }
+    ensures parts { IfOk result (λ p. IsAnswerTo text.now (Ok (tree_of expr.now))
+        → AreParts text.now (tree_of expr.now) (lists_of p.parts.items)) }
 {
     promql_span::laws::tokens_are_placed();
     let mut placing = Placing::new(alloc, text);
     place_expr(expr, &mut placing)?;
-    Ok(placing.places)
+    Ok(placing)
 }

@@ -2,4 +2,6 @@
 
 mod errors;
 mod lengths;
+mod parts;
 mod pictures;
+mod visitors;

@@ -1,6 +1,6 @@
 use Rattle.std.proofs.Common.{◌∙◌, ap, ◌++◌, ◌∷◌}
 use Rattle.promql_places.proofs.PlaceSteps.{ended}
-use Rattle.promql_places.proofs.placing.Placing.end.Goals as goal
+use Rattle.promql_places.proofs.placing.Placing.end_place.Goals as goal
 
 pub returns-in-Some-clause-place : goal.returns-in-Some-clause-place
 returns-in-Some-clause-place c = λ before after place is index.

@@ -1,0 +1,342 @@
+-- What is taken for a part are its tokens, exactly.
+use Rattle.std.proofs.Common.{◌≡◌, refl, ◌∙◌, ap, sym, ℕ, ◌+◌, arith, true, false, List, [], ◌∷◌, ◌++◌, append_assoc, length, length-append, map, Option, Some, None}
+use Rattle.std.specs.Option.{option_map_or}
+use Rattle.std.proofs.lemmas.List.{length-map}
+use Rattle.promql_text.specs.Texts.{Text}
+use Rattle.promql_grammar.specs.declared.token_kinds.TokenKind.{TokenKind}
+use Rattle.promql_grammar.specs.declared.token_kinds.TokenKind.TheVariants as kind
+use Rattle.promql_grammar.specs.Symbols.{Symbol, punct, word, begins, may_be_label}
+use Rattle.promql_grammar.specs.Grammar.{OpensNoParen, FitsGroup, FitsMatching}
+use Rattle.promql_grammar.specs.GrammarParts.{Time, seconds, duration, Signed, unsigned, signed, Names, last, last_comma, next, Labels, no_label, labels, Grouping, by, without, Group, no_group, bare, listed, Matching, no_matching, matching, FillValue, Fills, no_fill, both, left, right, left_right, right_left, Modifier, MatchOperator, equal, not_equal, equal_regex, not_equal_regex, Item, matcher, lone, Separator, comma, or, Items, last_item, last_item_comma, next_item, Braces, no_item, items, Postfix, range, subquery, at_number, at_bound, offset, mode, yield_time, yield_signed, yield_names, yield_labels, yield_grouping, yield_group, yield_matching, yield_value, yield_fills, yield_flag, yield_modifier, yield_match_operator, yield_item, yield_items, yield_separator, yield_braces, yield_any_braces, yield_step, yield_postfix, IsSigned, AreLabels, IsLabels, IsGrouping, IsGroup, IsMatching, IsModifier, IsItem, AreItems, IsBraces, IsAnyBraces, IsPostfix, is_matcher_name, is_matching_word}
+use Rattle.promql_grammar.proofs.GrammarChoices.{if_true, if_false}
+use Rattle.promql_places.specs.NodeParts.{PartTokens, group_parts, grouping_parts, item_parts, label_parts, matcher_parts, matching_parts, name_parts, piece, postfix_kind}
+use Rattle.promql_places.specs.PartSteps as step
+use Rattle.promql_places.specs.PartSteps.{PartSpan, Taken, also, and_then}
+use Rattle.promql_places.specs.Skipping.{front, kind_of, kinds, is_closing, is_flag, is_left_brace, skip_brackets, skip_fill, skip_flag}
+use Rattle.promql_places.specs.declared.parts.PartKind.{PartKind}
+use Rattle.promql_places.specs.declared.parts.PartKind.TheVariants as part
+
+-- ---- parts by counts
+
+abbrev pub span_of : PartTokens → PartSpan
+span_of p = (p.kind, (p.count + p.after, p.after))
+
+abbrev pub spans : List PartTokens → List PartSpan
+spans ps = map span_of ps
+
+pub spans_joined : (ps qs : List PartTokens) → spans (ps ++ qs) ≡ spans ps ++ spans qs
+spans_joined [] qs = refl
+spans_joined (p ∷ ps) qs = ap (λ l. span_of p ∷ l) (spans_joined ps qs)
+
+pub kinds_length : (ts : List Symbol) → length (kinds ts) ≡ length ts
+kinds_length ts = length-map ts kind_of
+
+pub kinds_count : (ts rest : List Symbol) → length (kinds (ts ++ rest)) ≡ length ts + length rest
+kinds_count ts rest = kinds_length (ts ++ rest) ∙ length-append ts rest
+
+-- a part from here to there
+pub span_is : (p : PartKind) (x y n k : ℕ) → x ≡ n + k → y ≡ k → (let s : PartSpan = (p, (x, y)) in s) ≡ span_of (piece p n k)
+span_is p x y n k e f = λ i. (p, (e i, f i))
+
+pub first_is : (r q : Taken) (x y : PartSpan) → x ≡ y → r ≡ q → also x r ≡ also y q
+first_is r q x y e f = λ i. also (e i) (f i)
+
+-- ---- lists in brackets
+
+label_open : (k : TokenKind) → may_be_label k ≡ true → is_closing k ≡ false
+label_open kind.RightParen h = cc
+label_open kind.RightBrace h = cc
+label_open kind.RightBracket h = cc
+label_open k h = refl
+
+names_taken : (p : PartKind) (names : Names) (rest : List Symbol) → AreLabels names → step.items p (kinds (yield_names names ++ rest)) ≡ (spans (name_parts p (length rest) names), kinds rest)
+names_taken p (last k t) rest h =
+    let n = kinds_length rest in
+    if_false _ _ _ (label_open k h) ∙ ap (λ (x : PartSpan). (x ∷ [], kinds rest)) (span_is p _ _ 1 (1 + length rest) (omega arith) (omega arith))
+names_taken p (last_comma k t) rest h =
+    let n = kinds_length rest in
+    if_false _ _ _ (label_open k h) ∙ ap (λ (x : PartSpan). (x ∷ [], kinds rest)) (span_is p _ _ 1 (2 + length rest) (omega arith) (omega arith))
+names_taken p (next k t names) rest h =
+    let n = kinds_count (yield_names names) rest in
+    if_false _ _ _ (label_open k h.0)
+    ∙ first_is _ _ _ _ (span_is p _ _ 1 (1 + (length (yield_names names) + length rest)) (omega arith) (omega arith)) (names_taken p names rest h.1)
+
+pub labels_taken : (p : PartKind) (ls : Labels) (rest : List Symbol) → IsLabels ls → step.labels p (kinds (yield_labels ls ++ rest)) ≡ (spans (label_parts p (length rest) ls), kinds rest)
+labels_taken p no_label rest h = refl
+labels_taken p (labels names) rest h = names_taken p names rest h
+
+name_open : (k : TokenKind) → is_matcher_name k ≡ true → is_closing k ≡ false
+name_open kind.RightParen h = cc
+name_open kind.RightBrace h = cc
+name_open kind.RightBracket h = cc
+name_open k h = refl
+
+operator_inside : (s : MatchOperator) (p : PartKind) (n : ℕ) (value : Text) (rest : List Symbol) → step.in_item p n (kinds (yield_match_operator s ∷ word kind.String value ∷ rest)) ≡ step.in_item p n (kinds rest)
+operator_inside equal p n value rest = refl
+operator_inside (not_equal t) p n value rest = refl
+operator_inside equal_regex p n value rest = refl
+operator_inside not_equal_regex p n value rest = refl
+
+item_inside : (i : Item) (p : PartKind) (rest : List Symbol) → IsItem i → step.items p (kinds (yield_item i ++ rest)) ≡ step.in_item p (length (kinds (yield_item i ++ rest))) (kinds rest)
+item_inside (matcher k t s value) p rest h = if_false _ _ _ (name_open k h) ∙ operator_inside s p _ value rest
+item_inside (lone t) p rest h = refl
+
+separator_ends : (s : Separator) (p : PartKind) (n : ℕ) (rest : List Symbol) → step.in_item p n (kinds (yield_separator s ∷ rest)) ≡ also (p, (n, length (kinds (yield_separator s ∷ rest)))) (step.items p (kinds rest))
+separator_ends comma p n rest = refl
+separator_ends (or t) p n rest = refl
+
+items_taken : (is : Items) (rest : List Symbol) → AreItems is → step.items part.Matcher (kinds (yield_items is ++ rest)) ≡ (spans (item_parts (length rest) is), kinds rest)
+items_taken (last_item i) rest h =
+    let n = kinds_count (yield_item i) (punct kind.RightBrace ∷ rest) in
+    let m = kinds_length rest in
+    ap (λ ts. step.items part.Matcher (kinds ts)) (append_assoc (yield_item i) (punct kind.RightBrace ∷ []) rest)
+    ∙ item_inside i part.Matcher (punct kind.RightBrace ∷ rest) h
+    ∙ ap (λ (x : PartSpan). (x ∷ [], kinds rest)) (span_is part.Matcher _ _ (length (yield_item i)) (1 + length rest) (omega arith) (omega arith))
+items_taken (last_item_comma i) rest h =
+    let n = kinds_count (yield_item i) (punct kind.Comma ∷ punct kind.RightBrace ∷ rest) in
+    let m = kinds_length rest in
+    ap (λ ts. step.items part.Matcher (kinds ts)) (append_assoc (yield_item i) (punct kind.Comma ∷ punct kind.RightBrace ∷ []) rest)
+    ∙ item_inside i part.Matcher (punct kind.Comma ∷ punct kind.RightBrace ∷ rest) h
+    ∙ ap (λ (x : PartSpan). (x ∷ [], kinds rest)) (span_is part.Matcher _ _ (length (yield_item i)) (2 + length rest) (omega arith) (omega arith))
+items_taken (next_item i s is) rest h =
+    let n = kinds_count (yield_item i) (yield_separator s ∷ (yield_items is ++ rest)) in
+    let j = length-append (yield_items is) rest in
+    let m = kinds_count (yield_items is) rest in
+    ap (λ ts. step.items part.Matcher (kinds ts)) (append_assoc (yield_item i) (yield_separator s ∷ yield_items is) rest)
+    ∙ item_inside i part.Matcher (yield_separator s ∷ (yield_items is ++ rest)) h.0
+    ∙ separator_ends s part.Matcher _ (yield_items is ++ rest)
+    ∙ first_is _ _ _ _ (span_is part.Matcher _ _ (length (yield_item i)) (1 + (length (yield_items is) + length rest)) (omega arith) (omega arith)) (items_taken is rest h.1)
+
+pub braces_taken : (b : Braces) (rest : List Symbol) → IsBraces b → step.braces (kinds (yield_braces b ++ rest)) ≡ (spans (matcher_parts (length rest) b), kinds rest)
+braces_taken no_item rest h = refl
+braces_taken (items is) rest h = items_taken is rest h
+
+-- none, where no brace follows
+pub any_braces_taken : (b : Option Braces) (rest : List Symbol) → IsAnyBraces b → is_left_brace (front (kinds rest)) ≡ false
+    → step.braces (kinds (yield_any_braces b ++ rest)) ≡ (spans (option_map_or (matcher_parts (length rest)) b []), kinds rest)
+any_braces_taken None rest h free = if_false _ _ _ free
+any_braces_taken (Some b) rest h free = braces_taken b rest h
+
+-- ---- through a closing bracket
+
+sign_skipped : (s : Signed) (rest : List Symbol) → skip_brackets (kinds (yield_signed s ++ rest)) ≡ skip_brackets (kinds rest)
+sign_skipped unsigned rest = refl
+sign_skipped (signed op t) rest = refl
+
+pub value_skipped : (v : FillValue) (rest : List Symbol) → skip_brackets (kinds (yield_value v ++ rest)) ≡ kinds rest
+value_skipped v rest =
+    ap (λ ts. skip_brackets (kinds ts)) (append_assoc (yield_signed v.sign) (word kind.Number v.number ∷ punct kind.RightParen ∷ []) rest)
+    ∙ sign_skipped v.sign (word kind.Number v.number ∷ punct kind.RightParen ∷ rest)
+
+time_skipped : (t : Time) (rest : List Symbol) → skip_brackets (kinds (yield_time t ++ rest)) ≡ skip_brackets (kinds rest)
+time_skipped (seconds t) rest = refl
+time_skipped (duration t) rest = refl
+
+step_skipped : (s : Option Time) (rest : List Symbol) → skip_brackets (kinds (yield_step s ++ rest)) ≡ skip_brackets (kinds rest)
+step_skipped None rest = refl
+step_skipped (Some t) rest = time_skipped t rest
+
+pub range_skipped : (t : Time) (rest : List Symbol) → skip_brackets (kinds (yield_postfix (range t) ++ rest)) ≡ kinds rest
+range_skipped t rest = ap (λ ts. skip_brackets (kinds ts)) (append_assoc (yield_time t) (punct kind.RightBracket ∷ []) rest) ∙ time_skipped t (punct kind.RightBracket ∷ rest)
+
+pub subquery_skipped : (t : Time) (s : Option Time) (rest : List Symbol) → skip_brackets (kinds (yield_postfix (subquery t s) ++ rest)) ≡ kinds rest
+subquery_skipped t s rest =
+    ap (λ ts. skip_brackets (kinds ts)) (append_assoc (yield_time t) (punct kind.Colon ∷ (yield_step s ++ punct kind.RightBracket ∷ [])) rest)
+    ∙ time_skipped t (punct kind.Colon ∷ ((yield_step s ++ punct kind.RightBracket ∷ []) ++ rest))
+    ∙ ap (λ ts. skip_brackets (kinds ts)) (append_assoc (yield_step s) (punct kind.RightBracket ∷ []) rest)
+    ∙ step_skipped s (punct kind.RightBracket ∷ rest)
+
+-- ---- clauses
+
+pub grouping_taken : (g : Grouping) (rest : List Symbol) → IsGrouping g → step.clause (kinds (yield_grouping g ++ rest)) ≡ (spans (grouping_parts (length rest) g), kinds rest)
+grouping_taken (by t ls) rest h = labels_taken part.Label ls rest h
+grouping_taken (without t ls) rest h = labels_taken part.Label ls rest h
+
+-- ---- modifiers
+
+-- an expression begins with none of the words of a modifier
+no_flag : (ts : List Symbol) → begins ts ≡ true → skip_flag (kinds ts) ≡ kinds ts
+no_flag [] h = refl
+no_flag (punct kind.Bool ∷ ts) h = cc
+no_flag (word kind.Bool t ∷ ts) h = cc
+no_flag (punct k ∷ ts) h = refl
+no_flag (word k t ∷ ts) h = refl
+
+no_matching_at : (ts : List Symbol) → begins ts ≡ true → step.matching (kinds ts) ≡ ([], kinds ts)
+no_matching_at [] h = refl
+no_matching_at (punct kind.On ∷ ts) h = cc
+no_matching_at (word kind.On t ∷ ts) h = cc
+no_matching_at (punct kind.Ignoring ∷ ts) h = cc
+no_matching_at (word kind.Ignoring t ∷ ts) h = cc
+no_matching_at (punct k ∷ ts) h = refl
+no_matching_at (word k t ∷ ts) h = refl
+
+no_group_at : (ts : List Symbol) → begins ts ≡ true → step.group (kinds ts) ≡ ([], kinds ts)
+no_group_at [] h = refl
+no_group_at (punct kind.GroupLeft ∷ ts) h = cc
+no_group_at (word kind.GroupLeft t ∷ ts) h = cc
+no_group_at (punct kind.GroupRight ∷ ts) h = cc
+no_group_at (word kind.GroupRight t ∷ ts) h = cc
+no_group_at (punct k ∷ ts) h = refl
+no_group_at (word k t ∷ ts) h = refl
+
+no_fill_at : (ts : List Symbol) → begins ts ≡ true → skip_fill (kinds ts) ≡ kinds ts
+no_fill_at [] h = refl
+no_fill_at (punct kind.Fill ∷ ts) h = cc
+no_fill_at (word kind.Fill t ∷ ts) h = cc
+no_fill_at (punct kind.FillLeft ∷ ts) h = cc
+no_fill_at (word kind.FillLeft t ∷ ts) h = cc
+no_fill_at (punct kind.FillRight ∷ ts) h = cc
+no_fill_at (word kind.FillRight t ∷ ts) h = cc
+no_fill_at (punct k ∷ ts) h = refl
+no_fill_at (word k t ∷ ts) h = refl
+
+fills_skipped : (f : Fills) (rest : List Symbol) → begins rest ≡ true → skip_fill (skip_fill (kinds (yield_fills f ++ rest))) ≡ kinds rest
+fills_skipped no_fill rest b = ap skip_fill (no_fill_at rest b) ∙ no_fill_at rest b
+fills_skipped (both t v) rest b = ap skip_fill (value_skipped v rest) ∙ no_fill_at rest b
+fills_skipped (left t v) rest b = ap skip_fill (value_skipped v rest) ∙ no_fill_at rest b
+fills_skipped (right t v) rest b = ap skip_fill (value_skipped v rest) ∙ no_fill_at rest b
+fills_skipped (left_right t v u w) rest b =
+    ap (λ ts. skip_fill (skip_brackets (kinds ts))) (append_assoc (yield_value v) (word kind.FillRight u ∷ yield_value w) rest)
+    ∙ ap skip_fill (value_skipped v (word kind.FillRight u ∷ (yield_value w ++ rest)))
+    ∙ value_skipped w rest
+fills_skipped (right_left t v u w) rest b =
+    ap (λ ts. skip_fill (skip_brackets (kinds ts))) (append_assoc (yield_value v) (word kind.FillLeft u ∷ yield_value w) rest)
+    ∙ ap skip_fill (value_skipped v (word kind.FillLeft u ∷ (yield_value w ++ rest)))
+    ∙ value_skipped w rest
+
+-- a word of fills, or what follows them, is no other word of a modifier
+fills_no_matching : (f : Fills) (rest : List Symbol) → begins rest ≡ true → step.matching (kinds (yield_fills f ++ rest)) ≡ ([], kinds (yield_fills f ++ rest))
+fills_no_matching no_fill rest b = no_matching_at rest b
+fills_no_matching (both t v) rest b = refl
+fills_no_matching (left t v) rest b = refl
+fills_no_matching (right t v) rest b = refl
+fills_no_matching (left_right t v u w) rest b = refl
+fills_no_matching (right_left t v u w) rest b = refl
+
+fills_no_group : (f : Fills) (rest : List Symbol) → begins rest ≡ true → step.group (kinds (yield_fills f ++ rest)) ≡ ([], kinds (yield_fills f ++ rest))
+fills_no_group no_fill rest b = no_group_at rest b
+fills_no_group (both t v) rest b = refl
+fills_no_group (left t v) rest b = refl
+fills_no_group (right t v) rest b = refl
+fills_no_group (left_right t v u w) rest b = refl
+fills_no_group (right_left t v u w) rest b = refl
+
+-- a parenthesis has no text
+abbrev pub HasNoParenWord : List Symbol → Type 0
+HasNoParenWord (word kind.LeftParen t ∷ ts) = ⊥
+HasNoParenWord ts = Unit {0}
+
+-- no labels come after a bare grouping word
+no_labels_at : (p : PartKind) (ts : List Symbol) → HasNoParenWord ts → OpensNoParen ts → step.labels p (kinds ts) ≡ ([], kinds ts)
+no_labels_at p [] w h = refl
+no_labels_at p (punct kind.LeftParen ∷ ts) w h = absurd h
+no_labels_at p (word kind.LeftParen t ∷ ts) w h = absurd w
+no_labels_at p (punct k ∷ ts) w h = refl
+no_labels_at p (word k t ∷ ts) w h = refl
+
+bare_fills : (p : PartKind) (k : TokenKind) (t : Text) (f : Fills) (rest : List Symbol) → HasNoParenWord rest → FitsGroup (bare k t) f rest → step.labels p (kinds (yield_fills f ++ rest)) ≡ ([], kinds (yield_fills f ++ rest))
+bare_fills p k t no_fill rest b h = no_labels_at p rest b h
+bare_fills p k t (both u v) rest b h = refl
+bare_fills p k t (left u v) rest b h = refl
+bare_fills p k t (right u v) rest b h = refl
+bare_fills p k t (left_right u v u' w) rest b h = refl
+bare_fills p k t (right_left u v u' w) rest b h = refl
+
+group_taken : (g : Group) (f : Fills) (rest : List Symbol) → IsGroup g → begins rest ≡ true → HasNoParenWord rest → FitsGroup g f rest
+    → step.group (kinds (yield_group g ++ (yield_fills f ++ rest))) ≡ (spans (group_parts (length (yield_fills f ++ rest)) g), kinds (yield_fills f ++ rest))
+group_taken no_group f rest h b p k = fills_no_group f rest b
+group_taken (bare w t) f rest h b p k = if_true _ _ _ h ∙ bare_fills part.GroupLabel w t f rest p k
+group_taken (listed w t ls) f rest h b p k = if_true _ _ _ h.0 ∙ labels_taken part.GroupLabel ls (yield_fills f ++ rest) h.1
+
+matching_taken : (m : Matching) (f : Fills) (rest : List Symbol) → IsMatching m → begins rest ≡ true → HasNoParenWord rest → FitsMatching m f rest
+    → step.matching (kinds (yield_matching m ++ (yield_fills f ++ rest))) ≡ (spans (matching_parts (length (yield_fills f ++ rest)) m), kinds (yield_fills f ++ rest))
+matching_taken no_matching f rest h b p k = fills_no_matching f rest b
+matching_taken (matching w t ls g) f rest h b p k =
+    let after = yield_fills f ++ rest in
+    if_true _ _ _ h.0
+    ∙ ap (λ ts. and_then (step.labels part.Label (kinds ts)) step.group) (append_assoc (yield_labels ls) (yield_group g) after)
+    ∙ ap (λ r. and_then r step.group) (labels_taken part.Label ls (yield_group g ++ after) h.1)
+    ∙ ap (λ n. and_then (spans (label_parts part.Label n ls), kinds (yield_group g ++ after)) step.group) (length-append (yield_group g) after)
+    ∙ ap (λ (r : Taken). (let q : Taken = (spans (label_parts part.Label (length (yield_group g) + length after) ls) ++ r.0, r.1) in q)) (group_taken g f rest h.2 b p k)
+    ∙ ap (λ l. (let q : Taken = (l, kinds after) in q)) (sym (spans_joined (label_parts part.Label (length (yield_group g) + length after) ls) (group_parts (length after) g)))
+
+no_flag_fills : (f : Fills) (rest : List Symbol) → begins rest ≡ true → skip_flag (kinds (yield_fills f ++ rest)) ≡ kinds (yield_fills f ++ rest)
+no_flag_fills no_fill rest b = no_flag rest b
+no_flag_fills (both t v) rest b = refl
+no_flag_fills (left t v) rest b = refl
+no_flag_fills (right t v) rest b = refl
+no_flag_fills (left_right t v u w) rest b = refl
+no_flag_fills (right_left t v u w) rest b = refl
+
+matching_no_flag : (k : TokenKind) → is_matching_word k ≡ true → is_flag k ≡ false
+matching_no_flag kind.Bool h = cc
+matching_no_flag k h = refl
+
+no_flag_matching : (m : Matching) (f : Fills) (rest : List Symbol) → IsMatching m → begins rest ≡ true → skip_flag (kinds (yield_matching m ++ (yield_fills f ++ rest))) ≡ kinds (yield_matching m ++ (yield_fills f ++ rest))
+no_flag_matching no_matching f rest h b = no_flag_fills f rest b
+no_flag_matching (matching w t ls g) f rest h b = if_false _ _ _ (matching_no_flag w h.0)
+
+flag_skipped : (flag : Option Text) (m : Matching) (f : Fills) (rest : List Symbol) → IsMatching m → begins rest ≡ true → skip_flag (kinds (yield_flag flag ++ (yield_matching m ++ (yield_fills f ++ rest)))) ≡ kinds (yield_matching m ++ (yield_fills f ++ rest))
+flag_skipped None m f rest h b = no_flag_matching m f rest h b
+flag_skipped (Some t) m f rest h b = refl
+
+modifier_parts : (flag : Option Text) (m : Matching) (f : Fills) (rest : List Symbol) → (yield_flag flag ++ (yield_matching m ++ yield_fills f)) ++ rest ≡ yield_flag flag ++ (yield_matching m ++ (yield_fills f ++ rest))
+modifier_parts flag m f rest = simp append_assoc
+
+pub operator_taken : (m : Modifier) (op : ℕ) (t : Text) (rest : List Symbol) → IsModifier m → begins rest ≡ true → HasNoParenWord rest → FitsMatching m.matching m.fills rest
+    → step.operator (kinds (word (kind.Operator op) t ∷ (yield_modifier m ++ rest))) ≡ (spans (piece part.Operator 1 (length (yield_modifier m) + length rest) ∷ matching_parts (length (yield_fills m.fills) + length rest) m.matching), kinds rest)
+operator_taken m op t rest h b p k =
+    let n = kinds_count (yield_modifier m) rest in
+    let own = span_is part.Operator (length (kinds (word (kind.Operator op) t ∷ (yield_modifier m ++ rest)))) (length (kinds (yield_modifier m ++ rest))) 1 (length (yield_modifier m) + length rest) (omega arith) (omega arith) in
+    first_is _ _ _ _ own (filled m rest h b p k)
+  where
+    filled : (m : Modifier) (rest : List Symbol) → IsModifier m → begins rest ≡ true → HasNoParenWord rest → FitsMatching m.matching m.fills rest
+        → (let r = step.matching (skip_flag (kinds (yield_modifier m ++ rest))) in let q : Taken = (r.0, skip_fill (skip_fill r.1)) in q) ≡ (spans (matching_parts (length (yield_fills m.fills) + length rest) m.matching), kinds rest)
+    filled m rest h b p k =
+        ap (λ ts. (let r = step.matching (skip_flag (kinds ts)) in let q : Taken = (r.0, skip_fill (skip_fill r.1)) in q)) (modifier_parts m.flag m.matching m.fills rest)
+        ∙ ap (λ ks. (let r = step.matching ks in let q : Taken = (r.0, skip_fill (skip_fill r.1)) in q)) (flag_skipped m.flag m.matching m.fills rest h.0 b)
+        ∙ ap (λ (r : Taken). (let q : Taken = (r.0, skip_fill (skip_fill r.1)) in q)) (matching_taken m.matching m.fills rest h.0 b p k)
+        ∙ ap (λ n. (let q : Taken = (spans (matching_parts n m.matching), skip_fill (skip_fill (kinds (yield_fills m.fills ++ rest)))) in q)) (length-append (yield_fills m.fills) rest)
+        ∙ ap (λ ks. (let q : Taken = (spans (matching_parts (length (yield_fills m.fills) + length rest) m.matching), ks) in q)) (fills_skipped m.fills rest b)
+
+-- ---- postfixes that leave no node
+
+value_signed : (s : Signed) (p : PartKind) (n : ℕ) (rest : List Symbol) → IsSigned s → step.shift_value p n (kinds (yield_signed s ++ rest)) ≡ step.shift_value p n (kinds rest)
+value_signed unsigned p n rest h = refl
+value_signed (signed op t) p n rest h = if_true _ _ _ h
+
+value_time : (t : Time) (p : PartKind) (n : ℕ) (rest : List Symbol) → step.shift_value p n (kinds (yield_time t ++ rest)) ≡ also (p, (n, length (kinds rest))) (step.shifts (kinds rest))
+value_time (seconds t) p n rest = refl
+value_time (duration t) p n rest = refl
+
+-- a postfix that is neither a range nor a subquery
+abbrev pub IsShift : Postfix → Type 0
+IsShift (range t) = ⊥
+IsShift (subquery t s) = ⊥
+IsShift p = Unit {0}
+
+-- its tokens, as a part
+spelled_taken : (p : Postfix) (rest : List Symbol) → IsPostfix p → IsShift p
+    → step.shifts (kinds (yield_postfix p ++ rest)) ≡ also (postfix_kind p, (length (kinds (yield_postfix p ++ rest)), length (kinds rest))) (step.shifts (kinds rest))
+spelled_taken (range t) rest h k = absurd k
+spelled_taken (subquery t s) rest h k = absurd k
+spelled_taken (at_number s t) rest h k =
+    let n = length (kinds (yield_postfix (at_number s t) ++ rest)) in
+    ap (λ ts. step.shift_value part.At n (kinds ts)) (append_assoc (yield_signed s) (word kind.Number t ∷ []) rest) ∙ value_signed s part.At n (word kind.Number t ∷ rest) h
+spelled_taken (at_bound kind.Start t) rest h k = refl
+spelled_taken (at_bound kind.End t) rest h k = refl
+spelled_taken (at_bound w t) rest h k = cc
+spelled_taken (offset t s u) rest h k =
+    let n = length (kinds (yield_postfix (offset t s u) ++ rest)) in
+    ap (λ ts. step.shift_value part.Offset n (kinds ts)) (append_assoc (yield_signed s) (yield_time u) rest) ∙ value_signed s part.Offset n (yield_time u ++ rest) h ∙ value_time u part.Offset n rest
+spelled_taken (mode kind.Smoothed t) rest h k = refl
+spelled_taken (mode kind.Anchored t) rest h k = refl
+spelled_taken (mode w t) rest h k = cc
+
+pub postfix_is : (p : Postfix) (rest : List Symbol) → (let s : PartSpan = (postfix_kind p, (length (kinds (yield_postfix p ++ rest)), length (kinds rest))) in s) ≡ span_of (piece (postfix_kind p) (length (yield_postfix p)) (length rest))
+postfix_is p rest = span_is (postfix_kind p) _ _ (length (yield_postfix p)) (length rest) (kinds_count (yield_postfix p) rest) (kinds_length rest)
+
+pub shift_taken : (p : Postfix) (rest : List Symbol) → IsPostfix p → IsShift p
+    → step.shifts (kinds (yield_postfix p ++ rest)) ≡ also (span_of (piece (postfix_kind p) (length (yield_postfix p)) (length rest))) (step.shifts (kinds rest))
+shift_taken p rest h k = spelled_taken p rest h k ∙ ap (λ x. also x (step.shifts (kinds rest))) (postfix_is p rest)

@@ -1,0 +1,133 @@
+-- Where the parts of nodes are in a text (docs/reference/walks.md, "Parts of nodes").
+use Rattle.std.specs.Prelude.{◌≡◌, ◌⊎◌, ℕ, ◌+◌, ◌<◌, ◌≤◌, if◌then◌else◌, List, [], ◌∷◌, ◌++◌, length, map}
+use Rattle.std.specs.List.{AllByRecursion}
+use Rattle.std.specs.Option.{option_map_or}
+use Rattle.promql_text.specs.Texts.{Text}
+use Rattle.promql_grammar.specs.Grammar as grammar
+use Rattle.promql_grammar.specs.Grammar.{Derivation, yield, yield_arguments}
+use Rattle.promql_grammar.specs.GrammarParts.{Names, last, last_comma, next, Labels, no_label, labels, Grouping, by, without, Clause, before, after, Group, listed, Matching, no_matching, matching, Items, last_item, last_item_comma, next_item, Braces, no_item, items, Postfix, range, subquery, at_number, at_bound, offset, mode, yield_names, yield_before, yield_after, yield_group, yield_fills, yield_modifier, yield_item, yield_items, yield_any_braces, yield_postfix}
+use Rattle.promql_ast.specs.Tree.{Tree}
+use Rattle.promql_syntax.specs.FaultTokens.{Subexpression}
+use Rattle.promql_syntax.specs.ParseAnswers.{Derives}
+use Rattle.promql_span.specs.TokenSpans.{span_over}
+use Rattle.promql_places.specs.NodePlaces.{BuildEach, has_node, nodes, tokens_at, tree_nodes}
+use Rattle.promql_places.specs.declared.parts.Part.{Part}
+use Rattle.promql_places.specs.declared.parts.PartKind.{PartKind}
+use Rattle.promql_places.specs.declared.parts.PartKind.TheVariants as kind
+
+-- a part: its kind, how many tokens it has, and how many come after it
+pub record PartTokens : Type 0 where
+  pub kind : PartKind
+  pub count : ℕ
+  pub after : ℕ
+
+abbrev pub piece : PartKind → ℕ → ℕ → PartTokens
+piece p n k = record { kind = p; count = n; after = k }
+
+-- ---- the parts of what k tokens come after
+
+-- labels in parentheses
+abbrev pub name_parts : PartKind → ℕ → Names → List PartTokens
+name_parts p k (last w text) = piece p 1 (1 + k) ∷ []
+name_parts p k (last_comma w text) = piece p 1 (2 + k) ∷ []
+name_parts p k (next w text names) = piece p 1 (1 + (length (yield_names names) + k)) ∷ name_parts p k names
+
+abbrev pub label_parts : PartKind → ℕ → Labels → List PartTokens
+label_parts p k no_label = []
+label_parts p k (labels names) = name_parts p k names
+
+-- the clause of an aggregation
+abbrev pub grouping_parts : ℕ → Grouping → List PartTokens
+grouping_parts k (by text ls) = label_parts kind.Label k ls
+grouping_parts k (without text ls) = label_parts kind.Label k ls
+
+abbrev pub before_parts : ℕ → Clause → List PartTokens
+before_parts k (before g) = grouping_parts k g
+before_parts k c = []
+
+abbrev pub after_parts : ℕ → Clause → List PartTokens
+after_parts k (after g) = grouping_parts k g
+after_parts k c = []
+
+-- the modifier of an operator
+abbrev pub group_parts : ℕ → Group → List PartTokens
+group_parts k (listed w text ls) = label_parts kind.GroupLabel k ls
+group_parts k g = []
+
+abbrev pub matching_parts : ℕ → Matching → List PartTokens
+matching_parts k no_matching = []
+matching_parts k (matching w text ls g) = label_parts kind.Label (length (yield_group g) + k) ls ++ group_parts k g
+
+-- matchers in braces
+abbrev pub item_parts : ℕ → Items → List PartTokens
+item_parts k (last_item i) = piece kind.Matcher (length (yield_item i)) (1 + k) ∷ []
+item_parts k (last_item_comma i) = piece kind.Matcher (length (yield_item i)) (2 + k) ∷ []
+item_parts k (next_item i s is) = piece kind.Matcher (length (yield_item i)) (1 + (length (yield_items is) + k)) ∷ item_parts k is
+
+abbrev pub matcher_parts : ℕ → Braces → List PartTokens
+matcher_parts k no_item = []
+matcher_parts k (items is) = item_parts k is
+
+abbrev pub postfix_kind : Postfix → PartKind
+postfix_kind (range t) = kind.Range
+postfix_kind (subquery t s) = kind.Range
+postfix_kind (at_number s text) = kind.At
+postfix_kind (at_bound w text) = kind.At
+postfix_kind (offset text s t) = kind.Offset
+postfix_kind (mode w text) = kind.Mode
+
+-- a selector is a part of its own before a range, and a node before that of a subquery
+abbrev pub base_parts : Postfix → PartTokens → List PartTokens → List PartTokens
+base_parts (range t) whole ps = ps ++ whole ∷ []
+base_parts (subquery t s) whole ps = []
+base_parts p whole ps = ps
+
+-- those of an expression, but of its nodes below, in the order in which they end
+abbrev pub parts : ℕ → Derivation → List PartTokens
+parts k (grammar.selector w text b) = piece kind.Name 1 (length (yield_any_braces b) + k) ∷ option_map_or (matcher_parts k) b []
+parts k (grammar.nameless b) = matcher_parts k b
+parts k (grammar.call w text ds) = piece kind.Name 1 (1 + (length (yield_arguments ds) + k)) ∷ []
+parts k (grammar.aggregate op text c ds) =
+    let inner = 1 + (length (yield_arguments ds) + (length (yield_after c) + k)) in
+    piece kind.Operator 1 (length (yield_before c) + inner) ∷ (before_parts inner c ++ after_parts k c)
+parts k (grammar.postfixed d p) =
+    let after = length (yield_postfix p) + k in
+    base_parts p (piece kind.Selector (length (yield d)) after) (parts after d) ++ piece (postfix_kind p) (length (yield_postfix p)) k ∷ []
+parts k (grammar.unary op text d) = if has_node op d then piece kind.Operator 1 (length (yield d) + k) ∷ [] else parts k d
+parts k (grammar.binary op text m l r) =
+    let after = length (yield r) + k in
+    piece kind.Operator 1 (length (yield_modifier m) + after) ∷ matching_parts (length (yield_fills m.fills) + after) m.matching
+parts k d = []
+
+-- ---- their places
+
+-- from the first of its tokens through the last
+abbrev pub part_at : Text → PartTokens → Part
+part_at s p = record { kind = p.kind; span = span_over s (tokens_at s p.count p.after) }
+
+abbrev pub parts_of : Text → Subexpression → List Part
+parts_of s sub = map (part_at s) (parts sub.after sub.derivation)
+
+-- the parts of the nodes of a text's tree: those of the expressions that build them
+pub record AreParts (s : Text) (t : Tree) (lists : List (List Part)) : Type 0 where
+  pub derivation : Derivation
+  pub derives : Derives s derivation
+  pub build : BuildEach (nodes 0 derivation) (tree_nodes t)
+  pub are : lists ≡ map (parts_of s) (nodes 0 derivation)
+
+-- ---- laws
+
+-- a part has tokens, which lie within these: k come after the last, and n are left at the first
+pub record LiesBetween (k n : ℕ) (p : PartTokens) : Type 0 where
+  pub some : 0 < p.count
+  pub ends : k ≤ p.after
+  pub begins : p.count + p.after ≤ n
+
+-- the second of two parts begins after the first, or has its tokens and ends after it or with it
+abbrev pub Follows : PartTokens → PartTokens → Type 0
+Follows p q = (q.count + q.after ≤ p.after) ⊎ ((q.after ≤ p.after) × (p.count + p.after ≤ q.count + q.after))
+
+-- and so of all, in their order
+abbrev pub AreOrdered : List PartTokens → Type 0
+AreOrdered [] = Unit {0}
+AreOrdered (p ∷ ps) = AllByRecursion (Follows p) ps × AreOrdered ps
