@@ -1,29 +1,40 @@
-//! `promql_batch MODE`: reads a PromQL query from each line of standard input and prints an answer for each.
+//! `promql_batch MODE`: reads a PromQL query from each line of a file or of standard input, and prints an answer for each.
 #![tactic(auto)]
 
-use promql_io::arguments::arguments;
+use promql_io::arguments::{arguments, take_file};
 use promql_io::ended::Ended;
+use promql_io::input::open_input;
 use promql_lines::batch_program::batch_program;
+use promql_run::output::exit_status;
 use promql_run::run::RunError;
 use std::io::{BufReader, BufWriter, Write};
 use std::process::ExitCode;
 
 /// Runs the program over buffers.
 fn run(rt: &HostRuntime) -> Result<u8, RunError> {
-    let args = arguments(rt).unwrap_or(Vec::new(rt.alloc()));
-    let Ok(reader) = BufReader::new(rt.alloc(), rt.stdin()) else {
+    let mut args = arguments(rt).unwrap_or(Vec::new(rt.alloc()));
+    let mut errors = Ended::new(rt.stderr());
+    let file = take_file(&mut args, 2);
+    let input = match open_input(rt, rt.stdin(), file, &mut errors) {
+        Ok(input) => input,
+        Err(status) => return Ok(status),
+    };
+    let Ok(buffer) = BufReader::new(rt.alloc(), input) else {
         return Err(RunError::Memory);
     };
-    let Ok(writer) = BufWriter::new(rt.alloc(), rt.stdout()) else {
+    let Ok(output) = BufWriter::new(rt.alloc(), rt.stdout()) else {
         return Err(RunError::Memory);
     };
-    Ok(batch_program(
+    let mut reader = Ended::new(buffer);
+    let mut writer = Ended::new(output);
+    let status = batch_program(
         rt.alloc(),
         args.as_slice(),
-        &mut Ended::new(reader),
-        &mut Ended::new(writer),
-        &mut Ended::new(rt.stderr()),
-    ))
+        &mut reader,
+        &mut writer,
+        &mut errors,
+    );
+    Ok(exit_status(status, &writer))
 }
 
 fn main(rt: HostRuntime) -> ExitCode {

@@ -1,4 +1,4 @@
-//! `promql_format`: reads a PromQL query from standard input, and writes it laid out for people, with its comments.
+//! `promql_format`: reads a PromQL query from a file or from standard input, and writes it laid out for people, with its comments.
 #![tactic(auto)]
 
 mod program;
@@ -6,18 +6,28 @@ mod query_layout;
 mod settings;
 
 use program::format_program;
-use promql_io::arguments::arguments;
+use promql_io::arguments::{arguments, take_file};
 use promql_io::ended::Ended;
+use promql_io::input::open_input;
+use promql_run::output::exit_status;
 use std::process::ExitCode;
 
 fn main(rt: HostRuntime) -> ExitCode {
-    let args = arguments(&rt).unwrap_or(Vec::new(rt.alloc()));
+    let mut args = arguments(&rt).unwrap_or(Vec::new(rt.alloc()));
+    let mut writer = Ended::new(rt.stdout());
+    let mut errors = Ended::new(rt.stderr());
+    let file = take_file(&mut args, 1);
+    let input = match open_input(&rt, rt.stdin(), file, &mut errors) {
+        Ok(input) => input,
+        Err(status) => return ExitCode::from(status),
+    };
+    let mut reader = Ended::new(input);
     let status = format_program(
         rt.alloc(),
         args.as_slice(),
-        &mut Ended::new(rt.stdin()),
-        &mut Ended::new(rt.stdout()),
-        &mut Ended::new(rt.stderr()),
+        &mut reader,
+        &mut writer,
+        &mut errors,
     );
-    ExitCode::from(status)
+    ExitCode::from(exit_status(status, &writer))
 }

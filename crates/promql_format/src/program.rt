@@ -1,6 +1,6 @@
 //! The program as a function of its arguments, its input and its two outputs: docs/reference/programs.md, "One query, formatted".
 
-ghost use Rattle.std.specs.Prelude.{map, string_bytes};
+ghost use Rattle.std.specs.Prelude.{◌≡◌, true, map, string_bytes};
 ghost use Rattle.promql_run.specs.Programs.{AnswersQuery, Obeys};
 ghost use Rattle.promql_format.specs.Layouts.{HasNoLayout, IsFormatAnswer, format_command, format_number};
 
@@ -15,28 +15,29 @@ use std::io::{Read, Write};
 
 /// The line that is printed for wrong arguments, and the first of the help.
 pub const FORMAT_USAGE: &str =
-    "usage: promql_format [--width N] [--indent N] [--keep-spelling] [--check] [--max-len N] [--max-patterns N]\n";
+    "usage: promql_format [FILE] [--width N] [--indent N] [--keep-spelling] [--check] [--max-len N] [--max-patterns N]\n";
 
 /// What `--version` prints.
 pub const FORMAT_VERSION: &str = "promql_format 0.5.0\n";
 
 /// What `--help` prints.
 pub const FORMAT_HELP: &str =
-    "usage: promql_format [--width N] [--indent N] [--keep-spelling] [--check] [--max-len N] [--max-patterns N]
-       promql_format --help | --version
+    "usage: promql_format [FILE] [--width N] [--indent N] [--keep-spelling] [--check] [--max-len N] [--max-patterns N]
+       promql_format -h | --help | --version
 
-Reads a PromQL query from standard input, and writes it to standard output, laid
-out in lines of at most --width characters (100) with indentations of --indent
-spaces (2). Comments stay. With --keep-spelling numbers, durations, strings,
-keywords and the order of what is written stay, too. With --check nothing is
-written, and the status says whether the query is formatted. A query of more than
---max-len bytes (32768), or with patterns that are together larger than
+Reads a PromQL query from FILE, or from standard input, and writes it to standard
+output, laid out in lines of at most --width characters (100) with indentations of
+--indent spaces (2). Comments stay. With --keep-spelling numbers, durations,
+strings, keywords and the order of what is written stay, too. With --check nothing
+is written, and the status says whether the query is formatted. A query of more
+than --max-len bytes (32768), or with patterns that are together larger than
 --max-patterns (16000), is rejected before it is parsed.
 
 Status: 0 the query was written, or is formatted, 4 the query is rejected, 12 the
 query that was made does not read back, 14 the query is too long or its patterns
 are too large, 19 the query is not formatted, 1 out of memory, 2 a read failed,
-3 the input is not UTF-8, 5 a write failed, 64 wrong arguments.
+3 the input is not UTF-8, 5 a write failed, 64 wrong arguments, 141 nobody reads
+what is written.
 ";
 
 /// Writes the layout of the input's query, or compares the two, and returns the status.
@@ -47,9 +48,10 @@ fn write_layout<R: Read, W: Write, E: Write>(
     writer: &mut Ended<W>,
     errors: &mut Ended<E>,
 ) -> u8
-    ensures { AnswersQuery R.remaining W.contents (IsFormatAnswer settings.now) format_number
+    ensures answers { AnswersQuery R.remaining W.contents (IsFormatAnswer settings.now) format_number
         (λ e query. HasNoLayout settings.now query e)
         reader.old reader.new writer.old writer.new errors.old errors.new result }
+    ensures closed { result ≡ 5 → writer.new.closed ≡ true → errors.new ≡ errors.old }
 {
     let query = match read_text(alloc, reader) {
         Ok(query) => query,
@@ -78,11 +80,13 @@ pub fn format_program<R: Read, W: Write, E: Write>(
     writer: &mut Ended<W>,
     errors: &mut Ended<E>,
 ) -> u8
-    ensures { Obeys W.contents E.contents FORMAT_USAGE.now
+    ensures obeys { Obeys W.contents E.contents FORMAT_USAGE.now
         (λ s. AnswersQuery R.remaining W.contents (IsFormatAnswer s) format_number (λ e query. HasNoLayout s query e)
         reader.old reader.new writer.old writer.new errors.old errors.new result)
         reader.old reader.new writer.old writer.new errors.old errors.new result
         (format_command (map string_bytes args.now)) }
+    // Where nobody reads what is written, nothing is said.
+    ensures closed { result ≡ 5 → writer.new.closed ≡ true → errors.new ≡ errors.old }
 {
     if let Some(text) = asked_text(args, FORMAT_HELP, FORMAT_VERSION) {
         return show_text(writer, text);

@@ -103,6 +103,16 @@ line_more settings left left_now left_after held held_now held_after line all_ok
       ok = ok_with so_far.answers answer all_ok so_far.ok;
     }
 
+-- what was written stays where it is flushed
+pub answered_kept : (settings : Settings) (line : Text) (held held_mid held_after : Option (List ℕ)) (is_ok : Bool) → IsAnswered settings line held held_mid is_ok → Keeps held_mid held_after → IsAnswered settings line held held_after is_ok
+answered_kept settings line held held_mid held_after is_ok (answer, is, appends) same = (answer, is, appends_keeps held held_mid held_after (answer ++ 10 ∷ []) appends same)
+
+-- the whole answer is a beginning of it
+pub answered_partly : (settings : Settings) (line : Text) (held held_mid held_after : Option (List ℕ)) (is_ok : Bool) → IsAnswered settings line held held_mid is_ok → Keeps held_mid held_after → IsPartlyAnswered settings line held held_after
+answered_partly settings line held held_mid held_after is_ok (answer, is, appends) same =
+    let text = answer ++ 10 ∷ [] in
+    (answer, is_ok, is, record { front = text; rest = []; whole = append-nil text; appends = appends_keeps held held_mid held_after text appends same })
+
 -- ---- how a batch ends
 
 all_read : (left left_now : Option (List ℕ)) (front back : Text) → Consumes left left_now front → IsAll left_now back → IsAll left (front ++ back)

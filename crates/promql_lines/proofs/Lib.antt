@@ -1,8 +1,11 @@
+pub mod AnswerIds
 pub mod Batches
 pub mod EnforcedTrees
 pub mod JsonTexts
 pub mod LineAnswers
 pub mod LinesRead
 pub mod MemoryAnswer
+mod Renamings
+pub mod RequestIds
 pub mod RequestMembers
 pub mod TreeMeans

@@ -1,5 +1,5 @@
 -- The answer to a line.
-use Rattle.std.proofs.Common.{◌≡◌, ◌∙◌, List, [], ◌∷◌, map, String, ap, refl, string_bytes, sym}
+use Rattle.std.proofs.Common.{◌≡◌, ◌∙◌, ℕ, List, [], ◌∷◌, map, String, ap, refl, string_bytes, sym}
 use Rattle.std.proofs.lemmas.Bool.{or_from}
 use Rattle.std.proofs.lemmas.Result.{IfOk-weaker}
 use Rattle.std.specs.Prelude.{false, IfErr, IfOk, Option, Some, None, option_and_then, option_map, Result, Ok, Err}
@@ -15,12 +15,13 @@ use Rattle.promql_report.specs.Rejecting.{IsRead}
 use Rattle.promql_span.specs.declared.limits.Limits.{Limits}
 use Rattle.promql_lines.specs.declared.settings.Settings.{Settings}
 use Rattle.promql_run.specs.declared.run.RunError.TheVariants.{Memory, Read, NotUtf8, Parse, Write, Json}
-use Rattle.promql_lines.specs.Batch.{FailsOnQuery, FailsWith, IsQueryAnswer, line_error_object, with_expectation}
+use Rattle.promql_lines.specs.Batch.{FailsOnQuery, FailsWith, IsQueryAnswer, line_error_object, rejection_object, with_expectation}
 use Rattle.promql_lines.specs.BatchSteps.{IsEnforceFaultOf, IsOkLine}
 use Rattle.promql_lines.specs.Requests.{format_in, format_with, matcher_in, query_in, requested}
 use Rattle.promql_lines.specs.declared.line.LineError.{LineError}
 use Rattle.promql_lines.specs.declared.rejected_query.Expectation.{Expectation}
-use Rattle.promql_lines.specs.declared.line.LineError.TheVariants.{Run, Rejected, NotARequest, Matcher, Info, LargeMatcher, LongOutput}
+use Rattle.promql_lines.specs.declared.rejected_query.RejectedQuery.{RejectedQuery}
+use Rattle.promql_lines.specs.declared.line.LineError.TheVariants.{Run, Rejected, NotARequest, UnknownMember, Matcher, Info, LargeMatcher, LongOutput}
 use Rattle.promql_run.specs.declared.format.Format.{Format}
 use Rattle.promql_run.specs.declared.format.Format.TheVariants as formats
 
@@ -60,10 +61,14 @@ expectation_is_finite : (o : Option Expectation) (ms : Members) → members_have
 expectation_is_finite None ms finite = finite
 expectation_is_finite (Some e) ms finite = or_from _ _ (texts_are_finite (map (λ name. name.now) e.expected.items)) finite
 
+pub rejection_is_finite : (built : Data) (r : RejectedQuery) (code : ℕ) (message : Text) → built ≡ rejection_object code message r → has_float built ≡ false
+rejection_is_finite built r code message is = ap has_float is ∙ expectation_is_finite r.expectation _ refl
+
 pub error_is_finite : (built : Data) (fault : LineError) (message : Text) → built ≡ line_error_object fault message → has_float built ≡ false
 error_is_finite built (Run e) message is = ap has_float is
-error_is_finite built (Rejected r) message is = ap has_float is ∙ expectation_is_finite r.expectation _ refl
+error_is_finite built (Rejected r) message is = rejection_is_finite built r _ message is
 error_is_finite built NotARequest message is = ap has_float is
+error_is_finite built (UnknownMember name) message is = ap has_float is
 error_is_finite built (Matcher e) message is = ap has_float is
 error_is_finite built Info message is = ap has_float is
 error_is_finite built (LargeMatcher fault) message is = ap has_float is
@@ -86,6 +91,7 @@ fails_of_matcher limits (Run Json) query matcher format t parsed fault = absurd 
 fails_of_matcher limits (LongOutput f) query matcher format t parsed fault = absurd fault
 fails_of_matcher limits (Rejected r) query matcher format t parsed fault = absurd fault
 fails_of_matcher limits NotARequest query matcher format t parsed fault = absurd fault
+fails_of_matcher limits (UnknownMember name) query matcher format t parsed fault = absurd fault
 
 -- an error of the query is one of the line that asks for it
 fails_in_vain : (settings : Settings) (line query : Text) (matcher : Option Text) (format : Format) (e : LineError) → IsUtf8 line → requested settings.format line ≡ Some (query, matcher, format) → FailsOnQuery settings.limits e query matcher format → FailsWith settings line e
@@ -101,6 +107,7 @@ fails_in_vain settings line query matcher format (Run NotUtf8) utf8 asks fails =
 fails_in_vain settings line query matcher format (Run (Parse e)) utf8 asks fails = absurd fails
 fails_in_vain settings line query matcher format (Run Write) utf8 asks fails = absurd fails
 fails_in_vain settings line query matcher format NotARequest utf8 asks fails = absurd fails
+fails_in_vain settings line query matcher format (UnknownMember name) utf8 asks fails = absurd fails
 
 pub failing_in_vain : {T : Type 0} (r : Result T LineError) (settings : Settings) (line query : Text) (matcher : Option Text) (format : Format) → IsUtf8 line → requested settings.format line ≡ Some (query, matcher, format) → IfErr r (λ e. FailsOnQuery settings.limits e query matcher format) → IfErr r (FailsWith settings line)
 failing_in_vain (Ok value) settings line query matcher format utf8 asks fails = tt

@@ -1,13 +1,11 @@
 -- The answer to a line for which an allocation failed.
-use Rattle.std.proofs.Common.{◌≡◌, codes, false, refl}
+use Rattle.std.proofs.Common.{◌≡◌, codes, false, inr, refl}
 use Rattle.std.specs.Fmt.{digits}
 use Rattle.serde_json.proofs.OnLiterals.{serde_json_on_literals}
 use Rattle.serde_json.specs.Written.{compact_text}
 use Rattle.promql_text.specs.Texts.{Text}
 use Rattle.promql_lines.specs.declared.settings.Settings.{Settings}
-use Rattle.promql_run.specs.declared.run.RunError.TheVariants.{Memory}
 use Rattle.promql_lines.specs.Batch.{IsLineAnswer, error_object}
-use Rattle.promql_lines.specs.declared.line.LineError.TheVariants.{Run}
 
 abbrev pub memory_answer : Text
 memory_answer = codes "{\"code\":1,\"error\":\"out of memory\"}"
@@ -17,4 +15,4 @@ unfolding digits serde_json_on_literals
 memory_text = refl
 
 pub memory_is_answered : (settings : Settings) (line : Text) → IsLineAnswer settings line memory_answer false
-memory_is_answered settings line = (Run Memory, tt, (codes "out of memory", memory_text))
+memory_is_answered settings line = inr (refl, (codes "out of memory", memory_text))

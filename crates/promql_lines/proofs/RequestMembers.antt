@@ -1,16 +1,33 @@
 -- The members of a request.
-use Rattle.std.proofs.Common.{◌≡◌, List, [], ◌∷◌, String, ap, refl, rules, string_bytes}
-use Rattle.std.specs.List.{list_all}
-use Rattle.std.specs.Prelude.{◌&&◌, map}
-use Rattle.std.specs.declared.alloc.Global.{Global}
+use Rattle.std.proofs.Common.{◌≡◌, List, [], ◌∷◌, cond, false, true, Some, None, map, Global, String, string_bytes, ap, refl, rules, sym, ◌∙◌}
+use Rattle.std.specs.Prelude.{Option, is_some, not, option_map}
 use Rattle.std.specs.BTreeMap.{BTreeMap}
 use Rattle.serde_json.specs.View.{members_view, view}
 use Rattle.serde_json.specs.declared.value.Value.{Value, Object, the_lemmas}
-use Rattle.promql_lines.specs.Requests.{are_known, is_member_name, may_ask}
+use Rattle.promql_text.specs.Texts.{Text}
+use Rattle.promql_lines.specs.Requests.{is_member_name, may_ask, member_names, unknown_in, unknown_name}
 
-pub known_keys : (ms : List (String Global × Value)) → list_all (λ key. is_member_name (string_bytes key)) (map (λ m. m.0) ms) ≡ are_known (members_view ms)
-known_keys [] = refl
-known_keys (m ∷ ms) = ap (λ b. is_member_name (string_bytes m.0) && b) (known_keys ms)
+abbrev names : List (String Global) → List Text
+names = map string_bytes
 
-pub object_asks : (v : Value) (members : BTreeMap (String Global) Value) → v ≡ Object members → may_ask (view v) ≡ are_known (members_view members.entries)
+pub known_first : (left rest : List (String Global)) (key : String Global) → left ≡ key ∷ rest → is_member_name (string_bytes key) ≡ true → unknown_name (names rest) ≡ unknown_name (names left)
+known_first left rest key is known =
+    sym (ap (λ keys. unknown_name (names keys)) is ∙ ap (λ b. cond b (unknown_name (names rest)) (Some (string_bytes key))) known)
+
+pub unknown_first : (left rest : List (String Global)) (key : String Global) → left ≡ key ∷ rest → is_member_name (string_bytes key) ≡ false → Some (string_bytes key) ≡ unknown_name (names left)
+unknown_first left rest key is unknown =
+    sym (ap (λ keys. unknown_name (names keys)) is ∙ ap (λ b. cond b (unknown_name (names rest)) (Some (string_bytes key))) unknown)
+
+pub names_of : (ms : List (String Global × Value)) → names (map (λ m. m.0) ms) ≡ member_names (members_view ms)
+names_of [] = refl
+names_of (m ∷ ms) = ap (λ keys. string_bytes m.0 ∷ keys) (names_of ms)
+
+pub object_asks : (v : Value) (members : BTreeMap (String Global) Value) → v ≡ Object members → may_ask (view v) ≡ not (is_some (unknown_name (member_names (members_view members.entries))))
 object_asks v members is = search (rules, the_lemmas)
+
+pub object_has : (v : Value) (members : BTreeMap (String Global) Value) → v ≡ Object members → unknown_in (view v) ≡ unknown_name (member_names (members_view members.entries))
+object_has v members is = search (rules, the_lemmas)
+
+pub some_of_map : {A B : Type 0} (f : A → B) (o : Option A) → is_some o ≡ is_some (option_map f o)
+some_of_map f None = refl
+some_of_map f (Some x) = refl

@@ -5,6 +5,9 @@ use Rattle.std.specs.Str.{IsUtf8}
 use Rattle.std.specs.Io.{StopsAt}
 use Rattle.std.specs.Io.KnownBytes.{Appends, Consumes}
 use Rattle.serde_json.specs.Data.{Data, Members, string, number, unsigned, object, no_members, member}
+use Rattle.json.specs.Lex.{tokens}
+use Rattle.json.specs.Print.{print}
+use Rattle.serde_json.specs.Read.{read}
 use Rattle.serde_json.specs.Written.{compact_text}
 use Rattle.promql_text.specs.Texts.{Text}
 use Rattle.promql_ast.specs.Tree.{Tree}
@@ -20,13 +23,14 @@ use Rattle.promql_run.specs.Running.{error_number, format_text}
 use Rattle.promql_lines.specs.EnforcedLines.{FailsToEnforce, IsEnforcedWithin}
 use Rattle.promql_lines.specs.declared.enforced_line.EnforcedLineError.TheVariants as enforced
 use Rattle.promql_lines.specs.declared.line.LineError.{LineError}
-use Rattle.promql_lines.specs.declared.line.LineError.TheVariants.{Run, Rejected, NotARequest, Matcher, Info, LargeMatcher, LongOutput}
+use Rattle.promql_lines.specs.declared.line.LineError.TheVariants.{Run, Rejected, NotARequest, UnknownMember, Matcher, Info, LargeMatcher, LongOutput}
 use Rattle.promql_run.specs.declared.format.Format.{Format}
 use Rattle.promql_run.specs.declared.format.Format.TheVariants.{Json}
 use Rattle.promql_lines.specs.declared.rejected_query.Expectation.{Expectation}
 use Rattle.promql_lines.specs.declared.rejected_query.RejectedQuery.{RejectedQuery}
 use Rattle.promql_lines.specs.declared.settings.Settings.{Settings}
-use Rattle.promql_lines.specs.Requests.{requested}
+use Rattle.promql_lines.specs.Requests.{id_in, requested, unknown_member}
+use Rattle.promql_lines.specs.Telling.{IsToldWith}
 
 -- ---- one line
 
@@ -58,7 +62,7 @@ IsQueryAnswer limits answer query matcher format =
 -- when a query has this error; one of the matcher is that of a query which is enforced alone
 abbrev pub FailsOnQuery : Limits → LineError → Text → Option Text → Format → Type 0
 FailsOnQuery limits (Run error.Memory) query matcher format = Unit {0}
-FailsOnQuery limits (Rejected r) query matcher format = IsRejection limits query r.rejection
+FailsOnQuery limits (Rejected r) query matcher format = IsRejection limits query r.rejection × IsToldWith query r
 FailsOnQuery limits (Run error.Json) query matcher format = HasQueryText limits query matcher format (Err NumberTooWide)
 FailsOnQuery limits (LongOutput fault) query matcher format =
     (output : Text) × HasQueryText limits query matcher format (Ok output) × IsLongOutput output limits fault
@@ -71,6 +75,7 @@ abbrev pub line_error_number : LineError → ℕ
 line_error_number (Run e) = error_number e
 line_error_number (Rejected r) = reason_number r.rejection.reason
 line_error_number NotARequest = 7
+line_error_number (UnknownMember name) = 7
 line_error_number (Matcher e) = 11
 line_error_number Info = 13
 line_error_number (LargeMatcher fault) = 16
@@ -78,7 +83,8 @@ line_error_number (LongOutput fault) = 18
 
 -- "Errors": when a line has this error
 abbrev pub FailsWith : Settings → Text → LineError → Type 0
-FailsWith settings line NotARequest = IsUtf8 line × (requested settings.format line ≡ None)
+FailsWith settings line NotARequest = IsUtf8 line × (requested settings.format line ≡ None) × (unknown_member line ≡ None)
+FailsWith settings line (UnknownMember name) = IsUtf8 line × (unknown_member line ≡ Some (string_bytes name))
 FailsWith settings line (Run error.NotUtf8) = ¬ IsUtf8 line
 FailsWith settings line (Run error.Memory) = Unit {0}
 FailsWith settings line e = Asks (FailsOnQuery settings.limits e) settings line
@@ -114,10 +120,32 @@ line_error_object e message = error_object (line_error_number e) message
 abbrev pub IsErrorText : LineError → Text → Type 0
 IsErrorText fault printed = (message : Text) × (printed ≡ compact_text (line_error_object fault message))
 
--- the line is answered with this text, and whether that is an `ok`
+-- an answer to the line, without an id, and whether it is an `ok`
+abbrev pub IsPlainAnswer : Settings → Text → Text → Bool → Type 0
+IsPlainAnswer settings line answer true = Asks (IsQueryAnswer settings.limits answer) settings line
+IsPlainAnswer settings line answer false = (e : LineError) × FailsWith settings line e × IsErrorText e answer
+
+-- the text is the value as JSON, without a space
+abbrev pub IsJsonOf : Data → Text → Type 0
+IsJsonOf d text = (read text ≡ Some d) × (text ≡ print (tokens text))
+
+-- an object with an id before its other members
+abbrev pub id_before : Text → Text → Text
+id_before id members = codes "{\"id\":" ++ (id ++ (codes "," ++ members))
+
+abbrev pub HasId : Option Data → Text → Text → Type 0
+HasId None members printed = printed ≡ codes "{" ++ members
+HasId (Some d) members printed = (id : Text) × IsJsonOf d id × (printed ≡ id_before id members)
+
+-- a line that is no text has no id
+abbrev pub IsIdOf : Text → Option Data → Type 0
+IsIdOf line id = (IsUtf8 line × (id ≡ id_in line)) ⊎ ((¬ IsUtf8 line) × (id ≡ None))
+
+-- "Answers": the line is answered with this text, which has its id, and whether that is an `ok`; out of memory the id may be missing
 abbrev pub IsLineAnswer : Settings → Text → Text → Bool → Type 0
-IsLineAnswer settings line printed true = Asks (IsQueryAnswer settings.limits printed) settings line
-IsLineAnswer settings line printed false = (e : LineError) × FailsWith settings line e × IsErrorText e printed
+IsLineAnswer settings line printed is_ok =
+    ((members : Text) × IsPlainAnswer settings line (codes "{" ++ members) is_ok × ((id : Option Data) × IsIdOf line id × HasId id members printed))
+    ⊎ ((is_ok ≡ false) × IsErrorText (Run error.Memory) printed)
 
 -- ---- all lines
 

@@ -10,7 +10,7 @@ use Rattle.promql_run.specs.declared.run.RunError.{RunError}
 use Rattle.promql_run.specs.declared.run.RunError.TheVariants as error
 use Rattle.promql_span.specs.QueryLimits.{IsLongOutput}
 use Rattle.promql_span.specs.declared.limits.Limits.{Limits}
-use Rattle.promql_lines.specs.Batch.{IsLineAnswer}
+use Rattle.promql_lines.specs.Batch.{IsLineAnswer, IsPlainAnswer}
 use Rattle.promql_lines.specs.EnforcedLines.{FailsToShow}
 use Rattle.promql_lines.specs.declared.batch.LineEnd.{LineEnd}
 use Rattle.promql_lines.specs.declared.batch.LineEnd.TheVariants.{Feed, Input}
@@ -51,9 +51,9 @@ IsPartlyAnswered settings line held held_after =
     (answer : Text) × (is_ok : Bool) × IsLineAnswer settings line answer is_ok
     × AppendsBeginning held held_after (answer ++ 10 ∷ [])
 
--- the line is answered with this text, which is an `ok`
+-- the line is answered with this text, which is an `ok`, without an id
 abbrev pub IsOkLine : Settings → Text → Text → Type 0
-IsOkLine settings line printed = IsLineAnswer settings line printed true
+IsOkLine settings line printed = IsPlainAnswer settings line printed true
 
 -- why there is no answer with an output
 abbrev pub IsOutputFault : Limits → Text → LineError → Type 0

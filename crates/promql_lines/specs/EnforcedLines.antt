@@ -1,20 +1,19 @@
 -- The line of a query with a matcher in its selectors (docs/guide/rewriting.md, "Enforcing"; docs/reference/programs.md, "One query,
 -- enforced").
-use Rattle.std.specs.Prelude.{◌≡◌, ◌≢◌, ℕ, ◌++◌, List, ◌∷◌, Option, None, Err, codes, option_map}
+use Rattle.std.specs.Prelude.{◌≡◌, ℕ, ◌++◌, if◌then◌else◌, List, ◌∷◌, Option, None, codes, option_map}
+use Rattle.promql_io.specs.Arguments.{is_option}
 use Rattle.promql_text.specs.Texts.{Text}
 use Rattle.promql_ast.specs.Text.{text as line_text}
 use Rattle.promql_ast.specs.Tree.{Tree}
-use Rattle.promql_syntax.specs.ParseAnswers.{IsAnswerTo, plain_error_of}
-use Rattle.promql_syntax.specs.declared.parser.ParseError.TheVariants as parse
-use Rattle.promql_rewrite.specs.Faithful.{IsLineOf, MeansOther}
+use Rattle.promql_rewrite.specs.Faithful.{IsLineOf}
 use Rattle.promql_rewrite.specs.MatcherTexts.{IsEnforcedBy, IsMatcherFault, MeetsBareInfo, selector_around}
-use Rattle.promql_rewrite.specs.declared.faithful.NotFaithful.TheVariants as faithful
 use Rattle.promql_run.specs.Programs.{Command}
 use Rattle.promql_report.specs.LimitOptions.{command, default_limits, limits_with}
 use Rattle.promql_report.specs.Rejecting.{IsRead, IsRejection, reason_number}
-use Rattle.promql_span.specs.QueryLimits.{IsLimitFault, IsWithin}
-use Rattle.promql_span.specs.declared.limits.LimitFault.{LimitFault}
-use Rattle.promql_span.specs.declared.limits.LimitFault.TheVariants as limit
+use Rattle.promql_span.specs.QueryLimits.{IsWithin}
+use Rattle.promql_lines.specs.LinesWithin.{HasNoLine, IsOver}
+use Rattle.promql_lines.specs.declared.line_within.LineFault.{LineFault}
+use Rattle.promql_lines.specs.declared.line_within.LineFault.TheVariants as line
 use Rattle.promql_lines.specs.declared.enforce_program.TheConstants.{ENFORCE_HELP, ENFORCE_VERSION}
 use Rattle.promql_span.specs.declared.limits.Limits.{Limits}
 use Rattle.promql_lines.specs.declared.enforced_line.EnforcedLineError.{EnforcedLineError}
@@ -28,10 +27,6 @@ enforce_number (error.Unfaithful e) = 12
 enforce_number error.Info = 13
 enforce_number large = 16
 
--- the text is not within the limits, and this is why
-abbrev pub IsOver : Limits → Text → LimitFault → Type 0
-IsOver limits s fault = IsLimitFault s limits fault × (fault ≢ limit.Memory)
-
 -- the text that the matcher is read in is within the limits, and the second tree is the first with the matcher in every selector
 abbrev pub IsEnforcedWithin : Limits → Text → Tree → Tree → Type 0
 IsEnforcedWithin limits matcher t u = IsWithin (selector_around matcher) limits × IsEnforcedBy matcher t u
@@ -40,13 +35,9 @@ IsEnforcedWithin limits matcher t u = IsWithin (selector_around matcher) limits 
 abbrev pub ShowsEnforced : Limits → Tree → Text → Text → Type 0
 ShowsEnforced limits t matcher line = (u : Tree) × IsEnforcedWithin limits matcher t u × IsWithin line limits × IsLineOf u line
 
--- the line of the tree is not within the limits; or it is, and is rejected, or means another tree
-abbrev pub HasNoLine : Limits → Tree → EnforcedLineError → Type 0
-HasNoLine limits u (error.LargeLine fault) = IsOver limits (line_text u) fault
-HasNoLine limits u (error.Unfaithful (faithful.Rejected e)) =
-    IsWithin (line_text u) limits × IsAnswerTo (line_text u) (Err (plain_error_of e)) × (e ≢ parse.Memory)
-HasNoLine limits u (error.Unfaithful faithful.OtherTree) = IsWithin (line_text u) limits × MeansOther (line_text u) u
-HasNoLine limits u _ = ⊥
+-- the tree with the matcher in every selector has no line, and this is why
+abbrev pub HasNoEnforcedLine : Limits → Tree → Text → LineFault → Type 0
+HasNoEnforcedLine limits t matcher fault = (u : Tree) × IsEnforcedWithin limits matcher t u × HasNoLine limits u fault
 
 -- why there is no such line: of the matcher, or else of the tree with it in every selector
 abbrev pub FailsToShow : Limits → Tree → Text → EnforcedLineError → Type 0
@@ -54,7 +45,9 @@ FailsToShow limits t matcher error.Memory = Unit {0}
 FailsToShow limits t matcher (error.LargeMatcher fault) = IsOver limits (selector_around matcher) fault
 FailsToShow limits t matcher (error.Matcher e) = IsWithin (selector_around matcher) limits × IsMatcherFault matcher e
 FailsToShow limits t matcher error.Info = IsWithin (selector_around matcher) limits × MeetsBareInfo matcher t
-FailsToShow limits t matcher e = (u : Tree) × IsEnforcedWithin limits matcher t u × HasNoLine limits u e
+FailsToShow limits t matcher (error.LargeLine fault) = HasNoEnforcedLine limits t matcher (line.Large fault)
+FailsToShow limits t matcher (error.Unfaithful e) = HasNoEnforcedLine limits t matcher (line.Unfaithful e)
+FailsToShow limits t matcher (error.Rejected r) = ⊥
 
 -- the query has a tree, and this is its line with the matcher in every selector
 pub record IsEnforcedLine (limits : Limits) (query matcher line : Text) : Type 0 where
@@ -70,9 +63,9 @@ FailsToEnforce limits query matcher e = (t : Tree) × IsRead limits query t × F
 
 -- ---- the program
 
--- a matcher and options
+-- a matcher, which looks like no option, and options
 abbrev pub enforce_with : List Text → Option (Text × Limits)
-enforce_with (own ∷ word ∷ words) = option_map (λ limits. (word, limits)) (limits_with default_limits words)
+enforce_with (own ∷ word ∷ words) = if is_option word then None else option_map (λ limits. (word, limits)) (limits_with default_limits words)
 enforce_with args = None
 
 abbrev pub enforce_command : List Text → Option (Command (Text × Limits))

@@ -2,7 +2,9 @@ pub mod Batch
 pub mod BatchArguments
 pub mod BatchSteps
 pub mod EnforcedLines
-pub mod EnforcedSteps
+pub mod LinesWithin
+pub mod RenamedLines
 pub mod Requests
 pub mod TreeTexts
 pub mod TreeTextSteps
+pub mod Telling

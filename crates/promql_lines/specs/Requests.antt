@@ -1,5 +1,5 @@
 -- What a line of a batch asks for (docs/reference/programs.md, "Requests").
-use Rattle.std.specs.Prelude.{ℕ, ◌-◌, ◌^◌, Bool, true, false, Option, Some, None, ◌||◌, ◌&&◌, if◌then◌else◌, option_and_then, option_map, is_some, bytes_eq, codes, nat_le}
+use Rattle.std.specs.Prelude.{ℕ, ◌-◌, ◌^◌, Bool, true, false, not, List, [], ◌∷◌, Option, Some, None, ◌||◌, ◌&&◌, if◌then◌else◌, option_and_then, option_map, is_some, bytes_eq, codes, nat_le}
 use Rattle.std.specs.Option.{option_map_or}
 use Rattle.serde_json.specs.Data.{Data, string, object, Members, no_members, member}
 use Rattle.serde_json.specs.Read.{read}
@@ -12,17 +12,25 @@ use Rattle.promql_run.specs.Running.{format_named}
 abbrev pub is_member_name : Text → Bool
 is_member_name key =
     bytes_eq key (codes "query") || bytes_eq key (codes "mode") || bytes_eq key (codes "level") || bytes_eq key (codes "width")
-    || bytes_eq key (codes "enforce")
+    || bytes_eq key (codes "enforce") || bytes_eq key (codes "id")
 
--- no member has another name
-abbrev pub are_known : Members → Bool
-are_known no_members = true
-are_known (member key d ms) = is_member_name key && are_known ms
+abbrev pub member_names : Members → List Text
+member_names no_members = []
+member_names (member key d ms) = key ∷ member_names ms
+
+-- the first that no request has
+abbrev pub unknown_name : List Text → Option Text
+unknown_name [] = None
+unknown_name (key ∷ keys) = if is_member_name key then unknown_name keys else Some key
+
+abbrev pub unknown_in : Data → Option Text
+unknown_in (object ms) = unknown_name (member_names ms)
+unknown_in _ = None
 
 -- a string, or an object without other members
 abbrev pub may_ask : Data → Bool
 may_ask (string query) = true
-may_ask (object ms) = are_known ms
+may_ask (object ms) = not (is_some (unknown_name (member_names ms)))
 may_ask _ = false
 
 -- the query
@@ -66,3 +74,11 @@ format_in asked d =
 abbrev pub requested : Format → Text → Option (Text × Option Text × Format)
 requested asked line =
     option_and_then (λ d. option_and_then (λ query. option_map (λ format. (query, matcher_in d, format)) (format_in asked d)) (query_in d)) (read line)
+
+-- the first member of a line that no request has, if there is one
+abbrev pub unknown_member : Text → Option Text
+unknown_member line = option_and_then unknown_in (read line)
+
+-- the id of a line, which its answer has, too
+abbrev pub id_in : Text → Option Data
+id_in line = option_and_then (get (codes "id")) (read line)

@@ -4,12 +4,13 @@ use Rattle.promql_text.specs.Texts.{Text}
 use Rattle.promql_ast.specs.Tree.{Tree}
 use Rattle.promql_json.specs.Json.{json}
 use Rattle.promql_json.specs.declared.from_error.FromJsonError.TheVariants as from
+use Rattle.promql_lines.specs.TreeTexts.{HasNoTree}
 use Rattle.promql_lines.specs.declared.tree_text.TreeTextError.{TreeTextError}
 use Rattle.promql_lines.specs.declared.tree_text.TreeTextError.TheVariants as error
 
 abbrev pub FailsToReadForm : Text → TreeTextError → Type 0
 FailsToReadForm form error.Memory = Unit {0}
-FailsToReadForm form (error.NotATree e) = e ≢ from.Memory
+FailsToReadForm form (error.NotATree e) = (e ≢ from.Memory) × HasNoTree form
 FailsToReadForm form _ = ⊥
 
 abbrev pub IsLayoutError : TreeTextError → Type 0

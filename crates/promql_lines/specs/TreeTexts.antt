@@ -8,12 +8,13 @@ use Rattle.promql_span.specs.declared.limits.Limits.{Limits}
 use Rattle.promql_ast.specs.Text.{text as line_text}
 use Rattle.promql_ast.specs.Tree.{Tree}
 use Rattle.promql_json.specs.Json.{json}
+use Rattle.promql_json.specs.Readable.{IsNoForm}
 use Rattle.promql_json.specs.declared.from_error.FromJsonError.TheVariants as from
 use Rattle.promql_rewrite.specs.Faithful.{IsLineOf, Means}
 use Rattle.promql_rewrite.specs.Parenthesizing.{parenthesized}
 use Rattle.promql_rewrite.specs.Reasons.{IsReason}
 use Rattle.promql_run.specs.Running.{format_text}
-use Rattle.promql_lines.specs.EnforcedLines.{IsOver}
+use Rattle.promql_lines.specs.LinesWithin.{IsOver}
 use Rattle.promql_run.specs.declared.format.Format.{Format}
 use Rattle.promql_run.specs.declared.format.Format.TheVariants as format
 use Rattle.promql_lines.specs.declared.tree_text.TreeTextError.{TreeTextError}
@@ -30,6 +31,10 @@ tree_text_number (error.NoForm e) = 6
 -- the text is JSON, and the form of the tree
 abbrev pub IsFormTree : Text → Tree → Type 0
 IsFormTree form t = (d : Data) × (read form ≡ Some d) × (json t ≡ Ok d)
+
+-- the text is no JSON, or JSON that is the form of no readable tree
+abbrev pub HasNoTree : Text → Type 0
+HasNoTree form = (d : Data) → read form ≡ Some d → IsNoForm d
 
 -- the tree, or the tree with parentheses where it needs them
 abbrev pub has_parens : Bool → Tree → Tree
@@ -65,5 +70,5 @@ FailsToShowTree limits t (error.NotATree e) = ⊥
 -- the tree has a form, or a form is given that is none, or the tree has no text
 abbrev pub FailsToShowForm : Limits → Bool → Text → TreeTextError → Type 0
 FailsToShowForm limits parens form error.Memory = Unit {0}
-FailsToShowForm limits parens form (error.NotATree e) = e ≢ from.Memory
+FailsToShowForm limits parens form (error.NotATree e) = (e ≢ from.Memory) × HasNoTree form
 FailsToShowForm limits parens form e = (t : Tree) × IsFormTree form t × FailsToShowTree limits (has_parens parens t) e

@@ -1,14 +1,15 @@
 //! Many queries, a line each: docs/reference/programs.md.
 
-ghost use Rattle.std.specs.Prelude.{◌≡◌, ◌++◌, [], ◌∷◌, false, true, IfOk, OnOk, IfErr, OnErr, IsErrOf, MatchResult};
-ghost use Rattle.std.specs.Io.KnownBytes.{Appends};
-ghost use Rattle.promql_io.specs.Ended.{AppendsBeginning};
+ghost use Rattle.std.specs.Prelude.{◌≡◌, ◌⊎◌, ◌++◌, [], ◌∷◌, false, true, IfOk, OnOk, IfErr, OnErr, IsErrOf, MatchResult};
+ghost use Rattle.std.specs.Io.KnownBytes.{Appends, Keeps};
+ghost use Rattle.promql_io.specs.Ended.{AppendsBeginning, has_feed};
 ghost use Rattle.promql_run.specs.Running.{UnlessRead, UnlessWrite};
 ghost use Rattle.promql_lines.specs.Batch.{AnswersBefore, AnswersLines, IsCutShort};
 ghost use Rattle.promql_lines.specs.BatchSteps.{IsLineRead, IsPartRead, IsAnswered, IsPartlyAnswered, IsReadingError, IsBatchError};
 
 use crate::line::answer_line;
 use crate::settings::Settings;
+use promql_io::ahead::ReadsAhead;
 use promql_io::ended::Ended;
 use promql_io::reading::ReadFault;
 use promql_io::writing::{WriteFailed, flush, write_whole};
@@ -94,13 +95,32 @@ fn write_answer<W: Write>(
     }
 }
 
-/// Reads lines until the input ends, and writes the answer to each, in order. Returns whether each answer is an `ok`.
+/// Flushes the writer, unless the reader has read the next line ahead: what reads the answers may write that line only then.
+fn flush_before_wait<R: ReadsAhead, W: Write>(
+    reader: &Ended<R>,
+    writer: &mut Ended<W>,
+) -> Result<(), WriteFailed>
+    ensures bytes { Keeps (W.contents writer.old.inner) (W.contents writer.new.inner) }
+    ensures quiet { OnOk result (writer.new.failed ≡ writer.old.failed) }
+    ensures flushed { OnOk result
+        ((writer.new.pending ≡ false) ⊎ (has_feed (R.ahead reader.now.inner) ≡ true)) }
+    ensures failed { OnErr result (writer.new.failed ≡ true) }
+{
+    if reader.has_line_ahead() {
+        Ok(())
+    } else {
+        flush(writer)
+    }
+}
+
+/// Reads lines until the input ends, and writes the answer to each, in order. Returns whether each answer is an `ok`. What was
+/// written is flushed before more input is waited for.
 ///
 /// # Errors
 ///
 /// `Memory` where an allocation failed while a line was read, or the lines are more than a `u64` counts, and `Read` where a read
 /// failed: the lines before were answered. `Write` where a call of the writer failed: then a beginning of the answers was written.
-pub fn run_batch<R: BufRead, W: Write>(
+pub fn run_batch<R: ReadsAhead, W: Write>(
     alloc: Global,
     settings: &Settings,
     reader: &mut Ended<R>,
@@ -133,7 +153,7 @@ pub fn run_batch<R: BufRead, W: Write>(
         let is_ok = write_answer(alloc, settings, line.as_slice(), writer)?;
         all_ok = all_ok && is_ok;
         match end {
-            LineEnd::Feed => {}
+            LineEnd::Feed => flush_before_wait(reader, writer)?,
             LineEnd::Input => {
                 flush(writer)?;
                 return Ok(all_ok);

@@ -8,43 +8,47 @@ ghost use Rattle.promql_lines.specs.BatchArguments.{batch_command, settings_of};
 
 use crate::batch::run_batch;
 use crate::settings::Settings;
+use promql_io::ahead::ReadsAhead;
 use promql_io::ended::Ended;
 use promql_report::limit_options::{asked_text, default_limits, limits_with};
 use promql_run::format::Format;
 use promql_run::output::{USAGE_STATUS, show_text, show_usage};
+use promql_run::run::RunError;
 use std::alloc::Global;
-use std::io::{BufRead, Write};
+use std::io::Write;
 
 /// The status where each line was read and some line has an error.
 pub const ERRORS_STATUS: u8 = 4;
 
 /// The line that is printed for wrong arguments, and the first of the help.
 pub const BATCH_USAGE: &str =
-    "usage: promql_batch pretty|line|json [--max-len N] [--max-patterns N] [--max-output N]\n";
+    "usage: promql_batch pretty|line|json [FILE] [--max-len N] [--max-patterns N] [--max-output N]\n";
 
 /// What `--version` prints.
 pub const BATCH_VERSION: &str = "promql_batch 0.5.0\n";
 
 /// What `--help` prints.
 pub const BATCH_HELP: &str =
-    "usage: promql_batch pretty|line|json [--max-len N] [--max-patterns N] [--max-output N]
-       promql_batch --help | --version
+    "usage: promql_batch pretty|line|json [FILE] [--max-len N] [--max-patterns N] [--max-output N]
+       promql_batch -h | --help | --version
 
-Reads a PromQL query from each line of standard input, and writes a JSON object
-for each to standard output, in order.
+Reads a PromQL query from each line of FILE, or of standard input, and writes a
+JSON object for each to standard output, in order. Each answer is written before
+more input is waited for.
 
 A line is a JSON string, the query, or an object with the member \"query\" and,
 if wanted, \"mode\" (\"pretty\", \"line\" or \"json\"), \"level\" and \"width\" (of a
-layout: indentations before it, and the most bytes of a line), and \"enforce\" (a
-matcher that is put into every selector of the query).
-An answer is {\"ok\":TEXT}, in mode json {\"ok\":VALUE}, or
-{\"code\":NUMBER,\"error\":MESSAGE}. A query of more than --max-len bytes (32768), or
-with patterns that are together larger than --max-patterns (16000), is rejected
-before it is parsed. A TEXT, or the text of a VALUE, of more than --max-output
-bytes (4194304) is an error.
+layout: indentations before it, and the most bytes of a line), \"enforce\" (a
+matcher that is put into every selector of the query), and \"id\" (any value,
+which the answer has, too). An answer is {\"ok\":TEXT}, in mode json {\"ok\":VALUE},
+or {\"code\":NUMBER,\"error\":MESSAGE}. A query of more than --max-len bytes
+(32768), or with patterns that are together larger than --max-patterns (16000),
+is rejected before it is parsed. A TEXT, or the text of a VALUE, of more than
+--max-output bytes (4194304) is an error.
 
 Status: 0 each line was answered with ok, 4 some line has an error, 1 out of
-memory, 2 a read failed, 5 a write failed, 64 wrong arguments.
+memory, 2 a read failed, 5 a write failed, 64 wrong arguments, 141 nobody reads
+what is written.
 ";
 
 /// The settings that the arguments ask for, the program's own name first; `None` where those are nothing known.
@@ -59,11 +63,21 @@ fn settings_of(args: &[String]) -> Option<Settings>
     Some(Settings { format, limits })
 }
 
+/// Writes the message of an error, but where nobody reads what the program writes. What cannot be written is lost.
+fn say_error<W: Write, E: Write>(writer: &Ended<W>, errors: &mut Ended<E>, error: &RunError)
+    ensures { writer.now.closed ≡ true → errors.new ≡ errors.old }
+{
+    if !writer.is_closed() {
+        let _ = writeln!(errors, "{error}");
+    }
+}
+
 /// Runs the program for batches, and returns its status (docs/reference/programs.md, "Statuses of a batch").
 ///
 /// `args` begins with the program's own name. The message of an error and a line feed go to `errors`, without
-/// memory; a message that cannot be written is lost, and the status tells the error all the same.
-pub fn batch_program<R: BufRead, W: Write, E: Write>(
+/// memory, but where nobody reads what is written; a message that cannot be written is lost, and the status tells the error all
+/// the same.
+pub fn batch_program<R: ReadsAhead, W: Write, E: Write>(
     alloc: Global,
     args: &[String],
     reader: &mut Ended<R>,
@@ -93,6 +107,8 @@ pub fn batch_program<R: BufRead, W: Write, E: Write>(
         (R.remaining reader.old.inner) (R.remaining reader.new.inner)
         (W.contents writer.old.inner) (W.contents writer.new.inner) }
     ensures write { result ≡ 5 → writer.new.failed ≡ true }
+    ensures closed { (settings : batches.Settings) → batch_command (map string_bytes args.now)
+        ≡ Some (run settings) → writer.new.closed ≡ true → errors.new ≡ errors.old }
     ensures begun { (settings : batches.Settings) → batch_command (map string_bytes args.now)
         ≡ Some (run settings) → result ≡ 5 → IsCutShort settings (R.remaining reader.old.inner)
         (R.remaining reader.new.inner) (W.contents writer.old.inner) (W.contents writer.new.inner) }
@@ -107,7 +123,7 @@ pub fn batch_program<R: BufRead, W: Write, E: Write>(
         Ok(true) => 0,
         Ok(false) => ERRORS_STATUS,
         Err(error) => {
-            let _ = writeln!(errors, "{error}");
+            say_error(writer, errors, &error);
             error.number()
         }
     }

@@ -2,15 +2,13 @@
 
 ghost use Rattle.std.specs.Prelude.{◌≡◌, IfErr, IfOk, string_bytes};
 ghost use Rattle.promql_ast.specs.View.{tree_of};
-ghost use Rattle.promql_rewrite.specs.Faithful.{IsLineOf};
-ghost use Rattle.promql_span.specs.QueryLimits.{IsWithin};
 ghost use Rattle.promql_lines.specs.EnforcedLines.{FailsToEnforce, FailsToShow, IsEnforcedLine, IsEnforcedWithin, ShowsEnforced, enforce_number};
-ghost use Rattle.promql_lines.specs.EnforcedSteps.{FailsToPrint};
 
-use crate::limit_checks::{limit_fault, matcher_fault};
+use crate::limit_checks::matcher_fault;
+use crate::line_within::{LineFault, line_within};
 use promql_ast::{Expr, drop_expr};
 use promql_report::rejection::{Rejection, read_query};
-use promql_rewrite::{EnforceTextError, MatcherError, NotFaithful, check_meaning, enforce_text};
+use promql_rewrite::{EnforceTextError, MatcherError, NotFaithful, enforce_text};
 use promql_span::limits::{LimitFault, Limits};
 use std::alloc::{AllocError, Global};
 use thiserror::Error;
@@ -90,26 +88,6 @@ fn enforced_within(
     }
 }
 
-/// The line of an expression, which is read again where it is within the limits, and means the expression.
-fn line_within(alloc: Global, limits: &Limits, expr: &Expr) -> Result<String, EnforcedLineError>
-    ensures ok { IfOk result (λ s. IsWithin (string_bytes s) limits.now × IsLineOf (tree_of expr.now) (string_bytes s)) }
-    ensures err { IfErr result (FailsToPrint limits.now (tree_of expr.now)) }
-{
-    let line = expr.to_string(alloc)?;
-    if let Some(fault) = limit_fault(alloc, limits, line.as_str())? {
-        return Err(EnforcedLineError::LargeLine(fault));
-    }
-    match check_meaning(alloc, line.as_str(), expr) {
-        Ok(()) => Ok(line),
-        Err(NotFaithful::Memory) => Err(EnforcedLineError::Memory),
-        Err(NotFaithful::IndentTooWide) => unreachable!(),
-        Err(NotFaithful::Rejected(error)) => {
-            Err(EnforcedLineError::Unfaithful(NotFaithful::Rejected(error)))
-        }
-        Err(NotFaithful::OtherTree) => Err(EnforcedLineError::Unfaithful(NotFaithful::OtherTree)),
-    }
-}
-
 /// The line of an expression with the matcher in every selector. The line is within the limits, is read again, and means the
 /// enforced tree.
 fn show_enforced(
@@ -124,7 +102,12 @@ fn show_enforced(
     let enforced = enforced_within(alloc, limits, expr, matcher)?;
     let line = line_within(alloc, limits, &enforced);
     drop_expr(enforced);
-    line
+    match line {
+        Ok(line) => Ok(line),
+        Err(LineFault::Memory) => Err(EnforcedLineError::Memory),
+        Err(LineFault::Large(fault)) => Err(EnforcedLineError::LargeLine(fault)),
+        Err(LineFault::Unfaithful(error)) => Err(EnforcedLineError::Unfaithful(error)),
+    }
 }
 
 /// The line of a query with a matcher, which is given as its text, in every selector. The line is within the limits, too; it is

@@ -1,5 +1,5 @@
-//! Many queries in one run, a line each, and the line of a query with a matcher in its selectors, with the programs that write
-//! them. docs/reference/programs.md has the rules.
+//! Many queries in one run, a line each, and the line of a query with a matcher in its selectors or another name, with the programs
+//! that write them. docs/reference/programs.md has the rules.
 #![tactic(auto)]
 
 pub mod answer_text;
@@ -9,8 +9,11 @@ pub mod enforce_program;
 pub mod enforced_line;
 mod limit_checks;
 pub mod line;
+mod line_within;
 mod quoted_query;
 pub mod rejected_query;
+pub mod renamed_line;
 pub mod request;
+mod request_id;
 pub mod settings;
 pub mod tree_text;

@@ -1,13 +1,16 @@
 //! The answer to one line of a batch: docs/reference/programs.md, "Answers".
 
-ghost use Rattle.std.specs.Prelude.{◌≡◌, Option, Some, IfOk, IfErr, option_map, string_bytes};
+ghost use Rattle.std.specs.Prelude.{◌≡◌, ◌≤◌, Option, Some, IfOk, IfErr, IfSome, option_map, string_bytes};
 ghost use Rattle.std.specs.Str.{IsUtf8};
-ghost use Rattle.serde_json.specs.Read.{read};
+ghost use Rattle.serde_json.specs.Data.{depth};
+ghost use Rattle.serde_json.specs.Read.{max_depth, read};
 ghost use Rattle.serde_json.specs.View.{view};
 ghost use Rattle.promql_text.specs.Texts.{Text};
 ghost use Rattle.promql_ast.specs.View.{tree_of};
 ghost use Rattle.promql_lines.specs.BatchSteps.{IsEnforceFaultOf, IsOkLine};
-ghost use Rattle.promql_lines.specs.Batch.{FailsOnQuery, FailsWith, IsAsked, IsErrorText, IsLineAnswer, IsQueryAnswer, error_object, line_error_number, line_error_object};
+ghost use Rattle.promql_lines.specs.Batch.{FailsOnQuery, FailsWith, IsAsked, IsErrorText, IsLineAnswer, IsPlainAnswer, IsQueryAnswer, error_object, line_error_number, line_error_object};
+ghost use Rattle.promql_lines.specs.Requests as spec;
+ghost use Rattle.promql_lines.specs.declared.settings.Settings as batches;
 ghost use Rattle.promql_report.specs.Rejecting.{IsRejection};
 ghost use Rattle.promql_run.specs.declared.format.Format.{Format};
 ghost use Rattle.promql_span.specs.declared.limits.Limits as spans;
@@ -16,7 +19,8 @@ use crate::answer_text::answer_within;
 use crate::limit_checks::matcher_fault;
 use crate::quoted_query::quoted_query;
 use crate::rejected_query::RejectedQuery;
-use crate::request::{format_in, matcher_in, query_in};
+use crate::request::{format_in, matcher_in, query_in, unknown_in};
+use crate::request_id::answer_with_id;
 use crate::settings::Settings;
 use promql_ast::{Expr, drop_expr};
 use promql_report::rejection::{Rejection, read_query};
@@ -41,6 +45,9 @@ pub enum LineError {
     /// The line is not a JSON string, nor an object that asks for a query.
     #[error("line is not a request")]
     NotARequest,
+    /// The line is an object with a member of this name, which no request has.
+    #[error("line is not a request: it has no member {0:?}")]
+    UnknownMember(String),
     /// The line has a matcher to enforce that is none.
     #[error("{0}")]
     Matcher(MatcherError),
@@ -64,6 +71,7 @@ impl LineError {
             LineError::Run(error) => error.number(),
             LineError::Rejected(query) => query.rejection.reason.number(),
             LineError::NotARequest => 7,
+            LineError::UnknownMember(_) => 7,
             LineError::Matcher(_) => 11,
             LineError::Info => 13,
             LineError::LargeMatcher(_) => 16,
@@ -84,7 +92,8 @@ pub struct LineAnswer {
 /// The value of a line as JSON; `None` where it is none. Its frame holds what reads JSON, 16 kB.
 #[inline(never)]
 fn read_value(alloc: Global, line: &str) -> Result<Option<Value>, AllocError>
-    ensures { IfOk result (λ value. read line.now ≡ option_map view value) }
+    ensures value { IfOk result (λ value. read line.now ≡ option_map view value) }
+    ensures nests { IfOk result (λ value. IfSome value (λ v. depth (view v) ≤ max_depth)) }
 {
     match Value::from_str(alloc, line) {
         Ok(value) => Ok(Some(value)),
@@ -167,6 +176,17 @@ fn answer_query(
     }
 }
 
+/// The error of a line with a member of this name, which no request has.
+fn unknown_member(alloc: Global, name: &str) -> LineError
+    ensures { (settings : batches.Settings) (line : Text) → IsUtf8 line
+        → spec.unknown_member line ≡ Some name.now → FailsWith settings line result }
+{
+    match String::from_str(alloc, name) {
+        Ok(name) => LineError::UnknownMember(name),
+        Err(_) => LineError::Run(RunError::Memory),
+    }
+}
+
 /// The answer to a line with this value.
 fn answer_value(alloc: Global, settings: &Settings, asked: &Value) -> Result<String, LineError>
     ensures ok { (line : Text) → IsUtf8 line → read line ≡ Some (view asked.now)
@@ -174,6 +194,9 @@ fn answer_value(alloc: Global, settings: &Settings, asked: &Value) -> Result<Str
     ensures err { (line : Text) → IsUtf8 line → read line ≡ Some (view asked.now)
         → IfErr result (FailsWith settings.now line) }
 {
+    if let Some(name) = unknown_in(asked) {
+        return Err(unknown_member(alloc, name));
+    }
     let Some(query) = query_in(asked) else {
         return Err(LineError::NotARequest);
     };
@@ -181,53 +204,6 @@ fn answer_value(alloc: Global, settings: &Settings, asked: &Value) -> Result<Str
         return Err(LineError::NotARequest);
     };
     answer_query(alloc, &settings.limits, format, query, matcher_in(asked))
-}
-
-/// The answer to a line, by its value as JSON.
-fn answer_json(alloc: Global, settings: &Settings, line: &str) -> Result<String, LineError>
-    ensures ok { IfOk result (λ s. IsOkLine settings.now line.now (string_bytes s)) }
-    ensures err { IfErr result (FailsWith settings.now line.now) }
-{
-    match read_value(alloc, line) {
-        Ok(Some(asked)) => {
-            let answer = answer_value(alloc, settings, &asked);
-            drop(asked);
-            answer
-        }
-        Ok(None) => Err(LineError::NotARequest),
-        Err(_) => Err(LineError::Run(RunError::Memory)),
-    }
-}
-
-/// The answer to a line that is text. Most are a query in quotes, of which no value is made.
-fn answer_text(alloc: Global, settings: &Settings, line: &str) -> Result<String, LineError>
-    ensures ok { IfOk result (λ s. IsOkLine settings.now line.now (string_bytes s)) }
-    ensures err { IfErr result (FailsWith settings.now line.now) }
-{
-    match quoted_query(alloc, line) {
-        Ok(Some(query)) => {
-            answer_query(
-                alloc,
-                &settings.limits,
-                settings.format,
-                query.as_str(),
-                None,
-            )
-        }
-        Ok(None) => answer_json(alloc, settings, line),
-        Err(_) => Err(LineError::Run(RunError::Memory)),
-    }
-}
-
-/// The answer `ok` to a line.
-fn answer_bytes(alloc: Global, settings: &Settings, line: &[u8]) -> Result<String, LineError>
-    ensures ok { IfOk result (λ s. IsOkLine settings.now line.now (string_bytes s)) }
-    ensures err { IfErr result (FailsWith settings.now line.now) }
-{
-    match str::from_utf8(line) {
-        Ok(text) => answer_text(alloc, settings, text),
-        Err(_) => Err(LineError::Run(RunError::NotUtf8)),
-    }
 }
 
 /// An object of an error's number and its message.
@@ -246,6 +222,7 @@ fn line_error_value(alloc: Global, error: &LineError, message: &str) -> Result<V
         LineError::Rejected(query) => query.value(alloc, code, message),
         LineError::Run(_)
         | LineError::NotARequest
+        | LineError::UnknownMember(_)
         | LineError::Matcher(_)
         | LineError::Info
         | LineError::LargeMatcher(_)
@@ -264,8 +241,69 @@ fn error_text(alloc: Global, error: &LineError) -> Result<String, AllocError>
     text
 }
 
+/// The answer to a line of which this was found, without an id.
+fn plain_answer(alloc: Global, found: Result<String, LineError>) -> Result<LineAnswer, AllocError>
+    ensures { (settings : batches.Settings) (line : Text)
+        → IfOk found (λ s. IsOkLine settings line (string_bytes s)) → IfErr found (FailsWith settings line)
+        → IfOk result (λ a. IsPlainAnswer settings line (string_bytes a.text) a.is_ok) }
+{
+    match found {
+        Ok(text) => Ok(LineAnswer { text, is_ok: true }),
+        Err(error) => Ok(LineAnswer {
+            text: error_text(alloc, &error)?,
+            is_ok: false,
+        }),
+    }
+}
+
+/// The answer to a line with this value, with its id.
+fn answer_request(
+    alloc: Global,
+    settings: &Settings,
+    asked: &Value,
+) -> Result<LineAnswer, AllocError>
+    requires { depth (view asked.now) ≤ max_depth }
+    ensures { (line : Text) → IsUtf8 line → read line ≡ Some (view asked.now)
+        → IfOk result (λ a. IsLineAnswer settings.now line (string_bytes a.text) a.is_ok) }
+{
+    let LineAnswer { text, is_ok } = plain_answer(alloc, answer_value(alloc, settings, asked))?;
+    let text = answer_with_id(alloc, asked, text)?;
+    Ok(LineAnswer { text, is_ok })
+}
+
+/// The answer to a line, by its value as JSON.
+fn answer_json(alloc: Global, settings: &Settings, line: &str) -> Result<LineAnswer, AllocError>
+    ensures { IfOk result (λ a. IsLineAnswer settings.now line.now (string_bytes a.text) a.is_ok) }
+{
+    match read_value(alloc, line)? {
+        Some(asked) => {
+            let answer = answer_request(alloc, settings, &asked);
+            drop(asked);
+            answer
+        }
+        None => plain_answer(alloc, Err(LineError::NotARequest)),
+    }
+}
+
+/// The answer to a line that is text. Most are a query in quotes, of which no value is made.
+fn answer_text(alloc: Global, settings: &Settings, line: &str) -> Result<LineAnswer, AllocError>
+    ensures { IfOk result (λ a. IsLineAnswer settings.now line.now (string_bytes a.text) a.is_ok) }
+{
+    let Some(query) = quoted_query(alloc, line)? else {
+        return answer_json(alloc, settings, line);
+    };
+    let answer = answer_query(
+        alloc,
+        &settings.limits,
+        settings.format,
+        query.as_str(),
+        None,
+    );
+    plain_answer(alloc, answer)
+}
+
 /// The answer to a line: an object with the member `ok`, or with `code`, `error` and, for a query that is rejected, its
-/// place.
+/// place. Before these it has the id of the line, if that has one.
 pub fn answer_line(
     alloc: Global,
     settings: &Settings,
@@ -273,11 +311,8 @@ pub fn answer_line(
 ) -> Result<LineAnswer, AllocError>
     ensures { IfOk result (λ a. IsLineAnswer settings.now line.now (string_bytes a.text) a.is_ok) }
 {
-    match answer_bytes(alloc, settings, line) {
-        Ok(text) => Ok(LineAnswer { text, is_ok: true }),
-        Err(error) => Ok(LineAnswer {
-            text: error_text(alloc, &error)?,
-            is_ok: false,
-        }),
+    match str::from_utf8(line) {
+        Ok(text) => answer_text(alloc, settings, text),
+        Err(_) => plain_answer(alloc, Err(LineError::Run(RunError::NotUtf8))),
     }
 }

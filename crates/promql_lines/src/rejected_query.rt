@@ -1,8 +1,12 @@
 //! A query that is rejected, with what was expected at a syntax error: docs/reference/programs.md, "Errors".
 
-ghost use Rattle.std.specs.Prelude.{◌≡◌, IfOk, map};
+ghost use Rattle.std.specs.Prelude.{◌≡◌, IfOk, map, string_bytes};
 ghost use Rattle.serde_json.specs.View.{view};
+ghost use Rattle.promql_text.specs.Texts.{Text};
+ghost use Rattle.serde_json.specs.Written.{compact_text};
+ghost use Rattle.promql_report.specs.Rejecting.{IsMessage, reason_number};
 ghost use Rattle.promql_lines.specs.Batch.{rejection_object, texts};
+ghost use Rattle.promql_lines.specs.Telling.{IsToldWith, Tells, TellsAll};
 
 use promql_report::rejection::Rejection;
 use promql_span::unexpected::Unexpected;
@@ -17,6 +21,8 @@ pub struct Expectation {
     pub expected: Vec<&'static str>,
     /// What was found: a token, or the end.
     pub found: String,
+    /// Both as a message for people, with what may be meant.
+    pub message: String,
 }
 
 /// A query that is rejected.
@@ -40,7 +46,8 @@ impl RejectedQuery {
         query: &str,
         rejection: Rejection,
     ) -> Result<RejectedQuery, AllocError>
-        ensures { IfOk result (λ r. r.rejection ≡ rejection) }
+        ensures rejection { IfOk result (λ r. r.rejection ≡ rejection) }
+        ensures told { IfOk result (IsToldWith query.now) }
     {
         match expectation_of(alloc, query, &rejection) {
             Ok(expectation) => Ok(RejectedQuery {
@@ -51,6 +58,21 @@ impl RejectedQuery {
                 drop(rejection);
                 Err(error)
             }
+        }
+    }
+
+    /// The message for people: what was found and what was expected, where that is told, or else the message of the reason.
+    ///
+    /// # Errors
+    ///
+    /// `AllocError` where an allocation failed.
+    pub fn message(&self, alloc: Global) -> Result<String, AllocError>
+        ensures { (query : Text) → IsToldWith query self.now
+            → IfOk result (λ s. IsMessage query self.now.rejection (string_bytes s)) }
+    {
+        match &self.expectation {
+            Some(expectation) => copy_of(alloc, &expectation.message),
+            None => self.rejection.reason.plain_message(alloc),
         }
     }
 
@@ -84,6 +106,28 @@ impl RejectedQuery {
             "start": span.start
         })
     }
+
+    /// The text of that object with this message.
+    ///
+    /// # Errors
+    ///
+    /// `AllocError` where an allocation failed.
+    pub fn text(&self, alloc: Global, message: &str) -> Result<String, AllocError>
+        ensures { IfOk result (λ s. string_bytes s
+            ≡ compact_text (rejection_object (reason_number self.now.rejection.reason) message.now self.now)) }
+    {
+        let object = self.value(alloc, self.rejection.reason.number(), message)?;
+        let text = object.to_string(alloc);
+        drop(object);
+        text
+    }
+}
+
+/// A copy of a text.
+fn copy_of(alloc: Global, text: &String) -> Result<String, AllocError>
+    ensures { IfOk result (λ s. string_bytes s ≡ string_bytes text.now) }
+{
+    String::from_str(alloc, text.as_str())
 }
 
 /// What was expected where a query has a syntax error, if that is told.
@@ -91,32 +135,26 @@ fn expectation_of(
     alloc: Global,
     query: &str,
     rejection: &Rejection,
-) -> Result<Option<Expectation>, AllocError> {
+) -> Result<Option<Expectation>, AllocError>
+    ensures { IfOk result (TellsAll query.now rejection.now) }
+{
     match rejection.unexpected(alloc, query)? {
         Some(unexpected) => Ok(Some(make_expectation(alloc, unexpected)?)),
         None => Ok(None),
     }
 }
 
-/// What was expected, by names, and what was found.
-fn make_expectation(alloc: Global, unexpected: Unexpected<'_>) -> Result<Expectation, AllocError> {
-    let Unexpected {
-        found,
-        expected,
-        names,
-        ..
-    } = unexpected;
-    let found = Unexpected {
-        found,
-        expected,
-        names: Vec::new(alloc),
-        hint: None,
-    };
-    let message = found.to_string(alloc)?;
-    let text = message.strip_prefix("unexpected ").unwrap_or("");
+/// What was expected, by names, what was found, and the message.
+fn make_expectation(alloc: Global, unexpected: Unexpected<'_>) -> Result<Expectation, AllocError>
+    ensures { IfOk result (Tells unexpected.entry) }
+{
+    let found = unexpected.found_name().to_string(alloc)?;
+    let message = unexpected.to_string(alloc)?;
+    let Unexpected { names, .. } = unexpected;
     Ok(Expectation {
         expected: names,
-        found: String::from_str(alloc, text)?,
+        found,
+        message,
     })
 }
 

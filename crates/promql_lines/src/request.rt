@@ -1,7 +1,6 @@
 //! What a line of a batch asks for: docs/reference/programs.md, "Requests".
 
-ghost use Rattle.std.specs.Prelude.{◌≡◌, None, Some, option_map, string_bytes};
-ghost use Rattle.std.specs.List.{list_all};
+ghost use Rattle.std.specs.Prelude.{◌≡◌, None, Some, map, option_map, string_bytes};
 ghost use Rattle.serde_json.specs.View.{view};
 ghost use Rattle.std.specs.BTreeMap.{keys};
 ghost use Rattle.promql_lines.specs.Requests as spec;
@@ -82,14 +81,29 @@ fn format_with(level: Option<&Value>, width: Option<&Value>, format: Format) -> 
 fn is_member_name(key: &str) -> bool
     ensures { result ≡ spec.is_member_name key.now }
 {
-    matches!(key, "query" | "mode" | "level" | "width" | "enforce")
+    matches!(key, "query" | "mode" | "level" | "width" | "enforce" | "id")
 }
 
-/// Whether each member has a name that a request may have.
-fn are_known(members: &Map<String, Value>) -> bool
-    ensures { result ≡ list_all (λ key. spec.is_member_name (string_bytes key)) (keys members.now) }
+/// The first member that no request has, by the order of the names.
+fn unknown_name(members: &Map<String, Value>) -> Option<&str>
+    ensures { option_map (λ s. s.now) result ≡ spec.unknown_name (map string_bytes (keys members.now)) }
 {
-    members.keys().all(|key| is_member_name(key.as_str()))
+    for key in members.keys() {
+        if !is_member_name(key.as_str()) {
+            return Some(key.as_str());
+        }
+    }
+    None
+}
+
+/// The first member that no request has; `None` where the value has none, or is no object.
+pub fn unknown_in(value: &Value) -> Option<&str>
+    ensures { option_map (λ s. s.now) result ≡ spec.unknown_in (view value.now) }
+{
+    match value {
+        Value::Object(members) => unknown_name(members),
+        _ => None,
+    }
 }
 
 /// Whether the value is a string, or an object without a member of another name.
@@ -98,7 +112,7 @@ fn may_ask(value: &Value) -> bool
 {
     match value {
         Value::String(_) => true,
-        Value::Object(members) => are_known(members),
+        Value::Object(members) => !unknown_name(members).is_some(),
         _ => false,
     }
 }

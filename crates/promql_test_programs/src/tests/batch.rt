@@ -24,10 +24,11 @@ const LINE: Settings = Settings {
     },
 };
 
-const LINES: &[u8] = b"\"1+2\"\n{\"query\":\"a\",\"mode\":\"json\"}\n\n\"a b\"\n\xff\n\"x\"";
+const LINES: &[u8] =
+    b"\"1+2\"\n{\"query\":\"a\",\"mode\":\"json\",\"id\":7}\n\n\"a b\"\n\xff\n\"x\"";
 
 const ANSWERS: &[u8] = b"{\"ok\":\"1 + 2\"}
-{\"ok\":{\"matchers\":[],\"name\":\"a\",\"offset\":0,\"startOrEnd\":null,\"timestamp\":null,\"type\":\"vectorSelector\"}}
+{\"id\":7,\"ok\":{\"matchers\":[],\"name\":\"a\",\"offset\":0,\"startOrEnd\":null,\"timestamp\":null,\"type\":\"vectorSelector\"}}
 {\"code\":7,\"error\":\"line is not a request\"}
 {\"code\":4,\"column\":3,\"end\":3,\"error\":\"invalid promql query\",\"expected\":[\"\\\"{\\\"\",\"\\\"[\\\"\",\"\\\"(\\\"\",\"operator\",\"\\\"@\\\"\",\"\\\"offset\\\"\",\"\\\"smoothed\\\"\",\"\\\"anchored\\\"\",\"end of query\"],\"found\":\"identifier \\\"b\\\"\",\"line\":1,\"start\":2}
 {\"code\":3,\"error\":\"input is not UTF-8\"}
@@ -89,19 +90,19 @@ fn a_reader_that_fails(rt: HostRuntime) -> Result<(), Fail> {
 fn a_writer_that_fails(rt: HostRuntime) -> Result<(), Fail> {
     let alloc = rt.alloc();
     let want = b"{\"ok\":\"1\"}\n{\"code\":7,\"error\":\"line is not a request\"}\n";
-    // 10 bytes and 42 are 18 writes, their line feeds two, and the flush is one more.
-    for fails_at in 1..=22 {
+    // 10 bytes and 42 are 18 writes, their line feeds two, and the flushes before the end is read and after it two more.
+    for fails_at in 1..=23 {
         let mut reader = Ended::new(b"\"1\"\n1\n".as_slice());
         let mut writer = Ended::new(FlakyWriter::new(alloc, fails_at, 0));
         let answer = run_batch(alloc, &LINE, &mut reader, &mut writer);
-        let want_answer = if fails_at <= 21 {
+        let want_answer = if fails_at <= 22 {
             Err(RunError::Write)
         } else {
             Ok(false)
         };
         check_value(&rt, answer, want_answer, &fails_at);
-        assert_eq!(rt; writer.has_failed(), fails_at <= 21);
-        assert_eq!(rt; writer.inner().calls, fails_at.min(21));
+        assert_eq!(rt; writer.has_failed(), fails_at <= 22);
+        assert_eq!(rt; writer.inner().calls, fails_at.min(22));
         assert!(rt;
             want.starts_with(writer.inner().held.as_slice()),
             "at {fails_at}"

@@ -1,20 +1,15 @@
-use Rattle.std.proofs.Common.{Some, None, ap, sym, ◌∙◌}
+use Rattle.std.proofs.Common.{Some, None, ap, string_bytes, sym, ◌∙◌}
+use Rattle.std.proofs.lemmas.Result.{IfOk-weaker}
 use Rattle.serde_json.specs.Data.{string}
+use Rattle.promql_lines.proofs.AnswerIds.{none_in_quotes, without_id}
 use Rattle.promql_lines.proofs.LineAnswers.{answered_line, asks_in_quotes, failing_in_vain}
 use Rattle.promql_lines.proofs.line.answer_text.Goals as goal
 
-pub returns-in-Ok-Some-clause-ok : goal.returns-in-Ok-Some-clause-ok
-returns-in-Ok-Some-clause-ok c =
+pub returns : goal.returns
+returns c =
     let settings = c.args.settings.now in let line = c.args.line.now in let query = c.as_str.result.now in let format = settings.format in
-    let is = rw c.in-Ok-Some.field-0-is at c.in-Ok-Some.ensures in
-    answered_line c.answer_query.result settings line query None format c.utf8.line
-    (asks_in_quotes format line query (is ∙ ap (λ q. Some (string q)) (sym c.as_str.ensures.value)))
-    c.answer_query.ensures.ok
-
-pub returns-in-Ok-Some-clause-err : goal.returns-in-Ok-Some-clause-err
-returns-in-Ok-Some-clause-err c =
-    let settings = c.args.settings.now in let line = c.args.line.now in let query = c.as_str.result.now in let format = settings.format in
-    let is = rw c.in-Ok-Some.field-0-is at c.in-Ok-Some.ensures in
-    failing_in_vain c.answer_query.result settings line query None format c.utf8.line
-    (asks_in_quotes format line query (is ∙ ap (λ q. Some (string q)) (sym c.as_str.ensures.value)))
-    c.answer_query.ensures.err
+    let quoted = rw c.in-Some.is at c.in_ok-query.ensures in
+    let asks = asks_in_quotes format line query (quoted ∙ ap (λ q. Some (string q)) (sym c.as_str.ensures.value)) in
+    IfOk-weaker c.plain_answer.result _ _ (λ a plain. without_id settings line (string_bytes a.text) a.is_ok (none_in_quotes line (string_bytes c.in-Some.query) c.utf8.line quoted) plain)
+    (c.plain_answer.ensures settings line (answered_line c.answer_query-answer.result settings line query None format c.utf8.line asks c.answer_query-answer.ensures.ok)
+    (failing_in_vain c.answer_query-answer.result settings line query None format c.utf8.line asks c.answer_query-answer.ensures.err))

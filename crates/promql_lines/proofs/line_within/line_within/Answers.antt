@@ -1,7 +1,7 @@
 use Rattle.std.proofs.Common.{◌∙◌, ap, rules, subst}
 use Rattle.std.specs.Prelude.{Err}
 use Rattle.promql_syntax.specs.ParseAnswers.{IsAnswerTo, plain_error_of}
-use Rattle.promql_lines.proofs.enforced_line.line_within.Goals as goal
+use Rattle.promql_lines.proofs.line_within.line_within.Goals as goal
 
 pub returns-in-Err-Rejected-clause-err : goal.returns-in-Err-Rejected-clause-err
 returns-in-Err-Rejected-clause-err c =

@@ -1,0 +1,63 @@
+-- The answer to a line, with its id.
+use Rattle.std.proofs.Common.{◌≡◌, ◌++◌, ◌∙◌, List, None, Some, ap, codes, inl, inr, refl, subst, sym, true, false}
+use Rattle.std.specs.Prelude.{Bool, option_and_then, option_map}
+use Rattle.std.specs.Str.{IsUtf8}
+use Rattle.serde_json.specs.Data.{Data, string}
+use Rattle.serde_json.specs.Find.{get}
+use Rattle.serde_json.specs.Read.{read}
+use Rattle.serde_json.specs.Written.{compact_text}
+use Rattle.promql_text.specs.Texts.{Text}
+use Rattle.promql_lines.specs.Batch.{FailsWith, HasId, IsIdOf, IsLineAnswer, IsPlainAnswer, line_error_object, value_text}
+use Rattle.promql_lines.specs.Requests.{format_in, id_in, matcher_in, query_in, unknown_in}
+use Rattle.promql_lines.specs.declared.line.LineError.{LineError}
+use Rattle.promql_lines.specs.declared.line.LineError.TheVariants.{Run, Rejected, NotARequest, UnknownMember, Matcher, Info, LargeMatcher, LongOutput}
+use Rattle.promql_lines.specs.declared.settings.Settings.{Settings}
+
+-- an answer is an object
+abbrev IsObject : Text → Type 0
+IsObject printed = (members : Text) × (printed ≡ codes "{" ++ members)
+
+error_object_text : (e : LineError) (message : Text) → IsObject (compact_text (line_error_object e message))
+error_object_text (Run e) message = (_, refl)
+error_object_text (Rejected r) message = (_, refl)
+error_object_text NotARequest message = (_, refl)
+error_object_text (UnknownMember name) message = (_, refl)
+error_object_text (Matcher e) message = (_, refl)
+error_object_text Info message = (_, refl)
+error_object_text (LargeMatcher fault) message = (_, refl)
+error_object_text (LongOutput fault) message = (_, refl)
+
+plain_object : (settings : Settings) (line printed : Text) (is_ok : Bool) → IsPlainAnswer settings line printed is_ok → IsObject printed
+plain_object settings line printed true (query, matcher, format, utf8, asks, (output, has, short, is)) = (codes "\"ok\":" ++ (value_text format output ++ codes "}"), is)
+plain_object settings line printed false (e, fails, (message, is)) = let made = error_object_text e message in (made.0, is ∙ made.1)
+
+-- where the line has no id
+pub without_id : (settings : Settings) (line printed : Text) (is_ok : Bool) → IsIdOf line None → IsPlainAnswer settings line printed is_ok → IsLineAnswer settings line printed is_ok
+without_id settings line printed is_ok none plain =
+    let whole = plain_object settings line printed is_ok plain in
+    inl (whole.0, subst (λ p. IsPlainAnswer settings line p is_ok) whole.1 plain, (None, none, whole.1))
+
+-- where it has that of its value, if there is one
+pub with_its_id : (settings : Settings) (line answer printed : Text) (is_ok : Bool) (value : Data) → IsUtf8 line → read line ≡ Some value → IsPlainAnswer settings line answer is_ok
+    → ((members : Text) → answer ≡ codes "{" ++ members → HasId (get (codes "id") value) members printed) → IsLineAnswer settings line printed is_ok
+with_its_id settings line answer printed is_ok value utf8 is plain has =
+    let whole = plain_object settings line answer is_ok plain in
+    inl (whole.0, subst (λ p. IsPlainAnswer settings line p is_ok) whole.1 plain, (get (codes "id") value, inl (utf8, sym (ap (option_and_then (get (codes "id"))) is)), has whole.0 whole.1))
+
+-- no id is in what is no JSON, nor in a query in quotes
+pub none_unread : (line : Text) → IsUtf8 line → read line ≡ None → IsIdOf line None
+none_unread line utf8 is = inl (utf8, sym (ap (option_and_then (get (codes "id"))) is))
+
+pub none_in_quotes : (line query : Text) → IsUtf8 line → read line ≡ Some (string query) → IsIdOf line None
+none_in_quotes line query utf8 is = inl (utf8, sym (ap (option_and_then (get (codes "id"))) is))
+
+pub none_in_bytes : (line : Text) → ¬ IsUtf8 line → IsIdOf line None
+none_in_bytes line not_utf8 = inr (not_utf8, refl)
+
+-- what is no JSON is no request
+pub unread_fails : (settings : Settings) (line : Text) → IsUtf8 line → read line ≡ None → FailsWith settings line NotARequest
+unread_fails settings line utf8 is = (
+  utf8,
+  ap (option_and_then (λ d. option_and_then (λ query. option_map (λ format. (query, matcher_in d, format)) (format_in settings.format d)) (query_in d))) is,
+  ap (option_and_then unknown_in) is,
+)
