@@ -1,4 +1,4 @@
--- What a query names, as JSON, has no number.
+-- What a query names, as JSON, has no number, and the places of its nodes have no float.
 use Rattle.std.proofs.Common.{◌≡◌, refl, List, [], ◌∷◌, map}
 use Rattle.std.specs.Prelude.{false, Option, Some, None}
 use Rattle.std.proofs.lemmas.Bool.{or_from}
@@ -7,8 +7,10 @@ use Rattle.serde_json.specs.View.{items_of}
 use Rattle.serde_json.specs.Written.{has_float, items_have_float}
 use Rattle.promql_text.specs.Texts.{Text}
 use Rattle.promql_rewrite.specs.Collecting.{Selection, selected}
-use Rattle.promql_json.specs.JsonParts.{or_null}
 use Rattle.promql_c.specs.CollectedJson.{collected_value, selector_value, texts}
+use Rattle.promql_c.specs.PlacesText.{span_value}
+use Rattle.promql_span.specs.declared.span.Span.{Span}
+use Rattle.promql_json.specs.JsonParts.{list, or_null}
 
 no_numbers : {A : Type 0} (f : A → Data) → ((a : A) → has_float (f a) ≡ false) → (xs : List A) → items_have_float (items_of (map f xs)) ≡ false
 no_numbers f none [] = refl
@@ -31,3 +33,6 @@ pub collected_no_number : (functions labels metrics : List Text) (found : List S
 collected_no_number functions labels metrics found =
     or_from _ _ (texts_no_number functions) (or_from _ _ (texts_no_number labels) (or_from _ _ (texts_no_number metrics)
     (or_from _ _ (no_numbers selector_value selector_no_number found) refl)))
+
+pub places_no_float : (places : List Span) → has_float (list (map span_value places)) ≡ false
+places_no_float places = no_numbers span_value (λ p. refl) places

@@ -14,7 +14,7 @@ use Rattle.promql_run.specs.declared.format.Format.{Format}
 use Rattle.promql_c.specs.Calls.{HasText, IsPrintOf}
 use Rattle.promql_c.specs.PrintErrors.{IsOutputFault}
 use Rattle.promql_c.specs.declared.call_error.CallError.{CallError}
-use Rattle.promql_c.specs.declared.call_error.CallError.TheVariants.{Memory, NotUtf8, Rejected, NumberTooWide, UnknownMode, NotEnforced, LongOutput, NotFormatted, NotPrinted}
+use Rattle.promql_c.specs.declared.call_error.CallError.TheVariants.{Memory, NotUtf8, Rejected, NumberTooWide, UnknownMode, NotEnforced, NotRenamed, LongOutput, NotFormatted, NotPrinted}
 
 pub text_of_tree : {limits : Limits} {query : Text} {format : Format} (made : Result Text JsonError) (tree : Tree) → IsUtf8 query → IsRead limits query tree → format_text format tree ≡ made → HasText limits query format made
 text_of_tree made tree utf8 parsed gives = record { utf8 = utf8; has = (tree, parsed, (tree, refl, gives)) }
@@ -31,5 +31,6 @@ print_of_text limits (Err NotUtf8) query text format has short errors = absurd e
 print_of_text limits (Err (Rejected r)) query text format has short errors = absurd errors
 print_of_text limits (Err UnknownMode) query text format has short errors = absurd errors
 print_of_text limits (Err (NotEnforced e)) query text format has short errors = absurd errors
+print_of_text limits (Err (NotRenamed e)) query text format has short errors = absurd errors
 print_of_text limits (Err (NotPrinted e)) query text format has short errors = absurd errors
 print_of_text limits (Err NotFormatted) query text format has short errors = absurd errors

@@ -3,9 +3,10 @@ use Rattle.std.specs.Prelude.{◌≡◌, ℕ, ◌<◌, ◌≤◌, nat_le, if◌t
 use Rattle.promql_text.specs.Texts.{Text}
 use Rattle.promql_report.specs.Rejecting.{reason_number}
 use Rattle.promql_lines.specs.EnforcedLines.{enforce_number}
+use Rattle.promql_lines.specs.RenamedLines.{rename_number}
 use Rattle.promql_lines.specs.TreeTexts.{tree_text_number}
 use Rattle.promql_c.specs.declared.call_error.CallError.{CallError}
-use Rattle.promql_c.specs.declared.call_error.CallError.TheVariants.{Memory, NotUtf8, Rejected, NumberTooWide, UnknownMode, NotEnforced, LongOutput, NotFormatted, NotPrinted}
+use Rattle.promql_c.specs.declared.call_error.CallError.TheVariants.{Memory, NotUtf8, Rejected, NumberTooWide, UnknownMode, NotEnforced, NotRenamed, LongOutput, NotFormatted, NotPrinted}
 use Rattle.promql_c.specs.declared.call_result.CallResult.{CallResult}
 
 -- the text is at the start of the buffer, and the rest of it is as it was; where the text does not fit, all of it is
@@ -24,6 +25,7 @@ error_status (Rejected r) = reason_number r.reason
 error_status NumberTooWide = 6
 error_status UnknownMode = 9
 error_status (NotEnforced e) = enforce_number e
+error_status (NotRenamed e) = rename_number e
 error_status (LongOutput fault) = 18
 error_status NotFormatted = 12
 error_status (NotPrinted e) = tree_text_number e

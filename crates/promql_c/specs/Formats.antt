@@ -1,5 +1,7 @@
--- In which formats a call prints a query (docs/guide/bindings.md, "Calls").
+-- In which formats a call prints a query, and what it renames (docs/guide/bindings.md, "Calls").
 use Rattle.std.specs.Prelude.{ℕ, ◌==◌, nat_le, if◌then◌else◌, Option, Some, None}
+use Rattle.promql_lines.specs.declared.renamed_line.Named.{Named}
+use Rattle.promql_lines.specs.declared.renamed_line.Named.TheVariants as named
 use Rattle.promql_run.specs.declared.format.Format.{Format}
 use Rattle.promql_run.specs.declared.format.Format.TheVariants.{Pretty, Line, Json}
 
@@ -9,3 +11,7 @@ format_numbered mode level width =
     if mode == 0 then Some Line
     else (if mode == 1 then (if nat_le level 512 then Some (Pretty (record { level = level; width = width })) else None)
     else (if mode == 2 then Some Json else None))
+
+-- what is renamed, by its number
+abbrev pub named_numbered : ℕ → Option Named
+named_numbered kind = if kind == 0 then Some named.Metric else (if kind == 1 then Some named.Label else None)

@@ -4,4 +4,5 @@ pub mod CollectedJson
 pub mod CollectedParts
 pub mod CollectedTexts
 pub mod Formats
+pub mod PlacesText
 pub mod PrintErrors

@@ -4,6 +4,7 @@ ghost use Rattle.std.specs.Prelude.{◌≡◌};
 ghost use Rattle.promql_c.specs.CallResults.{error_status};
 
 use promql_lines::enforced_line::EnforcedLineError;
+use promql_lines::renamed_line::RenamedLineError;
 use promql_lines::tree_text::TreeTextError;
 use promql_report::rejection::Rejection;
 use promql_span::limits::LongOutput;
@@ -25,12 +26,15 @@ pub enum CallError {
     /// The query has no JSON form: a number of milliseconds is too wide.
     #[error("number too wide for JSON")]
     NumberTooWide,
-    /// There is no mode of this number, or the level of a layout is above 512.
+    /// There is no mode or kind of this number, or the level of a layout is above 512.
     #[error("unknown mode")]
     UnknownMode,
     /// The query has no line with the matcher in its selectors; that it is rejected is `Rejected`.
     #[error("{0}")]
     NotEnforced(EnforcedLineError),
+    /// The query has no line with the new name; that it is rejected is `Rejected`.
+    #[error("{0}")]
+    NotRenamed(RenamedLineError),
     /// The text is not within the limits.
     #[error("{0}")]
     LongOutput(LongOutput),
@@ -54,6 +58,7 @@ impl CallError {
             CallError::NumberTooWide => 6,
             CallError::UnknownMode => 9,
             CallError::NotEnforced(error) => u32::from(error.number()),
+            CallError::NotRenamed(error) => u32::from(error.number()),
             CallError::LongOutput(_) => 18,
             CallError::NotFormatted => 12,
             CallError::NotPrinted(error) => u32::from(error.number()),

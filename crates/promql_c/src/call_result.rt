@@ -74,6 +74,7 @@ fn result_of(error: &CallError, length: usize) -> CallResult
         | CallError::NumberTooWide
         | CallError::UnknownMode
         | CallError::NotEnforced(_)
+        | CallError::NotRenamed(_)
         | CallError::LongOutput(_)
         | CallError::NotFormatted
         | CallError::NotPrinted(_) => plain(error.status(), length),

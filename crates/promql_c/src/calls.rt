@@ -2,14 +2,19 @@
 
 ghost use Rattle.std.specs.Prelude.{◌==◌, not, Some, Ok};
 ghost use Rattle.promql_c.specs.CallResults.{Shows, ShowsSome};
-ghost use Rattle.promql_c.specs.Calls.{IsCheckOf, IsCollectOf, IsEnforceOf, IsFormattedOf, IsPrintOf, IsSnippetOf, IsTreePrintOf};
-ghost use Rattle.promql_c.specs.Formats.{format_numbered};
+ghost use Rattle.promql_c.specs.Calls.{IsEnforceOf, IsExplainOf, IsFormattedOf, IsNothing, IsPrintOf, IsRenameOf, IsSnippetOf, IsTextOf, IsTreePrintOf};
+ghost use Rattle.promql_c.specs.CollectedTexts.{IsCollectedText};
+ghost use Rattle.promql_c.specs.Formats.{format_numbered, named_numbered};
+ghost use Rattle.promql_c.specs.PlacesText.{IsPlacesText};
 
 use crate::call_result::{CallResult, show, show_text};
 use crate::collecting::collect_query;
 use crate::enforcing::enforce_query;
+use crate::explaining::explain_query;
 use crate::formatting::format_bytes;
+use crate::placing::place_query;
 use crate::printing::{check_query, format_of, mark_query, print_query};
+use crate::renaming::{named_of, rename_query};
 use crate::tree_printing::print_form;
 use promql_formatter::FormatOptions;
 use promql_run::format::Format;
@@ -63,20 +68,61 @@ pub fn enforce(
     show(alloc, made, buffer)
 }
 
+/// Prints a query on one line with another name for the metric, where `kind` is 0, or the label, where it is 1, that is named `from`.
+/// The line is within the limits, too; it was read again, and means the renamed query (docs/guide/rewriting.md, "Renaming").
+pub fn rename(
+    alloc: Global,
+    limits: &Limits,
+    query: &[u8],
+    kind: u32,
+    from: &[u8],
+    to: &[u8],
+    buffer: &mut [u8],
+) -> CallResult
+    ensures { ShowsSome (IsRenameOf limits.now query.now (named_numbered kind) from.now to.now) result buffer.old buffer.new }
+{
+    let made = rename_query(alloc, limits, query, named_of(kind), from, to);
+    show(alloc, made, buffer)
+}
+
 /// Shows what a query names, as JSON: its functions, labels and metrics, and its selectors with their times
 /// (docs/guide/bindings.md, "What a query names").
 pub fn collect(alloc: Global, limits: &Limits, query: &[u8], buffer: &mut [u8]) -> CallResult
-    ensures { ShowsSome (IsCollectOf limits.now query.now) result buffer.old buffer.new }
+    ensures { ShowsSome (IsTextOf IsCollectedText limits.now query.now) result buffer.old buffer.new }
 {
     let made = collect_query(alloc, limits, query);
     show(alloc, made, buffer)
 }
 
+/// Shows the places of the nodes of a query's tree, as JSON (docs/guide/bindings.md, "Places of nodes").
+pub fn places(alloc: Global, limits: &Limits, query: &[u8], buffer: &mut [u8]) -> CallResult
+    ensures { ShowsSome (IsTextOf (IsPlacesText query.now) limits.now query.now) result buffer.old buffer.new }
+{
+    let made = place_query(alloc, limits, query);
+    show(alloc, made, buffer)
+}
+
 /// Checks a query: an empty text where it is accepted, and else the error and its place.
 pub fn check(alloc: Global, limits: &Limits, query: &[u8], buffer: &mut [u8]) -> CallResult
-    ensures { ShowsSome (IsCheckOf limits.now query.now) result buffer.old buffer.new }
+    ensures { ShowsSome (IsTextOf IsNothing limits.now query.now) result buffer.old buffer.new }
 {
     let made = check_query(alloc, limits, query);
+    show(alloc, made, buffer)
+}
+
+/// Explains why a query is rejected: an empty text where it is accepted, else the message for people, which at a syntax error says what
+/// was expected. Where `as_json` is not 0 it is an object with that message, the place, and what was expected by names
+/// (docs/guide/bindings.md, "Why a query is rejected").
+pub fn explain(
+    alloc: Global,
+    limits: &Limits,
+    query: &[u8],
+    as_json: u32,
+    buffer: &mut [u8],
+) -> CallResult
+    ensures { ShowsSome (IsExplainOf limits.now (not (as_json == 0)) query.now) result buffer.old buffer.new }
+{
+    let made = explain_query(alloc, limits, query, as_json != 0);
     show(alloc, made, buffer)
 }
 

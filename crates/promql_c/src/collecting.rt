@@ -8,7 +8,7 @@ ghost use Rattle.promql_grammar.specs.Results.{on_result};
 ghost use Rattle.promql_ast.specs.Shifts.{moment_of, shift_of};
 ghost use Rattle.promql_ast.specs.View.{tree_of};
 ghost use Rattle.promql_rewrite.specs.Collecting.{selected_of};
-ghost use Rattle.promql_c.specs.Calls.{IsCollectOf};
+ghost use Rattle.promql_c.specs.Calls.{IsTextOf};
 ghost use Rattle.promql_c.specs.CollectedJson as spec;
 ghost use Rattle.promql_c.specs.CollectedParts as part;
 ghost use Rattle.promql_c.specs.CollectedTexts.{IsCollectedText};
@@ -120,7 +120,7 @@ fn collected_text(alloc: Global, expr: &Expr) -> Result<String, AllocError>
 }
 
 /// The text of a value without numbers.
-fn value_text(alloc: Global, value: Value) -> Result<String, AllocError>
+pub(crate) fn value_text(alloc: Global, value: Value) -> Result<String, AllocError>
     requires { has_float (view value) ≡ false }
     ensures { IfOk result (λ s. string_bytes s ≡ compact_text (view value)) }
 {
@@ -131,7 +131,7 @@ fn value_text(alloc: Global, value: Value) -> Result<String, AllocError>
 
 /// The JSON of what a text's query names.
 fn collect_text(alloc: Global, limits: &Limits, query: &str) -> Result<String, CallError>
-    ensures { IsCollectOf limits.now query.now (on_result (λ s. string_bytes s) result) }
+    ensures { IsTextOf IsCollectedText limits.now query.now (on_result (λ s. string_bytes s) result) }
 {
     let expr = match read_query(alloc, limits, query) {
         Ok(Ok(expr)) => expr,
@@ -152,7 +152,7 @@ pub(crate) fn collect_query(
     limits: &Limits,
     query: &[u8],
 ) -> Result<String, CallError>
-    ensures { IsCollectOf limits.now query.now (on_result (λ s. string_bytes s) result) }
+    ensures { IsTextOf IsCollectedText limits.now query.now (on_result (λ s. string_bytes s) result) }
 {
     let Ok(query) = str::from_utf8(query) else {
         return Err(CallError::NotUtf8);

@@ -5,8 +5,10 @@
 ghost use Rattle.std.specs.Prelude.{◌==◌, not, Some, Ok};
 ghost use Rattle.promql_run.specs.declared.format.Format.TheVariants.{Line};
 ghost use Rattle.promql_c.specs.CallResults.{Shows, ShowsSome};
-ghost use Rattle.promql_c.specs.Calls.{IsCheckOf, IsCollectOf, IsEnforceOf, IsFormattedOf, IsPrintOf, IsSnippetOf, IsTreePrintOf};
-ghost use Rattle.promql_c.specs.Formats.{format_numbered};
+ghost use Rattle.promql_c.specs.Calls.{IsEnforceOf, IsExplainOf, IsFormattedOf, IsNothing, IsPrintOf, IsRenameOf, IsSnippetOf, IsTextOf, IsTreePrintOf};
+ghost use Rattle.promql_c.specs.CollectedTexts.{IsCollectedText};
+ghost use Rattle.promql_c.specs.Formats.{format_numbered, named_numbered};
+ghost use Rattle.promql_c.specs.PlacesText.{IsPlacesText};
 ghost use Rattle.promql_c.specs.declared.calls.TheConstants.{CALLS_VERSION};
 
 pub use call_error::CallError;
@@ -20,8 +22,11 @@ mod call_result;
 mod calls;
 mod collecting;
 mod enforcing;
+mod explaining;
 mod formatting;
+mod placing;
 mod printing;
+mod renaming;
 mod tree_printing;
 
 /// `calls::print`.
@@ -71,6 +76,24 @@ pub extern "C" fn call_enforce(
     *shown = calls::enforce(alloc, limits, query, matcher, buffer);
 }
 
+/// `calls::rename`.
+#[unsafe(no_mangle)]
+pub extern "C" fn call_rename(
+    alloc: Global,
+    limits: &Limits,
+    query: &[u8],
+    kind: u32,
+    from: &[u8],
+    to: &[u8],
+    buffer: &mut [u8],
+    shown: &mut CallResult,
+)
+    ensures { ShowsSome (IsRenameOf limits.now query.now (named_numbered kind) from.now to.now)
+        shown.new buffer.old buffer.new }
+{
+    *shown = calls::rename(alloc, limits, query, kind, from, to, buffer);
+}
+
 /// `calls::collect`.
 #[unsafe(no_mangle)]
 pub extern "C" fn call_collect(
@@ -80,9 +103,23 @@ pub extern "C" fn call_collect(
     buffer: &mut [u8],
     shown: &mut CallResult,
 )
-    ensures { ShowsSome (IsCollectOf limits.now query.now) shown.new buffer.old buffer.new }
+    ensures { ShowsSome (IsTextOf IsCollectedText limits.now query.now) shown.new buffer.old buffer.new }
 {
     *shown = calls::collect(alloc, limits, query, buffer);
+}
+
+/// `calls::places`.
+#[unsafe(no_mangle)]
+pub extern "C" fn call_places(
+    alloc: Global,
+    limits: &Limits,
+    query: &[u8],
+    buffer: &mut [u8],
+    shown: &mut CallResult,
+)
+    ensures { ShowsSome (IsTextOf (IsPlacesText query.now) limits.now query.now) shown.new buffer.old buffer.new }
+{
+    *shown = calls::places(alloc, limits, query, buffer);
 }
 
 /// `calls::check`.
@@ -94,9 +131,24 @@ pub extern "C" fn call_check(
     buffer: &mut [u8],
     shown: &mut CallResult,
 )
-    ensures { ShowsSome (IsCheckOf limits.now query.now) shown.new buffer.old buffer.new }
+    ensures { ShowsSome (IsTextOf IsNothing limits.now query.now) shown.new buffer.old buffer.new }
 {
     *shown = calls::check(alloc, limits, query, buffer);
+}
+
+/// `calls::explain`.
+#[unsafe(no_mangle)]
+pub extern "C" fn call_explain(
+    alloc: Global,
+    limits: &Limits,
+    query: &[u8],
+    as_json: u32,
+    buffer: &mut [u8],
+    shown: &mut CallResult,
+)
+    ensures { ShowsSome (IsExplainOf limits.now (not (as_json == 0)) query.now) shown.new buffer.old buffer.new }
+{
+    *shown = calls::explain(alloc, limits, query, as_json, buffer);
 }
 
 /// `calls::snippet`.

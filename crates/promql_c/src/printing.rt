@@ -2,7 +2,7 @@
 
 ghost use Rattle.std.specs.Prelude.{◌≡◌, ◌≤◌, Some, IfOk, IfErr, length, string_bytes};
 ghost use Rattle.promql_grammar.specs.Results.{on_result};
-ghost use Rattle.promql_c.specs.Calls.{IsCheckOf, IsPrintOf, IsSnippetOf};
+ghost use Rattle.promql_c.specs.Calls.{IsNothing, IsPrintOf, IsSnippetOf, IsTextOf};
 ghost use Rattle.promql_c.specs.Formats.{format_numbered};
 ghost use Rattle.promql_c.specs.PrintErrors.{IsOutputFault};
 
@@ -90,7 +90,7 @@ pub(crate) fn print_query(
 
 /// Nothing where a query is accepted.
 fn check_text(alloc: Global, limits: &Limits, text: &str) -> Result<String, CallError>
-    ensures { IsCheckOf limits.now text.now (on_result (λ s. string_bytes s) result) }
+    ensures { IsTextOf IsNothing limits.now text.now (on_result (λ s. string_bytes s) result) }
 {
     match read_query(alloc, limits, text) {
         Ok(Ok(_)) => Ok(String::new(alloc)),
@@ -101,7 +101,7 @@ fn check_text(alloc: Global, limits: &Limits, text: &str) -> Result<String, Call
 
 /// Nothing where a query is accepted.
 pub(crate) fn check_query(alloc: Global, limits: &Limits, query: &[u8]) -> Result<String, CallError>
-    ensures { IsCheckOf limits.now query.now (on_result (λ s. string_bytes s) result) }
+    ensures { IsTextOf IsNothing limits.now query.now (on_result (λ s. string_bytes s) result) }
 {
     let Ok(text) = str::from_utf8(query) else {
         return Err(CallError::NotUtf8);

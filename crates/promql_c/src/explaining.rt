@@ -1,0 +1,67 @@
+//! Why a query is rejected: docs/guide/bindings.md, "Why a query is rejected".
+
+ghost use Rattle.std.specs.Prelude.{IfOk, string_bytes};
+ghost use Rattle.promql_grammar.specs.Results.{on_result};
+ghost use Rattle.promql_c.specs.Calls.{IsExplainOf, IsExplanation};
+
+use crate::call_error::CallError;
+use promql_ast::drop_expr;
+use promql_lines::rejected_query::RejectedQuery;
+use promql_report::rejection::{Rejection, read_query};
+use promql_span::limits::Limits;
+use std::alloc::{AllocError, Global};
+
+/// What is said of a query that is rejected: the message, or an object of JSON that has it.
+fn explanation(
+    alloc: Global,
+    query: &str,
+    rejection: Rejection,
+    as_json: bool,
+) -> Result<String, AllocError>
+    ensures { IfOk result (λ s. IsExplanation as_json query.now rejection (string_bytes s)) }
+{
+    let rejected = RejectedQuery::new(alloc, query, rejection)?;
+    let message = rejected.message(alloc)?;
+    if as_json {
+        rejected.text(alloc, message.as_str())
+    } else {
+        Ok(message)
+    }
+}
+
+/// The same of a query that may be accepted: then it is nothing.
+fn explain_text(
+    alloc: Global,
+    limits: &Limits,
+    text: &str,
+    as_json: bool,
+) -> Result<String, CallError>
+    ensures { IsExplainOf limits.now as_json text.now (on_result (λ s. string_bytes s) result) }
+{
+    match read_query(alloc, limits, text) {
+        Ok(Ok(expr)) => {
+            drop_expr(expr);
+            Ok(String::new(alloc))
+        }
+        Ok(Err(rejection)) => match explanation(alloc, text, rejection, as_json) {
+            Ok(explanation) => Ok(explanation),
+            Err(_) => Err(CallError::Memory),
+        },
+        Err(_) => Err(CallError::Memory),
+    }
+}
+
+/// The same of a query in bytes.
+pub(crate) fn explain_query(
+    alloc: Global,
+    limits: &Limits,
+    query: &[u8],
+    as_json: bool,
+) -> Result<String, CallError>
+    ensures { IsExplainOf limits.now as_json query.now (on_result (λ s. string_bytes s) result) }
+{
+    let Ok(text) = str::from_utf8(query) else {
+        return Err(CallError::NotUtf8);
+    };
+    explain_text(alloc, limits, text, as_json)
+}

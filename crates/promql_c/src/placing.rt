@@ -1,0 +1,80 @@
+//! The places of the nodes of a query's tree, as JSON: docs/guide/bindings.md, "Places of nodes".
+
+ghost use Rattle.std.specs.Prelude.{◌≡◌, IfOk, Ok, map, string_bytes};
+ghost use Rattle.serde_json.specs.View.{view};
+ghost use Rattle.serde_json.specs.Written.{compact_text};
+ghost use Rattle.promql_grammar.specs.Results.{on_result};
+ghost use Rattle.promql_ast.specs.View.{tree_of};
+ghost use Rattle.promql_json.specs.JsonParts.{list};
+ghost use Rattle.promql_syntax.specs.ParseAnswers.{IsAnswerTo};
+ghost use Rattle.promql_c.specs.Calls.{IsTextOf};
+ghost use Rattle.promql_c.specs.PlacesText.{IsPlacesText, span_value};
+
+use crate::call_error::CallError;
+use crate::collecting::value_text;
+use promql_ast::{Expr, drop_expr};
+use promql_places::find_places;
+use promql_report::rejection::read_query;
+use promql_span::Span;
+use promql_span::limits::Limits;
+use serde_json::{Value, json};
+use std::alloc::{AllocError, Global};
+
+fn place_value(alloc: Global, place: Span) -> Result<Value, AllocError>
+    ensures { IfOk result (λ v. view v ≡ span_value place) }
+{
+    json!(in alloc; [place.start, place.end])
+}
+
+/// A list of places.
+fn places_value(alloc: Global, places: &[Span]) -> Result<Value, AllocError>
+    ensures { IfOk result (λ v. view v ≡ list (map span_value places.now)) }
+{
+    let mut list = Vec::with_capacity(alloc, places.len())?;
+    for place in places {
+        list.push(place_value(alloc, *place)?)?;
+    }
+    Ok(Value::Array(list))
+}
+
+fn places_text(alloc: Global, places: &[Span]) -> Result<String, AllocError>
+    ensures { IfOk result (λ s. string_bytes s ≡ compact_text (list (map span_value places.now))) }
+{
+    let value = places_value(alloc, places)?;
+    value_text(alloc, value)
+}
+
+/// The JSON of the places of the nodes of a text's tree.
+fn text_of_places(alloc: Global, query: &str, expr: &Expr) -> Result<String, AllocError>
+    ensures { IfOk result (λ s. IsAnswerTo query.now (Ok (tree_of expr.now)) → IsPlacesText query.now (tree_of expr.now) (string_bytes s)) }
+{
+    let places = find_places(alloc, query, expr)?;
+    places_text(alloc, places.as_slice())
+}
+
+/// The JSON of the places of a text's query.
+fn place_text(alloc: Global, limits: &Limits, query: &str) -> Result<String, CallError>
+    ensures { IsTextOf (IsPlacesText query.now) limits.now query.now (on_result (λ s. string_bytes s) result) }
+{
+    let expr = match read_query(alloc, limits, query) {
+        Ok(Ok(expr)) => expr,
+        Ok(Err(rejection)) => return Err(CallError::Rejected(rejection)),
+        Err(_) => return Err(CallError::Memory),
+    };
+    let text = text_of_places(alloc, query, &expr);
+    drop_expr(expr);
+    match text {
+        Ok(text) => Ok(text),
+        Err(_) => Err(CallError::Memory),
+    }
+}
+
+/// The JSON of the places of a query.
+pub(crate) fn place_query(alloc: Global, limits: &Limits, query: &[u8]) -> Result<String, CallError>
+    ensures { IsTextOf (IsPlacesText query.now) limits.now query.now (on_result (λ s. string_bytes s) result) }
+{
+    let Ok(query) = str::from_utf8(query) else {
+        return Err(CallError::NotUtf8);
+    };
+    place_text(alloc, limits, query)
+}
