@@ -22,7 +22,11 @@ import time
 from pathlib import Path
 from typing import NamedTuple
 
-DIST = Path(__file__).resolve().parent.parent / "dist"
+ROOT = Path(__file__).resolve().parent.parent
+sys.path.insert(0, str(ROOT / "bin"))
+from checks import Checks  # noqa: E402
+
+DIST = ROOT / "dist"
 MATCHER = 'tenant="a"'
 # What one attack may take: processor seconds, the same by the clock four times over, and MB of memory. (What has to take longer, where
 # promql has no limits, is held against what a part of it takes on the same machine.)
@@ -30,14 +34,12 @@ SECONDS, MEMORY = 10, 512
 TOO_DEEP, UNCLOSED = "expression nested too deeply", "unclosed left parenthesis"
 TOO_LARGE, TOO_LONG = "patterns are too large", "query is too long"
 
-counts = {True: 0, False: 0}
+checks = Checks()
 
 
 def check(name, is_so, found):
     """Counts one thing that is checked, and says what was found where it fails."""
-    counts[is_so] += 1
-    if not is_so:
-        print(f"FAILED {name}: {str(found)[:500]}")
+    checks.check(is_so, f"{name}: {str(found)[:500]}")
 
 
 class Ran(NamedTuple):
@@ -228,8 +230,15 @@ def attack_by_stacks():
 
 # ---- outputs
 
-# What a shell does with the streams of a program, and the status of one with an output and of promql_check, which has none.
-STREAMS = {"<&-": (2, 2), ">&-": (5, 0), ">/dev/full": (5, 0), "2>&-": (0, 0), "2>/dev/full": (0, 0), "| true": (5, 0)}
+# What a shell does with the streams of a program, and the status of promql, of others with an output, and of promql_check, which has none.
+STREAMS = {
+    "<&-": (2, 2, 2),
+    ">&-": (5, 5, 0),
+    ">/dev/full": (5, 5, 0),
+    "2>&-": (0, 0, 0),
+    "2>/dev/full": (0, 0, 0),
+    "| true": (5, 141, 0),
+}
 
 
 def attack_outputs():
@@ -241,8 +250,8 @@ def attack_outputs():
             wait = "sleep 0.2; " if "|" in stream else ""
             script = f'{{ {wait}exec "$0" "$@"; }} {stream}; exit ${{PIPESTATUS[0]}}'
             ran = run(["bash", "-c", script, DIST / program, *words], '"1"')
-            wanted = statuses[program == "promql_check"]
-            check(f"{program} {stream}", ran.status == wanted, ran)
+            wanted = statuses[0 if program == "promql" else 2 if program == "promql_check" else 1]
+            check(f"{program} {stream}", ran.status == wanted and (wanted != 141 or not ran.err), ran)
 
 
 # ---- control characters
@@ -417,8 +426,7 @@ def attack_page():
 def main():
     for attack in (attack_by_queries, attack_by_stacks, attack_outputs, attack_terminals, attack_files, attack_page):
         attack()
-    print(f"{counts[True]} passed, {counts[False]} failed")
-    return 1 if counts[False] else 0
+    return checks.end()
 
 
 if __name__ == "__main__":

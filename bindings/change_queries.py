@@ -14,6 +14,7 @@ import sys
 
 import rows
 import trees
+from checks import print_counts
 
 WORDS = ("tenant", "team-a", "foo", "foo_total", "job")
 NO = "not changed"
@@ -75,8 +76,7 @@ def main(programs):
                 print(f"FAILED {program}: {query[:200]}")
             passed, failed = passed + is_same, failed + (not is_same)
     print(f"{changed} of {len(asked)} queries are changed")
-    print(f"{passed} passed, {failed} failed")
-    return 1 if failed else 0
+    return print_counts(passed, failed)
 
 
 if __name__ == "__main__":

@@ -12,6 +12,9 @@ import tempfile
 from pathlib import Path
 
 ROOT = Path(__file__).resolve().parent.parent
+sys.path.insert(0, str(ROOT / "bin"))
+from checks import Checks  # noqa: E402
+
 GUIDE = ROOT / "docs/guide/formatter.md"
 ENVIRONMENT = {**os.environ, "PATH": f"{ROOT / 'dist'}{os.pathsep}{os.environ['PATH']}"}
 QUERY = 'sum by(job)(rate(errors_total{code=~"5..",job="api"}[5m]))\n/ on (job)\n# all\nsum(rate(requests_total{job="api"}[5m]))by(job)\n'
@@ -23,16 +26,11 @@ LAID_OUT = (
 REJECTED = "sum(\n"
 MESSAGE = "unclosed left parenthesis\n"
 
-passed = failed = 0
+checks = Checks()
 
 
 def check(name, found, wanted):
-    global passed, failed
-    if found == wanted:
-        passed += 1
-    else:
-        failed += 1
-        print(f"FAILED {name}: wanted {wanted!r}, got {found!r}")
+    checks.check(found == wanted, f"{name}: wanted {wanted!r}, got {found!r}")
 
 
 def filtered(command, text):
@@ -64,8 +62,7 @@ def main():
             check(option_line, edited(text, option_line, "normal gggqG"), by_filter)
             check("FormatPromql", edited(text, *function, "FormatPromql"), by_function)
             check("undo", edited(text, filter_line, "undo"), text)
-    print(f"{passed} passed, {failed} failed")
-    return 1 if failed else 0
+    return checks.end()
 
 
 sys.exit(main())

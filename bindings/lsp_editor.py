@@ -16,6 +16,9 @@ from pathlib import Path
 import lsp_files
 
 ROOT = Path(__file__).resolve().parent.parent
+sys.path.insert(0, str(ROOT / "bin"))
+from checks import Checks  # noqa: E402
+
 GUIDE = ROOT / "docs/guide/editor.md"
 PATIENCE = 5
 # The greatest median of the times of a request, in milliseconds.
@@ -34,16 +37,12 @@ groups:
 """
 QUERY = "job:errors:rate5m / 2\n"
 
-passed = failed = 0
+checks = Checks()
 
 
 def check(name, found, wanted):
-    global passed, failed
-    if found == wanted or callable(wanted) and wanted(found):
-        passed += 1
-    else:
-        failed += 1
-        print(f"FAILED {name}: got {found!r}" + ("" if callable(wanted) else f", wanted {wanted!r}"))
+    is_so = found == wanted or callable(wanted) and wanted(found)
+    checks.check(is_so, f"{name}: got {found!r}" + ("" if callable(wanted) else f", wanted {wanted!r}"))
 
 
 class Editor:
@@ -357,8 +356,7 @@ def main():
         finally:
             if editor.process.poll() is None:
                 editor.process.kill()
-    print(f"{passed} passed, {failed} failed")
-    return 1 if failed else 0
+    return checks.end()
 
 
 if __name__ == "__main__":

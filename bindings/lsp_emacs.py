@@ -9,6 +9,9 @@ import tempfile
 from pathlib import Path
 
 ROOT = Path(__file__).resolve().parent.parent
+sys.path.insert(0, str(ROOT / "bin"))
+from checks import print_counts  # noqa: E402
+
 GUIDE = ROOT / "docs/guide/editor.md"
 SCRIPT = """
 (require 'eglot)
@@ -62,8 +65,7 @@ def main():
     missing = [pattern for pattern in WANTED if not re.search(pattern, said, re.M)]
     for pattern in missing:
         print(f"FAILED {pattern}: Emacs said {said}")
-    print(f"{len(WANTED) - len(missing)} passed, {len(missing)} failed")
-    return 1 if missing else 0
+    return print_counts(len(WANTED) - len(missing), len(missing))
 
 
 sys.exit(main())

@@ -37,7 +37,9 @@ from typing import Any
 import promql
 from proxy_requests import HONEST_EXEMPLARS, HONEST_PATHS, HONEST_QUERIES, MATCH_PATHS, NOW, SELECTORS_OF_NOW, SELECTORS_OF_SERIES, hostile_requests
 
-sys.path.insert(0, str(Path(__file__).resolve().parent.parent / "bench" / "meaning"))
+ROOT = Path(__file__).resolve().parent.parent
+sys.path[:0] = [str(ROOT / "bin"), str(ROOT / "bench" / "meaning")]
+from checks import Checks  # noqa: E402
 from compare import Maker, Prometheus, Series, rounded, samples_of  # type: ignore[import]  # noqa: E402
 
 # What only others have in their data. A request may name it, as a client may guess a name; no answer does.
@@ -45,14 +47,12 @@ HIDDEN = re.compile(rb"hidden|Hidden|31337")
 SECONDS = 20
 Parameters = Mapping[str, Any] | Sequence[tuple[str, str]]
 
-counts = {True: 0, False: 0}
+checks = Checks()
 
 
 def check(name: str, is_so: bool, found: object = "") -> None:
     """Counts one thing that is checked, and says what was found where it fails."""
-    counts[is_so] += 1
-    if not is_so:
-        print(f"FAILED {name}: {str(found)[:1800]}")
+    checks.check(is_so, f"{name}: {str(found)[:1800]}")
 
 
 # ---- the data
@@ -456,8 +456,7 @@ def main() -> int:
         check("the server has its data after all that", alive["data"]["result"][0]["value"][1] == "3", alive)
     asked = 2 * len(HONEST_QUERIES) + len(MATCH_PATHS) * len(SELECTORS_OF_SERIES) + len(SELECTORS_OF_NOW) + len(HONEST_EXEMPLARS) + len(HONEST_PATHS)
     print(f"{asked} honest requests, of whose queries others change {changed}; {made} random ones; {attacks} hostile ones")
-    print(f"{counts[True]} passed, {counts[False]} failed")
-    return 1 if counts[False] else 0
+    return checks.end()
 
 
 if __name__ == "__main__":

@@ -8,10 +8,9 @@ usage: bindings/rows.py c PROGRAM [THREADS]   through bindings/c/tests/test_prom
 Where THREADS are given, each makes all calls again beside the others, and is to get the same.
 
 The rows are the lines of crates/promql_batch/stdin with those of stdout. Each that asks for a query is printed in its mode, and
-checked; one that asks for a line is also printed by `canonical`, and in Python by `canonical_many`. Of those with a matcher to enforce, each that asks for a line is one
-call. A line that is no request is no call, and is left out; a
-line that is not UTF-8 is passed on as the query. What promql_batch says of what was expected the library does not say, so that is
-left out. The last line is 'N passed, M failed'.
+checked and explained; one that asks for a line is also printed by `canonical`, and in Python by `canonical_many`. Of those with a matcher to
+enforce, each that asks for a line is one call. A line that is no request is no call, and is left out; a line that is not UTF-8 is passed on
+as the query. What was expected at a syntax error comes from `explain` alone. The last line is 'N passed, M failed'.
 
 A file of calls has for each a line 'CALL MODE LEVEL WIDTH START END LENGTH' of numbers, and then so many bytes and a line feed. Of
 those of a call that enforces, the last END are the matcher.
@@ -26,14 +25,18 @@ from pathlib import Path
 from typing import NamedTuple
 
 ROOT = Path(__file__).resolve().parent.parent
+sys.path.insert(0, str(ROOT / "bin"))
+from checks import print_counts  # noqa: E402
+
 RUN = ROOT / "crates" / "promql_batch"
 # What the rows are run with: crates/promql_batch/args.
 MAX_LEN = 1_048_576
 MAX_PATTERNS = 32_000
 # The numbers of the calls in a file, and of the modes in promql.h.
-PRINT, CANONICAL, CHECK, _, ENFORCE = range(5)
+PRINT, CANONICAL, CHECK, _, ENFORCE, _, _, EXPLAIN = range(8)
 MODES = {"line": 0, "pretty": 1, "json": 2}
 ACCEPTED = b'{"ok":""}'
+SYNTAX = "invalid promql query"
 
 sys.setrecursionlimit(100_000)  # JSON of high trees
 
@@ -65,8 +68,10 @@ class Answer(NamedTuple):
     column: int
     text: bytes
 
-    def reply(self, mode):
+    def reply(self, call, mode):
         """The answer as promql_batch writes it."""
+        if call == EXPLAIN and self.status == 0:
+            return in_short(json.loads(self.text)) if self.text else ACCEPTED
         if self.status == 0:
             return b'{"ok":%s}' % (self.text if mode == "json" else compact(self.text.decode()))
         members = {"code": self.status, "error": self.text.decode()}
@@ -90,9 +95,28 @@ def without_expected(reply):
     return compact({name: value for name, value in answer.items() if name not in ("expected", "found")})
 
 
-def calls_of_row(place, asked, reply):
+def without_id(reply):
+    """An answer of promql_batch without the id of its request."""
+    if not reply.startswith(b'{"id":'):
+        return reply
+    return compact({name: value for name, value in json.loads(reply).items() if name != "id"})
+
+
+def in_short(told):
+    """An explanation as promql_batch answers its query: without what the message says beside `expected` and `found`."""
+    if "expected" in told:
+        *firsts, last = told["expected"]
+        names = f"{', '.join(firsts)} or {last}" if firsts else last
+        said = f"unexpected {told['found']}, expected {names}"
+        if told["error"] == said or told["error"].startswith(f"{said}; "):
+            told = {**told, "error": SYNTAX}
+    return compact(told)
+
+
+def calls_of_row(place, asked, answer):
     """Yields the calls for a line of standard input, which promql_batch answers so."""
-    reply = without_expected(reply)
+    answer = without_id(answer)
+    reply = without_expected(answer)
     code = json.loads(reply).get("code", 0)
     if code == 7:
         return
@@ -113,7 +137,9 @@ def calls_of_row(place, asked, reply):
     yield Call(place, PRINT, mode, level, width, query, reply)
     if mode == "line":
         yield Call(place, CANONICAL, mode, 0, 0, query, reply)
-    yield Call(place, CHECK, "line", 0, 0, query, reply if code in (3, 4, 14) else ACCEPTED)
+    is_rejected = code in (3, 4, 14)
+    yield Call(place, CHECK, "line", 0, 0, query, reply if is_rejected else ACCEPTED)
+    yield Call(place, EXPLAIN, "json", 0, 0, query, answer if is_rejected else ACCEPTED)
 
 
 def all_calls():
@@ -141,7 +167,7 @@ def compare(calls, answers):
     """Prints each call whose answer is not the one that is wanted. Returns how many there are."""
     failed = 0
     for call, answer in zip(calls, answers):
-        found = answer.reply(call.mode)
+        found = answer.reply(call.call, call.mode)
         if found != call.wanted:
             failed += 1
             print(f"FAILED {call.place}, call {call.call}: wanted {call.wanted[:500]}, got {found[:500]}")
@@ -171,7 +197,22 @@ def error_answer(error):
 
     start, end = (len(error.query[:at].encode()) for at in (error.start, error.end))
     status = 14 if isinstance(error, promql.TooLargeError) else 4
-    return Answer(status, start, end, error.line, error.column, error.message.encode())
+    return Answer(status, start, end, error.line, error.column, error.reason.encode())
+
+
+def explanation(query):
+    """What the package says of a query, as the library has it: nothing where it is accepted."""
+    import promql
+
+    try:
+        promql.check(query)
+        return Answer(0, 0, 0, 0, 0, b"")
+    except promql.QueryError as error:
+        told = error_answer(error)
+        members = {"code": told.status, "start": told.start, "end": told.end, "line": told.line, "column": told.column}
+        if error.expected:
+            members.update(expected=error.expected, found=error.found)
+        return Answer(0, 0, 0, 0, 0, compact({**members, "error": error.message}))
 
 
 def python_answer(call):
@@ -180,6 +221,8 @@ def python_answer(call):
 
     query = call.query.decode(errors="surrogateescape")
     try:
+        if call.call == EXPLAIN:
+            return explanation(query)
         if call.call == CHECK:
             promql.check(query)
             text = ""
@@ -257,8 +300,7 @@ def main(words):
         passed, failed = run_python(int(words[1]) if len(words) == 2 else 0)
     else:
         sys.exit(__doc__)
-    print(f"{passed} passed, {failed} failed")
-    return 1 if failed else 0
+    return print_counts(passed, failed)
 
 
 if __name__ == "__main__":

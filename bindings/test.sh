@@ -10,8 +10,8 @@
 #                                Debian starts a service then
 # bindings/test.sh --proxy       holds the Go proxy against a Prometheus with several tenants, in half a minute, where that is installed
 #                                (docs/guide/proxy.md)
-# bindings/test.sh --editor      tries the language server in Neovim, and in Emacs, in half a minute, where they are installed
-#                                (docs/guide/editor.md)
+# bindings/test.sh --editor      tries the language server in Neovim, in Emacs, and with the extension for VS Code, in half a minute,
+#                                where nvim, emacs and node are installed (docs/guide/editor.md)
 set -u
 here=$(cd "$(dirname "$0")" && pwd)
 root=${here%/*}
@@ -326,6 +326,7 @@ test_python() {
     try 'the tables of functions' python3 "$here/schema/write_functions.py" --check
     add 'trees of the rows for Python' in_python "$here/python" "$here/trees.py" rows
     add 'changed trees for Python' in_python "$here/python" "$here/trees.py" changed 10000 1
+    add 'queries with comments, formatted' python3 "$root/bench/format/formatted.py" --made 100000
     test_wheel
 }
 
@@ -334,8 +335,8 @@ test_python() {
 test_scripts() {
     local script
     has mypy 'the types of the scripts' || return
-    for script in count_definitions list_edits manuals prove test_vendor vendor; do
-        try "the types of bin/$script" mypy --strict --cache-dir "$work/mypy" "$root/bin/$script"
+    for script in checks.py count_definitions list_edits manuals prove test_expected test_vendor vendor; do
+        MYPYPATH=$root/bin try "the types of bin/$script" mypy --strict --cache-dir "$work/mypy" "$root/bin/$script"
     done
 }
 
@@ -544,6 +545,9 @@ test_proxy() {
 # The editor and the server are in the group of processes that `limited` ends.
 test_editor() {
     local python
+    if has node 'the extension for VS Code'; then
+        add 'the extension for VS Code' env PYTHONPATH="$here/python" node "$here/lsp_vscode.js" "$root/editors/vscode"
+    fi
     has nvim 'the language server in Neovim' || return
     if ! python=$(python_with_yaml); then
         echo 'not tried: the language server in Neovim: no Python here has ruamel.yaml'

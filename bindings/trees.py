@@ -20,6 +20,7 @@ from importlib.util import module_from_spec, spec_from_loader
 from pathlib import Path
 
 import rows
+from checks import Checks
 
 QUERIES = rows.ROOT / "bench" / "queries" / "queries.txt"
 # Why a tree is not printed, or its line is not the one of its query.
@@ -88,19 +89,10 @@ def can_print():
     return True
 
 
-class Report:
+class Report(Checks):
     def __init__(self):
-        self.passed = 0
-        self.failed = 0
+        super().__init__(most=20)
         self.reasons = Counter()
-
-    def check(self, is_so, message):
-        if is_so:
-            self.passed += 1
-        else:
-            self.failed += 1
-            if self.failed <= 20:
-                print(f"FAILED {message[:1000]}")
 
 
 def why_other_line(query, form, line):
@@ -120,6 +112,7 @@ def check_rows():
     for query, form, expr in read_trees():
         report.check(expr.to_json() == form and tree.from_json(expr.to_json()) == expr, f"another form: {query}")
         report.check(eval(repr(expr), vars(tree)) == expr if depth(form) < 60 else True, f"another repr: {query}")
+        report.check(depth(form) >= 60 or are_places(query, expr), f"other places: {query}")
         if not prints:
             continue
         try:
@@ -135,6 +128,21 @@ def check_rows():
         else:
             report.reasons[why] += 1
     return report
+
+
+def are_places(query, expr):
+    """Whether the nodes of a query's tree have places, and each but the second argument of `info` is what its place reads as."""
+    import promql
+
+    nodes, places = list(expr.walk()), promql.places(query)
+    for node, (start, end) in zip(nodes, places):
+        try:
+            if promql.parse(query[start:end]) != node.to_json():
+                return False
+        except promql.QueryError:
+            if not query[start:end].startswith("{"):
+                return False
+    return len(nodes) == len(places)
 
 
 def cuts_to_nothing(error):
@@ -234,8 +242,7 @@ def main(words):
         sys.exit(__doc__)
     for reason, count in report.reasons.items():
         print(f"{reason}: {count}")
-    print(f"{report.passed} passed, {report.failed} failed")
-    return 1 if report.failed else 0
+    return report.end()
 
 
 if __name__ == "__main__":

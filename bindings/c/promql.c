@@ -31,10 +31,17 @@ void call_canonical(const struct limits *limits, const void *query, size_t query
                     size_t buffer_size, struct promql_result *result);
 void call_enforce(const struct limits *limits, const void *query, size_t query_length, const void *matcher,
                   size_t matcher_length, void *buffer, size_t buffer_size, struct promql_result *result);
+void call_rename(const struct limits *limits, const void *query, size_t query_length, uint32_t kind, const void *from,
+                 size_t from_length, const void *to, size_t to_length, void *buffer, size_t buffer_size,
+                 struct promql_result *result);
 void call_collect(const struct limits *limits, const void *query, size_t query_length, void *buffer,
                   size_t buffer_size, struct promql_result *result);
+void call_places(const struct limits *limits, const void *query, size_t query_length, void *buffer,
+                 size_t buffer_size, struct promql_result *result);
 void call_check(const struct limits *limits, const void *query, size_t query_length, void *buffer,
                 size_t buffer_size, struct promql_result *result);
+void call_explain(const struct limits *limits, const void *query, size_t query_length, uint32_t as_json, void *buffer,
+                  size_t buffer_size, struct promql_result *result);
 void call_snippet(const void *query, size_t query_length, size_t start, size_t end, void *buffer, size_t buffer_size,
                   struct promql_result *result);
 void call_format(const struct limits *limits, const void *query, size_t query_length, size_t width, size_t indent_width,
@@ -158,6 +165,20 @@ uint32_t promql_enforce(const char *query, size_t query_length, const char *matc
     return result->status;
 }
 
+uint32_t promql_rename(const char *query, size_t query_length, uint32_t kind, const char *from, size_t from_length, const char *to,
+                       size_t to_length, char *buffer, size_t buffer_size, struct promql_result *result)
+{
+    uint32_t status = is_slice(from, from_length) && is_slice(to, to_length)
+                          ? look_at(query, query_length, buffer, buffer_size, result)
+                          : PROMQL_BAD_POINTER;
+    if (status != PROMQL_OK)
+        return refuse(status, result);
+    struct limits limits = limits_now();
+    call_rename(&limits, start_of(query), query_length, kind, start_of(from), from_length, start_of(to), to_length,
+                room_of(buffer), buffer_size, result);
+    return result->status;
+}
+
 uint32_t promql_collect(const char *query, size_t query_length, char *buffer, size_t buffer_size,
                         struct promql_result *result)
 {
@@ -169,6 +190,17 @@ uint32_t promql_collect(const char *query, size_t query_length, char *buffer, si
     return result->status;
 }
 
+uint32_t promql_places(const char *query, size_t query_length, char *buffer, size_t buffer_size,
+                       struct promql_result *result)
+{
+    uint32_t status = look_at(query, query_length, buffer, buffer_size, result);
+    if (status != PROMQL_OK)
+        return refuse(status, result);
+    struct limits limits = limits_now();
+    call_places(&limits, start_of(query), query_length, room_of(buffer), buffer_size, result);
+    return result->status;
+}
+
 uint32_t promql_check(const char *query, size_t query_length, char *buffer, size_t buffer_size,
                       struct promql_result *result)
 {
@@ -177,6 +209,17 @@ uint32_t promql_check(const char *query, size_t query_length, char *buffer, size
         return refuse(status, result);
     struct limits limits = limits_now();
     call_check(&limits, start_of(query), query_length, room_of(buffer), buffer_size, result);
+    return result->status;
+}
+
+uint32_t promql_explain(const char *query, size_t query_length, uint32_t as_json, char *buffer, size_t buffer_size,
+                        struct promql_result *result)
+{
+    uint32_t status = look_at(query, query_length, buffer, buffer_size, result);
+    if (status != PROMQL_OK)
+        return refuse(status, result);
+    struct limits limits = limits_now();
+    call_explain(&limits, start_of(query), query_length, as_json, room_of(buffer), buffer_size, result);
     return result->status;
 }
 

@@ -47,6 +47,51 @@ func (e *NodeError) Unwrap() error {
 	return e.cause
 }
 
+// Place is a part of a query: its bytes from Start up to End.
+type Place struct {
+	Start, End int
+}
+
+// Places returns the place of each node of the query's tree, in the order of Walk. A sign before a number belongs to the number, and a postfix
+// such as offset to what it changes.
+func Places(query string) ([]Place, error) {
+	text, err := textOf(query, func(query *C.char, length C.size_t, buffer *C.char, size C.size_t, result *C.struct_promql_result) {
+		C.promql_places(query, length, buffer, size, result)
+	})
+	if err != nil {
+		return nil, err
+	}
+	var pairs [][2]int
+	if err := json.Unmarshal([]byte(text), &pairs); err != nil {
+		return nil, err
+	}
+	places := make([]Place, len(pairs))
+	for i, pair := range pairs {
+		places[i] = Place{pair[0], pair[1]}
+	}
+	return places, nil
+}
+
+// ParsePlaced returns the tree of the query, as Parse does, and the place of each of its nodes.
+func ParsePlaced(query string) (Expr, map[Expr]Place, error) {
+	expr, err := Parse(query)
+	if err != nil {
+		return nil, nil, err
+	}
+	places, err := Places(query)
+	if err != nil {
+		return nil, nil, err
+	}
+	found := make(map[Expr]Place, len(places))
+	Inspect(expr, func(node Expr, _ []Expr) error {
+		if node != nil {
+			found[node], places = places[0], places[1:]
+		}
+		return nil
+	})
+	return expr, found, nil
+}
+
 // PrintTree returns the query that has the tree of this JSON form (docs/reference/json.md of the repository), on one line, or as Format does
 // where there are options; with parentheses where the tree needs them, if parentheses is true. What is returned is within the limits of a
 // query, was read again, and means the tree. The errors are ErrNotATree, ErrUnfaithful, ErrTooLargeTree and those without a place.

@@ -52,6 +52,12 @@ var (
 	ErrLargeEnforced = errors.New("the matcher, or the query with it, is not within the limits")
 	// ErrLongOutput says that what would be returned is too long (SetMaxOutput). An error that is this one has the numbers.
 	ErrLongOutput = errors.New("output is too long")
+	// ErrNotAName says that the new name of a metric is none.
+	ErrNotAName = errors.New("the new name is no name of a metric")
+	// ErrMetricLabel says that the old name or the new one of a label is __name__, which names no label but the metric.
+	ErrMetricLabel = errors.New("the label of the metric name cannot be renamed")
+	// ErrClash says that one list has both labels, so that they would become one.
+	ErrClash = errors.New("both labels are in one list")
 	// ErrSmallStack says that the thread has less than 1.25 MiB of stack left, and a query may need as much. Calls run on the stacks
 	// of the system's threads, which have as much as `ulimit -s` said when the process began: 8 MiB, mostly.
 	ErrSmallStack = errors.New("the thread has less than 1.25 MiB of stack left")
@@ -78,6 +84,29 @@ func (e *QueryError) Unwrap() error {
 
 func (e *QueryError) Error() string {
 	return fmt.Sprintf("%d:%d: %s", e.Line, e.Column, e.Message)
+}
+
+// Explanation is why a query is rejected, for people. Message says what is wrong; at a syntax error it says what was found and what was
+// expected, and what may be meant. Expected has the names of what was expected, as string, "}" or end of query, and Found the token that does
+// not fit, as identifier "b", or end of query; of any other error they are empty.
+type Explanation struct {
+	Message  string `json:"error"`
+	Expected []string
+	Found    string
+}
+
+// Explain returns what is said of the query (docs/guide/bindings.md of the repository, "Why a query is rejected"). It is another call of the
+// library, which reads the beginning of the query some sixty times. Where it tells of no token, as with other limits than before, the
+// explanation has the message of the error alone.
+func (e *QueryError) Explain() Explanation {
+	text, result := call(e.Query, func(query *C.char, length C.size_t, buffer *C.char, size C.size_t, result *C.struct_promql_result) {
+		C.promql_explain(query, length, 1, buffer, size, result)
+	})
+	var told Explanation
+	if result.status != C.PROMQL_OK || json.Unmarshal([]byte(text), &told) != nil || told.Found == "" {
+		return Explanation{Message: e.Message}
+	}
+	return told
 }
 
 // Snippet returns the line of the query where the part begins, a line feed, and a mark below that part.
@@ -178,6 +207,30 @@ func Enforce(query, matcher string) (string, error) {
 		C.promql_enforce(query, length, first, C.size_t(len(bytes)), buffer, size, result)
 	})
 	runtime.KeepAlive(bytes)
+	return text, err
+}
+
+// RenameMetric returns the query on one line with the metric from named to: before braces, and in equal matchers of __name__. What is
+// returned is within the limits of a query, was read again, and means the renamed query (docs/guide/rewriting.md of the repository). The
+// error is ErrNotAName where the new name is none of a metric, such as a.b.
+func RenameMetric(query, from, to string) (string, error) {
+	return rename(query, C.PROMQL_METRIC, from, to)
+}
+
+// RenameLabel returns the query on one line with the label from named to: in matchers, and in the lists of aggregations and operators.
+// Strings stay as they are. The error is ErrMetricLabel where one of the names is __name__, and ErrClash where one list has both labels.
+func RenameLabel(query, from, to string) (string, error) {
+	return rename(query, C.PROMQL_LABEL, from, to)
+}
+
+func rename(query string, kind C.uint32_t, from, to string) (string, error) {
+	names := append(append(make([]byte, 0, len(from)+len(to)+1), from...), to...)
+	first := unsafe.Pointer(&names[:1][0])
+	text, err := textOf(query, func(query *C.char, length C.size_t, buffer *C.char, size C.size_t, result *C.struct_promql_result) {
+		C.promql_rename(query, length, kind, (*C.char)(first), C.size_t(len(from)), (*C.char)(unsafe.Add(first, len(from))), C.size_t(len(to)),
+			buffer, size, result)
+	})
+	runtime.KeepAlive(names)
 	return text, err
 }
 
@@ -314,6 +367,12 @@ func textOrError(query, text string, result C.struct_promql_result) (string, err
 		return "", explained{text, ErrLargeEnforced}
 	case C.PROMQL_LONG_OUTPUT:
 		return "", explained{text, ErrLongOutput}
+	case C.PROMQL_NOT_A_NAME:
+		return "", ErrNotAName
+	case C.PROMQL_METRIC_LABEL:
+		return "", ErrMetricLabel
+	case C.PROMQL_CLASH:
+		return "", ErrClash
 	case C.PROMQL_SMALL_STACK:
 		return "", ErrSmallStack
 	}

@@ -6,6 +6,7 @@ import (
 	"os"
 	"os/exec"
 	"promql"
+	"reflect"
 	"strings"
 	"sync"
 	"testing"
@@ -33,6 +34,12 @@ func ExampleEnforce() {
 	query, err := promql.Enforce("sum(rate(foo[5m])) / bar", `namespace="team-a"`)
 	fmt.Println(query, err)
 	// Output: sum(rate(foo{namespace="team-a"}[5m])) / bar{namespace="team-a"} <nil>
+}
+
+func ExampleRenameLabel() {
+	query, err := promql.RenameLabel(`sum by (job) (rate(a{job="b"}[5m]))`, "job", "service")
+	fmt.Println(query, err)
+	// Output: sum by (service) (rate(a{service="b"}[5m])) <nil>
 }
 
 func ExampleQueryError() {
@@ -94,6 +101,49 @@ func TestJSON(t *testing.T) {
 	}
 	if _, err := promql.JSON("foo[18446744073709551.616]"); !errors.Is(err, promql.ErrNumberTooWide) {
 		t.Error(err)
+	}
+}
+
+func TestRename(t *testing.T) {
+	if got, err := promql.RenameMetric(`a{b="1"} / {__name__="a"}`, "a", "c"); err != nil || got != `c{b="1"} / {__name__="c"}` {
+		t.Errorf("%q, %v", got, err)
+	}
+	if _, err := promql.RenameMetric("a", "a", ""); !errors.Is(err, promql.ErrNotAName) {
+		t.Error(err)
+	}
+	if _, err := promql.RenameMetric("a", "", "b c"); !errors.Is(err, promql.ErrNotAName) {
+		t.Error(err)
+	}
+	for names, want := range map[[2]string]error{
+		{"b", "c"}:        promql.ErrClash,
+		{"__name__", "b"}: promql.ErrMetricLabel,
+		{"b", "__name__"}: promql.ErrMetricLabel,
+		{"b", "\xff"}:     promql.ErrNotUTF8,
+		{"absent", "c"}:   nil,
+		{"b", "no clash"}: nil,
+	} {
+		if _, err := promql.RenameLabel(`a{b="1",c="2"}`, names[0], names[1]); !errors.Is(err, want) {
+			t.Errorf("%q: %v", names, err)
+		}
+	}
+}
+
+func TestExplain(t *testing.T) {
+	for query, want := range map[string]promql.Explanation{
+		"foo{a=b}":             {`unexpected identifier "b", expected string`, []string{"string"}, `identifier "b"`},
+		`foo{a=="b"}`:          {`unexpected "=", expected string; a matcher has one "="`, []string{"string"}, `"="`},
+		"sum by (job 1) (foo)": {`unexpected number "1", expected "," or ")"`, []string{`","`, `")"`}, `number "1"`},
+		"nosuch(1)":            {Message: "unknown function with name 'nosuch'"},
+		`foo{a=~"\\w{690}"} b`: {Message: "invalid promql query"},
+		`a{b=~"c{3000}"}`:      {Message: "patterns are too large: 39013, at most 16000"},
+	} {
+		if got := rejection(t, query).Explain(); !reflect.DeepEqual(got, want) {
+			t.Errorf("%q: %#v", query, got)
+		}
+	}
+	gone := promql.QueryError{Message: "gone", Query: "1"}
+	if got := gone.Explain(); !reflect.DeepEqual(got, promql.Explanation{Message: "gone"}) {
+		t.Errorf("%#v", got)
 	}
 }
 

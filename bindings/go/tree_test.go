@@ -26,6 +26,25 @@ func ExampleParse() {
 	// Output: foo
 }
 
+func ExampleParsePlaced() {
+	query := "rate(foo[5m]) > 1"
+	expr, places, err := promql.ParsePlaced(query)
+	if err != nil {
+		return
+	}
+	promql.Inspect(expr, func(node promql.Expr, _ []promql.Expr) error {
+		if place, found := places[node]; found {
+			fmt.Println(query[place.Start:place.End])
+		}
+		return nil
+	})
+	// Output:
+	// rate(foo[5m]) > 1
+	// rate(foo[5m])
+	// foo[5m]
+	// 1
+}
+
 func parsed(t *testing.T, query string) promql.Expr {
 	t.Helper()
 	expr, err := promql.Parse(query)

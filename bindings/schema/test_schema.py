@@ -22,25 +22,21 @@ import jsonschema
 import changes
 
 ROOT = Path(__file__).resolve().parents[2]
+sys.path.insert(0, str(ROOT / "bin"))
+from checks import Checks  # noqa: E402
+
 SCHEMA = json.loads(Path(__file__).with_name("promql.schema.json").read_text(encoding="utf-8"))
 # Forms of at most so many bytes are changed.
 MOST_BYTES = 1000
 # Why a query that is accepted has no form.
 NUMBER_TOO_WIDE = 6
 
-passed = 0
-failed = 0
+checks = Checks(most=20)
 
 
 def check(is_so, message):
     """Counts one thing that is checked, and says where it fails."""
-    global passed, failed
-    if is_so:
-        passed += 1
-    else:
-        failed += 1
-        if failed <= 20:
-            print(f"FAILED {message[:300]}")
+    checks.check(is_so, message[:300])
 
 
 # ---- forms
@@ -172,7 +168,6 @@ def main():
     check_page()
     check_functions()
     check_forms(jsonschema.Draft202012Validator(SCHEMA))
-    print(f"{passed} passed, {failed} failed")
 
 
 # Forms of great heights need many calls within calls.
@@ -181,4 +176,4 @@ threading.stack_size(1 << 30)
 thread = threading.Thread(target=main)
 thread.start()
 thread.join()
-sys.exit(1 if failed or not passed else 0)
+sys.exit(checks.end())

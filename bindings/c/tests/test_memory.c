@@ -66,6 +66,8 @@ static void make_call(int call, const char *query, struct answer *answer)
         promql_enforce(query, length, "a", 1, answer->text, SIZE, &answer->result);
     else if (call == 7)
         promql_collect(query, length, answer->text, SIZE, &answer->result);
+    else if (call == 8 || call == 9)
+        promql_explain(query, length, call == 9, answer->text, SIZE, &answer->result);
     else
         promql_snippet(query, length, 1, 3, answer->text, SIZE, &answer->result);
 }
@@ -114,7 +116,7 @@ int main(void)
     if (failed != 0)
         printf("FAILED a call without the bounds of the stack\n");
     for (size_t i = 0; i < sizeof queries / sizeof *queries; i++) {
-        for (int call = 0; call < 9; call++) {
+        for (int call = 0; call < 11; call++) {
             struct answer ample, found;
             long number = 0, is_met = 1;
             make_call(call, queries[i], &ample);

@@ -36,7 +36,7 @@ static void *allocate(size_t size)
 }
 
 /* A call with its arguments. */
-enum call { CALL_PRINT, CALL_CANONICAL, CALL_CHECK, CALL_SNIPPET, CALL_ENFORCE, CALL_COLLECT, CALL_PRINT_TREE };
+enum call { CALL_PRINT, CALL_CANONICAL, CALL_CHECK, CALL_SNIPPET, CALL_ENFORCE, CALL_COLLECT, CALL_PRINT_TREE, CALL_EXPLAIN, CALL_PLACES };
 
 struct request {
     enum call call;
@@ -57,8 +57,12 @@ static uint32_t make_call(const struct request *r, char *buffer, size_t size, st
         return promql_check(r->query, r->length, buffer, size, result);
     case CALL_COLLECT:
         return promql_collect(r->query, r->length, buffer, size, result);
+    case CALL_PLACES:
+        return promql_places(r->query, r->length, buffer, size, result);
     case CALL_PRINT_TREE: /* (`end` says whether parentheses are put) */
         return promql_print_tree(r->query, r->length, r->mode, r->level, r->width, (uint32_t)r->end, buffer, size, result);
+    case CALL_EXPLAIN:
+        return promql_explain(r->query, r->length, r->mode == PROMQL_JSON, buffer, size, result);
     case CALL_ENFORCE: /* (the last `end` bytes are the matcher) */
         return promql_enforce(r->query, r->length - r->end, r->query + (r->length - r->end), r->end, buffer, size, result);
     default:
@@ -246,6 +250,47 @@ static void test_enforcing(void)
     CHECK(gives(of_query(CALL_CHECK, "info(b)"), PROMQL_OK, ""));
 }
 
+/* Whether a call renames so: `made` is the text, or the message of this status. */
+static int renames(const char *query, uint32_t kind, const char *from, const char *to, uint32_t status, const char *made)
+{
+    char buffer[256];
+    struct promql_result result;
+    uint32_t found = promql_rename(query, strlen(query), kind, from, strlen(from), to, strlen(to), buffer, sizeof buffer, &result);
+    return found == status && result.status == status && result.length == strlen(made) && memcmp(buffer, made, result.length) == 0;
+}
+
+static void test_renaming(void)
+{
+    char buffer[8] = "unknown";
+    struct promql_result result;
+    CHECK(renames("sum by (job) (rate(a{job='b'}[5m])) / {__name__='a'}", PROMQL_METRIC, "a", "c", PROMQL_OK,
+                  "sum by (job) (rate(c{job=\"b\"}[5m])) / {__name__=\"c\"}"));
+    CHECK(renames("sum by (job) (rate(a{job='b'}[5m]))", PROMQL_LABEL, "job", "service", PROMQL_OK,
+                  "sum by (service) (rate(a{service=\"b\"}[5m]))"));
+    CHECK(renames("a", PROMQL_METRIC, "b", "c", PROMQL_OK, "a"));
+    CHECK(renames("a", PROMQL_METRIC, "a", "b.c", PROMQL_NOT_A_NAME, "the new name is no name of a metric"));
+    CHECK(renames("a", PROMQL_METRIC, "b", "", PROMQL_NOT_A_NAME, "the new name is no name of a metric"));
+    CHECK(renames("a", PROMQL_LABEL, "__name__", "b", PROMQL_METRIC_LABEL, "the label of the metric name cannot be renamed"));
+    CHECK(renames("a", PROMQL_LABEL, "b", "__name__", PROMQL_METRIC_LABEL, "the label of the metric name cannot be renamed"));
+    CHECK(renames("a{b='1',c='2'}", PROMQL_LABEL, "b", "c", PROMQL_CLASH, "both labels are in one list"));
+    CHECK(renames("sum by (b, c) (a)", PROMQL_LABEL, "b", "c", PROMQL_CLASH, "both labels are in one list"));
+    CHECK(renames("a{b='1',c='2'}", PROMQL_LABEL, "b", "b", PROMQL_OK, "a{b=\"1\",c=\"2\"}"));
+    CHECK(renames("a{b='1'}", PROMQL_LABEL, "b", "c d", PROMQL_OK, "a{\"c d\"=\"1\"}"));
+    CHECK(renames("1 +", PROMQL_LABEL, "__name__", "b", PROMQL_REJECTED, "invalid promql query"));
+    CHECK(renames("a", 2, "a", "b", PROMQL_UNKNOWN_MODE, "unknown mode"));
+    CHECK(renames("a", PROMQL_METRIC, "\xff", "b", PROMQL_NOT_UTF8, "input is not UTF-8"));
+    CHECK(renames("a", PROMQL_METRIC, "a", "\xff", PROMQL_NOT_UTF8, "input is not UTF-8"));
+    CHECK(renames("\xff", PROMQL_METRIC, "a", "b", PROMQL_NOT_UTF8, "input is not UTF-8"));
+    promql_set_limits(4, 16000);
+    CHECK(renames("a+b", PROMQL_METRIC, "a", "c", PROMQL_LARGE_ENFORCED,
+                  "the renamed query is not within the limits: query is too long: 5 bytes, at most 4"));
+    promql_set_limits(32768, 16000);
+    CHECK(promql_rename("a", 1, PROMQL_METRIC, "a", 1, "bc", 2, buffer, 1, &result) == PROMQL_BUFFER_TOO_SMALL);
+    CHECK(result.length == 2 && memcmp(buffer, "unknown", 8) == 0);
+    CHECK(promql_rename("a", 1, PROMQL_METRIC, NULL, 1, "b", 1, buffer, sizeof buffer, &result) == PROMQL_BAD_POINTER);
+    CHECK(promql_rename("a", 1, PROMQL_METRIC, "a", 1, NULL, 1, buffer, sizeof buffer, &result) == PROMQL_BAD_POINTER);
+}
+
 /* A matcher, and the query with it, have the limits of a query. */
 static void test_large_enforcing(void)
 {
@@ -332,6 +377,32 @@ static void test_long_names(void)
     free(name);
 }
 
+static void test_explaining(void)
+{
+    const char *query = "foo{a=b}", *slip = "foo{a==\"b\"}", *unknown = "nosuch(1)", *large = "foo{a=~\"\\\\w{690}\"} b";
+    struct request r = of_query(CALL_EXPLAIN, query);
+    CHECK(gives(r, PROMQL_OK, "unexpected identifier \"b\", expected string"));
+    CHECK(has_place(r, 0, 0, 0, 0));
+    r.mode = PROMQL_JSON;
+    CHECK(gives(r, PROMQL_OK, "{\"code\":4,\"column\":7,\"end\":7,\"error\":\"unexpected identifier \\\"b\\\", expected string\","
+                              "\"expected\":[\"string\"],\"found\":\"identifier \\\"b\\\"\",\"line\":1,\"start\":6}"));
+    CHECK(gives(of_query(CALL_EXPLAIN, slip), PROMQL_OK, "unexpected \"=\", expected string; a matcher has one \"=\""));
+    CHECK(gives(of_query(CALL_EXPLAIN, "foo"), PROMQL_OK, ""));
+    CHECK(gives(of_query(CALL_EXPLAIN, ""), PROMQL_OK, "no expression found in input"));
+    CHECK(gives(of_query(CALL_EXPLAIN, unknown), PROMQL_OK, "unknown function with name 'nosuch'"));
+    r = of_query(CALL_EXPLAIN, unknown);
+    r.mode = PROMQL_JSON;
+    CHECK(gives(r, PROMQL_OK, "{\"code\":4,\"column\":1,\"end\":6,\"error\":\"unknown function with name 'nosuch'\",\"line\":1,"
+                              "\"start\":0}"));
+    r.query = "foo";
+    r.length = 3;
+    CHECK(gives(r, PROMQL_OK, ""));
+    CHECK(gives(of_query(CALL_EXPLAIN, "\xff"), PROMQL_NOT_UTF8, "input is not UTF-8"));
+    /* (large patterns are not compiled once for each kind of token) */
+    CHECK(gives(of_query(CALL_EXPLAIN, large), PROMQL_OK, "invalid promql query"));
+    CHECK(gives(of_query(CALL_EXPLAIN, "a{b=~\"c{3000}\"}"), PROMQL_OK, "patterns are too large: 39013, at most 16000"));
+}
+
 static void test_collecting(void)
 {
     CHECK(gives(of_query(CALL_COLLECT, "1"), PROMQL_OK, "{\"functions\":[],\"labels\":[],\"metrics\":[],\"selectors\":[]}"));
@@ -342,6 +413,16 @@ static void test_collecting(void)
     CHECK(gives(of_query(CALL_COLLECT, "1 +"), PROMQL_REJECTED, "invalid promql query"));
     CHECK(has_place(of_query(CALL_COLLECT, "1 +"), 3, 3, 1, 4));
     CHECK(gives(of_query(CALL_COLLECT, "\xff"), PROMQL_NOT_UTF8, "input is not UTF-8"));
+}
+
+static void test_places(void)
+{
+    CHECK(gives(of_query(CALL_PLACES, "1"), PROMQL_OK, "[[0,1]]"));
+    CHECK(gives(of_query(CALL_PLACES, "topk(5, a offset 5m)"), PROMQL_OK, "[[0,20],[5,6],[8,19]]"));
+    CHECK(gives(of_query(CALL_PLACES, " +a{b='\xc3\xa9'} > bool (c) # d"), PROMQL_OK, "[[1,22],[1,11],[19,22],[20,21]]"));
+    CHECK(gives(of_query(CALL_PLACES, "1 +"), PROMQL_REJECTED, "invalid promql query"));
+    CHECK(has_place(of_query(CALL_PLACES, "1 +"), 3, 3, 1, 4));
+    CHECK(gives(of_query(CALL_PLACES, "\xff"), PROMQL_NOT_UTF8, "input is not UTF-8"));
 }
 
 static void test_trees(void)
@@ -373,6 +454,7 @@ static void test_pointers(void)
     CHECK(promql_canonical(NULL, 1, buffer, sizeof buffer, &result) == PROMQL_BAD_POINTER);
     CHECK(promql_snippet(NULL, 1, 0, 0, buffer, sizeof buffer, &result) == PROMQL_BAD_POINTER);
     CHECK(promql_collect(NULL, 1, buffer, sizeof buffer, &result) == PROMQL_BAD_POINTER);
+    CHECK(promql_explain(NULL, 1, 0, buffer, sizeof buffer, &result) == PROMQL_BAD_POINTER);
     CHECK(promql_enforce(NULL, 1, "", 0, buffer, sizeof buffer, &result) == PROMQL_BAD_POINTER);
     CHECK(promql_enforce("", 0, NULL, 1, buffer, sizeof buffer, &result) == PROMQL_BAD_POINTER);
     CHECK(promql_version(NULL, 1, &result) == PROMQL_BAD_POINTER);
@@ -448,10 +530,10 @@ static void *call_on_small_stack(void *argument)
     char text[8];
     stack->is_good = promql_version(text, sizeof text, &result) == PROMQL_OK
         && promql_snippet("1 +", 3, 3, 3, text, sizeof text, &result) == PROMQL_OK;
-    for (int call = CALL_PRINT; call <= CALL_COLLECT; call++) {
+    for (int call = CALL_PRINT; call <= CALL_PLACES; call++) {
         struct request r = of_query((enum call)call, stack->query);
         struct answer answer;
-        if (call == CALL_SNIPPET)
+        if (call == CALL_SNIPPET || call == CALL_PRINT_TREE)
             continue;
         if (call == CALL_ENFORCE) /* (the whole is the query, and the matcher is none) */
             r.end = 0;
@@ -650,7 +732,7 @@ static int is_status(uint32_t status, enum call call)
         return 1;
     case PROMQL_REJECTED:
     case PROMQL_TOO_LARGE:
-        return call != CALL_SNIPPET;
+        return call != CALL_SNIPPET && call != CALL_EXPLAIN;
     case PROMQL_NUMBER_TOO_WIDE:
         return call == CALL_PRINT;
     default:
@@ -660,19 +742,23 @@ static int is_status(uint32_t status, enum call call)
 
 static void test_broken(const char *text, size_t length)
 {
-    struct answer answers[6];
-    struct request calls[6] = {
+    enum { CALLS = 7 };
+    struct answer answers[CALLS];
+    struct request calls[CALLS] = {
         {CALL_CHECK, 0, 0, 0, 0, 0, text, length},
         {CALL_CANONICAL, 0, 0, 0, 0, 0, text, length},
         {CALL_PRINT, PROMQL_LINE, 0, 0, 0, 0, text, length},
         {CALL_PRINT, PROMQL_PRETTY, 1, 20, 0, 0, text, length},
         {CALL_PRINT, PROMQL_JSON, 0, 0, 0, 0, text, length},
         {CALL_SNIPPET, 0, 0, 0, next_random(2 * length + 1), next_random(2 * length + 1), text, length},
+        {CALL_EXPLAIN, (uint32_t)(2 * next_random(2)), 0, 0, 0, 0, text, length},
     };
     int is_good = 1;
-    for (size_t i = 0; i < 6; i++)
+    for (size_t i = 0; i < CALLS; i++)
         is_good = call_whole(&calls[i], &answers[i]) && is_status(answers[i].result.status, calls[i].call) && is_good;
     is_good = is_good && is_same(&answers[1], &answers[2]);
+    is_good = is_good && (answers[0].result.status == PROMQL_OK) == (answers[6].result.status == PROMQL_OK
+        && answers[6].result.length == 0);
     is_good = is_good && answers[0].result.status == answers[1].result.status
         && answers[1].result.status == answers[3].result.status;
     if (answers[1].result.status == PROMQL_OK) {
@@ -693,7 +779,7 @@ static void test_broken(const char *text, size_t length)
         putchar('\n');
     }
     CHECK(is_good);
-    for (size_t i = 0; i < 6; i++)
+    for (size_t i = 0; i < CALLS; i++)
         free(answers[i].text);
 }
 
@@ -729,12 +815,15 @@ int main(int argc, char **argv)
         test_texts();
         test_errors();
         test_enforcing();
+        test_renaming();
         test_large_enforcing();
         test_long_enforcing(14, 31);
         test_long_enforcing(3, 1000);
         test_long_enforcing(3, 10000);
         test_long_names();
+        test_explaining();
         test_collecting();
+        test_places();
         test_trees();
         test_pointers();
         test_version();

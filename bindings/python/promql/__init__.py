@@ -14,10 +14,11 @@ them at any time.
 from __future__ import annotations
 
 import json
+from functools import cached_property
 from operator import index
-from typing import Any, Dict, Iterable, List, Mapping, Optional, Type, Union
+from typing import Any, Dict, Iterable, List, Mapping, NamedTuple, Optional, Tuple, Type, Union
 
-from ._answers import Answer, Failure, Mode, Status
+from ._answers import Answer, Failure, Mode, Named, Status
 from ._calls import calls as _caller
 
 __all__ = [
@@ -28,6 +29,7 @@ __all__ = [
     "MatcherError",
     "NumberTooWideError",
     "QueryError",
+    "RenameError",
     "SmallStackError",
     "TooLargeError",
     "TooLargeTreeError",
@@ -41,12 +43,17 @@ __all__ = [
     "format",
     "format_query",
     "parse",
+    "places",
     "print_tree",
+    "rename_label",
+    "rename_metric",
     "set_limits",
     "version",
 ]
 __version__ = "0.5.0"
 
+# The message of a syntax error, where it is not told what was expected.
+_SYNTAX = "invalid promql query"
 _MAX_LEVEL = 512
 _MAX_WIDTH = 2**64 - 1
 _MAX_LIMIT = 2**64 - 1
@@ -64,12 +71,16 @@ class MatcherError(Error):
     """A text is not one matcher, or is one of the metric's name, which cannot be enforced."""
 
 
+class RenameError(Error):
+    """The new name is none of a metric, or a name of a label is `__name__`, or both labels are in one list and would become one."""
+
+
 class BareInfoError(Error):
     """The query calls `info` without a second argument, and no matcher limits the series that this reads."""
 
 
 class LargeEnforcedError(Error):
-    """The matcher, or the query with it, is too long, or its patterns are too large together (`set_limits`)."""
+    """The matcher, or the query with it or with another name, is too long, or its patterns are too large together (`set_limits`)."""
 
 
 class LongOutputError(Error):
@@ -92,16 +103,27 @@ class TooLargeTreeError(Error):
     """The line of a tree is too long, or its patterns are too large together (`set_limits`)."""
 
 
+class _Explanation(NamedTuple):
+    """What is said of a query that is rejected. Of an error that is no syntax error nothing is expected or found."""
+
+    message: str
+    expected: Tuple[str, ...] = ()
+    found: Optional[str] = None
+
+
 class QueryError(Error):
     """The query is rejected.
 
     `query[start:end]` is the part that the error is about, empty at the query's end. `line` and `column` are those of `start`,
-    from 1; a column is a character.
+    from 1; a column is a character. `reason` is the message without what was expected.
+
+    `message`, `expected` and `found` of a syntax error are made by one more call, when the first of them is asked for
+    (docs/guide/bindings.md, "Why a query is rejected").
     """
 
-    def __init__(self, message: str, query: str, start: int, end: int, line: int, column: int) -> None:
-        super().__init__(message, query, start, end, line, column)
-        self.message = message
+    def __init__(self, reason: str, query: str, start: int, end: int, line: int, column: int) -> None:
+        super().__init__(reason, query, start, end, line, column)
+        self.reason = reason
         self.query = query
         self.start = start
         self.end = end
@@ -110,6 +132,32 @@ class QueryError(Error):
 
     def __str__(self) -> str:
         return f"{self.line}:{self.column}: {self.message}"
+
+    @property
+    def message(self) -> str:
+        """What is wrong. At a syntax error it says what was found and what was expected, and what may be meant."""
+        return self._explanation.message
+
+    @property
+    def expected(self) -> Tuple[str, ...]:
+        """What was expected in the place of what was found, by names: `string`, `"}"`, `end of query`. Nothing where that is not told."""
+        return self._explanation.expected
+
+    @property
+    def found(self) -> Optional[str]:
+        """The token that does not fit, as `identifier "b"`, or `end of query`; None where it is not told what was expected."""
+        return self._explanation.found
+
+    @cached_property
+    def _explanation(self) -> _Explanation:
+        if self.reason != _SYNTAX:
+            return _Explanation(self.reason)
+        answer = _caller.explain(self.query)
+        told = json.loads(answer) if isinstance(answer, str) and answer else {}
+        # (the limits may be others now, and the stack smaller)
+        if "expected" not in told:
+            return _Explanation(self.reason)
+        return _Explanation(told["error"], tuple(told["expected"]), told["found"])
 
     def snippet(self) -> str:
         """The line of the query where the part begins, and a mark below that part."""
@@ -203,11 +251,42 @@ def enforce(query: str, matcher: str) -> str:
     return _text(query, _caller.enforce(query, matcher))
 
 
+def rename_metric(query: str, old: str, new: str) -> str:
+    """The query on one line with the metric `old` named `new`: before braces, and in equal matchers of `__name__`.
+
+    Raises RenameError where the new name is none of a metric, such as `a.b`, and LargeEnforcedError where the renamed query is not within
+    the limits of a query. What is returned was read again, and means the renamed query (docs/guide/rewriting.md, "Renaming").
+    """
+    return _text(query, _caller.rename(query, Named.METRIC, old, new))
+
+
+def rename_label(query: str, old: str, new: str) -> str:
+    """The query on one line with the label `old` named `new`: in matchers, and in the lists of aggregations and operators.
+
+    Strings stay as they are, those of `label_replace` too. Raises RenameError where one of the names is `__name__`, or where one list has
+    both labels; else as `rename_metric` does.
+    """
+    return _text(query, _caller.rename(query, Named.LABEL, old, new))
+
+
 def collect(query: str) -> Dict[str, Any]:
     """What a query names: `functions`, `labels` and `metrics`, lists of names in order, and `selectors`, dictionaries of `name`,
     `matchers`, `range`, `offset` and `at`, as they print (docs/guide/bindings.md, "What a query names")."""
     names: Dict[str, Any] = json.loads(_text(query, _caller.collect(query)))
     return names
+
+
+def places(query: str) -> List[Tuple[int, int]]:
+    """The place of each node of the query's tree: `query[start:end]` is its part of the text.
+
+    They come in the order of `tree.Expr.walk`: a node before those below it. A sign before a number belongs to the number, and a postfix such
+    as `offset` to what it changes. The place of an expression in parentheses that are its own node is without them.
+    """
+    found: List[Tuple[int, int]] = [(start, end) for start, end in json.loads(_text(query, _caller.places(query)))]
+    if query.isascii():
+        return found
+    encoded = query.encode()
+    return [(len(encoded[:start].decode()), len(encoded[:end].decode())) for start, end in found]
 
 
 def check(query: str) -> None:
@@ -260,6 +339,9 @@ _ERRORS: Dict[int, Type[Exception]] = {
     Status.BARE_INFO: BareInfoError,
     Status.LARGE_ENFORCED: LargeEnforcedError,
     Status.LONG_OUTPUT: LongOutputError,
+    Status.NOT_A_NAME: RenameError,
+    Status.METRIC_LABEL: RenameError,
+    Status.CLASH: RenameError,
     Status.OUT_OF_MEMORY: MemoryError,
 }
 

@@ -25,6 +25,14 @@ class Status(IntEnum):
     LARGE_ENFORCED = 16
     NOT_A_TREE = 17
     LONG_OUTPUT = 18
+    NOT_A_NAME = 20
+    METRIC_LABEL = 21
+    CLASH = 22
+
+
+class Named(IntEnum):
+    METRIC = 0
+    LABEL = 1
 
 
 class Mode(IntEnum):
@@ -55,13 +63,19 @@ class Calls(Protocol):
 
     def enforce(self, query: str, matcher: str, /) -> Answer: ...
 
+    def explain(self, query: str, /) -> Answer: ...
+
     def format(self, query: str, level: int, width: int, /) -> Answer: ...
 
     def format_query(self, query: str, width: int, indent_width: int, keep_spelling: int, /) -> Answer: ...
 
     def json(self, query: str, /) -> Answer: ...
 
+    def places(self, query: str, /) -> Answer: ...
+
     def print_tree(self, form: str, mode: int, level: int, width: int, parentheses: int, /) -> Answer: ...
+
+    def rename(self, query: str, kind: int, old: str, new: str, /) -> Answer: ...
 
     def set_limits(self, max_len: int, max_pattern_size: int, max_output: int, /) -> None: ...
 

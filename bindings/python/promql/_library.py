@@ -40,8 +40,11 @@ _SIGNATURES = {
     "promql_print": [*_QUERY, ctypes.c_uint32, ctypes.c_uint32, ctypes.c_size_t, *_BUFFER],
     "promql_canonical": [*_QUERY, *_BUFFER],
     "promql_enforce": [*_QUERY, *_QUERY, *_BUFFER],
+    "promql_rename": [*_QUERY, ctypes.c_uint32, *_QUERY, *_QUERY, *_BUFFER],
     "promql_collect": [*_QUERY, *_BUFFER],
+    "promql_places": [*_QUERY, *_BUFFER],
     "promql_check": [*_QUERY, *_BUFFER],
+    "promql_explain": [*_QUERY, ctypes.c_uint32, *_BUFFER],
     "promql_snippet": [*_QUERY, ctypes.c_size_t, ctypes.c_size_t, *_BUFFER],
     "promql_print_tree": [*_QUERY, ctypes.c_uint32, ctypes.c_uint32, ctypes.c_size_t, ctypes.c_uint32, *_BUFFER],
     "promql_format_query": [*_QUERY, ctypes.c_size_t, ctypes.c_size_t, ctypes.c_uint32, *_BUFFER],
@@ -133,6 +136,17 @@ def enforce(query: str, matcher: str) -> Answer:
     return _answer(call("promql_enforce", 2 * len(encoded), encoded, len(encoded), encoded_matcher, len(encoded_matcher)))
 
 
+def rename(query: str, kind: int, old: str, new: str) -> Answer:
+    encoded, encoded_old, encoded_new = _encoded(query), _encoded(old), _encoded(new)
+    names = (encoded_old, len(encoded_old), encoded_new, len(encoded_new))
+    return _answer(call("promql_rename", 2 * len(encoded), encoded, len(encoded), kind, *names))
+
+
+def explain(query: str) -> Answer:
+    encoded = _encoded(query)
+    return _answer(call("promql_explain", 2 * len(encoded), encoded, len(encoded), 1))
+
+
 def format(query: str, level: int, width: int) -> Answer:
     return _answer(print_query(_encoded(query), Mode.PRETTY, level, width))
 
@@ -149,6 +163,11 @@ def json(query: str) -> Answer:
 def snippet(query: str, start: int, end: int) -> Answer:
     encoded = _encoded(query)
     return _answer(call("promql_snippet", 2 * len(encoded), encoded, len(encoded), start, end))
+
+
+def places(query: str) -> Answer:
+    encoded = _encoded(query)
+    return _answer(call("promql_places", 4 * len(encoded), encoded, len(encoded)))
 
 
 def print_tree(form: str, mode: int, level: int, width: int, parentheses: int) -> Answer:

@@ -27,8 +27,11 @@ struct library {
     __typeof__(promql_print) *print;
     __typeof__(promql_canonical) *canonical;
     __typeof__(promql_enforce) *enforce;
+    __typeof__(promql_rename) *rename;
     __typeof__(promql_collect) *collect;
+    __typeof__(promql_places) *places;
     __typeof__(promql_check) *check;
+    __typeof__(promql_explain) *explain;
     __typeof__(promql_snippet) *snippet;
     __typeof__(promql_print_tree) *print_tree;
     __typeof__(promql_format_query) *format_query;
@@ -37,7 +40,7 @@ struct library {
     __typeof__(promql_set_max_output) *set_max_output;
 };
 
-enum call { PRINT, CANONICAL, ENFORCE, COLLECT, CHECK, SNIPPET, PRINT_TREE, FORMAT_QUERY, VERSION };
+enum call { PRINT, CANONICAL, ENFORCE, RENAME, COLLECT, PLACES, CHECK, EXPLAIN, SNIPPET, PRINT_TREE, FORMAT_QUERY, VERSION };
 
 /* A call with what it is given. `room` is how many bytes of text are likely for each byte of the query. */
 struct request {
@@ -47,12 +50,18 @@ struct request {
     size_t query_length;
     const char *matcher;
     size_t matcher_length;
+    uint32_t kind;
+    const char *from;
+    size_t from_length;
+    const char *to;
+    size_t to_length;
     uint32_t mode;
     uint32_t level;
     size_t width;
     uint32_t parentheses;
     size_t indent_width;
     uint32_t keep_spelling;
+    uint32_t as_json;
     size_t start;
     size_t end;
 };
@@ -69,10 +78,17 @@ static uint32_t make_call(const struct library *library, const struct request *r
         return library->canonical(query, length, buffer, size, result);
     case ENFORCE:
         return library->enforce(query, length, request->matcher, request->matcher_length, buffer, size, result);
+    case RENAME:
+        return library->rename(query, length, request->kind, request->from, request->from_length, request->to, request->to_length,
+                               buffer, size, result);
     case COLLECT:
         return library->collect(query, length, buffer, size, result);
+    case PLACES:
+        return library->places(query, length, buffer, size, result);
     case CHECK:
         return library->check(query, length, buffer, size, result);
+    case EXPLAIN:
+        return library->explain(query, length, request->as_json, buffer, size, result);
     case SNIPPET:
         return library->snippet(query, length, request->start, request->end, buffer, size, result);
     case PRINT_TREE:
@@ -158,10 +174,11 @@ static size_t first_room(const struct request *request)
 }
 
 /* Whether the call takes less time than the 5 milliseconds that another thread waits for the lock before it asks for it: that is about a
- * short query without a pattern, which is neither laid out nor gets a matcher. */
+ * short query without a pattern, which is neither laid out nor explained nor gets a matcher. */
 static int is_quick(const struct request *request)
 {
-    if (request->matcher != NULL || request->mode == PROMQL_PRETTY || request->query_length > MOST_WITH_LOCK)
+    if (request->matcher != NULL || request->mode == PROMQL_PRETTY || request->query_length > MOST_WITH_LOCK ||
+        request->call == EXPLAIN)
         return 0;
     return request->query_length == 0 || memchr(request->query, '~', request->query_length) == NULL;
 }
@@ -222,9 +239,19 @@ static PyObject *collect(PyObject *module, PyObject *query)
     return answer_about(module, query, (struct request){.call = COLLECT, .room = 4});
 }
 
+static PyObject *places(PyObject *module, PyObject *query)
+{
+    return answer_about(module, query, (struct request){.call = PLACES, .room = 4});
+}
+
 static PyObject *check(PyObject *module, PyObject *query)
 {
     return answer_about(module, query, (struct request){.call = CHECK});
+}
+
+static PyObject *explain(PyObject *module, PyObject *query)
+{
+    return answer_about(module, query, (struct request){.call = EXPLAIN, .as_json = 1, .room = 2});
 }
 
 static PyObject *json(PyObject *module, PyObject *query)
@@ -296,6 +323,28 @@ static PyObject *enforce(PyObject *module, PyObject *arguments)
         Py_DecRef(encoded_matcher);
     }
     Py_DecRef(encoded);
+    return made;
+}
+
+static PyObject *rename_in_query(PyObject *module, PyObject *arguments)
+{
+    const struct library *library = library_of(module);
+    PyObject *query, *from, *to, *encoded_from, *encoded_to = NULL, *made = NULL;
+    struct request request = {.call = RENAME, .room = 2};
+    unsigned int kind;
+    if (library == NULL || !PyArg_ParseTuple(arguments, "OIOO", &query, &kind, &from, &to) || (encoded_from = encode(from)) == NULL)
+        return NULL;
+    encoded_to = encode(to);
+    if (encoded_to != NULL) {
+        request.kind = kind;
+        request.from = PyBytes_AsString(encoded_from);
+        request.from_length = (size_t)PyBytes_Size(encoded_from);
+        request.to = PyBytes_AsString(encoded_to);
+        request.to_length = (size_t)PyBytes_Size(encoded_to);
+        made = answer_about(module, query, request);
+        Py_DecRef(encoded_to);
+    }
+    Py_DecRef(encoded_from);
     return made;
 }
 
@@ -500,8 +549,10 @@ static PyObject *load(PyObject *module, PyObject *path)
     if (handle == NULL)
         return PyErr_Format(PyExc_ImportError, "%s", dlerror());
     if (find(handle, "promql_print", &found.print) || find(handle, "promql_canonical", &found.canonical) ||
-        find(handle, "promql_enforce", &found.enforce) || find(handle, "promql_collect", &found.collect) ||
-        find(handle, "promql_check", &found.check) || find(handle, "promql_snippet", &found.snippet) ||
+        find(handle, "promql_enforce", &found.enforce) || find(handle, "promql_rename", &found.rename) ||
+        find(handle, "promql_collect", &found.collect) || find(handle, "promql_places", &found.places) ||
+        find(handle, "promql_check", &found.check) || find(handle, "promql_explain", &found.explain) ||
+        find(handle, "promql_snippet", &found.snippet) ||
         find(handle, "promql_version", &found.version) || find(handle, "promql_set_limits", &found.set_limits) ||
         find(handle, "promql_set_max_output", &found.set_max_output) ||
         find(handle, "promql_format_query", &found.format_query))
@@ -522,10 +573,13 @@ static PyMethodDef methods[] = {
     {"check", check, METH_O, NULL},
     {"collect", collect, METH_O, NULL},
     {"enforce", enforce, METH_VARARGS, NULL},
+    {"explain", explain, METH_O, NULL},
     {"format", format, METH_VARARGS, NULL},
     {"format_query", format_query, METH_VARARGS, NULL},
     {"json", json, METH_O, NULL},
+    {"places", places, METH_O, NULL},
     {"print_tree", print_tree, METH_VARARGS, NULL},
+    {"rename", rename_in_query, METH_VARARGS, NULL},
     {"set_limits", set_limits, METH_VARARGS, NULL},
     {"snippet", snippet, METH_VARARGS, NULL},
     {"version", version, METH_NOARGS, NULL},

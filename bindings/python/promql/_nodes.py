@@ -157,6 +157,17 @@ class Expr(Node):
                 fields[name] = tuple(next(rest) for _ in value)
         return self.replace(**fields) if fields else self
 
+    @property
+    def place(self) -> Optional[Tuple[int, int]]:
+        """The part of the query that it was read from, `query[start:end]`. None where `parse` was not asked for places, and of an expression
+        that was made or changed since. Two expressions are equal wherever they are from."""
+        found: Optional[Tuple[int, int]] = self.__dict__.get("_place")
+        return found
+
+    def set_place(self, place: Tuple[int, int]) -> None:
+        """Says where it is from. For `parse`."""
+        self.__dict__["_place"] = place
+
     def walk(self) -> Iterator[Expr]:
         """This expression and all below it: each before those below it, and these in the order of `children`."""
         left: List[Expr] = [self]

@@ -171,7 +171,7 @@ def _unknown(query: str) -> str:
 def _is_doubtful(error: promql.QueryError, span: Span) -> bool:
     """Whether an error may be one of what stands in for a variable: it is there, or at the token after it."""
     touches = span.start <= error.end and not error.query[span.end : error.start].strip()
-    return span.is_function or touches and (not span.is_sure or error.message.startswith(_OF_VALUES))
+    return span.is_function or touches and (not span.is_sure or error.reason.startswith(_OF_VALUES))
 
 
 def _trials(query: str) -> Iterator[Variables]:

@@ -66,13 +66,21 @@ __all__ = [
 ]
 
 
-def parse(query: str) -> Expr:
+def parse(query: str, *, places: bool = False) -> Expr:
     """The tree of a query. Raises what `promql.parse` raises: QueryError where the query is rejected, and RecursionError where it is nested
     more deeply than Python's recursion limit allows.
 
-    Lengths of time are cut off to whole milliseconds, as in the JSON form.
+    Lengths of time are cut off to whole milliseconds, as in the JSON form. With `places` each expression has its `place` in the query:
+
+    >>> query = "rate(foo[5m]) > 1"
+    >>> [query[slice(*node.place)] for node in parse(query, places=True).walk() if node.place]
+    ['rate(foo[5m]) > 1', 'rate(foo[5m])', 'foo[5m]', '1']
     """
-    return tree_of(promql.parse(query))
+    expr = tree_of(promql.parse(query))
+    if places:
+        for node, place in zip(expr.walk(), promql.places(query)):
+            node.set_place(place)
+    return expr
 
 
 def from_json(form: object) -> Expr:

@@ -150,7 +150,7 @@ class Page(unittest.TestCase):
         self.type("1 +")
         self.browser.wait_shown("rejected")
         self.assertTrue(self.browser.value("document.getElementById('accepted').hidden"))
-        self.assertEqual(self.browser.text("message"), "1:4: invalid promql query")
+        self.assertTrue(self.browser.text("message").startswith("1:4: unexpected end of query, expected expression, "))
         self.type(" ")
         self.browser.wait_for("document.getElementById('rejected').hidden")
         self.assertTrue(self.browser.value("document.getElementById('accepted').hidden"))

@@ -138,7 +138,12 @@ LEFT = (
 WRONG = (
     ('sum(rate(a{job=~"$job"}[$__rate_interval]) by (job)', "by", "unclosed left parenthesis"),
     ('rate(a{job=~"$job"})', "a{", "expected type matrix in call to function 'rate', got vector"),
-    ("rate(a[$__rate_interval]) b", "b", "invalid promql query"),
+    (
+        "rate(a[$__rate_interval]) b",
+        "b",
+        'unexpected identifier "b", expected "[", operator, "@", "offset", "smoothed", "anchored" or end of query; '
+        "an operator is missing before it",
+    ),
 )
 # How these are written.
 LAID_OUT = {

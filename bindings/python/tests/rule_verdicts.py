@@ -3,6 +3,8 @@
 The verdicts are promtool's, and test_rule_checks.py asks it again where it is installed.
 """
 
+from syntax_errors import NO_OPERAND
+
 GROUP = "groups:\n- name: a\n"
 RULES = GROUP + "  rules:\n"
 AFTER_ALERT = RULES + "  - alert: B\n    expr: up\n"
@@ -236,7 +238,7 @@ FILES = (
     (AFTER_ALERT + "  - alert: B\n    expr: down\n", True, "6:5: warning: a rule with this name and these labels is there before"),
     (AFTER_ALERT + "  - alert: B\n    expr: down\n    labels: {a: b}\n", True, ""),
     (AFTER_RECORD + "  - record: b:c\n    expr: down\n", True, "6:5: warning: a rule with this name and these labels is there before"),
-    (RULES + "  - alert: A\n    expr: &x up ==\n", False, "5:19: invalid promql query"),
+    (RULES + "  - alert: A\n    expr: &x up ==\n", False, "5:19: " + NO_OPERAND),
     (RULES + "  - alert: A\n    expr: &x up\n  - alert: B\n    expr: *x\n", True, "7:5: " + ALIAS.format("x")),
     (RULES + "  - alert: A\n    expr: &x-y up\n  - alert: B\n    expr: *x-y\n", True, "7:5: " + ALIAS.format("x-y")),
     (RULES + "  - &r\n    alert: A\n    expr: up\n  - <<: *r\n    alert: B\n", True, ""),
@@ -295,7 +297,7 @@ DIFFERENT = (
     (GROUP + "  labels: {a: b}\n", False, ""),
     (RULES + "  - alert: A\n    expr: &x_- up\n  - alert: B\n    expr: *x_-\n", False, "7:5: " + ALIAS.format("x_-")),
     (AFTER_ALERT + "---\nfoo: bar\n", True, "7:1: this is no rule file: it has no `groups`"),
-    (AFTER_ALERT + "---\ngroups: [{name: a, rules: [{alert: B, expr: 'up =='}]}]\n", True, "7:51: invalid promql query"),
+    (AFTER_ALERT + "---\ngroups: [{name: a, rules: [{alert: B, expr: 'up =='}]}]\n", True, "7:51: " + NO_OPERAND),
     (RULES + "  - alert: B\n    expr:\tup\n", True, "5:10: not YAML: found character '\\t' that cannot start any token"),
     (RULES + "  - alert: B\n    expr: !a up\n", True, "5:11: `expr` is not a text"),
     ("%YAML 1.2\n---\ngroups:\n- name: a\n  rules:\n  - alert: B\n    expr: up\n", False, ""),

@@ -13,6 +13,7 @@ from importlib.util import module_from_spec
 import promql
 from promql import _calls, _library
 from promql._calls import calls
+from syntax_errors import NO_OPERAND
 
 try:
     import _testcapi
@@ -31,6 +32,8 @@ FUNCTIONS = (
     ("canonical",),
     ("check",),
     ("collect",),
+    ("places",),
+    ("explain",),
     ("json",),
     ("format", 0, 20),
     ("format", 512, 2**64 - 1),
@@ -39,6 +42,9 @@ FUNCTIONS = (
     ("enforce", "a='1'"),
     ("enforce", "a=~'b|c'"),
     ("enforce", "\0"),
+    ("rename", 0, "up", "down"),
+    ("rename", 1, "a", "b"),
+    ("rename", 2, "", ""),
 )
 # (an older library has none)
 if hasattr(calls, "print_tree") and hasattr(_library._library, "promql_print_tree"):
@@ -167,7 +173,7 @@ class Same(unittest.TestCase):
 
         self.check(Text("sum(up)"))
         self.assertEqual(promql.canonical(Text("sum  (up)")), "sum(up)")
-        self.assertEqual(outcome(promql, "check", Text("1 +")), (promql.QueryError, "1:4: invalid promql query"))
+        self.assertEqual(outcome(promql, "check", Text("1 +")), (promql.QueryError, "1:4: " + NO_OPERAND))
 
 
 class Many(unittest.TestCase):
@@ -191,7 +197,7 @@ class Many(unittest.TestCase):
         self.assertEqual(promql.canonical_many(["1+2", "a  or b"]), ["1 + 2", "a or b"])
         self.assertEqual(promql.canonical_many({"1+2": 0}), ["1 + 2"])
         rejected, line, surrogate, large = promql.canonical_many(("1 +", "up", "a\ud800", "x" * 1_048_577))
-        self.assertEqual((str(rejected), rejected.query, rejected.snippet()), ("1:4: invalid promql query", "1 +", "1 +\n   ^"))
+        self.assertEqual((str(rejected), rejected.query, rejected.snippet()), ("1:4: " + NO_OPERAND, "1 +", "1 +\n   ^"))
         self.assertEqual(line, "up")
         self.assertEqual((type(surrogate), surrogate.start), (UnicodeEncodeError, 1))
         self.assertEqual(type(large), promql.TooLargeError)

@@ -10,6 +10,7 @@ from pathlib import Path
 import promql
 from promql import _library
 from promql._library import Mode, Status
+from syntax_errors import NO_OPERAND, NO_OPERATOR
 
 HERE = Path(__file__).resolve().parent
 QUERIES = (
@@ -31,12 +32,12 @@ VERSIONS = {
 # A query, the line and the column of its error, its message, and the line of the query with its mark.
 REJECTED = (
     ("sum(rate(foo[5m]) by (job)", 1, 19, "unclosed left parenthesis", "sum(rate(foo[5m]) by (job)\n" + " " * 18 + "^~"),
-    ("1 +", 1, 4, "invalid promql query", "1 +\n   ^"),
+    ("1 +", 1, 4, NO_OPERAND, "1 +\n   ^"),
     ("", 1, 1, "no expression found in input", "\n^"),
-    ("sum by (job) (\n  rate(foo[5m]) +\n  * bar\n)", 3, 3, "invalid promql query", "  * bar\n  ^"),
-    ('"é€🦀" + b"c"', 1, 10, "invalid promql query", '"é€🦀" + b"c"\n         ^~~'),
+    ("sum by (job) (\n  rate(foo[5m]) +\n  * bar\n)", 3, 3, NO_OPERAND.replace("end of query", '"*"', 1), "  * bar\n  ^"),
+    ('"é€🦀" + b"c"', 1, 10, f'unexpected string "c", expected "{{", "[", "(", {NO_OPERATOR}', '"é€🦀" + b"c"\n         ^~~'),
     ("1 + é", 1, 5, "unexpected character: 'é'", "1 + é\n    ^"),
-    ('foo{bar="\x1b\u202e"} b', 1, 15, "invalid promql query", 'foo{bar="\\x1b\\u{202e}"} b\n' + " " * 24 + "^"),
+    ('foo{bar="\x1b\u202e"} b', 1, 15, f'unexpected identifier "b", expected "[", {NO_OPERATOR}', 'foo{bar="\\x1b\\u{202e}"} b\n' + " " * 24 + "^"),
     ("rate(foo)", 1, 6, "expected type matrix in call to function 'rate', got vector", "rate(foo)\n     ^~~"),
 )
 
@@ -89,7 +90,7 @@ class Texts(unittest.TestCase):
             self.assertEqual(promql.format_query(laid, width=width, indent=4), laid)
         with self.assertRaises(promql.QueryError) as raised:
             promql.format_query("1 +")
-        self.assertEqual(str(raised.exception), "1:4: invalid promql query")
+        self.assertEqual(str(raised.exception), "1:4: " + NO_OPERAND)
 
     def test_long_output(self):
         promql.set_limits(max_output=5)
@@ -128,6 +129,32 @@ class Texts(unittest.TestCase):
         promql.set_limits(max_patterns=31_980)
         try:
             self.assertEqual(promql.enforce("c + d", "a=~'b{1229}'"), 'c{a=~"b{1229}"} + d{a=~"b{1229}"}')
+        finally:
+            promql.set_limits()
+
+    def test_rename(self):
+        query = "sum by (job) (rate(a{job='é'}[5m])) / {__name__='a'}"
+        self.assertEqual(promql.rename_metric(query, "a", "c"), 'sum by (job) (rate(c{job="é"}[5m])) / {__name__="c"}')
+        self.assertEqual(promql.rename_label(query, "job", "d"), 'sum by (d) (rate(a{d="é"}[5m])) / {__name__="a"}')
+        for rename, old, new, message in (
+            (promql.rename_metric, "a", "b.c", "the new name is no name of a metric"),
+            (promql.rename_label, "job", "__name__", "the label of the metric name cannot be renamed"),
+        ):
+            with self.assertRaises(promql.RenameError) as raised:
+                rename(query, old, new)
+            self.assertEqual(str(raised.exception), message)
+        with self.assertRaises(promql.RenameError):
+            promql.rename_label("a{b='1',c='2'}", "b", "c")
+        with self.assertRaises(promql.QueryError):
+            promql.rename_label("a{b='1',", "b", "c")
+        with self.assertRaises(UnicodeEncodeError):
+            promql.rename_metric("a", "a", "\ud800")
+        with self.assertRaises(TypeError):
+            promql.rename_metric("a", b"a", "b")
+        promql.set_limits(max_len=4)
+        try:
+            with self.assertRaises(promql.LargeEnforcedError):
+                promql.rename_metric("a+b", "a", "c")
         finally:
             promql.set_limits()
 
@@ -202,11 +229,50 @@ class Errors(unittest.TestCase):
                 promql.check(query)
             self.assertEqual(query[raised.exception.start : raised.exception.end], part)
 
-    def test_pickle(self):
+    def error_of(self, query):
         with self.assertRaises(promql.QueryError) as raised:
-            promql.check("1 +")
-        again = pickle.loads(pickle.dumps(raised.exception))
-        self.assertEqual((str(again), again.query, again.start), (str(raised.exception), "1 +", 3))
+            promql.check(query)
+        return raised.exception
+
+    def test_expected(self):
+        for query, expected, found, message in (
+            ("foo{a=b}", ("string",), 'identifier "b"', 'unexpected identifier "b", expected string'),
+            ("foo{a==\"b\"}", ("string",), '"="', 'unexpected "=", expected string; a matcher has one "="'),
+            ("a + on b", ('"("',), 'identifier "b"', 'unexpected identifier "b", expected "("'),
+            ("sum by (job 1) (foo)", ('","', '")"'), 'number "1"', 'unexpected number "1", expected "," or ")"'),
+        ):
+            error = self.error_of(query)
+            self.assertEqual((error.expected, error.found, error.message), (expected, found, message))
+            self.assertEqual(error.reason, "invalid promql query")
+
+    def test_nothing_expected(self):
+        """At an error that is no syntax error, and where the patterns are too large to be compiled once for each kind of token."""
+        for query, message in (
+            ("nosuch(1)", "unknown function with name 'nosuch'"),
+            ("", "no expression found in input"),
+            ('foo{a=~"\\\\w{690}"} b', "invalid promql query"),
+            ('a{b=~"c{3000}"}', "patterns are too large: 39013, at most 16000"),
+        ):
+            error = self.error_of(query)
+            self.assertEqual((error.expected, error.found, error.message, error.reason), ((), None, message, message))
+
+    def test_other_limits(self):
+        """What was expected is not told where the query is not within the limits any more."""
+        error = self.error_of("foo{a=b}")
+        promql.set_limits(max_len=3)
+        try:
+            self.assertEqual((error.message, error.expected), ("invalid promql query", ()))
+        finally:
+            promql.set_limits()
+
+    def test_pickle(self):
+        error = self.error_of("1 +")
+        fresh = pickle.dumps(error)
+        self.assertEqual(error.found, "end of query")
+        for before in fresh, pickle.dumps(error):
+            again = pickle.loads(before)
+            self.assertEqual((str(again), again.query, again.start), (str(error), "1 +", 3))
+            self.assertEqual((again.expected, again.found), (error.expected, "end of query"))
 
     def test_accepted(self):
         self.assertIsNone(promql.check("a[18446744073709551616ms]"))

@@ -15,6 +15,7 @@ from command_line import run
 from promql import quick_yaml
 from promql.go_templates import TemplateError, check_template
 from rule_verdicts import AFTER_ALERT, DIFFERENT, FILES, NO_TEMPLATES, RULES, TEMPLATES, file_at_random
+from syntax_errors import NO_OPERAND
 from test_rule_files import Folder, aliases
 
 # Where packages of Debian have rule files.
@@ -93,7 +94,7 @@ class Files(Folder):
             [
                 "3:13: `interval` is not a duration",
                 "5:13: not a metric's name: `b-c`",
-                "6:16: invalid promql query",
+                "6:16: " + NO_OPERAND,
                 "7:5: `for` is for alerts",
                 "8:17: a label's value is not a text",
             ],

@@ -5,6 +5,7 @@ import unittest
 
 from command_line import run
 from rule_verdicts import AFTER_ALERT, RULES
+from syntax_errors import NO_OPERAND
 from test_rule_files import Folder
 
 OBJECT = """\
@@ -77,7 +78,7 @@ class Objects(Folder):
         path = self.file(OBJECT.replace("==0", "==").replace("5m", "5"))
         ran = run("check", path)
         self.assertEqual((ran.status, ran.out), (1, f"{path}: 1 rule, 2 errors\n"))
-        self.assertIn(f"{path}:11:33: invalid promql query\n", ran.err)
+        self.assertIn(f"{path}:11:33: {NO_OPERAND}\n", ran.err)
         self.assertIn(f"{path}:12:16: `for` is not a duration\n", ran.err)
 
     def test_several_documents(self):

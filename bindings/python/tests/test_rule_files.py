@@ -20,6 +20,7 @@ from promql import rule_files
 from promql.files import Source
 from promql.queries import Edit
 from promql.scalars import Scalar
+from syntax_errors import NO_OPERAND
 from written import STYLES, rule_file, write
 
 try:
@@ -645,7 +646,7 @@ class Writing(Folder):
         path = self.file(text)
         ran = run("format", "--write", path)
         self.assertEqual((ran.status, ran.out, path.read_text()), (2, "", text))
-        self.assertIn(f"{path}:7:16: invalid promql query\n", ran.err)
+        self.assertIn(f"{path}:7:16: {NO_OPERAND}\n", ran.err)
 
 
 class Enforcing(Folder):

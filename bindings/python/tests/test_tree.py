@@ -132,6 +132,21 @@ class Trees(unittest.TestCase):
         self.assertEqual(found, ["Binary", "Aggregation", "Number", "Call", "RangeSelector", "Unary", "Selector"])
         self.assertEqual(tree.parse("topk(5, a)").children(), (Number("5"), Selector("a")))
 
+    def test_places(self):
+        query = "sum by (job) (\n  rate(a{job='é'}[5m]) # it\n) / -1"
+        expr = tree.parse(query, places=True)
+        self.assertEqual(
+            [query[slice(*node.place)] for node in expr.walk()],
+            [query, query[: query.index(" /")], "rate(a{job='é'}[5m])", "a{job='é'}[5m]", "-1"],
+        )
+        self.assertEqual(expr, tree.parse(query))
+        self.assertIsNone(tree.parse(query).place)
+        self.assertIsNone(expr.replace(op="*").place)
+        self.assertEqual(pickle.loads(pickle.dumps(expr)).place, (0, len(query)))
+        self.assertEqual(promql.places("topk(5, a offset 5m)"), [(0, 20), (5, 6), (8, 19)])
+        with self.assertRaises(promql.QueryError):
+            promql.places("a +")
+
     def test_replace(self):
         expr = tree.parse("sum(up)")
         self.assertEqual(expr.replace(op="max", grouping=("job",)), tree.parse("max by (job) (up)"))

@@ -29,12 +29,13 @@ mod visitor;
 mod write_form;
 
 pub use function::{Function, ValueType, get_function};
-pub use print_tree::{NodeError, parse, print, print_layout};
+pub use print_tree::{NodeError, parse, places, print, print_layout};
 pub use read_form::FormError;
 pub use tree::*;
 pub use visitor::{ExprVisitor, ExprVisitorMut, walk_expr, walk_expr_mut};
 
-use library::{Answer, Mode};
+use json::Value;
+use library::{Answer, Mode, Named};
 use std::error;
 use std::fmt;
 use std::ops::Range;
@@ -67,6 +68,12 @@ pub enum Error {
     BareInfo,
     /// The matcher, or the query with it, is too long, or its patterns are too large together ([`set_limits`]): which, and why.
     LargeEnforced(String),
+    /// The new name is no name of a metric.
+    NotAName,
+    /// The old name or the new one of a label is `__name__`, which names no label but the metric.
+    MetricLabel,
+    /// Both labels are in one list, and would become one.
+    Clash,
     /// What would be returned is too long ([`set_max_output`]): the numbers.
     LongOutput(String),
     /// The thread has less than 1.25 MiB of stack left, and a query may need as much. Threads of `std::thread` have 2 MiB.
@@ -92,7 +99,31 @@ pub struct Rejection {
     pub column: usize,
 }
 
+/// Why a query is rejected, for people.
+#[derive(Clone, Debug, PartialEq, Eq)]
+pub struct Explanation {
+    /// What is wrong. At a syntax error it says what was found and what was expected, and what may be meant.
+    pub message: String,
+    /// The names of what was expected, as `string`, `"}"` or `end of query`; none of any other error.
+    pub expected: Vec<String>,
+    /// The token that does not fit, as `identifier "b"`, or `end of query`; `None` of any other error.
+    pub found: Option<String>,
+}
+
 impl Rejection {
+    /// What is said of the query that it is of (`docs/guide/bindings.md` of the repository, "Why a query is rejected"). It is another call
+    /// of the library, which reads the beginning of the query some sixty times. Where it tells of no token, as with other limits than
+    /// before, the explanation has the message of the rejection alone.
+    pub fn explain(&self, query: &str) -> Explanation {
+        let (text, answer) = library::explain(query);
+        let told = if answer.status == library::OK { json::read(&text) } else { None };
+        explanation_in(told).unwrap_or_else(|| Explanation {
+            message: self.message.clone(),
+            expected: Vec::new(),
+            found: None,
+        })
+    }
+
     /// The line of the query where the range begins, a line feed, and a mark below the range.
     pub fn snippet(&self, query: &str) -> String {
         library::snippet(query, self.range.start, self.range.end).0
@@ -119,6 +150,9 @@ impl fmt::Display for Error {
             | Error::TooLargeTree(message)
             | Error::LargeEnforced(message)
             | Error::LongOutput(message) => f.write_str(message),
+            Error::NotAName => f.write_str("the new name is no name of a metric"),
+            Error::MetricLabel => f.write_str("the label of the metric name cannot be renamed"),
+            Error::Clash => f.write_str("both labels are in one list"),
             Error::BareInfo => {
                 f.write_str("info without a selector reads series that no matcher limits")
             }
@@ -222,6 +256,27 @@ pub fn enforce(query: &str, matcher: &str) -> Result<String, Error> {
     text_of(library::enforce(query, matcher))
 }
 
+/// The query on one line with the metric `from` named `to`: before braces, and in equal matchers of `__name__`. What is returned was read
+/// again, and means the renamed query (`docs/guide/rewriting.md` of the repository).
+///
+/// # Errors
+///
+/// Those of [`canonical`]; `NotAName` where the new name is none of a metric, such as `a.b`; `LargeEnforced` where the renamed query is not
+/// within the limits of a query.
+pub fn rename_metric(query: &str, from: &str, to: &str) -> Result<String, Error> {
+    text_of(library::rename(query, Named::Metric, from, to))
+}
+
+/// The query on one line with the label `from` named `to`: in matchers, and in the lists of aggregations and operators. Strings stay as
+/// they are, those of `label_replace` too.
+///
+/// # Errors
+///
+/// Those of [`rename_metric`] but `NotAName`; `MetricLabel` where one of the names is `__name__`; `Clash` where one list has both labels.
+pub fn rename_label(query: &str, from: &str, to: &str) -> Result<String, Error> {
+    text_of(library::rename(query, Named::Label, from, to))
+}
+
 /// The query that has the tree of this JSON form (`docs/reference/json.md` of the repository), on one line, or laid out where there is a
 /// layout; with parentheses where the tree needs them, if `parentheses` is true. What is returned was read again, and means the tree.
 ///
@@ -296,7 +351,35 @@ fn text_of((text, answer): (String, Answer)) -> Result<String, Error> {
         library::NO_PRINT_TREE => Err(Error::NoPrintTree),
         library::LARGE_ENFORCED => Err(Error::LargeEnforced(text)),
         library::LONG_OUTPUT => Err(Error::LongOutput(text)),
+        library::NOT_A_NAME => Err(Error::NotAName),
+        library::METRIC_LABEL => Err(Error::MetricLabel),
+        library::CLASH => Err(Error::Clash),
         status => unreachable!("status {status}: {text}"),
+    }
+}
+
+/// The explanation in an object of JSON, if it tells of a token.
+fn explanation_in(told: Option<Value>) -> Option<Explanation> {
+    let members = match told {
+        Some(Value::Object(members)) => members,
+        _ => return None,
+    };
+    let (mut message, mut expected, mut found) = (None, Vec::new(), None);
+    for (name, value) in members {
+        match (name.as_str(), value) {
+            ("error", Value::String(text)) => message = Some(text),
+            ("found", Value::String(text)) => found = Some(text),
+            ("expected", Value::Array(names)) => expected = names.into_iter().filter_map(text_in).collect(),
+            _ => {}
+        }
+    }
+    Some(Explanation { message: message?, expected, found: Some(found?) })
+}
+
+fn text_in(value: Value) -> Option<String> {
+    match value {
+        Value::String(text) => Some(text),
+        _ => None,
     }
 }
 

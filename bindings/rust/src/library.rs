@@ -27,8 +27,18 @@ pub const SMALL_STACK: u32 = 15;
 pub const LARGE_ENFORCED: u32 = 16;
 pub const NOT_A_TREE: u32 = 17;
 pub const LONG_OUTPUT: u32 = 18;
+pub const NOT_A_NAME: u32 = 20;
+pub const METRIC_LABEL: u32 = 21;
+pub const CLASH: u32 = 22;
 /// No status of the library: it is an older one, which has no such call.
 pub const NO_PRINT_TREE: u32 = u32::MAX;
+
+/// `enum promql_named`.
+#[derive(Clone, Copy)]
+pub enum Named {
+    Metric = 0,
+    Label = 1,
+}
 
 /// `enum promql_mode`.
 #[derive(Clone, Copy)]
@@ -70,7 +80,26 @@ extern "C" {
         buffer_size: usize,
         result: *mut Answer,
     ) -> u32;
+    fn promql_rename(
+        query: *const u8,
+        query_length: usize,
+        kind: u32,
+        from: *const u8,
+        from_length: usize,
+        to: *const u8,
+        to_length: usize,
+        buffer: *mut u8,
+        buffer_size: usize,
+        result: *mut Answer,
+    ) -> u32;
     fn promql_collect(
+        query: *const u8,
+        query_length: usize,
+        buffer: *mut u8,
+        buffer_size: usize,
+        result: *mut Answer,
+    ) -> u32;
+    fn promql_places(
         query: *const u8,
         query_length: usize,
         buffer: *mut u8,
@@ -80,6 +109,14 @@ extern "C" {
     fn promql_check(
         query: *const u8,
         query_length: usize,
+        buffer: *mut u8,
+        buffer_size: usize,
+        result: *mut Answer,
+    ) -> u32;
+    fn promql_explain(
+        query: *const u8,
+        query_length: usize,
+        as_json: u32,
         buffer: *mut u8,
         buffer_size: usize,
         result: *mut Answer,
@@ -167,6 +204,19 @@ pub fn enforce(query: &str, matcher: &str) -> (String, Answer) {
     })
 }
 
+pub fn rename(query: &str, kind: Named, from: &str, to: &str) -> (String, Answer) {
+    call(query.len(), |(buffer, size, answer)| unsafe {
+        let (start, length) = (query.as_ptr(), query.len());
+        promql_rename(start, length, kind as u32, from.as_ptr(), from.len(), to.as_ptr(), to.len(), buffer, size, answer);
+    })
+}
+
+pub fn places(query: &str) -> (String, Answer) {
+    call(query.len(), |(buffer, size, answer)| unsafe {
+        promql_places(query.as_ptr(), query.len(), buffer, size, answer);
+    })
+}
+
 pub fn collect(query: &str) -> (String, Answer) {
     call(query.len(), |(buffer, size, answer)| unsafe {
         promql_collect(query.as_ptr(), query.len(), buffer, size, answer);
@@ -176,6 +226,13 @@ pub fn collect(query: &str) -> (String, Answer) {
 pub fn check(query: &str) -> (String, Answer) {
     call(query.len(), |(buffer, size, answer)| unsafe {
         promql_check(query.as_ptr(), query.len(), buffer, size, answer);
+    })
+}
+
+/// As JSON.
+pub fn explain(query: &str) -> (String, Answer) {
+    call(query.len(), |(buffer, size, answer)| unsafe {
+        promql_explain(query.as_ptr(), query.len(), 1, buffer, size, answer);
     })
 }
 

@@ -1,9 +1,10 @@
 //! From a tree to its text.
 
 use crate::tree::Expr;
-use crate::{Error, Layout};
+use crate::{Error, Layout, library};
 use std::error;
 use std::fmt;
+use std::ops::Range;
 use std::str::FromStr;
 
 /// Why a tree has no text.
@@ -21,9 +22,9 @@ pub struct NodeError {
 impl NodeError {
     /// The expression of the tree at the path, or the last one on the way there.
     pub fn node<'a>(&self, tree: &'a Expr) -> &'a Expr {
-        let places = places(tree);
+        let paths = paths(tree);
         let is_on_way = |path: &str| self.path == path || self.path.strip_prefix(path).map_or(false, |rest| rest.starts_with('.'));
-        places.iter().rev().find(|(path, _)| is_on_way(path)).map_or(tree, |(_, expr)| *expr)
+        paths.iter().rev().find(|(path, _)| is_on_way(path)).map_or(tree, |(_, expr)| *expr)
     }
 }
 
@@ -47,6 +48,18 @@ impl error::Error for NodeError {
 pub fn parse(query: &str) -> Result<Expr, Error> {
     let form = crate::json(query)?;
     Expr::from_json(&form).map_err(Error::Form)
+}
+
+/// The place of each node of the query's tree, its bytes, in the order of [`walk_expr`](crate::walk_expr). A sign before a number belongs to
+/// the number, and a postfix such as `offset` to what it changes.
+///
+/// # Errors
+///
+/// Those of [`canonical`](crate::canonical).
+pub fn places(query: &str) -> Result<Vec<Range<usize>>, Error> {
+    let text = crate::text_of(library::places(query))?;
+    let numbers: Vec<usize> = text.split(|it: char| !it.is_ascii_digit()).filter_map(|it| it.parse().ok()).collect();
+    Ok(numbers.chunks_exact(2).map(|pair| pair[0]..pair[1]).collect())
 }
 
 /// The text of a tree on one line, in parentheses where the tree needs them. The library read what it printed again: it has this tree.
@@ -104,12 +117,12 @@ fn print_in_mode(tree: &Expr, layout: Option<Layout>) -> Result<String, Error> {
 /// The path of the lowest expression that has no text, though all below it have one: that is where the fault is.
 fn first_without_text(tree: &Expr) -> String {
     let has_text = |expr: &Expr| crate::print_tree(&expr.to_json(), true, None).is_ok();
-    let found = places(tree).into_iter().rev().find(|(_, expr)| !has_text(expr));
+    let found = paths(tree).into_iter().rev().find(|(_, expr)| !has_text(expr));
     found.map_or_else(|| String::from("$"), |(path, _)| path)
 }
 
 /// The expressions of a tree with their paths, in the order of a walk.
-fn places(tree: &Expr) -> Vec<(String, &Expr)> {
+fn paths(tree: &Expr) -> Vec<(String, &Expr)> {
     let mut found = Vec::new();
     let mut left = vec![(String::from("$"), tree)];
     while let Some((path, expr)) = left.pop() {

@@ -1,7 +1,8 @@
 //! Each function, its errors, and calls side by side.
 
 use promql_proved::{
-    Error, Layout, Rejection, canonical, check, collect, enforce, format, json, print_tree, version,
+    Error, Layout, Rejection, canonical, check, collect, enforce, format, json, print_tree, rename_label,
+    rename_metric, version,
 };
 use std::thread;
 
@@ -67,6 +68,17 @@ fn trees_are_printed() {
 }
 
 #[test]
+fn names_are_renamed() {
+    let query = "sum by (job) (rate(a{job='b'}[5m]))";
+    assert_eq!(rename_metric(query, "a", "c").as_deref(), Ok(r#"sum by (job) (rate(c{job="b"}[5m]))"#));
+    assert_eq!(rename_label(query, "job", "d").as_deref(), Ok(r#"sum by (d) (rate(a{d="b"}[5m]))"#));
+    assert_eq!(rename_metric(query, "a", "b.c"), Err(Error::NotAName));
+    assert_eq!(rename_label(query, "job", "__name__"), Err(Error::MetricLabel));
+    assert_eq!(rename_label("a{b='1',c='2'}", "b", "c"), Err(Error::Clash));
+    assert!(matches!(rename_label("1 +", "a", "b"), Err(Error::Rejected(found)) if found.range == (3..3)));
+}
+
+#[test]
 fn names_are_collected() {
     let names = r#"{"functions":["rate"],"labels":[],"metrics":["foo"],"selectors":[{"at":null,"matchers":"","name":"foo","offset":null,"range":"5m"}]}"#;
     assert_eq!(collect("rate(foo[5m])").as_deref(), Ok(names));
@@ -89,6 +101,31 @@ fn errors_have_places() {
     assert_eq!(found.snippet(query), " rate({'foö'})\n      ^~~~~~~");
     let error = canonical(query).unwrap_err();
     assert_eq!(error.to_string(), format!("2:7: {}", found.message));
+}
+
+#[test]
+fn rejections_are_explained() {
+    for (query, expected, found, message) in [
+        ("foo{a=b}", r#"string"#, r#"identifier "b""#, r#"unexpected identifier "b", expected string"#),
+        (r#"foo{a=="b"}"#, "string", r#""=""#, r#"unexpected "=", expected string; a matcher has one "=""#),
+        ("sum by (job 1) (foo)", r#""," ")""#, r#"number "1""#, r#"unexpected number "1", expected "," or ")""#),
+    ] {
+        let told = rejection(query).explain(query);
+        assert_eq!((told.expected.join(" "), told.found.as_deref(), told.message), (expected.to_owned(), Some(found), message.to_owned()));
+    }
+}
+
+#[test]
+fn some_rejections_have_no_more_to_tell() {
+    // Not a syntax error; patterns that are too large; a query that the rejection is not of.
+    for (query, other, message) in [
+        ("nosuch(1)", "nosuch(1)", "unknown function with name 'nosuch'"),
+        (r#"foo{a=~"\\w{690}"} b"#, r#"foo{a=~"\\w{690}"} b"#, "invalid promql query"),
+        ("1 +", "1", "invalid promql query"),
+    ] {
+        let told = rejection(query).explain(other);
+        assert_eq!((told.expected, told.found, told.message), (Vec::new(), None, message.to_owned()));
+    }
 }
 
 #[test]

@@ -250,3 +250,11 @@ fn faults_name_their_nodes() {
     let deep = (0..200).fold(number("1"), |expr, _| Expr::Paren(ParenExpr { expr: boxed(expr) }));
     assert_eq!(print(&deep).unwrap_err().to_string(), "$: nested too deeply");
 }
+
+#[test]
+fn nodes_have_places() {
+    let query = "sum by (job) (rate(a{job='é'}[5m])) / -1";
+    let parts: Vec<&str> = places(query).unwrap().into_iter().map(|it| &query[it]).collect();
+    assert_eq!(parts, [query, "sum by (job) (rate(a{job='é'}[5m]))", "rate(a{job='é'}[5m])", "a{job='é'}[5m]", "-1"]);
+    assert!(matches!(places("1 +"), Err(Error::Rejected(found)) if found.range == (3..3)));
+}

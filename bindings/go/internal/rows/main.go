@@ -10,6 +10,7 @@ package main
 import (
 	"bufio"
 	"bytes"
+	"encoding/json"
 	"errors"
 	"fmt"
 	"log"
@@ -52,6 +53,8 @@ func answer(it call) string {
 	switch {
 	case it.call == 2:
 		err = promql.Check(it.query)
+	case it.call == 7:
+		text, err = explanation(it.query)
 	case it.call == 4:
 		text, err = promql.Enforce(it.query, it.matcher)
 	case it.call == 1 || it.mode == 0:
@@ -88,6 +91,27 @@ func answer(it call) string {
 		return fmt.Sprintf("6 0 0 0 0 %d\n%s\n", len(err.Error()), err)
 	}
 	return fmt.Sprintf("1 0 0 0 0 %d\n%s\n", len(err.Error()), err)
+}
+
+// explanation returns what is said of a query, as the library has it: nothing where it is accepted.
+func explanation(query string) (string, error) {
+	var rejected *promql.QueryError
+	if err := promql.Check(query); !errors.As(err, &rejected) {
+		return "", err
+	}
+	told := rejected.Explain()
+	code := 4
+	if errors.Is(rejected, promql.ErrTooLarge) {
+		code = 14
+	}
+	members := map[string]any{
+		"code": code, "error": told.Message, "start": rejected.Start, "end": rejected.End, "line": rejected.Line, "column": rejected.Column,
+	}
+	if told.Found != "" {
+		members["expected"], members["found"] = told.Expected, told.Found
+	}
+	text, err := json.Marshal(members)
+	return string(text), err
 }
 
 func rows(calls []call, goroutines int) {

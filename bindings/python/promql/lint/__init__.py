@@ -110,5 +110,5 @@ def look_at_tree(
 def _rejected(error: promql.QueryError) -> Finding:
     message = error.message
     name = error.query[error.start : error.end].partition("(")[0].strip()
-    hint = f": {_GONE[name]}" if name in _GONE and "unknown function" in message else ""
+    hint = f": {_GONE[name]}" if name in _GONE and "unknown function" in error.reason else ""
     return Finding(Span(error.start, error.end), REJECTED, message + hint, Severity.ERROR)

@@ -46,6 +46,9 @@ fn answer(call: &Call<'_>) -> Vec<u8> {
     let Ok(query) = str::from_utf8(call.query) else {
         return line(3, [0; 4], "input is not UTF-8");
     };
+    if call.call == 7 {
+        return explanation(query);
+    }
     let text = match (call.call, call.mode) {
         (2, _) => check(query).map(|()| String::new()),
         (4, _) => enforce(query, str::from_utf8(call.matcher).expect("a matcher of a row is UTF-8")),
@@ -64,6 +67,28 @@ fn answer(call: &Call<'_>) -> Vec<u8> {
         Err(Error::LongOutput(message)) => line(18, [0; 4], &message),
         Err(error) => line(1, [0; 4], &error.to_string()),
     }
+}
+
+/// What is said of a query, as the library has it: nothing where it is accepted.
+fn explanation(query: &str) -> Vec<u8> {
+    let (code, it) = match check(query) {
+        Ok(()) => return line(0, [0; 4], ""),
+        Err(Error::TooLarge(it)) => (14, it),
+        Err(Error::Rejected(it)) => (4, it),
+        Err(error) => return line(1, [0; 4], &error.to_string()),
+    };
+    let told = it.explain(query);
+    let names: Vec<String> = told.expected.iter().map(|name| quoted(name)).collect();
+    let found = told.found.map(|found| format!(r#","expected":[{}],"found":{}"#, names.join(","), quoted(&found)));
+    let place = format!(r#""start":{},"end":{},"line":{},"column":{}"#, it.range.start, it.range.end, it.line, it.column);
+    let (error, found) = (quoted(&told.message), found.unwrap_or_default());
+    line(0, [0; 4], &format!(r#"{{"code":{code},"error":{error},{place}{found}}}"#))
+}
+
+/// A string of JSON, each unit of UTF-16 as an escape.
+fn quoted(text: &str) -> String {
+    let units: String = text.encode_utf16().map(|it| format!("\\u{it:04x}")).collect();
+    format!("\"{units}\"")
 }
 
 fn line(status: u32, [start, end, line, column]: [usize; 4], text: &str) -> Vec<u8> {
