@@ -17,8 +17,9 @@ import time
 import urllib.parse
 
 TOP = pathlib.Path(__file__).resolve().parent.parent.parent
-sys.path.insert(0, str(TOP / "bindings" / "python"))
+sys.path[:0] = [str(TOP / "bin"), str(TOP / "bindings" / "python")]
 import promql  # noqa: E402
+from checks import print_counts  # noqa: E402
 
 BEGIN, STEP, SAMPLES = 1_700_000_000, 30, 240
 NOW = BEGIN + STEP * (SAMPLES - 20)
@@ -403,8 +404,7 @@ def main():
     for law, query, texts, first, second in differences:
         print(f"FAILED {law}: {query!r}\n    {texts}\n    {str(first)[:300]}\n    {str(second)[:300]}")
     compared = sum(counts[law] for law in ("printed", "enforced", "at home"))
-    print(f"{compared - len(differences)} passed, {len(differences)} failed")
-    return 1 if differences else 0
+    return print_counts(compared - len(differences), len(differences))
 
 
 if __name__ == "__main__":

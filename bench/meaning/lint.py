@@ -15,6 +15,7 @@ from typing import Any, Dict, Iterator, List, Tuple
 
 import compare
 import promql
+from checks import print_counts
 from promql.lint import fix, lint
 from promql.lint.subject import Subject
 
@@ -137,8 +138,7 @@ def main(count: str = "2000", seed: str = "1") -> int:
     for difference in comparison.differences:
         print(f"FAILED {difference}")
     held = sum(number for name, number in comparison.counts.items() if name.startswith(("said", "fixed", "labels")))
-    print(f"{held - len(comparison.differences)} passed, {len(comparison.differences)} failed")
-    return 1 if comparison.differences else 0
+    return print_counts(held - len(comparison.differences), len(comparison.differences))
 
 
 if __name__ == "__main__":

@@ -19,6 +19,7 @@ from lexing import FILLS, lex
 from trees import FUNCTIONS, Parser
 
 ROOT = Path(__file__).resolve().parents[2]
+sys.path.append(str(ROOT / "bin"))
 SYNTAX, TOO_DEEP, EMPTY = "invalid promql query", "expression nested too deeply", "no expression found in input"
 # What may follow a token so that an expression ends there, but for the parentheses that are open.
 ENDINGS = [

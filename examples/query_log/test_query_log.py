@@ -11,19 +11,17 @@ from collections import Counter
 from pathlib import Path
 
 HERE = Path(__file__).resolve().parent
+sys.path.insert(0, str(HERE.parents[1] / "bin"))
+from checks import Checks  # noqa: E402
+
 BATCH = HERE.parents[1] / "dist" / "promql_batch"
 LINES = 10_000
 
-passed = failed = 0
+checks = Checks()
 
 
 def check(name, holds):
-    global passed, failed
-    if holds:
-        passed += 1
-    else:
-        failed += 1
-        print(f"FAILED {name}")
+    checks.check(holds, name)
 
 
 def run(*words, text=None, **environment):
@@ -72,8 +70,7 @@ def main(name):
     status, log = run(sys.executable, HERE / "make_log.py", str(LINES))
     check("the log", status == 0 and log.count(b"\n") == LINES)
     {"answer": test_answers, "count": test_counts}[name](log)
-    print(f"{passed} passed, {failed} failed")
-    return 1 if failed else 0
+    return checks.end()
 
 
 sys.exit(main(sys.argv[1]))
