@@ -5,9 +5,9 @@
 #                                'N passed, M failed'
 # bindings/test.sh --attack      attacks on the library, the programs of dist/, the Go proxy, the page and the tools for rule files,
 #                                in two minutes (docs/guide/security.md); some of them are among the tests above, and run again
-# bindings/test.sh --prometheus  compares what queries give before a Prometheus as they are written, printed and enforced, in a minute
-#                                (bench/meaning), where Debian's package prometheus is installed; --install does not install it, since
-#                                Debian starts a service then
+# bindings/test.sh --prometheus  compares what queries give before a Prometheus as they are written, printed and enforced, and the
+#                                places of errors, in a minute (bench/meaning, bench/places), where Debian's package prometheus is
+#                                installed; --install does not install it, since Debian starts a service then
 # bindings/test.sh --proxy       holds the Go proxy against a Prometheus with several tenants, in half a minute, where that is installed
 #                                (docs/guide/proxy.md)
 # bindings/test.sh --editor      tries the language server in Neovim, in Emacs, and with the extension for VS Code, in half a minute,
@@ -527,6 +527,7 @@ test_prometheus() {
     has python3 'queries before a Prometheus' || return
     add 'queries before a Prometheus' in_python "$here/python" "$root/bench/meaning/compare.py" --rows 500 --random 500
     add 'the linter before a Prometheus' in_python "$here/python" "$root/bench/meaning/lint.py" 500
+    add 'places of errors before a Prometheus' in_python "$here/python" "$root/bench/places/prometheus.py"
 }
 
 # The servers and the proxies are in the group of processes that `limited` ends.

@@ -147,6 +147,30 @@ class Trees(unittest.TestCase):
         with self.assertRaises(promql.QueryError):
             promql.places("a +")
 
+    def test_places_are_those_of_prometheus(self):
+        """Typed from what Prometheus's parser gives as a node's range: from its first token to its last, modifiers and signs included."""
+        whole = ["1", "-1", "+Inf", "foo", "foo{a='b'}", "{a='b'} offset 5m", "foo OFFSET 1h30m", "foo @ 17", "foo @ end() offset -5m", "test[5s]", "test[5s] @ 3", "time()"]
+        for query in whole:
+            with self.subTest(query):
+                self.assertEqual(promql.places(f" {query} "), [(1, len(query) + 1)])
+        for query, texts in (
+            ("-foo", ["-foo", "foo"]),
+            ("1 + 2/(3*1)", ["1 + 2/(3*1)", "1", "2/(3*1)", "2", "(3*1)", "3*1", "3", "1"]),
+            ("foo*bar offset 5m", ["foo*bar offset 5m", "foo", "bar offset 5m"]),
+            ("(foo) and on (x) ( bar )", ["(foo) and on (x) ( bar )", "(foo)", "foo", "( bar )", "bar"]),
+            ("sum by (foo)(a)", ["sum by (foo)(a)", "a"]),
+            ("sum(a) without (foo)", ["sum(a) without (foo)", "a"]),
+            ("topk(5, a{b='c'})", ["topk(5, a{b='c'})", "5", "a{b='c'}"]),
+            ("count_values('v', a)", ["count_values('v', a)", "'v'", "a"]),
+            ("rate(a[5m] offset 1m)", ["rate(a[5m] offset 1m)", "a[5m] offset 1m"]),
+            ("a{b='c'}[10m:6s]", ["a{b='c'}[10m:6s]", "a{b='c'}"]),
+            ("(a + b)[5m:] @ 16 offset 1m", ["(a + b)[5m:] @ 16 offset 1m", "(a + b)", "a + b", "a", "b"]),
+            ("-a ^ 2", ["-a ^ 2", "a ^ 2", "a", "2"]),
+            ("a - -b", ["a - -b", "a", "-b", "b"]),
+        ):
+            with self.subTest(query):
+                self.assertEqual([query[slice(*place)] for place in promql.places(query)], texts)
+
     def test_replace(self):
         expr = tree.parse("sum(up)")
         self.assertEqual(expr.replace(op="max", grouping=("job",)), tree.parse("max by (job) (up)"))
