@@ -23,6 +23,8 @@ from serving import enter, served
 from test_promql import BROKEN, broken
 
 CALLS = "abs(" * 511 + "a" + ")" * 511
+# Seconds that a server and a command are given: the slowest took 20, beside other work and with sanitizers.
+PATIENCE = 120
 JSON = {"Content-Type": "application/json"}
 # A request that is rejected, with the status and a word of the reason.
 REJECTED = (
@@ -70,7 +72,7 @@ class Served(unittest.TestCase):
 
     def request(self, method, path, headers=(), body=b""):
         """The response to a request, and its body."""
-        connection = http.client.HTTPConnection(page.ADDRESS, self.server.server_port, timeout=20)
+        connection = http.client.HTTPConnection(page.ADDRESS, self.server.server_port, timeout=PATIENCE)
         try:
             connection.request(method, path, body=body, headers=dict(headers))
             response = connection.getresponse()
@@ -80,7 +82,7 @@ class Served(unittest.TestCase):
 
     def talk(self, data):
         """What the server says to these bytes."""
-        with socket.create_connection((page.ADDRESS, self.server.server_port), timeout=20) as connection:
+        with socket.create_connection((page.ADDRESS, self.server.server_port), timeout=PATIENCE) as connection:
             connection.sendall(data)
             with connection.makefile("rb") as response:
                 return response.read()
@@ -254,7 +256,7 @@ class Slow(Served):
         """Each byte comes in time, and the request as a whole does not."""
         body = b"Content-Type: application/json\r\nContent-Length: 9999\r\n\r\n"
         for head in (b"GET / HTTP/1.1\r\nHost: localhost\r\nX: ", b"POST /query HTTP/1.1\r\nHost: localhost\r\n" + body):
-            with socket.create_connection((page.ADDRESS, self.server.server_port), timeout=20) as connection:
+            with socket.create_connection((page.ADDRESS, self.server.server_port), timeout=PATIENCE) as connection:
                 connection.sendall(head)
                 start = time.monotonic()
                 with self.assertRaises(OSError):
@@ -274,22 +276,22 @@ class Command(unittest.TestCase):
         with self.start("serve", "--port", "0") as served:
             try:
                 port = int(re.fullmatch(r"http://127\.0\.0\.1:(\d+)/\n", served.stdout.readline())[1])
-                connection = http.client.HTTPConnection("127.0.0.1", port, timeout=20)
+                connection = http.client.HTTPConnection("127.0.0.1", port, timeout=PATIENCE)
                 connection.request("GET", "/")
                 self.assertEqual(connection.getresponse().status, 200)
                 connection.close()
                 with self.start("serve", "--port", str(port)) as second:
-                    self.assertEqual(second.communicate(timeout=20)[1], f"port {port}: Address already in use\n")
+                    self.assertEqual(second.communicate(timeout=PATIENCE)[1], f"port {port}: Address already in use\n")
                 self.assertEqual(second.returncode, 1)
             finally:
                 served.send_signal(signal.SIGINT)
-                said = served.communicate(timeout=20)
+                said = served.communicate(timeout=PATIENCE)
         self.assertEqual((served.returncode, *said), (0, "", ""))
 
     def test_wrong_words(self):
         for words in ((), ("nothing",), ("serve", "--port", "65536"), ("serve", "--port", "-1"), ("serve", "more")):
             with self.start(*words) as ended:
-                said = ended.communicate(timeout=20)[1]
+                said = ended.communicate(timeout=PATIENCE)[1]
             self.assertEqual(ended.returncode, 2, words)
             self.assertIn("usage: python -m promql", said)
 
