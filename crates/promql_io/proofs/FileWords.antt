@@ -1,22 +1,27 @@
 -- The file among the arguments of a program, as it is found.
-use Rattle.std.proofs.Common.{◌≡◌, ℕ, ◌+◌, ◌-◌, List, length, drop, take, map, false, None, Some, Global, String, string_bytes, ap, sym, subst, ◌∙◌}
-use Rattle.std.specs.Prelude.{IfNone, IfSome, Option, option_map}
-use Rattle.std.proofs.lemmas.List.{drop-map, take_rest}
-use Rattle.promql_io.specs.Arguments.{file_after, file_at}
+use Rattle.std.proofs.Common.{◌≡◌, ℕ, ◌+◌, Bool, List, [], ◌∷◌, drop, take, map, false, true, None, Global, String, string_bytes, refl, ap, sym, ◌∙◌}
+use Rattle.std.specs.Prelude.{◌||◌, if◌then◌else◌, Option, option_map}
+use Rattle.std.specs.List.{list_any}
+use Rattle.std.proofs.lemmas.List.{drop-map, take-map}
+use Rattle.promql_io.specs.Arguments.{file_after, file_at, is_option}
 
--- the file after some words is that of the words from there on
-pub file_from : (before : ℕ) (args all : List (String Global)) (found : Option ℕ) → all ≡ args
-    → found ≡ file_at false (map string_bytes (take (length all - before) (drop before all))) → file_after before (map string_bytes args) ≡ option_map (λ at. before + at) found
-file_from before args all found same file =
-    let rest : file_at false (drop before (map string_bytes args)) ≡ found
-    = ap (file_at false) (drop-map string_bytes before args ∙ ap (λ words. map string_bytes (drop before words)) (sym same) ∙ ap (map string_bytes) (sym (take_rest all before))) ∙ sym file in
-    ap (option_map (λ at. before + at)) rest
+pub any_mapped : {X Y : Type 0} (p : Y → Bool) (f : X → Y) (xs : List X) → list_any (λ x. p (f x)) xs ≡ list_any p (map f xs)
+any_mapped p f [] = refl
+any_mapped p f (x ∷ xs) = ap (λ b. p (f x) || b) (any_mapped p f xs)
 
-pub if_some : {A : Type 0} (Q : A → Type 0) (o : Option A) (x : A) → o ≡ Some x → Q x → IfSome o Q
-if_some Q o x is fact = subst (λ o. IfSome o Q) (sym is) fact
+module _ (before : ℕ) (args first : List (String Global)) (asked : Bool) (front : first ≡ take before args) (tells : asked ≡ list_any is_option (drop 1 (map string_bytes first))) where
+  asked_is : list_any is_option (drop 1 (take before (map string_bytes args))) ≡ asked
+  asked_is = ap (λ l. list_any is_option (drop 1 l)) (take-map string_bytes before args ∙ ap (map string_bytes) (sym front)) ∙ sym tells
 
-pub if_some_of_none : {A : Type 0} (Q : A → Type 0) (o : Option A) → o ≡ None → IfSome o Q
-if_some_of_none Q o is = subst (λ o. IfSome o Q) (sym is) tt
+  -- an option is in a place that is before the file
+  pub no_file : asked ≡ true → file_after before (map string_bytes args) ≡ None
+  no_file some =
+      ap (λ b. if b then None else option_map (λ at. before + at) (file_at false (drop before (map string_bytes args)))) (asked_is ∙ some)
 
-pub if_none_of_some : {A : Type 0} (fact : Type 0) (o : Option A) (x : A) → o ≡ Some x → IfNone o fact
-if_none_of_some fact o x is = subst (λ o. IfNone o fact) (sym is) tt
+  -- the file after some words is that of the words from there on
+  pub file_from : (words : List (String Global)) (found : Option ℕ) → asked ≡ false → words ≡ drop before args → found ≡ file_at false (map string_bytes words)
+      → file_after before (map string_bytes args) ≡ option_map (λ at. before + at) found
+  file_from words found none back file =
+      ap (λ b. if b then None else option_map (λ at. before + at) (file_at false (drop before (map string_bytes args)))) (asked_is ∙ none)
+      ∙ ap (λ l. option_map (λ at. before + at) (file_at false l)) (drop-map string_bytes before args ∙ ap (map string_bytes) (sym back))
+      ∙ ap (option_map (λ at. before + at)) (sym file)

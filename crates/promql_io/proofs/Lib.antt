@@ -1,2 +1,3 @@
 mod FileWords
 pub mod KnownBytes
+mod Marks

@@ -1,5 +1,6 @@
 -- The file among the arguments of a program (docs/reference/programs.md, "Files").
-use Rattle.std.specs.Prelude.{ℕ, suc, ◌+◌, ◌||◌, ◌==◌, Bool, true, false, not, bytes_eq, codes, drop, if◌then◌else◌, List, [], ◌∷◌, Option, None, Some, option_map}
+use Rattle.std.specs.Prelude.{ℕ, suc, ◌+◌, ◌||◌, ◌==◌, Bool, true, false, not, bytes_eq, codes, drop, if◌then◌else◌, take, List, [], ◌∷◌, Option, None, Some, option_map}
+use Rattle.std.specs.List.{list_any}
 
 -- a word that begins with `-`, and is more than that
 abbrev pub is_option : List ℕ → Bool
@@ -18,6 +19,7 @@ file_at is_value [] = None
 file_at true (value ∷ words) = option_map suc (file_at false words)
 file_at false (word ∷ words) = if is_option word then option_map suc (file_at (not (is_flag word)) words) else Some 0
 
--- the same, where the first words are no file
+-- the same, where the first words are no file; there is none if one of them but the program's own name is an option
 abbrev pub file_after : ℕ → List (List ℕ) → Option ℕ
-file_after before words = option_map (λ at. before + at) (file_at false (drop before words))
+file_after before words =
+    if list_any is_option (drop 1 (take before words)) then None else option_map (λ at. before + at) (file_at false (drop before words))

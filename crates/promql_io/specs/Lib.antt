@@ -1,3 +1,5 @@
 pub mod Arguments
+pub mod ArgumentWords
+pub mod Colors
 pub mod Ended
 pub mod Inputs

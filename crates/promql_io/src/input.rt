@@ -4,9 +4,10 @@ ghost use Rattle.std.specs.Prelude.{◌≡◌, true, Ok, IfErr, option_map, stri
 ghost use Rattle.promql_io.specs.Inputs.{names_standard};
 ghost use Rattle.promql_io.specs.declared.input.Input.TheVariants.{Standard};
 
+use crate::arguments::{arguments, take_file};
 use crate::ended::Ended;
 use std::io::{Read, Write};
-use std::rt::Files;
+use std::rt::{Env, Files};
 use std::{fs, io};
 
 /// The status of a file that cannot be opened, as of a read that failed.
@@ -62,4 +63,24 @@ pub fn open_input<R: Files, S: Drop, E: Write>(
             Err(UNREADABLE_STATUS)
         }
     }
+}
+
+/// The arguments of a process without its file, and the input that this names. The first `before` arguments are no file. Where one is not
+/// valid UTF-8, or an allocation failed, there are none.
+///
+/// # Errors
+///
+/// The status where the file cannot be opened, as of `open_input`.
+pub fn open_argument<R: Env + Files + AllocGlobal, S: Drop, E: Write>(
+    rt: &R,
+    before: usize,
+    standard: S,
+    errors: &mut Ended<E>,
+) -> Result<(Vec<String>, Input<S, R::File>), u8>
+    ensures { IfErr result (λ status. status ≡ UNREADABLE_STATUS) }
+{
+    let mut args = arguments(rt).unwrap_or(Vec::new(rt.alloc()));
+    let file = take_file(&mut args, before);
+    let input = open_input(rt, standard, file, errors)?;
+    Ok((args, input))
 }

@@ -4,6 +4,7 @@
 
 pub mod ahead;
 pub mod arguments;
+pub mod colors;
 pub mod ended;
 pub mod input;
 pub mod reading;
