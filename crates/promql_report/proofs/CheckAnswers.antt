@@ -5,10 +5,10 @@ use Rattle.std.specs.Option.{option_map_or}
 use Rattle.promql_text.specs.Texts.{Text}
 use Rattle.promql_io.specs.Inputs.{IsInput}
 use Rattle.promql_run.specs.Programs.{run, show}
-use Rattle.promql_span.specs.declared.limits.Limits.{Limits}
 use Rattle.promql_report.specs.CheckedInputs.{IsChecked}
 use Rattle.promql_report.specs.Checking.{HasQuery, IsWarned}
 use Rattle.promql_report.specs.LimitOptions.{asked_text, command}
+use Rattle.promql_report.specs.declared.check_settings.CheckSettings.{CheckSettings}
 use Rattle.promql_report.specs.declared.check.Checked.{Checked}
 use Rattle.promql_report.specs.declared.check.Checked.TheVariants.{Warned}
 
@@ -21,10 +21,10 @@ one_setting help version settings args a b none read asked =
     let same : Some (run a) ≡ Some (run b) = sym given ∙ asked in
     cc
 
-pub warned : (limits : Limits) (found : Checked) (warning : String Global) (said : Text) (left left_after : Option (List ℕ)) → found ≡ Warned warning → said ≡ string_bytes warning
-    → IsInput (λ text. IsChecked limits text found) left left_after → HasQuery (IsWarned limits said) left left_after
-warned limits found warning said left left_after is same input =
-    subst (λ s. HasQuery (IsWarned limits s) left left_after) (sym same) (subst (λ f. IsInput (λ text. IsChecked limits text f) left left_after) is input)
+pub warned : (s : CheckSettings) (found : Checked) (warning : String Global) (said : Text) (left left_after : Option (List ℕ)) → found ≡ Warned warning → said ≡ string_bytes warning
+    → IsInput (λ text. IsChecked s text found) left left_after → HasQuery (IsWarned s said) left left_after
+warned s found warning said left left_after is same input =
+    subst (λ said. HasQuery (IsWarned s said) left left_after) (sym same) (subst (λ f. IsInput (λ text. IsChecked s text f) left left_after) is input)
 
 -- what a call writes unless it fails
 pub written_unless_failed : {T E P : Type 0} (r : Result T E) (failed : Bool) → OnOk r P → OnErr r (failed ≡ true) → failed ≡ false → P

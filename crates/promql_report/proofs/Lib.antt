@@ -1,4 +1,5 @@
 pub mod CheckAnswers
+mod CheckOptions
 pub mod LimitStatus
 pub mod NumberOptions
 pub mod OptionSteps

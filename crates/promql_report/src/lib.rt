@@ -2,5 +2,6 @@
 #![tactic(auto)]
 
 pub mod check;
+pub mod check_settings;
 pub mod limit_options;
 pub mod rejection;

@@ -149,7 +149,7 @@ fn check_row(rt: &impl Abort, alloc: Global, args: &[String], row: &Row) {
     let mut reader = Ended::new(input);
     let mut writer = Ended::new(Vec::new(alloc));
     let mut errors = Ended::new(Vec::new(alloc));
-    let found = check_program(alloc, args, &mut reader, &mut writer, &mut errors);
+    let found = check_program(alloc, args, false, &mut reader, &mut writer, &mut errors);
     assert_eq!(rt; found, status, "{words:?}");
     assert!(rt; writer.inner().as_slice() == line.as_bytes(), "{words:?}");
     assert!(rt; errors.inner().as_slice() == report.as_bytes(), "{input:?}");
@@ -162,6 +162,111 @@ fn statuses_and_reports(rt: HostRuntime) -> Result<(), Fail> {
     for row in &ROWS {
         let args = texts(rt.alloc(), row.0)?;
         check_row(&rt, rt.alloc(), args.as_slice(), row);
+    }
+    Ok(())
+}
+
+/// Options, whether there are colors where none says it, input, status, and standard error.
+type ColorRow = (
+    &'static [&'static str],
+    bool,
+    &'static [u8],
+    u8,
+    &'static str,
+);
+
+const COLOR_ROWS: [ColorRow; 11] = [
+    (
+        &[""],
+        false,
+        b"1 + ^",
+        4,
+        "1:5: unexpected \"^\", expected expression, \"bool\", \"ignoring\", \"on\", \"fill\", \"fill_left\" or \"fill_right\"\n1 + ^\n    ^\n",
+    ),
+    (
+        &[""],
+        true,
+        b"1 + ^",
+        4,
+        "\x1b[1m1:5:\x1b[0m unexpected \"^\", expected expression, \"bool\", \"ignoring\", \"on\", \"fill\", \"fill_left\" or \"fill_right\"\n1 + ^\n    \x1b[1;32m^\x1b[0m\n",
+    ),
+    (
+        &["", "--color", "never"],
+        true,
+        b"rate(foo)",
+        4,
+        "1:6: expected type matrix in call to function 'rate', got vector\nrate(foo)\n     ^~~\n",
+    ),
+    (
+        &["", "--color", "always"],
+        false,
+        b"rate(foo)",
+        4,
+        "\x1b[1m1:6:\x1b[0m expected type matrix in call to function 'rate', got vector\nrate(foo)\n     \x1b[1;32m^~~\x1b[0m\n",
+    ),
+    (
+        &["", "--color", "never", "--color", "auto"],
+        true,
+        b"a\x1b",
+        4,
+        "\x1b[1m1:2:\x1b[0m unexpected character: '\\x1b'\na\\x1b\n \x1b[1;32m^~~~\x1b[0m\n",
+    ),
+    (
+        &["", "--color", "always", "--color", "auto"],
+        false,
+        b"\"\\xc3\"",
+        0,
+        "1:2: warning: this escape is a character here, and a byte in Prometheus\n\"\\xc3\"\n ^~~~\n",
+    ),
+    (
+        &["", "--max-len", "9", "--color", "always"],
+        false,
+        b"\"\\xc3\"",
+        0,
+        "\x1b[1m1:2:\x1b[0m \x1b[35mwarning: \x1b[0mthis escape is a character here, and a byte in Prometheus\n\"\\xc3\"\n \x1b[1;32m^~~~\x1b[0m\n",
+    ),
+    (
+        &["", "--color", "always", "--max-len", "0"],
+        false,
+        b"a",
+        14,
+        "\x1b[1m1:2:\x1b[0m query is too long: 1 bytes, at most 0\na\n \x1b[1;32m^\x1b[0m\n",
+    ),
+    (
+        &["", "--color", "always"],
+        true,
+        b"\xff",
+        3,
+        "input is not UTF-8\n",
+    ),
+    (&["", "--color", "sometimes"], true, b"1", 64, CHECK_USAGE),
+    (&["", "--color"], true, b"1", 64, CHECK_USAGE),
+];
+
+/// The program with these options and this setting says what the row says.
+fn check_color_row(rt: &impl Abort, alloc: Global, args: &[String], row: &ColorRow) {
+    let (words, usual, input, status, report) = *row;
+    let mut errors = Ended::new(Vec::new(alloc));
+    let found = check_program(
+        alloc,
+        args,
+        usual,
+        &mut Ended::new(input),
+        &mut Ended::new(Vec::new(alloc)),
+        &mut errors,
+    );
+    assert_eq!(rt; found, status, "{words:?}");
+    assert!(rt;
+        errors.inner().as_slice() == report.as_bytes(),
+        "{words:?} {input:?}"
+    );
+}
+
+#[test]
+fn colors_of_reports(rt: HostRuntime) -> Result<(), Fail> {
+    for row in &COLOR_ROWS {
+        let args = texts(rt.alloc(), row.0)?;
+        check_color_row(&rt, rt.alloc(), args.as_slice(), row);
     }
     Ok(())
 }
@@ -179,6 +284,7 @@ fn a_failed_read_ends_with_two(rt: HostRuntime) -> Result<(), Fail> {
     let status = check_program(
         alloc,
         args.as_slice(),
+        false,
         &mut Ended::new(flaky),
         &mut Ended::new(Vec::new(alloc)),
         &mut errors,
@@ -198,6 +304,7 @@ fn writes_that_fail(rt: HostRuntime) -> Result<(), Fail> {
         let status = check_program(
             alloc,
             args.as_slice(),
+            true,
             &mut Ended::new(input),
             &mut Ended::new(FlakyWriter::new(alloc, 2, 0)),
             &mut Ended::new(FlakyWriter::new(alloc, 2, 0)),
