@@ -1,9 +1,8 @@
 //! `promql_batch MODE`: reads a PromQL query from each line of a file or of standard input, and prints an answer for each.
 #![tactic(auto)]
 
-use promql_io::arguments::{arguments, take_file};
 use promql_io::ended::Ended;
-use promql_io::input::open_input;
+use promql_io::input::open_argument;
 use promql_lines::batch_program::batch_program;
 use promql_run::output::exit_status;
 use promql_run::run::RunError;
@@ -12,11 +11,9 @@ use std::process::ExitCode;
 
 /// Runs the program over buffers.
 fn run(rt: &HostRuntime) -> Result<u8, RunError> {
-    let mut args = arguments(rt).unwrap_or(Vec::new(rt.alloc()));
     let mut errors = Ended::new(rt.stderr());
-    let file = take_file(&mut args, 2);
-    let input = match open_input(rt, rt.stdin(), file, &mut errors) {
-        Ok(input) => input,
+    let (args, input) = match open_argument(rt, 2, rt.stdin(), &mut errors) {
+        Ok(opened) => opened,
         Err(status) => return Ok(status),
     };
     let Ok(buffer) = BufReader::new(rt.alloc(), input) else {

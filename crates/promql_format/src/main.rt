@@ -6,19 +6,16 @@ mod query_layout;
 mod settings;
 
 use program::format_program;
-use promql_io::arguments::{arguments, take_file};
 use promql_io::ended::Ended;
-use promql_io::input::open_input;
+use promql_io::input::open_argument;
 use promql_run::output::exit_status;
 use std::process::ExitCode;
 
 fn main(rt: HostRuntime) -> ExitCode {
-    let mut args = arguments(&rt).unwrap_or(Vec::new(rt.alloc()));
     let mut writer = Ended::new(rt.stdout());
     let mut errors = Ended::new(rt.stderr());
-    let file = take_file(&mut args, 1);
-    let input = match open_input(&rt, rt.stdin(), file, &mut errors) {
-        Ok(input) => input,
+    let (args, input) = match open_argument(&rt, 1, rt.stdin(), &mut errors) {
+        Ok(opened) => opened,
         Err(status) => return ExitCode::from(status),
     };
     let mut reader = Ended::new(input);
