@@ -49,6 +49,7 @@ bash_completes() {
     [ "$(completed promql p promql)" = pretty ] && [ "$(completed promql_batch l promql_batch)" = line ] &&
         [ "$(completed promql_check --max promql_check)" = '--max-len --max-patterns' ] &&
         [ "$(completed promql_format --k promql_format)" = --keep-spelling ] && [ -z "$(completed promql_format '' --width)" ] &&
+        [ "$(completed promql_check a --color)" = 'always auto' ] &&
         [ -z "$(completed promql_enforce '' --max-len)" ] && [ -z "$(completed promql_enforce name promql_enforce)" ]
 }
 
