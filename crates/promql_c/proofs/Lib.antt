@@ -1,2 +1,1 @@
 pub mod FiniteCollected
-pub mod PrintLemmas

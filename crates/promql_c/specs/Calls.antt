@@ -1,83 +1,72 @@
 -- What each call makes of a query (docs/guide/bindings.md, "Calls").
-use Rattle.std.specs.Prelude.{◌≡◌, ◌⊎◌, ◌≤◌, Bool, true, false, [], length, Option, Some, None, Result, Ok, Err}
+use Rattle.std.specs.Prelude.{◌≡◌, ◌⊎◌, Bool, true, false, [], Option, Some, None, Result, Err, MatchResult}
 use Rattle.std.specs.Str.{IsUtf8}
 use Rattle.serde_json.specs.Written.{compact_text}
 use Rattle.promql_text.specs.Texts.{Text}
 use Rattle.promql_span.specs.declared.span.Span.{Span}
 use Rattle.promql_ast.specs.Tree.{Tree}
-use Rattle.promql_span.specs.QueryLimits.{IsLongOutput, IsWithin}
-use Rattle.promql_formatter.specs.Formats.{IsFormatOf}
 use Rattle.promql_span.specs.declared.limits.Limits.{Limits}
-use Rattle.promql_json.specs.declared.error.JsonError.{JsonError}
-use Rattle.promql_json.specs.declared.error.JsonError.TheVariants as json_errors
 use Rattle.promql_rewrite.specs.declared.matcher_text.MatcherError.TheVariants as matcher_error
+use Rattle.promql_rewrite.specs.Renaming.{Renaming}
 use Rattle.promql_report.specs.Checking.{marked_line}
 use Rattle.promql_report.specs.Rejecting.{IsMessage, IsParsed, IsRead, IsRejection, reason_number}
 use Rattle.promql_report.specs.declared.rejection.Rejection.{Rejection}
-use Rattle.promql_lines.specs.Batch.{HasQueryText, rejection_object}
+use Rattle.promql_lines.specs.Batch.{rejection_object}
 use Rattle.promql_lines.specs.Telling.{IsToldWith}
 use Rattle.promql_lines.specs.declared.rejected_query.RejectedQuery.{RejectedQuery}
 use Rattle.promql_lines.specs.EnforcedLines.{FailsToEnforce, IsEnforcedLine}
+use Rattle.promql_lines.specs.FormattedQueries.{FailsToFormat, IsFormattedQuery}
+use Rattle.promql_lines.specs.QueryErrors.{Gives, GivesOr, HasNoTree, IsPrintOfTree}
 use Rattle.promql_lines.specs.RenamedLines.{FailsToShowRenamed, IsRenamedLine, renaming}
+use Rattle.promql_lines.specs.declared.query_error.QueryError.{QueryError}
+use Rattle.promql_lines.specs.declared.query_error.QueryError.TheVariants as error
 use Rattle.promql_lines.specs.declared.renamed_line.Named.{Named}
-use Rattle.promql_lines.specs.declared.renamed_line.RenamedLineError.TheVariants as renamed
 use Rattle.promql_lines.specs.TreeTexts.{FailsToShowForm, IsTextOfForm}
-use Rattle.promql_lines.specs.declared.enforced_line.EnforcedLineError.TheVariants as enforced
 use Rattle.promql_run.specs.declared.format.Format.{Format}
-use Rattle.promql_c.specs.declared.call_error.CallError.{CallError}
-use Rattle.promql_c.specs.declared.call_error.CallError.TheVariants as errors
 
--- the query has a tree, and this is its text in the format, or why it has none
-pub record HasText (limits : Limits) (query : Text) (format : Format) (made : Result Text JsonError) : Type 0 where
-  pub utf8 : IsUtf8 query
-  pub has : HasQueryText limits query None format made
+-- ---- what is made of bytes: a text, or an error
 
--- an allocation failed, or the query is not valid UTF-8
-abbrev pub IsUnread : Text → CallError → Type 0
-IsUnread query errors.Memory = Unit {0}
-IsUnread query errors.NotUtf8 = ¬ IsUtf8 query
-IsUnread query _ = ⊥
+-- of bytes that are texts; of others it is said that they are none
+abbrev pub OfTexts : Type 0 → (Result Text QueryError → Type 0) → Result Text QueryError → Type 0
+OfTexts AreTexts IsMade made = (AreTexts × IsMade made) ⊎ ((¬ AreTexts) × (made ≡ Err error.NotUtf8))
 
--- or it is rejected
-abbrev pub HasNoTree : Limits → Text → CallError → Type 0
-HasNoTree limits query (errors.Rejected r) = IsUtf8 query × IsRejection limits query r
-HasNoTree limits query e = IsUnread query e
+-- in a mode that there is
+abbrev pub OfMode : {A : Type 0} → (A → Result Text QueryError → Type 0) → Option A → Result Text QueryError → Type 0
+OfMode IsMade None made = made ≡ Err error.UnknownMode
+OfMode IsMade (Some mode) made = IsMade mode made
 
--- a query and two names are valid UTF-8
-abbrev pub AreUtf8 : Text → Text → Text → Type 0
-AreUtf8 query from to = IsUtf8 query × IsUtf8 from × IsUtf8 to
+-- of a query that has a tree; of others it is said why they have none
+abbrev pub OfTree : (Tree → Result Text QueryError → Type 0) → Limits → Text → Result Text QueryError → Type 0
+OfTree IsMade limits query made =
+    ((e : QueryError) × HasNoTree limits query e × (made ≡ Err e)) ⊎ ((t : Tree) × IsRead limits query t × IsMade t made)
 
--- "print": the text in the format, if one was asked for
-abbrev pub IsPrintOf : Limits → Text → Option Format → Result Text CallError → Type 0
-IsPrintOf limits query None made = made ≡ Err errors.UnknownMode
-IsPrintOf limits query (Some format) (Ok text) = HasText limits query format (Ok text) × (length text ≤ limits.max_output)
-IsPrintOf limits query (Some format) (Err errors.NumberTooWide) = HasText limits query format (Err json_errors.NumberTooWide)
-IsPrintOf limits query (Some format) (Err (errors.LongOutput fault)) = (text : Text) × HasText limits query format (Ok text) × IsLongOutput text limits fault
-IsPrintOf limits query (Some format) (Err e) = HasNoTree limits query e
+-- ---- the calls
 
--- "enforce": the line with the matcher in every selector; the matcher counts only where the query has a tree, and one that is not
--- valid UTF-8 is none
-abbrev pub IsEnforceOf : Limits → Text → Text → Result Text CallError → Type 0
-IsEnforceOf limits query matcher (Ok line) = IsUtf8 query × IsUtf8 matcher × IsEnforcedLine limits query matcher line
-IsEnforceOf limits query matcher (Err (errors.NotEnforced (enforced.Rejected r))) = ⊥
-IsEnforceOf limits query matcher (Err (errors.NotEnforced e)) =
-    IsUtf8 query × ((IsUtf8 matcher × FailsToEnforce limits query matcher e)
-    ⊎ (¬ IsUtf8 matcher × IsParsed limits query × (e ≡ enforced.Matcher matcher_error.NotAMatcher)))
-IsEnforceOf limits query matcher (Err e) = HasNoTree limits query e
+-- "print": the text in the format
+abbrev pub IsPrintOf : Limits → Text → Option Format → Result Text QueryError → Type 0
+IsPrintOf limits query = OfMode (λ format. OfTexts (IsUtf8 query) (OfTree (IsPrintOfTree limits format) limits query))
 
--- "rename": the line with a new name for a metric or a label, if one of these was asked for
-abbrev pub IsRenameOf : Limits → Text → Option Named → Text → Text → Result Text CallError → Type 0
-IsRenameOf limits query None from to made = made ≡ Err errors.UnknownMode
-IsRenameOf limits query (Some named) from to (Ok line) = AreUtf8 query from to × IsRenamedLine limits query (renaming named from to) line
-IsRenameOf limits query (Some named) from to (Err (errors.NotRenamed (renamed.Rejected r))) = ⊥
-IsRenameOf limits query (Some named) from to (Err (errors.NotRenamed e)) = AreUtf8 query from to × FailsToShowRenamed limits query (renaming named from to) e
-IsRenameOf limits query (Some named) from to (Err errors.NotUtf8) = ¬ AreUtf8 query from to
-IsRenameOf limits query (Some named) from to (Err e) = HasNoTree limits query e
+-- "enforce": the line with the matcher in every selector; one that is not valid UTF-8 is none, which counts only where the query has a
+-- tree
+abbrev pub Enforces : Limits → Text → Text → Result Text QueryError → Type 0
+Enforces limits query matcher made =
+    (IsUtf8 matcher × MatchResult made (IsEnforcedLine limits query matcher) (FailsToEnforce limits query matcher))
+    ⊎ ((¬ IsUtf8 matcher) × OfTree (λ t made. made ≡ Err (error.Matcher matcher_error.NotAMatcher)) limits query made)
 
--- "collect", "places" and "check": the query has a tree, of which this is such a text
-abbrev pub IsTextOf : (Tree → Text → Type 0) → Limits → Text → Result Text CallError → Type 0
-IsTextOf P limits query (Ok text) = IsUtf8 query × ((t : Tree) × IsRead limits query t × P t text)
-IsTextOf P limits query (Err e) = HasNoTree limits query e
+abbrev pub IsEnforceOf : Limits → Text → Text → Result Text QueryError → Type 0
+IsEnforceOf limits query matcher = OfTexts (IsUtf8 query) (Enforces limits query matcher)
+
+-- "rename": the line with a new name for a metric or a label
+abbrev pub Renames : Limits → Text → Renaming → Result Text QueryError → Type 0
+Renames limits query r made = MatchResult made (IsRenamedLine limits query r) (FailsToShowRenamed limits query r)
+
+abbrev pub IsRenameOf : Limits → Text → Option Named → Text → Text → Result Text QueryError → Type 0
+IsRenameOf limits query asked from to =
+    OfMode (λ named. OfTexts (IsUtf8 query × IsUtf8 from × IsUtf8 to) (Renames limits query (renaming named from to))) asked
+
+-- "collect", "places" and "check": such a text of the query's tree
+abbrev pub IsTextOf : (Tree → Text → Type 0) → Limits → Text → Result Text QueryError → Type 0
+IsTextOf Is limits query = OfTexts (IsUtf8 query) (OfTree (λ t. Gives (Is t)) limits query)
 
 -- where a query is checked
 abbrev pub IsNothing : Tree → Text → Type 0
@@ -91,28 +80,25 @@ IsExplanation true query r text =
     × ((message : Text) × IsMessage query r message × (text ≡ compact_text (rejection_object (reason_number r.reason) message told)))
 
 -- "explain": an empty text where the query has a tree, else why it is rejected
-abbrev pub IsExplainOf : Limits → Bool → Text → Result Text CallError → Type 0
-IsExplainOf limits as_json query (Ok text) =
-    IsUtf8 query × ((IsParsed limits query × (text ≡ [])) ⊎ ((r : Rejection) × IsRejection limits query r × IsExplanation as_json query r text))
-IsExplainOf limits as_json query (Err e) = IsUnread query e
+abbrev pub Explains : Limits → Bool → Text → Text → Type 0
+Explains limits as_json query text =
+    (IsParsed limits query × (text ≡ [])) ⊎ ((r : Rejection) × IsRejection limits query r × IsExplanation as_json query r text)
+
+abbrev pub IsExplainOf : Limits → Bool → Text → Result Text QueryError → Type 0
+IsExplainOf limits as_json query = OfTexts (IsUtf8 query) (Gives (Explains limits as_json query))
 
 -- "snippet": the line where the span begins, with its mark below
-abbrev pub IsSnippetOf : Text → Span → Result Text CallError → Type 0
-IsSnippetOf query span (Ok text) = IsUtf8 query × (text ≡ marked_line query span)
-IsSnippetOf query span (Err e) = IsUnread query e
+abbrev pub IsSnippetOf : Text → Span → Result Text QueryError → Type 0
+IsSnippetOf query span = OfTexts (IsUtf8 query) (Gives (λ text. text ≡ marked_line query span))
 
--- "print a tree": the text of the tree of this form, if a mode was asked for
-abbrev pub IsTreePrintOf : Limits → Text → Option Format → Bool → Result Text CallError → Type 0
-IsTreePrintOf limits form None parens made = made ≡ Err errors.UnknownMode
-IsTreePrintOf limits form (Some format) parens (Ok text) = IsUtf8 form × IsTextOfForm limits format parens form text × (length text ≤ limits.max_output)
-IsTreePrintOf limits form (Some format) parens (Err (errors.LongOutput fault)) =
-    IsUtf8 form × ((text : Text) × IsTextOfForm limits format parens form text × IsLongOutput text limits fault)
-IsTreePrintOf limits form (Some format) parens (Err (errors.NotPrinted e)) = IsUtf8 form × FailsToShowForm limits parens form e
-IsTreePrintOf limits form (Some format) parens (Err e) = IsUnread form e
+-- "print a tree": the text of the tree of this form
+abbrev pub PrintsForm : Limits → Text → Bool → Format → Result Text QueryError → Type 0
+PrintsForm limits form parens format = GivesOr (FailsToShowForm limits parens form) limits (IsTextOfForm limits format parens form)
+
+abbrev pub IsTreePrintOf : Limits → Text → Option Format → Bool → Result Text QueryError → Type 0
+IsTreePrintOf limits form asked parens = OfMode (λ format. OfTexts (IsUtf8 form) (PrintsForm limits form parens format)) asked
 
 -- "format": a layout for people, which has the query's tree and its comments
-abbrev pub IsFormattedOf : Limits → Bool → Text → Result Text CallError → Type 0
-IsFormattedOf limits keeps query (Ok layout) = IsUtf8 query × IsWithin query limits × IsFormatOf keeps query layout × (length layout ≤ limits.max_output)
-IsFormattedOf limits keeps query (Err (errors.LongOutput fault)) = IsUtf8 query × ((layout : Text) × IsFormatOf keeps query layout × IsLongOutput layout limits fault)
-IsFormattedOf limits keeps query (Err errors.NotFormatted) = IsUtf8 query × IsParsed limits query
-IsFormattedOf limits keeps query (Err e) = HasNoTree limits query e
+abbrev pub IsFormattedOf : Limits → Bool → Text → Result Text QueryError → Type 0
+IsFormattedOf limits keeps query =
+    OfTexts (IsUtf8 query) (GivesOr (FailsToFormat limits query) limits (IsFormattedQuery limits keeps query))

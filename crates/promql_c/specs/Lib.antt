@@ -5,4 +5,3 @@ pub mod CollectedParts
 pub mod CollectedTexts
 pub mod Formats
 pub mod PlacesText
-pub mod PrintErrors

@@ -1,10 +1,11 @@
 //! What a call returns, and what it writes into its caller's buffer.
 
-ghost use Rattle.std.specs.Prelude.{◌≡◌, Ok, Err, string_bytes};
+ghost use Rattle.std.specs.Prelude.{◌≡◌, None, Some, Ok, Err, string_bytes};
 ghost use Rattle.promql_grammar.specs.Results.{on_result};
-ghost use Rattle.promql_c.specs.CallResults.{IsStored, Shows, error_result, plain_result, text_status};
+ghost use Rattle.promql_c.specs.CallResults.{IsStored, Shows, error_result, placed_result, text_status};
 
-use crate::call_error::CallError;
+use promql_lines::query_error::QueryError;
+use promql_report::rejection::Rejection;
 use std::alloc::Global;
 
 /// What a call returns beside the bytes that it writes (docs/guide/bindings.md, "Results").
@@ -44,7 +45,7 @@ fn status_of(length: usize, size: usize) -> u32
 
 /// A result without a place.
 fn plain(status: u32, length: usize) -> CallResult
-    ensures { result ≡ plain_result status length }
+    ensures { result ≡ placed_result status length None }
 {
     CallResult {
         status,
@@ -56,28 +57,29 @@ fn plain(status: u32, length: usize) -> CallResult
     }
 }
 
+/// The result of a query that is rejected, whose message has this length.
+fn placed(status: u32, length: usize, rejection: &Rejection) -> CallResult
+    ensures { result ≡ placed_result status length (Some rejection.now) }
+{
+    let Rejection { span, location, .. } = rejection;
+    CallResult {
+        status,
+        length,
+        start: span.start,
+        end: span.end,
+        line: location.line,
+        column: location.column,
+    }
+}
+
 /// The result of an error whose message has this length.
-fn result_of(error: &CallError, length: usize) -> CallResult
+fn result_of(error: &QueryError, length: usize) -> CallResult
     ensures { result ≡ error_result error.now length }
 {
-    match error {
-        CallError::Rejected(rejection) => CallResult {
-            status: error.status(),
-            length,
-            start: rejection.span.start,
-            end: rejection.span.end,
-            line: rejection.location.line,
-            column: rejection.location.column,
-        },
-        CallError::Memory
-        | CallError::NotUtf8
-        | CallError::NumberTooWide
-        | CallError::UnknownMode
-        | CallError::NotEnforced(_)
-        | CallError::NotRenamed(_)
-        | CallError::LongOutput(_)
-        | CallError::NotFormatted
-        | CallError::NotPrinted(_) => plain(error.status(), length),
+    let status = u32::from(error.number());
+    match error.rejected_query() {
+        Some(query) => placed(status, length, &query.rejection),
+        None => plain(status, length),
     }
 }
 
@@ -91,7 +93,7 @@ pub(crate) fn show_text(text: &str, buffer: &mut [u8]) -> CallResult
 }
 
 /// Writes the message of an error if it fits. A message for which an allocation failed is empty.
-fn show_error(alloc: Global, error: &CallError, buffer: &mut [u8]) -> CallResult
+fn show_error(alloc: Global, error: &QueryError, buffer: &mut [u8]) -> CallResult
     ensures { Shows (Err error.now) result buffer.old buffer.new }
 {
     let message = error.to_string(alloc).unwrap_or(String::new(alloc));
@@ -100,7 +102,7 @@ fn show_error(alloc: Global, error: &CallError, buffer: &mut [u8]) -> CallResult
 }
 
 /// Writes what was made of a query, the text or the message of the error, if it fits.
-pub(crate) fn show(alloc: Global, made: Result<String, CallError>, buffer: &mut [u8]) -> CallResult
+pub(crate) fn show(alloc: Global, made: Result<String, QueryError>, buffer: &mut [u8]) -> CallResult
     ensures { Shows (on_result (λ s. string_bytes s) made) result buffer.old buffer.new }
 {
     match made {

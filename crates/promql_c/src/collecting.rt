@@ -8,14 +8,15 @@ ghost use Rattle.promql_grammar.specs.Results.{on_result};
 ghost use Rattle.promql_ast.specs.Shifts.{moment_of, shift_of};
 ghost use Rattle.promql_ast.specs.View.{tree_of};
 ghost use Rattle.promql_rewrite.specs.Collecting.{selected_of};
-ghost use Rattle.promql_c.specs.Calls.{IsTextOf};
+ghost use Rattle.promql_lines.specs.QueryErrors.{Gives};
+ghost use Rattle.promql_c.specs.Calls.{IsTextOf, OfTree};
 ghost use Rattle.promql_c.specs.CollectedJson as spec;
 ghost use Rattle.promql_c.specs.CollectedParts as part;
 ghost use Rattle.promql_c.specs.CollectedTexts.{IsCollectedText};
 
-use crate::call_error::CallError;
 use promql_ast::{AtModifier, Expr, Offset, drop_expr};
-use promql_report::rejection::read_query;
+use promql_lines::query_error::QueryError;
+use promql_lines::query_tree::query_tree;
 use promql_rewrite::{Collected, CollectedSelector, collect};
 use promql_span::limits::Limits;
 use promql_text::display_duration;
@@ -130,19 +131,18 @@ pub(crate) fn value_text(alloc: Global, value: Value) -> Result<String, AllocErr
 }
 
 /// The JSON of what a text's query names.
-fn collect_text(alloc: Global, limits: &Limits, query: &str) -> Result<String, CallError>
-    ensures { IsTextOf IsCollectedText limits.now query.now (on_result (λ s. string_bytes s) result) }
+fn collect_text(alloc: Global, limits: &Limits, query: &str) -> Result<String, QueryError>
+    ensures { OfTree (λ t. Gives (IsCollectedText t)) limits.now query.now (on_result (λ s. string_bytes s) result) }
 {
-    let expr = match read_query(alloc, limits, query) {
-        Ok(Ok(expr)) => expr,
-        Ok(Err(rejection)) => return Err(CallError::Rejected(rejection)),
-        Err(_) => return Err(CallError::Memory),
+    let expr = match query_tree(alloc, limits, query) {
+        Ok(expr) => expr,
+        Err(error) => return Err(error),
     };
     let text = collected_text(alloc, &expr);
     drop_expr(expr);
     match text {
         Ok(text) => Ok(text),
-        Err(_) => Err(CallError::Memory),
+        Err(_) => Err(QueryError::Memory),
     }
 }
 
@@ -151,11 +151,11 @@ pub(crate) fn collect_query(
     alloc: Global,
     limits: &Limits,
     query: &[u8],
-) -> Result<String, CallError>
+) -> Result<String, QueryError>
     ensures { IsTextOf IsCollectedText limits.now query.now (on_result (λ s. string_bytes s) result) }
 {
     let Ok(query) = str::from_utf8(query) else {
-        return Err(CallError::NotUtf8);
+        return Err(QueryError::NotUtf8);
     };
     collect_text(alloc, limits, query)
 }

@@ -2,10 +2,11 @@
 
 ghost use Rattle.std.specs.Prelude.{IfOk, string_bytes};
 ghost use Rattle.promql_grammar.specs.Results.{on_result};
-ghost use Rattle.promql_c.specs.Calls.{IsExplainOf, IsExplanation};
+ghost use Rattle.promql_lines.specs.QueryErrors.{Gives};
+ghost use Rattle.promql_c.specs.Calls.{Explains, IsExplainOf, IsExplanation};
 
-use crate::call_error::CallError;
 use promql_ast::drop_expr;
+use promql_lines::query_error::QueryError;
 use promql_lines::rejected_query::RejectedQuery;
 use promql_report::rejection::{Rejection, read_query};
 use promql_span::limits::Limits;
@@ -35,8 +36,8 @@ fn explain_text(
     limits: &Limits,
     text: &str,
     as_json: bool,
-) -> Result<String, CallError>
-    ensures { IsExplainOf limits.now as_json text.now (on_result (λ s. string_bytes s) result) }
+) -> Result<String, QueryError>
+    ensures { Gives (Explains limits.now as_json text.now) (on_result (λ s. string_bytes s) result) }
 {
     match read_query(alloc, limits, text) {
         Ok(Ok(expr)) => {
@@ -45,9 +46,9 @@ fn explain_text(
         }
         Ok(Err(rejection)) => match explanation(alloc, text, rejection, as_json) {
             Ok(explanation) => Ok(explanation),
-            Err(_) => Err(CallError::Memory),
+            Err(_) => Err(QueryError::Memory),
         },
-        Err(_) => Err(CallError::Memory),
+        Err(_) => Err(QueryError::Memory),
     }
 }
 
@@ -57,11 +58,11 @@ pub(crate) fn explain_query(
     limits: &Limits,
     query: &[u8],
     as_json: bool,
-) -> Result<String, CallError>
+) -> Result<String, QueryError>
     ensures { IsExplainOf limits.now as_json query.now (on_result (λ s. string_bytes s) result) }
 {
     let Ok(text) = str::from_utf8(query) else {
-        return Err(CallError::NotUtf8);
+        return Err(QueryError::NotUtf8);
     };
     explain_text(alloc, limits, text, as_json)
 }

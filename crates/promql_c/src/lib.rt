@@ -11,13 +11,11 @@ ghost use Rattle.promql_c.specs.Formats.{format_numbered, named_numbered};
 ghost use Rattle.promql_c.specs.PlacesText.{IsPlacesText};
 ghost use Rattle.promql_c.specs.declared.calls.TheConstants.{CALLS_VERSION};
 
-pub use call_error::CallError;
 pub use call_result::CallResult;
 pub use calls::CALLS_VERSION;
 use promql_span::limits::Limits;
 use std::alloc::Global;
 
-mod call_error;
 mod call_result;
 mod calls;
 mod collecting;

@@ -7,14 +7,15 @@ ghost use Rattle.promql_grammar.specs.Results.{on_result};
 ghost use Rattle.promql_ast.specs.View.{tree_of};
 ghost use Rattle.promql_json.specs.JsonParts.{list};
 ghost use Rattle.promql_syntax.specs.ParseAnswers.{IsAnswerTo};
-ghost use Rattle.promql_c.specs.Calls.{IsTextOf};
+ghost use Rattle.promql_lines.specs.QueryErrors.{Gives};
+ghost use Rattle.promql_c.specs.Calls.{IsTextOf, OfTree};
 ghost use Rattle.promql_c.specs.PlacesText.{IsPlacesText, span_value};
 
-use crate::call_error::CallError;
 use crate::collecting::value_text;
 use promql_ast::{Expr, drop_expr};
+use promql_lines::query_error::QueryError;
+use promql_lines::query_tree::query_tree;
 use promql_places::find_places;
-use promql_report::rejection::read_query;
 use promql_span::Span;
 use promql_span::limits::Limits;
 use serde_json::{Value, json};
@@ -53,28 +54,31 @@ fn text_of_places(alloc: Global, query: &str, expr: &Expr) -> Result<String, All
 }
 
 /// The JSON of the places of a text's query.
-fn place_text(alloc: Global, limits: &Limits, query: &str) -> Result<String, CallError>
-    ensures { IsTextOf (IsPlacesText query.now) limits.now query.now (on_result (λ s. string_bytes s) result) }
+fn place_text(alloc: Global, limits: &Limits, query: &str) -> Result<String, QueryError>
+    ensures { OfTree (λ t. Gives (IsPlacesText query.now t)) limits.now query.now (on_result (λ s. string_bytes s) result) }
 {
-    let expr = match read_query(alloc, limits, query) {
-        Ok(Ok(expr)) => expr,
-        Ok(Err(rejection)) => return Err(CallError::Rejected(rejection)),
-        Err(_) => return Err(CallError::Memory),
+    let expr = match query_tree(alloc, limits, query) {
+        Ok(expr) => expr,
+        Err(error) => return Err(error),
     };
     let text = text_of_places(alloc, query, &expr);
     drop_expr(expr);
     match text {
         Ok(text) => Ok(text),
-        Err(_) => Err(CallError::Memory),
+        Err(_) => Err(QueryError::Memory),
     }
 }
 
 /// The JSON of the places of a query.
-pub(crate) fn place_query(alloc: Global, limits: &Limits, query: &[u8]) -> Result<String, CallError>
+pub(crate) fn place_query(
+    alloc: Global,
+    limits: &Limits,
+    query: &[u8],
+) -> Result<String, QueryError>
     ensures { IsTextOf (IsPlacesText query.now) limits.now query.now (on_result (λ s. string_bytes s) result) }
 {
     let Ok(query) = str::from_utf8(query) else {
-        return Err(CallError::NotUtf8);
+        return Err(QueryError::NotUtf8);
     };
     place_text(alloc, limits, query)
 }

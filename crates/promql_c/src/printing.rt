@@ -1,14 +1,19 @@
 //! What a call makes of a query: its text in a format, nothing where it is accepted, or its line with a mark.
 
-ghost use Rattle.std.specs.Prelude.{◌≡◌, ◌≤◌, Some, IfOk, IfErr, length, string_bytes};
+ghost use Rattle.std.specs.Prelude.{◌≡◌, ◌≤◌, string_bytes};
 ghost use Rattle.promql_grammar.specs.Results.{on_result};
-ghost use Rattle.promql_c.specs.Calls.{IsNothing, IsPrintOf, IsSnippetOf, IsTextOf};
+ghost use Rattle.promql_ast.specs.Height.{height};
+ghost use Rattle.promql_ast.specs.View.{tree_of};
+ghost use Rattle.promql_syntax.specs.declared.parser.TheConstants.{MAX_DEPTH};
+ghost use Rattle.promql_run.specs.Extensions.{HasNoExtension};
+ghost use Rattle.promql_lines.specs.QueryErrors.{Gives, IsOutput, IsPrintOfTree};
+ghost use Rattle.promql_c.specs.Calls.{IsNothing, IsPrintOf, IsSnippetOf, IsTextOf, OfTree};
 ghost use Rattle.promql_c.specs.Formats.{format_numbered};
-ghost use Rattle.promql_c.specs.PrintErrors.{IsOutputFault};
 
-use crate::call_error::CallError;
-use promql_ast::drop_expr;
-use promql_report::rejection::read_query;
+use promql_ast::{Expr, drop_expr};
+use promql_json::JsonError;
+use promql_lines::query_error::QueryError;
+use promql_lines::query_tree::query_tree;
 use promql_run::format::{Format, Layout};
 use promql_run::rendering::shown_text;
 use promql_span::Span;
@@ -37,13 +42,30 @@ pub(crate) fn format_of(mode: u32, level: u32, width: usize) -> Option<Format>
 }
 
 /// The text, if it is within the limits.
-pub(crate) fn within(limits: &Limits, text: String) -> Result<String, CallError>
-    ensures ok { IfOk result (λ s. (string_bytes s ≡ string_bytes text) × (length (string_bytes s) ≤ limits.now.max_output)) }
-    ensures err { IfErr result (IsOutputFault limits.now (string_bytes text)) }
+pub(crate) fn within(limits: &Limits, text: String) -> Result<String, QueryError>
+    ensures { IsOutput limits.now (string_bytes text) (on_result (λ s. string_bytes s) result) }
 {
     match check_output(text.as_str(), limits) {
         Ok(()) => Ok(text),
-        Err(fault) => Err(CallError::LongOutput(fault)),
+        Err(fault) => Err(QueryError::LongOutput(fault)),
+    }
+}
+
+/// The text of a tree in a format.
+fn print_tree(
+    alloc: Global,
+    limits: &Limits,
+    format: Format,
+    expr: &Expr,
+) -> Result<String, QueryError>
+    requires low { height (tree_of expr.now) ≤ MAX_DEPTH }
+    requires plain { HasNoExtension (tree_of expr.now) }
+    ensures { IsPrintOfTree limits.now format (tree_of expr.now) (on_result (λ s. string_bytes s) result) }
+{
+    match shown_text(alloc, format, expr) {
+        Ok(Some(text)) => within(limits, text),
+        Ok(None) => Err(QueryError::NoForm(JsonError::NumberTooWide)),
+        Err(_) => Err(QueryError::Memory),
     }
 }
 
@@ -53,21 +75,16 @@ fn print_text(
     limits: &Limits,
     format: Format,
     text: &str,
-) -> Result<String, CallError>
-    ensures { IsPrintOf limits.now text.now (Some format) (on_result (λ s. string_bytes s) result) }
+) -> Result<String, QueryError>
+    ensures { OfTree (IsPrintOfTree limits.now format) limits.now text.now (on_result (λ s. string_bytes s) result) }
 {
-    let expr = match read_query(alloc, limits, text) {
-        Ok(Ok(expr)) => expr,
-        Ok(Err(rejection)) => return Err(CallError::Rejected(rejection)),
-        Err(_) => return Err(CallError::Memory),
+    let expr = match query_tree(alloc, limits, text) {
+        Ok(expr) => expr,
+        Err(error) => return Err(error),
     };
-    let shown = shown_text(alloc, format, &expr);
+    let shown = print_tree(alloc, limits, format, &expr);
     drop_expr(expr);
-    match shown {
-        Ok(Some(text)) => within(limits, text),
-        Ok(None) => Err(CallError::NumberTooWide),
-        Err(_) => Err(CallError::Memory),
-    }
+    shown
 }
 
 /// The text of a query's tree in the format that was asked for.
@@ -76,48 +93,51 @@ pub(crate) fn print_query(
     limits: &Limits,
     asked: Option<Format>,
     query: &[u8],
-) -> Result<String, CallError>
+) -> Result<String, QueryError>
     ensures { IsPrintOf limits.now query.now asked (on_result (λ s. string_bytes s) result) }
 {
     let Some(format) = asked else {
-        return Err(CallError::UnknownMode);
+        return Err(QueryError::UnknownMode);
     };
     let Ok(text) = str::from_utf8(query) else {
-        return Err(CallError::NotUtf8);
+        return Err(QueryError::NotUtf8);
     };
     print_text(alloc, limits, format, text)
 }
 
 /// Nothing where a query is accepted.
-fn check_text(alloc: Global, limits: &Limits, text: &str) -> Result<String, CallError>
-    ensures { IsTextOf IsNothing limits.now text.now (on_result (λ s. string_bytes s) result) }
+fn check_text(alloc: Global, limits: &Limits, text: &str) -> Result<String, QueryError>
+    ensures { OfTree (λ t. Gives (IsNothing t)) limits.now text.now (on_result (λ s. string_bytes s) result) }
 {
-    match read_query(alloc, limits, text) {
-        Ok(Ok(_)) => Ok(String::new(alloc)),
-        Ok(Err(rejection)) => Err(CallError::Rejected(rejection)),
-        Err(_) => Err(CallError::Memory),
+    match query_tree(alloc, limits, text) {
+        Ok(_) => Ok(String::new(alloc)),
+        Err(error) => Err(error),
     }
 }
 
 /// Nothing where a query is accepted.
-pub(crate) fn check_query(alloc: Global, limits: &Limits, query: &[u8]) -> Result<String, CallError>
+pub(crate) fn check_query(
+    alloc: Global,
+    limits: &Limits,
+    query: &[u8],
+) -> Result<String, QueryError>
     ensures { IsTextOf IsNothing limits.now query.now (on_result (λ s. string_bytes s) result) }
 {
     let Ok(text) = str::from_utf8(query) else {
-        return Err(CallError::NotUtf8);
+        return Err(QueryError::NotUtf8);
     };
     check_text(alloc, limits, text)
 }
 
 /// The line of a query where a part of it begins, with a mark below it.
-pub(crate) fn mark_query(alloc: Global, query: &[u8], span: Span) -> Result<String, CallError>
+pub(crate) fn mark_query(alloc: Global, query: &[u8], span: Span) -> Result<String, QueryError>
     ensures { IsSnippetOf query.now span (on_result (λ s. string_bytes s) result) }
 {
     let Ok(text) = str::from_utf8(query) else {
-        return Err(CallError::NotUtf8);
+        return Err(QueryError::NotUtf8);
     };
     match promql_span::snippet(alloc, text, span) {
         Ok(marked) => Ok(marked),
-        Err(_) => Err(CallError::Memory),
+        Err(_) => Err(QueryError::Memory),
     }
 }

@@ -1,12 +1,12 @@
 //! A query with another name for a metric or a label.
 
-ghost use Rattle.std.specs.Prelude.{◌≡◌, Some, string_bytes};
+ghost use Rattle.std.specs.Prelude.{◌≡◌, string_bytes};
 ghost use Rattle.promql_grammar.specs.Results.{on_result};
 ghost use Rattle.promql_c.specs.Calls.{IsRenameOf};
 ghost use Rattle.promql_c.specs.Formats.{named_numbered};
 
-use crate::call_error::CallError;
-use promql_lines::renamed_line::{Named, RenamedLineError, renamed_line};
+use promql_lines::query_error::QueryError;
+use promql_lines::renamed_line::{Named, renamed_line};
 use promql_span::limits::Limits;
 use std::alloc::Global;
 
@@ -21,25 +21,6 @@ pub(crate) fn named_of(kind: u32) -> Option<Named>
     }
 }
 
-/// The line of a text's query with the new name.
-fn rename_text(
-    alloc: Global,
-    limits: &Limits,
-    query: &str,
-    named: Named,
-    from: &str,
-    to: &str,
-) -> Result<String, CallError>
-    ensures { IsRenameOf limits.now query.now (Some named) from.now to.now (on_result (λ s. string_bytes s) result) }
-{
-    match renamed_line(alloc, limits, query, named, from, to) {
-        Ok(line) => Ok(line),
-        Err(RenamedLineError::Memory) => Err(CallError::Memory),
-        Err(RenamedLineError::Rejected(rejection)) => Err(CallError::Rejected(rejection)),
-        Err(error) => Err(CallError::NotRenamed(error)),
-    }
-}
-
 /// The line of a query with the new name, if something that is renamed was asked for.
 pub(crate) fn rename_query(
     alloc: Global,
@@ -48,18 +29,18 @@ pub(crate) fn rename_query(
     asked: Option<Named>,
     from: &[u8],
     to: &[u8],
-) -> Result<String, CallError>
+) -> Result<String, QueryError>
     ensures { IsRenameOf limits.now query.now asked from.now to.now (on_result (λ s. string_bytes s) result) }
 {
     let Some(named) = asked else {
-        return Err(CallError::UnknownMode);
+        return Err(QueryError::UnknownMode);
     };
     let (Ok(query), Ok(from), Ok(to)) = (
         str::from_utf8(query),
         str::from_utf8(from),
         str::from_utf8(to),
     ) else {
-        return Err(CallError::NotUtf8);
+        return Err(QueryError::NotUtf8);
     };
-    rename_text(alloc, limits, query, named, from, to)
+    renamed_line(alloc, limits, query, named, from, to)
 }

@@ -1,11 +1,11 @@
 //! The text of a tree that is given as JSON.
 
-ghost use Rattle.std.specs.Prelude.{Some, string_bytes};
+ghost use Rattle.std.specs.Prelude.{string_bytes};
 ghost use Rattle.promql_grammar.specs.Results.{on_result};
-ghost use Rattle.promql_c.specs.Calls.{IsTreePrintOf};
+ghost use Rattle.promql_c.specs.Calls.{IsTreePrintOf, PrintsForm};
 
-use crate::call_error::CallError;
 use crate::printing::within;
+use promql_lines::query_error::QueryError;
 use promql_lines::tree_text::tree_text;
 use promql_run::format::Format;
 use promql_span::limits::Limits;
@@ -18,12 +18,12 @@ fn print_text(
     format: Format,
     parens: bool,
     form: &str,
-) -> Result<String, CallError>
-    ensures { IsTreePrintOf limits.now form.now (Some format) parens (on_result (λ s. string_bytes s) result) }
+) -> Result<String, QueryError>
+    ensures { PrintsForm limits.now form.now parens format (on_result (λ s. string_bytes s) result) }
 {
     match tree_text(alloc, limits, format, parens, form) {
         Ok(text) => within(limits, text),
-        Err(error) => Err(CallError::NotPrinted(error)),
+        Err(error) => Err(error),
     }
 }
 
@@ -34,14 +34,14 @@ pub(crate) fn print_form(
     asked: Option<Format>,
     parens: bool,
     form: &[u8],
-) -> Result<String, CallError>
+) -> Result<String, QueryError>
     ensures { IsTreePrintOf limits.now form.now asked parens (on_result (λ s. string_bytes s) result) }
 {
     let Some(format) = asked else {
-        return Err(CallError::UnknownMode);
+        return Err(QueryError::UnknownMode);
     };
     let Ok(form) = str::from_utf8(form) else {
-        return Err(CallError::NotUtf8);
+        return Err(QueryError::NotUtf8);
     };
     print_text(alloc, limits, format, parens, form)
 }

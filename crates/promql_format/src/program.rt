@@ -2,7 +2,8 @@
 
 ghost use Rattle.std.specs.Prelude.{◌≡◌, true, map, string_bytes};
 ghost use Rattle.promql_run.specs.Programs.{AnswersQuery, Obeys};
-ghost use Rattle.promql_format.specs.Layouts.{HasNoLayout, IsFormatAnswer, format_command, format_number};
+ghost use Rattle.promql_lines.specs.QueryErrors.{query_error_number};
+ghost use Rattle.promql_format.specs.Layouts.{HasNoLayout, IsFormatAnswer, format_command};
 
 use crate::query_layout::query_layout;
 use crate::settings::{Settings, settings_of};
@@ -48,7 +49,7 @@ fn write_layout<R: Read, W: Write, E: Write>(
     writer: &mut Ended<W>,
     errors: &mut Ended<E>,
 ) -> u8
-    ensures answers { AnswersQuery R.remaining W.contents (IsFormatAnswer settings.now) format_number
+    ensures answers { AnswersQuery R.remaining W.contents (IsFormatAnswer settings.now) query_error_number
         (λ e query. HasNoLayout settings.now query e)
         reader.old reader.new writer.old writer.new errors.old errors.new result }
     ensures closed { result ≡ 5 → writer.new.closed ≡ true → errors.new ≡ errors.old }
@@ -81,7 +82,7 @@ pub fn format_program<R: Read, W: Write, E: Write>(
     errors: &mut Ended<E>,
 ) -> u8
     ensures obeys { Obeys W.contents E.contents FORMAT_USAGE.now
-        (λ s. AnswersQuery R.remaining W.contents (IsFormatAnswer s) format_number (λ e query. HasNoLayout s query e)
+        (λ s. AnswersQuery R.remaining W.contents (IsFormatAnswer s) query_error_number (λ e query. HasNoLayout s query e)
         reader.old reader.new writer.old writer.new errors.old errors.new result)
         reader.old reader.new writer.old writer.new errors.old errors.new result
         (format_command (map string_bytes args.now)) }

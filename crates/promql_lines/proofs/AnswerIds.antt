@@ -1,35 +1,31 @@
 -- The answer to a line, with its id.
 use Rattle.std.proofs.Common.{◌≡◌, ◌++◌, ◌∙◌, List, None, Some, ap, codes, inl, inr, refl, subst, sym, true, false}
-use Rattle.std.specs.Prelude.{Bool, option_and_then, option_map}
+use Rattle.std.specs.Prelude.{ℕ, Bool, Option, option_and_then, option_map}
 use Rattle.std.specs.Str.{IsUtf8}
 use Rattle.serde_json.specs.Data.{Data, string}
 use Rattle.serde_json.specs.Find.{get}
 use Rattle.serde_json.specs.Read.{read}
 use Rattle.serde_json.specs.Written.{compact_text}
 use Rattle.promql_text.specs.Texts.{Text}
-use Rattle.promql_lines.specs.Batch.{FailsWith, HasId, IsIdOf, IsLineAnswer, IsPlainAnswer, line_error_object, value_text}
+use Rattle.promql_lines.specs.Batch.{FailsWith, HasId, IsIdOf, IsLineAnswer, IsPlainAnswer, error_value, value_text}
+use Rattle.promql_lines.specs.QueryErrors.{query_error_number, rejected_in}
 use Rattle.promql_lines.specs.Requests.{format_in, id_in, matcher_in, query_in, unknown_in}
-use Rattle.promql_lines.specs.declared.line.LineError.{LineError}
-use Rattle.promql_lines.specs.declared.line.LineError.TheVariants.{Run, Rejected, NotARequest, UnknownMember, Matcher, Info, LargeMatcher, LongOutput}
+use Rattle.promql_lines.specs.declared.query_error.QueryError.TheVariants.{NotARequest}
+use Rattle.promql_lines.specs.declared.rejected_query.RejectedQuery.{RejectedQuery}
 use Rattle.promql_lines.specs.declared.settings.Settings.{Settings}
 
 -- an answer is an object
 abbrev IsObject : Text → Type 0
 IsObject printed = (members : Text) × (printed ≡ codes "{" ++ members)
 
-error_object_text : (e : LineError) (message : Text) → IsObject (compact_text (line_error_object e message))
-error_object_text (Run e) message = (_, refl)
-error_object_text (Rejected r) message = (_, refl)
-error_object_text NotARequest message = (_, refl)
-error_object_text (UnknownMember name) message = (_, refl)
-error_object_text (Matcher e) message = (_, refl)
-error_object_text Info message = (_, refl)
-error_object_text (LargeMatcher fault) message = (_, refl)
-error_object_text (LongOutput fault) message = (_, refl)
+error_value_text : (code : ℕ) (message : Text) (o : Option RejectedQuery) → IsObject (compact_text (error_value code message o))
+error_value_text code message None = (_, refl)
+error_value_text code message (Some r) = (_, refl)
 
 plain_object : (settings : Settings) (line printed : Text) (is_ok : Bool) → IsPlainAnswer settings line printed is_ok → IsObject printed
-plain_object settings line printed true (query, matcher, format, utf8, asks, (output, has, short, is)) = (codes "\"ok\":" ++ (value_text format output ++ codes "}"), is)
-plain_object settings line printed false (e, fails, (message, is)) = let made = error_object_text e message in (made.0, is ∙ made.1)
+plain_object settings line printed true (query, matcher, format, utf8, asks, (output, has, is)) = (codes "\"ok\":" ++ (value_text format output ++ codes "}"), is)
+plain_object settings line printed false (e, fails, (message, is)) =
+    let made = error_value_text (query_error_number e) message (rejected_in e) in (made.0, is ∙ made.1)
 
 -- where the line has no id
 pub without_id : (settings : Settings) (line printed : Text) (is_ok : Bool) → IsIdOf line None → IsPlainAnswer settings line printed is_ok → IsLineAnswer settings line printed is_ok
@@ -56,7 +52,7 @@ none_in_bytes line not_utf8 = inr (not_utf8, refl)
 
 -- what is no JSON is no request
 pub unread_fails : (settings : Settings) (line : Text) → IsUtf8 line → read line ≡ None → FailsWith settings line NotARequest
-unread_fails settings line utf8 is = (
+unread_fails settings line utf8 is = inl (
   utf8,
   ap (option_and_then (λ d. option_and_then (λ query. option_map (λ format. (query, matcher_in d, format)) (format_in settings.format d)) (query_in d))) is,
   ap (option_and_then unknown_in) is,

@@ -1,6 +1,6 @@
 -- A tree in which a matcher is enforced is as high as it was, and has no extension where it had none.
-use Rattle.std.proofs.Common.{◌∙◌, ap, subst, sym}
-use Rattle.std.specs.Prelude.{Option, Some, None, ◌≤◌}
+use Rattle.std.proofs.Common.{◌≡◌, ◌∙◌, ap, subst, sym}
+use Rattle.std.specs.Prelude.{Option, Some, None, Ok, ◌≤◌}
 use Rattle.promql_text.specs.Texts.{Text}
 use Rattle.promql_label.specs.PlainMatchers.{PlainMatcher}
 use Rattle.promql_ast.specs.Height.{height}
@@ -36,11 +36,13 @@ module _ (c : PlainMatcher) where
     all_plain (first_tree e es) plain = (enforced_plain e plain.0, all_plain es plain.1)
 
 -- what is printed of a tree that was read, with a matcher in its selectors or without
-pub asked_plain : (limits : Limits) (matcher : Option Text) (t u : Tree) → IsAsked limits matcher t u → HasNoExtension t → HasNoExtension u
-asked_plain limits None t u asked plain = subst HasNoExtension (sym asked) plain
+pub asked_plain : (limits : Limits) (matcher : Option Text) (t u : Tree) → IsAsked limits matcher t (Ok u) → HasNoExtension t → HasNoExtension u
+asked_plain limits None t u asked plain =
+    let same : u ≡ t = cc in subst HasNoExtension (sym same) plain
 asked_plain limits (Some matcher) t u asked plain = subst HasNoExtension (sym asked.1.enforces) (enforced_plain asked.1.matcher t plain)
 
-pub asked_low : (limits : Limits) (matcher : Option Text) (t u : Tree) → IsAsked limits matcher t u → height t ≤ MAX_DEPTH → height u ≤ MAX_DEPTH
-asked_low limits None t u asked low = subst (λ v. height v ≤ MAX_DEPTH) (sym asked) low
+pub asked_low : (limits : Limits) (matcher : Option Text) (t u : Tree) → IsAsked limits matcher t (Ok u) → height t ≤ MAX_DEPTH → height u ≤ MAX_DEPTH
+asked_low limits None t u asked low =
+    let same : u ≡ t = cc in subst (λ v. height v ≤ MAX_DEPTH) (sym same) low
 asked_low limits (Some matcher) t u asked low =
     subst (λ n. n ≤ MAX_DEPTH) (sym (ap height asked.1.enforces ∙ height_enforced asked.1.matcher t)) low

@@ -1,5 +1,5 @@
 -- The answer to a line.
-use Rattle.std.proofs.Common.{◌≡◌, ◌∙◌, ℕ, List, [], ◌∷◌, map, String, ap, refl, string_bytes, sym}
+use Rattle.std.proofs.Common.{◌≡◌, ◌⊎◌, ⊎_elim, ◌∙◌, ℕ, List, [], ◌∷◌, map, String, ap, inl, inr, refl, string_bytes, sym}
 use Rattle.std.proofs.lemmas.Bool.{or_from}
 use Rattle.std.proofs.lemmas.Result.{IfOk-weaker}
 use Rattle.std.specs.Prelude.{false, IfErr, IfOk, Option, Some, None, option_and_then, option_map, Result, Ok, Err}
@@ -14,14 +14,15 @@ use Rattle.promql_ast.specs.Tree.{Tree}
 use Rattle.promql_report.specs.Rejecting.{IsRead}
 use Rattle.promql_span.specs.declared.limits.Limits.{Limits}
 use Rattle.promql_lines.specs.declared.settings.Settings.{Settings}
-use Rattle.promql_run.specs.declared.run.RunError.TheVariants.{Memory, Read, NotUtf8, Parse, Write, Json}
-use Rattle.promql_lines.specs.Batch.{FailsOnQuery, FailsWith, IsQueryAnswer, line_error_object, rejection_object, with_expectation}
-use Rattle.promql_lines.specs.BatchSteps.{IsEnforceFaultOf, IsOkLine}
+use Rattle.promql_lines.specs.Batch.{FailsOnQuery, FailsWith, IsAsked, IsQueryAnswer, error_value, rejection_object, with_expectation}
+use Rattle.promql_lines.specs.BatchSteps.{IsOkLine, IsTreeAnswer}
+use Rattle.promql_lines.specs.QueryErrors.{IsOutput, IsPrintOfTree, query_error_number, rejected_in}
+use Rattle.promql_lines.specs.declared.query_error.QueryError.TheVariants as error
+use Rattle.promql_run.specs.Running.{format_text}
 use Rattle.promql_lines.specs.Requests.{format_in, format_with, matcher_in, query_in, requested}
-use Rattle.promql_lines.specs.declared.line.LineError.{LineError}
+use Rattle.promql_lines.specs.declared.query_error.QueryError.{QueryError}
 use Rattle.promql_lines.specs.declared.rejected_query.Expectation.{Expectation}
 use Rattle.promql_lines.specs.declared.rejected_query.RejectedQuery.{RejectedQuery}
-use Rattle.promql_lines.specs.declared.line.LineError.TheVariants.{Run, Rejected, NotARequest, UnknownMember, Matcher, Info, LargeMatcher, LongOutput}
 use Rattle.promql_run.specs.declared.format.Format.{Format}
 use Rattle.promql_run.specs.declared.format.Format.TheVariants as formats
 
@@ -61,54 +62,37 @@ expectation_is_finite : (o : Option Expectation) (ms : Members) → members_have
 expectation_is_finite None ms finite = finite
 expectation_is_finite (Some e) ms finite = or_from _ _ (texts_are_finite (map (λ name. name.now) e.expected.items)) finite
 
-pub rejection_is_finite : (built : Data) (r : RejectedQuery) (code : ℕ) (message : Text) → built ≡ rejection_object code message r → has_float built ≡ false
-rejection_is_finite built r code message is = ap has_float is ∙ expectation_is_finite r.expectation _ refl
+value_is_finite : (code : ℕ) (message : Text) (o : Option RejectedQuery) → has_float (error_value code message o) ≡ false
+value_is_finite code message None = refl
+value_is_finite code message (Some r) = expectation_is_finite r.expectation _ refl
 
-pub error_is_finite : (built : Data) (fault : LineError) (message : Text) → built ≡ line_error_object fault message → has_float built ≡ false
-error_is_finite built (Run e) message is = ap has_float is
-error_is_finite built (Rejected r) message is = rejection_is_finite built r _ message is
-error_is_finite built NotARequest message is = ap has_float is
-error_is_finite built (UnknownMember name) message is = ap has_float is
-error_is_finite built (Matcher e) message is = ap has_float is
-error_is_finite built Info message is = ap has_float is
-error_is_finite built (LargeMatcher fault) message is = ap has_float is
-error_is_finite built (LongOutput fault) message is = ap has_float is
+pub rejection_is_finite : (built : Data) (r : RejectedQuery) (code : ℕ) (message : Text) → built ≡ rejection_object code message r → has_float built ≡ false
+rejection_is_finite built r code message is = ap has_float is ∙ value_is_finite code message (Some r)
+
+pub error_is_finite : (built : Data) (e : QueryError) (message : Text) → built ≡ error_value (query_error_number e) message (rejected_in e) → has_float built ≡ false
+error_is_finite built e message is = ap has_float is ∙ value_is_finite (query_error_number e) message (rejected_in e)
+
+-- what is made of what is printed of a tree is made of the query
+pub tree_answers : (r : Result (String Global) QueryError) (limits : Limits) (query : Text) (matcher : Option Text) (format : Format) (t u : Tree) → IsRead limits query t → IsAsked limits matcher t (Ok u)
+    → IfOk r (λ s. IsTreeAnswer limits format u (string_bytes s)) → IfOk r (λ s. IsQueryAnswer limits (string_bytes s) query matcher format)
+tree_answers r limits query matcher format t u read asked = IfOk-weaker r _ _ (λ s has. (has.0, (t, read, inr (u, asked, has.1)), has.2))
+
+pub tree_fails : {T : Type 0} (r : Result T QueryError) (limits : Limits) (query : Text) (matcher : Option Text) (format : Format) (t u : Tree) → IsRead limits query t → IsAsked limits matcher t (Ok u)
+    → IfErr r (λ e. IsPrintOfTree limits format u (Err e)) → IfErr r (λ e. FailsOnQuery limits e query matcher format)
+tree_fails (Ok value) limits query matcher format t u read asked fails = tt
+tree_fails (Err e) limits query matcher format t u read asked fails = inr (inr (t, read, inr (u, asked, fails)))
+
+-- an output of a tree that is too long, or for which an allocation failed
+pub no_answer : {T : Type 0} (r : Result T QueryError) (limits : Limits) (format : Format) (t : Tree) (text : Text) → format_text format t ≡ Ok text
+    → IfErr r (λ e. IsOutput limits text (Err e) ⊎ (e ≡ error.Memory)) → IfErr r (λ e. IsPrintOfTree limits format t (Err e))
+no_answer (Ok value) limits format t text gives fails = tt
+no_answer (Err e) limits format t text gives fails = ⊎_elim (λ out. inl (text, gives, out)) (λ is. inr (e, inl is, refl)) fails
 
 -- an error of enforcing is one of a query that has the tree
-pub fails_of_matcher : (limits : Limits) (e : LineError) (query : Text) (matcher : Option Text) (format : Format) (t : Tree) → IsRead limits query t → IsEnforceFaultOf limits matcher t e → FailsOnQuery limits e query matcher format
-fails_of_matcher limits (Run Memory) query matcher format t parsed fault = tt
-fails_of_matcher limits (Matcher e) query (Some text) format t parsed fault = (t, parsed, fault)
-fails_of_matcher limits Info query (Some text) format t parsed fault = (t, parsed, fault)
-fails_of_matcher limits (LargeMatcher f) query (Some text) format t parsed fault = (t, parsed, fault)
-fails_of_matcher limits (Matcher e) query None format t parsed fault = absurd fault
-fails_of_matcher limits Info query None format t parsed fault = absurd fault
-fails_of_matcher limits (LargeMatcher f) query None format t parsed fault = absurd fault
-fails_of_matcher limits (Run Read) query matcher format t parsed fault = absurd fault
-fails_of_matcher limits (Run NotUtf8) query matcher format t parsed fault = absurd fault
-fails_of_matcher limits (Run (Parse e)) query matcher format t parsed fault = absurd fault
-fails_of_matcher limits (Run Write) query matcher format t parsed fault = absurd fault
-fails_of_matcher limits (Run Json) query matcher format t parsed fault = absurd fault
-fails_of_matcher limits (LongOutput f) query matcher format t parsed fault = absurd fault
-fails_of_matcher limits (Rejected r) query matcher format t parsed fault = absurd fault
-fails_of_matcher limits NotARequest query matcher format t parsed fault = absurd fault
-fails_of_matcher limits (UnknownMember name) query matcher format t parsed fault = absurd fault
+pub fails_unasked : (limits : Limits) (e : QueryError) (query : Text) (matcher : Option Text) (format : Format) (t : Tree) → IsRead limits query t → IsAsked limits matcher t (Err e) → FailsOnQuery limits e query matcher format
+fails_unasked limits e query matcher format t read asked = inr (inr (t, read, inl (e, asked, refl)))
 
 -- an error of the query is one of the line that asks for it
-fails_in_vain : (settings : Settings) (line query : Text) (matcher : Option Text) (format : Format) (e : LineError) → IsUtf8 line → requested settings.format line ≡ Some (query, matcher, format) → FailsOnQuery settings.limits e query matcher format → FailsWith settings line e
-fails_in_vain settings line query matcher format (Run Memory) utf8 asks fails = tt
-fails_in_vain settings line query matcher format (Run Json) utf8 asks fails = (query, matcher, format, utf8, asks, fails)
-fails_in_vain settings line query matcher format (Rejected r) utf8 asks fails = (query, matcher, format, utf8, asks, fails)
-fails_in_vain settings line query matcher format (Matcher e) utf8 asks fails = (query, matcher, format, utf8, asks, fails)
-fails_in_vain settings line query matcher format Info utf8 asks fails = (query, matcher, format, utf8, asks, fails)
-fails_in_vain settings line query matcher format (LargeMatcher f) utf8 asks fails = (query, matcher, format, utf8, asks, fails)
-fails_in_vain settings line query matcher format (LongOutput f) utf8 asks fails = (query, matcher, format, utf8, asks, fails)
-fails_in_vain settings line query matcher format (Run Read) utf8 asks fails = absurd fails
-fails_in_vain settings line query matcher format (Run NotUtf8) utf8 asks fails = absurd fails
-fails_in_vain settings line query matcher format (Run (Parse e)) utf8 asks fails = absurd fails
-fails_in_vain settings line query matcher format (Run Write) utf8 asks fails = absurd fails
-fails_in_vain settings line query matcher format NotARequest utf8 asks fails = absurd fails
-fails_in_vain settings line query matcher format (UnknownMember name) utf8 asks fails = absurd fails
-
-pub failing_in_vain : {T : Type 0} (r : Result T LineError) (settings : Settings) (line query : Text) (matcher : Option Text) (format : Format) → IsUtf8 line → requested settings.format line ≡ Some (query, matcher, format) → IfErr r (λ e. FailsOnQuery settings.limits e query matcher format) → IfErr r (FailsWith settings line)
+pub failing_in_vain : {T : Type 0} (r : Result T QueryError) (settings : Settings) (line query : Text) (matcher : Option Text) (format : Format) → IsUtf8 line → requested settings.format line ≡ Some (query, matcher, format) → IfErr r (λ e. FailsOnQuery settings.limits e query matcher format) → IfErr r (FailsWith settings line)
 failing_in_vain (Ok value) settings line query matcher format utf8 asks fails = tt
-failing_in_vain (Err e) settings line query matcher format utf8 asks fails = fails_in_vain settings line query matcher format e utf8 asks fails
+failing_in_vain (Err e) settings line query matcher format utf8 asks fails = inr (query, matcher, format, utf8, asks, fails)

@@ -1,11 +1,11 @@
 -- The members of a request.
 use Rattle.std.proofs.Common.{◌≡◌, List, [], ◌∷◌, cond, false, true, Some, None, map, Global, String, string_bytes, ap, refl, rules, sym, ◌∙◌}
-use Rattle.std.specs.Prelude.{Option, is_some, not, option_map}
+use Rattle.std.specs.Prelude.{Option, is_some, option_map}
 use Rattle.std.specs.BTreeMap.{BTreeMap}
 use Rattle.serde_json.specs.View.{members_view, view}
 use Rattle.serde_json.specs.declared.value.Value.{Value, Object, the_lemmas}
 use Rattle.promql_text.specs.Texts.{Text}
-use Rattle.promql_lines.specs.Requests.{is_member_name, may_ask, member_names, unknown_in, unknown_name}
+use Rattle.promql_lines.specs.Requests.{is_member_name, member_names, unknown_in, unknown_name}
 
 abbrev names : List (String Global) → List Text
 names = map string_bytes
@@ -21,9 +21,6 @@ unknown_first left rest key is unknown =
 pub names_of : (ms : List (String Global × Value)) → names (map (λ m. m.0) ms) ≡ member_names (members_view ms)
 names_of [] = refl
 names_of (m ∷ ms) = ap (λ keys. string_bytes m.0 ∷ keys) (names_of ms)
-
-pub object_asks : (v : Value) (members : BTreeMap (String Global) Value) → v ≡ Object members → may_ask (view v) ≡ not (is_some (unknown_name (member_names (members_view members.entries))))
-object_asks v members is = search (rules, the_lemmas)
 
 pub object_has : (v : Value) (members : BTreeMap (String Global) Value) → v ≡ Object members → unknown_in (view v) ≡ unknown_name (member_names (members_view members.entries))
 object_has v members is = search (rules, the_lemmas)

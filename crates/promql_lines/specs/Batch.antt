@@ -1,5 +1,5 @@
 -- What a batch answers to its lines (docs/reference/programs.md).
-use Rattle.std.specs.Prelude.{◌≡◌, ◌≢◌, ◌⊎◌, ◌≤◌, ℕ, ◌++◌, length, List, [], ◌∷◌, All, Bool, true, false, IfSome, Option, Some, None, Result, Ok, Err, codes, map, string_bytes}
+use Rattle.std.specs.Prelude.{◌≡◌, ◌≢◌, ◌⊎◌, ℕ, ◌++◌, List, [], ◌∷◌, All, Bool, true, false, IfSome, Option, Some, None, Result, Ok, Err, MatchResult, codes, map, string_bytes}
 use Rattle.std.specs.List.{AllByRecursion, list_all}
 use Rattle.std.specs.Str.{IsUtf8}
 use Rattle.std.specs.Io.{StopsAt}
@@ -13,17 +13,12 @@ use Rattle.promql_text.specs.Texts.{Text}
 use Rattle.promql_ast.specs.Tree.{Tree}
 use Rattle.promql_io.specs.Ended.{AppendsBeginning}
 use Rattle.promql_json.specs.JsonParts.{list}
-use Rattle.promql_json.specs.declared.error.JsonError.{JsonError}
-use Rattle.promql_json.specs.declared.error.JsonError.TheVariants.{NumberTooWide}
-use Rattle.promql_run.specs.declared.run.RunError.TheVariants as error
-use Rattle.promql_report.specs.Rejecting.{IsRead, IsRejection, reason_number}
-use Rattle.promql_span.specs.QueryLimits.{IsLongOutput}
+use Rattle.promql_report.specs.Rejecting.{IsRead, IsRejection}
 use Rattle.promql_span.specs.declared.limits.Limits.{Limits}
-use Rattle.promql_run.specs.Running.{error_number, format_text}
-use Rattle.promql_lines.specs.EnforcedLines.{FailsToEnforce, IsEnforcedWithin}
-use Rattle.promql_lines.specs.declared.enforced_line.EnforcedLineError.TheVariants as enforced
-use Rattle.promql_lines.specs.declared.line.LineError.{LineError}
-use Rattle.promql_lines.specs.declared.line.LineError.TheVariants.{Run, Rejected, NotARequest, UnknownMember, Matcher, Info, LargeMatcher, LongOutput}
+use Rattle.promql_lines.specs.EnforcedLines.{IsEnforcedWithin, IsUnenforced}
+use Rattle.promql_lines.specs.QueryErrors.{IsPrintOfTree, query_error_number, rejected_in}
+use Rattle.promql_lines.specs.declared.query_error.QueryError.{QueryError}
+use Rattle.promql_lines.specs.declared.query_error.QueryError.TheVariants as error
 use Rattle.promql_run.specs.declared.format.Format.{Format}
 use Rattle.promql_run.specs.declared.format.Format.TheVariants.{Json}
 use Rattle.promql_lines.specs.declared.rejected_query.Expectation.{Expectation}
@@ -44,50 +39,40 @@ abbrev pub Asks : (Text → Option Text → Format → Type 0) → Settings → 
 Asks P settings line =
     (query : Text) × (matcher : Option Text) × (format : Format) × IsUtf8 line × (requested settings.format line ≡ Some (query, matcher, format)) × P query matcher format
 
--- "Requests": the second tree is what is printed where the first one was read
-abbrev pub IsAsked : Limits → Option Text → Tree → Tree → Type 0
-IsAsked limits None t u = u ≡ t
-IsAsked limits (Some matcher) t u = IsEnforcedWithin limits matcher t u
+-- "Requests": what is printed where the tree was read, with the matcher in its selectors or as it is, or why that is not made
+abbrev pub IsAsked : Limits → Option Text → Tree → Result Tree QueryError → Type 0
+IsAsked limits None t made = made ≡ Ok t
+IsAsked limits (Some matcher) t made = MatchResult made (IsEnforcedWithin limits matcher t) (IsUnenforced limits matcher t)
 
 -- the query has a tree, and this is the text of what is printed of that in the format, or why there is none
-abbrev pub HasQueryText : Limits → Text → Option Text → Format → Result Text JsonError → Type 0
-HasQueryText limits query matcher format made =
-    (tree : Tree) × IsRead limits query tree × ((printed : Tree) × IsAsked limits matcher tree printed × (format_text format printed ≡ made))
+abbrev pub IsQueryPrint : Limits → Text → Option Text → Format → Result Text QueryError → Type 0
+IsQueryPrint limits query matcher format made =
+    (t : Tree) × IsRead limits query t × (((e : QueryError) × IsAsked limits matcher t (Err e) × (made ≡ Err e))
+    ⊎ ((u : Tree) × IsAsked limits matcher t (Ok u) × IsPrintOfTree limits format u made))
 
--- there is a text, it is within the limits, and this is the answer with it
+-- this is the answer with the text
 abbrev pub IsQueryAnswer : Limits → Text → Text → Option Text → Format → Type 0
 IsQueryAnswer limits answer query matcher format =
-    (output : Text) × HasQueryText limits query matcher format (Ok output) × (length output ≤ limits.max_output) × (answer ≡ codes "{\"ok\":" ++ (value_text format output ++ codes "}"))
+    (output : Text) × IsQueryPrint limits query matcher format (Ok output)
+    × (answer ≡ codes "{\"ok\":" ++ (value_text format output ++ codes "}"))
 
--- when a query has this error; one of the matcher is that of a query which is enforced alone
-abbrev pub FailsOnQuery : Limits → LineError → Text → Option Text → Format → Type 0
-FailsOnQuery limits (Run error.Memory) query matcher format = Unit {0}
-FailsOnQuery limits (Rejected r) query matcher format = IsRejection limits query r.rejection × IsToldWith query r
-FailsOnQuery limits (Run error.Json) query matcher format = HasQueryText limits query matcher format (Err NumberTooWide)
-FailsOnQuery limits (LongOutput fault) query matcher format =
-    (output : Text) × HasQueryText limits query matcher format (Ok output) × IsLongOutput output limits fault
-FailsOnQuery limits (LargeMatcher fault) query (Some text) format = FailsToEnforce limits query text (enforced.LargeMatcher fault)
-FailsOnQuery limits (Matcher e) query (Some text) format = FailsToEnforce limits query text (enforced.Matcher e)
-FailsOnQuery limits Info query (Some text) format = FailsToEnforce limits query text enforced.Info
-FailsOnQuery limits _ query matcher format = ⊥
+-- when a query has this error: it is rejected, and what was expected is told; or it has a tree, and this is why that has no text
+abbrev pub FailsOnQuery : Limits → QueryError → Text → Option Text → Format → Type 0
+FailsOnQuery limits e query matcher format =
+    (e ≡ error.Memory) ⊎ ((r : RejectedQuery) × (e ≡ error.Rejected r) × IsRejection limits query r.rejection × IsToldWith query r)
+    ⊎ IsQueryPrint limits query matcher format (Err e)
 
-abbrev pub line_error_number : LineError → ℕ
-line_error_number (Run e) = error_number e
-line_error_number (Rejected r) = reason_number r.rejection.reason
-line_error_number NotARequest = 7
-line_error_number (UnknownMember name) = 7
-line_error_number (Matcher e) = 11
-line_error_number Info = 13
-line_error_number (LargeMatcher fault) = 16
-line_error_number (LongOutput fault) = 18
+-- when a line asks for nothing
+abbrev pub AsksNothing : Settings → Text → QueryError → Type 0
+AsksNothing settings line error.Memory = Unit {0}
+AsksNothing settings line error.NotUtf8 = ¬ IsUtf8 line
+AsksNothing settings line error.NotARequest = IsUtf8 line × (requested settings.format line ≡ None) × (unknown_member line ≡ None)
+AsksNothing settings line (error.UnknownMember name) = IsUtf8 line × (unknown_member line ≡ Some (string_bytes name))
+AsksNothing settings line e = ⊥
 
 -- "Errors": when a line has this error
-abbrev pub FailsWith : Settings → Text → LineError → Type 0
-FailsWith settings line NotARequest = IsUtf8 line × (requested settings.format line ≡ None) × (unknown_member line ≡ None)
-FailsWith settings line (UnknownMember name) = IsUtf8 line × (unknown_member line ≡ Some (string_bytes name))
-FailsWith settings line (Run error.NotUtf8) = ¬ IsUtf8 line
-FailsWith settings line (Run error.Memory) = Unit {0}
-FailsWith settings line e = Asks (FailsOnQuery settings.limits e) settings line
+abbrev pub FailsWith : Settings → Text → QueryError → Type 0
+FailsWith settings line e = AsksNothing settings line e ⊎ Asks (FailsOnQuery settings.limits e) settings line
 
 abbrev pub error_object : ℕ → Text → Data
 error_object code message =
@@ -112,18 +97,18 @@ rejection_object code message r =
     (member (codes "line") (number (unsigned r.rejection.location.line))
     (member (codes "start") (number (unsigned r.rejection.span.start)) no_members)))))))
 
-abbrev pub line_error_object : LineError → Text → Data
-line_error_object (Rejected r) message = rejection_object (reason_number r.rejection.reason) message r
-line_error_object e message = error_object (line_error_number e) message
+abbrev pub error_value : ℕ → Text → Option RejectedQuery → Data
+error_value code message None = error_object code message
+error_value code message (Some r) = rejection_object code message r
 
 -- the error's number, some message and, of a query that is rejected, the place
-abbrev pub IsErrorText : LineError → Text → Type 0
-IsErrorText fault printed = (message : Text) × (printed ≡ compact_text (line_error_object fault message))
+abbrev pub IsErrorText : QueryError → Text → Type 0
+IsErrorText e printed = (message : Text) × (printed ≡ compact_text (error_value (query_error_number e) message (rejected_in e)))
 
 -- an answer to the line, without an id, and whether it is an `ok`
 abbrev pub IsPlainAnswer : Settings → Text → Text → Bool → Type 0
 IsPlainAnswer settings line answer true = Asks (IsQueryAnswer settings.limits answer) settings line
-IsPlainAnswer settings line answer false = (e : LineError) × FailsWith settings line e × IsErrorText e answer
+IsPlainAnswer settings line answer false = (e : QueryError) × FailsWith settings line e × IsErrorText e answer
 
 -- the text is the value as JSON, without a space
 abbrev pub IsJsonOf : Data → Text → Type 0
@@ -145,7 +130,7 @@ IsIdOf line id = (IsUtf8 line × (id ≡ id_in line)) ⊎ ((¬ IsUtf8 line) × (
 abbrev pub IsLineAnswer : Settings → Text → Text → Bool → Type 0
 IsLineAnswer settings line printed is_ok =
     ((members : Text) × IsPlainAnswer settings line (codes "{" ++ members) is_ok × ((id : Option Data) × IsIdOf line id × HasId id members printed))
-    ⊎ ((is_ok ≡ false) × IsErrorText (Run error.Memory) printed)
+    ⊎ ((is_ok ≡ false) × IsErrorText error.Memory printed)
 
 -- ---- all lines
 

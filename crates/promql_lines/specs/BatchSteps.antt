@@ -1,22 +1,19 @@
 -- What each step of a batch does. Private: nothing rests on believing it.
-use Rattle.std.specs.Prelude.{◌≡◌, ◌≢◌, ℕ, ◌++◌, List, [], ◌∷◌, All, Bool, true, IfSome, Option, Some, None}
+use Rattle.std.specs.Prelude.{◌≡◌, ◌≢◌, ℕ, ◌++◌, List, [], ◌∷◌, All, Bool, true, IfSome, Option, Some, None, Ok, codes}
 use Rattle.std.specs.Io.{StopsAt}
 use Rattle.std.specs.List.{AllByRecursion}
 use Rattle.std.specs.Io.KnownBytes.{Appends, Consumes}
 use Rattle.promql_text.specs.Texts.{Text}
 use Rattle.promql_ast.specs.Tree.{Tree}
 use Rattle.promql_io.specs.Ended.{AppendsBeginning}
+use Rattle.promql_span.specs.declared.limits.Limits.{Limits}
+use Rattle.promql_run.specs.declared.format.Format.{Format}
 use Rattle.promql_run.specs.declared.run.RunError.{RunError}
 use Rattle.promql_run.specs.declared.run.RunError.TheVariants as error
-use Rattle.promql_span.specs.QueryLimits.{IsLongOutput}
-use Rattle.promql_span.specs.declared.limits.Limits.{Limits}
-use Rattle.promql_lines.specs.Batch.{IsLineAnswer, IsPlainAnswer}
-use Rattle.promql_lines.specs.EnforcedLines.{FailsToShow}
+use Rattle.promql_lines.specs.Batch.{IsLineAnswer, IsPlainAnswer, value_text}
+use Rattle.promql_lines.specs.QueryErrors.{IsPrintOfTree}
 use Rattle.promql_lines.specs.declared.batch.LineEnd.{LineEnd}
 use Rattle.promql_lines.specs.declared.batch.LineEnd.TheVariants.{Feed, Input}
-use Rattle.promql_lines.specs.declared.enforced_line.EnforcedLineError.TheVariants as enforced
-use Rattle.promql_lines.specs.declared.line.LineError.{LineError}
-use Rattle.promql_lines.specs.declared.line.LineError.TheVariants.{Run, Matcher, Info, LargeMatcher, LongOutput}
 use Rattle.promql_lines.specs.declared.settings.Settings.{Settings}
 
 abbrev pub HasNoFeed : Text → Type 0
@@ -55,19 +52,10 @@ IsPartlyAnswered settings line held held_after =
 abbrev pub IsOkLine : Settings → Text → Text → Type 0
 IsOkLine settings line printed = IsPlainAnswer settings line printed true
 
--- why there is no answer with an output
-abbrev pub IsOutputFault : Limits → Text → LineError → Type 0
-IsOutputFault limits output (Run error.Memory) = Unit {0}
-IsOutputFault limits output (LongOutput fault) = IsLongOutput output limits fault
-IsOutputFault limits output _ = ⊥
-
--- why the matcher is not enforced in the tree
-abbrev pub IsEnforceFaultOf : Limits → Option Text → Tree → LineError → Type 0
-IsEnforceFaultOf limits matcher t (Run error.Memory) = Unit {0}
-IsEnforceFaultOf limits (Some text) t (LargeMatcher fault) = FailsToShow limits t text (enforced.LargeMatcher fault)
-IsEnforceFaultOf limits (Some text) t (Matcher e) = FailsToShow limits t text (enforced.Matcher e)
-IsEnforceFaultOf limits (Some text) t Info = FailsToShow limits t text enforced.Info
-IsEnforceFaultOf limits matcher t _ = ⊥
+-- the answer with what is printed of a tree
+abbrev pub IsTreeAnswer : Limits → Format → Tree → Text → Type 0
+IsTreeAnswer limits format t answer =
+    (output : Text) × IsPrintOfTree limits format t (Ok output) × (answer ≡ codes "{\"ok\":" ++ (value_text format output ++ codes "}"))
 
 abbrev pub IsReadingError : RunError → Type 0
 IsReadingError error.Memory = Unit {0}

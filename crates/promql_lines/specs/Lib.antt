@@ -2,9 +2,10 @@ pub mod Batch
 pub mod BatchArguments
 pub mod BatchSteps
 pub mod EnforcedLines
+pub mod FormattedQueries
 pub mod LinesWithin
+pub mod QueryErrors
 pub mod RenamedLines
 pub mod Requests
 pub mod TreeTexts
-pub mod TreeTextSteps
 pub mod Telling

@@ -1,5 +1,5 @@
 -- What a line of a batch asks for (docs/reference/programs.md, "Requests").
-use Rattle.std.specs.Prelude.{ℕ, ◌-◌, ◌^◌, Bool, true, false, not, List, [], ◌∷◌, Option, Some, None, ◌||◌, ◌&&◌, if◌then◌else◌, option_and_then, option_map, is_some, bytes_eq, codes, nat_le}
+use Rattle.std.specs.Prelude.{ℕ, ◌-◌, ◌^◌, Bool, true, List, [], ◌∷◌, Option, Some, None, ◌||◌, ◌&&◌, if◌then◌else◌, option_and_then, option_map, is_none, is_some, bytes_eq, codes, nat_le}
 use Rattle.std.specs.Option.{option_map_or}
 use Rattle.serde_json.specs.Data.{Data, string, object, Members, no_members, member}
 use Rattle.serde_json.specs.Read.{read}
@@ -26,12 +26,6 @@ unknown_name (key ∷ keys) = if is_member_name key then unknown_name keys else 
 abbrev pub unknown_in : Data → Option Text
 unknown_in (object ms) = unknown_name (member_names ms)
 unknown_in _ = None
-
--- a string, or an object without other members
-abbrev pub may_ask : Data → Bool
-may_ask (string query) = true
-may_ask (object ms) = not (is_some (unknown_name (member_names ms)))
-may_ask _ = false
 
 -- the query
 abbrev pub query_in : Data → Option Text
@@ -66,7 +60,7 @@ format_with level width other = None
 -- how the query is printed, where the command asks for this format
 abbrev pub format_in : Format → Data → Option Format
 format_in asked d =
-    if may_ask d && is_text (get (codes "enforce") d)
+    if is_none (unknown_in d) && is_text (get (codes "enforce") d)
     then option_and_then (format_with (get (codes "level") d) (get (codes "width") d)) (named_in asked (get (codes "mode") d))
     else None
 

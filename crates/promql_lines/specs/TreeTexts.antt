@@ -1,5 +1,5 @@
 -- The text of a tree that is given as JSON (docs/reference/json.md, "From JSON to a text").
-use Rattle.std.specs.Prelude.{◌≡◌, ◌≢◌, ℕ, Bool, if◌then◌else◌, Some, Ok, Err}
+use Rattle.std.specs.Prelude.{◌≡◌, ◌≢◌, ◌⊎◌, Bool, if◌then◌else◌, Some, Ok, Err}
 use Rattle.serde_json.specs.Data.{Data}
 use Rattle.serde_json.specs.Read.{read}
 use Rattle.promql_text.specs.Texts.{Text}
@@ -14,27 +14,15 @@ use Rattle.promql_rewrite.specs.Faithful.{IsLineOf, Means}
 use Rattle.promql_rewrite.specs.Parenthesizing.{parenthesized}
 use Rattle.promql_rewrite.specs.Reasons.{IsReason}
 use Rattle.promql_run.specs.Running.{format_text}
-use Rattle.promql_lines.specs.LinesWithin.{IsOver}
+use Rattle.promql_lines.specs.QueryErrors.{IsOver}
 use Rattle.promql_run.specs.declared.format.Format.{Format}
 use Rattle.promql_run.specs.declared.format.Format.TheVariants as format
-use Rattle.promql_lines.specs.declared.tree_text.TreeTextError.{TreeTextError}
-use Rattle.promql_lines.specs.declared.tree_text.TreeTextError.TheVariants as error
-
-abbrev pub tree_text_number : TreeTextError → ℕ
-tree_text_number error.Memory = 1
-tree_text_number (error.NotATree e) = 17
-tree_text_number (error.Large fault) = 14
-tree_text_number (error.NotPrintable reason) = 12
-tree_text_number (error.Unfaithful e) = 12
-tree_text_number (error.NoForm e) = 6
+use Rattle.promql_lines.specs.declared.query_error.QueryError.{QueryError}
+use Rattle.promql_lines.specs.declared.query_error.QueryError.TheVariants as error
 
 -- the text is JSON, and the form of the tree
 abbrev pub IsFormTree : Text → Tree → Type 0
 IsFormTree form t = (d : Data) × (read form ≡ Some d) × (json t ≡ Ok d)
-
--- the text is no JSON, or JSON that is the form of no readable tree
-abbrev pub HasNoTree : Text → Type 0
-HasNoTree form = (d : Data) → read form ≡ Some d → IsNoForm d
 
 -- the tree, or the tree with parentheses where it needs them
 abbrev pub has_parens : Bool → Tree → Tree
@@ -58,17 +46,22 @@ IsTextOfForm limits f parens form s = (t : Tree) × IsFormTree form t × IsTextO
 
 -- ---- why there is none
 
--- the line is not within the limits; or it is, and this is why it does not mean the tree
-abbrev pub FailsToShowTree : Limits → Tree → TreeTextError → Type 0
+-- the text is no JSON, or JSON that is the form of no readable tree
+abbrev pub IsNoTreeForm : Text → QueryError → Type 0
+IsNoTreeForm form error.Memory = Unit {0}
+IsNoTreeForm form (error.NotATree e) = (e ≢ from.Memory) × ((d : Data) → read form ≡ Some d → IsNoForm d)
+IsNoTreeForm form e = ⊥
+
+-- the line is not within the limits; or it is, and this is why it does not mean the tree; or the tree has a line and no form
+abbrev pub FailsToShowTree : Limits → Tree → QueryError → Type 0
 FailsToShowTree limits t error.Memory = Unit {0}
-FailsToShowTree limits t (error.Large fault) = IsOver limits (line_text t) fault
+FailsToShowTree limits t (error.LargeTree fault) = IsOver limits (line_text t) fault
 FailsToShowTree limits t (error.NotPrintable reason) = IsWithin (line_text t) limits × IsReason reason t
 FailsToShowTree limits t (error.Unfaithful e) = IsLineWithin limits t (line_text t)
 FailsToShowTree limits t (error.NoForm e) = IsLineWithin limits t (line_text t) × (json t ≡ Err e)
-FailsToShowTree limits t (error.NotATree e) = ⊥
+FailsToShowTree limits t e = ⊥
 
--- the tree has a form, or a form is given that is none, or the tree has no text
-abbrev pub FailsToShowForm : Limits → Bool → Text → TreeTextError → Type 0
-FailsToShowForm limits parens form error.Memory = Unit {0}
-FailsToShowForm limits parens form (error.NotATree e) = (e ≢ from.Memory) × HasNoTree form
-FailsToShowForm limits parens form e = (t : Tree) × IsFormTree form t × FailsToShowTree limits (has_parens parens t) e
+-- a form is given that is none, or that of a tree without a text
+abbrev pub FailsToShowForm : Limits → Bool → Text → QueryError → Type 0
+FailsToShowForm limits parens form e =
+    IsNoTreeForm form e ⊎ ((t : Tree) × IsFormTree form t × FailsToShowTree limits (has_parens parens t) e)

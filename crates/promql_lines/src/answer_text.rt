@@ -1,15 +1,14 @@
 //! The answer to a query that has a text in a format: docs/reference/programs.md, "Answers". No value is made.
 
-ghost use Rattle.std.specs.Prelude.{◌≡◌, ◌++◌, ◌≤◌, IfErr, IfOk, codes, length, string_bytes};
+ghost use Rattle.std.specs.Prelude.{◌≡◌, ◌⊎◌, ◌++◌, ◌≤◌, Err, IfErr, IfOk, codes, length, string_bytes};
 ghost use Rattle.serde_json.specs.Data.{string};
 ghost use Rattle.serde_json.specs.Written.{compact_text};
 ghost use Rattle.promql_lines.specs.Batch.{value_text};
-ghost use Rattle.promql_lines.specs.BatchSteps.{IsOutputFault};
+ghost use Rattle.promql_lines.specs.QueryErrors.{IsOutput};
 
-use crate::line::LineError;
+use crate::query_error::QueryError;
 use json::Writer;
 use promql_run::format::Format;
-use promql_run::run::RunError;
 use promql_span::limits::{Limits, check_output};
 use std::alloc::{AllocError, Global};
 
@@ -68,17 +67,17 @@ pub(crate) fn answer_within(
     limits: &Limits,
     format: Format,
     shown: &str,
-) -> Result<String, LineError>
+) -> Result<String, QueryError>
     ensures short { IfOk result (λ s. length shown.now ≤ limits.now.max_output) }
     ensures ok { IfOk result (λ s. string_bytes s
         ≡ codes "{\"ok\":" ++ (value_text format shown.now ++ codes "}")) }
-    ensures err { IfErr result (IsOutputFault limits.now shown.now) }
+    ensures err { IfErr result (λ e. IsOutput limits.now shown.now (Err e) ⊎ (e ≡ QueryError.Memory)) }
 {
     if let Err(fault) = check_output(shown, limits) {
-        return Err(LineError::LongOutput(fault));
+        return Err(QueryError::LongOutput(fault));
     }
     match ok_answer(alloc, format, shown) {
         Ok(answer) => Ok(answer),
-        Err(_) => Err(LineError::Run(RunError::Memory)),
+        Err(_) => Err(QueryError::Memory),
     }
 }

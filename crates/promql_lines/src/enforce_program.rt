@@ -5,10 +5,12 @@ ghost use Rattle.std.specs.Prelude.{◌≡◌, true, IfErr, IfOk, map, option_ma
 ghost use Rattle.promql_text.specs.Texts.{Text};
 ghost use Rattle.promql_run.specs.Programs.{AnswersQuery, Obeys};
 ghost use Rattle.promql_lines.specs.EnforcedLines as spec;
-ghost use Rattle.promql_lines.specs.EnforcedLines.{FailsToEnforce, IsEnforcedAnswer, enforce_command, enforce_number};
+ghost use Rattle.promql_lines.specs.EnforcedLines.{FailsToEnforce, IsEnforcedAnswer, enforce_command};
+ghost use Rattle.promql_lines.specs.QueryErrors.{query_error_number};
 ghost use Rattle.promql_span.specs.declared.limits.Limits as spans;
 
-use crate::enforced_line::{EnforcedLineError, enforced_line};
+use crate::enforced_line::enforced_line;
+use crate::query_error::QueryError;
 use promql_io::arguments::is_option;
 use promql_io::ended::Ended;
 use promql_report::limit_options::{asked_text, default_limits, limits_with};
@@ -51,7 +53,7 @@ fn enforced_answer(
     limits: &Limits,
     query: &str,
     matcher: &str,
-) -> Result<String, EnforcedLineError>
+) -> Result<String, QueryError>
     ensures ok { IfOk result (λ s. IsEnforcedAnswer limits.now matcher.now query.now (string_bytes s)) }
     ensures err { IfErr result (FailsToEnforce limits.now query.now matcher.now) }
 {
@@ -84,7 +86,7 @@ fn enforce<R: Read, W: Write, E: Write>(
     writer: &mut Ended<W>,
     errors: &mut Ended<E>,
 ) -> u8
-    ensures answers { AnswersQuery R.remaining W.contents (IsEnforcedAnswer limits.now matcher.now) enforce_number
+    ensures answers { AnswersQuery R.remaining W.contents (IsEnforcedAnswer limits.now matcher.now) query_error_number
         (λ e query. FailsToEnforce limits.now query matcher.now e)
         reader.old reader.new writer.old writer.new errors.old errors.new result }
     ensures closed { result ≡ 5 → writer.new.closed ≡ true → errors.new ≡ errors.old }
@@ -117,7 +119,7 @@ pub fn enforce_program<R: Read, W: Write, E: Write>(
     errors: &mut Ended<E>,
 ) -> u8
     ensures obeys { Obeys W.contents E.contents ENFORCE_USAGE.now
-        (λ (asked : Text × spans.Limits). AnswersQuery R.remaining W.contents (IsEnforcedAnswer asked.1 asked.0) enforce_number
+        (λ (asked : Text × spans.Limits). AnswersQuery R.remaining W.contents (IsEnforcedAnswer asked.1 asked.0) query_error_number
         (λ e query. FailsToEnforce asked.1 query asked.0 e)
         reader.old reader.new writer.old writer.new errors.old errors.new result)
         reader.old reader.new writer.old writer.new errors.old errors.new result

@@ -3,7 +3,7 @@
 ghost use Rattle.std.specs.Prelude.{◌≡◌, IfOk, MatchOption, string_bytes};
 ghost use Rattle.promql_rewrite.specs.MatcherTexts.{selector_around};
 ghost use Rattle.promql_span.specs.QueryLimits.{IsWithin};
-ghost use Rattle.promql_lines.specs.LinesWithin.{IsOver};
+ghost use Rattle.promql_lines.specs.QueryErrors.{IsOver};
 
 use promql_span::limits::{LimitFault, Limits, check_limits};
 use std::alloc::{AllocError, Global};

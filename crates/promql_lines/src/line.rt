@@ -1,14 +1,18 @@
 //! The answer to one line of a batch: docs/reference/programs.md, "Answers".
 
-ghost use Rattle.std.specs.Prelude.{◌≡◌, ◌≤◌, Option, Some, IfOk, IfErr, IfSome, option_map, string_bytes};
+ghost use Rattle.std.specs.Prelude.{◌≡◌, ◌≤◌, Option, Some, Ok, Err, IfOk, IfErr, IfSome, option_map, string_bytes};
 ghost use Rattle.std.specs.Str.{IsUtf8};
 ghost use Rattle.serde_json.specs.Data.{depth};
 ghost use Rattle.serde_json.specs.Read.{max_depth, read};
 ghost use Rattle.serde_json.specs.View.{view};
 ghost use Rattle.promql_text.specs.Texts.{Text};
+ghost use Rattle.promql_ast.specs.Height.{height};
 ghost use Rattle.promql_ast.specs.View.{tree_of};
-ghost use Rattle.promql_lines.specs.BatchSteps.{IsEnforceFaultOf, IsOkLine};
-ghost use Rattle.promql_lines.specs.Batch.{FailsOnQuery, FailsWith, IsAsked, IsErrorText, IsLineAnswer, IsPlainAnswer, IsQueryAnswer, error_object, line_error_number, line_error_object};
+ghost use Rattle.promql_syntax.specs.declared.parser.TheConstants.{MAX_DEPTH};
+ghost use Rattle.promql_run.specs.Extensions.{HasNoExtension};
+ghost use Rattle.promql_lines.specs.BatchSteps.{IsOkLine, IsTreeAnswer};
+ghost use Rattle.promql_lines.specs.Batch.{FailsOnQuery, FailsWith, IsAsked, IsErrorText, IsLineAnswer, IsPlainAnswer, IsQueryAnswer, error_object, error_value};
+ghost use Rattle.promql_lines.specs.QueryErrors.{IsPrintOfTree, query_error_number, rejected_in};
 ghost use Rattle.promql_lines.specs.Requests as spec;
 ghost use Rattle.promql_lines.specs.declared.settings.Settings as batches;
 ghost use Rattle.promql_report.specs.Rejecting.{IsRejection};
@@ -16,69 +20,21 @@ ghost use Rattle.promql_run.specs.declared.format.Format.{Format};
 ghost use Rattle.promql_span.specs.declared.limits.Limits as spans;
 
 use crate::answer_text::answer_within;
-use crate::limit_checks::matcher_fault;
+use crate::enforced_line::enforced_within;
+use crate::query_error::QueryError;
 use crate::quoted_query::quoted_query;
 use crate::rejected_query::RejectedQuery;
 use crate::request::{format_in, matcher_in, query_in, unknown_in};
 use crate::request_id::answer_with_id;
 use crate::settings::Settings;
 use promql_ast::{Expr, drop_expr};
+use promql_json::JsonError;
 use promql_report::rejection::{Rejection, read_query};
-use promql_rewrite::{EnforceTextError, MatcherError, enforce_text};
 use promql_run::format::Format;
 use promql_run::rendering::shown_text;
-use promql_run::run::RunError;
-use promql_span::limits::{LimitFault, Limits, LongOutput};
+use promql_span::limits::Limits;
 use serde_json::{Category, Value, json};
 use std::alloc::{AllocError, Global};
-use thiserror::Error;
-
-/// Why a line is not answered with `ok` (docs/reference/programs.md, "Errors").
-#[derive(PartialEq, Eq, Debug, Drop, Error)]
-pub enum LineError {
-    /// An error that a run on the query has, too.
-    #[error("{0}")]
-    Run(RunError),
-    /// The query is not within its limits, or the parser rejects it.
-    #[error("{0}")]
-    Rejected(RejectedQuery),
-    /// The line is not a JSON string, nor an object that asks for a query.
-    #[error("line is not a request")]
-    NotARequest,
-    /// The line is an object with a member of this name, which no request has.
-    #[error("line is not a request: it has no member {0:?}")]
-    UnknownMember(String),
-    /// The line has a matcher to enforce that is none.
-    #[error("{0}")]
-    Matcher(MatcherError),
-    /// The line has a matcher to enforce, and a call of `info` in the query has no second argument.
-    #[error("info without a selector reads series that no matcher limits")]
-    Info,
-    /// The text that the line's matcher is read in is not within the limits of the query, and nothing of it was read.
-    #[error("the matcher is not within the limits: {0}")]
-    LargeMatcher(LimitFault),
-    /// What is printed of the query is not within the limits.
-    #[error("{0}")]
-    LongOutput(LongOutput),
-}
-
-impl LineError {
-    /// The error's number, which its answer shows.
-    pub fn number(&self) -> u8
-        ensures { result ≡ line_error_number self.now }
-    {
-        match self {
-            LineError::Run(error) => error.number(),
-            LineError::Rejected(query) => query.rejection.reason.number(),
-            LineError::NotARequest => 7,
-            LineError::UnknownMember(_) => 7,
-            LineError::Matcher(_) => 11,
-            LineError::Info => 13,
-            LineError::LargeMatcher(_) => 16,
-            LineError::LongOutput(_) => 18,
-        }
-    }
-}
 
 /// The answer to a line.
 #[derive(Drop)]
@@ -102,49 +58,51 @@ fn read_value(alloc: Global, line: &str) -> Result<Option<Value>, AllocError>
     }
 }
 
-/// The expression with the matcher of the text in every selector, if there is one. It is read only where its text is within the
-/// limits.
+/// The expression with the matcher of the text in every selector, if there is one.
 fn enforced(
     alloc: Global,
     limits: &Limits,
     expr: Expr,
     matcher: Option<&str>,
-) -> Result<Expr, LineError>
+) -> Result<Expr, QueryError>
     ensures ok { IfOk result (λ e.
-        IsAsked limits.now (option_map (λ s. s.now) matcher.entry) (tree_of expr) (tree_of e)) }
-    ensures err { IfErr result
-        (IsEnforceFaultOf limits.now (option_map (λ s. s.now) matcher.entry) (tree_of expr)) }
+        IsAsked limits.now (option_map (λ s. s.now) matcher.entry) (tree_of expr) (Ok (tree_of e))) }
+    ensures err { IfErr result (λ e.
+        IsAsked limits.now (option_map (λ s. s.now) matcher.entry) (tree_of expr) (Err e)) }
 {
-    let Some(text) = matcher else {
-        return Ok(expr);
-    };
-    match matcher_fault(alloc, limits, text) {
-        Ok(None) => {}
-        Ok(Some(fault)) => {
-            drop_expr(expr);
-            return Err(LineError::LargeMatcher(fault));
-        }
-        Err(_) => {
-            drop_expr(expr);
-            return Err(LineError::Run(RunError::Memory));
-        }
-    }
-    match enforce_text(alloc, expr, text) {
-        Ok(enforced) => Ok(enforced),
-        Err(EnforceTextError::Memory) => Err(LineError::Run(RunError::Memory)),
-        Err(EnforceTextError::Matcher(error)) => Err(LineError::Matcher(error)),
-        Err(EnforceTextError::Info) => Err(LineError::Info),
+    match matcher {
+        Some(text) => enforced_within(alloc, limits, expr, text),
+        None => Ok(expr),
     }
 }
 
 /// The error of a query that is rejected.
-fn rejected(alloc: Global, query: &str, rejection: Rejection) -> LineError
+fn rejected(alloc: Global, query: &str, rejection: Rejection) -> QueryError
     ensures { (limits : spans.Limits) (matcher : Option Text) (format : Format)
         → IsRejection limits query.now rejection → FailsOnQuery limits result query.now matcher format }
 {
     match RejectedQuery::new(alloc, query, rejection) {
-        Ok(query) => LineError::Rejected(query),
-        Err(_) => LineError::Run(RunError::Memory),
+        Ok(query) => QueryError::Rejected(query),
+        Err(_) => QueryError::Memory,
+    }
+}
+
+/// The answer with what is printed of a tree in a format.
+fn answer_tree(
+    alloc: Global,
+    limits: &Limits,
+    format: Format,
+    expr: &Expr,
+) -> Result<String, QueryError>
+    requires low { height (tree_of expr.now) ≤ MAX_DEPTH }
+    requires plain { HasNoExtension (tree_of expr.now) }
+    ensures ok { IfOk result (λ s. IsTreeAnswer limits.now format (tree_of expr.now) (string_bytes s)) }
+    ensures err { IfErr result (λ e. IsPrintOfTree limits.now format (tree_of expr.now) (Err e)) }
+{
+    match shown_text(alloc, format, expr) {
+        Ok(Some(text)) => answer_within(alloc, limits, format, text.as_str()),
+        Ok(None) => Err(QueryError::NoForm(JsonError::NumberTooWide)),
+        Err(_) => Err(QueryError::Memory),
     }
 }
 
@@ -155,7 +113,7 @@ fn answer_query(
     format: Format,
     query: &str,
     matcher: Option<&str>,
-) -> Result<String, LineError>
+) -> Result<String, QueryError>
     ensures ok { IfOk result (λ s.
         IsQueryAnswer limits.now (string_bytes s) query.now (option_map (λ s. s.now) matcher.entry) format) }
     ensures err { IfErr result (λ e.
@@ -164,31 +122,27 @@ fn answer_query(
     let expr = match read_query(alloc, limits, query) {
         Ok(Ok(expr)) => expr,
         Ok(Err(rejection)) => return Err(rejected(alloc, query, rejection)),
-        Err(_) => return Err(LineError::Run(RunError::Memory)),
+        Err(_) => return Err(QueryError::Memory),
     };
     let expr = enforced(alloc, limits, expr, matcher)?;
-    let shown = shown_text(alloc, format, &expr);
+    let answer = answer_tree(alloc, limits, format, &expr);
     drop_expr(expr);
-    match shown {
-        Ok(Some(text)) => answer_within(alloc, limits, format, text.as_str()),
-        Ok(None) => Err(LineError::Run(RunError::Json)),
-        Err(_) => Err(LineError::Run(RunError::Memory)),
-    }
+    answer
 }
 
 /// The error of a line with a member of this name, which no request has.
-fn unknown_member(alloc: Global, name: &str) -> LineError
+fn unknown_member(alloc: Global, name: &str) -> QueryError
     ensures { (settings : batches.Settings) (line : Text) → IsUtf8 line
         → spec.unknown_member line ≡ Some name.now → FailsWith settings line result }
 {
     match String::from_str(alloc, name) {
-        Ok(name) => LineError::UnknownMember(name),
-        Err(_) => LineError::Run(RunError::Memory),
+        Ok(name) => QueryError::UnknownMember(name),
+        Err(_) => QueryError::Memory,
     }
 }
 
 /// The answer to a line with this value.
-fn answer_value(alloc: Global, settings: &Settings, asked: &Value) -> Result<String, LineError>
+fn answer_value(alloc: Global, settings: &Settings, asked: &Value) -> Result<String, QueryError>
     ensures ok { (line : Text) → IsUtf8 line → read line ≡ Some (view asked.now)
         → IfOk result (λ s. IsOkLine settings.now line (string_bytes s)) }
     ensures err { (line : Text) → IsUtf8 line → read line ≡ Some (view asked.now)
@@ -198,51 +152,45 @@ fn answer_value(alloc: Global, settings: &Settings, asked: &Value) -> Result<Str
         return Err(unknown_member(alloc, name));
     }
     let Some(query) = query_in(asked) else {
-        return Err(LineError::NotARequest);
+        return Err(QueryError::NotARequest);
     };
     let Some(format) = format_in(settings.format, asked) else {
-        return Err(LineError::NotARequest);
+        return Err(QueryError::NotARequest);
     };
     answer_query(alloc, &settings.limits, format, query, matcher_in(asked))
 }
 
 /// An object of an error's number and its message.
-fn error_value(alloc: Global, code: u8, message: &str) -> Result<Value, AllocError>
+fn plain_error_value(alloc: Global, code: u8, message: &str) -> Result<Value, AllocError>
     ensures { IfOk result (λ v. view v ≡ error_object code message.now) }
 {
     json!(in alloc; {"code": code, "error": message})
 }
 
-/// An object of an error of a line and its message.
-fn line_error_value(alloc: Global, error: &LineError, message: &str) -> Result<Value, AllocError>
-    ensures { IfOk result (λ v. view v ≡ line_error_object error.now message.now) }
+/// An object of an error and its message, with the place of a query that is rejected.
+fn query_error_value(alloc: Global, error: &QueryError, message: &str) -> Result<Value, AllocError>
+    ensures { IfOk result (λ v. view v ≡ error_value (query_error_number error.now) message.now (rejected_in error.now)) }
 {
     let code = error.number();
-    match error {
-        LineError::Rejected(query) => query.value(alloc, code, message),
-        LineError::Run(_)
-        | LineError::NotARequest
-        | LineError::UnknownMember(_)
-        | LineError::Matcher(_)
-        | LineError::Info
-        | LineError::LargeMatcher(_)
-        | LineError::LongOutput(_) => error_value(alloc, code, message),
+    match error.rejected_query() {
+        Some(query) => query.value(alloc, code, message),
+        None => plain_error_value(alloc, code, message),
     }
 }
 
 /// The text of an object of the error.
-fn error_text(alloc: Global, error: &LineError) -> Result<String, AllocError>
+fn error_text(alloc: Global, error: &QueryError) -> Result<String, AllocError>
     ensures { IfOk result (λ s. IsErrorText error.now (string_bytes s)) }
 {
     let message = error.to_string(alloc)?;
-    let object = line_error_value(alloc, error, message.as_str())?;
+    let object = query_error_value(alloc, error, message.as_str())?;
     let text = object.to_string(alloc);
     drop(object);
     text
 }
 
 /// The answer to a line of which this was found, without an id.
-fn plain_answer(alloc: Global, found: Result<String, LineError>) -> Result<LineAnswer, AllocError>
+fn plain_answer(alloc: Global, found: Result<String, QueryError>) -> Result<LineAnswer, AllocError>
     ensures { (settings : batches.Settings) (line : Text)
         → IfOk found (λ s. IsOkLine settings line (string_bytes s)) → IfErr found (FailsWith settings line)
         → IfOk result (λ a. IsPlainAnswer settings line (string_bytes a.text) a.is_ok) }
@@ -281,7 +229,7 @@ fn answer_json(alloc: Global, settings: &Settings, line: &str) -> Result<LineAns
             drop(asked);
             answer
         }
-        None => plain_answer(alloc, Err(LineError::NotARequest)),
+        None => plain_answer(alloc, Err(QueryError::NotARequest)),
     }
 }
 
@@ -313,6 +261,6 @@ pub fn answer_line(
 {
     match str::from_utf8(line) {
         Ok(text) => answer_text(alloc, settings, text),
-        Err(_) => plain_answer(alloc, Err(LineError::Run(RunError::NotUtf8))),
+        Err(_) => plain_answer(alloc, Err(QueryError::NotUtf8)),
     }
 }

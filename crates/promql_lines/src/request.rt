@@ -1,6 +1,6 @@
 //! What a line of a batch asks for: docs/reference/programs.md, "Requests".
 
-ghost use Rattle.std.specs.Prelude.{◌≡◌, None, Some, map, option_map, string_bytes};
+ghost use Rattle.std.specs.Prelude.{◌≡◌, None, Some, is_none, map, option_map, string_bytes};
 ghost use Rattle.serde_json.specs.View.{view};
 ghost use Rattle.std.specs.BTreeMap.{keys};
 ghost use Rattle.promql_lines.specs.Requests as spec;
@@ -106,22 +106,18 @@ pub fn unknown_in(value: &Value) -> Option<&str>
     }
 }
 
-/// Whether the value is a string, or an object without a member of another name.
-fn may_ask(value: &Value) -> bool
-    ensures { result ≡ spec.may_ask (view value.now) }
+/// Whether the value has no member that no request has.
+fn has_known_members(value: &Value) -> bool
+    ensures { result ≡ is_none (spec.unknown_in (view value.now)) }
 {
-    match value {
-        Value::String(_) => true,
-        Value::Object(members) => !unknown_name(members).is_some(),
-        _ => false,
-    }
+    !unknown_in(value).is_some()
 }
 
 /// How the query of a line is printed where the command asks for this format; `None` where its value tells none.
 pub fn format_in(asked: Format, value: &Value) -> Option<Format>
     ensures { result ≡ spec.format_in asked (view value.now) }
 {
-    if may_ask(value) && is_text(value.get("enforce")) {
+    if has_known_members(value) && is_text(value.get("enforce")) {
         let format = named_in(asked, value.get("mode"))?;
         format_with(value.get("level"), value.get("width"), format)
     } else {

@@ -1,90 +1,39 @@
 //! The text of a tree that is given as JSON: docs/reference/json.md, "From JSON to a text".
 
 ghost use Rattle.std.specs.Prelude.{◌≡◌, IfErr, IfOk, string_bytes};
+ghost use Rattle.promql_ast.specs.Text.{text as line_text};
 ghost use Rattle.promql_ast.specs.View.{tree_of};
-ghost use Rattle.promql_lines.specs.TreeTexts.{FailsToShowForm, FailsToShowTree, IsFormTree, IsFormatOf, IsLineWithin, IsTextOfForm, IsTextOfTree, has_parens, tree_text_number};
-ghost use Rattle.promql_lines.specs.TreeTextSteps.{FailsToReadForm, IsFormError, IsLayoutError};
+ghost use Rattle.promql_lines.specs.TreeTexts.{FailsToShowForm, FailsToShowTree, IsFormTree, IsFormatOf, IsLineWithin, IsNoTreeForm, IsTextOfForm, IsTextOfTree, has_parens};
+ghost use Rattle.promql_span.specs.declared.limits.Limits as spans;
 
 use crate::limit_checks::limit_fault;
+use crate::query_error::QueryError;
 use promql_ast::{Expr, drop_expr};
 use promql_json::{FromJsonError, JsonError, from_json_text, json_text};
-use promql_rewrite::{
-    NotFaithful, NotPrintable, faithful_pretty, parenthesized, why_not_printable,
-};
+use promql_rewrite::{NotFaithful, faithful_pretty, parenthesized, why_not_printable};
 use promql_run::format::Format;
-use promql_span::limits::{LimitFault, Limits};
-use std::alloc::{AllocError, Global};
-use thiserror::Error;
-
-/// Why there is no text of a tree that is given as JSON.
-#[derive(PartialEq, Eq, Debug, Drop, Error)]
-pub enum TreeTextError {
-    /// An allocation failed.
-    #[error("out of memory")]
-    Memory,
-    /// The text is not JSON, or is the form of no tree.
-    #[error("{0}")]
-    NotATree(FromJsonError),
-    /// The line of the tree is not within the limits of a query.
-    #[error("{0}")]
-    Large(LimitFault),
-    /// The line of the tree would not mean the tree.
-    #[error("{0}")]
-    NotPrintable(NotPrintable),
-    /// The laid out text would not mean the tree.
-    #[error("{0}")]
-    Unfaithful(NotFaithful),
-    /// The tree has no JSON form.
-    #[error("{0}")]
-    NoForm(JsonError),
-}
-
-impl TreeTextError {
-    /// The error's number, which is the status of a call.
-    pub fn number(&self) -> u8
-        ensures { result ≡ tree_text_number self.now }
-    {
-        match self {
-            TreeTextError::Memory => 1,
-            TreeTextError::NotATree(_) => 17,
-            TreeTextError::Large(_) => 14,
-            TreeTextError::NotPrintable(_) => 12,
-            TreeTextError::Unfaithful(_) => 12,
-            TreeTextError::NoForm(_) => 6,
-        }
-    }
-}
-
-impl From<AllocError> for TreeTextError {
-    ghost use Rattle.std.specs.Prelude.{◌≡◌};
-    ghost use Rattle.promql_lines.specs.declared.tree_text.TreeTextError.TheVariants.{Memory};
-
-    ghost from_gives = { λ _ e. e ≡ Memory };
-
-    fn from(_e: AllocError) -> TreeTextError {
-        TreeTextError::Memory
-    }
-}
+use promql_span::limits::Limits;
+use std::alloc::Global;
 
 /// The tree whose form a text is.
-fn read_form(alloc: Global, form: &str) -> Result<Expr, TreeTextError>
+fn read_form(alloc: Global, form: &str) -> Result<Expr, QueryError>
     ensures ok { IfOk result (λ e. IsFormTree form.now (tree_of e)) }
-    ensures err { IfErr result (FailsToReadForm form.now) }
+    ensures err { IfErr result (IsNoTreeForm form.now) }
 {
     match from_json_text(alloc, form) {
         Ok(expr) => Ok(expr),
-        Err(FromJsonError::Memory) => Err(TreeTextError::Memory),
-        Err(FromJsonError::NotJson) => Err(TreeTextError::NotATree(FromJsonError::NotJson)),
+        Err(FromJsonError::Memory) => Err(QueryError::Memory),
+        Err(FromJsonError::NotJson) => Err(QueryError::NotATree(FromJsonError::NotJson)),
         Err(FromJsonError::Misfit(misfit)) => {
-            Err(TreeTextError::NotATree(FromJsonError::Misfit(misfit)))
+            Err(QueryError::NotATree(FromJsonError::Misfit(misfit)))
         }
     }
 }
 
 /// The same tree, or with parentheses where it needs them.
-fn with_parens(alloc: Global, expr: Expr, parens: bool) -> Result<Expr, TreeTextError>
+fn with_parens(alloc: Global, expr: Expr, parens: bool) -> Result<Expr, QueryError>
     ensures ok { IfOk result (λ e. tree_of e ≡ has_parens parens (tree_of expr)) }
-    ensures err { IfErr result (λ e. e ≡ TreeTextError.Memory) }
+    ensures err { IfErr result (λ e. e ≡ QueryError.Memory) }
 {
     if parens {
         Ok(parenthesized(alloc, expr)?)
@@ -95,53 +44,49 @@ fn with_parens(alloc: Global, expr: Expr, parens: bool) -> Result<Expr, TreeText
 
 /// The line of a tree, which is within the limits and means the tree.
 #[tactic(auto, using(crate::proofs::TreeMeans::line_means))]
-fn line_of_tree(alloc: Global, limits: &Limits, expr: &Expr) -> Result<String, TreeTextError>
+fn line_of_tree(alloc: Global, limits: &Limits, expr: &Expr) -> Result<String, QueryError>
     ensures ok { IfOk result (λ s. IsLineWithin limits.now (tree_of expr.now) (string_bytes s)) }
     ensures err { IfErr result (FailsToShowTree limits.now (tree_of expr.now)) }
 {
     let line = expr.to_string(alloc)?;
     if let Some(fault) = limit_fault(alloc, limits, line.as_str())? {
-        return Err(TreeTextError::Large(fault));
+        return Err(QueryError::LargeTree(fault));
     }
     match why_not_printable(alloc, expr)? {
         None => Ok(line),
-        Some(reason) => Err(TreeTextError::NotPrintable(reason)),
+        Some(reason) => Err(QueryError::NotPrintable(reason)),
     }
 }
 
-/// The layout of a tree, which means the tree.
+/// The layout of a tree that has a line, which means the tree.
 fn layout_of_tree(
     alloc: Global,
     level: u16,
     width: usize,
     expr: &Expr,
-) -> Result<String, TreeTextError>
+) -> Result<String, QueryError>
     ensures ok { IfOk result (λ s. IsFormatOf (Format.Pretty (record { level = level; width = width })) (tree_of expr.now) (string_bytes s)) }
-    ensures err { IfErr result IsLayoutError }
+    ensures err { (limits : spans.Limits) → IsLineWithin limits (tree_of expr.now) (line_text (tree_of expr.now))
+        → IfErr result (FailsToShowTree limits (tree_of expr.now)) }
 {
     match faithful_pretty(alloc, expr, level as usize, width) {
         Ok(text) => Ok(text),
-        Err(NotFaithful::Memory) => Err(TreeTextError::Memory),
-        Err(NotFaithful::IndentTooWide) => {
-            Err(TreeTextError::Unfaithful(NotFaithful::IndentTooWide))
-        }
-        Err(NotFaithful::Rejected(error)) => {
-            Err(TreeTextError::Unfaithful(NotFaithful::Rejected(error)))
-        }
-        Err(NotFaithful::OtherTree) => Err(TreeTextError::Unfaithful(NotFaithful::OtherTree)),
+        Err(NotFaithful::Memory) => Err(QueryError::Memory),
+        Err(error) => Err(QueryError::Unfaithful(error)),
     }
 }
 
-/// The form of a tree.
-fn form_of_tree(alloc: Global, expr: &Expr) -> Result<String, TreeTextError>
+/// The form of a tree that has a line.
+fn form_of_tree(alloc: Global, expr: &Expr) -> Result<String, QueryError>
     ensures ok { IfOk result (λ s. IsFormatOf Format.Json (tree_of expr.now) (string_bytes s)) }
-    ensures err { IfErr result (IsFormError (tree_of expr.now)) }
+    ensures err { (limits : spans.Limits) → IsLineWithin limits (tree_of expr.now) (line_text (tree_of expr.now))
+        → IfErr result (FailsToShowTree limits (tree_of expr.now)) }
 {
     match json_text(alloc, expr) {
         Ok(text) => Ok(text),
-        Err(JsonError::Memory) => Err(TreeTextError::Memory),
-        Err(JsonError::NumberTooWide) => Err(TreeTextError::NoForm(JsonError::NumberTooWide)),
-        Err(JsonError::Extension) => Err(TreeTextError::NoForm(JsonError::Extension)),
+        Err(JsonError::Memory) => Err(QueryError::Memory),
+        Err(JsonError::NumberTooWide) => Err(QueryError::NoForm(JsonError::NumberTooWide)),
+        Err(JsonError::Extension) => Err(QueryError::NoForm(JsonError::Extension)),
     }
 }
 
@@ -151,7 +96,7 @@ fn show_tree(
     limits: &Limits,
     format: Format,
     expr: &Expr,
-) -> Result<String, TreeTextError>
+) -> Result<String, QueryError>
     ensures ok { IfOk result (λ s. IsTextOfTree limits.now format (tree_of expr.now) (string_bytes s)) }
     ensures err { IfErr result (FailsToShowTree limits.now (tree_of expr.now)) }
 {
@@ -168,7 +113,7 @@ fn show_tree(
 ///
 /// # Errors
 ///
-/// `NotATree` where the text is the form of no tree; else `Large` where the line of the tree is not within the limits;
+/// `NotATree` where the text is the form of no tree; else `LargeTree` where the line of the tree is not within the limits;
 /// `NotPrintable` where the line would not mean the tree, with the reason; `Unfaithful` where the laid out text would not;
 /// `NoForm` where the tree has no form; `Memory` where an allocation failed.
 pub fn tree_text(
@@ -177,7 +122,7 @@ pub fn tree_text(
     format: Format,
     parens: bool,
     form: &str,
-) -> Result<String, TreeTextError>
+) -> Result<String, QueryError>
     ensures ok { IfOk result (λ s. IsTextOfForm limits.now format parens form.now (string_bytes s)) }
     ensures err { IfErr result (FailsToShowForm limits.now parens form.now) }
 {

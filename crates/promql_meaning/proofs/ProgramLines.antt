@@ -12,13 +12,13 @@ use Rattle.promql_lines.specs.EnforcedLines.{IsEnforcedLine}
 
 pub line_is_enforced : (limits : Limits) (query matcher line : Text) → IsEnforcedLine limits query matcher line → (c : PlainMatcher) × IsEnforceable matcher c × IsEnforced query c line
 line_is_enforced limits query matcher line h =
-    let shown = h.shown in
+    let shown = h.2 in
     let by = shown.1.1 in (
       by.matcher,
       by.is,
       record {
-        tree = h.tree;
-        parsed = h.parsed.1;
+        tree = h.0;
+        parsed = h.1.1;
         limited = by.limited;
         is = subst (λ u. line ≡ text u) by.enforces shown.3.0;
         means = subst (Means line) by.enforces shown.3.1;

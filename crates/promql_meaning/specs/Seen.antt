@@ -1,6 +1,7 @@
 -- What an engine can see of a query and a store (docs/guide/meaning.md, "What an engine sees").
 use Rattle.std.specs.Prelude.{ℕ, Bool, false, ◌||◌, if◌then◌else◌, Option, Some, None, [], codes}
 use Rattle.std.specs.List.{list_any}
+use Rattle.std.specs.Option.{unwrap_or}
 use Rattle.std.specs.Str.{bytes_eq}
 use Rattle.promql_text.specs.Texts.{Text}
 use Rattle.promql_text.specs.declared.number.Number.{Number}
@@ -21,13 +22,11 @@ use Rattle.promql_meaning.specs.Stores.{Store, read, target_info}
 
 -- without a clause nothing is grouped by
 abbrev pub grouped : Option Clause → Clause
-grouped None = including []
-grouped (Some m) = m
+grouped m = unwrap_or m (including [])
 
 -- without `on` and `ignoring` nothing is ignored
 abbrev pub matched : Option Clause → Clause
-matched None = excluding []
-matched (Some m) = m
+matched m = unwrap_or m (excluding [])
 
 -- of an operator: how many match how many, by which labels, `bool`, fill values
 pub data Joining : Type 0 where

@@ -29,34 +29,30 @@ is_number d = false
 abbrev pub has_node : ℕ → Derivation → Bool
 has_node op d = op == T_SUB && not (is_number d)
 
--- a node, and those below it
-abbrev pub node : ℕ → Derivation → List Subexpression → List Subexpression
-node k d below = here k d ∷ below
-
 abbrev mutual
   -- the nodes below that of an expression which k tokens come after, each before those below it. What has no node of its
   -- own, a sign or a postfix other than a subquery, belongs to the node of what it changes.
   pub nodes_below : ℕ → Derivation → List Subexpression
-  nodes_below k (grammar.paren d) = node (1 + k) d (nodes_below (1 + k) d)
+  nodes_below k (grammar.paren d) = here (1 + k) d ∷ nodes_below (1 + k) d
   nodes_below k (grammar.call w text ds) = argument_nodes (1 + k) ds
   nodes_below k (grammar.aggregate op text c ds) = argument_nodes (1 + (length (yield_after c) + k)) ds
   nodes_below k (grammar.postfixed d (part.subquery t s)) =
-      let after = length (yield_postfix (part.subquery t s)) + k in node after d (nodes_below after d)
+      let after = length (yield_postfix (part.subquery t s)) + k in here after d ∷ nodes_below after d
   nodes_below k (grammar.postfixed d p) = nodes_below (length (yield_postfix p) + k) d
-  nodes_below k (grammar.unary op text d) = if has_node op d then node k d (nodes_below k d) else nodes_below k d
+  nodes_below k (grammar.unary op text d) = if has_node op d then here k d ∷ nodes_below k d else nodes_below k d
   nodes_below k (grammar.binary op text m l r) =
       let after = 1 + (length (yield_modifier m) + (length (yield r) + k)) in
-      node after l (nodes_below after l) ++ node k r (nodes_below k r)
+      here after l ∷ (nodes_below after l ++ here k r ∷ nodes_below k r)
   nodes_below k d = []
 
   -- those of arguments that k tokens come after
   pub argument_nodes : ℕ → Arguments → List Subexpression
   argument_nodes k grammar.none = []
-  argument_nodes k (grammar.more d ds) = node (rest_count ds + k) d (nodes_below (rest_count ds + k) d) ++ argument_nodes k ds
+  argument_nodes k (grammar.more d ds) = here (rest_count ds + k) d ∷ (nodes_below (rest_count ds + k) d ++ argument_nodes k ds)
 
 -- the nodes of an expression
 abbrev pub nodes : ℕ → Derivation → List Subexpression
-nodes k d = node k d (nodes_below k d)
+nodes k d = here k d ∷ nodes_below k d
 
 -- ---- the nodes of a tree
 
@@ -79,13 +75,9 @@ BuildEach subs ts = ⊥
 abbrev pub tokens_at : Text → ℕ → ℕ → List Lexeme
 tokens_at s count after = take count (last_tokens (count + after) (placed_tokens s))
 
--- those of an expression
-abbrev pub tokens_of : Text → Subexpression → List Lexeme
-tokens_of s sub = tokens_at s (length (yield sub.derivation)) sub.after
-
--- from the first of them through the last
+-- from the first token of an expression through the last
 abbrev pub place_of : Text → Subexpression → Span
-place_of s sub = span_over s (tokens_of s sub)
+place_of s sub = span_over s (tokens_at s (length (yield sub.derivation)) sub.after)
 
 -- the places of the nodes of a text's tree: those of the expressions that build them
 pub record ArePlaces (s : Text) (t : Tree) (places : List Span) : Type 0 where

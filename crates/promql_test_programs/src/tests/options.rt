@@ -1,8 +1,9 @@
 //! Widths, precisions and flags of a placeholder, which no error of a run or of a line heeds.
 
-use promql_lines::line::LineError;
+use promql_lines::query_error::{Measured, QueryError};
 use promql_parser::parser::ParseError;
 use promql_run::run::RunError;
+use promql_span::limits::LimitFault;
 use std::alloc::Global;
 use std::fmt::Display;
 use std::process::Abort;
@@ -27,6 +28,17 @@ fn errors_heed_no_option(rt: HostRuntime) -> Result<(), Fail> {
     let syntax = RunError::Parse(ParseError::Syntax);
     heeds_none(&rt, alloc, &syntax, "invalid promql query")?;
     heeds_none(&rt, alloc, &RunError::Read, "read failed")?;
-    heeds_none(&rt, alloc, &LineError::Run(syntax), "invalid promql query")?;
-    heeds_none(&rt, alloc, &LineError::NotARequest, "line is not a request")
+    heeds_none(
+        &rt,
+        alloc,
+        &QueryError::NotARequest,
+        "line is not a request",
+    )?;
+    let fault = LimitFault::TooLong { len: 9, most: 8 };
+    heeds_none(
+        &rt,
+        alloc,
+        &QueryError::Large(Measured::EnforcedLine, fault),
+        "the enforced query is not within the limits: query is too long: 9 bytes, at most 8",
+    )
 }

@@ -1,4 +1,4 @@
-use Rattle.std.proofs.Common.{string_bytes, subst}
+use Rattle.std.proofs.Common.{inl, string_bytes, subst}
 use Rattle.std.proofs.lemmas.Result.{IfOk-weaker}
 use Rattle.std.specs.Prelude.{IfOk}
 use Rattle.promql_lines.specs.Batch.{IsLineAnswer}
@@ -13,4 +13,4 @@ pub returns-in-Err : goal.returns-in-Err
 returns-in-Err c =
     let settings = c.args.settings.now in let line = c.args.line.now in
     IfOk-weaker c.plain_answer.result _ _ (λ a plain. without_id settings line (string_bytes a.text) a.is_ok (none_in_bytes line c.in-Err.ensures.cases.0) plain)
-    (c.plain_answer.ensures settings line tt c.in-Err.ensures.cases.0)
+    (c.plain_answer.ensures settings line tt (inl c.in-Err.ensures.cases.0))
