@@ -165,29 +165,10 @@ pub no_groups : (gs : List (List PlainMatcher)) (name : Text) (v d : Data) (old 
 no_groups [] name v d old rest ms other none fine is h = other cc
 no_groups (g ∷ gs) name v d old rest ms other none fine is h = none g gs fine cc
 
-pub after_groups : (gs : List (List PlainMatcher)) (name : Text) (v d : Data) (old rest ms : Members) → name ≢ codes "or_matchers"
-    → old ≡ member (codes "or_matchers") v rest → old ≡ groups_members gs (member name d ms) → rest ≡ member name d ms
-after_groups [] name v d old rest ms other is h = absurd (other cc)
-after_groups (g ∷ gs) name v d old rest ms other is h = cc
-
 pub without_groups : (gs : List (List PlainMatcher)) (old rest : Members)
     → ((d : Data) (ms : Members) → old ≢ member (codes "or_matchers") d ms) → old ≡ groups_members gs rest → old ≡ rest
 without_groups [] old rest none h = h
 without_groups (g ∷ gs) old rest none h = absurd (none _ _ h)
-
--- ---- modes of ranges
-
-pub after_mode : (mode : RangeMode) (name : Text) (v d : Data) (old rest ms : Members) → name ≢ codes "rangeMode"
-    → old ≡ member (codes "rangeMode") v rest → old ≡ mode_members mode (member name d ms) → rest ≡ member name d ms
-after_mode Plain name v d old rest ms other is h = absurd (other cc)
-after_mode Smoothed name v d old rest ms other is h = cc
-after_mode Anchored name v d old rest ms other is h = cc
-
-pub without_mode : (mode : RangeMode) (old rest : Members)
-    → ((d : Data) (ms : Members) → old ≢ member (codes "rangeMode") d ms) → old ≡ mode_members mode rest → old ≡ rest
-without_mode Plain old rest none h = h
-without_mode Smoothed old rest none h = absurd (none _ _ h)
-without_mode Anchored old rest none h = absurd (none _ _ h)
 
 -- ---- selectors
 
