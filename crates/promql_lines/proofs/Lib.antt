@@ -1,11 +1,13 @@
 pub mod AnswerIds
 pub mod Batches
+pub mod EnforceFailures
 pub mod EnforcedTrees
 pub mod JsonTexts
 pub mod LineAnswers
 pub mod LinesRead
 pub mod MemoryAnswer
 mod Renamings
+pub mod QueryStatuses
 pub mod RequestIds
 pub mod RequestMembers
 pub mod TreeMeans

@@ -9,6 +9,11 @@ use Rattle.promql_lines.proofs.LineAnswers.{fails_unasked, tree_answers, tree_fa
 use Rattle.promql_lines.specs.Batch.{FailsOnQuery}
 use Rattle.promql_lines.proofs.line.answer_query.Goals as goal
 
+pub returns-in-Ok-Err-clause-err : goal.returns-in-Ok-Err-clause-err
+returns-in-Ok-Err-clause-err c =
+    c.rejected.ensures c.args.limits.now (option_map (λ s. s.now) c.args.matcher) c.args.format
+    (subst (IsReadAs c.args.limits.now c.args.query.now) c.in-Ok-Err.field-0-is c.in-Ok-Err.ensures)
+
 pub returns-in_err-expr-clause-err : goal.returns-in_err-expr-clause-err
 returns-in_err-expr-clause-err c =
     let matcher = option_map (λ s. s.now) c.args.matcher in
