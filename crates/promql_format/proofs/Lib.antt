@@ -1,1 +1,2 @@
+mod LayoutFailures
 mod OptionSteps
