@@ -1,1 +1,2 @@
 pub mod FiniteCollected
+mod MadeTexts

@@ -1,6 +1,6 @@
 //! A query with another name for a metric or a label.
 
-ghost use Rattle.std.specs.Prelude.{◌≡◌, string_bytes};
+ghost use Rattle.std.specs.Prelude.{◌≡◌, Some, string_bytes};
 ghost use Rattle.promql_grammar.specs.Results.{on_result};
 ghost use Rattle.promql_c.specs.Calls.{IsRenameOf};
 ghost use Rattle.promql_c.specs.Formats.{named_numbered};
@@ -19,6 +19,20 @@ pub(crate) fn named_of(kind: u32) -> Option<Named>
         1 => Some(Named::Label),
         _ => None,
     }
+}
+
+/// The line of a text's query with the new name.
+fn rename_text(
+    alloc: Global,
+    limits: &Limits,
+    query: &str,
+    named: Named,
+    from: &str,
+    to: &str,
+) -> Result<String, QueryError>
+    ensures { IsRenameOf limits.now query.now (Some named) from.now to.now (on_result (λ s. string_bytes s) result) }
+{
+    renamed_line(alloc, limits, query, named, from, to)
 }
 
 /// The line of a query with the new name, if something that is renamed was asked for.
@@ -42,5 +56,5 @@ pub(crate) fn rename_query(
     ) else {
         return Err(QueryError::NotUtf8);
     };
-    renamed_line(alloc, limits, query, named, from, to)
+    rename_text(alloc, limits, query, named, from, to)
 }

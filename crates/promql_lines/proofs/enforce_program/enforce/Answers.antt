@@ -41,7 +41,7 @@ returns-clause-answers g c =
         failed = λ two. absurd (not_status e 2 refl (sym number ∙ two));
         quiet = λ other. c.in-Ok.ensures.quiet;
         not_utf8 = λ three. absurd (never_not_utf8 c.args.limits.now text c.args.matcher.now
-          (subst (FailsToEnforce c.args.limits.now text c.args.matcher.now) (three_is_not_utf8 e (sym number ∙ three)) fails));
+            (subst (FailsToEnforce c.args.limits.now text c.args.matcher.now) (three_is_not_utf8 e (sym number ∙ three)) fails));
       };
       ok = λ zero. absurd (not_status e 0 refl (sym number ∙ zero));
       flushed = λ zero. absurd (not_status e 0 refl (sym number ∙ zero));
@@ -49,12 +49,16 @@ returns-clause-answers g c =
       write = λ five. absurd (not_status e 5 refl (sym number ∙ five));
       begun = λ five. absurd (not_status e 5 refl (sym number ∙ five));
       unwritten = λ some other. refl;
-      none = inr (inr (inr (inr (inr (e, sym number, record {
-        text = text;
-        read = subst (HasRead (g.R.Read.remaining c.args.reader.now.inner) (g.R.Read.remaining c.read_text.new.reader.inner)) (sym c.as_str.ensures.value) c.in-Ok.ensures.read;
-        utf8 = c.as_str.utf8;
-        is = fails;
-      })))));
+      none = inr (inr (inr (inr (inr (
+        e,
+        sym number,
+        record {
+          text = text;
+          read = subst (HasRead (g.R.Read.remaining c.args.reader.now.inner) (g.R.Read.remaining c.read_text.new.reader.inner)) (sym c.as_str.ensures.value) c.in-Ok.ensures.read;
+          utf8 = c.as_str.utf8;
+          is = fails;
+        },
+      )))));
     }
 
 pub returns-clause-closed : goal.returns-clause-closed
