@@ -41,12 +41,18 @@ enum promql_mode {
     PROMQL_JSON = 2    /* the JSON form, without a space */
 };
 
+/* What promql_rename renames. */
+enum promql_named {
+    PROMQL_METRIC = 0, /* a metric: before braces, and in equal matchers of __name__ */
+    PROMQL_LABEL = 1   /* a label: in matchers, and in the lists of aggregations and operators */
+};
+
 /* The bytes of stack that a call about a query asks for: more than any query is known to need (docs/PERFORMANCE.md, "The program").
  * A thread needs more than these, for what it does itself. */
 #define PROMQL_STACK 1310720
 
-/* 0, or why the buffer does not have what was asked for. With 1 to 6, 9, 11 to 14, 16 to 18 the text is the message of the
- * error. */
+/* 0, or why the buffer does not have what was asked for. With 1 to 6, 9, 11 to 14, 16 to 18, 20 to 22 the text is the message of
+ * the error. */
 enum promql_status {
     PROMQL_OK = 0,
     PROMQL_OUT_OF_MEMORY = 1,
@@ -54,7 +60,7 @@ enum promql_status {
     PROMQL_REJECTED = 4,         /* the query is rejected: the result has the place */
     PROMQL_NUMBER_TOO_WIDE = 6,  /* PROMQL_JSON: a number of milliseconds is below -2^63 or above 2^64 - 1 */
     PROMQL_BUFFER_TOO_SMALL = 8, /* the text has more bytes than the buffer: `length` */
-    PROMQL_UNKNOWN_MODE = 9,     /* or a level above 512 */
+    PROMQL_UNKNOWN_MODE = 9,     /* or a level above 512, or no kind of what is renamed */
     PROMQL_BAD_POINTER = 10,     /* a pointer is NULL though its length is not 0, a length is above PTRDIFF_MAX, or the
                                     result is NULL; there is no text */
     PROMQL_BAD_MATCHER = 11,     /* the matcher is none, or is of the metric's name, __name__ */
@@ -62,9 +68,12 @@ enum promql_status {
     PROMQL_BARE_INFO = 13,       /* the query has info without a second argument: no matcher limits the series that it reads */
     PROMQL_TOO_LARGE = 14,       /* the query is too long, or its patterns are too large: the result has the place, but for a tree */
     PROMQL_SMALL_STACK = 15,     /* the thread has fewer than PROMQL_STACK bytes of stack left; there is no text */
-    PROMQL_LARGE_ENFORCED = 16,  /* the matcher, or the query with it, is not within the limits of a query */
+    PROMQL_LARGE_ENFORCED = 16,  /* the matcher, or the query with it or with another name, is not within the limits of a query */
     PROMQL_NOT_A_TREE = 17,      /* the JSON text is the form of no tree: the message has the place */
-    PROMQL_LONG_OUTPUT = 18      /* the text has more bytes than promql_set_max_output says */
+    PROMQL_LONG_OUTPUT = 18,     /* the text has more bytes than promql_set_max_output says */
+    PROMQL_NOT_A_NAME = 20,      /* the new name is no name of a metric */
+    PROMQL_METRIC_LABEL = 21,    /* the old name or the new one is __name__, which names no label but the metric */
+    PROMQL_CLASH = 22            /* both labels are in one list, and would become one */
 };
 
 struct promql_result {
@@ -94,14 +103,32 @@ uint32_t promql_canonical(const char *query, size_t query_length, char *buffer, 
 uint32_t promql_enforce(const char *query, size_t query_length, const char *matcher, size_t matcher_length, char *buffer,
                         size_t buffer_size, struct promql_result *result);
 
+/* Prints a query on one line with another name for a metric or a label, by `kind`, an enum promql_named: `to` in place of `from`. The text
+ * is within the limits of a query; it was read again, and means the renamed query (docs/guide/rewriting.md, "Renaming"). */
+uint32_t promql_rename(const char *query, size_t query_length, uint32_t kind, const char *from, size_t from_length, const char *to,
+                       size_t to_length, char *buffer, size_t buffer_size, struct promql_result *result);
+
 /* Shows what a query names, as JSON: its functions, labels and metrics, and its selectors with their times
  * (docs/guide/bindings.md, "What a query names"). */
 uint32_t promql_collect(const char *query, size_t query_length, char *buffer, size_t buffer_size,
                         struct promql_result *result);
 
+/* Shows the places of the nodes of a query's tree, as JSON: an array with an array of two numbers for each node, the bytes from and up to
+ * which it goes. A node comes before those below it, and these in the order of the text, but the parameter of an aggregation before what
+ * is aggregated (docs/guide/bindings.md, "Places of nodes"). */
+uint32_t promql_places(const char *query, size_t query_length, char *buffer, size_t buffer_size,
+                       struct promql_result *result);
+
 /* Checks a query. The text is empty where it is accepted. */
 uint32_t promql_check(const char *query, size_t query_length, char *buffer, size_t buffer_size,
                       struct promql_result *result);
+
+/* Explains why a query is rejected: the message for people, which at a syntax error says what was found, what was expected there and what
+ * may be meant. Where `as_json` is not 0 the text is an object of JSON: the message as `error`, the status as `code`, the place, and at a
+ * syntax error `expected` and `found` (docs/guide/bindings.md, "Why a query is rejected"). The text is empty where the query is
+ * accepted. The call is made once a query was rejected: it reads the beginning of the query some sixty times. */
+uint32_t promql_explain(const char *query, size_t query_length, uint32_t as_json, char *buffer, size_t buffer_size,
+                        struct promql_result *result);
 
 /* Shows the line of a query where the part from `start` up to `end` begins, a line feed, and a mark below that part. Control characters
    and marks of writing direction are escapes in it, as `\x1b`. */
