@@ -1,8 +1,7 @@
 -- A tree laid out over lines (docs/reference/printing.md, "Nodes over several lines").
 use Rattle.std.specs.Prelude.{ℕ, ◌+◌, ◌==◌, max, Bool, true, false, not, ◌&&◌, if◌then◌else◌, List, [], ◌∷◌, ◌++◌, Option, Some, None, codes}
 use Rattle.std.specs.Option.{option_map_or}
-use Rattle.promql_text.specs.Bytes.{space}
-use Rattle.promql_text.specs.Texts.{Text, joined_text}
+use Rattle.promql_text.specs.Texts.{Text, joined_text, code}
 use Rattle.promql_token.specs.Ids.{text_of}
 use Rattle.promql_kind.specs.Functions.{name_of}
 use Rattle.promql_kind.specs.Modifiers.{Clause, Matching}
@@ -21,7 +20,7 @@ line_or_lines line lines level most = if is_longer most line then lines else ind
 -- without the spaces that it begins with
 abbrev pub without_indent : Text → Text
 without_indent [] = []
-without_indent (b ∷ t) = if b == space then without_indent t else b ∷ t
+without_indent (b ∷ t) = if b == code " " then without_indent t else b ∷ t
 
 -- ---- a node's lines from its parts' layouts
 

@@ -2,8 +2,7 @@
 use Rattle.std.specs.Prelude.{◌≡◌, ◌<◌, ◌≤◌, ◌*◌, ◌++◌, ◌⊎◌, Err, ℕ, zero, suc, ◌==◌, nat_lt, not, ◌&&◌, Bool, [], ◌∷◌, Option, Result, IfSome, IfOk, IsTrue, String, string_bytes}
 use Rattle.std.specs.List.{filter}
 use Rattle.std.specs.declared.alloc.Global.{Global}
-use Rattle.promql_text.specs.Bytes.{line_feed, space}
-use Rattle.promql_text.specs.Texts.{Text}
+use Rattle.promql_text.specs.Texts.{Text, code}
 use Rattle.promql_text.specs.PrintedLen.{usize_max, printed_len}
 
 -- the line has more bytes than `most`
@@ -17,10 +16,10 @@ MaySplit line most own split = IfSome line (λ t. (IsTrue split → IsTrue (is_l
 -- two spaces a level
 abbrev pub indent : ℕ → Text
 indent zero = []
-indent (suc n) = space ∷ space ∷ indent n
+indent (suc n) = code " " ∷ code " " ∷ indent n
 
 abbrev pub is_shown : ℕ → Bool
-is_shown b = not (b == space) && not (b == line_feed)
+is_shown b = not (b == code " ") && not (b == code "\n")
 
 -- the text without spaces and line feeds
 abbrev pub squeeze : Text → Text

@@ -6,8 +6,7 @@ use Rattle.std.proofs.lemmas.List.{drop_all, take_all}
 use Rattle.std.proofs.Math.Nat.{min-eq_left, min-eq_right}
 use Rattle.std.proofs.Math.Seq.{take-nil}
 use Rattle.promql_token.specs.declared.lexeme.Lexeme.{Lexeme}
-use Rattle.promql_text.specs.Bytes.{hash, line_feed}
-use Rattle.promql_text.specs.Texts.{Text}
+use Rattle.promql_text.specs.Texts.{Text, code}
 use Rattle.promql_token.specs.Vocabulary.{concat_texts, is_line_end}
 use Rattle.promql_formatter.specs.Comments.{cut, gaps, line_comment, lines}
 use Rattle.promql_formatter.specs.CommentScans.{scan}
@@ -17,18 +16,18 @@ all ls = concat_texts (map line_comment ls)
 
 -- the same, of lines of which the first is inside a comment
 abbrev pub inside : List Text → Text
-inside [] = line_feed ∷ []
-inside (first ∷ rest) = first ++ (line_feed ∷ all rest)
+inside [] = code "\n" ∷ []
+inside (first ∷ rest) = first ++ (code "\n" ∷ all rest)
 
 by_bool : (b : Bool) (P : Type 0) → (b ≡ true → P) → (b ≡ false → P) → P
 by_bool true P f g = f refl
 by_bool false P f g = g refl
 
-begins : (b : ℕ) (ls : List Text) → (b == hash) ≡ true → all (cut (b ∷ []) ls) ≡ b ∷ inside ls
+begins : (b : ℕ) (ls : List Text) → (b == code "#") ≡ true → all (cut (b ∷ []) ls) ≡ b ∷ inside ls
 begins b [] is = rw is
-begins b (first ∷ rest) is = rw is (ap (λ t. b ∷ t) (append_assoc first (line_feed ∷ []) (all rest)))
+begins b (first ∷ rest) is = rw is (ap (λ t. b ∷ t) (append_assoc first (code "\n" ∷ []) (all rest)))
 
-skips : (b : ℕ) (ls : List Text) → (b == hash) ≡ false → all (cut (b ∷ []) ls) ≡ all ls
+skips : (b : ℕ) (ls : List Text) → (b == code "#") ≡ false → all (cut (b ∷ []) ls) ≡ all ls
 skips b [] is = rw is
 skips b (first ∷ rest) is = rw is
 
@@ -36,17 +35,17 @@ goes_on : (b : ℕ) (ls : List Text) → inside (cut (b ∷ []) ls) ≡ b ∷ in
 goes_on b [] = refl
 goes_on b (first ∷ rest) = refl
 
-no_hash : (b : ℕ) → is_line_end b ≡ true → (b == hash) ≡ false
-no_hash b end = by_bool (b == hash) _ (λ is. let at : is_line_end hash ≡ true = subst (λ x. is_line_end x ≡ true) (eqb-true b hash is) end in let no : false ≡ true = at in cc) (λ no. no)
+no_hash : (b : ℕ) → is_line_end b ≡ true → (b == code "#") ≡ false
+no_hash b end = by_bool (b == code "#") _ (λ is. let at : is_line_end (code "#") ≡ true = subst (λ x. is_line_end x ≡ true) (eqb-true b (code "#") is) end in let no : false ≡ true = at in cc) (λ no. no)
 
 pub scanned : (g : Text) → (scan false g ≡ all (lines g)) × (scan true g ≡ inside (lines g))
 scanned [] = (refl, refl)
 scanned (b ∷ bs) =
     let rest = scanned bs in
     by_bool (is_line_end b) _
-    (λ end. let no = no_hash b end in (rw (no, end) rest.0, rw end (ap (λ t. line_feed ∷ t) rest.0)))
+    (λ end. let no = no_hash b end in (rw (no, end) rest.0, rw end (ap (λ t. code "\n" ∷ t) rest.0)))
     (λ apart. (
-      by_bool (b == hash) _ (λ is. rw (is, apart) (ap (λ t. b ∷ t) rest.1 ∙ sym (begins b (lines bs) is))) (λ no. rw (no, apart) (rest.0 ∙ sym (skips b (lines bs) no))),
+      by_bool (b == code "#") _ (λ is. rw (is, apart) (ap (λ t. b ∷ t) rest.1 ∙ sym (begins b (lines bs) is))) (λ no. rw (no, apart) (rest.0 ∙ sym (skips b (lines bs) no))),
       rw apart (ap (λ t. b ∷ t) rest.1 ∙ sym (goes_on b (lines bs))),
     ))
 

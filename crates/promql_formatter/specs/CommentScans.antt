@@ -1,12 +1,11 @@
 -- The comments of what lies between two tokens, byte by byte. Private: nothing rests on believing it.
 use Rattle.std.specs.Prelude.{Bool, true, false, ◌==◌, if◌then◌else◌, List, [], ◌∷◌}
-use Rattle.promql_text.specs.Bytes.{hash, line_feed}
-use Rattle.promql_text.specs.Texts.{Text}
+use Rattle.promql_text.specs.Texts.{Text, code}
 use Rattle.promql_token.specs.Vocabulary.{is_line_end}
 
 -- inside a comment or outside
 abbrev pub scan : Bool → Text → Text
 scan false [] = []
-scan true [] = line_feed ∷ []
-scan false (b ∷ bs) = if b == hash then b ∷ scan true bs else scan false bs
-scan true (b ∷ bs) = if is_line_end b then line_feed ∷ scan false bs else b ∷ scan true bs
+scan true [] = code "\n" ∷ []
+scan false (b ∷ bs) = if b == code "#" then b ∷ scan true bs else scan false bs
+scan true (b ∷ bs) = if is_line_end b then code "\n" ∷ scan false bs else b ∷ scan true bs

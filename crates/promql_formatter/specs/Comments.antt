@@ -1,7 +1,6 @@
 -- The comments of a text (docs/reference/formatting.md, "Comments").
 use Rattle.std.specs.Prelude.{ℕ, ◌+◌, ◌-◌, ◌==◌, if◌then◌else◌, List, [], ◌∷◌, ◌++◌, drop, map, take}
-use Rattle.promql_text.specs.Bytes.{hash, line_feed}
-use Rattle.promql_text.specs.Texts.{Text}
+use Rattle.promql_text.specs.Texts.{Text, code}
 use Rattle.promql_token.specs.declared.lexeme.Lexeme.{Lexeme}
 use Rattle.promql_token.specs.Lexing.{items}
 use Rattle.promql_token.specs.Trivia.{lexemes}
@@ -24,7 +23,7 @@ lines (b ∷ bs) = if is_line_end b then [] ∷ lines bs else cut (b ∷ []) (li
 -- the comment of a line with its end, from the first `#` on
 abbrev pub line_comment : Text → Text
 line_comment [] = []
-line_comment (b ∷ bs) = if b == hash then (b ∷ bs) ++ line_feed ∷ [] else line_comment bs
+line_comment (b ∷ bs) = if b == code "#" then (b ∷ bs) ++ code "\n" ∷ [] else line_comment bs
 
 -- the comments between the tokens, in order, each as a line
 abbrev pub comment_lines : Text → Text

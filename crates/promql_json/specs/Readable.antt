@@ -7,22 +7,21 @@ use Rattle.promql_text.specs.declared.number.Number.{Number}
 use Rattle.promql_token.specs.Ids.{is_aggregator, is_one_of, is_operator}
 use Rattle.promql_token.specs.declared.ids.TheConstants.{T_AT, T_EQL_REGEX, T_NEQ_REGEX}
 use Rattle.promql_label.specs.Answers.{Allows, rejected}
-use Rattle.promql_label.specs.PlainMatchers.{PlainMatcher, plain_matcher, equal, not_equal, matches, matches_not, PlainMatchers, plain_matchers}
+use Rattle.promql_label.specs.PlainMatchers.{PlainMatcher, plain_matcher, matches, matches_not, PlainMatchers, plain_matchers}
 use Rattle.promql_kind.specs.Functions.{function_named, name_of}
 use Rattle.promql_kind.specs.Modifiers.{fills, Matching, matching}
 use Rattle.promql_ast.specs.Fold.{folded}
 use Rattle.promql_ast.specs.Height.{height}
 use Rattle.promql_ast.specs.Selectors.{Selector, selector}
-use Rattle.promql_ast.specs.Shifts.{Moment, at_start, at_end, at_time}
+use Rattle.promql_ast.specs.Shifts.{Moment, at_time}
 use Rattle.promql_ast.specs.Tree.{Tree, aggregate, binary, subquery, number, vector, matrix, call, extension}
 use Rattle.promql_json.specs.Json.{json}
 
 -- `regex` may not reject the value of a pattern
 abbrev pub ReadableMatcher : PlainMatcher → Type 0
-ReadableMatcher (plain_matcher equal name value) = Unit {0}
-ReadableMatcher (plain_matcher not_equal name value) = Unit {0}
 ReadableMatcher (plain_matcher (matches w) name value) = ¬ Allows value rejected
 ReadableMatcher (plain_matcher (matches_not w) name value) = ¬ Allows value rejected
+ReadableMatcher _ = Unit {0}
 
 abbrev pub ReadableMatchers : PlainMatchers → Type 0
 ReadableMatchers (plain_matchers plain groups) = AllByRecursion ReadableMatcher plain × AllByRecursion (AllByRecursion ReadableMatcher) groups
@@ -32,10 +31,8 @@ abbrev pub is_millis : ℤ → Bool
 is_millis z = int_le (neg_ℤ (pos (2 ^ 63))) z && int_lt z (pos (2 ^ 63))
 
 abbrev pub ReadableMoment : Option Moment → Type 0
-ReadableMoment None = Unit {0}
-ReadableMoment (Some at_start) = Unit {0}
-ReadableMoment (Some at_end) = Unit {0}
 ReadableMoment (Some (at_time t)) = is_millis t ≡ true
+ReadableMoment _ = Unit {0}
 
 abbrev pub ReadableFill : Option Number → Type 0
 ReadableFill None = Unit {0}

@@ -4,7 +4,7 @@ use Rattle.promql_text.specs.NumberText.{number_text}
 use Rattle.promql_text.specs.declared.number.Number.{Number}
 use Rattle.promql_label.specs.Labels.{labels_text}
 use Rattle.promql_text.specs.Texts.{Text}
-use Rattle.promql_kind.specs.Modifiers.{Clause, including, excluding, Cardinality, one_to_one, many_to_one, one_to_many, many_to_many, Fills, fills, Matching, matching, is_grouping, number_eq}
+use Rattle.promql_kind.specs.Modifiers.{Clause, including, excluding, Cardinality, many_to_one, one_to_many, Fills, fills, Matching, matching, is_grouping, number_eq}
 
 abbrev pub bool_text : Bool → Text
 bool_text true = codes " bool"
@@ -22,10 +22,9 @@ matched_text is_grouping (Some (including ls)) = codes " on (" ++ (labels_text l
 matched_text is_grouping (Some (excluding ls)) = ignoring_text is_grouping ls
 
 abbrev pub grouping_text : Cardinality → Text
-grouping_text one_to_one = []
 grouping_text (many_to_one ls) = codes " group_left (" ++ (labels_text ls ++ codes ")")
 grouping_text (one_to_many ls) = codes " group_right (" ++ (labels_text ls ++ codes ")")
-grouping_text many_to_many = []
+grouping_text _ = []
 
 abbrev pub fill_text : Text → Number → Text
 fill_text before n = before ++ (number_text n ++ codes ")")

@@ -1,5 +1,5 @@
 -- Modifiers, as plain data (docs/reference/tree.md, "Modifiers").
-use Rattle.std.specs.Prelude.{Bool, true, false, ◌==◌, ◌&&◌, List, [], ◌∷◌, Option, Some, None}
+use Rattle.std.specs.Prelude.{Bool, true, false, ◌==◌, ◌&&◌, List, [], ◌∷◌, Option, Some, None, is_some}
 use Rattle.std.specs.List.{list_any}
 use mathlib.Core.Bool.{beq}
 use Rattle.promql_text.specs.Numbers.{Exact}
@@ -41,16 +41,12 @@ is_including (excluding ls) = false
 
 -- the labels after the grouping word, where there is one
 abbrev pub grouping : Cardinality → Option (List Text)
-grouping one_to_one = None
 grouping (many_to_one ls) = Some ls
 grouping (one_to_many ls) = Some ls
-grouping many_to_many = None
+grouping _ = None
 
 abbrev pub is_grouping : Cardinality → Bool
-is_grouping one_to_one = false
-is_grouping (many_to_one ls) = true
-is_grouping (one_to_many ls) = true
-is_grouping many_to_many = false
+is_grouping card = is_some (grouping card)
 
 -- what two lists that are both there have in common
 abbrev pub common_of : Option (List Text) → Option Clause → Option (List Text)

@@ -2,46 +2,45 @@
 use Rattle.std.specs.Prelude.{ℕ, ◌+◌, ◌*◌, ◌^◌, max, ◌==◌, ◌&&◌, ◌||◌, Bool, if◌then◌else◌, [], ◌∷◌, count_by, drop, length, not, take_while}
 use Rattle.std.specs.Char.{is_ascii_alphanumeric, is_ascii_digit}
 use Rattle.std.specs.List.{list_any}
-use Rattle.promql_text.specs.Bytes.{backslash, comma, hash, left_brace, point, right_brace, right_bracket}
-use Rattle.promql_text.specs.Texts.{Text}
+use Rattle.promql_text.specs.Texts.{Text, code}
 use Rattle.promql_label.specs.PlainPatterns.{digit_of}
 
 -- the greatest number up to a brace or the end, after the digits of n: a comma ends a number, and what is no digit may come between its own
 abbrev pub greatest : ℕ → Text → ℕ
 greatest n [] = n
 greatest n (b ∷ z) =
-    if b == left_brace || b == right_brace then n
-    else if b == comma then max n (greatest 0 z)
+    if b == code "{" || b == code "}" then n
+    else if b == code "," then max n (greatest 0 z)
     else if is_ascii_digit b then greatest (10 * n + digit_of b) z
     else greatest n z
 
 -- a count after such a byte repeats one item, no group and no repetition
 abbrev pub ends_item : ℕ → Bool
-ends_item b = is_ascii_alphanumeric b || b == point || b == right_bracket
+ends_item b = is_ascii_alphanumeric b || b == code "." || b == code "]"
 
 -- one more than the greatest number of those counts; a text comes after the byte `before`
 abbrev pub item_repeats : ℕ → Text → ℕ
 item_repeats before [] = 1
-item_repeats before (b ∷ z) = max (if b == left_brace && ends_item before then 1 + greatest 0 z else 1) (item_repeats b z)
+item_repeats before (b ∷ z) = max (if b == code "{" && ends_item before then 1 + greatest 0 z else 1) (item_repeats b z)
 
 -- one more than the greatest number of each other count, multiplied
 abbrev pub group_repeats : ℕ → Text → ℕ
 group_repeats before [] = 1
-group_repeats before (b ∷ z) = (if b == left_brace && not (ends_item before) then 1 + greatest 0 z else 1) * group_repeats b z
+group_repeats before (b ∷ z) = (if b == code "{" && not (ends_item before) then 1 + greatest 0 z else 1) * group_repeats b z
 
 -- how many bytes come before the first `{`
 abbrev pub brace_place : Text → ℕ
-brace_place v = length (take_while (λ b. not (b == left_brace)) v)
+brace_place v = length (take_while (λ b. not (b == code "{")) v)
 
 -- a comment, which begins with `#`, may hide braces and commas: then it is ten for each digit after the first `{`
 abbrev pub repeats : Text → ℕ
 repeats v =
-    if list_any (λ b. b == hash) v then 10 ^ count_by is_ascii_digit (drop (brace_place v) v)
+    if list_any (λ b. b == code "#") v then 10 ^ count_by is_ascii_digit (drop (brace_place v) v)
     else item_repeats 0 v * group_repeats 0 v
 
 -- the bytes of the anchored text, and ten more for each backslash, since `\w` is a class of many ranges
 abbrev pub weight : Text → ℕ
-weight v = length v + 6 + 10 * count_by (λ b. b == backslash) v
+weight v = length v + 6 + 10 * count_by (λ b. b == code "\\") v
 
 -- that, so often
 abbrev pub measure : Text → ℕ

@@ -1,8 +1,7 @@
 -- Which patterns are small (docs/reference/matchers.md, "Small patterns").
 use Rattle.std.specs.Prelude.{ℕ, ◌+◌, ◌*◌, Bool, ◌==◌, ◌&&◌, if◌then◌else◌, [], ◌∷◌, length, nat_le}
 use Rattle.regex.specs.Patterns.{Re}
-use Rattle.promql_text.specs.Bytes.{right_brace}
-use Rattle.promql_text.specs.Texts.{Text}
+use Rattle.promql_text.specs.Texts.{Text, code}
 use Rattle.promql_label.specs.declared.plain.After.{After}
 use Rattle.promql_label.specs.declared.plain.After.TheVariants as after
 use Rattle.promql_label.specs.declared.plain.Scan.{Scan}
@@ -10,9 +9,9 @@ use Rattle.promql_label.specs.PlainPatterns.{is_plain, next, start}
 
 -- f, times one more than the greatest number of the count that the byte ends, if it ends one
 abbrev pub times : After → ℕ → ℕ → ℕ
-times (after.Least n) b f = if b == right_brace then (1 + n) * f else f
-times (after.Comma n) b f = if b == right_brace then (1 + n) * f else f
-times (after.Most least n) b f = if b == right_brace then (1 + n) * f else f
+times (after.Least n) b f = if b == code "}" then (1 + n) * f else f
+times (after.Comma n) b f = if b == code "}" then (1 + n) * f else f
+times (after.Most least n) b f = if b == code "}" then (1 + n) * f else f
 times _ b f = f
 
 -- how often a part of the rest of a plain pattern can be repeated: those numbers of all its counts, multiplied

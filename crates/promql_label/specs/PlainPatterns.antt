@@ -2,8 +2,7 @@
 -- A pattern is scanned byte by byte: `after` tells what a place comes after.
 use Rattle.std.specs.Prelude.{ℕ, ◌+◌, ◌-◌, ◌*◌, Bool, true, false, not, ◌==◌, ◌&&◌, ◌||◌, if◌then◌else◌, [], ◌∷◌, nat_le, nat_lt}
 use Rattle.std.specs.Char.{is_ascii, is_ascii_alphanumeric, is_ascii_digit}
-use Rattle.promql_text.specs.Bytes.{left_paren, right_paren, comma, minus, digit_zero, colon, left_bracket, backslash, right_bracket, caret, left_brace, right_brace}
-use Rattle.promql_text.specs.Texts.{Text}
+use Rattle.promql_text.specs.Texts.{Text, code}
 use Rattle.promql_label.specs.declared.plain.After.{After}
 use Rattle.promql_label.specs.declared.plain.After.TheVariants as after
 use Rattle.promql_label.specs.declared.plain.Scan.{Scan}
@@ -39,44 +38,44 @@ is_member b = is_ascii b && not (b == 91 || b == 92 || b == 93 || b == 94 || b =
 abbrev pub member : ℕ → After
 member b =
     if is_member b then after.Member b
-    else if b == backslash then after.ClassBackslash
+    else if b == code "\\" then after.ClassBackslash
     else after.Foreign
 
 abbrev pub in_class : ℕ → After
-in_class b = if b == right_bracket then after.Item else member b
+in_class b = if b == code "]" then after.Item else member b
 
 abbrev pub first_in_class : ℕ → After
-first_in_class b = if b == minus then after.FirstHyphen else member b
+first_in_class b = if b == code "-" then after.FirstHyphen else member b
 
 abbrev pub after_hyphen : ℕ → ℕ → After
 after_hyphen low b =
-    if b == right_bracket then after.Item
+    if b == code "]" then after.Item
     else if is_member b && nat_le low b then after.Range
     else after.Foreign
 
 -- ---- counts, from `{` to `}`
 
 abbrev pub digit_of : ℕ → ℕ
-digit_of b = b - digit_zero
+digit_of b = b - code "0"
 
 -- a number is below 1,000
 abbrev pub after_least : ℕ → ℕ → After
 after_least n b =
-    if b == right_brace then after.Repetition
-    else if b == comma then after.Comma n
+    if b == code "}" then after.Repetition
+    else if b == code "," then after.Comma n
     else if is_ascii_digit b && nat_lt n 100 then after.Least (10 * n + digit_of b)
     else after.Foreign
 
 abbrev pub after_comma : ℕ → ℕ → After
 after_comma least b =
-    if b == right_brace then after.Repetition
+    if b == code "}" then after.Repetition
     else if is_ascii_digit b then after.Most least (digit_of b)
     else after.Foreign
 
 -- the second number is no smaller
 abbrev pub after_most : ℕ → ℕ → ℕ → After
 after_most least n b =
-    if b == right_brace then (if nat_le least n then after.Repetition else after.Foreign)
+    if b == code "}" then (if nat_le least n then after.Repetition else after.Foreign)
     else if is_ascii_digit b && nat_lt n 100 then after.Most least (10 * n + digit_of b)
     else after.Foreign
 
@@ -92,23 +91,23 @@ if_escaped b what = if is_escaped b then what else after.Foreign
 abbrev pub item_or_bar : ℕ → After
 item_or_bar b =
     if b == bar then after.Start
-    else if b == left_bracket then after.Bracket
-    else if b == backslash then after.Backslash
+    else if b == code "[" then after.Bracket
+    else if b == code "\\" then after.Backslash
     else if is_operator b || not (is_ascii b) then after.Foreign
     else after.Item
 
 -- inside an item
 abbrev pub inside_item : After → ℕ → After
-inside_item after.Question b = if_byte b colon after.Start
+inside_item after.Question b = if_byte b (code ":") after.Start
 inside_item after.Backslash b = if_escaped b after.Item
-inside_item after.Bracket b = if b == caret then after.Caret else first_in_class b
+inside_item after.Bracket b = if b == code "^" then after.Caret else first_in_class b
 inside_item after.Caret b = first_in_class b
 inside_item after.FirstHyphen b = in_class b
-inside_item (after.Member low) b = if b == minus then after.Hyphen low else in_class b
+inside_item (after.Member low) b = if b == code "-" then after.Hyphen low else in_class b
 inside_item (after.Hyphen low) b = after_hyphen low b
-inside_item after.Range b = if b == minus then after.LastHyphen else in_class b
+inside_item after.Range b = if b == code "-" then after.LastHyphen else in_class b
 inside_item after.ClassBackslash b = if_escaped b after.Range
-inside_item after.LastHyphen b = if_byte b right_bracket after.Item
+inside_item after.LastHyphen b = if_byte b (code "]") after.Item
 inside_item after.Brace b = if is_ascii_digit b then after.Least (digit_of b) else after.Foreign
 inside_item (after.Least n) b = after_least n b
 inside_item (after.Comma least) b = after_comma least b
@@ -131,15 +130,15 @@ close_group scan =
 -- an item, `|` or `)`
 abbrev pub begin : Scan → ℕ → Scan
 begin scan b =
-    if b == left_paren then open_group scan
-    else if b == right_paren then close_group scan
+    if b == code "(" then open_group scan
+    else if b == code ")" then close_group scan
     else to scan (item_or_bar b)
 
 abbrev pub next_after : After → Scan → ℕ → Scan
 next_after after.Start scan b = begin scan b
 next_after after.Item scan b =
     if is_repetition b then to scan after.Repetition
-    else if b == left_brace then to scan after.Brace
+    else if b == code "{" then to scan after.Brace
     else begin scan b
 next_after after.Repetition scan b = if b == question_mark then to scan after.Start else begin scan b
 next_after after.Paren scan b = if b == question_mark then to scan after.Question else begin scan b

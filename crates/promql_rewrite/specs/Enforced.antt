@@ -44,10 +44,9 @@ IsOfTrees _ = ⊥
 
 -- why a line is not faithful: no allocation is a reason, and no line is indented
 abbrev pub IsOfLine : NotFaithful → Type 0
-IsOfLine faithful.Memory = ⊥
-IsOfLine faithful.IndentTooWide = ⊥
 IsOfLine (faithful.Rejected e) = e ≢ parse.Memory
 IsOfLine faithful.OtherTree = Unit {0}
+IsOfLine _ = ⊥
 
 -- an error of a query: where it is of a line, why that is not faithful
 abbrev pub IsOfQuery : EnforceError → Type 0

@@ -67,8 +67,7 @@ module _ {S E : Type 0} (gives : MapGives S E) where
   abbrev pub Maps : List KindedSelector → List KindedSelector → S → S → Type 0
   Maps [] [] s t = t ≡ s
   Maps (x ∷ xs) (y ∷ ys) s t = (y.0 ≡ x.0) × ((u : S) × (gives s x.0 x.1 (Ok tt) u y.1 × Maps xs ys u t))
-  Maps [] (y ∷ ys) s t = ⊥
-  Maps (x ∷ xs) [] s t = ⊥
+  Maps _ _ s t = ⊥
 
   -- one call for each selector, in order, up to one that failed with this error; the mapper was s and is t
   abbrev pub Fails : List KindedSelector → E → S → S → Type 0

@@ -1,7 +1,6 @@
 -- The first escape of a text, byte by byte.
 use Rattle.std.proofs.Common.{◌≡◌, ℕ, ◌+◌, ◌≤◌, Bool, true, false, not, ◌&&◌, ◌==◌, [], ◌∷◌, length, Option, None, Some, IfSome, cond, refl, sym, ap, ◌∙◌, true≢false, arith}
-use Rattle.promql_text.specs.Bytes.{backslash, backtick}
-use Rattle.promql_text.specs.Texts.{Text}
+use Rattle.promql_text.specs.Texts.{Text, code}
 use Rattle.promql_span.specs.ByteEscapes.{escape_between, first_escape, is_byte_escape}
 
 not_both : (a : Bool) → false ≡ a && false
@@ -9,10 +8,10 @@ not_both true = refl
 not_both false = refl
 
 -- where no escape begins with a byte, the first one is that of the rest
-pub after_byte : (escaped : Bool) (at b : ℕ) (z : Text) → ((b == backslash && not escaped) && is_byte_escape z) ≡ false
-    → first_escape escaped at (b ∷ z) ≡ first_escape (b == backslash && not escaped) (at + 1) z
-after_byte true at b z none = ap (λ e. first_escape e (at + 1) z) (not_both (b == backslash))
-after_byte false at b z none = go (b == backslash) (is_byte_escape z) none
+pub after_byte : (escaped : Bool) (at b : ℕ) (z : Text) → ((b == code "\\" && not escaped) && is_byte_escape z) ≡ false
+    → first_escape escaped at (b ∷ z) ≡ first_escape (b == code "\\" && not escaped) (at + 1) z
+after_byte true at b z none = ap (λ e. first_escape e (at + 1) z) (not_both (b == code "\\"))
+after_byte false at b z none = go (b == code "\\") (is_byte_escape z) none
   where
     go : (a e : Bool) → ((a && true) && e) ≡ false → cond (a && e) (Some at) (first_escape a (at + 1) z) ≡ first_escape (a && true) (at + 1) z
     go true true h = absurd (true≢false h)
@@ -38,16 +37,16 @@ later at z (Some a) h b = omega (arith, h)
 found_within : (escaped : Bool) (at : ℕ) (z : Text) → IfSome (first_escape escaped at z) (λ a. a + 4 ≤ at + length z)
 found_within escaped at [] = tt
 found_within true at (b ∷ z) = later at z _ (found_within false (at + 1) z) b
-found_within false at (b ∷ z) = go (b == backslash && is_byte_escape z) refl (later at z _ (found_within (b == backslash) (at + 1) z) b)
+found_within false at (b ∷ z) = go (b == code "\\" && is_byte_escape z) refl (later at z _ (found_within (b == code "\\") (at + 1) z) b)
   where
-    go : (e : Bool) → (b == backslash && is_byte_escape z) ≡ e → IfSome (first_escape (b == backslash) (at + 1) z) (λ a. a + 4 ≤ at + length (b ∷ z))
-        → IfSome (cond e (Some at) (first_escape (b == backslash) (at + 1) z)) (λ a. a + 4 ≤ at + length (b ∷ z))
-    go true is h = omega (arith, three_follow z (both_true (b == backslash) (is_byte_escape z) is))
+    go : (e : Bool) → (b == code "\\" && is_byte_escape z) ≡ e → IfSome (first_escape (b == code "\\") (at + 1) z) (λ a. a + 4 ≤ at + length (b ∷ z))
+        → IfSome (cond e (Some at) (first_escape (b == code "\\") (at + 1) z)) (λ a. a + 4 ≤ at + length (b ∷ z))
+    go true is h = omega (arith, three_follow z (both_true (b == code "\\") (is_byte_escape z) is))
     go false is h = h
 
 pub between_within : (at : ℕ) (z : Text) → IfSome (escape_between at z) (λ a. a + 4 ≤ at + length z)
 between_within at [] = tt
-between_within at (quote ∷ z) = go (quote == backtick)
+between_within at (quote ∷ z) = go (quote == code "`")
   where
     go : (b : Bool) → IfSome (cond b None (first_escape false (at + 1) z)) (λ a. a + 4 ≤ at + length (quote ∷ z))
     go true = tt

@@ -2,8 +2,7 @@
 use Rattle.std.specs.Prelude.{ℕ, ◌+◌, Bool, true, false, ◌&&◌, ◌||◌, ◌==◌, if◌then◌else◌, List, [], ◌∷◌, drop, take, Option, Some, None, option_map, nat_lt, not}
 use Rattle.std.specs.Option.{option_or}
 use Rattle.std.specs.Char.{digit_value}
-use Rattle.promql_text.specs.Texts.{Text}
-use Rattle.promql_text.specs.Bytes.{backslash, backtick}
+use Rattle.promql_text.specs.Texts.{Text, code}
 use Rattle.promql_token.specs.declared.ids.TheConstants.{T_STRING}
 use Rattle.promql_token.specs.declared.lexeme.Lexeme.{Lexeme}
 use Rattle.promql_span.specs.declared.span.Span.{Span}
@@ -23,13 +22,13 @@ abbrev pub first_escape : Bool → ℕ → Text → Option ℕ
 first_escape escaped at [] = None
 first_escape true at (b ∷ z) = first_escape false (at + 1) z
 first_escape false at (b ∷ z) =
-    if b == backslash && is_byte_escape z then Some at
-    else first_escape (b == backslash) (at + 1) z
+    if b == code "\\" && is_byte_escape z then Some at
+    else first_escape (b == code "\\") (at + 1) z
 
 -- the first one between a quote that begins at `at`, which is no backtick, and the same quote
 abbrev pub escape_between : ℕ → Text → Option ℕ
 escape_between at [] = None
-escape_between at (quote ∷ z) = if quote == backtick then None else first_escape false (at + 1) z
+escape_between at (quote ∷ z) = if quote == code "`" then None else first_escape false (at + 1) z
 
 abbrev pub escape_span : ℕ → Span
 escape_span at = record { start = at; end = at + 4 }

@@ -4,8 +4,7 @@ use Rattle.std.specs.Char.{len_utf8}
 use Rattle.std.specs.Fmt.{decimal}
 use Rattle.std.specs.Str.{chars}
 use Rattle.std.specs.List.{count_by, list_any, sum_by}
-use Rattle.promql_text.specs.Bytes.{colon, line_feed}
-use Rattle.promql_text.specs.Texts.{Text}
+use Rattle.promql_text.specs.Texts.{Text, code}
 use Rattle.promql_span.specs.declared.location.Location.{Location}
 
 -- the characters that end at this byte or before it
@@ -14,7 +13,7 @@ characters_before [] offset = []
 characters_before (c ∷ cs) offset = if nat_lt offset (len_utf8 c) then [] else c ∷ characters_before cs (offset - len_utf8 c)
 
 abbrev pub is_line_feed : ℕ → Bool
-is_line_feed c = c == line_feed
+is_line_feed c = c == code "\n"
 
 -- what follows the last line feed, or all where there is none
 abbrev pub last_line : Text → Text
@@ -40,4 +39,4 @@ location_of text offset = record { line = line_of (chars text) offset; column = 
 
 -- the line, a colon, the column
 abbrev pub location_text : Location → Text
-location_text place = decimal place.line ++ colon ∷ decimal place.column
+location_text place = decimal place.line ++ code ":" ∷ decimal place.column

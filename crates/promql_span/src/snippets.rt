@@ -1,7 +1,7 @@
 //! Lines of a text with a mark below them: docs/reference/grammar.md, "Places of errors".
 
 ghost use Rattle.std.specs.Prelude.{◌≡◌, ◌≤◌, ◌++◌, ◌∷◌, ◌-◌, IfOk, OnOk, chars, drop, encode_utf8_all, length, map, replicate, string_bytes, take, IsCharBoundary};
-ghost use Rattle.promql_text.specs.Bytes.{caret, tilde};
+ghost use Rattle.promql_text.specs.Texts.{code};
 ghost use Rattle.promql_span.specs.Locations.{characters_before, last_line};
 ghost use Rattle.promql_span.specs.Snippets.{blank, snippet_of, snippet_text, up_to};
 
@@ -134,7 +134,7 @@ fn blank(c: char) -> char
 /// Appends a mark of this many characters, or of one.
 fn push_mark(out: &mut String, marked: usize) -> Result<(), AllocError>
     ensures { OnOk result (string_bytes out.new
-        ≡ string_bytes out.old ++ caret ∷ replicate (marked - 1) tilde) }
+        ≡ string_bytes out.old ++ code "^" ∷ replicate (marked - 1) (code "~")) }
 {
     out.push('^')?;
     for _at in 0..marked.saturating_sub(1) {

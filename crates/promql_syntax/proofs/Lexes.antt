@@ -1,8 +1,7 @@
 -- Printed items that the lexer reads as their tokens (docs/reference/printing.md, "Nodes").
 use Rattle.std.specs.Prelude.{◌≡◌, ℕ, Bool, true, not, ◌&&◌, ◌||◌, ◌==◌, List, [], ◌∷◌, ◌++◌, codes, map, slice_index, Ok}
 use Rattle.std.specs.List.{list_any}
-use Rattle.promql_text.specs.Bytes.{line_feed, equal, tilde}
-use Rattle.promql_text.specs.Texts.{Text}
+use Rattle.promql_text.specs.Texts.{Text, code}
 use Rattle.promql_token.specs.Classes.{is_in}
 use Rattle.promql_token.specs.Lexing.{pieces}
 use Rattle.promql_token.specs.TokenScanning.{opens}
@@ -26,7 +25,7 @@ Lexes before after is =
 
 -- white space, `)`, `,` and `[`
 abbrev pub is_break : ℕ → Bool
-is_break b = list_any (λ k. b == k) (line_feed ∷ codes " ),[")
+is_break b = list_any (λ k. b == k) (code "\n" ∷ codes " ),[")
 
 -- what may follow an expression: nothing, or one of these, and no `(` after white space
 abbrev pub is_clear : Text → Bool
@@ -39,7 +38,7 @@ ends_word r = not (is_in class.Word (slice_index r 0))
 
 -- what may follow an operator
 abbrev pub ends_operator : Text → Bool
-ends_operator r = let b = slice_index r 0 in ends_word r && not (b == equal || b == tilde)
+ends_operator r = let b = slice_index r 0 in ends_word r && not (b == code "=" || b == code "~")
 
 -- before any text that passes the test, the bytes of the items are read as their tokens, from the first state to the second
 abbrev pub LexesBefore : (Text → Bool) → State → State → List Item → Type 0

@@ -1,8 +1,7 @@
 -- A printed tree as parts with the white space between them (docs/reference/printing.md, "Nodes"), from the derivation
 -- of its text.
 use Rattle.std.specs.Prelude.{ℕ, zero, suc, ◌+◌, if◌then◌else◌, Option, Some, None, List, [], ◌∷◌, ◌++◌, codes}
-use Rattle.promql_text.specs.Bytes.{line_feed, space}
-use Rattle.promql_text.specs.Texts.{Text}
+use Rattle.promql_text.specs.Texts.{Text, code}
 use Rattle.promql_ast.specs.Lines.{is_longer}
 use Rattle.promql_grammar.specs.declared.token_kinds.TokenKind.{TokenKind}
 use Rattle.promql_grammar.specs.declared.token_kinds.TokenKind.TheVariants as kind
@@ -47,8 +46,8 @@ spell (word k text) = text
 abbrev pub render : List Item → Text
 render [] = []
 render (token s ∷ is) = spell s ++ render is
-render (blank ∷ is) = space ∷ render is
-render (newline ∷ is) = line_feed ∷ render is
+render (blank ∷ is) = code " " ∷ render is
+render (newline ∷ is) = code "\n" ∷ render is
 
 -- ---- parts
 

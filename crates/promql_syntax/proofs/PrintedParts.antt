@@ -2,12 +2,11 @@
 use Rattle.std.specs.Prelude.{ℕ, ℤ, ◌%◌, ◌/◌, Bool, true, false, not, ◌&&◌, ◌==◌, if◌then◌else◌, Option, Some, None, option_map, List, [], ◌∷◌, ◌++◌, codes, unsigned_abs}
 use Rattle.std.specs.Fmt.{decimal}
 use Rattle.std.specs.Int.{is_negative}
-use Rattle.promql_text.specs.Bytes.{point}
 use Rattle.promql_text.specs.Durations.{nanos_of}
 use Rattle.promql_text.specs.DurationText.{duration_text}
 use Rattle.promql_text.specs.NumberText.{number_text}
 use Rattle.promql_text.specs.Quoting.{quoted_text}
-use Rattle.promql_text.specs.Texts.{Text}
+use Rattle.promql_text.specs.Texts.{Text, code}
 use Rattle.promql_text.specs.Values.{is_below_zero, neg}
 use Rattle.promql_text.specs.declared.duration.Unit.TheVariants.{Milli}
 use Rattle.promql_text.specs.declared.number.Number.{Number}
@@ -51,7 +50,7 @@ time n = if n % nanos_of Milli == 0 then part.duration (duration_text n) else pa
 -- the seconds of a time, without its sign
 unfoldable pub seconds_text : ℤ → Text
 seconds_text t = let size = unsigned_abs t in
-    decimal (size / 1000) ++ (point ∷ (decimal (size / 100 % 10) ++ (decimal (size / 10 % 10) ++ decimal (size % 10))))
+    decimal (size / 1000) ++ (code "." ∷ (decimal (size / 100 % 10) ++ (decimal (size / 10 % 10) ++ decimal (size % 10))))
 
 abbrev pub moment : Moment → part.Postfix
 moment at_start = part.at_bound kind.Start (codes "start")

@@ -35,11 +35,9 @@ AreAllowed = AllByRecursion (λ a. Allows a.about a.answer)
 -- the questions are these, in this order, and with these answers the end is the result
 abbrev pub Ends : {A : Type 0} → Asking A → List Asked → Result A BuildError → Type 0
 Ends (gives x) [] result = result ≡ Ok x
-Ends (gives x) (a ∷ more) result = ⊥
 Ends (fails fault) [] result = result ≡ Err fault
-Ends (fails fault) (a ∷ more) result = ⊥
-Ends (asks v next) [] result = ⊥
 Ends (asks v next) (a ∷ more) result = (a.about ≡ v) × Ends (next a.answer) more result
+Ends _ _ result = ⊥
 
 -- the end, where each pattern has one answer
 abbrev pub under : {A : Type 0} → (Text → Answer) → Asking A → Result A BuildError

@@ -1,4 +1,3 @@
-pub mod Bytes
 pub mod DecimalForm
 pub mod DecimalParts
 pub mod DurationForms

@@ -2,7 +2,7 @@
 use Rattle.std.specs.Prelude.{ℕ, ◌+◌, ◌-◌, ◌*◌, ◌/◌, ◌^◌, Bool, if◌then◌else◌, nat_le, ℤ, pos, neg_ℤ, Option, Some, None}
 use Rattle.promql_text.specs.Numbers.{Exact}
 use Rattle.promql_text.specs.declared.number.Number.{Number}
-use Rattle.promql_text.specs.declared.number.Number.TheVariants.{Finite, Inf, NegInf, NaN}
+use Rattle.promql_text.specs.declared.number.Number.TheVariants.{Finite}
 
 -- n divided by d, rounded to the nearest whole number, a half up
 abbrev pub round_half_up : ℕ → ℕ → ℕ
@@ -19,6 +19,4 @@ within_i64 is_negative n =
 
 abbrev pub to_millis : Number → Option ℤ
 to_millis (Finite d) = within_i64 d.is_negative (millis d)
-to_millis Inf = None
-to_millis NegInf = None
-to_millis NaN = None
+to_millis _ = None

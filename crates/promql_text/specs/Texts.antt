@@ -1,5 +1,6 @@
 -- Texts, and lists of them (docs/reference/texts.md, "Lists").
-use Rattle.std.specs.Prelude.{ℕ, List, Result}
+use Prim.Native.String.{String}
+use Rattle.std.specs.Prelude.{ℕ, List, Result, codes, slice_index}
 use Rattle.std.specs.Borrow.{Bor, MutBor}
 use Rattle.std.specs.Fmt.{WritesOnOk, WritesStyledOnOk}
 use Rattle.std.specs.declared.fmt.Error.{Error}
@@ -9,6 +10,10 @@ use Rattle.std.specs.List.{join_by}
 -- a text, as its bytes or its characters
 abbrev pub Text : Type 0
 Text = List ℕ
+
+-- the byte that this character of ASCII is
+abbrev pub code : String → ℕ
+code s = slice_index (codes s) 0
 
 -- "Lists": the texts in a row, with a separator between each two
 abbrev pub joined_text : Text → List Text → Text

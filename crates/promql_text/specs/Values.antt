@@ -20,34 +20,26 @@ neg NaN = NaN
 
 abbrev pub is_nan : Number → Bool
 is_nan NaN = true
-is_nan (Finite d) = false
-is_nan Inf = false
-is_nan NegInf = false
+is_nan _ = false
 
 abbrev pub is_infinite : Number → Bool
 is_infinite Inf = true
 is_infinite NegInf = true
-is_infinite (Finite d) = false
-is_infinite NaN = false
+is_infinite _ = false
 
 abbrev pub is_below_zero : Number → Bool
 is_below_zero (Finite d) = d.is_negative
 is_below_zero NegInf = true
-is_below_zero Inf = false
-is_below_zero NaN = false
+is_below_zero _ = false
 
 abbrev pub is_zero : Number → Bool
 is_zero (Finite d) = d.digits == 0
-is_zero Inf = false
-is_zero NegInf = false
-is_zero NaN = false
+is_zero _ = false
 
 -- a number in its one form, as all that the program makes are
 abbrev pub IsNumber : Number → Type 0
 IsNumber (Finite d) = IsExact d
-IsNumber Inf = Unit {0}
-IsNumber NegInf = Unit {0}
-IsNumber NaN = Unit {0}
+IsNumber _ = Unit {0}
 
 -- two finite numbers of one value: their digits, with the zeros and places of both, are one whole number
 pub record SameValue (v w : Exact) : Type 0 where

@@ -7,8 +7,7 @@ use Rattle.std.proofs.lemmas.Bool.{eqb-false}
 use Rattle.std.proofs.lemmas.Grind.{common_steps}
 use Rattle.std.proofs.lemmas.Slice.Eq.{bytes_eq-Decides}
 use Rattle.std.specs.Str.{str_to_ascii_lowercase}
-use Rattle.promql_text.specs.Bytes.{colon}
-use Rattle.promql_text.specs.Texts.{Text}
+use Rattle.promql_text.specs.Texts.{Text, code}
 use Rattle.promql_token.specs.declared.ids.Case.{Case}
 use Rattle.promql_token.specs.declared.ids.Case.TheVariants as case
 use Rattle.promql_token.specs.Ids.{keyword_in_any_case, keywords, lookup, same_word}
@@ -56,7 +55,7 @@ among_letter case w = among_letter_in case keywords w refl
 -- ---- colons
 
 abbrev has_colon : Text → Bool
-has_colon w = list_any (λ b. b == colon) w
+has_colon w = list_any (λ b. b == code ":") w
 
 lower_colon : (b : ℕ) → (to_ascii_lowercase b == 58) ≡ (b == 58)
 lower_colon b = grind (arith, common_steps)

@@ -10,8 +10,7 @@ use Rattle.promql_token.specs.declared.state.Bracket.TheVariants as bracket
 use Rattle.promql_token.specs.declared.state.Mode.{Mode}
 use Rattle.promql_token.specs.declared.state.Mode.TheVariants as mode
 use Rattle.promql_token.specs.declared.state.State.{State}
-use Rattle.promql_text.specs.Bytes.{backtick, digit_zero, double_quote, point, single_quote}
-use Rattle.promql_text.specs.Texts.{Text}
+use Rattle.promql_text.specs.Texts.{Text, code}
 use Rattle.promql_token.specs.Classes.{is_in, is_label}
 use Rattle.promql_token.specs.TokenScanning.{scan_token}
 use Rattle.promql_token.specs.Vocabulary.{are_digits, braces_id, is_exponent, is_part, is_sign, is_spelling, is_unit, is_word, concat_texts, next, parts_text, word_id}
@@ -54,7 +53,7 @@ IsName id w r = (is_label w ≡ true) × (is_in class.Name (next r) ≡ false) �
 -- none, or a point and digits
 abbrev pub is_fraction : Class → Text → Bool
 is_fraction c [] = true
-is_fraction c (b ∷ ds) = b == point && list_all (is_in c) ds
+is_fraction c (b ∷ ds) = b == code "." && list_all (is_in c) ds
 
 -- none, or `e`, a sign or none, and digits
 abbrev pub is_power : Text → Bool
@@ -64,7 +63,7 @@ is_power (e ∷ b ∷ ds) = is_exponent e && ((is_sign b || is_ascii_digit b) &&
 
 -- `0x` or `0X`, digits, and a fraction
 abbrev pub IsHex : Text → Type 0
-IsHex w = (x : ℕ) × (whole : Text) × (fraction : Text) × (w ≡ digit_zero ∷ x ∷ (whole ++ fraction)) × ((x == 120 || x == 88) ≡ true) × (list_all (is_in class.HexDigit) whole ≡ true) × (is_fraction class.HexDigit fraction ≡ true)
+IsHex w = (x : ℕ) × (whole : Text) × (fraction : Text) × (w ≡ code "0" ∷ x ∷ (whole ++ fraction)) × ((x == 120 || x == 88) ≡ true) × (list_all (is_in class.HexDigit) whole ≡ true) × (is_fraction class.HexDigit fraction ≡ true)
 
 -- digits, a fraction and an exponent; there is a digit before the point or after it
 abbrev pub IsDecimal : Text → Text → Type 0
@@ -88,17 +87,17 @@ IsDuration w =
 -- no letter, digit or `_` follows, nor a point on a number
 abbrev pub IsNumeral : ℕ → Text → Text → Type 0
 IsNumeral id w r =
-    (is_in class.Name (next r) ≡ false) × (((id ≡ T_NUMBER) × IsNumber w (next r) × ((next r == point) ≡ false)) ⊎ ((id ≡ T_DURATION) × IsDuration w))
+    (is_in class.Name (next r) ≡ false) × (((id ≡ T_NUMBER) × IsNumber w (next r) × ((next r == code ".") ≡ false)) ⊎ ((id ≡ T_DURATION) × IsDuration w))
 
 -- ---- strings
 
 abbrev pub has_escapes : ℕ → Bool
-has_escapes quote = quote == double_quote || quote == single_quote
+has_escapes quote = quote == code "\"" || quote == code "'"
 
 -- what may be between quotes: between backticks all but a backtick
 abbrev pub IsBody : ℕ → Text → Type 0
 IsBody quote body =
-    (((quote == backtick) ≡ true) × (list_all (λ b. not (b == backtick)) body ≡ true))
+    (((quote == code "`") ≡ true) × (list_all (λ b. not (b == code "`")) body ≡ true))
     ⊎ ((has_escapes quote ≡ true) × (ps : List Text) × (list_all (is_spelling quote) ps ≡ true) × (body ≡ concat_texts ps))
 
 abbrev pub IsString : ℕ → Text → Type 0

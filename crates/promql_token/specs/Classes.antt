@@ -2,19 +2,18 @@
 use Rattle.std.specs.Prelude.{ℕ, ◌+◌, Bool, ◌||◌, ◌==◌, ◌&&◌, length, drop, slice_index}
 use Rattle.std.specs.Char.{is_ascii_alphabetic, is_ascii_alphanumeric, is_ascii_digit, is_ascii_hexdigit, is_ascii_whitespace}
 use Rattle.std.specs.List.{prefix_len}
-use Rattle.promql_text.specs.Texts.{Text}
+use Rattle.promql_text.specs.Texts.{Text, code}
 use Rattle.promql_token.specs.declared.class.Class.{Class}
 use Rattle.promql_token.specs.declared.class.Class.TheVariants as class
-use Rattle.promql_text.specs.Bytes.{colon, underscore}
 
 abbrev pub is_letter : ℕ → Bool
-is_letter b = is_ascii_alphabetic b || b == underscore
+is_letter b = is_ascii_alphabetic b || b == code "_"
 
 abbrev pub is_name_byte : ℕ → Bool
-is_name_byte b = is_ascii_alphanumeric b || b == underscore
+is_name_byte b = is_ascii_alphanumeric b || b == code "_"
 
 abbrev pub is_word_byte : ℕ → Bool
-is_word_byte b = is_name_byte b || b == colon
+is_word_byte b = is_name_byte b || b == code ":"
 
 abbrev pub is_in : Class → ℕ → Bool
 is_in class.White b = is_ascii_whitespace b

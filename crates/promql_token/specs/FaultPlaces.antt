@@ -10,8 +10,7 @@ use Rattle.promql_token.specs.declared.state.Bracket.TheVariants as bracket
 use Rattle.promql_token.specs.declared.state.Mode.{Mode}
 use Rattle.promql_token.specs.declared.state.Mode.TheVariants as mode
 use Rattle.promql_token.specs.declared.state.State.{State}
-use Rattle.promql_text.specs.Bytes.{backslash, colon, equal, left_brace, left_bracket, right_brace, right_bracket, right_paren, tilde}
-use Rattle.promql_text.specs.Texts.{Text}
+use Rattle.promql_text.specs.Texts.{Text, code}
 use Rattle.promql_token.specs.Begins.{IsBody, IsNumeral, has_escapes}
 use Rattle.promql_token.specs.Classes.{is_in, is_letter}
 use Rattle.promql_token.specs.TokenScanning.{scan_token}
@@ -34,32 +33,32 @@ NoNumeral u v = (u ≡ []) × ((id : ℕ) (w r : Text) → v ≡ w ++ r → IsNu
 
 -- a string through a backslash
 abbrev pub IsEscaping : ℕ → Text → Type 0
-IsEscaping quote u = (has_escapes quote ≡ true) × (ps : List Text) × (list_all (is_spelling quote) ps ≡ true) × (u ≡ quote ∷ (concat_texts ps ++ backslash ∷ []))
+IsEscaping quote u = (has_escapes quote ≡ true) × (ps : List Text) × (list_all (is_spelling quote) ps ≡ true) × (u ≡ quote ∷ (concat_texts ps ++ code "\\" ∷ []))
 
 -- with this many parentheses open
 abbrev pub IsFault : LexFaultKind → Mode → ℕ → Text → Text → Type 0
 IsFault UnclosedParen mode.Outside (suc depth) u v = (u ≡ []) × (v ≡ [])
-IsFault AfterEqual mode.Outside depth u v = Meets (codes "=") tilde u v
-IsFault AfterBang mode.Outside depth u v = Misses (codes "!") (λ b. b == equal) u v
+IsFault AfterEqual mode.Outside depth u v = Meets (codes "=") (code "~") u v
+IsFault AfterBang mode.Outside depth u v = Misses (codes "!") (λ b. b == code "=") u v
 IsFault BangAtEnd m depth u v = (holds_strings m ≡ true) × (u ≡ codes "!") × (v ≡ [])
 IsFault AfterDot mode.Outside depth u v = Misses (codes ".") is_ascii_digit u v
 IsFault DotAtEnd mode.Outside depth u v = (u ≡ []) × (v ≡ codes ".")
-IsFault RightParen mode.Outside zero u v = Meets [] right_paren u v
-IsFault RightBrace mode.Outside depth u v = Meets [] right_brace u v
-IsFault RightBracket mode.Outside depth u v = Meets [] right_bracket u v
+IsFault RightParen mode.Outside zero u v = Meets [] (code ")") u v
+IsFault RightBrace mode.Outside depth u v = Meets [] (code "}") u v
+IsFault RightBracket mode.Outside depth u v = Meets [] (code "]") u v
 IsFault Character mode.Outside depth u v = Misses [] (λ b. is_in class.Word b || (is_quote b || is_among (codes ".@,*/%+-^{[()}]=!<>") b)) u v
 IsFault Numeral mode.Outside depth u v = (begins_numeral v ≡ true) × NoNumeral u v
 IsFault Numeral (mode.Brackets inside) depth u v = (is_ascii_digit (next v) ≡ true) × NoNumeral u v
 IsFault Escape m depth u v = (holds_strings m ≡ true) × (quote : ℕ) × IsEscaping quote u × (0 < length v) × (is_escape quote (next v) ≡ false)
 IsFault EscapeAtEnd m depth u v = (holds_strings m ≡ true) × (quote : ℕ) × IsEscaping quote u × (v ≡ [])
 IsFault OpenString m depth u v = (holds_strings m ≡ true) × (u ≡ []) × (quote : ℕ) × (body : Text) × IsBody quote body × (v ≡ quote ∷ body)
-IsFault AfterBangInBraces mode.Braces depth u v = Misses (codes "!") (λ b. b == equal || b == tilde) u v
-IsFault BraceInBraces mode.Braces depth u v = Meets [] left_brace u v
+IsFault AfterBangInBraces mode.Braces depth u v = Misses (codes "!") (λ b. b == code "=" || b == code "~") u v
+IsFault BraceInBraces mode.Braces depth u v = Meets [] (code "{") u v
 IsFault InBraces mode.Braces depth u v = Misses [] (λ b. is_letter b || (is_quote b || is_among (codes ",=!{}") b)) u v
 IsFault EndInBraces mode.Braces depth u v = (u ≡ []) × (v ≡ [])
-IsFault SecondColon (mode.Brackets bracket.Colon) depth u v = Meets [] colon u v
-IsFault FirstColon (mode.Brackets bracket.Nothing) depth u v = Meets [] colon u v
-IsFault BracketInBrackets (mode.Brackets inside) depth u v = Meets [] left_bracket u v
+IsFault SecondColon (mode.Brackets bracket.Colon) depth u v = Meets [] (code ":") u v
+IsFault FirstColon (mode.Brackets bracket.Nothing) depth u v = Meets [] (code ":") u v
+IsFault BracketInBrackets (mode.Brackets inside) depth u v = Meets [] (code "[") u v
 IsFault InBrackets (mode.Brackets inside) depth u v = Misses [] (λ b. is_ascii_digit b || is_among (codes ":[]") b) u v
 IsFault EndInBrackets (mode.Brackets inside) depth u v = (u ≡ []) × (v ≡ [])
 IsFault kind m depth u v = ⊥

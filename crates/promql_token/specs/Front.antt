@@ -4,13 +4,12 @@ use Rattle.std.specs.Char.{is_ascii_whitespace}
 use Rattle.promql_token.specs.declared.cursor.Cursor as code
 use Rattle.promql_token.specs.declared.ids.TheConstants.{T_EOF}
 use Rattle.promql_token.specs.declared.state.State.{State}
-use Rattle.promql_text.specs.Bytes.{hash}
-use Rattle.promql_text.specs.Texts.{Text}
+use Rattle.promql_text.specs.Texts.{Text, code}
 use Rattle.promql_token.specs.Lexing.{ScannedText, pieces}
 use Rattle.promql_token.specs.TokenScanning.{after, scan_token, trivia_len}
 
 abbrev pub begins_trivia : ℕ → Bool
-begins_trivia b = is_ascii_whitespace b || b == hash
+begins_trivia b = is_ascii_whitespace b || b == code "#"
 
 -- with no trivia before it
 pub record IsFront (state : State) (z : Text) (id len : ℕ) : Type 0 where

@@ -6,8 +6,7 @@ use Rattle.promql_token.specs.declared.lexeme.Lexeme.{Lexeme}
 use Rattle.promql_token.specs.declared.state.Mode.{Mode}
 use Rattle.promql_token.specs.declared.state.Mode.TheVariants as mode
 use Rattle.promql_token.specs.declared.state.State.{State}
-use Rattle.promql_text.specs.Bytes.{point, colon, less, equal, greater, tilde}
-use Rattle.promql_text.specs.Texts.{Text}
+use Rattle.promql_text.specs.Texts.{Text, code}
 use Rattle.promql_token.specs.Classes.{is_in, is_label, is_letter}
 use Rattle.promql_token.specs.Lexing.{pieces, start, lex, tokens, slice_texts}
 use Rattle.promql_token.specs.TokenScanning.{trivia_from, scan_token, after}
@@ -39,21 +38,21 @@ Lexes = (s : Text) (ts : List (ℕ × Text)) → pieces start s ≡ map (λ t. O
 abbrev pub stops_numeral : Text → Text → Bool
 stops_numeral w r =
     let c = slice_index r 0 in
-    not (is_in class.Name c) && not (c == point) && not (is_sign c && is_exponent (slice_index w (length w - 1)))
+    not (is_in class.Name c) && not (c == code ".") && not (is_sign c && is_exponent (slice_index w (length w - 1)))
 
 -- nor with a punctuator that may be longer
 abbrev pub stops_punctuator : Text → Text → Bool
 stops_punctuator w r =
     let b = slice_index w 0 in
     let c = slice_index r 0 in
-    not (length w == 1 && (b == equal || b == less || b == greater) && (c == equal || c == tilde))
+    not (length w == 1 && (b == code "=" || b == code "<" || b == code ">") && (c == code "=" || c == code "~"))
 
 -- nor with any token w outside; a fill word stays what it is
 abbrev pub parts_outside : Text → Text → Bool
 parts_outside w r =
     let b = slice_index w 0 in
     if begins_numeral w then stops_numeral w r
-    else (if is_letter b || b == colon then not (is_in class.Word (slice_index r 0)) && word_id w r == word_id w []
+    else (if is_letter b || b == code ":" then not (is_in class.Word (slice_index r 0)) && word_id w r == word_id w []
     else (if is_quote b then true else stops_punctuator w r))
 
 -- nor in braces; `or` stays what it is

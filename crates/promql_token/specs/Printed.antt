@@ -5,8 +5,7 @@ use Rattle.promql_token.specs.declared.ids.TheConstants.{T_DURATION, T_NUMBER, T
 use Rattle.promql_token.specs.declared.state.Mode.{Mode}
 use Rattle.promql_token.specs.declared.state.Mode.TheVariants as mode
 use Rattle.promql_token.specs.declared.state.State.{State}
-use Rattle.promql_text.specs.Bytes.{backtick, point}
-use Rattle.promql_text.specs.Texts.{Text}
+use Rattle.promql_text.specs.Texts.{Text, code}
 use Rattle.promql_token.specs.Laws.{stops_numeral}
 use Rattle.promql_token.specs.Lexing.{pieces}
 use Rattle.promql_token.specs.TokenScanning.{is_quote, after}
@@ -19,7 +18,7 @@ quote_parts quote ps = quote ∷ (concat_texts ps ++ quote ∷ [])
 
 -- a string of such spellings is a token before any text
 abbrev pub JoinsString : Type 0
-JoinsString = (state : State) (quote : ℕ) (ps : List Text) (r : Text) → holds_strings state.mode ≡ true → is_quote quote ≡ true → (quote == backtick) ≡ false
+JoinsString = (state : State) (quote : ℕ) (ps : List Text) (r : Text) → holds_strings state.mode ≡ true → is_quote quote ≡ true → (quote == code "`") ≡ false
     → list_all (is_spelling quote) ps ≡ true → pieces state (quote_parts quote ps ++ r) ≡ Ok (T_STRING, quote_parts quote ps) ∷ pieces (after state T_STRING) r
 
 -- ---- numbers
@@ -33,7 +32,7 @@ holds_numerals (mode.Brackets inside) = true
 -- digits, and a point with digits where there are some
 abbrev pub decimal : Text → Text → Text
 decimal whole [] = whole
-decimal whole (b ∷ fraction) = whole ++ point ∷ b ∷ fraction
+decimal whole (b ∷ fraction) = whole ++ code "." ∷ b ∷ fraction
 
 -- a decimal number without exponent is a token
 abbrev pub JoinsNumber : Type 0

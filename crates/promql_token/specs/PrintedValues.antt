@@ -1,11 +1,10 @@
 -- Values that printers write, before what follows them: the statements of lemmas. Private: nothing rests on believing it.
 use Rattle.std.specs.Prelude.{◌≡◌, ℕ, ◌*◌, ◌^◌, ◌%◌, ◌<◌, true, false, ◌==◌, if◌then◌else◌, ◌∷◌, ◌++◌, slice_index, Ok}
-use Rattle.promql_text.specs.Bytes.{colon}
 use Rattle.promql_text.specs.Durations.{nanos_of}
 use Rattle.promql_text.specs.DurationText.{duration_text}
 use Rattle.promql_text.specs.NumberText.{number_text}
 use Rattle.promql_text.specs.Quoting.{quoted_text}
-use Rattle.promql_text.specs.Texts.{Text}
+use Rattle.promql_text.specs.Texts.{Text, code}
 use Rattle.promql_text.specs.Values.{IsNumber, is_below_zero}
 use Rattle.promql_text.specs.declared.duration.Unit.TheVariants.{Milli}
 use Rattle.promql_text.specs.declared.number.Number.{Number}
@@ -23,7 +22,7 @@ JoinsQuoted = (state : State) (s r : Text) → holds_strings state.mode ≡ true
 
 -- the text of a number that is not below zero is a number, where it is outside and nothing goes on with it
 abbrev pub JoinsNumberText : Type 0
-JoinsNumberText = (depth : ℕ) (v : Number) (r : Text) → IsNumber v → is_below_zero v ≡ false → stops_numeral (number_text v) r ≡ true → (slice_index r 0 == colon) ≡ false
+JoinsNumberText = (depth : ℕ) (v : Number) (r : Text) → IsNumber v → is_below_zero v ≡ false → stops_numeral (number_text v) r ≡ true → (slice_index r 0 == code ":") ≡ false
     → let state : State = record { depth = depth; mode = mode.Outside } in pieces state (number_text v ++ r) ≡ Ok (T_NUMBER, number_text v) ∷ pieces state r
 
 -- whole milliseconds print as a duration, all others as a number

@@ -11,8 +11,7 @@ use Rattle.promql_token.specs.declared.state.Bracket.TheVariants as bracket
 use Rattle.promql_token.specs.declared.state.Mode.{Mode}
 use Rattle.promql_token.specs.declared.state.Mode.TheVariants as mode
 use Rattle.promql_token.specs.declared.state.State.{State}
-use Rattle.promql_text.specs.Bytes.{bang, hash, percent, left_paren, right_paren, star, plus, comma, minus, point, slash, digit_zero, colon, less, equal, greater, at_sign, left_bracket, backslash, right_bracket, caret, backtick, left_brace, right_brace, tilde}
-use Rattle.promql_text.specs.Texts.{Text}
+use Rattle.promql_text.specs.Texts.{Text, code}
 use Rattle.promql_token.specs.Classes.{is_letter, end_of_run}
 unfoldable pub use Rattle.promql_token.specs.States.{after_trivia, mode_after_something}
 pub use Rattle.promql_token.specs.Vocabulary.{begins_numeral, braces_id, is_escape, is_fill, is_line_end, is_quote, is_unit, name_id, opens, word_id}
@@ -23,7 +22,7 @@ pub use Rattle.promql_token.specs.Vocabulary.{begins_numeral, braces_id, is_esca
 abbrev pub trivia_from : Bool → Text → ℕ
 trivia_from in_comment [] = 0
 trivia_from true (b ∷ z) = suc (trivia_from (not (is_line_end b)) z)
-trivia_from false (b ∷ z) = if b == hash then suc (trivia_from true z) else (if is_ascii_whitespace b then suc (trivia_from false z) else 0)
+trivia_from false (b ∷ z) = if b == code "#" then suc (trivia_from true z) else (if is_ascii_whitespace b then suc (trivia_from false z) else 0)
 
 -- in brackets there are no comments
 abbrev pub trivia_in : Mode → Text → ℕ
@@ -50,7 +49,7 @@ word_in_braces z = let len = end_of_run class.Name z 0 in Ok (braces_id (take le
 -- ---- numerals
 
 abbrev pub is_hex : Text → Bool
-is_hex z = slice_index z 0 == digit_zero && (slice_index z 1 == 120 || slice_index z 1 == 88)
+is_hex z = slice_index z 0 == code "0" && (slice_index z 1 == 120 || slice_index z 1 == 88)
 
 -- the class of a numeral's digits
 abbrev pub digits : Text → Class
@@ -60,10 +59,10 @@ abbrev pub past_whole : Text → ℕ
 past_whole z = end_of_run (digits z) z (if is_hex z then 2 else 0)
 
 abbrev pub past_point : Class → Text → ℕ → ℕ
-past_point c z at = if slice_index z at == point then end_of_run c z (at + 1) else at
+past_point c z at = if slice_index z at == code "." then end_of_run c z (at + 1) else at
 
 abbrev pub past_sign : Text → ℕ → ℕ
-past_sign z at = if slice_index z at == plus || slice_index z at == minus then at + 1 else at
+past_sign z at = if slice_index z at == code "+" || slice_index z at == code "-" then at + 1 else at
 
 abbrev pub past_exponent : Text → ℕ → ℕ
 past_exponent z at = if slice_index z at == 101 || slice_index z at == 69 then end_of_run class.Digit z (past_sign z (at + 1)) else at
@@ -98,7 +97,7 @@ unfoldable pub numeral : Text → Scanned
 numeral z =
     let end = number_end z in
     let run = end_of_run class.Name z end in
-    if run == end && not (slice_index z end == point) then Ok (T_NUMBER, end)
+    if run == end && not (slice_index z end == code ".") then Ok (T_NUMBER, end)
     else (if units (take (run - end) (drop end z)) then Ok (T_DURATION, run) else Err (Numeral, 0))
 
 -- ---- strings
@@ -109,7 +108,7 @@ string_from quote true at [] = Err (EscapeAtEnd, at)
 string_from quote false at [] = Err (OpenString, 0)
 string_from quote true at (b ∷ z) = if is_escape quote b then string_from quote false (at + 1) z else Err (Escape, at)
 string_from quote false at (b ∷ z) =
-    if b == quote then Ok (T_STRING, at + 1) else string_from quote (b == backslash && not (quote == backtick)) (at + 1) z
+    if b == quote then Ok (T_STRING, at + 1) else string_from quote (b == code "\\" && not (quote == code "`")) (at + 1) z
 
 unfoldable pub string : Text → Scanned
 string z = string_from (slice_index z 0) false 1 (drop 1 z)
@@ -118,14 +117,14 @@ string z = string_from (slice_index z 0) false 1 (drop 1 z)
 
 -- `=`, by the byte after it
 abbrev pub equal_token : ℕ → Scanned
-equal_token next = if next == equal then Ok (T_EQLC, 2) else (if next == tilde then Err (AfterEqual, 1) else Ok (T_EQL, 1))
+equal_token next = if next == code "=" then Ok (T_EQLC, 2) else (if next == code "~" then Err (AfterEqual, 1) else Ok (T_EQL, 1))
 
 -- `short` alone, or `long` with a `=` after it
 abbrev pub or_equal : ℕ → ℕ → ℕ → Scanned
-or_equal next long short = if next == equal then Ok (long, 2) else Ok (short, 1)
+or_equal next long short = if next == code "=" then Ok (long, 2) else Ok (short, 1)
 
 abbrev pub bang_token : Text → Scanned
-bang_token z = if length z == 1 then Err (BangAtEnd, 1) else (if slice_index z 1 == equal then Ok (T_NEQ, 2) else Err (AfterBang, 1))
+bang_token z = if length z == 1 then Err (BangAtEnd, 1) else (if slice_index z 1 == code "=" then Ok (T_NEQ, 2) else Err (AfterBang, 1))
 
 abbrev pub dot_token : Text → Scanned
 dot_token z = if length z == 1 then Err (DotAtEnd, 0) else Err (AfterDot, 1)
@@ -133,38 +132,38 @@ dot_token z = if length z == 1 then Err (DotAtEnd, 0) else Err (AfterDot, 1)
 -- the punctuators of one byte; `)` needs an open parenthesis
 abbrev pub single : ℕ → ℕ → Scanned
 single depth b =
-    if b == at_sign then Ok (T_AT, 1)
-    else (if b == comma then Ok (T_COMMA, 1)
-    else (if b == star then Ok (T_MUL, 1)
-    else (if b == slash then Ok (T_DIV, 1)
-    else (if b == percent then Ok (T_MOD, 1)
-    else (if b == plus then Ok (T_ADD, 1)
-    else (if b == minus then Ok (T_SUB, 1)
-    else (if b == caret then Ok (T_POW, 1)
-    else (if b == left_brace then Ok (T_LEFT_BRACE, 1)
-    else (if b == left_bracket then Ok (T_LEFT_BRACKET, 1)
-    else (if b == left_paren then Ok (T_LEFT_PAREN, 1)
-    else (if b == right_paren then (if depth == 0 then Err (RightParen, 0) else Ok (T_RIGHT_PAREN, 1))
-    else (if b == right_brace then Err (RightBrace, 0)
-    else (if b == right_bracket then Err (RightBracket, 0)
+    if b == code "@" then Ok (T_AT, 1)
+    else (if b == code "," then Ok (T_COMMA, 1)
+    else (if b == code "*" then Ok (T_MUL, 1)
+    else (if b == code "/" then Ok (T_DIV, 1)
+    else (if b == code "%" then Ok (T_MOD, 1)
+    else (if b == code "+" then Ok (T_ADD, 1)
+    else (if b == code "-" then Ok (T_SUB, 1)
+    else (if b == code "^" then Ok (T_POW, 1)
+    else (if b == code "{" then Ok (T_LEFT_BRACE, 1)
+    else (if b == code "[" then Ok (T_LEFT_BRACKET, 1)
+    else (if b == code "(" then Ok (T_LEFT_PAREN, 1)
+    else (if b == code ")" then (if depth == 0 then Err (RightParen, 0) else Ok (T_RIGHT_PAREN, 1))
+    else (if b == code "}" then Err (RightBrace, 0)
+    else (if b == code "]" then Err (RightBracket, 0)
     else Err (Character, 0))))))))))))))
 
 unfoldable pub punctuator : ℕ → Text → Scanned
 punctuator depth z =
     let b = slice_index z 0 in
     let next = slice_index z 1 in
-    if b == point then dot_token z
-    else (if b == equal then equal_token next
-    else (if b == less then or_equal next T_LTE T_LSS
-    else (if b == greater then or_equal next T_GTE T_GTR
-    else (if b == bang then bang_token z
+    if b == code "." then dot_token z
+    else (if b == code "=" then equal_token next
+    else (if b == code "<" then or_equal next T_LTE T_LSS
+    else (if b == code ">" then or_equal next T_GTE T_GTR
+    else (if b == code "!" then bang_token z
     else single depth b))))
 
 unfoldable pub outside : ℕ → Text → Scanned
 outside depth z =
     let b = slice_index z 0 in
     if begins_numeral z then numeral z
-    else (if is_letter b || b == colon then word z
+    else (if is_letter b || b == code ":" then word z
     else (if is_quote b then string z else punctuator depth z))
 
 -- ---- in braces
@@ -172,18 +171,18 @@ outside depth z =
 abbrev pub bang_in_braces : Text → Scanned
 bang_in_braces z =
     if length z == 1 then Err (BangAtEnd, 1)
-    else (if slice_index z 1 == tilde then Ok (T_NEQ_REGEX, 2)
-    else (if slice_index z 1 == equal then Ok (T_NEQ, 2)
+    else (if slice_index z 1 == code "~" then Ok (T_NEQ_REGEX, 2)
+    else (if slice_index z 1 == code "=" then Ok (T_NEQ, 2)
     else Err (AfterBangInBraces, 1)))
 
 unfoldable pub in_braces : Text → Scanned
 in_braces z =
     let b = slice_index z 0 in
-    if b == comma then Ok (T_COMMA, 1)
-    else (if b == equal then (if slice_index z 1 == tilde then Ok (T_EQL_REGEX, 2) else Ok (T_EQL, 1))
-    else (if b == bang then bang_in_braces z
-    else (if b == left_brace then Err (BraceInBraces, 0)
-    else (if b == right_brace then Ok (T_RIGHT_BRACE, 1)
+    if b == code "," then Ok (T_COMMA, 1)
+    else (if b == code "=" then (if slice_index z 1 == code "~" then Ok (T_EQL_REGEX, 2) else Ok (T_EQL, 1))
+    else (if b == code "!" then bang_in_braces z
+    else (if b == code "{" then Err (BraceInBraces, 0)
+    else (if b == code "}" then Ok (T_RIGHT_BRACE, 1)
     else (if is_letter b then word_in_braces z
     else (if is_quote b then string z else Err (InBraces, 0)))))))
 
@@ -198,9 +197,9 @@ colon_token bracket.Colon = Err (SecondColon, 0)
 unfoldable pub in_brackets : Bracket → Text → Scanned
 in_brackets inside z =
     let b = slice_index z 0 in
-    if b == colon then colon_token inside
-    else (if b == right_bracket then Ok (T_RIGHT_BRACKET, 1)
-    else (if b == left_bracket then Err (BracketInBrackets, 0)
+    if b == code ":" then colon_token inside
+    else (if b == code "]" then Ok (T_RIGHT_BRACKET, 1)
+    else (if b == code "[" then Err (BracketInBrackets, 0)
     else (if is_ascii_digit b then numeral z else Err (InBrackets, 0))))
 
 -- ---- a place with no trivia

@@ -3,8 +3,7 @@ use Rattle.std.specs.Prelude.{◌≡◌, ◌⊎◌, ℕ, Bool, true, false, ◌|
 use Rattle.std.specs.List.{list_any}
 use Rattle.promql_token.specs.declared.class.Class.TheVariants as class
 use Rattle.promql_token.specs.declared.ids.TheConstants.{T_ADD, T_AT, T_COLON, T_COMMA, T_DIV, T_DURATION, T_EOF, T_EQL, T_EQLC, T_GTE, T_GTR, T_LEFT_BRACE, T_LEFT_BRACKET, T_LEFT_PAREN, T_LSS, T_LTE, T_MOD, T_MUL, T_NEQ, T_NUMBER, T_POW, T_RIGHT_BRACE, T_RIGHT_BRACKET, T_RIGHT_PAREN, T_STRING, T_SUB}
-use Rattle.promql_text.specs.Bytes.{point}
-use Rattle.promql_text.specs.Texts.{Text}
+use Rattle.promql_text.specs.Texts.{Text, code}
 use Rattle.promql_token.specs.Classes.{is_in}
 use Rattle.promql_token.specs.Laws.{is_word}
 use Rattle.promql_token.specs.Lexing.{tokens}
@@ -25,7 +24,7 @@ IsWordToken t = (is_word t.1 ≡ true) × ((rest : Text) × (t.0 ≡ word_id t.1
 
 -- a letter, a digit, `_`, `:` or a point comes first, so no sign
 abbrev pub begins_unsigned : Text → Bool
-begins_unsigned w = is_in class.Word (slice_index w 0) || slice_index w 0 == point
+begins_unsigned w = is_in class.Word (slice_index w 0) || slice_index w 0 == code "."
 
 -- a token outside braces
 pub record IsSpelled (t : ℕ × Text) : Type 0 where

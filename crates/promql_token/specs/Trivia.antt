@@ -7,8 +7,7 @@ use Rattle.promql_token.specs.declared.fault.LexFault.{LexFault}
 use Rattle.promql_token.specs.declared.lexeme.Lexeme.{Lexeme}
 use Rattle.promql_token.specs.declared.state.Mode.{Mode}
 use Rattle.promql_token.specs.declared.state.Mode.TheVariants as mode
-use Rattle.promql_text.specs.Bytes.{hash}
-use Rattle.promql_text.specs.Texts.{Text}
+use Rattle.promql_text.specs.Texts.{Text, code}
 use Rattle.promql_token.specs.States.{mode_at}
 use Rattle.promql_token.specs.Lexing.{items}
 use Rattle.promql_token.specs.Vocabulary.{is_line_end, concat_texts, next}
@@ -20,7 +19,7 @@ is_line w = list_all (λ b. not (is_line_end b)) w
 
 -- `#`, and what follows through the first line end, or to the end of the text
 abbrev pub IsComment : Text → Text → Type 0
-IsComment c r = (line : Text) × (is_line line ≡ true) × (((e : ℕ) × (is_line_end e ≡ true) × (c ≡ hash ∷ (line ++ e ∷ []))) ⊎ ((c ≡ hash ∷ line) × (r ≡ [])))
+IsComment c r = (line : Text) × (is_line line ≡ true) × (((e : ℕ) × (is_line_end e ≡ true) × (c ≡ code "#" ∷ (line ++ e ∷ []))) ⊎ ((c ≡ code "#" ∷ line) × (r ≡ [])))
 
 -- white space and comments in a row, before the text r
 abbrev pub AreBlank : List Text → Text → Type 0
@@ -30,7 +29,7 @@ AreBlank (p ∷ ps) r = ((list_all is_ascii_whitespace p ≡ true) ⊎ IsComment
 -- a trivia before the text r, as long as it can be; in brackets there are no comments
 abbrev pub IsTriviaIn : Mode → Text → Text → Type 0
 IsTriviaIn (mode.Brackets inside) g r = (list_all is_ascii_whitespace g ≡ true) × (is_ascii_whitespace (next r) ≡ false)
-IsTriviaIn m g r = (ps : List Text) × (g ≡ concat_texts ps) × AreBlank ps r × (is_ascii_whitespace (next r) ≡ false) × ((next r == hash) ≡ false)
+IsTriviaIn m g r = (ps : List Text) × (g ≡ concat_texts ps) × AreBlank ps r × (is_ascii_whitespace (next r) ≡ false) × ((next r == code "#") ≡ false)
 
 -- ---- spans
 

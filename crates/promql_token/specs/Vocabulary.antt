@@ -8,8 +8,7 @@ use Rattle.promql_token.specs.declared.class.Class.TheVariants as class
 use Rattle.promql_token.specs.declared.ids.TheConstants.{T_FILL, T_FILL_LEFT, T_FILL_RIGHT, T_IDENTIFIER, T_LOR, T_METRIC_IDENTIFIER}
 use Rattle.promql_token.specs.declared.state.Mode.{Mode}
 use Rattle.promql_token.specs.declared.state.Mode.TheVariants as mode
-use Rattle.promql_text.specs.Bytes.{backslash, backtick, carriage_return, colon, double_quote, left_paren, line_feed, minus, plus, point, single_quote, space}
-use Rattle.promql_text.specs.Texts.{Text}
+use Rattle.promql_text.specs.Texts.{Text, code}
 use Rattle.promql_token.specs.Classes.{is_letter, end_of_run}
 use Rattle.promql_token.specs.Ids.{keyword_in_any_case}
 
@@ -18,24 +17,24 @@ abbrev pub next : Text → ℕ
 next r = slice_index r 0
 
 abbrev pub is_line_end : ℕ → Bool
-is_line_end b = b == line_feed || b == carriage_return
+is_line_end b = b == code "\n" || b == code "\r"
 
 -- ---- words
 
 -- a letter, `_` or `:`, then letters, digits, `_` and `:`
 abbrev pub is_word : Text → Bool
-is_word w = (is_letter (slice_index w 0) || slice_index w 0 == colon) && end_of_run class.Word w 0 == length w
+is_word w = (is_letter (slice_index w 0) || slice_index w 0 == code ":") && end_of_run class.Word w 0 == length w
 
 abbrev pub is_fill : ℕ → Bool
 is_fill id = id == T_FILL || id == T_FILL_LEFT || id == T_FILL_RIGHT
 
 -- whether `(` is the first byte past white space
 abbrev pub opens : Text → Bool
-opens z = slice_index z (end_of_run class.White z 0) == left_paren
+opens z = slice_index z (end_of_run class.White z 0) == code "("
 
 -- of a word that is no keyword
 abbrev pub name_id : Text → ℕ
-name_id w = if list_any (λ b. b == colon) w then T_METRIC_IDENTIFIER else T_IDENTIFIER
+name_id w = if list_any (λ b. b == code ":") w then T_METRIC_IDENTIFIER else T_IDENTIFIER
 
 -- of a word and the text after it; the fill words are keywords only before a parenthesis
 abbrev pub word_id : Text → Text → ℕ
@@ -43,15 +42,15 @@ word_id w rest = let id = unwrap_or (keyword_in_any_case w) (name_id w) in if is
 
 -- the same in braces: `or` before a plain space is the operator, and all other words are names
 abbrev pub braces_id : Text → Text → ℕ
-braces_id w rest = if str_eq_ignore_ascii_case w (codes "or") && slice_index rest 0 == space then T_LOR else T_IDENTIFIER
+braces_id w rest = if str_eq_ignore_ascii_case w (codes "or") && slice_index rest 0 == code " " then T_LOR else T_IDENTIFIER
 
 -- ---- numerals
 
 abbrev pub begins_numeral : Text → Bool
-begins_numeral z = is_ascii_digit (slice_index z 0) || (slice_index z 0 == point && is_ascii_digit (slice_index z 1))
+begins_numeral z = is_ascii_digit (slice_index z 0) || (slice_index z 0 == code "." && is_ascii_digit (slice_index z 1))
 
 abbrev pub is_sign : ℕ → Bool
-is_sign b = b == plus || b == minus
+is_sign b = b == code "+" || b == code "-"
 
 abbrev pub is_exponent : ℕ → Bool
 is_exponent b = b == 101 || b == 69
@@ -81,16 +80,16 @@ holds_strings mode.Braces = true
 holds_strings (mode.Brackets inside) = false
 
 abbrev pub is_quote : ℕ → Bool
-is_quote b = b == double_quote || b == single_quote || b == backtick
+is_quote b = b == code "\"" || b == code "'" || b == code "`"
 
 -- what may follow a backslash between these quotes
 abbrev pub is_escape : ℕ → ℕ → Bool
-is_escape quote b = b == quote || b == backslash || list_any (λ k. b == k) (codes "abfnrtv01234567xuU")
+is_escape quote b = b == quote || b == code "\\" || list_any (λ k. b == k) (codes "abfnrtv01234567xuU")
 
 -- between these quotes: bytes that are neither the quote nor a backslash, or an escape's first two
 abbrev pub is_spelling : ℕ → Text → Bool
 is_spelling quote p =
-    list_all (λ b. not (b == quote) && not (b == backslash)) p || (length p == 2 && slice_index p 0 == backslash && is_escape quote (slice_index p 1))
+    list_all (λ b. not (b == quote) && not (b == code "\\")) p || (length p == 2 && slice_index p 0 == code "\\" && is_escape quote (slice_index p 1))
 
 abbrev pub concat_texts : List Text → Text
 concat_texts [] = []

@@ -1,7 +1,7 @@
 //! Numbers and durations.
 
 ghost use Rattle.std.specs.Prelude.{◌≡◌, ◌==◌, ◌≤◌, ◌||◌, true, length};
-ghost use Rattle.promql_text.specs.Bytes.{point};
+ghost use Rattle.promql_text.specs.Texts.{code};
 ghost use Rattle.promql_token.specs.Vocabulary.{is_exponent};
 ghost use Rattle.promql_token.specs.TokenScanning as spec;
 
@@ -86,7 +86,7 @@ fn number_end_in_parts(z: &[u8]) -> usize
 
 // Whether a number may go on with the byte after digits: a point, an exponent's `e`, or the `x` of `0x`.
 fn may_go_on(b: u8) -> bool
-    ensures { result ≡ (b == point || (is_exponent b || (b == 120 || b == 88))) }
+    ensures { result ≡ (b == code "." || (is_exponent b || (b == 120 || b == 88))) }
 {
     matches!(b, b'.' | b'e' | b'E' | b'x' | b'X')
 }

@@ -2,7 +2,7 @@
 
 ghost use Rattle.std.specs.Prelude.{◌≡◌, ◌==◌, ◌≤◌, false, length, true};
 ghost use Rattle.std.specs.Char.{is_ascii_whitespace};
-ghost use Rattle.promql_text.specs.Bytes.{hash};
+ghost use Rattle.promql_text.specs.Texts.{code};
 ghost use Rattle.promql_token.specs.TokenScanning as spec;
 
 use crate::class::{Class, byte, end_of_run};
@@ -10,7 +10,7 @@ use crate::state::Mode;
 
 // Whether trivia ends before the byte, by its value alone: it is neither white space, nor `#`, nor past the end.
 fn ends_trivia(b: u8) -> bool
-    ensures { result ≡ true → (is_ascii_whitespace b ≡ false) × ((b == hash) ≡ false) }
+    ensures { result ≡ true → (is_ascii_whitespace b ≡ false) × ((b == code "#") ≡ false) }
 {
     b > b' ' && b != b'#'
 }

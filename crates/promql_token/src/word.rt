@@ -2,7 +2,7 @@
 
 ghost use Rattle.std.specs.Prelude.{◌≡◌, ◌==◌, ◌≤◌, false, length};
 ghost use Rattle.std.specs.List.{list_any};
-ghost use Rattle.promql_text.specs.Bytes.{colon};
+ghost use Rattle.promql_text.specs.Texts.{code};
 ghost use Rattle.promql_token.specs.Classes.{end_of_run};
 ghost use Rattle.promql_token.specs.TokenScanning as spec;
 ghost use Rattle.promql_token.specs.declared.class.Class.TheVariants.{Name};
@@ -26,7 +26,7 @@ fn opens(z: &[u8]) -> bool
 
 // The id of a word without a colon. The fill words are keywords only before a parenthesis.
 fn word_id(name: &[u8], rest: &[u8]) -> TokenId
-    requires { list_any (λ b. b == colon) name.now ≡ false }
+    requires { list_any (λ b. b == code ":") name.now ≡ false }
     ensures { result ≡ spec.word_id name.now rest.now }
 {
     match keyword_in_any_case(name) {

@@ -1,7 +1,7 @@
 use Rattle.std.proofs.Common.{◌≡◌, ◌-◌, ◌∙◌, IfOk, ap, drop, length, string_bytes, subst}
 use Rattle.std.specs.Prelude.{encode_utf8_all}
 use Rattle.std.specs.Str.{chars}
-use Rattle.promql_text.specs.Bytes.{carriage_return, line_feed}
+use Rattle.promql_text.specs.Texts.{code}
 use Rattle.promql_span.specs.Locations.{characters_before, last_line}
 use Rattle.promql_span.specs.Snippets.{snippet_of, snippet_text, up_to}
 use Rattle.promql_span.proofs.LineParts.{chars_after}
@@ -15,7 +15,7 @@ returns c =
     let before : chars front.result.now ≡ characters_before cs c.args.span.start = front.ensures.value in
     let rest = chars_after s front.result.now c.range_from-rest.result.now front.ensures.front c.range_from-rest.ensures.value front.utf8 ∙ ap (λ l. drop (length l) cs) before in
     let left = c.after_line_feed.ensures ∙ ap last_line before in
-    let right = c.up_to-2.ensures ∙ ap (up_to carriage_return) (c.up_to.ensures ∙ ap (up_to line_feed) rest) in
+    let right = c.up_to-2.ensures ∙ ap (up_to (code "\r")) (c.up_to.ensures ∙ ap (up_to (code "\n")) rest) in
     let through = c.char_count.ensures ∙ ap length c.text_before.ensures.value in
     let skipped = c.char_count-2.ensures ∙ ap length before in
     let marked = c.saturating_sub-marked.ensures ∙ (λ i. through i - skipped i) in
