@@ -15,8 +15,8 @@ use Rattle.promql_span.specs.declared.limits.LimitFault.TheVariants.{Memory, Too
 use Rattle.promql_span.specs.declared.limits.Limits.{Limits}
 use Rattle.promql_span.specs.declared.span.Span.{Span}
 use Rattle.promql_syntax.specs.ParseAnswers.{IsAnswerTo, plain_error_of}
-use Rattle.promql_syntax.specs.declared.parser.ParseError.TheVariants.{Syntax}
-use Rattle.promql_report.specs.declared.rejection.TheConstants.{MAX_EXPECTED_PATTERN_SIZE, PLAIN_SYNTAX_ERROR}
+use Rattle.promql_syntax.specs.declared.parser.ParseError.TheVariants.{Syntax, TooDeep}
+use Rattle.promql_report.specs.declared.rejection.TheConstants.{MAX_EXPECTED_PATTERN_SIZE, PLAIN_SYNTAX_ERROR, TOO_MANY_LEVELS}
 use Rattle.promql_report.specs.declared.rejection.Reason.{Reason}
 use Rattle.promql_report.specs.declared.rejection.Reason.TheVariants.{Limit, Parse}
 use Rattle.promql_report.specs.declared.rejection.Rejection.{Rejection}
@@ -51,10 +51,16 @@ abbrev pub IsTold : Text → Rejection → Option Unexpected → Type 0
 IsTold query r (Some u) = TellsExpected query r.reason × IsUnexpected query r.span.start u
 IsTold query r None = ¬ TellsExpected query r.reason
 
--- the message for people: that, or the plain one where a syntax error does not tell it; others are those of their reasons
+-- the message for people without that; others are those of their reasons
+abbrev pub IsPlainMessage : Reason → Text → Type 0
+IsPlainMessage (Parse Syntax) message = message ≡ PLAIN_SYNTAX_ERROR.now
+IsPlainMessage (Parse TooDeep) message = message ≡ TOO_MANY_LEVELS.now
+IsPlainMessage _ message = Unit {0}
+
+-- the message for people: what was expected where that is told, else the plain one
 abbrev pub IsMessage : Text → Rejection → Text → Type 0
 IsMessage query r message =
-    (told : Option Unexpected) × IsTold query r told × MatchOption told (r.reason ≡ Parse Syntax → message ≡ PLAIN_SYNTAX_ERROR.now) (λ u. message ≡ unexpected_text u)
+    (told : Option Unexpected) × IsTold query r told × MatchOption told (IsPlainMessage r.reason message) (λ u. message ≡ unexpected_text u)
 
 -- the query is within its limits, and has this tree
 abbrev pub IsRead : Limits → Text → Tree → Type 0

@@ -6,7 +6,7 @@ ghost use Rattle.promql_span.specs.Locations.{location_of};
 ghost use Rattle.promql_span.specs.QueryLimits.{patterns_size};
 ghost use Rattle.promql_syntax.specs.declared.parser.ParseError.TheVariants as parse_errors;
 ghost use Rattle.promql_report.specs.declared.rejection.Reason.TheVariants as reasons;
-ghost use Rattle.promql_report.specs.Rejecting.{IsMessage, IsReadAs, IsTold, limit_place, reason_number};
+ghost use Rattle.promql_report.specs.Rejecting.{IsMessage, IsPlainMessage, IsReadAs, IsTold, limit_place, reason_number};
 
 use promql_ast::Expr;
 use promql_span::diagnosis::{Diagnosis, diagnose};
@@ -46,14 +46,18 @@ impl Reason {
         matches!(self, Reason::Parse(ParseError::Syntax))
     }
 
-    /// The message without what was expected.
+    /// The message for people without what was expected: of more than 512 levels it says what to do about them.
+    ///
+    /// # Errors
+    ///
+    /// `AllocError` where an allocation failed.
     pub fn plain_message(&self, alloc: Global) -> Result<String, AllocError>
-        ensures { self.now ≡ reasons.Parse parse_errors.Syntax → IfOk result (λ s. string_bytes s ≡ PLAIN_SYNTAX_ERROR.now) }
+        ensures { IfOk result (λ s. IsPlainMessage self.now (string_bytes s)) }
     {
-        if self.is_syntax() {
-            String::from_str(alloc, PLAIN_SYNTAX_ERROR)
-        } else {
-            self.to_string(alloc)
+        match self {
+            Reason::Parse(ParseError::Syntax) => String::from_str(alloc, PLAIN_SYNTAX_ERROR),
+            Reason::Parse(ParseError::TooDeep) => String::from_str(alloc, TOO_MANY_LEVELS),
+            _ => self.to_string(alloc),
         }
     }
 }
@@ -75,6 +79,10 @@ pub const MAX_EXPECTED_PATTERN_SIZE: usize = 640;
 
 /// The message of a syntax error where it does not tell what was expected.
 pub const PLAIN_SYNTAX_ERROR: &str = "invalid promql query";
+
+/// The message for people of a query that is nested too deeply.
+pub const TOO_MANY_LEVELS: &str =
+    "more than 512 levels: put parts of a long chain in parentheses, or split the query";
 
 impl Rejection {
     /// What was found and what was expected at a syntax error (docs/reference/grammar.md, "What is expected"); `None` of any other
