@@ -1,5 +1,5 @@
 -- What is left of a text's tokens. Private: nothing rests on believing it.
-use Rattle.std.specs.Prelude.{◌≡◌, ℕ, ◌+◌, ◌<◌, ◌^◌, Bool, List, [], ◌∷◌, ◌++◌, length, map, if◌then◌else◌, Option, None, Some}
+use Rattle.std.specs.Prelude.{◌≡◌, ℕ, ◌+◌, ◌<◌, ◌≤◌, ◌^◌, Bool, List, [], ◌∷◌, ◌++◌, length, map, if◌then◌else◌, Option, None, Some}
 use Rattle.promql_token.specs.Cursor.{tokens_left, ends_in_fault}
 use Rattle.promql_token.specs.declared.cursor.Cursor as token
 use Rattle.promql_grammar.specs.declared.token_kinds.TokenKind.TheVariants as kind
@@ -28,6 +28,13 @@ cursor_symbols c last = map symbol_of (tokens_left c) ++ last_symbols (ends_in_f
 
 abbrev pub symbols_left : code.Tokens → List Symbol
 symbols_left ts = symbols_from ts.lookahead (cursor_symbols ts.rest ts.last)
+
+-- fewer are left of the one than of the other, or no more
+abbrev pub IsShorter : code.Tokens → code.Tokens → Type 0
+IsShorter new old = length (symbols_left new) < length (symbols_left old)
+
+abbrev pub IsNoLonger : code.Tokens → code.Tokens → Type 0
+IsNoLonger new old = length (symbols_left new) ≤ length (symbols_left old)
 
 -- how many tokens were taken, so the index of the first that is left
 abbrev pub tokens_taken : code.Tokens → ℕ

@@ -1,9 +1,9 @@
 //! The tokens of labels in parentheses.
 
-ghost use Rattle.std.specs.Prelude.{◌≡◌, ◌<◌, length, IfErr, MatchOption, MatchResult, OnOk};
-ghost use Rattle.promql_grammar.specs.Failures.{Fails};
+ghost use Rattle.std.specs.Prelude.{◌≡◌, ◌<◌, IfErr, MatchOption, OnOk};
+ghost use Rattle.promql_grammar.specs.Failures.{Reads};
 ghost use Rattle.promql_grammar.specs.PartTokens.{HasNoLabel, ParsesLabelEnd, EatsLabel, parse_label_end};
-ghost use Rattle.promql_grammar.specs.SymbolsLeft.{CountsTaken, symbols_left};
+ghost use Rattle.promql_grammar.specs.SymbolsLeft.{CountsTaken, IsShorter, symbols_left};
 ghost use Rattle.promql_grammar.specs.declared.read_error.ReadError.TheVariants.{Syntax};
 
 use crate::read_error::ReadError;
@@ -27,13 +27,10 @@ pub fn eat_label<'a>(tokens: &mut Tokens<'a>) -> Option<(TokenKind, &'a str)>
 
 /// Parses what follows a label: whether it is the last.
 pub fn parse_label_end(tokens: &mut Tokens<'_>) -> Result<bool, ReadError>
-    ensures gives { MatchResult result
-        (λ ended. ParsesLabelEnd ended (symbols_left tokens.new)
-        (parse_label_end (symbols_left tokens.old)))
-        (λ e. Fails (e, symbols_left tokens.new) (parse_label_end (symbols_left tokens.old))) }
+    ensures gives { Reads ParsesLabelEnd (symbols_left tokens.new)
+        (parse_label_end (symbols_left tokens.old)) result }
     ensures syntax { IfErr result (λ e. e ≡ Syntax) }
-    ensures short { OnOk result
-        (length (symbols_left tokens.new) < length (symbols_left tokens.old)) }
+    ensures short { OnOk result (IsShorter tokens.new tokens.old) }
     ensures counts { CountsTaken tokens.old tokens.new }
 {
     if tokens.eat(TokenKind::RightParen) {

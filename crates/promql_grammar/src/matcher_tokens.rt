@@ -1,11 +1,11 @@
 //! The tokens of a selector's matchers.
 
-ghost use Rattle.std.specs.Prelude.{◌≡◌, ◌<◌, ◌≤◌, ◌+◌, ◌^◌, List, ℕ, option_map, length, IfErr, IfNone, IfOk, MatchResult, OnOk};
+ghost use Rattle.std.specs.Prelude.{◌≡◌, ◌<◌, ◌+◌, ◌^◌, List, ℕ, option_map, IfErr, IfNone, IfOk, OnOk};
 ghost use Rattle.promql_grammar.specs.GrammarParts as part;
 ghost use Rattle.promql_grammar.specs.Parsing as parsing;
-ghost use Rattle.promql_grammar.specs.Failures.{Fails};
+ghost use Rattle.promql_grammar.specs.Failures.{Reads};
 ghost use Rattle.promql_grammar.specs.MatcherTokens.{ParsesItemEnd, ParsesItem, ParsesMatchOperator, match_operator_of, operator_of_part, parse_item_end};
-ghost use Rattle.promql_grammar.specs.SymbolsLeft.{CountsTaken, symbols_left, token_count, tokens_taken};
+ghost use Rattle.promql_grammar.specs.SymbolsLeft.{CountsTaken, IsNoLonger, IsShorter, symbols_left, token_count, tokens_taken};
 ghost use Rattle.promql_grammar.specs.declared.read_error.ReadError.TheVariants.{Syntax};
 
 use crate::read_error::ReadError;
@@ -35,16 +35,13 @@ pub struct Item<'a> {
 
 /// Parses a matcher, or a lone string.
 pub fn parse_item<'a>(tokens: &mut Tokens<'a>) -> Result<Item<'a>, ReadError>
-    ensures gives { MatchResult result
-        (λ item. ParsesItem item (symbols_left tokens.new) (parsing.parse_item
-        (symbols_left tokens.old)))
-        (λ e. Fails (e, symbols_left tokens.new) (parsing.parse_item (symbols_left tokens.old))) }
+    ensures gives { Reads ParsesItem (symbols_left tokens.new)
+        (parsing.parse_item (symbols_left tokens.old)) result }
     ensures syntax { IfErr result (λ e. e ≡ Syntax) }
     ensures name { IfOk result (λ item. item.name_index ≡ tokens_taken tokens.old) }
     ensures value { IfOk result (λ item. token_count tokens.old < 2 ^ 64
         → tokens_taken tokens.new ≡ item.value_index + 1) }
-    ensures short { OnOk result
-        (length (symbols_left tokens.new) < length (symbols_left tokens.old)) }
+    ensures short { OnOk result (IsShorter tokens.new tokens.old) }
     ensures counts { CountsTaken tokens.old tokens.new }
 {
     let Some((kind, name)) = tokens.peek() else {
@@ -85,17 +82,13 @@ fn parse_matcher_value<'a>(
     name_index: usize,
     operator: MatchOperator,
 ) -> Result<Item<'a>, ReadError>
-    ensures gives { (s : part.MatchOperator) → operator ≡ operator_of_part s → MatchResult result
-        (λ item. ParsesItem item (symbols_left tokens.new)
-        (parsing.parse_matcher_value kind name.entry.now s (symbols_left tokens.old)))
-        (λ e. Fails (e, symbols_left tokens.new) (parsing.parse_matcher_value kind name.entry.now s
-        (symbols_left tokens.old))) }
+    ensures gives { (s : part.MatchOperator) → operator ≡ operator_of_part s → Reads ParsesItem (symbols_left tokens.new)
+        (parsing.parse_matcher_value kind name.entry.now s (symbols_left tokens.old)) result }
     ensures syntax { IfErr result (λ e. e ≡ Syntax) }
     ensures name { IfOk result (λ item. item.name_index ≡ name_index) }
     ensures value { IfOk result (λ item. token_count tokens.old < 2 ^ 64
         → tokens_taken tokens.new ≡ item.value_index + 1) }
-    ensures short { OnOk result
-        (length (symbols_left tokens.new) < length (symbols_left tokens.old)) }
+    ensures short { OnOk result (IsShorter tokens.new tokens.old) }
     ensures counts { CountsTaken tokens.old tokens.new }
 {
     let Some((value_kind, value)) = tokens.peek() else {
@@ -123,7 +116,7 @@ fn eat_match_operator(tokens: &mut Tokens<'_>) -> Option<MatchOperator>
     ensures gives { ParsesMatchOperator result (symbols_left tokens.new)
         (parsing.parse_match_operator (symbols_left tokens.old)) }
     ensures stays { IfNone result (tokens.new ≡ tokens.old) }
-    ensures short { length (symbols_left tokens.new) ≤ length (symbols_left tokens.old) }
+    ensures short { IsNoLonger tokens.new tokens.old }
     ensures counts { CountsTaken tokens.old tokens.new }
 {
     let Some((kind, _)) = tokens.peek() else {
@@ -151,13 +144,10 @@ fn match_operator(kind: TokenKind) -> Option<MatchOperator>
 
 /// Parses what follows a matcher: whether the next one starts a group; `None` after the last.
 pub fn parse_item_end(tokens: &mut Tokens<'_>) -> Result<Option<bool>, ReadError>
-    ensures gives { MatchResult result
-        (λ next. ParsesItemEnd next (symbols_left tokens.new) (parse_item_end
-        (symbols_left tokens.old)))
-        (λ e. Fails (e, symbols_left tokens.new) (parse_item_end (symbols_left tokens.old))) }
+    ensures gives { Reads ParsesItemEnd (symbols_left tokens.new)
+        (parse_item_end (symbols_left tokens.old)) result }
     ensures syntax { IfErr result (λ e. e ≡ Syntax) }
-    ensures short { OnOk result
-        (length (symbols_left tokens.new) < length (symbols_left tokens.old)) }
+    ensures short { OnOk result (IsShorter tokens.new tokens.old) }
     ensures counts { CountsTaken tokens.old tokens.new }
 {
     let Some((kind, _)) = tokens.peek() else {

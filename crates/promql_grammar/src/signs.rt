@@ -1,9 +1,9 @@
 //! The signs of numbers and times.
 
-ghost use Rattle.std.specs.Prelude.{◌≡◌, ◌≤◌, length};
+ghost use Rattle.std.specs.Prelude.{◌≡◌};
 ghost use Rattle.promql_grammar.specs.Parsing as parsing;
 ghost use Rattle.promql_grammar.specs.PartTokens.{ParsesSign, minus_sign};
-ghost use Rattle.promql_grammar.specs.SymbolsLeft.{CountsTaken, symbols_left};
+ghost use Rattle.promql_grammar.specs.SymbolsLeft.{CountsTaken, IsNoLonger, symbols_left};
 
 use crate::token_kinds::TokenKind;
 use crate::tokens::Tokens;
@@ -13,7 +13,7 @@ use promql_token::ids::{T_ADD, T_SUB};
 pub fn eat_sign(tokens: &mut Tokens<'_>) -> bool
     ensures gives { ParsesSign result (symbols_left tokens.new)
         (parsing.eat_sign (symbols_left tokens.old)) }
-    ensures short { length (symbols_left tokens.new) ≤ length (symbols_left tokens.old) }
+    ensures short { IsNoLonger tokens.new tokens.old }
     ensures counts { CountsTaken tokens.old tokens.new }
 {
     let Some((kind, _)) = tokens.peek() else {

@@ -91,6 +91,10 @@ pub record ParsesBase (builds : Bool) (n : ℕ) (parsed : ParsedExpr) (rest : Li
 abbrev pub FailsBase : Failure → (ℕ → ℕ → Read grammar.Derivation) → Type 0
 FailsBase failure read = (k n : ℕ) → Fails failure (read k n)
 
+-- the result is a base that parsing gives, which leaves these tokens; or parsing fails so
+abbrev pub ReadsBase : Bool → ℕ → List Symbol → (ℕ → ℕ → Read grammar.Derivation) → Result ParsedExpr ReadError → Type 0
+ReadsBase builds n rest read result = MatchResult result (λ parsed. ParsesBase builds n parsed rest read) (λ e. FailsBase (e, rest) read)
+
 -- the postfixes of a base were parsed, where the whole is of height at most h; `count` is how many tokens there are
 abbrev pub ParsesPostfixes : Bool → ℕ → ℕ → ParsedExpr → List Symbol → List Symbol → Result ParsedExpr ReadError → Type 0
 ParsesPostfixes builds count h base ts rest result =

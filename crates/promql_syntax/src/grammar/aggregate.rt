@@ -1,9 +1,9 @@
 //! The rule `aggregation`.
 
-ghost use Rattle.std.specs.Prelude.{◌+◌, ◌≤◌, length, IfOk, MatchResult, OnOk};
+ghost use Rattle.std.specs.Prelude.{◌+◌, ◌≤◌, IfOk, OnOk};
 ghost use Rattle.promql_grammar.specs.Parsing.{parse_aggregate, parse_expression};
-ghost use Rattle.promql_grammar.specs.SymbolsLeft.{CountsTaken, symbols_left, token_count};
-ghost use Rattle.promql_syntax.specs.ParsesExpr.{FailsBase, ParsesBase};
+ghost use Rattle.promql_grammar.specs.SymbolsLeft.{CountsTaken, IsNoLonger, symbols_left, token_count};
+ghost use Rattle.promql_syntax.specs.ParsesExpr.{ReadsBase};
 
 use crate::grammar::atom::parse_selector;
 use crate::grammar::build::build_aggregate;
@@ -29,16 +29,10 @@ pub fn parse_aggregate(
     tokens: &mut Tokens<'_>,
 ) -> Result<ParsedExpr, ReadError>
     requires { max_height ≤ MAX_DEPTH }
-    ensures gives { MatchResult result
-        (λ parsed. ParsesBase builds (token_count tokens.old) parsed (symbols_left tokens.new)
-        (λ k n. parse_aggregate (parse_expression max_height) k n op name.now
-        (symbols_left tokens.old)))
-        (λ e. FailsBase (e, symbols_left tokens.new)
-        (λ k n. parse_aggregate (parse_expression max_height) k n op name.now
-        (symbols_left tokens.old))) }
+    ensures gives { ReadsBase builds (token_count tokens.old) (symbols_left tokens.new)
+        (λ k n. parse_aggregate (parse_expression max_height) k n op name.now (symbols_left tokens.old)) result }
     ensures low { IfOk result (λ parsed. parsed.height ≤ max_height + 1) }
-    ensures short { OnOk result
-        (length (symbols_left tokens.new) ≤ length (symbols_left tokens.old)) }
+    ensures short { OnOk result (IsNoLonger tokens.new tokens.old) }
     ensures counts { OnOk result (CountsTaken tokens.old tokens.new) }
 {
     if tokens.eat(TokenKind::LeftParen) {

@@ -1,11 +1,11 @@
 //! Operands that hold no expression: numbers, durations, strings and selectors.
 
-ghost use Rattle.std.specs.Prelude.{◌≡◌, ◌∷◌, ◌<◌, ◌≤◌, true, drop, length, IfOk, IsErrOf, MatchResult, OnOk};
+ghost use Rattle.std.specs.Prelude.{◌≡◌, ◌∷◌, ◌<◌, true, drop, IfOk, IsErrOf, OnOk};
 ghost use Rattle.promql_grammar.specs.Parsing.{parse_selector};
 ghost use Rattle.promql_grammar.specs.Symbols.{begins, may_be_name, symbol};
 ghost use Rattle.promql_grammar.specs.declared.token_kinds.TokenKind as kinds;
-ghost use Rattle.promql_grammar.specs.SymbolsLeft.{CountsTaken, symbols_left, token_count};
-ghost use Rattle.promql_syntax.specs.ParsesExpr.{FailsBase, ParsesBase};
+ghost use Rattle.promql_grammar.specs.SymbolsLeft.{CountsTaken, IsNoLonger, IsShorter, symbols_left, token_count};
+ghost use Rattle.promql_syntax.specs.ParsesExpr.{ReadsBase};
 ghost use Rattle.promql_syntax.specs.Atoms.{parse_atom, parse_named, parse_selector_braces};
 
 use crate::grammar::build_atom::{
@@ -27,14 +27,10 @@ pub fn parse_atom(
     tokens: &mut Tokens<'_>,
 ) -> Result<ParsedExpr, ReadError>
     requires { symbols_left tokens.now ≡ symbol kind text.now ∷ drop 1 (symbols_left tokens.now) }
-    ensures gives { MatchResult result
-        (λ parsed. ParsesBase builds (token_count tokens.old) parsed (symbols_left tokens.new)
-        (λ k n. parse_atom k n kind text.now (drop 1 (symbols_left tokens.old))))
-        (λ e. FailsBase (e, symbols_left tokens.new)
-        (λ k n. parse_atom k n kind text.now (drop 1 (symbols_left tokens.old)))) }
+    ensures gives { ReadsBase builds (token_count tokens.old) (symbols_left tokens.new)
+        (λ k n. parse_atom k n kind text.now (drop 1 (symbols_left tokens.old))) result }
     ensures low { IfOk result (λ parsed. parsed.height ≡ 1) }
-    ensures short { OnOk result
-        (length (symbols_left tokens.new) ≤ length (symbols_left tokens.old)) }
+    ensures short { OnOk result (IsNoLonger tokens.new tokens.old) }
     ensures counts { OnOk result (CountsTaken tokens.old tokens.new) }
     ensures memory { IsErrOf result ReadError.Memory → begins (symbols_left tokens.old) ≡ true }
 {
@@ -71,14 +67,10 @@ fn parse_named(
     tokens: &mut Tokens<'_>,
 ) -> Result<ParsedExpr, ReadError>
     requires { symbols_left tokens.now ≡ symbol kind name.now ∷ drop 1 (symbols_left tokens.now) }
-    ensures gives { MatchResult result
-        (λ parsed. ParsesBase builds (token_count tokens.old) parsed (symbols_left tokens.new)
-        (λ k n. parse_named k n kind name.now (drop 1 (symbols_left tokens.old))))
-        (λ e. FailsBase (e, symbols_left tokens.new)
-        (λ k n. parse_named k n kind name.now (drop 1 (symbols_left tokens.old)))) }
+    ensures gives { ReadsBase builds (token_count tokens.old) (symbols_left tokens.new)
+        (λ k n. parse_named k n kind name.now (drop 1 (symbols_left tokens.old))) result }
     ensures low { IfOk result (λ parsed. parsed.height ≡ 1) }
-    ensures short { OnOk result
-        (length (symbols_left tokens.new) ≤ length (symbols_left tokens.old)) }
+    ensures short { OnOk result (IsNoLonger tokens.new tokens.old) }
     ensures counts { OnOk result (CountsTaken tokens.old tokens.new) }
     ensures memory { IsErrOf result ReadError.Memory → may_be_name kind ≡ true }
 {
@@ -101,13 +93,10 @@ pub fn parse_selector(
     tokens: &mut Tokens<'_>,
 ) -> Result<ParsedExpr, ReadError>
     requires { may_be_name kind ≡ true }
-    ensures gives { MatchResult result
-        (λ parsed. ParsesBase builds (token_count tokens.old) parsed (symbols_left tokens.new)
-        (λ k n. parse_selector k n kind name.now (symbols_left tokens.old)))
-        (λ e. FailsBase (e, symbols_left tokens.new) (λ k n. parse_selector k n kind name.now (symbols_left tokens.old))) }
+    ensures gives { ReadsBase builds (token_count tokens.old) (symbols_left tokens.new)
+        (λ k n. parse_selector k n kind name.now (symbols_left tokens.old)) result }
     ensures low { IfOk result (λ parsed. parsed.height ≡ 1) }
-    ensures short { OnOk result
-        (length (symbols_left tokens.new) ≤ length (symbols_left tokens.old)) }
+    ensures short { OnOk result (IsNoLonger tokens.new tokens.old) }
     ensures counts { OnOk result (CountsTaken tokens.old tokens.new) }
 {
     if tokens.eat(TokenKind::LeftBrace) {
@@ -125,14 +114,10 @@ fn parse_selector_braces(
     start: usize,
     tokens: &mut Tokens<'_>,
 ) -> Result<ParsedExpr, ReadError>
-    ensures gives { (kind : kinds.TokenKind) → MatchResult result
-        (λ parsed. ParsesBase builds (token_count tokens.old) parsed (symbols_left tokens.new)
-        (λ k n. parse_selector_braces k n kind name.now (symbols_left tokens.old)))
-        (λ e. FailsBase (e, symbols_left tokens.new) (λ k n. parse_selector_braces k n kind name.now
-        (symbols_left tokens.old))) }
+    ensures gives { (kind : kinds.TokenKind) → ReadsBase builds (token_count tokens.old) (symbols_left tokens.new)
+        (λ k n. parse_selector_braces k n kind name.now (symbols_left tokens.old)) result }
     ensures low { IfOk result (λ parsed. parsed.height ≡ 1) }
-    ensures short { OnOk result
-        (length (symbols_left tokens.new) < length (symbols_left tokens.old)) }
+    ensures short { OnOk result (IsShorter tokens.new tokens.old) }
     ensures counts { OnOk result (CountsTaken tokens.old tokens.new) }
 {
     let matchers = parse_braces(alloc, builds, tokens)?;

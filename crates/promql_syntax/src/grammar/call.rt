@@ -1,11 +1,11 @@
 //! The rules `call` and `arguments`.
 
-ghost use Rattle.std.specs.Prelude.{◌≡◌, ◌∷◌, ◌+◌, ◌≤◌, true, drop, length, IfOk, MatchResult, OnOk};
+ghost use Rattle.std.specs.Prelude.{◌≡◌, ◌∷◌, ◌+◌, ◌≤◌, true, drop, IfOk, OnOk};
 ghost use Rattle.promql_grammar.specs.Parsing.{parse_arguments, parse_call, parse_expression};
 ghost use Rattle.promql_grammar.specs.Symbols.{may_be_called, symbol};
-ghost use Rattle.promql_grammar.specs.SymbolsLeft.{CountsTaken, symbols_left, token_count};
-ghost use Rattle.promql_grammar.specs.Failures.{Fails};
-ghost use Rattle.promql_syntax.specs.ParsesExpr.{ParsesArgs, FailsBase, ParsesBase};
+ghost use Rattle.promql_grammar.specs.SymbolsLeft.{CountsTaken, IsNoLonger, symbols_left, token_count};
+ghost use Rattle.promql_grammar.specs.Failures.{Reads};
+ghost use Rattle.promql_syntax.specs.ParsesExpr.{ParsesArgs, ReadsBase};
 
 use crate::grammar::atom::parse_selector;
 use crate::grammar::build::{append_argument, build_call, empty_arguments};
@@ -30,16 +30,10 @@ pub fn parse_call(
     requires max_height { max_height ≤ MAX_DEPTH }
     requires called { may_be_called kind ≡ true }
     requires front { symbols_left tokens.now ≡ symbol kind name.now ∷ drop 1 (symbols_left tokens.now) }
-    ensures gives { MatchResult result
-        (λ parsed. ParsesBase builds (token_count tokens.old) parsed (symbols_left tokens.new)
-        (λ k n. parse_call (parse_expression max_height) k n kind name.now
-        (drop 1 (symbols_left tokens.old))))
-        (λ e. FailsBase (e, symbols_left tokens.new)
-        (λ k n. parse_call (parse_expression max_height) k n kind name.now
-        (drop 1 (symbols_left tokens.old)))) }
+    ensures gives { ReadsBase builds (token_count tokens.old) (symbols_left tokens.new)
+        (λ k n. parse_call (parse_expression max_height) k n kind name.now (drop 1 (symbols_left tokens.old))) result }
     ensures low { IfOk result (λ parsed. parsed.height ≤ max_height + 1) }
-    ensures short { OnOk result
-        (length (symbols_left tokens.new) ≤ length (symbols_left tokens.old)) }
+    ensures short { OnOk result (IsNoLonger tokens.new tokens.old) }
     ensures counts { OnOk result (CountsTaken tokens.old tokens.new) }
 {
     let start = tokens.index();
@@ -61,13 +55,10 @@ pub fn parse_arguments(
     tokens: &mut Tokens<'_>,
 ) -> Result<ParsedArgs, ReadError>
     requires { max_height ≤ MAX_DEPTH }
-    ensures gives { MatchResult result
-        (λ args. ParsesArgs builds (token_count tokens.old) args (symbols_left tokens.old) (symbols_left tokens.new)
-        (parse_arguments (parse_expression max_height) (symbols_left tokens.old)))
-        (λ e. Fails (e, symbols_left tokens.new) (parse_arguments (parse_expression max_height) (symbols_left tokens.old))) }
+    ensures gives { Reads (λ args. ParsesArgs builds (token_count tokens.old) args (symbols_left tokens.old)) (symbols_left tokens.new)
+        (parse_arguments (parse_expression max_height) (symbols_left tokens.old)) result }
     ensures low { IfOk result (λ args. args.height ≤ max_height) }
-    ensures short { OnOk result
-        (length (symbols_left tokens.new) ≤ length (symbols_left tokens.old)) }
+    ensures short { OnOk result (IsNoLonger tokens.new tokens.old) }
     ensures counts { OnOk result (CountsTaken tokens.old tokens.new) }
 {
     let mut args = empty_arguments(alloc);

@@ -1,12 +1,12 @@
 //! The rule `expression`, by precedence climbing.
 
-ghost use Rattle.std.specs.Prelude.{◌≡◌, ℕ, ◌+◌, ◌<◌, ◌≤◌, ◌^◌, true, length, IfErr, IfOk, IsErrOf, MatchResult, OnOk};
+ghost use Rattle.std.specs.Prelude.{◌≡◌, ℕ, ◌+◌, ◌<◌, ◌≤◌, ◌^◌, true, length, IfErr, IfOk, IsErrOf, OnOk};
 ghost use Rattle.promql_grammar.specs.Parsing.{parse_expression, parse_unary};
 ghost use Rattle.promql_grammar.specs.Symbols.{begins};
-ghost use Rattle.promql_grammar.specs.SymbolsLeft.{CountsTaken, symbols_left, token_count};
+ghost use Rattle.promql_grammar.specs.SymbolsLeft.{CountsTaken, IsNoLonger, symbols_left, token_count};
 ghost use Rattle.promql_grammar.specs.OperatorTokens.{HasNoUnaryOperator};
-ghost use Rattle.promql_grammar.specs.Failures.{Fails};
-ghost use Rattle.promql_syntax.specs.ParsesExpr.{FailsBase, GivesModifier, ParsesPostfixes, ParsesBase, ParsesExpr};
+ghost use Rattle.promql_grammar.specs.Failures.{Reads};
+ghost use Rattle.promql_syntax.specs.ParsesExpr.{GivesModifier, ParsesExpr, ParsesPostfixes, ReadsBase};
 ghost use Rattle.promql_syntax.specs.ParsesQuery.{HasPlace, ParsesQuery};
 
 use crate::grammar::aggregate::parse_aggregate;
@@ -38,13 +38,10 @@ pub(crate) fn parse_expression(
     tokens: &mut Tokens<'_>,
 ) -> Result<ParsedExpr, ReadError>
     requires { max_height ≤ MAX_DEPTH }
-    ensures gives { MatchResult result
-        (λ parsed. ParsesExpr builds (token_count tokens.old) parsed (symbols_left tokens.new)
-        (parse_expression max_height min_precedence (symbols_left tokens.old)))
-        (λ e. Fails (e, symbols_left tokens.new) (parse_expression max_height min_precedence (symbols_left tokens.old))) }
+    ensures gives { Reads (ParsesExpr builds (token_count tokens.old)) (symbols_left tokens.new)
+        (parse_expression max_height min_precedence (symbols_left tokens.old)) result }
     ensures low { IfOk result (λ parsed. parsed.height ≤ max_height) }
-    ensures short { OnOk result
-        (length (symbols_left tokens.new) ≤ length (symbols_left tokens.old)) }
+    ensures short { OnOk result (IsNoLonger tokens.new tokens.old) }
     ensures counts { OnOk result (CountsTaken tokens.old tokens.new) }
     ensures memory { IsErrOf result ReadError.Memory → begins (symbols_left tokens.old) ≡ true }
 {
@@ -87,14 +84,10 @@ fn parse_unary(
     tokens: &mut Tokens<'_>,
 ) -> Result<ParsedExpr, ReadError>
     requires { max_height ≤ MAX_DEPTH }
-    ensures gives { (k : ℕ) → length (symbols_left tokens.old) ≤ k → MatchResult result
-        (λ parsed. ParsesExpr builds (token_count tokens.old) parsed (symbols_left tokens.new)
-        (parse_unary (parse_expression max_height) k (max_height + 1) (symbols_left tokens.old)))
-        (λ e. Fails (e, symbols_left tokens.new) (parse_unary (parse_expression max_height) k (max_height + 1)
-        (symbols_left tokens.old))) }
+    ensures gives { (k : ℕ) → length (symbols_left tokens.old) ≤ k → Reads (ParsesExpr builds (token_count tokens.old)) (symbols_left tokens.new)
+        (parse_unary (parse_expression max_height) k (max_height + 1) (symbols_left tokens.old)) result }
     ensures low { IfOk result (λ parsed. parsed.height ≤ max_height + 1) }
-    ensures short { OnOk result
-        (length (symbols_left tokens.new) ≤ length (symbols_left tokens.old)) }
+    ensures short { OnOk result (IsNoLonger tokens.new tokens.old) }
     ensures counts { OnOk result (CountsTaken tokens.old tokens.new) }
     ensures memory { IsErrOf result ReadError.Memory → begins (symbols_left tokens.old) ≡ true }
 {
@@ -119,14 +112,10 @@ fn parse_postfix_base(
 ) -> Result<ParsedExpr, ReadError>
     requires max_height { max_height ≤ MAX_DEPTH }
     requires unsigned { HasNoUnaryOperator (symbols_left tokens.now) }
-    ensures gives { MatchResult result
-        (λ parsed. ParsesBase builds (token_count tokens.old) parsed (symbols_left tokens.new)
-        (λ k n. parse_unary (parse_expression max_height) k n (symbols_left tokens.old)))
-        (λ e. FailsBase (e, symbols_left tokens.new) (λ k n. parse_unary (parse_expression max_height) k n
-        (symbols_left tokens.old))) }
+    ensures gives { ReadsBase builds (token_count tokens.old) (symbols_left tokens.new)
+        (λ k n. parse_unary (parse_expression max_height) k n (symbols_left tokens.old)) result }
     ensures low { IfOk result (λ parsed. parsed.height ≤ max_height + 1) }
-    ensures short { OnOk result
-        (length (symbols_left tokens.new) ≤ length (symbols_left tokens.old)) }
+    ensures short { OnOk result (IsNoLonger tokens.new tokens.old) }
     ensures counts { OnOk result (CountsTaken tokens.old tokens.new) }
     ensures memory { IsErrOf result ReadError.Memory → begins (symbols_left tokens.old) ≡ true }
 {
@@ -158,8 +147,7 @@ fn parse_optional_modifier(
     tokens: &mut Tokens<'_>,
 ) -> Result<Pending<BinModifier>, ReadError>
     ensures gives { GivesModifier (symbols_left tokens.old) (symbols_left tokens.new) result }
-    ensures short { OnOk result
-        (length (symbols_left tokens.new) ≤ length (symbols_left tokens.old)) }
+    ensures short { OnOk result (IsNoLonger tokens.new tokens.old) }
     ensures counts { OnOk result (CountsTaken tokens.old tokens.new) }
 {
     match tokens.peek() {
@@ -176,8 +164,7 @@ fn parse_boxed_modifier(
     tokens: &mut Tokens<'_>,
 ) -> Result<Pending<BinModifier>, ReadError>
     ensures gives { GivesModifier (symbols_left tokens.old) (symbols_left tokens.new) result }
-    ensures short { OnOk result
-        (length (symbols_left tokens.new) ≤ length (symbols_left tokens.old)) }
+    ensures short { OnOk result (IsNoLonger tokens.new tokens.old) }
     ensures counts { OnOk result (CountsTaken tokens.old tokens.new) }
 {
     match parse_modifier(alloc, tokens)? {
@@ -202,8 +189,7 @@ fn parse_postfixes(
         (symbols_left tokens.new)
         result }
     ensures low { IfOk result (λ parsed. parsed.height ≤ max_height) }
-    ensures short { OnOk result
-        (length (symbols_left tokens.new) ≤ length (symbols_left tokens.old)) }
+    ensures short { OnOk result (IsNoLonger tokens.new tokens.old) }
     ensures counts { OnOk result (CountsTaken tokens.old tokens.new) }
 {
     match tokens.peek() {
@@ -230,8 +216,7 @@ fn parse_some_postfixes(
         (symbols_left tokens.new)
         result }
     ensures low { IfOk result (λ parsed. parsed.height ≤ max_height) }
-    ensures short { OnOk result
-        (length (symbols_left tokens.new) ≤ length (symbols_left tokens.old)) }
+    ensures short { OnOk result (IsNoLonger tokens.new tokens.old) }
     ensures counts { OnOk result (CountsTaken tokens.old tokens.new) }
 {
     let mut parsed = base;

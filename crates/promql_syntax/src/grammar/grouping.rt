@@ -1,9 +1,9 @@
 //! The rule `grouping`: `by` or `without` of an aggregation, before or after its arguments.
 
-ghost use Rattle.std.specs.Prelude.{◌≡◌, ◌≤◌, length, option_map, Some, MatchBool, MatchResult, OnOk};
+ghost use Rattle.std.specs.Prelude.{◌≡◌, option_map, Some, MatchBool, OnOk};
 ghost use Rattle.promql_grammar.specs.Parsing as parsing;
-ghost use Rattle.promql_grammar.specs.SymbolsLeft.{CountsTaken, symbols_left};
-ghost use Rattle.promql_grammar.specs.Failures.{Fails};
+ghost use Rattle.promql_grammar.specs.SymbolsLeft.{CountsTaken, IsNoLonger, symbols_left};
+ghost use Rattle.promql_grammar.specs.Failures.{Reads};
 ghost use Rattle.promql_grammar.specs.PartTokens.{HasNoGrouping, StartsGrouping};
 ghost use Rattle.promql_label.specs.Labels.{labels_of};
 ghost use Rattle.promql_kind.specs.Modifiers.{excluding, including};
@@ -31,12 +31,9 @@ pub fn starts_grouping(tokens: &Tokens<'_>) -> bool
 /// Parses a grouping, if there is one. Its frame is kept out of those of aggregations.
 #[inline(never)]
 pub fn parse_grouping(alloc: Global, tokens: &mut Tokens<'_>) -> Parsed<Option<LabelModifier>>
-    ensures gives { MatchResult result
-        (λ value. ParsesPart (option_map clause_of) clause_value value (symbols_left tokens.new)
-        (parsing.parse_grouping (symbols_left tokens.old)))
-        (λ e. Fails (e, symbols_left tokens.new) (parsing.parse_grouping (symbols_left tokens.old))) }
-    ensures short { OnOk result
-        (length (symbols_left tokens.new) ≤ length (symbols_left tokens.old)) }
+    ensures gives { Reads (ParsesPart (option_map clause_of) clause_value) (symbols_left tokens.new)
+        (parsing.parse_grouping (symbols_left tokens.old)) result }
+    ensures short { OnOk result (IsNoLonger tokens.new tokens.old) }
     ensures counts { OnOk result (CountsTaken tokens.old tokens.new) }
 {
     let Some((kind, _)) = tokens.peek() else {

@@ -1,10 +1,10 @@
 //! The rule `labels`.
 
-ghost use Rattle.std.specs.Prelude.{◌≡◌, ◌<◌, ◌++◌, ◌∷◌, [], Ok, length, string_bytes, IfOk, MatchResult, OnOk};
+ghost use Rattle.std.specs.Prelude.{◌≡◌, ◌<◌, ◌++◌, ◌∷◌, [], Ok, string_bytes, IfOk, OnOk};
 ghost use Rattle.promql_grammar.specs.Parsing as parsing;
 ghost use Rattle.promql_grammar.specs.Results.{◌then◌};
-ghost use Rattle.promql_grammar.specs.SymbolsLeft.{CountsTaken, symbols_left};
-ghost use Rattle.promql_grammar.specs.Failures.{Fails};
+ghost use Rattle.promql_grammar.specs.SymbolsLeft.{CountsTaken, IsShorter, symbols_left};
+ghost use Rattle.promql_grammar.specs.Failures.{Reads};
 ghost use Rattle.promql_label.specs.Labels.{labels_of};
 ghost use Rattle.promql_syntax.specs.BuildErrors.{view_result};
 ghost use Rattle.promql_syntax.specs.ParsesPart.{ParsesPart};
@@ -20,12 +20,9 @@ use std::alloc::Global;
 
 /// Parses labels in parentheses.
 pub fn parse_labels(alloc: Global, tokens: &mut Tokens<'_>) -> Parsed<Labels>
-    ensures gives { MatchResult result
-        (λ value. ParsesPart labels_of label_values value (symbols_left tokens.new)
-        (parsing.parse_labels (symbols_left tokens.old)))
-        (λ e. Fails (e, symbols_left tokens.new) (parsing.parse_labels (symbols_left tokens.old))) }
-    ensures short { OnOk result
-        (length (symbols_left tokens.new) < length (symbols_left tokens.old)) }
+    ensures gives { Reads (ParsesPart labels_of label_values) (symbols_left tokens.new)
+        (parsing.parse_labels (symbols_left tokens.old)) result }
+    ensures short { OnOk result (IsShorter tokens.new tokens.old) }
     ensures counts { OnOk result (CountsTaken tokens.old tokens.new) }
 {
     tokens.expect(TokenKind::LeftParen)?;
@@ -34,12 +31,9 @@ pub fn parse_labels(alloc: Global, tokens: &mut Tokens<'_>) -> Parsed<Labels>
 
 /// Parses labels after an opening parenthesis, and the closing one.
 pub fn parse_label_list(alloc: Global, tokens: &mut Tokens<'_>) -> Parsed<Labels>
-    ensures gives { MatchResult result
-        (λ value. ParsesPart labels_of label_values value (symbols_left tokens.new)
-        (parsing.parse_label_list (symbols_left tokens.old)))
-        (λ e. Fails (e, symbols_left tokens.new) (parsing.parse_label_list (symbols_left tokens.old))) }
-    ensures short { OnOk result
-        (length (symbols_left tokens.new) < length (symbols_left tokens.old)) }
+    ensures gives { Reads (ParsesPart labels_of label_values) (symbols_left tokens.new)
+        (parsing.parse_label_list (symbols_left tokens.old)) result }
+    ensures short { OnOk result (IsShorter tokens.new tokens.old) }
     ensures counts { OnOk result (CountsTaken tokens.old tokens.new) }
 {
     let mut labels = Ok(Labels {

@@ -1,19 +1,19 @@
 //! The rule `modifier`: what may come between an operator and its right side.
 
-ghost use Rattle.std.specs.Prelude.{◌≡◌, ◌<◌, ◌≤◌, Some, None, Ok, length, option_map, MatchResult, OnOk};
+ghost use Rattle.std.specs.Prelude.{◌≡◌, ◌<◌, Some, None, Ok, option_map, OnOk};
 ghost use Rattle.promql_text.specs.Texts.{Text};
 ghost use Rattle.promql_text.specs.declared.number.Number as numbers;
 ghost use Rattle.promql_grammar.specs.GrammarParts as part;
 ghost use Rattle.promql_grammar.specs.Results.{◌then◌};
 ghost use Rattle.promql_grammar.specs.Parsing as parsing;
-ghost use Rattle.promql_grammar.specs.SymbolsLeft.{CountsTaken, symbols_left};
-ghost use Rattle.promql_grammar.specs.Failures.{Fails};
+ghost use Rattle.promql_grammar.specs.SymbolsLeft.{CountsTaken, IsNoLonger, IsShorter, symbols_left};
+ghost use Rattle.promql_grammar.specs.Failures.{Reads};
 ghost use Rattle.promql_label.specs.Labels.{labels_of};
 ghost use Rattle.promql_kind.specs.Modifiers as spec;
 ghost use Rattle.promql_kind.specs.ModifierViews.{cardinality_of, fills_of, matching_of};
 ghost use Rattle.promql_syntax.specs.BuildErrors.{view_result};
 ghost use Rattle.promql_syntax.specs.ParsesPart.{ParsesPart};
-ghost use Rattle.promql_syntax.specs.ModifierParts.{ParsesFlag, starts_modifier, list_in, list_value, matching_parts, modifier_of};
+ghost use Rattle.promql_syntax.specs.ModifierParts.{ParsesFlag, list_in, list_value, matching_parts, modifier_of, starts_modifier};
 ghost use Rattle.promql_syntax.specs.PartBuilding.{fill_value, fills_value, group_value, matching_value, modifier_value};
 
 use crate::grammar::build_error::BuildError;
@@ -50,12 +50,9 @@ pub fn starts_modifier(kind: TokenKind) -> bool
 
 /// Parses a modifier; `None` if there is no token of one.
 pub fn parse_modifier(alloc: Global, tokens: &mut Tokens<'_>) -> Parsed<Option<BinModifier>>
-    ensures gives { MatchResult result
-        (λ value. ParsesPart (option_map matching_of) modifier_value value (symbols_left tokens.new)
-        (parsing.parse_modifier (symbols_left tokens.old)))
-        (λ e. Fails (e, symbols_left tokens.new) (parsing.parse_modifier (symbols_left tokens.old))) }
-    ensures short { OnOk result
-        (length (symbols_left tokens.new) ≤ length (symbols_left tokens.old)) }
+    ensures gives { Reads (ParsesPart (option_map matching_of) modifier_value) (symbols_left tokens.new)
+        (parsing.parse_modifier (symbols_left tokens.old)) result }
+    ensures short { OnOk result (IsNoLonger tokens.new tokens.old) }
     ensures counts { OnOk result (CountsTaken tokens.old tokens.new) }
 {
     let return_bool = eat_bool(tokens);
@@ -68,7 +65,7 @@ pub fn parse_modifier(alloc: Global, tokens: &mut Tokens<'_>) -> Parsed<Option<B
 fn eat_bool(tokens: &mut Tokens<'_>) -> bool
     ensures gives { ParsesFlag result (symbols_left tokens.new)
         (parsing.parse_flag (symbols_left tokens.old)) }
-    ensures short { length (symbols_left tokens.new) ≤ length (symbols_left tokens.old) }
+    ensures short { IsNoLonger tokens.new tokens.old }
     ensures counts { CountsTaken tokens.old tokens.new }
 {
     tokens.eat(TokenKind::Bool)
@@ -76,12 +73,9 @@ fn eat_bool(tokens: &mut Tokens<'_>) -> bool
 
 /// Parses `on` or `ignoring` with its labels and its group, if there is one.
 fn parse_matching(alloc: Global, tokens: &mut Tokens<'_>) -> Parsed<Matching>
-    ensures gives { MatchResult result
-        (λ value. ParsesPart matching_parts matching_value value (symbols_left tokens.new)
-        (parsing.parse_matching (symbols_left tokens.old)))
-        (λ e. Fails (e, symbols_left tokens.new) (parsing.parse_matching (symbols_left tokens.old))) }
-    ensures short { OnOk result
-        (length (symbols_left tokens.new) ≤ length (symbols_left tokens.old)) }
+    ensures gives { Reads (ParsesPart matching_parts matching_value) (symbols_left tokens.new)
+        (parsing.parse_matching (symbols_left tokens.old)) result }
+    ensures short { OnOk result (IsNoLonger tokens.new tokens.old) }
     ensures counts { OnOk result (CountsTaken tokens.old tokens.new) }
 {
     let Some((kind, _)) = tokens.peek() else {
@@ -143,12 +137,9 @@ fn build_ignoring(
 
 /// Parses `group_left` or `group_right`, if there is one, with its labels, if it has them.
 fn parse_group(alloc: Global, tokens: &mut Tokens<'_>) -> Parsed<VectorMatchCardinality>
-    ensures gives { MatchResult result
-        (λ value. ParsesPart cardinality_of group_value value (symbols_left tokens.new)
-        (parsing.parse_group (symbols_left tokens.old)))
-        (λ e. Fails (e, symbols_left tokens.new) (parsing.parse_group (symbols_left tokens.old))) }
-    ensures short { OnOk result
-        (length (symbols_left tokens.new) ≤ length (symbols_left tokens.old)) }
+    ensures gives { Reads (ParsesPart cardinality_of group_value) (symbols_left tokens.new)
+        (parsing.parse_group (symbols_left tokens.old)) result }
+    ensures short { OnOk result (IsNoLonger tokens.new tokens.old) }
     ensures counts { OnOk result (CountsTaken tokens.old tokens.new) }
 {
     let Some((kind, _)) = tokens.peek() else {
@@ -189,12 +180,9 @@ fn build_group_right(
 
 /// Parses labels in parentheses, if there are any.
 fn parse_group_labels(alloc: Global, tokens: &mut Tokens<'_>) -> Parsed<Labels>
-    ensures gives { MatchResult result
-        (λ value. ParsesPart labels_of list_value value (symbols_left tokens.new)
-        (list_in (symbols_left tokens.old)))
-        (λ e. Fails (e, symbols_left tokens.new) (list_in (symbols_left tokens.old))) }
-    ensures short { OnOk result
-        (length (symbols_left tokens.new) ≤ length (symbols_left tokens.old)) }
+    ensures gives { Reads (ParsesPart labels_of list_value) (symbols_left tokens.new)
+        (list_in (symbols_left tokens.old)) result }
+    ensures short { OnOk result (IsNoLonger tokens.new tokens.old) }
     ensures counts { OnOk result (CountsTaken tokens.old tokens.new) }
 {
     if tokens.eat(TokenKind::LeftParen) {
@@ -207,12 +195,9 @@ fn parse_group_labels(alloc: Global, tokens: &mut Tokens<'_>) -> Parsed<Labels>
 
 /// Parses fill values, if there are any.
 fn parse_fills(alloc: Global, tokens: &mut Tokens<'_>) -> Parsed<VectorMatchFillValues>
-    ensures gives { MatchResult result
-        (λ value. ParsesPart fills_of fills_value value (symbols_left tokens.new)
-        (parsing.parse_fills (symbols_left tokens.old)))
-        (λ e. Fails (e, symbols_left tokens.new) (parsing.parse_fills (symbols_left tokens.old))) }
-    ensures short { OnOk result
-        (length (symbols_left tokens.new) ≤ length (symbols_left tokens.old)) }
+    ensures gives { Reads (ParsesPart fills_of fills_value) (symbols_left tokens.new)
+        (parsing.parse_fills (symbols_left tokens.old)) result }
+    ensures short { OnOk result (IsNoLonger tokens.new tokens.old) }
     ensures counts { OnOk result (CountsTaken tokens.old tokens.new) }
 {
     let Some((kind, _)) = tokens.peek() else {
@@ -245,12 +230,9 @@ fn parse_fill_right(
     left: Result<Number, Box<BuildError>>,
 ) -> Parsed<VectorMatchFillValues>
     ensures gives { (t : Text) (v : part.FillValue)
-        → view_result (λ (n : numbers.Number). n) left ≡ fill_value v → MatchResult result
-        (λ value. ParsesPart fills_of fills_value value (symbols_left tokens.new)
-        (parsing.parse_fill_right t v (symbols_left tokens.old)))
-        (λ e. Fails (e, symbols_left tokens.new) (parsing.parse_fill_right t v (symbols_left tokens.old))) }
-    ensures short { OnOk result
-        (length (symbols_left tokens.new) ≤ length (symbols_left tokens.old)) }
+        → view_result (λ (n : numbers.Number). n) left ≡ fill_value v → Reads (ParsesPart fills_of fills_value) (symbols_left tokens.new)
+        (parsing.parse_fill_right t v (symbols_left tokens.old)) result }
+    ensures short { OnOk result (IsNoLonger tokens.new tokens.old) }
     ensures counts { OnOk result (CountsTaken tokens.old tokens.new) }
 {
     if !tokens.eat(TokenKind::FillRight) {
@@ -267,12 +249,9 @@ fn parse_fill_left(
     right: Result<Number, Box<BuildError>>,
 ) -> Parsed<VectorMatchFillValues>
     ensures gives { (t : Text) (v : part.FillValue)
-        → view_result (λ (n : numbers.Number). n) right ≡ fill_value v → MatchResult result
-        (λ value. ParsesPart fills_of fills_value value (symbols_left tokens.new)
-        (parsing.parse_fill_left t v (symbols_left tokens.old)))
-        (λ e. Fails (e, symbols_left tokens.new) (parsing.parse_fill_left t v (symbols_left tokens.old))) }
-    ensures short { OnOk result
-        (length (symbols_left tokens.new) ≤ length (symbols_left tokens.old)) }
+        → view_result (λ (n : numbers.Number). n) right ≡ fill_value v → Reads (ParsesPart fills_of fills_value) (symbols_left tokens.new)
+        (parsing.parse_fill_left t v (symbols_left tokens.old)) result }
+    ensures short { OnOk result (IsNoLonger tokens.new tokens.old) }
     ensures counts { OnOk result (CountsTaken tokens.old tokens.new) }
 {
     if !tokens.eat(TokenKind::FillLeft) {
@@ -284,12 +263,9 @@ fn parse_fill_left(
 
 /// Parses a fill value: a number with its sign, in parentheses.
 fn parse_fill_value(alloc: Global, tokens: &mut Tokens<'_>) -> Parsed<Number>
-    ensures gives { MatchResult result
-        (λ value. ParsesPart (λ (n : numbers.Number). n) fill_value value (symbols_left tokens.new)
-        (parsing.parse_fill_value (symbols_left tokens.old)))
-        (λ e. Fails (e, symbols_left tokens.new) (parsing.parse_fill_value (symbols_left tokens.old))) }
-    ensures short { OnOk result
-        (length (symbols_left tokens.new) < length (symbols_left tokens.old)) }
+    ensures gives { Reads (ParsesPart (λ (n : numbers.Number). n) fill_value) (symbols_left tokens.new)
+        (parsing.parse_fill_value (symbols_left tokens.old)) result }
+    ensures short { OnOk result (IsShorter tokens.new tokens.old) }
     ensures counts { OnOk result (CountsTaken tokens.old tokens.new) }
 {
     tokens.expect(TokenKind::LeftParen)?;

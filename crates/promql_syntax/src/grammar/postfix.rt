@@ -1,6 +1,6 @@
 //! Postfixes: ranges, subqueries, `@`, `offset` and range modes.
 
-ghost use Rattle.std.specs.Prelude.{◌≡◌, ℕ, ◌<◌, ◌≤◌, length, option_map, Some, None, Ok, IfErr, IfOk, IfSome, MatchResult, OnOk};
+ghost use Rattle.std.specs.Prelude.{◌≡◌, ℕ, ◌<◌, option_map, Some, None, Ok, IfErr, IfOk, IfSome, MatchResult, OnOk};
 ghost use Rattle.std.specs.Duration.{as_nanos};
 ghost use Rattle.promql_text.specs.Texts.{Text};
 ghost use Rattle.promql_text.specs.declared.number.Number as numbers;
@@ -8,14 +8,14 @@ ghost use Rattle.promql_grammar.specs.GrammarParts as part;
 ghost use Rattle.promql_grammar.specs.Parsing as parsing;
 ghost use Rattle.promql_grammar.specs.Results.{◌then◌};
 ghost use Rattle.promql_grammar.specs.declared.token_kinds.TokenKind as kinds;
-ghost use Rattle.promql_grammar.specs.SymbolsLeft.{CountsTaken, symbols_left, token_count};
-ghost use Rattle.promql_grammar.specs.Failures.{Fails};
+ghost use Rattle.promql_grammar.specs.SymbolsLeft.{CountsTaken, IsNoLonger, IsShorter, symbols_left, token_count};
+ghost use Rattle.promql_grammar.specs.Failures.{Reads};
 ghost use Rattle.promql_ast.specs.AtTimes.{at_of_number};
 ghost use Rattle.promql_ast.specs.Shifts.{moment_of, shift_of};
 ghost use Rattle.promql_syntax.specs.Building.{bound_moment};
 ghost use Rattle.promql_syntax.specs.BuildErrors.{view_result};
 ghost use Rattle.promql_syntax.specs.PartBuilding.{at_fault, time_value};
-ghost use Rattle.promql_syntax.specs.Postfixes.{ParsesPostfix, ParsesOptionalPostfix, starts_postfix, by_shift, change_of, parse_range, subquery_change, to_moment, to_range};
+ghost use Rattle.promql_syntax.specs.Postfixes.{ParsesOptionalPostfix, ParsesPostfix, by_shift, change_of, parse_range, starts_postfix, subquery_change, to_moment, to_range};
 
 use crate::grammar::build_error::{BuildError, BuildFault};
 use crate::grammar::parsed::Built;
@@ -71,15 +71,12 @@ pub fn parse_postfix(
     alloc: Global,
     tokens: &mut Tokens<'_>,
 ) -> Result<Option<ParsedPostfix>, ReadError>
-    ensures gives { MatchResult result
-        (λ found. ParsesOptionalPostfix (token_count tokens.old) found (symbols_left tokens.new)
-        (parsing.parse_postfix (symbols_left tokens.old)))
-        (λ e. Fails (e, symbols_left tokens.new) (parsing.parse_postfix (symbols_left tokens.old))) }
-    ensures short { OnOk result
-        (length (symbols_left tokens.new) ≤ length (symbols_left tokens.old)) }
+    ensures gives { Reads (ParsesOptionalPostfix (token_count tokens.old)) (symbols_left tokens.new)
+        (parsing.parse_postfix (symbols_left tokens.old)) result }
+    ensures short { OnOk result (IsNoLonger tokens.new tokens.old) }
     ensures counts { OnOk result (CountsTaken tokens.old tokens.new) }
     ensures taken { IfOk result (λ found. IfSome found (λ _.
-        length (symbols_left tokens.new) < length (symbols_left tokens.old))) }
+        IsShorter tokens.new tokens.old)) }
 {
     let Some((kind, _)) = tokens.peek() else {
         return Ok(None);
@@ -113,12 +110,9 @@ pub fn parse_postfix(
 /// Parses a range or the two times of a subquery, after the opening bracket.
 #[inline(always)]
 fn parse_range(alloc: Global, tokens: &mut Tokens<'_>) -> Result<ParsedPostfix, ReadError>
-    ensures gives { (n : ℕ) → MatchResult result
-        (λ held. ParsesPostfix n held (symbols_left tokens.new)
-        (parse_range (symbols_left tokens.old)))
-        (λ e. Fails (e, symbols_left tokens.new) (parse_range (symbols_left tokens.old))) }
-    ensures short { OnOk result
-        (length (symbols_left tokens.new) < length (symbols_left tokens.old)) }
+    ensures gives { (n : ℕ) → Reads (ParsesPostfix n) (symbols_left tokens.new)
+        (parse_range (symbols_left tokens.old)) result }
+    ensures short { OnOk result (IsShorter tokens.new tokens.old) }
     ensures counts { OnOk result (CountsTaken tokens.old tokens.new) }
 {
     let range = parse_time(alloc, tokens)?;
@@ -144,12 +138,9 @@ fn parse_step(
     tokens: &mut Tokens<'_>,
     range: Result<Duration, Box<BuildError>>,
 ) -> Result<ParsedPostfix, ReadError>
-    ensures gives { (n : ℕ) (t : part.Time) → view_result as_nanos range ≡ time_value t → MatchResult result
-        (λ held. ParsesPostfix n held (symbols_left tokens.new)
-        (parsing.parse_step t (symbols_left tokens.old)))
-        (λ e. Fails (e, symbols_left tokens.new) (parsing.parse_step t (symbols_left tokens.old))) }
-    ensures short { OnOk result
-        (length (symbols_left tokens.new) < length (symbols_left tokens.old)) }
+    ensures gives { (n : ℕ) (t : part.Time) → view_result as_nanos range ≡ time_value t → Reads (ParsesPostfix n) (symbols_left tokens.new)
+        (parsing.parse_step t (symbols_left tokens.old)) result }
+    ensures short { OnOk result (IsShorter tokens.new tokens.old) }
     ensures counts { OnOk result (CountsTaken tokens.old tokens.new) }
 {
     if tokens.eat(TokenKind::RightBracket) {
@@ -163,12 +154,9 @@ fn parse_step(
 /// Parses what follows `@`.
 #[inline(never)]
 fn parse_at_modifier(alloc: Global, tokens: &mut Tokens<'_>) -> Result<ParsedPostfix, ReadError>
-    ensures gives { MatchResult result
-        (λ held. ParsesPostfix (token_count tokens.old) held (symbols_left tokens.new)
-        (parsing.parse_at_modifier (symbols_left tokens.old)))
-        (λ e. Fails (e, symbols_left tokens.new) (parsing.parse_at_modifier (symbols_left tokens.old))) }
-    ensures short { OnOk result
-        (length (symbols_left tokens.new) < length (symbols_left tokens.old)) }
+    ensures gives { Reads (ParsesPostfix (token_count tokens.old)) (symbols_left tokens.new)
+        (parsing.parse_at_modifier (symbols_left tokens.old)) result }
+    ensures short { OnOk result (IsShorter tokens.new tokens.old) }
     ensures counts { OnOk result (CountsTaken tokens.old tokens.new) }
 {
     let Some((kind, _)) = tokens.peek() else {
@@ -195,12 +183,9 @@ fn parse_at_modifier(alloc: Global, tokens: &mut Tokens<'_>) -> Result<ParsedPos
 /// Parses the parentheses after `start` or `end`.
 fn parse_at_bound(tokens: &mut Tokens<'_>, at: AtModifier) -> Result<ParsedPostfix, ReadError>
     ensures gives { (n : ℕ) (k : kinds.TokenKind) (t : Text) → moment_of at ≡ bound_moment k
-        → MatchResult result
-        (λ held. ParsesPostfix n held (symbols_left tokens.new)
-        (parsing.parse_at_bound k t (symbols_left tokens.old)))
-        (λ e. Fails (e, symbols_left tokens.new) (parsing.parse_at_bound k t (symbols_left tokens.old))) }
-    ensures short { OnOk result
-        (length (symbols_left tokens.new) < length (symbols_left tokens.old)) }
+        → Reads (ParsesPostfix n) (symbols_left tokens.new)
+        (parsing.parse_at_bound k t (symbols_left tokens.old)) result }
+    ensures short { OnOk result (IsShorter tokens.new tokens.old) }
     ensures counts { OnOk result (CountsTaken tokens.old tokens.new) }
 {
     tokens.expect(TokenKind::LeftParen)?;

@@ -1,16 +1,16 @@
 //! The rule `braces`: the matchers of a selector.
 
-ghost use Rattle.std.specs.Prelude.{◌≡◌, ◌<◌, true, length, IfOk, MatchResult, OnOk};
+ghost use Rattle.std.specs.Prelude.{◌≡◌, ◌<◌, true, IfOk, MatchResult, OnOk};
 ghost use Rattle.promql_grammar.specs.GrammarParts as part;
 ghost use Rattle.promql_grammar.specs.Parsing as parsing;
-ghost use Rattle.promql_grammar.specs.SymbolsLeft.{CountsTaken, symbols_left};
+ghost use Rattle.promql_grammar.specs.SymbolsLeft.{CountsTaken, IsShorter, symbols_left};
 ghost use Rattle.promql_grammar.specs.MatcherTokens.{is_or, item_parts, operator_of_part, parts_of};
-ghost use Rattle.promql_grammar.specs.Failures.{Fails};
+ghost use Rattle.promql_grammar.specs.Failures.{Reads};
 ghost use Rattle.promql_label.specs.Answers.{Allows, built, rejected};
 ghost use Rattle.promql_label.specs.MatcherViews.{operator_of, plain_matcher_of, plain_matchers_of};
 ghost use Rattle.promql_syntax.specs.BuildErrors as spec;
 ghost use Rattle.promql_syntax.specs.BuildErrors.{build_error_of, view_result};
-ghost use Rattle.promql_syntax.specs.ParsesPart.{ParsesAskedPart, IsBuiltBy};
+ghost use Rattle.promql_syntax.specs.ParsesPart.{IsBuiltBy, ParsesAskedPart};
 ghost use Rattle.promql_syntax.specs.MatcherItems.{AddsItem};
 ghost use Rattle.promql_syntax.specs.PartBuilding.{braces_value, item_value, operator_value};
 
@@ -26,12 +26,9 @@ use std::alloc::{AllocError, Global};
 
 /// Parses matchers after an opening brace, and the closing one. It builds them where `builds`.
 pub fn parse_braces(alloc: Global, builds: bool, tokens: &mut Tokens<'_>) -> Parsed<Matchers>
-    ensures gives { MatchResult result
-        (λ value. ParsesAskedPart builds plain_matchers_of braces_value value (symbols_left tokens.new)
-        (parsing.parse_braces (symbols_left tokens.old)))
-        (λ e. Fails (e, symbols_left tokens.new) (parsing.parse_braces (symbols_left tokens.old))) }
-    ensures short { OnOk result
-        (length (symbols_left tokens.new) < length (symbols_left tokens.old)) }
+    ensures gives { Reads (ParsesAskedPart builds plain_matchers_of braces_value) (symbols_left tokens.new)
+        (parsing.parse_braces (symbols_left tokens.old)) result }
+    ensures short { OnOk result (IsShorter tokens.new tokens.old) }
     ensures counts { OnOk result (CountsTaken tokens.old tokens.new) }
 {
     let mut matchers = Ok(Matchers::empty(alloc));

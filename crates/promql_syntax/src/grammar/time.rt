@@ -1,12 +1,12 @@
 //! Numbers, times and their signs.
 
-ghost use Rattle.std.specs.Prelude.{◌≡◌, ◌<◌, if◌then◌else◌, length, IfOk, MatchResult, OnOk};
+ghost use Rattle.std.specs.Prelude.{◌≡◌, ◌<◌, IfOk, OnOk};
 ghost use Rattle.std.specs.Duration.{as_nanos};
 ghost use Rattle.promql_text.specs.declared.number.Number as numbers;
 ghost use Rattle.promql_grammar.specs.Parsing as parsing;
 ghost use Rattle.promql_text.specs.Values.{neg};
-ghost use Rattle.promql_grammar.specs.SymbolsLeft.{CountsTaken, symbols_left};
-ghost use Rattle.promql_grammar.specs.Failures.{Fails};
+ghost use Rattle.promql_grammar.specs.SymbolsLeft.{CountsTaken, IsShorter, symbols_left};
+ghost use Rattle.promql_grammar.specs.Failures.{Reads};
 ghost use Rattle.promql_grammar.specs.PartTokens.{parse_offset, parse_signed_number};
 ghost use Rattle.promql_ast.specs.Shifts.{ahead, back, shift_of};
 ghost use Rattle.promql_syntax.specs.BuildErrors.{view_result};
@@ -25,13 +25,9 @@ use std::time::Duration;
 
 /// Parses a number.
 pub fn parse_number(alloc: Global, tokens: &mut Tokens<'_>) -> Parsed<Number>
-    ensures gives { MatchResult result
-        (λ value. ParsesPart (λ (n : numbers.Number). n) number_value value
-        (symbols_left tokens.new)
-        (parsing.parse_number (symbols_left tokens.old)))
-        (λ e. Fails (e, symbols_left tokens.new) (parsing.parse_number (symbols_left tokens.old))) }
-    ensures short { OnOk result
-        (length (symbols_left tokens.new) < length (symbols_left tokens.old)) }
+    ensures gives { Reads (ParsesPart (λ (n : numbers.Number). n) number_value) (symbols_left tokens.new)
+        (parsing.parse_number (symbols_left tokens.old)) result }
+    ensures short { OnOk result (IsShorter tokens.new tokens.old) }
     ensures counts { OnOk result (CountsTaken tokens.old tokens.new) }
 {
     let Some((kind, text)) = tokens.peek() else {
@@ -49,12 +45,9 @@ pub fn parse_number(alloc: Global, tokens: &mut Tokens<'_>) -> Parsed<Number>
 
 /// Parses a number with its sign, if it has one.
 pub fn parse_signed_number(alloc: Global, tokens: &mut Tokens<'_>) -> Parsed<Number>
-    ensures gives { MatchResult result
-        (λ value. ParsesPart (λ (n : numbers.Number). n) (λ p. signed_number p.0 p.1) value
-        (symbols_left tokens.new) (parse_signed_number (symbols_left tokens.old)))
-        (λ e. Fails (e, symbols_left tokens.new) (parse_signed_number (symbols_left tokens.old))) }
-    ensures short { OnOk result
-        (length (symbols_left tokens.new) < length (symbols_left tokens.old)) }
+    ensures gives { Reads (ParsesPart (λ (n : numbers.Number). n) (λ p. signed_number p.0 p.1)) (symbols_left tokens.new)
+        (parse_signed_number (symbols_left tokens.old)) result }
+    ensures short { OnOk result (IsShorter tokens.new tokens.old) }
     ensures counts { OnOk result (CountsTaken tokens.old tokens.new) }
 {
     let is_minus = eat_sign(tokens);
@@ -65,12 +58,9 @@ pub fn parse_signed_number(alloc: Global, tokens: &mut Tokens<'_>) -> Parsed<Num
 /// Parses a time: a number of seconds, or a duration.
 #[inline(always)]
 pub fn parse_time(alloc: Global, tokens: &mut Tokens<'_>) -> Parsed<Duration>
-    ensures gives { MatchResult result
-        (λ value. ParsesPart as_nanos time_value value (symbols_left tokens.new)
-        (parsing.parse_time (symbols_left tokens.old)))
-        (λ e. Fails (e, symbols_left tokens.new) (parsing.parse_time (symbols_left tokens.old))) }
-    ensures short { OnOk result
-        (length (symbols_left tokens.new) < length (symbols_left tokens.old)) }
+    ensures gives { Reads (ParsesPart as_nanos time_value) (symbols_left tokens.new)
+        (parsing.parse_time (symbols_left tokens.old)) result }
+    ensures short { OnOk result (IsShorter tokens.new tokens.old) }
     ensures counts { OnOk result (CountsTaken tokens.old tokens.new) }
 {
     let Some((kind, text)) = tokens.peek() else {
@@ -93,12 +83,9 @@ pub fn parse_time(alloc: Global, tokens: &mut Tokens<'_>) -> Parsed<Duration>
 
 /// Parses the time of an `offset`, with its sign, if it has one.
 pub fn parse_offset(alloc: Global, tokens: &mut Tokens<'_>) -> Parsed<Offset>
-    ensures gives { MatchResult result
-        (λ value. ParsesPart shift_of (λ p. shift_value p.0 p.1) value (symbols_left tokens.new)
-        (parse_offset (symbols_left tokens.old)))
-        (λ e. Fails (e, symbols_left tokens.new) (parse_offset (symbols_left tokens.old))) }
-    ensures short { OnOk result
-        (length (symbols_left tokens.new) < length (symbols_left tokens.old)) }
+    ensures gives { Reads (ParsesPart shift_of (λ p. shift_value p.0 p.1)) (symbols_left tokens.new)
+        (parse_offset (symbols_left tokens.old)) result }
+    ensures short { OnOk result (IsShorter tokens.new tokens.old) }
     ensures counts { OnOk result (CountsTaken tokens.old tokens.new) }
 {
     let is_minus = eat_sign(tokens);
