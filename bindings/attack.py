@@ -32,6 +32,8 @@ MATCHER = 'tenant="a"'
 # promql has no limits, is held against what a part of it takes on the same machine.)
 SECONDS, MEMORY = 10, 512
 TOO_DEEP, UNCLOSED = "expression nested too deeply", "unclosed left parenthesis"
+# What promql_check says in place of TOO_DEEP.
+TOO_MANY_LEVELS = "more than 512 levels: "
 TOO_LARGE, TOO_LONG = "patterns are too large", "query is too long"
 
 checks = Checks()
@@ -174,7 +176,8 @@ def attack_by_queries():
             if name in OVER_LIMITS and program.startswith("promql_"):
                 is_so = ran.status == 14 and OVER_LIMITS[name] in ran.err
             else:
-                is_so = ran.status == status and ran.err.startswith(message)
+                said = TOO_MANY_LEVELS if message == TOO_DEEP and program == "promql_check" else message
+                is_so = ran.status == status and ran.err.startswith(said)
             check(f"{name}, {program}", is_so, (ran.status, ran.err))
     if not knows_limits():
         print("not tried: queries of large patterns: the programs of dist/ know no --max-patterns")
