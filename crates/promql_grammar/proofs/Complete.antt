@@ -8,7 +8,8 @@ use Rattle.promql_grammar.specs.declared.token_kinds.TokenKind.{TokenKind}
 use Rattle.promql_grammar.specs.declared.token_kinds.TokenKind.TheVariants as kind
 use Rattle.promql_grammar.specs.Results.{◌then◌}
 use Rattle.promql_grammar.specs.Symbols.{Symbol, punct, word, begins, may_begin, may_be_name, may_be_called, is_plus_or_minus, is_word_operator}
-use Rattle.promql_grammar.specs.GrammarParts.{Grouping, by, without, no_clause, before, after, bare, Matching, matching, Fills, no_fill, Braces, no_item, items, Postfix, range, subquery, at_number, at_bound, offset, mode, yield_grouping, yield_modifier, yield_braces, yield_any_braces, yield_postfix, IsGrouping, IsBraces, IsAnyBraces, IsPostfix}
+use Rattle.promql_grammar.specs.GrammarParts.{Grouping, grouping, no_clause, before, after, bare, Matching, matching, Fills, no_fill, Braces, no_item, items, Postfix, range, subquery, at_number, at_bound, offset, mode, yield_grouping, yield_modifier, yield_braces, yield_any_braces, yield_postfix, IsClause}
+use Rattle.promql_grammar.specs.PartTokens.{IsGrouping}
 use Rattle.promql_grammar.specs.Grammar.{Derivation, number, duration, string, selector, nameless, paren, call, aggregate, postfixed, unary, binary, Arguments, none, more, yield, yield_arguments, yield_rest, precedence, openness, height, greatest_height, IsWellFormed, AreWellFormed, IsBase, OpensNoParen, FitsMatching}
 use Rattle.promql_grammar.specs.Parsing.{Read, Reader, right_precedence, parse_grouping, parse_modifier, parse_more_postfixes, parse_postfixes, parse_paren_end, parse_more_arguments, parse_arguments, parse_selector, parse_call, parse_grouped_aggregate, parse_aggregate, parse_unary, parse_operators, parse_expression}
 use Rattle.promql_grammar.proofs.GrammarChoices.{if_true, if_false}
@@ -62,7 +63,7 @@ pub begins_here : (d : Derivation) (rest : List Symbol) → IsWellFormed d → b
 begins_here (number t) rest h = refl
 begins_here (duration t) rest h = refl
 begins_here (string t) rest h = refl
-begins_here (selector k t b) rest h = name_begins k h.0
+begins_here (selector k t b) rest h = name_begins k h
 begins_here (nameless no_item) rest h = refl
 begins_here (nameless (items is)) rest h = refl
 begins_here (paren d) rest h = refl
@@ -86,7 +87,7 @@ open_more (punct kind.LeftParen ∷ ts) us b h = h
 open_more (t ∷ ts) us b h = tt
 
 fits_more : (m : Matching) (f : Fills) (ts us : List Symbol) → begins ts ≡ true → FitsMatching m f ts → FitsMatching m f (ts ++ us)
-fits_more (matching k t ls (bare k' t')) no_fill ts us b h = open_more ts us b h
+fits_more (matching on t ls (bare left t')) no_fill ts us b h = open_more ts us b h
 fits_more m f ts us b h = tt
 
 follows_ends : (o : ℕ) (ts : List Symbol) → Follows o ts → EndsWord ts
@@ -96,15 +97,14 @@ follows_ends o (punct kind.RightParen ∷ ts) h = tt
 follows_ends o (punct kind.Comma ∷ ts) h = tt
 follows_ends o ts h = absurd h
 
-postfix_ends : (p : Postfix) (rest : List Symbol) → IsPostfix p → EndsWord (yield_postfix p ++ rest)
-postfix_ends (range t) rest h = tt
-postfix_ends (subquery t s) rest h = tt
-postfix_ends (at_number s t) rest h = tt
-postfix_ends (at_bound k t) rest h = tt
-postfix_ends (offset t s u) rest h = tt
-postfix_ends (mode kind.Smoothed t) rest h = tt
-postfix_ends (mode kind.Anchored t) rest h = tt
-postfix_ends (mode k t) rest h = cc
+postfix_ends : (p : Postfix) (rest : List Symbol) → EndsWord (yield_postfix p ++ rest)
+postfix_ends (range t) rest = tt
+postfix_ends (subquery t s) rest = tt
+postfix_ends (at_number s t) rest = tt
+postfix_ends (at_bound start t) rest = tt
+postfix_ends (offset t s u) rest = tt
+postfix_ends (mode true t) rest = tt
+postfix_ends (mode false t) rest = tt
 
 follows_rest : (o : ℕ) (ds : Arguments) (rest : List Symbol) → Follows o (yield_rest ds ++ rest)
 follows_rest o none rest = tt
@@ -131,6 +131,12 @@ no_clause_at : (ts : List Symbol) → EndsWord ts → parse_grouping ts ≡ Ok (
 no_clause_at (word kind.By t ∷ ts) h = absurd h
 no_clause_at (word kind.Without t ∷ ts) h = absurd h
 no_clause_at ts h = refl
+
+is_grouping : (g : Grouping) → IsClause (after g) → IsGrouping g
+is_grouping (grouping by t ls) h = h
+
+is_first_grouping : (g : Grouping) → IsClause (before g) → IsGrouping g
+is_first_grouping (grouping by t ls) h = h
 
 module _ (r : Reader) (n : ℕ) (reads : Reads r n) where
   rest_reads : (ds : Arguments) (k : ℕ) (rest : List Symbol) → AreWellFormed ds → length (yield_rest ds) ≤ k → parse_more_arguments r k (yield_rest ds ++ rest) ≡ within n (greatest_height ds) (Ok (ds, rest))
@@ -165,10 +171,10 @@ module _ (r : Reader) (n : ℕ) (reads : Reads r n) where
   leaf : (d : Derivation) (k j : ℕ) (rest : List Symbol) → k ≡ j → height d ≡ 1 → parse_postfixes k (suc n) d rest ≡ within (suc n) (height d) (parse_postfixes j (suc n) d rest)
   leaf d k j rest e h = ap (λ i. parse_postfixes i (suc n) d rest) e ∙ sym (within_low (suc n) (height d) (parse_postfixes j (suc n) d rest) (omega arith))
 
-  named_reads : (w : TokenKind) (t : Text) (b : Option Braces) (k j : ℕ) (rest : List Symbol) → k ≡ j → may_be_name w ≡ true → IsAnyBraces b → EndsWord rest → parse_selector k (suc n) w t (yield_any_braces b ++ rest) ≡ within (suc n) 1 (parse_postfixes j (suc n) (selector w t b) rest)
-  named_reads w t b k j rest e h i o =
+  named_reads : (w : TokenKind) (t : Text) (b : Option Braces) (k j : ℕ) (rest : List Symbol) → k ≡ j → may_be_name w ≡ true → EndsWord rest → parse_selector k (suc n) w t (yield_any_braces b ++ rest) ≡ within (suc n) 1 (parse_postfixes j (suc n) (selector w t b) rest)
+  named_reads w t b k j rest e h o =
       if_true (may_be_name w) _ _ h
-      ∙ ap (λ o. o then λ b. parse_postfixes k (suc n) (selector w t b.0) b.1) (any_braces_reads b rest i o)
+      ∙ ap (λ o. o then λ b. parse_postfixes k (suc n) (selector w t b.0) b.1) (any_braces_reads b rest o)
       ∙ leaf (selector w t b) k j rest e refl
 
   -- a word that is no call
@@ -215,16 +221,16 @@ module _ (r : Reader) (n : ℕ) (reads : Reads r n) where
 
   -- a grouping before arguments
   first_grouped : (op : ℕ) (t : Text) (g : Grouping) (k : ℕ) (ts : List Symbol) → IsGrouping g → parse_unary r k (suc n) (word (kind.Aggregator op) t ∷ (yield_grouping g ++ punct kind.LeftParen ∷ ts)) ≡ (parse_arguments r ts then λ y. parse_postfixes k (suc n) (aggregate op t (before g) y.0) y.1)
-  first_grouped op t (by u ls) k ts h = ap (λ o. o then λ l. parse_grouped_aggregate r k (suc n) op t (by u l.0) l.1) (labels_reads ls (punct kind.LeftParen ∷ ts) h)
-  first_grouped op t (without u ls) k ts h = ap (λ o. o then λ l. parse_grouped_aggregate r k (suc n) op t (without u l.0) l.1) (labels_reads ls (punct kind.LeftParen ∷ ts) h)
+  first_grouped op t (grouping true u ls) k ts h = ap (λ o. o then λ l. parse_grouped_aggregate r k (suc n) op t (grouping true u l.0) l.1) (labels_reads ls (punct kind.LeftParen ∷ ts) h)
+  first_grouped op t (grouping false u ls) k ts h = ap (λ o. o then λ l. parse_grouped_aggregate r k (suc n) op t (grouping false u l.0) l.1) (labels_reads ls (punct kind.LeftParen ∷ ts) h)
 
   clause_after : (g : Grouping) (rest : List Symbol) → IsGrouping g → parse_grouping (yield_grouping g ++ rest) ≡ Ok (after g, rest)
-  clause_after (by u ls) rest h = ap (λ o. o then λ l. Ok (after (by u l.0), l.1)) (labels_reads ls rest h)
-  clause_after (without u ls) rest h = ap (λ o. o then λ l. Ok (after (without u l.0), l.1)) (labels_reads ls rest h)
+  clause_after (grouping true u ls) rest h = ap (λ o. o then λ l. Ok (after (grouping true u l.0), l.1)) (labels_reads ls rest h)
+  clause_after (grouping false u ls) rest h = ap (λ o. o then λ l. Ok (after (grouping false u l.0), l.1)) (labels_reads ls rest h)
 
-  first_nameless : (b : Braces) (k : ℕ) (rest : List Symbol) → IsBraces b → parse_unary r k (suc n) (yield_braces b ++ rest) ≡ parse_postfixes k (suc n) (nameless b) rest
-  first_nameless no_item k rest h = refl
-  first_nameless (items is) k rest h = ap (λ o. o then λ b. parse_postfixes k (suc n) (nameless b.0) b.1) (braces_in_reads (items is) rest h)
+  first_nameless : (b : Braces) (k : ℕ) (rest : List Symbol) → parse_unary r k (suc n) (yield_braces b ++ rest) ≡ parse_postfixes k (suc n) (nameless b) rest
+  first_nameless no_item k rest = refl
+  first_nameless (items is) k rest = ap (λ o. o then λ b. parse_postfixes k (suc n) (nameless b.0) b.1) (braces_in_reads (items is) rest)
 
   -- the arguments of a form and what goes on with it
   arguments_then : (form : Arguments → Derivation) (ds : Arguments) (k j : ℕ) (ts rest : List Symbol) (go : Arguments → List Symbol → Read Derivation) → k ≡ j → height (form ds) ≡ 1 + greatest_height ds → AreWellFormed ds → go ds rest ≡ parse_postfixes k (suc n) (form ds) ts → (parse_arguments r (yield_arguments ds ++ rest) then λ y. go y.0 y.1) ≡ within (suc n) (height (form ds)) (parse_postfixes j (suc n) (form ds) ts)
@@ -238,8 +244,8 @@ module _ (r : Reader) (n : ℕ) (reads : Reads r n) where
   bases (number t) k j rest e h b o = leaf (number t) k j rest (omega arith) refl
   bases (duration t) k j rest e h b o = leaf (duration t) k j rest (omega arith) refl
   bases (string t) k j rest e h b o = leaf (string t) k j rest (omega arith) refl
-  bases (selector w t s) k j rest e h b o = first_named w t k s rest h.0 o ∙ named_reads w t s k j rest (omega arith) h.0 h.1 o
-  bases (nameless s) k j rest e h b o = first_nameless s k rest h ∙ leaf (nameless s) k j rest (omega arith) refl
+  bases (selector w t s) k j rest e h b o = first_named w t k s rest h o ∙ named_reads w t s k j rest (omega arith) h o
+  bases (nameless s) k j rest e h b o = first_nameless s k rest ∙ leaf (nameless s) k j rest (omega arith) refl
   bases (paren d) k j rest e h b o =
       let f : k ≡ j = omega arith in
       ap (λ ts. r 0 ts then λ x. parse_paren_end k (suc n) x.0 x.1) (append_assoc (yield d) (punct kind.RightParen ∷ []) rest)
@@ -253,17 +259,17 @@ module _ (r : Reader) (n : ℕ) (reads : Reads r n) where
       ∙ arguments_then (aggregate op t no_clause) ds k j rest rest (λ ds ts. parse_grouping ts then λ c. parse_postfixes k (suc n) (aggregate op t c.0 ds) c.1) (omega arith) refl h.1 (ap (λ o. o then λ c. parse_postfixes k (suc n) (aggregate op t c.0 ds) c.1) (no_clause_at rest o))
   bases (aggregate op t (after g) ds) k j rest e h b o =
       ap (λ ts. parse_arguments r ts then λ y. parse_grouping y.1 then λ c. parse_postfixes k (suc n) (aggregate op t c.0 y.0) c.1) (append_assoc (yield_arguments ds) (yield_grouping g) rest)
-      ∙ arguments_then (aggregate op t (after g)) ds k j rest (yield_grouping g ++ rest) (λ ds ts. parse_grouping ts then λ c. parse_postfixes k (suc n) (aggregate op t c.0 ds) c.1) (omega arith) refl h.1 (ap (λ o. o then λ c. parse_postfixes k (suc n) (aggregate op t c.0 ds) c.1) (clause_after g rest h.0))
+      ∙ arguments_then (aggregate op t (after g)) ds k j rest (yield_grouping g ++ rest) (λ ds ts. parse_grouping ts then λ c. parse_postfixes k (suc n) (aggregate op t c.0 ds) c.1) (omega arith) refl h.1 (ap (λ o. o then λ c. parse_postfixes k (suc n) (aggregate op t c.0 ds) c.1) (clause_after g rest (is_grouping g h.0)))
   bases (aggregate op t (before g) ds) k j rest e h b o =
       ap (λ ts. parse_unary r k (suc n) (word (kind.Aggregator op) t ∷ ts)) (append_assoc (yield_grouping g) (punct kind.LeftParen ∷ (yield_arguments ds ++ [])) rest)
-      ∙ first_grouped op t g k ((yield_arguments ds ++ []) ++ rest) h.0
+      ∙ first_grouped op t g k ((yield_arguments ds ++ []) ++ rest) (is_first_grouping g h.0)
       ∙ ap (λ ts. parse_arguments r ts then λ y. parse_postfixes k (suc n) (aggregate op t (before g) y.0) y.1) (append_assoc (yield_arguments ds) [] rest)
       ∙ arguments_then (aggregate op t (before g)) ds k j rest rest (λ ds ts. parse_postfixes k (suc n) (aggregate op t (before g) ds) ts) (omega arith) refl h.1 refl
   bases (postfixed d p) k j rest e h b o =
       let same : max (height d) (height (postfixed d p)) ≡ height (postfixed d p) = omega arith in
       ap (parse_unary r k (suc n)) (append_assoc (yield d) (yield_postfix p) rest)
-      ∙ bases d k (suc j) (yield_postfix p ++ rest) (omega arith) h.0 h.1 (postfix_ends p rest h.2)
-      ∙ ap (λ o. within (suc n) (height d) (o then λ p. parse_more_postfixes (parse_postfixes j (suc n)) (suc n) d p.0 p.1)) (postfix_reads p rest h.2)
+      ∙ bases d k (suc j) (yield_postfix p ++ rest) (omega arith) h.0 h.1 (postfix_ends p rest)
+      ∙ ap (λ o. within (suc n) (height d) (o then λ p. parse_more_postfixes (parse_postfixes j (suc n)) (suc n) d p.0 p.1)) (postfix_reads p rest)
       ∙ within_both (suc n) (height d) (height (postfixed d p)) (parse_postfixes j (suc n) (postfixed d p) rest)
       ∙ ap (λ i. within (suc n) i (parse_postfixes j (suc n) (postfixed d p) rest)) same
   bases (unary op t d) k j rest e h b o = absurd b

@@ -1,61 +1,39 @@
 -- Each part is parsed from its tokens.
-use Rattle.std.proofs.Common.{◌≡◌, ℕ, zero, suc, ◌≤◌, refl, ◌∙◌, ap, arith, List, [], ◌∷◌, ◌++◌, length, length-append, append_assoc, true, Option, Some, None}
-use Rattle.std.specs.Prelude.{Ok, Err, if◌then◌else◌}
+use Rattle.std.proofs.Common.{◌≡◌, ℕ, zero, suc, ◌≤◌, refl, ◌∙◌, ap, arith, List, [], ◌∷◌, ◌++◌, length, length-append, append_assoc, Bool, true, false, Option, Some, None}
+use Rattle.std.specs.Prelude.{Ok, if◌then◌else◌}
 use Rattle.promql_text.specs.Texts.{Text}
-use Rattle.promql_grammar.specs.declared.token_kinds.TokenKind.{TokenKind}
 use Rattle.promql_grammar.specs.declared.token_kinds.TokenKind.TheVariants as kind
 use Rattle.promql_grammar.specs.Results.{◌then◌}
-use Rattle.promql_grammar.specs.Symbols.{Symbol, punct, word, begins, may_be_label}
-use Rattle.promql_grammar.specs.GrammarParts.{seconds, duration, Signed, unsigned, signed, Names, last, last_comma, next, Labels, no_label, labels, Group, no_group, bare, listed, Matching, no_matching, matching, FillValue, Fills, no_fill, both, left, right, left_right, right_left, Modifier, equal, not_equal, equal_regex, not_equal_regex, Item, matcher, lone, comma, or, Items, last_item, last_item_comma, next_item, Braces, no_item, items, Postfix, range, subquery, at_number, at_bound, offset, mode, yield_signed, yield_names, yield_labels, yield_group, yield_matching, yield_value, yield_fills, yield_flag, yield_modifier, yield_item, yield_items, yield_separator, yield_any_braces, yield_postfix, IsSigned, AreLabels, IsLabels, IsGroup, IsMatching, IsFills, IsModifier, IsItem, AreItems, IsBraces, IsAnyBraces, IsPostfix}
-use Rattle.promql_grammar.specs.Grammar.{OpensNoParen, FitsGroup, FitsMatching}
-use Rattle.promql_grammar.specs.Parsing.{misfit, Read, parse_time, eat_sign, parse_number, parse_fill_value_end, parse_fill_value, parse_label_names, parse_label_list, parse_labels, parse_group_labels, parse_group, parse_matching_after, parse_matching, parse_fills, parse_fill_right, parse_fill_left, parse_flag, with_fills, with_matching, parse_modifier, parse_match_operator, parse_after_string, parse_item, parse_after_item, parse_items, parse_braces, parse_optional_braces, parse_postfix}
+use Rattle.promql_grammar.specs.Symbols.{Symbol, punct, word, begins}
+use Rattle.promql_grammar.specs.GrammarParts.{seconds, duration, Signed, unsigned, signed, Labels, no_label, last, next, Group, no_group, bare, listed, Matching, no_matching, matching, FillValue, Fills, no_fill, both, one, two, Modifier, equal, not_equal, equal_regex, not_equal_regex, Item, matcher, lone, comma, or, Items, last_item, last_item_comma, next_item, Braces, no_item, items, Postfix, range, subquery, at_number, at_bound, offset, mode, yield_signed, yield_names, yield_labels, yield_group, yield_matching, yield_value, yield_fills, yield_modifier, yield_item, yield_items, yield_separator, yield_any_braces, yield_postfix, IsLabels, IsGroup, IsMatching}
+use Rattle.promql_grammar.specs.PartTokens.{yield_flag}
+use Rattle.promql_grammar.specs.Grammar.{OpensNoParen, FitsMatching}
+use Rattle.promql_grammar.specs.Parsing.{Read, eat_sign, parse_number, parse_fill_value_end, parse_fill_value, parse_label_list, parse_labels, parse_group_labels, parse_group, parse_matching_after, parse_matching, parse_fills, parse_fill_right, parse_fill_left, parse_flag, with_fills, with_matching, parse_modifier, parse_match_operator, parse_after_string, parse_item, parse_after_item, parse_items, parse_braces, parse_optional_braces, parse_postfix}
 use Rattle.promql_grammar.proofs.GrammarChoices.{if_true}
 
-signed_number : (s : Signed) (t : Text) (rest : List Symbol) → IsSigned s → eat_sign (yield_signed s ++ word kind.Number t ∷ rest) ≡ Ok (s, word kind.Number t ∷ rest)
-signed_number unsigned t rest h = refl
-signed_number (signed op u) t rest h = if_true _ _ _ h
+signed_number : (s : Signed) (t : Text) (rest : List Symbol) → eat_sign (yield_signed s ++ word kind.Number t ∷ rest) ≡ Ok (s, word kind.Number t ∷ rest)
+signed_number unsigned t rest = refl
+signed_number (signed true u) t rest = refl
+signed_number (signed false u) t rest = refl
 
-value_parts : (s : Signed) (n : Text) (rest : List Symbol) → IsSigned s → parse_fill_value (yield_value record { sign = s; number = n } ++ rest) ≡ Ok (record { sign = s; number = n }, rest)
-value_parts s n rest h =
+value_parts : (s : Signed) (n : Text) (rest : List Symbol) → parse_fill_value (yield_value record { sign = s; number = n } ++ rest) ≡ Ok (record { sign = s; number = n }, rest)
+value_parts s n rest =
     ap (λ ts. eat_sign ts then λ s. parse_number s.1 then λ n. parse_fill_value_end s.0 n.0 n.1) (append_assoc (yield_signed s) (word kind.Number n ∷ (punct kind.RightParen ∷ [])) rest)
-    ∙ ap (λ o. o then λ s. parse_number s.1 then λ n. parse_fill_value_end s.0 n.0 n.1) (signed_number s n (punct kind.RightParen ∷ rest) h)
+    ∙ ap (λ o. o then λ s. parse_number s.1 then λ n. parse_fill_value_end s.0 n.0 n.1) (signed_number s n (punct kind.RightParen ∷ rest))
 
-pub value_reads : (v : FillValue) (rest : List Symbol) → IsSigned v.sign → parse_fill_value (yield_value v ++ rest) ≡ Ok (v, rest)
-value_reads v rest h = value_parts v.sign v.number rest h
+pub value_reads : (v : FillValue) (rest : List Symbol) → parse_fill_value (yield_value v ++ rest) ≡ Ok (v, rest)
+value_reads v rest = value_parts v.sign v.number rest
 
--- no label list ends here
-abbrev ClosesNoParen : List Symbol → Type 0
-ClosesNoParen (punct kind.RightParen ∷ ts) = ⊥
-ClosesNoParen ts = Unit {0}
-
-names_begin : (names : Names) (rest : List Symbol) → ClosesNoParen (yield_names names ++ rest)
-names_begin (last k t) rest = tt
-names_begin (last_comma k t) rest = tt
-names_begin (next k t names) rest = tt
-
-names_next : (k : TokenKind) (t : Text) (ts : List Symbol) → ClosesNoParen ts → parse_label_names (word k t ∷ (punct kind.Comma ∷ ts)) ≡ (if may_be_label k then (parse_label_names ts then λ y. Ok (next k t y.0, y.1)) else Err (misfit (word k t ∷ (punct kind.Comma ∷ ts))))
-names_next k t (punct kind.RightParen ∷ ts) h = absurd h
-names_next k t ts h = refl
-
-pub names_reads : (names : Names) (rest : List Symbol) → AreLabels names → parse_label_names (yield_names names ++ rest) ≡ Ok (names, rest)
+pub names_reads : (ls : Labels) (rest : List Symbol) → IsLabels ls → parse_label_list (yield_names ls ++ rest) ≡ Ok (ls, rest)
+names_reads no_label rest h = refl
 names_reads (last k t) rest h = if_true _ _ _ h
-names_reads (last_comma k t) rest h = if_true _ _ _ h
-names_reads (next k t names) rest h =
-    names_next k t (yield_names names ++ rest) (names_begin names rest)
-    ∙ if_true _ _ _ h.0
-    ∙ ap (λ o. o then λ y. Ok (next k t y.0, y.1)) (names_reads names rest h.1)
-
-labels_some : (ts : List Symbol) → ClosesNoParen ts → parse_label_list ts ≡ (parse_label_names ts then λ y. Ok (labels y.0, y.1))
-labels_some (punct kind.RightParen ∷ ts) h = absurd h
-labels_some ts h = refl
+names_reads (next k t ls) rest h = if_true _ _ _ h.0 ∙ ap (λ o. o then λ y. Ok (next k t y.0, y.1)) (names_reads ls rest h.1)
 
 pub labels_reads : (ls : Labels) (rest : List Symbol) → IsLabels ls → parse_labels (yield_labels ls ++ rest) ≡ Ok (ls, rest)
-labels_reads no_label rest h = refl
-labels_reads (labels names) rest h = labels_some (yield_names names ++ rest) (names_begin names rest) ∙ ap (λ o. o then λ y. Ok (labels y.0, y.1)) (names_reads names rest h)
+labels_reads ls rest h = names_reads ls rest h
 
-list_reads : (k : TokenKind) (t : Text) (ls : Labels) (rest : List Symbol) → IsLabels ls → parse_group_labels k t (yield_labels ls ++ rest) ≡ Ok (listed k t ls, rest)
-list_reads k t no_label rest h = refl
-list_reads k t (labels names) rest h = ap (λ o. o then λ l. Ok (listed k t l.0, l.1)) (labels_reads (labels names) rest h)
+list_reads : (left : Bool) (t : Text) (ls : Labels) (rest : List Symbol) → IsLabels ls → parse_group_labels left t (yield_labels ls ++ rest) ≡ Ok (listed left t ls, rest)
+list_reads left t ls rest h = ap (λ o. o then λ l. Ok (listed left t l.0, l.1)) (names_reads ls rest h)
 
 -- an expression begins with none of the words of a modifier
 no_flag : (ts : List Symbol) → begins ts ≡ true → parse_flag ts ≡ Ok (None, ts)
@@ -78,108 +56,111 @@ no_fills_at (word kind.FillLeft t ∷ ts) h = cc
 no_fills_at (word kind.FillRight t ∷ ts) h = cc
 no_fills_at ts h = refl
 
-no_right : (t : Text) (v : FillValue) (ts : List Symbol) → begins ts ≡ true → parse_fill_right t v ts ≡ Ok (left t v, ts)
+no_right : (t : Text) (v : FillValue) (ts : List Symbol) → begins ts ≡ true → parse_fill_right t v ts ≡ Ok (one true t v, ts)
 no_right t v (word kind.FillRight u ∷ ts) h = cc
 no_right t v ts h = refl
 
-no_left : (t : Text) (v : FillValue) (ts : List Symbol) → begins ts ≡ true → parse_fill_left t v ts ≡ Ok (right t v, ts)
+no_left : (t : Text) (v : FillValue) (ts : List Symbol) → begins ts ≡ true → parse_fill_left t v ts ≡ Ok (one false t v, ts)
 no_left t v (word kind.FillLeft u ∷ ts) h = cc
 no_left t v ts h = refl
 
-bare_at : (k : TokenKind) (t : Text) (ts : List Symbol) → OpensNoParen ts → parse_group_labels k t ts ≡ Ok (bare k t, ts)
-bare_at k t (punct kind.LeftParen ∷ ts) h = absurd h
-bare_at k t ts h = refl
+bare_at : (left : Bool) (t : Text) (ts : List Symbol) → OpensNoParen ts → parse_group_labels left t ts ≡ Ok (bare left t, ts)
+bare_at left t (punct kind.LeftParen ∷ ts) h = absurd h
+bare_at left t ts h = refl
 
-fills_reads : (f : Fills) (rest : List Symbol) → IsFills f → begins rest ≡ true → parse_fills (yield_fills f ++ rest) ≡ Ok (f, rest)
-fills_reads no_fill rest h b = no_fills_at rest b
-fills_reads (both t v) rest h b = ap (λ o. o then λ v. Ok (both t v.0, v.1)) (value_reads v rest h)
-fills_reads (left t v) rest h b = ap (λ o. o then λ v. parse_fill_right t v.0 v.1) (value_reads v rest h) ∙ no_right t v rest b
-fills_reads (right t v) rest h b = ap (λ o. o then λ v. parse_fill_left t v.0 v.1) (value_reads v rest h) ∙ no_left t v rest b
-fills_reads (left_right t v u w) rest h b =
+fills_reads : (f : Fills) (rest : List Symbol) → begins rest ≡ true → parse_fills (yield_fills f ++ rest) ≡ Ok (f, rest)
+fills_reads no_fill rest b = no_fills_at rest b
+fills_reads (both t v) rest b = ap (λ o. o then λ v. Ok (both t v.0, v.1)) (value_reads v rest)
+fills_reads (one true t v) rest b = ap (λ o. o then λ v. parse_fill_right t v.0 v.1) (value_reads v rest) ∙ no_right t v rest b
+fills_reads (one false t v) rest b = ap (λ o. o then λ v. parse_fill_left t v.0 v.1) (value_reads v rest) ∙ no_left t v rest b
+fills_reads (two true t v u w) rest b =
     ap (λ ts. parse_fill_value ts then λ v. parse_fill_right t v.0 v.1) (append_assoc (yield_value v) (word kind.FillRight u ∷ yield_value w) rest)
-    ∙ ap (λ o. o then λ v. parse_fill_right t v.0 v.1) (value_reads v (word kind.FillRight u ∷ (yield_value w ++ rest)) h.0)
-    ∙ ap (λ o. o then λ w. Ok (left_right t v u w.0, w.1)) (value_reads w rest h.1)
-fills_reads (right_left t v u w) rest h b =
+    ∙ ap (λ o. o then λ v. parse_fill_right t v.0 v.1) (value_reads v (word kind.FillRight u ∷ (yield_value w ++ rest)))
+    ∙ ap (λ o. o then λ w. Ok (two true t v u w.0, w.1)) (value_reads w rest)
+fills_reads (two false t v u w) rest b =
     ap (λ ts. parse_fill_value ts then λ v. parse_fill_left t v.0 v.1) (append_assoc (yield_value v) (word kind.FillLeft u ∷ yield_value w) rest)
-    ∙ ap (λ o. o then λ v. parse_fill_left t v.0 v.1) (value_reads v (word kind.FillLeft u ∷ (yield_value w ++ rest)) h.0)
-    ∙ ap (λ o. o then λ w. Ok (right_left t v u w.0, w.1)) (value_reads w rest h.1)
+    ∙ ap (λ o. o then λ v. parse_fill_left t v.0 v.1) (value_reads v (word kind.FillLeft u ∷ (yield_value w ++ rest)))
+    ∙ ap (λ o. o then λ w. Ok (two false t v u w.0, w.1)) (value_reads w rest)
 
 -- a word of fills, or what follows them, is neither a matching word nor a grouping word
 fills_no_matching : (f : Fills) (rest : List Symbol) → begins rest ≡ true → parse_matching (yield_fills f ++ rest) ≡ Ok (no_matching, yield_fills f ++ rest)
 fills_no_matching no_fill rest b = no_matching_at rest b
 fills_no_matching (both t v) rest b = refl
-fills_no_matching (left t v) rest b = refl
-fills_no_matching (right t v) rest b = refl
-fills_no_matching (left_right t v u w) rest b = refl
-fills_no_matching (right_left t v u w) rest b = refl
+fills_no_matching (one true t v) rest b = refl
+fills_no_matching (one false t v) rest b = refl
+fills_no_matching (two true t v u w) rest b = refl
+fills_no_matching (two false t v u w) rest b = refl
 
 fills_no_group : (f : Fills) (rest : List Symbol) → begins rest ≡ true → parse_group (yield_fills f ++ rest) ≡ Ok (no_group, yield_fills f ++ rest)
 fills_no_group no_fill rest b = no_group_at rest b
 fills_no_group (both t v) rest b = refl
-fills_no_group (left t v) rest b = refl
-fills_no_group (right t v) rest b = refl
-fills_no_group (left_right t v u w) rest b = refl
-fills_no_group (right_left t v u w) rest b = refl
+fills_no_group (one true t v) rest b = refl
+fills_no_group (one false t v) rest b = refl
+fills_no_group (two true t v u w) rest b = refl
+fills_no_group (two false t v u w) rest b = refl
 
-bare_fills : (k : TokenKind) (t : Text) (f : Fills) (rest : List Symbol) → FitsGroup (bare k t) f rest → parse_group_labels k t (yield_fills f ++ rest) ≡ Ok (bare k t, yield_fills f ++ rest)
-bare_fills k t no_fill rest h = bare_at k t rest h
-bare_fills k t (both u v) rest h = refl
-bare_fills k t (left u v) rest h = refl
-bare_fills k t (right u v) rest h = refl
-bare_fills k t (left_right u v u' w) rest h = refl
-bare_fills k t (right_left u v u' w) rest h = refl
+-- what a bare grouping word asks of the tokens after the fills
+abbrev FitsGroup : Group → Fills → List Symbol → Type 0
+FitsGroup (bare left t) no_fill rest = OpensNoParen rest
+FitsGroup g f rest = Unit {0}
+
+fits_group : (on : Bool) (t : Text) (ls : Labels) (g : Group) (f : Fills) (rest : List Symbol) → FitsMatching (matching on t ls g) f rest → FitsGroup g f rest
+fits_group on t ls (bare left u) no_fill rest h = h
+fits_group on t ls g f rest h = tt
+
+bare_fills : (left : Bool) (t : Text) (f : Fills) (rest : List Symbol) → FitsGroup (bare left t) f rest → parse_group_labels left t (yield_fills f ++ rest) ≡ Ok (bare left t, yield_fills f ++ rest)
+bare_fills left t no_fill rest h = bare_at left t rest h
+bare_fills left t (both u v) rest h = refl
+bare_fills left t (one side u v) rest h = refl
+bare_fills left t (two side u v u' w) rest h = refl
 
 group_reads : (g : Group) (f : Fills) (rest : List Symbol) → IsGroup g → begins rest ≡ true → FitsGroup g f rest → parse_group (yield_group g ++ (yield_fills f ++ rest)) ≡ Ok (g, yield_fills f ++ rest)
 group_reads no_group f rest h b k = fills_no_group f rest b
-group_reads (bare kind.GroupLeft t) f rest h b k = bare_fills kind.GroupLeft t f rest k
-group_reads (bare kind.GroupRight t) f rest h b k = bare_fills kind.GroupRight t f rest k
-group_reads (listed kind.GroupLeft t ls) f rest h b k = list_reads kind.GroupLeft t ls (yield_fills f ++ rest) h.1
-group_reads (listed kind.GroupRight t ls) f rest h b k = list_reads kind.GroupRight t ls (yield_fills f ++ rest) h.1
-group_reads (bare w t) f rest h b k = cc
-group_reads (listed w t ls) f rest h b k = let none = h.0 in cc
+group_reads (bare true t) f rest h b k = bare_fills true t f rest k
+group_reads (bare false t) f rest h b k = bare_fills false t f rest k
+group_reads (listed true t ls) f rest h b k = list_reads true t ls (yield_fills f ++ rest) h
+group_reads (listed false t ls) f rest h b k = list_reads false t ls (yield_fills f ++ rest) h
 
-matching_after_reads : (w : TokenKind) (t : Text) (ls : Labels) (g : Group) (f : Fills) (rest : List Symbol) → IsLabels ls → IsGroup g → begins rest ≡ true → FitsGroup g f rest → parse_matching_after w t (((yield_labels ls ++ yield_group g) ++ yield_fills f) ++ rest) ≡ Ok (matching w t ls g, yield_fills f ++ rest)
-matching_after_reads w t ls g f rest h i b k =
-    ap (parse_matching_after w t) (append_assoc (yield_labels ls ++ yield_group g) (yield_fills f) rest ∙ append_assoc (yield_labels ls) (yield_group g) (yield_fills f ++ rest))
-    ∙ ap (λ o. o then λ l. parse_group l.1 then λ g. Ok (matching w t l.0 g.0, g.1)) (labels_reads ls (yield_group g ++ (yield_fills f ++ rest)) h)
-    ∙ ap (λ o. o then λ g. Ok (matching w t ls g.0, g.1)) (group_reads g f rest i b k)
+matching_after_reads : (on : Bool) (t : Text) (ls : Labels) (g : Group) (f : Fills) (rest : List Symbol) → IsLabels ls → IsGroup g → begins rest ≡ true → FitsGroup g f rest
+    → parse_matching_after on t (((yield_labels ls ++ yield_group g) ++ yield_fills f) ++ rest) ≡ Ok (matching on t ls g, yield_fills f ++ rest)
+matching_after_reads on t ls g f rest h i b k =
+    ap (parse_matching_after on t) (append_assoc (yield_labels ls ++ yield_group g) (yield_fills f) rest ∙ append_assoc (yield_labels ls) (yield_group g) (yield_fills f ++ rest))
+    ∙ ap (λ o. o then λ l. parse_group l.1 then λ g. Ok (matching on t l.0 g.0, g.1)) (labels_reads ls (yield_group g ++ (yield_fills f ++ rest)) h)
+    ∙ ap (λ o. o then λ g. Ok (matching on t ls g.0, g.1)) (group_reads g f rest i b k)
 
 matching_reads : (m : Matching) (f : Fills) (rest : List Symbol) → IsMatching m → begins rest ≡ true → FitsMatching m f rest → parse_matching ((yield_matching m ++ yield_fills f) ++ rest) ≡ Ok (m, yield_fills f ++ rest)
 matching_reads no_matching f rest h b k = fills_no_matching f rest b
-matching_reads (matching kind.On t ls g) f rest h b k = matching_after_reads kind.On t ls g f rest h.1 h.2 b k
-matching_reads (matching kind.Ignoring t ls g) f rest h b k = matching_after_reads kind.Ignoring t ls g f rest h.1 h.2 b k
-matching_reads (matching w t ls g) f rest h b k = let none = h.0 in cc
+matching_reads (matching true t ls g) f rest h b k = matching_after_reads true t ls g f rest h.0 h.1 b (fits_group true t ls g f rest k)
+matching_reads (matching false t ls g) f rest h b k = matching_after_reads false t ls g f rest h.0 h.1 b (fits_group false t ls g f rest k)
 
-flag_reads : (b : Option Text) (m : Matching) (f : Fills) (rest : List Symbol) → IsMatching m → begins rest ≡ true → parse_flag ((yield_flag b ++ (yield_matching m ++ yield_fills f)) ++ rest) ≡ Ok (b, (yield_matching m ++ yield_fills f) ++ rest)
-flag_reads (Some t) m f rest h e = refl
-flag_reads None no_matching no_fill rest h e = no_flag rest e
-flag_reads None no_matching (both t v) rest h e = refl
-flag_reads None no_matching (left t v) rest h e = refl
-flag_reads None no_matching (right t v) rest h e = refl
-flag_reads None no_matching (left_right t v u w) rest h e = refl
-flag_reads None no_matching (right_left t v u w) rest h e = refl
-flag_reads None (matching kind.On t ls g) f rest h e = refl
-flag_reads None (matching kind.Ignoring t ls g) f rest h e = refl
-flag_reads None (matching w t ls g) f rest h e = let none = h.0 in cc
+flag_reads : (b : Option Text) (m : Matching) (f : Fills) (rest : List Symbol) → begins rest ≡ true → parse_flag ((yield_flag b ++ (yield_matching m ++ yield_fills f)) ++ rest) ≡ Ok (b, (yield_matching m ++ yield_fills f) ++ rest)
+flag_reads (Some t) m f rest e = refl
+flag_reads None no_matching no_fill rest e = no_flag rest e
+flag_reads None no_matching (both t v) rest e = refl
+flag_reads None no_matching (one true t v) rest e = refl
+flag_reads None no_matching (one false t v) rest e = refl
+flag_reads None no_matching (two true t v u w) rest e = refl
+flag_reads None no_matching (two false t v u w) rest e = refl
+flag_reads None (matching true t ls g) f rest e = refl
+flag_reads None (matching false t ls g) f rest e = refl
 
-pub modifier_reads : (m : Modifier) (rest : List Symbol) → IsModifier m → begins rest ≡ true → FitsMatching m.matching m.fills rest → parse_modifier (yield_modifier m ++ rest) ≡ Ok (m, rest)
+pub modifier_reads : (m : Modifier) (rest : List Symbol) → IsMatching m.matching → begins rest ≡ true → FitsMatching m.matching m.fills rest → parse_modifier (yield_modifier m ++ rest) ≡ Ok (m, rest)
 modifier_reads m rest h b k =
-    ap (λ o. o then λ b. parse_matching b.1 then with_matching b.0) (flag_reads m.flag m.matching m.fills rest h.0 b)
-    ∙ ap (λ o. o then with_matching m.flag) (matching_reads m.matching m.fills rest h.0 b k)
-    ∙ ap (λ o. o then with_fills m.flag m.matching) (fills_reads m.fills rest h.1 b)
+    ap (λ o. o then λ b. parse_matching b.1 then with_matching b.0) (flag_reads m.flag m.matching m.fills rest b)
+    ∙ ap (λ o. o then with_matching m.flag) (matching_reads m.matching m.fills rest h b k)
+    ∙ ap (λ o. o then with_fills m.flag m.matching) (fills_reads m.fills rest b)
 
 -- an item is parsed where no operator of a matcher follows
-item_reads : (i : Item) (rest : List Symbol) → IsItem i → parse_match_operator rest ≡ Ok (None, rest) → parse_item (yield_item i ++ rest) ≡ Ok (i, rest)
-item_reads (lone t) rest h e = ap (λ o. o then parse_after_string t) e
-item_reads (matcher kind.Identifier t equal v) rest h e = refl
-item_reads (matcher kind.Identifier t (not_equal u) v) rest h e = refl
-item_reads (matcher kind.Identifier t equal_regex v) rest h e = refl
-item_reads (matcher kind.Identifier t not_equal_regex v) rest h e = refl
-item_reads (matcher kind.String t equal v) rest h e = refl
-item_reads (matcher kind.String t (not_equal u) v) rest h e = refl
-item_reads (matcher kind.String t equal_regex v) rest h e = refl
-item_reads (matcher kind.String t not_equal_regex v) rest h e = refl
-item_reads (matcher k t s v) rest h e = cc
+item_reads : (i : Item) (rest : List Symbol) → parse_match_operator rest ≡ Ok (None, rest) → parse_item (yield_item i ++ rest) ≡ Ok (i, rest)
+item_reads (lone t) rest e = ap (λ o. o then parse_after_string t) e
+item_reads (matcher false t equal v) rest e = refl
+item_reads (matcher false t (not_equal u) v) rest e = refl
+item_reads (matcher false t equal_regex v) rest e = refl
+item_reads (matcher false t not_equal_regex v) rest e = refl
+item_reads (matcher true t equal v) rest e = refl
+item_reads (matcher true t (not_equal u) v) rest e = refl
+item_reads (matcher true t equal_regex v) rest e = refl
+item_reads (matcher true t not_equal_regex v) rest e = refl
 
 -- no braces close here
 abbrev ClosesNoBrace : List Symbol → Type 0
@@ -187,7 +168,7 @@ ClosesNoBrace (punct kind.RightBrace ∷ ts) = ⊥
 ClosesNoBrace ts = Unit {0}
 
 item_begins : (i : Item) (rest us : List Symbol) → ClosesNoBrace ((yield_item i ++ rest) ++ us)
-item_begins (matcher k t s v) rest us = tt
+item_begins (matcher quoted t s v) rest us = tt
 item_begins (lone t) rest us = tt
 
 items_begin : (is : Items) (rest : List Symbol) → ClosesNoBrace (yield_items is ++ rest)
@@ -200,28 +181,28 @@ after_comma r i (punct kind.RightBrace ∷ ts) h = absurd h
 after_comma r i ts h = refl
 
 item_tokens : (i : Item) → 1 ≤ length (yield_item i)
-item_tokens (matcher k t s v) = omega arith
+item_tokens (matcher quoted t s v) = omega arith
 item_tokens (lone t) = omega arith
 
-pub items_reads : (is : Items) (k : ℕ) (rest : List Symbol) → AreItems is → length (yield_items is) ≤ k → parse_items k (yield_items is ++ rest) ≡ Ok (is, rest)
-items_reads (last_item i) zero rest h le = absurd (omega (arith, length-append (yield_item i) (punct kind.RightBrace ∷ [])))
-items_reads (last_item_comma i) zero rest h le = absurd (omega (arith, length-append (yield_item i) (punct kind.Comma ∷ (punct kind.RightBrace ∷ []))))
-items_reads (next_item i s is) zero rest h le = absurd (omega (arith, length-append (yield_item i) (yield_separator s ∷ yield_items is)))
-items_reads (last_item i) (suc k) rest h le =
+pub items_reads : (is : Items) (k : ℕ) (rest : List Symbol) → length (yield_items is) ≤ k → parse_items k (yield_items is ++ rest) ≡ Ok (is, rest)
+items_reads (last_item i) zero rest le = absurd (omega (arith, length-append (yield_item i) (punct kind.RightBrace ∷ [])))
+items_reads (last_item_comma i) zero rest le = absurd (omega (arith, length-append (yield_item i) (punct kind.Comma ∷ (punct kind.RightBrace ∷ []))))
+items_reads (next_item i s is) zero rest le = absurd (omega (arith, length-append (yield_item i) (yield_separator s ∷ yield_items is)))
+items_reads (last_item i) (suc k) rest le =
     ap (parse_items (suc k)) (append_assoc (yield_item i) (punct kind.RightBrace ∷ []) rest)
-    ∙ ap (λ o. o then λ i. parse_after_item (parse_items k) i.0 i.1) (item_reads i (punct kind.RightBrace ∷ rest) h refl)
-items_reads (last_item_comma i) (suc k) rest h le =
+    ∙ ap (λ o. o then λ i. parse_after_item (parse_items k) i.0 i.1) (item_reads i (punct kind.RightBrace ∷ rest) refl)
+items_reads (last_item_comma i) (suc k) rest le =
     ap (parse_items (suc k)) (append_assoc (yield_item i) (punct kind.Comma ∷ (punct kind.RightBrace ∷ [])) rest)
-    ∙ ap (λ o. o then λ i. parse_after_item (parse_items k) i.0 i.1) (item_reads i (punct kind.Comma ∷ (punct kind.RightBrace ∷ rest)) h refl)
-items_reads (next_item i comma is) (suc k) rest h le =
+    ∙ ap (λ o. o then λ i. parse_after_item (parse_items k) i.0 i.1) (item_reads i (punct kind.Comma ∷ (punct kind.RightBrace ∷ rest)) refl)
+items_reads (next_item i comma is) (suc k) rest le =
     ap (parse_items (suc k)) (append_assoc (yield_item i) (punct kind.Comma ∷ yield_items is) rest)
-    ∙ ap (λ o. o then λ i. parse_after_item (parse_items k) i.0 i.1) (item_reads i (punct kind.Comma ∷ (yield_items is ++ rest)) h.0 refl)
+    ∙ ap (λ o. o then λ i. parse_after_item (parse_items k) i.0 i.1) (item_reads i (punct kind.Comma ∷ (yield_items is ++ rest)) refl)
     ∙ after_comma (parse_items k) i (yield_items is ++ rest) (items_begin is rest)
-    ∙ ap (λ o. o then λ y. Ok (next_item i comma y.0, y.1)) (items_reads is k rest h.1 (omega (arith, item_tokens i, length-append (yield_item i) (punct kind.Comma ∷ yield_items is))))
-items_reads (next_item i (or t) is) (suc k) rest h le =
+    ∙ ap (λ o. o then λ y. Ok (next_item i comma y.0, y.1)) (items_reads is k rest (omega (arith, item_tokens i, length-append (yield_item i) (punct kind.Comma ∷ yield_items is))))
+items_reads (next_item i (or t) is) (suc k) rest le =
     ap (parse_items (suc k)) (append_assoc (yield_item i) (yield_separator (or t) ∷ yield_items is) rest)
-    ∙ ap (λ o. o then λ i. parse_after_item (parse_items k) i.0 i.1) (item_reads i (yield_separator (or t) ∷ (yield_items is ++ rest)) h.0 refl)
-    ∙ ap (λ o. o then λ y. Ok (next_item i (or t) y.0, y.1)) (items_reads is k rest h.1 (omega (arith, item_tokens i, length-append (yield_item i) (yield_separator (or t) ∷ yield_items is))))
+    ∙ ap (λ o. o then λ i. parse_after_item (parse_items k) i.0 i.1) (item_reads i (yield_separator (or t) ∷ (yield_items is ++ rest)) refl)
+    ∙ ap (λ o. o then λ y. Ok (next_item i (or t) y.0, y.1)) (items_reads is k rest (omega (arith, item_tokens i, length-append (yield_item i) (yield_separator (or t) ∷ yield_items is))))
 
 items_in : (ts : List Symbol) → ClosesNoBrace ts → parse_braces ts ≡ (parse_items (length ts) ts then λ y. Ok (items y.0, y.1))
 items_in (punct kind.RightBrace ∷ ts) h = absurd h
@@ -232,11 +213,11 @@ abbrev pub in_braces : Braces → List Symbol
 in_braces no_item = punct kind.RightBrace ∷ []
 in_braces (items is) = yield_items is
 
-pub braces_in_reads : (b : Braces) (rest : List Symbol) → IsBraces b → parse_braces (in_braces b ++ rest) ≡ Ok (b, rest)
-braces_in_reads no_item rest h = refl
-braces_in_reads (items is) rest h =
+pub braces_in_reads : (b : Braces) (rest : List Symbol) → parse_braces (in_braces b ++ rest) ≡ Ok (b, rest)
+braces_in_reads no_item rest = refl
+braces_in_reads (items is) rest =
     items_in (yield_items is ++ rest) (items_begin is rest)
-    ∙ ap (λ o. o then λ y. Ok (items y.0, y.1)) (items_reads is (length (yield_items is ++ rest)) rest h (omega (arith, length-append (yield_items is) rest)))
+    ∙ ap (λ o. o then λ y. Ok (items y.0, y.1)) (items_reads is (length (yield_items is ++ rest)) rest (omega (arith, length-append (yield_items is) rest)))
 
 -- nothing goes on here after a word
 abbrev pub EndsWord : List Symbol → Type 0
@@ -250,29 +231,30 @@ no_braces_at : (ts : List Symbol) → EndsWord ts → parse_optional_braces ts �
 no_braces_at (punct kind.LeftBrace ∷ ts) h = absurd h
 no_braces_at ts h = refl
 
-pub any_braces_reads : (b : Option Braces) (rest : List Symbol) → IsAnyBraces b → EndsWord rest → parse_optional_braces (yield_any_braces b ++ rest) ≡ Ok (b, rest)
-any_braces_reads None rest h e = no_braces_at rest e
-any_braces_reads (Some no_item) rest h e = refl
-any_braces_reads (Some (items is)) rest h e = ap (λ o. o then λ b. Ok (Some b.0, b.1)) (braces_in_reads (items is) rest h)
+pub any_braces_reads : (b : Option Braces) (rest : List Symbol) → EndsWord rest → parse_optional_braces (yield_any_braces b ++ rest) ≡ Ok (b, rest)
+any_braces_reads None rest e = no_braces_at rest e
+any_braces_reads (Some no_item) rest e = refl
+any_braces_reads (Some (items is)) rest e = ap (λ o. o then λ b. Ok (Some b.0, b.1)) (braces_in_reads (items is) rest)
 
-pub postfix_reads : (p : Postfix) (rest : List Symbol) → IsPostfix p → parse_postfix (yield_postfix p ++ rest) ≡ Ok (Some p, rest)
-postfix_reads (range (seconds t)) rest h = refl
-postfix_reads (range (duration t)) rest h = refl
-postfix_reads (subquery (seconds t) None) rest h = refl
-postfix_reads (subquery (seconds t) (Some (seconds u))) rest h = refl
-postfix_reads (subquery (seconds t) (Some (duration u))) rest h = refl
-postfix_reads (subquery (duration t) None) rest h = refl
-postfix_reads (subquery (duration t) (Some (seconds u))) rest h = refl
-postfix_reads (subquery (duration t) (Some (duration u))) rest h = refl
-postfix_reads (at_number unsigned t) rest h = refl
-postfix_reads (at_number (signed op u) t) rest h = ap (λ o. o then λ s. parse_number s.1 then λ n. Ok (Some (at_number s.0 n.0), n.1)) (if_true _ _ _ h)
-postfix_reads (at_bound kind.Start t) rest h = refl
-postfix_reads (at_bound kind.End t) rest h = refl
-postfix_reads (at_bound k t) rest h = cc
-postfix_reads (offset t unsigned (seconds u)) rest h = refl
-postfix_reads (offset t unsigned (duration u)) rest h = refl
-postfix_reads (offset t (signed op v) (seconds u)) rest h = ap (λ o. o then λ s. parse_time s.1 then λ u. Ok (Some (offset t s.0 u.0), u.1)) (if_true _ _ _ h)
-postfix_reads (offset t (signed op v) (duration u)) rest h = ap (λ o. o then λ s. parse_time s.1 then λ u. Ok (Some (offset t s.0 u.0), u.1)) (if_true _ _ _ h)
-postfix_reads (mode kind.Smoothed t) rest h = refl
-postfix_reads (mode kind.Anchored t) rest h = refl
-postfix_reads (mode k t) rest h = cc
+pub postfix_reads : (p : Postfix) (rest : List Symbol) → parse_postfix (yield_postfix p ++ rest) ≡ Ok (Some p, rest)
+postfix_reads (range (seconds t)) rest = refl
+postfix_reads (range (duration t)) rest = refl
+postfix_reads (subquery (seconds t) None) rest = refl
+postfix_reads (subquery (seconds t) (Some (seconds u))) rest = refl
+postfix_reads (subquery (seconds t) (Some (duration u))) rest = refl
+postfix_reads (subquery (duration t) None) rest = refl
+postfix_reads (subquery (duration t) (Some (seconds u))) rest = refl
+postfix_reads (subquery (duration t) (Some (duration u))) rest = refl
+postfix_reads (at_number unsigned t) rest = refl
+postfix_reads (at_number (signed true u) t) rest = refl
+postfix_reads (at_number (signed false u) t) rest = refl
+postfix_reads (at_bound true t) rest = refl
+postfix_reads (at_bound false t) rest = refl
+postfix_reads (offset t unsigned (seconds u)) rest = refl
+postfix_reads (offset t unsigned (duration u)) rest = refl
+postfix_reads (offset t (signed true v) (seconds u)) rest = refl
+postfix_reads (offset t (signed true v) (duration u)) rest = refl
+postfix_reads (offset t (signed false v) (seconds u)) rest = refl
+postfix_reads (offset t (signed false v) (duration u)) rest = refl
+postfix_reads (mode true t) rest = refl
+postfix_reads (mode false t) rest = refl

@@ -7,7 +7,7 @@ use Rattle.promql_grammar.specs.declared.token_kinds.TokenKind.{TokenKind}
 use Rattle.promql_grammar.specs.declared.token_kinds.TokenKind.TheVariants as kind
 use Rattle.promql_grammar.specs.Results.{◌then◌}
 use Rattle.promql_grammar.specs.Symbols.{Symbol, punct, word, is_plus_or_minus, may_be_name}
-use Rattle.promql_grammar.specs.GrammarParts.{Labels, Grouping, by, without, before, Postfix, mode}
+use Rattle.promql_grammar.specs.GrammarParts.{Labels, Grouping, grouping, before, Postfix, mode}
 use Rattle.promql_grammar.specs.Grammar.{Derivation, number, duration, string, selector, nameless, paren, call, aggregate, postfixed, unary, binary, Arguments, none, more, precedence, height}
 use Rattle.promql_grammar.specs.Parsing.{Read, Reader, misfit, too_high, right_precedence, parse_time, parse_labels, parse_grouping, parse_modifier, parse_braces, parse_optional_braces, parse_range_end, parse_at_modifier, parse_offset_postfix, parse_postfix, parse_more_postfixes, parse_postfixes, parse_paren_end, parse_more_arguments, parse_arguments, parse_selector, parse_call, parse_grouped_aggregate, parse_aggregate, parse_unary, parse_operators, parse_expression}
 use Rattle.promql_grammar.proofs.Prefixes.{IsEnd, Ends, whole_end, Local, two, Agrees, local_ok, local_misfit, local_high, local_then, Step, takes, stays, local_by_first, local_bounded, local_by_length}
@@ -43,8 +43,8 @@ module _ (x : Symbol) (rest other : List Symbol) where
     postfix_step (punct kind.LeftBracket) = goes_on (punct kind.LeftBracket) (λ ts. parse_time ts then λ t. parse_range_end t.0 t.1) (range_local x rest other k j) (λ ts. refl)
     postfix_step (punct kind.At) = goes_on (punct kind.At) parse_at_modifier (at_modifier_local x rest other k j) (λ ts. refl)
     postfix_step (word kind.Offset t) = goes_on (word kind.Offset t) (parse_offset_postfix t) (offset_local x rest other k j t) (λ ts. refl)
-    postfix_step (word kind.Smoothed t) = goes_on (word kind.Smoothed t) (λ ts. Ok (Some (mode kind.Smoothed t), ts)) (local_ok x rest other (Some (mode kind.Smoothed t)) k j) (λ ts. refl)
-    postfix_step (word kind.Anchored t) = goes_on (word kind.Anchored t) (λ ts. Ok (Some (mode kind.Anchored t), ts)) (local_ok x rest other (Some (mode kind.Anchored t)) k j) (λ ts. refl)
+    postfix_step (word kind.Smoothed t) = goes_on (word kind.Smoothed t) (λ ts. Ok (Some (mode true t), ts)) (local_ok x rest other (Some (mode true t)) k j) (λ ts. refl)
+    postfix_step (word kind.Anchored t) = goes_on (word kind.Anchored t) (λ ts. Ok (Some (mode false t), ts)) (local_ok x rest other (Some (mode false t)) k j) (λ ts. refl)
     postfix_step t = stays (λ ts. Ok (d, ts)) (λ ts. Ok (d, ts)) (local_ok x rest other d (suc k) (suc j)) (λ ts. refl) (λ ts. refl)
 
     postfixes_next : Local x rest other (suc k) (suc j) (parse_postfixes (suc k) n d) (parse_postfixes (suc j) n d)
@@ -158,8 +158,8 @@ module _ (x : Symbol) (rest other : List Symbol) where
         where
           step : (u : Symbol) → Reads (parse_aggregate r k n op t) (parse_aggregate r j n op t) u
           step (punct kind.LeftParen) = takes (clauses k op t) (clauses j op t) (clauses_local op t) (λ ts. refl) (λ ts. refl)
-          step (word kind.By u) = takes (grouped k op t (by u)) (grouped j op t (by u)) (labelled_local op t (by u)) (λ ts. refl) (λ ts. refl)
-          step (word kind.Without u) = takes (grouped k op t (without u)) (grouped j op t (without u)) (labelled_local op t (without u)) (λ ts. refl) (λ ts. refl)
+          step (word kind.By u) = takes (grouped k op t (grouping true u)) (grouped j op t (grouping true u)) (labelled_local op t (grouping true u)) (λ ts. refl) (λ ts. refl)
+          step (word kind.Without u) = takes (grouped k op t (grouping false u)) (grouped j op t (grouping false u)) (labelled_local op t (grouping false u)) (λ ts. refl) (λ ts. refl)
           step u = stays (selectors k (kind.Aggregator op) t) (selectors j (kind.Aggregator op) t) (selectors_local (kind.Aggregator op) t) (λ ts. refl) (λ ts. refl)
 
       paren_end_local : (d : Derivation) → Local x rest other k j (parse_paren_end k n d) (parse_paren_end j n d)

@@ -1,10 +1,12 @@
 -- The tokens of a derivation are of kinds that the lexer gives.
-use Rattle.std.proofs.Common.{◌≡◌, refl, subst, Bool, true, false, List, [], ◌∷◌, ◌++◌, Option, Some, None}
+use Rattle.std.proofs.Common.{◌≡◌, refl, subst, Bool, true, false, not, List, [], ◌∷◌, ◌++◌, Option, Some, None}
+use Rattle.std.specs.Prelude.{if◌then◌else◌}
 use Rattle.promql_text.specs.Texts.{Text}
 use Rattle.promql_grammar.specs.declared.token_kinds.TokenKind.{TokenKind}
 use Rattle.promql_grammar.specs.declared.token_kinds.TokenKind.TheVariants as kind
 use Rattle.promql_grammar.specs.Symbols.{Symbol, punct, word, may_be_name, may_be_label, may_be_called}
-use Rattle.promql_grammar.specs.GrammarParts.{Time, seconds, duration, Signed, unsigned, signed, Names, last, last_comma, next, Labels, no_label, labels, Grouping, by, without, Clause, before, after, Group, no_group, bare, listed, Matching, no_matching, matching, FillValue, Fills, no_fill, both, left, right, left_right, right_left, Modifier, MatchOperator, equal, not_equal, equal_regex, not_equal_regex, Item, matcher, lone, Separator, comma, or, Items, last_item, last_item_comma, next_item, Braces, no_item, items, Postfix, range, subquery, at_number, at_bound, offset, mode, yield_time, yield_signed, yield_names, yield_labels, yield_grouping, yield_before, yield_after, yield_group, yield_matching, yield_value, yield_fills, yield_flag, yield_modifier, yield_match_operator, yield_item, yield_items, yield_separator, yield_braces, yield_any_braces, yield_postfix, yield_step, AreLabels, IsLabels, IsGrouping, IsClause, IsGroup, IsMatching, IsModifier, IsItem, AreItems, IsBraces, IsAnyBraces, IsPostfix, is_group_word, is_matching_word, is_matcher_name, is_bound_word, is_mode_word}
+use Rattle.promql_grammar.specs.GrammarParts.{Time, seconds, duration, Signed, unsigned, signed, Labels, no_label, last, next, Grouping, grouping, Clause, before, after, Group, no_group, bare, listed, Matching, no_matching, matching, FillValue, Fills, no_fill, both, one, two, Modifier, MatchOperator, equal, not_equal, equal_regex, not_equal_regex, Item, matcher, lone, Separator, comma, or, Items, last_item, last_item_comma, next_item, Braces, no_item, items, Postfix, range, subquery, at_number, at_bound, offset, mode, yield_time, yield_signed, yield_names, yield_labels, yield_grouping, yield_before, yield_after, yield_group, yield_matching, yield_value, yield_side, yield_fills, yield_modifier, yield_match_operator, yield_item, yield_items, yield_separator, yield_braces, yield_any_braces, yield_postfix, IsLabels, IsClause, IsGroup, IsMatching}
+use Rattle.promql_grammar.specs.PartTokens.{IsGrouping, yield_flag, yield_step}
 use Rattle.promql_grammar.specs.Grammar as grammar
 use Rattle.promql_grammar.specs.Grammar.{Derivation, Arguments, selector, nameless, paren, call, aggregate, postfixed, unary, binary, none, more, yield, yield_arguments, yield_rest, IsWellFormed, AreWellFormed}
 
@@ -37,57 +39,61 @@ known_time (duration text) = (refl, tt)
 
 known_signed : (s : Signed) → AreKnown (yield_signed s)
 known_signed unsigned = tt
-known_signed (signed op text) = (refl, tt)
+known_signed (signed minus text) = (refl, tt)
 
-known_names : (names : Names) → AreLabels names → AreKnown (yield_names names)
+-- a word that is one of two
+known_either : (b : Bool) (k j : TokenKind) → is_known k ≡ true → is_known j ≡ true → is_known (if b then k else j) ≡ true
+known_either true k j first second = first
+known_either false k j first second = second
+
+known_names : (ls : Labels) → IsLabels ls → AreKnown (yield_names ls)
+known_names no_label h = tt
 known_names (last k text) h = (known_label k h, tt)
-known_names (last_comma k text) h = (known_label k h, tt)
-known_names (next k text names) h = (known_label k h.0, known_names names h.1)
+known_names (next k text ls) h = (known_label k h.0, known_names ls h.1)
 
 known_labels : (ls : Labels) → IsLabels ls → AreKnown (yield_labels ls)
-known_labels no_label h = tt
-known_labels (labels names) h = known_names names h
+known_labels ls h = known_names ls h
 
 known_grouping : (g : Grouping) → IsGrouping g → AreKnown (yield_grouping g)
-known_grouping (by text ls) h = (refl, known_labels ls h)
-known_grouping (without text ls) h = (refl, known_labels ls h)
+known_grouping (grouping by text ls) h = (known_either by kind.By kind.Without refl refl, known_labels ls h)
 
 known_before : (c : Clause) → IsClause c → AreKnown (yield_before c)
-known_before (before g) h = known_grouping g h
+known_before (before (grouping by text ls)) h = known_grouping (grouping by text ls) h
 known_before c h = tt
 
 known_after : (c : Clause) → IsClause c → AreKnown (yield_after c)
-known_after (after g) h = known_grouping g h
+known_after (after (grouping by text ls)) h = known_grouping (grouping by text ls) h
 known_after c h = tt
 
 known_group : (g : Group) → IsGroup g → AreKnown (yield_group g)
 known_group no_group h = tt
-known_group (bare k text) h = (known_if is_group_word k refl h, tt)
-known_group (listed k text ls) h = (known_if is_group_word k refl h.0, known_labels ls h.1)
+known_group (bare left text) h = (known_either left kind.GroupLeft kind.GroupRight refl refl, tt)
+known_group (listed left text ls) h = (known_either left kind.GroupLeft kind.GroupRight refl refl, known_labels ls h)
 
 known_matching : (m : Matching) → IsMatching m → AreKnown (yield_matching m)
 known_matching no_matching h = tt
-known_matching (matching k text ls g) h = (known_if is_matching_word k refl h.0, known_append (yield_labels ls) (yield_group g) (known_labels ls h.1) (known_group g h.2))
+known_matching (matching on text ls g) h = (known_either on kind.On kind.Ignoring refl refl, known_append (yield_labels ls) (yield_group g) (known_labels ls h.0) (known_group g h.1))
 
 known_value : (v : FillValue) → AreKnown (yield_value v)
 known_value v = known_append (yield_signed v.sign) (word kind.Number v.number ∷ punct kind.RightParen ∷ []) (known_signed v.sign) (refl, tt)
 
+known_side : (left : Bool) (text : Text) (v : FillValue) → AreKnown (yield_side left text v)
+known_side left text v = (known_either left kind.FillLeft kind.FillRight refl refl, known_value v)
+
 known_fills : (f : Fills) → AreKnown (yield_fills f)
 known_fills no_fill = tt
 known_fills (both text v) = (refl, known_value v)
-known_fills (left text v) = (refl, known_value v)
-known_fills (right text v) = (refl, known_value v)
-known_fills (left_right text v text' w) = (refl, known_append (yield_value v) (word kind.FillRight text' ∷ yield_value w) (known_value v) (refl, known_value w))
-known_fills (right_left text v text' w) = (refl, known_append (yield_value v) (word kind.FillLeft text' ∷ yield_value w) (known_value v) (refl, known_value w))
+known_fills (one left text v) = known_side left text v
+known_fills (two left text v text' w) = known_append (yield_side left text v) (yield_side (not left) text' w) (known_side left text v) (known_side (not left) text' w)
 
 known_flag : (flag : Option Text) → AreKnown (yield_flag flag)
 known_flag None = tt
 known_flag (Some text) = (refl, tt)
 
-known_modifier : (m : Modifier) → IsModifier m → AreKnown (yield_modifier m)
+known_modifier : (m : Modifier) → IsMatching m.matching → AreKnown (yield_modifier m)
 known_modifier m h =
     known_append (yield_flag m.flag) (yield_matching m.matching ++ yield_fills m.fills) (known_flag m.flag)
-    (known_append (yield_matching m.matching) (yield_fills m.fills) (known_matching m.matching h.0) (known_fills m.fills))
+    (known_append (yield_matching m.matching) (yield_fills m.fills) (known_matching m.matching h) (known_fills m.fills))
 
 known_match_operator : (s : MatchOperator) (ts : List Symbol) → AreKnown ts → AreKnown (yield_match_operator s ∷ ts)
 known_match_operator equal ts k = k
@@ -95,48 +101,48 @@ known_match_operator (not_equal text) ts k = (refl, k)
 known_match_operator equal_regex ts k = k
 known_match_operator not_equal_regex ts k = k
 
-known_item : (i : Item) → IsItem i → AreKnown (yield_item i)
-known_item (matcher k text s value) h = (known_if is_matcher_name k refl h, known_match_operator s (word kind.String value ∷ []) (refl, tt))
-known_item (lone text) h = (refl, tt)
+known_item : (i : Item) → AreKnown (yield_item i)
+known_item (matcher quoted text s value) = (known_either quoted kind.String kind.Identifier refl refl, known_match_operator s (word kind.String value ∷ []) (refl, tt))
+known_item (lone text) = (refl, tt)
 
 known_separator : (s : Separator) (ts : List Symbol) → AreKnown ts → AreKnown (yield_separator s ∷ ts)
 known_separator comma ts k = k
 known_separator (or text) ts k = (refl, k)
 
-known_items : (is : Items) → AreItems is → AreKnown (yield_items is)
-known_items (last_item i) h = known_append (yield_item i) (punct kind.RightBrace ∷ []) (known_item i h) tt
-known_items (last_item_comma i) h = known_append (yield_item i) (punct kind.Comma ∷ punct kind.RightBrace ∷ []) (known_item i h) tt
-known_items (next_item i s is) h = known_append (yield_item i) (yield_separator s ∷ yield_items is) (known_item i h.0) (known_separator s (yield_items is) (known_items is h.1))
+known_items : (is : Items) → AreKnown (yield_items is)
+known_items (last_item i) = known_append (yield_item i) (punct kind.RightBrace ∷ []) (known_item i) tt
+known_items (last_item_comma i) = known_append (yield_item i) (punct kind.Comma ∷ punct kind.RightBrace ∷ []) (known_item i) tt
+known_items (next_item i s is) = known_append (yield_item i) (yield_separator s ∷ yield_items is) (known_item i) (known_separator s (yield_items is) (known_items is))
 
-known_braces : (b : Braces) → IsBraces b → AreKnown (yield_braces b)
-known_braces no_item h = tt
-known_braces (items is) h = known_items is h
+known_braces : (b : Braces) → AreKnown (yield_braces b)
+known_braces no_item = tt
+known_braces (items is) = known_items is
 
-known_any_braces : (b : Option Braces) → IsAnyBraces b → AreKnown (yield_any_braces b)
-known_any_braces None h = tt
-known_any_braces (Some b) h = known_braces b h
+known_any_braces : (b : Option Braces) → AreKnown (yield_any_braces b)
+known_any_braces None = tt
+known_any_braces (Some b) = known_braces b
 
 known_step : (s : Option Time) → AreKnown (yield_step s)
 known_step None = tt
 known_step (Some t) = known_time t
 
-known_postfix : (p : Postfix) → IsPostfix p → AreKnown (yield_postfix p)
-known_postfix (range t) h = known_append (yield_time t) (punct kind.RightBracket ∷ []) (known_time t) tt
-known_postfix (subquery t s) h =
+known_postfix : (p : Postfix) → AreKnown (yield_postfix p)
+known_postfix (range t) = known_append (yield_time t) (punct kind.RightBracket ∷ []) (known_time t) tt
+known_postfix (subquery t s) =
     known_append (yield_time t) (punct kind.Colon ∷ (yield_step s ++ punct kind.RightBracket ∷ [])) (known_time t)
     (known_append (yield_step s) (punct kind.RightBracket ∷ []) (known_step s) tt)
-known_postfix (at_number s text) h = known_append (yield_signed s) (word kind.Number text ∷ []) (known_signed s) (refl, tt)
-known_postfix (at_bound k text) h = (known_if is_bound_word k refl h, tt)
-known_postfix (offset text s t) h = (refl, known_append (yield_signed s) (yield_time t) (known_signed s) (known_time t))
-known_postfix (mode k text) h = (known_if is_mode_word k refl h, tt)
+known_postfix (at_number s text) = known_append (yield_signed s) (word kind.Number text ∷ []) (known_signed s) (refl, tt)
+known_postfix (at_bound start text) = (known_either start kind.Start kind.End refl refl, tt)
+known_postfix (offset text s t) = (refl, known_append (yield_signed s) (yield_time t) (known_signed s) (known_time t))
+known_postfix (mode smoothed text) = (known_either smoothed kind.Smoothed kind.Anchored refl refl, tt)
 
 mutual
   known_yield : (d : Derivation) → IsWellFormed d → AreKnown (yield d)
   known_yield (grammar.number text) h = (refl, tt)
   known_yield (grammar.duration text) h = (refl, tt)
   known_yield (grammar.string text) h = (refl, tt)
-  known_yield (selector k text b) h = (known_if may_be_name k refl h.0, known_any_braces b h.1)
-  known_yield (nameless b) h = known_braces b h
+  known_yield (selector k text b) h = (known_if may_be_name k refl h, known_any_braces b)
+  known_yield (nameless b) h = known_braces b
   known_yield (paren d) h = known_append (yield d) (punct kind.RightParen ∷ []) (known_yield d h) tt
   known_yield (call k text ds) h = (known_if may_be_called k refl h.0, known_arguments ds h.1)
   known_yield (aggregate op text c ds) h = (
@@ -144,7 +150,7 @@ mutual
     known_append (yield_before c) (punct kind.LeftParen ∷ (yield_arguments ds ++ yield_after c)) (known_before c h.0)
         (known_append (yield_arguments ds) (yield_after c) (known_arguments ds h.1) (known_after c h.0)),
   )
-  known_yield (postfixed d p) h = known_append (yield d) (yield_postfix p) (known_yield d h.0) (known_postfix p h.2)
+  known_yield (postfixed d p) h = known_append (yield d) (yield_postfix p) (known_yield d h.0) (known_postfix p)
   known_yield (unary op text d) h = (refl, known_yield d h.1)
   known_yield (binary op text m a b) h =
       known_append (yield a) (word (kind.Operator op) text ∷ (yield_modifier m ++ yield b)) (known_yield a h.0)

@@ -1,37 +1,31 @@
 -- Parts of lists that begin alike are parsed alike.
-use Rattle.std.proofs.Common.{◌≡◌, ℕ, suc, refl, arith, List, [], ◌∷◌, length, Bool, true, false, Option, Some, None}
+use Rattle.std.proofs.Common.{◌≡◌, ℕ, suc, refl, ◌∙◌, arith, List, [], ◌∷◌, length, Bool, true, false, Option, Some, None}
 use Rattle.std.specs.Prelude.{◌==◌, if◌then◌else◌, Ok, Err}
 use Rattle.std.proofs.lemmas.Bool.{cond-true, cond-false}
 use Rattle.promql_text.specs.Texts.{Text}
-use Rattle.promql_token.specs.declared.ids.TheConstants.{T_NEQ, T_LOR}
+use Rattle.promql_token.specs.declared.ids.TheConstants.{T_NEQ, T_LOR, T_ADD, T_SUB}
 use Rattle.promql_grammar.specs.declared.token_kinds.TokenKind.{TokenKind}
 use Rattle.promql_grammar.specs.declared.token_kinds.TokenKind.TheVariants as kind
 use Rattle.promql_grammar.specs.Results.{◌then◌}
-use Rattle.promql_grammar.specs.Symbols.{Symbol, punct, word, is_plus_or_minus, may_be_label}
-use Rattle.promql_grammar.specs.GrammarParts.{Time, seconds, duration, Signed, unsigned, signed, Names, last, last_comma, next, no_label, labels, by, without, no_clause, after, no_group, bare, listed, no_matching, matching, FillValue, no_fill, both, left, right, left_right, right_left, MatchOperator, equal, not_equal, equal_regex, not_equal_regex, Item, matcher, lone, comma, or, Items, last_item, last_item_comma, next_item, Braces, no_item, items, Postfix, range, subquery, at_number, at_bound, offset}
-use Rattle.promql_grammar.specs.Parsing.{Read, misfit, parse_time, eat_sign, parse_number, parse_string, parse_label_names, parse_label_list, parse_labels, parse_grouping, parse_group_labels, parse_group, parse_matching_after, parse_matching, parse_fill_value_end, parse_fill_value, parse_fill_right, parse_fill_left, parse_fills, parse_flag, with_fills, with_matching, parse_modifier, parse_match_operator, parse_matcher_value, parse_after_name, parse_after_string, parse_item, parse_after_item, parse_items, parse_braces, parse_optional_braces, parse_step_end, parse_step, parse_range_end, parse_at_bound, parse_at_modifier, parse_offset_postfix}
+use Rattle.promql_grammar.specs.Symbols.{Symbol, punct, word, may_be_label}
+use Rattle.promql_grammar.specs.GrammarParts.{Time, seconds, duration, Signed, unsigned, signed, Labels, no_label, last, next, grouping, no_clause, after, no_group, bare, listed, no_matching, matching, FillValue, no_fill, both, one, two, MatchOperator, equal, not_equal, equal_regex, not_equal_regex, Item, matcher, lone, comma, or, Items, last_item, last_item_comma, next_item, Braces, no_item, items, Postfix, range, subquery, at_number, at_bound, offset}
+use Rattle.promql_grammar.specs.Parsing.{Read, misfit, parse_time, eat_sign, parse_number, parse_string, parse_label_list, parse_labels, parse_grouping, parse_group_labels, parse_group, parse_matching_after, parse_matching, parse_fill_value_end, parse_fill_value, parse_fill_right, parse_fill_left, parse_fills, parse_flag, with_fills, with_matching, parse_modifier, parse_match_operator, parse_matcher_value, parse_after_name, parse_after_string, parse_item, parse_after_item, parse_items, parse_braces, parse_optional_braces, parse_step_end, parse_step, parse_range_end, parse_at_bound, parse_at_modifier, parse_offset_postfix}
 use Rattle.promql_grammar.proofs.Prefixes.{Ends, whole_end, Local, local_ok, local_misfit, local_then, Step, takes, stays, local_by_first, local_bounded, local_by_length}
 
--- a label list after its comma, and after a label
-after_comma : TokenKind → Text → List Symbol → Read Names
-after_comma k t (punct kind.RightParen ∷ ts) = Ok (last_comma k t, ts)
-after_comma k t ts = parse_label_names ts then λ y. Ok (next k t y.0, y.1)
-
-after_label : TokenKind → Text → List Symbol → Read Names
+-- a label list after a label
+after_label : TokenKind → Text → List Symbol → Read Labels
 after_label k t (punct kind.RightParen ∷ ts) = Ok (last k t, ts)
-after_label k t (punct kind.Comma ∷ ts) = after_comma k t ts
+after_label k t (punct kind.Comma ∷ ts) = parse_label_list ts then λ y. Ok (next k t y.0, y.1)
 after_label k t ts = Err (misfit ts)
 
-label_on : (k : TokenKind) (t : Text) (ts : List Symbol) → may_be_label k ≡ true → parse_label_names (word k t ∷ ts) ≡ after_label k t ts
-unfolding after_label after_comma
+label_on : (k : TokenKind) (t : Text) (ts : List Symbol) → may_be_label k ≡ true → parse_label_list (word k t ∷ ts) ≡ after_label k t ts
+unfolding after_label
 label_on k t (punct kind.RightParen ∷ ts) may = cond-true (may_be_label k) _ _ may
-label_on k t (punct kind.Comma ∷ (punct kind.RightParen ∷ ts)) may = cond-true (may_be_label k) _ _ may
 label_on k t (punct kind.Comma ∷ ts) may = cond-true (may_be_label k) _ _ may
 label_on k t ts may = cond-true (may_be_label k) _ _ may
 
-label_bad : (k : TokenKind) (t : Text) (ts : List Symbol) → may_be_label k ≡ false → parse_label_names (word k t ∷ ts) ≡ Err (misfit (word k t ∷ ts))
+label_bad : (k : TokenKind) (t : Text) (ts : List Symbol) → may_be_label k ≡ false → parse_label_list (word k t ∷ ts) ≡ Err (misfit (word k t ∷ ts))
 label_bad k t (punct kind.RightParen ∷ ts) none = cond-false (may_be_label k) _ _ none
-label_bad k t (punct kind.Comma ∷ (punct kind.RightParen ∷ ts)) none = cond-false (may_be_label k) _ _ none
 label_bad k t (punct kind.Comma ∷ ts) none = cond-false (may_be_label k) _ _ none
 label_bad k t ts none = cond-false (may_be_label k) _ _ none
 
@@ -46,14 +40,14 @@ item_comma r i (punct kind.RightBrace ∷ ts) = refl
 item_comma r i ts = refl
 
 -- `start` or `end` after its parenthesis
-bound_end : TokenKind → Text → List Symbol → Read (Option Postfix)
-bound_end k t (punct kind.RightParen ∷ ts) = Ok (Some (at_bound k t), ts)
-bound_end k t ts = Err (misfit ts)
+bound_end : Bool → Text → List Symbol → Read (Option Postfix)
+bound_end start t (punct kind.RightParen ∷ ts) = Ok (Some (at_bound start t), ts)
+bound_end start t ts = Err (misfit ts)
 
-bound_open : (k : TokenKind) (t : Text) (ts : List Symbol) → parse_at_bound k t (punct kind.LeftParen ∷ ts) ≡ bound_end k t ts
+bound_open : (start : Bool) (t : Text) (ts : List Symbol) → parse_at_bound start t (punct kind.LeftParen ∷ ts) ≡ bound_end start t ts
 unfolding bound_end
-bound_open k t (punct kind.RightParen ∷ ts) = refl
-bound_open k t ts = refl
+bound_open start t (punct kind.RightParen ∷ ts) = refl
+bound_open start t ts = refl
 
 module _ (x : Symbol) (rest other : List Symbol) where
   -- a reader that goes by the first token
@@ -115,55 +109,42 @@ module _ (x : Symbol) (rest other : List Symbol) where
   sign_local : (m n : ℕ) → Local x rest other m n eat_sign eat_sign
   sign_local m n = first m n eat_sign (whole_end []) step
     where
-      operator : (op : ℕ) (t : Text) (b : Bool) → is_plus_or_minus op ≡ b → First eat_sign m n (word (kind.Operator op) t)
-      operator op t true e = done m n eat_sign (word (kind.Operator op) t) (signed op t) (λ ts. cond-true (is_plus_or_minus op) _ _ e)
-      operator op t false e = none m n eat_sign (word (kind.Operator op) t) unsigned (λ ts. cond-false (is_plus_or_minus op) _ _ e)
+      operator : (op : ℕ) (t : Text) (plus minus : Bool) → (op == T_ADD) ≡ plus → (op == T_SUB) ≡ minus → First eat_sign m n (word (kind.Operator op) t)
+      operator op t true minus e f = done m n eat_sign (word (kind.Operator op) t) (signed false t) (λ ts. cond-true (op == T_ADD) _ _ e)
+      operator op t false true e f = done m n eat_sign (word (kind.Operator op) t) (signed true t) (λ ts. cond-false (op == T_ADD) _ _ e ∙ cond-true (op == T_SUB) _ _ f)
+      operator op t false false e f = none m n eat_sign (word (kind.Operator op) t) unsigned (λ ts. cond-false (op == T_ADD) _ _ e ∙ cond-false (op == T_SUB) _ _ f)
 
       step : (t : Symbol) → First eat_sign m n t
-      step (word (kind.Operator op) t) = operator op t (is_plus_or_minus op) refl
+      step (word (kind.Operator op) t) = operator op t (op == T_ADD) (op == T_SUB) refl refl
       step t = none m n eat_sign t unsigned (λ ts. refl)
 
   -- ---- labels
 
-  comma_local : (m n : ℕ) (k : TokenKind) (t : Text) → Local x rest other m n parse_label_names parse_label_names → Local x rest other m n (after_comma k t) (after_comma k t)
-  unfolding after_comma
-  comma_local m n k t l = first m n (after_comma k t) (whole_end []) step
-    where
-      step : (u : Symbol) → First (after_comma k t) m n u
-      step (punct kind.RightParen) = done m n (after_comma k t) (punct kind.RightParen) (last_comma k t) (λ ts. refl)
-      step u = at m n (after_comma k t) u (λ ts. parse_label_names ts then λ y. Ok (next k t y.0, y.1)) (made m n parse_label_names (next k t) l) (λ ts. refl)
-
-  label_local : (m n : ℕ) (k : TokenKind) (t : Text) → Local x rest other m n parse_label_names parse_label_names → Local x rest other m n (after_label k t) (after_label k t)
+  label_local : (m n : ℕ) (k : TokenKind) (t : Text) → Local x rest other m n parse_label_list parse_label_list → Local x rest other m n (after_label k t) (after_label k t)
   unfolding after_label
   label_local m n k t l = first m n (after_label k t) (whole_end []) step
     where
       step : (u : Symbol) → First (after_label k t) m n u
       step (punct kind.RightParen) = done m n (after_label k t) (punct kind.RightParen) (last k t) (λ ts. refl)
-      step (punct kind.Comma) = on m n (after_label k t) (punct kind.Comma) (after_comma k t) (comma_local m n k t l) (λ ts. refl)
+      step (punct kind.Comma) = on m n (after_label k t) (punct kind.Comma) (λ ts. parse_label_list ts then λ y. Ok (next k t y.0, y.1)) (made m n parse_label_list (next k t) l) (λ ts. refl)
       step u = bad m n (after_label k t) u (λ ts. refl)
 
-  names_next : (m n : ℕ) → Local x rest other m n parse_label_names parse_label_names → Local x rest other (suc m) (suc n) parse_label_names parse_label_names
-  names_next m n l = local_by_first x rest other (suc m) (suc n) m n parse_label_names parse_label_names (omega arith) (omega arith) (whole_end []) step
+  labels_next : (m n : ℕ) → Local x rest other m n parse_label_list parse_label_list → Local x rest other (suc m) (suc n) parse_label_list parse_label_list
+  labels_next m n l = local_by_first x rest other (suc m) (suc n) m n parse_label_list parse_label_list (omega arith) (omega arith) (whole_end []) step
     where
-      named : (k : TokenKind) (t : Text) (b : Bool) → may_be_label k ≡ b → Step x rest other (suc m) (suc n) m n parse_label_names parse_label_names (word k t)
+      named : (k : TokenKind) (t : Text) (b : Bool) → may_be_label k ≡ b → Step x rest other (suc m) (suc n) m n parse_label_list parse_label_list (word k t)
       named k t true e = takes (after_label k t) (after_label k t) (label_local m n k t l) (λ ts. label_on k t ts e) (λ ts. label_on k t ts e)
       named k t false e = stays (λ ts. Err (misfit ts)) (λ ts. Err (misfit ts)) (local_misfit x rest other (suc m) (suc n)) (λ ts. label_bad k t ts e) (λ ts. label_bad k t ts e)
 
-      step : (t : Symbol) → Step x rest other (suc m) (suc n) m n parse_label_names parse_label_names t
+      step : (t : Symbol) → Step x rest other (suc m) (suc n) m n parse_label_list parse_label_list t
       step (word k t) = named k t (may_be_label k) refl
+      step (punct kind.RightParen) = takes (λ ts. Ok (no_label, ts)) (λ ts. Ok (no_label, ts)) (local_ok x rest other no_label m n) (λ ts. refl) (λ ts. refl)
       step t = stays (λ ts. Err (misfit ts)) (λ ts. Err (misfit ts)) (local_misfit x rest other (suc m) (suc n)) (λ ts. refl) (λ ts. refl)
 
-  names_local : (m n : ℕ) → Local x rest other m n parse_label_names parse_label_names
-  names_local m n =
-      let p : ℕ → Unit {0} → List Symbol → Read Names = λ k d. parse_label_names in
-      local_bounded x rest other p (λ d. whole_end []) (λ k j ih d. names_next k j (ih tt)) m n tt
-
   label_list_local : (m n : ℕ) → Local x rest other m n parse_label_list parse_label_list
-  label_list_local m n = first m n parse_label_list (whole_end []) step
-    where
-      step : (t : Symbol) → First parse_label_list m n t
-      step (punct kind.RightParen) = done m n parse_label_list (punct kind.RightParen) no_label (λ ts. refl)
-      step t = at m n parse_label_list t (λ ts. parse_label_names ts then λ y. Ok (labels y.0, y.1)) (made m n parse_label_names labels (names_local m n)) (λ ts. refl)
+  label_list_local m n =
+      let p : ℕ → Unit {0} → List Symbol → Read Labels = λ k d. parse_label_list in
+      local_bounded x rest other p (λ d. whole_end []) (λ k j ih d. labels_next k j (ih tt)) m n tt
 
   pub labels_local : (m n : ℕ) → Local x rest other m n parse_labels parse_labels
   labels_local m n = first m n parse_labels (whole_end []) step
@@ -176,36 +157,36 @@ module _ (x : Symbol) (rest other : List Symbol) where
   grouping_local m n = first m n parse_grouping (whole_end []) step
     where
       step : (t : Symbol) → First parse_grouping m n t
-      step (word kind.By t) = on m n parse_grouping (word kind.By t) (λ ts. parse_labels ts then λ l. Ok (after (by t l.0), l.1)) (made m n parse_labels (λ l. after (by t l)) (labels_local m n)) (λ ts. refl)
-      step (word kind.Without t) = on m n parse_grouping (word kind.Without t) (λ ts. parse_labels ts then λ l. Ok (after (without t l.0), l.1)) (made m n parse_labels (λ l. after (without t l)) (labels_local m n)) (λ ts. refl)
+      step (word kind.By t) = on m n parse_grouping (word kind.By t) (λ ts. parse_labels ts then λ l. Ok (after (grouping true t l.0), l.1)) (made m n parse_labels (λ l. after (grouping true t l)) (labels_local m n)) (λ ts. refl)
+      step (word kind.Without t) = on m n parse_grouping (word kind.Without t) (λ ts. parse_labels ts then λ l. Ok (after (grouping false t l.0), l.1)) (made m n parse_labels (λ l. after (grouping false t l)) (labels_local m n)) (λ ts. refl)
       step t = none m n parse_grouping t no_clause (λ ts. refl)
 
   -- ---- modifiers
 
-  group_labels_local : (m n : ℕ) (k : TokenKind) (t : Text) → Local x rest other m n (parse_group_labels k t) (parse_group_labels k t)
-  group_labels_local m n k t = first m n (parse_group_labels k t) (whole_end []) step
+  group_labels_local : (m n : ℕ) (b : Bool) (t : Text) → Local x rest other m n (parse_group_labels b t) (parse_group_labels b t)
+  group_labels_local m n b t = first m n (parse_group_labels b t) (whole_end []) step
     where
-      step : (u : Symbol) → First (parse_group_labels k t) m n u
-      step (punct kind.LeftParen) = on m n (parse_group_labels k t) (punct kind.LeftParen) (λ ts. parse_label_list ts then λ l. Ok (listed k t l.0, l.1)) (made m n parse_label_list (listed k t) (label_list_local m n)) (λ ts. refl)
-      step u = none m n (parse_group_labels k t) u (bare k t) (λ ts. refl)
+      step : (u : Symbol) → First (parse_group_labels b t) m n u
+      step (punct kind.LeftParen) = on m n (parse_group_labels b t) (punct kind.LeftParen) (λ ts. parse_label_list ts then λ l. Ok (listed b t l.0, l.1)) (made m n parse_label_list (listed b t) (label_list_local m n)) (λ ts. refl)
+      step u = none m n (parse_group_labels b t) u (bare b t) (λ ts. refl)
 
   group_local : (m n : ℕ) → Local x rest other m n parse_group parse_group
   group_local m n = first m n parse_group (whole_end []) step
     where
       step : (t : Symbol) → First parse_group m n t
-      step (word kind.GroupLeft t) = on m n parse_group (word kind.GroupLeft t) (parse_group_labels kind.GroupLeft t) (group_labels_local m n kind.GroupLeft t) (λ ts. refl)
-      step (word kind.GroupRight t) = on m n parse_group (word kind.GroupRight t) (parse_group_labels kind.GroupRight t) (group_labels_local m n kind.GroupRight t) (λ ts. refl)
+      step (word kind.GroupLeft t) = on m n parse_group (word kind.GroupLeft t) (parse_group_labels true t) (group_labels_local m n true t) (λ ts. refl)
+      step (word kind.GroupRight t) = on m n parse_group (word kind.GroupRight t) (parse_group_labels false t) (group_labels_local m n false t) (λ ts. refl)
       step t = none m n parse_group t no_group (λ ts. refl)
 
-  matching_after_local : (m n : ℕ) (k : TokenKind) (t : Text) → Local x rest other m n (parse_matching_after k t) (parse_matching_after k t)
-  matching_after_local m n k t = seq m n parse_labels (λ l us. parse_group us then λ g. Ok (matching k t l g.0, g.1)) (labels_local m n) (λ l. made m n parse_group (matching k t l) (group_local m n))
+  matching_after_local : (m n : ℕ) (b : Bool) (t : Text) → Local x rest other m n (parse_matching_after b t) (parse_matching_after b t)
+  matching_after_local m n b t = seq m n parse_labels (λ l us. parse_group us then λ g. Ok (matching b t l g.0, g.1)) (labels_local m n) (λ l. made m n parse_group (matching b t l) (group_local m n))
 
   matching_local : (m n : ℕ) → Local x rest other m n parse_matching parse_matching
   matching_local m n = first m n parse_matching (whole_end []) step
     where
       step : (t : Symbol) → First parse_matching m n t
-      step (word kind.On t) = on m n parse_matching (word kind.On t) (parse_matching_after kind.On t) (matching_after_local m n kind.On t) (λ ts. refl)
-      step (word kind.Ignoring t) = on m n parse_matching (word kind.Ignoring t) (parse_matching_after kind.Ignoring t) (matching_after_local m n kind.Ignoring t) (λ ts. refl)
+      step (word kind.On t) = on m n parse_matching (word kind.On t) (parse_matching_after true t) (matching_after_local m n true t) (λ ts. refl)
+      step (word kind.Ignoring t) = on m n parse_matching (word kind.Ignoring t) (parse_matching_after false t) (matching_after_local m n false t) (λ ts. refl)
       step t = none m n parse_matching t no_matching (λ ts. refl)
 
   value_end_local : (m n : ℕ) (s : Signed) (v : Text) → Local x rest other m n (parse_fill_value_end s v) (parse_fill_value_end s v)
@@ -228,15 +209,15 @@ module _ (x : Symbol) (rest other : List Symbol) where
   fill_right_local m n t v = first m n (parse_fill_right t v) (whole_end []) step
     where
       step : (u : Symbol) → First (parse_fill_right t v) m n u
-      step (word kind.FillRight u) = on m n (parse_fill_right t v) (word kind.FillRight u) (λ ts. parse_fill_value ts then λ w. Ok (left_right t v u w.0, w.1)) (made m n parse_fill_value (left_right t v u) (fill_value_local m n)) (λ ts. refl)
-      step u = none m n (parse_fill_right t v) u (left t v) (λ ts. refl)
+      step (word kind.FillRight u) = on m n (parse_fill_right t v) (word kind.FillRight u) (λ ts. parse_fill_value ts then λ w. Ok (two true t v u w.0, w.1)) (made m n parse_fill_value (two true t v u) (fill_value_local m n)) (λ ts. refl)
+      step u = none m n (parse_fill_right t v) u (one true t v) (λ ts. refl)
 
   fill_left_local : (m n : ℕ) (t : Text) (v : FillValue) → Local x rest other m n (parse_fill_left t v) (parse_fill_left t v)
   fill_left_local m n t v = first m n (parse_fill_left t v) (whole_end []) step
     where
       step : (u : Symbol) → First (parse_fill_left t v) m n u
-      step (word kind.FillLeft u) = on m n (parse_fill_left t v) (word kind.FillLeft u) (λ ts. parse_fill_value ts then λ w. Ok (right_left t v u w.0, w.1)) (made m n parse_fill_value (right_left t v u) (fill_value_local m n)) (λ ts. refl)
-      step u = none m n (parse_fill_left t v) u (right t v) (λ ts. refl)
+      step (word kind.FillLeft u) = on m n (parse_fill_left t v) (word kind.FillLeft u) (λ ts. parse_fill_value ts then λ w. Ok (two false t v u w.0, w.1)) (made m n parse_fill_value (two false t v u) (fill_value_local m n)) (λ ts. refl)
+      step u = none m n (parse_fill_left t v) u (one false t v) (λ ts. refl)
 
   fills_local : (m n : ℕ) → Local x rest other m n parse_fills parse_fills
   fills_local m n = first m n parse_fills (whole_end []) step
@@ -275,15 +256,15 @@ module _ (x : Symbol) (rest other : List Symbol) where
       step (word (kind.Operator op) t) = operator op t (op == T_NEQ) refl
       step t = none m n parse_match_operator t None (λ ts. refl)
 
-  matcher_value_local : (m n : ℕ) (k : TokenKind) (t : Text) (s : MatchOperator) → Local x rest other m n (parse_matcher_value k t s) (parse_matcher_value k t s)
-  matcher_value_local m n k t s = made m n parse_string (λ v. matcher k t s v) (string_local m n)
+  matcher_value_local : (m n : ℕ) (b : Bool) (t : Text) (s : MatchOperator) → Local x rest other m n (parse_matcher_value b t s) (parse_matcher_value b t s)
+  matcher_value_local m n b t s = made m n parse_string (λ v. matcher b t s v) (string_local m n)
 
   after_name_local : (m n : ℕ) (t : Text) (s : Option MatchOperator) → Local x rest other m n (λ us. parse_after_name t (s, us)) (λ us. parse_after_name t (s, us))
-  after_name_local m n t (Some s) = matcher_value_local m n kind.Identifier t s
+  after_name_local m n t (Some s) = matcher_value_local m n false t s
   after_name_local m n t None = local_misfit x rest other m n
 
   after_string_local : (m n : ℕ) (t : Text) (s : Option MatchOperator) → Local x rest other m n (λ us. parse_after_string t (s, us)) (λ us. parse_after_string t (s, us))
-  after_string_local m n t (Some s) = matcher_value_local m n kind.String t s
+  after_string_local m n t (Some s) = matcher_value_local m n true t s
   after_string_local m n t None = local_ok x rest other (lone t) m n
 
   item_local : (m n : ℕ) → Local x rest other m n parse_item parse_item
@@ -378,27 +359,27 @@ module _ (x : Symbol) (rest other : List Symbol) where
   pub range_local : (m n : ℕ) → Local x rest other m n (λ ts. parse_time ts then λ t. parse_range_end t.0 t.1) (λ ts. parse_time ts then λ t. parse_range_end t.0 t.1)
   range_local m n = seq m n parse_time parse_range_end (time_local m n) (range_end_local m n)
 
-  bound_end_local : (m n : ℕ) (k : TokenKind) (t : Text) → Local x rest other m n (bound_end k t) (bound_end k t)
+  bound_end_local : (m n : ℕ) (start : Bool) (t : Text) → Local x rest other m n (bound_end start t) (bound_end start t)
   unfolding bound_end
-  bound_end_local m n k t = first m n (bound_end k t) (whole_end []) step
+  bound_end_local m n start t = first m n (bound_end start t) (whole_end []) step
     where
-      step : (u : Symbol) → First (bound_end k t) m n u
-      step (punct kind.RightParen) = done m n (bound_end k t) (punct kind.RightParen) (Some (at_bound k t)) (λ ts. refl)
-      step u = bad m n (bound_end k t) u (λ ts. refl)
+      step : (u : Symbol) → First (bound_end start t) m n u
+      step (punct kind.RightParen) = done m n (bound_end start t) (punct kind.RightParen) (Some (at_bound start t)) (λ ts. refl)
+      step u = bad m n (bound_end start t) u (λ ts. refl)
 
-  bound_local : (m n : ℕ) (k : TokenKind) (t : Text) → Local x rest other m n (parse_at_bound k t) (parse_at_bound k t)
-  bound_local m n k t = first m n (parse_at_bound k t) (whole_end []) step
+  bound_local : (m n : ℕ) (start : Bool) (t : Text) → Local x rest other m n (parse_at_bound start t) (parse_at_bound start t)
+  bound_local m n start t = first m n (parse_at_bound start t) (whole_end []) step
     where
-      step : (u : Symbol) → First (parse_at_bound k t) m n u
-      step (punct kind.LeftParen) = on m n (parse_at_bound k t) (punct kind.LeftParen) (bound_end k t) (bound_end_local m n k t) (bound_open k t)
-      step u = bad m n (parse_at_bound k t) u (λ ts. refl)
+      step : (u : Symbol) → First (parse_at_bound start t) m n u
+      step (punct kind.LeftParen) = on m n (parse_at_bound start t) (punct kind.LeftParen) (bound_end start t) (bound_end_local m n start t) (bound_open start t)
+      step u = bad m n (parse_at_bound start t) u (λ ts. refl)
 
   pub at_modifier_local : (m n : ℕ) → Local x rest other m n parse_at_modifier parse_at_modifier
   at_modifier_local m n = first m n parse_at_modifier (whole_end []) step
     where
       step : (u : Symbol) → First parse_at_modifier m n u
-      step (word kind.Start t) = on m n parse_at_modifier (word kind.Start t) (parse_at_bound kind.Start t) (bound_local m n kind.Start t) (λ ts. refl)
-      step (word kind.End t) = on m n parse_at_modifier (word kind.End t) (parse_at_bound kind.End t) (bound_local m n kind.End t) (λ ts. refl)
+      step (word kind.Start t) = on m n parse_at_modifier (word kind.Start t) (parse_at_bound true t) (bound_local m n true t) (λ ts. refl)
+      step (word kind.End t) = on m n parse_at_modifier (word kind.End t) (parse_at_bound false t) (bound_local m n false t) (λ ts. refl)
       step u = at m n parse_at_modifier u (λ ts. eat_sign ts then λ s. parse_number s.1 then λ v. Ok (Some (at_number s.0 v.0), v.1)) (seq m n eat_sign (λ s us. parse_number us then λ v. Ok (Some (at_number s v.0), v.1)) (sign_local m n) (λ s. made m n parse_number (λ v. Some (at_number s v)) (number_local m n))) (λ ts. refl)
 
   pub offset_local : (m n : ℕ) (t : Text) → Local x rest other m n (parse_offset_postfix t) (parse_offset_postfix t)

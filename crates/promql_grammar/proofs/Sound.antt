@@ -7,12 +7,13 @@ use Rattle.promql_grammar.specs.declared.token_kinds.TokenKind.{TokenKind}
 use Rattle.promql_grammar.specs.declared.token_kinds.TokenKind.TheVariants as kind
 use Rattle.promql_grammar.specs.Results.{◌then◌}
 use Rattle.promql_grammar.specs.Symbols.{Symbol, punct, word, may_be_name, may_be_called, is_plus_or_minus}
-use Rattle.promql_grammar.specs.GrammarParts.{Grouping, by, without, Clause, no_clause, before, after, bare, Matching, matching, Fills, no_fill, Modifier, Braces, Postfix, range, subquery, at_number, at_bound, offset, mode, yield_labels, yield_grouping, yield_before, yield_after, yield_modifier, yield_braces, yield_any_braces, yield_postfix, IsLabels, IsGrouping, IsClause, IsBraces, IsAnyBraces}
+use Rattle.promql_grammar.specs.GrammarParts.{Grouping, grouping, Clause, no_clause, before, after, bare, Matching, matching, Fills, no_fill, Modifier, Braces, Postfix, range, subquery, at_number, at_bound, offset, mode, yield_labels, yield_grouping, yield_before, yield_after, yield_modifier, yield_braces, yield_any_braces, yield_postfix, IsLabels, IsClause}
+use Rattle.promql_grammar.specs.PartTokens.{IsGrouping}
 use Rattle.promql_grammar.specs.Grammar.{Derivation, number, duration, string, selector, nameless, paren, call, aggregate, postfixed, unary, binary, Arguments, none, more, yield, yield_arguments, yield_rest, precedence, openness, height, greatest_height, added_height, IsWellFormed, AreWellFormed, IsBase, OpensNoParen, FitsLeft, FitsMatching}
 use Rattle.promql_grammar.specs.Parsing.{misfit, too_high, Read, Reader, right_precedence, parse_labels, parse_grouping, parse_modifier, parse_optional_braces, parse_braces, parse_postfix, parse_more_postfixes, parse_postfixes, parse_paren_end, parse_more_arguments, parse_arguments, parse_selector, parse_call, parse_grouped_aggregate, parse_aggregate, parse_unary, parse_operators, parse_expression}
 use Rattle.promql_grammar.proofs.Complete.{tall}
 use Rattle.promql_grammar.proofs.Precedences.{Root, Stops, After, after_right, after_sign, after_base, right_root, sign_root, root_base}
-use Rattle.promql_grammar.proofs.SoundParts.{Took, IsAfter, IsModifierBefore, Takes, yield_any_postfix, IsAnyPostfix, labels_taken, clause_taken, modifier_taken, braces_in_taken, braces_taken, postfix_taken}
+use Rattle.promql_grammar.proofs.SoundParts.{Took, Any, IsAfter, IsModifierBefore, Takes, yield_any_postfix, labels_taken, clause_taken, modifier_taken, braces_in_taken, braces_taken, postfix_taken}
 
 added_tokens : (p : Postfix) → added_height p + 1 ≤ length (yield_postfix p) + 1
 added_tokens (range t) = omega arith
@@ -101,7 +102,7 @@ open_less (punct kind.LeftParen ∷ ts) us l h = h
 open_less (t ∷ ts) us l h = tt
 
 fits_less : (m : Matching) (f : Fills) (ts us : List Symbol) → 1 ≤ length ts → FitsMatching m f (ts ++ us) → FitsMatching m f ts
-fits_less (matching k t ls (bare k' t')) no_fill ts us l h = open_less ts us l h
+fits_less (matching on t ls (bare left t')) no_fill ts us l h = open_less ts us l h
 fits_less m f ts us l h = tt
 
 -- after a part without expressions
@@ -118,18 +119,18 @@ module _ (n : ℕ) where
   abbrev Postfixes : ℕ → Type 0
   Postfixes k = (d : Derivation) (ts all : List Symbol) → IsWellFormed d → IsBase d → height d ≤ suc n → all ≡ yield d ++ ts → Firsts (suc n) all (parse_postfixes k (suc n) d ts)
 
-  postfix_sound : (k : ℕ) (d : Derivation) (p : Option Postfix) (ts us all : List Symbol) → Postfixes k → IsWellFormed d → IsBase d → height d ≤ suc n → all ≡ yield d ++ ts → ts ≡ yield_any_postfix p ++ us → IsAnyPostfix p → Firsts (suc n) all (parse_more_postfixes (parse_postfixes k (suc n)) (suc n) d p us)
-  postfix_sound k d None ts us all ih h b l e f i = base_first d us all h b l (e ∙ ap (λ x. yield d ++ x) f)
-  postfix_sound k d (Some p) ts us all ih h b l e f i =
+  postfix_sound : (k : ℕ) (d : Derivation) (p : Option Postfix) (ts us all : List Symbol) → Postfixes k → IsWellFormed d → IsBase d → height d ≤ suc n → all ≡ yield d ++ ts → ts ≡ yield_any_postfix p ++ us → Firsts (suc n) all (parse_more_postfixes (parse_postfixes k (suc n)) (suc n) d p us)
+  postfix_sound k d None ts us all ih h b l e f = base_first d us all h b l (e ∙ ap (λ x. yield d ++ x) f)
+  postfix_sound k d (Some p) ts us all ih h b l e f =
       ⊎_elim (λ lt. let q : suc n ≤ length all = omega (arith, height_yield d, added_tokens p, ap length e, ap length f, length-append (yield d) ts, length-append (yield_postfix p) us) in subst (Firsts (suc n) all) (cond_below (suc n) (height (postfixed d p)) (Err too_high) _ lt) q)
-      (λ le. subst (Firsts (suc n) all) (cond_above (suc n) (height (postfixed d p)) (Err too_high) _ _ le refl) (ih (postfixed d p) us all (h, b, i) tt le (e ∙ ap (λ x. yield d ++ x) f ∙ sym (append_assoc (yield d) (yield_postfix p) us))))
+      (λ le. subst (Firsts (suc n) all) (cond_above (suc n) (height (postfixed d p)) (Err too_high) _ _ le refl) (ih (postfixed d p) us all (h, b) tt le (e ∙ ap (λ x. yield d ++ x) f ∙ sym (append_assoc (yield d) (yield_postfix p) us))))
       (cases_lt (suc n) (height (postfixed d p)))
 
   postfixes_sound : (k : ℕ) → Postfixes k
   postfixes_sound zero d ts all h b l e = base_first d ts all h b l e
   postfixes_sound (suc k) d ts all h b l e =
-      first_then (suc n) yield_any_postfix IsAnyPostfix ts all (parse_postfix ts) (λ p. parse_more_postfixes (parse_postfixes k (suc n)) (suc n) d p.0 p.1) (postfix_taken ts)
-      (λ p us f i. postfix_sound k d p ts us all (postfixes_sound k) h b l e f i)
+      first_then (suc n) yield_any_postfix Any ts all (parse_postfix ts) (λ p. parse_more_postfixes (parse_postfixes k (suc n)) (suc n) d p.0 p.1) (postfix_taken ts)
+      (λ p us f i. postfix_sound k d p ts us all (postfixes_sound k) h b l e f)
 
   closing_sound : (k : ℕ) (d : Derivation) (us ts : List Symbol) → IsWellFormed d → height d ≤ n → ts ≡ yield d ++ us → Firsts (suc n) (punct kind.LeftParen ∷ ts) (parse_paren_end k (suc n) d us)
   closing_sound k d (punct kind.RightParen ∷ us) ts h l e = postfixes_sound k (paren d) us (punct kind.LeftParen ∷ ts) h tt (omega arith) (ap (λ l. punct kind.LeftParen ∷ l) (e ∙ sym (append_assoc (yield d) (punct kind.RightParen ∷ []) us)))
@@ -140,8 +141,8 @@ module _ (n : ℕ) where
     where
       go : (b : Bool) → may_be_name w ≡ b → Firsts (suc n) (word w t ∷ ts) (if b then (parse_optional_braces ts then λ b. parse_postfixes k (suc n) (selector w t b.0) b.1) else Err (misfit (word w t ∷ ts)))
       go true h =
-          first_then (suc n) yield_any_braces IsAnyBraces ts (word w t ∷ ts) (parse_optional_braces ts) (λ b. parse_postfixes k (suc n) (selector w t b.0) b.1) (braces_taken ts)
-          (λ b us e i. postfixes_sound k (selector w t b) us (word w t ∷ ts) (h, i) tt (omega arith) (ap (λ l. word w t ∷ l) e))
+          first_then (suc n) yield_any_braces Any ts (word w t ∷ ts) (parse_optional_braces ts) (λ b. parse_postfixes k (suc n) (selector w t b.0) b.1) (braces_taken ts)
+          (λ b us e i. postfixes_sound k (selector w t b) us (word w t ∷ ts) h tt (omega arith) (ap (λ l. word w t ∷ l) e))
       go false h = tt
 
   module _ (r : Reader) (sound : Sound r n) where
@@ -183,6 +184,9 @@ module _ (n : ℕ) where
         (λ ds us i l e. postfixes_sound k (call w t ds) us _ (h, i) tt (omega arith) (ap (λ l. word w t ∷ (punct kind.LeftParen ∷ l)) e))
     called_sound k w t ts h = named_sound k w t ts
 
+    is_before : (g : Grouping) → IsGrouping g → IsClause (before g)
+    is_before (grouping by t ls) h = h
+
     -- arguments after a grouping
     grouped_sound : (k op : ℕ) (t : Text) (g : Grouping) (ts us : List Symbol) → IsGrouping g → ts ≡ yield_grouping g ++ us → Firsts (suc n) (word (kind.Aggregator op) t ∷ ts) (parse_grouped_aggregate r k (suc n) op t g us)
     grouped_sound k op t g ts (punct kind.LeftParen ∷ us) h e =
@@ -190,14 +194,14 @@ module _ (n : ℕ) where
         let same : front ++ us ≡ word (kind.Aggregator op) t ∷ ts = ap (λ l. word (kind.Aggregator op) t ∷ l) (append_assoc (yield_grouping g) (punct kind.LeftParen ∷ []) us ∙ sym e) in
         subst (λ all. Firsts (suc n) all (parse_arguments r us then λ y. parse_postfixes k (suc n) (aggregate op t (before g) y.0) y.1)) same
         (first_arguments front us (parse_arguments r us) (λ y. parse_postfixes k (suc n) (aggregate op t (before g) y.0) y.1) (omega arith) (arguments_sound us)
-        (λ ds vs i l f. postfixes_sound k (aggregate op t (before g) ds) vs (front ++ us) (h, i) tt (omega arith)
+        (λ ds vs i l f. postfixes_sound k (aggregate op t (before g) ds) vs (front ++ us) (is_before g h, i) tt (omega arith)
         (same ∙ ap (λ l. word (kind.Aggregator op) t ∷ l) (e ∙ ap (λ l. yield_grouping g ++ punct kind.LeftParen ∷ l) (f ∙ ap (λ l. l ++ vs) (sym (append-nil (yield_arguments ds)))) ∙ sym (append_assoc (yield_grouping g) (punct kind.LeftParen ∷ (yield_arguments ds ++ [])) vs)))))
     grouped_sound k op t g ts us h e = tt
 
     is_clause : (c : Clause) → IsAfter c → IsClause c
     is_clause no_clause h = tt
-    is_clause (before g) h = h.0
-    is_clause (after g) h = h.0
+    is_clause (before (grouping by t ls)) h = h.0
+    is_clause (after (grouping by t ls)) h = h.0
 
     aggregated_sound : (k op : ℕ) (t : Text) (ts : List Symbol) → Firsts (suc n) (word (kind.Aggregator op) t ∷ ts) (parse_aggregate r k (suc n) op t ts)
     aggregated_sound k op t (punct kind.LeftParen ∷ ts) =
@@ -208,11 +212,11 @@ module _ (n : ℕ) where
         (ap (λ x. word (kind.Aggregator op) t ∷ (punct kind.LeftParen ∷ x)) (e ∙ ap (λ x. yield_arguments ds ++ x) f ∙ sym (append_assoc (yield_arguments ds) (yield_after c) vs))
         ∙ ap (λ x. word (kind.Aggregator op) t ∷ ((x ++ punct kind.LeftParen ∷ (yield_arguments ds ++ yield_after c)) ++ vs)) (sym j.1))))
     aggregated_sound k op t (word kind.By u ∷ ts) =
-        first_then (suc n) yield_labels IsLabels ts (word (kind.Aggregator op) t ∷ (word kind.By u ∷ ts)) (parse_labels ts) (λ l. parse_grouped_aggregate r k (suc n) op t (by u l.0) l.1) (labels_taken ts)
-        (λ ls us e h. grouped_sound k op t (by u ls) (word kind.By u ∷ ts) us h (ap (λ l. word kind.By u ∷ l) e))
+        first_then (suc n) yield_labels IsLabels ts (word (kind.Aggregator op) t ∷ (word kind.By u ∷ ts)) (parse_labels ts) (λ l. parse_grouped_aggregate r k (suc n) op t (grouping true u l.0) l.1) (labels_taken ts)
+        (λ ls us e h. grouped_sound k op t (grouping true u ls) (word kind.By u ∷ ts) us h (ap (λ l. word kind.By u ∷ l) e))
     aggregated_sound k op t (word kind.Without u ∷ ts) =
-        first_then (suc n) yield_labels IsLabels ts (word (kind.Aggregator op) t ∷ (word kind.Without u ∷ ts)) (parse_labels ts) (λ l. parse_grouped_aggregate r k (suc n) op t (without u l.0) l.1) (labels_taken ts)
-        (λ ls us e h. grouped_sound k op t (without u ls) (word kind.Without u ∷ ts) us h (ap (λ l. word kind.Without u ∷ l) e))
+        first_then (suc n) yield_labels IsLabels ts (word (kind.Aggregator op) t ∷ (word kind.Without u ∷ ts)) (parse_labels ts) (λ l. parse_grouped_aggregate r k (suc n) op t (grouping false u l.0) l.1) (labels_taken ts)
+        (λ ls us e h. grouped_sound k op t (grouping false u ls) (word kind.Without u ∷ ts) us h (ap (λ l. word kind.Without u ∷ l) e))
     aggregated_sound k op t ts = named_sound k (kind.Aggregator op) t ts
 
     paren_sound : (k : ℕ) (ts : List Symbol) (o : Read Derivation) → Good n 0 ts o → Firsts (suc n) (punct kind.LeftParen ∷ ts) (o then λ x. parse_paren_end k (suc n) x.0 x.1)
@@ -244,7 +248,7 @@ module _ (n : ℕ) where
     first_sound k (word w t ∷ ts) = named_sound k w t ts
     first_sound k (punct kind.LeftParen ∷ ts) = paren_sound k ts (r 0 ts) (sound.by 0 ts)
     first_sound k (punct kind.LeftBrace ∷ ts) =
-        first_then (suc n) yield_braces IsBraces (punct kind.LeftBrace ∷ ts) (punct kind.LeftBrace ∷ ts) (parse_braces ts) (λ b. parse_postfixes k (suc n) (nameless b.0) b.1) (braces_in_taken ts)
+        first_then (suc n) yield_braces Any (punct kind.LeftBrace ∷ ts) (punct kind.LeftBrace ∷ ts) (parse_braces ts) (λ b. parse_postfixes k (suc n) (nameless b.0) b.1) (braces_in_taken ts)
         (λ b us e h. postfixes_sound k (nameless b) us (punct kind.LeftBrace ∷ ts) h tt (omega arith) e)
     first_sound k ts = tt
 

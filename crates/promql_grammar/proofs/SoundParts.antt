@@ -3,14 +3,14 @@ use Rattle.std.proofs.Common.{◌≡◌, ℕ, zero, suc, refl, sym, ◌∙◌, a
 use Rattle.std.specs.Prelude.{◌==◌, Ok, Err, if◌then◌else◌}
 use Rattle.std.proofs.lemmas.Bool.{eqb-true}
 use Rattle.promql_text.specs.Texts.{Text}
-use Rattle.promql_token.specs.declared.ids.TheConstants.{T_NEQ, T_LOR}
-use Rattle.promql_grammar.specs.declared.token_kinds.TokenKind.{TokenKind}
+use Rattle.promql_token.specs.declared.ids.TheConstants.{T_NEQ, T_LOR, T_ADD, T_SUB}
 use Rattle.promql_grammar.specs.declared.token_kinds.TokenKind.TheVariants as kind
 use Rattle.promql_grammar.specs.Results.{◌then◌}
-use Rattle.promql_grammar.specs.Symbols.{Symbol, punct, word, is_plus_or_minus, may_be_label}
-use Rattle.promql_grammar.specs.GrammarParts.{Time, Signed, unsigned, signed, last, last_comma, next, labels, by, without, Clause, no_clause, before, after, Group, bare, listed, Matching, no_matching, matching, FillValue, Fills, no_fill, both, left_right, right_left, Modifier, MatchOperator, not_equal, Item, matcher, comma, or, Items, next_item, items, Postfix, at_number, offset, yield_time, yield_signed, yield_names, yield_labels, yield_before, yield_after, yield_group, yield_matching, yield_value, yield_fills, yield_flag, yield_modifier, yield_match_operator, yield_item, yield_items, yield_braces, yield_any_braces, yield_postfix, IsSigned, AreLabels, IsLabels, IsGrouping, IsGroup, IsMatching, IsFills, IsModifier, IsItem, AreItems, IsBraces, IsAnyBraces, IsPostfix, is_group_word, is_matching_word, is_matcher_name, is_bound_word}
+use Rattle.promql_grammar.specs.Symbols.{Symbol, punct, word, may_be_label}
+use Rattle.promql_grammar.specs.GrammarParts.{Time, Signed, unsigned, signed, Labels, last, next, grouping, Clause, no_clause, before, after, Group, bare, listed, Matching, no_matching, matching, FillValue, Fills, no_fill, both, two, Modifier, MatchOperator, not_equal, Item, matcher, comma, or, Items, next_item, items, Postfix, at_number, offset, yield_time, yield_signed, yield_names, yield_labels, yield_before, yield_after, yield_group, yield_matching, yield_value, yield_fills, yield_modifier, yield_match_operator, yield_item, yield_items, yield_braces, yield_any_braces, yield_postfix, IsLabels, IsGroup, IsMatching, name_kind}
+use Rattle.promql_grammar.specs.PartTokens.{IsGrouping, yield_flag}
 use Rattle.promql_grammar.specs.Grammar.{OpensNoParen, FitsMatching}
-use Rattle.promql_grammar.specs.Parsing.{misfit, too_high, Read, parse_time, eat_sign, parse_number, parse_string, parse_fill_value_end, parse_fill_value, parse_label_names, parse_label_list, parse_labels, parse_grouping, parse_group_labels, parse_group, parse_matching_after, parse_matching, parse_fills, parse_fill_right, parse_fill_left, parse_flag, with_fills, with_matching, parse_modifier, parse_match_operator, parse_matcher_value, parse_after_name, parse_after_string, parse_item, parse_after_item, parse_items, parse_braces, parse_optional_braces, parse_step_end, parse_step, parse_range_end, parse_at_bound, parse_at_modifier, parse_offset_postfix, parse_postfix}
+use Rattle.promql_grammar.specs.Parsing.{misfit, too_high, Read, parse_time, eat_sign, parse_number, parse_string, parse_fill_value_end, parse_fill_value, parse_label_list, parse_labels, parse_grouping, parse_group_labels, parse_group, parse_matching_after, parse_matching, parse_fills, parse_fill_right, parse_fill_left, parse_flag, with_fills, with_matching, parse_modifier, parse_match_operator, parse_matcher_value, parse_after_name, parse_after_string, parse_item, parse_after_item, parse_items, parse_braces, parse_optional_braces, parse_step_end, parse_step, parse_range_end, parse_at_bound, parse_at_modifier, parse_offset_postfix, parse_postfix}
 
 -- the tokens start with those of a part, and this holds of it and of the tokens after it
 abbrev pub Takes : {A : Type 0} → (A → List Symbol) → (A → List Symbol → Type 0) → List Symbol → Read A → Type 0
@@ -36,68 +36,72 @@ took_if : {A : Type 0} (spells : A → List Symbol) (holds : A → Type 0) (ts :
 took_if s h ts true o bad t = t refl
 took_if s h ts false o bad t = tt
 
-abbrev AnyTime : Time → Type 0
-AnyTime t = Unit {0}
+-- a part of which nothing else is asked
+abbrev pub Any : {A : Type 0} → A → Type 0
+Any x = Unit {0}
 
-abbrev AnyText : Text → Type 0
-AnyText t = Unit {0}
-
-pub time_taken : (ts : List Symbol) → Took yield_time AnyTime ts (parse_time ts)
+pub time_taken : (ts : List Symbol) → Took yield_time Any ts (parse_time ts)
 time_taken (word kind.Number t ∷ ts) = (refl, tt)
 time_taken (word kind.Duration t ∷ ts) = (refl, tt)
 time_taken ts = tt
 
-signed_if : (op : ℕ) (t : Text) (ts : List Symbol) (b : Bool) → is_plus_or_minus op ≡ b → Took yield_signed IsSigned (word (kind.Operator op) t ∷ ts) (if b then Ok (signed op t, ts) else Ok (unsigned, word (kind.Operator op) t ∷ ts))
-signed_if op t ts true e = (refl, e)
-signed_if op t ts false e = (refl, tt)
+minus_if : (op : ℕ) (t : Text) (ts : List Symbol) (b : Bool) → (op == T_SUB) ≡ b
+    → Took yield_signed Any (word (kind.Operator op) t ∷ ts) (if b then Ok (signed true t, ts) else Ok (unsigned, word (kind.Operator op) t ∷ ts))
+minus_if op t ts true e = (ap (λ o. word (kind.Operator o) t ∷ ts) (eqb-true op T_SUB e), tt)
+minus_if op t ts false e = (refl, tt)
 
-signed_taken : (ts : List Symbol) → Took yield_signed IsSigned ts (eat_sign ts)
-signed_taken (word (kind.Operator op) t ∷ ts) = signed_if op t ts (is_plus_or_minus op) refl
+signed_if : (op : ℕ) (t : Text) (ts : List Symbol) (b : Bool) → (op == T_ADD) ≡ b
+    → Took yield_signed Any (word (kind.Operator op) t ∷ ts) (if b then Ok (signed false t, ts) else if op == T_SUB then Ok (signed true t, ts) else Ok (unsigned, word (kind.Operator op) t ∷ ts))
+signed_if op t ts true e = (ap (λ o. word (kind.Operator o) t ∷ ts) (eqb-true op T_ADD e), tt)
+signed_if op t ts false e = minus_if op t ts (op == T_SUB) refl
+
+signed_taken : (ts : List Symbol) → Took yield_signed Any ts (eat_sign ts)
+signed_taken (word (kind.Operator op) t ∷ ts) = signed_if op t ts (op == T_ADD) refl
 signed_taken ts = (refl, tt)
 
 abbrev yield_number : Text → List Symbol
 yield_number t = word kind.Number t ∷ []
 
-number_taken : (ts : List Symbol) → Took yield_number AnyText ts (parse_number ts)
+number_taken : (ts : List Symbol) → Took yield_number Any ts (parse_number ts)
 number_taken (word kind.Number t ∷ ts) = (refl, tt)
 number_taken ts = tt
 
 abbrev yield_string : Text → List Symbol
 yield_string t = word kind.String t ∷ []
 
-string_taken : (ts : List Symbol) → Took yield_string AnyText ts (parse_string ts)
+string_taken : (ts : List Symbol) → Took yield_string Any ts (parse_string ts)
 string_taken (word kind.String t ∷ ts) = (refl, tt)
 string_taken ts = tt
 
-abbrev IsValue : FillValue → Type 0
-IsValue v = IsSigned v.sign
+value_end_taken : (s : Signed) (n : Text) (ts us : List Symbol) → ts ≡ yield_signed s ++ word kind.Number n ∷ us → Took yield_value Any (punct kind.LeftParen ∷ ts) (parse_fill_value_end s n us)
+value_end_taken s n ts (punct kind.RightParen ∷ us) e = (ap (λ l. punct kind.LeftParen ∷ l) (e ∙ sym (append_assoc (yield_signed s) (word kind.Number n ∷ (punct kind.RightParen ∷ [])) us)), tt)
+value_end_taken s n ts us e = tt
 
-value_end_taken : (s : Signed) (n : Text) (ts us : List Symbol) → IsSigned s → ts ≡ yield_signed s ++ word kind.Number n ∷ us → Took yield_value IsValue (punct kind.LeftParen ∷ ts) (parse_fill_value_end s n us)
-value_end_taken s n ts (punct kind.RightParen ∷ us) h e = (ap (λ l. punct kind.LeftParen ∷ l) (e ∙ sym (append_assoc (yield_signed s) (word kind.Number n ∷ (punct kind.RightParen ∷ [])) us)), h)
-value_end_taken s n ts us h e = tt
-
-value_taken : (ts : List Symbol) → Took yield_value IsValue ts (parse_fill_value ts)
+value_taken : (ts : List Symbol) → Took yield_value Any ts (parse_fill_value ts)
 value_taken (punct kind.LeftParen ∷ ts) =
-    took_then yield_signed IsSigned ts yield_value IsValue (punct kind.LeftParen ∷ ts) (eat_sign ts) (λ s. parse_number s.1 then λ n. parse_fill_value_end s.0 n.0 n.1) (signed_taken ts)
-    (λ s us e h. took_then yield_number AnyText us yield_value IsValue (punct kind.LeftParen ∷ ts) (parse_number us) (λ n. parse_fill_value_end s n.0 n.1) (number_taken us)
-    (λ n vs f i. value_end_taken s n ts vs h (e ∙ ap (λ l. yield_signed s ++ l) f)))
+    took_then yield_signed Any ts yield_value Any (punct kind.LeftParen ∷ ts) (eat_sign ts) (λ s. parse_number s.1 then λ n. parse_fill_value_end s.0 n.0 n.1) (signed_taken ts)
+    (λ s us e h. took_then yield_number Any us yield_value Any (punct kind.LeftParen ∷ ts) (parse_number us) (λ n. parse_fill_value_end s n.0 n.1) (number_taken us)
+    (λ n vs f i. value_end_taken s n ts vs (e ∙ ap (λ l. yield_signed s ++ l) f)))
 value_taken ts = tt
 
-names_taken : (ts : List Symbol) → Took yield_names AreLabels ts (parse_label_names ts)
-names_taken (word k t ∷ (punct kind.RightParen ∷ ts)) = took_if yield_names AreLabels _ (may_be_label k) (Ok (last k t, ts)) _ (λ h. (refl, h))
-names_taken (word k t ∷ (punct kind.Comma ∷ (punct kind.RightParen ∷ ts))) = took_if yield_names AreLabels _ (may_be_label k) (Ok (last_comma k t, ts)) _ (λ h. (refl, h))
+names_taken : (ts : List Symbol) → Took yield_names IsLabels ts (parse_label_list ts)
+names_taken (punct kind.RightParen ∷ ts) = (refl, tt)
+names_taken (word k t ∷ (punct kind.RightParen ∷ ts)) = took_if yield_names IsLabels _ (may_be_label k) (Ok (last k t, ts)) _ (λ h. (refl, h))
 names_taken (word k t ∷ (punct kind.Comma ∷ ts)) =
-    took_if yield_names AreLabels (word k t ∷ (punct kind.Comma ∷ ts)) (may_be_label k) (parse_label_names ts then λ y. Ok (next k t y.0, y.1)) _
-    (λ h. took_then yield_names AreLabels ts yield_names AreLabels (word k t ∷ (punct kind.Comma ∷ ts)) (parse_label_names ts) (λ y. Ok (next k t y.0, y.1)) (names_taken ts)
-    (λ names us e i. (ap (λ l. word k t ∷ (punct kind.Comma ∷ l)) e, (h, i))))
-names_taken (word k t ∷ ts) = took_if yield_names AreLabels (word k t ∷ ts) (may_be_label k) (Err (misfit ts)) _ (λ h. tt)
+    took_if yield_names IsLabels (word k t ∷ (punct kind.Comma ∷ ts)) (may_be_label k) (parse_label_list ts then λ y. Ok (next k t y.0, y.1)) _
+    (λ h. took_then yield_names IsLabels ts yield_names IsLabels (word k t ∷ (punct kind.Comma ∷ ts)) (parse_label_list ts) (λ y. Ok (next k t y.0, y.1)) (names_taken ts)
+    (λ ls us e i. (ap (λ l. word k t ∷ (punct kind.Comma ∷ l)) e, (h, i))))
+names_taken (word k t ∷ ts) = took_if yield_names IsLabels (word k t ∷ ts) (may_be_label k) (Err (misfit ts)) _ (λ h. tt)
 names_taken ts = tt
 
+-- what is taken after an opening parenthesis is taken with it
+opened : (ts : List Symbol) (o : Read Labels) → Took yield_names IsLabels ts o → Took yield_labels IsLabels (punct kind.LeftParen ∷ ts) o
+opened ts (Ok x) t = (ap (λ l. punct kind.LeftParen ∷ l) t.0, t.1)
+opened ts (Err (misfit bad)) t = tt
+opened ts (Err too_high) t = absurd t
+
 labels_in_taken : (ts : List Symbol) → Took yield_labels IsLabels (punct kind.LeftParen ∷ ts) (parse_label_list ts)
-labels_in_taken (punct kind.RightParen ∷ ts) = (refl, tt)
-labels_in_taken ts =
-    took_then yield_names AreLabels ts yield_labels IsLabels (punct kind.LeftParen ∷ ts) (parse_label_names ts) (λ y. Ok (labels y.0, y.1)) (names_taken ts)
-    (λ names us e h. (ap (λ l. punct kind.LeftParen ∷ l) e, h))
+labels_in_taken ts = opened ts (parse_label_list ts) (names_taken ts)
 
 pub labels_taken : (ts : List Symbol) → Took yield_labels IsLabels ts (parse_labels ts)
 labels_taken (punct kind.LeftParen ∷ ts) = labels_in_taken ts
@@ -114,10 +118,10 @@ IsAfter c = IsClause' c × (yield_before c ≡ [])
 
 pub clause_taken : (ts : List Symbol) → Took yield_after IsAfter ts (parse_grouping ts)
 clause_taken (word kind.By t ∷ ts) =
-    took_then yield_labels IsLabels ts yield_after IsAfter (word kind.By t ∷ ts) (parse_labels ts) (λ l. Ok (after (by t l.0), l.1)) (labels_taken ts)
+    took_then yield_labels IsLabels ts yield_after IsAfter (word kind.By t ∷ ts) (parse_labels ts) (λ l. Ok (after (grouping true t l.0), l.1)) (labels_taken ts)
     (λ ls us e h. (ap (λ l. word kind.By t ∷ l) e, (h, refl)))
 clause_taken (word kind.Without t ∷ ts) =
-    took_then yield_labels IsLabels ts yield_after IsAfter (word kind.Without t ∷ ts) (parse_labels ts) (λ l. Ok (after (without t l.0), l.1)) (labels_taken ts)
+    took_then yield_labels IsLabels ts yield_after IsAfter (word kind.Without t ∷ ts) (parse_labels ts) (λ l. Ok (after (grouping false t l.0), l.1)) (labels_taken ts)
     (λ ls us e h. (ap (λ l. word kind.Without t ∷ l) e, (h, refl)))
 clause_taken ts = (refl, (tt, refl))
 
@@ -129,15 +133,16 @@ GroupEnds g us = Unit {0}
 abbrev IsGroupBefore : Group → List Symbol → Type 0
 IsGroupBefore g us = IsGroup g × GroupEnds g us
 
-list_taken : (k : TokenKind) (t : Text) (ts : List Symbol) → is_group_word k ≡ true → Takes yield_group IsGroupBefore (word k t ∷ ts) (parse_group_labels k t ts)
-list_taken k t (punct kind.LeftParen ∷ ts) h =
-    takes_then yield_labels (λ l us. IsLabels l) (punct kind.LeftParen ∷ ts) yield_group IsGroupBefore (word k t ∷ (punct kind.LeftParen ∷ ts)) (parse_label_list ts) (λ l. Ok (listed k t l.0, l.1)) (labels_in_taken ts)
-    (λ ls us e i. (ap (λ l. word k t ∷ l) e, ((h, i), tt)))
-list_taken k t ts h = (refl, (h, tt))
+list_taken : (left : Bool) (t : Text) (ts : List Symbol) → Takes yield_group IsGroupBefore (word (if left then kind.GroupLeft else kind.GroupRight) t ∷ ts) (parse_group_labels left t ts)
+list_taken left t (punct kind.LeftParen ∷ ts) =
+    takes_then yield_labels (λ l us. IsLabels l) (punct kind.LeftParen ∷ ts) yield_group IsGroupBefore (word (if left then kind.GroupLeft else kind.GroupRight) t ∷ (punct kind.LeftParen ∷ ts)) (parse_label_list ts)
+    (λ l. Ok (listed left t l.0, l.1)) (labels_in_taken ts)
+    (λ ls us e i. (ap (λ l. word (if left then kind.GroupLeft else kind.GroupRight) t ∷ l) e, (i, tt)))
+list_taken left t ts = (refl, (tt, tt))
 
 group_taken : (ts : List Symbol) → Takes yield_group IsGroupBefore ts (parse_group ts)
-group_taken (word kind.GroupLeft t ∷ ts) = list_taken kind.GroupLeft t ts refl
-group_taken (word kind.GroupRight t ∷ ts) = list_taken kind.GroupRight t ts refl
+group_taken (word kind.GroupLeft t ∷ ts) = list_taken true t ts
+group_taken (word kind.GroupRight t ∷ ts) = list_taken false t ts
 group_taken ts = (refl, (tt, tt))
 
 abbrev MatchingEnds : Matching → List Symbol → Type 0
@@ -147,33 +152,34 @@ MatchingEnds (matching k t ls g) us = GroupEnds g us
 abbrev IsMatchingBefore : Matching → List Symbol → Type 0
 IsMatchingBefore m us = IsMatching m × MatchingEnds m us
 
-matching_after_taken : (k : TokenKind) (t : Text) (ts : List Symbol) → is_matching_word k ≡ true → Takes yield_matching IsMatchingBefore (word k t ∷ ts) (parse_matching_after k t ts)
-matching_after_taken k t ts h =
-    takes_then yield_labels (λ l us. IsLabels l) ts yield_matching IsMatchingBefore (word k t ∷ ts) (parse_labels ts) (λ l. parse_group l.1 then λ g. Ok (matching k t l.0 g.0, g.1)) (labels_taken ts)
-    (λ ls us e i. takes_then yield_group IsGroupBefore us yield_matching IsMatchingBefore (word k t ∷ ts) (parse_group us) (λ g. Ok (matching k t ls g.0, g.1)) (group_taken us)
-    (λ g vs f j. (ap (λ l. word k t ∷ l) (e ∙ ap (λ l. yield_labels ls ++ l) f ∙ sym (append_assoc (yield_labels ls) (yield_group g) vs)), ((h, i, j.0), j.1))))
+matching_after_taken : (on : Bool) (t : Text) (ts : List Symbol) → Takes yield_matching IsMatchingBefore (word (if on then kind.On else kind.Ignoring) t ∷ ts) (parse_matching_after on t ts)
+matching_after_taken on t ts =
+    let first : Symbol = word (if on then kind.On else kind.Ignoring) t in
+    takes_then yield_labels (λ l us. IsLabels l) ts yield_matching IsMatchingBefore (first ∷ ts) (parse_labels ts) (λ l. parse_group l.1 then λ g. Ok (matching on t l.0 g.0, g.1)) (labels_taken ts)
+    (λ ls us e i. takes_then yield_group IsGroupBefore us yield_matching IsMatchingBefore (first ∷ ts) (parse_group us) (λ g. Ok (matching on t ls g.0, g.1)) (group_taken us)
+    (λ g vs f j. (ap (λ l. first ∷ l) (e ∙ ap (λ l. yield_labels ls ++ l) f ∙ sym (append_assoc (yield_labels ls) (yield_group g) vs)), ((i, j.0), j.1))))
 
 matching_taken : (ts : List Symbol) → Takes yield_matching IsMatchingBefore ts (parse_matching ts)
-matching_taken (word kind.On t ∷ ts) = matching_after_taken kind.On t ts refl
-matching_taken (word kind.Ignoring t ∷ ts) = matching_after_taken kind.Ignoring t ts refl
+matching_taken (word kind.On t ∷ ts) = matching_after_taken true t ts
+matching_taken (word kind.Ignoring t ∷ ts) = matching_after_taken false t ts
 matching_taken ts = (refl, (tt, tt))
 
-right_after_taken : (t : Text) (v : FillValue) (ts us : List Symbol) → IsValue v → ts ≡ yield_value v ++ us → Took yield_fills IsFills (word kind.FillLeft t ∷ ts) (parse_fill_right t v us)
-right_after_taken t v ts (word kind.FillRight u ∷ us) h e =
-    took_then yield_value IsValue us yield_fills IsFills (word kind.FillLeft t ∷ ts) (parse_fill_value us) (λ w. Ok (left_right t v u w.0, w.1)) (value_taken us)
-    (λ w vs f i. (ap (λ l. word kind.FillLeft t ∷ l) (e ∙ ap (λ l. yield_value v ++ word kind.FillRight u ∷ l) f ∙ sym (append_assoc (yield_value v) (word kind.FillRight u ∷ yield_value w) vs)), (h, i)))
-right_after_taken t v ts us h e = (ap (λ l. word kind.FillLeft t ∷ l) e, h)
+right_after_taken : (t : Text) (v : FillValue) (ts us : List Symbol) → ts ≡ yield_value v ++ us → Took yield_fills Any (word kind.FillLeft t ∷ ts) (parse_fill_right t v us)
+right_after_taken t v ts (word kind.FillRight u ∷ us) e =
+    took_then yield_value Any us yield_fills Any (word kind.FillLeft t ∷ ts) (parse_fill_value us) (λ w. Ok (two true t v u w.0, w.1)) (value_taken us)
+    (λ w vs f i. (ap (λ l. word kind.FillLeft t ∷ l) (e ∙ ap (λ l. yield_value v ++ word kind.FillRight u ∷ l) f ∙ sym (append_assoc (yield_value v) (word kind.FillRight u ∷ yield_value w) vs)), tt))
+right_after_taken t v ts us e = (ap (λ l. word kind.FillLeft t ∷ l) e, tt)
 
-left_after_taken : (t : Text) (v : FillValue) (ts us : List Symbol) → IsValue v → ts ≡ yield_value v ++ us → Took yield_fills IsFills (word kind.FillRight t ∷ ts) (parse_fill_left t v us)
-left_after_taken t v ts (word kind.FillLeft u ∷ us) h e =
-    took_then yield_value IsValue us yield_fills IsFills (word kind.FillRight t ∷ ts) (parse_fill_value us) (λ w. Ok (right_left t v u w.0, w.1)) (value_taken us)
-    (λ w vs f i. (ap (λ l. word kind.FillRight t ∷ l) (e ∙ ap (λ l. yield_value v ++ word kind.FillLeft u ∷ l) f ∙ sym (append_assoc (yield_value v) (word kind.FillLeft u ∷ yield_value w) vs)), (h, i)))
-left_after_taken t v ts us h e = (ap (λ l. word kind.FillRight t ∷ l) e, h)
+left_after_taken : (t : Text) (v : FillValue) (ts us : List Symbol) → ts ≡ yield_value v ++ us → Took yield_fills Any (word kind.FillRight t ∷ ts) (parse_fill_left t v us)
+left_after_taken t v ts (word kind.FillLeft u ∷ us) e =
+    took_then yield_value Any us yield_fills Any (word kind.FillRight t ∷ ts) (parse_fill_value us) (λ w. Ok (two false t v u w.0, w.1)) (value_taken us)
+    (λ w vs f i. (ap (λ l. word kind.FillRight t ∷ l) (e ∙ ap (λ l. yield_value v ++ word kind.FillLeft u ∷ l) f ∙ sym (append_assoc (yield_value v) (word kind.FillLeft u ∷ yield_value w) vs)), tt))
+left_after_taken t v ts us e = (ap (λ l. word kind.FillRight t ∷ l) e, tt)
 
-fills_taken : (ts : List Symbol) → Took yield_fills IsFills ts (parse_fills ts)
-fills_taken (word kind.Fill t ∷ ts) = took_then yield_value IsValue ts yield_fills IsFills (word kind.Fill t ∷ ts) (parse_fill_value ts) (λ v. Ok (both t v.0, v.1)) (value_taken ts) (λ v us e h. (ap (λ l. word kind.Fill t ∷ l) e, h))
-fills_taken (word kind.FillLeft t ∷ ts) = took_then yield_value IsValue ts yield_fills IsFills (word kind.FillLeft t ∷ ts) (parse_fill_value ts) (λ v. parse_fill_right t v.0 v.1) (value_taken ts) (λ v us e h. right_after_taken t v ts us h e)
-fills_taken (word kind.FillRight t ∷ ts) = took_then yield_value IsValue ts yield_fills IsFills (word kind.FillRight t ∷ ts) (parse_fill_value ts) (λ v. parse_fill_left t v.0 v.1) (value_taken ts) (λ v us e h. left_after_taken t v ts us h e)
+fills_taken : (ts : List Symbol) → Took yield_fills Any ts (parse_fills ts)
+fills_taken (word kind.Fill t ∷ ts) = took_then yield_value Any ts yield_fills Any (word kind.Fill t ∷ ts) (parse_fill_value ts) (λ v. Ok (both t v.0, v.1)) (value_taken ts) (λ v us e h. (ap (λ l. word kind.Fill t ∷ l) e, tt))
+fills_taken (word kind.FillLeft t ∷ ts) = took_then yield_value Any ts yield_fills Any (word kind.FillLeft t ∷ ts) (parse_fill_value ts) (λ v. parse_fill_right t v.0 v.1) (value_taken ts) (λ v us e h. right_after_taken t v ts us e)
+fills_taken (word kind.FillRight t ∷ ts) = took_then yield_value Any ts yield_fills Any (word kind.FillRight t ∷ ts) (parse_fill_value ts) (λ v. parse_fill_left t v.0 v.1) (value_taken ts) (λ v us e h. left_after_taken t v ts us e)
 fills_taken ts = (refl, tt)
 
 flag_taken : (ts : List Symbol) → Takes yield_flag (λ b us. Unit {0}) ts (parse_flag ts)
@@ -181,82 +187,79 @@ flag_taken (word kind.Bool t ∷ ts) = (refl, tt)
 flag_taken ts = (refl, tt)
 
 ends_fit : (m : Matching) (f : Fills) (us vs : List Symbol) → MatchingEnds m us → us ≡ yield_fills f ++ vs → FitsMatching m f vs
-ends_fit (matching k t ls (bare k' t')) no_fill us vs h e = subst OpensNoParen e h
+ends_fit (matching on t ls (bare left t')) no_fill us vs h e = subst OpensNoParen e h
 ends_fit m f us vs h e = tt
 
 abbrev pub IsModifierBefore : Modifier → List Symbol → Type 0
-IsModifierBefore m us = IsModifier m × FitsMatching m.matching m.fills us
+IsModifierBefore m us = IsMatching m.matching × FitsMatching m.matching m.fills us
 
 pub modifier_taken : (ts : List Symbol) → Takes yield_modifier IsModifierBefore ts (parse_modifier ts)
 modifier_taken ts =
     takes_then yield_flag (λ b us. Unit {0}) ts yield_modifier IsModifierBefore ts (parse_flag ts) (λ b. parse_matching b.1 then with_matching b.0) (flag_taken ts)
     (λ b us e u. takes_then yield_matching IsMatchingBefore us yield_modifier IsModifierBefore ts (parse_matching us) (with_matching b) (matching_taken us)
-    (λ m vs f i. takes_then yield_fills (λ f us. IsFills f) vs yield_modifier IsModifierBefore ts (parse_fills vs) (with_fills b m) (fills_taken vs)
-    (λ g ws h j. (e ∙ ap (λ l. yield_flag b ++ l) (f ∙ ap (λ l. yield_matching m ++ l) h ∙ sym (append_assoc (yield_matching m) (yield_fills g) ws)) ∙ sym (append_assoc (yield_flag b) (yield_matching m ++ yield_fills g) ws), ((i.0, j), ends_fit m g vs ws i.1 h)))))
+    (λ m vs f i. takes_then yield_fills (λ f us. Any f) vs yield_modifier IsModifierBefore ts (parse_fills vs) (with_fills b m) (fills_taken vs)
+    (λ g ws h j. (e ∙ ap (λ l. yield_flag b ++ l) (f ∙ ap (λ l. yield_matching m ++ l) h ∙ sym (append_assoc (yield_matching m) (yield_fills g) ws)) ∙ sym (append_assoc (yield_flag b) (yield_matching m ++ yield_fills g) ws), (i.0, ends_fit m g vs ws i.1 h)))))
 
 abbrev yield_any_operator : Option MatchOperator → List Symbol
 yield_any_operator None = []
 yield_any_operator (Some s) = yield_match_operator s ∷ []
 
-abbrev AnyOperator : Option MatchOperator → Type 0
-AnyOperator s = Unit {0}
-
-not_equal_if : (op : ℕ) (t : Text) (ts : List Symbol) (b : Bool) → (op == T_NEQ) ≡ b → Took yield_any_operator AnyOperator (word (kind.Operator op) t ∷ ts) (if b then Ok (Some (not_equal t), ts) else Ok (None, word (kind.Operator op) t ∷ ts))
+not_equal_if : (op : ℕ) (t : Text) (ts : List Symbol) (b : Bool) → (op == T_NEQ) ≡ b → Took yield_any_operator Any (word (kind.Operator op) t ∷ ts) (if b then Ok (Some (not_equal t), ts) else Ok (None, word (kind.Operator op) t ∷ ts))
 not_equal_if op t ts true e = (ap (λ o. word (kind.Operator o) t ∷ ts) (eqb-true op T_NEQ e), tt)
 not_equal_if op t ts false e = (refl, tt)
 
-match_operator_taken : (ts : List Symbol) → Took yield_any_operator AnyOperator ts (parse_match_operator ts)
+match_operator_taken : (ts : List Symbol) → Took yield_any_operator Any ts (parse_match_operator ts)
 match_operator_taken (punct kind.Equal ∷ ts) = (refl, tt)
 match_operator_taken (punct kind.EqualRegex ∷ ts) = (refl, tt)
 match_operator_taken (punct kind.NotEqualRegex ∷ ts) = (refl, tt)
 match_operator_taken (word (kind.Operator op) t ∷ ts) = not_equal_if op t ts (op == T_NEQ) refl
 match_operator_taken ts = (refl, tt)
 
-matcher_taken : (k : TokenKind) (t : Text) (s : MatchOperator) (ts us : List Symbol) → is_matcher_name k ≡ true → ts ≡ yield_match_operator s ∷ us → Took yield_item IsItem (word k t ∷ ts) (parse_matcher_value k t s us)
-matcher_taken k t s ts us h e =
-    took_then yield_string AnyText us yield_item IsItem (word k t ∷ ts) (parse_string us) (λ v. Ok (matcher k t s v.0, v.1)) (string_taken us)
-    (λ v vs f i. (ap (λ l. word k t ∷ l) (e ∙ ap (λ l. yield_match_operator s ∷ l) f), h))
+matcher_taken : (quoted : Bool) (t : Text) (s : MatchOperator) (ts us : List Symbol) → ts ≡ yield_match_operator s ∷ us → Took yield_item Any (word (name_kind quoted) t ∷ ts) (parse_matcher_value quoted t s us)
+matcher_taken quoted t s ts us e =
+    took_then yield_string Any us yield_item Any (word (name_kind quoted) t ∷ ts) (parse_string us) (λ v. Ok (matcher quoted t s v.0, v.1)) (string_taken us)
+    (λ v vs f i. (ap (λ l. word (name_kind quoted) t ∷ l) (e ∙ ap (λ l. yield_match_operator s ∷ l) f), tt))
 
-after_name_taken : (t : Text) (s : Option MatchOperator) (ts us : List Symbol) → ts ≡ yield_any_operator s ++ us → Took yield_item IsItem (word kind.Identifier t ∷ ts) (parse_after_name t (s, us))
-after_name_taken t (Some s) ts us e = matcher_taken kind.Identifier t s ts us refl e
+after_name_taken : (t : Text) (s : Option MatchOperator) (ts us : List Symbol) → ts ≡ yield_any_operator s ++ us → Took yield_item Any (word kind.Identifier t ∷ ts) (parse_after_name t (s, us))
+after_name_taken t (Some s) ts us e = matcher_taken false t s ts us e
 after_name_taken t None ts us e = tt
 
-after_string_taken : (t : Text) (s : Option MatchOperator) (ts us : List Symbol) → ts ≡ yield_any_operator s ++ us → Took yield_item IsItem (word kind.String t ∷ ts) (parse_after_string t (s, us))
-after_string_taken t (Some s) ts us e = matcher_taken kind.String t s ts us refl e
+after_string_taken : (t : Text) (s : Option MatchOperator) (ts us : List Symbol) → ts ≡ yield_any_operator s ++ us → Took yield_item Any (word kind.String t ∷ ts) (parse_after_string t (s, us))
+after_string_taken t (Some s) ts us e = matcher_taken true t s ts us e
 after_string_taken t None ts us e = (ap (λ l. word kind.String t ∷ l) e, tt)
 
-item_taken : (ts : List Symbol) → Took yield_item IsItem ts (parse_item ts)
-item_taken (word kind.Identifier t ∷ ts) = took_then yield_any_operator AnyOperator ts yield_item IsItem (word kind.Identifier t ∷ ts) (parse_match_operator ts) (parse_after_name t) (match_operator_taken ts) (λ s us e h. after_name_taken t s ts us e)
-item_taken (word kind.String t ∷ ts) = took_then yield_any_operator AnyOperator ts yield_item IsItem (word kind.String t ∷ ts) (parse_match_operator ts) (parse_after_string t) (match_operator_taken ts) (λ s us e h. after_string_taken t s ts us e)
+item_taken : (ts : List Symbol) → Took yield_item Any ts (parse_item ts)
+item_taken (word kind.Identifier t ∷ ts) = took_then yield_any_operator Any ts yield_item Any (word kind.Identifier t ∷ ts) (parse_match_operator ts) (parse_after_name t) (match_operator_taken ts) (λ s us e h. after_name_taken t s ts us e)
+item_taken (word kind.String t ∷ ts) = took_then yield_any_operator Any ts yield_item Any (word kind.String t ∷ ts) (parse_match_operator ts) (parse_after_string t) (match_operator_taken ts) (λ s us e h. after_string_taken t s ts us e)
 item_taken ts = tt
 
-after_item_taken : (r : List Symbol → Read Items) → ((ts : List Symbol) → Took yield_items AreItems ts (r ts)) → (i : Item) (ts us : List Symbol) → IsItem i → ts ≡ yield_item i ++ us → Took yield_items AreItems ts (parse_after_item r i us)
-after_item_taken r ih i ts (punct kind.RightBrace ∷ us) h e = (e ∙ sym (append_assoc (yield_item i) (punct kind.RightBrace ∷ []) us), h)
-after_item_taken r ih i ts (punct kind.Comma ∷ (punct kind.RightBrace ∷ us)) h e = (e ∙ sym (append_assoc (yield_item i) (punct kind.Comma ∷ (punct kind.RightBrace ∷ [])) us), h)
-after_item_taken r ih i ts (punct kind.Comma ∷ us) h e =
-    took_then yield_items AreItems us yield_items AreItems ts (r us) (λ y. Ok (next_item i comma y.0, y.1)) (ih us)
-    (λ is vs f j. (e ∙ ap (λ l. yield_item i ++ punct kind.Comma ∷ l) f ∙ sym (append_assoc (yield_item i) (punct kind.Comma ∷ yield_items is) vs), (h, j)))
-after_item_taken r ih i ts (word (kind.Operator op) t ∷ us) h e =
-    took_if yield_items AreItems ts (op == T_LOR) (r us then λ y. Ok (next_item i (or t) y.0, y.1)) _
-    (λ q. took_then yield_items AreItems us yield_items AreItems ts (r us) (λ y. Ok (next_item i (or t) y.0, y.1)) (ih us)
-    (λ is vs f j. (e ∙ ap (λ o. yield_item i ++ word (kind.Operator o) t ∷ us) (eqb-true op T_LOR q) ∙ ap (λ l. yield_item i ++ word (kind.Operator T_LOR) t ∷ l) f ∙ sym (append_assoc (yield_item i) (word (kind.Operator T_LOR) t ∷ yield_items is) vs), (h, j))))
-after_item_taken r ih i ts us h e = tt
+after_item_taken : (r : List Symbol → Read Items) → ((ts : List Symbol) → Took yield_items Any ts (r ts)) → (i : Item) (ts us : List Symbol) → ts ≡ yield_item i ++ us → Took yield_items Any ts (parse_after_item r i us)
+after_item_taken r ih i ts (punct kind.RightBrace ∷ us) e = (e ∙ sym (append_assoc (yield_item i) (punct kind.RightBrace ∷ []) us), tt)
+after_item_taken r ih i ts (punct kind.Comma ∷ (punct kind.RightBrace ∷ us)) e = (e ∙ sym (append_assoc (yield_item i) (punct kind.Comma ∷ (punct kind.RightBrace ∷ [])) us), tt)
+after_item_taken r ih i ts (punct kind.Comma ∷ us) e =
+    took_then yield_items Any us yield_items Any ts (r us) (λ y. Ok (next_item i comma y.0, y.1)) (ih us)
+    (λ is vs f j. (e ∙ ap (λ l. yield_item i ++ punct kind.Comma ∷ l) f ∙ sym (append_assoc (yield_item i) (punct kind.Comma ∷ yield_items is) vs), tt))
+after_item_taken r ih i ts (word (kind.Operator op) t ∷ us) e =
+    took_if yield_items Any ts (op == T_LOR) (r us then λ y. Ok (next_item i (or t) y.0, y.1)) _
+    (λ q. took_then yield_items Any us yield_items Any ts (r us) (λ y. Ok (next_item i (or t) y.0, y.1)) (ih us)
+    (λ is vs f j. (e ∙ ap (λ o. yield_item i ++ word (kind.Operator o) t ∷ us) (eqb-true op T_LOR q) ∙ ap (λ l. yield_item i ++ word (kind.Operator T_LOR) t ∷ l) f ∙ sym (append_assoc (yield_item i) (word (kind.Operator T_LOR) t ∷ yield_items is) vs), tt)))
+after_item_taken r ih i ts us e = tt
 
-items_taken : (k : ℕ) (ts : List Symbol) → Took yield_items AreItems ts (parse_items k ts)
+items_taken : (k : ℕ) (ts : List Symbol) → Took yield_items Any ts (parse_items k ts)
 items_taken zero ts = tt
 items_taken (suc k) ts =
-    took_then yield_item IsItem ts yield_items AreItems ts (parse_item ts) (λ i. parse_after_item (parse_items k) i.0 i.1) (item_taken ts)
-    (λ i us e h. after_item_taken (parse_items k) (items_taken k) i ts us h e)
+    took_then yield_item Any ts yield_items Any ts (parse_item ts) (λ i. parse_after_item (parse_items k) i.0 i.1) (item_taken ts)
+    (λ i us e h. after_item_taken (parse_items k) (items_taken k) i ts us e)
 
-pub braces_in_taken : (ts : List Symbol) → Took yield_braces IsBraces (punct kind.LeftBrace ∷ ts) (parse_braces ts)
+pub braces_in_taken : (ts : List Symbol) → Took yield_braces Any (punct kind.LeftBrace ∷ ts) (parse_braces ts)
 braces_in_taken (punct kind.RightBrace ∷ ts) = (refl, tt)
 braces_in_taken ts =
-    took_then yield_items AreItems ts yield_braces IsBraces (punct kind.LeftBrace ∷ ts) (parse_items (length ts) ts) (λ y. Ok (items y.0, y.1)) (items_taken (length ts) ts)
+    took_then yield_items Any ts yield_braces Any (punct kind.LeftBrace ∷ ts) (parse_items (length ts) ts) (λ y. Ok (items y.0, y.1)) (items_taken (length ts) ts)
     (λ is us e h. (ap (λ l. punct kind.LeftBrace ∷ l) e, h))
 
-pub braces_taken : (ts : List Symbol) → Took yield_any_braces IsAnyBraces ts (parse_optional_braces ts)
+pub braces_taken : (ts : List Symbol) → Took yield_any_braces Any ts (parse_optional_braces ts)
 braces_taken (punct kind.LeftBrace ∷ ts) =
-    took_then yield_braces IsBraces (punct kind.LeftBrace ∷ ts) yield_any_braces IsAnyBraces (punct kind.LeftBrace ∷ ts) (parse_braces ts) (λ b. Ok (Some b.0, b.1)) (braces_in_taken ts)
+    took_then yield_braces Any (punct kind.LeftBrace ∷ ts) yield_any_braces Any (punct kind.LeftBrace ∷ ts) (parse_braces ts) (λ b. Ok (Some b.0, b.1)) (braces_in_taken ts)
     (λ b us e h. (e, h))
 braces_taken ts = (refl, tt)
 
@@ -264,49 +267,45 @@ abbrev pub yield_any_postfix : Option Postfix → List Symbol
 yield_any_postfix None = []
 yield_any_postfix (Some p) = yield_postfix p
 
-abbrev pub IsAnyPostfix : Option Postfix → Type 0
-IsAnyPostfix None = Unit {0}
-IsAnyPostfix (Some p) = IsPostfix p
-
-step_end_taken : (t s : Time) (ts us : List Symbol) → ts ≡ yield_time t ++ punct kind.Colon ∷ (yield_time s ++ us) → Took yield_any_postfix IsAnyPostfix (punct kind.LeftBracket ∷ ts) (parse_step_end t s us)
+step_end_taken : (t s : Time) (ts us : List Symbol) → ts ≡ yield_time t ++ punct kind.Colon ∷ (yield_time s ++ us) → Took yield_any_postfix Any (punct kind.LeftBracket ∷ ts) (parse_step_end t s us)
 step_end_taken t s ts (punct kind.RightBracket ∷ us) e =
     (ap (λ l. punct kind.LeftBracket ∷ l) (e ∙ ap (λ l. yield_time t ++ punct kind.Colon ∷ l) (sym (append_assoc (yield_time s) (punct kind.RightBracket ∷ []) us)) ∙ sym (append_assoc (yield_time t) (punct kind.Colon ∷ (yield_time s ++ punct kind.RightBracket ∷ [])) us)), tt)
 step_end_taken t s ts us e = tt
 
-step_taken : (t : Time) (ts us : List Symbol) → ts ≡ yield_time t ++ punct kind.Colon ∷ us → Took yield_any_postfix IsAnyPostfix (punct kind.LeftBracket ∷ ts) (parse_step t us)
+step_taken : (t : Time) (ts us : List Symbol) → ts ≡ yield_time t ++ punct kind.Colon ∷ us → Took yield_any_postfix Any (punct kind.LeftBracket ∷ ts) (parse_step t us)
 step_taken t ts (punct kind.RightBracket ∷ us) e = (ap (λ l. punct kind.LeftBracket ∷ l) (e ∙ sym (append_assoc (yield_time t) (punct kind.Colon ∷ (punct kind.RightBracket ∷ [])) us)), tt)
 step_taken t ts us e =
-    took_then yield_time AnyTime us yield_any_postfix IsAnyPostfix (punct kind.LeftBracket ∷ ts) (parse_time us) (λ s. parse_step_end t s.0 s.1) (time_taken us)
+    took_then yield_time Any us yield_any_postfix Any (punct kind.LeftBracket ∷ ts) (parse_time us) (λ s. parse_step_end t s.0 s.1) (time_taken us)
     (λ s vs f h. step_end_taken t s ts vs (e ∙ ap (λ l. yield_time t ++ punct kind.Colon ∷ l) f))
 
-range_taken : (t : Time) (ts us : List Symbol) → ts ≡ yield_time t ++ us → Took yield_any_postfix IsAnyPostfix (punct kind.LeftBracket ∷ ts) (parse_range_end t us)
+range_taken : (t : Time) (ts us : List Symbol) → ts ≡ yield_time t ++ us → Took yield_any_postfix Any (punct kind.LeftBracket ∷ ts) (parse_range_end t us)
 range_taken t ts (punct kind.RightBracket ∷ us) e = (ap (λ l. punct kind.LeftBracket ∷ l) (e ∙ sym (append_assoc (yield_time t) (punct kind.RightBracket ∷ []) us)), tt)
 range_taken t ts (punct kind.Colon ∷ us) e = step_taken t ts us e
 range_taken t ts us e = tt
 
-bound_taken : (k : TokenKind) (t : Text) (ts : List Symbol) → is_bound_word k ≡ true → Took yield_any_postfix IsAnyPostfix (punct kind.At ∷ (word k t ∷ ts)) (parse_at_bound k t ts)
-bound_taken k t (punct kind.LeftParen ∷ (punct kind.RightParen ∷ ts)) h = (refl, h)
-bound_taken k t ts h = tt
+bound_taken : (start : Bool) (t : Text) (ts : List Symbol) → Took yield_any_postfix Any (punct kind.At ∷ (word (if start then kind.Start else kind.End) t ∷ ts)) (parse_at_bound start t ts)
+bound_taken start t (punct kind.LeftParen ∷ (punct kind.RightParen ∷ ts)) = (refl, tt)
+bound_taken start t ts = tt
 
-moment_taken : (ts : List Symbol) → Took yield_any_postfix IsAnyPostfix (punct kind.At ∷ ts) (parse_at_modifier ts)
-moment_taken (word kind.Start t ∷ ts) = bound_taken kind.Start t ts refl
-moment_taken (word kind.End t ∷ ts) = bound_taken kind.End t ts refl
+moment_taken : (ts : List Symbol) → Took yield_any_postfix Any (punct kind.At ∷ ts) (parse_at_modifier ts)
+moment_taken (word kind.Start t ∷ ts) = bound_taken true t ts
+moment_taken (word kind.End t ∷ ts) = bound_taken false t ts
 moment_taken ts =
-    took_then yield_signed IsSigned ts yield_any_postfix IsAnyPostfix (punct kind.At ∷ ts) (eat_sign ts) (λ s. parse_number s.1 then λ n. Ok (Some (at_number s.0 n.0), n.1)) (signed_taken ts)
-    (λ s us e h. took_then yield_number AnyText us yield_any_postfix IsAnyPostfix (punct kind.At ∷ ts) (parse_number us) (λ n. Ok (Some (at_number s n.0), n.1)) (number_taken us)
+    took_then yield_signed Any ts yield_any_postfix Any (punct kind.At ∷ ts) (eat_sign ts) (λ s. parse_number s.1 then λ n. Ok (Some (at_number s.0 n.0), n.1)) (signed_taken ts)
+    (λ s us e h. took_then yield_number Any us yield_any_postfix Any (punct kind.At ∷ ts) (parse_number us) (λ n. Ok (Some (at_number s n.0), n.1)) (number_taken us)
     (λ n vs f i. (ap (λ l. punct kind.At ∷ l) (e ∙ ap (λ l. yield_signed s ++ l) f ∙ sym (append_assoc (yield_signed s) (word kind.Number n ∷ []) vs)), h)))
 
-offset_taken : (t : Text) (ts : List Symbol) → Took yield_any_postfix IsAnyPostfix (word kind.Offset t ∷ ts) (parse_offset_postfix t ts)
+offset_taken : (t : Text) (ts : List Symbol) → Took yield_any_postfix Any (word kind.Offset t ∷ ts) (parse_offset_postfix t ts)
 offset_taken t ts =
-    took_then yield_signed IsSigned ts yield_any_postfix IsAnyPostfix (word kind.Offset t ∷ ts) (eat_sign ts) (λ s. parse_time s.1 then λ u. Ok (Some (offset t s.0 u.0), u.1)) (signed_taken ts)
-    (λ s us e h. took_then yield_time AnyTime us yield_any_postfix IsAnyPostfix (word kind.Offset t ∷ ts) (parse_time us) (λ u. Ok (Some (offset t s u.0), u.1)) (time_taken us)
+    took_then yield_signed Any ts yield_any_postfix Any (word kind.Offset t ∷ ts) (eat_sign ts) (λ s. parse_time s.1 then λ u. Ok (Some (offset t s.0 u.0), u.1)) (signed_taken ts)
+    (λ s us e h. took_then yield_time Any us yield_any_postfix Any (word kind.Offset t ∷ ts) (parse_time us) (λ u. Ok (Some (offset t s u.0), u.1)) (time_taken us)
     (λ u vs f i. (ap (λ l. word kind.Offset t ∷ l) (e ∙ ap (λ l. yield_signed s ++ l) f ∙ sym (append_assoc (yield_signed s) (yield_time u) vs)), h)))
 
-pub postfix_taken : (ts : List Symbol) → Took yield_any_postfix IsAnyPostfix ts (parse_postfix ts)
+pub postfix_taken : (ts : List Symbol) → Took yield_any_postfix Any ts (parse_postfix ts)
 postfix_taken (punct kind.LeftBracket ∷ ts) =
-    took_then yield_time AnyTime ts yield_any_postfix IsAnyPostfix (punct kind.LeftBracket ∷ ts) (parse_time ts) (λ t. parse_range_end t.0 t.1) (time_taken ts) (λ t us e h. range_taken t ts us e)
+    took_then yield_time Any ts yield_any_postfix Any (punct kind.LeftBracket ∷ ts) (parse_time ts) (λ t. parse_range_end t.0 t.1) (time_taken ts) (λ t us e h. range_taken t ts us e)
 postfix_taken (punct kind.At ∷ ts) = moment_taken ts
 postfix_taken (word kind.Offset t ∷ ts) = offset_taken t ts
-postfix_taken (word kind.Smoothed t ∷ ts) = (refl, refl)
-postfix_taken (word kind.Anchored t ∷ ts) = (refl, refl)
+postfix_taken (word kind.Smoothed t ∷ ts) = (refl, tt)
+postfix_taken (word kind.Anchored t ∷ ts) = (refl, tt)
 postfix_taken ts = (refl, tt)

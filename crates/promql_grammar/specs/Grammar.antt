@@ -7,7 +7,7 @@ use Rattle.promql_token.specs.declared.ids.TheConstants.{T_LOR, T_LAND, T_LUNLES
 use Rattle.promql_grammar.specs.declared.token_kinds.TokenKind.{TokenKind}
 use Rattle.promql_grammar.specs.declared.token_kinds.TokenKind.TheVariants as kind
 use Rattle.promql_grammar.specs.Symbols.{Symbol, punct, word, is_plus_or_minus, may_be_name, may_be_called}
-use Rattle.promql_grammar.specs.GrammarParts.{Braces, yield_braces, yield_any_braces, IsBraces, IsAnyBraces, Clause, yield_before, yield_after, IsClause, Modifier, yield_modifier, IsModifier, Matching, no_matching, matching, Group, bare, Fills, no_fill, Postfix, subquery, yield_postfix, IsPostfix}
+use Rattle.promql_grammar.specs.GrammarParts.{Braces, yield_braces, yield_any_braces, Clause, yield_before, yield_after, IsClause, Modifier, yield_modifier, Matching, matching, IsMatching, bare, Fills, no_fill, Postfix, subquery, yield_postfix}
 
 -- a derivation, with a case for each form of expression; it keeps the tokens of its form
 mutual
@@ -96,25 +96,20 @@ OpensNoParen (punct kind.LeftParen ∷ ts) = ⊥
 OpensNoParen ts = Unit {0}
 
 -- a parenthesis directly after a grouping word opens its labels
-abbrev pub FitsGroup : Group → Fills → List Symbol → Type 0
-FitsGroup (bare k text) no_fill ts = OpensNoParen ts
-FitsGroup g f ts = Unit {0}
-
 abbrev pub FitsMatching : Matching → Fills → List Symbol → Type 0
-FitsMatching no_matching f ts = Unit {0}
-FitsMatching (matching k text ls g) f ts = FitsGroup g f ts
+FitsMatching (matching on text ls (bare left text')) no_fill ts = OpensNoParen ts
+FitsMatching m f ts = Unit {0}
 
 -- the conditions hold everywhere in the derivation
 abbrev mutual
   pub IsWellFormed : Derivation → Type 0
-  IsWellFormed (selector k text b) = (may_be_name k ≡ true) × IsAnyBraces b
-  IsWellFormed (nameless b) = IsBraces b
+  IsWellFormed (selector k text b) = may_be_name k ≡ true
   IsWellFormed (paren d) = IsWellFormed d
   IsWellFormed (call k text ds) = (may_be_called k ≡ true) × AreWellFormed ds
   IsWellFormed (aggregate op text c ds) = IsClause c × AreWellFormed ds
-  IsWellFormed (postfixed d p) = IsWellFormed d × IsBase d × IsPostfix p
+  IsWellFormed (postfixed d p) = IsWellFormed d × IsBase d
   IsWellFormed (unary op text d) = (is_plus_or_minus op ≡ true) × IsWellFormed d × FitsUnary d
-  IsWellFormed (binary op text m l r) = IsWellFormed l × IsWellFormed r × IsModifier m × FitsLeft op (openness l) × FitsRight op r × FitsMatching m.matching m.fills (yield r)
+  IsWellFormed (binary op text m l r) = IsWellFormed l × IsWellFormed r × IsMatching m.matching × FitsLeft op (openness l) × FitsRight op r × FitsMatching m.matching m.fills (yield r)
   IsWellFormed d = Unit {0}
 
   pub AreWellFormed : Arguments → Type 0

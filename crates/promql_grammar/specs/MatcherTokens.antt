@@ -40,7 +40,7 @@ abbrev pub Parts : Type 0
 Parts = TokenKind × Text × Option (MatchOperator × Text)
 
 abbrev pub item_parts : part.Item → Parts
-item_parts (part.matcher k t s v) = (k, t, Some (operator_of_part s, v))
+item_parts (part.matcher quoted t s v) = (part.name_kind quoted, t, Some (operator_of_part s, v))
 item_parts (part.lone t) = (kind.String, t, None)
 
 abbrev pub parts_of : Item → Parts

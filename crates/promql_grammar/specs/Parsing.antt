@@ -1,12 +1,12 @@
 -- Parsing as a function on lists of tokens, which the parser agrees with. Private: nothing rests on believing it.
-use Rattle.std.specs.Prelude.{ℕ, zero, suc, ◌+◌, nat_lt, ◌==◌, if◌then◌else◌, Option, Some, None, List, ◌∷◌, length, Result, Ok, Err}
+use Rattle.std.specs.Prelude.{ℕ, Bool, true, false, zero, suc, ◌+◌, nat_lt, ◌==◌, if◌then◌else◌, Option, Some, None, List, ◌∷◌, length, Result, Ok, Err}
 use Rattle.promql_text.specs.Texts.{Text}
-use Rattle.promql_token.specs.declared.ids.TheConstants.{T_POW, T_NEQ, T_LOR}
+use Rattle.promql_token.specs.declared.ids.TheConstants.{T_POW, T_NEQ, T_LOR, T_ADD, T_SUB}
 use Rattle.promql_grammar.specs.declared.token_kinds.TokenKind.{TokenKind}
 use Rattle.promql_grammar.specs.declared.token_kinds.TokenKind.TheVariants as kind
 use Rattle.promql_grammar.specs.Results.{◌then◌}
 use Rattle.promql_grammar.specs.Symbols.{Symbol, punct, word, is_plus_or_minus, may_be_name, may_be_label}
-use Rattle.promql_grammar.specs.GrammarParts.{Time, seconds, duration, Signed, unsigned, signed, Names, last, last_comma, next, Labels, no_label, labels, Grouping, by, without, Clause, no_clause, before, after, Group, no_group, bare, listed, Matching, no_matching, matching, FillValue, Fills, no_fill, both, left, right, left_right, right_left, Modifier, MatchOperator, equal, not_equal, equal_regex, not_equal_regex, Item, matcher, lone, comma, or, Items, last_item, last_item_comma, next_item, Braces, no_item, items, Postfix, range, subquery, at_number, at_bound, offset, mode}
+use Rattle.promql_grammar.specs.GrammarParts.{Time, seconds, duration, Signed, unsigned, signed, Labels, no_label, last, next, Grouping, grouping, Clause, no_clause, before, after, Group, no_group, bare, listed, Matching, no_matching, matching, FillValue, Fills, no_fill, both, one, two, Modifier, MatchOperator, equal, not_equal, equal_regex, not_equal_regex, Item, matcher, lone, comma, or, Items, last_item, last_item_comma, next_item, Braces, no_item, items, Postfix, range, subquery, at_number, at_bound, offset, mode}
 use Rattle.promql_grammar.specs.Grammar.{Derivation, number, string, selector, nameless, paren, call, aggregate, postfixed, unary, binary, Arguments, none, more, precedence, height}
 use Rattle.promql_grammar.specs.Grammar as grammar
 
@@ -33,7 +33,8 @@ parse_time (word kind.Duration t ∷ ts) = Ok (duration t, ts)
 parse_time ts = Err (misfit ts)
 
 abbrev pub eat_sign : List Symbol → Read Signed
-eat_sign (word (kind.Operator op) t ∷ ts) = if is_plus_or_minus op then Ok (signed op t, ts) else Ok (unsigned, word (kind.Operator op) t ∷ ts)
+eat_sign (word (kind.Operator op) t ∷ ts) =
+    if op == T_ADD then Ok (signed false t, ts) else if op == T_SUB then Ok (signed true t, ts) else Ok (unsigned, word (kind.Operator op) t ∷ ts)
 eat_sign ts = Ok (unsigned, ts)
 
 abbrev pub parse_number : List Symbol → Read Text
@@ -45,18 +46,13 @@ parse_string (word kind.String t ∷ ts) = Ok (t, ts)
 parse_string ts = Err (misfit ts)
 
 -- labels after an opening parenthesis
-abbrev pub parse_label_names : List Symbol → Read Names
-parse_label_names (word k t ∷ (punct kind.RightParen ∷ ts)) = if may_be_label k then Ok (last k t, ts) else Err (misfit (word k t ∷ (punct kind.RightParen ∷ ts)))
-parse_label_names (word k t ∷ (punct kind.Comma ∷ (punct kind.RightParen ∷ ts))) =
-    if may_be_label k then Ok (last_comma k t, ts) else Err (misfit (word k t ∷ (punct kind.Comma ∷ (punct kind.RightParen ∷ ts))))
-parse_label_names (word k t ∷ (punct kind.Comma ∷ ts)) =
-    if may_be_label k then (parse_label_names ts then λ y. Ok (next k t y.0, y.1)) else Err (misfit (word k t ∷ (punct kind.Comma ∷ ts)))
-parse_label_names (word k t ∷ ts) = if may_be_label k then Err (misfit ts) else Err (misfit (word k t ∷ ts))
-parse_label_names ts = Err (misfit ts)
-
 abbrev pub parse_label_list : List Symbol → Read Labels
 parse_label_list (punct kind.RightParen ∷ ts) = Ok (no_label, ts)
-parse_label_list ts = parse_label_names ts then λ y. Ok (labels y.0, y.1)
+parse_label_list (word k t ∷ (punct kind.RightParen ∷ ts)) = if may_be_label k then Ok (last k t, ts) else Err (misfit (word k t ∷ (punct kind.RightParen ∷ ts)))
+parse_label_list (word k t ∷ (punct kind.Comma ∷ ts)) =
+    if may_be_label k then (parse_label_list ts then λ y. Ok (next k t y.0, y.1)) else Err (misfit (word k t ∷ (punct kind.Comma ∷ ts)))
+parse_label_list (word k t ∷ ts) = if may_be_label k then Err (misfit ts) else Err (misfit (word k t ∷ ts))
+parse_label_list ts = Err (misfit ts)
 
 abbrev pub parse_labels : List Symbol → Read Labels
 parse_labels (punct kind.LeftParen ∷ ts) = parse_label_list ts
@@ -64,25 +60,25 @@ parse_labels ts = Err (misfit ts)
 
 -- a grouping after arguments, if there is one
 abbrev pub parse_grouping : List Symbol → Read Clause
-parse_grouping (word kind.By t ∷ ts) = parse_labels ts then λ l. Ok (after (by t l.0), l.1)
-parse_grouping (word kind.Without t ∷ ts) = parse_labels ts then λ l. Ok (after (without t l.0), l.1)
+parse_grouping (word kind.By t ∷ ts) = parse_labels ts then λ l. Ok (after (grouping true t l.0), l.1)
+parse_grouping (word kind.Without t ∷ ts) = parse_labels ts then λ l. Ok (after (grouping false t l.0), l.1)
 parse_grouping ts = Ok (no_clause, ts)
 
-abbrev pub parse_group_labels : TokenKind → Text → List Symbol → Read Group
-parse_group_labels k t (punct kind.LeftParen ∷ ts) = parse_label_list ts then λ l. Ok (listed k t l.0, l.1)
-parse_group_labels k t ts = Ok (bare k t, ts)
+abbrev pub parse_group_labels : Bool → Text → List Symbol → Read Group
+parse_group_labels left t (punct kind.LeftParen ∷ ts) = parse_label_list ts then λ l. Ok (listed left t l.0, l.1)
+parse_group_labels left t ts = Ok (bare left t, ts)
 
 abbrev pub parse_group : List Symbol → Read Group
-parse_group (word kind.GroupLeft t ∷ ts) = parse_group_labels kind.GroupLeft t ts
-parse_group (word kind.GroupRight t ∷ ts) = parse_group_labels kind.GroupRight t ts
+parse_group (word kind.GroupLeft t ∷ ts) = parse_group_labels true t ts
+parse_group (word kind.GroupRight t ∷ ts) = parse_group_labels false t ts
 parse_group ts = Ok (no_group, ts)
 
-abbrev pub parse_matching_after : TokenKind → Text → List Symbol → Read Matching
-parse_matching_after k t ts = parse_labels ts then λ l. parse_group l.1 then λ g. Ok (matching k t l.0 g.0, g.1)
+abbrev pub parse_matching_after : Bool → Text → List Symbol → Read Matching
+parse_matching_after on t ts = parse_labels ts then λ l. parse_group l.1 then λ g. Ok (matching on t l.0 g.0, g.1)
 
 abbrev pub parse_matching : List Symbol → Read Matching
-parse_matching (word kind.On t ∷ ts) = parse_matching_after kind.On t ts
-parse_matching (word kind.Ignoring t ∷ ts) = parse_matching_after kind.Ignoring t ts
+parse_matching (word kind.On t ∷ ts) = parse_matching_after true t ts
+parse_matching (word kind.Ignoring t ∷ ts) = parse_matching_after false t ts
 parse_matching ts = Ok (no_matching, ts)
 
 abbrev pub parse_fill_value_end : Signed → Text → List Symbol → Read FillValue
@@ -94,12 +90,12 @@ parse_fill_value (punct kind.LeftParen ∷ ts) = eat_sign ts then λ s. parse_nu
 parse_fill_value ts = Err (misfit ts)
 
 abbrev pub parse_fill_right : Text → FillValue → List Symbol → Read Fills
-parse_fill_right t v (word kind.FillRight u ∷ ts) = parse_fill_value ts then λ w. Ok (left_right t v u w.0, w.1)
-parse_fill_right t v ts = Ok (left t v, ts)
+parse_fill_right t v (word kind.FillRight u ∷ ts) = parse_fill_value ts then λ w. Ok (two true t v u w.0, w.1)
+parse_fill_right t v ts = Ok (one true t v, ts)
 
 abbrev pub parse_fill_left : Text → FillValue → List Symbol → Read Fills
-parse_fill_left t v (word kind.FillLeft u ∷ ts) = parse_fill_value ts then λ w. Ok (right_left t v u w.0, w.1)
-parse_fill_left t v ts = Ok (right t v, ts)
+parse_fill_left t v (word kind.FillLeft u ∷ ts) = parse_fill_value ts then λ w. Ok (two false t v u w.0, w.1)
+parse_fill_left t v ts = Ok (one false t v, ts)
 
 abbrev pub parse_fills : List Symbol → Read Fills
 parse_fills (word kind.Fill t ∷ ts) = parse_fill_value ts then λ v. Ok (both t v.0, v.1)
@@ -128,15 +124,15 @@ parse_match_operator (punct kind.NotEqualRegex ∷ ts) = Ok (Some not_equal_rege
 parse_match_operator (word (kind.Operator op) t ∷ ts) = if op == T_NEQ then Ok (Some (not_equal t), ts) else Ok (None, word (kind.Operator op) t ∷ ts)
 parse_match_operator ts = Ok (None, ts)
 
-abbrev pub parse_matcher_value : TokenKind → Text → MatchOperator → List Symbol → Read Item
-parse_matcher_value k t s ts = parse_string ts then λ v. Ok (matcher k t s v.0, v.1)
+abbrev pub parse_matcher_value : Bool → Text → MatchOperator → List Symbol → Read Item
+parse_matcher_value quoted t s ts = parse_string ts then λ v. Ok (matcher quoted t s v.0, v.1)
 
 abbrev pub parse_after_name : Text → Option MatchOperator × List Symbol → Read Item
-parse_after_name t (Some s, ts) = parse_matcher_value kind.Identifier t s ts
+parse_after_name t (Some s, ts) = parse_matcher_value false t s ts
 parse_after_name t (None, ts) = Err (misfit ts)
 
 abbrev pub parse_after_string : Text → Option MatchOperator × List Symbol → Read Item
-parse_after_string t (Some s, ts) = parse_matcher_value kind.String t s ts
+parse_after_string t (Some s, ts) = parse_matcher_value true t s ts
 parse_after_string t (None, ts) = Ok (lone t, ts)
 
 abbrev pub parse_item : List Symbol → Read Item
@@ -177,14 +173,14 @@ parse_range_end t (punct kind.RightBracket ∷ ts) = Ok (Some (range t), ts)
 parse_range_end t (punct kind.Colon ∷ ts) = parse_step t ts
 parse_range_end t ts = Err (misfit ts)
 
-abbrev pub parse_at_bound : TokenKind → Text → List Symbol → Read (Option Postfix)
-parse_at_bound k t (punct kind.LeftParen ∷ (punct kind.RightParen ∷ ts)) = Ok (Some (at_bound k t), ts)
-parse_at_bound k t (punct kind.LeftParen ∷ ts) = Err (misfit ts)
-parse_at_bound k t ts = Err (misfit ts)
+abbrev pub parse_at_bound : Bool → Text → List Symbol → Read (Option Postfix)
+parse_at_bound start t (punct kind.LeftParen ∷ (punct kind.RightParen ∷ ts)) = Ok (Some (at_bound start t), ts)
+parse_at_bound start t (punct kind.LeftParen ∷ ts) = Err (misfit ts)
+parse_at_bound start t ts = Err (misfit ts)
 
 abbrev pub parse_at_modifier : List Symbol → Read (Option Postfix)
-parse_at_modifier (word kind.Start t ∷ ts) = parse_at_bound kind.Start t ts
-parse_at_modifier (word kind.End t ∷ ts) = parse_at_bound kind.End t ts
+parse_at_modifier (word kind.Start t ∷ ts) = parse_at_bound true t ts
+parse_at_modifier (word kind.End t ∷ ts) = parse_at_bound false t ts
 parse_at_modifier ts = eat_sign ts then λ s. parse_number s.1 then λ n. Ok (Some (at_number s.0 n.0), n.1)
 
 abbrev pub parse_offset_postfix : Text → List Symbol → Read (Option Postfix)
@@ -195,8 +191,8 @@ abbrev pub parse_postfix : List Symbol → Read (Option Postfix)
 parse_postfix (punct kind.LeftBracket ∷ ts) = parse_time ts then λ t. parse_range_end t.0 t.1
 parse_postfix (punct kind.At ∷ ts) = parse_at_modifier ts
 parse_postfix (word kind.Offset t ∷ ts) = parse_offset_postfix t ts
-parse_postfix (word kind.Smoothed t ∷ ts) = Ok (Some (mode kind.Smoothed t), ts)
-parse_postfix (word kind.Anchored t ∷ ts) = Ok (Some (mode kind.Anchored t), ts)
+parse_postfix (word kind.Smoothed t ∷ ts) = Ok (Some (mode true t), ts)
+parse_postfix (word kind.Anchored t ∷ ts) = Ok (Some (mode false t), ts)
 parse_postfix ts = Ok (None, ts)
 
 abbrev pub parse_more_postfixes : (Derivation → List Symbol → Read Derivation) → ℕ → Derivation → Option Postfix → List Symbol → Read Derivation
@@ -235,8 +231,8 @@ parse_grouped_aggregate r k n op t g ts = Err (misfit ts)
 
 abbrev pub parse_aggregate : Reader → ℕ → ℕ → ℕ → Text → List Symbol → Read Derivation
 parse_aggregate r k n op t (punct kind.LeftParen ∷ ts) = parse_arguments r ts then λ y. parse_grouping y.1 then λ c. parse_postfixes k n (aggregate op t c.0 y.0) c.1
-parse_aggregate r k n op t (word kind.By u ∷ ts) = parse_labels ts then λ l. parse_grouped_aggregate r k n op t (by u l.0) l.1
-parse_aggregate r k n op t (word kind.Without u ∷ ts) = parse_labels ts then λ l. parse_grouped_aggregate r k n op t (without u l.0) l.1
+parse_aggregate r k n op t (word kind.By u ∷ ts) = parse_labels ts then λ l. parse_grouped_aggregate r k n op t (grouping true u l.0) l.1
+parse_aggregate r k n op t (word kind.Without u ∷ ts) = parse_labels ts then λ l. parse_grouped_aggregate r k n op t (grouping false u l.0) l.1
 parse_aggregate r k n op t ts = parse_selector k n (kind.Aggregator op) t ts
 
 -- a form with no binary operator outside, of height at most n, with at most k postfixes

@@ -1,5 +1,6 @@
 -- What the parser's functions for parts take from the tokens. Private: nothing rests on believing it.
 use Rattle.std.specs.Prelude.{◌≡◌, Bool, true, false, ◌==◌, if◌then◌else◌, Option, Some, None, List, [], ◌∷◌, Ok, Err}
+use Rattle.std.specs.Option.{option_map_or}
 use Rattle.promql_text.specs.Texts.{Text}
 use Rattle.promql_token.specs.declared.ids.TheConstants.{T_ADD, T_SUB}
 use Rattle.promql_grammar.specs.declared.token_kinds.TokenKind.{TokenKind}
@@ -9,6 +10,16 @@ use Rattle.promql_grammar.specs.Symbols.{Symbol, punct, word, may_be_label}
 use Rattle.promql_grammar.specs.GrammarParts as part
 use Rattle.promql_grammar.specs.GrammarParts.{is_minus}
 use Rattle.promql_grammar.specs.Parsing.{Read, eat_sign, misfit, parse_number, parse_time}
+
+-- the tokens of a flag, and of the step of a subquery, if there is one
+abbrev pub yield_flag : Option Text → List Symbol
+yield_flag flag = option_map_or (λ text. word kind.Bool text ∷ []) flag []
+
+abbrev pub yield_step : Option part.Time → List Symbol
+yield_step step = option_map_or part.yield_time step []
+
+abbrev pub IsGrouping : part.Grouping → Type 0
+IsGrouping (part.grouping by text ls) = part.IsLabels ls
 
 -- `by` or `without`
 abbrev pub StartsGrouping : List Symbol → Type 0

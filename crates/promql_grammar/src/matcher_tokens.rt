@@ -1,6 +1,6 @@
 //! The tokens of a selector's matchers.
 
-ghost use Rattle.std.specs.Prelude.{◌≡◌, ◌<◌, ◌+◌, ◌^◌, List, ℕ, option_map, IfErr, IfNone, IfOk, OnOk};
+ghost use Rattle.std.specs.Prelude.{◌≡◌, ◌<◌, ◌+◌, ◌^◌, Bool, List, ℕ, option_map, IfErr, IfNone, IfOk, OnOk};
 ghost use Rattle.promql_grammar.specs.GrammarParts as part;
 ghost use Rattle.promql_grammar.specs.Parsing as parsing;
 ghost use Rattle.promql_grammar.specs.Failures.{Reads};
@@ -82,8 +82,9 @@ fn parse_matcher_value<'a>(
     name_index: usize,
     operator: MatchOperator,
 ) -> Result<Item<'a>, ReadError>
-    ensures gives { (s : part.MatchOperator) → operator ≡ operator_of_part s → Reads ParsesItem (symbols_left tokens.new)
-        (parsing.parse_matcher_value kind name.entry.now s (symbols_left tokens.old)) result }
+    ensures gives { (quoted : Bool) (s : part.MatchOperator) → kind ≡ part.name_kind quoted
+        → operator ≡ operator_of_part s → Reads ParsesItem (symbols_left tokens.new)
+        (parsing.parse_matcher_value quoted name.entry.now s (symbols_left tokens.old)) result }
     ensures syntax { IfErr result (λ e. e ≡ Syntax) }
     ensures name { IfOk result (λ item. item.name_index ≡ name_index) }
     ensures value { IfOk result (λ item. token_count tokens.old < 2 ^ 64

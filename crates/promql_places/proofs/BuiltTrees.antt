@@ -24,9 +24,11 @@ use Rattle.promql_ast.specs.check.VectorChecks.{selector_fault}
 use Rattle.promql_ast.specs.declared.range_mode.RangeMode.{RangeMode}
 use Rattle.promql_ast.specs.declared.range_mode.RangeMode.TheVariants.{Plain}
 use Rattle.promql_syntax.specs.Asking.{AreAllowed, Asking, gives, fails, asks, ◌giving◌, known, Asked, Ends, EndsIn}
-use Rattle.promql_syntax.specs.Building.{bound_moment, build, build_all, build_call, build_postfix, build_unary, from_checked_verdict, from_verdict, range_mode, selector_tree}
+use Rattle.promql_syntax.specs.Building.{build, build_all, build_call, build_postfix, build_unary, from_checked_verdict, from_verdict, selector_tree}
+use Rattle.promql_syntax.specs.Postfixes.{bound_moment, range_mode}
 use Rattle.promql_syntax.specs.BuildErrors.{BuildError, check, unknown_function}
-use Rattle.promql_syntax.specs.PartBuilding.{any_braces_value, braces_value, clause_value, duration_value, modifier_value, moment_value, number_value, shift_value, step_value, string_value, time_value}
+use Rattle.promql_syntax.specs.PartBuilding.{braces_value, clause_value, duration_value, modifier_value, moment_value, number_value, shift_value, step_value, string_value, time_value}
+use Rattle.promql_syntax.specs.Atoms.{any_braces_value}
 use Rattle.promql_syntax.proofs.CheckedAgain.{aggregate_again, aggregates, arguments, call_again, same_tree, unary_again}
 use Rattle.promql_syntax.proofs.PrintedModifiers.{binary_checked}
 

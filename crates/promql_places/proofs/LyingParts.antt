@@ -6,9 +6,10 @@ use Rattle.promql_grammar.specs.declared.token_kinds.TokenKind.TheVariants as ki
 use Rattle.promql_grammar.specs.Grammar as grammar
 use Rattle.promql_grammar.specs.Grammar.{Derivation, yield, yield_arguments}
 use Rattle.promql_grammar.specs.GrammarParts as part
-use Rattle.promql_grammar.specs.GrammarParts.{yield_after, yield_any_braces, yield_before, yield_braces, yield_fills, yield_flag, yield_group, yield_grouping, yield_item, yield_items, yield_labels, yield_matching, yield_modifier, yield_names, yield_postfix}
+use Rattle.promql_grammar.specs.GrammarParts.{yield_after, yield_any_braces, yield_before, yield_braces, yield_fills, yield_group, yield_grouping, yield_item, yield_items, yield_labels, yield_matching, yield_modifier, yield_names, yield_postfix}
+use Rattle.promql_grammar.specs.PartTokens.{yield_flag}
 use Rattle.promql_grammar.specs.Symbols.{punct, word}
-use Rattle.promql_places.specs.NodeParts.{AreOrdered, Follows, LiesBetween, PartTokens, after_parts, before_parts, group_parts, grouping_parts, item_parts, label_parts, matcher_parts, matching_parts, name_parts, parts, piece, postfix_kind}
+use Rattle.promql_places.specs.NodeParts.{AreOrdered, Follows, LiesBetween, PartTokens, after_parts, before_parts, group_parts, item_parts, label_parts, matcher_parts, matching_parts, parts, piece, postfix_kind}
 use Rattle.promql_places.specs.NodePlaces.{has_node}
 use Rattle.promql_places.specs.declared.parts.PartKind.{PartKind}
 use Rattle.promql_places.specs.declared.parts.PartKind.TheVariants as sort
@@ -83,29 +84,27 @@ whole_fits w k n ps some a c fit = record {
 
 -- ---- lists
 
-names_fit : (p : PartKind) (k : ℕ) (names : part.Names) → Fit k (length (yield_names names) + k) (name_parts p k names)
+names_fit : (p : PartKind) (k : ℕ) (ls : part.Labels) → Fit k (length (yield_names ls) + k) (label_parts p k ls)
+names_fit p k part.no_label = none_fit k _
 names_fit p k (part.last w t) = wider (1 + k) _ k _ _ (omega arith) (omega arith) (one_fits p 1 (1 + k) (omega arith))
-names_fit p k (part.last_comma w t) = wider (2 + k) _ k _ _ (omega arith) (omega arith) (one_fits p 1 (2 + k) (omega arith))
-names_fit p k (part.next w t names) =
-    more_fit k (length (yield_names (part.next w t names)) + k) (length (yield_names names) + k) (piece p 1 (1 + (length (yield_names names) + k))) (name_parts p k names) (omega arith) (omega arith) (omega arith) (omega arith) (names_fit p k names)
+names_fit p k (part.next w t ls) =
+    more_fit k (length (yield_names (part.next w t ls)) + k) (length (yield_names ls) + k) (piece p 1 (1 + (length (yield_names ls) + k))) (label_parts p k ls) (omega arith) (omega arith) (omega arith) (omega arith) (names_fit p k ls)
 
 labels_fit : (p : PartKind) (k : ℕ) (ls : part.Labels) → Fit k (length (yield_labels ls) + k) (label_parts p k ls)
-labels_fit p k part.no_label = none_fit k _
-labels_fit p k (part.labels names) = wider k (length (yield_names names) + k) k _ (name_parts p k names) (omega arith) (omega arith) (names_fit p k names)
+labels_fit p k ls = wider k (length (yield_names ls) + k) k _ (label_parts p k ls) (omega arith) (omega arith) (names_fit p k ls)
 
-grouping_fit : (k : ℕ) (g : part.Grouping) → Fit k (length (yield_grouping g) + k) (grouping_parts k g)
-grouping_fit k (part.by t ls) = wider k (length (yield_labels ls) + k) k _ (label_parts sort.Label k ls) (omega arith) (omega arith) (labels_fit sort.Label k ls)
-grouping_fit k (part.without t ls) = wider k (length (yield_labels ls) + k) k _ (label_parts sort.Label k ls) (omega arith) (omega arith) (labels_fit sort.Label k ls)
+grouping_fit : (k : ℕ) (by : Bool) (t : _) (ls : part.Labels) → Fit k (length (yield_grouping (part.grouping by t ls)) + k) (label_parts sort.Label k ls)
+grouping_fit k by t ls = wider k (length (yield_labels ls) + k) k _ (label_parts sort.Label k ls) (omega arith) (omega arith) (labels_fit sort.Label k ls)
 
 before_fit : (k : ℕ) (c : part.Clause) → Fit k (length (yield_before c) + k) (before_parts k c)
 before_fit k part.no_clause = none_fit k _
-before_fit k (part.before g) = grouping_fit k g
+before_fit k (part.before (part.grouping by t ls)) = grouping_fit k by t ls
 before_fit k (part.after g) = none_fit k _
 
 after_fit : (k : ℕ) (c : part.Clause) → Fit k (length (yield_after c) + k) (after_parts k c)
 after_fit k part.no_clause = none_fit k _
 after_fit k (part.before g) = none_fit k _
-after_fit k (part.after g) = grouping_fit k g
+after_fit k (part.after (part.grouping by t ls)) = grouping_fit k by t ls
 
 group_fit : (k : ℕ) (g : part.Group) → Fit k (length (yield_group g) + k) (group_parts k g)
 group_fit k part.no_group = none_fit k _

@@ -10,7 +10,7 @@ use Rattle.promql_grammar.specs.declared.token_kinds.TokenKind.TheVariants as ki
 use Rattle.promql_grammar.specs.Grammar as grammar
 use Rattle.promql_grammar.specs.Grammar.{Derivation, Arguments, yield, yield_arguments, yield_rest, precedence, openness, FitsLeft, FitsMatching, IsBase, IsWellFormed, AreWellFormed, OpensNoParen}
 use Rattle.promql_grammar.specs.GrammarParts as part
-use Rattle.promql_grammar.specs.GrammarParts.{Braces, no_item, items, Clause, no_clause, before, after, Matching, matching, Fills, no_fill, bare, IsAnyBraces, IsBraces, IsClause, IsPostfix, yield_after, yield_before, yield_any_braces, yield_fills, yield_modifier, yield_postfix}
+use Rattle.promql_grammar.specs.GrammarParts.{Braces, no_item, items, Clause, no_clause, before, after, grouping, Matching, matching, Fills, no_fill, bare, IsClause, IsMatching, yield_after, yield_before, yield_any_braces, yield_fills, yield_modifier, yield_postfix}
 use Rattle.promql_grammar.specs.Symbols.{Symbol, punct, word, begins, is_plus_or_minus, is_word_operator, may_be_called, may_be_name}
 use Rattle.promql_grammar.proofs.Complete.{begins_here}
 use Rattle.promql_grammar.proofs.GrammarChoices.{if_false}
@@ -99,7 +99,7 @@ base_no_sign : (d : Derivation) (rest : List Symbol) → IsWellFormed d → IsBa
 base_no_sign (grammar.number t) rest h b = refl
 base_no_sign (grammar.duration t) rest h b = refl
 base_no_sign (grammar.string t) rest h b = refl
-base_no_sign (grammar.selector k t o) rest h b = if_false _ _ _ (name_no_sign k h.0)
+base_no_sign (grammar.selector k t o) rest h b = if_false _ _ _ (name_no_sign k h)
 base_no_sign (grammar.nameless no_item) rest h b = refl
 base_no_sign (grammar.nameless (items is)) rest h b = refl
 base_no_sign (grammar.paren d) rest h b = refl
@@ -125,7 +125,7 @@ no_paren_word : (d : Derivation) (rest : List Symbol) → IsWellFormed d → Has
 no_paren_word (grammar.number t) rest h = tt
 no_paren_word (grammar.duration t) rest h = tt
 no_paren_word (grammar.string t) rest h = tt
-no_paren_word (grammar.selector k t o) rest h = name_no_paren k t (yield_any_braces o ++ rest) h.0
+no_paren_word (grammar.selector k t o) rest h = name_no_paren k t (yield_any_braces o ++ rest) h
 no_paren_word (grammar.nameless no_item) rest h = tt
 no_paren_word (grammar.nameless (items is)) rest h = tt
 no_paren_word (grammar.paren d) rest h = tt
@@ -163,16 +163,16 @@ lands_as d t u same lands = subst (Lands d) (sym same) lands
 
 -- ---- selectors
 
-selector_lands : (k : TokenKind) (t : Text) (b : Option Braces) (s : _) → may_be_name k ≡ true → IsAnyBraces b → Lands (grammar.selector k t b) (vector s)
-selector_lands k t b s name formed rest free still =
+selector_lands : (k : TokenKind) (t : Text) (b : Option Braces) (s : _) → may_be_name k ≡ true → Lands (grammar.selector k t b) (vector s)
+selector_lands k t b s name rest free still =
     let own = span_is sort.Name (length (kinds (word k t ∷ (yield_any_braces b ++ rest)))) (length (kinds (yield_any_braces b ++ rest))) 1 (length (yield_any_braces b) + length rest) (omega (arith, kinds_count (yield_any_braces b) rest)) (kinds_count (yield_any_braces b) rest) in
     ap (λ ks. then_take (begin []) (λ js. and_then (step.selector ks) step.shifts)) (if_false _ _ _ (name_no_sign k name))
     ∙ ap (λ (r : Taken). then_take (begin []) (λ js. and_then (and_then r step.braces) step.shifts)) (if_false (is_left_brace k) _ _ (name_no_brace k name))
-    ∙ ap (λ (r : Taken). then_take (begin []) (λ js. and_then r step.shifts)) (first_is _ _ _ _ own (any_braces_taken b rest formed free.brace))
+    ∙ ap (λ (r : Taken). then_take (begin []) (λ js. and_then r step.shifts)) (first_is _ _ _ _ own (any_braces_taken b rest free.brace))
 
-nameless_lands : (b : Braces) (s : _) → IsBraces b → Lands (grammar.nameless b) (vector s)
-nameless_lands no_item s formed rest free still = refl
-nameless_lands (items is) s formed rest free still = ap (λ (r : Taken). then_take (begin []) (λ js. and_then r step.shifts)) (braces_taken (items is) rest formed)
+nameless_lands : (b : Braces) (s : _) → Lands (grammar.nameless b) (vector s)
+nameless_lands no_item s rest free still = refl
+nameless_lands (items is) s rest free still = ap (λ (r : Taken). then_take (begin []) (λ js. and_then r step.shifts)) (braces_taken (items is) rest)
 
 -- ---- the ends of parts
 
@@ -182,15 +182,14 @@ free_punct k ts h g = record { brace = h; clause = g }
 free_word : (k : TokenKind) (t : Text) (ts : List Symbol) → is_left_brace k ≡ false → is_grouping_word k ≡ false → Free (kinds (word k t ∷ ts))
 free_word k t ts h g = record { brace = h; clause = g }
 
-postfix_free : (p : part.Postfix) (rest : List Symbol) → IsPostfix p → Free (kinds (yield_postfix p ++ rest))
-postfix_free (part.range r) rest h = record { brace = refl; clause = refl }
-postfix_free (part.subquery r s) rest h = record { brace = refl; clause = refl }
-postfix_free (part.at_number s t) rest h = record { brace = refl; clause = refl }
-postfix_free (part.at_bound k t) rest h = record { brace = refl; clause = refl }
-postfix_free (part.offset t s u) rest h = record { brace = refl; clause = refl }
-postfix_free (part.mode kind.Smoothed t) rest h = record { brace = refl; clause = refl }
-postfix_free (part.mode kind.Anchored t) rest h = record { brace = refl; clause = refl }
-postfix_free (part.mode k t) rest h = cc
+postfix_free : (p : part.Postfix) (rest : List Symbol) → Free (kinds (yield_postfix p ++ rest))
+postfix_free (part.range r) rest = record { brace = refl; clause = refl }
+postfix_free (part.subquery r s) rest = record { brace = refl; clause = refl }
+postfix_free (part.at_number s t) rest = record { brace = refl; clause = refl }
+postfix_free (part.at_bound start t) rest = record { brace = refl; clause = refl }
+postfix_free (part.offset t s u) rest = record { brace = refl; clause = refl }
+postfix_free (part.mode true t) rest = record { brace = refl; clause = refl }
+postfix_free (part.mode false t) rest = record { brace = refl; clause = refl }
 
 rest_free : (ds : Arguments) (rest : List Symbol) → Free (kinds (yield_rest ds ++ rest))
 rest_free grammar.none rest = record { brace = refl; clause = refl }
@@ -247,17 +246,17 @@ one_more : (ps : List PartTokens) (q : PartTokens) (r : Taken) → spans ps ++ (
 one_more ps q r = sym (append_assoc (spans ps) (span_of q ∷ []) r.0) ∙ ap (λ l. l ++ r.0) (sym (spans_joined ps (q ∷ [])))
 
 -- a shift or a mode
-shift_lands : (d : Derivation) (p : part.Postfix) (s t : Tree) → IsPostfix p → IsShift p → Alike s t → Lands d s
+shift_lands : (d : Derivation) (p : part.Postfix) (s t : Tree) → IsShift p → Alike s t → Lands d s
     → (rest : List Symbol) → Free (kinds rest) → inside t (kinds ((yield d ++ yield_postfix p) ++ rest))
     ≡ (spans (parts (length (yield_postfix p) + length rest) d ++ piece (postfix_kind p) (length (yield_postfix p)) (length rest) ∷ []) ++ (after_sort (sort_of t) (kinds rest)).0, counts (nodes_below (length (yield_postfix p) + length rest) d), (after_sort (sort_of t) (kinds rest)).1)
-shift_lands d p s t formed is alike lands rest free =
+shift_lands d p s t is alike lands rest free =
     let other : ¬ (sort_of t ≡ others) = λ h. alike.takes (alike.same ∙ h) in
     let n = length (yield_postfix p) + length rest in
     ap (λ ts. inside t (kinds ts)) (append_assoc (yield d) (yield_postfix p) rest)
     ∙ sym (ap (λ f. f (kinds (yield d ++ (yield_postfix p ++ rest)))) (inside_sort s t alike))
-    ∙ lands (yield_postfix p ++ rest) (postfix_free p rest formed) (still_alike (sort_of s) (kinds (yield_postfix p ++ rest)) alike.takes)
+    ∙ lands (yield_postfix p ++ rest) (postfix_free p rest) (still_alike (sort_of s) (kinds (yield_postfix p ++ rest)) alike.takes)
     ∙ ap (λ (r : Taken). found d (yield_postfix p ++ rest) r)
-    (after_alike (sort_of s) (kinds (yield_postfix p ++ rest)) alike.takes ∙ shift_taken p rest formed is ∙ ap (also (span_of (piece (postfix_kind p) (length (yield_postfix p)) (length rest)))) (sym (after_alike (sort_of t) (kinds rest) other)))
+    (after_alike (sort_of s) (kinds (yield_postfix p ++ rest)) alike.takes ∙ shift_taken p rest is ∙ ap (also (span_of (piece (postfix_kind p) (length (yield_postfix p)) (length rest)))) (sym (after_alike (sort_of t) (kinds rest) other)))
     ∙ ap (λ m. (let q : Passed = (spans (parts m d) ++ (span_of (piece (postfix_kind p) (length (yield_postfix p)) (length rest)) ∷ (after_sort (sort_of t) (kinds rest)).0), counts (nodes_below m d), (after_sort (sort_of t) (kinds rest)).1) in q)) (postfix_count p rest)
     ∙ ap (λ l. (let q : Passed = (l, counts (nodes_below n d), (after_sort (sort_of t) (kinds rest)).1) in q)) (one_more (parts n d) (piece (postfix_kind p) (length (yield_postfix p)) (length rest)) (after_sort (sort_of t) (kinds rest)))
 
@@ -274,7 +273,7 @@ ranged_taken d r s rest formed base lands =
     let p = part.range r in
     let ks = kinds (yield d ++ (yield_postfix p ++ rest)) in
     let n = length (yield_postfix p) + length rest in
-    let got : then_take (begin ks) step.vector ≡ found d (yield_postfix p ++ rest) ([], kinds (yield_postfix p ++ rest)) = lands (yield_postfix p ++ rest) (postfix_free p rest tt) tt in
+    let got : then_take (begin ks) step.vector ≡ found d (yield_postfix p ++ rest) ([], kinds (yield_postfix p ++ rest)) = lands (yield_postfix p ++ rest) (postfix_free p rest) tt in
     let own : spans (parts (length (yield_postfix p ++ rest)) d) ++ [] ≡ spans (parts n d) = append-nil _ ∙ ap (λ m. spans (parts m d)) (postfix_count p rest) in
     let count = kinds_count (yield d) (yield_postfix p ++ rest) in
     let more = postfix_count p rest in
@@ -300,7 +299,7 @@ range_lands d r s t formed base is lands = lands_as (grammar.postfixed d (part.r
     ∙ ap (λ (x : Taken). (let q : Passed = (spans inner ++ x.0, [], x.1) in q)) (range_taken r rest)
     ∙ ap (λ l. (let q : Passed = (l, [], (step.shifts (kinds rest)).1) in q)) (one_more inner last (step.shifts (kinds rest)))
     ∙ ap (λ l. (let q : Passed = (spans (inner ++ last ∷ []) ++ (step.shifts (kinds rest)).0, l, (step.shifts (kinds rest)).1) in q))
-    (sym (no_nodes d is.chosen (yield_postfix p ++ rest) chosen (postfix_free p rest tt)) ∙ ap (λ m. counts (nodes_below m d)) (postfix_count p rest)))
+    (sym (no_nodes d is.chosen (yield_postfix p ++ rest) chosen (postfix_free p rest)) ∙ ap (λ m. counts (nodes_below m d)) (postfix_count p rest)))
 
 -- a subquery
 subquery_taken : (r : part.Time) (e : Option part.Time) (rest : List Symbol) → step.range (kinds (yield_postfix (part.subquery r e) ++ rest)) ≡ also (span_of (piece sort.Range (length (yield_postfix (part.subquery r e))) (length rest))) (step.shifts (kinds rest))
@@ -313,17 +312,17 @@ subquery_lands d r e s t formed base is lands = lands_as (grammar.postfixed d (p
     let p = part.subquery r e in
     ap (λ ts. inside (subquery s None None is.range is.step) (kinds ts)) (append_assoc (yield d) (yield_postfix p) rest)
     ∙ ap (λ ks. then_take (then_pass (begin ks) (pass s)) step.range) (base_no_sign d (yield_postfix p ++ rest) formed base)
-    ∙ ap (λ (x : Passed). then_take (let q : Passed = ([], x.1, x.2) in q) step.range) (passes_over d s lands (yield_postfix p ++ rest) (postfix_free p rest tt) refl)
+    ∙ ap (λ (x : Passed). then_take (let q : Passed = ([], x.1, x.2) in q) step.range) (passes_over d s lands (yield_postfix p ++ rest) (postfix_free p rest) refl)
     ∙ ap (λ n. then_take (passed_nodes (nodes n d) (kinds (yield_postfix p ++ rest))) step.range) (postfix_count p rest)
     ∙ ap (λ (x : Taken). (let q : Passed = (x.0, counts (nodes (length (yield_postfix p) + length rest) d), x.1) in q)) (subquery_taken r e rest))
 
-postfix_lands : (d : Derivation) (p : part.Postfix) (s t : Tree) → IsWellFormed d → IsBase d → IsPostfix p → Lands d s → PostfixOf p s t → Lands (grammar.postfixed d p) t
-postfix_lands d (part.range r) s t formed base is lands of = range_lands d r s t formed base of lands
-postfix_lands d (part.subquery r e) s t formed base is lands of = subquery_lands d r e s t formed base of lands
-postfix_lands d (part.at_number e u) s t formed base is lands of = λ rest free still. shift_lands d (part.at_number e u) s t is tt of lands rest free
-postfix_lands d (part.at_bound k u) s t formed base is lands of = λ rest free still. shift_lands d (part.at_bound k u) s t is tt of lands rest free
-postfix_lands d (part.offset u e r) s t formed base is lands of = λ rest free still. shift_lands d (part.offset u e r) s t is tt of lands rest free
-postfix_lands d (part.mode k u) s t formed base is lands of = λ rest free still. shift_lands d (part.mode k u) s t is tt of lands rest free
+postfix_lands : (d : Derivation) (p : part.Postfix) (s t : Tree) → IsWellFormed d → IsBase d → Lands d s → PostfixOf p s t → Lands (grammar.postfixed d p) t
+postfix_lands d (part.range r) s t formed base lands of = range_lands d r s t formed base of lands
+postfix_lands d (part.subquery r e) s t formed base lands of = subquery_lands d r e s t formed base of lands
+postfix_lands d (part.at_number e u) s t formed base lands of = λ rest free still. shift_lands d (part.at_number e u) s t tt of lands rest free
+postfix_lands d (part.at_bound k u) s t formed base lands of = λ rest free still. shift_lands d (part.at_bound k u) s t tt of lands rest free
+postfix_lands d (part.offset u e r) s t formed base lands of = λ rest free still. shift_lands d (part.offset u e r) s t tt of lands rest free
+postfix_lands d (part.mode k u) s t formed base lands of = λ rest free still. shift_lands d (part.mode k u) s t tt of lands rest free
 
 -- ---- parentheses, calls, aggregations
 
@@ -380,13 +379,13 @@ some_arguments (present q) e ks = refl
 
 before_taken : (c : Clause) (ts : List Symbol) → IsClause c → step.clause (kinds (yield_before c ++ punct kind.LeftParen ∷ ts)) ≡ (spans (before_parts (length (punct kind.LeftParen ∷ ts)) c), kinds (punct kind.LeftParen ∷ ts))
 before_taken no_clause ts h = refl
-before_taken (before g) ts h = grouping_taken g (punct kind.LeftParen ∷ ts) h
+before_taken (before (grouping by t ls)) ts h = grouping_taken by t ls (punct kind.LeftParen ∷ ts) h
 before_taken (after g) ts h = refl
 
 after_taken : (c : Clause) (rest : List Symbol) → IsClause c → Free (kinds rest) → step.clause (kinds (yield_after c ++ rest)) ≡ (spans (after_parts (length rest) c), kinds rest)
 after_taken no_clause rest h free = if_false _ _ _ free.clause
 after_taken (before g) rest h free = if_false _ _ _ free.clause
-after_taken (after g) rest h free = grouping_taken g rest h
+after_taken (after (grouping by t ls)) rest h free = grouping_taken by t ls rest h
 
 -- the operator, and a clause after it
 aggregate_taken : (op : ℕ) (text : Text) (c : Clause) (ds : Arguments) (rest : List Symbol) → IsClause c
@@ -481,7 +480,7 @@ open_more (punct k ∷ ts) us b h = tt
 open_more (word k t ∷ ts) us b h = tt
 
 fits_more : (m : Matching) (f : Fills) (ts us : List Symbol) → begins ts ≡ true → FitsMatching m f ts → FitsMatching m f (ts ++ us)
-fits_more (matching k t ls (bare j u)) no_fill ts us b h = open_more ts us b h
+fits_more (matching on t ls (bare left u)) no_fill ts us b h = open_more ts us b h
 fits_more m f ts us b h = tt
 
 -- a left side of a power has no sign outside
@@ -505,7 +504,7 @@ power_signs op d rest formed fits = by (op == T_POW) refl
 abbrev operator_parts : ℕ → part.Modifier → List PartTokens
 operator_parts n m = piece sort.Operator 1 (length (yield_modifier m) + n) ∷ matching_parts (length (yield_fills m.fills) + n) m.matching
 
-after_operator : (m : part.Modifier) (r : Derivation) (op : ℕ) (t : Text) (rest : List Symbol) → part.IsModifier m → IsWellFormed r → FitsMatching m.matching m.fills (yield r)
+after_operator : (m : part.Modifier) (r : Derivation) (op : ℕ) (t : Text) (rest : List Symbol) → IsMatching m.matching → IsWellFormed r → FitsMatching m.matching m.fills (yield r)
     → step.operator (kinds (word (kind.Operator op) t ∷ (yield_modifier m ++ (yield r ++ rest)))) ≡ (spans (parts (length rest) (grammar.binary op t m r r)), kinds (yield r ++ rest))
 after_operator m r op t rest is formed fits =
     let begun : begins (yield r) ≡ true = ap begins (sym (append-nil (yield r))) ∙ begins_here r [] formed in
@@ -542,8 +541,8 @@ mutual
   lands (grammar.duration text) t g formed = let s = shape (grammar.duration text) t g in lands_as (grammar.duration text) t (number s.0) s.1 (λ rest free still. refl)
   lands (grammar.string text) t g formed = let s = shape (grammar.string text) t g in lands_as (grammar.string text) t (string s.0) s.1 (λ rest free still. refl)
   lands (grammar.selector k text b) t g formed =
-      let s = shape (grammar.selector k text b) t g in lands_as (grammar.selector k text b) t (vector s.0) s.1 (selector_lands k text b s.0 formed.0 formed.1)
-  lands (grammar.nameless b) t g formed = let s = shape (grammar.nameless b) t g in lands_as (grammar.nameless b) t (vector s.0) s.1 (nameless_lands b s.0 formed)
+      let s = shape (grammar.selector k text b) t g in lands_as (grammar.selector k text b) t (vector s.0) s.1 (selector_lands k text b s.0 formed)
+  lands (grammar.nameless b) t g formed = let s = shape (grammar.nameless b) t g in lands_as (grammar.nameless b) t (vector s.0) s.1 (nameless_lands b s.0)
   lands (grammar.paren d) t g formed =
       let s = shape (grammar.paren d) t g in lands_as (grammar.paren d) t (paren s.inner) s.is (paren_lands d s.inner (lands d s.inner s.first formed))
   lands (grammar.call k text ds) t g formed =
@@ -554,7 +553,7 @@ mutual
       lands_as (grammar.aggregate op text c ds) t (aggregate op s.tree s.param s.clause) s.is
       (aggregate_lands op text c ds s.tree s.param s.clause formed.0 (lands_all ds (arguments s.param s.tree) s.arguments formed.1))
   lands (grammar.postfixed d p) t g formed =
-      let s = shape (grammar.postfixed d p) t g in postfix_lands d p s.base t formed.0 formed.1 formed.2 (lands d s.base s.first formed.0) s.is
+      let s = shape (grammar.postfixed d p) t g in postfix_lands d p s.base t formed.0 formed.1 (lands d s.base s.first formed.0) s.is
   lands (grammar.unary op text d) t g formed =
       let s = shape (grammar.unary op text d) t g in
       unary_lands op text d s.operand t formed.0 (signed d s.operand s.first formed.1 formed.2) (number_is d s.operand s.first) s.is (lands d s.operand s.first formed.1)

@@ -6,12 +6,11 @@ use Rattle.std.proofs.Math.Seq.{drop-append_seam, take-append_seam}
 use Rattle.promql_text.specs.Texts.{Text}
 use Rattle.promql_grammar.specs.declared.token_kinds.TokenKind.{TokenKind}
 use Rattle.promql_grammar.specs.declared.token_kinds.TokenKind.TheVariants as kind
-use Rattle.promql_grammar.specs.GrammarParts.{is_bound_word}
 use Rattle.promql_span.specs.PlacedTokens.{last_tokens, placed_tokens}
 use Rattle.promql_span.specs.declared.span.Span.{Span}
 use Rattle.promql_places.specs.CursorTokens.{IsOver, Moved, first_start, kinds_left, last_end, lexeme_kind, lexemes_left, span_in}
 use Rattle.promql_places.specs.PartSteps.{Step, Taken, Takes, also, and_then, in_item, item, items, part_in, shift, shift_bound, shift_kind, shift_value, shifts}
-use Rattle.promql_places.specs.Skipping.{ends_list, front, is_closing, is_mode, is_separator, is_shift, is_shift_word, is_sign, skip_brackets, skip_item, skip_moment, skip_separator, skip_shift, skip_signs, skip_value}
+use Rattle.promql_places.specs.Skipping.{ends_list, front, is_bound_word, is_closing, is_mode, is_separator, is_shift, is_shift_word, is_sign, skip_brackets, skip_item, skip_moment, skip_separator, skip_shift, skip_signs, skip_value}
 use Rattle.promql_places.specs.declared.parts.Part.{Part}
 use Rattle.promql_places.specs.declared.parts.PartKind.{PartKind}
 use Rattle.promql_places.specs.declared.parts.PartKind.TheVariants as part

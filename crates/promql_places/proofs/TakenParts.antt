@@ -1,18 +1,20 @@
 -- What is taken for a part are its tokens, exactly.
-use Rattle.std.proofs.Common.{◌≡◌, refl, ◌∙◌, ap, sym, ℕ, ◌+◌, arith, true, false, List, [], ◌∷◌, ◌++◌, append_assoc, length, length-append, map, Option, Some, None}
+use Rattle.std.proofs.Common.{◌≡◌, refl, ◌∙◌, ap, sym, ℕ, ◌+◌, arith, Bool, true, false, List, [], ◌∷◌, ◌++◌, append_assoc, length, length-append, map, Option, Some, None}
 use Rattle.std.specs.Option.{option_map_or}
+use Rattle.std.specs.Prelude.{if◌then◌else◌}
 use Rattle.std.proofs.lemmas.List.{length-map}
 use Rattle.promql_text.specs.Texts.{Text}
 use Rattle.promql_grammar.specs.declared.token_kinds.TokenKind.{TokenKind}
 use Rattle.promql_grammar.specs.declared.token_kinds.TokenKind.TheVariants as kind
 use Rattle.promql_grammar.specs.Symbols.{Symbol, punct, word, begins, may_be_label}
-use Rattle.promql_grammar.specs.Grammar.{OpensNoParen, FitsGroup, FitsMatching}
-use Rattle.promql_grammar.specs.GrammarParts.{Time, seconds, duration, Signed, unsigned, signed, Names, last, last_comma, next, Labels, no_label, labels, Grouping, by, without, Group, no_group, bare, listed, Matching, no_matching, matching, FillValue, Fills, no_fill, both, left, right, left_right, right_left, Modifier, MatchOperator, equal, not_equal, equal_regex, not_equal_regex, Item, matcher, lone, Separator, comma, or, Items, last_item, last_item_comma, next_item, Braces, no_item, items, Postfix, range, subquery, at_number, at_bound, offset, mode, yield_time, yield_signed, yield_names, yield_labels, yield_grouping, yield_group, yield_matching, yield_value, yield_fills, yield_flag, yield_modifier, yield_match_operator, yield_item, yield_items, yield_separator, yield_braces, yield_any_braces, yield_step, yield_postfix, IsSigned, AreLabels, IsLabels, IsGrouping, IsGroup, IsMatching, IsModifier, IsItem, AreItems, IsBraces, IsAnyBraces, IsPostfix, is_matcher_name, is_matching_word}
-use Rattle.promql_grammar.proofs.GrammarChoices.{if_true, if_false}
-use Rattle.promql_places.specs.NodeParts.{PartTokens, group_parts, grouping_parts, item_parts, label_parts, matcher_parts, matching_parts, name_parts, piece, postfix_kind}
+use Rattle.promql_grammar.specs.Grammar.{OpensNoParen, FitsMatching}
+use Rattle.promql_grammar.specs.GrammarParts.{Time, seconds, duration, Signed, unsigned, signed, Labels, no_label, last, next, grouping, Group, no_group, bare, listed, Matching, no_matching, matching, FillValue, Fills, no_fill, both, one, two, Modifier, MatchOperator, equal, not_equal, equal_regex, not_equal_regex, Item, matcher, lone, Separator, comma, or, Items, last_item, last_item_comma, next_item, Braces, no_item, items, Postfix, range, subquery, at_number, at_bound, offset, mode, yield_time, yield_signed, yield_names, yield_labels, yield_grouping, yield_group, yield_matching, yield_value, yield_fills, yield_modifier, yield_match_operator, yield_item, yield_items, yield_separator, yield_braces, yield_any_braces, yield_postfix, IsLabels, IsGroup, IsMatching}
+use Rattle.promql_grammar.specs.PartTokens.{yield_flag, yield_step}
+use Rattle.promql_grammar.proofs.GrammarChoices.{if_false}
+use Rattle.promql_places.specs.NodeParts.{PartTokens, group_parts, item_parts, label_parts, matcher_parts, matching_parts, piece, postfix_kind}
 use Rattle.promql_places.specs.PartSteps as step
 use Rattle.promql_places.specs.PartSteps.{PartSpan, Taken, also, and_then}
-use Rattle.promql_places.specs.Skipping.{front, kind_of, kinds, is_closing, is_flag, is_left_brace, skip_brackets, skip_fill, skip_flag}
+use Rattle.promql_places.specs.Skipping.{front, kind_of, kinds, is_closing, is_left_brace, skip_brackets, skip_fill, skip_flag}
 use Rattle.promql_places.specs.declared.parts.PartKind.{PartKind}
 use Rattle.promql_places.specs.declared.parts.PartKind.TheVariants as part
 
@@ -49,27 +51,18 @@ label_open kind.RightBrace h = cc
 label_open kind.RightBracket h = cc
 label_open k h = refl
 
-names_taken : (p : PartKind) (names : Names) (rest : List Symbol) → AreLabels names → step.items p (kinds (yield_names names ++ rest)) ≡ (spans (name_parts p (length rest) names), kinds rest)
+names_taken : (p : PartKind) (ls : Labels) (rest : List Symbol) → IsLabels ls → step.items p (kinds (yield_names ls ++ rest)) ≡ (spans (label_parts p (length rest) ls), kinds rest)
+names_taken p no_label rest h = refl
 names_taken p (last k t) rest h =
     let n = kinds_length rest in
     if_false _ _ _ (label_open k h) ∙ ap (λ (x : PartSpan). (x ∷ [], kinds rest)) (span_is p _ _ 1 (1 + length rest) (omega arith) (omega arith))
-names_taken p (last_comma k t) rest h =
-    let n = kinds_length rest in
-    if_false _ _ _ (label_open k h) ∙ ap (λ (x : PartSpan). (x ∷ [], kinds rest)) (span_is p _ _ 1 (2 + length rest) (omega arith) (omega arith))
-names_taken p (next k t names) rest h =
-    let n = kinds_count (yield_names names) rest in
+names_taken p (next k t ls) rest h =
+    let n = kinds_count (yield_names ls) rest in
     if_false _ _ _ (label_open k h.0)
-    ∙ first_is _ _ _ _ (span_is p _ _ 1 (1 + (length (yield_names names) + length rest)) (omega arith) (omega arith)) (names_taken p names rest h.1)
+    ∙ first_is _ _ _ _ (span_is p _ _ 1 (1 + (length (yield_names ls) + length rest)) (omega arith) (omega arith)) (names_taken p ls rest h.1)
 
 pub labels_taken : (p : PartKind) (ls : Labels) (rest : List Symbol) → IsLabels ls → step.labels p (kinds (yield_labels ls ++ rest)) ≡ (spans (label_parts p (length rest) ls), kinds rest)
-labels_taken p no_label rest h = refl
-labels_taken p (labels names) rest h = names_taken p names rest h
-
-name_open : (k : TokenKind) → is_matcher_name k ≡ true → is_closing k ≡ false
-name_open kind.RightParen h = cc
-name_open kind.RightBrace h = cc
-name_open kind.RightBracket h = cc
-name_open k h = refl
+labels_taken p ls rest h = names_taken p ls rest h
 
 operator_inside : (s : MatchOperator) (p : PartKind) (n : ℕ) (value : Text) (rest : List Symbol) → step.in_item p n (kinds (yield_match_operator s ∷ word kind.String value ∷ rest)) ≡ step.in_item p n (kinds rest)
 operator_inside equal p n value rest = refl
@@ -77,51 +70,52 @@ operator_inside (not_equal t) p n value rest = refl
 operator_inside equal_regex p n value rest = refl
 operator_inside not_equal_regex p n value rest = refl
 
-item_inside : (i : Item) (p : PartKind) (rest : List Symbol) → IsItem i → step.items p (kinds (yield_item i ++ rest)) ≡ step.in_item p (length (kinds (yield_item i ++ rest))) (kinds rest)
-item_inside (matcher k t s value) p rest h = if_false _ _ _ (name_open k h) ∙ operator_inside s p _ value rest
-item_inside (lone t) p rest h = refl
+item_inside : (i : Item) (p : PartKind) (rest : List Symbol) → step.items p (kinds (yield_item i ++ rest)) ≡ step.in_item p (length (kinds (yield_item i ++ rest))) (kinds rest)
+item_inside (matcher true t s value) p rest = operator_inside s p _ value rest
+item_inside (matcher false t s value) p rest = operator_inside s p _ value rest
+item_inside (lone t) p rest = refl
 
 separator_ends : (s : Separator) (p : PartKind) (n : ℕ) (rest : List Symbol) → step.in_item p n (kinds (yield_separator s ∷ rest)) ≡ also (p, (n, length (kinds (yield_separator s ∷ rest)))) (step.items p (kinds rest))
 separator_ends comma p n rest = refl
 separator_ends (or t) p n rest = refl
 
-items_taken : (is : Items) (rest : List Symbol) → AreItems is → step.items part.Matcher (kinds (yield_items is ++ rest)) ≡ (spans (item_parts (length rest) is), kinds rest)
-items_taken (last_item i) rest h =
+items_taken : (is : Items) (rest : List Symbol) → step.items part.Matcher (kinds (yield_items is ++ rest)) ≡ (spans (item_parts (length rest) is), kinds rest)
+items_taken (last_item i) rest =
     let n = kinds_count (yield_item i) (punct kind.RightBrace ∷ rest) in
     let m = kinds_length rest in
     ap (λ ts. step.items part.Matcher (kinds ts)) (append_assoc (yield_item i) (punct kind.RightBrace ∷ []) rest)
-    ∙ item_inside i part.Matcher (punct kind.RightBrace ∷ rest) h
+    ∙ item_inside i part.Matcher (punct kind.RightBrace ∷ rest)
     ∙ ap (λ (x : PartSpan). (x ∷ [], kinds rest)) (span_is part.Matcher _ _ (length (yield_item i)) (1 + length rest) (omega arith) (omega arith))
-items_taken (last_item_comma i) rest h =
+items_taken (last_item_comma i) rest =
     let n = kinds_count (yield_item i) (punct kind.Comma ∷ punct kind.RightBrace ∷ rest) in
     let m = kinds_length rest in
     ap (λ ts. step.items part.Matcher (kinds ts)) (append_assoc (yield_item i) (punct kind.Comma ∷ punct kind.RightBrace ∷ []) rest)
-    ∙ item_inside i part.Matcher (punct kind.Comma ∷ punct kind.RightBrace ∷ rest) h
+    ∙ item_inside i part.Matcher (punct kind.Comma ∷ punct kind.RightBrace ∷ rest)
     ∙ ap (λ (x : PartSpan). (x ∷ [], kinds rest)) (span_is part.Matcher _ _ (length (yield_item i)) (2 + length rest) (omega arith) (omega arith))
-items_taken (next_item i s is) rest h =
+items_taken (next_item i s is) rest =
     let n = kinds_count (yield_item i) (yield_separator s ∷ (yield_items is ++ rest)) in
     let j = length-append (yield_items is) rest in
     let m = kinds_count (yield_items is) rest in
     ap (λ ts. step.items part.Matcher (kinds ts)) (append_assoc (yield_item i) (yield_separator s ∷ yield_items is) rest)
-    ∙ item_inside i part.Matcher (yield_separator s ∷ (yield_items is ++ rest)) h.0
+    ∙ item_inside i part.Matcher (yield_separator s ∷ (yield_items is ++ rest))
     ∙ separator_ends s part.Matcher _ (yield_items is ++ rest)
-    ∙ first_is _ _ _ _ (span_is part.Matcher _ _ (length (yield_item i)) (1 + (length (yield_items is) + length rest)) (omega arith) (omega arith)) (items_taken is rest h.1)
+    ∙ first_is _ _ _ _ (span_is part.Matcher _ _ (length (yield_item i)) (1 + (length (yield_items is) + length rest)) (omega arith) (omega arith)) (items_taken is rest)
 
-pub braces_taken : (b : Braces) (rest : List Symbol) → IsBraces b → step.braces (kinds (yield_braces b ++ rest)) ≡ (spans (matcher_parts (length rest) b), kinds rest)
-braces_taken no_item rest h = refl
-braces_taken (items is) rest h = items_taken is rest h
+pub braces_taken : (b : Braces) (rest : List Symbol) → step.braces (kinds (yield_braces b ++ rest)) ≡ (spans (matcher_parts (length rest) b), kinds rest)
+braces_taken no_item rest = refl
+braces_taken (items is) rest = items_taken is rest
 
 -- none, where no brace follows
-pub any_braces_taken : (b : Option Braces) (rest : List Symbol) → IsAnyBraces b → is_left_brace (front (kinds rest)) ≡ false
+pub any_braces_taken : (b : Option Braces) (rest : List Symbol) → is_left_brace (front (kinds rest)) ≡ false
     → step.braces (kinds (yield_any_braces b ++ rest)) ≡ (spans (option_map_or (matcher_parts (length rest)) b []), kinds rest)
-any_braces_taken None rest h free = if_false _ _ _ free
-any_braces_taken (Some b) rest h free = braces_taken b rest h
+any_braces_taken None rest free = if_false _ _ _ free
+any_braces_taken (Some b) rest free = braces_taken b rest
 
 -- ---- through a closing bracket
 
 sign_skipped : (s : Signed) (rest : List Symbol) → skip_brackets (kinds (yield_signed s ++ rest)) ≡ skip_brackets (kinds rest)
 sign_skipped unsigned rest = refl
-sign_skipped (signed op t) rest = refl
+sign_skipped (signed minus t) rest = refl
 
 pub value_skipped : (v : FillValue) (rest : List Symbol) → skip_brackets (kinds (yield_value v ++ rest)) ≡ kinds rest
 value_skipped v rest =
@@ -148,9 +142,9 @@ subquery_skipped t s rest =
 
 -- ---- clauses
 
-pub grouping_taken : (g : Grouping) (rest : List Symbol) → IsGrouping g → step.clause (kinds (yield_grouping g ++ rest)) ≡ (spans (grouping_parts (length rest) g), kinds rest)
-grouping_taken (by t ls) rest h = labels_taken part.Label ls rest h
-grouping_taken (without t ls) rest h = labels_taken part.Label ls rest h
+pub grouping_taken : (by : Bool) (t : Text) (ls : Labels) (rest : List Symbol) → IsLabels ls → step.clause (kinds (yield_grouping (grouping by t ls) ++ rest)) ≡ (spans (label_parts part.Label (length rest) ls), kinds rest)
+grouping_taken true t ls rest h = labels_taken part.Label ls rest h
+grouping_taken false t ls rest h = labels_taken part.Label ls rest h
 
 -- ---- modifiers
 
@@ -194,13 +188,13 @@ no_fill_at (word k t ∷ ts) h = refl
 fills_skipped : (f : Fills) (rest : List Symbol) → begins rest ≡ true → skip_fill (skip_fill (kinds (yield_fills f ++ rest))) ≡ kinds rest
 fills_skipped no_fill rest b = ap skip_fill (no_fill_at rest b) ∙ no_fill_at rest b
 fills_skipped (both t v) rest b = ap skip_fill (value_skipped v rest) ∙ no_fill_at rest b
-fills_skipped (left t v) rest b = ap skip_fill (value_skipped v rest) ∙ no_fill_at rest b
-fills_skipped (right t v) rest b = ap skip_fill (value_skipped v rest) ∙ no_fill_at rest b
-fills_skipped (left_right t v u w) rest b =
+fills_skipped (one true t v) rest b = ap skip_fill (value_skipped v rest) ∙ no_fill_at rest b
+fills_skipped (one false t v) rest b = ap skip_fill (value_skipped v rest) ∙ no_fill_at rest b
+fills_skipped (two true t v u w) rest b =
     ap (λ ts. skip_fill (skip_brackets (kinds ts))) (append_assoc (yield_value v) (word kind.FillRight u ∷ yield_value w) rest)
     ∙ ap skip_fill (value_skipped v (word kind.FillRight u ∷ (yield_value w ++ rest)))
     ∙ value_skipped w rest
-fills_skipped (right_left t v u w) rest b =
+fills_skipped (two false t v u w) rest b =
     ap (λ ts. skip_fill (skip_brackets (kinds ts))) (append_assoc (yield_value v) (word kind.FillLeft u ∷ yield_value w) rest)
     ∙ ap skip_fill (value_skipped v (word kind.FillLeft u ∷ (yield_value w ++ rest)))
     ∙ value_skipped w rest
@@ -209,18 +203,18 @@ fills_skipped (right_left t v u w) rest b =
 fills_no_matching : (f : Fills) (rest : List Symbol) → begins rest ≡ true → step.matching (kinds (yield_fills f ++ rest)) ≡ ([], kinds (yield_fills f ++ rest))
 fills_no_matching no_fill rest b = no_matching_at rest b
 fills_no_matching (both t v) rest b = refl
-fills_no_matching (left t v) rest b = refl
-fills_no_matching (right t v) rest b = refl
-fills_no_matching (left_right t v u w) rest b = refl
-fills_no_matching (right_left t v u w) rest b = refl
+fills_no_matching (one true t v) rest b = refl
+fills_no_matching (one false t v) rest b = refl
+fills_no_matching (two true t v u w) rest b = refl
+fills_no_matching (two false t v u w) rest b = refl
 
 fills_no_group : (f : Fills) (rest : List Symbol) → begins rest ≡ true → step.group (kinds (yield_fills f ++ rest)) ≡ ([], kinds (yield_fills f ++ rest))
 fills_no_group no_fill rest b = no_group_at rest b
 fills_no_group (both t v) rest b = refl
-fills_no_group (left t v) rest b = refl
-fills_no_group (right t v) rest b = refl
-fills_no_group (left_right t v u w) rest b = refl
-fills_no_group (right_left t v u w) rest b = refl
+fills_no_group (one true t v) rest b = refl
+fills_no_group (one false t v) rest b = refl
+fills_no_group (two true t v u w) rest b = refl
+fills_no_group (two false t v u w) rest b = refl
 
 -- a parenthesis has no text
 abbrev pub HasNoParenWord : List Symbol → Type 0
@@ -235,76 +229,90 @@ no_labels_at p (word kind.LeftParen t ∷ ts) w h = absurd w
 no_labels_at p (punct k ∷ ts) w h = refl
 no_labels_at p (word k t ∷ ts) w h = refl
 
-bare_fills : (p : PartKind) (k : TokenKind) (t : Text) (f : Fills) (rest : List Symbol) → HasNoParenWord rest → FitsGroup (bare k t) f rest → step.labels p (kinds (yield_fills f ++ rest)) ≡ ([], kinds (yield_fills f ++ rest))
-bare_fills p k t no_fill rest b h = no_labels_at p rest b h
-bare_fills p k t (both u v) rest b h = refl
-bare_fills p k t (left u v) rest b h = refl
-bare_fills p k t (right u v) rest b h = refl
-bare_fills p k t (left_right u v u' w) rest b h = refl
-bare_fills p k t (right_left u v u' w) rest b h = refl
+-- what a grouping word without labels asks of the tokens after the fills
+abbrev FitsGroup : Group → Fills → List Symbol → Type 0
+FitsGroup (bare left t) no_fill rest = OpensNoParen rest
+FitsGroup g f rest = Unit {0}
+
+fits_group : (on : Bool) (t : Text) (ls : Labels) (g : Group) (f : Fills) (rest : List Symbol) → FitsMatching (matching on t ls g) f rest → FitsGroup g f rest
+fits_group on t ls (bare left u) no_fill rest h = h
+fits_group on t ls g f rest h = tt
+
+bare_fills : (p : PartKind) (left : Bool) (t : Text) (f : Fills) (rest : List Symbol) → HasNoParenWord rest → FitsGroup (bare left t) f rest → step.labels p (kinds (yield_fills f ++ rest)) ≡ ([], kinds (yield_fills f ++ rest))
+bare_fills p left t no_fill rest b h = no_labels_at p rest b h
+bare_fills p left t (both u v) rest b h = refl
+bare_fills p left t (one true u v) rest b h = refl
+bare_fills p left t (one false u v) rest b h = refl
+bare_fills p left t (two true u v u' w) rest b h = refl
+bare_fills p left t (two false u v u' w) rest b h = refl
 
 group_taken : (g : Group) (f : Fills) (rest : List Symbol) → IsGroup g → begins rest ≡ true → HasNoParenWord rest → FitsGroup g f rest
     → step.group (kinds (yield_group g ++ (yield_fills f ++ rest))) ≡ (spans (group_parts (length (yield_fills f ++ rest)) g), kinds (yield_fills f ++ rest))
 group_taken no_group f rest h b p k = fills_no_group f rest b
-group_taken (bare w t) f rest h b p k = if_true _ _ _ h ∙ bare_fills part.GroupLabel w t f rest p k
-group_taken (listed w t ls) f rest h b p k = if_true _ _ _ h.0 ∙ labels_taken part.GroupLabel ls (yield_fills f ++ rest) h.1
+group_taken (bare true t) f rest h b p k = bare_fills part.GroupLabel true t f rest p k
+group_taken (bare false t) f rest h b p k = bare_fills part.GroupLabel false t f rest p k
+group_taken (listed true t ls) f rest h b p k = labels_taken part.GroupLabel ls (yield_fills f ++ rest) h
+group_taken (listed false t ls) f rest h b p k = labels_taken part.GroupLabel ls (yield_fills f ++ rest) h
+
+-- a matching word is taken with what follows it
+matching_word : (on : Bool) (t : Text) (ts : List Symbol) → step.matching (kinds (word (if on then kind.On else kind.Ignoring) t ∷ ts)) ≡ and_then (step.labels part.Label (kinds ts)) step.group
+matching_word true t ts = refl
+matching_word false t ts = refl
 
 matching_taken : (m : Matching) (f : Fills) (rest : List Symbol) → IsMatching m → begins rest ≡ true → HasNoParenWord rest → FitsMatching m f rest
     → step.matching (kinds (yield_matching m ++ (yield_fills f ++ rest))) ≡ (spans (matching_parts (length (yield_fills f ++ rest)) m), kinds (yield_fills f ++ rest))
 matching_taken no_matching f rest h b p k = fills_no_matching f rest b
-matching_taken (matching w t ls g) f rest h b p k =
+matching_taken (matching on t ls g) f rest h b p k =
     let after = yield_fills f ++ rest in
-    if_true _ _ _ h.0
+    matching_word on t ((yield_labels ls ++ yield_group g) ++ after)
     ∙ ap (λ ts. and_then (step.labels part.Label (kinds ts)) step.group) (append_assoc (yield_labels ls) (yield_group g) after)
-    ∙ ap (λ r. and_then r step.group) (labels_taken part.Label ls (yield_group g ++ after) h.1)
+    ∙ ap (λ r. and_then r step.group) (labels_taken part.Label ls (yield_group g ++ after) h.0)
     ∙ ap (λ n. and_then (spans (label_parts part.Label n ls), kinds (yield_group g ++ after)) step.group) (length-append (yield_group g) after)
-    ∙ ap (λ (r : Taken). (let q : Taken = (spans (label_parts part.Label (length (yield_group g) + length after) ls) ++ r.0, r.1) in q)) (group_taken g f rest h.2 b p k)
+    ∙ ap (λ (r : Taken). (let q : Taken = (spans (label_parts part.Label (length (yield_group g) + length after) ls) ++ r.0, r.1) in q)) (group_taken g f rest h.1 b p (fits_group on t ls g f rest k))
     ∙ ap (λ l. (let q : Taken = (l, kinds after) in q)) (sym (spans_joined (label_parts part.Label (length (yield_group g) + length after) ls) (group_parts (length after) g)))
 
 no_flag_fills : (f : Fills) (rest : List Symbol) → begins rest ≡ true → skip_flag (kinds (yield_fills f ++ rest)) ≡ kinds (yield_fills f ++ rest)
 no_flag_fills no_fill rest b = no_flag rest b
 no_flag_fills (both t v) rest b = refl
-no_flag_fills (left t v) rest b = refl
-no_flag_fills (right t v) rest b = refl
-no_flag_fills (left_right t v u w) rest b = refl
-no_flag_fills (right_left t v u w) rest b = refl
+no_flag_fills (one true t v) rest b = refl
+no_flag_fills (one false t v) rest b = refl
+no_flag_fills (two true t v u w) rest b = refl
+no_flag_fills (two false t v u w) rest b = refl
 
-matching_no_flag : (k : TokenKind) → is_matching_word k ≡ true → is_flag k ≡ false
-matching_no_flag kind.Bool h = cc
-matching_no_flag k h = refl
+no_flag_matching : (m : Matching) (f : Fills) (rest : List Symbol) → begins rest ≡ true → skip_flag (kinds (yield_matching m ++ (yield_fills f ++ rest))) ≡ kinds (yield_matching m ++ (yield_fills f ++ rest))
+no_flag_matching no_matching f rest b = no_flag_fills f rest b
+no_flag_matching (matching true t ls g) f rest b = refl
+no_flag_matching (matching false t ls g) f rest b = refl
 
-no_flag_matching : (m : Matching) (f : Fills) (rest : List Symbol) → IsMatching m → begins rest ≡ true → skip_flag (kinds (yield_matching m ++ (yield_fills f ++ rest))) ≡ kinds (yield_matching m ++ (yield_fills f ++ rest))
-no_flag_matching no_matching f rest h b = no_flag_fills f rest b
-no_flag_matching (matching w t ls g) f rest h b = if_false _ _ _ (matching_no_flag w h.0)
-
-flag_skipped : (flag : Option Text) (m : Matching) (f : Fills) (rest : List Symbol) → IsMatching m → begins rest ≡ true → skip_flag (kinds (yield_flag flag ++ (yield_matching m ++ (yield_fills f ++ rest)))) ≡ kinds (yield_matching m ++ (yield_fills f ++ rest))
-flag_skipped None m f rest h b = no_flag_matching m f rest h b
-flag_skipped (Some t) m f rest h b = refl
+flag_skipped : (flag : Option Text) (m : Matching) (f : Fills) (rest : List Symbol) → begins rest ≡ true → skip_flag (kinds (yield_flag flag ++ (yield_matching m ++ (yield_fills f ++ rest)))) ≡ kinds (yield_matching m ++ (yield_fills f ++ rest))
+flag_skipped None m f rest b = no_flag_matching m f rest b
+flag_skipped (Some t) m f rest b = refl
 
 modifier_parts : (flag : Option Text) (m : Matching) (f : Fills) (rest : List Symbol) → (yield_flag flag ++ (yield_matching m ++ yield_fills f)) ++ rest ≡ yield_flag flag ++ (yield_matching m ++ (yield_fills f ++ rest))
 modifier_parts flag m f rest = simp append_assoc
 
-pub operator_taken : (m : Modifier) (op : ℕ) (t : Text) (rest : List Symbol) → IsModifier m → begins rest ≡ true → HasNoParenWord rest → FitsMatching m.matching m.fills rest
+pub operator_taken : (m : Modifier) (op : ℕ) (t : Text) (rest : List Symbol) → IsMatching m.matching → begins rest ≡ true → HasNoParenWord rest → FitsMatching m.matching m.fills rest
     → step.operator (kinds (word (kind.Operator op) t ∷ (yield_modifier m ++ rest))) ≡ (spans (piece part.Operator 1 (length (yield_modifier m) + length rest) ∷ matching_parts (length (yield_fills m.fills) + length rest) m.matching), kinds rest)
 operator_taken m op t rest h b p k =
     let n = kinds_count (yield_modifier m) rest in
     let own = span_is part.Operator (length (kinds (word (kind.Operator op) t ∷ (yield_modifier m ++ rest)))) (length (kinds (yield_modifier m ++ rest))) 1 (length (yield_modifier m) + length rest) (omega arith) (omega arith) in
     first_is _ _ _ _ own (filled m rest h b p k)
   where
-    filled : (m : Modifier) (rest : List Symbol) → IsModifier m → begins rest ≡ true → HasNoParenWord rest → FitsMatching m.matching m.fills rest
+    filled : (m : Modifier) (rest : List Symbol) → IsMatching m.matching → begins rest ≡ true → HasNoParenWord rest → FitsMatching m.matching m.fills rest
         → (let r = step.matching (skip_flag (kinds (yield_modifier m ++ rest))) in let q : Taken = (r.0, skip_fill (skip_fill r.1)) in q) ≡ (spans (matching_parts (length (yield_fills m.fills) + length rest) m.matching), kinds rest)
     filled m rest h b p k =
         ap (λ ts. (let r = step.matching (skip_flag (kinds ts)) in let q : Taken = (r.0, skip_fill (skip_fill r.1)) in q)) (modifier_parts m.flag m.matching m.fills rest)
-        ∙ ap (λ ks. (let r = step.matching ks in let q : Taken = (r.0, skip_fill (skip_fill r.1)) in q)) (flag_skipped m.flag m.matching m.fills rest h.0 b)
-        ∙ ap (λ (r : Taken). (let q : Taken = (r.0, skip_fill (skip_fill r.1)) in q)) (matching_taken m.matching m.fills rest h.0 b p k)
+        ∙ ap (λ ks. (let r = step.matching ks in let q : Taken = (r.0, skip_fill (skip_fill r.1)) in q)) (flag_skipped m.flag m.matching m.fills rest b)
+        ∙ ap (λ (r : Taken). (let q : Taken = (r.0, skip_fill (skip_fill r.1)) in q)) (matching_taken m.matching m.fills rest h b p k)
         ∙ ap (λ n. (let q : Taken = (spans (matching_parts n m.matching), skip_fill (skip_fill (kinds (yield_fills m.fills ++ rest)))) in q)) (length-append (yield_fills m.fills) rest)
         ∙ ap (λ ks. (let q : Taken = (spans (matching_parts (length (yield_fills m.fills) + length rest) m.matching), ks) in q)) (fills_skipped m.fills rest b)
 
 -- ---- postfixes that leave no node
 
-value_signed : (s : Signed) (p : PartKind) (n : ℕ) (rest : List Symbol) → IsSigned s → step.shift_value p n (kinds (yield_signed s ++ rest)) ≡ step.shift_value p n (kinds rest)
-value_signed unsigned p n rest h = refl
-value_signed (signed op t) p n rest h = if_true _ _ _ h
+value_signed : (s : Signed) (p : PartKind) (n : ℕ) (rest : List Symbol) → step.shift_value p n (kinds (yield_signed s ++ rest)) ≡ step.shift_value p n (kinds rest)
+value_signed unsigned p n rest = refl
+value_signed (signed true t) p n rest = refl
+value_signed (signed false t) p n rest = refl
 
 value_time : (t : Time) (p : PartKind) (n : ℕ) (rest : List Symbol) → step.shift_value p n (kinds (yield_time t ++ rest)) ≡ also (p, (n, length (kinds rest))) (step.shifts (kinds rest))
 value_time (seconds t) p n rest = refl
@@ -317,26 +325,24 @@ IsShift (subquery t s) = ⊥
 IsShift p = Unit {0}
 
 -- its tokens, as a part
-spelled_taken : (p : Postfix) (rest : List Symbol) → IsPostfix p → IsShift p
+spelled_taken : (p : Postfix) (rest : List Symbol) → IsShift p
     → step.shifts (kinds (yield_postfix p ++ rest)) ≡ also (postfix_kind p, (length (kinds (yield_postfix p ++ rest)), length (kinds rest))) (step.shifts (kinds rest))
-spelled_taken (range t) rest h k = absurd k
-spelled_taken (subquery t s) rest h k = absurd k
-spelled_taken (at_number s t) rest h k =
+spelled_taken (range t) rest k = absurd k
+spelled_taken (subquery t s) rest k = absurd k
+spelled_taken (at_number s t) rest k =
     let n = length (kinds (yield_postfix (at_number s t) ++ rest)) in
-    ap (λ ts. step.shift_value part.At n (kinds ts)) (append_assoc (yield_signed s) (word kind.Number t ∷ []) rest) ∙ value_signed s part.At n (word kind.Number t ∷ rest) h
-spelled_taken (at_bound kind.Start t) rest h k = refl
-spelled_taken (at_bound kind.End t) rest h k = refl
-spelled_taken (at_bound w t) rest h k = cc
-spelled_taken (offset t s u) rest h k =
+    ap (λ ts. step.shift_value part.At n (kinds ts)) (append_assoc (yield_signed s) (word kind.Number t ∷ []) rest) ∙ value_signed s part.At n (word kind.Number t ∷ rest)
+spelled_taken (at_bound true t) rest k = refl
+spelled_taken (at_bound false t) rest k = refl
+spelled_taken (offset t s u) rest k =
     let n = length (kinds (yield_postfix (offset t s u) ++ rest)) in
-    ap (λ ts. step.shift_value part.Offset n (kinds ts)) (append_assoc (yield_signed s) (yield_time u) rest) ∙ value_signed s part.Offset n (yield_time u ++ rest) h ∙ value_time u part.Offset n rest
-spelled_taken (mode kind.Smoothed t) rest h k = refl
-spelled_taken (mode kind.Anchored t) rest h k = refl
-spelled_taken (mode w t) rest h k = cc
+    ap (λ ts. step.shift_value part.Offset n (kinds ts)) (append_assoc (yield_signed s) (yield_time u) rest) ∙ value_signed s part.Offset n (yield_time u ++ rest) ∙ value_time u part.Offset n rest
+spelled_taken (mode true t) rest k = refl
+spelled_taken (mode false t) rest k = refl
 
 pub postfix_is : (p : Postfix) (rest : List Symbol) → (let s : PartSpan = (postfix_kind p, (length (kinds (yield_postfix p ++ rest)), length (kinds rest))) in s) ≡ span_of (piece (postfix_kind p) (length (yield_postfix p)) (length rest))
 postfix_is p rest = span_is (postfix_kind p) _ _ (length (yield_postfix p)) (length rest) (kinds_count (yield_postfix p) rest) (kinds_length rest)
 
-pub shift_taken : (p : Postfix) (rest : List Symbol) → IsPostfix p → IsShift p
+pub shift_taken : (p : Postfix) (rest : List Symbol) → IsShift p
     → step.shifts (kinds (yield_postfix p ++ rest)) ≡ also (span_of (piece (postfix_kind p) (length (yield_postfix p)) (length rest))) (step.shifts (kinds rest))
-shift_taken p rest h k = spelled_taken p rest h k ∙ ap (λ x. also x (step.shifts (kinds rest))) (postfix_is p rest)
+shift_taken p rest k = spelled_taken p rest k ∙ ap (λ x. also x (step.shifts (kinds rest))) (postfix_is p rest)

@@ -5,7 +5,7 @@ use Rattle.std.specs.Option.{option_map_or}
 use Rattle.promql_text.specs.Texts.{Text}
 use Rattle.promql_grammar.specs.Grammar as grammar
 use Rattle.promql_grammar.specs.Grammar.{Derivation, yield, yield_arguments}
-use Rattle.promql_grammar.specs.GrammarParts.{Names, last, last_comma, next, Labels, no_label, labels, Grouping, by, without, Clause, before, after, Group, listed, Matching, no_matching, matching, Items, last_item, last_item_comma, next_item, Braces, no_item, items, Postfix, range, subquery, at_number, at_bound, offset, mode, yield_names, yield_before, yield_after, yield_group, yield_fills, yield_modifier, yield_item, yield_items, yield_any_braces, yield_postfix}
+use Rattle.promql_grammar.specs.GrammarParts.{Labels, no_label, last, next, grouping, Clause, before, after, Group, listed, Matching, no_matching, matching, Items, last_item, last_item_comma, next_item, Braces, no_item, items, Postfix, range, subquery, offset, mode, yield_names, yield_before, yield_after, yield_group, yield_fills, yield_modifier, yield_item, yield_items, yield_any_braces, yield_postfix}
 use Rattle.promql_ast.specs.Tree.{Tree}
 use Rattle.promql_syntax.specs.FaultTokens.{Subexpression}
 use Rattle.promql_syntax.specs.ParseAnswers.{Derives}
@@ -27,26 +27,18 @@ piece p n k = record { kind = p; count = n; after = k }
 -- ---- the parts of what k tokens come after
 
 -- labels in parentheses
-abbrev pub name_parts : PartKind → ℕ → Names → List PartTokens
-name_parts p k (last w text) = piece p 1 (1 + k) ∷ []
-name_parts p k (last_comma w text) = piece p 1 (2 + k) ∷ []
-name_parts p k (next w text names) = piece p 1 (1 + (length (yield_names names) + k)) ∷ name_parts p k names
-
 abbrev pub label_parts : PartKind → ℕ → Labels → List PartTokens
 label_parts p k no_label = []
-label_parts p k (labels names) = name_parts p k names
+label_parts p k (last w text) = piece p 1 (1 + k) ∷ []
+label_parts p k (next w text ls) = piece p 1 (1 + (length (yield_names ls) + k)) ∷ label_parts p k ls
 
 -- the clause of an aggregation
-abbrev pub grouping_parts : ℕ → Grouping → List PartTokens
-grouping_parts k (by text ls) = label_parts kind.Label k ls
-grouping_parts k (without text ls) = label_parts kind.Label k ls
-
 abbrev pub before_parts : ℕ → Clause → List PartTokens
-before_parts k (before g) = grouping_parts k g
+before_parts k (before (grouping by text ls)) = label_parts kind.Label k ls
 before_parts k c = []
 
 abbrev pub after_parts : ℕ → Clause → List PartTokens
-after_parts k (after g) = grouping_parts k g
+after_parts k (after (grouping by text ls)) = label_parts kind.Label k ls
 after_parts k c = []
 
 -- the modifier of an operator
@@ -71,10 +63,9 @@ matcher_parts k (items is) = item_parts k is
 abbrev pub postfix_kind : Postfix → PartKind
 postfix_kind (range t) = kind.Range
 postfix_kind (subquery t s) = kind.Range
-postfix_kind (at_number s text) = kind.At
-postfix_kind (at_bound w text) = kind.At
 postfix_kind (offset text s t) = kind.Offset
-postfix_kind (mode w text) = kind.Mode
+postfix_kind (mode smoothed text) = kind.Mode
+postfix_kind p = kind.At
 
 -- a selector is a part of its own before a range, and a node before that of a subquery
 abbrev pub base_parts : Postfix → PartTokens → List PartTokens → List PartTokens

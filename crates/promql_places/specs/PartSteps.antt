@@ -4,9 +4,8 @@ use Rattle.std.specs.Prelude.{◌≡◌, ℕ, Bool, if◌then◌else◌, List, [
 use Rattle.promql_text.specs.Texts.{Text}
 use Rattle.promql_grammar.specs.declared.token_kinds.TokenKind.{TokenKind}
 use Rattle.promql_grammar.specs.declared.token_kinds.TokenKind.TheVariants as kind
-use Rattle.promql_grammar.specs.GrammarParts.{is_bound_word, is_group_word, is_matching_word}
 use Rattle.promql_places.specs.CursorTokens.{IsOver, kinds_left, span_in}
-use Rattle.promql_places.specs.Skipping.{front, is_closing, is_grouping_word, is_left_brace, is_left_paren, is_mode, is_separator, is_shift_word, is_sign, skip_brackets, skip_fill, skip_flag, skip_item, skip_pluses, skip_separator, skip_shift, skip_signs}
+use Rattle.promql_places.specs.Skipping.{front, is_bound_word, is_closing, is_group_word, is_grouping_word, is_left_brace, is_left_paren, is_matching_word, is_mode, is_separator, is_shift_word, is_sign, skip_brackets, skip_fill, skip_flag, skip_item, skip_pluses, skip_separator, skip_shift, skip_signs}
 use Rattle.promql_places.specs.declared.parts.Part.{Part}
 use Rattle.promql_places.specs.declared.parts.PartKind.{PartKind}
 use Rattle.promql_places.specs.declared.parts.PartKind.TheVariants as part

@@ -3,7 +3,6 @@ use Rattle.std.specs.Prelude.{ℕ, Bool, true, false, ◌==◌, if◌then◌else
 use Rattle.promql_token.specs.declared.ids.TheConstants.{T_ADD, T_LOR, T_POW}
 use Rattle.promql_grammar.specs.declared.token_kinds.TokenKind.{TokenKind}
 use Rattle.promql_grammar.specs.declared.token_kinds.TokenKind.TheVariants as kind
-use Rattle.promql_grammar.specs.GrammarParts.{is_bound_word}
 use Rattle.promql_grammar.specs.Symbols.{Symbol, punct, word, is_plus_or_minus}
 
 -- the kind of a symbol
@@ -28,6 +27,22 @@ is_sign _ = false
 abbrev pub is_plus : TokenKind → Bool
 is_plus (kind.Operator op) = op == T_ADD
 is_plus _ = false
+
+-- the words of `@`, of matching and of grouping
+abbrev pub is_bound_word : TokenKind → Bool
+is_bound_word kind.Start = true
+is_bound_word kind.End = true
+is_bound_word _ = false
+
+abbrev pub is_matching_word : TokenKind → Bool
+is_matching_word kind.On = true
+is_matching_word kind.Ignoring = true
+is_matching_word _ = false
+
+abbrev pub is_group_word : TokenKind → Bool
+is_group_word kind.GroupLeft = true
+is_group_word kind.GroupRight = true
+is_group_word _ = false
 
 abbrev pub is_closing : TokenKind → Bool
 is_closing kind.RightParen = true

@@ -1,7 +1,6 @@
 //! Kinds of tokens that begin or end a part of an expression.
 
 ghost use Rattle.std.specs.Prelude.{◌≡◌};
-ghost use Rattle.promql_grammar.specs.GrammarParts as parts;
 ghost use Rattle.promql_places.specs.PartSteps as step;
 ghost use Rattle.promql_places.specs.Skipping as spec;
 
@@ -59,14 +58,14 @@ pub fn is_flag(kind: TokenKind) -> bool
 
 /// `on` and `ignoring`.
 pub fn is_matching_word(kind: TokenKind) -> bool
-    ensures { result ≡ parts.is_matching_word kind }
+    ensures { result ≡ spec.is_matching_word kind }
 {
     matches!(kind, TokenKind::On | TokenKind::Ignoring)
 }
 
 /// `group_left` and `group_right`.
 pub fn is_group_word(kind: TokenKind) -> bool
-    ensures { result ≡ parts.is_group_word kind }
+    ensures { result ≡ spec.is_group_word kind }
 {
     matches!(kind, TokenKind::GroupLeft | TokenKind::GroupRight)
 }
@@ -115,7 +114,7 @@ pub fn shift_kind(kind: TokenKind) -> PartKind
 
 /// `start` and `end`.
 pub fn is_bound_word(kind: TokenKind) -> bool
-    ensures { result ≡ parts.is_bound_word kind }
+    ensures { result ≡ spec.is_bound_word kind }
 {
     matches!(kind, TokenKind::Start | TokenKind::End)
 }

@@ -22,8 +22,10 @@ use Rattle.promql_ast.specs.check.BinaryChecks.{checked_binary, settle_matching,
 use Rattle.promql_ast.specs.declared.range_mode.RangeMode.{RangeMode}
 use Rattle.promql_ast.specs.declared.range_mode.RangeMode.TheVariants.{Plain}
 use Rattle.promql_syntax.specs.Asking.{gives, ◌giving◌, known, under}
-use Rattle.promql_syntax.specs.Building.{bound_moment, build, build_all, build_call, from_verdict, from_checked_verdict, range_mode, selector_tree, build_postfix, build_unary}
-use Rattle.promql_syntax.specs.PartBuilding.{any_braces_value, braces_value, clause_value, duration_value, modifier_value, moment_value, number_value, shift_value, step_value, string_value, time_value}
+use Rattle.promql_syntax.specs.Building.{build, build_all, build_call, from_verdict, from_checked_verdict, selector_tree, build_postfix, build_unary}
+use Rattle.promql_syntax.specs.Postfixes.{bound_moment, range_mode}
+use Rattle.promql_syntax.specs.PartBuilding.{braces_value, clause_value, duration_value, modifier_value, moment_value, number_value, shift_value, step_value, string_value, time_value}
+use Rattle.promql_syntax.specs.Atoms.{any_braces_value}
 use Rattle.promql_syntax.proofs.CanonicalNodes.{selector_passes}
 use Rattle.promql_syntax.proofs.CheckedAgain.{aggregate_again, aggregates, arguments, call_again, same_tree, subquery_again, unary_again}
 use Rattle.promql_syntax.proofs.PrintedModifiers.{IsWritten, binary_checked, modifier_is}

@@ -22,8 +22,10 @@ use Rattle.promql_ast.specs.Selectors.{selector}
 use Rattle.promql_ast.specs.Tree.{Tree, aggregate, unary, binary, paren, subquery, number, string, vector, matrix, call, Trees, first_tree}
 use Rattle.promql_ast.specs.check.BinaryChecks.{checked_binary}
 use Rattle.promql_syntax.specs.Asking.{gives, ◌giving◌, known, under}
-use Rattle.promql_syntax.specs.Building.{bound_moment, build, build_all, build_call, from_verdict, from_checked_verdict, range_mode, selector_tree, build_postfix, build_unary}
-use Rattle.promql_syntax.specs.PartBuilding.{any_braces_value, braces_value, clause_value, duration_value, modifier_value, moment_value, number_value, shift_value, step_value, string_value, time_value}
+use Rattle.promql_syntax.specs.Building.{build, build_all, build_call, from_verdict, from_checked_verdict, selector_tree, build_postfix, build_unary}
+use Rattle.promql_syntax.specs.Postfixes.{bound_moment, range_mode}
+use Rattle.promql_syntax.specs.PartBuilding.{braces_value, clause_value, duration_value, modifier_value, moment_value, number_value, shift_value, step_value, string_value, time_value}
+use Rattle.promql_syntax.specs.Atoms.{any_braces_value}
 use Rattle.promql_syntax.proofs.Derive.{AllHaveWords, HasWords, IsName}
 use Rattle.promql_syntax.proofs.Canonical.{AllKept, Canon, Keeps, canon_at, canon_mode, canon_offset, core, some_height, whole}
 use Rattle.promql_syntax.proofs.CanonicalNodes.{all_more, all_none, keeps_aggregate, keeps_binary, keeps_call, keeps_minus, keeps_named, keeps_nameless, keeps_number, keeps_paren, keeps_plus, keeps_range, keeps_subquery, selector_passes, selects}
@@ -144,7 +146,7 @@ module _ (g : Text → Answer) (c : PlainMatcher) (answered : IsAnswered g c) (o
         let cs = giving_steps g (any_braces_value b) (λ cs. selector_tree (Some text) cs) t e in
         let passed = selector_passes g (Some text) cs.value t (passing_passes g _ t cs.leads) in
         kept_selector (grammar.selector k text b) (Some text) cs.value t
-        (keeps_named g (grammar.selector k text b) text (enforced_matchers c cs.value) w.letters (subst (λ x. may_be_name x ≡ true) w.kind h.0) (enforced_stand g c answered cs.value (any_braces_are g b cs.value cs.is)) (name_passes c other (Some text) cs.value passed.0)) passed.1
+        (keeps_named g (grammar.selector k text b) text (enforced_matchers c cs.value) w.letters (subst (λ x. may_be_name x ≡ true) w.kind h) (enforced_stand g c answered cs.value (any_braces_are g b cs.value cs.is)) (name_passes c other (Some text) cs.value passed.0)) passed.1
     canon_enforced (grammar.nameless b) t h w e =
         let cs = giving_steps g (braces_value b) (λ cs. selector_tree None cs) t e in
         let passed = selector_passes g None cs.value t (passing_passes g _ t cs.leads) in

@@ -26,7 +26,8 @@ use Rattle.promql_ast.specs.declared.range_mode.RangeMode.TheVariants.{Plain, Sm
 use Rattle.promql_ast.proofs.PrintedMoments.{millis_fits}
 use Rattle.promql_syntax.specs.Asking.{Asking, gives, fails, asks, under}
 use Rattle.promql_syntax.specs.Building.{build}
-use Rattle.promql_syntax.specs.PartBuilding.{at_fault, pattern_operator, signed_number}
+use Rattle.promql_syntax.specs.PartBuilding.{pattern_operator, signed_number}
+use Rattle.promql_syntax.specs.Postfixes.{at_fault}
 use Rattle.promql_syntax.specs.ParseAnswers.{HasTree}
 use Rattle.promql_syntax.proofs.Canonical.{open_most, some_height}
 use Rattle.promql_syntax.proofs.CanonicalTrees.{keeps}
@@ -228,7 +229,7 @@ module _ (g : Text → Answer) where
   -- ---- selectors
 
   name_printable : (name : Option Text) (cs : PlainMatchers) → IsSelecting g name cs → IsWellFormed (derive_base name (braces cs)) → PrintableName name × PrintableMatchers g cs
-  name_printable (Some name) cs h formed = ((h.0, kind_name name formed.0), matchers_printable cs h.1)
+  name_printable (Some name) cs h formed = ((h.0, kind_name name formed), matchers_printable cs h.1)
   name_printable None cs h formed = (tt, matchers_printable cs (any_matchers g cs h))
 
   vector_printable : (s : Selector) → Printable g (vector s) → IsWellFormed (derive_selector s) → PrintableSelector g s

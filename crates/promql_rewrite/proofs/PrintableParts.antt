@@ -21,7 +21,8 @@ use Rattle.promql_ast.specs.check.BinaryChecks.{settle_matching, settled_set}
 use Rattle.promql_ast.proofs.PrintedMoments.{size_reads}
 use Rattle.promql_syntax.specs.Asking.{under}
 use Rattle.promql_syntax.specs.BuildErrors as errors
-use Rattle.promql_syntax.specs.PartBuilding.{at_fault, number_value, pattern_operator, signed_number, on_error}
+use Rattle.promql_syntax.specs.PartBuilding.{number_value, pattern_operator, signed_number, on_error}
+use Rattle.promql_syntax.specs.Postfixes.{at_fault}
 use Rattle.promql_syntax.proofs.Printable.{IsAnyMoment, IsMoment, IsShift}
 use Rattle.promql_syntax.proofs.PrintedMatcherLists.{AllStand, AreAnyMatchers, GroupsStand, Stands}
 use Rattle.promql_syntax.proofs.PrintedModifiers.{Alike, AreFills, IsGroupedAfter, IsMatched, IsWritten}

@@ -153,7 +153,7 @@ module _ (g : Text → Answer) where
       let d = grammar.postfixed leaf (part.range some_time) in
       let kept = keeps_range g leaf some_time name cs range (selector_kept name cs h.0 h.1 typed) (is_time range time) in
       let canon : Canon g d (matrix (selector name cs offset at) range mode) = record { kept = kept; suffixes = (is_offset offset h.2, is_at at h.3) } in
-      closed d (matrix (selector name cs offset at) range mode) (tt, tt, tt) tt (whole g d (matrix (selector name cs offset at) range mode) canon) (omega arith)
+      closed d (matrix (selector name cs offset at) range mode) (tt, tt) tt (whole g d (matrix (selector name cs offset at) range mode) canon) (omega arith)
 
   -- ---- parentheses, signs and subqueries
 
@@ -183,7 +183,7 @@ module _ (g : Text → Answer) where
       let again = subquery_again e range step (subquery e None None range step) (subquery_passes e range step typed) in
       let kept = keeps_subquery g p.derivation some_time None e range step p.keeps b (is_time range time) (is_step step times) again.again in
       let canon : Canon g d (subquery e offset at range step) = record { kept = kept; suffixes = (is_offset offset shift, is_at at moment) } in
-      closed d (subquery e offset at range step) (p.formed, b, tt) tt (whole g d (subquery e offset at range step) canon) (omega (arith, p.low))
+      closed d (subquery e offset at range step) (p.formed, b) tt (whole g d (subquery e offset at range step) canon) (omega (arith, p.low))
 
   -- ---- binary expressions
 
@@ -191,7 +191,7 @@ module _ (g : Text → Answer) where
       → Placed l → Placed r → Placed (binary op l r m)
   binary_placed op l r m typed known modifier left right a b =
       let d = grammar.binary op [] no_modifier a.derivation b.derivation in
-      let formed : IsWellFormed d = (a.formed, b.formed, (tt, tt), omega (arith, left, a.wide), b.right op right, tt) in
+      let formed : IsWellFormed d = (a.formed, b.formed, tt, omega (arith, left, a.wide), b.right op right, tt) in
       let t = binary op l r (settle_matching op (written m)) in
       let passed = binary_checked op l r (written m) t (checked_again op l r l r m (written m) (binary op l r (settle_matching op m)) refl refl (written_alike m) (binary_passes op l r m typed)) in
       let kept = keeps_binary g op [] no_modifier a.derivation b.derivation l r (written m) t a.keeps b.keeps formed known (written_matched op m modifier) (is_written m) passed in

@@ -57,7 +57,7 @@ by_tokens name (Ok (t ∷ [])) lexed h =
     let plain = no_punct (token_kind t.0) both.1 in
     let spells : on_result (map symbol_of) (tokens name) ≡ Ok (word (token_kind t.0) name ∷ []) =
     ap (on_result (map symbol_of)) lexed ∙ (λ i. Ok (cond (plain i) (punct (token_kind t.0)) (word (token_kind t.0) (same i)) ∷ [])) in
-    let w = has_words name (grammar.selector (token_kind t.0) name None) (record { formed = (both.1, tt); spells = spells }) in
+    let w = has_words name (grammar.selector (token_kind t.0) name None) (record { formed = both.1; spells = spells }) in
     (w.letters, subst (λ k. may_be_name k ≡ true) w.kind both.1)
 
 pub named_word : (name : Text) → is_name name ≡ true → PrintableName (Some name)

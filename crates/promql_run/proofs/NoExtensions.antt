@@ -26,8 +26,10 @@ use Rattle.promql_ast.specs.declared.range_mode.RangeMode.{RangeMode}
 use Rattle.promql_ast.specs.declared.range_mode.RangeMode.TheVariants.{Plain, Smoothed, Anchored}
 use Rattle.promql_syntax.specs.ParseAnswers.{IsAnswerTo}
 use Rattle.promql_syntax.specs.Asking.{Asking, gives, fails, asks, ◌giving◌, known, Asked, Ends}
-use Rattle.promql_syntax.specs.Building.{build, build_all, from_verdict, from_checked_verdict, build_call, bound_moment, range_mode, build_postfix}
-use Rattle.promql_syntax.specs.PartBuilding.{string_value, number_value, duration_value, time_value, step_value, shift_value, moment_value, clause_value, modifier_value, braces_value, any_braces_value}
+use Rattle.promql_syntax.specs.Building.{build, build_all, from_verdict, from_checked_verdict, build_call, build_postfix}
+use Rattle.promql_syntax.specs.Postfixes.{bound_moment, range_mode}
+use Rattle.promql_syntax.specs.PartBuilding.{string_value, number_value, duration_value, time_value, step_value, shift_value, moment_value, clause_value, modifier_value, braces_value}
+use Rattle.promql_syntax.specs.Atoms.{any_braces_value}
 use Rattle.promql_run.specs.Extensions.{HasNoExtension, NoneInEach}
 
 -- whatever `regex` answers, what is given in the end is one of these

@@ -1,14 +1,15 @@
 -- The grammar does not look at the texts of words: tokens of the same kinds are those of a derivation of the same form.
 use Rattle.std.proofs.Common.{◌≡◌, ℕ, Bool, true, false, List, [], ◌∷◌, ◌++◌, Option, None, Some, refl, sym, ap, ◌∙◌, subst}
-use Rattle.std.specs.Prelude.{min}
+use Rattle.std.specs.Prelude.{min, not, if◌then◌else◌}
 use Rattle.promql_text.specs.Texts.{Text}
-use Rattle.promql_token.specs.declared.ids.TheConstants.{T_NEQ, T_LOR}
+use Rattle.promql_token.specs.declared.ids.TheConstants.{T_NEQ, T_LOR, T_ADD, T_SUB}
 use Rattle.promql_grammar.specs.declared.token_kinds.TokenKind.{TokenKind}
 use Rattle.promql_grammar.specs.declared.token_kinds.TokenKind.TheVariants as kind
 use Rattle.promql_grammar.specs.Symbols.{Symbol, punct, word}
-use Rattle.promql_grammar.specs.GrammarParts.{Time, yield_time, Signed, yield_signed, IsSigned, Names, yield_names, AreLabels, Labels, yield_labels, IsLabels, Grouping, yield_grouping, IsGrouping, Group, yield_group, IsGroup, Matching, yield_matching, IsMatching, FillValue, yield_value, Fills, yield_fills, IsFills, yield_flag, Modifier, yield_modifier, IsModifier, MatchOperator, yield_match_operator, Item, yield_item, IsItem, Separator, yield_separator, Items, yield_items, AreItems, Braces, yield_braces, IsBraces, yield_any_braces, IsAnyBraces, Postfix, yield_postfix, IsPostfix, yield_step}
+use Rattle.promql_grammar.specs.GrammarParts.{Time, yield_time, Signed, yield_signed, Labels, yield_names, yield_labels, IsLabels, Grouping, yield_grouping, Group, yield_group, IsGroup, Matching, yield_matching, IsMatching, FillValue, yield_value, yield_side, Fills, yield_fills, Modifier, yield_modifier, MatchOperator, yield_match_operator, Item, yield_item, name_kind, Separator, yield_separator, Items, yield_items, Braces, yield_braces, yield_any_braces, Postfix, yield_postfix}
+use Rattle.promql_grammar.specs.PartTokens.{IsGrouping, yield_flag, yield_step}
 use Rattle.promql_grammar.specs.GrammarParts as part
-use Rattle.promql_grammar.specs.Grammar.{Derivation, Arguments, IsWellFormed, AreWellFormed, yield, yield_arguments, yield_rest, openness, precedence, FitsLeft, FitsRight, FitsUnary, IsBase, FitsGroup, FitsMatching, OpensNoParen}
+use Rattle.promql_grammar.specs.Grammar.{Derivation, Arguments, IsWellFormed, AreWellFormed, yield, yield_arguments, yield_rest, openness, precedence, FitsLeft, FitsRight, FitsUnary, IsBase, FitsMatching, OpensNoParen}
 use Rattle.promql_grammar.specs.Grammar as form
 
 -- tokens of the same kinds
@@ -82,46 +83,46 @@ record Respelled {X : Type 0} (spell : X → List Symbol) (Is : X → Type 0) (u
   formed : Is it
   spells : spell it ≡ us
 
+-- one of which nothing else is asked
+abbrev Any : {X : Type 0} → X → Type 0
+Any x = Unit {0}
+
 abbrev closing : List Symbol
 closing = punct kind.RightParen ∷ []
 
 parenthesis : (us : List Symbol) → AreAlike closing us → closing ≡ us
 parenthesis us a = let p = first_punct kind.RightParen [] us a in let e = none_alike p.rest p.alike in ap (λ l. punct kind.RightParen ∷ l) (sym e) ∙ sym p.is
 
-time : (t : Time) (us : List Symbol) → AreAlike (yield_time t) us → Respelled yield_time (λ _. Unit {0}) us
+time : (t : Time) (us : List Symbol) → AreAlike (yield_time t) us → Respelled yield_time Any us
 time (part.seconds text) us a = let w = first_word kind.Number text [] us a in let e = none_alike w.rest w.alike in record { it = part.seconds w.text; formed = tt; spells = ap (λ l. word kind.Number w.text ∷ l) (sym e) ∙ sym w.is }
 time (part.duration text) us a = let w = first_word kind.Duration text [] us a in let e = none_alike w.rest w.alike in record { it = part.duration w.text; formed = tt; spells = ap (λ l. word kind.Duration w.text ∷ l) (sym e) ∙ sym w.is }
 
-signed : (s : Signed) (us : List Symbol) → IsSigned s → AreAlike (yield_signed s) us → Respelled yield_signed IsSigned us
-signed part.unsigned us is a = record { it = part.unsigned; formed = tt; spells = sym (none_alike us a) }
-signed (part.signed op text) us is a = let w = first_word (kind.Operator op) text [] us a in let e = none_alike w.rest w.alike in record { it = part.signed op w.text; formed = is; spells = ap (λ l. word (kind.Operator op) w.text ∷ l) (sym e) ∙ sym w.is }
+signed : (s : Signed) (us : List Symbol) → AreAlike (yield_signed s) us → Respelled yield_signed Any us
+signed part.unsigned us a = record { it = part.unsigned; formed = tt; spells = sym (none_alike us a) }
+signed (part.signed minus text) us a =
+    let k = kind.Operator (if minus then T_SUB else T_ADD) in
+    let w = first_word k text [] us a in let e = none_alike w.rest w.alike in
+    record { it = part.signed minus w.text; formed = tt; spells = ap (λ l. word k w.text ∷ l) (sym e) ∙ sym w.is }
 
-names : (n : Names) (us : List Symbol) → AreLabels n → AreAlike (yield_names n) us → Respelled yield_names AreLabels us
+names : (ls : Labels) (us : List Symbol) → IsLabels ls → AreAlike (yield_names ls) us → Respelled yield_names IsLabels us
+names part.no_label us is a = record { it = part.no_label; formed = tt; spells = parenthesis us a }
 names (part.last k text) us is a =
-    let w = first_word k text closing us a in let p = first_punct kind.RightParen [] w.rest w.alike in let e = none_alike p.rest p.alike in
-    record { it = part.last k w.text; formed = is; spells = ap (λ l. word k w.text ∷ punct kind.RightParen ∷ l) (sym e) ∙ ap (λ l. word k w.text ∷ l) (sym p.is) ∙ sym w.is }
-names (part.last_comma k text) us is a =
-    let w = first_word k text (punct kind.Comma ∷ closing) us a in let c = first_punct kind.Comma closing w.rest w.alike in let p = first_punct kind.RightParen [] c.rest c.alike in let e = none_alike p.rest p.alike in
-    record { it = part.last_comma k w.text; formed = is; spells = ap (λ l. word k w.text ∷ punct kind.Comma ∷ l) (ap (λ l. punct kind.RightParen ∷ l) (sym e) ∙ sym p.is) ∙ ap (λ l. word k w.text ∷ l) (sym c.is) ∙ sym w.is }
-names (part.next k text ns) us is a =
-    let w = first_word k text (punct kind.Comma ∷ yield_names ns) us a in let c = first_punct kind.Comma (yield_names ns) w.rest w.alike in let r = names ns c.rest is.1 c.alike in
+    let w = first_word k text closing us a in let e = parenthesis w.rest w.alike in
+    record { it = part.last k w.text; formed = is; spells = ap (λ l. word k w.text ∷ l) e ∙ sym w.is }
+names (part.next k text ls) us is a =
+    let w = first_word k text (punct kind.Comma ∷ yield_names ls) us a in let c = first_punct kind.Comma (yield_names ls) w.rest w.alike in let r = names ls c.rest is.1 c.alike in
     record { it = part.next k w.text r.it; formed = (is.0, r.formed); spells = ap (λ l. word k w.text ∷ punct kind.Comma ∷ l) r.spells ∙ ap (λ l. word k w.text ∷ l) (sym c.is) ∙ sym w.is }
 
 labels : (ls : Labels) (us : List Symbol) → IsLabels ls → AreAlike (yield_labels ls) us → Respelled yield_labels IsLabels us
-labels part.no_label us is a =
-    let p = first_punct kind.LeftParen closing us a in let q = first_punct kind.RightParen [] p.rest p.alike in let e = none_alike q.rest q.alike in
-    record { it = part.no_label; formed = tt; spells = ap (λ l. punct kind.LeftParen ∷ l) (ap (λ l. punct kind.RightParen ∷ l) (sym e) ∙ sym q.is) ∙ sym p.is }
-labels (part.labels ns) us is a =
-    let p = first_punct kind.LeftParen (yield_names ns) us a in let r = names ns p.rest is p.alike in
-    record { it = part.labels r.it; formed = r.formed; spells = ap (λ l. punct kind.LeftParen ∷ l) r.spells ∙ sym p.is }
+labels ls us is a =
+    let p = first_punct kind.LeftParen (yield_names ls) us a in let r = names ls p.rest is p.alike in
+    record { it = r.it; formed = r.formed; spells = ap (λ l. punct kind.LeftParen ∷ l) r.spells ∙ sym p.is }
 
 grouping : (g : Grouping) (us : List Symbol) → IsGrouping g → AreAlike (yield_grouping g) us → Respelled yield_grouping IsGrouping us
-grouping (part.by text ls) us is a =
-    let w = first_word kind.By text (yield_labels ls) us a in let r = labels ls w.rest is w.alike in
-    record { it = part.by w.text r.it; formed = r.formed; spells = ap (λ l. word kind.By w.text ∷ l) r.spells ∙ sym w.is }
-grouping (part.without text ls) us is a =
-    let w = first_word kind.Without text (yield_labels ls) us a in let r = labels ls w.rest is w.alike in
-    record { it = part.without w.text r.it; formed = r.formed; spells = ap (λ l. word kind.Without w.text ∷ l) r.spells ∙ sym w.is }
+grouping (part.grouping by text ls) us is a =
+    let k = if by then kind.By else kind.Without in
+    let w = first_word k text (yield_labels ls) us a in let r = labels ls w.rest is w.alike in
+    record { it = part.grouping by w.text r.it; formed = r.formed; spells = ap (λ l. word k w.text ∷ l) r.spells ∙ sym w.is }
 
 -- whether a grouping word has no labels
 abbrev is_bare : Group → Bool
@@ -130,94 +131,104 @@ is_bare g = false
 
 group : (g : Group) (us : List Symbol) → IsGroup g → AreAlike (yield_group g) us → Respelled yield_group (λ h. IsGroup h × (is_bare g ≡ is_bare h)) us
 group part.no_group us is a = record { it = part.no_group; formed = (tt, refl); spells = sym (none_alike us a) }
-group (part.bare k text) us is a = let w = first_word k text [] us a in let e = none_alike w.rest w.alike in record { it = part.bare k w.text; formed = (is, refl); spells = ap (λ l. word k w.text ∷ l) (sym e) ∙ sym w.is }
-group (part.listed k text ls) us is a =
-    let w = first_word k text (yield_labels ls) us a in let r = labels ls w.rest is.1 w.alike in
-    record { it = part.listed k w.text r.it; formed = ((is.0, r.formed), refl); spells = ap (λ l. word k w.text ∷ l) r.spells ∙ sym w.is }
+group (part.bare left text) us is a =
+    let k = if left then kind.GroupLeft else kind.GroupRight in
+    let w = first_word k text [] us a in let e = none_alike w.rest w.alike in
+    record { it = part.bare left w.text; formed = (tt, refl); spells = ap (λ l. word k w.text ∷ l) (sym e) ∙ sym w.is }
+group (part.listed left text ls) us is a =
+    let k = if left then kind.GroupLeft else kind.GroupRight in
+    let w = first_word k text (yield_labels ls) us a in let r = labels ls w.rest is w.alike in
+    record { it = part.listed left w.text r.it; formed = (r.formed, refl); spells = ap (λ l. word k w.text ∷ l) r.spells ∙ sym w.is }
 
-value : (v : FillValue) (us : List Symbol) → IsSigned v.sign → AreAlike (yield_value v) us → Respelled yield_value (λ w. IsSigned w.sign) us
-value v us is a =
+value : (v : FillValue) (us : List Symbol) → AreAlike (yield_value v) us → Respelled yield_value Any us
+value v us a =
     let number : List Symbol = word kind.Number v.number ∷ closing in
     let p = first_punct kind.LeftParen (yield_signed v.sign ++ number) us a in
     let q = parts (yield_signed v.sign) number p.rest p.alike in
-    let s = signed v.sign q.left is q.left_alike in
+    let s = signed v.sign q.left q.left_alike in
     let w = first_word kind.Number v.number closing q.right q.right_alike in
-    let r = first_punct kind.RightParen [] w.rest w.alike in
-    let e = none_alike r.rest r.alike in
-    let end : word kind.Number w.text ∷ punct kind.RightParen ∷ [] ≡ q.right = ap (λ l. word kind.Number w.text ∷ l) (ap (λ l. punct kind.RightParen ∷ l) (sym e) ∙ sym r.is) ∙ sym w.is in
-    record { it = record { sign = s.it; number = w.text }; formed = s.formed; spells = ap (λ l. punct kind.LeftParen ∷ l) ((λ i. s.spells i ++ end i) ∙ sym q.is) ∙ sym p.is }
+    let e = parenthesis w.rest w.alike in
+    let end : word kind.Number w.text ∷ punct kind.RightParen ∷ [] ≡ q.right = ap (λ l. word kind.Number w.text ∷ l) e ∙ sym w.is in
+    record { it = record { sign = s.it; number = w.text }; formed = tt; spells = ap (λ l. punct kind.LeftParen ∷ l) ((λ i. s.spells i ++ end i) ∙ sym q.is) ∙ sym p.is }
 
 -- whether there are no fill values
 abbrev is_unfilled : Fills → Bool
 is_unfilled part.no_fill = true
 is_unfilled f = false
 
-one_fill : (k : TokenKind) (text : Text) (v : FillValue) (us : List Symbol) → IsSigned v.sign → AreAlike (word k text ∷ yield_value v) us → Respelled (λ (f : Text × FillValue). word k f.0 ∷ yield_value f.1) (λ f. IsSigned f.1.sign) us
-one_fill k text v us is a =
-    let w = first_word k text (yield_value v) us a in let r = value v w.rest is w.alike in
-    record { it = (w.text, r.it); formed = r.formed; spells = ap (λ l. word k w.text ∷ l) r.spells ∙ sym w.is }
+one_fill : (k : TokenKind) (text : Text) (v : FillValue) (us : List Symbol) → AreAlike (word k text ∷ yield_value v) us → Respelled (λ (f : Text × FillValue). word k f.0 ∷ yield_value f.1) Any us
+one_fill k text v us a =
+    let w = first_word k text (yield_value v) us a in let r = value v w.rest w.alike in
+    record { it = (w.text, r.it); formed = tt; spells = ap (λ l. word k w.text ∷ l) r.spells ∙ sym w.is }
 
-two_fills : (k j : TokenKind) (text other : Text) (v x : FillValue) (us : List Symbol) → IsSigned v.sign × IsSigned x.sign → AreAlike (word k text ∷ (yield_value v ++ word j other ∷ yield_value x)) us
-    → Respelled (λ (f : Text × FillValue × Text × FillValue). word k f.0 ∷ (yield_value f.1 ++ word j f.2 ∷ yield_value f.3)) (λ f. IsSigned f.1.sign × IsSigned f.3.sign) us
-two_fills k j text other v x us is a =
-    let second : List Symbol = word j other ∷ yield_value x in
-    let w = first_word k text (yield_value v ++ second) us a in
-    let q = parts (yield_value v) second w.rest w.alike in
-    let l = value v q.left is.0 q.left_alike in
-    let r = one_fill j other x q.right is.1 q.right_alike in
-    record { it = (w.text, l.it, r.it.0, r.it.1); formed = (l.formed, r.formed); spells = ap (λ l. word k w.text ∷ l) ((λ i. l.spells i ++ r.spells i) ∙ sym q.is) ∙ sym w.is }
+side : (left : Bool) (text : Text) (v : FillValue) (us : List Symbol) → AreAlike (yield_side left text v) us → Respelled (λ (f : Text × FillValue). yield_side left f.0 f.1) Any us
+side left text v us a = let r = one_fill (if left then kind.FillLeft else kind.FillRight) text v us a in record { it = r.it; formed = tt; spells = r.spells }
 
-fills : (f : Fills) (us : List Symbol) → IsFills f → AreAlike (yield_fills f) us → Respelled yield_fills (λ h. IsFills h × (is_unfilled f ≡ is_unfilled h)) us
-fills part.no_fill us is a = record { it = part.no_fill; formed = (tt, refl); spells = sym (none_alike us a) }
-fills (part.both text v) us is a = let r = one_fill kind.Fill text v us is a in record { it = part.both r.it.0 r.it.1; formed = (r.formed, refl); spells = r.spells }
-fills (part.left text v) us is a = let r = one_fill kind.FillLeft text v us is a in record { it = part.left r.it.0 r.it.1; formed = (r.formed, refl); spells = r.spells }
-fills (part.right text v) us is a = let r = one_fill kind.FillRight text v us is a in record { it = part.right r.it.0 r.it.1; formed = (r.formed, refl); spells = r.spells }
-fills (part.left_right text v other x) us is a = let r = two_fills kind.FillLeft kind.FillRight text other v x us is a in record { it = part.left_right r.it.0 r.it.1 r.it.2 r.it.3; formed = (r.formed, refl); spells = r.spells }
-fills (part.right_left text v other x) us is a = let r = two_fills kind.FillRight kind.FillLeft text other v x us is a in record { it = part.right_left r.it.0 r.it.1 r.it.2 r.it.3; formed = (r.formed, refl); spells = r.spells }
+fills : (f : Fills) (us : List Symbol) → AreAlike (yield_fills f) us → Respelled yield_fills (λ h. is_unfilled f ≡ is_unfilled h) us
+fills part.no_fill us a = record { it = part.no_fill; formed = refl; spells = sym (none_alike us a) }
+fills (part.both text v) us a = let r = one_fill kind.Fill text v us a in record { it = part.both r.it.0 r.it.1; formed = refl; spells = r.spells }
+fills (part.one left text v) us a = let r = side left text v us a in record { it = part.one left r.it.0 r.it.1; formed = refl; spells = r.spells }
+fills (part.two left text v other x) us a =
+    let q = parts (yield_side left text v) (yield_side (not left) other x) us a in
+    let l = side left text v q.left q.left_alike in
+    let r = side (not left) other x q.right q.right_alike in
+    record { it = part.two left l.it.0 l.it.1 r.it.0 r.it.1; formed = refl; spells = (λ i. l.spells i ++ r.spells i) ∙ sym q.is }
 
-flag : (f : Option Text) (us : List Symbol) → AreAlike (yield_flag f) us → Respelled yield_flag (λ _. Unit {0}) us
+flag : (f : Option Text) (us : List Symbol) → AreAlike (yield_flag f) us → Respelled yield_flag Any us
 flag None us a = record { it = None; formed = tt; spells = sym (none_alike us a) }
 flag (Some text) us a = let w = first_word kind.Bool text [] us a in let e = none_alike w.rest w.alike in record { it = Some w.text; formed = tt; spells = ap (λ l. word kind.Bool w.text ∷ l) (sym e) ∙ sym w.is }
+
+-- what a grouping word without labels asks of a right side
+abbrev FitsGroup : Group → Fills → List Symbol → Type 0
+FitsGroup (part.bare left text) part.no_fill ts = OpensNoParen ts
+FitsGroup g f ts = Unit {0}
+
+to_group : (on : Bool) (text : Text) (ls : Labels) (g : Group) (f : Fills) (ts : List Symbol) → FitsMatching (part.matching on text ls g) f ts → FitsGroup g f ts
+to_group on text ls (part.bare left other) part.no_fill ts fits = fits
+to_group on text ls g f ts fits = tt
+
+from_group : (on : Bool) (text : Text) (ls : Labels) (g : Group) (f : Fills) (ts : List Symbol) → FitsGroup g f ts → FitsMatching (part.matching on text ls g) f ts
+from_group on text ls (part.bare left other) part.no_fill ts fits = fits
+from_group on text ls g f ts fits = tt
 
 -- what a modifier asks of its right side, it asks of one with other texts
 fits_group : (g h : Group) (f e : Fills) (ts : List Symbol) → is_bare g ≡ is_bare h → is_unfilled f ≡ is_unfilled e → FitsGroup g f ts → FitsGroup h e ts
 fits_group g part.no_group f e ts bare unfilled fits = tt
-fits_group g (part.listed k text ls) f e ts bare unfilled fits = tt
-fits_group g (part.bare k text) f (part.both t v) ts bare unfilled fits = tt
-fits_group g (part.bare k text) f (part.left t v) ts bare unfilled fits = tt
-fits_group g (part.bare k text) f (part.right t v) ts bare unfilled fits = tt
-fits_group g (part.bare k text) f (part.left_right t v u w) ts bare unfilled fits = tt
-fits_group g (part.bare k text) f (part.right_left t v u w) ts bare unfilled fits = tt
-fits_group (part.bare j other) (part.bare k text) part.no_fill part.no_fill ts bare unfilled fits = fits
-fits_group part.no_group (part.bare k text) f part.no_fill ts bare unfilled fits = cc
-fits_group (part.listed j other ls) (part.bare k text) f part.no_fill ts bare unfilled fits = cc
-fits_group (part.bare j other) (part.bare k text) f part.no_fill ts bare unfilled fits = cc
+fits_group g (part.listed left text ls) f e ts bare unfilled fits = tt
+fits_group g (part.bare left text) f (part.both t v) ts bare unfilled fits = tt
+fits_group g (part.bare left text) f (part.one side t v) ts bare unfilled fits = tt
+fits_group g (part.bare left text) f (part.two side t v u w) ts bare unfilled fits = tt
+fits_group (part.bare right other) (part.bare left text) part.no_fill part.no_fill ts bare unfilled fits = fits
+fits_group part.no_group (part.bare left text) f part.no_fill ts bare unfilled fits = cc
+fits_group (part.listed right other ls) (part.bare left text) f part.no_fill ts bare unfilled fits = cc
+fits_group (part.bare right other) (part.bare left text) f part.no_fill ts bare unfilled fits = cc
 
 matching : (m : Matching) (us : List Symbol) → IsMatching m → AreAlike (yield_matching m) us
     → Respelled yield_matching (λ n. IsMatching n × ((f e : Fills) (ts : List Symbol) → is_unfilled f ≡ is_unfilled e → FitsMatching m f ts → FitsMatching n e ts)) us
 matching part.no_matching us is a = record { it = part.no_matching; formed = (tt, λ f e ts unfilled fits. tt); spells = sym (none_alike us a) }
-matching (part.matching k text ls g) us is a =
+matching (part.matching on text ls g) us is a =
+    let k = if on then kind.On else kind.Ignoring in
     let w = first_word k text (yield_labels ls ++ yield_group g) us a in
     let q = parts (yield_labels ls) (yield_group g) w.rest w.alike in
-    let l = labels ls q.left is.1 q.left_alike in
-    let r = group g q.right is.2 q.right_alike in
+    let l = labels ls q.left is.0 q.left_alike in
+    let r = group g q.right is.1 q.right_alike in
     record {
-      it = part.matching k w.text l.it r.it;
-      formed = ((is.0, l.formed, r.formed.0), λ f e ts unfilled fits. fits_group g r.it f e ts r.formed.1 unfilled fits);
+      it = part.matching on w.text l.it r.it;
+      formed = ((l.formed, r.formed.0), λ f e ts unfilled fits. from_group on w.text l.it r.it e ts (fits_group g r.it f e ts r.formed.1 unfilled (to_group on text ls g f ts fits)));
       spells = ap (λ l. word k w.text ∷ l) ((λ i. l.spells i ++ r.spells i) ∙ sym q.is) ∙ sym w.is;
     }
 
-modifier : (m : Modifier) (us : List Symbol) → IsModifier m → AreAlike (yield_modifier m) us
-    → Respelled yield_modifier (λ n. IsModifier n × ((ts : List Symbol) → FitsMatching m.matching m.fills ts → FitsMatching n.matching n.fills ts)) us
+modifier : (m : Modifier) (us : List Symbol) → IsMatching m.matching → AreAlike (yield_modifier m) us
+    → Respelled yield_modifier (λ n. IsMatching n.matching × ((ts : List Symbol) → FitsMatching m.matching m.fills ts → FitsMatching n.matching n.fills ts)) us
 modifier m us is a =
     let p = parts (yield_flag m.flag) (yield_matching m.matching ++ yield_fills m.fills) us a in
     let q = parts (yield_matching m.matching) (yield_fills m.fills) p.right p.right_alike in
     let b = flag m.flag p.left p.left_alike in
-    let w = matching m.matching q.left is.0 q.left_alike in
-    let f = fills m.fills q.right is.1 q.right_alike in
+    let w = matching m.matching q.left is q.left_alike in
+    let f = fills m.fills q.right q.right_alike in
     record {
       it = record { flag = b.it; matching = w.it; fills = f.it };
-      formed = ((w.formed.0, f.formed.0), λ ts fits. w.formed.1 m.fills f.it ts f.formed.1 fits);
+      formed = (w.formed.0, λ ts fits. w.formed.1 m.fills f.it ts f.formed fits);
       spells = (λ i. b.spells i ++ ((λ j. w.spells j ++ f.spells j) ∙ sym q.is) i) ∙ sym p.is;
     }
 
@@ -231,73 +242,74 @@ separator : (s : Separator) (ts us : List Symbol) → AreAlike (yield_separator 
 separator part.comma ts us a = let p = first_punct kind.Comma ts us a in (part.comma, p.rest, p.is, p.alike)
 separator (part.or text) ts us a = let w = first_word (kind.Operator T_LOR) text ts us a in (part.or w.text, w.rest, w.is, w.alike)
 
-item : (i : Item) (us : List Symbol) → IsItem i → AreAlike (yield_item i) us → Respelled yield_item IsItem us
-item (part.matcher k text s value) us is a =
+item : (i : Item) (us : List Symbol) → AreAlike (yield_item i) us → Respelled yield_item Any us
+item (part.matcher quoted text s value) us a =
+    let k = name_kind quoted in
     let string : List Symbol = word kind.String value ∷ [] in
     let w = first_word k text (yield_match_operator s ∷ string) us a in
     let o = match_operator s string w.rest w.alike in
     let v = first_word kind.String value [] o.1 o.3 in
     let e = none_alike v.rest v.alike in
     record {
-      it = part.matcher k w.text o.0 v.text;
-      formed = is;
+      it = part.matcher quoted w.text o.0 v.text;
+      formed = tt;
       spells = ap (λ l. word k w.text ∷ l) (ap (λ l. yield_match_operator o.0 ∷ l) (ap (λ l. word kind.String v.text ∷ l) (sym e) ∙ sym v.is) ∙ sym o.2) ∙ sym w.is;
     }
-item (part.lone text) us is a = let w = first_word kind.String text [] us a in let e = none_alike w.rest w.alike in record { it = part.lone w.text; formed = tt; spells = ap (λ l. word kind.String w.text ∷ l) (sym e) ∙ sym w.is }
+item (part.lone text) us a = let w = first_word kind.String text [] us a in let e = none_alike w.rest w.alike in record { it = part.lone w.text; formed = tt; spells = ap (λ l. word kind.String w.text ∷ l) (sym e) ∙ sym w.is }
 
-items : (is : Items) (us : List Symbol) → AreItems is → AreAlike (yield_items is) us → Respelled yield_items AreItems us
-items (part.last_item i) us formed a =
+items : (is : Items) (us : List Symbol) → AreAlike (yield_items is) us → Respelled yield_items Any us
+items (part.last_item i) us a =
     let q = parts (yield_item i) (punct kind.RightBrace ∷ []) us a in
-    let r = item i q.left formed q.left_alike in
+    let r = item i q.left q.left_alike in
     let p = first_punct kind.RightBrace [] q.right q.right_alike in
     let e = none_alike p.rest p.alike in
     let end : punct kind.RightBrace ∷ [] ≡ q.right = ap (λ l. punct kind.RightBrace ∷ l) (sym e) ∙ sym p.is in
-    record { it = part.last_item r.it; formed = r.formed; spells = (λ j. r.spells j ++ end j) ∙ sym q.is }
-items (part.last_item_comma i) us formed a =
+    record { it = part.last_item r.it; formed = tt; spells = (λ j. r.spells j ++ end j) ∙ sym q.is }
+items (part.last_item_comma i) us a =
     let close : List Symbol = punct kind.RightBrace ∷ [] in
     let q = parts (yield_item i) (punct kind.Comma ∷ close) us a in
-    let r = item i q.left formed q.left_alike in
+    let r = item i q.left q.left_alike in
     let c = first_punct kind.Comma close q.right q.right_alike in
     let p = first_punct kind.RightBrace [] c.rest c.alike in
     let e = none_alike p.rest p.alike in
     let end : punct kind.Comma ∷ punct kind.RightBrace ∷ [] ≡ q.right = ap (λ l. punct kind.Comma ∷ l) (ap (λ l. punct kind.RightBrace ∷ l) (sym e) ∙ sym p.is) ∙ sym c.is in
-    record { it = part.last_item_comma r.it; formed = r.formed; spells = (λ j. r.spells j ++ end j) ∙ sym q.is }
-items (part.next_item i s is) us formed a =
+    record { it = part.last_item_comma r.it; formed = tt; spells = (λ j. r.spells j ++ end j) ∙ sym q.is }
+items (part.next_item i s is) us a =
     let q = parts (yield_item i) (yield_separator s ∷ yield_items is) us a in
-    let r = item i q.left formed.0 q.left_alike in
+    let r = item i q.left q.left_alike in
     let o = separator s (yield_items is) q.right q.right_alike in
-    let more = items is o.1 formed.1 o.3 in
+    let more = items is o.1 o.3 in
     let end : yield_separator o.0 ∷ yield_items more.it ≡ q.right = ap (λ l. yield_separator o.0 ∷ l) more.spells ∙ sym o.2 in
-    record { it = part.next_item r.it o.0 more.it; formed = (r.formed, more.formed); spells = (λ j. r.spells j ++ end j) ∙ sym q.is }
+    record { it = part.next_item r.it o.0 more.it; formed = tt; spells = (λ j. r.spells j ++ end j) ∙ sym q.is }
 
-braces : (b : Braces) (us : List Symbol) → IsBraces b → AreAlike (yield_braces b) us → Respelled yield_braces IsBraces us
-braces part.no_item us is a =
+braces : (b : Braces) (us : List Symbol) → AreAlike (yield_braces b) us → Respelled yield_braces Any us
+braces part.no_item us a =
     let p = first_punct kind.LeftBrace (punct kind.RightBrace ∷ []) us a in let q = first_punct kind.RightBrace [] p.rest p.alike in let e = none_alike q.rest q.alike in
     record { it = part.no_item; formed = tt; spells = ap (λ l. punct kind.LeftBrace ∷ l) (ap (λ l. punct kind.RightBrace ∷ l) (sym e) ∙ sym q.is) ∙ sym p.is }
-braces (part.items is) us formed a =
-    let p = first_punct kind.LeftBrace (yield_items is) us a in let r = items is p.rest formed p.alike in
-    record { it = part.items r.it; formed = r.formed; spells = ap (λ l. punct kind.LeftBrace ∷ l) r.spells ∙ sym p.is }
+braces (part.items is) us a =
+    let p = first_punct kind.LeftBrace (yield_items is) us a in let r = items is p.rest p.alike in
+    record { it = part.items r.it; formed = tt; spells = ap (λ l. punct kind.LeftBrace ∷ l) r.spells ∙ sym p.is }
 
-any_braces : (b : Option Braces) (us : List Symbol) → IsAnyBraces b → AreAlike (yield_any_braces b) us → Respelled yield_any_braces IsAnyBraces us
-any_braces None us is a = record { it = None; formed = tt; spells = sym (none_alike us a) }
-any_braces (Some b) us is a = let r = braces b us is a in record { it = Some r.it; formed = r.formed; spells = r.spells }
+any_braces : (b : Option Braces) (us : List Symbol) → AreAlike (yield_any_braces b) us → Respelled yield_any_braces Any us
+any_braces None us a = record { it = None; formed = tt; spells = sym (none_alike us a) }
+any_braces (Some b) us a = let r = braces b us a in record { it = Some r.it; formed = tt; spells = r.spells }
 
-step : (s : Option Time) (us : List Symbol) → AreAlike (yield_step s) us → Respelled yield_step (λ _. Unit {0}) us
+step : (s : Option Time) (us : List Symbol) → AreAlike (yield_step s) us → Respelled yield_step Any us
 step None us a = record { it = None; formed = tt; spells = sym (none_alike us a) }
 step (Some t) us a = let r = time t us a in record { it = Some r.it; formed = tt; spells = r.spells }
 
 bracket : (us : List Symbol) → AreAlike (punct kind.RightBracket ∷ []) us → punct kind.RightBracket ∷ [] ≡ us
 bracket us a = let p = first_punct kind.RightBracket [] us a in let e = none_alike p.rest p.alike in ap (λ l. punct kind.RightBracket ∷ l) (sym e) ∙ sym p.is
 
-postfix : (p : Postfix) (us : List Symbol) → IsPostfix p → AreAlike (yield_postfix p) us → Respelled yield_postfix IsPostfix us
-postfix (part.range t) us is a =
+postfix : (p : Postfix) (us : List Symbol) → AreAlike (yield_postfix p) us → Respelled yield_postfix Any us
+postfix (part.range t) us a =
     let close : List Symbol = punct kind.RightBracket ∷ [] in
     let p = first_punct kind.LeftBracket (yield_time t ++ close) us a in
     let q = parts (yield_time t) close p.rest p.alike in
     let r = time t q.left q.left_alike in
     let end = bracket q.right q.right_alike in
     record { it = part.range r.it; formed = tt; spells = ap (λ l. punct kind.LeftBracket ∷ l) ((λ i. r.spells i ++ end i) ∙ sym q.is) ∙ sym p.is }
-postfix (part.subquery t s) us is a =
+postfix (part.subquery t s) us a =
     let close : List Symbol = punct kind.RightBracket ∷ [] in
     let later : List Symbol = yield_step s ++ close in
     let p = first_punct kind.LeftBracket (yield_time t ++ punct kind.Colon ∷ later) us a in
@@ -309,36 +321,45 @@ postfix (part.subquery t s) us is a =
     let end = bracket o.right o.right_alike in
     let tail : punct kind.Colon ∷ (yield_step more.it ++ close) ≡ q.right = ap (λ l. punct kind.Colon ∷ l) ((λ i. more.spells i ++ end i) ∙ sym o.is) ∙ sym c.is in
     record { it = part.subquery r.it more.it; formed = tt; spells = ap (λ l. punct kind.LeftBracket ∷ l) ((λ i. r.spells i ++ tail i) ∙ sym q.is) ∙ sym p.is }
-postfix (part.at_number s text) us is a =
+postfix (part.at_number s text) us a =
     let number : List Symbol = word kind.Number text ∷ [] in
     let p = first_punct kind.At (yield_signed s ++ number) us a in
     let q = parts (yield_signed s) number p.rest p.alike in
-    let r = signed s q.left is q.left_alike in
+    let r = signed s q.left q.left_alike in
     let w = first_word kind.Number text [] q.right q.right_alike in
     let e = none_alike w.rest w.alike in
     let end : word kind.Number w.text ∷ [] ≡ q.right = ap (λ l. word kind.Number w.text ∷ l) (sym e) ∙ sym w.is in
-    record { it = part.at_number r.it w.text; formed = r.formed; spells = ap (λ l. punct kind.At ∷ l) ((λ i. r.spells i ++ end i) ∙ sym q.is) ∙ sym p.is }
-postfix (part.at_bound k text) us is a =
+    record { it = part.at_number r.it w.text; formed = tt; spells = ap (λ l. punct kind.At ∷ l) ((λ i. r.spells i ++ end i) ∙ sym q.is) ∙ sym p.is }
+postfix (part.at_bound start text) us a =
+    let k = if start then kind.Start else kind.End in
     let p = first_punct kind.At (word k text ∷ punct kind.LeftParen ∷ closing) us a in
     let w = first_word k text (punct kind.LeftParen ∷ closing) p.rest p.alike in
     let o = first_punct kind.LeftParen closing w.rest w.alike in
     let c = first_punct kind.RightParen [] o.rest o.alike in
     let e = none_alike c.rest c.alike in
     let parens : punct kind.LeftParen ∷ closing ≡ w.rest = ap (λ l. punct kind.LeftParen ∷ l) (ap (λ l. punct kind.RightParen ∷ l) (sym e) ∙ sym c.is) ∙ sym o.is in
-    record { it = part.at_bound k w.text; formed = is; spells = ap (λ l. punct kind.At ∷ l) (ap (λ l. word k w.text ∷ l) parens ∙ sym w.is) ∙ sym p.is }
-postfix (part.offset text s t) us is a =
+    record { it = part.at_bound start w.text; formed = tt; spells = ap (λ l. punct kind.At ∷ l) (ap (λ l. word k w.text ∷ l) parens ∙ sym w.is) ∙ sym p.is }
+postfix (part.offset text s t) us a =
     let w = first_word kind.Offset text (yield_signed s ++ yield_time t) us a in
     let q = parts (yield_signed s) (yield_time t) w.rest w.alike in
-    let l = signed s q.left is q.left_alike in
+    let l = signed s q.left q.left_alike in
     let r = time t q.right q.right_alike in
-    record { it = part.offset w.text l.it r.it; formed = l.formed; spells = ap (λ l. word kind.Offset w.text ∷ l) ((λ i. l.spells i ++ r.spells i) ∙ sym q.is) ∙ sym w.is }
-postfix (part.mode k text) us is a = let w = first_word k text [] us a in let e = none_alike w.rest w.alike in record { it = part.mode k w.text; formed = is; spells = ap (λ l. word k w.text ∷ l) (sym e) ∙ sym w.is }
+    record { it = part.offset w.text l.it r.it; formed = tt; spells = ap (λ l. word kind.Offset w.text ∷ l) ((λ i. l.spells i ++ r.spells i) ∙ sym q.is) ∙ sym w.is }
+postfix (part.mode smoothed text) us a = let k = if smoothed then kind.Smoothed else kind.Anchored in let w = first_word k text [] us a in let e = none_alike w.rest w.alike in record { it = part.mode smoothed w.text; formed = tt; spells = ap (λ l. word k w.text ∷ l) (sym e) ∙ sym w.is }
+
+is_before : (g : Grouping) → IsGrouping g → part.IsClause (part.before g)
+is_before (part.grouping by text ls) is = is
+
+is_after : (g : Grouping) → IsGrouping g → part.IsClause (part.after g)
+is_after (part.grouping by text ls) is = is
 
 clause : (c : part.Clause) (us vs : List Symbol) → part.IsClause c → AreAlike (part.yield_before c) us → AreAlike (part.yield_after c) vs
     → (n : part.Clause) × part.IsClause n × (part.yield_before n ≡ us) × (part.yield_after n ≡ vs)
 clause part.no_clause us vs is a b = (part.no_clause, tt, sym (none_alike us a), sym (none_alike vs b))
-clause (part.before g) us vs is a b = let r = grouping g us is a in (part.before r.it, r.formed, r.spells, sym (none_alike vs b))
-clause (part.after g) us vs is a b = let r = grouping g vs is b in (part.after r.it, r.formed, sym (none_alike us a), r.spells)
+clause (part.before (part.grouping by text ls)) us vs is a b =
+    let r = grouping (part.grouping by text ls) us is a in (part.before r.it, is_before r.it r.formed, r.spells, sym (none_alike vs b))
+clause (part.after (part.grouping by text ls)) us vs is a b =
+    let r = grouping (part.grouping by text ls) vs is b in (part.after r.it, is_after r.it r.formed, sym (none_alike us a), r.spells)
 
 -- ---- expressions
 
@@ -356,18 +377,12 @@ opens_alike (word k t ∷ ts) (punct j ∷ us) a opens = absurd a.0
 opens_alike (word k t ∷ ts) (word j u ∷ us) a opens = tt
 
 group_alike : (g : Group) (f : Fills) (ts us : List Symbol) → AreAlike ts us → FitsGroup g f ts → FitsGroup g f us
-group_alike (part.bare k text) part.no_fill ts us a fits = opens_alike ts us a fits
-group_alike (part.bare k text) (part.both t v) ts us a fits = tt
-group_alike (part.bare k text) (part.left t v) ts us a fits = tt
-group_alike (part.bare k text) (part.right t v) ts us a fits = tt
-group_alike (part.bare k text) (part.left_right t v u w) ts us a fits = tt
-group_alike (part.bare k text) (part.right_left t v u w) ts us a fits = tt
-group_alike part.no_group f ts us a fits = tt
-group_alike (part.listed k text ls) f ts us a fits = tt
+group_alike (part.bare left text) part.no_fill ts us a fits = opens_alike ts us a fits
+group_alike g f ts us a fits = tt
 
 matching_alike : (m : Matching) (f : Fills) (ts us : List Symbol) → AreAlike ts us → FitsMatching m f ts → FitsMatching m f us
 matching_alike part.no_matching f ts us a fits = tt
-matching_alike (part.matching k text ls g) f ts us a fits = group_alike g f ts us a fits
+matching_alike (part.matching on text ls g) f ts us a fits = from_group on text ls g f us (group_alike g f ts us a (to_group on text ls g f ts fits))
 
 -- a derivation of the same form with these tokens
 pub record Again (d : Derivation) (us : List Symbol) : Type 0 where
@@ -391,11 +406,11 @@ mutual
       let w = first_word kind.String text [] us a in let e = none_alike w.rest w.alike in
       record { it = form.string w.text; formed = tt; spells = ap (λ l. word kind.String w.text ∷ l) (sym e) ∙ sym w.is; open_alike = refl; right = λ op fits. fits; sign = λ fits. fits; base = λ is. is }
   derivation_again (form.selector k text b) us is a =
-      let w = first_word k text (yield_any_braces b) us a in let r = any_braces b w.rest is.1 w.alike in
-      record { it = form.selector k w.text r.it; formed = (is.0, r.formed); spells = ap (λ l. word k w.text ∷ l) r.spells ∙ sym w.is; open_alike = refl; right = λ op fits. fits; sign = λ fits. fits; base = λ is. is }
+      let w = first_word k text (yield_any_braces b) us a in let r = any_braces b w.rest w.alike in
+      record { it = form.selector k w.text r.it; formed = is; spells = ap (λ l. word k w.text ∷ l) r.spells ∙ sym w.is; open_alike = refl; right = λ op fits. fits; sign = λ fits. fits; base = λ is. is }
   derivation_again (form.nameless b) us is a =
-      let r = braces b us is a in
-      record { it = form.nameless r.it; formed = r.formed; spells = r.spells; open_alike = refl; right = λ op fits. fits; sign = λ fits. fits; base = λ is. is }
+      let r = braces b us a in
+      record { it = form.nameless r.it; formed = tt; spells = r.spells; open_alike = refl; right = λ op fits. fits; sign = λ fits. fits; base = λ is. is }
   derivation_again (form.paren d) us is a =
       let p = first_punct kind.LeftParen (yield d ++ closing) us a in
       let q = parts (yield d) closing p.rest p.alike in
@@ -420,8 +435,8 @@ mutual
   derivation_again (form.postfixed d p) us is a =
       let q = parts (yield d) (yield_postfix p) us a in
       let r = derivation_again d q.left is.0 q.left_alike in
-      let x = postfix p q.right is.2 q.right_alike in
-      record { it = form.postfixed r.it x.it; formed = (r.formed, r.base is.1, x.formed); spells = (λ i. r.spells i ++ x.spells i) ∙ sym q.is; open_alike = refl; right = λ op fits. fits; sign = λ fits. fits; base = λ is. is }
+      let x = postfix p q.right q.right_alike in
+      record { it = form.postfixed r.it x.it; formed = (r.formed, r.base is.1); spells = (λ i. r.spells i ++ x.spells i) ∙ sym q.is; open_alike = refl; right = λ op fits. fits; sign = λ fits. fits; base = λ is. is }
   derivation_again (form.unary op text d) us is a =
       let w = first_word (kind.Operator op) text (yield d) us a in
       let r = derivation_again d w.rest is.1 w.alike in

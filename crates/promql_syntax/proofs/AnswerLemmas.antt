@@ -104,7 +104,7 @@ Lookahead t = (d : Derivation) × (others : List Symbol) × IsWellFormed d × (y
 operator_front : (op : ℕ) (text : Text) (signed named : Bool) → is_plus_or_minus op ≡ signed → is_word_operator op ≡ named → may_begin (kind.Operator op) ≡ true → Lookahead (word (kind.Operator op) text)
 unfolding Lookahead
 operator_front op text true named is_punct is_name may = (unary op text (number []), word kind.Number [] ∷ [], (is_punct, tt, tt), refl)
-operator_front op text false true is_punct is_name may = (selector (kind.Operator op) text None, [], (is_name, tt), refl)
+operator_front op text false true is_punct is_name may = (selector (kind.Operator op) text None, [], is_name, refl)
 operator_front op text false false is_punct is_name may = cc
 
 front_derivation : (k : TokenKind) (text : Text) (us : List Symbol) → begins (symbol k text ∷ us) ≡ true → Lookahead (symbol k text)
@@ -115,16 +115,16 @@ front_derivation kind.String text us may = (string text, [], tt, refl)
 front_derivation (kind.Operator op) text us may = operator_front op text (is_plus_or_minus op) (is_word_operator op) refl refl may
 front_derivation kind.LeftParen text us may = (paren (number []), word kind.Number [] ∷ punct kind.RightParen ∷ [], tt, refl)
 front_derivation kind.LeftBrace text us may = (nameless no_item, punct kind.RightBrace ∷ [], tt, refl)
-front_derivation kind.Identifier text us may = (selector kind.Identifier text None, [], (refl, tt), refl)
-front_derivation kind.MetricIdentifier text us may = (selector kind.MetricIdentifier text None, [], (refl, tt), refl)
-front_derivation (kind.Aggregator op) text us may = (selector (kind.Aggregator op) text None, [], (refl, tt), refl)
-front_derivation kind.By text us may = (selector kind.By text None, [], (refl, tt), refl)
-front_derivation kind.Without text us may = (selector kind.Without text None, [], (refl, tt), refl)
-front_derivation kind.Offset text us may = (selector kind.Offset text None, [], (refl, tt), refl)
-front_derivation kind.Start text us may = (selector kind.Start text None, [], (refl, tt), refl)
-front_derivation kind.End text us may = (selector kind.End text None, [], (refl, tt), refl)
-front_derivation kind.Smoothed text us may = (selector kind.Smoothed text None, [], (refl, tt), refl)
-front_derivation kind.Anchored text us may = (selector kind.Anchored text None, [], (refl, tt), refl)
+front_derivation kind.Identifier text us may = (selector kind.Identifier text None, [], refl, refl)
+front_derivation kind.MetricIdentifier text us may = (selector kind.MetricIdentifier text None, [], refl, refl)
+front_derivation (kind.Aggregator op) text us may = (selector (kind.Aggregator op) text None, [], refl, refl)
+front_derivation kind.By text us may = (selector kind.By text None, [], refl, refl)
+front_derivation kind.Without text us may = (selector kind.Without text None, [], refl, refl)
+front_derivation kind.Offset text us may = (selector kind.Offset text None, [], refl, refl)
+front_derivation kind.Start text us may = (selector kind.Start text None, [], refl, refl)
+front_derivation kind.End text us may = (selector kind.End text None, [], refl, refl)
+front_derivation kind.Smoothed text us may = (selector kind.Smoothed text None, [], refl, refl)
+front_derivation kind.Anchored text us may = (selector kind.Anchored text None, [], refl, refl)
 front_derivation k text us may = cc
 
 -- what was built tells its result

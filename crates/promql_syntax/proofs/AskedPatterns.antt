@@ -27,9 +27,11 @@ use Rattle.promql_ast.specs.Normal.{normal, maybe_normal, all_normal, normal_sel
 use Rattle.promql_ast.specs.Selectors.{Selector, selector}
 use Rattle.promql_ast.specs.Tree.{Tree, aggregate, unary, binary, paren, subquery, number, string, vector, matrix, call, extension, MaybeTree, absent, present, Trees, no_trees, first_tree}
 use Rattle.promql_syntax.specs.Asking.{Asking, gives, fails, asks, ◌giving◌, known, Asked, Ends}
-use Rattle.promql_syntax.specs.Building.{bound_moment, build, build_all, build_call, from_verdict, from_checked_verdict, range_mode, build_postfix}
+use Rattle.promql_syntax.specs.Building.{build, build_all, build_call, from_verdict, from_checked_verdict, build_postfix}
+use Rattle.promql_syntax.specs.Postfixes.{bound_moment, range_mode}
 use Rattle.promql_syntax.specs.BuildErrors.{BuildError, check, pattern, unknown_function}
-use Rattle.promql_syntax.specs.PartBuilding.{any_braces_value, append_matcher, braces_value, clause_value, duration_value, item_value, items_value, label_value, modifier_value, moment_value, number_value, operator_value, pattern_operator, shift_value, step_value, string_value, time_value}
+use Rattle.promql_syntax.specs.PartBuilding.{append_matcher, braces_value, clause_value, duration_value, item_value, items_value, label_value, modifier_value, moment_value, number_value, operator_value, pattern_operator, shift_value, step_value, string_value, time_value}
+use Rattle.promql_syntax.specs.Atoms.{any_braces_value}
 use Rattle.promql_syntax.proofs.CheckedAgain.{aggregate_again, aggregates, arguments, call_again, same_tree, unary_again}
 use Rattle.promql_syntax.proofs.PrintedModifiers.{binary_checked}
 use Rattle.promql_syntax.specs.TreePatterns.{AllPatterns, GroupsPatterns, HasSuchPattern, ListPatterns, MatcherPattern, MatchersPatterns, MaybePatterns, SelectorPatterns, TreePatterns}
@@ -136,8 +138,8 @@ module _ (is_such : Text → Bool) where
 
   -- one matcher
   item_such : (i : part.Item) → AsksSuch (MatcherPattern is_such) (item_value i)
-  item_such (part.matcher k text s quoted) =
-      giving_such (λ name. Unit {0}) (MatcherPattern is_such) (known (label_value k text)) _ (known_such (λ name. Unit {0}) (label_value k text))
+  item_such (part.matcher is_quoted text s quoted) =
+      giving_such (λ name. Unit {0}) (MatcherPattern is_such) (known (label_value (part.name_kind is_quoted) text)) _ (known_such (λ name. Unit {0}) (label_value (part.name_kind is_quoted) text))
       (λ name. giving_such (λ value. Unit {0}) (MatcherPattern is_such) (known (string_value quoted)) _ (known_such (λ value. Unit {0}) (string_value quoted))
       (λ value. giving_such (λ op. HasSuchPattern is_such op value) (MatcherPattern is_such) (operator_value s value) _ (operator_such s value)
       (λ op. gives_such (MatcherPattern is_such) (plain_matcher op name value))

@@ -1,5 +1,5 @@
 -- Bases: what is read up to their postfixes, by their first token.
-use Rattle.std.proofs.Common.{◌≡◌, ℕ, ◌+◌, ◌<◌, ◌^◌, Bool, ◌≤◌, cond, refl, sym, ◌∙◌, ap, subst, arith, List, [], ◌∷◌, length, Some, None}
+use Rattle.std.proofs.Common.{◌≡◌, ℕ, ◌+◌, ◌<◌, ◌^◌, Bool, true, false, ◌≤◌, cond, refl, sym, ◌∙◌, ap, subst, arith, List, [], ◌∷◌, length, Some, None}
 use Rattle.std.proofs.lemmas.List.{length-append}
 use Rattle.std.specs.Prelude.{Result, Ok, Err, MatchResult, option_map}
 use Rattle.promql_text.specs.Texts.{Text}
@@ -20,7 +20,7 @@ use Rattle.promql_grammar.specs.GrammarParts as part
 use Rattle.promql_grammar.specs.GrammarParts.{yield_after, yield_modifier, yield_postfix}
 use Rattle.promql_grammar.specs.Parsing.{Read, Reader, parse_unary, parse_paren_end, parse_call, parse_selector, parse_aggregate, parse_grouped_aggregate, parse_arguments, parse_labels, parse_grouping, parse_postfixes, parse_modifier, parse_postfix, parse_expression, misfit}
 use Rattle.promql_grammar.proofs.Sound.{Good, expression_sound}
-use Rattle.promql_grammar.proofs.SoundParts.{IsAfter, IsAnyPostfix, IsModifierBefore, Takes, clause_taken, modifier_taken, postfix_taken, yield_any_postfix}
+use Rattle.promql_grammar.proofs.SoundParts.{Any, IsAfter, IsModifierBefore, Takes, clause_taken, modifier_taken, postfix_taken, yield_any_postfix}
 use Rattle.promql_syntax.specs.declared.grammar.parsed.ParsedExpr.{ParsedExpr}
 use Rattle.promql_syntax.specs.declared.grammar.parsed.ParsedArgs.{ParsedArgs}
 use Rattle.promql_syntax.specs.BuildErrors.{view_result}
@@ -44,10 +44,10 @@ pub modifier_length : (ts us : List Symbol) (m : part.Modifier) → parse_modifi
 modifier_length ts us m is = taken_length yield_modifier IsModifierBefore ts us (parse_modifier ts) m is (modifier_taken ts)
 
 pub postfix_length : (ts us : List Symbol) (p : part.Postfix) → parse_postfix ts ≡ Ok (Some p, us) → length ts ≡ length (yield_postfix p) + length us
-postfix_length ts us p is = taken_length yield_any_postfix (λ x us. IsAnyPostfix x) ts us (parse_postfix ts) (Some p) is (postfix_taken ts)
+postfix_length ts us p is = taken_length yield_any_postfix (λ x us. Any x) ts us (parse_postfix ts) (Some p) is (postfix_taken ts)
 
 pub no_postfix_taken : (ts us : List Symbol) → parse_postfix ts ≡ Ok (None, us) → ts ≡ us
-no_postfix_taken ts us none = let took = subst (Takes yield_any_postfix (λ x us. IsAnyPostfix x) ts) none (postfix_taken ts) in took.0
+no_postfix_taken ts us none = let took = subst (Takes yield_any_postfix (λ x us. Any x) ts) none (postfix_taken ts) in took.0
 
 pub expression_length : (h m : ℕ) (ts us : List Symbol) (d : grammar.Derivation) → parse_expression h m ts ≡ Ok (d, us) → length ts ≡ length (yield d) + length us
 expression_length h m ts us d is =
@@ -227,8 +227,8 @@ by_before r op text ts us c (Ok l) g is reads =
 by_before r op text ts us c (Err e) g is reads = cc
 
 before_read : (r : Reader) (op : ℕ) (text : Text) (ts us : List Symbol) (c : part.Clause) → StartsGrouping ts → parse_grouping ts ≡ Ok (c, us) → IsBefore r op text ts us c
-before_read r op text (word kind.By u ∷ ts) us c begins is = by_before r op text (word kind.By u ∷ ts) us c (parse_labels ts) (λ l. part.by u l) is (λ k n. refl)
-before_read r op text (word kind.Without u ∷ ts) us c begins is = by_before r op text (word kind.Without u ∷ ts) us c (parse_labels ts) (λ l. part.without u l) is (λ k n. refl)
+before_read r op text (word kind.By u ∷ ts) us c begins is = by_before r op text (word kind.By u ∷ ts) us c (parse_labels ts) (λ l. part.grouping true u l) is (λ k n. refl)
+before_read r op text (word kind.Without u ∷ ts) us c begins is = by_before r op text (word kind.Without u ∷ ts) us c (parse_labels ts) (λ l. part.grouping false u l) is (λ k n. refl)
 before_read r op text ts us c begins is = absurd begins
 
 labels_fail : (e : Failure) (o : Read part.Labels) (g : part.Labels → part.Clause) → Fails {A = part.Clause × List Symbol} e (◌then◌ {B = part.Clause × List Symbol} o (λ l. Ok (g l.0, l.1))) → Fails e o
@@ -239,8 +239,8 @@ labels_fail (TooDeep, rest) (Ok l) g fails = cc
 labels_fail (TooDeep, rest) (Err d) g fails = cc
 
 pub before_fails : (r : Reader) (op : ℕ) (text : Text) (ts : List Symbol) (e : Failure) → StartsGrouping ts → Fails e (parse_grouping ts) → FailsBase e (λ k n. parse_aggregate r k n op text ts)
-before_fails r op text (word kind.By u ∷ ts) e begins fails = λ k n. fails_first e (parse_labels ts) (λ l. parse_grouped_aggregate r k n op text (part.by u l.0) l.1) _ refl (labels_fail e (parse_labels ts) (λ l. part.after (part.by u l)) fails)
-before_fails r op text (word kind.Without u ∷ ts) e begins fails = λ k n. fails_first e (parse_labels ts) (λ l. parse_grouped_aggregate r k n op text (part.without u l.0) l.1) _ refl (labels_fail e (parse_labels ts) (λ l. part.after (part.without u l)) fails)
+before_fails r op text (word kind.By u ∷ ts) e begins fails = λ k n. fails_first e (parse_labels ts) (λ l. parse_grouped_aggregate r k n op text (part.grouping true u l.0) l.1) _ refl (labels_fail e (parse_labels ts) (λ l. part.after (part.grouping true u l)) fails)
+before_fails r op text (word kind.Without u ∷ ts) e begins fails = λ k n. fails_first e (parse_labels ts) (λ l. parse_grouped_aggregate r k n op text (part.grouping false u l.0) l.1) _ refl (labels_fail e (parse_labels ts) (λ l. part.after (part.grouping false u l)) fails)
 before_fails r op text ts e begins fails = absurd begins
 
 grouped_none : (r : Reader) (k n op : ℕ) (text : Text) (g : part.Grouping) (us : List Symbol) → HasNo kind.LeftParen us → parse_grouped_aggregate r k n op text g us ≡ Err (misfit us)

@@ -103,19 +103,6 @@ module _ (g : Text → Answer) where
 
   -- ---- range modes, `@` and `offset`
 
-  moment_formed : (m : Moment) → part.IsPostfix (moment m)
-  moment_formed at_start = refl
-  moment_formed at_end = refl
-  moment_formed (at_time t) = go _
-    where
-      go : (b : Bool) → part.IsSigned (sign b)
-      go true = refl
-      go false = tt
-
-  shift_formed : (s : Shift) → part.IsPostfix (shift s)
-  shift_formed (back n) = tt
-  shift_formed (ahead n) = refl
-
   moment_flat : (m : Moment) → added_height (moment m) ≡ 0
   moment_flat at_start = refl
   moment_flat at_end = refl
@@ -127,7 +114,7 @@ module _ (g : Text → Answer) where
 
   at_formed : (a : Option Moment) (d : Derivation) → IsWellFormed d → IsBase d → IsWellFormed (with_at a d)
   at_formed None d h b = h
-  at_formed (Some m) d h b = (h, b, moment_formed m)
+  at_formed (Some m) d h b = (h, b)
 
   at_base : (a : Option Moment) (d : Derivation) → IsBase d → IsBase (with_at a d)
   at_base None d b = b
@@ -135,7 +122,7 @@ module _ (g : Text → Answer) where
 
   suffix_formed : (o : Option Shift) (a : Option Moment) (d : Derivation) → IsWellFormed d → IsBase d → IsWellFormed (with_suffix o a d)
   suffix_formed None a d h b = at_formed a d h b
-  suffix_formed (Some s) a d h b = (at_formed a d h b, at_base a d b, shift_formed s)
+  suffix_formed (Some s) a d h b = (at_formed a d h b, at_base a d b)
 
   suffix_base : (o : Option Shift) (a : Option Moment) (d : Derivation) → IsBase d → IsBase (with_suffix o a d)
   suffix_base None a d b = at_base a d b
@@ -164,8 +151,8 @@ module _ (g : Text → Answer) where
 
   mode_formed : (m : RangeMode) (d : Derivation) → IsWellFormed d → IsBase d → IsWellFormed (with_mode m d)
   mode_formed Plain d h b = h
-  mode_formed Smoothed d h b = (h, b, refl)
-  mode_formed Anchored d h b = (h, b, refl)
+  mode_formed Smoothed d h b = (h, b)
+  mode_formed Anchored d h b = (h, b)
 
   mode_height : (m : RangeMode) (d : Derivation) → height (with_mode m d) ≡ height d
   mode_height Plain d = refl

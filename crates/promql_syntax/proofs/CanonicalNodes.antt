@@ -40,14 +40,15 @@ use Rattle.promql_ast.specs.declared.range_mode.RangeMode.TheVariants.{Plain}
 use Rattle.promql_syntax.specs.Asking.{under}
 use Rattle.promql_syntax.specs.Building.{build, build_all, build_call, selector_tree}
 use Rattle.promql_syntax.proofs.Derive.{derive, derive_all, derive_base, HasWords, IsName, IsUnsigned}
-use Rattle.promql_syntax.specs.PartBuilding.{any_braces_value, braces_value, clause_value, modifier_value, number_value, string_value, step_value, time_value}
+use Rattle.promql_syntax.specs.PartBuilding.{braces_value, clause_value, modifier_value, number_value, string_value, step_value, time_value}
+use Rattle.promql_syntax.specs.Atoms.{any_braces_value}
 use Rattle.promql_syntax.proofs.PrintedParts.{braces, clause, modifier, time, word_kind}
 use Rattle.promql_syntax.proofs.Canonical.{Keeps, AllKept, base_is, open_base, open_most, right_low, root_weaker, some_height}
 use Rattle.promql_syntax.proofs.CheckedAgain.{arguments, minus_normal, same_tree, type_normal}
 use Rattle.promql_syntax.proofs.Booleans.{not_true}
 use Rattle.promql_syntax.proofs.LexedWords.{is_fill_word}
 use Rattle.promql_syntax.proofs.Printable.{IsSelecting}
-use Rattle.promql_syntax.proofs.PrintedMatcherLists.{AreAnyMatchers, AreMatchers, any_matchers, braces_again, braces_formed, named_again}
+use Rattle.promql_syntax.proofs.PrintedMatcherLists.{AreAnyMatchers, AreMatchers, any_matchers, braces_again, named_again}
 use Rattle.promql_syntax.proofs.PrintedModifiers.{PassesChecks, IsMatched, IsWritten, checked_again, fits_printed, modifier_again, modifier_formed, read_alike, normal_modifier, settled_matched, settles, set_has_no_group}
 use Rattle.promql_syntax.proofs.PrintedTimesAndLabels.{IsStep, IsTime, below_zero, number_again, step_again, string_again, time_again}
 use Rattle.promql_syntax.proofs.PrintedWords.{clause_again, clause_formed}
@@ -155,7 +156,7 @@ module _ (g : Text → Answer) where
 
   pub keeps_named : (d : Derivation) (name : Text) (cs : PlainMatchers) → is_word name ≡ true → may_be_name (word_kind name) ≡ true → AreAnyMatchers g cs → name_fault (Some name) cs ≡ None → Keeps g d (vector (selector (Some name) cs None None))
   keeps_named d name cs letters may h e = record {
-    formed = (may, braces_formed cs);
+    formed = may;
     wide = omega (arith, open_most d);
     low = omega (arith, some_height d);
     root = λ m e h. tt;
@@ -167,7 +168,7 @@ module _ (g : Text → Answer) where
 
   pub keeps_nameless : (d : Derivation) (cs : PlainMatchers) → AreMatchers g cs → name_fault None cs ≡ None → Keeps g d (vector (selector None cs None None))
   keeps_nameless d cs h e = record {
-    formed = formed (braces cs) (braces_formed cs);
+    formed = formed (braces cs);
     wide = let o = open_base (derive_base None (braces cs)) (base_is g None (braces cs)) in omega (arith, open_most d);
     low = omega (arith, some_height d, flat (braces cs));
     root = λ m le k. root_base m (derive_base None (braces cs)) (base_is g None (braces cs));
@@ -177,9 +178,9 @@ module _ (g : Text → Answer) where
     again = again (braces cs) (braces_again g cs (any_matchers g cs h));
   }
     where
-      formed : (b : Option part.Braces) → part.IsAnyBraces b → IsWellFormed (derive_base None b)
-      formed None h = tt
-      formed (Some b) h = h
+      formed : (b : Option part.Braces) → IsWellFormed (derive_base None b)
+      formed None = tt
+      formed (Some b) = tt
 
       flat : (b : Option part.Braces) → height (derive_base None b) ≡ 1
       flat None = refl
@@ -256,7 +257,7 @@ module _ (g : Text → Answer) where
 
   pub keeps_range : (d : Derivation) (t : part.Time) (name : Option Text) (cs : PlainMatchers) (n : ℕ) → Keeps g d (vector (selector name cs None None)) → IsTime n → Keeps g (grammar.postfixed d (part.range t)) (matrix (selector name cs None None) n Plain)
   keeps_range d t name cs n c is = record {
-    formed = (c.formed, base_is g name (braces cs), tt);
+    formed = (c.formed, base_is g name (braces cs));
     wide = omega arith;
     low = omega (arith, c.low);
     root = λ m e h. tt;
@@ -269,7 +270,7 @@ module _ (g : Text → Answer) where
   pub keeps_subquery : (d : Derivation) (r : part.Time) (s : Option part.Time) (t : Tree) (n : ℕ) (m : Option ℕ) → Keeps g d t → IsBase d → IsTime n → IsStep m
       → check_tree (subquery (normal t) None None n m) ≡ passes (subquery (normal t) None None n m) → Keeps g (grammar.postfixed d (part.subquery r s)) (subquery t None None n m)
   keeps_subquery d r s t n m c b is step h = record {
-    formed = (c.formed, c.base b, tt);
+    formed = (c.formed, c.base b);
     wide = omega arith;
     low = omega (arith, c.low);
     root = λ m e h. tt;

@@ -21,9 +21,11 @@ use Rattle.promql_ast.specs.Selectors.{selector}
 use Rattle.promql_ast.specs.Tree.{Tree, aggregate, unary, binary, paren, subquery, number, string, vector, matrix, call, Trees, first_tree}
 use Rattle.promql_ast.specs.check.BinaryChecks.{checked_binary}
 use Rattle.promql_syntax.specs.Asking.{gives, ◌giving◌, known, under}
-use Rattle.promql_syntax.specs.Building.{bound_moment, build, build_all, build_call, from_verdict, from_checked_verdict, range_mode, selector_tree, build_postfix, build_unary}
+use Rattle.promql_syntax.specs.Building.{build, build_all, build_call, from_verdict, from_checked_verdict, selector_tree, build_postfix, build_unary}
+use Rattle.promql_syntax.specs.Postfixes.{bound_moment, range_mode}
 use Rattle.promql_syntax.proofs.Derive.{AllHaveWords, HasWords, IsName, IsUnsigned}
-use Rattle.promql_syntax.specs.PartBuilding.{any_braces_value, braces_value, clause_value, duration_value, modifier_value, moment_value, number_value, shift_value, step_value, string_value, time_value}
+use Rattle.promql_syntax.specs.PartBuilding.{braces_value, clause_value, duration_value, modifier_value, moment_value, number_value, shift_value, step_value, string_value, time_value}
+use Rattle.promql_syntax.specs.Atoms.{any_braces_value}
 use Rattle.promql_syntax.proofs.Canonical.{AllKept, Canon, Keeps, canon_at, canon_mode, canon_offset, core, some_height, whole}
 use Rattle.promql_syntax.proofs.CanonicalNodes.{all_more, all_none, keeps_aggregate, keeps_binary, keeps_call, keeps_minus, keeps_named, keeps_nameless, keeps_number, keeps_paren, keeps_plus, keeps_range, keeps_string, keeps_subquery, nanos_above, selector_passes, selects}
 use Rattle.promql_syntax.proofs.CheckedAgain.{Aggregates, aggregate_again, aggregates, call_again, is_aggregated, same_tree, subquery_again, unary_again}
@@ -129,7 +131,7 @@ module _ (g : Text → Answer) where
         let cs = giving_steps g (any_braces_value b) (λ cs. selector_tree (Some text) cs) t e in
         let passed = selector_passes g (Some text) cs.value t (passing_passes g _ t cs.leads) in
         keeps_selector (grammar.selector k text b) (Some text) cs.value t
-        (keeps_named g (grammar.selector k text b) text cs.value w.letters (subst (λ x. may_be_name x ≡ true) w.kind h.0) (any_braces_are g b cs.value cs.is) passed.0) passed.1
+        (keeps_named g (grammar.selector k text b) text cs.value w.letters (subst (λ x. may_be_name x ≡ true) w.kind h) (any_braces_are g b cs.value cs.is) passed.0) passed.1
     canon (grammar.nameless b) t h w e =
         let cs = giving_steps g (braces_value b) (λ cs. selector_tree None cs) t e in
         let passed = selector_passes g None cs.value t (passing_passes g _ t cs.leads) in

@@ -1,7 +1,7 @@
 -- Tokens that are taken in two steps are counted.
-use Rattle.std.proofs.Common.{◌≡◌, ◌∙◌, ◌<◌, ◌^◌, Ok, Err, subst, sym}
+use Rattle.std.proofs.Common.{◌∙◌, ◌<◌, ◌^◌, Ok, Err, subst, sym}
 use Rattle.std.specs.Prelude.{Result, OnOk}
-use Rattle.promql_grammar.specs.SymbolsLeft.{CountsTaken, token_count}
+use Rattle.promql_grammar.specs.SymbolsLeft.{CountsTaken}
 use Rattle.promql_grammar.specs.declared.tokens.Tokens.{Tokens}
 
 pub counted : (old mid new : Tokens) → CountsTaken old mid → CountsTaken mid new → CountsTaken old new

@@ -37,8 +37,8 @@ derive_base None None = grammar.nameless part.no_item
 -- a range mode, `@` and `offset`, in the order in which they are printed
 abbrev pub with_mode : RangeMode → Derivation → Derivation
 with_mode Plain d = d
-with_mode Smoothed d = grammar.postfixed d (part.mode kind.Smoothed (codes "smoothed"))
-with_mode Anchored d = grammar.postfixed d (part.mode kind.Anchored (codes "anchored"))
+with_mode Smoothed d = grammar.postfixed d (part.mode true (codes "smoothed"))
+with_mode Anchored d = grammar.postfixed d (part.mode false (codes "anchored"))
 
 abbrev pub with_at : Option Moment → Derivation → Derivation
 with_at None d = d

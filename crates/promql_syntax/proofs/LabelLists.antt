@@ -1,5 +1,5 @@
 -- How a list of labels is read, label by label.
-use Rattle.std.proofs.Common.{◌≡◌, refl, sym, ◌∙◌, ap, List, [], ◌∷◌, ◌++◌, append_assoc, true, false}
+use Rattle.std.proofs.Common.{◌≡◌, refl, sym, ◌∙◌, ap, subst, List, [], ◌∷◌, ◌++◌, append_assoc, true, false}
 use Rattle.std.specs.Prelude.{Result, Ok, Err}
 use Rattle.std.proofs.lemmas.Bool.{cond-true, cond-false}
 use Rattle.std.specs.declared.alloc.Global.{Global}
@@ -9,8 +9,8 @@ use Rattle.promql_grammar.specs.declared.token_kinds.TokenKind.{TokenKind}
 use Rattle.promql_grammar.specs.declared.token_kinds.TokenKind.TheVariants as kind
 use Rattle.promql_grammar.specs.Results.{◌then◌}
 use Rattle.promql_grammar.specs.Symbols.{Symbol, punct, word, may_be_label}
-use Rattle.promql_grammar.specs.GrammarParts.{Names, last, last_comma, next, labels}
-use Rattle.promql_grammar.specs.Parsing.{Read, parse_label_names, parse_label_list, misfit}
+use Rattle.promql_grammar.specs.GrammarParts.{Labels, no_label, last, next}
+use Rattle.promql_grammar.specs.Parsing.{Read, parse_label_list, misfit}
 use Rattle.promql_grammar.specs.Eating.{HasNo}
 use Rattle.promql_grammar.specs.Failures.{Fails, Failure}
 use Rattle.promql_grammar.specs.PartTokens.{HasNoLabel, EatsLabel, LabelEnd, closes, comma_closes, comma, parse_label_end, is_last_label, ParsesLabelEnd}
@@ -19,43 +19,60 @@ use Rattle.promql_label.specs.declared.labels.Labels as code
 use Rattle.promql_syntax.specs.declared.grammar.build_error.BuildError as build_errors
 use Rattle.promql_syntax.specs.BuildErrors.{BuildError, view_result}
 use Rattle.promql_syntax.specs.ParsesPart.{ParsesPart}
-use Rattle.promql_syntax.specs.PartBuilding.{label_value, label_values, name_values}
+use Rattle.promql_syntax.specs.PartBuilding.{label_value, label_values}
 use Rattle.promql_syntax.proofs.ResultSteps.{fails_then, fails_same, then_then, then_ok}
 
 -- what a label and its end give
-abbrev names_after : TokenKind → Text → LabelEnd × List Symbol → Read Names
-names_after k t (closes, ts) = Ok (last k t, ts)
-names_after k t (comma_closes, ts) = Ok (last_comma k t, ts)
-names_after k t (comma, ts) = parse_label_names ts then λ y. Ok (next k t y.0, y.1)
+abbrev labels_after : TokenKind → Text → LabelEnd × List Symbol → Read Labels
+labels_after k t (closes, ts) = Ok (last k t, ts)
+labels_after k t (comma_closes, ts) = Ok (next k t no_label, ts)
+labels_after k t (comma, ts) = parse_label_list ts then λ y. Ok (next k t y.0, y.1)
 
-names_step : (k : TokenKind) (t : Text) (ts : List Symbol) → may_be_label k ≡ true → parse_label_names (word k t ∷ ts) ≡ (parse_label_end ts then names_after k t)
-names_step k t (punct kind.RightParen ∷ ts) may = cond-true (may_be_label k) _ _ may
-names_step k t (punct kind.Comma ∷ (punct kind.RightParen ∷ ts)) may = cond-true (may_be_label k) _ _ may
-names_step k t (punct kind.Comma ∷ ts) may = cond-true (may_be_label k) _ _ may
-names_step k t ts may = cond-true (may_be_label k) _ _ may
+labels_step : (k : TokenKind) (t : Text) (ts : List Symbol) → may_be_label k ≡ true → parse_label_list (word k t ∷ ts) ≡ (parse_label_end ts then labels_after k t)
+labels_step k t (punct kind.RightParen ∷ ts) may = cond-true (may_be_label k) _ _ may
+labels_step k t (punct kind.Comma ∷ (punct kind.RightParen ∷ ts)) may = cond-true (may_be_label k) _ _ may
+labels_step k t (punct kind.Comma ∷ ts) may = cond-true (may_be_label k) _ _ may
+labels_step k t ts may = cond-true (may_be_label k) _ _ may
 
-no_name : (ts : List Symbol) → HasNoLabel ts → parse_label_names ts ≡ Err (misfit ts)
-no_name (word k t ∷ (punct kind.RightParen ∷ ts)) none = cond-false (may_be_label k) _ _ none
-no_name (word k t ∷ (punct kind.Comma ∷ (punct kind.RightParen ∷ ts))) none = cond-false (may_be_label k) _ _ none
-no_name (word k t ∷ (punct kind.Comma ∷ ts)) none = cond-false (may_be_label k) _ _ none
-no_name (word k t ∷ ts) none = cond-false (may_be_label k) _ _ none
-no_name ts none = refl
+-- no closing parenthesis is the first token
+abbrev IsOpen : List Symbol → Type 0
+IsOpen (punct kind.RightParen ∷ ts) = ⊥
+IsOpen ts = Unit {0}
 
-some_names : (ts : List Symbol) → HasNo kind.RightParen ts → parse_label_list ts ≡ (parse_label_names ts then λ y. Ok (labels y.0, y.1))
-some_names (punct kind.RightParen ∷ ts) none = absurd (none refl)
-some_names ts none = refl
+open_start : (ts : List Symbol) → HasNo kind.RightParen ts → IsOpen ts
+open_start (punct kind.RightParen ∷ ts) none = absurd (none refl)
+open_start ts none = tt
+
+abbrev end_of : Read LabelEnd → LabelEnd × List Symbol
+end_of (Ok x) = x
+end_of (Err e) = (closes, [])
+
+comma_open : (us vs : List Symbol) → parse_label_end us ≡ Ok (comma, vs) → IsOpen vs
+comma_open (punct kind.RightParen ∷ ts) vs e = let same : closes ≡ comma = ap (λ o. (end_of o).0) e in cc
+comma_open (punct kind.Comma ∷ (punct kind.RightParen ∷ ts)) vs e = let same : comma_closes ≡ comma = ap (λ o. (end_of o).0) e in cc
+comma_open (punct kind.Comma ∷ ts) vs e = let same : ts ≡ vs = ap (λ o. (end_of o).1) e in subst IsOpen same tt
+comma_open ts vs e = let same : closes ≡ comma = ap (λ o. (end_of o).0) e in cc
+
+no_more : (ts : List Symbol) → IsOpen ts → HasNoLabel ts → parse_label_list ts ≡ Err (misfit ts)
+no_more (punct kind.RightParen ∷ ts) free none = absurd free
+no_more (word k t ∷ (punct kind.RightParen ∷ ts)) free none = cond-false (may_be_label k) _ _ none
+no_more (word k t ∷ (punct kind.Comma ∷ ts)) free none = cond-false (may_be_label k) _ _ none
+no_more (word k t ∷ ts) free none = cond-false (may_be_label k) _ _ none
+no_more ts free none = refl
 
 -- labels were read, with a comma after each, and parsing goes on
 pub record Naming (all rest : List Symbol) (held : Result (List Text) BuildError) : Type 0 where
-  pub whole : Names → Names
-  pub goes : parse_label_list all ≡ (parse_label_names rest then λ y. Ok (labels (whole y.0), y.1))
-  pub built : (names : Names) → name_values (whole names) ≡ (held then λ ls. name_values names then λ ms. Ok (ls ++ ms))
+  pub whole : Labels → Labels
+  pub is_open : IsOpen rest
+  pub goes : parse_label_list all ≡ (parse_label_list rest then λ y. Ok (whole y.0, y.1))
+  pub built : (ls : Labels) → label_values (whole ls) ≡ (held then λ xs. label_values ls then λ ys. Ok (xs ++ ys))
 
 pub naming_starts : (all : List Symbol) → HasNo kind.RightParen all → Naming all all (Ok [])
 naming_starts all none = record {
-  whole = λ names. names;
-  goes = some_names all none;
-  built = λ names. then_ok (name_values names);
+  whole = λ ls. ls;
+  is_open = open_start all none;
+  goes = then_ok (parse_label_list all);
+  built = λ ls. then_ok (label_values ls);
 }
 
 values_on : (held : Result (List Text) BuildError) (l : Result Text BuildError) (ms : Result (List Text) BuildError)
@@ -82,41 +99,42 @@ comma_end comma none = refl
 
 module _ (all rest : List Symbol) (held : Result (List Text) BuildError) (naming : Naming all rest held) where
   step : (k : TokenKind) (t : Text) (us : List Symbol) → EatsLabel k t rest us
-      → parse_label_list all ≡ ((parse_label_end us then names_after k t) then λ y. Ok (labels (naming.whole y.0), y.1))
+      → parse_label_list all ≡ ((parse_label_end us then labels_after k t) then λ y. Ok (naming.whole y.0, y.1))
   step k t us takes =
-      naming.goes ∙ ap (λ o. o then λ y. Ok (labels (naming.whole y.0), y.1)) (ap parse_label_names takes.first ∙ names_step k t us takes.may)
+      naming.goes ∙ ap (λ o. o then λ y. Ok (naming.whole y.0, y.1)) (ap parse_label_list takes.first ∙ labels_step k t us takes.may)
 
   pub naming_none : HasNoLabel rest → parse_label_list all ≡ Err (misfit rest)
-  naming_none none = naming.goes ∙ ap (λ o. o then λ y. Ok (labels (naming.whole y.0), y.1)) (no_name rest none)
+  naming_none none = naming.goes ∙ ap (λ o. o then λ y. Ok (naming.whole y.0, y.1)) (no_more rest naming.is_open none)
 
   pub naming_fails : (e : Failure) (k : TokenKind) (t : Text) (us : List Symbol) → EatsLabel k t rest us → Fails e (parse_label_end us) → Fails e (parse_label_list all)
   naming_fails e k t us takes fails =
-      fails_same e _ _ (step k t us takes) (fails_then e (parse_label_end us then names_after k t) (λ y. Ok (labels (naming.whole y.0), y.1)) (fails_then e (parse_label_end us) (names_after k t) fails))
+      fails_same e _ _ (step k t us takes) (fails_then e (parse_label_end us then labels_after k t) (λ y. Ok (naming.whole y.0, y.1)) (fails_then e (parse_label_end us) (labels_after k t) fails))
 
   pub naming_on : (k : TokenKind) (t : Text) (us vs : List Symbol) (next_held : Result (List Text) BuildError) → EatsLabel k t rest us → parse_label_end us ≡ Ok (comma, vs) → next_held ≡ with_label held k t → Naming all vs next_held
   naming_on k t us vs next_held takes ends grows = record {
-    whole = λ names. naming.whole (next k t names);
+    whole = λ ls. naming.whole (next k t ls);
+    is_open = comma_open us vs ends;
     goes =
         step k t us takes
-        ∙ ap (λ o. (o then names_after k t) then λ y. Ok (labels (naming.whole y.0), y.1)) ends
-        ∙ then_then (parse_label_names vs) (λ y. Ok (next k t y.0, y.1)) (λ y. Ok (labels (naming.whole y.0), y.1));
-    built = λ names.
-        naming.built (next k t names)
-        ∙ values_on held (label_value k t) (name_values names)
-        ∙ ap (λ h. h then λ ls. name_values names then λ ms. Ok (ls ++ ms)) (sym grows);
+        ∙ ap (λ o. (o then labels_after k t) then λ y. Ok (naming.whole y.0, y.1)) ends
+        ∙ then_then (parse_label_list vs) (λ y. Ok (next k t y.0, y.1)) (λ y. Ok (naming.whole y.0, y.1));
+    built = λ ls.
+        naming.built (next k t ls)
+        ∙ values_on held (label_value k t) (label_values ls)
+        ∙ ap (λ h. h then λ xs. label_values ls then λ ys. Ok (xs ++ ys)) (sym grows);
   }
 
   pub naming_ends : (k : TokenKind) (t : Text) (us vs : List Symbol) (value : Result code.Labels (Box build_errors.BuildError Global)) (end : LabelEnd) → EatsLabel k t rest us → parse_label_end us ≡ Ok (end, vs) → ¬ (end ≡ comma) → view_result labels_of value ≡ with_label held k t
       → ParsesPart labels_of label_values value vs (parse_label_list all)
   naming_ends k t us vs value closes takes ends other grows = record {
-    part = labels (naming.whole (last k t));
-    is = step k t us takes ∙ ap (λ o. (o then names_after k t) then λ y. Ok (labels (naming.whole y.0), y.1)) ends;
+    part = naming.whole (last k t);
+    is = step k t us takes ∙ ap (λ o. (o then labels_after k t) then λ y. Ok (naming.whole y.0, y.1)) ends;
     built = grows ∙ sym (values_end held (label_value k t)) ∙ sym (naming.built (last k t));
   }
   naming_ends k t us vs value comma_closes takes ends other grows = record {
-    part = labels (naming.whole (last_comma k t));
-    is = step k t us takes ∙ ap (λ o. (o then names_after k t) then λ y. Ok (labels (naming.whole y.0), y.1)) ends;
-    built = grows ∙ sym (values_end held (label_value k t)) ∙ sym (naming.built (last_comma k t));
+    part = naming.whole (next k t no_label);
+    is = step k t us takes ∙ ap (λ o. (o then labels_after k t) then λ y. Ok (naming.whole y.0, y.1)) ends;
+    built = grows ∙ sym (values_end held (label_value k t)) ∙ sym (naming.built (next k t no_label));
   }
   naming_ends k t us vs value comma takes ends other grows = absurd (other refl)
 

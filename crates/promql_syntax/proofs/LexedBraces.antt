@@ -1,5 +1,5 @@
 -- The lexer reads printed matchers in braces as their tokens.
-use Rattle.std.proofs.Common.{◌≡◌, ℕ, refl, ap, arith, Bool, true, false, cond, ◌&&◌, Option, Some, None, List, [], ◌∷◌, ◌++◌, codes, ◌∙◌, Ok}
+use Rattle.std.proofs.Common.{◌≡◌, ℕ, refl, ap, arith, Bool, true, false, cond, not, ◌&&◌, Option, Some, None, List, [], ◌∷◌, ◌++◌, codes, ◌∙◌, Ok}
 use Rattle.std.specs.Prelude.{◌==◌, option_map, slice_index}
 use Rattle.std.specs.Str.{str_eq_ignore_ascii_case}
 use Rattle.promql_text.specs.Quoting.{quoted_text}
@@ -77,7 +77,7 @@ name_inside depth w r label stop apart = record {
 matcher_name_reads : (depth : ℕ) (name r : Text) → is_in class.Name (slice_index r 0) ≡ false → (slice_index r 0 == 32) ≡ false → Reads (inside depth) (inside depth) (word (matcher_kind name) (name_text name)) r
 matcher_name_reads depth name r stop apart = go (is_label name) refl
   where
-    go : (b : Bool) → is_label name ≡ b → Reads (inside depth) (inside depth) (word (cond b kind.Identifier kind.String) (cond b name (quoted_text name))) r
+    go : (b : Bool) → is_label name ≡ b → Reads (inside depth) (inside depth) (word (part.name_kind (not b)) (cond b name (quoted_text name))) r
     go true label = name_inside depth name r label stop apart
     go false label = quoted_inside depth name r
 

@@ -43,7 +43,7 @@ module _ (test : Text → Bool) (space : (z : Text) → test (32 ∷ z) ≡ true
   fills_end (fills (Some v) None) r ends = space _
   fills_end (fills None (Some w)) r ends = space _
   fills_end (fills (Some v) (Some w)) r ends =
-      cond_both (number_eq w v) (part.both (codes "fill") (value w)) (part.left_right (codes "fill_left") (value w) (codes "fill_right") (value v))
+      cond_both (number_eq w v) (part.both (codes "fill") (value w)) (part.two true (codes "fill_left") (value w) (codes "fill_right") (value v))
       (λ p. test (render (fills_line p) ++ r) ≡ true) (λ _. space _) (λ _. space _)
 
   parts_end : (c : Option Clause) (card : Cardinality) (f : Fills) (r : Text) → test r ≡ true → test (render (matching_line (matching_of_clause c (group card)) ++ fills_line (fill_words f)) ++ r) ≡ true

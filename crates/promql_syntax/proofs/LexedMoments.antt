@@ -1,6 +1,6 @@
 -- The lexer reads printed times after `@`, and printed offsets, as their tokens.
 use Rattle.std.proofs.Common.{◌≡◌, ℕ, zero, suc, ℤ, ◌-◌, ◌/◌, ◌%◌, ◌^◌, ◌<◌, ◌≤◌, refl, sym, ◌∙◌, subst, arith, Bool, true, false, cond, Option, Some, None, List, [], ◌∷◌, ◌++◌, length, length-append, codes, Ok}
-use Rattle.std.specs.Prelude.{nat_le, neg_ℤ, pos, unsigned_abs}
+use Rattle.std.specs.Prelude.{if◌then◌else◌, nat_le, neg_ℤ, pos, unsigned_abs}
 use Rattle.std.specs.Char.{digit_value, is_ascii_digit}
 use Rattle.std.specs.Fmt.{decimal}
 use Rattle.std.specs.Int.{is_negative}
@@ -22,7 +22,6 @@ use Rattle.promql_token.specs.Printed.{are_digits}
 use Rattle.promql_token.specs.declared.ids.TheConstants.{T_NUMBER}
 use Rattle.promql_token.proofs.Concatenation.{joins}
 use Rattle.promql_token.proofs.PrintedForms.{joins_number}
-use Rattle.promql_grammar.specs.declared.token_kinds.TokenKind.{TokenKind}
 use Rattle.promql_grammar.specs.declared.token_kinds.TokenKind.TheVariants as kind
 use Rattle.promql_grammar.specs.GrammarParts as part
 use Rattle.promql_grammar.specs.Symbols.{punct, symbol_of, word}
@@ -30,7 +29,8 @@ use Rattle.promql_ast.specs.AtTimes.{at_of_millis, at_of_number}
 use Rattle.promql_ast.specs.Shifts.{Shift, back, ahead, Moment, at_start, at_end, at_time}
 use Rattle.promql_syntax.proofs.Booleans.{and_both}
 use Rattle.promql_syntax.proofs.Lexes.{LexesBefore, at_depth, is_clear}
-use Rattle.promql_syntax.specs.PartBuilding.{at_fault, signed_number}
+use Rattle.promql_syntax.specs.PartBuilding.{signed_number}
+use Rattle.promql_syntax.specs.Postfixes.{at_fault}
 use Rattle.promql_syntax.proofs.PrintedItems.{Item, token, blank, postfix_line, render, signed_line}
 use Rattle.promql_syntax.proofs.PrintedParts.{moment, seconds_text, shift}
 use Rattle.promql_syntax.proofs.PrintedParts as printed
@@ -60,9 +60,10 @@ at_then test depth is more =
     blank_before test depth o (token (punct kind.At) ∷ blank ∷ is)
     (token_before test o o o (punct kind.At) (blank ∷ is) (λ r passes. at_reads depth (32 ∷ (render is ++ r))) (blank_before test depth o is more))
 
-bound_lex : (depth id : ℕ) (k : TokenKind) (w : Text) → is_word w ≡ true → ((r : Text) → word_id w r ≡ id) → symbol_of (id, w) ≡ word k w
-    → LexesBefore is_clear (at_depth depth) (at_depth depth) (postfix_line (part.at_bound k w))
-bound_lex depth id k w letters known symbol =
+bound_lex : (depth id : ℕ) (start : Bool) (w : Text) → is_word w ≡ true → ((r : Text) → word_id w r ≡ id) → symbol_of (id, w) ≡ word (if start then kind.Start else kind.End) w
+    → LexesBefore is_clear (at_depth depth) (at_depth depth) (postfix_line (part.at_bound start w))
+bound_lex depth id start w letters known symbol =
+    let k = if start then kind.Start else kind.End in
     let o = at_depth depth in
     let shut = token (punct kind.RightParen) ∷ [] in
     let empty = token (punct kind.LeftParen) ∷ shut in
@@ -161,8 +162,8 @@ moment_size t e =
 -- ---- times and offsets
 
 pub moment_lex : (depth : ℕ) (m : Moment) → IsMoment m → LexesBefore is_clear (at_depth depth) (at_depth depth) (postfix_line (moment m))
-moment_lex depth at_start is = bound_lex depth 76 kind.Start (codes "start") refl start_id refl
-moment_lex depth at_end is = bound_lex depth 77 kind.End (codes "end") refl end_id refl
+moment_lex depth at_start is = bound_lex depth 76 true (codes "start") refl start_id refl
+moment_lex depth at_end is = bound_lex depth 77 false (codes "end") refl end_id refl
 moment_lex depth (at_time t) is = at_time_lex depth t (moment_size t is)
 
 pub shift_lex : (depth : ℕ) (s : Shift) → IsShift (Some s) → LexesBefore is_clear (at_depth depth) (at_depth depth) (postfix_line (shift s))

@@ -155,8 +155,8 @@ last_word depth id k w letters known symbol =
     let o = at_depth depth in
     blank_before is_clear depth o (token (word k w) ∷ []) (last_before is_clear o o (word k w) (λ r clear. known_reads depth w r id k letters (known r) symbol (not_true _ (clear_ends r clear))))
 
-pub smoothed_lex : (depth : ℕ) → LexesBefore is_clear (at_depth depth) (at_depth depth) (postfix_line (part.mode kind.Smoothed (codes "smoothed")))
+pub smoothed_lex : (depth : ℕ) → LexesBefore is_clear (at_depth depth) (at_depth depth) (postfix_line (part.mode true (codes "smoothed")))
 smoothed_lex depth = last_word depth 67 kind.Smoothed (codes "smoothed") refl smoothed_id refl
 
-pub anchored_lex : (depth : ℕ) → LexesBefore is_clear (at_depth depth) (at_depth depth) (postfix_line (part.mode kind.Anchored (codes "anchored")))
+pub anchored_lex : (depth : ℕ) → LexesBefore is_clear (at_depth depth) (at_depth depth) (postfix_line (part.mode false (codes "anchored")))
 anchored_lex depth = last_word depth 68 kind.Anchored (codes "anchored") refl anchored_id refl

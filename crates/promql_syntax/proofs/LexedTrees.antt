@@ -291,8 +291,8 @@ module _ (g : Text → Answer) where
 
   mode_lexed : (mode : RangeMode) (d : Derivation) → LexesDerivation d → LexesDerivation (with_mode mode d)
   mode_lexed Plain d h = h
-  mode_lexed Smoothed d h = postfixed_lexed d (part.mode kind.Smoothed (codes "smoothed")) (λ r. refl) smoothed_lex h
-  mode_lexed Anchored d h = postfixed_lexed d (part.mode kind.Anchored (codes "anchored")) (λ r. refl) anchored_lex h
+  mode_lexed Smoothed d h = postfixed_lexed d (part.mode true (codes "smoothed")) (λ r. refl) smoothed_lex h
+  mode_lexed Anchored d h = postfixed_lexed d (part.mode false (codes "anchored")) (λ r. refl) anchored_lex h
 
   at_lexed : (a : Option Moment) (d : Derivation) → IsAnyMoment a → LexesDerivation d → LexesDerivation (with_at a d)
   at_lexed None d is h = h

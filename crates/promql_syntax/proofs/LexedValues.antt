@@ -97,7 +97,7 @@ fills_lex depth None None a b = nothing (at_depth depth)
 fills_lex depth (Some r) None a b = fill_last depth 73 kind.FillRight (codes "fill_right") r refl fill_right_id refl a
 fills_lex depth None (Some l) a b = fill_last depth 72 kind.FillLeft (codes "fill_left") l refl fill_left_id refl b
 fills_lex depth (Some r) (Some l) a b =
-    cond_both (number_eq l r) (part.both (codes "fill") (value l)) (part.left_right (codes "fill_left") (value l) (codes "fill_right") (value r)) (λ f. Lexes (at_depth depth) (at_depth depth) (fills_line f))
+    cond_both (number_eq l r) (part.both (codes "fill") (value l)) (part.two true (codes "fill_left") (value l) (codes "fill_right") (value r)) (λ f. Lexes (at_depth depth) (at_depth depth) (fills_line f))
     (λ _. fill_last depth 71 kind.Fill (codes "fill") l refl fill_id refl b)
     (λ _. fill_then depth 72 kind.FillLeft (codes "fill_left") l (blank ∷ token (word kind.FillRight (codes "fill_right")) ∷ value_line (value r)) refl fill_left_id refl b
     (fill_last depth 73 kind.FillRight (codes "fill_right") r refl fill_right_id refl a))

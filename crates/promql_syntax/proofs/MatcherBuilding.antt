@@ -2,9 +2,7 @@
 use Rattle.std.proofs.Common.{◌≡◌, refl, true, false, List, [], ◌∷◌}
 use Rattle.std.specs.Prelude.{Result, Ok, Err}
 use Rattle.promql_text.specs.Texts.{Text}
-use Rattle.promql_grammar.specs.declared.token_kinds.TokenKind.TheVariants as kind
 use Rattle.promql_grammar.specs.GrammarParts.{MatchOperator, equal, not_equal, equal_regex, not_equal_regex, Item, Separator, comma, or}
-use Rattle.promql_grammar.specs.declared.matcher_tokens.MatchOperator as code
 use Rattle.promql_grammar.specs.declared.matcher_tokens.MatchOperator.TheVariants as operators
 use Rattle.promql_grammar.specs.MatcherTokens.{operator_of_part, is_or}
 use Rattle.promql_label.specs.Answers.{Answer, Allows, built, rejected}

@@ -22,10 +22,10 @@ use Rattle.promql_syntax.specs.declared.grammar.postfix.ParsedPostfix.{ParsedPos
 use Rattle.promql_syntax.specs.declared.grammar.postfix.Postfix as code
 use Rattle.promql_syntax.specs.BuildErrors.{build_error_of, view_result}
 use Rattle.promql_syntax.specs.ParsesPart.{ParsesPart}
-use Rattle.promql_syntax.specs.PartBuilding.{at_fault, signed_number}
+use Rattle.promql_syntax.specs.PartBuilding.{signed_number}
 use Rattle.promql_syntax.specs.Placing.{AreTokens, tokens_between}
 use Rattle.promql_syntax.specs.declared.grammar.place.Place.{Place}
-use Rattle.promql_syntax.specs.Postfixes.{IsMomentAt, change_of, to_moment, ParsesPostfix, parse_range}
+use Rattle.promql_syntax.specs.Postfixes.{IsMomentAt, ParsesPostfix, at_fault, change_of, parse_range, to_moment}
 use Rattle.promql_syntax.proofs.Bases.{postfix_length}
 use Rattle.promql_syntax.proofs.TokenFaults.{FailsByToken, IsTokenFault, signed_by}
 use Rattle.promql_syntax.proofs.ResultSteps.{fails_same, fails_then, then_then}

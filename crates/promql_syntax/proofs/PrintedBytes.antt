@@ -123,8 +123,8 @@ suffix_bytes (Some s) a d t e =
 
 pub mode_bytes : (m : RangeMode) (d : Derivation) (t : Text) → render (line d) ≡ t → render (line (with_mode m d)) ≡ t ++ mode_text m
 mode_bytes Plain d t e = e ∙ sym (append-nil t)
-mode_bytes Smoothed d t e = render_both (line d) (postfix_line (part.mode kind.Smoothed (codes "smoothed"))) t _ e refl
-mode_bytes Anchored d t e = render_both (line d) (postfix_line (part.mode kind.Anchored (codes "anchored"))) t _ e refl
+mode_bytes Smoothed d t e = render_both (line d) (postfix_line (part.mode true (codes "smoothed"))) t _ e refl
+mode_bytes Anchored d t e = render_both (line d) (postfix_line (part.mode false (codes "anchored"))) t _ e refl
 
 -- ---- modifiers
 
@@ -161,7 +161,7 @@ fills_bytes (fills (Some r) None) = ap (λ t. codes " fill_right" ++ t) (value_b
 fills_bytes (fills None (Some l)) = ap (λ t. codes " fill_left" ++ t) (value_bytes l)
 fills_bytes (fills (Some r) (Some l)) = go (number_eq l r)
   where
-    go : (b : Bool) → render (fills_line (cond b (part.both (codes "fill") (value l)) (part.left_right (codes "fill_left") (value l) (codes "fill_right") (value r))))
+    go : (b : Bool) → render (fills_line (cond b (part.both (codes "fill") (value l)) (part.two true (codes "fill_left") (value l) (codes "fill_right") (value r))))
         ≡ cond b (fill_text (codes " fill (") l) (fill_text (codes " fill_left (") l ++ fill_text (codes " fill_right (") r)
     go true = ap (λ t. codes " fill" ++ t) (value_bytes l)
     go false =

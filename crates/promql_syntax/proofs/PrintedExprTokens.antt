@@ -1,13 +1,15 @@
 -- The items of a printed line, without white space, are the tokens of its derivation.
-use Rattle.std.proofs.Common.{◌≡◌, ℕ, zero, suc, ◌+◌, refl, sym, ◌∙◌, ap, Bool, true, false, cond, Option, Some, None, List, [], ◌∷◌, ◌++◌, append-nil, append_assoc}
+use Rattle.std.proofs.Common.{◌≡◌, ℕ, zero, suc, ◌+◌, refl, sym, ◌∙◌, ap, Bool, true, false, cond, not, Option, Some, None, List, [], ◌∷◌, ◌++◌, append-nil, append_assoc}
+use Rattle.std.specs.Prelude.{if◌then◌else◌}
 use Rattle.promql_text.specs.Texts.{Text}
 use Rattle.promql_ast.specs.Lines.{is_longer}
 use Rattle.promql_grammar.specs.declared.token_kinds.TokenKind.TheVariants as kind
 use Rattle.promql_grammar.specs.Grammar as grammar
 use Rattle.promql_grammar.specs.Grammar.{Derivation, Arguments, yield, yield_arguments, yield_rest}
 use Rattle.promql_grammar.specs.GrammarParts as part
+use Rattle.promql_grammar.specs.PartTokens.{yield_flag, yield_step}
 use Rattle.promql_grammar.specs.Symbols.{Symbol, punct, word}
-use Rattle.promql_syntax.proofs.PrintedItems.{Item, token, blank, newline, strip, Spacing, close, wide, spacing, after_line, any_braces_line, arguments_line, before_line, braces_line, fills_line, flag_line, group_line, grouping_line, item_line, items_line, labels_line, line, matching_line, modifier_line, names_line, postfix_line, rest_line, separator_line, signed_line, step_line, time_line, value_line, arguments_lines, choose_items, closing_line, indent_items, lines, render, rest_lines, trim_items}
+use Rattle.promql_syntax.proofs.PrintedItems.{Item, token, blank, newline, strip, Spacing, close, wide, spacing, after_line, any_braces_line, arguments_line, before_line, braces_line, fills_line, flag_line, group_line, grouping_line, item_line, items_line, labels_line, line, matching_line, modifier_line, names_line, postfix_line, rest_line, separator_line, side_line, signed_line, step_line, time_line, value_line, arguments_lines, choose_items, closing_line, indent_items, lines, render, rest_lines, trim_items}
 
 pub strip_append : (is js : List Item) → strip (is ++ js) ≡ strip is ++ strip js
 strip_append [] js = refl
@@ -25,23 +27,21 @@ time_tokens (part.duration text) = refl
 
 signed_tokens : (s : part.Signed) → strip (signed_line s) ≡ part.yield_signed s
 signed_tokens part.unsigned = refl
-signed_tokens (part.signed op text) = refl
+signed_tokens (part.signed minus text) = refl
 
-names_tokens : (n : part.Names) → strip (names_line n) ≡ part.yield_names n
+names_tokens : (n : part.Labels) → strip (names_line n) ≡ part.yield_names n
+names_tokens part.no_label = refl
 names_tokens (part.last k text) = refl
-names_tokens (part.last_comma k text) = refl
-names_tokens (part.next k text names) = ap (λ ts. word k text ∷ punct kind.Comma ∷ ts) (names_tokens names)
+names_tokens (part.next k text ls) = ap (λ ts. word k text ∷ punct kind.Comma ∷ ts) (names_tokens ls)
 
 labels_tokens : (ls : part.Labels) → strip (labels_line ls) ≡ part.yield_labels ls
-labels_tokens part.no_label = refl
-labels_tokens (part.labels names) = ap (λ ts. punct kind.LeftParen ∷ ts) (names_tokens names)
+labels_tokens ls = ap (λ ts. punct kind.LeftParen ∷ ts) (names_tokens ls)
 
 spaced_labels : (ls : part.Labels) → strip (labels_line ls ++ blank ∷ []) ≡ part.yield_labels ls
 spaced_labels ls = both (labels_line ls) (blank ∷ []) _ [] (labels_tokens ls) refl ∙ append-nil (part.yield_labels ls)
 
 grouping_tokens : (g : part.Grouping) → strip (grouping_line g) ≡ part.yield_grouping g
-grouping_tokens (part.by text ls) = ap (λ ts. word kind.By text ∷ ts) (spaced_labels ls)
-grouping_tokens (part.without text ls) = ap (λ ts. word kind.Without text ∷ ts) (spaced_labels ls)
+grouping_tokens (part.grouping by text ls) = ap (λ ts. word (if by then kind.By else kind.Without) text ∷ ts) (spaced_labels ls)
 
 before_tokens : (c : part.Clause) → strip (before_line c) ≡ part.yield_before c
 before_tokens part.no_clause = refl
@@ -55,27 +55,26 @@ after_tokens (part.after g) = grouping_tokens g
 
 group_tokens : (g : part.Group) → strip (group_line g) ≡ part.yield_group g
 group_tokens part.no_group = refl
-group_tokens (part.bare k text) = refl
-group_tokens (part.listed k text ls) = ap (λ ts. word k text ∷ ts) (labels_tokens ls)
+group_tokens (part.bare left text) = refl
+group_tokens (part.listed left text ls) = ap (λ ts. word (if left then kind.GroupLeft else kind.GroupRight) text ∷ ts) (labels_tokens ls)
 
 matching_tokens : (m : part.Matching) → strip (matching_line m) ≡ part.yield_matching m
 matching_tokens part.no_matching = refl
-matching_tokens (part.matching k text ls g) = ap (λ ts. word k text ∷ ts) (both (labels_line ls) (group_line g) _ _ (labels_tokens ls) (group_tokens g))
+matching_tokens (part.matching on text ls g) = ap (λ ts. word (if on then kind.On else kind.Ignoring) text ∷ ts) (both (labels_line ls) (group_line g) _ _ (labels_tokens ls) (group_tokens g))
 
 value_tokens : (v : part.FillValue) → strip (value_line v) ≡ part.yield_value v
 value_tokens v = ap (λ ts. punct kind.LeftParen ∷ ts) (both (signed_line v.sign) (token (word kind.Number v.number) ∷ token (punct kind.RightParen) ∷ []) _ _ (signed_tokens v.sign) refl)
 
+side_tokens : (left : Bool) (text : Text) (v : part.FillValue) → strip (side_line left text v) ≡ part.yield_side left text v
+side_tokens left text v = ap (λ ts. word (if left then kind.FillLeft else kind.FillRight) text ∷ ts) (value_tokens v)
+
 fills_tokens : (f : part.Fills) → strip (fills_line f) ≡ part.yield_fills f
 fills_tokens part.no_fill = refl
 fills_tokens (part.both text v) = ap (λ ts. word kind.Fill text ∷ ts) (value_tokens v)
-fills_tokens (part.left text v) = ap (λ ts. word kind.FillLeft text ∷ ts) (value_tokens v)
-fills_tokens (part.right text v) = ap (λ ts. word kind.FillRight text ∷ ts) (value_tokens v)
-fills_tokens (part.left_right text v text' w) =
-    ap (λ ts. word kind.FillLeft text ∷ ts) (both (value_line v) (blank ∷ token (word kind.FillRight text') ∷ value_line w) _ _ (value_tokens v) (ap (λ ts. word kind.FillRight text' ∷ ts) (value_tokens w)))
-fills_tokens (part.right_left text v text' w) =
-    ap (λ ts. word kind.FillRight text ∷ ts) (both (value_line v) (blank ∷ token (word kind.FillLeft text') ∷ value_line w) _ _ (value_tokens v) (ap (λ ts. word kind.FillLeft text' ∷ ts) (value_tokens w)))
+fills_tokens (part.one left text v) = side_tokens left text v
+fills_tokens (part.two left text v text' w) = both (side_line left text v) (side_line (not left) text' w) _ _ (side_tokens left text v) (side_tokens (not left) text' w)
 
-flag_tokens : (f : Option Text) → strip (flag_line f) ≡ part.yield_flag f
+flag_tokens : (f : Option Text) → strip (flag_line f) ≡ yield_flag f
 flag_tokens None = refl
 flag_tokens (Some text) = refl
 
@@ -85,7 +84,7 @@ modifier_tokens m =
     (both (matching_line m.matching) (fills_line m.fills) _ _ (matching_tokens m.matching) (fills_tokens m.fills))
 
 item_tokens : (i : part.Item) → strip (item_line i) ≡ part.yield_item i
-item_tokens (part.matcher k text s value) = refl
+item_tokens (part.matcher quoted text s value) = refl
 item_tokens (part.lone text) = refl
 
 separator_tokens : (s : Spacing) (t : part.Separator) → strip (separator_line s t) ≡ part.yield_separator t ∷ []
@@ -108,7 +107,7 @@ any_braces_tokens : (b : Option part.Braces) → strip (any_braces_line b) ≡ p
 any_braces_tokens None = refl
 any_braces_tokens (Some b) = braces_tokens b
 
-step_tokens : (s : Option part.Time) → strip (step_line s) ≡ part.yield_step s
+step_tokens : (s : Option part.Time) → strip (step_line s) ≡ yield_step s
 step_tokens None = refl
 step_tokens (Some t) = time_tokens t
 
@@ -118,9 +117,9 @@ postfix_tokens (part.subquery t s) =
     ap (λ ts. punct kind.LeftBracket ∷ ts) (both (time_line t) (token (punct kind.Colon) ∷ (step_line s ++ token (punct kind.RightBracket) ∷ [])) _ _ (time_tokens t)
     (ap (λ ts. punct kind.Colon ∷ ts) (both (step_line s) (token (punct kind.RightBracket) ∷ []) _ _ (step_tokens s) refl)))
 postfix_tokens (part.at_number s text) = ap (λ ts. punct kind.At ∷ ts) (both (signed_line s) (token (word kind.Number text) ∷ []) _ _ (signed_tokens s) refl)
-postfix_tokens (part.at_bound k text) = refl
+postfix_tokens (part.at_bound start text) = refl
 postfix_tokens (part.offset text s t) = ap (λ ts. word kind.Offset text ∷ ts) (both (signed_line s) (time_line t) _ _ (signed_tokens s) (time_tokens t))
-postfix_tokens (part.mode k text) = refl
+postfix_tokens (part.mode smoothed text) = refl
 
 mutual
   pub line_tokens : (d : Derivation) → strip (line d) ≡ yield d

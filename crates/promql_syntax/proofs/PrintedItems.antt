@@ -1,7 +1,8 @@
 -- A printed tree as parts with the white space between them (docs/reference/printing.md, "Nodes"), from the derivation
 -- of its text.
-use Rattle.std.specs.Prelude.{ℕ, zero, suc, ◌+◌, if◌then◌else◌, Option, Some, None, List, [], ◌∷◌, ◌++◌, codes}
+use Rattle.std.specs.Prelude.{ℕ, zero, suc, ◌+◌, Bool, not, if◌then◌else◌, Option, Some, None, List, [], ◌∷◌, ◌++◌, codes}
 use Rattle.promql_text.specs.Texts.{Text, code}
+use Rattle.promql_token.specs.declared.ids.TheConstants.{T_ADD, T_SUB}
 use Rattle.promql_ast.specs.Lines.{is_longer}
 use Rattle.promql_grammar.specs.declared.token_kinds.TokenKind.{TokenKind}
 use Rattle.promql_grammar.specs.declared.token_kinds.TokenKind.TheVariants as kind
@@ -57,20 +58,18 @@ time_line (part.duration text) = token (word kind.Duration text) ∷ []
 
 abbrev pub signed_line : part.Signed → List Item
 signed_line part.unsigned = []
-signed_line (part.signed op text) = token (word (kind.Operator op) text) ∷ []
+signed_line (part.signed minus text) = token (word (kind.Operator (if minus then T_SUB else T_ADD)) text) ∷ []
 
-abbrev pub names_line : part.Names → List Item
+abbrev pub names_line : part.Labels → List Item
+names_line part.no_label = token (punct kind.RightParen) ∷ []
 names_line (part.last k text) = token (word k text) ∷ token (punct kind.RightParen) ∷ []
-names_line (part.last_comma k text) = token (word k text) ∷ token (punct kind.Comma) ∷ token (punct kind.RightParen) ∷ []
-names_line (part.next k text names) = token (word k text) ∷ token (punct kind.Comma) ∷ blank ∷ names_line names
+names_line (part.next k text ls) = token (word k text) ∷ token (punct kind.Comma) ∷ blank ∷ names_line ls
 
 abbrev pub labels_line : part.Labels → List Item
-labels_line part.no_label = token (punct kind.LeftParen) ∷ token (punct kind.RightParen) ∷ []
-labels_line (part.labels names) = token (punct kind.LeftParen) ∷ names_line names
+labels_line ls = token (punct kind.LeftParen) ∷ names_line ls
 
 abbrev pub grouping_line : part.Grouping → List Item
-grouping_line (part.by text ls) = blank ∷ token (word kind.By text) ∷ blank ∷ (labels_line ls ++ blank ∷ [])
-grouping_line (part.without text ls) = blank ∷ token (word kind.Without text) ∷ blank ∷ (labels_line ls ++ blank ∷ [])
+grouping_line (part.grouping by text ls) = blank ∷ token (word (if by then kind.By else kind.Without) text) ∷ blank ∷ (labels_line ls ++ blank ∷ [])
 
 abbrev pub before_line : part.Clause → List Item
 before_line (part.before g) = grouping_line g
@@ -82,23 +81,24 @@ after_line _ = []
 
 abbrev pub group_line : part.Group → List Item
 group_line part.no_group = []
-group_line (part.bare k text) = blank ∷ token (word k text) ∷ []
-group_line (part.listed k text ls) = blank ∷ token (word k text) ∷ blank ∷ labels_line ls
+group_line (part.bare left text) = blank ∷ token (word (if left then kind.GroupLeft else kind.GroupRight) text) ∷ []
+group_line (part.listed left text ls) = blank ∷ token (word (if left then kind.GroupLeft else kind.GroupRight) text) ∷ blank ∷ labels_line ls
 
 abbrev pub matching_line : part.Matching → List Item
 matching_line part.no_matching = []
-matching_line (part.matching k text ls g) = blank ∷ token (word k text) ∷ blank ∷ (labels_line ls ++ group_line g)
+matching_line (part.matching on text ls g) = blank ∷ token (word (if on then kind.On else kind.Ignoring) text) ∷ blank ∷ (labels_line ls ++ group_line g)
 
 abbrev pub value_line : part.FillValue → List Item
 value_line v = blank ∷ token (punct kind.LeftParen) ∷ (signed_line v.sign ++ token (word kind.Number v.number) ∷ token (punct kind.RightParen) ∷ [])
 
+abbrev pub side_line : Bool → Text → part.FillValue → List Item
+side_line left text v = blank ∷ token (word (if left then kind.FillLeft else kind.FillRight) text) ∷ value_line v
+
 abbrev pub fills_line : part.Fills → List Item
 fills_line part.no_fill = []
 fills_line (part.both text v) = blank ∷ token (word kind.Fill text) ∷ value_line v
-fills_line (part.left text v) = blank ∷ token (word kind.FillLeft text) ∷ value_line v
-fills_line (part.right text v) = blank ∷ token (word kind.FillRight text) ∷ value_line v
-fills_line (part.left_right text v text' w) = blank ∷ token (word kind.FillLeft text) ∷ (value_line v ++ blank ∷ token (word kind.FillRight text') ∷ value_line w)
-fills_line (part.right_left text v text' w) = blank ∷ token (word kind.FillRight text) ∷ (value_line v ++ blank ∷ token (word kind.FillLeft text') ∷ value_line w)
+fills_line (part.one left text v) = side_line left text v
+fills_line (part.two left text v text' w) = side_line left text v ++ side_line (not left) text' w
 
 abbrev pub flag_line : Option Text → List Item
 flag_line None = []
@@ -108,7 +108,7 @@ abbrev pub modifier_line : part.Modifier → List Item
 modifier_line m = flag_line m.flag ++ (matching_line m.matching ++ fills_line m.fills)
 
 abbrev pub item_line : part.Item → List Item
-item_line (part.matcher k text s value) = token (word k text) ∷ token (part.yield_match_operator s) ∷ token (word kind.String value) ∷ []
+item_line (part.matcher quoted text s value) = token (word (part.name_kind quoted) text) ∷ token (part.yield_match_operator s) ∷ token (word kind.String value) ∷ []
 item_line (part.lone text) = token (word kind.String text) ∷ []
 
 -- matchers in groups have a space after a comma, all others have none
@@ -148,9 +148,9 @@ abbrev pub postfix_line : part.Postfix → List Item
 postfix_line (part.range t) = token (punct kind.LeftBracket) ∷ (time_line t ++ token (punct kind.RightBracket) ∷ [])
 postfix_line (part.subquery t s) = token (punct kind.LeftBracket) ∷ (time_line t ++ token (punct kind.Colon) ∷ (step_line s ++ token (punct kind.RightBracket) ∷ []))
 postfix_line (part.at_number s text) = blank ∷ token (punct kind.At) ∷ blank ∷ (signed_line s ++ token (word kind.Number text) ∷ [])
-postfix_line (part.at_bound k text) = blank ∷ token (punct kind.At) ∷ blank ∷ token (word k text) ∷ token (punct kind.LeftParen) ∷ token (punct kind.RightParen) ∷ []
+postfix_line (part.at_bound start text) = blank ∷ token (punct kind.At) ∷ blank ∷ token (word (if start then kind.Start else kind.End) text) ∷ token (punct kind.LeftParen) ∷ token (punct kind.RightParen) ∷ []
 postfix_line (part.offset text s t) = blank ∷ token (word kind.Offset text) ∷ blank ∷ (signed_line s ++ time_line t)
-postfix_line (part.mode k text) = blank ∷ token (word k text) ∷ []
+postfix_line (part.mode smoothed text) = blank ∷ token (word (if smoothed then kind.Smoothed else kind.Anchored) text) ∷ []
 
 -- ---- one line
 

@@ -194,13 +194,13 @@ module _ (level most : ℕ) where
 
   mode_lines : (m : RangeMode) (d : Derivation) (t : Text) → render (lines d level most) ≡ t → render (lines (with_mode m d) level most) ≡ t ++ mode_text m
   mode_lines Plain d t e = e ∙ sym (append-nil t)
-  mode_lines Smoothed d t e = render_both (lines d level most) (postfix_line (part.mode kind.Smoothed (codes "smoothed"))) t _ e refl
-  mode_lines Anchored d t e = render_both (lines d level most) (postfix_line (part.mode kind.Anchored (codes "anchored"))) t _ e refl
+  mode_lines Smoothed d t e = render_both (lines d level most) (postfix_line (part.mode true (codes "smoothed"))) t _ e refl
+  mode_lines Anchored d t e = render_both (lines d level most) (postfix_line (part.mode false (codes "anchored"))) t _ e refl
 
   mode_fronted : (m : RangeMode) (d : Derivation) → HasFront (lines d level most) → HasFront (lines (with_mode m d) level most)
   mode_fronted Plain d h = h
-  mode_fronted Smoothed d h = has_front_append (lines d level most) (postfix_line (part.mode kind.Smoothed (codes "smoothed"))) h
-  mode_fronted Anchored d h = has_front_append (lines d level most) (postfix_line (part.mode kind.Anchored (codes "anchored"))) h
+  mode_fronted Smoothed d h = has_front_append (lines d level most) (postfix_line (part.mode true (codes "smoothed"))) h
+  mode_fronted Anchored d h = has_front_append (lines d level most) (postfix_line (part.mode false (codes "anchored"))) h
 
   base_lines : (name : Option Text) (b : Option part.Braces) → lines (derive_base name b) level most ≡ indent_items level (line (derive_base name b))
   base_lines (Some name) b = refl
@@ -228,8 +228,8 @@ suffix_front (Some s) a d h = has_front_append (line (with_at a d)) (postfix_lin
 
 mode_front : (m : RangeMode) (d : Derivation) → HasFront (line d) → HasFront (line (with_mode m d))
 mode_front Plain d h = h
-mode_front Smoothed d h = has_front_append (line d) (postfix_line (part.mode kind.Smoothed (codes "smoothed"))) h
-mode_front Anchored d h = has_front_append (line d) (postfix_line (part.mode kind.Anchored (codes "anchored"))) h
+mode_front Smoothed d h = has_front_append (line d) (postfix_line (part.mode true (codes "smoothed"))) h
+mode_front Anchored d h = has_front_append (line d) (postfix_line (part.mode false (codes "anchored"))) h
 
 nameless_front : (b : Option part.Braces) → HasFront (line (derive_base None b))
 nameless_front None = refl

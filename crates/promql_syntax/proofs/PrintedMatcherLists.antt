@@ -1,11 +1,10 @@
 -- Printed matchers read back in the order of their texts, or in their groups.
-use Rattle.std.proofs.Common.{◌≡◌, refl, sym, ◌∙◌, ap, subst, Bool, true, false, cond, ◌&&◌, ◌||◌, Option, Some, None, List, [], ◌∷◌, ◌++◌, append-nil, append_assoc, codes, is_gt}
+use Rattle.std.proofs.Common.{◌≡◌, refl, sym, ◌∙◌, ap, subst, Bool, true, false, cond, not, ◌&&◌, ◌||◌, Option, Some, None, List, [], ◌∷◌, ◌++◌, append-nil, append_assoc, codes, is_gt}
 use Rattle.std.specs.Prelude.{Result, Ok, find, option_map}
 use Rattle.std.specs.List.{flat_map, list_all, list_any}
 use Rattle.promql_text.specs.Quoting.{quoted_text}
 use Rattle.promql_text.specs.Texts.{Text}
 use Rattle.promql_token.specs.Classes.{is_label}
-use Rattle.promql_grammar.specs.declared.token_kinds.TokenKind.TheVariants as kind
 use Rattle.promql_grammar.specs.GrammarParts as part
 use Rattle.promql_label.specs.Answers.{Answer, built, rejected}
 use Rattle.promql_label.specs.PlainMatchers.{Operator, equal, matches, matches_not, PlainMatcher, plain_matcher, PlainMatchers, plain_matchers, name_text, matcher_text, is_of, value_of, holds, append_plain, appended_or, grown}
@@ -17,7 +16,8 @@ use Rattle.promql_ast.specs.Normal.{normal_matchers}
 use Rattle.promql_ast.specs.check.VectorChecks.{name_fault, second_name}
 use Rattle.promql_syntax.specs.Asking.{gives, ◌giving◌, known, under}
 use Rattle.promql_syntax.specs.BuildErrors.{BuildError}
-use Rattle.promql_syntax.specs.PartBuilding.{any_braces_value, braces_value, item_value, items_value, append_matcher, label_value, operator_value, pattern_operator, string_value}
+use Rattle.promql_syntax.specs.PartBuilding.{braces_value, item_value, items_value, append_matcher, label_value, operator_value, pattern_operator, string_value}
+use Rattle.promql_syntax.specs.Atoms.{any_braces_value}
 use Rattle.promql_syntax.proofs.PrintedParts.{any_items, braces, items_of, group_items, item, match_operator, matcher_kind, or_items}
 use Rattle.promql_syntax.proofs.PrintedTimesAndLabels.{string_again}
 use Rattle.promql_syntax.proofs.SingleAnswers.{giving_steps, giving_leads, known_steps, known_leads, same_ok}
@@ -47,8 +47,8 @@ module _ (g : Text → Answer) where
   operator_stands part.not_equal_regex v op e = matches_not_stands v op (g v) refl e
 
   item_stands : (i : part.Item) (c : PlainMatcher) → under g (item_value i) ≡ Ok c → Stands c
-  item_stands (part.matcher k text s string) c e =
-      let name = known_steps g (label_value k text) (λ n. known (string_value string) giving λ v. operator_value s v giving λ op. gives (plain_matcher op n v)) c e in
+  item_stands (part.matcher quoted text s string) c e =
+      let name = known_steps g (label_value (part.name_kind quoted) text) (λ n. known (string_value string) giving λ v. operator_value s v giving λ op. gives (plain_matcher op n v)) c e in
       let value = known_steps g (string_value string) (λ v. operator_value s v giving λ op. gives (plain_matcher op name.value v)) c name.leads in
       let op = giving_steps g (operator_value s value.value) (λ op. gives (plain_matcher op name.value value.value)) c value.leads in
       subst Stands (same_ok _ _ _ _ refl refl op.leads) (operator_stands s value.value op.value op.is)
@@ -59,7 +59,7 @@ module _ (g : Text → Answer) where
   name_again : (name : Text) → label_value (matcher_kind name) (name_text name) ≡ Ok name
   name_again name = go (is_label name)
     where
-      go : (b : Bool) → label_value (cond b kind.Identifier kind.String) (cond b name (quoted_text name)) ≡ Ok name
+      go : (b : Bool) → label_value (part.name_kind (not b)) (cond b name (quoted_text name)) ≡ Ok name
       go true = refl
       go false = string_again name
 
@@ -320,38 +320,3 @@ named_again (Some name) (plain_matchers cs gs) e =
     ap (λ o. second_name name (option_map value_of o)) (found_none p (sorted_matchers cs ++ rest) (sorted_any p cs rest ∙ none))
 named_again None (plain_matchers cs gs) e =
     ap (λ b. when b build_errors.empty_selector) (sorted_all (λ c. holds c []) cs (flat_map (λ g. g) gs)) ∙ e
-
--- ---- the grammar's conditions
-
-item_formed : (c : PlainMatcher) → part.IsItem (item c)
-item_formed (plain_matcher op name v) = go (is_label name)
-  where
-    go : (b : Bool) → part.is_matcher_name (cond b kind.Identifier kind.String) ≡ true
-    go true = refl
-    go false = refl
-
-abbrev AreMore : Option (part.Separator × part.Items) → Type 0
-AreMore None = Unit {0}
-AreMore (Some (s, is)) = part.AreItems is
-
-group_formed : (c : PlainMatcher) (ds : List PlainMatcher) (more : Option (part.Separator × part.Items)) → AreMore more → part.AreItems (group_items c ds more)
-group_formed c [] None h = item_formed c
-group_formed c [] (Some (s, is)) h = (item_formed c, h)
-group_formed c (d ∷ ds) more h = (item_formed c, group_formed d ds more h)
-
-groups_formed : (gs : List (List PlainMatcher)) → AreMore (or_items gs)
-groups_formed [] = tt
-groups_formed ([] ∷ gs) = groups_formed gs
-groups_formed ((c ∷ cs) ∷ gs) = group_formed c cs (or_items gs) (groups_formed gs)
-
-pub braces_formed : (cs : PlainMatchers) → part.IsAnyBraces (braces cs)
-braces_formed (plain_matchers plain []) = go (sorted_matchers plain)
-  where
-    go : (cs : List PlainMatcher) → part.IsAnyBraces (any_items cs)
-    go [] = tt
-    go (c ∷ cs) = group_formed c cs None tt
-braces_formed (plain_matchers plain (h ∷ gs)) = go (or_items (h ∷ gs)) (groups_formed (h ∷ gs))
-  where
-    go : (more : Option (part.Separator × part.Items)) → AreMore more → part.IsAnyBraces (option_map (λ x. part.items x.1) more)
-    go None h = tt
-    go (Some (s, is)) h = h

@@ -5,8 +5,6 @@ use Rattle.promql_text.specs.Texts.{Text}
 use Rattle.promql_text.specs.Values.{IsNumber}
 use Rattle.promql_text.specs.declared.number.Number.{Number}
 use Rattle.promql_token.specs.Ids.{is_operator, is_comparison_operator, is_set_operator}
-use Rattle.promql_grammar.specs.declared.token_kinds.TokenKind.{TokenKind}
-use Rattle.promql_grammar.specs.declared.token_kinds.TokenKind.TheVariants as kind
 use Rattle.promql_grammar.specs.Results.{◌then◌}
 use Rattle.promql_grammar.specs.GrammarParts as part
 use Rattle.promql_grammar.specs.Grammar.{FitsMatching}
@@ -22,7 +20,7 @@ use Rattle.promql_ast.specs.Tree.{Tree, binary}
 use Rattle.promql_ast.specs.Types.{type_of}
 use Rattle.promql_ast.specs.check.BinaryChecks.{checked_binary, first_twice, label_fault, operator_fault, set_fault, settle_matching, settled_set, side_fault}
 use Rattle.promql_syntax.specs.BuildErrors.{BuildError}
-use Rattle.promql_syntax.specs.PartBuilding.{cardinality, fill_value, fills_value, group_value, is_blank, label_values, matching_clause, matching_value, modifier_value}
+use Rattle.promql_syntax.specs.PartBuilding.{cardinality, fill_value, fills_value, group_value, is_blank, label_values, matching_value, modifier_value}
 use Rattle.promql_syntax.proofs.PrintedParts.{fill_words, flag, group, labels, matching_of_clause, modifier, value}
 use Rattle.promql_syntax.proofs.PrintedTimesAndLabels.{signed_again, signed_is}
 use Rattle.promql_syntax.proofs.PrintedWords.{labels_again, labels_formed}
@@ -61,25 +59,25 @@ abbrev pub IsWritten : Option Matching → Type 0
 IsWritten None = Unit {0}
 IsWritten (Some (matching card c return_bool values)) = IsWrittenCard card
 
-cardinality_written : (k : TokenKind) (ls : List Text) → IsWrittenCard (cardinality k ls)
-cardinality_written kind.GroupLeft ls = tt
-cardinality_written k ls = tt
+cardinality_written : (left : Bool) (ls : List Text) → IsWrittenCard (cardinality left ls)
+cardinality_written true ls = tt
+cardinality_written false ls = tt
 
 group_written : (g : part.Group) (card : Cardinality) → group_value g ≡ Ok card → IsWrittenCard card
 group_written part.no_group card e = subst IsWrittenCard (same_ok _ _ _ _ refl refl e) tt
-group_written (part.bare k text) card e = subst IsWrittenCard (same_ok _ _ _ _ refl refl e) (cardinality_written k [])
-group_written (part.listed k text ls) card e =
-    let step = then_steps (label_values ls) (λ x. Ok (cardinality k x)) card e in
-    subst IsWrittenCard (same_ok _ _ _ _ refl refl step.leads) (cardinality_written k step.value)
+group_written (part.bare left text) card e = subst IsWrittenCard (same_ok _ _ _ _ refl refl e) (cardinality_written left [])
+group_written (part.listed left text ls) card e =
+    let step = then_steps (label_values ls) (λ x. Ok (cardinality left x)) card e in
+    subst IsWrittenCard (same_ok _ _ _ _ refl refl step.leads) (cardinality_written left step.value)
 
 abbrev IsMatchedValue : Cardinality × Option Clause → Type 0
 IsMatchedValue x = IsGroupedAfter x.1 x.0 × IsWrittenCard x.0
 
 matching_is : (m : part.Matching) (x : Cardinality × Option Clause) → matching_value m ≡ Ok x → IsMatchedValue x
 matching_is part.no_matching x e = subst IsMatchedValue (same_ok _ _ _ _ refl refl e) (tt, tt)
-matching_is (part.matching k text ls g) x e =
-    let step = then_steps (label_values ls) (λ y. group_value g then λ c. Ok (c, Some (matching_clause k y))) x e in
-    let next = then_steps (group_value g) (λ c. Ok (c, Some (matching_clause k step.value))) x step.leads in
+matching_is (part.matching on text ls g) x e =
+    let step = then_steps (label_values ls) (λ y. group_value g then λ c. Ok (c, Some (cond on (including y) (excluding y)))) x e in
+    let next = then_steps (group_value g) (λ c. Ok (c, Some (cond on (including step.value) (excluding step.value)))) x step.leads in
     subst IsMatchedValue (same_ok _ _ _ _ refl refl next.leads) (tt, group_written g next.value next.is)
 
 fill_is : (v : part.FillValue) (n : Number) → fill_value v ≡ Ok n → IsNumber n
@@ -91,17 +89,17 @@ fills_are (part.both text v) x e =
     let step = then_steps (fill_value v) (λ n. Ok (fills (Some n) (Some n))) x e in
     let is = fill_is v step.value step.is in
     subst AreFills (same_ok _ _ _ _ refl refl step.leads) (is, is)
-fills_are (part.left text v) x e =
+fills_are (part.one true text v) x e =
     let step = then_steps (fill_value v) (λ n. Ok (fills None (Some n))) x e in
     subst AreFills (same_ok _ _ _ _ refl refl step.leads) (tt, fill_is v step.value step.is)
-fills_are (part.right text v) x e =
+fills_are (part.one false text v) x e =
     let step = then_steps (fill_value v) (λ n. Ok (fills (Some n) None)) x e in
     subst AreFills (same_ok _ _ _ _ refl refl step.leads) (fill_is v step.value step.is, tt)
-fills_are (part.left_right text v text' w) x e =
+fills_are (part.two true text v text' w) x e =
     let step = then_steps (fill_value v) (λ n. fill_value w then λ m. Ok (fills (Some m) (Some n))) x e in
     let next = then_steps (fill_value w) (λ m. Ok (fills (Some m) (Some step.value))) x step.leads in
     subst AreFills (same_ok _ _ _ _ refl refl next.leads) (fill_is w next.value next.is, fill_is v step.value step.is)
-fills_are (part.right_left text v text' w) x e =
+fills_are (part.two false text v text' w) x e =
     let step = then_steps (fill_value v) (λ n. fill_value w then λ m. Ok (fills (Some n) (Some m))) x e in
     let next = then_steps (fill_value w) (λ m. Ok (fills (Some step.value) (Some m))) x step.leads in
     subst AreFills (same_ok _ _ _ _ refl refl next.leads) (fill_is v step.value step.is, fill_is w next.value next.is)
@@ -158,7 +156,7 @@ fills_again (fills (Some r) None) h = then_leads (fill_value (value r)) _ r _ (s
 fills_again (fills None (Some l)) h = then_leads (fill_value (value l)) _ l _ (signed_again l h.1) refl
 fills_again (fills (Some r) (Some l)) h = go (number_eq l r) refl
   where
-    go : (b : Bool) → number_eq l r ≡ b → fills_value (cond b (part.both (codes "fill") (value l)) (part.left_right (codes "fill_left") (value l) (codes "fill_right") (value r))) ≡ Ok (fills (Some r) (Some l))
+    go : (b : Bool) → number_eq l r ≡ b → fills_value (cond b (part.both (codes "fill") (value l)) (part.two true (codes "fill_left") (value l) (codes "fill_right") (value r))) ≡ Ok (fills (Some r) (Some l))
     go true is =
         let same = (number_eq-Decides l r).0 is in
         then_leads (fill_value (value l)) _ l _ (signed_again l h.1) (ap (λ n. Ok (fills (Some n) (Some l))) same)
@@ -189,7 +187,7 @@ blank_fills (fills (Some r) None) = inr (refl, refl)
 blank_fills (fills None (Some l)) = inr (refl, refl)
 blank_fills (fills (Some r) (Some l)) = inr (go (number_eq l r), refl)
   where
-    go : (b : Bool) → is_blank None part.no_matching (cond b (part.both (codes "fill") (value l)) (part.left_right (codes "fill_left") (value l) (codes "fill_right") (value r))) ≡ false
+    go : (b : Bool) → is_blank None part.no_matching (cond b (part.both (codes "fill") (value l)) (part.two true (codes "fill_left") (value l) (codes "fill_right") (value r))) ≡ false
     go true = refl
     go false = refl
 
@@ -429,32 +427,18 @@ checked_again op l r l' r' m m' t el er a c =
 
 group_formed : (card : Cardinality) → part.IsGroup (group card)
 group_formed one_to_one = tt
-group_formed (many_to_one ls) = (refl, labels_formed ls)
-group_formed (one_to_many ls) = (refl, labels_formed ls)
+group_formed (many_to_one ls) = labels_formed ls
+group_formed (one_to_many ls) = labels_formed ls
 group_formed many_to_many = tt
 
 matched_formed : (c : Option Clause) (card : Cardinality) → part.IsMatching (matching_of_clause c (group card))
 matched_formed None card = tt
-matched_formed (Some (including ls)) card = (refl, labels_formed ls, group_formed card)
-matched_formed (Some (excluding ls)) card = (refl, labels_formed ls, group_formed card)
+matched_formed (Some (including ls)) card = (labels_formed ls, group_formed card)
+matched_formed (Some (excluding ls)) card = (labels_formed ls, group_formed card)
 
-signed_formed : (b : Bool) → part.IsSigned (Rattle.promql_syntax.proofs.PrintedParts.sign b)
-signed_formed true = refl
-signed_formed false = tt
-
-fills_formed : (values : Fills) → part.IsFills (fill_words values)
-fills_formed (fills None None) = tt
-fills_formed (fills (Some r) None) = signed_formed _
-fills_formed (fills None (Some l)) = signed_formed _
-fills_formed (fills (Some r) (Some l)) = go (number_eq l r)
-  where
-    go : (b : Bool) → part.IsFills (cond b (part.both (codes "fill") (value l)) (part.left_right (codes "fill_left") (value l) (codes "fill_right") (value r)))
-    go true = signed_formed _
-    go false = (signed_formed _, signed_formed _)
-
-pub modifier_formed : (m : Option Matching) → part.IsModifier (modifier m)
-modifier_formed None = (tt, tt)
-modifier_formed (Some (matching card c b values)) = (matched_formed (normal_matched (is_grouping card) c) card, fills_formed values)
+pub modifier_formed : (m : Option Matching) → part.IsMatching (modifier m).matching
+modifier_formed None = tt
+modifier_formed (Some (matching card c b values)) = matched_formed (normal_matched (is_grouping card) c) card
 
 -- a printed grouping word has its labels, so that a right side may begin with a parenthesis
 fits_matched : (c : Option Clause) (card : Cardinality) (f : part.Fills) (ts : List Symbol) → FitsMatching (matching_of_clause c (group card)) f ts

@@ -12,7 +12,6 @@ use Rattle.promql_text.specs.declared.duration.Unit.TheVariants.{Milli}
 use Rattle.promql_text.specs.declared.number.Number.{Number}
 use Rattle.promql_token.specs.Classes.{is_label}
 use Rattle.promql_token.specs.TokenScanning.{word_id}
-use Rattle.promql_token.specs.declared.ids.TheConstants.{T_SUB}
 use Rattle.promql_grammar.specs.declared.token_kinds.TokenKind.{TokenKind}
 use Rattle.promql_grammar.specs.declared.token_kinds.TokenKind.TheVariants as kind
 use Rattle.promql_grammar.specs.Symbols.{token_kind}
@@ -31,7 +30,7 @@ word_kind text = token_kind (word_id text [])
 -- ---- numbers
 
 abbrev pub sign : Bool → part.Signed
-sign true = part.signed T_SUB (codes "-")
+sign true = part.signed true (codes "-")
 sign false = part.unsigned
 
 -- the number without its sign
@@ -53,8 +52,8 @@ seconds_text t = let size = unsigned_abs t in
     decimal (size / 1000) ++ (code "." ∷ (decimal (size / 100 % 10) ++ (decimal (size / 10 % 10) ++ decimal (size % 10))))
 
 abbrev pub moment : Moment → part.Postfix
-moment at_start = part.at_bound kind.Start (codes "start")
-moment at_end = part.at_bound kind.End (codes "end")
+moment at_start = part.at_bound true (codes "start")
+moment at_end = part.at_bound false (codes "end")
 moment (at_time t) = part.at_number (sign (is_negative t)) (seconds_text t)
 
 abbrev pub shift : Shift → part.Postfix
@@ -66,41 +65,41 @@ shift (ahead n) = part.offset (codes "offset") (sign true) (time n)
 abbrev pub label_kind : Text → TokenKind
 label_kind l = if is_label l && not (is_number_word l) then word_kind l else kind.String
 
-abbrev pub names : Text → List Text → part.Names
+abbrev pub names : Text → List Text → part.Labels
 names l [] = part.last (label_kind l) (label_text l)
 names l (k ∷ ls) = part.next (label_kind l) (label_text l) (names k ls)
 
 abbrev pub labels : List Text → part.Labels
 labels [] = part.no_label
-labels (l ∷ ls) = part.labels (names l ls)
+labels (l ∷ ls) = names l ls
 
 abbrev pub clause : Option Clause → part.Clause
 clause None = part.no_clause
 clause (Some (including [])) = part.no_clause
-clause (Some (including (l ∷ ls))) = part.before (part.by (codes "by") (labels (l ∷ ls)))
-clause (Some (excluding ls)) = part.before (part.without (codes "without") (labels ls))
+clause (Some (including (l ∷ ls))) = part.before (part.grouping true (codes "by") (labels (l ∷ ls)))
+clause (Some (excluding ls)) = part.before (part.grouping false (codes "without") (labels ls))
 
 -- ---- modifiers
 
 -- a grouping word always has its list
 abbrev pub group : Cardinality → part.Group
 group one_to_one = part.no_group
-group (many_to_one ls) = part.listed kind.GroupLeft (codes "group_left") (labels ls)
-group (one_to_many ls) = part.listed kind.GroupRight (codes "group_right") (labels ls)
+group (many_to_one ls) = part.listed true (codes "group_left") (labels ls)
+group (one_to_many ls) = part.listed false (codes "group_right") (labels ls)
 group many_to_many = part.no_group
 
 abbrev pub matching_of_clause : Option Clause → part.Group → part.Matching
 matching_of_clause None g = part.no_matching
-matching_of_clause (Some (including ls)) g = part.matching kind.On (codes "on") (labels ls) g
-matching_of_clause (Some (excluding ls)) g = part.matching kind.Ignoring (codes "ignoring") (labels ls) g
+matching_of_clause (Some (including ls)) g = part.matching true (codes "on") (labels ls) g
+matching_of_clause (Some (excluding ls)) g = part.matching false (codes "ignoring") (labels ls) g
 
 abbrev pub fill_words : Fills → part.Fills
 fill_words (fills None None) = part.no_fill
-fill_words (fills (Some r) None) = part.right (codes "fill_right") (value r)
-fill_words (fills None (Some l)) = part.left (codes "fill_left") (value l)
+fill_words (fills (Some r) None) = part.one false (codes "fill_right") (value r)
+fill_words (fills None (Some l)) = part.one true (codes "fill_left") (value l)
 fill_words (fills (Some r) (Some l)) =
     if number_eq l r then part.both (codes "fill") (value l)
-    else part.left_right (codes "fill_left") (value l) (codes "fill_right") (value r)
+    else part.two true (codes "fill_left") (value l) (codes "fill_right") (value r)
 
 abbrev pub flag : Bool → Option Text
 flag true = Some (codes "bool")
@@ -119,11 +118,14 @@ match_operator not_equal = part.not_equal (codes "!=")
 match_operator (matches w) = part.equal_regex
 match_operator (matches_not w) = part.not_equal_regex
 
+abbrev pub is_quoted : Text → Bool
+is_quoted name = not (is_label name)
+
 abbrev pub matcher_kind : Text → TokenKind
-matcher_kind name = if is_label name then kind.Identifier else kind.String
+matcher_kind name = part.name_kind (is_quoted name)
 
 abbrev pub item : PlainMatcher → part.Item
-item (plain_matcher op name text) = part.matcher (matcher_kind name) (name_text name) (match_operator op) (quoted_text text)
+item (plain_matcher op name text) = part.matcher (is_quoted name) (name_text name) (match_operator op) (quoted_text text)
 
 -- the items from a matcher on, with those of further groups
 abbrev pub items_of : part.Item → Option (part.Separator × part.Items) → part.Items

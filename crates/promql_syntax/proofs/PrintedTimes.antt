@@ -7,15 +7,13 @@ use Rattle.promql_text.specs.NumberText.{read_number}
 use Rattle.promql_text.specs.Texts.{Text}
 use Rattle.promql_text.specs.Values.{neg}
 use Rattle.promql_text.specs.declared.number.Number.{Number}
-use Rattle.promql_grammar.specs.declared.token_kinds.TokenKind.{TokenKind}
-use Rattle.promql_grammar.specs.declared.token_kinds.TokenKind.TheVariants as kind
 use Rattle.promql_grammar.specs.GrammarParts as part
 use Rattle.promql_ast.specs.AtTimes.{at_of_millis, at_of_number}
 use Rattle.promql_ast.specs.Shifts.{Shift, back, ahead, Moment, at_time, time_text}
 use Rattle.promql_ast.proofs.PrintedMoments.{millis_fits, size_reads, size_text}
-use Rattle.promql_syntax.specs.Building.{bound_moment}
+use Rattle.promql_syntax.specs.Postfixes.{at_fault, bound_moment}
 use Rattle.promql_syntax.specs.BuildErrors as errors
-use Rattle.promql_syntax.specs.PartBuilding.{at_fault, moment_value, number_value, shift, shift_value, signed_number, time_value, on_error}
+use Rattle.promql_syntax.specs.PartBuilding.{moment_value, number_value, shift_value, signed_number, time_value, on_error}
 use Rattle.promql_grammar.specs.GrammarParts.{is_minus}
 use Rattle.promql_syntax.proofs.PrintedParts.{seconds_text, sign}
 use Rattle.promql_syntax.proofs.Printable.{IsMoment, IsShift}
@@ -24,16 +22,16 @@ use Rattle.promql_syntax.proofs.SingleAnswers.{same_ok, then_leads, then_steps}
 
 pub shift_is : (s : part.Signed) (t : part.Time) (x : Shift) → shift_value s t ≡ Ok x → IsShift (Some x)
 shift_is s t x e =
-    let step = then_steps (time_value t) (λ n. Ok (shift s n)) x e in
+    let step = then_steps (time_value t) (λ n. Ok (cond (is_minus s) (ahead n) (back n))) x e in
     subst (λ y. IsShift (Some y)) (same_ok _ _ _ _ refl refl step.leads) (go (is_minus s) step.value (time_is t step.value step.is))
   where
     go : (b : Bool) (n : ℕ) → IsTime n → IsShift (Some (cond b (ahead n) (back n)))
     go true n is = is
     go false n is = is
 
-pub bound_is : (k : TokenKind) → IsMoment (bound_moment k)
-bound_is kind.Start = tt
-bound_is k = tt
+pub bound_is : (start : Bool) → IsMoment (bound_moment start)
+bound_is true = tt
+bound_is false = tt
 
 -- ---- times after `@`
 

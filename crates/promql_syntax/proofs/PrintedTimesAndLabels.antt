@@ -1,6 +1,6 @@
 -- Printed numbers, times, labels and groupings read back.
 use Rattle.std.proofs.Common.{◌≡◌, ℕ, ◌*◌, ◌%◌, ◌^◌, ◌<◌, refl, sym, ◌∙◌, ap, subst, arith, Bool, true, false, cond, not, ◌&&◌, Option, Some, None, length}
-use Rattle.std.specs.Prelude.{Result, Ok, Err, ◌==◌, nat_lt, if◌then◌else◌, option_map}
+use Rattle.std.specs.Prelude.{Result, Ok, Err, ok_or, ◌==◌, nat_lt, if◌then◌else◌, option_map}
 use Rattle.std.proofs.lemmas.Bool.Decides.{nat_tests}
 use Rattle.promql_text.specs.Durations.{duration_of, in_range, of_form, of_parts, of_seconds, nanos_of, second_nanos, parts_nanos, units}
 use Rattle.promql_text.specs.DecimalForm as form
@@ -35,11 +35,7 @@ use Rattle.promql_syntax.proofs.SingleAnswers.{then_steps, then_leads, same_ok}
 -- ---- strings
 
 pub string_again : (s : Text) → string_value (quoted_text s) ≡ Ok s
-string_again s = ap string_said (unquoted_text-quoted s)
-  where
-    string_said : Option Text → Result Text BuildError
-    string_said (Some t) = Ok t
-    string_said None = Err Rattle.promql_syntax.specs.BuildErrors.quoted
+string_again s = ap (λ o. ok_or o Rattle.promql_syntax.specs.BuildErrors.quoted) (unquoted_text-quoted s)
 
 -- ---- numbers
 

@@ -21,7 +21,7 @@ use Rattle.promql_grammar.specs.Symbols.{token_kind, may_be_label}
 use Rattle.promql_label.specs.Labels.{is_number_word, label_text}
 use Rattle.promql_kind.specs.Modifiers.{Clause, including, excluding}
 use Rattle.promql_ast.specs.Normal.{normal_clause}
-use Rattle.promql_syntax.specs.PartBuilding.{label_value, name_values, label_values, grouping_value, clause_value}
+use Rattle.promql_syntax.specs.PartBuilding.{label_value, label_values, grouping_value, clause_value}
 use Rattle.promql_syntax.proofs.Booleans.{and_cases, or_cases}
 use Rattle.promql_syntax.proofs.PrintedParts.{word_kind, label_kind, names, labels, clause}
 use Rattle.promql_syntax.proofs.PrintedTimesAndLabels.{string_again}
@@ -130,17 +130,17 @@ label_again l = go (is_label l) (is_number_word l) refl refl
     go true true is other = string_again l
     go false b is other = string_again l
 
-names_again : (l : Text) (ls : List Text) → name_values (names l ls) ≡ Ok (l ∷ ls)
+names_again : (l : Text) (ls : List Text) → label_values (names l ls) ≡ Ok (l ∷ ls)
 names_again l [] = then_leads (label_value (label_kind l) (label_text l)) _ l _ (label_again l) refl
 names_again l (k ∷ ls) =
     then_leads (label_value (label_kind l) (label_text l)) _ l _ (label_again l)
-    (then_leads (name_values (names k ls)) _ (k ∷ ls) _ (names_again k ls) refl)
+    (then_leads (label_values (names k ls)) _ (k ∷ ls) _ (names_again k ls) refl)
 
 pub labels_again : (ls : List Text) → label_values (labels ls) ≡ Ok ls
 labels_again [] = refl
 labels_again (l ∷ ls) = names_again l ls
 
-names_formed : (l : Text) (ls : List Text) → part.AreLabels (names l ls)
+names_formed : (l : Text) (ls : List Text) → part.IsLabels (names l ls)
 names_formed l [] = label_may l
 names_formed l (k ∷ ls) = (label_may l, names_formed k ls)
 
@@ -154,10 +154,10 @@ pub clause_again : (c : Option Clause) → clause_value (clause c) ≡ Ok (norma
 clause_again None = refl
 clause_again (Some (including [])) = refl
 clause_again (Some (including (l ∷ ls))) =
-    then_leads (grouping_value (part.by (codes "by") (labels (l ∷ ls)))) _ (including (l ∷ ls)) _
+    then_leads (grouping_value (part.grouping true (codes "by") (labels (l ∷ ls)))) _ (including (l ∷ ls)) _
     (then_leads (label_values (labels (l ∷ ls))) _ (l ∷ ls) _ (labels_again (l ∷ ls)) refl) refl
 clause_again (Some (excluding ls)) =
-    then_leads (grouping_value (part.without (codes "without") (labels ls))) _ (excluding ls) _
+    then_leads (grouping_value (part.grouping false (codes "without") (labels ls))) _ (excluding ls) _
     (then_leads (label_values (labels ls)) _ ls _ (labels_again ls) refl) refl
 
 pub clause_formed : (c : Option Clause) → part.IsClause (clause c)

@@ -21,6 +21,7 @@ use Rattle.promql_grammar.specs.declared.token_kinds.TheConstants.{TOKEN_KINDS}
 use Rattle.promql_grammar.specs.Grammar as grammar
 use Rattle.promql_grammar.specs.Grammar.{Derivation, Arguments, yield, yield_arguments, yield_rest, IsWellFormed, AreWellFormed}
 use Rattle.promql_grammar.specs.GrammarParts as part
+use Rattle.promql_grammar.specs.PartTokens.{yield_flag, yield_step}
 use Rattle.promql_grammar.specs.Results.{on_result}
 use Rattle.promql_grammar.specs.Symbols.{Symbol, is_punct, token_kind, may_be_called, may_be_name, punct, symbol_of, word}
 use Rattle.promql_syntax.specs.ParseAnswers.{Derives}
@@ -187,20 +188,18 @@ time_out (part.duration text) = refl
 
 signed_out : (s : part.Signed) → inside_after false (part.yield_signed s) ≡ false
 signed_out part.unsigned = refl
-signed_out (part.signed op text) = refl
+signed_out (part.signed minus text) = refl
 
-names_out : (n : part.Names) → inside_after false (part.yield_names n) ≡ false
+names_out : (n : part.Labels) → inside_after false (part.yield_names n) ≡ false
+names_out part.no_label = refl
 names_out (part.last k text) = refl
-names_out (part.last_comma k text) = refl
-names_out (part.next k text names) = names_out names
+names_out (part.next k text ls) = names_out ls
 
 labels_out : (ls : part.Labels) → inside_after false (part.yield_labels ls) ≡ false
-labels_out part.no_label = refl
-labels_out (part.labels names) = names_out names
+labels_out ls = names_out ls
 
 grouping_out : (g : part.Grouping) → inside_after false (part.yield_grouping g) ≡ false
-grouping_out (part.by text ls) = labels_out ls
-grouping_out (part.without text ls) = labels_out ls
+grouping_out (part.grouping by text ls) = labels_out ls
 
 before_out : (c : part.Clause) → inside_after false (part.yield_before c) ≡ false
 before_out part.no_clause = refl
@@ -214,12 +213,12 @@ after_out (part.after g) = grouping_out g
 
 group_out : (g : part.Group) → inside_after false (part.yield_group g) ≡ false
 group_out part.no_group = refl
-group_out (part.bare k text) = refl
-group_out (part.listed k text ls) = labels_out ls
+group_out (part.bare left text) = refl
+group_out (part.listed left text ls) = labels_out ls
 
 matching_out : (m : part.Matching) → inside_after false (part.yield_matching m) ≡ false
 matching_out part.no_matching = refl
-matching_out (part.matching k text ls g) = both (part.yield_labels ls) (part.yield_group g) (labels_out ls) (group_out g)
+matching_out (part.matching on text ls g) = both (part.yield_labels ls) (part.yield_group g) (labels_out ls) (group_out g)
 
 value_out : (v : part.FillValue) → inside_after false (part.yield_value v) ≡ false
 value_out v = both (part.yield_signed v.sign) (word kind.Number v.number ∷ punct kind.RightParen ∷ []) (signed_out v.sign) refl
@@ -227,18 +226,16 @@ value_out v = both (part.yield_signed v.sign) (word kind.Number v.number ∷ pun
 fills_out : (f : part.Fills) → inside_after false (part.yield_fills f) ≡ false
 fills_out part.no_fill = refl
 fills_out (part.both text v) = value_out v
-fills_out (part.left text v) = value_out v
-fills_out (part.right text v) = value_out v
-fills_out (part.left_right text v text' w) = both (part.yield_value v) (word kind.FillRight text' ∷ part.yield_value w) (value_out v) (value_out w)
-fills_out (part.right_left text v text' w) = both (part.yield_value v) (word kind.FillLeft text' ∷ part.yield_value w) (value_out v) (value_out w)
+fills_out (part.one left text v) = value_out v
+fills_out (part.two left text v text' w) = both (part.yield_side left text v) (part.yield_side (not left) text' w) (value_out v) (value_out w)
 
-flag_out : (f : Option Text) → inside_after false (part.yield_flag f) ≡ false
+flag_out : (f : Option Text) → inside_after false (yield_flag f) ≡ false
 flag_out None = refl
 flag_out (Some text) = refl
 
 modifier_out : (m : part.Modifier) → inside_after false (part.yield_modifier m) ≡ false
 modifier_out m =
-    both (part.yield_flag m.flag) (part.yield_matching m.matching ++ part.yield_fills m.fills) (flag_out m.flag)
+    both (yield_flag m.flag) (part.yield_matching m.matching ++ part.yield_fills m.fills) (flag_out m.flag)
     (both (part.yield_matching m.matching) (part.yield_fills m.fills) (matching_out m.matching) (fills_out m.fills))
 
 match_inside : (s : part.MatchOperator) (ts : List Symbol) → inside_after true (part.yield_match_operator s ∷ ts) ≡ inside_after true ts
@@ -248,7 +245,7 @@ match_inside part.equal_regex ts = refl
 match_inside part.not_equal_regex ts = refl
 
 item_inside : (i : part.Item) → inside_after true (part.yield_item i) ≡ true
-item_inside (part.matcher k text s value) = match_inside s (word kind.String value ∷ [])
+item_inside (part.matcher quoted text s value) = match_inside s (word kind.String value ∷ [])
 item_inside (part.lone text) = refl
 
 inside_then : (i : part.Item) (us : List Symbol) → inside_after true us ≡ false → inside_after true (part.yield_item i ++ us) ≡ false
@@ -271,18 +268,18 @@ any_braces_out : (b : Option part.Braces) → inside_after false (part.yield_any
 any_braces_out None = refl
 any_braces_out (Some b) = braces_out b
 
-step_out : (t : Option part.Time) → inside_after false (part.yield_step t) ≡ false
+step_out : (t : Option part.Time) → inside_after false (yield_step t) ≡ false
 step_out None = refl
 step_out (Some t) = time_out t
 
 postfix_out : (p : part.Postfix) → inside_after false (part.yield_postfix p) ≡ false
 postfix_out (part.range t) = both (part.yield_time t) (punct kind.RightBracket ∷ []) (time_out t) refl
 postfix_out (part.subquery t s) =
-    both (part.yield_time t) (punct kind.Colon ∷ (part.yield_step s ++ punct kind.RightBracket ∷ [])) (time_out t) (both (part.yield_step s) (punct kind.RightBracket ∷ []) (step_out s) refl)
+    both (part.yield_time t) (punct kind.Colon ∷ (yield_step s ++ punct kind.RightBracket ∷ [])) (time_out t) (both (yield_step s) (punct kind.RightBracket ∷ []) (step_out s) refl)
 postfix_out (part.at_number s text) = both (part.yield_signed s) (word kind.Number text ∷ []) (signed_out s) refl
-postfix_out (part.at_bound k text) = refl
+postfix_out (part.at_bound start text) = refl
 postfix_out (part.offset text s t) = both (part.yield_signed s) (part.yield_time t) (signed_out s) (time_out t)
-postfix_out (part.mode k text) = refl
+postfix_out (part.mode smoothed text) = refl
 
 mutual
   all_out : (d : Derivation) → inside_after false (yield d) ≡ false
@@ -321,7 +318,7 @@ mutual
   words_fit (grammar.number text) h f = (f.0 refl).number refl
   words_fit (grammar.duration text) h f = tt
   words_fit (grammar.string text) h f = tt
-  words_fit (grammar.selector k text b) h f = (f.0 refl).name h.0
+  words_fit (grammar.selector k text b) h f = (f.0 refl).name h
   words_fit (grammar.nameless b) h f = tt
   words_fit (grammar.paren d) h f = words_fit d h (left_fits false (yield d) (punct kind.RightParen ∷ []) f)
   words_fit (grammar.call k text ds) h f = ((f.0 refl).name (called_may_be_name k h.0), arguments_fit ds h.1 f.1)

@@ -1,6 +1,6 @@
 -- What the parts of an expression fail with: faults of a token.
 use Rattle.std.proofs.Common.{◌≡◌, Bool, true, false, refl}
-use Rattle.std.specs.Prelude.{Option, Some, None, Result, Ok, Err, IfErr, cond}
+use Rattle.std.specs.Prelude.{Option, Some, None, ok_or, Result, Ok, Err, IfErr, cond}
 use Rattle.promql_text.specs.Texts.{Text}
 use Rattle.promql_text.specs.declared.number.Number.{Number}
 use Rattle.promql_text.specs.declared.number.NumberFault.{NumberFault}
@@ -13,15 +13,14 @@ use Rattle.promql_grammar.specs.declared.token_kinds.TokenKind.TheVariants as ki
 use Rattle.promql_grammar.specs.Grammar as grammar
 use Rattle.promql_grammar.specs.GrammarParts as part
 use Rattle.promql_grammar.specs.Results.{◌then◌}
-use Rattle.promql_kind.specs.Modifiers.{Matching}
 use Rattle.promql_ast.specs.AtTimes.{at_of_number}
 use Rattle.promql_ast.specs.declared.at_modifier.AtFault.{AtFault}
 use Rattle.promql_ast.specs.declared.at_modifier.AtModifier.{AtModifier}
 use Rattle.promql_syntax.specs.BuildErrors.{BuildError, number, quoted, duration, at, pattern, unknown_function, check}
 use Rattle.promql_syntax.specs.FaultTokens.{fault_tokens}
 use Rattle.promql_syntax.specs.BuildErrors as errors
-use Rattle.promql_syntax.specs.PartBuilding.{unquoted_or_error, string_value, number_value, signed_number, label_value, name_values, label_values, group_value, matching_value, fill_value, fills_value, is_blank, modifier_value, time_value, step_value, shift_value, at_fault, moment_value, on_error}
-use Rattle.promql_syntax.specs.Postfixes.{change_value}
+use Rattle.promql_syntax.specs.PartBuilding.{string_value, number_value, signed_number, label_value, label_values, group_value, matching_value, fill_value, fills_value, is_blank, modifier_value, time_value, step_value, shift_value, moment_value, on_error}
+use Rattle.promql_syntax.specs.Postfixes.{at_fault, change_value}
 
 abbrev pub IsTokenFault : BuildError → Type 0
 IsTokenFault (number f) = Unit {0}
@@ -39,7 +38,7 @@ by_then : (P : BuildError → Type 0) {A B : Type 0} (r : Result A BuildError) (
 by_then P (Ok x) f first rest = rest x
 by_then P (Err e) f first rest = first
 
-unquoted_by : (o : Option Text) → FailsByToken (unquoted_or_error o)
+unquoted_by : (o : Option Text) → FailsByToken (ok_or o quoted)
 unquoted_by (Some text) = tt
 unquoted_by None = tt
 
@@ -57,23 +56,19 @@ label_by : (k : TokenKind) (text : Text) → FailsByToken (label_value k text)
 label_by kind.String text = string_by text
 label_by k text = tt
 
-names_by : (names : part.Names) → FailsByToken (name_values names)
-names_by (part.last k text) = by_then IsTokenFault (label_value k text) _ (label_by k text) (λ l. tt)
-names_by (part.last_comma k text) = by_then IsTokenFault (label_value k text) _ (label_by k text) (λ l. tt)
-names_by (part.next k text names) = by_then IsTokenFault (label_value k text) _ (label_by k text) (λ l. by_then IsTokenFault (name_values names) _ (names_by names) (λ ls. tt))
-
 labels_by : (ls : part.Labels) → FailsByToken (label_values ls)
 labels_by part.no_label = tt
-labels_by (part.labels names) = names_by names
+labels_by (part.last k text) = by_then IsTokenFault (label_value k text) _ (label_by k text) (λ l. tt)
+labels_by (part.next k text ls) = by_then IsTokenFault (label_value k text) _ (label_by k text) (λ l. by_then IsTokenFault (label_values ls) _ (labels_by ls) (λ more. tt))
 
 group_by : (g : part.Group) → FailsByToken (group_value g)
 group_by part.no_group = tt
-group_by (part.bare k text) = tt
-group_by (part.listed k text ls) = by_then IsTokenFault (label_values ls) _ (labels_by ls) (λ x. tt)
+group_by (part.bare left text) = tt
+group_by (part.listed left text ls) = by_then IsTokenFault (label_values ls) _ (labels_by ls) (λ x. tt)
 
 matching_by : (m : part.Matching) → FailsByToken (matching_value m)
 matching_by part.no_matching = tt
-matching_by (part.matching k text ls g) = by_then IsTokenFault (label_values ls) _ (labels_by ls) (λ x. by_then IsTokenFault (group_value g) _ (group_by g) (λ c. tt))
+matching_by (part.matching on text ls g) = by_then IsTokenFault (label_values ls) _ (labels_by ls) (λ x. by_then IsTokenFault (group_value g) _ (group_by g) (λ c. tt))
 
 fill_by : (v : part.FillValue) → FailsByToken (fill_value v)
 fill_by v = signed_by v.sign v.number
@@ -81,10 +76,8 @@ fill_by v = signed_by v.sign v.number
 fills_by : (f : part.Fills) → FailsByToken (fills_value f)
 fills_by part.no_fill = tt
 fills_by (part.both text v) = by_then IsTokenFault (fill_value v) _ (fill_by v) (λ n. tt)
-fills_by (part.left text v) = by_then IsTokenFault (fill_value v) _ (fill_by v) (λ n. tt)
-fills_by (part.right text v) = by_then IsTokenFault (fill_value v) _ (fill_by v) (λ n. tt)
-fills_by (part.left_right text v text' w) = by_then IsTokenFault (fill_value v) _ (fill_by v) (λ n. by_then IsTokenFault (fill_value w) _ (fill_by w) (λ m. tt))
-fills_by (part.right_left text v text' w) = by_then IsTokenFault (fill_value v) _ (fill_by v) (λ n. by_then IsTokenFault (fill_value w) _ (fill_by w) (λ m. tt))
+fills_by (part.one left text v) = by_then IsTokenFault (fill_value v) _ (fill_by v) (λ n. tt)
+fills_by (part.two left text v text' w) = by_then IsTokenFault (fill_value v) _ (fill_by v) (λ n. by_then IsTokenFault (fill_value w) _ (fill_by w) (λ m. tt))
 
 cond_by : {A : Type 0} (b : Bool) (r s : Result A BuildError) → FailsByToken r → FailsByToken s → FailsByToken (cond b r s)
 cond_by true r s first second = first
@@ -128,9 +121,9 @@ change_by (part.at_number s text) =
     by_then IsPartFault (moment_value s text) _
     (by_then IsPartFault (signed_number s text) _ (by_then IsPartFault (number_value text) _ (number_part (read_number text)) (λ n. tt)) (λ n. moment_part (at_of_number n)))
     (λ m. tt)
-change_by (part.at_bound k text) = tt
+change_by (part.at_bound start text) = tt
 change_by (part.offset text s r) = by_then IsPartFault (shift_value s r) _ (by_then IsPartFault (time_value r) _ (time_by r) (λ n. tt)) (λ x. tt)
-change_by (part.mode k text) = tt
+change_by (part.mode smoothed text) = tt
 
 -- ---- such a fault has no tokens of its own here
 

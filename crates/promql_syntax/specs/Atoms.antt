@@ -1,12 +1,21 @@
 -- What parses an atom, by its first token. Private: nothing rests on believing it.
-use Rattle.std.specs.Prelude.{ℕ, if◌then◌else◌, List, ◌∷◌, Some, Err}
+use Rattle.std.specs.Prelude.{ℕ, if◌then◌else◌, Option, List, [], ◌∷◌, Some, Err}
+use Rattle.std.specs.Option.{option_map_or}
 use Rattle.promql_text.specs.Texts.{Text}
 use Rattle.promql_grammar.specs.declared.token_kinds.TokenKind.{TokenKind}
 use Rattle.promql_grammar.specs.declared.token_kinds.TokenKind.TheVariants as kind
 use Rattle.promql_grammar.specs.Results.{◌then◌}
 use Rattle.promql_grammar.specs.Symbols.{Symbol, symbol, may_be_name}
 use Rattle.promql_grammar.specs.Grammar as grammar
+use Rattle.promql_grammar.specs.GrammarParts as part
 use Rattle.promql_grammar.specs.Parsing.{Read, misfit, parse_braces, parse_selector, parse_postfixes}
+use Rattle.promql_label.specs.PlainMatchers.{PlainMatchers, plain_matchers}
+use Rattle.promql_syntax.specs.Asking.{Asking, gives}
+use Rattle.promql_syntax.specs.PartBuilding.{braces_value}
+
+-- the matchers of a selector that may have braces
+abbrev pub any_braces_value : Option part.Braces → Asking PlainMatchers
+any_braces_value b = option_map_or braces_value b (gives (plain_matchers [] []))
 
 -- a selector with braces, after the opening one
 abbrev pub parse_selector_braces : ℕ → ℕ → TokenKind → Text → List Symbol → Read grammar.Derivation

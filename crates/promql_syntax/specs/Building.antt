@@ -1,26 +1,24 @@
 -- What a derivation builds (docs/reference/grammar.md, "Building"): its parts first, then its own tokens, then its
 -- checks.
-use Rattle.std.specs.Prelude.{ℕ, ◌==◌, if◌then◌else◌, Option, Some, None}
+use Rattle.std.specs.Prelude.{ℕ, ◌==◌, if◌then◌else◌, Option, Some, None, []}
+use Rattle.std.specs.Option.{option_map_or}
 use Rattle.promql_text.specs.Texts.{Text}
 use Rattle.promql_text.specs.Values.{from_nanos}
 use Rattle.promql_token.specs.declared.ids.TheConstants.{T_SUB}
-use Rattle.promql_grammar.specs.declared.token_kinds.TokenKind.{TokenKind}
-use Rattle.promql_grammar.specs.declared.token_kinds.TokenKind.TheVariants as kind
 use Rattle.promql_grammar.specs.GrammarParts as part
 use Rattle.promql_grammar.specs.Grammar as grammar
-use Rattle.promql_label.specs.PlainMatchers.{PlainMatchers}
+use Rattle.promql_label.specs.PlainMatchers.{PlainMatchers, plain_matchers}
 use Rattle.promql_kind.specs.Functions.{Signature, function_named}
 use Rattle.promql_ast.specs.Builds.{minus, with_range, at_given, offset_given, mode_given, aggregate_args}
 use Rattle.promql_ast.specs.Checked.{check_tree}
 use Rattle.promql_ast.specs.Faults.{Verdict, passes, rejected}
 use Rattle.promql_ast.specs.Selectors.{selector}
-use Rattle.promql_ast.specs.Shifts.{Moment, at_start, at_end}
+use Rattle.promql_ast.specs.Shifts.{at_start, at_end}
 use Rattle.promql_ast.specs.Tree as tree
-use Rattle.promql_ast.specs.declared.range_mode.RangeMode.{RangeMode}
 use Rattle.promql_ast.specs.declared.range_mode.RangeMode.TheVariants.{Smoothed, Anchored}
 use Rattle.promql_syntax.specs.Asking.{Asking, gives, fails, ◌giving◌, known}
 use Rattle.promql_syntax.specs.BuildErrors.{unknown_function, check}
-use Rattle.promql_syntax.specs.PartBuilding.{string_value, number_value, duration_value, time_value, step_value, shift_value, moment_value, clause_value, modifier_value, braces_value, any_braces_value}
+use Rattle.promql_syntax.specs.PartBuilding.{string_value, number_value, duration_value, time_value, step_value, shift_value, moment_value, clause_value, modifier_value, braces_value}
 
 -- a tree that passes, or the error of a check
 abbrev pub from_verdict : Verdict → Asking tree.Tree
@@ -40,22 +38,14 @@ build_call name None ts = fails (unknown_function name)
 build_call name (Some f) ts = from_verdict (check_tree (tree.call f ts))
 
 -- "Postfixes": what one makes of its base
-abbrev pub bound_moment : TokenKind → Moment
-bound_moment kind.Start = at_start
-bound_moment k = at_end
-
-abbrev pub range_mode : TokenKind → RangeMode
-range_mode kind.Smoothed = Smoothed
-range_mode k = Anchored
-
 abbrev pub build_postfix : tree.Tree → part.Postfix → Asking tree.Tree
 build_postfix t (part.range r) = known (time_value r) giving λ n. from_verdict (with_range t n)
 build_postfix t (part.subquery r s) =
     known (time_value r) giving λ n. known (step_value s) giving λ m. from_verdict (check_tree (tree.subquery t None None n m))
 build_postfix t (part.at_number s text) = known (moment_value s text) giving λ m. from_verdict (at_given t m)
-build_postfix t (part.at_bound k text) = from_verdict (at_given t (bound_moment k))
+build_postfix t (part.at_bound start text) = from_verdict (at_given t (if start then at_start else at_end))
 build_postfix t (part.offset text s r) = known (shift_value s r) giving λ x. from_verdict (offset_given t x)
-build_postfix t (part.mode k text) = from_verdict (mode_given t (range_mode k))
+build_postfix t (part.mode smoothed text) = from_verdict (mode_given t (if smoothed then Smoothed else Anchored))
 
 -- "Unary operators": a plus leaves nothing
 abbrev pub build_unary : ℕ → tree.Tree → Asking tree.Tree
@@ -66,7 +56,7 @@ abbrev mutual
   build (grammar.number text) = known (number_value text) giving λ n. gives (tree.number n)
   build (grammar.duration text) = known (duration_value text) giving λ n. gives (tree.number (from_nanos n))
   build (grammar.string text) = known (string_value text) giving λ s. gives (tree.string s)
-  build (grammar.selector k text b) = any_braces_value b giving λ cs. selector_tree (Some text) cs
+  build (grammar.selector k text b) = option_map_or braces_value b (gives (plain_matchers [] [])) giving λ cs. selector_tree (Some text) cs
   build (grammar.nameless b) = braces_value b giving λ cs. selector_tree None cs
   build (grammar.paren d) = build d giving λ t. gives (tree.paren t)
   build (grammar.call k text ds) = build_all ds giving λ ts. build_call text (function_named text) ts

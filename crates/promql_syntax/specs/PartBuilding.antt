@@ -1,7 +1,6 @@
 -- What the parts of an expression build (docs/reference/grammar.md, "Building"): each from left to right, up to its
 -- first error.
-use Rattle.std.specs.Prelude.{ℕ, Bool, true, false, if◌then◌else◌, Option, Some, None, is_some, List, [], ◌∷◌, Result, Ok, Err, codes}
-use Rattle.std.specs.Option.{option_map_or}
+use Rattle.std.specs.Prelude.{ℕ, Bool, true, false, if◌then◌else◌, Option, Some, None, is_some, ok_or, List, [], ◌∷◌, Result, Ok, Err, codes}
 use Rattle.promql_text.specs.Texts.{Text}
 use Rattle.promql_text.specs.declared.number.Number.{Number}
 use Rattle.promql_text.specs.Durations.{duration_of}
@@ -18,8 +17,6 @@ use Rattle.promql_label.specs.PlainMatchers.{Operator, equal, not_equal, matches
 use Rattle.promql_kind.specs.Modifiers.{Clause, including, excluding, Cardinality, one_to_one, many_to_one, one_to_many, Fills, fills, Matching, matching}
 use Rattle.promql_ast.specs.AtTimes.{at_of_number}
 use Rattle.promql_ast.specs.Shifts.{Shift, back, ahead, Moment, moment_of}
-use Rattle.promql_ast.specs.declared.at_modifier.AtFault.{AtFault}
-use Rattle.promql_ast.specs.declared.at_modifier.AtModifier.{AtModifier}
 use Rattle.promql_syntax.specs.Asking.{Asking, gives, fails, asks, ◌giving◌, known}
 use Rattle.promql_syntax.specs.BuildErrors.{BuildError, number, quoted, duration, at, pattern}
 
@@ -29,12 +26,8 @@ on_error error (Ok x) = Ok x
 on_error error (Err fault) = Err (error fault)
 
 -- "Strings"
-abbrev pub unquoted_or_error : Option Text → Result Text BuildError
-unquoted_or_error (Some text) = Ok text
-unquoted_or_error None = Err quoted
-
 abbrev pub string_value : Text → Result Text BuildError
-string_value text = unquoted_or_error (unquoted_text text)
+string_value text = ok_or (unquoted_text text) quoted
 
 -- "Numbers"
 abbrev pub number_value : Text → Result Number BuildError
@@ -57,36 +50,25 @@ step_value None = Ok None
 step_value (Some t) = time_value t then λ n. Ok (Some n)
 
 -- "Offset and @"
-abbrev pub shift : part.Signed → ℕ → Shift
-shift s n = if is_minus s then ahead n else back n
-
 abbrev pub shift_value : part.Signed → part.Time → Result Shift BuildError
-shift_value s t = time_value t then λ n. Ok (shift s n)
-
-abbrev pub at_fault : Result AtModifier AtFault → Result Moment BuildError
-at_fault m = on_error at (on_result moment_of m)
+shift_value s t = time_value t then λ n. Ok (if is_minus s then ahead n else back n)
 
 abbrev pub moment_value : part.Signed → Text → Result Moment BuildError
-moment_value s text = signed_number s text then λ n. at_fault (at_of_number n)
+moment_value s text = signed_number s text then λ n. on_error at (on_result moment_of (at_of_number n))
 
 -- "Labels": a string means its text
 abbrev pub label_value : TokenKind → Text → Result Text BuildError
 label_value kind.String text = string_value text
 label_value k text = Ok text
 
-abbrev pub name_values : part.Names → Result (List Text) BuildError
-name_values (part.last k text) = label_value k text then λ l. Ok (l ∷ [])
-name_values (part.last_comma k text) = label_value k text then λ l. Ok (l ∷ [])
-name_values (part.next k text names) = label_value k text then λ l. name_values names then λ ls. Ok (l ∷ ls)
-
 abbrev pub label_values : part.Labels → Result (List Text) BuildError
 label_values part.no_label = Ok []
-label_values (part.labels names) = name_values names
+label_values (part.last k text) = label_value k text then λ l. Ok (l ∷ [])
+label_values (part.next k text ls) = label_value k text then λ l. label_values ls then λ more. Ok (l ∷ more)
 
 -- "Clauses"
 abbrev pub grouping_value : part.Grouping → Result Clause BuildError
-grouping_value (part.by text ls) = label_values ls then λ x. Ok (including x)
-grouping_value (part.without text ls) = label_values ls then λ x. Ok (excluding x)
+grouping_value (part.grouping by text ls) = label_values ls then λ x. Ok (if by then including x else excluding x)
 
 abbrev pub clause_value : part.Clause → Result (Option Clause) BuildError
 clause_value part.no_clause = Ok None
@@ -94,23 +76,18 @@ clause_value (part.before g) = grouping_value g then λ c. Ok (Some c)
 clause_value (part.after g) = grouping_value g then λ c. Ok (Some c)
 
 -- "Modifiers"
-abbrev pub cardinality : TokenKind → List Text → Cardinality
-cardinality kind.GroupLeft ls = many_to_one ls
-cardinality k ls = one_to_many ls
+abbrev pub cardinality : Bool → List Text → Cardinality
+cardinality left ls = if left then many_to_one ls else one_to_many ls
 
 abbrev pub group_value : part.Group → Result Cardinality BuildError
 group_value part.no_group = Ok one_to_one
-group_value (part.bare k text) = Ok (cardinality k [])
-group_value (part.listed k text ls) = label_values ls then λ x. Ok (cardinality k x)
-
-abbrev pub matching_clause : TokenKind → List Text → Clause
-matching_clause kind.On ls = including ls
-matching_clause k ls = excluding ls
+group_value (part.bare left text) = Ok (cardinality left [])
+group_value (part.listed left text ls) = label_values ls then λ x. Ok (cardinality left x)
 
 abbrev pub matching_value : part.Matching → Result (Cardinality × Option Clause) BuildError
 matching_value part.no_matching = Ok (one_to_one, None)
-matching_value (part.matching k text ls g) =
-    label_values ls then λ x. group_value g then λ c. Ok (c, Some (matching_clause k x))
+matching_value (part.matching on text ls g) =
+    label_values ls then λ x. group_value g then λ c. Ok (c, Some (if on then including x else excluding x))
 
 abbrev pub fill_value : part.FillValue → Result Number BuildError
 fill_value v = signed_number v.sign v.number
@@ -119,10 +96,9 @@ fill_value v = signed_number v.sign v.number
 abbrev pub fills_value : part.Fills → Result Fills BuildError
 fills_value part.no_fill = Ok (fills None None)
 fills_value (part.both text v) = fill_value v then λ n. Ok (fills (Some n) (Some n))
-fills_value (part.left text v) = fill_value v then λ n. Ok (fills None (Some n))
-fills_value (part.right text v) = fill_value v then λ n. Ok (fills (Some n) None)
-fills_value (part.left_right text v text' w) = fill_value v then λ n. fill_value w then λ m. Ok (fills (Some m) (Some n))
-fills_value (part.right_left text v text' w) = fill_value v then λ n. fill_value w then λ m. Ok (fills (Some n) (Some m))
+fills_value (part.one left text v) = fill_value v then λ n. Ok (if left then fills None (Some n) else fills (Some n) None)
+fills_value (part.two left text v text' w) =
+    fill_value v then λ n. fill_value w then λ m. Ok (if left then fills (Some m) (Some n) else fills (Some n) (Some m))
 
 -- nothing comes between the operator and its right side
 abbrev pub is_blank : Option Text → part.Matching → part.Fills → Bool
@@ -146,8 +122,8 @@ operator_value part.equal_regex value = asks value (pattern_operator matches val
 operator_value part.not_equal_regex value = asks value (pattern_operator matches_not value)
 
 abbrev pub item_value : part.Item → Asking PlainMatcher
-item_value (part.matcher k text s string) =
-    known (label_value k text) giving λ name. known (string_value string) giving λ value.
+item_value (part.matcher is_quoted text s string) =
+    known (label_value (part.name_kind is_quoted) text) giving λ name. known (string_value string) giving λ value.
     operator_value s value giving λ op. gives (plain_matcher op name value)
 item_value (part.lone text) = known (string_value text) giving λ name. gives (plain_matcher equal (codes "__name__") name)
 
@@ -164,6 +140,3 @@ items_value cs s (part.next_item i t is) = item_value i giving λ c. items_value
 abbrev pub braces_value : part.Braces → Asking PlainMatchers
 braces_value part.no_item = gives (plain_matchers [] [])
 braces_value (part.items is) = items_value (plain_matchers [] []) part.comma is
-
-abbrev pub any_braces_value : Option part.Braces → Asking PlainMatchers
-any_braces_value b = option_map_or braces_value b (gives (plain_matchers [] []))

@@ -1,5 +1,5 @@
 -- Postfixes as plain data, and what each makes of its base. Private: nothing rests on believing it.
-use Rattle.std.specs.Prelude.{◌≡◌, ℕ, ◌+◌, ◌<◌, ◌^◌, Bool, true, false, Option, Some, None, option_map, List, length, Result, Ok, Err}
+use Rattle.std.specs.Prelude.{◌≡◌, ℕ, ◌+◌, ◌<◌, ◌^◌, Bool, true, false, if◌then◌else◌, Option, Some, None, option_map, List, length, Result, Ok, Err}
 use Rattle.std.specs.declared.alloc.Global.{Global}
 use Rattle.std.specs.declared.boxed.Box.{Box}
 use Rattle.std.specs.Duration.{as_nanos}
@@ -9,22 +9,24 @@ use Rattle.promql_grammar.specs.declared.token_kinds.TokenKind.TheVariants as ki
 use Rattle.promql_grammar.specs.GrammarParts as part
 use Rattle.promql_grammar.specs.GrammarParts.{yield_signed}
 use Rattle.promql_grammar.specs.Parsing.{Read, parse_time, parse_range_end}
-use Rattle.promql_grammar.specs.Results.{◌then◌}
+use Rattle.promql_grammar.specs.Results.{on_result, ◌then◌}
 use Rattle.promql_grammar.specs.Symbols.{Symbol}
 use Rattle.promql_ast.specs.Builds.{with_range, at_given, offset_given, mode_given}
 use Rattle.promql_ast.specs.Checked.{check_tree}
-use Rattle.promql_ast.specs.Shifts.{Moment, moment_of, Shift, shift_of}
+use Rattle.promql_ast.specs.Shifts.{Moment, at_start, at_end, moment_of, Shift, shift_of}
 use Rattle.promql_ast.specs.Tree as tree
 use Rattle.promql_ast.specs.declared.range_mode.RangeMode.{RangeMode}
+use Rattle.promql_ast.specs.declared.range_mode.RangeMode.TheVariants.{Smoothed, Anchored}
 use Rattle.promql_syntax.specs.declared.grammar.postfix.ParsedPostfix.{ParsedPostfix}
 use Rattle.promql_syntax.specs.declared.grammar.postfix.Postfix as code
 use Rattle.promql_syntax.specs.declared.grammar.postfix.Postfix.TheVariants as postfixes
 use Rattle.promql_syntax.specs.Asking.{Asking}
-use Rattle.promql_syntax.specs.Building.{from_verdict, bound_moment, range_mode}
+use Rattle.promql_syntax.specs.Building.{from_verdict}
 use Rattle.promql_ast.specs.declared.at_modifier.AtFault.{AtFault}
+use Rattle.promql_ast.specs.declared.at_modifier.AtModifier.{AtModifier}
 use Rattle.promql_syntax.specs.declared.grammar.build_error.BuildError as build_errors
 use Rattle.promql_syntax.specs.BuildErrors.{BuildError, at, build_error_of, view_result}
-use Rattle.promql_syntax.specs.PartBuilding.{time_value, step_value, moment_value, shift_value}
+use Rattle.promql_syntax.specs.PartBuilding.{on_error, time_value, step_value, moment_value, shift_value}
 use Rattle.promql_syntax.specs.Placing.{AreTokens}
 
 -- the kinds with which a postfix begins
@@ -35,6 +37,17 @@ starts_postfix kind.Offset = true
 starts_postfix kind.Smoothed = true
 starts_postfix kind.Anchored = true
 starts_postfix k = false
+
+-- the moment that a number is, or why it is none
+abbrev pub at_fault : Result AtModifier AtFault → Result Moment BuildError
+at_fault m = on_error at (on_result moment_of m)
+
+-- the moment of `start` or `end`, and the mode of `smoothed` or `anchored`
+abbrev pub bound_moment : Bool → Moment
+bound_moment start = if start then at_start else at_end
+
+abbrev pub range_mode : Bool → RangeMode
+range_mode smoothed = if smoothed then Smoothed else Anchored
 
 -- what a postfix adds to its base
 pub data Change : Type 0 where
@@ -55,9 +68,9 @@ abbrev pub change_value : part.Postfix → Result Change BuildError
 change_value (part.range r) = time_value r then λ n. Ok (to_range n)
 change_value (part.subquery r s) = time_value r then λ n. step_value s then λ m. Ok (to_subquery n m)
 change_value (part.at_number s text) = moment_value s text then λ m. Ok (to_moment m)
-change_value (part.at_bound k text) = Ok (to_moment (bound_moment k))
+change_value (part.at_bound start text) = Ok (to_moment (bound_moment start))
 change_value (part.offset text s r) = shift_value s r then λ x. Ok (by_shift x)
-change_value (part.mode k text) = Ok (in_mode (range_mode k))
+change_value (part.mode smoothed text) = Ok (in_mode (range_mode smoothed))
 
 abbrev pub apply_change : tree.Tree → Change → Asking tree.Tree
 apply_change t (to_range n) = from_verdict (with_range t n)

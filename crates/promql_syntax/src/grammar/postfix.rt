@@ -1,21 +1,19 @@
 //! Postfixes: ranges, subqueries, `@`, `offset` and range modes.
 
-ghost use Rattle.std.specs.Prelude.{◌≡◌, ℕ, ◌<◌, option_map, Some, None, Ok, IfErr, IfOk, IfSome, MatchResult, OnOk};
+ghost use Rattle.std.specs.Prelude.{◌≡◌, ℕ, ◌<◌, Bool, option_map, Some, None, Ok, IfErr, IfOk, IfSome, MatchResult, OnOk};
 ghost use Rattle.std.specs.Duration.{as_nanos};
 ghost use Rattle.promql_text.specs.Texts.{Text};
 ghost use Rattle.promql_text.specs.declared.number.Number as numbers;
 ghost use Rattle.promql_grammar.specs.GrammarParts as part;
 ghost use Rattle.promql_grammar.specs.Parsing as parsing;
 ghost use Rattle.promql_grammar.specs.Results.{◌then◌};
-ghost use Rattle.promql_grammar.specs.declared.token_kinds.TokenKind as kinds;
 ghost use Rattle.promql_grammar.specs.SymbolsLeft.{CountsTaken, IsNoLonger, IsShorter, symbols_left, token_count};
 ghost use Rattle.promql_grammar.specs.Failures.{Reads};
 ghost use Rattle.promql_ast.specs.AtTimes.{at_of_number};
 ghost use Rattle.promql_ast.specs.Shifts.{moment_of, shift_of};
-ghost use Rattle.promql_syntax.specs.Building.{bound_moment};
 ghost use Rattle.promql_syntax.specs.BuildErrors.{view_result};
-ghost use Rattle.promql_syntax.specs.PartBuilding.{at_fault, time_value};
-ghost use Rattle.promql_syntax.specs.Postfixes.{ParsesOptionalPostfix, ParsesPostfix, by_shift, change_of, parse_range, starts_postfix, subquery_change, to_moment, to_range};
+ghost use Rattle.promql_syntax.specs.PartBuilding.{time_value};
+ghost use Rattle.promql_syntax.specs.Postfixes.{ParsesOptionalPostfix, ParsesPostfix, at_fault, bound_moment, by_shift, change_of, parse_range, starts_postfix, subquery_change, to_moment, to_range};
 
 use crate::grammar::build_error::{BuildError, BuildFault};
 use crate::grammar::parsed::Built;
@@ -182,9 +180,9 @@ fn parse_at_modifier(alloc: Global, tokens: &mut Tokens<'_>) -> Result<ParsedPos
 
 /// Parses the parentheses after `start` or `end`.
 fn parse_at_bound(tokens: &mut Tokens<'_>, at: AtModifier) -> Result<ParsedPostfix, ReadError>
-    ensures gives { (n : ℕ) (k : kinds.TokenKind) (t : Text) → moment_of at ≡ bound_moment k
+    ensures gives { (n : ℕ) (start : Bool) (t : Text) → moment_of at ≡ bound_moment start
         → Reads (ParsesPostfix n) (symbols_left tokens.new)
-        (parsing.parse_at_bound k t (symbols_left tokens.old)) result }
+        (parsing.parse_at_bound start t (symbols_left tokens.old)) result }
     ensures short { OnOk result (IsShorter tokens.new tokens.old) }
     ensures counts { OnOk result (CountsTaken tokens.old tokens.new) }
 {

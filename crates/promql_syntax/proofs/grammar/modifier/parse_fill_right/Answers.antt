@@ -1,4 +1,4 @@
-use Rattle.std.proofs.Common.{None, Ok, Some, ap, refl, ◌∙◌}
+use Rattle.std.proofs.Common.{None, Ok, Some, ap, refl, true, ◌∙◌}
 use Rattle.promql_grammar.specs.GrammarParts as part
 use Rattle.promql_grammar.specs.Results.{◌then◌}
 use Rattle.promql_grammar.specs.SymbolsLeft.{symbols_left}
@@ -8,7 +8,7 @@ use Rattle.promql_syntax.proofs.grammar.modifier.parse_fill_right.Goals as goal
 
 pub returns-then-not-eat-clause-gives : goal.returns-then-not-eat-clause-gives
 returns-then-not-eat-clause-gives c = λ t v filled. record {
-  part = part.left t v;
+  part = part.one true t v;
   is = left_alone t v (symbols_left c.args.tokens.now) (symbols_left c.eat.new.self) c.if-not-eat.ensures.gives (c.if-not-eat.ensures.stays refl);
   built = c.build_fill_left.ensures ∙ ap (λ r. r then λ n. Ok (fills None (Some n))) filled;
 }
