@@ -1,4 +1,5 @@
 pub mod Changes
 pub mod ChangedChildren
 pub mod Children
+pub mod PlainMembers
 pub mod WalkSteps

@@ -1,13 +1,14 @@
 //! The JSON form of nodes: docs/reference/json.md, "Nodes".
 
 ghost use Rattle.std.specs.Prelude.{◌≡◌, ◌≢◌, None, Some, IfErr, IfOk, codes, string_bytes};
-ghost use Rattle.serde_json.specs.Data.{object, put as with_member, string as text};
+ghost use Rattle.serde_json.specs.Data.{no_members, object, put as with_member, string as text};
 ghost use Rattle.serde_json.specs.View.{items_view, members_view, view};
 ghost use Rattle.promql_ast.specs.Tree.{number, string};
 ghost use Rattle.promql_ast.specs.View.{aggregate_tree, binary_tree, call_tree, matrix_tree, option_tree, paren_tree, selector_of, subquery_tree, tree_of, trees_of, unary_tree};
-ghost use Rattle.promql_json.specs.Json.{args_items, args_members as args_parts, json_value, node_members, param_json as param_value, selector_fault, selector_members as selector_parts};
+ghost use Rattle.promql_json.specs.Json.{args_items, args_members as args_parts, json_value, node_members, own_fault, param_json as param_value, selector_fault, selector_members as selector_parts};
 ghost use Rattle.promql_json.specs.JsonFaults.{args_fault, json_fault, param_fault};
 ghost use Rattle.promql_json.specs.declared.error.JsonError.TheVariants.{Memory};
+ghost use Rattle.promql_walk.specs.PlainMembers.{plain_members, typed_members};
 
 use crate::json_parts::{
     function_json, group_json, length_json, modifier_json, name_json, number_json,
@@ -99,25 +100,12 @@ pub(crate) fn matrix_members(
     Ok(members)
 }
 
-#[cycle(json)]
-pub(crate) fn aggregate_members(
-    alloc: Global,
-    node: &AggregateExpr,
-) -> Result<Map<String, Value>, JsonError>
-    ensures ok { IfOk result (λ m. members_view m.entries
-        ≡ node_members (aggregate_tree node.now)) }
-    ensures fits { IfOk result (λ _. json_fault (aggregate_tree node.now) ≡ None) }
-    ensures err { IfErr result (λ e. e ≢ Memory → json_fault (aggregate_tree node.now) ≡ Some e) }
+/// Those that hold no nodes.
+fn aggregate_parts(alloc: Global, node: &AggregateExpr) -> Result<Map<String, Value>, AllocError>
+    ensures { IfOk result (λ m. members_view m.entries ≡ plain_members (aggregate_tree node.now)) }
 {
     let mut members = Map::new(alloc);
     put(&mut members, alloc, "op", token_type_json(alloc, node.op)?)?;
-    put(
-        &mut members,
-        alloc,
-        "param",
-        param_json(alloc, &node.param)?,
-    )?;
-    put(&mut members, alloc, "expr", expr_json(alloc, &node.expr)?)?;
     put(
         &mut members,
         alloc,
@@ -134,6 +122,27 @@ pub(crate) fn aggregate_members(
 }
 
 #[cycle(json)]
+pub(crate) fn aggregate_members(
+    alloc: Global,
+    node: &AggregateExpr,
+) -> Result<Map<String, Value>, JsonError>
+    ensures ok { IfOk result (λ m. members_view m.entries
+        ≡ node_members (aggregate_tree node.now)) }
+    ensures fits { IfOk result (λ _. json_fault (aggregate_tree node.now) ≡ None) }
+    ensures err { IfErr result (λ e. e ≢ Memory → json_fault (aggregate_tree node.now) ≡ Some e) }
+{
+    let mut members = aggregate_parts(alloc, node)?;
+    put(
+        &mut members,
+        alloc,
+        "param",
+        param_json(alloc, &node.param)?,
+    )?;
+    put(&mut members, alloc, "expr", expr_json(alloc, &node.expr)?)?;
+    Ok(members)
+}
+
+#[cycle(json)]
 fn param_json(alloc: Global, param: &Option<Box<Expr>>) -> Result<Value, JsonError>
     ensures ok { IfOk result (λ v. view v ≡ param_value (option_tree param.now)) }
     ensures fits { IfOk result (λ _. param_fault (option_tree param.now) ≡ None) }
@@ -145,6 +154,15 @@ fn param_json(alloc: Global, param: &Option<Box<Expr>>) -> Result<Value, JsonErr
     }
 }
 
+/// That of a unary expression that holds no node.
+fn unary_parts(alloc: Global) -> Result<Map<String, Value>, AllocError>
+    ensures { IfOk result (λ m. members_view m.entries ≡ with_member (codes "op") (text (codes "-")) no_members) }
+{
+    let mut members = Map::new(alloc);
+    put(&mut members, alloc, "op", Value::try_from_str(alloc, "-")?)?;
+    Ok(members)
+}
+
 #[cycle(json)]
 pub(crate) fn unary_members(
     alloc: Global,
@@ -154,9 +172,24 @@ pub(crate) fn unary_members(
     ensures fits { IfOk result (λ _. json_fault (unary_tree node.now) ≡ None) }
     ensures err { IfErr result (λ e. e ≢ Memory → json_fault (unary_tree node.now) ≡ Some e) }
 {
-    let mut members = Map::new(alloc);
-    put(&mut members, alloc, "op", Value::try_from_str(alloc, "-")?)?;
+    let mut members = unary_parts(alloc)?;
     put(&mut members, alloc, "expr", expr_json(alloc, &node.expr)?)?;
+    Ok(members)
+}
+
+/// Those that hold no nodes.
+fn binary_parts(alloc: Global, node: &BinaryExpr) -> Result<Map<String, Value>, AllocError>
+    ensures { IfOk result (λ m. members_view m.entries ≡ plain_members (binary_tree node.now)) }
+{
+    let mut members = Map::new(alloc);
+    put(&mut members, alloc, "op", token_type_json(alloc, node.op)?)?;
+    put(&mut members, alloc, "bool", Value::Bool(node.return_bool()))?;
+    put(
+        &mut members,
+        alloc,
+        "matching",
+        modifier_json(alloc, &node.modifier)?,
+    )?;
     Ok(members)
 }
 
@@ -169,17 +202,9 @@ pub(crate) fn binary_members(
     ensures fits { IfOk result (λ _. json_fault (binary_tree node.now) ≡ None) }
     ensures err { IfErr result (λ e. e ≢ Memory → json_fault (binary_tree node.now) ≡ Some e) }
 {
-    let mut members = Map::new(alloc);
-    put(&mut members, alloc, "op", token_type_json(alloc, node.op)?)?;
+    let mut members = binary_parts(alloc, node)?;
     put(&mut members, alloc, "lhs", expr_json(alloc, &node.lhs)?)?;
     put(&mut members, alloc, "rhs", expr_json(alloc, &node.rhs)?)?;
-    put(&mut members, alloc, "bool", Value::Bool(node.return_bool()))?;
-    put(
-        &mut members,
-        alloc,
-        "matching",
-        modifier_json(alloc, &node.modifier)?,
-    )?;
     Ok(members)
 }
 
@@ -197,14 +222,11 @@ pub(crate) fn paren_members(
     Ok(members)
 }
 
-#[cycle(json)]
-pub(crate) fn subquery_members(
-    alloc: Global,
-    node: &SubqueryExpr,
-) -> Result<Map<String, Value>, JsonError>
-    ensures ok { IfOk result (λ m. members_view m.entries ≡ node_members (subquery_tree node.now)) }
-    ensures fits { IfOk result (λ _. json_fault (subquery_tree node.now) ≡ None) }
-    ensures err { IfErr result (λ e. e ≢ Memory → json_fault (subquery_tree node.now) ≡ Some e) }
+/// Those that hold no nodes.
+fn subquery_parts(alloc: Global, node: &SubqueryExpr) -> Result<Map<String, Value>, JsonError>
+    ensures ok { IfOk result (λ m. members_view m.entries ≡ plain_members (subquery_tree node.now)) }
+    ensures fits { IfOk result (λ _. own_fault (subquery_tree node.now) ≡ None) }
+    ensures err { IfErr result (λ e. e ≢ Memory → own_fault (subquery_tree node.now) ≡ Some e) }
 {
     let mut members = Map::new(alloc);
     put(
@@ -222,7 +244,34 @@ pub(crate) fn subquery_members(
     put(&mut members, alloc, "timestamp", timestamp_json(node.at))?;
     put(&mut members, alloc, "range", length_json(node.range)?)?;
     put(&mut members, alloc, "step", step_json(node.step)?)?;
+    Ok(members)
+}
+
+#[cycle(json)]
+pub(crate) fn subquery_members(
+    alloc: Global,
+    node: &SubqueryExpr,
+) -> Result<Map<String, Value>, JsonError>
+    ensures ok { IfOk result (λ m. members_view m.entries ≡ node_members (subquery_tree node.now)) }
+    ensures fits { IfOk result (λ _. json_fault (subquery_tree node.now) ≡ None) }
+    ensures err { IfErr result (λ e. e ≢ Memory → json_fault (subquery_tree node.now) ≡ Some e) }
+{
+    let mut members = subquery_parts(alloc, node)?;
     put(&mut members, alloc, "expr", expr_json(alloc, &node.expr)?)?;
+    Ok(members)
+}
+
+/// That of a call that holds no nodes.
+fn call_parts(alloc: Global, node: &Call) -> Result<Map<String, Value>, AllocError>
+    ensures { IfOk result (λ m. members_view m.entries ≡ plain_members (call_tree node.now)) }
+{
+    let mut members = Map::new(alloc);
+    put(
+        &mut members,
+        alloc,
+        "func",
+        function_json(alloc, &node.func)?,
+    )?;
     Ok(members)
 }
 
@@ -232,13 +281,7 @@ pub(crate) fn call_members(alloc: Global, node: &Call) -> Result<Map<String, Val
     ensures fits { IfOk result (λ _. json_fault (call_tree node.now) ≡ None) }
     ensures err { IfErr result (λ e. e ≢ Memory → json_fault (call_tree node.now) ≡ Some e) }
 {
-    let mut members = Map::new(alloc);
-    put(
-        &mut members,
-        alloc,
-        "func",
-        function_json(alloc, &node.func)?,
-    )?;
+    let mut members = call_parts(alloc, node)?;
     let args = args_json(alloc, node.args.args.as_slice())?;
     put(&mut members, alloc, "args", Value::Array(args))?;
     Ok(members)
@@ -274,14 +317,14 @@ pub(crate) fn args_members(
     Ok(members)
 }
 
-/// A node's object: its members, and its `type`.
-fn with_type(
+/// A node's members, and its `type`.
+fn typed(
     alloc: Global,
     type_name: &str,
     members: Map<String, Value>,
-) -> Result<Value, JsonError>
-    ensures ok { IfOk result (λ v. view v
-        ≡ object (with_member (codes "type") (text type_name.now) (members_view members.entries))) }
+) -> Result<Map<String, Value>, JsonError>
+    ensures ok { IfOk result (λ m. members_view m.entries
+        ≡ with_member (codes "type") (text type_name.now) (members_view members.entries)) }
     ensures err { IfErr result (λ e. e ≡ Memory) }
 {
     let mut members = members;
@@ -291,7 +334,20 @@ fn with_type(
         "type",
         Value::try_from_str(alloc, type_name)?,
     )?;
-    Ok(Value::Object(members))
+    Ok(members)
+}
+
+/// A node's object.
+fn with_type(
+    alloc: Global,
+    type_name: &str,
+    members: Map<String, Value>,
+) -> Result<Value, JsonError>
+    ensures ok { IfOk result (λ v. view v
+        ≡ object (with_member (codes "type") (text type_name.now) (members_view members.entries))) }
+    ensures err { IfErr result (λ e. e ≡ Memory) }
+{
+    Ok(Value::Object(typed(alloc, type_name, members)?))
 }
 
 /// The object of an expression.
@@ -315,6 +371,34 @@ pub(crate) fn expr_json(alloc: Global, expr: &Expr) -> Result<Value, JsonError>
         }
         Expr::MatrixSelector(e) => { with_type(alloc, "matrixSelector", matrix_members(alloc, e)?) }
         Expr::Call(e) => with_type(alloc, "call", call_members(alloc, e)?),
+        Expr::Extension(_) => Err(JsonError::Extension),
+    }
+}
+
+/// The members of an expression's object that hold no nodes, and its `type`: what a caller begins with that makes the objects of the nodes
+/// below by itself.
+///
+/// # Errors
+///
+/// `NumberTooWide` where a number of milliseconds of the node itself has no form, and `Extension` where it is an extension. `Memory`
+/// where an allocation failed.
+#[tactic(auto, using(promql_ast::proofs::NodeParts::tree_of_call, promql_ast::proofs::NodeParts::tree_of_extension, promql_ast::proofs::NodeParts::tree_of_aggregate))]
+pub fn members_without_nodes(alloc: Global, expr: &Expr) -> Result<Map<String, Value>, JsonError>
+    ensures ok { IfOk result (λ m. members_view m.entries ≡ typed_members (tree_of expr.now)) }
+    ensures fits { IfOk result (λ _. own_fault (tree_of expr.now) ≡ None) }
+    ensures err { IfErr result (λ e. e ≢ Memory → own_fault (tree_of expr.now) ≡ Some e) }
+{
+    match expr {
+        Expr::Aggregate(e) => typed(alloc, "aggregation", aggregate_parts(alloc, e)?),
+        Expr::Unary(_) => typed(alloc, "unaryExpr", unary_parts(alloc)?),
+        Expr::Binary(e) => typed(alloc, "binaryExpr", binary_parts(alloc, e)?),
+        Expr::Paren(_) => typed(alloc, "parenExpr", Map::new(alloc)),
+        Expr::Subquery(e) => typed(alloc, "subquery", subquery_parts(alloc, e)?),
+        Expr::NumberLiteral(e) => typed(alloc, "numberLiteral", number_members(alloc, e)?),
+        Expr::StringLiteral(e) => typed(alloc, "stringLiteral", string_members(alloc, e)?),
+        Expr::VectorSelector(e) => typed(alloc, "vectorSelector", selector_members(alloc, e)?),
+        Expr::MatrixSelector(e) => typed(alloc, "matrixSelector", matrix_members(alloc, e)?),
+        Expr::Call(e) => typed(alloc, "call", call_parts(alloc, e)?),
         Expr::Extension(_) => Err(JsonError::Extension),
     }
 }

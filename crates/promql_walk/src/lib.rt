@@ -2,6 +2,7 @@
 //! The rules are in docs/reference/walks.md and docs/reference/json.md.
 #![tactic(auto)]
 
+pub use json_nodes::members_without_nodes;
 pub use json_parts::{labels_json, match_op_json, matcher_json, matchers_json, token_type_json};
 pub use promql_json::{JsonError, json_text};
 pub use to_json::ToJson;
