@@ -5,6 +5,8 @@ pub mod LyingParts
 pub mod PassedTrees
 pub mod PlaceSteps
 pub mod PlacedAnswers
+pub mod PlacedFloats
+pub mod PlacedFormSteps
 pub mod PlacedNodes
 pub mod SignedTrees
 pub mod TakeSteps

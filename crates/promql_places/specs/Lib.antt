@@ -4,5 +4,7 @@ pub mod NodePlaces
 pub mod PartSteps
 pub mod Passing
 pub mod PlacedAnswers
+pub mod PlacedForms
+pub mod PlacedFormSteps
 pub mod PlacedWalks
 pub mod Skipping

@@ -9,13 +9,16 @@
 
 mod kinds;
 pub mod laws;
+mod matcher_places;
 mod part_cursor;
 mod parts;
 mod placed;
+mod placed_form;
 mod placing;
 mod token_cursor;
 mod visitor;
 
 pub use parts::{Part, PartKind};
 pub use placed::{PlacedExpr, find_places, parse_placed};
+pub use placed_form::{placed_json, placed_json_text};
 pub use visitor::{PlacedVisitor, WithPlaces};

@@ -75,7 +75,11 @@ pub fn find_places(alloc: Global, text: &str, expr: &Expr) -> Result<Vec<Span>, 
 }
 
 /// The nodes of this text's tree.
-fn placed_nodes<'a>(alloc: Global, text: &'a str, expr: &Expr) -> Result<Placing<'a>, AllocError>
+pub(crate) fn placed_nodes<'a>(
+    alloc: Global,
+    text: &'a str,
+    expr: &Expr,
+) -> Result<Placing<'a>, AllocError>
     ensures places { IfOk result (λ p. IsAnswerTo text.now (Ok (tree_of expr.now))
         → ArePlaces text.now (tree_of expr.now) p.places.items) }
     ensures parts { IfOk result (λ p. IsAnswerTo text.now (Ok (tree_of expr.now))

@@ -1,0 +1,26 @@
+-- What is done for a form with places, step by step. Private: nothing rests on believing it.
+use Rattle.std.specs.Prelude.{ℕ, ◌+◌, List, length, map, zip, Option, None}
+use Rattle.promql_ast.specs.Tree.{Tree, subquery, vector, matrix, Trees, no_trees, first_tree}
+use Rattle.promql_json.specs.JsonFaults.{json_fault}
+use Rattle.promql_json.specs.declared.error.JsonError.{JsonError}
+use Rattle.promql_places.specs.NodePlaces.{nodes_within}
+use Rattle.promql_places.specs.PlacedForms.{NodePlace, node_count}
+use Rattle.promql_places.specs.declared.placed_form.NodesLeft.{NodesLeft}
+
+abbrev pub left : NodesLeft → List NodePlace
+left n = zip n.places.now (map (λ ps. ps.items) n.parts.now)
+
+-- how many nodes are below one
+abbrev pub inner_count : Tree → ℕ
+inner_count t = length (nodes_within t)
+
+abbrev pub args_count : Trees → ℕ
+args_count no_trees = 0
+args_count (first_tree e es) = node_count e + args_count es
+
+-- the first fault of the nodes below one
+abbrev pub inner_fault : Tree → Option JsonError
+inner_fault (subquery e offset at range step) = json_fault e
+inner_fault (vector s) = None
+inner_fault (matrix s range mode) = None
+inner_fault t = json_fault t

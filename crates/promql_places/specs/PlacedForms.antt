@@ -1,0 +1,114 @@
+-- The JSON form of a tree with the places of its nodes and matchers (docs/reference/json.md, "Places").
+use Rattle.std.specs.Prelude.{◌≡◌, ℕ, Bool, true, false, List, [], ◌∷◌, Option, Some, None, codes, drop, filter, length, map, slice_get, zip}
+use Rattle.serde_json.specs.Data.{Data, null, number as whole_number, unsigned, string as text, object, Members, put}
+use Rattle.serde_json.specs.Written.{compact_text}
+use Rattle.promql_text.specs.Texts.{Text}
+use Rattle.promql_label.specs.PlainMatchers.{PlainMatcher, PlainMatchers, plain_matchers}
+use Rattle.promql_ast.specs.Selectors.{Selector, selector}
+use Rattle.promql_ast.specs.Tree.{Tree, aggregate, unary, binary, paren, subquery, vector, matrix, call, MaybeTree, absent, present, Trees, no_trees, first_tree}
+use Rattle.promql_json.specs.Json.{json_value, node_members, type_name}
+use Rattle.promql_json.specs.JsonParts.{list, matcher_json}
+use Rattle.promql_span.specs.declared.span.Span.{Span}
+use Rattle.promql_places.specs.NodeParts.{AreParts}
+use Rattle.promql_places.specs.NodePlaces.{ArePlaces, tree_nodes}
+use Rattle.promql_places.specs.declared.parts.Part.{Part}
+use Rattle.promql_places.specs.declared.parts.PartKind.{PartKind}
+use Rattle.promql_places.specs.declared.parts.PartKind.TheVariants as kind
+
+-- the members with a place
+abbrev pub with_place : Span → Members → Members
+with_place p ms = put (codes "start") (whole_number (unsigned p.start)) (put (codes "end") (whole_number (unsigned p.end)) ms)
+
+-- ---- matchers
+
+abbrev pub is_matcher : PartKind → Bool
+is_matcher kind.Matcher = true
+is_matcher _ = false
+
+abbrev pub matcher_places : List Part → List Span
+matcher_places ps = map (λ p. p.span) (filter (λ p. is_matcher p.kind) ps)
+
+abbrev pub placed_object : Span → Data → Data
+placed_object p (object ms) = object (with_place p ms)
+placed_object p d = d
+
+abbrev pub placed_matcher : Option Span → PlainMatcher → Data
+placed_matcher None m = matcher_json m
+placed_matcher (Some p) m = placed_object p (matcher_json m)
+
+-- each with the place that comes next
+abbrev pub placed_matchers : List PlainMatcher → List Span → List Data
+placed_matchers [] ps = []
+placed_matchers (m ∷ ms) ps = placed_matcher (slice_get ps 0) m ∷ placed_matchers ms (drop 1 ps)
+
+abbrev pub placed_groups : List (List PlainMatcher) → List Span → List Data
+placed_groups [] ps = []
+placed_groups (g ∷ gs) ps = list (placed_matchers g ps) ∷ placed_groups gs (drop (length g) ps)
+
+abbrev pub with_placed_groups : List (List PlainMatcher) → List Span → Members → Members
+with_placed_groups [] ps ms = ms
+with_placed_groups (g ∷ gs) ps ms = put (codes "or_matchers") (list (placed_groups (g ∷ gs) ps)) ms
+
+abbrev pub with_placed_matchers : PlainMatchers → List Span → Members → Members
+with_placed_matchers (plain_matchers plain groups) ps ms =
+    with_placed_groups groups (drop (length plain) ps) (put (codes "matchers") (list (placed_matchers plain ps)) ms)
+
+abbrev pub with_selector : Selector → List Span → Members → Members
+with_selector (selector name ms offset at) = with_placed_matchers ms
+
+-- ---- nodes
+
+-- a node's place, and its parts
+abbrev pub NodePlace : Type 0
+NodePlace = Span × List Part
+
+abbrev pub node_count : Tree → ℕ
+node_count t = length (tree_nodes t)
+
+abbrev pub param_count : MaybeTree → ℕ
+param_count absent = 0
+param_count (present e) = node_count e
+
+-- a node's object: that of its form with its place, and anew the members that hold matchers and other nodes
+abbrev pub placed_node : (List Span → List NodePlace → Members → Members) → Tree → List NodePlace → Data
+placed_node anew t [] = json_value t
+placed_node anew t (p ∷ ps) =
+    object (with_place p.0 (anew (matcher_places p.1) ps (put (codes "type") (text (type_name t)) (node_members t))))
+
+-- places are in the order of a walk, and those of a node come before those below it
+abbrev mutual
+  pub with_placed : Tree → List Span → List NodePlace → Members → Members
+  with_placed (aggregate op e p m) = λ qs ps ms. put (codes "expr") (placed_node (with_placed e) e (drop (param_count p) ps)) (put (codes "param") (placed_param p ps) ms)
+  with_placed (unary e) = λ qs ps ms. put (codes "expr") (placed_node (with_placed e) e ps) ms
+  with_placed (binary op l r m) = λ qs ps ms. put (codes "rhs") (placed_node (with_placed r) r (drop (node_count l) ps)) (put (codes "lhs") (placed_node (with_placed l) l ps) ms)
+  with_placed (paren e) = λ qs ps ms. put (codes "expr") (placed_node (with_placed e) e ps) ms
+  with_placed (subquery e offset at range step) = λ qs ps ms. put (codes "expr") (placed_node (with_placed e) e ps) ms
+  with_placed (vector s) = λ qs ps ms. with_selector s qs ms
+  with_placed (matrix s range mode) = λ qs ps ms. with_selector s qs ms
+  with_placed (call f ts) = λ qs ps ms. put (codes "args") (list (placed_args ts ps)) ms
+  with_placed t = λ qs ps ms. ms
+
+  pub placed_param : MaybeTree → List NodePlace → Data
+  placed_param absent = λ ps. null
+  placed_param (present e) = λ ps. placed_node (with_placed e) e ps
+
+  pub placed_args : Trees → List NodePlace → List Data
+  placed_args no_trees = λ ps. []
+  placed_args (first_tree e es) = λ ps. placed_node (with_placed e) e ps ∷ placed_args es (drop (node_count e) ps)
+
+abbrev pub placed_value : Tree → List NodePlace → Data
+placed_value t = placed_node (with_placed t) t
+
+-- ---- the form of a text's tree
+
+-- this value
+pub record IsPlacedForm (s : Text) (t : Tree) (d : Data) : Type 0 where
+  pub places : List Span
+  pub lists : List (List Part)
+  pub are_places : ArePlaces s t places
+  pub are_parts : AreParts s t lists
+  pub is : d ≡ placed_value t (zip places lists)
+
+-- its text
+abbrev pub IsPlacedText : Text → Tree → Text → Type 0
+IsPlacedText s t printed = (d : Data) × IsPlacedForm s t d × (printed ≡ compact_text d)
