@@ -1,7 +1,9 @@
+pub mod ErrorPlaces
 pub mod FaultOrder
 pub mod Forms
 pub mod JsonTokens
 pub mod NoFloat
+pub mod MembersInOrder
 pub mod NoNodes
 pub mod ReadForms
 pub mod ReadableTrees

@@ -40,12 +40,12 @@ then_true : (a b : Bool) → (if a then b else true) ≡ true → a ≡ true →
 then_true true b h is = h
 then_true false b h is = absurd (true≢false (sym is))
 
-aggregator : (op : ℕ) → is_aggregator op ≡ true → is_one_of AGGREGATORS op ≡ true
+pub aggregator : (op : ℕ) → is_aggregator op ≡ true → is_one_of AGGREGATORS op ≡ true
 aggregator op is =
     let low : op < 59 = grind (arith, nat_tests, both_true (nat_le 45 op) (nat_le op 58) is) in
     then_true (is_aggregator op) _ (at_below (λ k. if is_aggregator k then is_one_of AGGREGATORS k else true) 59 op refl low) is
 
-operator : (op : ℕ) → is_binary_operator op ≡ true → is_one_of OPERATORS op ≡ true
+pub operator : (op : ℕ) → is_binary_operator op ≡ true → is_one_of OPERATORS op ≡ true
 operator op is =
     let among = both_true (is_operator op) _ is in
     let low : op < 59 = grind (arith, nat_tests, both_true (nat_le 24 op) (nat_le op 42) among.0) in

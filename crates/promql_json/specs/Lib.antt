@@ -1,8 +1,10 @@
 pub mod Events
 pub mod FormMembers
+pub mod FormMisfits
 pub mod Json
 pub mod JsonFaults
 pub mod JsonParts
 pub mod JsonTokens
+pub mod MembersLeft
 pub mod Readable
 pub mod ReadableBelow

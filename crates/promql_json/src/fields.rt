@@ -1,8 +1,12 @@
 //! The members of an object, read in byte order of their names. Private.
 
-ghost use Rattle.std.specs.Prelude.{◌≡◌, ◌≢◌, IfErr, IfNone, IfOk, IfSome, OnErr, OnOk};
-ghost use Rattle.serde_json.specs.Data.{Data, Members, member, no_members, string as text};
+ghost use Rattle.std.specs.Prelude.{◌≡◌, ◌≢◌, ◌∷◌, [], true, IfErr, IfNone, IfOk, IfSome, None, OnErr, OnOk, Option, Some, codes};
+ghost use Rattle.serde_json.specs.Data.{Data, Members, member, no_members, object, string as text};
+ghost use Rattle.serde_json.specs.Find.{get};
 ghost use Rattle.serde_json.specs.View.{members_view, view};
+ghost use Rattle.promql_text.specs.Texts.{Text};
+ghost use Rattle.promql_json.specs.FormMisfits.{Form};
+ghost use Rattle.promql_json.specs.MembersLeft.{AreLeft, IsIn, follows, in_order};
 ghost use Rattle.promql_json.specs.declared.from_error.ReadError.TheVariants.{Memory};
 
 use crate::from_error::{Expected, ReadError, member};
@@ -19,7 +23,9 @@ pub(crate) struct Fields<'v> {
 
 impl<'v> Fields<'v> {
     pub(crate) fn new(members: &'v Map<String, Value>) -> Fields<'v>
-        ensures { result.rest ≡ members.now.entries }
+        ensures all { result.rest ≡ members.now.entries }
+        ensures left { (f : Form) (first : Text) → follows f None (Some first) ≡ true
+            → AreLeft f (object (members_view members.now.entries)) (Some first) (members_view result.rest) }
     {
         Fields {
             rest: members.iter(),
@@ -32,6 +38,11 @@ impl<'v> Fields<'v> {
             ≡ member name.now (view v.now) (members_view self.new.rest)) }
         ensures err { IfErr result (λ e. e ≢ Memory → (d : Data) (ms : Members)
             → members_view self.old.rest ≢ member name.now d ms) }
+        ensures left { IfOk result (λ v. (f : Form) (d : Data) → AreLeft f d (Some name.now) (members_view self.old.rest)
+            → (get name.now d ≡ Some (view v.now))
+            × ((after : Option Text) → follows f (Some name.now) after ≡ true → AreLeft f d after (members_view self.new.rest))) }
+        ensures place { IfErr result (λ e. (f : Form) (d : Data) → AreLeft f d (Some name.now) (members_view self.old.rest)
+            → in_order f (name.now ∷ []) ≡ true → IsIn f d e) }
     {
         match self.rest.next() {
             Some((key, value)) => {
@@ -56,6 +67,9 @@ impl<'v> Fields<'v> {
             (members_view self.new.rest ≡ members_view self.old.rest)) }
         ensures none { IfOk result (λ found. IfNone found ((d : Data) (ms : Members)
             → members_view self.old.rest ≢ member name.now d ms)) }
+        ensures left { IfOk result (λ found. IfSome found (λ v. (f : Form) (d : Data) → AreLeft f d (Some name.now) (members_view self.old.rest)
+            → (get name.now d ≡ Some (view v.now))
+            × ((after : Option Text) → follows f (Some name.now) after ≡ true → AreLeft f d after (members_view self.new.rest)))) }
     {
         let mut ahead = self.rest.clone()?;
         match ahead.next() {
@@ -71,6 +85,7 @@ impl<'v> Fields<'v> {
     pub(crate) fn end(&mut self, alloc: Global) -> Result<(), ReadError>
         ensures ok { OnOk result (members_view self.old.rest ≡ no_members) }
         ensures err { OnErr result (members_view self.old.rest ≢ no_members) }
+        ensures place { IfErr result (λ e. (f : Form) (d : Data) → AreLeft f d None (members_view self.old.rest) → IsIn f d e) }
     {
         match self.rest.next() {
             Some((key, _)) => Err(ReadError::at(alloc, key.as_str(), Expected::Unknown)),
@@ -89,6 +104,8 @@ impl<'v> Fields<'v> {
         ensures node { OnOk result (view node.now ≡ text type_name.now) }
         ensures err { IfErr result (λ e. e ≢ Memory → members_view self.old.rest ≡ no_members
             → view node.now ≢ text type_name.now) }
+        ensures place { IfErr result (λ e. (f : Form) (d : Data) → AreLeft f d None (members_view self.old.rest)
+            → view node.now ≡ text type_name.now → IsIn f d e) }
     {
         self.end(alloc)?;
         member!(
@@ -111,6 +128,12 @@ impl<'v> Fields<'v> {
             (member second.now (view v.1.now) (members_view self.new.rest))) }
         ensures err { IfErr result (λ e. e ≢ Memory → (c d : Data) (ms : Members)
             → members_view self.old.rest ≢ member first.now c (member second.now d ms)) }
+        ensures left { IfOk result (λ v. (f : Form) (d : Data) → AreLeft f d (Some first.now) (members_view self.old.rest)
+            → in_order f (first.now ∷ second.now ∷ []) ≡ true
+            → (get first.now d ≡ Some (view v.0.now)) × (get second.now d ≡ Some (view v.1.now))
+            × ((after : Option Text) → follows f (Some second.now) after ≡ true → AreLeft f d after (members_view self.new.rest))) }
+        ensures place { IfErr result (λ e. (f : Form) (d : Data) → AreLeft f d (Some first.now) (members_view self.old.rest)
+            → in_order f (first.now ∷ second.now ∷ []) ≡ true → IsIn f d e) }
     {
         let one = self.next(alloc, first)?;
         let two = self.next(alloc, second)?;
@@ -130,6 +153,12 @@ impl<'v> Fields<'v> {
             (member third.now (view v.2.now) (members_view self.new.rest)))) }
         ensures err { IfErr result (λ e. e ≢ Memory → (b c d : Data) (ms : Members)
             → members_view self.old.rest ≢ member first.now b (member second.now c (member third.now d ms))) }
+        ensures left { IfOk result (λ v. (f : Form) (d : Data) → AreLeft f d (Some first.now) (members_view self.old.rest)
+            → in_order f (first.now ∷ second.now ∷ third.now ∷ []) ≡ true
+            → (get first.now d ≡ Some (view v.0.now)) × (get second.now d ≡ Some (view v.1.now)) × (get third.now d ≡ Some (view v.2.now))
+            × ((after : Option Text) → follows f (Some third.now) after ≡ true → AreLeft f d after (members_view self.new.rest))) }
+        ensures place { IfErr result (λ e. (f : Form) (d : Data) → AreLeft f d (Some first.now) (members_view self.old.rest)
+            → in_order f (first.now ∷ second.now ∷ third.now ∷ []) ≡ true → IsIn f d e) }
     {
         let (one, two) = self.two(alloc, first, second)?;
         let three = self.next(alloc, third)?;

@@ -1,6 +1,10 @@
 //! Why a value is the JSON form of no tree: docs/reference/json.md, "From JSON to a tree".
 
-ghost use Rattle.std.specs.Prelude.{◌≡◌};
+ghost use Rattle.std.specs.Prelude.{◌≡◌, ◌++◌, Some, [], codes};
+ghost use Rattle.serde_json.specs.Data.{Data};
+ghost use Rattle.serde_json.specs.Find.{at as item_at, get};
+ghost use Rattle.promql_json.specs.FormMisfits.{AsksOf, Form, MisfitAt, exactly, item_of};
+ghost use Rattle.promql_json.specs.MembersLeft.{IsIn};
 ghost use Rattle.promql_json.specs.declared.from_error.ReadError.TheVariants.{Memory};
 
 use std::alloc::{AllocError, AllocFailed, Global};
@@ -124,12 +128,17 @@ pub(crate) enum ReadError {
 }
 
 impl From<ReadError> for FromJsonError {
-    ghost use Rattle.std.specs.Prelude.{◌≡◌, ◌≢◌};
+    ghost use Rattle.std.specs.Prelude.{◌≡◌, ◌≢◌, string_bytes};
+    ghost use Rattle.serde_json.specs.Data.{Data};
+    ghost use Rattle.promql_json.specs.FormMisfits.{Form, MisfitAt};
+    ghost use Rattle.promql_json.specs.MembersLeft.{IsIn};
     ghost use Rattle.promql_json.specs.declared.from_error.FromJsonError.TheVariants.{NotJson};
     ghost use Rattle.promql_json.specs.declared.from_error.FromJsonError.TheVariants as surface;
+    ghost use Rattle.promql_json.specs.declared.from_error.Misfit.{Misfit as Fault};
     ghost use Rattle.promql_json.specs.declared.from_error.ReadError.TheVariants.{Memory};
 
-    ghost from_gives = { λ x e. (x ≡ Memory → e ≡ surface.Memory) × (e ≢ NotJson) };
+    ghost from_gives = { λ x e. (x ≡ Memory → e ≡ surface.Memory) × (e ≢ NotJson)
+        × ((f : Form) (d : Data) (m : Fault) → IsIn f d x → e ≡ surface.Misfit m → MisfitAt f d (string_bytes m.path) m.expected) };
 
     fn from(e: ReadError) -> FromJsonError {
         match e {
@@ -141,7 +150,9 @@ impl From<ReadError> for FromJsonError {
 
 impl ReadError {
     /// An error at the place that is read.
-    pub(crate) fn here(alloc: Global, expected: Expected) -> ReadError {
+    pub(crate) fn here(alloc: Global, expected: Expected) -> ReadError
+        ensures { (f : Form) (d : Data) → MisfitAt f d [] expected → IsIn f d result }
+    {
         ReadError::Misfit(Misfit {
             path: String::new(alloc),
             expected,
@@ -149,13 +160,19 @@ impl ReadError {
     }
 
     /// An error at a member of the object that is read.
-    pub(crate) fn at(alloc: Global, name: &str, expected: Expected) -> ReadError {
-        ReadError::here(alloc, expected).inside(alloc, name)
+    pub(crate) fn at(alloc: Global, name: &str, expected: Expected) -> ReadError
+        ensures { (f : Form) (d : Data) → MisfitAt f d (codes "." ++ name.now) expected → IsIn f d result }
+    {
+        match format!(in alloc; ".{name}") {
+            Ok(path) => ReadError::Misfit(Misfit { path, expected }),
+            Err(_) => ReadError::Memory,
+        }
     }
 
     /// The error, seen from the object that has it in the member of this name.
     pub(crate) fn inside(self, alloc: Global, name: &str) -> ReadError
-        ensures { self ≡ Memory → result ≡ Memory }
+        ensures memory { self ≡ Memory → result ≡ Memory }
+        ensures place { (f g : Form) (d v : Data) → AsksOf f d name.now g → get name.now d ≡ Some v → IsIn g v self → IsIn f d result }
     {
         match self {
             ReadError::Memory => ReadError::Memory,
@@ -171,7 +188,10 @@ impl ReadError {
 
     /// The error, seen from the list that has it in the item of this index.
     pub(crate) fn inside_item(self, alloc: Global, index: usize) -> ReadError
-        ensures { self ≡ Memory → result ≡ Memory }
+        ensures memory { self ≡ Memory → result ≡ Memory }
+        ensures place { (f g : Form) (d v : Data) → item_of f ≡ Some g → item_at index d ≡ Some v → IsIn g v self → IsIn f d result }
+        ensures exact { (d v w x : Data) → item_at index w ≡ Some x → item_at index d ≡ Some v → IsIn (exactly x) v self
+            → IsIn (exactly w) d result }
     {
         match self {
             ReadError::Memory => ReadError::Memory,

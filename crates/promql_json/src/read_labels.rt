@@ -1,8 +1,9 @@
 //! Lists of labels and of matchers: docs/reference/json.md, "Parts". Private.
 
-ghost use Rattle.std.specs.Prelude.{◌≡◌, ◌≢◌, IfErr, IfOk, List, OnErr, true, ◌∷◌, codes, map, string_bytes};
+ghost use Rattle.std.specs.Prelude.{◌≡◌, ◌≢◌, IfErr, IfOk, List, OnErr, Some, true, ◌∷◌, codes, map, string_bytes};
 ghost use Rattle.std.specs.List.{AllByRecursion};
-ghost use Rattle.serde_json.specs.Data.{Members, member, no_members, object, string};
+ghost use Rattle.serde_json.specs.Data.{Data, Members, array, member, no_members, object, string};
+ghost use Rattle.serde_json.specs.Find.{get};
 ghost use Rattle.serde_json.specs.View.{items_of, items_view, view};
 ghost use Rattle.promql_label.specs.Labels.{labels_of};
 ghost use Rattle.promql_label.specs.MatcherViews.{plain_matcher_of};
@@ -12,6 +13,9 @@ ghost use Rattle.promql_label.specs.PlainMatchers.{Operator, PlainMatcher};
 ghost use Rattle.promql_json.specs.FormMembers.{groups_members};
 ghost use Rattle.promql_json.specs.JsonParts as spec;
 ghost use Rattle.promql_json.specs.Readable.{ReadableMatcher};
+ghost use Rattle.promql_json.specs.FormMisfits.{IsNot, full_list_of, labels as labels_form, list_of, matcher, one};
+ghost use Rattle.promql_json.specs.MembersLeft.{IsIn};
+ghost use Rattle.promql_json.specs.declared.from_error.Expected.TheVariants.{MatchOp, Text as TextThere};
 ghost use Rattle.promql_json.specs.declared.from_error.ReadError.TheVariants.{Memory};
 
 use crate::fields::Fields;
@@ -26,6 +30,7 @@ use std::alloc::Global;
 pub(crate) fn read_label(alloc: Global, value: &Value) -> Result<String, ReadError>
     ensures ok { IfOk result (λ s. view value.now ≡ string (string_bytes s)) }
     ensures err { IfErr result (λ e. e ≢ Memory → (s : Text) → view value.now ≢ string s) }
+    ensures place { IfErr result (IsIn (one TextThere) (view value.now)) }
 {
     let text = read_text(alloc, value)?;
     Ok(String::from_str(alloc, text)?)
@@ -35,6 +40,7 @@ pub(crate) fn read_label(alloc: Global, value: &Value) -> Result<String, ReadErr
 pub(crate) fn read_labels(alloc: Global, value: &Value) -> Result<Labels, ReadError>
     ensures ok { IfOk result (λ labels. view value.now ≡ spec.labels_json (labels_of labels)) }
     ensures err { IfErr result (λ e. e ≢ Memory → (ls : List Text) → view value.now ≢ spec.labels_json ls) }
+    ensures place { IfErr result (IsIn labels_form (view value.now)) }
 {
     let list = read_list(alloc, value)?;
     Ok(Labels {
@@ -45,6 +51,7 @@ pub(crate) fn read_labels(alloc: Global, value: &Value) -> Result<Labels, ReadEr
 fn read_label_list(alloc: Global, list: &[Value]) -> Result<Vec<String>, ReadError>
     ensures ok { IfOk result (λ labels. map view list.now ≡ map string (map string_bytes labels.items)) }
     ensures err { IfErr result (λ e. e ≢ Memory → (ls : List Text) → items_view list.now ≢ items_of (map string ls)) }
+    ensures place { IfErr result (IsIn labels_form (array (items_view list.now))) }
 {
     let mut labels = Vec::with_capacity(alloc, list.len())?;
     for i in 0..list.len() {
@@ -61,6 +68,7 @@ fn read_match_op(alloc: Global, value: &Value) -> Result<TokenId, ReadError>
     ensures ok { IfOk result (λ id. view value.now ≡ spec.token_json id) }
     ensures known { IfOk result (λ id. is_operator_id id ≡ true) }
     ensures err { OnErr result ((op : Operator) → view value.now ≢ spec.operator_json op) }
+    ensures place { IfErr result (λ e. IsNot MatchOp (view value.now) → IsIn (one MatchOp) (view value.now) e) }
 {
     match value {
         Value::String(text) if text.as_str() == "=" => Ok(T_EQL),
@@ -79,6 +87,8 @@ fn new_matcher(alloc: Global, id: TokenId, name: &str, value: &str) -> Result<Ma
         (member (codes "type") (spec.token_json id) (member (codes "value") (string value.now) no_members)))) }
     ensures ok { IfOk result (λ m. spec.matcher_json (plain_matcher_of m) ≡ object (member (codes "name") (string name.now)
         (member (codes "type") (spec.token_json id) (member (codes "value") (string value.now) no_members)))) }
+    ensures place { IfErr result (λ e. (d : Data) → get (codes "type") d ≡ Some (spec.token_json id)
+        → get (codes "value") d ≡ Some (string value.now) → IsIn matcher d e) }
 {
     let name = String::from_str(alloc, name)?;
     let value = String::from_str(alloc, value)?;
@@ -93,6 +103,7 @@ fn new_matcher(alloc: Global, id: TokenId, name: &str, value: &str) -> Result<Ma
 fn read_matcher(alloc: Global, value: &Value) -> Result<Matcher, ReadError>
     ensures ok { IfOk result (λ m. view value.now ≡ spec.matcher_json (plain_matcher_of m)) }
     ensures err { IfErr result (λ e. e ≢ Memory → (m : PlainMatcher) → ReadableMatcher m → view value.now ≢ spec.matcher_json m) }
+    ensures place { IfErr result (IsIn matcher (view value.now)) }
 {
     let mut fields = Fields::new(read_object(alloc, value)?);
     let (name, op, value) = fields.three(alloc, "name", "type", "value")?;
@@ -108,6 +119,7 @@ fn read_matcher_list(alloc: Global, list: &[Value]) -> Result<Vec<Matcher>, Read
         ≡ map spec.matcher_json (map plain_matcher_of group.items)) }
     ensures err { IfErr result (λ e. e ≢ Memory → (ms : List PlainMatcher) → AllByRecursion ReadableMatcher ms
         → items_view list.now ≢ items_of (map spec.matcher_json ms)) }
+    ensures place { IfErr result (IsIn (list_of matcher) (array (items_view list.now))) }
 {
     let mut group = Vec::with_capacity(alloc, list.len())?;
     for i in 0..list.len() {
@@ -125,6 +137,7 @@ pub(crate) fn read_group(alloc: Global, value: &Value) -> Result<Vec<Matcher>, R
         ≡ spec.group_json (map plain_matcher_of group.items)) }
     ensures err { IfErr result (λ e. e ≢ Memory → (ms : List PlainMatcher) → AllByRecursion ReadableMatcher ms
         → view value.now ≢ spec.group_json ms) }
+    ensures place { IfErr result (IsIn (list_of matcher) (view value.now)) }
 {
     let list = read_list(alloc, value)?;
     read_matcher_list(alloc, list)
@@ -135,6 +148,7 @@ fn read_group_list(alloc: Global, list: &[Value]) -> Result<Vec<Vec<Matcher>>, R
         ≡ map spec.group_json (map (λ g. map plain_matcher_of g.items) groups.items)) }
     ensures err { IfErr result (λ e. e ≢ Memory → (gs : List (List PlainMatcher)) → AllByRecursion (AllByRecursion ReadableMatcher) gs
         → items_view list.now ≢ items_of (map spec.group_json gs)) }
+    ensures place { IfErr result (IsIn (full_list_of (list_of matcher)) (array (items_view list.now))) }
 {
     let mut groups = Vec::with_capacity(alloc, list.len())?;
     for i in 0..list.len() {
@@ -153,6 +167,7 @@ pub(crate) fn read_groups(alloc: Global, value: &Value) -> Result<Vec<Vec<Matche
     ensures err { IfErr result (λ e. e ≢ Memory → (g : List PlainMatcher) (gs : List (List PlainMatcher))
         → AllByRecursion (AllByRecursion ReadableMatcher) (g ∷ gs)
         → view value.now ≢ spec.list (map spec.group_json (g ∷ gs))) }
+    ensures place { IfErr result (IsIn (full_list_of (list_of matcher)) (view value.now)) }
 {
     let list = read_list(alloc, value)?;
     if list.is_empty() {

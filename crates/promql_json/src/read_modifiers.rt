@@ -1,7 +1,8 @@
 //! Modifiers and functions: docs/reference/json.md, "Parts". Private.
 
-ghost use Rattle.std.specs.Prelude.{◌≡◌, ◌≢◌, [], IfErr, IfOk, IfSome, List, OnErr, OnOk, Option, Some, map, option_map};
-ghost use Rattle.serde_json.specs.Data.{boolean, member, no_members, object, string};
+ghost use Rattle.std.specs.Prelude.{◌≡◌, ◌≢◌, ◌⊎◌, ℕ, if◌then◌else◌, [], IfErr, IfOk, IfSome, List, OnErr, OnOk, Option, Some, codes, map, option_map};
+ghost use Rattle.serde_json.specs.Data.{Data, boolean, member, no_members, object, string};
+ghost use Rattle.serde_json.specs.Find.{get};
 ghost use Rattle.serde_json.specs.View.{members_view, view};
 ghost use Rattle.promql_text.specs.Texts.{Text};
 ghost use Rattle.promql_text.specs.declared.number.Number.{Number as AnyNumber};
@@ -12,6 +13,9 @@ ghost use Rattle.promql_kind.specs.Modifiers.{Cardinality, Clause, Matching, fil
 ghost use Rattle.promql_ast.specs.OptionalModifiers.{returns_bool};
 ghost use Rattle.promql_json.specs.JsonParts as spec;
 ghost use Rattle.promql_json.specs.Readable.{ReadableFill, ReadableMatching};
+ghost use Rattle.promql_json.specs.FormMisfits.{IsNot, cardinality, exactly, fill_values, function as function_form, grouped, list_of, modifier, no_list, node_named, one, or_null, word};
+ghost use Rattle.promql_json.specs.MembersLeft.{IsAlone, IsIn, IsRow};
+ghost use Rattle.promql_json.specs.declared.from_error.Expected.TheVariants.{Cardinality as CardinalityWord, EmptyList, FunctionName, FunctionPart};
 ghost use Rattle.promql_json.specs.declared.from_error.ReadError.TheVariants.{Memory};
 
 use crate::fields::Fields;
@@ -42,6 +46,8 @@ pub(crate) fn read_grouping(
     ensures err { IfErr result (λ e. e ≢ Memory → (m : Option Clause)
         → view grouping.now ≡ spec.labels_json (spec.optional_labels m)
         → view without.now ≢ boolean (spec.is_excluding m)) }
+    ensures place { IfErr result (λ e. (n : ℕ) (d : Data) → get (codes "grouping") d ≡ Some (view grouping.now)
+        → get (codes "without") d ≡ Some (view without.now) → IsIn (node_named (codes "aggregation") n) d e) }
 {
     let is_without = member!(alloc, "without", read_flag(alloc, without));
     let labels = member!(alloc, "grouping", read_labels(alloc, grouping));
@@ -68,6 +74,8 @@ fn read_matched(
     ensures err { IfErr result (λ e. e ≢ Memory → (m : Option Clause)
         → view labels.now ≡ spec.labels_json (spec.optional_labels m)
         → view on.now ≢ boolean (is_including_some m)) }
+    ensures place { IfErr result (λ e. (d : Data) → get (codes "labels") d ≡ Some (view labels.now)
+        → get (codes "on") d ≡ Some (view on.now) → IsIn modifier d e) }
 {
     let is_on = member!(alloc, "on", read_flag(alloc, on));
     let labels = member!(alloc, "labels", read_labels(alloc, labels));
@@ -90,6 +98,7 @@ fn read_grouped(
         ≡ member name.now (spec.labels_json (labels_of labels)) no_members) }
     ensures err { IfErr result (λ e. e ≢ Memory → (ls : List Text)
         → members_view members.now.entries ≢ member name.now (spec.labels_json ls) no_members) }
+    ensures place { IfErr result (λ e. IsAlone name.now → IsIn (grouped name.now) (object (members_view members.now.entries)) e) }
 {
     let mut fields = Fields::new(members);
     let labels = fields.next(alloc, name)?;
@@ -106,6 +115,7 @@ fn read_many(
         ≡ spec.cardinality_json (cardinality_of card)) }
     ensures err { IfErr result (λ e. e ≢ Memory → (card : Cardinality)
         → object (members_view members.now.entries) ≢ spec.cardinality_json card) }
+    ensures place { IfErr result (IsIn cardinality (object (members_view members.now.entries))) }
 {
     let mut fields = Fields::new(members);
     match fields.next_if("one-to-many")? {
@@ -122,6 +132,7 @@ fn read_cardinality(alloc: Global, value: &Value) -> Result<VectorMatchCardinali
     ensures ok { IfOk result (λ card. view value.now ≡ spec.cardinality_json (cardinality_of card)) }
     ensures err { IfErr result (λ e. e ≢ Memory → (card : Cardinality)
         → view value.now ≢ spec.cardinality_json card) }
+    ensures place { IfErr result (λ e. IsNot CardinalityWord (view value.now) → IsIn cardinality (view value.now) e) }
 {
     match value {
         Value::String(text) if text.as_str() == "one-to-one" => Ok(
@@ -139,6 +150,7 @@ fn read_fills(alloc: Global, value: &Value) -> Result<VectorMatchFillValues, Rea
     ensures ok { IfOk result (λ values. view value.now ≡ spec.fills_json (fills_of values)) }
     ensures err { IfErr result (λ e. e ≢ Memory → (r l : Option AnyNumber) → ReadableFill r → ReadableFill l
         → view value.now ≢ spec.fills_json (fills r l)) }
+    ensures place { IfErr result (IsIn fill_values (view value.now)) }
 {
     let mut fields = Fields::new(read_object(alloc, value)?);
     let (lhs, rhs) = fields.two(alloc, "lhs", "rhs")?;
@@ -152,6 +164,7 @@ fn read_fills(alloc: Global, value: &Value) -> Result<VectorMatchFillValues, Rea
 fn expect_no_items(alloc: Global, value: &Value) -> Result<(), ReadError>
     ensures ok { OnOk result (view value.now ≡ spec.list []) }
     ensures err { OnErr result (view value.now ≢ spec.list []) }
+    ensures place { IfErr result (λ e. IsNot EmptyList (view value.now) → IsIn no_list (view value.now) e) }
 {
     if read_list(alloc, value)?.is_empty() {
         Ok(())
@@ -170,6 +183,7 @@ fn read_modifier(
     ensures bool { IfOk result (λ m. m.return_bool ≡ return_bool) }
     ensures err { IfErr result (λ e. e ≢ Memory → (m : Matching) → ReadableMatching (Some m)
         → object (members_view members.now.entries) ≢ spec.matching_json m) }
+    ensures place { IfErr result (IsIn modifier (object (members_view members.now.entries))) }
 {
     let mut fields = Fields::new(members);
     let (card, values, include) = fields.three(alloc, "card", "fillValues", "include")?;
@@ -197,6 +211,7 @@ pub(crate) fn read_matching(
     ensures bool { IfOk result (λ m. returns_bool (option_map matching_of m) ≡ return_bool) }
     ensures err { IfErr result (λ e. e ≢ Memory → (m : Option Matching) → ReadableMatching m
         → returns_bool m ≡ return_bool → view value.now ≢ spec.or_null spec.matching_json m) }
+    ensures place { IfErr result (IsIn (if return_bool then modifier else or_null modifier) (view value.now)) }
 {
     match value {
         Value::Null => {
@@ -216,6 +231,8 @@ pub(crate) fn read_matching(
 fn expect_types(alloc: Global, value: &Value, types: &[ValueType]) -> Result<(), ReadError>
     ensures ok { OnOk result (view value.now ≡ spec.list (map spec.type_json types.now)) }
     ensures err { IfErr result (λ e. e ≢ Memory → view value.now ≢ spec.list (map spec.type_json types.now)) }
+    ensures place { IfErr result (λ e. view value.now ≢ spec.list (map spec.type_json types.now)
+        → IsIn (list_of (one FunctionPart)) (view value.now) e ⊎ IsIn (exactly (spec.list (map spec.type_json types.now))) (view value.now) e) }
 {
     let list = read_list(alloc, value)?;
     if list.len() != types.len() {
@@ -233,6 +250,7 @@ fn expect_types(alloc: Global, value: &Value, types: &[ValueType]) -> Result<(),
 fn expect_flag(alloc: Global, value: &Value, wanted: bool) -> Result<(), ReadError>
     ensures ok { OnOk result (view value.now ≡ boolean wanted) }
     ensures err { OnErr result (view value.now ≢ boolean wanted) }
+    ensures place { IfErr result (λ e. view value.now ≢ boolean wanted → IsIn (exactly (boolean wanted)) (view value.now) e) }
 {
     match value {
         Value::Bool(flag) if *flag == wanted => Ok(()),
@@ -243,6 +261,7 @@ fn expect_flag(alloc: Global, value: &Value, wanted: bool) -> Result<(), ReadErr
 fn expect_whole(alloc: Global, value: &Value, wanted: i64) -> Result<(), ReadError>
     ensures ok { OnOk result (view value.now ≡ spec.whole wanted) }
     ensures err { OnErr result (view value.now ≢ spec.whole wanted) }
+    ensures place { IfErr result (λ e. view value.now ≢ spec.whole wanted → IsIn (exactly (spec.whole wanted)) (view value.now) e) }
 {
     match value.as_i64() {
         Some(z) if z == wanted => Ok(()),
@@ -264,6 +283,7 @@ fn function_of_name(alloc: Global, value: &Value) -> Result<Function, ReadError>
     ensures row { IfOk result (λ f. function_named (name_of (signature_of f)) ≡ Some (signature_of f)) }
     ensures err { IfErr result (λ e. e ≢ Memory → (f : Signature) → function_named (name_of f) ≡ Some f
         → view value.now ≢ string (name_of f)) }
+    ensures place { IfErr result (λ e. IsNot FunctionName (view value.now) → IsIn (word FunctionName) (view value.now) e) }
 {
     let name = read_text(alloc, value)?;
     match named_function(alloc, name)? {
@@ -290,6 +310,10 @@ fn expect_function(
         → view experimental.now ≡ boolean function.now.experimental
         → view return_type.now ≡ spec.type_json function.now.return_type
         → view variadic.now ≢ spec.whole function.now.variadic) }
+    ensures place { IfErr result (λ e. (d : Data) → IsRow (signature_of function.now)
+        → get (codes "name") d ≡ Some (string (name_of (signature_of function.now)))
+        → get (codes "argTypes") d ≡ Some (view types.now) → get (codes "experimental") d ≡ Some (view experimental.now)
+        → get (codes "returnType") d ≡ Some (view return_type.now) → get (codes "variadic") d ≡ Some (view variadic.now) → IsIn function_form d e) }
 {
     member!(
         alloc,
@@ -321,6 +345,7 @@ pub(crate) fn read_function(alloc: Global, value: &Value) -> Result<Function, Re
     ensures ok { IfOk result (λ f. view value.now ≡ spec.function_json (signature_of f)) }
     ensures err { IfErr result (λ e. e ≢ Memory → (f : Signature) → function_named (name_of f) ≡ Some f
         → view value.now ≢ spec.function_json f) }
+    ensures place { IfErr result (IsIn function_form (view value.now)) }
 {
     let mut fields = Fields::new(read_object(alloc, value)?);
     let (types, experimental, name) = fields.three(alloc, "argTypes", "experimental", "name")?;

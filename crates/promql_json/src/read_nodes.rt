@@ -1,8 +1,9 @@
 //! From the JSON form to a tree: docs/reference/json.md, "From JSON to a tree".
 
-ghost use Rattle.std.specs.Prelude.{◌≡◌, ◌≢◌, ◌+◌, ℕ, true, None, Ok, Option, Some, IfErr, IfOk, option_map, string_bytes};
+ghost use Rattle.std.specs.Prelude.{◌≡◌, ◌≢◌, ◌+◌, ℕ, true, None, Ok, Option, Some, IfErr, IfOk, codes, option_map, string_bytes};
 ghost use Rattle.std.specs.Duration.{as_nanos};
 ghost use Rattle.serde_json.specs.Data.{Data, array, object};
+ghost use Rattle.serde_json.specs.Find.{get};
 ghost use Rattle.serde_json.specs.Read.{read as read_text};
 ghost use Rattle.serde_json.specs.View.{items_view, members_view, view};
 ghost use Rattle.promql_text.specs.Texts.{Text};
@@ -21,7 +22,11 @@ ghost use Rattle.promql_json.specs.Readable.{IsNoForm, ReadableMatching, Readabl
 ghost use Rattle.promql_json.specs.ReadableBelow.{AllReadableBelow, MaybeReadableBelow, ReadableBelow};
 ghost use Rattle.promql_json.specs.declared.read_values.TheConstants.{AGGREGATORS as AGGREGATOR_IDS, OPERATORS as OPERATOR_IDS};
 ghost use Rattle.promql_json.specs.JsonFaults.{args_fault, json_fault, param_fault};
+ghost use Rattle.promql_json.specs.FormMisfits.{AsksOf, Form, MisfitAt, list_of, node as node_form, node_named};
+ghost use Rattle.promql_json.specs.MembersLeft.{IsIn, IsTypeIn, IsTyped};
 ghost use Rattle.promql_json.specs.declared.from_error.FromJsonError.TheVariants as surface;
+ghost use Rattle.promql_json.specs.declared.from_error.Misfit.{Misfit as Fault};
+ghost use Rattle.promql_json.specs.declared.from_error.ReadError.{ReadError as Fails};
 ghost use Rattle.promql_json.specs.declared.from_error.ReadError.TheVariants.{Memory};
 
 use crate::fields::Fields;
@@ -58,6 +63,8 @@ pub fn from_json(alloc: Global, value: &Value) -> Result<Expr, FromJsonError>
     ensures ok { IfOk result (λ e. json (tree_of e) ≡ Ok (view value.now)) }
     ensures err { IfErr result (λ e. e ≢ surface.Memory → IsNoForm (view value.now)) }
     ensures kind { IfErr result (λ e. e ≢ surface.NotJson) }
+    ensures place { IfErr result (λ e. (m : Fault) → e ≡ surface.Misfit m
+        → MisfitAt (node_form 512) (view value.now) (string_bytes m.path) m.expected) }
 {
     Ok(read_expr(alloc, value, MAX_HEIGHT)?)
 }
@@ -72,6 +79,8 @@ pub fn from_json_text(alloc: Global, text: &str) -> Result<Expr, FromJsonError>
     ensures misfit { IfErr result (λ e. e ≢ surface.Memory → e ≢ surface.NotJson
         → (d : Data) × (read_text text.now ≡ Some d) × IsNoForm d) }
     ensures not_json { IfErr result (λ e. e ≡ surface.NotJson → read_text text.now ≡ None) }
+    ensures place { IfErr result (λ e. (m : Fault) → e ≡ surface.Misfit m
+        → (d : Data) × (read_text text.now ≡ Some d) × MisfitAt (node_form 512) d (string_bytes m.path) m.expected) }
 {
     match Value::from_str(alloc, text) {
         Ok(value) => from_json(alloc, &value),
@@ -93,6 +102,8 @@ fn read_child(
     ensures ok { IfOk result (λ b. view value.now ≡ json_value (tree_of b.value)) }
     ensures fits { IfOk result (λ b. json_fault (tree_of b.value) ≡ None) }
     ensures err { IfErr result (λ e. e ≢ Memory → (t : Tree) → ReadableBelow depth t → view value.now ≢ json_value t) }
+    ensures place { IfErr result (λ e. (f g : Form) (d : Data) → AsksOf f d name.now g → get name.now d ≡ Some (view value.now)
+        → ((e : Fails) → IsIn (node_form depth) (view value.now) e → IsIn g (view value.now) e) → IsIn f d e) }
 {
     match read_expr(alloc, value, depth) {
         Ok(expr) => Ok(Box::new(alloc, expr)?),
@@ -118,6 +129,8 @@ fn aggregate_parts<'v>(
         ≡ aggregate_members (view p.expr.now) (view p.grouping.now) (view p.op.now) (view p.param.now) (view p.without.now)) }
     ensures err { IfErr result (λ e. e ≢ Memory → (expr grouping op param without : Data)
         → members_view members.now.entries ≢ aggregate_members expr grouping op param without) }
+    ensures place { IfErr result (λ e. (n : ℕ) → IsTyped (object (members_view members.now.entries)) (codes "aggregation")
+        → IsIn (node_named (codes "aggregation") n) (object (members_view members.now.entries)) e) }
 {
     let mut fields = Fields::new(members);
     let (expr, grouping, op) = fields.three(alloc, "expr", "grouping", "op")?;
@@ -137,6 +150,8 @@ fn read_param(alloc: Global, value: &Value, depth: usize) -> Result<Option<Box<E
     ensures ok { IfOk result (λ p. view value.now ≡ param_json (option_tree p)) }
     ensures fits { IfOk result (λ p. param_fault (option_tree p) ≡ None) }
     ensures err { IfErr result (λ e. e ≢ Memory → (p : MaybeTree) → MaybeReadableBelow depth p → view value.now ≢ param_json p) }
+    ensures place { IfErr result (λ e. (d : Data) → get (codes "param") d ≡ Some (view value.now)
+        → IsIn (node_named (codes "aggregation") depth) d e) }
 {
     match value {
         Value::Null => Ok(None),
@@ -156,6 +171,8 @@ fn read_aggregate(
     ensures err { IfErr result (λ e. e ≢ Memory → (op : ℕ) (t : Tree) (p : MaybeTree) (m : Option Clause)
         → is_one_of AGGREGATOR_IDS op ≡ true → MaybeReadableBelow depth p → ReadableBelow depth t
         → object (members_view members.now.entries) ≢ json_value (aggregate op t p m)) }
+    ensures place { IfErr result (λ e. IsTyped (object (members_view members.now.entries)) (codes "aggregation")
+        → IsIn (node_named (codes "aggregation") depth) (object (members_view members.now.entries)) e) }
 {
     let parts = aggregate_parts(alloc, members)?;
     let op = member!(
@@ -185,6 +202,8 @@ fn read_unary(
     ensures fits { IfOk result (λ u. json_fault (unary_tree u) ≡ None) }
     ensures err { IfErr result (λ e. e ≢ Memory → (t : Tree) → ReadableBelow depth t
         → object (members_view members.now.entries) ≢ json_value (unary t)) }
+    ensures place { IfErr result (λ e. IsTyped (object (members_view members.now.entries)) (codes "unaryExpr")
+        → IsIn (node_named (codes "unaryExpr") depth) (object (members_view members.now.entries)) e) }
 {
     let mut fields = Fields::new(members);
     let (expr, op, node) = fields.three(alloc, "expr", "op", "type")?;
@@ -212,6 +231,8 @@ fn binary_parts<'v>(
         ≡ binary_members (view p.is_bool.now) (view p.lhs.now) (view p.matching.now) (view p.op.now) (view p.rhs.now)) }
     ensures err { IfErr result (λ e. e ≢ Memory → (is_bool lhs matching op rhs : Data)
         → members_view members.now.entries ≢ binary_members is_bool lhs matching op rhs) }
+    ensures place { IfErr result (λ e. (n : ℕ) → IsTyped (object (members_view members.now.entries)) (codes "binaryExpr")
+        → IsIn (node_named (codes "binaryExpr") n) (object (members_view members.now.entries)) e) }
 {
     let mut fields = Fields::new(members);
     let (is_bool, lhs, matching) = fields.three(alloc, "bool", "lhs", "matching")?;
@@ -238,6 +259,8 @@ fn read_binary(
     ensures err { IfErr result (λ e. e ≢ Memory → (op : ℕ) (l r : Tree) (m : Option Matching)
         → is_one_of OPERATOR_IDS op ≡ true → ReadableMatching m → ReadableBelow depth l → ReadableBelow depth r
         → object (members_view members.now.entries) ≢ json_value (binary op l r m)) }
+    ensures place { IfErr result (λ e. IsTyped (object (members_view members.now.entries)) (codes "binaryExpr")
+        → IsIn (node_named (codes "binaryExpr") depth) (object (members_view members.now.entries)) e) }
 {
     let parts = binary_parts(alloc, members)?;
     let is_bool = member!(alloc, "bool", read_flag(alloc, parts.is_bool));
@@ -272,6 +295,8 @@ fn read_paren(
     ensures fits { IfOk result (λ p. json_fault (paren_tree p) ≡ None) }
     ensures err { IfErr result (λ e. e ≢ Memory → (t : Tree) → ReadableBelow depth t
         → object (members_view members.now.entries) ≢ json_value (paren t)) }
+    ensures place { IfErr result (λ e. IsTyped (object (members_view members.now.entries)) (codes "parenExpr")
+        → IsIn (node_named (codes "parenExpr") depth) (object (members_view members.now.entries)) e) }
 {
     let mut fields = Fields::new(members);
     let (expr, node) = fields.two(alloc, "expr", "type")?;
@@ -301,6 +326,8 @@ fn subquery_parts<'v>(
     ensures err { IfErr result (λ e. e ≢ Memory
         → (expr : Data) (offset : Option Shift) (at : Option Moment) (range : ℕ) (step : Option ℕ) → ReadableMoment at
         → members_view members.now.entries ≢ subquery_members expr offset at range step) }
+    ensures place { IfErr result (λ e. (n : ℕ) → IsTyped (object (members_view members.now.entries)) (codes "subquery")
+        → IsIn (node_named (codes "subquery") n) (object (members_view members.now.entries)) e) }
 {
     let mut fields = Fields::new(members);
     let (expr, offset, range) = fields.three(alloc, "expr", "offset", "range")?;
@@ -332,6 +359,8 @@ fn read_subquery(
     ensures err { IfErr result (λ e. e ≢ Memory
         → (t : Tree) (offset : Option Shift) (at : Option Moment) (range : ℕ) (step : Option ℕ) → ReadableMoment at → ReadableBelow depth t
         → object (members_view members.now.entries) ≢ json_value (subquery t offset at range step)) }
+    ensures place { IfErr result (λ e. IsTyped (object (members_view members.now.entries)) (codes "subquery")
+        → IsIn (node_named (codes "subquery") depth) (object (members_view members.now.entries)) e) }
 {
     let parts = subquery_parts(alloc, members)?;
     let expr = read_child(alloc, "expr", parts.expr, depth)?;
@@ -352,6 +381,8 @@ fn read_number_literal(
         ≡ json_value (number n.val)) }
     ensures err { IfErr result (λ e. e ≢ Memory → (n : AnyNumber) → IsNumber n
         → object (members_view members.now.entries) ≢ json_value (number n)) }
+    ensures place { IfErr result (λ e. (n : ℕ) → IsTyped (object (members_view members.now.entries)) (codes "numberLiteral")
+        → IsIn (node_named (codes "numberLiteral") n) (object (members_view members.now.entries)) e) }
 {
     let mut fields = Fields::new(members);
     let (node, val) = fields.two(alloc, "type", "val")?;
@@ -369,6 +400,8 @@ fn read_string_literal(
         ≡ json_value (string (string_bytes s.val))) }
     ensures err { IfErr result (λ e. e ≢ Memory → (s : Text)
         → object (members_view members.now.entries) ≢ json_value (string s)) }
+    ensures place { IfErr result (λ e. (n : ℕ) → IsTyped (object (members_view members.now.entries)) (codes "stringLiteral")
+        → IsIn (node_named (codes "stringLiteral") n) (object (members_view members.now.entries)) e) }
 {
     let mut fields = Fields::new(members);
     let (node, val) = fields.two(alloc, "type", "val")?;
@@ -383,6 +416,7 @@ fn read_arg_list(alloc: Global, list: &[Value], depth: usize) -> Result<Vec<Box<
     ensures ok { IfOk result (λ args. items_view list.now ≡ args_items (trees_of args.items)) }
     ensures fits { IfOk result (λ args. args_fault (trees_of args.items) ≡ None) }
     ensures err { IfErr result (λ e. e ≢ Memory → (ts : Trees) → AllReadableBelow depth ts → items_view list.now ≢ args_items ts) }
+    ensures place { IfErr result (IsIn (list_of (node_form depth)) (array (items_view list.now))) }
 {
     let mut args = Vec::with_capacity(alloc, list.len())?;
     for i in 0..list.len() {
@@ -399,6 +433,7 @@ fn read_args(alloc: Global, value: &Value, depth: usize) -> Result<Vec<Box<Expr>
     ensures ok { IfOk result (λ args. view value.now ≡ array (args_items (trees_of args.items))) }
     ensures fits { IfOk result (λ args. args_fault (trees_of args.items) ≡ None) }
     ensures err { IfErr result (λ e. e ≢ Memory → (ts : Trees) → AllReadableBelow depth ts → view value.now ≢ array (args_items ts)) }
+    ensures place { IfErr result (IsIn (list_of (node_form depth)) (view value.now)) }
 {
     let list = read_list(alloc, value)?;
     read_arg_list(alloc, list, depth)
@@ -411,6 +446,8 @@ fn read_call(alloc: Global, members: &Map<String, Value>, depth: usize) -> Resul
     ensures fits { IfOk result (λ c. json_fault (call_tree c) ≡ None) }
     ensures err { IfErr result (λ e. e ≢ Memory → (f : Signature) (ts : Trees) → function_named (name_of f) ≡ Some f → AllReadableBelow depth ts
         → object (members_view members.now.entries) ≢ json_value (call f ts)) }
+    ensures place { IfErr result (λ e. IsTyped (object (members_view members.now.entries)) (codes "call")
+        → IsIn (node_named (codes "call") depth) (object (members_view members.now.entries)) e) }
 {
     let mut fields = Fields::new(members);
     let (args, func, node) = fields.three(alloc, "args", "func", "type")?;
@@ -424,9 +461,8 @@ fn read_call(alloc: Global, members: &Map<String, Value>, depth: usize) -> Resul
 }
 
 /// The text of the member `type`; empty where there is none.
-#[tactic(auto, using(crate::proofs::ReadForms::type_found))]
 fn type_of_node(value: &Value) -> &str
-    ensures { (t : Tree) → view value.now ≡ json_value t → result.now ≡ type_name t }
+    ensures { IsTypeIn (view value.now) result.now }
 {
     match value.get("type") {
         Some(Value::String(name)) => name.as_str(),
@@ -443,12 +479,13 @@ fn read_node(
     members: &Map<String, Value>,
     depth: usize,
 ) -> Result<Expr, ReadError>
-    requires { (t : Tree) → object (members_view members.now.entries) ≡ json_value t → node.now ≡ type_name t }
+    requires { IsTypeIn (object (members_view members.now.entries)) node.now }
     ensures ok { IfOk result (λ e. object (members_view members.now.entries)
         ≡ json_value (tree_of e)) }
     ensures fits { IfOk result (λ e. json_fault (tree_of e) ≡ None) }
     ensures err { IfErr result (λ e. e ≢ Memory → (t : Tree) → ReadableBelow (depth + 1) t
         → object (members_view members.now.entries) ≢ json_value t) }
+    ensures place { IfErr result (IsIn (node_form (depth + 1)) (object (members_view members.now.entries))) }
 {
     match node {
         "aggregation" => Ok(Expr::Aggregate(read_aggregate(alloc, members, depth)?)),
@@ -471,6 +508,7 @@ fn read_expr(alloc: Global, value: &Value, depth: usize) -> Result<Expr, ReadErr
     ensures ok { IfOk result (λ e. view value.now ≡ json_value (tree_of e)) }
     ensures fits { IfOk result (λ e. json_fault (tree_of e) ≡ None) }
     ensures err { IfErr result (λ e. e ≢ Memory → (t : Tree) → ReadableBelow depth t → view value.now ≢ json_value t) }
+    ensures place { IfErr result (IsIn (node_form depth) (view value.now)) }
 {
     if depth == 0 {
         return Err(ReadError::here(alloc, Expected::LowTree));

@@ -1,8 +1,9 @@
 //! Selectors of the JSON form: docs/reference/json.md, "Nodes". Private.
 
-ghost use Rattle.std.specs.Prelude.{◌≡◌, ◌≢◌, ℕ, IfErr, IfOk, List, None, Option, codes, map, option_map, string_bytes};
+ghost use Rattle.std.specs.Prelude.{◌≡◌, ◌≢◌, ℕ, true, IfErr, IfOk, List, None, Option, Some, codes, map, option_map, string_bytes};
 ghost use Rattle.std.specs.Duration.{as_nanos};
 ghost use Rattle.serde_json.specs.Data.{Data, Members, member, object, string as text};
+ghost use Rattle.serde_json.specs.Find.{get};
 ghost use Rattle.serde_json.specs.View.{members_view, view};
 ghost use Rattle.promql_text.specs.Texts.{Text};
 ghost use Rattle.promql_label.specs.MatcherViews.{plain_matcher_of};
@@ -19,6 +20,9 @@ ghost use Rattle.promql_json.specs.Json.{json_value, selector_fault, width_fault
 ghost use Rattle.promql_json.specs.JsonFaults.{json_fault};
 ghost use Rattle.promql_json.specs.JsonTokens.{moment_of_selector};
 ghost use Rattle.promql_json.specs.JsonParts as spec;
+ghost use Rattle.promql_json.specs.FormMisfits.{Form, full_list_of, list_of, matcher, node_named, one, or_null, row_of, rows};
+ghost use Rattle.promql_json.specs.MembersLeft.{AreLeft, BeginsSelector, EndsSelector, IsIn, IsTyped, follows};
+ghost use Rattle.promql_json.specs.declared.from_error.Expected.TheVariants.{Millis, StartOrEnd, Text as TextThere};
 ghost use Rattle.promql_json.specs.declared.from_error.ReadError.TheVariants.{Memory};
 
 use crate::fields::Fields;
@@ -37,6 +41,7 @@ fn read_name(alloc: Global, value: &Value) -> Result<Option<String>, ReadError>
         ≡ spec.or_null text (option_map string_bytes name)) }
     ensures err { IfErr result (λ e. e ≢ Memory → (name : Option Text)
         → view value.now ≢ spec.or_null text name) }
+    ensures place { IfErr result (IsIn (or_null (one TextThere)) (view value.now)) }
 {
     match value {
         Value::Null => Ok(None),
@@ -55,6 +60,10 @@ fn next_groups(alloc: Global, fields: &mut Fields<'_>) -> Result<Vec<Vec<Matcher
     ensures rest { IfOk result (λ _. (gs : List (List PlainMatcher)) (name : Text) (d : Data) (ms : Members)
         → name ≢ codes "or_matchers" → members_view fields.old.rest ≡ groups_members gs (member name d ms)
         → members_view fields.new.rest ≡ member name d ms) }
+    ensures left { IfOk result (λ _. (f : Form) (d : Data) → AreLeft f d (Some (codes "or_matchers")) (members_view fields.old.rest)
+        → (after : Option Text) → follows f (Some (codes "or_matchers")) after ≡ true → AreLeft f d after (members_view fields.new.rest)) }
+    ensures place { IfErr result (λ e. (f : Form) (d : Data) → AreLeft f d (Some (codes "or_matchers")) (members_view fields.old.rest)
+        → row_of (codes "or_matchers") (rows f) ≡ Some (full_list_of (list_of matcher)) → IsIn f d e) }
 {
     match fields.next_if("or_matchers")? {
         Some(groups) => Ok(member!(alloc, "or_matchers", read_groups(alloc, groups))),
@@ -73,6 +82,10 @@ fn read_begin(alloc: Global, fields: &mut Fields<'_>) -> Result<VectorSelector, 
     ensures rest { IfOk result (λ _. (s : Selector) (name : Text) (d : Data) (ms : Members)
         → name ≢ codes "or_matchers" → members_view fields.old.rest ≡ begin_members s (member name d ms)
         → members_view fields.new.rest ≡ member name d ms) }
+    ensures left { IfOk result (λ _. (f : Form) (d : Data) → BeginsSelector f → AreLeft f d (Some (codes "matchers")) (members_view fields.old.rest)
+        → (after : Option Text) → follows f (Some (codes "or_matchers")) after ≡ true → AreLeft f d after (members_view fields.new.rest)) }
+    ensures place { IfErr result (λ e. (f : Form) (d : Data) → BeginsSelector f
+        → AreLeft f d (Some (codes "matchers")) (members_view fields.old.rest) → IsIn f d e) }
 {
     let (matchers, name, offset) = fields.three(alloc, "matchers", "name", "offset")?;
     let offset = member!(alloc, "offset", read_offset(alloc, offset));
@@ -103,6 +116,9 @@ pub(crate) fn read_at(
     ensures err { IfErr result (λ e. e ≢ Memory → (at : Option Moment) → ReadableMoment at
         → view start_or_end.now ≡ spec.start_or_end at
         → view timestamp.now ≢ spec.timestamp at) }
+    ensures place { IfErr result (λ e. (f : Form) (d : Data) → row_of (codes "startOrEnd") (rows f) ≡ Some (one StartOrEnd)
+        → row_of (codes "timestamp") (rows f) ≡ Some (or_null (one Millis)) → get (codes "startOrEnd") d ≡ Some (view start_or_end.now)
+        → get (codes "timestamp") d ≡ Some (view timestamp.now) → IsIn f d e) }
 {
     let word = member!(alloc, "startOrEnd", read_start_or_end(alloc, start_or_end));
     Ok(member!(alloc, "timestamp", read_timestamp(alloc, timestamp, word)))
@@ -118,6 +134,8 @@ fn read_end(
         ≡ end_members (option_map moment_of at) type_name.now) }
     ensures err { IfErr result (λ e. e ≢ Memory → (at : Option Moment) → ReadableMoment at
         → members_view fields.old.rest ≢ end_members at type_name.now) }
+    ensures place { IfErr result (λ e. (f : Form) (d : Data) → EndsSelector f
+        → AreLeft f d (Some (codes "startOrEnd")) (members_view fields.old.rest) → IsTyped d type_name.now → IsIn f d e) }
 {
     let (start_or_end, timestamp, node) = fields.three(alloc, "startOrEnd", "timestamp", "type")?;
     fields.end_of_node(alloc, node, type_name)?;
@@ -148,6 +166,8 @@ pub(crate) fn read_vector(
     ensures fits { IfOk result (λ s. json_fault (vector_tree s) ≡ None) }
     ensures err { IfErr result (λ e. e ≢ Memory → (s : Selector) → ReadableSelector s
         → object (members_view members.now.entries) ≢ json_value (vector s)) }
+    ensures place { IfErr result (λ e. (n : ℕ) → IsTyped (object (members_view members.now.entries)) (codes "vectorSelector")
+        → IsIn (node_named (codes "vectorSelector") n) (object (members_view members.now.entries)) e) }
 {
     let mut fields = Fields::new(members);
     let selector = read_begin(alloc, &mut fields)?;
@@ -168,6 +188,12 @@ fn read_range(alloc: Global, fields: &mut Fields<'_>) -> Result<(Duration, Range
         → name ≢ codes "rangeMode"
         → members_view fields.old.rest ≡ member (codes "range") (spec.whole (spec.millis range)) (mode_members mode (member name d ms))
         → members_view fields.new.rest ≡ member name d ms) }
+    ensures left { IfOk result (λ _. (n : ℕ) (d : Data)
+        → AreLeft (node_named (codes "matrixSelector") n) d (Some (codes "range")) (members_view fields.old.rest)
+        → AreLeft (node_named (codes "matrixSelector") n) d (Some (codes "startOrEnd")) (members_view fields.new.rest)) }
+    ensures place { IfErr result (λ e. (n : ℕ) (d : Data)
+        → AreLeft (node_named (codes "matrixSelector") n) d (Some (codes "range")) (members_view fields.old.rest)
+        → IsIn (node_named (codes "matrixSelector") n) d e) }
 {
     let range = fields.next(alloc, "range")?;
     let range = member!(alloc, "range", read_length(alloc, range));
@@ -187,6 +213,8 @@ pub(crate) fn read_matrix(
     ensures fits { IfOk result (λ m. json_fault (matrix_tree m) ≡ None) }
     ensures err { IfErr result (λ e. e ≢ Memory → (s : Selector) (range : ℕ) (mode : Mode) → ReadableSelector s
         → object (members_view members.now.entries) ≢ json_value (matrix s range mode)) }
+    ensures place { IfErr result (λ e. (n : ℕ) → IsTyped (object (members_view members.now.entries)) (codes "matrixSelector")
+        → IsIn (node_named (codes "matrixSelector") n) (object (members_view members.now.entries)) e) }
 {
     let mut fields = Fields::new(members);
     let selector = read_begin(alloc, &mut fields)?;

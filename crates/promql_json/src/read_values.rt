@@ -1,10 +1,11 @@
 //! What the values of members mean: docs/reference/json.md, "Values". Private.
 
-ghost use Rattle.std.specs.Prelude.{◌≡◌, ◌≢◌, ℕ, ℤ, Bool, Option, None, pos, int_lt, codes, IfErr, IfOk, IfSome, IfNone, false, true, OnErr, OnOk, option_map};
+ghost use Rattle.std.specs.Prelude.{◌≡◌, ◌≢◌, ℕ, ℤ, [], Bool, Option, Some, None, pos, slice_get, int_lt, codes, IfErr, IfOk, IfSome, IfNone, false, true, OnErr, OnOk, option_map};
 ghost use Rattle.std.specs.Duration.{as_nanos};
 ghost use Rattle.std.specs.List.{list_any};
 ghost use Rattle.std.specs.Str.{bytes_eq};
-ghost use Rattle.serde_json.specs.Data.{Items, Members, array, boolean, member, null, object, string};
+ghost use Rattle.serde_json.specs.Data.{Data, Items, Members, array, boolean, member, null, object, string};
+ghost use Rattle.serde_json.specs.Find.{get};
 ghost use Rattle.serde_json.specs.View.{items_view, members_view, view};
 ghost use Rattle.promql_text.specs.Texts.{Text};
 ghost use Rattle.promql_text.specs.Values.{IsNumber};
@@ -14,6 +15,9 @@ ghost use Rattle.promql_ast.specs.Shifts.{Moment, moment_of, shift_of};
 ghost use Rattle.promql_json.specs.FormMembers.{mode_members};
 ghost use Rattle.promql_json.specs.Json.{step_fault, width_fault};
 ghost use Rattle.promql_json.specs.Readable.{ReadableFill, ReadableMoment, is_millis};
+ghost use Rattle.promql_json.specs.FormMisfits.{AsksOf, Form, IsNot, MisfitAt, expected_at, one, or_null, row_of, rows, word};
+ghost use Rattle.promql_json.specs.MembersLeft.{IsIn};
+ghost use Rattle.promql_json.specs.declared.from_error.Expected.TheVariants.{Flag, Length, List as ListThere, Millis, Number as NumberText, Object as ObjectThere, RangeMode as RangeModeWord, StartOrEnd, Text as TextThere};
 ghost use Rattle.promql_json.specs.declared.from_error.ReadError.TheVariants.{Memory};
 ghost use Rattle.promql_json.specs.JsonParts as spec;
 
@@ -57,6 +61,7 @@ pub(crate) const OPERATORS: [TokenId; 16] = [
 pub(crate) fn read_object(alloc: Global, value: &Value) -> Result<&Map<String, Value>, ReadError>
     ensures ok { IfOk result (λ m. view value.now ≡ object (members_view m.now.entries)) }
     ensures err { OnErr result ((ms : Members) → view value.now ≢ object ms) }
+    ensures place { IfErr result (λ e. (f : Form) → slice_get (expected_at f) 0 ≡ Some ObjectThere → IsIn f (view value.now) e) }
 {
     match value {
         Value::Object(members) => Ok(members),
@@ -67,6 +72,7 @@ pub(crate) fn read_object(alloc: Global, value: &Value) -> Result<&Map<String, V
 pub(crate) fn read_list(alloc: Global, value: &Value) -> Result<&Vec<Value>, ReadError>
     ensures ok { IfOk result (λ l. view value.now ≡ array (items_view l.now.items)) }
     ensures err { OnErr result ((ds : Items) → view value.now ≢ array ds) }
+    ensures place { IfErr result (λ e. (f : Form) → slice_get (expected_at f) 0 ≡ Some ListThere → IsIn f (view value.now) e) }
 {
     match value {
         Value::Array(list) => Ok(list),
@@ -77,6 +83,7 @@ pub(crate) fn read_list(alloc: Global, value: &Value) -> Result<&Vec<Value>, Rea
 pub(crate) fn read_text(alloc: Global, value: &Value) -> Result<&str, ReadError>
     ensures ok { IfOk result (λ s. view value.now ≡ string s.now) }
     ensures err { OnErr result ((s : Text) → view value.now ≢ string s) }
+    ensures place { IfErr result (λ e. (f : Form) → slice_get (expected_at f) 0 ≡ Some TextThere → IsIn f (view value.now) e) }
 {
     match value {
         Value::String(text) => Ok(text.as_str()),
@@ -87,6 +94,7 @@ pub(crate) fn read_text(alloc: Global, value: &Value) -> Result<&str, ReadError>
 pub(crate) fn read_flag(alloc: Global, value: &Value) -> Result<bool, ReadError>
     ensures ok { IfOk result (λ b. view value.now ≡ boolean b) }
     ensures err { OnErr result ((b : Bool) → view value.now ≢ boolean b) }
+    ensures place { IfErr result (IsIn (one Flag) (view value.now)) }
 {
     match value {
         Value::Bool(flag) => Ok(*flag),
@@ -103,6 +111,7 @@ pub(crate) fn expect_text(
 ) -> Result<(), ReadError>
     ensures ok { OnOk result (view value.now ≡ string wanted.now) }
     ensures err { OnErr result (view value.now ≢ string wanted.now) }
+    ensures place { IfErr result (λ e. (f : Form) → MisfitAt f (view value.now) [] expected → IsIn f (view value.now) e) }
 {
     match value {
         Value::String(text) if text.as_str() == wanted => Ok(()),
@@ -132,6 +141,7 @@ pub(crate) fn read_id(
 ) -> Result<TokenId, ReadError>
     ensures ok { IfOk result (λ id. view value.now ≡ spec.token_json id) }
     ensures err { OnErr result ((id : ℕ) → is_one_of ids.now id ≡ true → view value.now ≢ spec.token_json id) }
+    ensures place { IfErr result (λ e. IsNot expected (view value.now) → IsIn (word expected) (view value.now) e) }
 {
     let text = read_text(alloc, value)?;
     match id_of_text(ids, text) {
@@ -144,6 +154,7 @@ pub(crate) fn read_id(
 fn number_of_text(alloc: Global, text: &str) -> Result<Number, ReadError>
     ensures ok { IfOk result (λ n. spec.number_json n ≡ string text.now) }
     ensures err { IfErr result (λ e. e ≢ Memory → (n : AnyNumber) → IsNumber n → spec.number_json n ≢ string text.now) }
+    ensures place { IfErr result (λ e. IsNot NumberText (string text.now) → IsIn (word NumberText) (string text.now) e) }
 {
     promql_text::laws::number_reads_back();
     let Ok(number) = parse_str_radix(text) else {
@@ -160,6 +171,7 @@ fn number_of_text(alloc: Global, text: &str) -> Result<Number, ReadError>
 pub(crate) fn read_number(alloc: Global, value: &Value) -> Result<Number, ReadError>
     ensures ok { IfOk result (λ n. view value.now ≡ spec.number_json n) }
     ensures err { IfErr result (λ e. e ≢ Memory → (n : AnyNumber) → IsNumber n → view value.now ≢ spec.number_json n) }
+    ensures place { IfErr result (IsIn (word NumberText) (view value.now)) }
 {
     let text = read_text(alloc, value)?;
     number_of_text(alloc, text)
@@ -172,6 +184,7 @@ pub(crate) fn read_optional_number(
     ensures ok { IfOk result (λ n. view value.now ≡ spec.or_null spec.number_json n) }
     ensures err { IfErr result (λ e. e ≢ Memory → (n : Option AnyNumber) → ReadableFill n
         → view value.now ≢ spec.or_null spec.number_json n) }
+    ensures place { IfErr result (IsIn (or_null (word NumberText)) (view value.now)) }
 {
     match value {
         Value::Null => Ok(None),
@@ -184,6 +197,7 @@ pub(crate) fn read_length(alloc: Global, value: &Value) -> Result<Duration, Read
     ensures ok { IfOk result (λ d. view value.now ≡ spec.whole (spec.millis (as_nanos d))) }
     ensures fits { IfOk result (λ d. width_fault (spec.millis (as_nanos d)) ≡ None) }
     ensures err { OnErr result ((n : ℕ) → view value.now ≢ spec.whole (spec.millis n)) }
+    ensures place { IfErr result (λ e. IsNot Length (view value.now) → IsIn (one Length) (view value.now) e) }
 {
     match value.as_u64() {
         Some(millis) => Ok(Duration::from_millis(millis)),
@@ -197,6 +211,7 @@ pub(crate) fn read_step(alloc: Global, value: &Value) -> Result<Option<Duration>
     ensures fits { IfOk result (λ d. step_fault (option_map as_nanos d) ≡ None) }
     ensures err { OnErr result ((step : Option ℕ)
         → view value.now ≢ spec.or_null (λ n. spec.whole (spec.millis n)) step) }
+    ensures place { IfErr result (IsIn (or_null (one Length)) (view value.now)) }
 {
     match value {
         Value::Null => Ok(None),
@@ -208,6 +223,7 @@ pub(crate) fn read_step(alloc: Global, value: &Value) -> Result<Option<Duration>
 fn read_i64(alloc: Global, value: &Value) -> Result<i64, ReadError>
     ensures ok { IfOk result (λ z. view value.now ≡ spec.whole z) }
     ensures err { OnErr result ((z : ℤ) → is_millis z ≡ true → view value.now ≢ spec.whole z) }
+    ensures place { IfErr result (λ e. IsNot Millis (view value.now) → IsIn (one Millis) (view value.now) e) }
 {
     match value.as_i64() {
         Some(z) => Ok(z),
@@ -221,6 +237,7 @@ fn read_negative(alloc: Global, value: &Value) -> Result<Option<Offset>, ReadErr
         ≡ spec.whole (spec.shift_millis (option_map shift_of o))) }
     ensures fits { IfOk result (λ o. width_fault (spec.shift_millis (option_map shift_of o)) ≡ None) }
     ensures err { OnErr result ((z : ℤ) → int_lt z (pos 0) ≡ true → view value.now ≢ spec.whole z) }
+    ensures place { IfErr result (λ e. IsNot Millis (view value.now) → IsIn (one Millis) (view value.now) e) }
 {
     match value.as_i64() {
         Some(millis) if millis < 0 => Ok(Some(Offset::Neg(Duration::from_millis(
@@ -236,6 +253,7 @@ pub(crate) fn read_offset(alloc: Global, value: &Value) -> Result<Option<Offset>
         ≡ spec.whole (spec.shift_millis (option_map shift_of o))) }
     ensures fits { IfOk result (λ o. width_fault (spec.shift_millis (option_map shift_of o)) ≡ None) }
     ensures err { OnErr result ((z : ℤ) → view value.now ≢ spec.whole z) }
+    ensures place { IfErr result (IsIn (one Millis) (view value.now)) }
 {
     match value.as_u64() {
         Some(0) => Ok(None),
@@ -253,6 +271,7 @@ pub(crate) fn read_start_or_end(
         ≡ spec.start_or_end (option_map moment_of at)) }
     ensures null { IfOk result (λ at. spec.timestamp (option_map moment_of at) ≡ null) }
     ensures err { OnErr result ((at : Option Moment) → view value.now ≢ spec.start_or_end at) }
+    ensures place { IfErr result (λ e. IsNot StartOrEnd (view value.now) → IsIn (one StartOrEnd) (view value.now) e) }
 {
     match value {
         Value::Null => Ok(None),
@@ -275,6 +294,9 @@ pub(crate) fn read_timestamp(
     ensures err { OnErr result ((at : Option Moment) → ReadableMoment at
         → spec.start_or_end (option_map moment_of start_or_end) ≡ spec.start_or_end at
         → view value.now ≢ spec.timestamp at) }
+    ensures place { IfErr result (λ e. (f : Form) (d : Data) → row_of (codes "timestamp") (rows f) ≡ Some (or_null (one Millis))
+        → get (codes "startOrEnd") d ≡ Some (spec.start_or_end (option_map moment_of start_or_end))
+        → (g : Form) × AsksOf f d (codes "timestamp") g × IsIn g (view value.now) e) }
 {
     match (value, start_or_end) {
         (Value::Null, at) => Ok(at),
@@ -288,6 +310,7 @@ pub(crate) fn read_mode(alloc: Global, value: &Value) -> Result<RangeMode, ReadE
     ensures ok { IfOk result (λ mode. (ms : Members) → mode_members mode ms ≡ member (codes "rangeMode") (view value.now) ms) }
     ensures not_smoothed { OnErr result (view value.now ≢ string (codes "smoothed")) }
     ensures not_anchored { OnErr result (view value.now ≢ string (codes "anchored")) }
+    ensures place { IfErr result (λ e. IsNot RangeModeWord (view value.now) → IsIn (one RangeModeWord) (view value.now) e) }
 {
     match value {
         Value::String(text) if text.as_str() == "smoothed" => Ok(RangeMode::Smoothed),

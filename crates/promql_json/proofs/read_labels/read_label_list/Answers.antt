@@ -1,9 +1,17 @@
+use Rattle.promql_json.proofs.MembersInOrder.{item_there}
 use Rattle.serde_json.specs.Data.{string}
 use Rattle.serde_json.specs.View.{view}
 use Rattle.promql_json.proofs.ReadForms.{no_plain_list}
+use Rattle.std.proofs.Common.{refl}
+use Rattle.promql_json.specs.FormMisfits.{labels, one}
+use Rattle.promql_json.specs.declared.from_error.Expected.TheVariants.{Text}
 use Rattle.promql_json.proofs.read_labels.read_label_list.Goals as goal
 
 pub returns-in-Err-clause-err : goal.returns-in-Err-clause-err
 returns-in-Err-clause-err c = λ other ls.
     no_plain_list view string c.args.list.now ls c.loop-i.i c.index-list-i.result c.loop-i-test.true c.index-list-i.is
-    (λ s. c.in-Err.ensures.err (λ m. other (c.inside_item.ensures m)) s)
+    (λ s. c.in-Err.ensures.err (λ m. other (c.inside_item.ensures.memory m)) s)
+
+pub returns-in-Err-clause-place : goal.returns-in-Err-clause-place
+returns-in-Err-clause-place c =
+    c.inside_item.ensures.place labels (one Text) _ _ refl (item_there c.args.list.now c.loop-i.i c.index-list-i.result c.loop-i-test.true c.index-list-i.is) c.in-Err.ensures.place
