@@ -62,7 +62,7 @@ fn wanted(id: TokenId) -> TokenKind {
 #[test]
 fn kinds_of_tokens(rt: HostRuntime) {
     for id in 0..100u16 {
-        assert!(rt; token_kind(id) == wanted(id), "{id}");
+        holds(&rt, token_kind(id) == wanted(id), token_display(id));
     }
 }
 

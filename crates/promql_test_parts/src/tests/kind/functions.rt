@@ -1,10 +1,9 @@
 //! The table of functions, against the rows of docs/reference/functions.md.
 
-use crate::tests::{holds, is_so};
+use crate::tests::{answers, holds, is_so};
 use promql_kind::ValueType::{Matrix, Scalar, String, Vector};
 use promql_kind::{Function, ValueType, get_function};
 use std::alloc::{AllocError, Global};
-use std::test::Fail;
 
 /// Names with blanks between them, types of arguments, variadic, type of the value, experimental.
 type Row = (&'static str, &'static [ValueType], i32, ValueType, bool);
@@ -117,20 +116,11 @@ fn has_row(alloc: Global, name: &str, row: &Row) -> Result<bool, AllocError> {
 }
 
 #[test]
-fn each_name_has_its_row(rt: HostRuntime) -> Result<(), Fail> {
-    for row in &ROWS {
-        for name in row.0.split(' ') {
-            is_so(&rt, has_row(rt.alloc(), name, row), name)?;
-        }
-    }
-    Ok(())
-}
-
-#[test]
-fn there_are_89_names(rt: HostRuntime) {
+fn each_name_has_its_row(rt: HostRuntime) {
     let mut names = 0usize;
     for row in &ROWS {
-        for _ in row.0.split(' ') {
+        for name in row.0.split(' ') {
+            is_so(&rt, has_row(rt.alloc(), name, row), name);
             names = names.saturating_add(1);
         }
     }
@@ -145,11 +135,10 @@ fn is_unknown(alloc: Global, name: &str) -> Result<bool, AllocError> {
 }
 
 #[test]
-fn other_names_have_no_row(rt: HostRuntime) -> Result<(), Fail> {
+fn other_names_have_no_row(rt: HostRuntime) {
     for name in &UNKNOWN {
-        is_so(&rt, is_unknown(rt.alloc(), name), name)?;
+        is_so(&rt, is_unknown(rt.alloc(), name), name);
     }
-    Ok(())
 }
 
 fn function(alloc: Global, row: &Row) -> Result<Function, AllocError> {
@@ -170,39 +159,21 @@ const OTHERS: [Row; 5] = [
 
 fn is_copied(alloc: Global, row: &Row) -> Result<bool, AllocError> {
     let function = function(alloc, row)?;
-    match function.try_clone(alloc) {
-        Ok(copy) => Ok(copy == function),
-        Err(error) => Err(error),
-    }
-}
-
-#[test]
-fn copies_are_equal(rt: HostRuntime) -> Result<(), Fail> {
-    for row in &OTHERS {
-        is_so(&rt, is_copied(rt.alloc(), row), row.0)?;
-    }
-    Ok(())
+    Ok(function.try_clone(alloc)? == function)
 }
 
 /// Whether the functions of two rows are equal.
 fn is_equal(alloc: Global, one: &Row, other: &Row) -> Result<bool, AllocError> {
     let one = function(alloc, one)?;
-    match function(alloc, other) {
-        Ok(other) => Ok(one == other),
-        Err(error) => Err(error),
-    }
+    Ok(one == function(alloc, other)?)
 }
 
 #[test]
-fn functions_of_one_row_are_equal(rt: HostRuntime) -> Result<(), Fail> {
-    is_so(&rt, is_equal(rt.alloc(), &ONE, &ONE), "f")
-}
-
-#[test]
-fn functions_differ_by_each_part(rt: HostRuntime) -> Result<(), Fail> {
+fn functions_differ_by_each_part(rt: HostRuntime) {
+    let alloc = rt.alloc();
+    answers(&rt, is_equal(alloc, &ONE, &ONE), true, "f");
     for row in &OTHERS {
-        let found = is_equal(rt.alloc(), &ONE, row)?;
-        holds(&rt, !found, row.0);
+        is_so(&rt, is_copied(alloc, row), row.0);
+        answers(&rt, is_equal(alloc, &ONE, row), false, row.0);
     }
-    Ok(())
 }

@@ -1,10 +1,9 @@
 //! Modifiers: their text, their labels and their copies.
 
-use crate::tests::{holds, is_so, prints};
+use crate::tests::{answers, holds, is_so, prints};
 use promql_kind::{BinModifier, LabelModifier, VectorMatchCardinality, VectorMatchFillValues};
 use promql_text::{Number, parse_str_radix};
 use std::alloc::{AllocError, Global};
-use std::test::Fail;
 
 /// The card by its word, the matching word, whether there is `bool`, the values of both sides; and the text.
 type Case = (
@@ -108,28 +107,27 @@ fn display_text(alloc: Global, case: &Case) -> Result<String, AllocError> {
     modifier(alloc, case)?.to_string(alloc)
 }
 
-#[test]
-fn modifiers_print_their_parts(rt: HostRuntime) -> Result<(), Fail> {
-    for case in &PRINTED {
-        prints(&rt, display_text(rt.alloc(), case), case.5)?;
-    }
-    Ok(())
-}
-
 fn is_copied(alloc: Global, case: &Case) -> Result<bool, AllocError> {
     let modifier = modifier(alloc, case)?;
-    match modifier.try_clone(alloc) {
-        Ok(copy) => Ok(copy == modifier),
-        Err(error) => Err(error),
-    }
+    Ok(modifier.try_clone(alloc)? == modifier)
+}
+
+/// Whether the modifiers of two cases are equal.
+fn is_equal(alloc: Global, one: &Case, other: &Case) -> Result<bool, AllocError> {
+    let one = modifier(alloc, one)?;
+    Ok(one == modifier(alloc, other)?)
 }
 
 #[test]
-fn copies_are_equal(rt: HostRuntime) -> Result<(), Fail> {
-    for case in &PRINTED {
-        is_so(&rt, is_copied(rt.alloc(), case), case.5)?;
+fn modifiers_print_and_differ_by_each_part(rt: HostRuntime) {
+    let alloc = rt.alloc();
+    for (i, one) in PRINTED.iter().enumerate() {
+        prints(&rt, display_text(alloc, one), one.5);
+        is_so(&rt, is_copied(alloc, one), one.5);
+        for (j, other) in PRINTED.iter().enumerate() {
+            answers(&rt, is_equal(alloc, one, other), i == j, one.5);
+        }
     }
-    Ok(())
 }
 
 /// Whether the copy was made and is the value.
@@ -145,14 +143,6 @@ fn is_card_copied(alloc: Global, word: &str) -> Result<bool, AllocError> {
     is_copy(&card, card.try_clone(alloc))
 }
 
-#[test]
-fn cards_are_copied(rt: HostRuntime) -> Result<(), Fail> {
-    for word in &["", "many", "left", "right"] {
-        is_so(&rt, is_card_copied(rt.alloc(), word), word)?;
-    }
-    Ok(())
-}
-
 fn is_matching_copied(alloc: Global, word: &str) -> Result<bool, AllocError> {
     match &matching(alloc, word)? {
         Some(labels) => is_copy(labels, labels.try_clone(alloc)),
@@ -161,11 +151,13 @@ fn is_matching_copied(alloc: Global, word: &str) -> Result<bool, AllocError> {
 }
 
 #[test]
-fn matching_labels_are_copied(rt: HostRuntime) -> Result<(), Fail> {
-    for word in &["on", "on none", "ignoring", "ignoring none"] {
-        is_so(&rt, is_matching_copied(rt.alloc(), word), word)?;
+fn cards_and_matching_labels_are_copied(rt: HostRuntime) {
+    for word in &["", "many", "left", "right"] {
+        is_so(&rt, is_card_copied(rt.alloc(), word), word);
     }
-    Ok(())
+    for word in &["on", "on none", "ignoring", "ignoring none"] {
+        is_so(&rt, is_matching_copied(rt.alloc(), word), word);
+    }
 }
 
 #[test]
@@ -173,26 +165,6 @@ fn modifiers_have_a_word_for_bool(rt: HostRuntime) {
     let with = BinModifier::default().with_return_bool(true);
     holds(&rt, with.bool_str() == "bool ", "bool");
     holds(&rt, BinModifier::default().bool_str() == "", "none");
-}
-
-/// Whether the modifiers of two cases are equal.
-fn is_equal(alloc: Global, one: &Case, other: &Case) -> Result<bool, AllocError> {
-    let one = modifier(alloc, one)?;
-    match modifier(alloc, other) {
-        Ok(other) => Ok(one == other),
-        Err(error) => Err(error),
-    }
-}
-
-#[test]
-fn modifiers_differ_by_each_part(rt: HostRuntime) -> Result<(), Fail> {
-    for (i, one) in PRINTED.iter().enumerate() {
-        for (j, other) in PRINTED.iter().enumerate() {
-            let is_same = is_equal(rt.alloc(), one, other)?;
-            holds(&rt, is_same == (i == j), one.5);
-        }
-    }
-    Ok(())
 }
 
 /// `on (a) group_left (a, inf_)`
@@ -223,46 +195,33 @@ fn spaced(alloc: Global, labels: &[String]) -> Result<String, AllocError> {
     Ok(text)
 }
 
-#[test]
-fn joint_labels_are_found(rt: HostRuntime) -> Result<(), Fail> {
-    for case in &[BOTH, APART, ALONE] {
-        prints(&rt, joint_labels(rt.alloc(), case), case.5)?;
-    }
-    Ok(())
+/// Whether the labels of both lists are joint, the word is `on`, and it has labels.
+fn are_labels(alloc: Global, case: &Case, want: [bool; 3]) -> Result<bool, AllocError> {
+    let modifier = modifier(alloc, case)?;
+    let is_joint = modifier.is_labels_joint() == want[0];
+    let is_on = modifier.is_matching_on() == want[1];
+    Ok(is_joint && is_on && modifier.is_matching_labels_not_empty() == want[2])
 }
 
 #[test]
-fn labels_of_both_sides_are_joint(rt: HostRuntime) -> Result<(), Fail> {
-    let both = modifier(rt.alloc(), &BOTH)?;
-    holds(&rt, both.is_labels_joint(), "joint");
-    holds(&rt, both.is_matching_on(), "on");
-    holds(&rt, both.is_matching_labels_not_empty(), "not empty");
-    Ok(())
-}
-
-#[test]
-fn labels_of_one_side_are_not_joint(rt: HostRuntime) -> Result<(), Fail> {
-    let apart = modifier(rt.alloc(), &APART)?;
-    holds(&rt, !apart.is_labels_joint(), "not joint");
-    holds(&rt, !apart.is_matching_labels_not_empty(), "empty");
-    Ok(())
-}
-
-#[test]
-fn labels_that_are_ignored_are_not_joint(rt: HostRuntime) -> Result<(), Fail> {
-    let alone = modifier(rt.alloc(), &ALONE)?;
-    holds(&rt, !alone.is_labels_joint(), "not joint");
-    holds(&rt, !alone.is_matching_on(), "ignoring");
-    Ok(())
-}
-
-#[test]
-fn fill_values_that_are_no_number_are_equal(rt: HostRuntime) -> Result<(), Fail> {
+fn joint_labels_are_found(rt: HostRuntime) {
     let alloc = rt.alloc();
-    let nan = parse_str_radix("nan").expect(&rt, "nan is a number's text");
+    for case in &[BOTH, APART, ALONE] {
+        prints(&rt, joint_labels(alloc, case), case.5);
+    }
+    is_so(&rt, are_labels(alloc, &BOTH, [true, true, true]), "both");
+    let apart = are_labels(alloc, &APART, [false, true, false]);
+    is_so(&rt, apart, "apart");
+    let alone = are_labels(alloc, &ALONE, [false, false, true]);
+    is_so(&rt, alone, "alone");
+}
+
+#[test]
+fn fill_values_that_are_no_number_are_equal(rt: HostRuntime) {
+    let nan = parse_str_radix("nan").unwrap_or(Number::Inf);
     let values = VectorMatchFillValues::new(nan, nan);
-    assert!(rt; values == VectorMatchFillValues::new(nan, nan));
+    let is_equal = values == VectorMatchFillValues::new(nan, nan);
+    holds(&rt, is_equal, "nan");
     let modifier = BinModifier::default().with_fill_values(values);
-    assert_eq!(rt; modifier.to_string(alloc)?.as_str(), " fill (NaN)");
-    Ok(())
+    prints(&rt, modifier.to_string(rt.alloc()), " fill (NaN)");
 }

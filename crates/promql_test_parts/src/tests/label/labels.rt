@@ -1,9 +1,8 @@
 //! Lists of labels.
 
-use crate::tests::{holds, is_so, prints};
+use crate::tests::{answers, prints};
 use promql_label::Labels;
 use std::alloc::{AllocError, Global};
-use std::test::Fail;
 
 // Labels, and their list as it prints.
 const PRINTED: [(&[&str], &str); 14] = [
@@ -82,25 +81,20 @@ fn display_text(alloc: Global, labels: &[&str]) -> Result<String, AllocError> {
 }
 
 #[test]
-fn labels_print(rt: HostRuntime) -> Result<(), Fail> {
+fn labels_print(rt: HostRuntime) {
     for (labels, text) in &PRINTED {
-        prints(&rt, display_text(rt.alloc(), labels), text)?;
+        prints(&rt, display_text(rt.alloc(), labels), text);
     }
-    Ok(())
+}
+
+fn is_empty(alloc: Global, labels: &[&str]) -> Result<bool, AllocError> {
+    Ok(list(alloc, labels)?.is_empty())
 }
 
 #[test]
-fn a_list_is_empty_without_labels(rt: HostRuntime) -> Result<(), Fail> {
-    let none = list(rt.alloc(), &[])?;
-    holds(&rt, none.is_empty(), "no label");
-    Ok(())
-}
-
-#[test]
-fn a_list_of_a_label_is_not_empty(rt: HostRuntime) -> Result<(), Fail> {
-    let one = list(rt.alloc(), &[""])?;
-    holds(&rt, !one.is_empty(), "one label");
-    Ok(())
+fn a_list_is_empty_without_labels(rt: HostRuntime) {
+    answers(&rt, is_empty(rt.alloc(), &[]), true, "no label");
+    answers(&rt, is_empty(rt.alloc(), &[""]), false, "one label");
 }
 
 /// The common labels of two lists, as they print.
@@ -111,14 +105,6 @@ fn common(alloc: Global, labels: &[&str], others: &[&str]) -> Result<String, All
         .to_string(alloc)
 }
 
-#[test]
-fn common_labels_are_found(rt: HostRuntime) -> Result<(), Fail> {
-    for (labels, others, both) in &COMMON {
-        prints(&rt, common(rt.alloc(), labels, others), both)?;
-    }
-    Ok(())
-}
-
 /// Whether two lists have a common label.
 fn is_joint(alloc: Global, labels: &[&str], others: &[&str]) -> Result<bool, AllocError> {
     let others = list(alloc, others)?;
@@ -126,12 +112,13 @@ fn is_joint(alloc: Global, labels: &[&str], others: &[&str]) -> Result<bool, All
 }
 
 #[test]
-fn lists_with_common_labels_are_joint(rt: HostRuntime) -> Result<(), Fail> {
+fn common_labels_are_found(rt: HostRuntime) {
+    let alloc = rt.alloc();
     for (labels, others, both) in &COMMON {
-        let found = is_joint(rt.alloc(), labels, others)?;
-        holds(&rt, found != both.is_empty(), both);
+        prints(&rt, common(alloc, labels, others), both);
+        let found = is_joint(alloc, labels, others);
+        answers(&rt, found, !both.is_empty(), both);
     }
-    Ok(())
 }
 
 /// The list of `foo` and `bar`, each appended.
@@ -143,38 +130,23 @@ fn foo_and_bar(alloc: Global) -> Result<Labels, AllocError> {
 /// Whether the list of `foo` and `bar` is the list of these labels.
 fn is_foo_and_bar(alloc: Global, labels: &[&str]) -> Result<bool, AllocError> {
     let found = foo_and_bar(alloc)?;
-    match list(alloc, labels) {
-        Ok(labels) => Ok(found == labels),
-        Err(error) => Err(error),
-    }
-}
-
-#[test]
-fn labels_are_appended(rt: HostRuntime) -> Result<(), Fail> {
-    is_so(&rt, is_foo_and_bar(rt.alloc(), &["foo", "bar"]), "appended")
+    Ok(found == list(alloc, labels)?)
 }
 
 fn is_copied(alloc: Global) -> Result<bool, AllocError> {
     let labels = foo_and_bar(alloc)?;
-    match labels.try_clone(alloc) {
-        Ok(copy) => Ok(copy == labels),
-        Err(error) => Err(error),
-    }
-}
-
-#[test]
-fn copies_are_equal(rt: HostRuntime) -> Result<(), Fail> {
-    is_so(&rt, is_copied(rt.alloc()), "copied")
+    Ok(labels.try_clone(alloc)? == labels)
 }
 
 // Lists that differ from `foo, bar`.
 const OTHERS: [&[&str]; 3] = [&["bar", "foo"], &["foo"], &[]];
 
 #[test]
-fn lists_of_other_labels_differ(rt: HostRuntime) -> Result<(), Fail> {
+fn labels_are_appended_and_copied(rt: HostRuntime) {
+    let alloc = rt.alloc();
+    answers(&rt, is_foo_and_bar(alloc, &["foo", "bar"]), true, "foo");
+    answers(&rt, is_copied(alloc), true, "a copy");
     for others in &OTHERS {
-        let is_same = is_foo_and_bar(rt.alloc(), others)?;
-        holds(&rt, !is_same, "another list");
+        answers(&rt, is_foo_and_bar(alloc, others), false, "another");
     }
-    Ok(())
 }

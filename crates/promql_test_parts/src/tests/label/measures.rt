@@ -1,7 +1,7 @@
 //! How large patterns can get.
 
+use crate::tests::holds;
 use promql_label::pattern_measure;
-use std::test::Fail;
 
 /// Patterns, and their measures: the bytes of the anchored text, ten more for each backslash, and how often a part can be repeated.
 const MEASURED: [(&str, usize, usize); 32] = [
@@ -52,12 +52,12 @@ const ENDLESS: [&str; 4] = [
 ];
 
 #[test]
-fn patterns_have_their_measures(rt: HostRuntime) -> Result<(), Fail> {
+fn patterns_have_their_measures(rt: HostRuntime) {
     for (pattern, len, repeats) in &MEASURED {
-        assert_eq!(rt; pattern_measure(pattern), len.saturating_mul(*repeats));
+        let want = len.saturating_mul(*repeats);
+        holds(&rt, pattern_measure(pattern) == want, pattern);
     }
     for pattern in &ENDLESS {
-        assert_eq!(rt; pattern_measure(pattern), usize::MAX);
+        holds(&rt, pattern_measure(pattern) == usize::MAX, pattern);
     }
-    Ok(())
 }

@@ -1,11 +1,11 @@
 //! Patterns that `regex` reads, what they match, and those that it rejects.
 
-use crate::tests::{holds, is_so, prints};
+use crate::tests::{Failed, answers, holds, is_so, prints};
 use promql_label::{MatchOp, Matcher, Pattern, PatternFault};
 use std::alloc::{AllocError, Global};
 use std::test::Fail;
 
-// A pattern, and what is built of it.
+/// Patterns, and what is built of each.
 const BUILT: [(&str, &str); 15] = [
     ("", "^(?:)$"),
     ("abc.*", "^(?:abc.*)$"),
@@ -24,88 +24,6 @@ const BUILT: [(&str, &str); 15] = [
     (r"(?x)a{9 9 9 9 9 9 9 9}", r"^(?:(?x)a\{9 9 9 9 9 9 9 9})$"),
 ];
 
-#[test]
-fn patterns_are_anchored(rt: HostRuntime) {
-    for (value, want) in &BUILT {
-        let found = Pattern::read(rt.alloc(), value);
-        holds(&rt, is_built_as(&found, want), value);
-    }
-}
-
-/// Ends of long patterns, and what is built of them.
-const LONG_ENDS: [(&str, &str); 4] = [
-    ("|y", "|y"),
-    ("[{]", "[{]"),
-    (r"\b{start}y", r"\b{start}y"),
-    (r"\d{b}", r"\d\{b}"),
-];
-
-const LENGTHS: [usize; 6] = [35, 41, 95, 101, 257, 990];
-
-/// Whether the pattern of so many letters before this end is built with that end.
-fn is_long_built(alloc: Global, length: usize, end: &str, want: &str) -> Result<bool, Fail> {
-    let letters = "x".repeat(alloc, length)?;
-    let value = format!(in alloc; "{letters}{end}")?;
-    let built = format!(in alloc; "^(?:{letters}{want})$")?;
-    Ok(is_built_as(&Pattern::read(alloc, &value), &built))
-}
-
-#[test]
-fn long_patterns_are_built(rt: HostRuntime) -> Result<(), Fail> {
-    for length in &LENGTHS {
-        for (end, want) in &LONG_ENDS {
-            holds(&rt, is_long_built(rt.alloc(), *length, end, want)?, end);
-        }
-    }
-    Ok(())
-}
-
-/// Ends of long patterns, ends of texts, and whether the one matches the other.
-const LONG_MATCHES: [(&str, &str, bool); 5] = [
-    ("[{]", "{", true),
-    ("[{]", "x", false),
-    (r"\d{b}", "1{b}", true),
-    (r"\d{b}", "1bb", false),
-    ("{y}|z", "{y}", true),
-];
-
-/// Whether the pattern of so many letters before this end matches as many letters before that end.
-fn is_long_found(alloc: Global, length: usize, end: &str, tail: &str) -> Result<bool, Fail> {
-    let letters = "x".repeat(alloc, length)?;
-    let value = format!(in alloc; "{letters}{end}")?;
-    let text = format!(in alloc; "{letters}{tail}")?;
-    is_found(alloc, &value, &text)
-}
-
-#[test]
-fn long_patterns_match(rt: HostRuntime) -> Result<(), Fail> {
-    for length in &LENGTHS {
-        for (end, tail, want) in &LONG_MATCHES {
-            let found = is_long_found(rt.alloc(), *length, end, tail)?;
-            holds(&rt, found == *want, tail);
-        }
-    }
-    Ok(())
-}
-
-/// Whether so many letters before a parenthesis that nothing closes are rejected.
-fn is_long_rejected(alloc: Global, length: usize) -> Result<bool, Fail> {
-    let letters = "x".repeat(alloc, length)?;
-    let value = format!(in alloc; "{letters}(")?;
-    Ok(
-        is_rejected(&Pattern::read(alloc, &value), &value)
-            && is_rejected(&Pattern::of_text(alloc, &value), &value),
-    )
-}
-
-#[test]
-fn long_texts_are_rejected(rt: HostRuntime) -> Result<(), Fail> {
-    for length in &LENGTHS {
-        holds(&rt, is_long_rejected(rt.alloc(), *length)?, "(");
-    }
-    Ok(())
-}
-
 /// Texts that are no patterns. The last is rejected for the size of what it would compile to.
 const REJECTED: [&str; 7] = ["a)|(?:b", r"b\", "(", "[", "*", r"\", r"\w{1000}"];
 
@@ -116,27 +34,17 @@ fn is_rejected(found: &Result<Pattern, PatternFault>, value: &str) -> bool {
     }
 }
 
-#[test]
-fn other_texts_are_rejected(rt: HostRuntime) {
-    for value in &REJECTED {
-        let found = Pattern::read(rt.alloc(), value);
-        holds(&rt, is_rejected(&found, value), value);
+fn is_built_as(found: &Result<Pattern, PatternFault>, want: &str) -> bool {
+    match found {
+        Ok(pattern) => pattern.as_str() == want,
+        Err(_) => false,
     }
 }
-
-// In the three reads below bin/test_memory makes each allocation fail in turn.
 
 fn is_out_of_memory(found: &Result<Pattern, PatternFault>) -> bool {
     match found {
         Err(PatternFault::Memory) => true,
         _ => false,
-    }
-}
-
-fn is_built_as(found: &Result<Pattern, PatternFault>, want: &str) -> bool {
-    match found {
-        Ok(pattern) => pattern.as_str() == want,
-        Err(_) => false,
     }
 }
 
@@ -187,23 +95,14 @@ const MATCHED: [(&str, &str, bool); 15] = [
 ];
 
 /// The matcher of a pattern.
-fn matcher(alloc: Global, value: &str) -> Result<Matcher, Fail> {
+fn matcher(alloc: Global, value: &str) -> Result<Matcher, Failed> {
     let op = MatchOp::Re(Pattern::read(alloc, value)?);
     Ok(Matcher::new(alloc, op, "a", value)?)
 }
 
 /// Whether the pattern of this value matches the text.
-fn is_found(alloc: Global, value: &str, text: &str) -> Result<bool, Fail> {
+fn is_found(alloc: Global, value: &str, text: &str) -> Result<bool, Failed> {
     Ok(matcher(alloc, value)?.is_match(alloc, text)?)
-}
-
-#[test]
-fn patterns_match_whole_texts(rt: HostRuntime) -> Result<(), Fail> {
-    for (value, text, want) in &MATCHED {
-        let found = is_found(rt.alloc(), value, text)?;
-        holds(&rt, found == *want, text);
-    }
-    Ok(())
 }
 
 /// Patterns that take as much to compile as any small one: a piece so many times, the middle, and another piece as often; then
@@ -222,6 +121,13 @@ const DENSE: [(&str, usize, &str, &str, &str, usize); 11] = [
     ("(", 200, "a", ")", "a", 1),
 ];
 
+/// Whether a prepared pattern matches the text, and does not match a line feed.
+fn is_compiled(alloc: Global, value: &str, text: &str) -> Result<bool, Failed> {
+    let mut matcher = matcher(alloc, value)?;
+    matcher.prepare(alloc)?;
+    Ok(matcher.is_match(alloc, text)? && !matcher.is_match(alloc, "\n")?)
+}
+
 #[test]
 fn dense_small_patterns_compile(rt: HostRuntime) -> Result<(), Fail> {
     for (open, count, middle, close, piece, times) in &DENSE {
@@ -230,20 +136,13 @@ fn dense_small_patterns_compile(rt: HostRuntime) -> Result<(), Fail> {
         let close = close.repeat(alloc, *count)?;
         let value = format!(in alloc; "{open}{middle}{close}")?;
         let text = piece.repeat(alloc, *times)?;
-        holds(&rt, is_compiled(alloc, &value, &text)?, &value);
+        is_so(&rt, is_compiled(alloc, &value, &text), &value);
     }
     Ok(())
 }
 
-/// Whether a prepared pattern matches the text, and does not match a line feed.
-fn is_compiled(alloc: Global, value: &str, text: &str) -> Result<bool, Fail> {
-    let mut matcher = matcher(alloc, value)?;
-    matcher.prepare(alloc)?;
-    Ok(matcher.is_match(alloc, text)? && !matcher.is_match(alloc, "\n")?)
-}
-
 /// Whether a pattern of this value matches the text once it is prepared, and a copy of it does as well.
-fn is_found_prepared(alloc: Global, value: &str, text: &str) -> Result<bool, Fail> {
+fn is_found_prepared(alloc: Global, value: &str, text: &str) -> Result<bool, Failed> {
     let mut prepared = matcher(alloc, value)?;
     prepared.prepare(alloc)?;
     let copy = prepared.try_clone(alloc)?;
@@ -251,90 +150,47 @@ fn is_found_prepared(alloc: Global, value: &str, text: &str) -> Result<bool, Fai
 }
 
 #[test]
-fn prepared_patterns_match_alike(rt: HostRuntime) -> Result<(), Fail> {
+fn patterns_match_whole_texts(rt: HostRuntime) {
+    let alloc = rt.alloc();
     for (value, text, want) in &MATCHED {
-        let found = is_found_prepared(rt.alloc(), value, text)?;
-        holds(&rt, found == *want, text);
-    }
-    Ok(())
-}
-
-#[test]
-fn a_text_that_is_no_pattern_is_rejected(rt: HostRuntime) {
-    let found = Pattern::of_text(rt.alloc(), "(");
-    holds(&rt, is_rejected(&found, "("), "(");
-}
-
-/// Whether two patterns that were built are equal.
-fn is_equal(one: &Pattern, other: Result<Pattern, PatternFault>) -> bool {
-    match other {
-        Ok(other) => *one == other,
-        Err(_) => false,
+        answers(&rt, is_found(alloc, value, text), *want, text);
+        answers(&rt, is_found_prepared(alloc, value, text), *want, text);
     }
 }
 
-#[test]
-fn patterns_are_equal_by_their_texts(rt: HostRuntime) -> Result<(), Fail> {
-    let pattern = Pattern::read(rt.alloc(), "a")?;
-    holds(
-        &rt,
-        is_equal(&pattern, Pattern::of_text(rt.alloc(), "^(?:a)$")),
-        "a",
-    );
-    holds(
-        &rt,
-        !is_equal(&pattern, Pattern::read(rt.alloc(), "b")),
-        "b",
-    );
-    Ok(())
+/// Whether the pattern of a value is that of a text, and its copy is the pattern.
+fn is_equal(alloc: Global, value: &str, text: &str) -> Result<bool, PatternFault> {
+    let pattern = Pattern::read(alloc, value)?;
+    let is_copied = pattern.try_clone(alloc)? == pattern;
+    Ok(is_copied && pattern == Pattern::of_text(alloc, text)?)
 }
 
 #[test]
-fn copies_of_patterns_are_equal(rt: HostRuntime) -> Result<(), Fail> {
-    let pattern = Pattern::read(rt.alloc(), "a")?;
-    is_so(&rt, is_copied(rt.alloc(), &pattern), "a")
-}
-
-fn is_copied(alloc: Global, pattern: &Pattern) -> Result<bool, AllocError> {
-    match pattern.try_clone(alloc) {
-        Ok(copy) => Ok(copy == *pattern),
-        Err(error) => Err(error),
-    }
+fn patterns_are_equal_by_their_texts(rt: HostRuntime) {
+    let alloc = rt.alloc();
+    answers(&rt, is_equal(alloc, "a", "^(?:a)$"), true, "a");
+    answers(&rt, is_equal(alloc, "b", "^(?:a)$"), false, "b");
 }
 
 fn rejection(alloc: Global, value: &str) -> Result<PatternFault, AllocError> {
     Ok(PatternFault::Refused(String::from_str(alloc, value)?))
 }
 
-/// Whether the fault is the rejection of this value.
-fn is_rejection(alloc: Global, fault: &PatternFault, value: &str) -> Result<bool, AllocError> {
-    match rejection(alloc, value) {
-        Ok(other) => Ok(*fault == other),
-        Err(error) => Err(error),
-    }
+/// Whether the rejections of two values are equal.
+fn is_rejection(alloc: Global, value: &str, other: &str) -> Result<bool, AllocError> {
+    let fault = rejection(alloc, value)?;
+    Ok(fault == rejection(alloc, other)? && fault != PatternFault::Memory)
+}
+
+fn rejection_text(alloc: Global, value: &str) -> Result<String, AllocError> {
+    rejection(alloc, value)?.to_string(alloc)
 }
 
 #[test]
-fn faults_compare(rt: HostRuntime) -> Result<(), Fail> {
-    let fault = rejection(rt.alloc(), "(")?;
-    is_so(&rt, is_rejection(rt.alloc(), &fault, "("), "(")
-}
-
-#[test]
-fn faults_of_two_values_differ(rt: HostRuntime) -> Result<(), Fail> {
-    let fault = rejection(rt.alloc(), "(")?;
-    let is_other = is_rejection(rt.alloc(), &fault, ")")?;
-    holds(&rt, !is_other && fault != PatternFault::Memory, ")");
-    Ok(())
-}
-
-#[test]
-fn faults_print(rt: HostRuntime) -> Result<(), Fail> {
-    let fault = rejection(rt.alloc(), "(")?;
-    prints(&rt, fault.to_string(rt.alloc()), "illegal regex for (")?;
-    prints(
-        &rt,
-        PatternFault::Memory.to_string(rt.alloc()),
-        "out of memory",
-    )
+fn faults_compare_and_print(rt: HostRuntime) {
+    let alloc = rt.alloc();
+    answers(&rt, is_rejection(alloc, "(", "("), true, "(");
+    answers(&rt, is_rejection(alloc, "(", ")"), false, ")");
+    prints(&rt, rejection_text(alloc, "("), "illegal regex for (");
+    prints(&rt, PatternFault::Memory.to_string(alloc), "out of memory");
 }

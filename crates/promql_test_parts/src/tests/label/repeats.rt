@@ -2,7 +2,6 @@
 
 use crate::tests::prints;
 use promql_label::escape_repeats;
-use std::test::Fail;
 
 /// Patterns, and what they are with their repetitions escaped.
 const ESCAPED: [(&str, &str); 21] = [
@@ -30,9 +29,8 @@ const ESCAPED: [(&str, &str); 21] = [
 ];
 
 #[test]
-fn braces_that_open_no_count_are_escaped(rt: HostRuntime) -> Result<(), Fail> {
+fn braces_that_open_no_count_are_escaped(rt: HostRuntime) {
     for (pattern, want) in &ESCAPED {
-        prints(&rt, escape_repeats(rt.alloc(), pattern), want)?;
+        prints(&rt, escape_repeats(rt.alloc(), pattern), want);
     }
-    Ok(())
 }

@@ -4,7 +4,6 @@ use crate::tests::{is_so, prints};
 use promql_text::{Quoted, QuotedBytes, write_joined};
 use std::alloc::{AllocError, Global};
 use std::fmt;
-use std::test::Fail;
 
 // Quoted texts with a bar between each two.
 #[derive(Clone, Copy)]
@@ -33,11 +32,10 @@ const TEXTS: [(&[Quoted<'static>], &str); 3] = [
 ];
 
 #[test]
-fn quoted_texts_are_joined(rt: HostRuntime) -> Result<(), Fail> {
+fn quoted_texts_are_joined(rt: HostRuntime) {
     for (texts, want) in &TEXTS {
-        prints(&rt, Barred(texts).to_string(rt.alloc()), want)?;
+        prints(&rt, Barred(texts).to_string(rt.alloc()), want);
     }
-    Ok(())
 }
 
 /// Texts, and what they are quoted.
@@ -54,9 +52,8 @@ fn has_bytes(alloc: Global, text: &str, want: &str) -> Result<bool, AllocError> 
 }
 
 #[test]
-fn bytes_of_quoted_texts(rt: HostRuntime) -> Result<(), Fail> {
+fn bytes_of_quoted_texts(rt: HostRuntime) {
     for (text, want) in &BYTES {
-        is_so(&rt, has_bytes(rt.alloc(), text, want), text)?;
+        is_so(&rt, has_bytes(rt.alloc(), text, want), text);
     }
-    Ok(())
 }

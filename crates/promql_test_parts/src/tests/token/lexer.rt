@@ -5,7 +5,7 @@ use promql_token::ids::*;
 use promql_token::scan::Lexer;
 use promql_token::{LexError, LexFault, LexFaultKind, Lexeme, lexer};
 use std::alloc::{AllocError, Global};
-use std::test::Fail;
+use std::process::Abort;
 
 // A text and its tokens, T_EOF left out.
 const TEXTS: [(&str, &[(TokenId, usize, usize)]); 24] = [
@@ -416,11 +416,10 @@ fn has_words(alloc: Global, words: usize) -> Result<bool, AllocError> {
 }
 
 #[test]
-fn texts_of_all_sizes_have_their_tokens(rt: HostRuntime) -> Result<(), Fail> {
+fn texts_of_all_sizes_have_their_tokens(rt: HostRuntime) {
     for words in &[0, 1, 2, 17, 101, 300, 1_001, 4_097, 65_537] {
-        is_so(&rt, has_words(rt.alloc(), *words), "words")?;
+        is_so(&rt, has_words(rt.alloc(), *words), "words");
     }
-    Ok(())
 }
 
 // Texts without a fault, to come before one that has one.
@@ -440,32 +439,23 @@ fn has_fault(alloc: Global, before: &str, text: &str, want: LexFault) -> Result<
     Ok(fault(alloc, text.as_str()) == Some(want))
 }
 
-#[test]
-fn faults_have_their_places(rt: HostRuntime) -> Result<(), Fail> {
+/// The text has this fault, also after others, and the fault has this message.
+fn check_fault(rt: &impl Abort, alloc: Global, text: &str, fault: LexFault, message: &str) {
+    prints(rt, fault.to_string(alloc), message);
     for before in &BEFORE {
-        for (text, kind, at, ch, _message) in &FAULTS {
-            let want = LexFault {
-                kind: *kind,
-                at: at.wrapping_add(before.len()),
-                ch: *ch,
-            };
-            is_so(&rt, has_fault(rt.alloc(), before, text, want), text)?;
-        }
+        let at = fault.at.wrapping_add(before.len());
+        let want = LexFault { at, ..fault };
+        is_so(rt, has_fault(alloc, before, text, want), text);
     }
-    Ok(())
 }
 
 #[test]
-fn faults_have_their_messages(rt: HostRuntime) -> Result<(), Fail> {
-    for (_text, kind, at, ch, message) in &FAULTS {
-        let fault = LexFault {
-            kind: *kind,
-            at: *at,
-            ch: *ch,
-        };
-        prints(&rt, fault.to_string(rt.alloc()), message)?;
+fn faults_have_their_places_and_messages(rt: HostRuntime) {
+    for (text, kind, at, ch, message) in &FAULTS {
+        let (kind, at, ch) = (*kind, *at, *ch);
+        let fault = LexFault { kind, at, ch };
+        check_fault(&rt, rt.alloc(), text, fault, message);
     }
-    Ok(())
 }
 
 #[test]
@@ -521,16 +511,16 @@ fn faults_compare(rt: HostRuntime) {
 }
 
 #[test]
-fn errors_of_the_lexer_print(rt: HostRuntime) -> Result<(), Fail> {
+fn errors_of_the_lexer_print(rt: HostRuntime) {
     let fault = LexFault {
         kind: LexFaultKind::Character,
         at: 3,
         ch: Some('~'),
     };
-    prints(&rt, LexError::Memory.to_string(rt.alloc()), "out of memory")?;
+    prints(&rt, LexError::Memory.to_string(rt.alloc()), "out of memory");
     prints(
         &rt,
         LexError::Fault(fault).to_string(rt.alloc()),
         "unexpected character: '~'",
-    )
+    );
 }

@@ -4,7 +4,6 @@ use crate::tests::{holds, is_so};
 use promql_token::ids::*;
 use promql_token::{Token, TokenType, is_label};
 use std::alloc::{AllocError, Global};
-use std::test::Fail;
 
 fn token(alloc: Global, id: TokenId, text: &str) -> Result<Token, AllocError> {
     Ok(Token::new(id, String::from_str(alloc, text)?))
@@ -13,21 +12,17 @@ fn token(alloc: Global, id: TokenId, text: &str) -> Result<Token, AllocError> {
 // What a token of the string `'é'` differs from.
 const OTHERS: [(TokenId, &str); 2] = [(T_STRING, "'e'"), (T_NUMBER, "'é'")];
 
-/// Whether the other token was made, and is the same.
-fn is_equal(one: &Token, other: Result<Token, AllocError>) -> bool {
-    match other {
-        Ok(other) => *one == other,
-        Err(_) => false,
-    }
+/// Whether the token of this id and text is another one.
+fn differs(alloc: Global, id: TokenId, text: &str) -> Result<bool, AllocError> {
+    let one = token(alloc, T_STRING, "'é'")?;
+    Ok(one != token(alloc, id, text)?)
 }
 
 #[test]
-fn tokens_compare(rt: HostRuntime) -> Result<(), Fail> {
-    let one = token(rt.alloc(), T_STRING, "'é'")?;
+fn tokens_compare(rt: HostRuntime) {
     for (id, text) in &OTHERS {
-        holds(&rt, !is_equal(&one, token(rt.alloc(), *id, text)), text);
+        is_so(&rt, differs(rt.alloc(), *id, text), text);
     }
-    Ok(())
 }
 
 // Texts of tokens, and how many times each.
@@ -36,15 +31,14 @@ const COPIED: [(&str, usize); 5] = [("", 1), ("a", 1), ("'é'", 1), ("a", 1_001)
 /// Whether a copy of the token of this text is the same.
 fn is_copied(alloc: Global, text: &str, times: usize) -> Result<bool, AllocError> {
     let one = Token::new(T_STRING, text.repeat(alloc, times)?);
-    Ok(is_equal(&one, one.try_clone(alloc)) && one.id() == T_STRING)
+    Ok(one.try_clone(alloc)? == one && one.id() == T_STRING)
 }
 
 #[test]
-fn tokens_have_copies(rt: HostRuntime) -> Result<(), Fail> {
+fn tokens_have_copies(rt: HostRuntime) {
     for (text, times) in &COPIED {
-        is_so(&rt, is_copied(rt.alloc(), text, *times), text)?;
+        is_so(&rt, is_copied(rt.alloc(), text, *times), text);
     }
-    Ok(())
 }
 
 #[test]
