@@ -41,6 +41,85 @@ fn is_built_as(found: &Result<Pattern, PatternFault>, want: &str) -> bool {
     }
 }
 
+#[test]
+fn patterns_are_anchored(rt: HostRuntime) {
+    for (value, want) in &BUILT {
+        let found = Pattern::read(rt.alloc(), value);
+        holds(&rt, is_built_as(&found, want), value);
+    }
+}
+
+#[test]
+fn other_texts_are_rejected(rt: HostRuntime) {
+    for value in &REJECTED {
+        let found = Pattern::read(rt.alloc(), value);
+        holds(&rt, is_rejected(&found, value), value);
+    }
+    let found = Pattern::of_text(rt.alloc(), "(");
+    holds(&rt, is_rejected(&found, "("), "(");
+}
+
+/// Ends of long patterns, and what is built of them.
+const LONG_ENDS: [(&str, &str); 4] = [
+    ("|y", "|y"),
+    ("[{]", "[{]"),
+    (r"\b{start}y", r"\b{start}y"),
+    (r"\d{b}", r"\d\{b}"),
+];
+
+const LENGTHS: [usize; 6] = [35, 41, 95, 101, 257, 990];
+
+/// Whether the pattern of so many letters before this end is built with that end.
+fn is_long_built(alloc: Global, length: usize, end: &str, want: &str) -> Result<bool, Failed> {
+    let letters = "x".repeat(alloc, length)?;
+    let value = format!(in alloc; "{letters}{end}")?;
+    let built = format!(in alloc; "^(?:{letters}{want})$")?;
+    Ok(is_built_as(&Pattern::read(alloc, &value), &built))
+}
+
+/// Ends of long patterns, ends of texts, and whether the one matches the other.
+const LONG_MATCHES: [(&str, &str, bool); 5] = [
+    ("[{]", "{", true),
+    ("[{]", "x", false),
+    (r"\d{b}", "1{b}", true),
+    (r"\d{b}", "1bb", false),
+    ("{y}|z", "{y}", true),
+];
+
+/// Whether the pattern of so many letters before this end matches as many letters before that end.
+fn is_long_found(alloc: Global, length: usize, end: &str, tail: &str) -> Result<bool, Failed> {
+    let letters = "x".repeat(alloc, length)?;
+    let value = format!(in alloc; "{letters}{end}")?;
+    let text = format!(in alloc; "{letters}{tail}")?;
+    is_found(alloc, &value, &text)
+}
+
+/// Whether so many letters before a parenthesis that nothing closes are rejected.
+fn is_long_rejected(alloc: Global, length: usize) -> Result<bool, Failed> {
+    let letters = "x".repeat(alloc, length)?;
+    let value = format!(in alloc; "{letters}(")?;
+    Ok(
+        is_rejected(&Pattern::read(alloc, &value), &value)
+            && is_rejected(&Pattern::of_text(alloc, &value), &value),
+    )
+}
+
+#[test]
+fn long_patterns_are_like_short_ones(rt: HostRuntime) {
+    let alloc = rt.alloc();
+    for length in &LENGTHS {
+        for (end, want) in &LONG_ENDS {
+            is_so(&rt, is_long_built(alloc, *length, end, want), end);
+        }
+        for (end, tail, want) in &LONG_MATCHES {
+            answers(&rt, is_long_found(alloc, *length, end, tail), *want, tail);
+        }
+        is_so(&rt, is_long_rejected(alloc, *length), "(");
+    }
+}
+
+// In the three reads below bin/test_memory makes each allocation fail in turn.
+
 fn is_out_of_memory(found: &Result<Pattern, PatternFault>) -> bool {
     match found {
         Err(PatternFault::Memory) => true,
