@@ -37,19 +37,19 @@ const SECONDS: [(&str, &str); 7] = [
 ];
 
 /// The number of a text as it is, as a node and as an expression gives this time, or this message.
-fn check_number(rt: &impl Abort, alloc: Global, number: Number, want: &str) {
-    let time = AtModifier::try_from(number);
+fn check_number(rt: &impl Abort, alloc: Global, text: &str, want: &str) {
+    let time = AtModifier::try_from(number(text));
     prints(rt, time_text(alloc, time), want);
-    let time = AtModifier::try_from(NumberLiteral::new(number));
+    let time = AtModifier::try_from(NumberLiteral::new(number(text)));
     prints(rt, time_text(alloc, time), want);
-    let time = AtModifier::try_from(Expr::from(number));
+    let time = AtModifier::try_from(Expr::from(number(text)));
     prints(rt, time_text(alloc, time), want);
 }
 
 #[test]
 fn times_are_rounded_away_from_zero(rt: HostRuntime) {
     for (text, want) in &SECONDS {
-        check_number(&rt, rt.alloc(), number(text), want);
+        check_number(&rt, rt.alloc(), text, want);
     }
 }
 

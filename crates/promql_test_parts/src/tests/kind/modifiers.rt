@@ -216,12 +216,18 @@ fn joint_labels_are_found(rt: HostRuntime) {
     is_so(&rt, alone, "alone");
 }
 
+fn number(text: &str) -> Number {
+    parse_str_radix(text).unwrap_or(Number::Inf)
+}
+
+/// The number of a text on both sides.
+fn filled(text: &str) -> VectorMatchFillValues {
+    VectorMatchFillValues::new(number(text), number(text))
+}
+
 #[test]
 fn fill_values_that_are_no_number_are_equal(rt: HostRuntime) {
-    let nan = parse_str_radix("nan").unwrap_or(Number::Inf);
-    let values = VectorMatchFillValues::new(nan, nan);
-    let is_equal = values == VectorMatchFillValues::new(nan, nan);
-    holds(&rt, is_equal, "nan");
-    let modifier = BinModifier::default().with_fill_values(values);
+    holds(&rt, filled("nan") == filled("nan"), "nan");
+    let modifier = BinModifier::default().with_fill_values(filled("nan"));
     prints(&rt, modifier.to_string(rt.alloc()), " fill (NaN)");
 }
