@@ -87,7 +87,7 @@ func (e *QueryError) Error() string {
 }
 
 // Explanation is why a query is rejected, for people. Message says what is wrong; at a syntax error it says what was found and what was
-// expected, and what may be meant. Expected has the names of what was expected, as string, "}" or end of query, and Found the token that does
+// expected, and what may be meant, and of more than 512 levels what to do about them. Expected has the names of what was expected, as string, "}" or end of query, and Found the token that does
 // not fit, as identifier "b", or end of query; of any other error they are empty.
 type Explanation struct {
 	Message  string `json:"error"`
@@ -95,18 +95,25 @@ type Explanation struct {
 	Found    string
 }
 
+// told is an explanation as the library tells it, with the place that it is of.
+type told struct {
+	Explanation
+	Line   int
+	Column int
+}
+
 // Explain returns what is said of the query (docs/guide/bindings.md of the repository, "Why a query is rejected"). It is another call of the
-// library, which reads the beginning of the query some sixty times. Where it tells of no token, as with other limits than before, the
+// library, which reads the beginning of the query some sixty times. Where it tells of another place, as with other limits than before, the
 // explanation has the message of the error alone.
 func (e *QueryError) Explain() Explanation {
 	text, result := call(e.Query, func(query *C.char, length C.size_t, buffer *C.char, size C.size_t, result *C.struct_promql_result) {
 		C.promql_explain(query, length, 1, buffer, size, result)
 	})
-	var told Explanation
-	if result.status != C.PROMQL_OK || json.Unmarshal([]byte(text), &told) != nil || told.Found == "" {
+	var it told
+	if result.status != C.PROMQL_OK || json.Unmarshal([]byte(text), &it) != nil || it.Line != e.Line || it.Column != e.Column {
 		return Explanation{Message: e.Message}
 	}
-	return told
+	return it.Explanation
 }
 
 // Snippet returns the line of the query where the part begins, a line feed, and a mark below that part.

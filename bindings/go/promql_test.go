@@ -141,6 +141,10 @@ func TestExplain(t *testing.T) {
 			t.Errorf("%q: %#v", query, got)
 		}
 	}
+	levels := rejection(t, strings.Repeat("a + ", 512)+"a").Explain()
+	if !strings.HasPrefix(levels.Message, "more than 512 levels: ") || levels.Expected != nil || levels.Found != "" {
+		t.Errorf("%#v", levels)
+	}
 	gone := promql.QueryError{Message: "gone", Query: "1"}
 	if got := gone.Explain(); !reflect.DeepEqual(got, promql.Explanation{Message: "gone"}) {
 		t.Errorf("%#v", got)

@@ -52,8 +52,8 @@ __all__ = [
 ]
 __version__ = "0.5.0"
 
-# The message of a syntax error, where it is not told what was expected.
-_SYNTAX = "invalid promql query"
+# Of these errors the library has more to say than each call does.
+_EXPLAINED = ("invalid promql query", "expression nested too deeply")
 _MAX_LEVEL = 512
 _MAX_WIDTH = 2**64 - 1
 _MAX_LIMIT = 2**64 - 1
@@ -135,7 +135,8 @@ class QueryError(Error):
 
     @property
     def message(self) -> str:
-        """What is wrong. At a syntax error it says what was found and what was expected, and what may be meant."""
+        """What is wrong. At a syntax error it says what was found and what was expected, and what may be meant; of more than 512 levels it
+        says what to do about them."""
         return self._explanation.message
 
     @property
@@ -150,14 +151,14 @@ class QueryError(Error):
 
     @cached_property
     def _explanation(self) -> _Explanation:
-        if self.reason != _SYNTAX:
+        if self.reason not in _EXPLAINED:
             return _Explanation(self.reason)
         answer = _caller.explain(self.query)
         told = json.loads(answer) if isinstance(answer, str) and answer else {}
         # (the limits may be others now, and the stack smaller)
-        if "expected" not in told:
+        if (told.get("line"), told.get("column")) != (self.line, self.column):
             return _Explanation(self.reason)
-        return _Explanation(told["error"], tuple(told["expected"]), told["found"])
+        return _Explanation(told["error"], tuple(told.get("expected", ())), told.get("found"))
 
     def snippet(self) -> str:
         """The line of the query where the part begins, and a mark below that part."""

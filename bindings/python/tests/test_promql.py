@@ -245,6 +245,11 @@ class Errors(unittest.TestCase):
             self.assertEqual((error.expected, error.found, error.message), (expected, found, message))
             self.assertEqual(error.reason, "invalid promql query")
 
+    def test_levels(self):
+        error = self.error_of(" + ".join(["a"] * 513))
+        self.assertEqual((error.expected, error.found, error.reason), ((), None, "expression nested too deeply"))
+        self.assertEqual(error.message, "more than 512 levels: put parts of a long chain in parentheses, or split the query")
+
     def test_nothing_expected(self):
         """At an error that is no syntax error, and where the patterns are too large to be compiled once for each kind of token."""
         for query, message in (

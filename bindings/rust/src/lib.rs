@@ -102,7 +102,8 @@ pub struct Rejection {
 /// Why a query is rejected, for people.
 #[derive(Clone, Debug, PartialEq, Eq)]
 pub struct Explanation {
-    /// What is wrong. At a syntax error it says what was found and what was expected, and what may be meant.
+    /// What is wrong. At a syntax error it says what was found and what was expected, and what may be meant; of more than 512 levels it
+    /// says what to do about them.
     pub message: String,
     /// The names of what was expected, as `string`, `"}"` or `end of query`; none of any other error.
     pub expected: Vec<String>,
@@ -112,12 +113,12 @@ pub struct Explanation {
 
 impl Rejection {
     /// What is said of the query that it is of (`docs/guide/bindings.md` of the repository, "Why a query is rejected"). It is another call
-    /// of the library, which reads the beginning of the query some sixty times. Where it tells of no token, as with other limits than
+    /// of the library, which reads the beginning of the query some sixty times. Where it tells of another place, as with other limits than
     /// before, the explanation has the message of the rejection alone.
     pub fn explain(&self, query: &str) -> Explanation {
         let (text, answer) = library::explain(query);
         let told = if answer.status == library::OK { json::read(&text) } else { None };
-        explanation_in(told).unwrap_or_else(|| Explanation {
+        explanation_in(told, (self.line, self.column)).unwrap_or_else(|| Explanation {
             message: self.message.clone(),
             expected: Vec::new(),
             found: None,
@@ -358,22 +359,24 @@ fn text_of((text, answer): (String, Answer)) -> Result<String, Error> {
     }
 }
 
-/// The explanation in an object of JSON, if it tells of a token.
-fn explanation_in(told: Option<Value>) -> Option<Explanation> {
+/// The explanation in an object of JSON, if it tells of this place: a line and a column.
+fn explanation_in(told: Option<Value>, place: (usize, usize)) -> Option<Explanation> {
     let members = match told {
         Some(Value::Object(members)) => members,
         _ => return None,
     };
-    let (mut message, mut expected, mut found) = (None, Vec::new(), None);
+    let (mut message, mut expected, mut found, mut line, mut column) = (None, Vec::new(), None, None, None);
     for (name, value) in members {
         match (name.as_str(), value) {
+            ("line", Value::Number(number)) => line = number.parse().ok(),
+            ("column", Value::Number(number)) => column = number.parse().ok(),
             ("error", Value::String(text)) => message = Some(text),
             ("found", Value::String(text)) => found = Some(text),
             ("expected", Value::Array(names)) => expected = names.into_iter().filter_map(text_in).collect(),
             _ => {}
         }
     }
-    Some(Explanation { message: message?, expected, found: Some(found?) })
+    ((line?, column?) == place).then_some(Explanation { message: message?, expected, found })
 }
 
 fn text_in(value: Value) -> Option<String> {

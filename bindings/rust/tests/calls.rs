@@ -116,6 +116,14 @@ fn rejections_are_explained() {
 }
 
 #[test]
+fn too_many_levels_are_explained() {
+    let query = ["a"; 513].join(" + ");
+    let told = rejection(&query).explain(&query);
+    assert!(told.message.starts_with("more than 512 levels: "));
+    assert_eq!((told.expected, told.found), (Vec::new(), None));
+}
+
+#[test]
 fn some_rejections_have_no_more_to_tell() {
     // Not a syntax error; patterns that are too large; a query that the rejection is not of.
     for (query, other, message) in [
