@@ -37,6 +37,9 @@ PRINT, CANONICAL, CHECK, _, ENFORCE, _, _, EXPLAIN = range(8)
 MODES = {"line": 0, "pretty": 1, "json": 2}
 ACCEPTED = b'{"ok":""}'
 SYNTAX = "invalid promql query"
+# The message of a query with more than 512 levels, and what an explanation says in its place.
+TOO_DEEP = "expression nested too deeply"
+TOO_MANY_LEVELS = "more than 512 levels: put parts of a long chain in parentheses, or split the query"
 
 sys.setrecursionlimit(100_000)  # JSON of high trees
 
@@ -103,7 +106,9 @@ def without_id(reply):
 
 
 def in_short(told):
-    """An explanation as promql_batch answers its query: without what the message says beside `expected` and `found`."""
+    """An explanation as promql_batch answers its query: without what the message says beside `expected` and `found`, or of many levels."""
+    if told["error"] == TOO_MANY_LEVELS:
+        told = {**told, "error": TOO_DEEP}
     if "expected" in told:
         *firsts, last = told["expected"]
         names = f"{', '.join(firsts)} or {last}" if firsts else last
