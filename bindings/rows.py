@@ -34,7 +34,7 @@ MAX_LEN = 1_048_576
 MAX_PATTERNS = 32_000
 # The numbers of the calls in a file, and of the modes in promql.h.
 PRINT, CANONICAL, CHECK, _, ENFORCE, _, _, EXPLAIN = range(8)
-MODES = {"line": 0, "pretty": 1, "json": 2}
+MODES = {"line": 0, "pretty": 1, "json": 2, "places": 3}
 ACCEPTED = b'{"ok":""}'
 SYNTAX = "invalid promql query"
 # The message of a query with more than 512 levels, and what an explanation says in its place.
@@ -76,7 +76,7 @@ class Answer(NamedTuple):
         if call == EXPLAIN and self.status == 0:
             return in_short(json.loads(self.text)) if self.text else ACCEPTED
         if self.status == 0:
-            return b'{"ok":%s}' % (self.text if mode == "json" else compact(self.text.decode()))
+            return b'{"ok":%s}' % (self.text if mode in ("json", "places") else compact(self.text.decode()))
         members = {"code": self.status, "error": self.text.decode()}
         if self.status in (4, 14):
             members.update(start=self.start, end=self.end, line=self.line, column=self.column)
@@ -129,7 +129,7 @@ def calls_of_row(place, asked, answer):
     if code != 3:
         value = json.loads(asked)
         if isinstance(value, dict):
-            mode = value.get("mode", mode)
+            mode = "places" if value.get("places") else value.get("mode", mode)
             level = value.get("level", level)
             width = value.get("width", width)
             matcher = value.get("enforce")
@@ -220,6 +220,16 @@ def explanation(query):
         return Answer(0, 0, 0, 0, 0, compact({**members, "error": error.message}))
 
 
+def with_byte_places(form, query):
+    """A form of the package with places, which these are in bytes."""
+    if isinstance(form, list):
+        return [with_byte_places(it, query) for it in form]
+    if not isinstance(form, dict):
+        return form
+    places = {name: len(query[: form[name]].encode()) for name in ("start", "end") if name in form}
+    return {**{name: with_byte_places(it, query) for name, it in form.items()}, **places}
+
+
 def python_answer(call):
     """Makes the call by the public functions of the package, and returns its answer as that of the library."""
     import promql
@@ -237,6 +247,8 @@ def python_answer(call):
             text = promql.canonical(query)
         elif call.mode == "pretty":
             text = promql.format(query, width=call.width, level=call.level)
+        elif call.mode == "places":
+            text = compact(with_byte_places(promql.parse(query, places=True), query)).decode()
         else:
             text = compact(promql.parse(query)).decode()
         return Answer(0, 0, 0, 0, 0, text.encode())

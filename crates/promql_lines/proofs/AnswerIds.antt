@@ -9,7 +9,7 @@ use Rattle.serde_json.specs.Written.{compact_text}
 use Rattle.promql_text.specs.Texts.{Text}
 use Rattle.promql_lines.specs.Batch.{FailsWith, HasId, IsIdOf, IsLineAnswer, IsPlainAnswer, error_value, value_text}
 use Rattle.promql_lines.specs.QueryErrors.{query_error_number, rejected_in}
-use Rattle.promql_lines.specs.Requests.{format_in, id_in, matcher_in, query_in, unknown_in}
+use Rattle.promql_lines.specs.Requests.{id_in, matcher_in, mode_in, query_in, unknown_in}
 use Rattle.promql_lines.specs.declared.query_error.QueryError.TheVariants.{NotARequest}
 use Rattle.promql_lines.specs.declared.rejected_query.RejectedQuery.{RejectedQuery}
 use Rattle.promql_lines.specs.declared.settings.Settings.{Settings}
@@ -23,7 +23,7 @@ error_value_text code message None = (_, refl)
 error_value_text code message (Some r) = (_, refl)
 
 plain_object : (settings : Settings) (line printed : Text) (is_ok : Bool) → IsPlainAnswer settings line printed is_ok → IsObject printed
-plain_object settings line printed true (query, matcher, format, utf8, asks, (output, has, is)) = (codes "\"ok\":" ++ (value_text format output ++ codes "}"), is)
+plain_object settings line printed true (query, matcher, m, utf8, asks, (output, has, is)) = (codes "\"ok\":" ++ (value_text m output ++ codes "}"), is)
 plain_object settings line printed false (e, fails, (message, is)) =
     let made = error_value_text (query_error_number e) message (rejected_in e) in (made.0, is ∙ made.1)
 
@@ -54,6 +54,6 @@ none_in_bytes line not_utf8 = inr (not_utf8, refl)
 pub unread_fails : (settings : Settings) (line : Text) → IsUtf8 line → read line ≡ None → FailsWith settings line NotARequest
 unread_fails settings line utf8 is = inl (
   utf8,
-  ap (option_and_then (λ d. option_and_then (λ query. option_map (λ format. (query, matcher_in d, format)) (format_in settings.format d)) (query_in d))) is,
+  ap (option_and_then (λ d. option_and_then (λ query. option_map (λ m. (query, matcher_in d, m)) (mode_in settings.format d)) (query_in d))) is,
   ap (option_and_then unknown_in) is,
 )

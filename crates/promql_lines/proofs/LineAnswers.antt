@@ -14,25 +14,27 @@ use Rattle.promql_ast.specs.Tree.{Tree}
 use Rattle.promql_report.specs.Rejecting.{IsRead}
 use Rattle.promql_span.specs.declared.limits.Limits.{Limits}
 use Rattle.promql_lines.specs.declared.settings.Settings.{Settings}
-use Rattle.promql_lines.specs.Batch.{FailsOnQuery, FailsWith, IsAsked, IsQueryAnswer, error_value, rejection_object, with_expectation}
-use Rattle.promql_lines.specs.BatchSteps.{IsOkLine, IsTreeAnswer}
+use Rattle.promql_lines.specs.Batch.{FailsOnQuery, FailsWith, IsAsked, IsAskedPrint, IsModePrint, IsQueryAnswer, error_value, rejection_object, with_expectation}
+use Rattle.promql_lines.specs.BatchSteps.{IsAskedAnswer, IsModeAnswer, IsOkLine, IsTreeAnswer}
 use Rattle.promql_lines.specs.QueryErrors.{IsOutput, IsPrintOfTree, query_error_number, rejected_in}
 use Rattle.promql_lines.specs.declared.query_error.QueryError.TheVariants as error
 use Rattle.promql_run.specs.Running.{format_text}
-use Rattle.promql_lines.specs.Requests.{format_in, format_with, matcher_in, query_in, requested}
+use Rattle.promql_lines.specs.Requests.{format_with, matcher_in, mode_in, mode_with, query_in, requested}
 use Rattle.promql_lines.specs.declared.query_error.QueryError.{QueryError}
 use Rattle.promql_lines.specs.declared.rejected_query.Expectation.{Expectation}
 use Rattle.promql_lines.specs.declared.rejected_query.RejectedQuery.{RejectedQuery}
 use Rattle.promql_run.specs.declared.format.Format.{Format}
 use Rattle.promql_run.specs.declared.format.Format.TheVariants as formats
+use Rattle.promql_lines.specs.declared.mode.Mode.{Mode}
+use Rattle.promql_lines.specs.declared.mode.Mode.TheVariants as modes
 
 -- what a line asks for, by its value
-asked_by_value : (asked : Format) (line query : Text) (format : Format) (value : Data) → read line ≡ Some value → query_in value ≡ Some query → format_in asked value ≡ Some format
-    → requested asked line ≡ Some (query, matcher_in value, format)
-asked_by_value asked line query format value is query_is format_is =
-    ap (option_and_then (λ d. option_and_then (λ q. option_map (λ f. (q, matcher_in d, f)) (format_in asked d)) (query_in d))) is
-    ∙ ap (option_and_then (λ q. option_map (λ f. (q, matcher_in value, f)) (format_in asked value))) query_is
-    ∙ ap (option_map (λ f. (query, matcher_in value, f))) format_is
+asked_by_value : (asked : Format) (line query : Text) (m : Mode) (value : Data) → read line ≡ Some value → query_in value ≡ Some query → mode_in asked value ≡ Some m
+    → requested asked line ≡ Some (query, matcher_in value, m)
+asked_by_value asked line query m value is query_is mode_is =
+    ap (option_and_then (λ d. option_and_then (λ q. option_map (λ k. (q, matcher_in d, k)) (mode_in asked d)) (query_in d))) is
+    ∙ ap (option_and_then (λ q. option_map (λ k. (q, matcher_in value, k)) (mode_in asked value))) query_is
+    ∙ ap (option_map (λ k. (query, matcher_in value, k))) mode_is
 
 -- what the command asks for stays where a line says nothing else
 as_asked : (asked : Format) → format_with None None asked ≡ Some asked
@@ -41,18 +43,19 @@ as_asked formats.Line = refl
 as_asked formats.Json = refl
 
 -- a line that is a query in quotes asks for it as the command says
-pub asks_in_quotes : (asked : Format) (line query : Text) → read line ≡ Some (string query) → requested asked line ≡ Some (query, None, asked)
-asks_in_quotes asked line query is = asked_by_value asked line query asked (string query) is refl (as_asked asked)
+pub asks_in_quotes : (asked : Format) (line query : Text) → read line ≡ Some (string query) → requested asked line ≡ Some (query, None, modes.Plain asked)
+asks_in_quotes asked line query is =
+    asked_by_value asked line query (modes.Plain asked) (string query) is refl (ap (option_and_then (mode_with (Some false) None)) (as_asked asked))
 
-pub asks_by_value : (asked : Format) (line query : Text) (matcher : Option Text) (format : Format) (value : Data) → read line ≡ Some value
-    → Some query ≡ query_in value → matcher ≡ matcher_in value → Some format ≡ format_in asked value → requested asked line ≡ Some (query, matcher, format)
-asks_by_value asked line query matcher format value is query_is matcher_is format_is =
-    asked_by_value asked line query format value is (sym query_is) (sym format_is) ∙ ap (λ m. Some (query, m, format)) (sym matcher_is)
+pub asks_by_value : (asked : Format) (line query : Text) (matcher : Option Text) (m : Mode) (value : Data) → read line ≡ Some value
+    → Some query ≡ query_in value → matcher ≡ matcher_in value → Some m ≡ mode_in asked value → requested asked line ≡ Some (query, matcher, m)
+asks_by_value asked line query matcher m value is query_is matcher_is mode_is =
+    asked_by_value asked line query m value is (sym query_is) (sym mode_is) ∙ ap (λ c. Some (query, c, m)) (sym matcher_is)
 
 -- the answer to the query that a line asks for is that to the line
-pub answered_line : {E : Type 0} (r : Result (String Global) E) (settings : Settings) (line query : Text) (matcher : Option Text) (format : Format) → IsUtf8 line → requested settings.format line ≡ Some (query, matcher, format)
-    → IfOk r (λ s. IsQueryAnswer settings.limits (string_bytes s) query matcher format) → IfOk r (λ s. IsOkLine settings line (string_bytes s))
-answered_line r settings line query matcher format utf8 asks = IfOk-weaker r _ _ (λ s has. (query, matcher, format, utf8, asks, has))
+pub answered_line : {E : Type 0} (r : Result (String Global) E) (settings : Settings) (line query : Text) (matcher : Option Text) (m : Mode) → IsUtf8 line → requested settings.format line ≡ Some (query, matcher, m)
+    → IfOk r (λ s. IsQueryAnswer settings.limits (string_bytes s) query matcher m) → IfOk r (λ s. IsOkLine settings line (string_bytes s))
+answered_line r settings line query matcher m utf8 asks = IfOk-weaker r _ _ (λ s has. (query, matcher, m, utf8, asks, has))
 
 texts_are_finite : (ts : List Text) → items_have_float (items_of (map string ts)) ≡ false
 texts_are_finite [] = refl
@@ -72,15 +75,25 @@ rejection_is_finite built r code message is = ap has_float is ∙ value_is_finit
 pub error_is_finite : (built : Data) (e : QueryError) (message : Text) → built ≡ error_value (query_error_number e) message (rejected_in e) → has_float built ≡ false
 error_is_finite built e message is = ap has_float is ∙ value_is_finite (query_error_number e) message (rejected_in e)
 
--- what is made of what is printed of a tree is made of the query
-pub tree_answers : (r : Result (String Global) QueryError) (limits : Limits) (query : Text) (matcher : Option Text) (format : Format) (t u : Tree) → IsRead limits query t → IsAsked limits matcher t (Ok u)
-    → IfOk r (λ s. IsTreeAnswer limits format u (string_bytes s)) → IfOk r (λ s. IsQueryAnswer limits (string_bytes s) query matcher format)
-tree_answers r limits query matcher format t u read asked = IfOk-weaker r _ _ (λ s has. (has.0, (t, read, inr (u, asked, has.1)), has.2))
+-- what is made of the tree with the matcher is made of the tree
+pub asked_answers : (r : Result (String Global) QueryError) (limits : Limits) (matcher : Option Text) (format : Format) (t u : Tree) → IsAsked limits matcher t (Ok u)
+    → IfOk r (λ s. IsTreeAnswer limits format u (string_bytes s)) → IfOk r (λ s. IsAskedAnswer limits matcher format t (string_bytes s))
+asked_answers r limits matcher format t u asked = IfOk-weaker r _ _ (λ s has. (has.0, inr (u, asked, has.1), has.2))
 
-pub tree_fails : {T : Type 0} (r : Result T QueryError) (limits : Limits) (query : Text) (matcher : Option Text) (format : Format) (t u : Tree) → IsRead limits query t → IsAsked limits matcher t (Ok u)
-    → IfErr r (λ e. IsPrintOfTree limits format u (Err e)) → IfErr r (λ e. FailsOnQuery limits e query matcher format)
-tree_fails (Ok value) limits query matcher format t u read asked fails = tt
-tree_fails (Err e) limits query matcher format t u read asked fails = inr (inr (t, read, inr (u, asked, fails)))
+pub asked_fails : {T : Type 0} (r : Result T QueryError) (limits : Limits) (matcher : Option Text) (format : Format) (t u : Tree) → IsAsked limits matcher t (Ok u)
+    → IfErr r (λ e. IsPrintOfTree limits format u (Err e)) → IfErr r (λ e. IsAskedPrint limits matcher format t (Err e))
+asked_fails (Ok value) limits matcher format t u asked fails = tt
+asked_fails (Err e) limits matcher format t u asked fails = inr (u, asked, fails)
+
+-- what is printed of a tree is printed of the query
+pub query_answers : (r : Result (String Global) QueryError) (limits : Limits) (query : Text) (matcher : Option Text) (m : Mode) (t : Tree) → IsRead limits query t
+    → IfOk r (λ s. IsModeAnswer limits query matcher m t (string_bytes s)) → IfOk r (λ s. IsQueryAnswer limits (string_bytes s) query matcher m)
+query_answers r limits query matcher m t read = IfOk-weaker r _ _ (λ s has. (has.0, (t, read, has.1), has.2))
+
+pub query_fails : {T : Type 0} (r : Result T QueryError) (limits : Limits) (query : Text) (matcher : Option Text) (m : Mode) (t : Tree) → IsRead limits query t
+    → IfErr r (λ e. IsModePrint limits query matcher m t (Err e)) → IfErr r (λ e. FailsOnQuery limits e query matcher m)
+query_fails (Ok value) limits query matcher m t read fails = tt
+query_fails (Err e) limits query matcher m t read fails = inr (t, read, fails)
 
 -- an output of a tree that is too long, or for which an allocation failed
 pub no_answer : {T : Type 0} (r : Result T QueryError) (limits : Limits) (format : Format) (t : Tree) (text : Text) → format_text format t ≡ Ok text
@@ -88,11 +101,8 @@ pub no_answer : {T : Type 0} (r : Result T QueryError) (limits : Limits) (format
 no_answer (Ok value) limits format t text gives fails = tt
 no_answer (Err e) limits format t text gives fails = ⊎_elim (λ out. inl (text, gives, out)) (λ is. inr (e, inl is, refl)) fails
 
--- an error of enforcing is one of a query that has the tree
-pub fails_unasked : (limits : Limits) (e : QueryError) (query : Text) (matcher : Option Text) (format : Format) (t : Tree) → IsRead limits query t → IsAsked limits matcher t (Err e) → FailsOnQuery limits e query matcher format
-fails_unasked limits e query matcher format t read asked = inr (inr (t, read, inl (e, asked, refl)))
-
 -- an error of the query is one of the line that asks for it
-pub failing_in_vain : {T : Type 0} (r : Result T QueryError) (settings : Settings) (line query : Text) (matcher : Option Text) (format : Format) → IsUtf8 line → requested settings.format line ≡ Some (query, matcher, format) → IfErr r (λ e. FailsOnQuery settings.limits e query matcher format) → IfErr r (FailsWith settings line)
-failing_in_vain (Ok value) settings line query matcher format utf8 asks fails = tt
-failing_in_vain (Err e) settings line query matcher format utf8 asks fails = inr (query, matcher, format, utf8, asks, fails)
+pub failing_in_vain : {T : Type 0} (r : Result T QueryError) (settings : Settings) (line query : Text) (matcher : Option Text) (m : Mode) → IsUtf8 line → requested settings.format line ≡ Some (query, matcher, m)
+    → IfErr r (λ e. FailsOnQuery settings.limits e query matcher m) → IfErr r (FailsWith settings line)
+failing_in_vain (Ok value) settings line query matcher m utf8 asks fails = tt
+failing_in_vain (Err e) settings line query matcher m utf8 asks fails = inr (query, matcher, m, utf8, asks, fails)

@@ -16,7 +16,9 @@ use Rattle.promql_json.specs.JsonParts.{list}
 use Rattle.promql_report.specs.Rejecting.{IsRead, IsRejection}
 use Rattle.promql_span.specs.declared.limits.Limits.{Limits}
 use Rattle.promql_lines.specs.EnforcedLines.{IsEnforcedWithin, IsUnenforced}
-use Rattle.promql_lines.specs.QueryErrors.{IsPrintOfTree, query_error_number, rejected_in}
+use Rattle.promql_lines.specs.QueryErrors.{IsPlacedPrint, IsPrintOfTree, query_error_number, rejected_in}
+use Rattle.promql_lines.specs.declared.mode.Mode.{Mode}
+use Rattle.promql_lines.specs.declared.mode.Mode.TheVariants as mode
 use Rattle.promql_lines.specs.declared.query_error.QueryError.{QueryError}
 use Rattle.promql_lines.specs.declared.query_error.QueryError.TheVariants as error
 use Rattle.promql_run.specs.declared.format.Format.{Format}
@@ -30,37 +32,49 @@ use Rattle.promql_lines.specs.Telling.{IsToldWith}
 -- ---- one line
 
 -- "Answers": that of a form as it is, and others as strings
-abbrev pub value_text : Format → Text → Text
-value_text Json output = output
-value_text format output = compact_text (string output)
+abbrev pub value_text : Mode → Text → Text
+value_text (mode.Plain Json) output = output
+value_text mode.Placed output = output
+value_text m output = compact_text (string output)
 
--- the line is a text that asks for a query, with a matcher in its selectors or none, and a format, of which this is so
-abbrev pub Asks : (Text → Option Text → Format → Type 0) → Settings → Text → Type 0
+-- the line is a text that asks for a query, with a matcher in its selectors or none, and a mode, of which this is so
+abbrev pub Asks : (Text → Option Text → Mode → Type 0) → Settings → Text → Type 0
 Asks P settings line =
-    (query : Text) × (matcher : Option Text) × (format : Format) × IsUtf8 line × (requested settings.format line ≡ Some (query, matcher, format)) × P query matcher format
+    (query : Text) × (matcher : Option Text) × (m : Mode) × IsUtf8 line × (requested settings.format line ≡ Some (query, matcher, m)) × P query matcher m
 
 -- "Requests": what is printed where the tree was read, with the matcher in its selectors or as it is, or why that is not made
 abbrev pub IsAsked : Limits → Option Text → Tree → Result Tree QueryError → Type 0
 IsAsked limits None t made = made ≡ Ok t
 IsAsked limits (Some matcher) t made = MatchResult made (IsEnforcedWithin limits matcher t) (IsUnenforced limits matcher t)
 
--- the query has a tree, and this is the text of what is printed of that in the format, or why there is none
-abbrev pub IsQueryPrint : Limits → Text → Option Text → Format → Result Text QueryError → Type 0
-IsQueryPrint limits query matcher format made =
-    (t : Tree) × IsRead limits query t × (((e : QueryError) × IsAsked limits matcher t (Err e) × (made ≡ Err e))
-    ⊎ ((u : Tree) × IsAsked limits matcher t (Ok u) × IsPrintOfTree limits format u made))
+-- the text of what is printed of a tree in a format, or why there is none
+abbrev pub IsAskedPrint : Limits → Option Text → Format → Tree → Result Text QueryError → Type 0
+IsAskedPrint limits matcher format t made =
+    ((e : QueryError) × IsAsked limits matcher t (Err e) × (made ≡ Err e))
+    ⊎ ((u : Tree) × IsAsked limits matcher t (Ok u) × IsPrintOfTree limits format u made)
+
+-- what is printed of the query's tree in a mode; no matcher is asked for beside places
+abbrev pub IsModePrint : Limits → Text → Option Text → Mode → Tree → Result Text QueryError → Type 0
+IsModePrint limits query matcher (mode.Plain format) t made = IsAskedPrint limits matcher format t made
+IsModePrint limits query matcher mode.Placed t made = IsPlacedPrint limits query t made
+
+-- the query has a tree, and this is printed of it
+abbrev pub IsQueryPrint : Limits → Text → Option Text → Mode → Result Text QueryError → Type 0
+IsQueryPrint limits query matcher m made = (t : Tree) × IsRead limits query t × IsModePrint limits query matcher m t made
 
 -- this is the answer with the text
-abbrev pub IsQueryAnswer : Limits → Text → Text → Option Text → Format → Type 0
-IsQueryAnswer limits answer query matcher format =
-    (output : Text) × IsQueryPrint limits query matcher format (Ok output)
-    × (answer ≡ codes "{\"ok\":" ++ (value_text format output ++ codes "}"))
+abbrev pub IsQueryAnswer : Limits → Text → Text → Option Text → Mode → Type 0
+IsQueryAnswer limits answer query matcher m =
+    (output : Text) × IsQueryPrint limits query matcher m (Ok output) × (answer ≡ codes "{\"ok\":" ++ (value_text m output ++ codes "}"))
 
--- when a query has this error: it is rejected, and what was expected is told; or it has a tree, and this is why that has no text
-abbrev pub FailsOnQuery : Limits → QueryError → Text → Option Text → Format → Type 0
-FailsOnQuery limits e query matcher format =
+-- the query is rejected, and what was expected is told; an allocation may fail anywhere
+abbrev pub IsToldRejection : Limits → Text → QueryError → Type 0
+IsToldRejection limits query e =
     (e ≡ error.Memory) ⊎ ((r : RejectedQuery) × (e ≡ error.Rejected r) × IsRejection limits query r.rejection × IsToldWith query r)
-    ⊎ IsQueryPrint limits query matcher format (Err e)
+
+-- when a query has this error: it is rejected; or it has a tree, and this is why that has no text
+abbrev pub FailsOnQuery : Limits → QueryError → Text → Option Text → Mode → Type 0
+FailsOnQuery limits e query matcher m = IsToldRejection limits query e ⊎ IsQueryPrint limits query matcher m (Err e)
 
 -- when a line asks for nothing
 abbrev pub AsksNothing : Settings → Text → QueryError → Type 0

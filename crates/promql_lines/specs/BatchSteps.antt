@@ -10,10 +10,12 @@ use Rattle.promql_span.specs.declared.limits.Limits.{Limits}
 use Rattle.promql_run.specs.declared.format.Format.{Format}
 use Rattle.promql_run.specs.declared.run.RunError.{RunError}
 use Rattle.promql_run.specs.declared.run.RunError.TheVariants as error
-use Rattle.promql_lines.specs.Batch.{IsLineAnswer, IsPlainAnswer, value_text}
-use Rattle.promql_lines.specs.QueryErrors.{IsPrintOfTree}
+use Rattle.promql_lines.specs.Batch.{IsAskedPrint, IsLineAnswer, IsModePrint, IsPlainAnswer, value_text}
+use Rattle.promql_lines.specs.QueryErrors.{IsPlacedPrint, IsPrintOfTree}
 use Rattle.promql_lines.specs.declared.batch.LineEnd.{LineEnd}
 use Rattle.promql_lines.specs.declared.batch.LineEnd.TheVariants.{Feed, Input}
+use Rattle.promql_lines.specs.declared.mode.Mode.{Mode}
+use Rattle.promql_lines.specs.declared.mode.Mode.TheVariants as mode
 use Rattle.promql_lines.specs.declared.settings.Settings.{Settings}
 
 abbrev pub HasNoFeed : Text → Type 0
@@ -55,7 +57,22 @@ IsOkLine settings line printed = IsPlainAnswer settings line printed true
 -- the answer with what is printed of a tree
 abbrev pub IsTreeAnswer : Limits → Format → Tree → Text → Type 0
 IsTreeAnswer limits format t answer =
-    (output : Text) × IsPrintOfTree limits format t (Ok output) × (answer ≡ codes "{\"ok\":" ++ (value_text format output ++ codes "}"))
+    (output : Text) × IsPrintOfTree limits format t (Ok output) × (answer ≡ codes "{\"ok\":" ++ (value_text (mode.Plain format) output ++ codes "}"))
+
+-- the same with a matcher in its selectors, or none
+abbrev pub IsAskedAnswer : Limits → Option Text → Format → Tree → Text → Type 0
+IsAskedAnswer limits matcher format t answer =
+    (output : Text) × IsAskedPrint limits matcher format t (Ok output) × (answer ≡ codes "{\"ok\":" ++ (value_text (mode.Plain format) output ++ codes "}"))
+
+-- the same with the JSON form of this query's tree with places
+abbrev pub IsPlacedAnswer : Limits → Text → Tree → Text → Type 0
+IsPlacedAnswer limits query t answer =
+    (output : Text) × IsPlacedPrint limits query t (Ok output) × (answer ≡ codes "{\"ok\":" ++ (output ++ codes "}"))
+
+-- the same in a mode
+abbrev pub IsModeAnswer : Limits → Text → Option Text → Mode → Tree → Text → Type 0
+IsModeAnswer limits query matcher m t answer =
+    (output : Text) × IsModePrint limits query matcher m t (Ok output) × (answer ≡ codes "{\"ok\":" ++ (value_text m output ++ codes "}"))
 
 abbrev pub IsReadingError : RunError → Type 0
 IsReadingError error.Memory = Unit {0}

@@ -3,9 +3,11 @@ use Rattle.std.specs.Prelude.{◌≡◌, ◌≢◌, ◌⊎◌, ◌≤◌, ℕ, l
 use Rattle.promql_text.specs.Texts.{Text}
 use Rattle.promql_ast.specs.Tree.{Tree}
 use Rattle.promql_json.specs.declared.error.JsonError.{JsonError}
+use Rattle.promql_places.specs.PlacedForms.{IsPlacedText}
 use Rattle.promql_report.specs.Rejecting.{IsRead, IsRejection, reason_number}
 use Rattle.promql_run.specs.Running.{format_text}
 use Rattle.promql_run.specs.declared.format.Format.{Format}
+use Rattle.promql_run.specs.declared.format.Format.TheVariants.{Json}
 use Rattle.promql_span.specs.QueryLimits.{IsLimitFault, IsLongOutput}
 use Rattle.promql_span.specs.declared.limits.LimitFault.{LimitFault}
 use Rattle.promql_span.specs.declared.limits.LimitFault.TheVariants as limit
@@ -75,8 +77,14 @@ IsOutput limits text made =
 abbrev pub GivesOr : (QueryError → Type 0) → Limits → (Text → Type 0) → Result Text QueryError → Type 0
 GivesOr Fails limits Is made = ((text : Text) × Is text × IsOutput limits text made) ⊎ ((e : QueryError) × Fails e × (made ≡ Err e))
 
+-- why a tree has no text in a format
+abbrev pub HasNoText : Format → Tree → QueryError → Type 0
+HasNoText format t e = (e ≡ error.Memory) ⊎ ((f : JsonError) × (format_text format t ≡ Err f) × (e ≡ error.NoForm f))
+
 -- the text of a tree in a format, if it has one
 abbrev pub IsPrintOfTree : Limits → Format → Tree → Result Text QueryError → Type 0
-IsPrintOfTree limits format t =
-    GivesOr (λ e. (e ≡ error.Memory) ⊎ ((f : JsonError) × (format_text format t ≡ Err f) × (e ≡ error.NoForm f))) limits
-    (λ text. format_text format t ≡ Ok text)
+IsPrintOfTree limits format t = GivesOr (HasNoText format t) limits (λ text. format_text format t ≡ Ok text)
+
+-- the text of the JSON form of this query's tree with places, if it has a form
+abbrev pub IsPlacedPrint : Limits → Text → Tree → Result Text QueryError → Type 0
+IsPlacedPrint limits query t = GivesOr (HasNoText Json t) limits (IsPlacedText query t)

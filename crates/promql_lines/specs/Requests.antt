@@ -1,10 +1,12 @@
 -- What a line of a batch asks for (docs/reference/programs.md, "Requests").
-use Rattle.std.specs.Prelude.{ℕ, ◌-◌, ◌^◌, Bool, true, List, [], ◌∷◌, Option, Some, None, ◌||◌, ◌&&◌, if◌then◌else◌, option_and_then, option_map, is_none, is_some, bytes_eq, codes, nat_le}
+use Rattle.std.specs.Prelude.{ℕ, ◌-◌, ◌^◌, Bool, true, false, List, [], ◌∷◌, Option, Some, None, ◌||◌, ◌&&◌, if◌then◌else◌, option_and_then, option_map, is_none, is_some, bytes_eq, codes, nat_le}
 use Rattle.std.specs.Option.{option_map_or}
 use Rattle.serde_json.specs.Data.{Data, string, object, Members, no_members, member}
 use Rattle.serde_json.specs.Read.{read}
-use Rattle.serde_json.specs.Find.{as_number, as_str, as_u64, get}
+use Rattle.serde_json.specs.Find.{as_bool, as_number, as_str, as_u64, get}
 use Rattle.promql_text.specs.Texts.{Text}
+use Rattle.promql_lines.specs.declared.mode.Mode.{Mode}
+use Rattle.promql_lines.specs.declared.mode.Mode.TheVariants as mode
 use Rattle.promql_run.specs.declared.format.Format.{Format}
 use Rattle.promql_run.specs.declared.format.Format.TheVariants as format
 use Rattle.promql_run.specs.Running.{format_named}
@@ -12,7 +14,7 @@ use Rattle.promql_run.specs.Running.{format_named}
 abbrev pub is_member_name : Text → Bool
 is_member_name key =
     bytes_eq key (codes "query") || bytes_eq key (codes "mode") || bytes_eq key (codes "level") || bytes_eq key (codes "width")
-    || bytes_eq key (codes "enforce") || bytes_eq key (codes "id")
+    || bytes_eq key (codes "enforce") || bytes_eq key (codes "places") || bytes_eq key (codes "id")
 
 abbrev pub member_names : Members → List Text
 member_names no_members = []
@@ -64,10 +66,19 @@ format_in asked d =
     then option_and_then (format_with (get (codes "level") d) (get (codes "width") d)) (named_in asked (get (codes "mode") d))
     else None
 
--- what a line asks for: a query, a matcher to enforce if there is one, and a format
-abbrev pub requested : Format → Text → Option (Text × Option Text × Format)
+-- a form alone has places, of the query as it is
+abbrev pub mode_with : Option Bool → Option Text → Format → Option Mode
+mode_with (Some false) matcher format = Some (mode.Plain format)
+mode_with (Some true) None format.Json = Some mode.Placed
+mode_with places matcher format = None
+
+abbrev pub mode_in : Format → Data → Option Mode
+mode_in asked d = option_and_then (mode_with (option_map_or as_bool (get (codes "places") d) (Some false)) (matcher_in d)) (format_in asked d)
+
+-- what a line asks for: a query, a matcher to enforce if there is one, and a mode
+abbrev pub requested : Format → Text → Option (Text × Option Text × Mode)
 requested asked line =
-    option_and_then (λ d. option_and_then (λ query. option_map (λ format. (query, matcher_in d, format)) (format_in asked d)) (query_in d)) (read line)
+    option_and_then (λ d. option_and_then (λ query. option_map (λ m. (query, matcher_in d, m)) (mode_in asked d)) (query_in d)) (read line)
 
 -- the first member of a line that no request has, if there is one
 abbrev pub unknown_member : Text → Option Text

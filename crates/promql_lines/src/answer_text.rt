@@ -4,6 +4,7 @@ ghost use Rattle.std.specs.Prelude.{◌≡◌, ◌⊎◌, ◌++◌, ◌≤◌, E
 ghost use Rattle.serde_json.specs.Data.{string};
 ghost use Rattle.serde_json.specs.Written.{compact_text};
 ghost use Rattle.promql_lines.specs.Batch.{value_text};
+ghost use Rattle.promql_lines.specs.declared.mode.Mode.TheVariants.{Plain};
 ghost use Rattle.promql_lines.specs.QueryErrors.{IsOutput};
 
 use crate::query_error::QueryError;
@@ -21,7 +22,7 @@ const AFTER_VALUE: &str = "}";
 const ROOM: usize = 32;
 
 /// The answer whose value has this text.
-fn answer_of_json(alloc: Global, value: &str) -> Result<String, AllocError>
+pub(crate) fn answer_of_json(alloc: Global, value: &str) -> Result<String, AllocError>
     ensures { IfOk result (λ s. string_bytes s ≡ codes "{\"ok\":" ++ (value.now ++ codes "}")) }
 {
     let room = value.len().saturating_add(ROOM);
@@ -52,7 +53,7 @@ fn answer_of_text(alloc: Global, value: &str) -> Result<String, AllocError>
 /// The answer with what is shown in a format.
 fn ok_answer(alloc: Global, format: Format, shown: &str) -> Result<String, AllocError>
     ensures { IfOk result (λ s. string_bytes s
-        ≡ codes "{\"ok\":" ++ (value_text format shown.now ++ codes "}")) }
+        ≡ codes "{\"ok\":" ++ (value_text (Plain format) shown.now ++ codes "}")) }
 {
     match format {
         Format::Pretty(_) => answer_of_text(alloc, shown),
@@ -70,7 +71,7 @@ pub(crate) fn answer_within(
 ) -> Result<String, QueryError>
     ensures short { IfOk result (λ s. length shown.now ≤ limits.now.max_output) }
     ensures ok { IfOk result (λ s. string_bytes s
-        ≡ codes "{\"ok\":" ++ (value_text format shown.now ++ codes "}")) }
+        ≡ codes "{\"ok\":" ++ (value_text (Plain format) shown.now ++ codes "}")) }
     ensures err { IfErr result (λ e. IsOutput limits.now shown.now (Err e) ⊎ (e ≡ QueryError.Memory)) }
 {
     if let Err(fault) = check_output(shown, limits) {

@@ -39,12 +39,13 @@ more input is waited for.
 A line is a JSON string, the query, or an object with the member \"query\" and,
 if wanted, \"mode\" (\"pretty\", \"line\" or \"json\"), \"level\" and \"width\" (of a
 layout: indentations before it, and the most bytes of a line), \"enforce\" (a
-matcher that is put into every selector of the query), and \"id\" (any value,
-which the answer has, too). An answer is {\"ok\":TEXT}, in mode json {\"ok\":VALUE},
-or {\"code\":NUMBER,\"error\":MESSAGE}. A query of more than --max-len bytes
-(32768), or with patterns that are together larger than --max-patterns (16000),
-is rejected before it is parsed. A TEXT, or the text of a VALUE, of more than
---max-output bytes (4194304) is an error.
+matcher that is put into every selector of the query), \"places\" (true: in mode
+json, objects of nodes and matchers have \"start\" and \"end\", in bytes), and \"id\"
+(any value, which the answer has, too). An answer is {\"ok\":TEXT}, in mode json
+{\"ok\":VALUE}, or {\"code\":NUMBER,\"error\":MESSAGE}. A query of more than --max-len
+bytes (32768), or with patterns that are together larger than --max-patterns
+(16000), is rejected before it is parsed. A TEXT, or the text of a VALUE, of
+more than --max-output bytes (4194304) is an error.
 
 Status: 0 each line was answered with ok, 4 some line has an error, 1 out of
 memory, 2 a read failed, 5 a write failed, 64 wrong arguments, 141 nobody reads

@@ -8,28 +8,29 @@ ghost use Rattle.serde_json.specs.View.{view};
 ghost use Rattle.promql_text.specs.Texts.{Text};
 ghost use Rattle.promql_ast.specs.Height.{height};
 ghost use Rattle.promql_ast.specs.View.{tree_of};
+ghost use Rattle.promql_syntax.specs.ParseAnswers.{IsAnswerTo};
 ghost use Rattle.promql_syntax.specs.declared.parser.TheConstants.{MAX_DEPTH};
 ghost use Rattle.promql_run.specs.Extensions.{HasNoExtension};
-ghost use Rattle.promql_lines.specs.BatchSteps.{IsOkLine, IsTreeAnswer};
-ghost use Rattle.promql_lines.specs.Batch.{FailsOnQuery, FailsWith, IsAsked, IsErrorText, IsLineAnswer, IsPlainAnswer, IsQueryAnswer, error_object, error_value};
-ghost use Rattle.promql_lines.specs.QueryErrors.{IsPrintOfTree, query_error_number, rejected_in};
+ghost use Rattle.promql_lines.specs.BatchSteps.{IsAskedAnswer, IsModeAnswer, IsOkLine, IsPlacedAnswer, IsTreeAnswer};
+ghost use Rattle.promql_lines.specs.Batch.{FailsOnQuery, FailsWith, IsAsked, IsAskedPrint, IsErrorText, IsLineAnswer, IsModePrint, IsPlainAnswer, IsQueryAnswer, IsToldRejection, error_object, error_value};
+ghost use Rattle.promql_lines.specs.QueryErrors.{IsPlacedPrint, IsPrintOfTree, query_error_number, rejected_in};
 ghost use Rattle.promql_lines.specs.Requests as spec;
 ghost use Rattle.promql_lines.specs.declared.settings.Settings as batches;
-ghost use Rattle.promql_report.specs.Rejecting.{IsRejection};
-ghost use Rattle.promql_run.specs.declared.format.Format.{Format};
-ghost use Rattle.promql_span.specs.declared.limits.Limits as spans;
+ghost use Rattle.promql_report.specs.Rejecting.{IsRead};
 
-use crate::answer_text::answer_within;
+use crate::answer_text::{answer_of_json, answer_within};
 use crate::enforced_line::enforced_within;
+use crate::mode::Mode;
+use crate::placed_text::placed_text;
 use crate::query_error::QueryError;
 use crate::quoted_query::quoted_query;
 use crate::rejected_query::RejectedQuery;
-use crate::request::{format_in, matcher_in, query_in, unknown_in};
+use crate::request::{matcher_in, mode_in, query_in, unknown_in};
 use crate::request_id::answer_with_id;
 use crate::settings::Settings;
 use promql_ast::{Expr, drop_expr};
 use promql_json::JsonError;
-use promql_report::rejection::{Rejection, read_query};
+use promql_report::rejection::read_query;
 use promql_run::format::Format;
 use promql_run::rendering::shown_text;
 use promql_span::limits::Limits;
@@ -76,14 +77,18 @@ fn enforced(
     }
 }
 
-/// The error of a query that is rejected.
-fn rejected(alloc: Global, query: &str, rejection: Rejection) -> QueryError
-    ensures { (limits : spans.Limits) (matcher : Option Text) (format : Format)
-        → IsRejection limits query.now rejection → FailsOnQuery limits result query.now matcher format }
+/// The tree of a query. Where it is rejected, the error tells what was expected.
+fn read_tree(alloc: Global, limits: &Limits, query: &str) -> Result<Expr, QueryError>
+    ensures ok { IfOk result (λ e. IsRead limits.now query.now (tree_of e)) }
+    ensures err { IfErr result (IsToldRejection limits.now query.now) }
 {
-    match RejectedQuery::new(alloc, query, rejection) {
-        Ok(query) => QueryError::Rejected(query),
-        Err(_) => QueryError::Memory,
+    match read_query(alloc, limits, query) {
+        Ok(Ok(expr)) => Ok(expr),
+        Ok(Err(rejection)) => match RejectedQuery::new(alloc, query, rejection) {
+            Ok(query) => Err(QueryError::Rejected(query)),
+            Err(_) => Err(QueryError::Memory),
+        },
+        Err(_) => Err(QueryError::Memory),
     }
 }
 
@@ -106,28 +111,104 @@ fn answer_tree(
     }
 }
 
-/// The answer to a query in a format, with a matcher in its selectors if there is one.
-fn answer_query(
+/// The answer with what is printed of a query's tree in a format, with a matcher in its selectors if there is one.
+fn answer_asked(
     alloc: Global,
     limits: &Limits,
     format: Format,
-    query: &str,
+    expr: Expr,
     matcher: Option<&str>,
 ) -> Result<String, QueryError>
-    ensures ok { IfOk result (λ s.
-        IsQueryAnswer limits.now (string_bytes s) query.now (option_map (λ s. s.now) matcher.entry) format) }
-    ensures err { IfErr result (λ e.
-        FailsOnQuery limits.now e query.now (option_map (λ s. s.now) matcher.entry) format) }
+    requires low { height (tree_of expr) ≤ MAX_DEPTH }
+    requires plain { HasNoExtension (tree_of expr) }
+    ensures ok { IfOk result (λ s. IsAskedAnswer limits.now (option_map (λ s. s.now) matcher.entry) format
+        (tree_of expr) (string_bytes s)) }
+    ensures err { IfErr result (λ e. IsAskedPrint limits.now (option_map (λ s. s.now) matcher.entry) format
+        (tree_of expr) (Err e)) }
 {
-    let expr = match read_query(alloc, limits, query) {
-        Ok(Ok(expr)) => expr,
-        Ok(Err(rejection)) => return Err(rejected(alloc, query, rejection)),
-        Err(_) => return Err(QueryError::Memory),
-    };
     let expr = enforced(alloc, limits, expr, matcher)?;
     let answer = answer_tree(alloc, limits, format, &expr);
     drop_expr(expr);
     answer
+}
+
+/// The answer with the JSON form of a query's tree with places.
+fn answer_form(
+    alloc: Global,
+    limits: &Limits,
+    query: &str,
+    expr: &Expr,
+) -> Result<String, QueryError>
+    ensures ok { IsAnswerTo query.now (Ok (tree_of expr.now)) → IfOk result (λ s.
+        IsPlacedAnswer limits.now query.now (tree_of expr.now) (string_bytes s)) }
+    ensures err { IsAnswerTo query.now (Ok (tree_of expr.now)) → IfErr result (λ e.
+        IsPlacedPrint limits.now query.now (tree_of expr.now) (Err e)) }
+{
+    match placed_text(alloc, limits, query, expr) {
+        Ok(text) => match answer_of_json(alloc, text.as_str()) {
+            Ok(answer) => Ok(answer),
+            Err(_) => Err(QueryError::Memory),
+        },
+        Err(error) => Err(error),
+    }
+}
+
+/// The answer with the JSON form of a query's tree with places.
+fn answer_placed(
+    alloc: Global,
+    limits: &Limits,
+    query: &str,
+    expr: Expr,
+) -> Result<String, QueryError>
+    requires { IsAnswerTo query.now (Ok (tree_of expr)) }
+    ensures ok { IfOk result (λ s. IsPlacedAnswer limits.now query.now (tree_of expr) (string_bytes s)) }
+    ensures err { IfErr result (λ e. IsPlacedPrint limits.now query.now (tree_of expr) (Err e)) }
+{
+    let answer = answer_form(alloc, limits, query, &expr);
+    drop_expr(expr);
+    answer
+}
+
+/// The answer with what is printed of a query's tree in a mode, with a matcher in its selectors if there is one.
+fn answer_mode(
+    alloc: Global,
+    limits: &Limits,
+    mode: Mode,
+    query: &str,
+    expr: Expr,
+    matcher: Option<&str>,
+) -> Result<String, QueryError>
+    requires low { height (tree_of expr) ≤ MAX_DEPTH }
+    requires plain { HasNoExtension (tree_of expr) }
+    requires answer { IsAnswerTo query.now (Ok (tree_of expr)) }
+    ensures ok { IfOk result (λ s. IsModeAnswer limits.now query.now (option_map (λ s. s.now) matcher.entry) mode
+        (tree_of expr) (string_bytes s)) }
+    ensures err { IfErr result (λ e. IsModePrint limits.now query.now (option_map (λ s. s.now) matcher.entry) mode
+        (tree_of expr) (Err e)) }
+{
+    match mode {
+        Mode::Plain(format) => answer_asked(alloc, limits, format, expr, matcher),
+        Mode::Placed => answer_placed(alloc, limits, query, expr),
+    }
+}
+
+/// The answer to a query in a mode, with a matcher in its selectors if there is one.
+fn answer_query(
+    alloc: Global,
+    limits: &Limits,
+    mode: Mode,
+    query: &str,
+    matcher: Option<&str>,
+) -> Result<String, QueryError>
+    ensures ok { IfOk result (λ s.
+        IsQueryAnswer limits.now (string_bytes s) query.now (option_map (λ s. s.now) matcher.entry) mode) }
+    ensures err { IfErr result (λ e.
+        FailsOnQuery limits.now e query.now (option_map (λ s. s.now) matcher.entry) mode) }
+{
+    match read_tree(alloc, limits, query) {
+        Ok(expr) => answer_mode(alloc, limits, mode, query, expr, matcher),
+        Err(error) => Err(error),
+    }
 }
 
 /// The error of a line with a member of this name, which no request has.
@@ -154,10 +235,10 @@ fn answer_value(alloc: Global, settings: &Settings, asked: &Value) -> Result<Str
     let Some(query) = query_in(asked) else {
         return Err(QueryError::NotARequest);
     };
-    let Some(format) = format_in(settings.format, asked) else {
+    let Some(mode) = mode_in(settings.format, asked) else {
         return Err(QueryError::NotARequest);
     };
-    answer_query(alloc, &settings.limits, format, query, matcher_in(asked))
+    answer_query(alloc, &settings.limits, mode, query, matcher_in(asked))
 }
 
 /// An object of an error's number and its message.
@@ -240,13 +321,8 @@ fn answer_text(alloc: Global, settings: &Settings, line: &str) -> Result<LineAns
     let Some(query) = quoted_query(alloc, line)? else {
         return answer_json(alloc, settings, line);
     };
-    let answer = answer_query(
-        alloc,
-        &settings.limits,
-        settings.format,
-        query.as_str(),
-        None,
-    );
+    let mode = Mode::Plain(settings.format);
+    let answer = answer_query(alloc, &settings.limits, mode, query.as_str(), None);
     plain_answer(alloc, answer)
 }
 

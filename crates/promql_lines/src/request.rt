@@ -1,10 +1,13 @@
 //! What a line of a batch asks for: docs/reference/programs.md, "Requests".
 
-ghost use Rattle.std.specs.Prelude.{◌≡◌, None, Some, is_none, map, option_map, string_bytes};
+ghost use Rattle.std.specs.Prelude.{◌≡◌, None, Some, codes, false, is_none, map, option_map, string_bytes};
+ghost use Rattle.serde_json.specs.Find.{as_bool, get};
 ghost use Rattle.serde_json.specs.View.{view};
 ghost use Rattle.std.specs.BTreeMap.{keys};
+ghost use Rattle.std.specs.Option.{option_map_or};
 ghost use Rattle.promql_lines.specs.Requests as spec;
 
+use crate::mode::Mode;
 use promql_run::format::{Format, Layout};
 use serde_json::{Map, Value};
 
@@ -26,6 +29,16 @@ pub fn matcher_in(value: &Value) -> Option<&str>
     ensures { option_map (λ s. s.now) result ≡ spec.matcher_in (view value.now) }
 {
     value.get("enforce").and_then(Value::as_str)
+}
+
+/// Whether a line asks for places; `None` where its value does not tell.
+fn places_in(value: &Value) -> Option<bool>
+    ensures { result ≡ option_map_or as_bool (get (codes "places") (view value.now)) (Some false) }
+{
+    match value.get("places") {
+        Some(places) => places.as_bool(),
+        None => Some(false),
+    }
 }
 
 /// Whether a member is a text, if it is there.
@@ -81,7 +94,10 @@ fn format_with(level: Option<&Value>, width: Option<&Value>, format: Format) -> 
 fn is_member_name(key: &str) -> bool
     ensures { result ≡ spec.is_member_name key.now }
 {
-    matches!(key, "query" | "mode" | "level" | "width" | "enforce" | "id")
+    matches!(
+        key,
+        "query" | "mode" | "level" | "width" | "enforce" | "places" | "id"
+    )
 }
 
 /// The first member that no request has, by the order of the names.
@@ -113,8 +129,8 @@ fn has_known_members(value: &Value) -> bool
     !unknown_in(value).is_some()
 }
 
-/// How the query of a line is printed where the command asks for this format; `None` where its value tells none.
-pub fn format_in(asked: Format, value: &Value) -> Option<Format>
+/// The format of a line where the command asks for this one; `None` where its value tells none.
+fn format_in(asked: Format, value: &Value) -> Option<Format>
     ensures { result ≡ spec.format_in asked (view value.now) }
 {
     if has_known_members(value) && is_text(value.get("enforce")) {
@@ -123,4 +139,23 @@ pub fn format_in(asked: Format, value: &Value) -> Option<Format>
     } else {
         None
     }
+}
+
+/// The mode of a line with this format. The JSON form alone has places, of the query as it is.
+fn mode_with(places: Option<bool>, matcher: Option<&str>, format: Format) -> Option<Mode>
+    ensures { result ≡ spec.mode_with places (option_map (λ s. s.now) matcher.entry) format }
+{
+    match (places, matcher, format) {
+        (Some(false), _, format) => Some(Mode::Plain(format)),
+        (Some(true), None, Format::Json) => Some(Mode::Placed),
+        _ => None,
+    }
+}
+
+/// How the query of a line is printed where the command asks for this format; `None` where its value does not tell.
+pub fn mode_in(asked: Format, value: &Value) -> Option<Mode>
+    ensures { result ≡ spec.mode_in asked (view value.now) }
+{
+    let format = format_in(asked, value)?;
+    mode_with(places_in(value), matcher_in(value), format)
 }
