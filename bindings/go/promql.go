@@ -195,8 +195,19 @@ func FormatQuery(query string, keepSpelling bool, options ...Option) (string, er
 
 // JSON returns the tree of the query in its JSON form (docs/reference/json.md of the repository), without a space.
 func JSON(query string) ([]byte, error) {
+	return printForm(query, C.PROMQL_JSON)
+}
+
+// PlacedJSON returns what JSON returns, with the places of nodes and matchers: query[start:end] is the part of the text that has the
+// node or the matcher, by the members "start" and "end" of its object (docs/reference/json.md of the repository, "Places"). PrintTree and
+// FromJSON take no such form.
+func PlacedJSON(query string) ([]byte, error) {
+	return printForm(query, C.PROMQL_PLACED_JSON)
+}
+
+func printForm(query string, mode C.uint32_t) ([]byte, error) {
 	text, err := textOf(query, func(query *C.char, length C.size_t, buffer *C.char, size C.size_t, result *C.struct_promql_result) {
-		C.promql_print(query, length, C.PROMQL_JSON, 0, 0, buffer, size, result)
+		C.promql_print(query, length, mode, 0, 0, buffer, size, result)
 	})
 	if err != nil {
 		return nil, err
@@ -322,8 +333,8 @@ func SetLimits(maxLen, maxPatterns uint) {
 	C.promql_set_limits(C.size_t(maxLen), C.size_t(maxPatterns))
 }
 
-// SetMaxOutput sets how many bytes what Canonical, Format and JSON return has at most, in this process: 4,194,304 before the first call. Where
-// there are more the error is ErrLongOutput.
+// SetMaxOutput sets how many bytes what Canonical, Format, JSON and PlacedJSON return has at most, in this process: 4,194,304 before the
+// first call. Where there are more the error is ErrLongOutput.
 func SetMaxOutput(bytes uint) {
 	C.promql_set_max_output(C.size_t(bytes))
 }

@@ -1,6 +1,7 @@
 package promql_test
 
 import (
+	"encoding/json"
 	"errors"
 	"fmt"
 	"os"
@@ -100,6 +101,27 @@ func TestJSON(t *testing.T) {
 		t.Errorf("%s, %v", got, err)
 	}
 	if _, err := promql.JSON("foo[18446744073709551.616]"); !errors.Is(err, promql.ErrNumberTooWide) {
+		t.Error(err)
+	}
+}
+
+func TestPlacedJSON(t *testing.T) {
+	query := "x{y='é'} / foo{a='b'}"
+	got, err := promql.PlacedJSON(query)
+	var form struct {
+		Rhs struct {
+			Start, End int
+			Matchers   []struct{ Start, End int }
+		}
+	}
+	if err != nil || json.Unmarshal(got, &form) != nil || len(form.Rhs.Matchers) != 1 {
+		t.Fatalf("%s, %v", got, err)
+	}
+	matcher := form.Rhs.Matchers[0]
+	if node, part := query[form.Rhs.Start:form.Rhs.End], query[matcher.Start:matcher.End]; node != "foo{a='b'}" || part != "a='b'" {
+		t.Errorf("%q, %q", node, part)
+	}
+	if _, err := promql.PlacedJSON("foo[18446744073709551.616]"); !errors.Is(err, promql.ErrNumberTooWide) {
 		t.Error(err)
 	}
 }

@@ -42,6 +42,8 @@ WRONG_NUMBERS = {
     "step": (-1, 2**64),
     "timestamp": (-(2**63) - 1, 2**63),
     "variadic": (-2, 2, 10),
+    "start": (-1, 2**64),
+    "end": (-1, 2**64),
 }
 VALUES = {type(None): None, bool: True, int: 0.5, str: "no such word", list: [[0.5]], dict: {"no such member": 0}}
 

@@ -58,9 +58,9 @@ def accepted_queries():
     return list(dict.fromkeys(rows.query_of(row.mode, row.text) for row in all_rows if row.code == 0))
 
 
-def forms_of(queries):
-    """The form of each query that has one."""
-    asked = "".join(json.dumps(query) + "\n" for query in queries)
+def forms_of(queries, places):
+    """The form of each query that has one, with places or without."""
+    asked = "".join(json.dumps({"query": query, "places": places}) + "\n" for query in queries)
     # (the limits of the stored run, since rows are longer than is allowed by default)
     _, *limits = (ROOT / "crates" / "promql_batch" / "args").read_text(encoding="utf-8").split()
     command = [ROOT / "dist" / "promql_batch", "json", *limits]
@@ -98,7 +98,8 @@ def forms_to_change(forms):
 
 
 def check_forms(validator):
-    forms = forms_of(accepted_queries())
+    queries = accepted_queries()
+    forms = [*forms_of(queries, places=False), *forms_of(queries, places=True)]
     for form in forms:
         check(validator.is_valid(form), f"not valid: {json.dumps(form)}")
     seen = set()

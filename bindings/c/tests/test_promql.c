@@ -177,6 +177,8 @@ static void test_texts(void)
     CHECK(gives(in_mode(PROMQL_PRETTY, 0, 8, "sum(a)/sum(b)"), PROMQL_OK, "  sum(a)\n/\n  sum(b)"));
     CHECK(gives(in_mode(PROMQL_PRETTY, 1, 100, "1+2"), PROMQL_OK, "  1 + 2"));
     CHECK(gives(in_mode(PROMQL_JSON, 0, 0, "1"), PROMQL_OK, "{\"type\":\"numberLiteral\",\"val\":\"1\"}"));
+    CHECK(gives(in_mode(PROMQL_PLACED_JSON, 0, 0, " 1"), PROMQL_OK,
+                "{\"end\":2,\"start\":1,\"type\":\"numberLiteral\",\"val\":\"1\"}"));
     CHECK(gives(of_query(CALL_CHECK, "foo"), PROMQL_OK, ""));
     CHECK(gives(marking("a +\n  * b", 6, 7), PROMQL_OK, "  * b\n  ^"));
     CHECK(gives(marking("a", 90, 80), PROMQL_OK, "a\n ^"));
@@ -197,8 +199,9 @@ static void test_errors(void)
     CHECK(gives(marking("\xff", 0, 1), PROMQL_NOT_UTF8, "input is not UTF-8"));
     const char *wide = "a[18446744073709551616ms]";
     CHECK(gives(in_mode(PROMQL_JSON, 0, 0, wide), PROMQL_NUMBER_TOO_WIDE, "number too wide for JSON"));
+    CHECK(gives(in_mode(PROMQL_PLACED_JSON, 0, 0, wide), PROMQL_NUMBER_TOO_WIDE, "number too wide for JSON"));
     CHECK(gives(of_query(CALL_CHECK, wide), PROMQL_OK, ""));
-    CHECK(gives(in_mode(3, 0, 0, "1"), PROMQL_UNKNOWN_MODE, "unknown mode"));
+    CHECK(gives(in_mode(4, 0, 0, "1"), PROMQL_UNKNOWN_MODE, "unknown mode"));
     CHECK(gives(in_mode(UINT32_MAX, 0, 0, "\xff"), PROMQL_UNKNOWN_MODE, "unknown mode"));
     CHECK(gives(in_mode(PROMQL_PRETTY, 513, 0, "1"), PROMQL_UNKNOWN_MODE, "unknown mode"));
     CHECK(gives(in_mode(PROMQL_LINE, 513, 0, "1"), PROMQL_OK, "1"));
@@ -214,6 +217,7 @@ static void test_errors(void)
     CHECK(has_place(in_mode(PROMQL_LINE, 0, 0, "a + cd"), 0, 0, 0, 0));
     CHECK(gives(in_mode(PROMQL_PRETTY, 3, 9, "a"), PROMQL_LONG_OUTPUT, "output is too long: 7 bytes, at most 5"));
     CHECK(gives(in_mode(PROMQL_JSON, 0, 0, "1"), PROMQL_LONG_OUTPUT, "output is too long: 34 bytes, at most 5"));
+    CHECK(gives(in_mode(PROMQL_PLACED_JSON, 0, 0, "1"), PROMQL_LONG_OUTPUT, "output is too long: 52 bytes, at most 5"));
     CHECK(gives(of_query(CALL_CANONICAL, "a + cd"), PROMQL_LONG_OUTPUT, "output is too long: 6 bytes, at most 5"));
     CHECK(gives(of_query(CALL_CANONICAL, "a + "), PROMQL_REJECTED, "invalid promql query"));
     promql_set_max_output(4194304);

@@ -179,14 +179,34 @@ def set_limits(*, max_len: int = 32_768, max_patterns: int = 16_000, max_output:
     _caller.set_limits(*(_number(name, limit, _MAX_LIMIT) for name, limit in limits.items()))
 
 
-def parse(query: str) -> Dict[str, Any]:
+def parse(query: str, *, places: bool = False) -> Dict[str, Any]:
     """The tree of a query in its JSON form (docs/reference/json.md), as dictionaries and lists.
 
-    Raises NumberTooWideError where the query has no JSON form. A tree that is nested more deeply than Python's recursion limit
-    allows raises RecursionError; a query is nested at most 512 times.
+    With `places` the dictionary of each node and of each matcher has `start` and `end`, too: `query[start:end]` is its part of the text.
+    `print_tree` takes no such tree. Raises NumberTooWideError where the query has no JSON form. A tree that is nested more deeply than
+    Python's recursion limit allows raises RecursionError; a query is nested at most 512 times.
     """
-    tree: Dict[str, Any] = json.loads(_text(query, _caller.json(query)))
+    tree: Dict[str, Any] = json.loads(_text(query, _caller.placed_json(query) if places else _caller.json(query)))
+    if places and not query.isascii():
+        _place_characters(tree, query)
     return tree
+
+
+def _place_characters(tree: object, query: str) -> None:
+    """Makes the places of a tree those in the characters of its query, and not in the bytes."""
+    before = {0: 0}
+    length = 0
+    for count, character in enumerate(query, 1):
+        length += len(character.encode())
+        before[length] = count
+    rest = [tree]
+    while rest:
+        it = rest.pop()
+        if isinstance(it, dict):
+            it.update((name, before[it[name]]) for name in ("start", "end") if name in it)
+            rest.extend(it.values())
+        elif isinstance(it, list):
+            rest.extend(it)
 
 
 def print_tree(tree: Mapping[str, object], *, parentheses: bool = False, width: Optional[int] = None, level: int = 0) -> str:

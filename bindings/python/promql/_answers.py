@@ -39,6 +39,7 @@ class Mode(IntEnum):
     LINE = 0
     PRETTY = 1
     JSON = 2
+    PLACED_JSON = 3
 
 
 # The status of a call that has no text, its message, and the start, the end, the line and the column of its place; all in bytes.
@@ -70,6 +71,8 @@ class Calls(Protocol):
     def format_query(self, query: str, width: int, indent_width: int, keep_spelling: int, /) -> Answer: ...
 
     def json(self, query: str, /) -> Answer: ...
+
+    def placed_json(self, query: str, /) -> Answer: ...
 
     def places(self, query: str, /) -> Answer: ...
 

@@ -12,7 +12,7 @@ from ._answers import Answer, Failure, Lines, Mode, Status, library_path
 FIRST_SIZE = 1024
 MOST_ROOM = 16_777_216
 # How much room a text of each mode has at first, for each byte of the query.
-_ROOM = {Mode.LINE: 2, Mode.PRETTY: 4, Mode.JSON: 32}
+_ROOM = {Mode.LINE: 2, Mode.PRETTY: 4, Mode.JSON: 32, Mode.PLACED_JSON: 40}
 
 
 class Result(ctypes.Structure):
@@ -158,6 +158,10 @@ def format_query(query: str, width: int, indent_width: int, keep_spelling: int) 
 
 def json(query: str) -> Answer:
     return _answer(print_query(_encoded(query), Mode.JSON))
+
+
+def placed_json(query: str) -> Answer:
+    return _answer(print_query(_encoded(query), Mode.PLACED_JSON))
 
 
 def snippet(query: str, start: int, end: int) -> Answer:

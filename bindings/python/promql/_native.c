@@ -259,6 +259,11 @@ static PyObject *json(PyObject *module, PyObject *query)
     return answer_about(module, query, (struct request){.call = PRINT, .mode = PROMQL_JSON, .room = 32});
 }
 
+static PyObject *placed_json(PyObject *module, PyObject *query)
+{
+    return answer_about(module, query, (struct request){.call = PRINT, .mode = PROMQL_PLACED_JSON, .room = 40});
+}
+
 static PyObject *format(PyObject *module, PyObject *arguments)
 {
     PyObject *query;
@@ -577,6 +582,7 @@ static PyMethodDef methods[] = {
     {"format", format, METH_VARARGS, NULL},
     {"format_query", format_query, METH_VARARGS, NULL},
     {"json", json, METH_O, NULL},
+    {"placed_json", placed_json, METH_O, NULL},
     {"places", places, METH_O, NULL},
     {"print_tree", print_tree, METH_VARARGS, NULL},
     {"rename", rename_in_query, METH_VARARGS, NULL},

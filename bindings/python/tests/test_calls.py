@@ -35,6 +35,7 @@ FUNCTIONS = (
     ("places",),
     ("explain",),
     ("json",),
+    ("placed_json",),
     ("format", 0, 20),
     ("format", 512, 2**64 - 1),
     ("snippet", 1, 3),

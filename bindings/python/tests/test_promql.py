@@ -62,6 +62,19 @@ class Texts(unittest.TestCase):
             promql.parse("a[18446744073709551616ms]")
         self.assertEqual(str(raised.exception), "number too wide for JSON")
 
+    def test_parse_with_places(self):
+        self.assertEqual(promql.parse(" 1", places=True), {"end": 2, "start": 1, "type": "numberLiteral", "val": "1"})
+        query = "- foo{a='é', b='🦀'} + sum(bar)"
+        tree = promql.parse(query, places=True)
+        selector, total = tree["lhs"]["expr"], tree["rhs"]
+        self.assertEqual([query[it["start"] : it["end"]] for it in selector["matchers"]], ["a='é'", "b='🦀'"])
+        for node, text in ((tree, query), (selector, "foo{a='é', b='🦀'}"), (total, "sum(bar)"), (total["expr"], "bar")):
+            self.assertEqual(query[node["start"] : node["end"]], text)
+        with self.assertRaises(promql.NumberTooWideError):
+            promql.parse("a[18446744073709551616ms]", places=True)
+        with self.assertRaises(promql.TreeError):
+            promql.print_tree(tree)
+
     def test_limits(self):
         query = 'a{b=~"c{3000}"}'
         with self.assertRaises(promql.TooLargeError) as raised:
@@ -288,7 +301,7 @@ class Errors(unittest.TestCase):
 
     def test_statuses(self):
         self.assertEqual(_library.print_query(b"\xff", Mode.LINE)[1].status, Status.NOT_UTF8)
-        self.assertEqual(_library.call("promql_print", 0, b"1", 1, 3, 0, 0)[1].status, Status.UNKNOWN_MODE)
+        self.assertEqual(_library.call("promql_print", 0, b"1", 1, 4, 0, 0)[1].status, Status.UNKNOWN_MODE)
         self.assertEqual(_library.call("promql_check", 0, None, 1)[1].status, Status.BAD_POINTER)
         self.assertEqual(_library.call("promql_check", 0, None, 0)[1].status, Status.REJECTED)
 

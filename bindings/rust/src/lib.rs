@@ -244,6 +244,17 @@ pub fn json(query: &str) -> Result<String, Error> {
     text_of(library::print(query, Mode::Json, 0, 0))
 }
 
+/// What [`json`] returns, with the places of nodes and matchers: `&query[start..end]` is the part of the text that has the node or the
+/// matcher, by the members `start` and `end` of its object (`docs/reference/json.md` of the repository, "Places"). [`print_tree`] takes no
+/// such form.
+///
+/// # Errors
+///
+/// Those of [`json`].
+pub fn placed_json(query: &str) -> Result<String, Error> {
+    text_of(library::print(query, Mode::PlacedJson, 0, 0))
+}
+
 /// The query on one line with a matcher in every selector, in each of its or-groups: that of a tenant, say. The matcher is written
 /// as between the braces of a selector: `namespace="team-a"`. What is returned was read again, and means the changed query
 /// (`docs/guide/rewriting.md` of the repository).
@@ -324,8 +335,8 @@ pub fn set_limits(max_len: usize, max_pattern_size: usize) {
     library::set_limits(max_len, max_pattern_size);
 }
 
-/// Sets how many bytes what [`canonical`], [`format`] and [`json`] return has at most, in this process: 4,194,304 before the first
-/// call.
+/// Sets how many bytes what [`canonical`], [`format`], [`json`] and [`placed_json`] return has at most, in this process: 4,194,304 before
+/// the first call.
 pub fn set_max_output(bytes: usize) {
     library::set_max_output(bytes);
 }

@@ -46,6 +46,7 @@ pub enum Mode {
     Line = 0,
     Pretty = 1,
     Json = 2,
+    PlacedJson = 3,
 }
 
 // The first buffer has FIRST_SIZE bytes, and ROOM_PER_BYTE more for each byte of the query: most texts have fewer, so a call is

@@ -1,8 +1,8 @@
 //! Each function, its errors, and calls side by side.
 
 use promql_proved::{
-    Error, Layout, Rejection, canonical, check, collect, enforce, format, json, print_tree, rename_label,
-    rename_metric, version,
+    Error, Layout, Rejection, canonical, check, collect, enforce, format, json, placed_json, print_tree,
+    rename_label, rename_metric, version,
 };
 use std::thread;
 
@@ -39,6 +39,15 @@ fn queries_are_laid_out() {
 fn trees_have_a_json_form() {
     assert_eq!(json("1").as_deref(), Ok(r#"{"type":"numberLiteral","val":"1"}"#));
     assert_eq!(json("foo[18446744073709551.616]"), Err(Error::NumberTooWide));
+}
+
+#[test]
+fn forms_have_places() {
+    let form = r#"{"end":2,"start":1,"type":"numberLiteral","val":"1"}"#;
+    assert_eq!(placed_json(" 1").as_deref(), Ok(form));
+    assert_eq!(placed_json("foo[18446744073709551.616]"), Err(Error::NumberTooWide));
+    let form = placed_json("x{y='é'} / foo{a='b'}").unwrap();
+    assert!(form.contains(r#"[{"end":21,"name":"a","start":16,"type":"=","value":"b"}]"#), "{form}");
 }
 
 #[test]

@@ -16,13 +16,15 @@ use Rattle.promql_lines.specs.Telling.{IsToldWith}
 use Rattle.promql_lines.specs.declared.rejected_query.RejectedQuery.{RejectedQuery}
 use Rattle.promql_lines.specs.EnforcedLines.{FailsToEnforce, IsEnforcedLine}
 use Rattle.promql_lines.specs.FormattedQueries.{FailsToFormat, IsFormattedQuery}
-use Rattle.promql_lines.specs.QueryErrors.{Gives, GivesOr, HasNoTree, IsPrintOfTree}
+use Rattle.promql_lines.specs.QueryErrors.{Gives, GivesOr, HasNoTree, IsPlacedPrint, IsPrintOfTree}
 use Rattle.promql_lines.specs.RenamedLines.{FailsToShowRenamed, IsRenamedLine, renaming}
 use Rattle.promql_lines.specs.declared.query_error.QueryError.{QueryError}
 use Rattle.promql_lines.specs.declared.query_error.QueryError.TheVariants as error
 use Rattle.promql_lines.specs.declared.renamed_line.Named.{Named}
 use Rattle.promql_lines.specs.TreeTexts.{FailsToShowForm, IsTextOfForm}
 use Rattle.promql_run.specs.declared.format.Format.{Format}
+use Rattle.promql_lines.specs.declared.mode.Mode.{Mode}
+use Rattle.promql_lines.specs.declared.mode.Mode.TheVariants as modes
 
 -- ---- what is made of bytes: a text, or an error
 
@@ -42,9 +44,14 @@ OfTree IsMade limits query made =
 
 -- ---- the calls
 
--- "print": the text in the format
-abbrev pub IsPrintOf : Limits → Text → Option Format → Result Text QueryError → Type 0
-IsPrintOf limits query = OfMode (λ format. OfTexts (IsUtf8 query) (OfTree (IsPrintOfTree limits format) limits query))
+-- the text of this query's tree in the mode
+abbrev pub PrintsMode : Limits → Text → Mode → Tree → Result Text QueryError → Type 0
+PrintsMode limits query (modes.Plain format) = IsPrintOfTree limits format
+PrintsMode limits query modes.Placed = IsPlacedPrint limits query
+
+-- "print": the text in the mode
+abbrev pub IsPrintOf : Limits → Text → Option Mode → Result Text QueryError → Type 0
+IsPrintOf limits query = OfMode (λ m. OfTexts (IsUtf8 query) (OfTree (PrintsMode limits query m) limits query))
 
 -- "enforce": the line with the matcher in every selector; one that is not valid UTF-8 is none, which counts only where the query has a
 -- tree

@@ -1,5 +1,7 @@
 -- In which formats a call prints a query, and what it renames (docs/guide/bindings.md, "Calls").
-use Rattle.std.specs.Prelude.{ℕ, ◌==◌, nat_le, if◌then◌else◌, Option, Some, None}
+use Rattle.std.specs.Prelude.{ℕ, ◌==◌, nat_le, if◌then◌else◌, Option, Some, None, option_map}
+use Rattle.promql_lines.specs.declared.mode.Mode.{Mode}
+use Rattle.promql_lines.specs.declared.mode.Mode.TheVariants.{Plain, Placed}
 use Rattle.promql_lines.specs.declared.renamed_line.Named.{Named}
 use Rattle.promql_lines.specs.declared.renamed_line.Named.TheVariants as named
 use Rattle.promql_run.specs.declared.format.Format.{Format}
@@ -11,6 +13,10 @@ format_numbered mode level width =
     if mode == 0 then Some Line
     else (if mode == 1 then (if nat_le level 512 then Some (Pretty (record { level = level; width = width })) else None)
     else (if mode == 2 then Some Json else None))
+
+-- the mode of a number: a format, or the JSON form with places
+abbrev pub mode_numbered : ℕ → ℕ → ℕ → Option Mode
+mode_numbered mode level width = if mode == 3 then Some Placed else option_map (λ format. Plain format) (format_numbered mode level width)
 
 -- what is renamed, by its number
 abbrev pub named_numbered : ℕ → Option Named

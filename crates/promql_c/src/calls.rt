@@ -4,7 +4,7 @@ ghost use Rattle.std.specs.Prelude.{◌==◌, not, Some, Ok};
 ghost use Rattle.promql_c.specs.CallResults.{Shows, ShowsSome};
 ghost use Rattle.promql_c.specs.Calls.{IsEnforceOf, IsExplainOf, IsFormattedOf, IsNothing, IsPrintOf, IsRenameOf, IsSnippetOf, IsTextOf, IsTreePrintOf};
 ghost use Rattle.promql_c.specs.CollectedTexts.{IsCollectedText};
-ghost use Rattle.promql_c.specs.Formats.{format_numbered, named_numbered};
+ghost use Rattle.promql_c.specs.Formats.{format_numbered, mode_numbered, named_numbered};
 ghost use Rattle.promql_c.specs.PlacesText.{IsPlacesText};
 
 use crate::call_result::{CallResult, show, show_text};
@@ -12,11 +12,13 @@ use crate::collecting::collect_query;
 use crate::enforcing::enforce_query;
 use crate::explaining::explain_query;
 use crate::formatting::format_bytes;
+use crate::modes::{format_of, mode_of};
 use crate::placing::place_query;
-use crate::printing::{check_query, format_of, mark_query, print_query};
+use crate::printing::{check_query, mark_query, print_query};
 use crate::renaming::{named_of, rename_query};
 use crate::tree_printing::print_form;
 use promql_formatter::FormatOptions;
+use promql_lines::mode::Mode;
 use promql_run::format::Format;
 use promql_span::Span;
 use promql_span::limits::Limits;
@@ -25,9 +27,9 @@ use std::alloc::Global;
 /// The version of the calls: a new call, or a new status of one, has a new version.
 pub const CALLS_VERSION: &str = "0.5.0";
 
-/// Prints a query in the mode of this number: 0 on one line, 1 laid out, 2 as JSON. `level` counts indentations of two
-/// spaces, at most 512, and `width` is the most bytes that a line has, its indentation not counted; both are for a
-/// layout alone.
+/// Prints a query in the mode of this number: 0 on one line, 1 laid out, 2 as JSON, 3 as JSON with the places of nodes and
+/// matchers. `level` counts indentations of two spaces, at most 512, and `width` is the most bytes that a line has, its
+/// indentation not counted; both are for a layout alone.
 pub fn print(
     alloc: Global,
     limits: &Limits,
@@ -37,18 +39,18 @@ pub fn print(
     width: usize,
     buffer: &mut [u8],
 ) -> CallResult
-    ensures { ShowsSome (IsPrintOf limits.now query.now (format_numbered mode level width))
+    ensures { ShowsSome (IsPrintOf limits.now query.now (mode_numbered mode level width))
         result buffer.old buffer.new }
 {
-    let made = print_query(alloc, limits, format_of(mode, level, width), query);
+    let made = print_query(alloc, limits, mode_of(mode, level, width), query);
     show(alloc, made, buffer)
 }
 
 /// Prints a query on one line, which is the line of its normal form too: the key of a cache (docs/guide/cache.md).
 pub fn canonical(alloc: Global, limits: &Limits, query: &[u8], buffer: &mut [u8]) -> CallResult
-    ensures { ShowsSome (IsPrintOf limits.now query.now (Some Format.Line)) result buffer.old buffer.new }
+    ensures { ShowsSome (IsPrintOf limits.now query.now (Some (Mode.Plain Format.Line))) result buffer.old buffer.new }
 {
-    let made = print_query(alloc, limits, Some(Format::Line), query);
+    let made = print_query(alloc, limits, Some(Mode::Plain(Format::Line)), query);
     show(alloc, made, buffer)
 }
 
@@ -141,7 +143,7 @@ pub fn snippet(
     show(alloc, made, buffer)
 }
 
-/// Prints the tree whose JSON form is given (docs/reference/json.md, "From JSON to a text"), in the modes of `print`; with
+/// Prints the tree whose JSON form is given (docs/reference/json.md, "From JSON to a text"), in the modes 0 to 2 of `print`; with
 /// parentheses where the tree needs them, if `parentheses` is not 0. The text is within the limits of a query, and means the
 /// tree.
 pub fn print_tree(

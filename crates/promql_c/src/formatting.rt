@@ -6,9 +6,9 @@ ghost use Rattle.promql_lines.specs.FormattedQueries.{FailsToFormat, IsFormatted
 ghost use Rattle.promql_lines.specs.QueryErrors.{GivesOr};
 ghost use Rattle.promql_c.specs.Calls.{IsFormattedOf};
 
-use crate::printing::within;
 use promql_formatter::FormatOptions;
 use promql_lines::formatted_query::formatted_query;
+use promql_lines::output::output_within;
 use promql_lines::query_error::QueryError;
 use promql_span::limits::Limits;
 use std::alloc::Global;
@@ -24,7 +24,7 @@ fn format_text(
         (on_result (λ s. string_bytes s) result) }
 {
     match formatted_query(alloc, limits, options, text) {
-        Ok(layout) => within(limits, layout),
+        Ok(layout) => output_within(limits, layout),
         Err(error) => Err(error),
     }
 }

@@ -7,8 +7,9 @@ ghost use Rattle.promql_run.specs.declared.format.Format.TheVariants.{Line};
 ghost use Rattle.promql_c.specs.CallResults.{Shows, ShowsSome};
 ghost use Rattle.promql_c.specs.Calls.{IsEnforceOf, IsExplainOf, IsFormattedOf, IsNothing, IsPrintOf, IsRenameOf, IsSnippetOf, IsTextOf, IsTreePrintOf};
 ghost use Rattle.promql_c.specs.CollectedTexts.{IsCollectedText};
-ghost use Rattle.promql_c.specs.Formats.{format_numbered, named_numbered};
+ghost use Rattle.promql_c.specs.Formats.{format_numbered, mode_numbered, named_numbered};
 ghost use Rattle.promql_c.specs.PlacesText.{IsPlacesText};
+ghost use Rattle.promql_lines.specs.declared.mode.Mode.TheVariants.{Plain};
 ghost use Rattle.promql_c.specs.declared.calls.TheConstants.{CALLS_VERSION};
 
 pub use call_result::CallResult;
@@ -22,6 +23,7 @@ mod collecting;
 mod enforcing;
 mod explaining;
 mod formatting;
+mod modes;
 mod placing;
 mod printing;
 mod renaming;
@@ -39,7 +41,7 @@ pub extern "C" fn call_print(
     buffer: &mut [u8],
     shown: &mut CallResult,
 )
-    ensures { ShowsSome (IsPrintOf limits.now query.now (format_numbered mode level width))
+    ensures { ShowsSome (IsPrintOf limits.now query.now (mode_numbered mode level width))
         shown.new buffer.old buffer.new }
 {
     *shown = calls::print(alloc, limits, query, mode, level, width, buffer);
@@ -54,7 +56,7 @@ pub extern "C" fn call_canonical(
     buffer: &mut [u8],
     shown: &mut CallResult,
 )
-    ensures { ShowsSome (IsPrintOf limits.now query.now (Some Line)) shown.new buffer.old buffer.new }
+    ensures { ShowsSome (IsPrintOf limits.now query.now (Some (Plain Line))) shown.new buffer.old buffer.new }
 {
     *shown = calls::canonical(alloc, limits, query, buffer);
 }

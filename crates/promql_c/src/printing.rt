@@ -1,55 +1,27 @@
-//! What a call makes of a query: its text in a format, nothing where it is accepted, or its line with a mark.
+//! What a call makes of a query: its text in a mode, nothing where it is accepted, or its line with a mark.
 
-ghost use Rattle.std.specs.Prelude.{◌≡◌, ◌≤◌, string_bytes};
+ghost use Rattle.std.specs.Prelude.{◌≤◌, Ok, string_bytes};
 ghost use Rattle.promql_grammar.specs.Results.{on_result};
 ghost use Rattle.promql_ast.specs.Height.{height};
 ghost use Rattle.promql_ast.specs.View.{tree_of};
+ghost use Rattle.promql_syntax.specs.ParseAnswers.{IsAnswerTo};
 ghost use Rattle.promql_syntax.specs.declared.parser.TheConstants.{MAX_DEPTH};
 ghost use Rattle.promql_run.specs.Extensions.{HasNoExtension};
-ghost use Rattle.promql_lines.specs.QueryErrors.{Gives, IsOutput, IsPrintOfTree};
-ghost use Rattle.promql_c.specs.Calls.{IsNothing, IsPrintOf, IsSnippetOf, IsTextOf, OfTree};
-ghost use Rattle.promql_c.specs.Formats.{format_numbered};
+ghost use Rattle.promql_lines.specs.QueryErrors.{Gives, IsPrintOfTree};
+ghost use Rattle.promql_c.specs.Calls.{IsNothing, IsPrintOf, IsSnippetOf, IsTextOf, OfTree, PrintsMode};
 
 use promql_ast::{Expr, drop_expr};
 use promql_json::JsonError;
+use promql_lines::mode::Mode;
+use promql_lines::output::output_within;
+use promql_lines::placed_text::placed_text;
 use promql_lines::query_error::QueryError;
 use promql_lines::query_tree::query_tree;
-use promql_run::format::{Format, Layout};
+use promql_run::format::Format;
 use promql_run::rendering::shown_text;
 use promql_span::Span;
-use promql_span::limits::{Limits, check_output};
+use promql_span::limits::Limits;
 use std::alloc::Global;
-
-/// The greatest level of a layout.
-const MAX_LEVEL: u32 = 512;
-
-/// The format of a mode's number; `None` where there is none. Only a layout has a level and a width.
-pub(crate) fn format_of(mode: u32, level: u32, width: usize) -> Option<Format>
-    ensures { result ≡ format_numbered mode level width }
-{
-    match mode {
-        0 => Some(Format::Line),
-        1 => {
-            if level > MAX_LEVEL {
-                return None;
-            }
-            let level = level as u16;
-            Some(Format::Pretty(Layout { level, width }))
-        }
-        2 => Some(Format::Json),
-        _ => None,
-    }
-}
-
-/// The text, if it is within the limits.
-pub(crate) fn within(limits: &Limits, text: String) -> Result<String, QueryError>
-    ensures { IsOutput limits.now (string_bytes text) (on_result (λ s. string_bytes s) result) }
-{
-    match check_output(text.as_str(), limits) {
-        Ok(()) => Ok(text),
-        Err(fault) => Err(QueryError::LongOutput(fault)),
-    }
-}
 
 /// The text of a tree in a format.
 fn print_tree(
@@ -63,46 +35,60 @@ fn print_tree(
     ensures { IsPrintOfTree limits.now format (tree_of expr.now) (on_result (λ s. string_bytes s) result) }
 {
     match shown_text(alloc, format, expr) {
-        Ok(Some(text)) => within(limits, text),
+        Ok(Some(text)) => output_within(limits, text),
         Ok(None) => Err(QueryError::NoForm(JsonError::NumberTooWide)),
         Err(_) => Err(QueryError::Memory),
     }
 }
 
-/// The text of a query's tree in a format.
-fn print_text(
+/// The text of a query's tree in a mode.
+fn print_in(
     alloc: Global,
     limits: &Limits,
-    format: Format,
+    mode: Mode,
     text: &str,
+    expr: &Expr,
 ) -> Result<String, QueryError>
-    ensures { OfTree (IsPrintOfTree limits.now format) limits.now text.now (on_result (λ s. string_bytes s) result) }
+    requires low { height (tree_of expr.now) ≤ MAX_DEPTH }
+    requires plain { HasNoExtension (tree_of expr.now) }
+    requires answer { IsAnswerTo text.now (Ok (tree_of expr.now)) }
+    ensures { PrintsMode limits.now text.now mode (tree_of expr.now) (on_result (λ s. string_bytes s) result) }
+{
+    match mode {
+        Mode::Plain(format) => print_tree(alloc, limits, format, expr),
+        Mode::Placed => placed_text(alloc, limits, text, expr),
+    }
+}
+
+/// The text of a query in a mode.
+fn print_text(alloc: Global, limits: &Limits, mode: Mode, text: &str) -> Result<String, QueryError>
+    ensures { OfTree (PrintsMode limits.now text.now mode) limits.now text.now (on_result (λ s. string_bytes s) result) }
 {
     let expr = match query_tree(alloc, limits, text) {
         Ok(expr) => expr,
         Err(error) => return Err(error),
     };
-    let shown = print_tree(alloc, limits, format, &expr);
+    let shown = print_in(alloc, limits, mode, text, &expr);
     drop_expr(expr);
     shown
 }
 
-/// The text of a query's tree in the format that was asked for.
+/// The text of a query in the mode that was asked for.
 pub(crate) fn print_query(
     alloc: Global,
     limits: &Limits,
-    asked: Option<Format>,
+    asked: Option<Mode>,
     query: &[u8],
 ) -> Result<String, QueryError>
     ensures { IsPrintOf limits.now query.now asked (on_result (λ s. string_bytes s) result) }
 {
-    let Some(format) = asked else {
+    let Some(mode) = asked else {
         return Err(QueryError::UnknownMode);
     };
     let Ok(text) = str::from_utf8(query) else {
         return Err(QueryError::NotUtf8);
     };
-    print_text(alloc, limits, format, text)
+    print_text(alloc, limits, mode, text)
 }
 
 /// Nothing where a query is accepted.

@@ -4,7 +4,7 @@ ghost use Rattle.std.specs.Prelude.{string_bytes};
 ghost use Rattle.promql_grammar.specs.Results.{on_result};
 ghost use Rattle.promql_c.specs.Calls.{IsTreePrintOf, PrintsForm};
 
-use crate::printing::within;
+use promql_lines::output::output_within;
 use promql_lines::query_error::QueryError;
 use promql_lines::tree_text::tree_text;
 use promql_run::format::Format;
@@ -22,7 +22,7 @@ fn print_text(
     ensures { PrintsForm limits.now form.now parens format (on_result (λ s. string_bytes s) result) }
 {
     match tree_text(alloc, limits, format, parens, form) {
-        Ok(text) => within(limits, text),
+        Ok(text) => output_within(limits, text),
         Err(error) => Err(error),
     }
 }

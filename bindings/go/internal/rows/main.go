@@ -61,6 +61,10 @@ func answer(it call) string {
 		text, err = promql.Canonical(it.query)
 	case it.mode == 1:
 		text, err = promql.Format(it.query, promql.Width(it.width), promql.Level(uint16(it.level)))
+	case it.mode == 3:
+		var json []byte
+		json, err = promql.PlacedJSON(it.query)
+		text = string(json)
 	default:
 		var json []byte
 		json, err = promql.JSON(it.query)

@@ -10,7 +10,7 @@
 mod random;
 mod trees;
 
-use promql_proved::{Error, Layout, canonical, check, enforce, format, json, set_limits};
+use promql_proved::{Error, Layout, canonical, check, enforce, format, json, placed_json, set_limits};
 use random::Random;
 use std::io::{self, BufWriter, Write};
 use std::{env, fs, str, thread};
@@ -54,6 +54,7 @@ fn answer(call: &Call<'_>) -> Vec<u8> {
         (4, _) => enforce(query, str::from_utf8(call.matcher).expect("a matcher of a row is UTF-8")),
         (1, _) | (0, 0) => canonical(query),
         (0, 1) => format(query, Layout { width: call.width, level: call.level }),
+        (0, 3) => placed_json(query),
         _ => json(query),
     };
     match text {
