@@ -9,19 +9,18 @@ use Rattle.serde_json.specs.Find.{as_number, as_u64, get}
 use Rattle.serde_json.specs.View.{items_view}
 use Rattle.serde_json.specs.declared.value.Value.{Value}
 use Rattle.promql_text.specs.Texts.{Text}
-use Rattle.promql_json.specs.FormMisfits.{AsksOf, exactly, is_pattern, Form, by_bool, by_row, modifier, IsNot, MisfitAt, cardinality, grouped, here, inside, many_to_one, node, node_named, nodes, not_null, one, one_to_many, or_null, row_of, typed, word}
+use Rattle.promql_json.specs.FormMisfits.{AsksOf, exactly, Form, by_bool, by_match, by_no_match, by_row, matcher, modifier, IsNot, MisfitAt, cardinality, grouped, here, inside, many_to_one, node, node_named, nodes, not_null, one, one_to_many, or_null, row_of, typed, word}
 use Rattle.promql_token.specs.declared.ids.TheConstants.{T_EQL_REGEX, T_NEQ_REGEX}
 use Rattle.promql_label.specs.Operators.{is_pattern_id}
-use Rattle.promql_label.specs.PlainMatchers.{Operator, matches, matches_not}
 use Rattle.promql_ast.specs.Shifts.{Moment, at_start, at_end, at_time}
 use Rattle.promql_ast.specs.Tree.{Tree}
 use Rattle.promql_json.proofs.ReadForms.{type_found}
 use Rattle.promql_json.specs.Json.{json_value, type_name}
-use Rattle.promql_json.specs.JsonParts.{operator_json, start_or_end, timestamp, token_json, whole}
+use Rattle.promql_json.specs.JsonParts.{start_or_end, timestamp, token_json, whole}
 use Rattle.promql_json.specs.MembersLeft.{IsIn, IsTypeIn, IsTyped}
 use Rattle.promql_json.specs.Readable.{ReadableMoment, is_millis}
 use Rattle.promql_json.specs.declared.from_error.Expected.{Expected}
-use Rattle.promql_json.specs.declared.from_error.Expected.TheVariants.{Object}
+use Rattle.promql_json.specs.declared.from_error.Expected.TheVariants.{Object, Pattern}
 use Rattle.promql_json.specs.declared.from_error.ReadError.{ReadError}
 use Rattle.promql_json.specs.declared.from_error.ReadError.TheVariants.{Memory, Misfit}
 
@@ -102,14 +101,15 @@ untyped_node n d found known none name is = subst (λ x. row_of x (nodes n) ≡ 
 
 -- ---- operators and times
 
-pick : (id : ℕ) (a b : Bool) → (id == T_EQL_REGEX) ≡ a → (id == T_NEQ_REGEX) ≡ b → a || (b || false) ≡ true
-    → (op : Operator) × (is_pattern op ≡ true) × (token_json id ≡ operator_json op)
-pick id true b is other h = (matches [], refl, ap token_json ((Decides-eqb id T_EQL_REGEX).0 is))
-pick id false true is other h = (matches_not [], refl, ap token_json ((Decides-eqb id T_NEQ_REGEX).0 other))
-pick id false false is other h = absurd (true≢false (sym h))
+pick : (d : Data) (id : ℕ) (a b : Bool) → (id == T_EQL_REGEX) ≡ a → (id == T_NEQ_REGEX) ≡ b → a || (b || false) ≡ true
+    → get (codes "type") d ≡ Some (token_json id) → AsksOf matcher d (codes "value") (one Pattern)
+pick d id true b is other h has = by_match d (has ∙ ap (λ k. Some (token_json k)) ((Decides-eqb id T_EQL_REGEX).0 is))
+pick d id false true is other h has = by_no_match d (has ∙ ap (λ k. Some (token_json k)) ((Decides-eqb id T_NEQ_REGEX).0 other))
+pick d id false false is other h has = absurd (true≢false (sym h))
 
-pub pattern_operator : (id : ℕ) → is_pattern_id id ≡ true → (op : Operator) × (is_pattern op ≡ true) × (token_json id ≡ operator_json op)
-pattern_operator id is = pick id (id == T_EQL_REGEX) (id == T_NEQ_REGEX) refl refl is
+-- the value of a matcher of a pattern is asked to be one
+pub pattern_asked : (d : Data) (id : ℕ) → is_pattern_id id ≡ true → get (codes "type") d ≡ Some (token_json id) → AsksOf matcher d (codes "value") (one Pattern)
+pattern_asked d id is has = pick d id (id == T_EQL_REGEX) (id == T_NEQ_REGEX) refl refl is has
 
 pub moment_word : (m : Moment) → timestamp (Some m) ≡ null → start_or_end (Some m) ≢ null
 moment_word at_start h is = cc

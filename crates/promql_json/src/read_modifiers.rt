@@ -12,10 +12,11 @@ ghost use Rattle.promql_kind.specs.ModifierViews.{cardinality_of, clause_of, fil
 ghost use Rattle.promql_kind.specs.Modifiers.{Cardinality, Clause, Matching, fills, is_including_some};
 ghost use Rattle.promql_ast.specs.OptionalModifiers.{returns_bool};
 ghost use Rattle.promql_json.specs.JsonParts as spec;
-ghost use Rattle.promql_json.specs.Readable.{ReadableFill, ReadableMatching};
+ghost use Rattle.promql_json.specs.Readable.{ReadableMatching};
+ghost use Rattle.promql_json.specs.ReadableBelow.{ReadableFill};
 ghost use Rattle.promql_json.specs.FormMisfits.{IsNot, cardinality, exactly, fill_values, function as function_form, grouped, list_of, modifier, no_list, node_named, one, or_null, word};
 ghost use Rattle.promql_json.specs.MembersLeft.{IsAlone, IsIn, IsRow};
-ghost use Rattle.promql_json.specs.declared.from_error.Expected.TheVariants.{Cardinality as CardinalityWord, EmptyList, FunctionName, FunctionPart};
+ghost use Rattle.promql_json.specs.declared.from_error.Expected.TheVariants.{Cardinality as CardinalityWord, EmptyList, FunctionName, FunctionPart, List as ListThere};
 ghost use Rattle.promql_json.specs.declared.from_error.ReadError.TheVariants.{Memory};
 
 use crate::fields::Fields;
@@ -232,7 +233,7 @@ fn expect_types(alloc: Global, value: &Value, types: &[ValueType]) -> Result<(),
     ensures ok { OnOk result (view value.now ≡ spec.list (map spec.type_json types.now)) }
     ensures err { IfErr result (λ e. e ≢ Memory → view value.now ≢ spec.list (map spec.type_json types.now)) }
     ensures place { IfErr result (λ e. view value.now ≢ spec.list (map spec.type_json types.now)
-        → IsIn (list_of (one FunctionPart)) (view value.now) e ⊎ IsIn (exactly (spec.list (map spec.type_json types.now))) (view value.now) e) }
+        → IsIn (list_of ListThere (one FunctionPart)) (view value.now) e ⊎ IsIn (exactly (spec.list (map spec.type_json types.now))) (view value.now) e) }
 {
     let list = read_list(alloc, value)?;
     if list.len() != types.len() {
