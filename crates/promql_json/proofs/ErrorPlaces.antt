@@ -1,6 +1,7 @@
 -- Where the error of a reader is.
 use Rattle.std.proofs.Common.{ℕ, ◌+◌, ◌==◌, ◌||◌, ◌⊎◌, inl, true≢false, length, arith, ℤ, pos, negsuc, int_lt, option_and_then, Ok, Err, Bool, true, false, if◌then◌else◌, ◌≡◌, ◌≢◌, List, [], ◌∷◌, ◌++◌, Option, Some, None, string_bytes, codes, refl, sym, ap, subst, ◌∙◌}
-use Rattle.std.specs.Prelude.{Result, IfErr, IfOk, IsErr, OnErr}
+use Rattle.std.specs.Prelude.{FitsSigned, Result, IfErr, IfOk, IsErr, OnErr}
+use Rattle.std.specs.Int.{w64}
 use Rattle.std.specs.Str.{bytes_eq}
 use Rattle.std.proofs.lemmas.Slice.Eq.{bytes_eq-Decides}
 use Rattle.std.proofs.lemmas.Bool.Decides.{Decides-eqb}
@@ -18,7 +19,7 @@ use Rattle.promql_json.proofs.ReadForms.{type_found}
 use Rattle.promql_json.specs.Json.{json_value, type_name}
 use Rattle.promql_json.specs.JsonParts.{start_or_end, timestamp, token_json, whole}
 use Rattle.promql_json.specs.MembersLeft.{IsIn, IsTypeIn, IsTyped}
-use Rattle.promql_json.specs.Readable.{ReadableMoment, is_millis}
+use Rattle.promql_json.specs.Readable.{ReadableMoment}
 use Rattle.promql_json.specs.declared.from_error.Expected.{Expected}
 use Rattle.promql_json.specs.declared.from_error.Expected.TheVariants.{Object, Pattern}
 use Rattle.promql_json.specs.declared.from_error.ReadError.{ReadError}
@@ -46,12 +47,12 @@ all_by_kind f d P (Err e) other place = by_kind f d e P other place
 
 -- ---- offsets
 
-no_millis : (d : Data) → option_and_then as_u64 (as_number d) ≡ None → ((z : ℤ) → int_lt z (pos 0) ≡ true → d ≢ whole z) → (z : ℤ) → is_millis z ≡ true → d ≢ whole z
+no_millis : (d : Data) → option_and_then as_u64 (as_number d) ≡ None → ((z : ℤ) → int_lt z (pos 0) ≡ true → d ≢ whole z) → (z : ℤ) → FitsSigned w64 z → d ≢ whole z
 no_millis d none below (pos n) fits h = let some = rw h at none in absurd cc
 no_millis d none below (negsuc n) fits h = below (negsuc n) refl h
 
 pub offset_in : {T : Type 0} (f : Form) (d : Data) (r : Result T ReadError) → option_and_then as_u64 (as_number d) ≡ None
-    → OnErr r ((z : ℤ) → int_lt z (pos 0) ≡ true → d ≢ whole z) → IfErr r (λ e. ((z : ℤ) → is_millis z ≡ true → d ≢ whole z) → IsIn f d e) → IfErr r (IsIn f d)
+    → OnErr r ((z : ℤ) → int_lt z (pos 0) ≡ true → d ≢ whole z) → IfErr r (λ e. ((z : ℤ) → FitsSigned w64 z → d ≢ whole z) → IsIn f d e) → IfErr r (IsIn f d)
 offset_in f d (Ok x) none below place = tt
 offset_in f d (Err e) none below place = place (no_millis d none below)
 
@@ -154,7 +155,7 @@ no_time d w (Some at_start) full other same h = full h
 no_time d w (Some at_end) full other same h = full h
 no_time d w (Some (at_time t)) full other same h = other same
 
-pub no_other_time : (d : Data) (at : Option Moment) → d ≢ null → ((z : ℤ) → is_millis z ≡ true → d ≢ whole z) → ReadableMoment at → null ≡ start_or_end at → d ≢ timestamp at
+pub no_other_time : (d : Data) (at : Option Moment) → d ≢ null → ((z : ℤ) → FitsSigned w64 z → d ≢ whole z) → ReadableMoment at → null ≡ start_or_end at → d ≢ timestamp at
 no_other_time d None full none fine same h = full h
 no_other_time d (Some at_start) full none fine same h = full h
 no_other_time d (Some at_end) full none fine same h = full h

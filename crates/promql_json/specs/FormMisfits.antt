@@ -1,6 +1,7 @@
 -- Where a value is no form, and what was expected there (docs/reference/json.md, "Members" and "From JSON to a tree").
-use Rattle.std.specs.Prelude.{◌≡◌, ◌≢◌, ℕ, ◌+◌, ℤ, List, [], ◌∷◌, ◌++◌, ◌||◌, Bool, true, false, if◌then◌else◌, Option, Some, None, codes, slice_get}
+use Rattle.std.specs.Prelude.{◌≡◌, ◌≢◌, ℕ, ◌+◌, ℤ, List, [], ◌∷◌, ◌++◌, ◌||◌, Bool, true, false, if◌then◌else◌, Option, Some, None, codes, slice_get, FitsSigned}
 use Rattle.std.specs.Fmt.{decimal}
+use Rattle.std.specs.Int.{w64}
 use Rattle.std.specs.Option.{option_map_or}
 use Rattle.std.specs.Str.{bytes_eq}
 use Rattle.serde_json.specs.Data.{Data, null, boolean, string, array, object, Items, no_items, item, Members}
@@ -15,7 +16,7 @@ use Rattle.promql_kind.specs.Functions.{Signature, function_named, name_of}
 use Rattle.promql_kind.specs.Modifiers.{Cardinality}
 use Rattle.promql_ast.specs.Shifts.{Moment}
 use Rattle.promql_json.specs.JsonParts.{cardinality_json, function_json, millis, number_json, operator_json, start_or_end, token_json, whole}
-use Rattle.promql_json.specs.Readable.{is_binary_operator, is_millis}
+use Rattle.promql_json.specs.Readable.{is_binary_operator}
 use Rattle.promql_json.specs.declared.from_error.Expected.{Expected}
 use Rattle.promql_json.specs.declared.from_error.Expected.TheVariants as kind
 
@@ -24,20 +25,15 @@ pub data Form : Type 0 where
   -- a node of at most so many nodes above one another, and one of this type with so many below it
   node : ℕ → Form
   node_named : Text → ℕ → Form
-  matcher : Form
-  modifier : Form
-  cardinality : Form
+  matcher modifier cardinality fill_values function : Form
   -- the object of a cardinality that has this member
   grouped : Text → Form
-  fill_values : Form
-  function : Form
   -- a list that is as expected, of these, and one without an item
   list_of : Expected → Form → Form
   no_list : Form
   or_null : Form → Form
   -- a value by itself, and one that is a text
-  one : Expected → Form
-  word : Expected → Form
+  one word : Expected → Form
   -- this very value, which is part of a function's
   exactly : Data → Form
 
@@ -118,7 +114,7 @@ IsNot kind.EmptyList d = d ≢ array no_items
 IsNot kind.Text d = (s : Text) → d ≢ string s
 IsNot kind.Flag d = (b : Bool) → d ≢ boolean b
 IsNot kind.Length d = (n : ℕ) → d ≢ whole (millis n)
-IsNot kind.Millis d = (z : ℤ) → is_millis z ≡ true → d ≢ whole z
+IsNot kind.Millis d = (z : ℤ) → FitsSigned w64 z → d ≢ whole z
 IsNot kind.Number d = (n : Number) → IsNumber n → d ≢ number_json n
 IsNot kind.Aggregator d = (op : ℕ) → is_aggregator op ≡ true → d ≢ token_json op
 IsNot kind.Operator d = (op : ℕ) → is_binary_operator op ≡ true → d ≢ token_json op

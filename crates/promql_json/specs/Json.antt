@@ -96,7 +96,8 @@ selector_fault (selector name ms offset at) = width_fault (shift_millis offset)
 
 -- what is at fault in a node by itself
 abbrev pub own_fault : Tree → Option JsonError
-own_fault (subquery e offset at range step) = option_or (width_fault (shift_millis offset)) (option_or (width_fault (millis range)) (step_fault step))
+own_fault (subquery e offset at range step) =
+    option_or (width_fault (shift_millis offset)) (option_or (width_fault (millis range)) (step_fault step))
 own_fault (vector s) = selector_fault s
 own_fault (matrix s range mode) = option_or (selector_fault s) (width_fault (millis range))
 own_fault (extension name gives es) = Some Extension
@@ -104,7 +105,7 @@ own_fault _ = None
 
 -- the first fault at a tree's nodes, in the order in which a walk comes to them
 abbrev pub first_fault : Tree → Option JsonError
-first_fault = folded None option_or (λ t below. option_or (own_fault t) below)
+first_fault = folded None option_or (λ t. option_or (own_fault t))
 
 -- this holds of each node of a tree
 abbrev pub AtEachNode : (Tree → Type 0) → Tree → Type 0
@@ -126,4 +127,4 @@ node_json t = unless (first_fault t) (object (node_members t))
 -- of a list of arguments by itself
 abbrev pub args_json : Trees → Result Data JsonError
 args_json ts =
-    unless (all_within None option_or (λ t below. option_or (own_fault t) below) ts) (object (members ((codes "args", array (args_items ts)) ∷ [])))
+    unless (all_within None option_or (λ t. option_or (own_fault t)) ts) (object (members ((codes "args", array (args_items ts)) ∷ [])))

@@ -1,5 +1,6 @@
 -- Which trees are read from their form (docs/reference/json.md, "From JSON to a tree").
-use Rattle.std.specs.Prelude.{◌≡◌, ◌≢◌, ◌≤◌, ◌^◌, ◌&&◌, ℕ, ℤ, pos, neg_ℤ, int_lt, int_le, Bool, true, not, [], ◌∷◌, Option, Some, None, IfSome, Ok}
+use Rattle.std.specs.Prelude.{◌≡◌, ◌≢◌, ◌≤◌, ◌&&◌, ℕ, Bool, true, not, [], ◌∷◌, Option, Some, None, IfSome, Ok, FitsSigned}
+use Rattle.std.specs.Int.{w64}
 use Rattle.std.specs.List.{AllByRecursion}
 use Rattle.serde_json.specs.Data.{Data}
 use Rattle.promql_text.specs.Values.{IsNumber}
@@ -21,12 +22,9 @@ ReadableMatcher (plain_matcher (matches w) name value) = ¬ Allows value rejecte
 ReadableMatcher (plain_matcher (matches_not w) name value) = ¬ Allows value rejected
 ReadableMatcher _ = Unit {0}
 
--- 64 bits with a sign
-abbrev pub is_millis : ℤ → Bool
-is_millis z = int_le (neg_ℤ (pos (2 ^ 63))) z && int_lt z (pos (2 ^ 63))
-
+-- milliseconds of 64 bits with a sign
 abbrev pub ReadableMoment : Option Moment → Type 0
-ReadableMoment (Some (at_time t)) = is_millis t ≡ true
+ReadableMoment (Some (at_time t)) = FitsSigned w64 t
 ReadableMoment _ = Unit {0}
 
 abbrev pub ReadableMatching : Option Matching → Type 0
