@@ -16,13 +16,7 @@ line_is_enforced limits query matcher line h =
     let by = shown.1.1 in (
       by.matcher,
       by.is,
-      record {
-        tree = h.0;
-        parsed = h.1.1;
-        limited = by.limited;
-        is = subst (λ u. line ≡ text u) by.enforces shown.3.0;
-        means = subst (Means line) by.enforces shown.3.1;
-      },
+      (h.0, h.1.1, by.limited, (subst (λ u. line ≡ text u) by.enforces shown.3.0, subst (Means line) by.enforces shown.3.1)),
     )
 
 abbrev body_of : Result Text JsonError → Text
