@@ -23,12 +23,11 @@ IsEnforced query c line = HasEnforced query c (λ u. IsLineOf u line)
 abbrev pub HasBareInfo : Text → Type 0
 HasBareInfo query = (t : Tree) × IsAnswerTo query (Ok t) × (has_bare_info t ≡ true)
 
--- an error of a tree alone
+-- an error of a tree alone: of no query, and of no line
 abbrev pub IsOfTrees : EnforceError → Type 0
-IsOfTrees error.Memory = Unit {0}
-IsOfTrees error.MetricName = Unit {0}
-IsOfTrees error.Info = Unit {0}
-IsOfTrees _ = ⊥
+IsOfTrees (error.Parse e) = ⊥
+IsOfTrees (error.Unfaithful f) = ⊥
+IsOfTrees _ = Unit {0}
 
 -- an error of a query: no allocation is why its line is not faithful, and no line is indented
 abbrev pub IsOfQuery : EnforceError → Type 0

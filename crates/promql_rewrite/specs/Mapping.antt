@@ -57,8 +57,7 @@ module _ {S E : Type 0} (gives : MapGives S E) where
   -- one call for each selector, in order, up to one that failed with this error; the mapper was s and is t
   abbrev pub Fails : List KindedSelector → E → S → S → Type 0
   Fails [] e s t = ⊥
-  Fails (x ∷ xs) e s t =
-      ((y : Selector) × gives s x.0 x.1 (Err e) t y)
+  Fails (x ∷ xs) e s t = ((y : Selector) × gives s x.0 x.1 (Err e) t y)
       ⊎ ((y : Selector) × ((u : S) × (gives s x.0 x.1 (Ok tt) u y × Fails xs e u t)))
 
   -- what a call that went well leaves depends on the selector and its kind alone

@@ -18,8 +18,7 @@ Obeys reason.Parameter (aggregate op e absent m) = is_aggregator_with_param op �
 Obeys reason.Parameter (aggregate op e (present p) m) = is_aggregator_with_param op ≡ true
 Obeys reason.Operator (binary op l r m) = token_kind op ≡ kind.Operator op
 Obeys reason.Grouping (binary op l r (Some (matching card None return_bool values))) = is_grouping card ≡ false
-Obeys reason.Cardinality (binary op l r (Some (matching card clause return_bool values))) =
-    card ≡ many_to_many → is_set_operator op ≡ true
+Obeys reason.Cardinality (binary op l r (Some (matching card clause return_bool values))) = card ≡ many_to_many → is_set_operator op ≡ true
 Obeys reason.LeftSide (binary op l r m) = FitsLeft op (openness l)
 Obeys reason.RightSide (binary op l r m) = IsRightSide op r
 Obeys reason.Operand (unary e) = IsNegated e
