@@ -10,7 +10,7 @@ use Rattle.serde_json.specs.Find.{as_number, as_u64, get}
 use Rattle.serde_json.specs.View.{items_view}
 use Rattle.serde_json.specs.declared.value.Value.{Value}
 use Rattle.promql_text.specs.Texts.{Text}
-use Rattle.promql_json.specs.FormMisfits.{AsksOf, exactly, Form, by_bool, by_match, by_no_match, by_row, matcher, modifier, IsNot, MisfitAt, cardinality, grouped, here, inside, many_to_one, node, node_named, nodes, not_null, one, one_to_many, or_null, row_of, typed, word}
+use Rattle.promql_json.specs.FormMisfits.{AsksOf, exactly, Form, by_bool, by_match, by_no_match, by_row, matcher, modifier, IsNot, MisfitAt, grouped, here, inside, many_to_one, node, node_named, nodes, not_null, one, one_to_many, or_null, row_of, typed, word}
 use Rattle.promql_token.specs.declared.ids.TheConstants.{T_EQL_REGEX, T_NEQ_REGEX}
 use Rattle.promql_label.specs.Operators.{is_pattern_id}
 use Rattle.promql_ast.specs.Shifts.{Moment, at_start, at_end, at_time}
@@ -21,7 +21,7 @@ use Rattle.promql_json.specs.JsonParts.{start_or_end, timestamp, token_json, who
 use Rattle.promql_json.specs.MembersLeft.{IsIn, IsTypeIn, IsTyped}
 use Rattle.promql_json.specs.Readable.{ReadableMoment}
 use Rattle.promql_json.specs.declared.from_error.Expected.{Expected}
-use Rattle.promql_json.specs.declared.from_error.Expected.TheVariants.{Object, Pattern}
+use Rattle.promql_json.specs.declared.from_error.Expected.TheVariants.{Cardinality, Object, Pattern}
 use Rattle.promql_json.specs.declared.from_error.ReadError.{ReadError}
 use Rattle.promql_json.specs.declared.from_error.ReadError.TheVariants.{Memory, Misfit}
 
@@ -58,11 +58,11 @@ offset_in f d (Err e) none below place = place (no_millis d none below)
 
 -- ---- objects
 
-pub one_many : (d : Data) (e : ReadError) → IsIn (grouped (codes "one-to-many")) d e → IsIn cardinality d e
+pub one_many : (d : Data) (e : ReadError) → IsIn (grouped (codes "one-to-many")) d e → IsIn (one Cardinality) d e
 one_many d Memory place = tt
 one_many d (Misfit m) place = one_to_many d (string_bytes m.path) m.expected place
 
-pub many_one : (d : Data) (e : ReadError) → IsIn (grouped (codes "many-to-one")) d e → IsIn cardinality d e
+pub many_one : (d : Data) (e : ReadError) → IsIn (grouped (codes "many-to-one")) d e → IsIn (one Cardinality) d e
 many_one d Memory place = tt
 many_one d (Misfit m) place = many_to_one d (string_bytes m.path) m.expected place
 

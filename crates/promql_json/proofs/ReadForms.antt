@@ -30,8 +30,8 @@ use Rattle.promql_json.specs.Json.{args_items, first_fault, json, json_value, no
 use Rattle.promql_json.specs.JsonFaults.{args_fault, json_fault}
 use Rattle.promql_json.specs.JsonParts.{cardinality_json, fills_json, function_json, group_json, labels_json, list, matching_json, millis, optional_labels, type_json, whole}
 use Rattle.promql_json.specs.JsonTokens.{moment_of_selector}
-use Rattle.promql_json.specs.Readable.{ReadableMatcher, ReadableMatching, ReadableMoment}
-use Rattle.promql_json.specs.ReadableBelow.{ReadableFill, ReadableSelector}
+use Rattle.promql_json.specs.Readable.{ReadableMatcher, ReadableMoment}
+use Rattle.promql_json.specs.ReadableBelow.{ReadableFill, ReadableMatching, ReadableSelector}
 use Rattle.promql_json.specs.ReadableBelow.{AllReadableBelow, ReadableBelow}
 use Rattle.promql_json.specs.declared.error.JsonError.{JsonError}
 use Rattle.promql_json.proofs.FaultOrder.{first_met}

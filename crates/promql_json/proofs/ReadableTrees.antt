@@ -1,10 +1,11 @@
 -- A readable tree is one of at most 512 nodes above one another, by recursion.
-use Rattle.std.proofs.Common.{ℕ, zero, suc, List, [], ◌∷◌, ◌++◌, ◌≤◌, ◌<◌, ◌≡◌, ◌≢◌, ◌&&◌, Bool, true, false, true≢false, if◌then◌else◌, nat_le, refl, sym, arith}
+use Rattle.std.proofs.Common.{ℕ, zero, suc, List, [], ◌∷◌, ◌++◌, ◌≤◌, ◌<◌, ◌≡◌, ◌≢◌, ◌&&◌, Bool, true, false, true≢false, if◌then◌else◌, nat_le, refl, sym, arith, Some, None}
 use Rattle.std.proofs.lemmas.Bool.Decides.{nat_tests}
 use Rattle.std.specs.List.{AllByRecursion, flat_map}
 use Rattle.serde_json.specs.Data.{Data}
 use Rattle.promql_token.specs.Ids.{is_aggregator, is_one_of, is_operator}
 use Rattle.promql_label.specs.PlainMatchers.{PlainMatchers, plain_matchers, every}
+use Rattle.promql_kind.specs.Modifiers.{fills, matching}
 use Rattle.promql_ast.specs.Fold.{within, maybe_within, all_within}
 use Rattle.promql_ast.specs.Height.{height, maybe_height, greatest_height}
 use Rattle.promql_ast.specs.Selectors.{selector}
@@ -75,7 +76,9 @@ mutual
   below zero t low own fine = absurd (omega arith)
   below (suc n) (aggregate op e p m) low own fine = (aggregator op own, maybe_below n p (omega arith) fine.0, below n e (omega arith) fine.1.0 fine.1.1)
   below (suc n) (unary e) low own fine = below n e (omega arith) fine.0 fine.1
-  below (suc n) (binary op l r m) low own fine = (operator op own.0, own.1, below n l (omega arith) fine.0.0 fine.0.1, below n r (omega arith) fine.1.0 fine.1.1)
+  below (suc n) (binary op l r None) low own fine = (operator op own, tt, below n l (omega arith) fine.0.0 fine.0.1, below n r (omega arith) fine.1.0 fine.1.1)
+  below (suc n) (binary op l r (Some (matching card clause b (fills x y)))) low own fine =
+      (operator op own.0, (own.1, own.2), below n l (omega arith) fine.0.0 fine.0.1, below n r (omega arith) fine.1.0 fine.1.1)
   below (suc n) (paren e) low own fine = below n e (omega arith) fine.0 fine.1
   below (suc n) (subquery e offset at range step) low own fine = (own, below n e (omega arith) fine.0 fine.1)
   below (suc n) (number v) low own fine = own

@@ -25,7 +25,7 @@ pub data Form : Type 0 where
   -- a node of at most so many nodes above one another, and one of this type with so many below it
   node : ℕ → Form
   node_named : Text → ℕ → Form
-  matcher modifier cardinality fill_values function : Form
+  matcher modifier fill_values function : Form
   -- the object of a cardinality that has this member
   grouped : Text → Form
   -- a list that is as expected, of these, and one without an item
@@ -71,7 +71,7 @@ row_of name ((k, a) ∷ more) = if bytes_eq k name then Some a else row_of name 
 abbrev pub rows : Form → List (Text × Form)
 rows (node_named name n) = (codes "type", one kind.Node) ∷ option_map_or (λ more. more) (row_of name (nodes n)) []
 rows matcher = (codes "name", one kind.Text) ∷ (codes "type", one kind.MatchOp) ∷ (codes "value", one kind.Text) ∷ []
-rows modifier = (codes "card", cardinality) ∷ (codes "fillValues", fill_values) ∷ (codes "include", no_list) ∷ (codes "labels", labels) ∷ (codes "on", one kind.Flag) ∷ []
+rows modifier = (codes "card", one kind.Cardinality) ∷ (codes "fillValues", fill_values) ∷ (codes "include", no_list) ∷ (codes "labels", labels) ∷ (codes "on", one kind.Flag) ∷ []
 rows (grouped name) = (name, labels) ∷ []
 rows fill_values = (codes "lhs", or_null (word kind.Number)) ∷ (codes "rhs", or_null (word kind.Number)) ∷ []
 rows function =
@@ -100,7 +100,6 @@ expected_at (one e) = e ∷ []
 expected_at (word e) = kind.Text ∷ e ∷ []
 expected_at (list_of e f) = kind.List ∷ e ∷ []
 expected_at no_list = kind.List ∷ kind.EmptyList ∷ []
-expected_at cardinality = kind.Cardinality ∷ []
 expected_at (or_null f) = []
 expected_at (exactly d) = []
 expected_at _ = kind.Object ∷ []
@@ -141,8 +140,8 @@ pub data MisfitAt : Form → Data → Text → Expected → Type 0 where
       → MisfitAt (node (n + 1)) (object ms) (codes ".type") kind.Node
   typed : (n : ℕ) (d : Data) (name path : Text) (e : Expected) (more : List (Text × Form)) → get (codes "type") d ≡ Some (string name)
       → row_of name (nodes n) ≡ Some more → MisfitAt (node_named name n) d path e → MisfitAt (node (n + 1)) d path e
-  many_to_one : (d : Data) (path : Text) (e : Expected) → MisfitAt (grouped (codes "many-to-one")) d path e → MisfitAt cardinality d path e
-  one_to_many : (d : Data) (path : Text) (e : Expected) → MisfitAt (grouped (codes "one-to-many")) d path e → MisfitAt cardinality d path e
+  many_to_one : (d : Data) (path : Text) (e : Expected) → MisfitAt (grouped (codes "many-to-one")) d path e → MisfitAt (one kind.Cardinality) d path e
+  one_to_many : (d : Data) (path : Text) (e : Expected) → MisfitAt (grouped (codes "one-to-many")) d path e → MisfitAt (one kind.Cardinality) d path e
   not_null : (f : Form) (d : Data) (path : Text) (e : Expected) → d ≢ null → MisfitAt f d path e → MisfitAt (or_null f) d path e
   inside : (f g : Form) (d v : Data) (name path : Text) (e : Expected) → AsksOf f d name g → get name d ≡ Some v → MisfitAt g v path e
       → MisfitAt f d (codes "." ++ (name ++ path)) e

@@ -9,7 +9,7 @@ use Rattle.promql_token.specs.declared.ids.TheConstants.{T_AT, T_EQL_REGEX, T_NE
 use Rattle.promql_label.specs.Answers.{Allows, rejected}
 use Rattle.promql_label.specs.PlainMatchers.{PlainMatcher, plain_matcher, matches, matches_not, every}
 use Rattle.promql_kind.specs.Functions.{function_named, name_of}
-use Rattle.promql_kind.specs.Modifiers.{fills, Matching, matching}
+use Rattle.promql_kind.specs.Modifiers.{fills, matching}
 use Rattle.promql_ast.specs.Height.{height}
 use Rattle.promql_ast.specs.Selectors.{selector}
 use Rattle.promql_ast.specs.Shifts.{Moment, at_time}
@@ -27,10 +27,6 @@ abbrev pub ReadableMoment : Option Moment → Type 0
 ReadableMoment (Some (at_time t)) = FitsSigned w64 t
 ReadableMoment _ = Unit {0}
 
-abbrev pub ReadableMatching : Option Matching → Type 0
-ReadableMatching None = Unit {0}
-ReadableMatching (Some (matching card clause return_bool (fills r l))) = IfSome r IsNumber × IfSome l IsNumber
-
 -- an operator between two expressions: all but `=~`, `!~` and `@`
 abbrev pub is_binary_operator : ℕ → Bool
 is_binary_operator op = is_operator op && not (is_one_of (T_EQL_REGEX ∷ T_NEQ_REGEX ∷ T_AT ∷ []) op)
@@ -38,7 +34,9 @@ is_binary_operator op = is_operator op && not (is_one_of (T_EQL_REGEX ∷ T_NEQ_
 -- what is asked of a node by itself: operators, numbers, times, functions and patterns of which code can make it
 abbrev pub HasReadableParts : Tree → Type 0
 HasReadableParts (aggregate op e p m) = is_aggregator op ≡ true
-HasReadableParts (binary op l r m) = (is_binary_operator op ≡ true) × ReadableMatching m
+HasReadableParts (binary op l r None) = is_binary_operator op ≡ true
+HasReadableParts (binary op l r (Some (matching card clause return_bool (fills x y)))) =
+    (is_binary_operator op ≡ true) × IfSome x IsNumber × IfSome y IsNumber
 HasReadableParts (subquery e offset at range step) = ReadableMoment at
 HasReadableParts (number v) = IsNumber v
 HasReadableParts (vector (selector name ms offset at)) = AllByRecursion ReadableMatcher (every ms) × ReadableMoment at

@@ -19,8 +19,8 @@ ghost use Rattle.promql_ast.specs.View.{aggregate_tree, binary_tree, call_tree, 
 ghost use Rattle.promql_json.specs.FormMembers.{aggregate_members, binary_members, subquery_members};
 ghost use Rattle.promql_json.specs.Json.{args_items, json, json_value, param_json, step_fault, type_name, width_fault};
 ghost use Rattle.promql_json.specs.JsonParts.{millis, shift_millis};
-ghost use Rattle.promql_json.specs.Readable.{IsNoForm, ReadableMatching, ReadableMoment};
-ghost use Rattle.promql_json.specs.ReadableBelow.{AllReadableBelow, MaybeReadableBelow, ReadableBelow};
+ghost use Rattle.promql_json.specs.Readable.{IsNoForm, ReadableMoment};
+ghost use Rattle.promql_json.specs.ReadableBelow.{AllReadableBelow, MaybeReadableBelow, ReadableBelow, ReadableMatching};
 ghost use Rattle.promql_json.specs.declared.read_values.TheConstants.{AGGREGATORS as AGGREGATOR_IDS, OPERATORS as OPERATOR_IDS};
 ghost use Rattle.promql_json.specs.JsonFaults.{args_fault, json_fault, param_fault};
 ghost use Rattle.promql_json.specs.FormMisfits.{AsksOf, Form, MisfitAt, list_of, node as node_form, node_named};
