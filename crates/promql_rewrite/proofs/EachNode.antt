@@ -1,5 +1,5 @@
 -- What holds throughout a tree holds at each of its nodes, and the first node that is wrong is the first of the list of them.
-use Rattle.std.proofs.Common.{◌≡◌, ◌⊎◌, inl, inr, refl, ap, subst, List, [], ◌∷◌, ◌++◌, ⊎_elim}
+use Rattle.std.proofs.Common.{◌⊎◌, inl, inr, List, [], ◌∷◌, ◌++◌, ⊎_elim}
 use Rattle.std.specs.List.{AllByRecursion}
 use Rattle.promql_ast.specs.Tree.{Tree, aggregate, unary, binary, paren, subquery, number, string, vector, matrix, call, extension, MaybeTree, absent, present, Trees, no_trees, first_tree}
 use Rattle.promql_rewrite.specs.Collecting.{all_nodes, maybe_nodes, nodes_of, nodes_within}

@@ -2,7 +2,6 @@ use Rattle.promql_json.proofs.MembersInOrder.{item_there}
 use Rattle.serde_json.specs.Data.{string}
 use Rattle.serde_json.specs.View.{view}
 use Rattle.promql_json.proofs.ReadForms.{no_plain_list}
-use Rattle.std.proofs.Common.{refl}
 use Rattle.promql_json.specs.FormMisfits.{one}
 use Rattle.promql_json.specs.declared.from_error.Expected.TheVariants.{List as ListThere, Text}
 use Rattle.promql_json.proofs.read_labels.read_label_list.Goals as goal

@@ -3,7 +3,6 @@ use Rattle.serde_json.specs.View.{view}
 use Rattle.promql_json.specs.JsonParts.{matcher_json}
 use Rattle.promql_json.specs.Readable.{ReadableMatcher}
 use Rattle.promql_json.proofs.ReadForms.{no_list}
-use Rattle.std.proofs.Common.{refl}
 use Rattle.promql_json.specs.FormMisfits.{matcher}
 use Rattle.promql_json.specs.declared.from_error.Expected.TheVariants.{List as ListThere}
 use Rattle.promql_json.proofs.read_labels.read_matcher_list.Goals as goal
