@@ -1,6 +1,7 @@
 -- Where the error of a reader is.
 use Rattle.std.proofs.Common.{ℕ, ◌+◌, ◌==◌, ◌||◌, ◌⊎◌, inl, true≢false, length, arith, ℤ, pos, negsuc, int_lt, option_and_then, Ok, Err, Bool, true, false, if◌then◌else◌, ◌≡◌, ◌≢◌, List, [], ◌∷◌, ◌++◌, Option, Some, None, string_bytes, codes, refl, sym, ap, subst, ◌∙◌}
-use Rattle.std.specs.Prelude.{Result, IfErr, IfOk, IsErr, OnErr}
+use Rattle.std.specs.Prelude.{FitsSigned, Result, IfErr, IfOk, IsErr, OnErr}
+use Rattle.std.specs.Int.{w64}
 use Rattle.std.specs.Str.{bytes_eq}
 use Rattle.std.proofs.lemmas.Slice.Eq.{bytes_eq-Decides}
 use Rattle.std.proofs.lemmas.Bool.Decides.{Decides-eqb}
@@ -9,19 +10,18 @@ use Rattle.serde_json.specs.Find.{as_number, as_u64, get}
 use Rattle.serde_json.specs.View.{items_view}
 use Rattle.serde_json.specs.declared.value.Value.{Value}
 use Rattle.promql_text.specs.Texts.{Text}
-use Rattle.promql_json.specs.FormMisfits.{AsksOf, exactly, is_pattern, Form, by_bool, by_row, modifier, IsNot, MisfitAt, cardinality, grouped, here, inside, many_to_one, node, node_named, nodes, not_null, one, one_to_many, or_null, row_of, typed, word}
+use Rattle.promql_json.specs.FormMisfits.{AsksOf, exactly, Form, by_bool, by_match, by_no_match, by_row, matcher, modifier, IsNot, MisfitAt, grouped, here, inside, many_to_one, node, node_named, nodes, not_null, one, one_to_many, or_null, row_of, typed, word}
 use Rattle.promql_token.specs.declared.ids.TheConstants.{T_EQL_REGEX, T_NEQ_REGEX}
 use Rattle.promql_label.specs.Operators.{is_pattern_id}
-use Rattle.promql_label.specs.PlainMatchers.{Operator, matches, matches_not}
 use Rattle.promql_ast.specs.Shifts.{Moment, at_start, at_end, at_time}
 use Rattle.promql_ast.specs.Tree.{Tree}
 use Rattle.promql_json.proofs.ReadForms.{type_found}
 use Rattle.promql_json.specs.Json.{json_value, type_name}
-use Rattle.promql_json.specs.JsonParts.{operator_json, start_or_end, timestamp, token_json, whole}
+use Rattle.promql_json.specs.JsonParts.{start_or_end, timestamp, token_json, whole}
 use Rattle.promql_json.specs.MembersLeft.{IsIn, IsTypeIn, IsTyped}
-use Rattle.promql_json.specs.Readable.{ReadableMoment, is_millis}
+use Rattle.promql_json.specs.Readable.{ReadableMoment}
 use Rattle.promql_json.specs.declared.from_error.Expected.{Expected}
-use Rattle.promql_json.specs.declared.from_error.Expected.TheVariants.{Object}
+use Rattle.promql_json.specs.declared.from_error.Expected.TheVariants.{Cardinality, Object, Pattern}
 use Rattle.promql_json.specs.declared.from_error.ReadError.{ReadError}
 use Rattle.promql_json.specs.declared.from_error.ReadError.TheVariants.{Memory, Misfit}
 
@@ -47,22 +47,22 @@ all_by_kind f d P (Err e) other place = by_kind f d e P other place
 
 -- ---- offsets
 
-no_millis : (d : Data) → option_and_then as_u64 (as_number d) ≡ None → ((z : ℤ) → int_lt z (pos 0) ≡ true → d ≢ whole z) → (z : ℤ) → is_millis z ≡ true → d ≢ whole z
+no_millis : (d : Data) → option_and_then as_u64 (as_number d) ≡ None → ((z : ℤ) → int_lt z (pos 0) ≡ true → d ≢ whole z) → (z : ℤ) → FitsSigned w64 z → d ≢ whole z
 no_millis d none below (pos n) fits h = let some = rw h at none in absurd cc
 no_millis d none below (negsuc n) fits h = below (negsuc n) refl h
 
 pub offset_in : {T : Type 0} (f : Form) (d : Data) (r : Result T ReadError) → option_and_then as_u64 (as_number d) ≡ None
-    → OnErr r ((z : ℤ) → int_lt z (pos 0) ≡ true → d ≢ whole z) → IfErr r (λ e. ((z : ℤ) → is_millis z ≡ true → d ≢ whole z) → IsIn f d e) → IfErr r (IsIn f d)
+    → OnErr r ((z : ℤ) → int_lt z (pos 0) ≡ true → d ≢ whole z) → IfErr r (λ e. ((z : ℤ) → FitsSigned w64 z → d ≢ whole z) → IsIn f d e) → IfErr r (IsIn f d)
 offset_in f d (Ok x) none below place = tt
 offset_in f d (Err e) none below place = place (no_millis d none below)
 
 -- ---- objects
 
-pub one_many : (d : Data) (e : ReadError) → IsIn (grouped (codes "one-to-many")) d e → IsIn cardinality d e
+pub one_many : (d : Data) (e : ReadError) → IsIn (grouped (codes "one-to-many")) d e → IsIn (one Cardinality) d e
 one_many d Memory place = tt
 one_many d (Misfit m) place = one_to_many d (string_bytes m.path) m.expected place
 
-pub many_one : (d : Data) (e : ReadError) → IsIn (grouped (codes "many-to-one")) d e → IsIn cardinality d e
+pub many_one : (d : Data) (e : ReadError) → IsIn (grouped (codes "many-to-one")) d e → IsIn (one Cardinality) d e
 many_one d Memory place = tt
 many_one d (Misfit m) place = many_to_one d (string_bytes m.path) m.expected place
 
@@ -102,14 +102,15 @@ untyped_node n d found known none name is = subst (λ x. row_of x (nodes n) ≡ 
 
 -- ---- operators and times
 
-pick : (id : ℕ) (a b : Bool) → (id == T_EQL_REGEX) ≡ a → (id == T_NEQ_REGEX) ≡ b → a || (b || false) ≡ true
-    → (op : Operator) × (is_pattern op ≡ true) × (token_json id ≡ operator_json op)
-pick id true b is other h = (matches [], refl, ap token_json ((Decides-eqb id T_EQL_REGEX).0 is))
-pick id false true is other h = (matches_not [], refl, ap token_json ((Decides-eqb id T_NEQ_REGEX).0 other))
-pick id false false is other h = absurd (true≢false (sym h))
+pick : (d : Data) (id : ℕ) (a b : Bool) → (id == T_EQL_REGEX) ≡ a → (id == T_NEQ_REGEX) ≡ b → a || (b || false) ≡ true
+    → get (codes "type") d ≡ Some (token_json id) → AsksOf matcher d (codes "value") (one Pattern)
+pick d id true b is other h has = by_match d (has ∙ ap (λ k. Some (token_json k)) ((Decides-eqb id T_EQL_REGEX).0 is))
+pick d id false true is other h has = by_no_match d (has ∙ ap (λ k. Some (token_json k)) ((Decides-eqb id T_NEQ_REGEX).0 other))
+pick d id false false is other h has = absurd (true≢false (sym h))
 
-pub pattern_operator : (id : ℕ) → is_pattern_id id ≡ true → (op : Operator) × (is_pattern op ≡ true) × (token_json id ≡ operator_json op)
-pattern_operator id is = pick id (id == T_EQL_REGEX) (id == T_NEQ_REGEX) refl refl is
+-- the value of a matcher of a pattern is asked to be one
+pub pattern_asked : (d : Data) (id : ℕ) → is_pattern_id id ≡ true → get (codes "type") d ≡ Some (token_json id) → AsksOf matcher d (codes "value") (one Pattern)
+pattern_asked d id is has = pick d id (id == T_EQL_REGEX) (id == T_NEQ_REGEX) refl refl is has
 
 pub moment_word : (m : Moment) → timestamp (Some m) ≡ null → start_or_end (Some m) ≢ null
 moment_word at_start h is = cc
@@ -154,7 +155,7 @@ no_time d w (Some at_start) full other same h = full h
 no_time d w (Some at_end) full other same h = full h
 no_time d w (Some (at_time t)) full other same h = other same
 
-pub no_other_time : (d : Data) (at : Option Moment) → d ≢ null → ((z : ℤ) → is_millis z ≡ true → d ≢ whole z) → ReadableMoment at → null ≡ start_or_end at → d ≢ timestamp at
+pub no_other_time : (d : Data) (at : Option Moment) → d ≢ null → ((z : ℤ) → FitsSigned w64 z → d ≢ whole z) → ReadableMoment at → null ≡ start_or_end at → d ≢ timestamp at
 no_other_time d None full none fine same h = full h
 no_other_time d (Some at_start) full none fine same h = full h
 no_other_time d (Some at_end) full none fine same h = full h

@@ -1,56 +1,38 @@
 -- The first fault by recursion on the tree is the first that a walk comes to.
-use Rattle.std.proofs.Common.{◌≡◌, List, [], ◌∷◌, ◌++◌, Option, Some, None, Ok, Err, refl, sym, ap, ap₂, ◌∙◌}
+use Rattle.std.proofs.Common.{◌≡◌, Option, Some, None, Ok, Err, refl, sym, ap, ap₂, ◌∙◌}
+use Rattle.std.specs.Option.{option_or}
 use Rattle.serde_json.specs.Data.{Members, object}
+use Rattle.promql_ast.specs.Fold.{maybe_within, all_within}
 use Rattle.promql_ast.specs.Tree.{Tree, aggregate, unary, binary, paren, subquery, number, string, vector, matrix, call, extension, MaybeTree, absent, present, Trees, no_trees, first_tree}
 use Rattle.promql_json.specs.declared.error.JsonError.{JsonError}
-use Rattle.promql_json.specs.Events.{Event, before, after, events, inner_events, param_events, all_events}
-use Rattle.promql_json.specs.Json.{first_of, own_fault, first_fault, unless, node_members, node_json, args_members, args_json}
-use Rattle.promql_json.specs.JsonFaults.{json_fault, param_fault, args_fault}
+use Rattle.promql_json.specs.Json.{own_fault, first_fault, unless, node_members, node_json, args_json}
+use Rattle.promql_json.specs.JsonFaults.{json_fault, param_fault, args_fault, args_members}
 
-first_of_none : (a : Option JsonError) → first_of a None ≡ a
-first_of_none None = refl
-first_of_none (Some e) = refl
-
-first_of_assoc : (a b c : Option JsonError) → first_of (first_of a b) c ≡ first_of a (first_of b c)
-first_of_assoc None b c = refl
-first_of_assoc (Some e) b c = refl
-
-first_fault_append : (es fs : List Event) → first_fault (es ++ fs) ≡ first_of (first_fault es) (first_fault fs)
-first_fault_append [] fs = refl
-first_fault_append (before t ∷ es) fs = ap (first_of (own_fault t)) (first_fault_append es fs) ∙ sym (first_of_assoc (own_fault t) (first_fault es) (first_fault fs))
-first_fault_append (after t ∷ es) fs = first_fault_append es fs
-
--- a node's own, then those of its children
-around_fault : (t : Tree) → first_fault (events t) ≡ first_of (own_fault t) (first_fault (inner_events t))
-around_fault t = ap (first_of (own_fault t)) (first_fault_append (inner_events t) (after t ∷ []) ∙ first_of_none (first_fault (inner_events t)))
-
-up : (t : Tree) → json_fault t ≡ first_of (own_fault t) (first_fault (inner_events t)) → json_fault t ≡ first_fault (events t)
-up t h = h ∙ sym (around_fault t)
+or_none : (a : Option JsonError) → a ≡ option_or a None
+or_none None = refl
+or_none (Some e) = refl
 
 mutual
-  below : (t : Tree) → json_fault t ≡ first_of (own_fault t) (first_fault (inner_events t))
-  below (aggregate op e p m) = ap₂ first_of (param_first_met p) (up e (below e)) ∙ sym (first_fault_append (param_events p) (events e))
-  below (unary e) = up e (below e)
-  below (binary op l r m) = ap₂ first_of (up l (below l)) (up r (below r)) ∙ sym (first_fault_append (events l) (events r))
-  below (paren e) = up e (below e)
-  below (subquery e offset at range step) = ap (first_of (own_fault (subquery e offset at range step))) (up e (below e))
-  below (number n) = refl
-  below (string s) = refl
-  below (vector s) = sym (first_of_none (own_fault (vector s)))
-  below (matrix s range mode) = sym (first_of_none (own_fault (matrix s range mode)))
-  below (call f args) = all_first_met args
-  below (extension name gives es) = refl
+  pub first_met : (t : Tree) → json_fault t ≡ first_fault t
+  first_met (aggregate op e p m) = ap₂ option_or (param_first_met p) (first_met e)
+  first_met (unary e) = first_met e
+  first_met (binary op l r m) = ap₂ option_or (first_met l) (first_met r)
+  first_met (paren e) = first_met e
+  first_met (subquery e offset at range step) = ap (option_or (own_fault (subquery e offset at range step))) (first_met e)
+  first_met (number n) = refl
+  first_met (string s) = refl
+  first_met (vector s) = or_none (own_fault (vector s))
+  first_met (matrix s range mode) = or_none (own_fault (matrix s range mode))
+  first_met (call f args) = all_first_met args
+  first_met (extension name gives es) = refl
 
-  pub param_first_met : (p : MaybeTree) → param_fault p ≡ first_fault (param_events p)
+  pub param_first_met : (p : MaybeTree) → param_fault p ≡ maybe_within None option_or (λ t below. option_or (own_fault t) below) p
   param_first_met absent = refl
-  param_first_met (present e) = up e (below e)
+  param_first_met (present e) = first_met e
 
-  pub all_first_met : (ts : Trees) → args_fault ts ≡ first_fault (all_events ts)
+  pub all_first_met : (ts : Trees) → args_fault ts ≡ all_within None option_or (λ t below. option_or (own_fault t) below) ts
   all_first_met no_trees = refl
-  all_first_met (first_tree e es) = ap₂ first_of (up e (below e)) (all_first_met es) ∙ sym (first_fault_append (events e) (all_events es))
-
-pub first_met : (t : Tree) → json_fault t ≡ first_fault (events t)
-first_met t = up t (below t)
+  all_first_met (first_tree e es) = ap₂ option_or (first_met e) (all_first_met es)
 
 -- a node by itself: its object where nothing is at fault, else the first fault
 pub node_ok : (t : Tree) (ms : Members) → json_fault t ≡ None → ms ≡ node_members t → node_json t ≡ Ok (object ms)

@@ -3,6 +3,7 @@ use Rattle.std.proofs.Common.{◌≡◌, ℕ, ℤ, pos, negsuc, List, [], ◌∷
 use Rattle.std.proofs.lemmas.Result.{on_ok_weaker}
 use Rattle.std.specs.Prelude.{OnOk, Result}
 use Rattle.std.specs.Fmt.{signed_decimal}
+use Rattle.std.specs.Option.{option_or}
 use Rattle.json.specs.Print.{print}
 use Rattle.json.specs.Token.{Token}
 use Rattle.json.specs.Tree.{items_tokens}
@@ -18,7 +19,7 @@ use Rattle.promql_ast.specs.Tree.{Tree, aggregate, unary, binary, paren, subquer
 use Rattle.promql_ast.specs.declared.range_mode.RangeMode.{RangeMode}
 use Rattle.promql_ast.specs.declared.range_mode.RangeMode.TheVariants.{Plain, Smoothed, Anchored}
 use Rattle.promql_json.specs.declared.error.JsonError.{JsonError}
-use Rattle.promql_json.specs.Json.{args_items, first_of, json, json_value, param_json, unless}
+use Rattle.promql_json.specs.Json.{args_items, json, json_value, param_json, unless}
 use Rattle.promql_json.specs.JsonFaults.{json_fault}
 use Rattle.promql_json.specs.JsonParts.{group_json, millis, or_null, shift_millis, start_or_end, timestamp, whole}
 use Rattle.promql_json.specs.JsonTokens.{end_of, groups_member, member, mode_member, tokens, tree_tokens, param_tokens, rest_of_args}
@@ -30,7 +31,7 @@ pub signed_text : (z : ℤ) → number_text (of_integer z) ≡ signed_decimal z
 signed_text (pos n) = refl
 signed_text (negsuc n) = refl
 
-pub no_fault_in : (a b : Option JsonError) → first_of a b ≡ None → (first_of a b ≡ first_of a b) × ((a ≡ None) × (b ≡ None))
+pub no_fault_in : (a b : Option JsonError) → option_or a b ≡ None → (option_or a b ≡ option_or a b) × ((a ≡ None) × (b ≡ None))
 no_fault_in None b h = (refl, (refl, h))
 no_fault_in (Some e) b h = absurd cc
 

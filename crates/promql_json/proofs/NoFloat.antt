@@ -17,7 +17,6 @@ use Rattle.promql_ast.specs.Tree.{Tree, aggregate, unary, binary, paren, subquer
 use Rattle.promql_ast.specs.declared.range_mode.RangeMode.{RangeMode}
 use Rattle.promql_ast.specs.declared.range_mode.RangeMode.TheVariants.{Plain, Smoothed, Anchored}
 use Rattle.promql_json.specs.declared.error.JsonError.{JsonError}
-use Rattle.promql_json.specs.Events.{events}
 use Rattle.promql_json.specs.JsonParts as part
 use Rattle.promql_json.specs.Json as spec
 
@@ -132,4 +131,4 @@ form_value None d e is = cc
 form_value (Some x) d e is = absurd cc
 
 pub no_float_of_json : (t : Tree) (d : Data) → spec.json t ≡ Ok d → has_float d ≡ false
-no_float_of_json t d is = ap has_float (form_value (spec.first_fault (events t)) (spec.json_value t) d is) ∙ no_float_typed t (no_float_node t)
+no_float_of_json t d is = ap has_float (form_value (spec.first_fault t) (spec.json_value t) d is) ∙ no_float_typed t (no_float_node t)

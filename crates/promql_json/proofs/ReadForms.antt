@@ -7,6 +7,7 @@ use Rattle.std.proofs.lemmas.Bool.Decides.{Decides-eqb}
 use Rattle.std.specs.List.{AllByRecursion, list_any}
 use Rattle.std.specs.Str.{bytes_eq}
 use Rattle.std.specs.declared.boxed.Box.{Box}
+use Rattle.std.specs.Option.{option_or}
 use Rattle.serde_json.specs.Data.{Data, null, boolean, item, no_items, object, string as text, Members, no_members, member}
 use Rattle.serde_json.specs.Find.{get}
 use Rattle.serde_json.specs.View.{items_of}
@@ -24,13 +25,13 @@ use Rattle.promql_ast.specs.View.{tree_of, trees_of}
 use Rattle.promql_ast.specs.declared.expr.Expr.{Expr}
 use Rattle.promql_ast.specs.declared.range_mode.RangeMode.{RangeMode}
 use Rattle.promql_ast.specs.declared.range_mode.RangeMode.TheVariants.{Plain, Smoothed, Anchored}
-use Rattle.promql_json.specs.Events.{events}
 use Rattle.promql_json.specs.FormMembers.{begin_members, end_members, function_members, groups_members, mode_members, modifier_members}
-use Rattle.promql_json.specs.Json.{args_items, first_fault, first_of, json, json_value, node_members, type_name, unless}
+use Rattle.promql_json.specs.Json.{args_items, first_fault, json, json_value, node_members, type_name, unless}
 use Rattle.promql_json.specs.JsonFaults.{args_fault, json_fault}
 use Rattle.promql_json.specs.JsonParts.{cardinality_json, fills_json, function_json, group_json, labels_json, list, matching_json, millis, optional_labels, type_json, whole}
 use Rattle.promql_json.specs.JsonTokens.{moment_of_selector}
-use Rattle.promql_json.specs.Readable.{ReadableFill, ReadableMatcher, ReadableMatching, ReadableMoment, ReadableSelector}
+use Rattle.promql_json.specs.Readable.{ReadableMatcher, ReadableMoment}
+use Rattle.promql_json.specs.ReadableBelow.{ReadableFill, ReadableMatching, ReadableSelector}
 use Rattle.promql_json.specs.ReadableBelow.{AllReadableBelow, ReadableBelow}
 use Rattle.promql_json.specs.declared.error.JsonError.{JsonError}
 use Rattle.promql_json.proofs.FaultOrder.{first_met}
@@ -43,7 +44,7 @@ form_is None v d is = cc
 form_is (Some e) v d is = absurd cc
 
 pub no_form : (t : Tree) (d : Data) → d ≢ json_value t → json t ≢ Ok d
-no_form t d none is = none (form_is (first_fault (events t)) (json_value t) d is)
+no_form t d none is = none (form_is (first_fault t) (json_value t) d is)
 
 -- an item that is no item's form leaves its list without one
 pub no_list : {A B : Type 0} (P : B → Type 0) (f : A → Data) (g : B → Data) (xs : List A) (ys : List B) (i : ℕ) (x : A)
@@ -63,11 +64,11 @@ no_plain_list f g xs ys i x within is none = no_list (λ _. Unit {0}) f g xs ys 
 
 -- ---- arguments
 
-both_none : (a b : Option JsonError) → first_of a b ≡ None → (a ≡ None) × (b ≡ None)
+both_none : (a b : Option JsonError) → option_or a b ≡ None → (a ≡ None) × (b ≡ None)
 both_none None b h = (refl, h)
 both_none (Some e) b h = absurd cc
 
-none_after : (a b : Option JsonError) → a ≡ None → b ≡ None → first_of a b ≡ None
+none_after : (a b : Option JsonError) → a ≡ None → b ≡ None → option_or a b ≡ None
 none_after None b h k = k
 none_after (Some e) b h k = absurd cc
 

@@ -1,14 +1,18 @@
 -- A readable tree is one of at most 512 nodes above one another, by recursion.
-use Rattle.std.proofs.Common.{ℕ, zero, suc, ◌≤◌, ◌<◌, ◌≡◌, ◌≢◌, ◌&&◌, Bool, true, false, true≢false, if◌then◌else◌, nat_le, refl, sym, arith}
+use Rattle.std.proofs.Common.{ℕ, zero, suc, List, [], ◌∷◌, ◌++◌, ◌≤◌, ◌<◌, ◌≡◌, ◌≢◌, ◌&&◌, Bool, true, false, true≢false, if◌then◌else◌, nat_le, refl, sym, arith, Some, None}
 use Rattle.std.proofs.lemmas.Bool.Decides.{nat_tests}
+use Rattle.std.specs.List.{AllByRecursion, flat_map}
 use Rattle.serde_json.specs.Data.{Data}
 use Rattle.promql_token.specs.Ids.{is_aggregator, is_one_of, is_operator}
+use Rattle.promql_label.specs.PlainMatchers.{PlainMatchers, plain_matchers, every}
+use Rattle.promql_kind.specs.Modifiers.{fills, matching}
 use Rattle.promql_ast.specs.Fold.{within, maybe_within, all_within}
 use Rattle.promql_ast.specs.Height.{height, maybe_height, greatest_height}
+use Rattle.promql_ast.specs.Selectors.{selector}
 use Rattle.promql_ast.specs.Tree.{Tree, aggregate, unary, binary, paren, subquery, number, string, vector, matrix, call, extension, MaybeTree, absent, present, Trees, no_trees, first_tree}
 use Rattle.promql_json.specs.Json.{json_value}
-use Rattle.promql_json.specs.Readable.{HasReadableParts, IsNoForm, is_binary_operator}
-use Rattle.promql_json.specs.ReadableBelow.{AllReadableBelow, MaybeReadableBelow, ReadableBelow}
+use Rattle.promql_json.specs.Readable.{HasReadableParts, IsNoForm, ReadableMatcher, is_binary_operator}
+use Rattle.promql_json.specs.ReadableBelow.{AllReadableBelow, MaybeReadableBelow, ReadableBelow, ReadableMatchers}
 use Rattle.promql_json.specs.declared.read_values.TheConstants.{AGGREGATORS, OPERATORS}
 use Rattle.promql_json.proofs.ReadForms.{no_form}
 
@@ -51,6 +55,20 @@ operator op is =
     let low : op < 59 = grind (arith, nat_tests, both_true (nat_le 24 op) (nat_le op 42) among.0) in
     then_true (is_binary_operator op) _ (at_below (λ k. if is_binary_operator k then is_one_of OPERATORS k else true) 59 op refl low) is
 
+-- ---- matchers
+
+all_of_both : {A : Type 0} (P : A → Type 0) (xs ys : List A) → AllByRecursion P (xs ++ ys) → AllByRecursion P xs × AllByRecursion P ys
+all_of_both P [] ys all = (tt, all)
+all_of_both P (x ∷ xs) ys all = let rest = all_of_both P xs ys all.1 in ((all.0, rest.0), rest.1)
+
+all_in_groups : {A : Type 0} (P : A → Type 0) (gs : List (List A)) → AllByRecursion P (flat_map (λ g. g) gs) → AllByRecursion (AllByRecursion P) gs
+all_in_groups P [] all = tt
+all_in_groups P (g ∷ gs) all = let both = all_of_both P g (flat_map (λ g. g) gs) all in (both.0, all_in_groups P gs both.1)
+
+each_matcher : (ms : PlainMatchers) → AllByRecursion ReadableMatcher (every ms) → ReadableMatchers ms
+each_matcher (plain_matchers plain groups) all =
+    let both = all_of_both ReadableMatcher plain (flat_map (λ g. g) groups) all in (both.0, all_in_groups ReadableMatcher groups both.1)
+
 -- ---- trees
 
 mutual
@@ -58,13 +76,15 @@ mutual
   below zero t low own fine = absurd (omega arith)
   below (suc n) (aggregate op e p m) low own fine = (aggregator op own, maybe_below n p (omega arith) fine.0, below n e (omega arith) fine.1.0 fine.1.1)
   below (suc n) (unary e) low own fine = below n e (omega arith) fine.0 fine.1
-  below (suc n) (binary op l r m) low own fine = (operator op own.0, own.1, below n l (omega arith) fine.0.0 fine.0.1, below n r (omega arith) fine.1.0 fine.1.1)
+  below (suc n) (binary op l r None) low own fine = (operator op own, tt, below n l (omega arith) fine.0.0 fine.0.1, below n r (omega arith) fine.1.0 fine.1.1)
+  below (suc n) (binary op l r (Some (matching card clause b (fills x y)))) low own fine =
+      (operator op own.0, (own.1, own.2), below n l (omega arith) fine.0.0 fine.0.1, below n r (omega arith) fine.1.0 fine.1.1)
   below (suc n) (paren e) low own fine = below n e (omega arith) fine.0 fine.1
   below (suc n) (subquery e offset at range step) low own fine = (own, below n e (omega arith) fine.0 fine.1)
   below (suc n) (number v) low own fine = own
   below (suc n) (string s) low own fine = tt
-  below (suc n) (vector s) low own fine = own
-  below (suc n) (matrix s range mode) low own fine = own
+  below (suc n) (vector (selector name ms offset at)) low own fine = (each_matcher ms own.0, own.1)
+  below (suc n) (matrix (selector name ms offset at) range mode) low own fine = (each_matcher ms own.0, own.1)
   below (suc n) (call f args) low own fine = (own, all_below n args (omega arith) fine)
   below (suc n) (extension name gives es) low own fine = absurd own
 

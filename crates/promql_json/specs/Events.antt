@@ -4,8 +4,7 @@ use Rattle.promql_ast.specs.Fold.{within, maybe_within, all_within}
 use Rattle.promql_ast.specs.Tree.{Tree, MaybeTree, Trees}
 
 pub data Event : Type 0 where
-  before : Tree → Event
-  after : Tree → Event
+  before after : Tree → Event
 
 -- before a node, what its children give, after it
 abbrev pub around : Tree → List Event → List Event

@@ -28,8 +28,7 @@ abbrev pub list : List Data → Data
 list ds = array (items_of ds)
 
 abbrev pub or_null : {A : Type 0} → (A → Data) → Option A → Data
-or_null f None = null
-or_null f (Some a) = f a
+or_null f o = option_map_or f o null
 
 abbrev pub whole : ℤ → Data
 whole z = number (of_integer z)
@@ -46,11 +45,8 @@ abbrev pub operator_json : Operator → Data
 operator_json op = string (operator_text op)
 
 abbrev pub matcher_json : PlainMatcher → Data
-matcher_json (plain_matcher op name value) = object (members (
-    (codes "type", operator_json op)
-    ∷ (codes "name", string name)
-    ∷ (codes "value", string value)
-    ∷ []))
+matcher_json (plain_matcher op name value) =
+    object (members ((codes "type", operator_json op) ∷ (codes "name", string name) ∷ (codes "value", string value) ∷ []))
 
 abbrev pub group_json : List PlainMatcher → Data
 group_json ms = list (map matcher_json ms)
@@ -79,10 +75,7 @@ cardinality_json (one_to_many ls) = object (members ((codes "one-to-many", label
 cardinality_json many_to_many = string (codes "many-to-many")
 
 abbrev pub fills_json : Fills → Data
-fills_json (fills rhs lhs) = object (members (
-    (codes "rhs", or_null number_json rhs)
-    ∷ (codes "lhs", or_null number_json lhs)
-    ∷ []))
+fills_json (fills rhs lhs) = object (members ((codes "rhs", or_null number_json rhs) ∷ (codes "lhs", or_null number_json lhs) ∷ []))
 
 abbrev pub matching_json : Matching → Data
 matching_json (matching card clause return_bool values) = object (members (
@@ -90,8 +83,7 @@ matching_json (matching card clause return_bool values) = object (members (
     ∷ (codes "include", list [])
     ∷ (codes "labels", labels_json (optional_labels clause))
     ∷ (codes "on", boolean (is_on (matching card clause return_bool values)))
-    ∷ (codes "fillValues", fills_json values)
-    ∷ []))
+    ∷ (codes "fillValues", fills_json values) ∷ []))
 
 -- ---- "Offset and @", "Ranges"
 
@@ -134,5 +126,4 @@ function_json (signature name args variadic gives experimental) = object (member
     ∷ (codes "argTypes", list (map type_json args))
     ∷ (codes "variadic", whole variadic)
     ∷ (codes "returnType", type_json gives)
-    ∷ (codes "experimental", boolean experimental)
-    ∷ []))
+    ∷ (codes "experimental", boolean experimental) ∷ []))

@@ -6,9 +6,9 @@ use Rattle.std.specs.Ordering.{is_lt, nat_cmp}
 use Rattle.serde_json.specs.Data.{Data, object, string, Members, no_members, member}
 use Rattle.serde_json.specs.Find.{get, get_member}
 use Rattle.promql_text.specs.Texts.{Text}
-use Rattle.promql_json.specs.FormMisfits.{Form, MisfitAt, full_list_of, grouped, labels, list_of, matcher, may_be_left_out, one, or_null, row_of, rows}
+use Rattle.promql_json.specs.FormMisfits.{Form, MisfitAt, grouped, labels, list_of, matcher, may_be_left_out, one, or_null, row_of, rows}
 use Rattle.promql_kind.specs.Functions.{Signature, function_named, name_of}
-use Rattle.promql_json.specs.declared.from_error.Expected.TheVariants.{Millis, StartOrEnd, Text as TextThere}
+use Rattle.promql_json.specs.declared.from_error.Expected.TheVariants.{FullList, List as ListThere, Millis, StartOrEnd, Text as TextThere}
 use Rattle.promql_json.specs.declared.from_error.ReadError.{ReadError}
 use Rattle.promql_json.specs.declared.from_error.ReadError.TheVariants.{Memory, Misfit}
 
@@ -78,8 +78,8 @@ IsAlone name = (in_order (grouped name) (name ∷ []) ≡ true) × (follows (gro
 -- the first and the last members are those of a selector
 abbrev pub BeginsSelector : Form → Type 0
 BeginsSelector f = (in_order f (codes "matchers" ∷ codes "name" ∷ codes "offset" ∷ []) ≡ true) × (follows f (Some (codes "offset")) (Some (codes "or_matchers")) ≡ true)
-    × (row_of (codes "matchers") (rows f) ≡ Some (list_of matcher)) × (row_of (codes "name") (rows f) ≡ Some (or_null (one TextThere)))
-    × (row_of (codes "offset") (rows f) ≡ Some (one Millis)) × (row_of (codes "or_matchers") (rows f) ≡ Some (full_list_of (list_of matcher)))
+    × (row_of (codes "matchers") (rows f) ≡ Some (list_of ListThere matcher)) × (row_of (codes "name") (rows f) ≡ Some (or_null (one TextThere)))
+    × (row_of (codes "offset") (rows f) ≡ Some (one Millis)) × (row_of (codes "or_matchers") (rows f) ≡ Some (list_of FullList (list_of ListThere matcher)))
 
 abbrev pub EndsSelector : Form → Type 0
 EndsSelector f = (in_order f (codes "startOrEnd" ∷ codes "timestamp" ∷ codes "type" ∷ []) ≡ true) × (follows f (Some (codes "type")) None ≡ true)

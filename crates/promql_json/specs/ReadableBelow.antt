@@ -1,11 +1,29 @@
 -- Private: readable trees of at most so many nodes above one another, by recursion. No contract of a public function speaks of it.
-use Rattle.std.specs.Prelude.{◌≡◌, ℕ, zero, suc, true, Some}
+use Rattle.std.specs.Prelude.{◌≡◌, ℕ, zero, suc, true, IfSome, Option, Some, None}
+use Rattle.std.specs.List.{AllByRecursion}
 use Rattle.promql_text.specs.Values.{IsNumber}
+use Rattle.promql_text.specs.declared.number.Number.{Number}
 use Rattle.promql_token.specs.Ids.{is_one_of}
+use Rattle.promql_label.specs.PlainMatchers.{PlainMatchers, plain_matchers}
 use Rattle.promql_kind.specs.Functions.{function_named, name_of}
+use Rattle.promql_kind.specs.Modifiers.{fills, Matching, matching}
+use Rattle.promql_ast.specs.Selectors.{Selector, selector}
 use Rattle.promql_ast.specs.Tree.{Tree, aggregate, unary, binary, paren, subquery, number, string, vector, matrix, call, extension, MaybeTree, absent, present, Trees, no_trees, first_tree}
-use Rattle.promql_json.specs.Readable.{ReadableMatching, ReadableMoment, ReadableSelector}
+use Rattle.promql_json.specs.Readable.{ReadableMatcher, ReadableMoment}
 use Rattle.promql_json.specs.declared.read_values.TheConstants.{AGGREGATORS, OPERATORS}
+
+abbrev pub ReadableFill : Option Number → Type 0
+ReadableFill n = IfSome n IsNumber
+
+abbrev pub ReadableMatching : Option Matching → Type 0
+ReadableMatching None = Unit {0}
+ReadableMatching (Some (matching card clause return_bool (fills r l))) = ReadableFill r × ReadableFill l
+
+abbrev pub ReadableMatchers : PlainMatchers → Type 0
+ReadableMatchers (plain_matchers plain groups) = AllByRecursion ReadableMatcher plain × AllByRecursion (AllByRecursion ReadableMatcher) groups
+
+abbrev pub ReadableSelector : Selector → Type 0
+ReadableSelector (selector name matchers offset at) = ReadableMatchers matchers × ReadableMoment at
 
 abbrev mutual
   pub ReadableBelow : ℕ → Tree → Type 0

@@ -3,8 +3,9 @@
 ghost use Rattle.std.specs.Prelude.{◌≡◌, ◌++◌, Some, [], codes};
 ghost use Rattle.serde_json.specs.Data.{Data};
 ghost use Rattle.serde_json.specs.Find.{at as item_at, get};
-ghost use Rattle.promql_json.specs.FormMisfits.{AsksOf, Form, MisfitAt, exactly, item_of};
+ghost use Rattle.promql_json.specs.FormMisfits.{AsksOf, Form, MisfitAt, exactly, list_of};
 ghost use Rattle.promql_json.specs.MembersLeft.{IsIn};
+ghost use Rattle.promql_json.specs.declared.from_error.Expected.{Expected as Kind};
 ghost use Rattle.promql_json.specs.declared.from_error.ReadError.TheVariants.{Memory};
 
 use std::alloc::{AllocError, AllocFailed, Global};
@@ -189,7 +190,7 @@ impl ReadError {
     /// The error, seen from the list that has it in the item of this index.
     pub(crate) fn inside_item(self, alloc: Global, index: usize) -> ReadError
         ensures memory { self ≡ Memory → result ≡ Memory }
-        ensures place { (f g : Form) (d v : Data) → item_of f ≡ Some g → item_at index d ≡ Some v → IsIn g v self → IsIn f d result }
+        ensures place { (x : Kind) (f : Form) (d v : Data) → item_at index d ≡ Some v → IsIn f v self → IsIn (list_of x f) d result }
         ensures exact { (d v w x : Data) → item_at index w ≡ Some x → item_at index d ≡ Some v → IsIn (exactly x) v self
             → IsIn (exactly w) d result }
     {

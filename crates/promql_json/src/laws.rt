@@ -7,17 +7,16 @@ ghost use Rattle.promql_ast.specs.View.{tree_of};
 ghost use Rattle.promql_ast.specs.declared.expr.Expr.{Expr};
 ghost use Rattle.serde_json.specs.Data.{Data};
 ghost use Rattle.serde_json.specs.Written.{has_float};
-ghost use Rattle.promql_json.specs.Events.{events};
-ghost use Rattle.promql_json.specs.Json.{json, NoFault};
+ghost use Rattle.promql_json.specs.Json.{AtEachNode, json, own_fault};
 ghost use Rattle.promql_json.specs.Readable.{IsNoForm, IsReadable};
 ghost use Rattle.promql_json.specs.declared.from_error.FromJsonError.{FromJsonError};
 ghost use Rattle.promql_json.specs.declared.from_error.FromJsonError.TheVariants.{Memory};
 
 use crate::error::JsonError;
 
-/// A tree has a JSON form exactly where no node that its walk comes to is at fault.
+/// A tree has a JSON form exactly where none of its nodes is at fault.
 pub fn forms_without_faults()
-    ensures { (t : Tree) → ((d : Data) × (json t ≡ Ok d)) ↔ NoFault (events t) }
+    ensures { (t : Tree) → ((d : Data) × (json t ≡ Ok d)) ↔ AtEachNode (λ n. own_fault n ≡ None) t }
 {}
 
 /// No JSON form has a floating point number, so `to_string` of a `Value` is known to the byte.

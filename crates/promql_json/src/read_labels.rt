@@ -13,9 +13,9 @@ ghost use Rattle.promql_label.specs.PlainMatchers.{Operator, PlainMatcher};
 ghost use Rattle.promql_json.specs.FormMembers.{groups_members};
 ghost use Rattle.promql_json.specs.JsonParts as spec;
 ghost use Rattle.promql_json.specs.Readable.{ReadableMatcher};
-ghost use Rattle.promql_json.specs.FormMisfits.{IsNot, full_list_of, labels as labels_form, list_of, matcher, one};
+ghost use Rattle.promql_json.specs.FormMisfits.{IsNot, labels as labels_form, list_of, matcher, one};
 ghost use Rattle.promql_json.specs.MembersLeft.{IsIn};
-ghost use Rattle.promql_json.specs.declared.from_error.Expected.TheVariants.{MatchOp, Text as TextThere};
+ghost use Rattle.promql_json.specs.declared.from_error.Expected.TheVariants.{FullList, List as ListThere, MatchOp, Text as TextThere};
 ghost use Rattle.promql_json.specs.declared.from_error.ReadError.TheVariants.{Memory};
 
 use crate::fields::Fields;
@@ -119,7 +119,7 @@ fn read_matcher_list(alloc: Global, list: &[Value]) -> Result<Vec<Matcher>, Read
         ≡ map spec.matcher_json (map plain_matcher_of group.items)) }
     ensures err { IfErr result (λ e. e ≢ Memory → (ms : List PlainMatcher) → AllByRecursion ReadableMatcher ms
         → items_view list.now ≢ items_of (map spec.matcher_json ms)) }
-    ensures place { IfErr result (IsIn (list_of matcher) (array (items_view list.now))) }
+    ensures place { IfErr result (IsIn (list_of ListThere matcher) (array (items_view list.now))) }
 {
     let mut group = Vec::with_capacity(alloc, list.len())?;
     for i in 0..list.len() {
@@ -137,7 +137,7 @@ pub(crate) fn read_group(alloc: Global, value: &Value) -> Result<Vec<Matcher>, R
         ≡ spec.group_json (map plain_matcher_of group.items)) }
     ensures err { IfErr result (λ e. e ≢ Memory → (ms : List PlainMatcher) → AllByRecursion ReadableMatcher ms
         → view value.now ≢ spec.group_json ms) }
-    ensures place { IfErr result (IsIn (list_of matcher) (view value.now)) }
+    ensures place { IfErr result (IsIn (list_of ListThere matcher) (view value.now)) }
 {
     let list = read_list(alloc, value)?;
     read_matcher_list(alloc, list)
@@ -148,7 +148,7 @@ fn read_group_list(alloc: Global, list: &[Value]) -> Result<Vec<Vec<Matcher>>, R
         ≡ map spec.group_json (map (λ g. map plain_matcher_of g.items) groups.items)) }
     ensures err { IfErr result (λ e. e ≢ Memory → (gs : List (List PlainMatcher)) → AllByRecursion (AllByRecursion ReadableMatcher) gs
         → items_view list.now ≢ items_of (map spec.group_json gs)) }
-    ensures place { IfErr result (IsIn (full_list_of (list_of matcher)) (array (items_view list.now))) }
+    ensures place { IfErr result (IsIn (list_of FullList (list_of ListThere matcher)) (array (items_view list.now))) }
 {
     let mut groups = Vec::with_capacity(alloc, list.len())?;
     for i in 0..list.len() {
@@ -167,7 +167,7 @@ pub(crate) fn read_groups(alloc: Global, value: &Value) -> Result<Vec<Vec<Matche
     ensures err { IfErr result (λ e. e ≢ Memory → (g : List PlainMatcher) (gs : List (List PlainMatcher))
         → AllByRecursion (AllByRecursion ReadableMatcher) (g ∷ gs)
         → view value.now ≢ spec.list (map spec.group_json (g ∷ gs))) }
-    ensures place { IfErr result (IsIn (full_list_of (list_of matcher)) (view value.now)) }
+    ensures place { IfErr result (IsIn (list_of FullList (list_of ListThere matcher)) (view value.now)) }
 {
     let list = read_list(alloc, value)?;
     if list.is_empty() {

@@ -12,10 +12,10 @@ ghost use Rattle.promql_kind.specs.ModifierViews.{cardinality_of, clause_of, fil
 ghost use Rattle.promql_kind.specs.Modifiers.{Cardinality, Clause, Matching, fills, is_including_some};
 ghost use Rattle.promql_ast.specs.OptionalModifiers.{returns_bool};
 ghost use Rattle.promql_json.specs.JsonParts as spec;
-ghost use Rattle.promql_json.specs.Readable.{ReadableFill, ReadableMatching};
-ghost use Rattle.promql_json.specs.FormMisfits.{IsNot, cardinality, exactly, fill_values, function as function_form, grouped, list_of, modifier, no_list, node_named, one, or_null, word};
+ghost use Rattle.promql_json.specs.ReadableBelow.{ReadableFill, ReadableMatching};
+ghost use Rattle.promql_json.specs.FormMisfits.{IsNot, exactly, fill_values, function as function_form, grouped, list_of, modifier, no_list, node_named, one, or_null, word};
 ghost use Rattle.promql_json.specs.MembersLeft.{IsAlone, IsIn, IsRow};
-ghost use Rattle.promql_json.specs.declared.from_error.Expected.TheVariants.{Cardinality as CardinalityWord, EmptyList, FunctionName, FunctionPart};
+ghost use Rattle.promql_json.specs.declared.from_error.Expected.TheVariants.{Cardinality as CardinalityWord, EmptyList, FunctionName, FunctionPart, List as ListThere};
 ghost use Rattle.promql_json.specs.declared.from_error.ReadError.TheVariants.{Memory};
 
 use crate::fields::Fields;
@@ -115,7 +115,7 @@ fn read_many(
         ≡ spec.cardinality_json (cardinality_of card)) }
     ensures err { IfErr result (λ e. e ≢ Memory → (card : Cardinality)
         → object (members_view members.now.entries) ≢ spec.cardinality_json card) }
-    ensures place { IfErr result (IsIn cardinality (object (members_view members.now.entries))) }
+    ensures place { IfErr result (IsIn (one CardinalityWord) (object (members_view members.now.entries))) }
 {
     let mut fields = Fields::new(members);
     match fields.next_if("one-to-many")? {
@@ -132,7 +132,7 @@ fn read_cardinality(alloc: Global, value: &Value) -> Result<VectorMatchCardinali
     ensures ok { IfOk result (λ card. view value.now ≡ spec.cardinality_json (cardinality_of card)) }
     ensures err { IfErr result (λ e. e ≢ Memory → (card : Cardinality)
         → view value.now ≢ spec.cardinality_json card) }
-    ensures place { IfErr result (λ e. IsNot CardinalityWord (view value.now) → IsIn cardinality (view value.now) e) }
+    ensures place { IfErr result (λ e. IsNot CardinalityWord (view value.now) → IsIn (one CardinalityWord) (view value.now) e) }
 {
     match value {
         Value::String(text) if text.as_str() == "one-to-one" => Ok(
@@ -232,7 +232,7 @@ fn expect_types(alloc: Global, value: &Value, types: &[ValueType]) -> Result<(),
     ensures ok { OnOk result (view value.now ≡ spec.list (map spec.type_json types.now)) }
     ensures err { IfErr result (λ e. e ≢ Memory → view value.now ≢ spec.list (map spec.type_json types.now)) }
     ensures place { IfErr result (λ e. view value.now ≢ spec.list (map spec.type_json types.now)
-        → IsIn (list_of (one FunctionPart)) (view value.now) e ⊎ IsIn (exactly (spec.list (map spec.type_json types.now))) (view value.now) e) }
+        → IsIn (list_of ListThere (one FunctionPart)) (view value.now) e ⊎ IsIn (exactly (spec.list (map spec.type_json types.now))) (view value.now) e) }
 {
     let list = read_list(alloc, value)?;
     if list.len() != types.len() {

@@ -2,6 +2,7 @@
 
 ghost use Rattle.std.specs.Prelude.{◌≡◌, ◌≢◌, ◌+◌, ℕ, true, None, Ok, Option, Some, IfErr, IfOk, codes, option_map, string_bytes};
 ghost use Rattle.std.specs.Duration.{as_nanos};
+ghost use Rattle.std.specs.Option.{option_or};
 ghost use Rattle.serde_json.specs.Data.{Data, array, object};
 ghost use Rattle.serde_json.specs.Find.{get};
 ghost use Rattle.serde_json.specs.Read.{read as read_text};
@@ -16,14 +17,15 @@ ghost use Rattle.promql_ast.specs.Shifts.{Moment, Shift, moment_of, shift_of};
 ghost use Rattle.promql_ast.specs.Tree.{MaybeTree, Tree, Trees, aggregate, binary, call, number, paren, string, subquery, unary};
 ghost use Rattle.promql_ast.specs.View.{aggregate_tree, binary_tree, call_tree, option_tree, paren_tree, subquery_tree, tree_of, trees_of, unary_tree};
 ghost use Rattle.promql_json.specs.FormMembers.{aggregate_members, binary_members, subquery_members};
-ghost use Rattle.promql_json.specs.Json.{args_items, first_of, json, json_value, param_json, step_fault, type_name, width_fault};
+ghost use Rattle.promql_json.specs.Json.{args_items, json, json_value, param_json, step_fault, type_name, width_fault};
 ghost use Rattle.promql_json.specs.JsonParts.{millis, shift_millis};
-ghost use Rattle.promql_json.specs.Readable.{IsNoForm, ReadableMatching, ReadableMoment};
-ghost use Rattle.promql_json.specs.ReadableBelow.{AllReadableBelow, MaybeReadableBelow, ReadableBelow};
+ghost use Rattle.promql_json.specs.Readable.{IsNoForm, ReadableMoment};
+ghost use Rattle.promql_json.specs.ReadableBelow.{AllReadableBelow, MaybeReadableBelow, ReadableBelow, ReadableMatching};
 ghost use Rattle.promql_json.specs.declared.read_values.TheConstants.{AGGREGATORS as AGGREGATOR_IDS, OPERATORS as OPERATOR_IDS};
 ghost use Rattle.promql_json.specs.JsonFaults.{args_fault, json_fault, param_fault};
 ghost use Rattle.promql_json.specs.FormMisfits.{AsksOf, Form, MisfitAt, list_of, node as node_form, node_named};
 ghost use Rattle.promql_json.specs.MembersLeft.{IsIn, IsTypeIn, IsTyped};
+ghost use Rattle.promql_json.specs.declared.from_error.Expected.TheVariants.{List as ListThere};
 ghost use Rattle.promql_json.specs.declared.from_error.FromJsonError.TheVariants as surface;
 ghost use Rattle.promql_json.specs.declared.from_error.Misfit.{Misfit as Fault};
 ghost use Rattle.promql_json.specs.declared.from_error.ReadError.{ReadError as Fails};
@@ -321,8 +323,8 @@ fn subquery_parts<'v>(
 ) -> Result<SubqueryParts<'v>, ReadError>
     ensures ok { IfOk result (λ p. members_view members.now.entries ≡ subquery_members (view p.expr.now)
         (option_map shift_of p.offset) (option_map moment_of p.at) (as_nanos p.range) (option_map as_nanos p.step)) }
-    ensures fits { IfOk result (λ p. first_of (width_fault (shift_millis (option_map shift_of p.offset)))
-        (first_of (width_fault (millis (as_nanos p.range))) (step_fault (option_map as_nanos p.step))) ≡ None) }
+    ensures fits { IfOk result (λ p. option_or (width_fault (shift_millis (option_map shift_of p.offset)))
+        (option_or (width_fault (millis (as_nanos p.range))) (step_fault (option_map as_nanos p.step))) ≡ None) }
     ensures err { IfErr result (λ e. e ≢ Memory
         → (expr : Data) (offset : Option Shift) (at : Option Moment) (range : ℕ) (step : Option ℕ) → ReadableMoment at
         → members_view members.now.entries ≢ subquery_members expr offset at range step) }
@@ -416,7 +418,7 @@ fn read_arg_list(alloc: Global, list: &[Value], depth: usize) -> Result<Vec<Box<
     ensures ok { IfOk result (λ args. items_view list.now ≡ args_items (trees_of args.items)) }
     ensures fits { IfOk result (λ args. args_fault (trees_of args.items) ≡ None) }
     ensures err { IfErr result (λ e. e ≢ Memory → (ts : Trees) → AllReadableBelow depth ts → items_view list.now ≢ args_items ts) }
-    ensures place { IfErr result (IsIn (list_of (node_form depth)) (array (items_view list.now))) }
+    ensures place { IfErr result (IsIn (list_of ListThere (node_form depth)) (array (items_view list.now))) }
 {
     let mut args = Vec::with_capacity(alloc, list.len())?;
     for i in 0..list.len() {
@@ -433,7 +435,7 @@ fn read_args(alloc: Global, value: &Value, depth: usize) -> Result<Vec<Box<Expr>
     ensures ok { IfOk result (λ args. view value.now ≡ array (args_items (trees_of args.items))) }
     ensures fits { IfOk result (λ args. args_fault (trees_of args.items) ≡ None) }
     ensures err { IfErr result (λ e. e ≢ Memory → (ts : Trees) → AllReadableBelow depth ts → view value.now ≢ array (args_items ts)) }
-    ensures place { IfErr result (IsIn (list_of (node_form depth)) (view value.now)) }
+    ensures place { IfErr result (IsIn (list_of ListThere (node_form depth)) (view value.now)) }
 {
     let list = read_list(alloc, value)?;
     read_arg_list(alloc, list, depth)

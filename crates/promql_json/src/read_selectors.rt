@@ -14,15 +14,16 @@ ghost use Rattle.promql_ast.specs.declared.range_mode.RangeMode.{RangeMode as Mo
 ghost use Rattle.promql_ast.specs.View.{matrix_tree, selector_of, vector_tree};
 ghost use Rattle.promql_label.specs.PlainMatchers.{PlainMatcher};
 ghost use Rattle.std.specs.List.{AllByRecursion};
-ghost use Rattle.promql_json.specs.Readable.{ReadableMatcher, ReadableMoment, ReadableSelector};
+ghost use Rattle.promql_json.specs.Readable.{ReadableMatcher, ReadableMoment};
+ghost use Rattle.promql_json.specs.ReadableBelow.{ReadableSelector};
 ghost use Rattle.promql_json.specs.FormMembers.{begin_members, end_members, groups_members, mode_members};
 ghost use Rattle.promql_json.specs.Json.{json_value, selector_fault, width_fault};
 ghost use Rattle.promql_json.specs.JsonFaults.{json_fault};
 ghost use Rattle.promql_json.specs.JsonTokens.{moment_of_selector};
 ghost use Rattle.promql_json.specs.JsonParts as spec;
-ghost use Rattle.promql_json.specs.FormMisfits.{Form, full_list_of, list_of, matcher, node_named, one, or_null, row_of, rows};
+ghost use Rattle.promql_json.specs.FormMisfits.{Form, list_of, matcher, node_named, one, or_null, row_of, rows};
 ghost use Rattle.promql_json.specs.MembersLeft.{AreLeft, BeginsSelector, EndsSelector, IsIn, IsTyped, follows};
-ghost use Rattle.promql_json.specs.declared.from_error.Expected.TheVariants.{Millis, StartOrEnd, Text as TextThere};
+ghost use Rattle.promql_json.specs.declared.from_error.Expected.TheVariants.{FullList, List as ListThere, Millis, StartOrEnd, Text as TextThere};
 ghost use Rattle.promql_json.specs.declared.from_error.ReadError.TheVariants.{Memory};
 
 use crate::fields::Fields;
@@ -63,7 +64,7 @@ fn next_groups(alloc: Global, fields: &mut Fields<'_>) -> Result<Vec<Vec<Matcher
     ensures left { IfOk result (λ _. (f : Form) (d : Data) → AreLeft f d (Some (codes "or_matchers")) (members_view fields.old.rest)
         → (after : Option Text) → follows f (Some (codes "or_matchers")) after ≡ true → AreLeft f d after (members_view fields.new.rest)) }
     ensures place { IfErr result (λ e. (f : Form) (d : Data) → AreLeft f d (Some (codes "or_matchers")) (members_view fields.old.rest)
-        → row_of (codes "or_matchers") (rows f) ≡ Some (full_list_of (list_of matcher)) → IsIn f d e) }
+        → row_of (codes "or_matchers") (rows f) ≡ Some (list_of FullList (list_of ListThere matcher)) → IsIn f d e) }
 {
     match fields.next_if("or_matchers")? {
         Some(groups) => Ok(member!(alloc, "or_matchers", read_groups(alloc, groups))),

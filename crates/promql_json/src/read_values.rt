@@ -1,7 +1,8 @@
 //! What the values of members mean: docs/reference/json.md, "Values". Private.
 
-ghost use Rattle.std.specs.Prelude.{◌≡◌, ◌≢◌, ℕ, ℤ, [], Bool, Option, Some, None, pos, slice_get, int_lt, codes, IfErr, IfOk, IfSome, IfNone, false, true, OnErr, OnOk, option_map};
+ghost use Rattle.std.specs.Prelude.{◌≡◌, ◌≢◌, ℕ, ℤ, [], Bool, FitsSigned, Option, Some, None, pos, slice_get, int_lt, codes, IfErr, IfOk, IfSome, IfNone, false, true, OnErr, OnOk, option_map};
 ghost use Rattle.std.specs.Duration.{as_nanos};
+ghost use Rattle.std.specs.Int.{w64};
 ghost use Rattle.std.specs.List.{list_any};
 ghost use Rattle.std.specs.Str.{bytes_eq};
 ghost use Rattle.serde_json.specs.Data.{Data, Items, Members, array, boolean, member, null, object, string};
@@ -14,7 +15,8 @@ ghost use Rattle.promql_token.specs.Ids.{is_one_of, text_of};
 ghost use Rattle.promql_ast.specs.Shifts.{Moment, moment_of, shift_of};
 ghost use Rattle.promql_json.specs.FormMembers.{mode_members};
 ghost use Rattle.promql_json.specs.Json.{step_fault, width_fault};
-ghost use Rattle.promql_json.specs.Readable.{ReadableFill, ReadableMoment, is_millis};
+ghost use Rattle.promql_json.specs.Readable.{ReadableMoment};
+ghost use Rattle.promql_json.specs.ReadableBelow.{ReadableFill};
 ghost use Rattle.promql_json.specs.FormMisfits.{AsksOf, Form, IsNot, MisfitAt, expected_at, one, or_null, row_of, rows, word};
 ghost use Rattle.promql_json.specs.MembersLeft.{IsIn};
 ghost use Rattle.promql_json.specs.declared.from_error.Expected.TheVariants.{Flag, Length, List as ListThere, Millis, Number as NumberText, Object as ObjectThere, RangeMode as RangeModeWord, StartOrEnd, Text as TextThere};
@@ -222,7 +224,7 @@ pub(crate) fn read_step(alloc: Global, value: &Value) -> Result<Option<Duration>
 /// A whole number that fits 64 bits with its sign.
 fn read_i64(alloc: Global, value: &Value) -> Result<i64, ReadError>
     ensures ok { IfOk result (λ z. view value.now ≡ spec.whole z) }
-    ensures err { OnErr result ((z : ℤ) → is_millis z ≡ true → view value.now ≢ spec.whole z) }
+    ensures err { OnErr result ((z : ℤ) → FitsSigned w64 z → view value.now ≢ spec.whole z) }
     ensures place { IfErr result (λ e. IsNot Millis (view value.now) → IsIn (one Millis) (view value.now) e) }
 {
     match value.as_i64() {

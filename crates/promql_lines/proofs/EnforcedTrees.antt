@@ -39,10 +39,10 @@ module _ (c : PlainMatcher) where
 pub asked_plain : (limits : Limits) (matcher : Option Text) (t u : Tree) → IsAsked limits matcher t (Ok u) → HasNoExtension t → HasNoExtension u
 asked_plain limits None t u asked plain =
     let same : u ≡ t = cc in subst HasNoExtension (sym same) plain
-asked_plain limits (Some matcher) t u asked plain = subst HasNoExtension (sym asked.1.enforces) (enforced_plain asked.1.matcher t plain)
+asked_plain limits (Some matcher) t u asked plain = subst HasNoExtension (sym asked.1.3) (enforced_plain asked.1.0 t plain)
 
 pub asked_low : (limits : Limits) (matcher : Option Text) (t u : Tree) → IsAsked limits matcher t (Ok u) → height t ≤ MAX_DEPTH → height u ≤ MAX_DEPTH
 asked_low limits None t u asked low =
     let same : u ≡ t = cc in subst (λ v. height v ≤ MAX_DEPTH) (sym same) low
 asked_low limits (Some matcher) t u asked low =
-    subst (λ n. n ≤ MAX_DEPTH) (sym (ap height asked.1.enforces ∙ height_enforced asked.1.matcher t)) low
+    subst (λ n. n ≤ MAX_DEPTH) (sym (ap height asked.1.3 ∙ height_enforced asked.1.0 t)) low

@@ -14,15 +14,9 @@ pub line_is_enforced : (limits : Limits) (query matcher line : Text) → IsEnfor
 line_is_enforced limits query matcher line h =
     let shown = h.2 in
     let by = shown.1.1 in (
-      by.matcher,
-      by.is,
-      record {
-        tree = h.0;
-        parsed = h.1.1;
-        limited = by.limited;
-        is = subst (λ u. line ≡ text u) by.enforces shown.3.0;
-        means = subst (Means line) by.enforces shown.3.1;
-      },
+      by.0,
+      by.1,
+      (h.0, h.1.1, by.2, (subst (λ u. line ≡ text u) by.3 shown.3.0, subst (Means line) by.3 shown.3.1)),
     )
 
 abbrev body_of : Result Text JsonError → Text

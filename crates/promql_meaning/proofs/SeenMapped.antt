@@ -8,11 +8,13 @@ use Rattle.promql_ast.specs.Tree.{Tree, aggregate, unary, binary, paren, subquer
 use Rattle.promql_ast.specs.declared.range_mode.RangeMode.{RangeMode}
 use Rattle.promql_rewrite.specs.Collecting.{nodes_of, maybe_nodes, all_nodes}
 use Rattle.promql_rewrite.specs.Enforcing.{is_info}
-use Rattle.promql_rewrite.specs.Mapping.{KindedSelector, all_outlines, arg_selectors, kind_after, maybe_outline, outline, param_selectors, selectors_in, selectors_of}
+use Rattle.promql_rewrite.specs.Mapping.{KindedSelector, all_outlines, maybe_outline, outline, selectors_of}
+use Rattle.promql_rewrite.specs.MappedSelectors.{arg_selectors, kind_after, param_selectors, selectors_in}
 use Rattle.promql_rewrite.specs.declared.mapping.SelectorKind.{SelectorKind}
 use Rattle.promql_rewrite.specs.declared.mapping.SelectorKind.TheVariants.{Series}
 use Rattle.promql_meaning.specs.Stores.{Store}
 use Rattle.promql_meaning.specs.Seen.{Seen, MaybeSeen, Seens, grouped, joined, aggregated, negated, operated, stepped, constant, text, instants, ranges, called, extended, unseen, one_seen, none_seen, first_seen, instants_of, ranges_of, seen, maybe_seen, all_seen, is_absent, nothing, sees_beside, has_call_that_sees_beside}
+use Rattle.promql_rewrite.proofs.KindedSelectors.{selectors_are}
 use Rattle.promql_meaning.proofs.NoNodes.{neither, none_apart}
 use Rattle.promql_meaning.proofs.SeenAtHome.{sees_nothing_beside}
 
@@ -125,7 +127,9 @@ module _ (store : Store) where
         ∙ ap (λ (b : Seens × List Seen). (first_seen (seen store e) b.0, b.1)) (all_sees others others es vs parts.1)
 
   sees_by_outline : (t : Tree) → has_call_that_sees_beside t ≡ false → see (outline t) (map view (selectors_of t)) ≡ (seen store t, [])
-  sees_by_outline t h = ap (see (outline t)) (sym (append-nil (map view (selectors_of t)))) ∙ sees Series t [] h
+  sees_by_outline t h =
+      ap (λ xs. see (outline t) (map view xs)) (selectors_are t) ∙ ap (see (outline t)) (sym (append-nil (map view (selectors_in Series t))))
+      ∙ sees Series t [] h
 
   pub read_alike : (t u : Tree) → outline t ≡ outline u → map view (selectors_of t) ≡ map view (selectors_of u) → has_call_that_sees_beside t ≡ false → seen store t ≡ seen store u
   read_alike t u same alike h =

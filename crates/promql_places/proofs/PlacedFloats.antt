@@ -1,6 +1,7 @@
 -- A form with places has no float, so its text is known to the byte.
 use Rattle.std.proofs.Common.{◌≡◌, Ok, ap, sym, ◌∙◌, false, List, [], ◌∷◌, drop, length, codes, Option, Some, None, Ordering, Less, Equal, Greater, refl}
 use Rattle.std.specs.Prelude.{slice_get}
+use Rattle.std.specs.Option.{option_or}
 use Rattle.std.proofs.lemmas.Bool.{or_parts, or_from}
 use Rattle.std.specs.Cmp.Lexicographic.{slice_cmp}
 use Rattle.std.specs.Ordering.{nat_cmp, match_ordering}
@@ -11,8 +12,7 @@ use Rattle.promql_text.specs.Texts.{Text}
 use Rattle.promql_label.specs.PlainMatchers.{PlainMatcher, plain_matcher, PlainMatchers, plain_matchers}
 use Rattle.promql_ast.specs.Selectors.{Selector, selector}
 use Rattle.promql_ast.specs.Tree.{Tree, aggregate, unary, binary, paren, subquery, number, string, vector, matrix, call, extension, MaybeTree, absent, present, Trees, no_trees, first_tree}
-use Rattle.promql_json.specs.Events.{events}
-use Rattle.promql_json.specs.Json.{first_fault, first_of, json, json_value, node_members, type_name, unless}
+use Rattle.promql_json.specs.Json.{first_fault, json, json_value, node_members, type_name, unless}
 use Rattle.promql_json.specs.JsonParts.{list}
 use Rattle.promql_json.specs.JsonFaults.{args_fault, json_fault, param_fault}
 use Rattle.promql_json.specs.declared.error.JsonError.{JsonError}
@@ -53,7 +53,7 @@ with_selector_none : (s : Selector) (ps : List Span) (ms : Members) → members_
 with_selector_none (selector name (plain_matchers plain groups) offset at) ps ms h =
     with_groups_none groups (drop (length plain) ps) _ (none_put (codes "matchers") _ ms (none_in_matchers plain ps) h)
 
-both_none : (a b : Option JsonError) → first_of a b ≡ None → (a ≡ None) × (b ≡ None)
+both_none : (a b : Option JsonError) → option_or a b ≡ None → (a ≡ None) × (b ≡ None)
 both_none None b h = (refl, h)
 both_none (Some e) b h = absurd cc
 
@@ -109,5 +109,5 @@ value_fits (Some e) d is = absurd cc
 
 pub no_float_placed : (t : Tree) (ps : List NodePlace) → json t ≡ Ok (json_value t) → has_float (placed_value t ps) ≡ false
 no_float_placed t ps is =
-    let fits : json_fault t ≡ None = first_met t ∙ value_fits (first_fault (events t)) (json_value t) is in
+    let fits : json_fault t ≡ None = first_met t ∙ value_fits (first_fault t) (json_value t) is in
     node_none t fits (keeps_none t fits) ps

@@ -1,6 +1,7 @@
 -- Steps of a form with places: what is left of the places, and what is put for the nodes and matchers that are left.
 use Rattle.std.proofs.Common.{◌≡◌, ◌<◌, ◌≤◌, ◌+◌, ◌∙◌, ℕ, Option, None, Some, Ok, Err, List, [], ◌∷◌, ◌++◌, Global, Vec, ap, sym, refl, arith, codes, drop, get_or, length, map, rules}
 use Rattle.std.specs.Prelude.{slice_get}
+use Rattle.std.specs.Option.{option_or}
 use Rattle.std.proofs.lemmas.List.{append_assoc, append-nil, drop-drop, drop_all, drop_more, length-append, length-map, map-append}
 use Rattle.std.specs.declared.boxed.Box.{Box}
 use Rattle.serde_json.specs.Data.{Data, Members, put, string as text}
@@ -13,8 +14,7 @@ use Rattle.promql_ast.specs.Fold.{all_within, maybe_within}
 use Rattle.promql_ast.specs.Tree.{Tree, aggregate, unary, binary, paren, subquery, number, string, vector, matrix, call, extension, MaybeTree, absent, present, Trees, no_trees, first_tree}
 use Rattle.promql_ast.specs.View.{tree_of, trees_of}
 use Rattle.promql_ast.specs.declared.expr.Expr.{Expr}
-use Rattle.promql_json.specs.Events.{events}
-use Rattle.promql_json.specs.Json.{first_fault, first_of, json, json_value, node_members, own_fault, type_name, unless}
+use Rattle.promql_json.specs.Json.{first_fault, json, json_value, node_members, own_fault, type_name, unless}
 use Rattle.promql_json.specs.JsonFaults.{args_fault, json_fault}
 use Rattle.promql_json.specs.declared.error.JsonError.{JsonError}
 use Rattle.promql_json.proofs.FaultOrder.{first_met}
@@ -41,12 +41,12 @@ from_plain (extension name gives es) qs ps = refl
 
 -- ---- faults
 
-first_of_none : (a : Option JsonError) → a ≡ first_of a None
+first_of_none : (a : Option JsonError) → a ≡ option_or a None
 first_of_none None = refl
 first_of_none (Some e) = refl
 
 -- a node's own comes first
-whole_fault : (t : Tree) → json_fault t ≡ first_of (own_fault t) (inner_fault t)
+whole_fault : (t : Tree) → json_fault t ≡ option_or (own_fault t) (inner_fault t)
 whole_fault (aggregate op e p m) = refl
 whole_fault (unary e) = refl
 whole_fault (binary op l r m) = refl
@@ -60,10 +60,10 @@ whole_fault (call f args) = refl
 whole_fault (extension name gives es) = refl
 
 pub fault_inside : (t : Tree) (f : Option JsonError) → own_fault t ≡ None → inner_fault t ≡ f → json_fault t ≡ f
-fault_inside t f own inside = whole_fault t ∙ ap (λ a. first_of a (inner_fault t)) own ∙ inside
+fault_inside t f own inside = whole_fault t ∙ ap (λ a. option_or a (inner_fault t)) own ∙ inside
 
 pub own_first : (t : Tree) (e : JsonError) → own_fault t ≡ Some e → json_fault t ≡ Some e
-own_first t e own = whole_fault t ∙ ap (λ a. first_of a (inner_fault t)) own
+own_first t e own = whole_fault t ∙ ap (λ a. option_or a (inner_fault t)) own
 
 value_of : (f : Option JsonError) (d e : Data) → unless f d ≡ Ok e → (e ≡ d) × (f ≡ None)
 value_of None d e is = (cc, refl)
@@ -74,10 +74,10 @@ fault_of None d e is = absurd cc
 fault_of (Some x) d e is = cc
 
 pub form_is : (t : Tree) (d : Data) → json t ≡ Ok d → (d ≡ json_value t) × (json_fault t ≡ None)
-form_is t d is = let both = value_of (first_fault (events t)) (json_value t) d is in (both.0, first_met t ∙ both.1)
+form_is t d is = let both = value_of (first_fault t) (json_value t) d is in (both.0, first_met t ∙ both.1)
 
 pub fault_is : (t : Tree) (e : JsonError) → json t ≡ Err e → json_fault t ≡ Some e
-fault_is t e is = first_met t ∙ fault_of (first_fault (events t)) (json_value t) e is
+fault_is t e is = first_met t ∙ fault_of (first_fault t) (json_value t) e is
 
 pub has_form : (t : Tree) → json_fault t ≡ None → json t ≡ Ok (json_value t)
 has_form t fits = ap (λ f. unless f (json_value t)) (sym (first_met t) ∙ fits)
@@ -145,12 +145,12 @@ module _ (args : List (Box Expr Global)) (i : ℕ) where
   pub args_faults : (b : Box Expr Global) (all : Option JsonError) → i < length args → b ≡ get_or args i b → json_fault (tree_of b.value) ≡ None
       → args_fault (trees_of (drop i args)) ≡ all → args_fault (trees_of (drop (i + 1) args)) ≡ all
   args_faults b all within is fits done =
-      ap (λ f. first_of f (args_fault (trees_of (drop (i + 1) args)))) (sym fits) ∙ ap (λ l. args_fault (trees_of l)) (sym (first_left args i b within is)) ∙ done
+      ap (λ f. option_or f (args_fault (trees_of (drop (i + 1) args)))) (sym fits) ∙ ap (λ l. args_fault (trees_of l)) (sym (first_left args i b within is)) ∙ done
 
   pub arg_fault : (b : Box Expr Global) (e : JsonError) (all : Option JsonError) → i < length args → b ≡ get_or args i b → json_fault (tree_of b.value) ≡ Some e
       → args_fault (trees_of (drop i args)) ≡ all → all ≡ Some e
   arg_fault b e all within is fault done =
-      sym done ∙ ap (λ l. args_fault (trees_of l)) (first_left args i b within is) ∙ ap (λ f. first_of f (args_fault (trees_of (drop (i + 1) args)))) fault
+      sym done ∙ ap (λ l. args_fault (trees_of l)) (first_left args i b within is) ∙ ap (λ f. option_or f (args_fault (trees_of (drop (i + 1) args)))) fault
 
   pub args_end : (vs : List Value) (now : List NodePlace) (all : List Data) → length args ≤ i
       → map view vs ++ placed_args (trees_of (drop i args)) now ≡ all → map view vs ≡ all

@@ -30,7 +30,7 @@ use Rattle.promql_syntax.proofs.CanonicalNodes.{selector_passes}
 use Rattle.promql_syntax.proofs.CheckedAgain.{aggregate_again, aggregates, arguments, call_again, same_tree, subquery_again, unary_again}
 use Rattle.promql_syntax.proofs.PrintedModifiers.{IsWritten, binary_checked, modifier_is}
 use Rattle.promql_syntax.proofs.SingleAnswers.{checks_pass, giving_steps, known_steps, passing_passes, same_ok}
-use Rattle.promql_rewrite.specs.PrintableConditions.{has_param}
+use Rattle.promql_rewrite.specs.PrintableNodes.{has_param}
 
 abbrev pub IsNoNumber : Tree → Type 0
 IsNoNumber (number n) = ⊥

@@ -1,5 +1,5 @@
 -- What holds throughout a tree holds at each of its nodes, and the first node that is wrong is the first of the list of them.
-use Rattle.std.proofs.Common.{◌≡◌, ◌⊎◌, inl, inr, refl, ap, subst, List, [], ◌∷◌, ◌++◌, ⊎_elim}
+use Rattle.std.proofs.Common.{◌⊎◌, inl, inr, List, [], ◌∷◌, ◌++◌, ⊎_elim}
 use Rattle.std.specs.List.{AllByRecursion}
 use Rattle.promql_ast.specs.Tree.{Tree, aggregate, unary, binary, paren, subquery, number, string, vector, matrix, call, extension, MaybeTree, absent, present, Trees, no_trees, first_tree}
 use Rattle.promql_rewrite.specs.Collecting.{all_nodes, maybe_nodes, nodes_of, nodes_within}
@@ -71,29 +71,18 @@ module _ (Fine Wrong : Tree → Type 0) where
   -- of a list
 
   here : (x : Tree) (xs : List Tree) → Wrong x → FirstWrong Fine Wrong (x ∷ xs)
-  here x xs h = record { before = []; first = x; after = xs; is = refl; fine = tt; wrong = h }
+  here x xs h = inl h
 
   later : (x : Tree) (xs : List Tree) → Fine x → FirstWrong Fine Wrong xs → FirstWrong Fine Wrong (x ∷ xs)
-  later x xs h k = record { before = x ∷ k.before; first = k.first; after = k.after; is = ap (λ ys. x ∷ ys) k.is; fine = (h, k.fine); wrong = k.wrong }
+  later x xs h k = inr (h, k)
 
   here_or_later : (x : Tree) (xs : List Tree) → FirstWrong Fine Wrong (x ∷ xs) → Wrong x ⊎ (Fine x × FirstWrong Fine Wrong xs)
-  here_or_later x xs h = go h.before h.is h.fine
-    where
-      go : (ys : List Tree) → x ∷ xs ≡ ys ++ h.first ∷ h.after → AllByRecursion Fine ys → Wrong x ⊎ (Fine x × FirstWrong Fine Wrong xs)
-      go [] e fine = let same : h.first ≡ x = cc in inl (subst Wrong same h.wrong)
-      go (y ∷ ys) e fine =
-          let same : y ≡ x = cc in
-          let rest : xs ≡ ys ++ h.first ∷ h.after = cc in
-          inr (subst Fine same fine.0, record { before = ys; first = h.first; after = h.after; is = rest; fine = fine.1; wrong = h.wrong })
+  here_or_later x xs h = h
 
   -- of two lists
 
   in_none : FirstWrong Fine Wrong [] → ⊥
-  in_none h = go h.before h.is
-    where
-      go : (zs : List Tree) → [] ≡ zs ++ h.first ∷ h.after → ⊥
-      go [] e = cc
-      go (z ∷ zs) e = cc
+  in_none h = h
 
   in_first : (xs ys : List Tree) → FirstWrong Fine Wrong xs → FirstWrong Fine Wrong (xs ++ ys)
   in_first [] ys h = absurd (in_none h)

@@ -67,5 +67,5 @@ module _ (typed : CheckedTyped)
 
   pub judged_other : (t : Tree) → MeansOther (text t) t → IsJudged false t
   judged_other t m =
-      let a = m.answer.served (λ same. cc) in
-      judged_no t (Ok m.other) (λ same. m.differs cc) a.0 a.1
+      let a = m.1.served (λ same. cc) in
+      judged_no t (Ok m.0) (λ same. m.2 cc) a.0 a.1

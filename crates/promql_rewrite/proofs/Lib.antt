@@ -1,6 +1,7 @@
 pub mod AppendedLists
 pub mod AppendedNames
 pub mod BuiltTrees
+pub mod ClosedTrees
 pub mod CollectedSets
 pub mod EachNode
 pub mod EnforcedChecks
@@ -13,6 +14,7 @@ pub mod EnforcedTwice
 pub mod EnforcedTypes
 pub mod Grouped
 pub mod Judging
+pub mod KindedSelectors
 pub mod ListedNodes
 pub mod MappedLists
 pub mod MappedTrees

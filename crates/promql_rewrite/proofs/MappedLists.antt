@@ -4,9 +4,11 @@ use Rattle.std.proofs.lemmas.List.{length-map, length-take-le, map-append, take-
 use Rattle.promql_ast.specs.Selectors.{Selector}
 use Rattle.promql_ast.specs.Tree.{Tree, first_tree}
 use Rattle.promql_ast.specs.View.{trees}
-use Rattle.promql_rewrite.specs.MappedSelectors.{MapsOrFails, kind_at}
-use Rattle.promql_rewrite.specs.Mapping.{Fails, KindedSelector, MapGives, Maps, MapsBy, all_outlines, arg_selectors, outline, selectors_in}
+use Rattle.promql_rewrite.specs.MappedSelectors.{MapsOrFails, arg_selectors, kind_at, selectors_in}
+use Rattle.promql_rewrite.specs.Mapping.{Fails, KindedSelector, MapGives, Maps, MapsBy, all_outlines, outline, selectors_of}
 use Rattle.promql_rewrite.specs.declared.mapping.SelectorKind.{SelectorKind}
+use Rattle.promql_rewrite.specs.declared.mapping.SelectorKind.TheVariants.{Series}
+use Rattle.promql_rewrite.proofs.KindedSelectors.{selectors_are}
 
 -- ---- the selectors of lists of trees
 
@@ -80,6 +82,14 @@ module _ {S E : Type 0} (gives : MapGives S E) where
 
   pub fails_in : (xs os vs : List KindedSelector) (e : E) (s t : S) → os ≡ xs → Fails gives os e s t → Fails gives (xs ++ vs) e s t
   fails_in xs os vs e s t same h = fails_first xs vs e s t (subst (λ l. Fails gives l e s t) same h)
+
+  -- ---- of a whole tree
+
+  pub maps_tree : (t u : Tree) (s r : S) → Maps gives (selectors_in Series t) (selectors_in Series u) s r → Maps gives (selectors_of t) (selectors_of u) s r
+  maps_tree t u s r h = subst (λ xs. Maps gives xs (selectors_of u) s r) (sym (selectors_are t)) (subst (λ ys. Maps gives (selectors_in Series t) ys s r) (sym (selectors_are u)) h)
+
+  pub fails_tree : (t : Tree) (e : E) (s r : S) → Fails gives (selectors_in Series t) e s r → Fails gives (selectors_of t) e s r
+  fails_tree t e s r h = subst (λ xs. Fails gives xs e s r) (sym (selectors_are t)) h
 
   -- ---- by a function
 

@@ -5,9 +5,11 @@ use Rattle.promql_ast.specs.Height.{height, maybe_height, greatest_height}
 use Rattle.promql_ast.specs.Tree.{Tree, aggregate, unary, binary, paren, subquery, number, string, vector, matrix, call, extension, MaybeTree, absent, present, Trees, no_trees, first_tree}
 use Rattle.promql_ast.specs.Types.{type_of}
 use Rattle.promql_ast.specs.node.Binary.{binary_type}
-use Rattle.promql_rewrite.specs.Mapping.{KindedSelector, all_outlines, arg_selectors, kind_after, maybe_outline, outline, param_selectors, selectors_in, selectors_of}
+use Rattle.promql_rewrite.specs.Mapping.{KindedSelector, all_outlines, maybe_outline, outline, selectors_of}
+use Rattle.promql_rewrite.specs.MappedSelectors.{arg_selectors, kind_after, param_selectors, selectors_in}
 use Rattle.promql_rewrite.specs.declared.mapping.SelectorKind.{SelectorKind}
 use Rattle.promql_rewrite.specs.declared.mapping.SelectorKind.TheVariants.{Series}
+use Rattle.promql_rewrite.proofs.KindedSelectors.{selectors_are}
 
 -- ---- types
 
@@ -86,7 +88,9 @@ mutual
       both_kinds (selectors_in k (outline t)) (selectors_in k t) (arg_selectors others others (all_outlines ts)) (arg_selectors others others ts) (kinds_outline k t) (arg_kinds others others ts)
 
 pub same_kinds : (t u : Tree) → outline t ≡ outline u → map kind_of (selectors_of t) ≡ map kind_of (selectors_of u)
-same_kinds t u same = sym (kinds_outline Series t) ∙ ap (λ x. map kind_of (selectors_of x)) same ∙ kinds_outline Series u
+same_kinds t u same =
+    ap (map kind_of) (selectors_are t) ∙ sym (kinds_outline Series t) ∙ ap (λ x. map kind_of (selectors_in Series x)) same
+    ∙ kinds_outline Series u ∙ ap (map kind_of) (sym (selectors_are u))
 
 -- ---- a tree is its outline and its selectors
 
@@ -147,7 +151,7 @@ mutual
       ∙ ap (λ (b : Trees × List KindedSelector). (first_tree t b.0, b.1)) (all_filled others others ts rest)
 
 whole : (t : Tree) → (fill (outline t) (selectors_of t)).0 ≡ t
-whole t = ap (λ xs. (fill (outline t) xs).0) (sym (append-nil (selectors_of t))) ∙ ap (λ (a : Tree × List KindedSelector). a.0) (filled Series t [])
+whole t = ap (λ xs. (fill (outline t) xs).0) (selectors_are t ∙ sym (append-nil (selectors_in Series t))) ∙ ap (λ (a : Tree × List KindedSelector). a.0) (filled Series t [])
 
 pub same_trees : (t u : Tree) → outline t ≡ outline u → selectors_of t ≡ selectors_of u → t ≡ u
 same_trees t u same selectors = sym (whole t) ∙ (λ i. (fill (same i) (selectors i)).0) ∙ whole u

@@ -13,10 +13,12 @@ use Rattle.promql_ast.specs.Typed.{AllTyped, MaybeTyped, TakesCount, Typed, Type
 use Rattle.promql_ast.specs.Types.{type_of}
 use Rattle.promql_ast.specs.check.AggregateChecks.{maybe_type}
 use Rattle.promql_ast.specs.check.CallChecks.{is_exempt, is_exempt_number}
-use Rattle.promql_rewrite.specs.Mapping.{KindedSelector, all_outlines, arg_selectors, kind_after, maybe_outline, outline, param_selectors, selectors_in, selectors_of}
+use Rattle.promql_rewrite.specs.Mapping.{KindedSelector, all_outlines, maybe_outline, outline, selectors_of}
+use Rattle.promql_rewrite.specs.MappedSelectors.{arg_selectors, kind_after, param_selectors, selectors_in}
 use Rattle.promql_rewrite.specs.declared.mapping.SelectorKind.{SelectorKind}
 use Rattle.promql_rewrite.specs.declared.mapping.SelectorKind.TheVariants.{Series}
 use Rattle.promql_rewrite.proofs.MappedTrees.{type_outline}
+use Rattle.promql_rewrite.proofs.KindedSelectors.{selectors_are}
 
 -- ---- the selectors of a list
 
@@ -129,4 +131,4 @@ mutual
       (joined k t h.0 below.0, all_joined others others ts h.1 below.1)
 
 pub typed_again : (t u : Tree) → outline t ≡ outline u → Typed t → AllByRecursion (λ (x : KindedSelector). TypedSelector x.1) (selectors_of u) → Typed u
-typed_again t u same h selectors = joined Series u (subst Typed same (apart t h)) selectors
+typed_again t u same h selectors = joined Series u (subst Typed same (apart t h)) (subst TypedEach (selectors_are u) selectors)

@@ -8,10 +8,12 @@ use Rattle.promql_kind.specs.Modifiers.{Cardinality, one_to_one, many_to_one, on
 use Rattle.promql_ast.specs.Selectors.{Selector}
 use Rattle.promql_ast.specs.Tree.{Tree, aggregate, unary, binary, paren, subquery, number, string, vector, matrix, call, extension, MaybeTree, absent, present, Trees, no_trees, first_tree}
 use Rattle.promql_rewrite.specs.Enforcing.{all_enforced, enforced, enforced_selector, maybe_enforced}
-use Rattle.promql_rewrite.specs.Mapping.{KindedSelector, all_outlines, arg_selectors, kind_after, maybe_outline, outline, param_selectors, selectors_in, selectors_of}
+use Rattle.promql_rewrite.specs.Mapping.{KindedSelector, all_outlines, maybe_outline, outline, selectors_of}
+use Rattle.promql_rewrite.specs.MappedSelectors.{arg_selectors, kind_after, param_selectors, selectors_in}
 use Rattle.promql_rewrite.specs.Renaming.{of_metric, all_renamed, maybe_renamed, renamed, renamed_cardinality, renamed_clause, renamed_matching, renamed_selector}
 use Rattle.promql_rewrite.specs.declared.mapping.SelectorKind.{SelectorKind}
 use Rattle.promql_rewrite.specs.declared.mapping.SelectorKind.TheVariants.{Series}
+use Rattle.promql_rewrite.proofs.KindedSelectors.{selectors_are}
 
 -- ---- two lists of selectors of which each is changed
 
@@ -76,7 +78,7 @@ module _ (c : PlainMatcher) where
         both with_it (selectors_in k (enforced c t)) (arg_selectors others others (all_enforced c ts)) (selectors_in k t) (arg_selectors others others ts) (in_enforced k t) (args_enforced others others ts)
 
   pub selectors_enforced : (t : Tree) → selectors_of (enforced c t) ≡ map (changed with_it) (selectors_of t)
-  selectors_enforced = in_enforced Series
+  selectors_enforced t = selectors_are (enforced c t) ∙ in_enforced Series t ∙ ap (map (changed with_it)) (sym (selectors_are t))
 
 -- ---- renaming a metric
 
@@ -147,4 +149,4 @@ module _ (from to : Text) where
         both other_name (selectors_in k (renamed (of_metric from to) t)) (arg_selectors others others (all_renamed (of_metric from to) ts)) (selectors_in k t) (arg_selectors others others ts) (in_renamed k t) (args_renamed others others ts)
 
   pub selectors_renamed : (t : Tree) → selectors_of (renamed (of_metric from to) t) ≡ map (changed other_name) (selectors_of t)
-  selectors_renamed = in_renamed Series
+  selectors_renamed t = selectors_are (renamed (of_metric from to) t) ∙ in_renamed Series t ∙ ap (map (changed other_name)) (sym (selectors_are t))

@@ -18,8 +18,8 @@ use Rattle.promql_ast.specs.check.AggregateChecks.{maybe_type}
 use Rattle.promql_ast.specs.check.CallChecks.{is_exempt, is_exempt_number}
 use Rattle.promql_syntax.proofs.CheckedAgain.{type_normal}
 use Rattle.promql_syntax.proofs.PrintedModifiers.{Alike}
-use Rattle.promql_rewrite.specs.PrintableConditions.{IsNegated, IsRightSide, IsSubqueried, PrintableFill, has_param, openness}
-use Rattle.promql_rewrite.specs.PrintableNodes.{AllPrintableNodes, FollowsLabels, MaybePrintableNodes, NodesArePrintable, PrintableModifier, PrintableNodes}
+use Rattle.promql_rewrite.specs.PrintableConditions.{IsNegated, IsRightSide, PrintableFill, openness}
+use Rattle.promql_rewrite.specs.PrintableNodes.{AllPrintableNodes, FollowsLabels, IsSubqueried, MaybePrintableNodes, NodesArePrintable, PrintableModifier, PrintableNodes, has_param}
 use Rattle.promql_rewrite.specs.PrintableTrees.{all_printed_height, maybe_printed_height, printed_height}
 use Rattle.promql_rewrite.proofs.NormalMatchers.{of_normal_selector, typed_of_normal_selector}
 

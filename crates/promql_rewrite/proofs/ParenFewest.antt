@@ -6,8 +6,8 @@ use Rattle.promql_ast.specs.Tree.{Tree, aggregate, unary, binary, paren, subquer
 use Rattle.promql_rewrite.specs.AddedParens.{AddsParens, same, added, in_aggregate, in_unary, in_binary, in_paren, in_subquery, in_call, in_extension, MaybeAddsParens, neither, both, AllAddParens, no_more, one_more}
 use Rattle.promql_rewrite.specs.Parenthesizing.{all_parenthesized, at_place, fits_left, fits_range, fits_right, fits_sign, maybe_parenthesized, parenthesized}
 use Rattle.promql_rewrite.specs.Throughout.{Throughout, ThroughoutAll, ThroughoutMaybe}
-use Rattle.promql_rewrite.specs.PrintableConditions.{IsNegated, IsRightSide, IsSubqueried, openness}
-use Rattle.promql_rewrite.specs.PrintableNodes.{IsNodePlaced}
+use Rattle.promql_rewrite.specs.PrintableConditions.{IsNegated, IsRightSide, openness}
+use Rattle.promql_rewrite.specs.PrintableNodes.{IsNodePlaced, IsSubqueried}
 use Rattle.promql_rewrite.proofs.ParenPlaces.{fits_range_is, fits_right_is, fits_sign_is, left_misfits, need_gap, need_most, precedence_most, root_open, unchanged, well_placed}
 
 -- ---- parentheses are added, and nothing else changes

@@ -11,8 +11,8 @@ use Rattle.promql_grammar.proofs.Precedences.{Band, band, need}
 use Rattle.promql_ast.specs.Tree.{Tree, aggregate, unary, binary, paren, subquery, number, string, vector, matrix, call, extension, MaybeTree, absent, present, Trees, no_trees, first_tree}
 use Rattle.promql_rewrite.specs.Parenthesizing.{all_parenthesized, at_place, binds_right, fits_left, fits_range, fits_right, fits_sign, maybe_parenthesized, parenthesized}
 use Rattle.promql_rewrite.specs.Throughout.{Throughout, ThroughoutAll, ThroughoutMaybe}
-use Rattle.promql_rewrite.specs.PrintableConditions.{IsNegated, IsRightSide, IsSubqueried, openness}
-use Rattle.promql_rewrite.specs.PrintableNodes.{IsNodePlaced}
+use Rattle.promql_rewrite.specs.PrintableConditions.{IsNegated, IsRightSide, openness}
+use Rattle.promql_rewrite.specs.PrintableNodes.{IsNodePlaced, IsSubqueried}
 
 -- ---- tests
 

@@ -19,8 +19,7 @@ use Rattle.promql_ast.specs.check.CallChecks.{is_exempt, is_exempt_number}
 use Rattle.promql_ast.specs.node.Binary.{binary_type}
 use Rattle.promql_rewrite.specs.Parenthesizing.{all_parenthesized, at_place, fits_left, fits_range, fits_right, fits_sign, maybe_parenthesized, parenthesized}
 use Rattle.promql_rewrite.specs.Throughout.{Throughout, ThroughoutAll, ThroughoutMaybe}
-use Rattle.promql_rewrite.specs.PrintableConditions.{has_param}
-use Rattle.promql_rewrite.specs.PrintableNodes.{HasNodeParts}
+use Rattle.promql_rewrite.specs.PrintableNodes.{HasNodeParts, has_param}
 use Rattle.promql_rewrite.specs.PrintableTrees.{PatternsAnswered, all_printed_height, maybe_printed_height, printed_height}
 
 -- ---- types

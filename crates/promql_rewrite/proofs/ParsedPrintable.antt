@@ -41,8 +41,8 @@ use Rattle.promql_syntax.proofs.PrintedTimesAndLabels.{IsStep, IsTime}
 use Rattle.promql_syntax.proofs.SingleAnswers.{same_ok, then_steps}
 use Rattle.promql_syntax.proofs.SpelledWords.{has_words}
 use Rattle.promql_rewrite.specs.Answered.{IsAnswered}
-use Rattle.promql_rewrite.specs.PrintableConditions.{IsNegated, IsRightSide, IsSubqueried, PrintableAt, PrintableName, PrintableOffset, PrintableStep, PrintableTime, openness}
-use Rattle.promql_rewrite.specs.PrintableNodes.{AllAnswered, AllPrintableNodes, FollowsLabels, GroupsAnswered, MaybePrintableNodes, NodesArePrintable, PrintableMatchers, PrintableModifier, PrintableNodes, PrintableSelector}
+use Rattle.promql_rewrite.specs.PrintableConditions.{IsNegated, IsRightSide, PrintableAt, PrintableName, PrintableOffset, PrintableTime, openness}
+use Rattle.promql_rewrite.specs.PrintableNodes.{AllAnswered, AllPrintableNodes, FollowsLabels, GroupsAnswered, IsSubqueried, MaybePrintableNodes, NodesArePrintable, PrintableMatchers, PrintableModifier, PrintableNodes, PrintableSelector, PrintableStep}
 use Rattle.promql_rewrite.specs.PrintableTrees.{all_printed_height, maybe_printed_height, printed_height}
 use Rattle.promql_rewrite.proofs.BuiltTrees.{AllBuilt, Built, IsNoNumber, MaybeBuilt, SetsMatchMany, built}
 

@@ -31,8 +31,8 @@ use Rattle.promql_syntax.proofs.PrintedTimes.{moment_is}
 use Rattle.promql_syntax.proofs.PrintedTimesAndLabels.{IsStep, IsTime}
 use Rattle.promql_syntax.proofs.SingleAnswers.{then_leads}
 use Rattle.promql_rewrite.specs.Answered.{IsAnswered}
-use Rattle.promql_rewrite.specs.PrintableConditions.{PrintableAt, PrintableFill, PrintableOffset, PrintableStep, PrintableTime}
-use Rattle.promql_rewrite.specs.PrintableNodes.{AllAnswered, FollowsLabels, GroupsAnswered, PrintableMatchers, PrintableModifier}
+use Rattle.promql_rewrite.specs.PrintableConditions.{PrintableAt, PrintableFill, PrintableOffset, PrintableTime}
+use Rattle.promql_rewrite.specs.PrintableNodes.{AllAnswered, FollowsLabels, GroupsAnswered, PrintableMatchers, PrintableModifier, PrintableStep}
 
 -- ---- times
 

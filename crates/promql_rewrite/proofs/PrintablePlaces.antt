@@ -31,8 +31,8 @@ use Rattle.promql_syntax.proofs.CanonicalNodes.{all_more, all_none, keeps_aggreg
 use Rattle.promql_syntax.proofs.CheckedAgain.{aggregate_again, arguments, call_again, subquery_again, unary_again}
 use Rattle.promql_syntax.proofs.PrintedModifiers.{binary_checked, checked_again}
 use Rattle.promql_syntax.proofs.PrintedParts.{word_kind}
-use Rattle.promql_rewrite.specs.PrintableConditions.{IsNegated, IsRightSide, IsSubqueried, PrintableAt, PrintableName, PrintableOffset, PrintableStep, PrintableTime, has_param, openness}
-use Rattle.promql_rewrite.specs.PrintableNodes.{AllPrintableNodes, MaybePrintableNodes, PrintableMatchers, PrintableModifier, PrintableNodes, PrintableSelector}
+use Rattle.promql_rewrite.specs.PrintableConditions.{IsNegated, IsRightSide, PrintableAt, PrintableName, PrintableOffset, PrintableTime, openness}
+use Rattle.promql_rewrite.specs.PrintableNodes.{AllPrintableNodes, IsSubqueried, MaybePrintableNodes, PrintableMatchers, PrintableModifier, PrintableNodes, PrintableSelector, PrintableStep, has_param}
 use Rattle.promql_rewrite.specs.PrintableTrees.{all_printed_height, printed_height}
 use Rattle.promql_rewrite.proofs.PrintableParts.{are_matchers, function_called, function_letters, is_at, is_offset, is_step, is_time, is_written, name_kind, written, written_alike, written_matched, written_settles}
 use Rattle.promql_rewrite.proofs.TypedChecks.{aggregate_passes, binary_passes, call_passes, minus_passes, name_passes, subquery_passes, unary_passes}

@@ -1,5 +1,5 @@
 -- What is found is a reason.
-use Rattle.std.proofs.Common.{Some, None}
+use Rattle.std.proofs.Common.{Some, None, List, [], ◌∷◌, inl, inr}
 use Rattle.promql_ast.specs.Tree.{Tree}
 use Rattle.promql_rewrite.specs.Collecting.{nodes_of}
 use Rattle.promql_rewrite.specs.Everywhere.{Everywhere, FirstWrong}
@@ -11,10 +11,19 @@ use Rattle.promql_rewrite.specs.declared.printable.NotPrintable.TheVariants as r
 use Rattle.promql_rewrite.proofs.EachNode.{first_listed, imply, listed}
 use Rattle.promql_rewrite.proofs.NodeReasons.{node_breaks, node_fits}
 
+as_reason : (r : NotPrintable) (ts : List Tree) → FirstWrong IsFittingNode (IsWrongNode r) ts → FirstWrong IsFitting (λ n. ¬ (Obeys r n)) ts
+as_reason r [] h = h
+as_reason r (t ∷ ts) (inl wrong) = inl (node_breaks r t wrong)
+as_reason r (t ∷ ts) (inr (fits, more)) = inr (node_fits t fits, as_reason r ts more)
+
 first_is_reason : (r : NotPrintable) (t : Tree) → Found (Some r) t → FirstWrong IsFitting (λ n. ¬ (Obeys r n)) (nodes_of t)
-first_is_reason r t h =
-    let k = first_listed IsFittingNode (IsWrongNode r) t h.found in
-    record { before = k.before; first = k.first; after = k.after; is = k.is; fine = imply IsFittingNode IsFitting node_fits k.before k.fine; wrong = node_breaks r k.first k.wrong }
+first_is_reason r t h = as_reason r (nodes_of t) (first_listed IsFittingNode (IsWrongNode r) t h.found)
+
+-- a reason that is none against any node
+not_broken : (r : NotPrintable) → ((n : Tree) → Obeys r n) → (ts : List Tree) → FirstWrong IsFitting (λ n. ¬ (Obeys r n)) ts → ⊥
+not_broken r obeyed [] h = h
+not_broken r obeyed (t ∷ ts) (inl broken) = broken (obeyed t)
+not_broken r obeyed (t ∷ ts) (inr (fits, more)) = not_broken r obeyed ts more
 
 pub all_fitting : (t : Tree) → Found None t → Everywhere IsFitting t
 all_fitting t h = imply IsFittingNode IsFitting node_fits (nodes_of t) (listed IsFittingNode t h.found)
@@ -31,5 +40,5 @@ found_is_reason reason.Subqueried t h = first_is_reason reason.Subqueried t h
 found_is_reason reason.Time t h = first_is_reason reason.Time t h
 found_is_reason reason.Groups t h = first_is_reason reason.Groups t h
 found_is_reason reason.Extension t h = first_is_reason reason.Extension t h
-found_is_reason (reason.Rejected e) t h = let first = first_is_reason (reason.Rejected e) t h in absurd (first.wrong tt)
-found_is_reason reason.OtherTree t h = let first = first_is_reason reason.OtherTree t h in absurd (first.wrong tt)
+found_is_reason (reason.Rejected e) t h = absurd (not_broken (reason.Rejected e) (λ n. tt) (nodes_of t) (first_is_reason (reason.Rejected e) t h))
+found_is_reason reason.OtherTree t h = absurd (not_broken reason.OtherTree (λ n. tt) (nodes_of t) (first_is_reason reason.OtherTree t h))

@@ -31,7 +31,10 @@ passed_of_query f r passed = subst IsOfQuery (sym passed) tt
 
 pub of_query : (r : EnforceError) → IsOfEnforced r → IsOfQuery r
 of_query enforcing.Memory of = tt
-of_query (enforcing.Unfaithful f) of = of
+of_query (enforcing.Unfaithful Memory) of = of
+of_query (enforcing.Unfaithful IndentTooWide) of = of
+of_query (enforcing.Unfaithful (Rejected e)) of = of
+of_query (enforcing.Unfaithful OtherTree) of = tt
 of_query r of = absurd of
 
 -- an error of a line

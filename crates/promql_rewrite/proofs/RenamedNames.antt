@@ -8,7 +8,7 @@ use Rattle.promql_label.specs.PlainMatchers.{PlainMatcher, plain_matcher, equal,
 use Rattle.promql_kind.specs.Modifiers.{Cardinality, one_to_one, many_to_one, one_to_many, many_to_many, Clause, including, excluding, clause_labels, grouping, Matching, matching}
 use Rattle.promql_ast.specs.Selectors.{Selector, selector}
 use Rattle.promql_ast.specs.Tree.{Tree, aggregate, unary, binary, paren, subquery, number, string, vector, matrix, call, extension, MaybeTree, absent, present, Trees, no_trees, first_tree}
-use Rattle.promql_rewrite.specs.Collecting.{all_nodes, called_functions, is_label_matcher, is_metric_name, matching_labels, maybe_nodes, named_labels, named_metrics, nodes_of, nodes_within, own_functions, own_labels, own_metrics, selector_labels, selector_metrics}
+use Rattle.promql_rewrite.specs.Collecting.{all_nodes, is_label_matcher, is_metric_name, from_nodes, matching_labels, maybe_nodes, nodes_of, nodes_within, own_functions, own_labels, own_metrics, selector_labels, selector_metrics}
 use Rattle.promql_rewrite.specs.Renaming.{Renaming, of_label, of_metric, all_renamed, maybe_renamed, renamed, renamed_cardinality, renamed_clause, renamed_matcher, renamed_matching, renamed_selector, replaced}
 use Rattle.promql_rewrite.proofs.RenamedSelectors.{every_renamed, same_of}
 
@@ -61,8 +61,8 @@ module _ (r : Renaming) where
         go true is rest = λ i. viewed c is i ∷ rest i
         go false is rest = rest
 
-pub functions_renamed : (r : Renaming) (t : Tree) → called_functions (renamed r t) ≡ called_functions t
-functions_renamed r t = of_tree r own_functions (λ x. x) each t ∙ map-id (called_functions t)
+pub functions_renamed : (r : Renaming) (t : Tree) → from_nodes own_functions (renamed r t) ≡ from_nodes own_functions t
+functions_renamed r t = of_tree r own_functions (λ x. x) each t ∙ map-id (from_nodes own_functions t)
   where
     each : (t : Tree) → own_functions (renamed r t) ≡ map (λ x. x) (own_functions t)
     each (aggregate op e p m) = refl
@@ -98,7 +98,7 @@ module _ (from to : Text) where
       (λ i. named_metric name i ++ (ap (λ ds. map value_of (filter is_metric_name ds)) (every_renamed (of_metric from to) cs) ∙ picked (of_metric from to) value_of is_metric_name (replaced from to) metric_same metric_viewed (every cs)) i)
       ∙ sym (map-append (replaced from to) (option_to_list name) (map value_of (filter is_metric_name (every cs))))
 
-  pub metrics_renamed : (t : Tree) → named_metrics (renamed (of_metric from to) t) ≡ map (replaced from to) (named_metrics t)
+  pub metrics_renamed : (t : Tree) → from_nodes own_metrics (renamed (of_metric from to) t) ≡ map (replaced from to) (from_nodes own_metrics t)
   metrics_renamed t = of_tree (of_metric from to) own_metrics (replaced from to) each t
     where
       each : (t : Tree) → own_metrics (renamed (of_metric from to) t) ≡ map (replaced from to) (own_metrics t)
@@ -143,7 +143,7 @@ module _ (from to : Text) (old : from ≢ codes "__name__") (new : to ≢ codes 
   selector_label (selector name cs offset at) =
       ap (λ ds. map name_of (filter is_label_matcher ds)) (every_renamed (of_label from to) cs) ∙ picked (of_label from to) name_of is_label_matcher (replaced from to) label_same label_viewed (every cs)
 
-  pub labels_renamed : (t : Tree) → named_labels (renamed (of_label from to) t) ≡ map (replaced from to) (named_labels t)
+  pub labels_renamed : (t : Tree) → from_nodes own_labels (renamed (of_label from to) t) ≡ map (replaced from to) (from_nodes own_labels t)
   labels_renamed t = of_tree (of_label from to) own_labels (replaced from to) each t
     where
       each : (t : Tree) → own_labels (renamed (of_label from to) t) ≡ map (replaced from to) (own_labels t)
@@ -178,8 +178,8 @@ module _ (from to : Text) (old : from ≢ codes "__name__") (new : to ≢ codes 
       (ap (λ ds. map value_of (filter is_metric_name ds)) (every_renamed (of_label from to) cs) ∙ picked (of_label from to) value_of is_metric_name (λ x. x) kept_test kept_value (every cs) ∙ map-id values)
       ∙ sym (map-id (option_to_list name ++ values))
 
-  pub metrics_kept : (t : Tree) → named_metrics (renamed (of_label from to) t) ≡ named_metrics t
-  metrics_kept t = of_tree (of_label from to) own_metrics (λ x. x) each t ∙ map-id (named_metrics t)
+  pub metrics_kept : (t : Tree) → from_nodes own_metrics (renamed (of_label from to) t) ≡ from_nodes own_metrics t
+  metrics_kept t = of_tree (of_label from to) own_metrics (λ x. x) each t ∙ map-id (from_nodes own_metrics t)
     where
       each : (t : Tree) → own_metrics (renamed (of_label from to) t) ≡ map (λ x. x) (own_metrics t)
       each (aggregate op e p m) = refl
@@ -223,8 +223,8 @@ module _ (from to : Text) where
   kept_labels (selector name cs offset at) =
       ap (λ ds. map name_of (filter is_label_matcher ds)) (every_renamed (of_metric from to) cs) ∙ picked (of_metric from to) name_of is_label_matcher (λ x. x) same_test same_label (every cs)
 
-  pub labels_kept : (t : Tree) → named_labels (renamed (of_metric from to) t) ≡ named_labels t
-  labels_kept t = of_tree (of_metric from to) own_labels (λ x. x) each t ∙ map-id (named_labels t)
+  pub labels_kept : (t : Tree) → from_nodes own_labels (renamed (of_metric from to) t) ≡ from_nodes own_labels t
+  labels_kept t = of_tree (of_metric from to) own_labels (λ x. x) each t ∙ map-id (from_nodes own_labels t)
     where
       each : (t : Tree) → own_labels (renamed (of_metric from to) t) ≡ map (λ x. x) (own_labels t)
       each (aggregate op e p m) = kept_clause m

@@ -9,7 +9,7 @@ use Rattle.promql_label.specs.PlainMatchers.{PlainMatcher, plain_matcher, equal,
 use Rattle.promql_label.specs.SortedTexts.{text_order}
 use Rattle.promql_kind.specs.Functions.{name_of as function_name}
 use Rattle.promql_kind.specs.Modifiers.{Matching, matching, clause_labels, grouping}
-use Rattle.promql_ast.specs.Fold.{within, maybe_within, all_within}
+use Rattle.promql_ast.specs.Fold.{folded, within, maybe_within, all_within}
 use Rattle.promql_ast.specs.Selectors.{Selector, selector}
 use Rattle.promql_ast.specs.Shifts.{Shift, shift_of, Moment, moment_of}
 use Rattle.promql_ast.specs.Tree.{Tree, aggregate, binary, vector, matrix, call, MaybeTree, Trees}
@@ -22,19 +22,9 @@ pub record IsSetOf (texts set : List Text) : Type 0 where
 
 -- ---- the nodes of a tree
 
--- the nodes within a node, in the order of the text, each before those within it
-abbrev pub nodes_within : Tree → List Tree
-nodes_within = within [] ◌++◌ ◌∷◌
-
-abbrev pub maybe_nodes : MaybeTree → List Tree
-maybe_nodes = maybe_within [] ◌++◌ ◌∷◌
-
-abbrev pub all_nodes : Trees → List Tree
-all_nodes = all_within [] ◌++◌ ◌∷◌
-
--- a node, and those within it
+-- in the order of the text, each before those within it
 abbrev pub nodes_of : Tree → List Tree
-nodes_of t = t ∷ nodes_within t
+nodes_of = folded [] ◌++◌ ◌∷◌
 
 -- ---- what one node names
 
@@ -93,14 +83,16 @@ selected_of s = selected (option_map string_bytes s.name) (string_bytes s.matche
 
 -- ---- what a query names, node by node
 
-abbrev pub named_metrics : Tree → List Text
-named_metrics t = flat_map own_metrics (nodes_of t)
+abbrev pub from_nodes : {A : Type 0} → (Tree → List A) → Tree → List A
+from_nodes own t = flat_map own (nodes_of t)
 
-abbrev pub named_labels : Tree → List Text
-named_labels t = flat_map own_labels (nodes_of t)
+-- ---- of parts of trees. Private: nothing rests on believing it
 
-abbrev pub called_functions : Tree → List Text
-called_functions t = flat_map own_functions (nodes_of t)
+abbrev pub nodes_within : Tree → List Tree
+nodes_within = within [] ◌++◌ ◌∷◌
 
-abbrev pub found_selectors : Tree → List Selection
-found_selectors t = flat_map own_selectors (nodes_of t)
+abbrev pub maybe_nodes : MaybeTree → List Tree
+maybe_nodes = maybe_within [] ◌++◌ ◌∷◌
+
+abbrev pub all_nodes : Trees → List Tree
+all_nodes = all_within [] ◌++◌ ◌∷◌

@@ -13,10 +13,8 @@ pub record Means (text : Text) (t : Tree) : Type 0 where
   pub served : IsServed text answers (Ok (normal t))
 
 -- the text is answered by another tree
-pub record MeansOther (text : Text) (t : Tree) : Type 0 where
-  pub other : Tree
-  pub answer : IsAnswerTo text (Ok other)
-  pub differs : other ≢ normal t
+abbrev pub MeansOther : Text → Tree → Type 0
+MeansOther text t = (other : Tree) × IsAnswerTo text (Ok other) × (other ≢ normal t)
 
 -- the text is the tree's line, and means it
 abbrev pub IsLineOf : Tree → Text → Type 0

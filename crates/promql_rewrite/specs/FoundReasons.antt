@@ -7,8 +7,8 @@ use Rattle.promql_grammar.specs.declared.token_kinds.TokenKind.TheVariants as ki
 use Rattle.promql_kind.specs.Modifiers.{many_to_many, Matching, matching, is_grouping}
 use Rattle.promql_ast.specs.Selectors.{Selector, selector}
 use Rattle.promql_ast.specs.Tree.{Tree, aggregate, unary, binary, subquery, vector, matrix, extension, MaybeTree, Trees}
-use Rattle.promql_rewrite.specs.PrintableConditions.{IsNegated, IsRightSide, IsSubqueried, PrintableOffset, PrintableStep, PrintableTime, has_param, openness}
-use Rattle.promql_rewrite.specs.PrintableNodes.{AreGroups, FollowsLabels, IsNodePlaced}
+use Rattle.promql_rewrite.specs.PrintableConditions.{IsNegated, IsRightSide, PrintableOffset, PrintableTime, openness}
+use Rattle.promql_rewrite.specs.PrintableNodes.{AreGroups, FollowsLabels, IsNodePlaced, IsSubqueried, PrintableStep, has_param}
 use Rattle.promql_rewrite.specs.Throughout.{FirstWithin, FirstWithinAll, FirstWithinMaybe, Throughout, ThroughoutAll, ThroughoutMaybe}
 use Rattle.promql_rewrite.specs.declared.printable.NotPrintable.{NotPrintable}
 use Rattle.promql_rewrite.specs.declared.printable.NotPrintable.TheVariants as reason

@@ -1,10 +1,10 @@
 -- Selectors that a mapper changes (docs/guide/rewriting.md, "Mapping selectors").
 use Rattle.std.specs.Prelude.{◌≡◌, ◌⊎◌, if◌then◌else◌, List, [], ◌∷◌, ◌++◌, Some, None, Result, Ok, Err}
 use Rattle.promql_label.specs.PlainMatchers.{plain_matchers}
-use Rattle.promql_kind.specs.Functions.{Signature}
+use Rattle.promql_ast.specs.Fold.{folded}
 use Rattle.promql_ast.specs.Mapped.{mapped, maybe_mapped, all_mapped}
 use Rattle.promql_ast.specs.Selectors.{Selector, selector}
-use Rattle.promql_ast.specs.Tree.{Tree, aggregate, unary, binary, paren, subquery, vector, matrix, call, extension, MaybeTree, absent, present, Trees, no_trees, first_tree}
+use Rattle.promql_ast.specs.Tree.{Tree, vector, matrix, call, MaybeTree, Trees}
 use Rattle.promql_rewrite.specs.Enforcing.{is_info}
 use Rattle.promql_rewrite.specs.declared.mapping.SelectorKind.{SelectorKind}
 use Rattle.promql_rewrite.specs.declared.mapping.SelectorKind.TheVariants.{DataLabels, Series}
@@ -15,45 +15,30 @@ use Rattle.promql_rewrite.specs.declared.mapping.SelectorKind.TheVariants.{DataL
 abbrev pub KindedSelector : Type 0
 KindedSelector = SelectorKind × Selector
 
--- of what kind selectors are in the arguments of a call after the first
-abbrev pub kind_after : Signature → SelectorKind → SelectorKind
-kind_after f k = if is_info f then DataLabels else k
+-- a node's own selector
+abbrev pub own_kinded : SelectorKind → Tree → List KindedSelector
+own_kinded k (vector s) = (k, s) ∷ []
+own_kinded k (matrix s range mode) = (k, s) ∷ []
+own_kinded k t = []
 
-abbrev mutual
-  -- those of a tree where selectors are of this kind, in the order of the text
-  pub selectors_in : SelectorKind → Tree → List KindedSelector
-  selectors_in k (aggregate op e p m) = param_selectors k p ++ selectors_in k e
-  selectors_in k (unary e) = selectors_in k e
-  selectors_in k (binary op l r m) = selectors_in k l ++ selectors_in k r
-  selectors_in k (paren e) = selectors_in k e
-  selectors_in k (subquery e offset at range step) = selectors_in k e
-  selectors_in k (vector s) = (k, s) ∷ []
-  selectors_in k (matrix s range mode) = (k, s) ∷ []
-  selectors_in k (call f args) = arg_selectors k (kind_after f k) args
-  selectors_in k (extension name gives es) = arg_selectors k k es
-  selectors_in k t = []
+-- of what kind selectors are in the arguments of a call after the first, and below all other nodes
+abbrev pub kind_below : Tree → SelectorKind → SelectorKind
+kind_below (call f args) k = if is_info f then DataLabels else k
+kind_below t k = k
 
-  pub param_selectors : SelectorKind → MaybeTree → List KindedSelector
-  param_selectors k absent = []
-  param_selectors k (present e) = selectors_in k e
-
-  -- of the first of these trees, and of the others
-  pub arg_selectors : SelectorKind → SelectorKind → Trees → List KindedSelector
-  arg_selectors k others no_trees = []
-  arg_selectors k others (first_tree e es) = selectors_in k e ++ arg_selectors others others es
+-- those of a tree, in the order of the text, by the kind in it; below a node, by the kind in its first child and in the others
+abbrev pub kinded_selectors : Tree → SelectorKind → SelectorKind → List KindedSelector
+kinded_selectors =
+    folded (λ k others. []) (λ a b k others. a k others ++ b others others) (λ t below k others. own_kinded k t ++ below k (kind_below t k))
 
 abbrev pub selectors_of : Tree → List KindedSelector
-selectors_of t = selectors_in Series t
+selectors_of t = kinded_selectors t Series Series
 
 -- ---- the rest of a tree
 
--- of an empty name, without matchers
-abbrev pub blank : Selector
-blank = selector (Some []) (plain_matchers [] []) None None
-
--- a tree with each selector blank: what is left of it without them
+-- what is left of a tree without its selectors: each is one of an empty name, without matchers
 abbrev pub outline : Tree → Tree
-outline = mapped (λ s. blank) (λ m. m) (λ m. m)
+outline = mapped (λ s. selector (Some []) (plain_matchers [] []) None None) (λ m. m) (λ m. m)
 
 -- ---- what a mapper does
 
@@ -72,8 +57,7 @@ module _ {S E : Type 0} (gives : MapGives S E) where
   -- one call for each selector, in order, up to one that failed with this error; the mapper was s and is t
   abbrev pub Fails : List KindedSelector → E → S → S → Type 0
   Fails [] e s t = ⊥
-  Fails (x ∷ xs) e s t =
-      ((y : Selector) × gives s x.0 x.1 (Err e) t y)
+  Fails (x ∷ xs) e s t = ((y : Selector) × gives s x.0 x.1 (Err e) t y)
       ⊎ ((y : Selector) × ((u : S) × (gives s x.0 x.1 (Ok tt) u y × Fails xs e u t)))
 
   -- what a call that went well leaves depends on the selector and its kind alone
@@ -81,6 +65,9 @@ module _ {S E : Type 0} (gives : MapGives S E) where
   MapsBy f = (s : S) (k : SelectorKind) (x : Selector) (t : S) (y : Selector) → gives s k x (Ok tt) t y → y ≡ f k x
 
 -- ---- of parts of trees. Private: nothing rests on believing it
+
+abbrev blank : Selector
+blank = selector (Some []) (plain_matchers [] []) None None
 
 abbrev pub maybe_outline : MaybeTree → MaybeTree
 maybe_outline = maybe_mapped (λ s. blank) (λ m. m) (λ m. m)

@@ -42,11 +42,8 @@ IsEnforceable text c = IsMatcherText text c × (name_of c ≢ codes "__name__")
 
 -- the text is a matcher that can be enforced, each call of `info` in the first tree has a second argument, and the second tree is
 -- the first with the matcher in every selector
-pub record IsEnforcedBy (text : Text) (t u : Tree) : Type 0 where
-  pub matcher : PlainMatcher
-  pub is : IsEnforceable text matcher
-  pub limited : has_bare_info t ≡ false
-  pub enforces : u ≡ enforced matcher t
+abbrev pub IsEnforcedBy : Text → Tree → Tree → Type 0
+IsEnforcedBy text t u = (c : PlainMatcher) × IsEnforceable text c × (has_bare_info t ≡ false) × (u ≡ enforced c t)
 
 -- the text is a matcher that can be enforced, and a call of `info` in the tree has no second argument
 abbrev pub MeetsBareInfo : Text → Tree → Type 0

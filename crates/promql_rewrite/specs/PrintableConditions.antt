@@ -1,5 +1,5 @@
 -- What is asked of the parts of a node that reads back from what it prints (docs/guide/rewriting.md, "Trees of your own").
-use Rattle.std.specs.Prelude.{◌≡◌, ◌≢◌, ◌⊎◌, ◌*◌, ◌^◌, ◌<◌, ℕ, min, Bool, true, false, if◌then◌else◌, [], ◌∷◌, Option, Some, None, FitsSigned, IfSome}
+use Rattle.std.specs.Prelude.{◌≡◌, ◌≢◌, ◌⊎◌, ◌*◌, ◌^◌, ◌<◌, ℕ, min, true, if◌then◌else◌, [], ◌∷◌, Option, Some, None, FitsSigned, IfSome}
 use Rattle.std.specs.Int.{w64}
 use Rattle.std.specs.List.{AllByRecursion}
 use Rattle.promql_text.specs.Texts.{Text}
@@ -11,16 +11,13 @@ use Rattle.promql_grammar.specs.Grammar.{precedence}
 use Rattle.promql_grammar.specs.Symbols.{may_be_name, token_kind}
 use Rattle.promql_label.specs.PlainMatchers.{PlainMatchers, plain_matchers}
 use Rattle.promql_ast.specs.Shifts.{Shift, back, ahead, Moment, at_time}
-use Rattle.promql_ast.specs.Tree.{Tree, unary, binary, number, MaybeTree, absent, present}
+use Rattle.promql_ast.specs.Tree.{Tree, unary, binary, number}
 
 -- ---- values
 
 -- nanoseconds that are read as they print: not none, and below 2^64 seconds
 abbrev pub PrintableTime : ℕ → Type 0
 PrintableTime n = (0 < n) × (n < 2 ^ 64 * 1_000_000_000)
-
-abbrev pub PrintableStep : Option ℕ → Type 0
-PrintableStep step = IfSome step PrintableTime
 
 abbrev pub PrintableOffset : Option Shift → Type 0
 PrintableOffset None = Unit {0}
@@ -35,20 +32,15 @@ PrintableAt _ = Unit {0}
 abbrev pub PrintableFill : Option Number → Type 0
 PrintableFill n = IfSome n IsNumber
 
--- ---- names and parameters
+-- ---- names
 
 -- a word that may be the name of a metric
 abbrev pub PrintableName : Option Text → Type 0
 PrintableName name = IfSome name (λ w. (is_word w ≡ true) × (may_be_name (token_kind (word_id w [])) ≡ true))
 
--- an aggregator that takes a parameter has one, and no other has
-abbrev pub has_param : MaybeTree → Bool
-has_param absent = false
-has_param (present e) = true
-
 -- ---- how tightly a printed tree binds; where that is too little for its place, it stands in parentheses
 
--- an operator of at most this precedence may follow the tree and take all of it as its left side
+-- an operator of at most this precedence may follow the tree and take all of it as its left side; the tree is closed at 7
 abbrev pub openness : Tree → ℕ
 openness (unary e) = min 5 (openness e)
 openness (binary op l r m) = min (precedence op) (openness r)
@@ -65,13 +57,6 @@ abbrev pub IsNegated : Tree → Type 0
 IsNegated (binary op l r m) = op ≡ T_POW
 IsNegated (number n) = ⊥
 IsNegated t = Unit {0}
-
--- before the range of a subquery: nothing with an operator or a sign outside
-abbrev pub IsSubqueried : Tree → Type 0
-IsSubqueried (unary e) = ⊥
-IsSubqueried (binary op l r m) = ⊥
-IsSubqueried (number n) = is_below_zero n ≡ false
-IsSubqueried t = Unit {0}
 
 -- ---- or-groups
 

@@ -1,8 +1,8 @@
 -- The rules of printable trees, node by node. Private: nothing rests on believing it.
-use Rattle.std.specs.Prelude.{◌≡◌, ◌≤◌, ℕ, true, false, List, [], ◌∷◌, Option, Some, None}
+use Rattle.std.specs.Prelude.{◌≡◌, ◌≤◌, ℕ, Bool, true, false, List, [], ◌∷◌, Option, Some, None, IfSome}
 use Rattle.std.specs.List.{AllByRecursion}
 use Rattle.promql_text.specs.Texts.{Text}
-use Rattle.promql_text.specs.Values.{IsNumber}
+use Rattle.promql_text.specs.Values.{IsNumber, is_below_zero}
 use Rattle.promql_token.specs.Ids.{is_aggregator_with_param, is_set_operator}
 use Rattle.promql_grammar.specs.Grammar.{FitsLeft}
 use Rattle.promql_grammar.specs.Symbols.{token_kind}
@@ -16,8 +16,25 @@ use Rattle.promql_ast.specs.Tree.{Tree, aggregate, unary, binary, paren, subquer
 use Rattle.promql_ast.specs.Typed.{Typed}
 use Rattle.promql_syntax.specs.declared.parser.TheConstants.{MAX_DEPTH}
 use Rattle.promql_rewrite.specs.Answered.{IsAnswered}
-use Rattle.promql_rewrite.specs.PrintableConditions.{AreGrouped, IsNegated, IsRightSide, IsSubqueried, PrintableAt, PrintableFill, PrintableName, PrintableOffset, PrintableStep, PrintableTime, has_param, openness}
+use Rattle.promql_rewrite.specs.PrintableConditions.{AreGrouped, IsNegated, IsRightSide, PrintableAt, PrintableFill, PrintableName, PrintableOffset, PrintableTime, openness}
 use Rattle.promql_rewrite.specs.PrintableTrees.{printed_height}
+
+-- ---- parts
+
+abbrev pub PrintableStep : Option ℕ → Type 0
+PrintableStep step = IfSome step PrintableTime
+
+-- an aggregator that takes a parameter has one, and no other has
+abbrev pub has_param : MaybeTree → Bool
+has_param absent = false
+has_param (present e) = true
+
+-- before the range of a subquery: nothing with an operator or a sign outside
+abbrev pub IsSubqueried : Tree → Type 0
+IsSubqueried (unary e) = ⊥
+IsSubqueried (binary op l r m) = ⊥
+IsSubqueried (number n) = is_below_zero n ≡ false
+IsSubqueried t = Unit {0}
 
 -- ---- modifiers
 

@@ -17,7 +17,6 @@ IsFitting t = (r : NotPrintable) → Obeys r t
 
 -- the rule that the first node that is not fitting breaks; or all are, and the line is rejected, or has another tree
 abbrev pub IsReason : NotPrintable → Tree → Type 0
-IsReason (reason.Rejected e) t =
-    Everywhere IsFitting t × IsAnswerTo (text t) (Err (plain_error_of e)) × (e ≢ parse.Memory)
+IsReason (reason.Rejected e) t = Everywhere IsFitting t × IsAnswerTo (text t) (Err (plain_error_of e)) × (e ≢ parse.Memory)
 IsReason reason.OtherTree t = Everywhere IsFitting t × MeansOther (text t) t
 IsReason r t = FirstWrong IsFitting (λ n. ¬ (Obeys r n)) (nodes_of t)

@@ -8,7 +8,7 @@ use Rattle.promql_grammar.specs.Symbols.{may_be_name, token_kind}
 use Rattle.promql_grammar.specs.SourceTokens.{Token, tokens}
 use Rattle.promql_label.specs.Labels.{is_among}
 use Rattle.promql_label.specs.PlainMatchers.{PlainMatcher, plain_matcher, PlainMatchers, plain_matchers, every, name_of}
-use Rattle.promql_kind.specs.Modifiers.{Cardinality, one_to_one, many_to_one, one_to_many, many_to_many, Clause, including, excluding, Matching, matching}
+use Rattle.promql_kind.specs.Modifiers.{Cardinality, many_to_one, one_to_many, Clause, including, excluding, Matching, matching}
 use Rattle.promql_ast.specs.Mapped.{mapped, maybe_mapped, all_mapped}
 use Rattle.promql_ast.specs.Selectors.{Selector, selector}
 use Rattle.promql_ast.specs.Tree.{Tree, vector, matrix, MaybeTree, Trees}
@@ -16,8 +16,7 @@ use Rattle.promql_rewrite.specs.Collecting.{is_metric_name, nodes_of, own_labels
 
 -- the old name and the new one, of a metric or of a label
 pub data Renaming : Type 0 where
-  of_metric : Text → Text → Renaming
-  of_label : Text → Text → Renaming
+  of_metric of_label : Text → Text → Renaming
 
 -- a name, or the new one for the old one
 abbrev pub replaced : Text → Text → Text → Text
@@ -50,10 +49,9 @@ module _ (r : Renaming) where
   renamed_clause (excluding ls) = excluding (renamed_labels r ls)
 
   abbrev pub renamed_cardinality : Cardinality → Cardinality
-  renamed_cardinality one_to_one = one_to_one
   renamed_cardinality (many_to_one ls) = many_to_one (renamed_labels r ls)
   renamed_cardinality (one_to_many ls) = one_to_many (renamed_labels r ls)
-  renamed_cardinality many_to_many = many_to_many
+  renamed_cardinality card = card
 
   abbrev pub renamed_matching : Matching → Matching
   renamed_matching (matching card clause return_bool values) =
@@ -70,13 +68,9 @@ listed_labels (vector (selector name cs offset at)) = map name_of (every cs)
 listed_labels (matrix (selector name cs offset at) range mode) = map name_of (every cs)
 listed_labels t = own_labels t
 
--- a node lists both labels
-abbrev pub lists_both : Text → Text → Tree → Bool
-lists_both from to t = is_among (listed_labels t) from && is_among (listed_labels t) to
-
 -- the labels are two, and a node lists both
 abbrev pub clashes : Text → Text → Tree → Bool
-clashes from to t = not (bytes_eq from to) && list_any (lists_both from to) (nodes_of t)
+clashes from to t = not (bytes_eq from to) && list_any (λ n. is_among (listed_labels n) from && is_among (listed_labels n) to) (nodes_of t)
 
 abbrev pub is_metric_label : Text → Bool
 is_metric_label l = bytes_eq l (codes "__name__")
@@ -91,7 +85,10 @@ is_name_in text _ = false
 abbrev pub is_name : Text → Bool
 is_name text = is_name_in text (tokens text)
 
--- ---- of parts of trees. Private: nothing rests on believing it
+-- ---- of one node, and of parts of trees. Private: nothing rests on believing it
+
+abbrev pub lists_both : Text → Text → Tree → Bool
+lists_both from to t = is_among (listed_labels t) from && is_among (listed_labels t) to
 
 module _ (r : Renaming) where
   abbrev pub maybe_renamed : MaybeTree → MaybeTree

@@ -8,7 +8,7 @@ ghost use Rattle.promql_label.specs.PlainMatchers.{every, name_of, value_of};
 ghost use Rattle.promql_kind.specs.ModifierViews.{clause_of, matching_of};
 ghost use Rattle.promql_kind.specs.Modifiers.{clause_labels};
 ghost use Rattle.promql_ast.specs.View.{aggregate_tree, binary_tree, children_of, option_tree, selector_of, tree_of, trees_of};
-ghost use Rattle.promql_rewrite.specs.Collecting.{IsSetOf, all_nodes, called_functions, found_selectors, is_label_matcher, is_metric_name, matching_labels, maybe_nodes, named_labels, named_metrics, nodes_of, nodes_within, selected_of, selection, selector_metrics};
+ghost use Rattle.promql_rewrite.specs.Collecting.{IsSetOf, all_nodes, is_label_matcher, is_metric_name, from_nodes, matching_labels, maybe_nodes, nodes_of, nodes_within, own_functions, own_labels, own_metrics, own_selectors, selected_of, selection, selector_metrics};
 ghost use Rattle.promql_rewrite.specs.CollectedNames.{joined, names_in, names_of, own_names, selector_names};
 
 use promql_ast::{AggregateExpr, AtModifier, BinaryExpr, Expr, Offset, VectorSelector};
@@ -55,13 +55,13 @@ pub struct CollectedSelector {
 /// `AllocError` where an allocation failed.
 pub fn collect(alloc: Global, expr: &Expr) -> Result<Collected, AllocError>
     ensures metrics { IfOk result (λ c.
-        IsSetOf (named_metrics (tree_of expr.now)) (map string_bytes c.metric_names.items)) }
+        IsSetOf (from_nodes own_metrics (tree_of expr.now)) (map string_bytes c.metric_names.items)) }
     ensures labels { IfOk result (λ c.
-        IsSetOf (named_labels (tree_of expr.now)) (map string_bytes c.label_names.items)) }
+        IsSetOf (from_nodes own_labels (tree_of expr.now)) (map string_bytes c.label_names.items)) }
     ensures functions { IfOk result (λ c.
-        IsSetOf (called_functions (tree_of expr.now)) (map string_bytes c.functions.items)) }
+        IsSetOf (from_nodes own_functions (tree_of expr.now)) (map string_bytes c.functions.items)) }
     ensures selectors { IfOk result (λ c.
-        map selected_of c.selectors.items ≡ found_selectors (tree_of expr.now)) }
+        map selected_of c.selectors.items ≡ from_nodes own_selectors (tree_of expr.now)) }
 {
     let mut found = Collected {
         metric_names: Vec::new(alloc),

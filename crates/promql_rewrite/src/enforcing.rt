@@ -8,7 +8,7 @@ ghost use Rattle.promql_label.specs.MatcherViews.{plain_matcher_of, plain_matche
 ghost use Rattle.promql_label.specs.PlainMatchers.{name_of};
 ghost use Rattle.promql_syntax.specs.ParseAnswers.{IsAnswerTo, plain_error_of};
 ghost use Rattle.promql_syntax.specs.declared.parser.ParseError.{ParseError};
-ghost use Rattle.promql_rewrite.specs.Enforced.{IsEnforced, IsLineOther, IsLineRejected, IsOfQuery, IsOfTrees, HasBareInfo};
+ghost use Rattle.promql_rewrite.specs.Enforced.{HasBareInfo, HasEnforced, IsEnforced, IsOfQuery, IsOfTrees};
 ghost use Rattle.promql_rewrite.specs.EnforceErrors.{IsOfEnforced};
 ghost use Rattle.promql_rewrite.specs.Faithful.{IsLineOf, MeansOther};
 ghost use Rattle.promql_ast.specs.Text.{text as line_text};
@@ -139,9 +139,10 @@ pub fn enforce_query(alloc: Global, query: &str, matcher: &Matcher) -> Result<St
     ensures info { IsErrOf result EnforceError.Info → HasBareInfo query.now }
     ensures rejected { (e : ParseError)
         → IsErrOf result (EnforceError.Unfaithful (NotFaithful.Rejected e))
-        → IsLineRejected query.now (plain_matcher_of matcher.now) e }
+        → HasEnforced query.now (plain_matcher_of matcher.now)
+        (λ u. IsAnswerTo (line_text u) (Err (plain_error_of e))) }
     ensures other { IsErrOf result (EnforceError.Unfaithful NotFaithful.OtherTree)
-        → IsLineOther query.now (plain_matcher_of matcher.now) }
+        → HasEnforced query.now (plain_matcher_of matcher.now) (λ u. MeansOther (line_text u) u) }
     ensures errors { IfErr result IsOfQuery }
 {
     if matcher.name.as_str() == METRIC_NAME {

@@ -18,7 +18,7 @@ ghost use Rattle.promql_syntax.specs.declared.parser.TheConstants.{MAX_DEPTH};
 ghost use Rattle.promql_rewrite.specs.AddedParens.{AddsParens};
 ghost use Rattle.promql_rewrite.specs.Answered.{IsAnswered};
 ghost use Rattle.promql_rewrite.specs.CheckedNodes.{PassesUnchanged};
-ghost use Rattle.promql_rewrite.specs.Collecting.{IsSetOf, called_functions, named_labels, named_metrics};
+ghost use Rattle.promql_rewrite.specs.Collecting.{IsSetOf, from_nodes, own_functions, own_labels, own_metrics};
 ghost use Rattle.promql_rewrite.specs.Enforcing.{enforced, enforced_selector};
 ghost use Rattle.promql_rewrite.specs.Everywhere.{Everywhere};
 ghost use Rattle.promql_rewrite.specs.Mapping.{KindedSelector, outline, selectors_of};
@@ -166,15 +166,15 @@ pub fn parentheses_are_fewest()
 /// renamed, metrics where a metric is, and nothing else does.
 pub fn renamed_names()
     ensures labels { (from to : Text) (t : Tree) → from ≢ codes "__name__" → to ≢ codes "__name__"
-        → named_labels (renamed (of_label from to) t) ≡ map (replaced from to) (named_labels t) }
+        → from_nodes own_labels (renamed (of_label from to) t) ≡ map (replaced from to) (from_nodes own_labels t) }
     ensures metrics { (from to : Text) (t : Tree)
-        → named_metrics (renamed (of_metric from to) t) ≡ map (replaced from to) (named_metrics t) }
+        → from_nodes own_metrics (renamed (of_metric from to) t) ≡ map (replaced from to) (from_nodes own_metrics t) }
     ensures functions { (r : Renaming) (t : Tree)
-        → called_functions (renamed r t) ≡ called_functions t }
+        → from_nodes own_functions (renamed r t) ≡ from_nodes own_functions t }
     ensures other_metrics { (from to : Text) (t : Tree) → from ≢ codes "__name__"
-        → to ≢ codes "__name__" → named_metrics (renamed (of_label from to) t) ≡ named_metrics t }
+        → to ≢ codes "__name__" → from_nodes own_metrics (renamed (of_label from to) t) ≡ from_nodes own_metrics t }
     ensures other_labels { (from to : Text) (t : Tree)
-        → named_labels (renamed (of_metric from to) t) ≡ named_labels t }
+        → from_nodes own_labels (renamed (of_metric from to) t) ≡ from_nodes own_labels t }
 {}
 
 /// Trees of one outline, as the tree before and the one that `map_selectors` returns, have one type, one height and as many

@@ -4,8 +4,8 @@ ghost use Rattle.std.specs.Prelude.{◌≡◌, IfErr, IfOk, OnOk, Result, map};
 ghost use Rattle.promql_kind.specs.Functions.{signature_of};
 ghost use Rattle.promql_ast.specs.Selectors.{Selector};
 ghost use Rattle.promql_ast.specs.View.{aggregate_tree, binary_tree, call_tree, children_of, extension_tree, selector_of, tree_of, trees_of};
-ghost use Rattle.promql_rewrite.specs.MappedSelectors.{MapsOrFails, kind_at};
-ghost use Rattle.promql_rewrite.specs.Mapping.{Fails, KindedSelector, Maps, MapsBy, arg_selectors, kind_after, outline, selectors_in, selectors_of};
+ghost use Rattle.promql_rewrite.specs.MappedSelectors.{MapsOrFails, arg_selectors, kind_after, kind_at, selectors_in};
+ghost use Rattle.promql_rewrite.specs.Mapping.{Fails, KindedSelector, Maps, MapsBy, outline, selectors_of};
 ghost use Rattle.promql_rewrite.specs.declared.mapping.SelectorKind.{SelectorKind};
 
 use crate::bare_info::is_info;

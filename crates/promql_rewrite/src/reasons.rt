@@ -10,8 +10,8 @@ ghost use Rattle.promql_kind.specs.Modifiers.{many_to_many};
 ghost use Rattle.promql_ast.specs.Shifts.{shift_of};
 ghost use Rattle.promql_ast.specs.View.{aggregate_tree, binary_tree, call_tree, children_of, extension_tree, matrix_tree, option_tree, paren_tree, selector_of, subquery_tree, tree_of, trees_of, unary_tree};
 ghost use Rattle.promql_rewrite.specs.FoundReasons.{Found, FoundAmong, FoundAtRoot, FoundBelow, FoundInModifier, FoundInSelector, FoundMaybe};
-ghost use Rattle.promql_rewrite.specs.PrintableConditions.{PrintableOffset, PrintableStep, PrintableTime};
-ghost use Rattle.promql_rewrite.specs.PrintableNodes.{AreGroups, NoneEmpty};
+ghost use Rattle.promql_rewrite.specs.PrintableConditions.{PrintableOffset, PrintableTime};
+ghost use Rattle.promql_rewrite.specs.PrintableNodes.{AreGroups, NoneEmpty, PrintableStep};
 
 use crate::parenthesizing::{fits_left, fits_range, fits_right, fits_sign};
 use crate::printable::NotPrintable;

@@ -1,13 +1,13 @@
 -- A tree without an extension has a JSON form, or a number that is too wide for one.
 use Rattle.std.proofs.Common.{◌≡◌, ℤ, ℕ, ◌∙◌}
 use Rattle.std.specs.Prelude.{Bool, true, false, if◌then◌else◌, Option, Some, None, Err}
+use Rattle.std.specs.Option.{option_or}
 use Rattle.serde_json.specs.Data.{Data}
 use Rattle.promql_ast.specs.Selectors.{Selector, selector}
 use Rattle.promql_ast.specs.Tree.{Tree, aggregate, unary, binary, paren, subquery, number, string, vector, matrix, call, extension, MaybeTree, absent, present, Trees, no_trees, first_tree}
 use Rattle.promql_json.specs.declared.error.JsonError.{JsonError}
 use Rattle.promql_json.specs.declared.error.JsonError.TheVariants.{Memory, NumberTooWide, Extension}
-use Rattle.promql_json.specs.Events.{events}
-use Rattle.promql_json.specs.Json.{is_wide, first_of, width_fault, step_fault, selector_fault, own_fault, first_fault, unless, json, json_value}
+use Rattle.promql_json.specs.Json.{width_fault, step_fault, selector_fault, own_fault, first_fault, unless, json, json_value}
 use Rattle.promql_json.specs.JsonFaults.{json_fault, param_fault, args_fault}
 use Rattle.promql_json.specs.JsonParts.{millis, shift_millis}
 use Rattle.promql_json.proofs.FaultOrder.{first_met}
@@ -19,7 +19,7 @@ IsNoExtension (Some Memory) = Unit {0}
 IsNoExtension (Some NumberTooWide) = Unit {0}
 IsNoExtension (Some Extension) = ⊥
 
-first_is_none : (a b : Option JsonError) → IsNoExtension a → IsNoExtension b → IsNoExtension (first_of a b)
+first_is_none : (a b : Option JsonError) → IsNoExtension a → IsNoExtension b → IsNoExtension (option_or a b)
 first_is_none None b first second = second
 first_is_none (Some e) b first second = first
 
@@ -28,7 +28,7 @@ if_wide true = tt
 if_wide false = tt
 
 width_is_none : (z : ℤ) → IsNoExtension (width_fault z)
-width_is_none z = if_wide (is_wide z)
+width_is_none z = if_wide _
 
 step_is_none : (step : Option ℕ) → IsNoExtension (step_fault step)
 step_is_none None = tt
@@ -76,4 +76,4 @@ none_is (Some Extension) none is = none
 
 pub is_no_extension : (t : Tree) → HasNoExtension t → json t ≡ Err Extension → ⊥
 is_no_extension t plain is =
-    none_is (json_fault t) (none_at_fault t plain) (first_met t ∙ fault_met (first_fault (events t)) (json_value t) is)
+    none_is (json_fault t) (none_at_fault t plain) (first_met t ∙ fault_met (first_fault t) (json_value t) is)

@@ -5,8 +5,10 @@ use Rattle.promql_ast.specs.Height.{height, greatest_height}
 use Rattle.promql_ast.specs.Tree.{Tree, Trees, no_trees, first_tree}
 use Rattle.promql_ast.specs.View.{trees}
 use Rattle.promql_walk.specs.Children.{children, with_children}
-use Rattle.promql_walk.specs.ChangedChildren.{ChangesBelow}
-use Rattle.promql_walk.specs.Changes.{Edit, IsEnd, Changes, ends_before, ends_below, goes_through, ChangesEach, no_more, ends_here, goes_on}
+use Rattle.promql_walk.specs.ChangedChildren.{ChangesBelow, own_children}
+use Rattle.promql_walk.proofs.OwnChildren.{children_are}
+use Rattle.promql_walk.proofs.Walks.{IsEnd, ended}
+use Rattle.promql_walk.specs.Changes.{Edit, Changes, ends_before, ends_below, goes_through, ChangesEach, no_more, ends_here, goes_on}
 
 -- ---- lists
 
@@ -61,29 +63,32 @@ one_no_higher f xs before i d h is same =
 -- ---- walks
 
 module _ {S E : Type 0} (pre post : Edit S E) where
+  at_children : (s : S) (t : Tree) (a : Result Bool E) (u : S) (ys : Trees) → ChangesEach pre post s (own_children t) a u ys → ChangesEach pre post s (children t) a u ys
+  at_children s t a u ys h = subst (λ k. ChangesEach pre post s k a u ys) (children_are t) h
+
   pub before_as : (s : S) (t : Tree) (a z : Result Bool E) (u : S) (x : Tree) → IsEnd z → a ≡ z → pre s t a u x → Changes pre post s t z u x
-  before_as s t a z u x end e p = ends_before (subst (λ b. pre s t b u x) e p) end
+  before_as s t a z u x end e p = ends_before (subst (λ b. pre s t b u x) e p) (ended z end)
 
   pub below_as : (s : S) (t : Tree) (a : Result Bool E) (u : S) (x : Tree) (b z : Result Bool E) (v : S) (y : Tree) → a ≡ Ok true → pre s t a u x → IsEnd z → b ≡ z → ChangesBelow pre post u x b v y → Changes pre post s t z v y
   below_as s t a u x b z v y e p end f (ys, (each, is)) =
       subst (λ k. Changes pre post s t z v k) (sym is)
-      (ends_below (subst (λ r. pre s t r u x) e p) (subst (λ r. ChangesEach pre post u (children x) r v ys) f each) end)
+      (ends_below (subst (λ r. pre s t r u x) e p) (at_children u x z v ys (subst (λ r. ChangesEach pre post u (own_children x) r v ys) f each)) (ended z end))
 
   pub through_as : (s : S) (t : Tree) (a : Result Bool E) (u : S) (x : Tree) (b : Result Bool E) (v : S) (y : Tree) (r : Result Bool E) (w : S) (z : Tree) → a ≡ Ok true → pre s t a u x → b ≡ Ok true → ChangesBelow pre post u x b v y → post v y r w z → Changes pre post s t r w z
   through_as s t a u x b v y r w z e p f (ys, (each, is)) q =
-      goes_through (subst (λ k. pre s t k u x) e p) (subst (λ k. ChangesEach pre post u (children x) k v ys) f each) (subst (λ k. post v k r w z) is q)
+      goes_through (subst (λ k. pre s t k u x) e p) (at_children u x (Ok true) v ys (subst (λ k. ChangesEach pre post u (own_children x) k v ys) f each)) (subst (λ k. post v k r w z) is q)
 
   -- one child alone
   pub one : (s : S) (t : Tree) (a : Result Bool E) (u : S) (x : Tree) → Changes pre post s t a u x → ChangesEach pre post s (first_tree t no_trees) a u (first_tree x no_trees)
   one s t (Ok true) u x h = goes_on h no_more
-  one s t (Ok false) u x h = ends_here h tt
-  one s t (Err e) u x h = ends_here h tt
+  one s t (Ok false) u x h = ends_here h (ended (Ok false) tt)
+  one s t (Err e) u x h = ends_here h (ended (Err e) tt)
 
   pub on_as : (s : S) (t : Tree) (ts : Trees) (a : Result Bool E) (u : S) (x : Tree) (b : Result Bool E) (v : S) (xs : Trees) → a ≡ Ok true → Changes pre post s t a u x → ChangesEach pre post u ts b v xs → ChangesEach pre post s (first_tree t ts) b v (first_tree x xs)
   on_as s t ts a u x b v xs e h k = goes_on (subst (λ r. Changes pre post s t r u x) e h) k
 
   pub here_as : (s : S) (t : Tree) (ts : Trees) (a z : Result Bool E) (u : S) (x : Tree) → IsEnd z → a ≡ z → Changes pre post s t a u x → ChangesEach pre post s (first_tree t ts) z u (first_tree x ts)
-  here_as s t ts a z u x end e h = ends_here (subst (λ r. Changes pre post s t r u x) e h) end
+  here_as s t ts a z u x end e h = ends_here (subst (λ r. Changes pre post s t r u x) e h) (ended z end)
 
   -- the same of trees that are reached by another way
   pub same : (s : S) (t x : Tree) (a : Result Bool E) (u : S) (y z : Tree) → t ≡ x → y ≡ z → Changes pre post s t a u y → Changes pre post s x a u z
@@ -96,9 +101,9 @@ module _ {S E : Type 0} (pre post : Edit S E) where
   same_each s ts xs a u ys zs e f h = subst (λ k. ChangesEach pre post s k a u zs) e (subst (λ k. ChangesEach pre post s ts a u k) f h)
 
   -- a node without children
-  pub leaf_as : (s : S) (t u : Tree) → t ≡ u → children u ≡ no_trees → with_children u no_trees ≡ u → ChangesBelow pre post s t (Ok true) s t
+  pub leaf_as : (s : S) (t u : Tree) → t ≡ u → own_children u ≡ no_trees → with_children u no_trees ≡ u → ChangesBelow pre post s t (Ok true) s t
   leaf_as s t u e f h =
-      (no_trees, (subst (λ k. ChangesEach pre post s k (Ok true) s no_trees) (sym (ap children e ∙ f)) no_more, e ∙ sym h ∙ sym (ap (λ k. with_children k no_trees) e)))
+      (no_trees, (subst (λ k. ChangesEach pre post s k (Ok true) s no_trees) (sym (ap own_children e ∙ f)) no_more, e ∙ sym h ∙ sym (ap (λ k. with_children k no_trees) e)))
 
   -- the same by another way to the node
   pub from_below : (s : S) (t x : Tree) (a : Result Bool E) (u : S) (y z : Tree) → ChangesBelow pre post s x a u y → t ≡ x → z ≡ y → ChangesBelow pre post s t a u z

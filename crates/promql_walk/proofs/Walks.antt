@@ -1,46 +1,43 @@
 -- Walks along two lists of events, one after the other.
-use Rattle.std.proofs.Common.{◌≡◌, ◌∙◌, ◌<◌, ℕ, zero, suc, ◌+◌, length, get_or, drop, arith, Bool, true, false, List, [], ◌∷◌, ◌++◌, Result, Ok, Err, refl, subst, sym, ap, Box, Global}
+use Rattle.std.proofs.Common.{◌≡◌, ◌≢◌, ◌∙◌, inl, inr, ◌<◌, ℕ, zero, suc, ◌+◌, length, get_or, drop, arith, Bool, true, false, List, [], ◌∷◌, ◌++◌, Result, Ok, Err, refl, subst, sym, ap, Box, Global}
 use Rattle.promql_ast.specs.Tree.{Tree}
 use Rattle.promql_ast.specs.View.{tree_of, trees_of, children_of}
 use Rattle.promql_ast.specs.declared.expr.Expr.{Expr}
 use Rattle.promql_json.specs.Events.{Event, before, after, events, inner_events, all_events}
-use Rattle.promql_walk.specs.WalkSteps.{IfGoesOn, Visit, WalksAlong}
+use Rattle.promql_walk.specs.WalkSteps.{Visit, WalksAlong}
 
 -- z is a result that ends a walk
 abbrev pub IsEnd : {E : Type 0} → Result Bool E → Type 0
-IsEnd z = IfGoesOn z ⊥ (Unit {0})
+IsEnd (Ok true) = ⊥
+IsEnd (Ok false) = Unit {0}
+IsEnd (Err e) = Unit {0}
+
+pub ended : {E : Type 0} (z : Result Bool E) → IsEnd z → z ≢ Ok true
+ended (Ok true) end = λ is. end
+ended (Ok false) end = λ is. cc
+ended (Err e) end = λ is. cc
 
 module _ {X S E : Type 0} (step : X → S → Result Bool E → S → Type 0) where
   pub walks_one : (x : X) (s : S) (r : Result Bool E) (t : S) → step x s r t → WalksAlong step (x ∷ []) s r t
-  walks_one x s (Ok true) t h = (Ok true, (t, (h, (refl, refl))))
-  walks_one x s (Ok false) t h = (Ok false, (t, (h, (refl, refl))))
-  walks_one x s (Err e) t h = (Err e, (t, (h, (refl, refl))))
+  walks_one x s (Ok true) t h = inr (t, (h, (refl, refl)))
+  walks_one x s (Ok false) t h = inl (ended (Ok false) tt, h)
+  walks_one x s (Err e) t h = inl (ended (Err e) tt, h)
 
-  join : (xs ys : List X) (s : S) (a : Result Bool E) (u : S) (r : Result Bool E) (t : S) → a ≡ Ok true → u ≡ s → IfGoesOn a (WalksAlong step ys u r t) ((r ≡ a) × (t ≡ u)) → WalksAlong step ys s r t
-  join xs ys s (Ok true) u r t e f h = subst (λ w. WalksAlong step ys w r t) f h
-  join xs ys s (Ok false) u r t e f h = cc
-  join xs ys s (Err x) u r t e f h = cc
+  went_on : (xs ys : List X) (s u : S) (r : Result Bool E) (t : S) → WalksAlong step xs s (Ok true) u → WalksAlong step ys u r t → WalksAlong step (xs ++ ys) s r t
+  went_on [] ys s u r t h k = subst (λ w. WalksAlong step ys w r t) h.1 k
+  went_on (x ∷ xs) ys s u r t (inl h) k = absurd (h.0 refl)
+  went_on (x ∷ xs) ys s u r t (inr (v, (st, more))) k = inr (v, (st, went_on xs ys v u r t more k))
 
-  end_or_go_on : (a : Result Bool E) (u : S) (r : Result Bool E) (t : S) (b : Result Bool E) (P : Type 0) → IsEnd b → a ≡ b → IfGoesOn a P ((r ≡ a) × (t ≡ u)) → (r ≡ a) × (t ≡ u)
-  end_or_go_on (Ok false) u r t b P ends e k = k
-  end_or_go_on (Err x) u r t b P ends e k = k
-  end_or_go_on (Ok true) u r t (Ok true) P ends e k = absurd ends
-  end_or_go_on (Ok true) u r t (Ok false) P ends e k = cc
-  end_or_go_on (Ok true) u r t (Err x) P ends e k = cc
-
-  pub walked_append : (xs ys : List X) (s : S) (a : Result Bool E) (u : S) (r : Result Bool E) (t : S) → WalksAlong step xs s a u → IfGoesOn a (WalksAlong step ys u r t) ((r ≡ a) × (t ≡ u)) → WalksAlong step (xs ++ ys) s r t
-  walked_append [] ys s a u r t h k = join [] ys s a u r t h.0 h.1 k
-  walked_append (x ∷ xs) ys s a u r t (Ok true, (v, (st, more))) k = (Ok true, (v, (st, walked_append xs ys v a u r t more k)))
-  walked_append (x ∷ xs) ys s a u r t (Ok false, (v, (st, more))) k = let end = end_or_go_on a u r t (Ok false) _ tt more.0 k in (Ok false, (v, (st, (end.0 ∙ more.0, end.1 ∙ more.1))))
-  walked_append (x ∷ xs) ys s a u r t (Err e, (v, (st, more))) k = let end = end_or_go_on a u r t (Err e) _ tt more.0 k in (Err e, (v, (st, (end.0 ∙ more.0, end.1 ∙ more.1))))
+  stopped : (xs ys : List X) (s : S) (r : Result Bool E) (t : S) → r ≢ Ok true → WalksAlong step xs s r t → WalksAlong step (xs ++ ys) s r t
+  stopped [] ys s r t ends h = absurd (ends h.0)
+  stopped (x ∷ xs) ys s r t ends (inl h) = inl h
+  stopped (x ∷ xs) ys s r t ends (inr (v, (st, more))) = inr (v, (st, stopped xs ys v r t ends more))
 
   pub walked_both : (xs ys : List X) (s : S) (a : Result Bool E) (u : S) (r : Result Bool E) (t : S) → a ≡ Ok true → WalksAlong step xs s a u → WalksAlong step ys u r t → WalksAlong step (xs ++ ys) s r t
-  walked_both xs ys s a u r t is h k = walked_append xs ys s (Ok true) u r t (subst (λ b. WalksAlong step xs s b u) is h) k
+  walked_both xs ys s a u r t is h k = went_on xs ys s u r t (subst (λ b. WalksAlong step xs s b u) is h) k
 
   pub walked_stops : (xs ys : List X) (s : S) (a : Result Bool E) (u : S) (b : Result Bool E) → IsEnd b → a ≡ b → WalksAlong step xs s a u → WalksAlong step (xs ++ ys) s b u
-  walked_stops xs ys s a u (Ok false) ends is h = walked_append xs ys s (Ok false) u (Ok false) u (subst (λ b. WalksAlong step xs s b u) is h) (refl, refl)
-  walked_stops xs ys s a u (Err e) ends is h = walked_append xs ys s (Err e) u (Err e) u (subst (λ b. WalksAlong step xs s b u) is h) (refl, refl)
-  walked_stops xs ys s a u (Ok true) ends is h = absurd ends
+  walked_stops xs ys s a u b ends is h = stopped xs ys s b u (ended b ends) (subst (λ c. WalksAlong step xs s c u) is h)
 
 module _ {S E : Type 0} (pre post : S → Tree → Result Bool E → S → Type 0) where
   abbrev W : List Event → S → Result Bool E → S → Type 0

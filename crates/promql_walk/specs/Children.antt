@@ -1,17 +1,12 @@
 -- The children of a node (docs/reference/walks.md, "Order").
+use Rattle.std.specs.Prelude.{[], ◌∷◌, ◌++◌}
+use Rattle.promql_ast.specs.Fold.{within}
 use Rattle.promql_ast.specs.Tree.{Tree, aggregate, unary, binary, paren, subquery, call, extension, absent, present, Trees, no_trees, first_tree}
+use Rattle.promql_ast.specs.View.{trees}
 
 -- in their order
 abbrev pub children : Tree → Trees
-children (aggregate op e absent m) = first_tree e no_trees
-children (aggregate op e (present p) m) = first_tree p (first_tree e no_trees)
-children (unary e) = first_tree e no_trees
-children (binary op l r m) = first_tree l (first_tree r no_trees)
-children (paren e) = first_tree e no_trees
-children (subquery e offset at range step) = first_tree e no_trees
-children (call f args) = args
-children (extension name gives es) = es
-children t = no_trees
+children t = trees (within [] ◌++◌ (λ e below. e ∷ []) t)
 
 -- the node with as many others in their places
 abbrev pub with_children : Tree → Trees → Tree

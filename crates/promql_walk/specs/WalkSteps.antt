@@ -1,20 +1,13 @@
 -- What a visitor may have become along the events of a walk (docs/reference/walks.md, "Walks").
-use Rattle.std.specs.Prelude.{◌≡◌, ◌⊎◌, Bool, true, false, List, [], ◌∷◌, Result, Ok, Err}
+use Rattle.std.specs.Prelude.{◌≡◌, ◌≢◌, ◌⊎◌, Bool, true, List, [], ◌∷◌, Result, Ok}
 use Rattle.promql_ast.specs.Tree.{Tree}
 use Rattle.promql_json.specs.Events.{Event, before, after}
-
--- P where the call went on, else Q
-abbrev pub IfGoesOn : {E : Type 0} → Result Bool E → Type 0 → Type 0 → Type 0
-IfGoesOn (Ok true) P Q = P
-IfGoesOn (Ok false) P Q = Q
-IfGoesOn (Err e) P Q = Q
 
 -- One step for each of these, in order, up to the first whose result is not `Ok true`. The state was s and is t, and r is
 -- that result, or `Ok true` where there is none.
 abbrev pub WalksAlong : {X S E : Type 0} → (X → S → Result Bool E → S → Type 0) → List X → S → Result Bool E → S → Type 0
 WalksAlong step [] s r t = (r ≡ Ok true) × (t ≡ s)
-WalksAlong {X} {S} {E} step (x ∷ xs) s r t =
-    (a : Result Bool E) × ((u : S) × (step x s a u × IfGoesOn a (WalksAlong step xs u r t) ((r ≡ a) × (t ≡ u))))
+WalksAlong {X} {S} {E} step (x ∷ xs) s r t = ((r ≢ Ok true) × step x s r t) ⊎ ((u : S) × (step x s (Ok true) u × WalksAlong step xs u r t))
 
 -- what a call that does nothing and goes on does, or what `gives` allows
 abbrev pub IdlesOr : {S E : Type 0} → (S → Tree → Result Bool E → S → Type 0) → S → Tree → Result Bool E → S → Type 0

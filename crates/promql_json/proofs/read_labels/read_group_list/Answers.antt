@@ -4,8 +4,8 @@ use Rattle.serde_json.specs.View.{view}
 use Rattle.promql_json.specs.JsonParts.{group_json}
 use Rattle.promql_json.specs.Readable.{ReadableMatcher}
 use Rattle.promql_json.proofs.ReadForms.{no_list}
-use Rattle.std.proofs.Common.{refl}
-use Rattle.promql_json.specs.FormMisfits.{full_list_of, list_of, matcher}
+use Rattle.promql_json.specs.FormMisfits.{list_of, matcher}
+use Rattle.promql_json.specs.declared.from_error.Expected.TheVariants.{FullList, List as ListThere}
 use Rattle.promql_json.proofs.read_labels.read_group_list.Goals as goal
 
 pub returns-in-Err-clause-err : goal.returns-in-Err-clause-err
@@ -15,4 +15,4 @@ returns-in-Err-clause-err c = λ other ms all.
 
 pub returns-in-Err-clause-place : goal.returns-in-Err-clause-place
 returns-in-Err-clause-place c =
-    c.inside_item.ensures.place (full_list_of (list_of matcher)) (list_of matcher) _ _ refl (item_there c.args.list.now c.loop-i.i c.index-list-i.result c.loop-i-test.true c.index-list-i.is) c.in-Err.ensures.place
+    c.inside_item.ensures.place FullList (list_of ListThere matcher) _ _ (item_there c.args.list.now c.loop-i.i c.index-list-i.result c.loop-i-test.true c.index-list-i.is) c.in-Err.ensures.place

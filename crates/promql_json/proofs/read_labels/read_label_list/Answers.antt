@@ -2,9 +2,8 @@ use Rattle.promql_json.proofs.MembersInOrder.{item_there}
 use Rattle.serde_json.specs.Data.{string}
 use Rattle.serde_json.specs.View.{view}
 use Rattle.promql_json.proofs.ReadForms.{no_plain_list}
-use Rattle.std.proofs.Common.{refl}
-use Rattle.promql_json.specs.FormMisfits.{labels, one}
-use Rattle.promql_json.specs.declared.from_error.Expected.TheVariants.{Text}
+use Rattle.promql_json.specs.FormMisfits.{one}
+use Rattle.promql_json.specs.declared.from_error.Expected.TheVariants.{List as ListThere, Text}
 use Rattle.promql_json.proofs.read_labels.read_label_list.Goals as goal
 
 pub returns-in-Err-clause-err : goal.returns-in-Err-clause-err
@@ -14,4 +13,4 @@ returns-in-Err-clause-err c = λ other ls.
 
 pub returns-in-Err-clause-place : goal.returns-in-Err-clause-place
 returns-in-Err-clause-place c =
-    c.inside_item.ensures.place labels (one Text) _ _ refl (item_there c.args.list.now c.loop-i.i c.index-list-i.result c.loop-i-test.true c.index-list-i.is) c.in-Err.ensures.place
+    c.inside_item.ensures.place ListThere (one Text) _ _ (item_there c.args.list.now c.loop-i.i c.index-list-i.result c.loop-i-test.true c.index-list-i.is) c.in-Err.ensures.place

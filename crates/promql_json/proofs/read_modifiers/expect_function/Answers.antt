@@ -2,7 +2,7 @@ use borrow.Author.Differences.{ints}
 use Rattle.std.proofs.lemmas.Grind.{common_steps}
 use Rattle.std.proofs.Common.{refl, sym, ap, Some, codes, inl, inr, arith, rules, ◌≡◌, map}
 use Rattle.promql_json.specs.FormMisfits.{by_row, by_function, exactly, function, list_of, one, differs}
-use Rattle.promql_json.specs.declared.from_error.Expected.TheVariants.{FunctionPart}
+use Rattle.promql_json.specs.declared.from_error.Expected.TheVariants.{FunctionPart, List as ListThere}
 use Rattle.promql_json.proofs.ErrorPlaces.{either_by_kind, moved}
 use Rattle.promql_kind.specs.Functions.{signature_of}
 use Rattle.serde_json.specs.Data.{string}
@@ -24,7 +24,7 @@ pub returns-in-Err-clause-place : goal.returns-in-Err-clause-place
 returns-in-Err-clause-place c = λ d row name types experimental gives variadic.
     let is : c.args.function.now.arg_types.items ≡ c.deref.result.now = sym c.deref.ensures.value in
     elim (either_by_kind _ _ _ _ _ c.in-Err.ensures.err c.in-Err.ensures.place) [
-      | inl h ↦ c.inside.ensures.place function (list_of (one FunctionPart)) d _ (by_row function (list_of (one FunctionPart)) d (codes "argTypes") refl) types h
+      | inl h ↦ c.inside.ensures.place function (list_of ListThere (one FunctionPart)) d _ (by_row function (list_of ListThere (one FunctionPart)) d (codes "argTypes") refl) types h
       | inr h ↦ c.inside.ensures.place function (exactly (list (map type_json c.deref.result.now))) d _
           (by_function (signature_of c.args.function.now) d (list (map type_json c.deref.result.now)) (codes "argTypes") row name (ap (λ ts. Some (list (map type_json ts))) is)) types h
     ]

@@ -6,7 +6,7 @@ use Rattle.serde_json.specs.View.{items_of, view}
 use Rattle.promql_json.specs.JsonParts.{list, type_json}
 use Rattle.promql_json.proofs.ReadForms.{same_at, same_length, err_within}
 use Rattle.promql_json.specs.FormMisfits.{list_of, one, differs, exactly}
-use Rattle.promql_json.specs.declared.from_error.Expected.TheVariants.{FunctionPart}
+use Rattle.promql_json.specs.declared.from_error.Expected.TheVariants.{FunctionPart, List as ListThere}
 use Rattle.promql_json.proofs.MembersInOrder.{item_there}
 use Rattle.promql_json.proofs.read_modifiers.expect_types.Goals as goal
 
@@ -31,7 +31,7 @@ returns-in-Err-clause-err c = λ other h.
 pub returns-in_err-list-clause-place : goal.returns-in_err-list-clause-place
 returns-in_err-list-clause-place c =
     err_within _ c.from_residual.result c.in_err-list.field-0.0 c.from_residual.ensures.1
-    (λ other. inl (c.in_err-list.ensures.place (list_of (one FunctionPart)) refl))
+    (λ other. inl (c.in_err-list.ensures.place (list_of ListThere (one FunctionPart)) refl))
 
 pub returns-then-len-types-clause-place : goal.returns-then-len-types-clause-place
 returns-then-len-types-clause-place c = λ other. inr (c.here.ensures _ _ (differs _ _ other))

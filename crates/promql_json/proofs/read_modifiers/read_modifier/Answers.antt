@@ -2,7 +2,8 @@ use Rattle.promql_json.proofs.ErrorPlaces.{by_kind}
 use Rattle.std.proofs.Common.{◌∙◌, ap, sym, None, refl, Some, codes}
 use Rattle.serde_json.specs.View.{members_view}
 use Rattle.promql_json.proofs.ReadForms.{err_within, no_modifier, rest_of}
-use Rattle.promql_json.specs.FormMisfits.{by_row, cardinality, fill_values, labels, modifier, no_list}
+use Rattle.promql_json.specs.declared.from_error.Expected.TheVariants.{Cardinality}
+use Rattle.promql_json.specs.FormMisfits.{by_row, fill_values, labels, modifier, no_list, one}
 use Rattle.promql_json.proofs.read_modifiers.read_modifier.Goals as goal
 
 pub returns-in_err-card-clause-err : goal.returns-in_err-card-clause-err
@@ -44,7 +45,7 @@ pub returns-in-Err-read_fills-clause-place : goal.returns-in-Err-read_fills-clau
 returns-in-Err-read_fills-clause-place c = c.inside-in-Err-read_fills.ensures.place modifier fill_values _ _ (by_row modifier fill_values _ (codes "fillValues") refl) (c.in_ok-card.ensures.left modifier _ (c.new-fields.ensures.left modifier (codes "card") refl) refl).1 c.in-Err-read_fills.ensures.place
 
 pub returns-in-Err-read_cardinality-clause-place : goal.returns-in-Err-read_cardinality-clause-place
-returns-in-Err-read_cardinality-clause-place c = c.inside-in-Err-read_cardinality.ensures.place modifier cardinality _ _ (by_row modifier cardinality _ (codes "card") refl) (c.in_ok-card.ensures.left modifier _ (c.new-fields.ensures.left modifier (codes "card") refl) refl).0 (by_kind cardinality _ _ _ c.in-Err-read_cardinality.ensures.err c.in-Err-read_cardinality.ensures.place)
+returns-in-Err-read_cardinality-clause-place c = c.inside-in-Err-read_cardinality.ensures.place modifier (one Cardinality) _ _ (by_row modifier (one Cardinality) _ (codes "card") refl) (c.in_ok-card.ensures.left modifier _ (c.new-fields.ensures.left modifier (codes "card") refl) refl).0 (by_kind (one Cardinality) _ _ _ c.in-Err-read_cardinality.ensures.err c.in-Err-read_cardinality.ensures.place)
 
 pub returns-in_err-matching-clause-place : goal.returns-in_err-matching-clause-place
 returns-in_err-matching-clause-place c =

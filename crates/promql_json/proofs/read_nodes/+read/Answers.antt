@@ -9,7 +9,7 @@ use Rattle.promql_ast.specs.View.{tree_of, trees_of}
 use Rattle.promql_json.specs.JsonFaults.{args_fault, json_fault}
 use Rattle.promql_json.proofs.NoNodes.{no_node}
 use Rattle.promql_json.proofs.ReadForms.{err_within, items_of_args, no_args, one_more_fits, rest_of, same_members, value_of, differ}
-use Rattle.promql_json.specs.declared.from_error.Expected.TheVariants.{Flag, Aggregator, Operator, Minus, LowTree}
+use Rattle.promql_json.specs.declared.from_error.Expected.TheVariants.{Aggregator, Flag, List as ListThere, LowTree, Minus, Operator}
 use Rattle.promql_json.proofs.ErrorPlaces.{one_here, nullable, in_typed, tree_type, typed_as, matching_asked, same_type, untyped_node, no_row}
 use Rattle.serde_json.specs.declared.value.Value.{the_lemmas}
 use Rattle.std.proofs.lemmas.Result.{IfErr-weaker}
@@ -65,7 +65,7 @@ read_call-returns-in-Err-read_args-clause-err t c = λ other f ts named fine h.
 
 pub read_arg_list-returns-in-Err-clause-place : goal.read_arg_list-returns-in-Err-clause-place
 read_arg_list-returns-in-Err-clause-place t c =
-    c.inside_item.ensures.place (list_of (node c.args.depth)) (node c.args.depth) _ _ refl
+    c.inside_item.ensures.place ListThere (node c.args.depth) _ _
     (item_there c.args.list.now c.loop-i.i c.index-list-i.result c.loop-i-test.true c.index-list-i.is) c.in-Err.ensures.place
 
 pub read_child-returns-in-Err-clause-place : goal.read_child-returns-in-Err-clause-place
@@ -183,12 +183,12 @@ pub read_call-returns-in-Err-clause-place : goal.read_call-returns-in-Err-clause
 read_call-returns-in-Err-clause-place t c = λ is. c.inside.ensures.place (node_named (codes "call") c.args.depth) function _ _ (by_row (node_named (codes "call") c.args.depth) function _ (codes "func") refl) (c.in_ok-args.ensures.left (node_named (codes "call") c.args.depth) _ (c.new-fields.ensures.left (node_named (codes "call") c.args.depth) (codes "args") refl) refl).1 c.in-Err.ensures.place
 
 pub read_call-returns-in-Err-read_args-clause-place : goal.read_call-returns-in-Err-read_args-clause-place
-read_call-returns-in-Err-read_args-clause-place t c = λ is. c.inside-in-Err-read_args.ensures.place (node_named (codes "call") c.args.depth) (list_of (node c.args.depth)) _ _ (by_row (node_named (codes "call") c.args.depth) (list_of (node c.args.depth)) _ (codes "args") refl) (c.in_ok-args.ensures.left (node_named (codes "call") c.args.depth) _ (c.new-fields.ensures.left (node_named (codes "call") c.args.depth) (codes "args") refl) refl).0 c.in-Err-read_args.ensures.place
+read_call-returns-in-Err-read_args-clause-place t c = λ is. c.inside-in-Err-read_args.ensures.place (node_named (codes "call") c.args.depth) (list_of ListThere (node c.args.depth)) _ _ (by_row (node_named (codes "call") c.args.depth) (list_of ListThere (node c.args.depth)) _ (codes "args") refl) (c.in_ok-args.ensures.left (node_named (codes "call") c.args.depth) _ (c.new-fields.ensures.left (node_named (codes "call") c.args.depth) (codes "args") refl) refl).0 c.in-Err-read_args.ensures.place
 
 pub read_args-returns-in_err-list-clause-place : goal.read_args-returns-in_err-list-clause-place
 read_args-returns-in_err-list-clause-place t c =
     err_within _ c.from_residual.result c.in_err-list.field-0.0 c.from_residual.ensures.1
-    (c.in_err-list.ensures.place (list_of (node c.args.depth)) refl)
+    (c.in_err-list.ensures.place (list_of ListThere (node c.args.depth)) refl)
 
 pub read_node-returns-in_err-read_aggregate-in-aggregation-clause-err : goal.read_node-returns-in_err-read_aggregate-in-aggregation-clause-err
 read_node-returns-in_err-read_aggregate-in-aggregation-clause-err t c =

@@ -2,7 +2,8 @@ use Rattle.promql_json.proofs.MembersInOrder.{skipped}
 use Rattle.std.proofs.Common.{◌∙◌, codes}
 use Rattle.serde_json.specs.View.{view}
 use Rattle.promql_json.proofs.ReadForms.{no_groups, without_groups}
-use Rattle.promql_json.specs.FormMisfits.{by_row, full_list_of, list_of, matcher}
+use Rattle.promql_json.specs.FormMisfits.{by_row, list_of, matcher}
+use Rattle.promql_json.specs.declared.from_error.Expected.TheVariants.{FullList, List as ListThere}
 use Rattle.promql_json.proofs.read_selectors.next_groups.Goals as goal
 
 pub returns-in-Err-clause-err : goal.returns-in-Err-clause-err
@@ -19,7 +20,7 @@ returns-in-None-clause-rest c = λ gs name d ms apart h.
 pub returns-in-Err-clause-place : goal.returns-in-Err-clause-place
 returns-in-Err-clause-place c = λ f d left is.
     let some = rw c.in-Some.is at c.in_ok-groups.ensures.left in
-    c.inside.ensures.place f (full_list_of (list_of matcher)) d _ (by_row f (full_list_of (list_of matcher)) d (codes "or_matchers") is) (some f d left).0 c.in-Err.ensures.place
+    c.inside.ensures.place f (list_of FullList (list_of ListThere matcher)) d _ (by_row f (list_of FullList (list_of ListThere matcher)) d (codes "or_matchers") is) (some f d left).0 c.in-Err.ensures.place
 
 pub returns-in-Ok-clause-left : goal.returns-in-Ok-clause-left
 returns-in-Ok-clause-left c = λ f d left.

@@ -1,7 +1,7 @@
 use Rattle.std.proofs.Common.{Some, codes}
 use Rattle.promql_json.proofs.ReadForms.{err_within, no_begin}
 use Rattle.promql_json.specs.FormMisfits.{by_row, list_of, matcher, one, or_null}
-use Rattle.promql_json.specs.declared.from_error.Expected.TheVariants.{Text, Millis}
+use Rattle.promql_json.specs.declared.from_error.Expected.TheVariants.{List as ListThere, Millis, Text}
 use Rattle.promql_json.proofs.read_selectors.read_begin.Goals as goal
 
 pub returns-in_err-matchers-clause-err : goal.returns-in_err-matchers-clause-err
@@ -21,7 +21,7 @@ pub returns-in-Err-read_name-clause-place : goal.returns-in-Err-read_name-clause
 returns-in-Err-read_name-clause-place c = λ f d begins left. c.inside-in-Err-read_name.ensures.place f (or_null (one Text)) d _ (by_row f (or_null (one Text)) d (codes "name") begins.3) (c.in_ok-matchers.ensures.left f d left begins.0).1 c.in-Err-read_name.ensures.place
 
 pub returns-in-Err-read_group-clause-place : goal.returns-in-Err-read_group-clause-place
-returns-in-Err-read_group-clause-place c = λ f d begins left. c.inside-in-Err-read_group.ensures.place f (list_of matcher) d _ (by_row f (list_of matcher) d (codes "matchers") begins.2) (c.in_ok-matchers.ensures.left f d left begins.0).0 c.in-Err-read_group.ensures.place
+returns-in-Err-read_group-clause-place c = λ f d begins left. c.inside-in-Err-read_group.ensures.place f (list_of ListThere matcher) d _ (by_row f (list_of ListThere matcher) d (codes "matchers") begins.2) (c.in_ok-matchers.ensures.left f d left begins.0).0 c.in-Err-read_group.ensures.place
 
 pub returns-in_err-or_matchers-clause-place : goal.returns-in_err-or_matchers-clause-place
 returns-in_err-or_matchers-clause-place c =

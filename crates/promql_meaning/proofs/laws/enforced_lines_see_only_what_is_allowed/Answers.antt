@@ -9,6 +9,6 @@ use Rattle.promql_meaning.proofs.laws.enforced_lines_see_only_what_is_allowed.Go
 
 pub returns : goal.returns
 returns c = λ query line matcher h.
-    let t = h.tree in
+    let t = h.0 in
     let changed = enforced matcher t in
-    (t, normal changed, h.parsed, (h.means.answers, h.means.served), λ s. seen_normal s changed ∙ seen_again matcher s t h.limited ∙ sym (seen_normal (kept matcher s) changed), λ none s. seen_normal (kept matcher s) changed ∙ seen_at_home matcher s t none)
+    (t, normal changed, h.1, (h.3.1.answers, h.3.1.served), λ s. seen_normal s changed ∙ seen_again matcher s t h.2 ∙ sym (seen_normal (kept matcher s) changed), λ none s. seen_normal (kept matcher s) changed ∙ seen_at_home matcher s t none)
