@@ -1,7 +1,10 @@
 -- Bytes that are read or written in turns.
-use Rattle.std.proofs.Common.{◌≡◌, ℕ, List, [], ◌++◌, length, take, drop, refl, sym, ap, ◌∙◌, append_assoc, append-nil, take-append-drop, arith}
+use Rattle.std.proofs.Common.{◌≡◌, ℕ, List, [], ◌++◌, length, take, drop, refl, sym, ap, ◌∙◌, append_assoc, append-nil, take-append-drop, arith, subst, ⊎_elim, ◌≤◌, ◌+◌}
 use Rattle.std.specs.Prelude.{Bool, false, ◌==◌, ◌&&◌, ◌||◌, not, IfErr, OnErr, Option, Some, None, Result, Ok, Err}
 use Rattle.std.proofs.Math.Bool.{or-false}
+use Rattle.std.proofs.Math.Seq.{take-append-add, take-append_seam}
+use Rattle.std.proofs.lemmas.Bool.{cases_lt}
+use Rattle.std.proofs.lemmas.List.{take-append-le, take_all}
 use Rattle.std.proofs.lemmas.Bool.Decides.{nat_tests}
 use Rattle.std.specs.Io.KnownBytes.{Consumes, Appends, Keeps}
 use Rattle.promql_io.specs.Ended.{AppendsBeginning}
@@ -61,18 +64,27 @@ pub always_if_err : {T E : Type 0} (Q : E → Type 0) (r : Result T E) → ((e :
 always_if_err Q (Ok x) facts = tt
 always_if_err Q (Err e) facts = facts e
 
+-- what was partly written is a beginning
+pub begun_of : (old new : Option (List ℕ)) (text rest : List ℕ) → IsPartlyWritten old new text rest → AppendsBeginning old new text
+begun_of old new text rest partly =
+    let front : take (length partly.front) text ≡ partly.front = ap (take (length partly.front)) (sym partly.whole) ∙ take-append_seam partly.front rest in
+    (length partly.front, subst (Appends old new) (sym front) partly.appends)
+
+-- the whole is one of its beginnings
+pub whole_begun : (old mid new : Option (List ℕ)) (text : List ℕ) → Appends old mid text → Keeps mid new → AppendsBeginning old new text
+whole_begun old mid new text appends keeps =
+    (length text, subst (Appends old new) (sym (take_all (length text) text (omega arith))) (appends_keeps old mid new text appends keeps))
+
+pub kept_partly : (old mid new : Option (List ℕ)) (text rest : List ℕ) → IsPartlyWritten old mid text rest → Keeps mid new → IsPartlyWritten old new text rest
+kept_partly old mid new text rest partly keeps = record { front = partly.front; whole = partly.whole; appends = appends_keeps old mid new partly.front partly.appends keeps }
+
 pub beginning_longer : (old new : Option (List ℕ)) (text more : List ℕ) → AppendsBeginning old new text → AppendsBeginning old new (text ++ more)
-beginning_longer old new text more begun = record {
-  front = begun.front;
-  rest = begun.rest ++ more;
-  whole = sym (append_assoc begun.front begun.rest more) ∙ ap (λ t. t ++ more) begun.whole;
-  appends = begun.appends;
-}
+beginning_longer old new text more begun =
+    ⊎_elim
+    (λ less. let short : begun.0 ≤ length text = omega arith in (begun.0, subst (Appends old new) (sym (take-append-le begun.0 text more short)) begun.1))
+    (λ past. (length text, subst (Appends old new) (take_all begun.0 text past ∙ sym (take-append_seam text more)) begun.1))
+    (cases_lt begun.0 (length text))
 
 pub beginning_after : (old mid new : Option (List ℕ)) (text more : List ℕ) → Appends old mid text → AppendsBeginning mid new more → AppendsBeginning old new (text ++ more)
-beginning_after old mid new text more appends begun = record {
-  front = text ++ begun.front;
-  rest = begun.rest;
-  whole = append_assoc text begun.front begun.rest ∙ ap (λ t. text ++ t) begun.whole;
-  appends = appends_more old mid new text begun.front appends begun.appends;
-}
+beginning_after old mid new text more appends begun =
+    (length text + begun.0, subst (Appends old new) (sym (take-append-add text more begun.0)) (appends_more old mid new text (take begun.0 more) appends begun.1))

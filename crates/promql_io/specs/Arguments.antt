@@ -1,5 +1,5 @@
 -- The file among the arguments of a program (docs/reference/programs.md, "Files").
-use Rattle.std.specs.Prelude.{ℕ, suc, ◌+◌, ◌||◌, ◌==◌, Bool, true, false, not, bytes_eq, codes, drop, if◌then◌else◌, take, List, [], ◌∷◌, Option, None, Some, option_map}
+use Rattle.std.specs.Prelude.{ℕ, suc, ◌+◌, ◌==◌, Bool, true, false, not, bytes_eq, codes, drop, if◌then◌else◌, take, List, [], ◌∷◌, Option, None, Some, option_map}
 use Rattle.std.specs.List.{list_any}
 
 -- a word that begins with `-`, and is more than that
@@ -10,8 +10,7 @@ is_option word = false
 -- an option that no value comes after
 abbrev pub is_flag : List ℕ → Bool
 is_flag word =
-    bytes_eq word (codes "--check") || bytes_eq word (codes "--keep-spelling") || bytes_eq word (codes "--help")
-    || bytes_eq word (codes "--version") || bytes_eq word (codes "-h")
+    list_any (bytes_eq word) (codes "--check" ∷ codes "--keep-spelling" ∷ codes "--help" ∷ codes "--version" ∷ codes "-h" ∷ [])
 
 -- how many words are before the first one that is neither an option nor the value of one, as the first word may be
 abbrev pub file_at : Bool → List (List ℕ) → Option ℕ

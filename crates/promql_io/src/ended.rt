@@ -147,7 +147,8 @@ impl<R: Read> Read for Ended<R> {
 }
 
 impl<W: Write> Write for Ended<W> {
-    ghost use Rattle.promql_io.specs.Ended.{Closes, takes_bytes, takes_nothing};
+    ghost use Rattle.std.specs.Prelude.{MatchResult};
+    ghost use Rattle.promql_io.specs.Ended.{IsClosedBy, takes_bytes, takes_nothing};
 
     ghost contents = { λ ended. W.contents ended.inner };
 
@@ -159,7 +160,8 @@ impl<W: Write> Write for Ended<W> {
             (W.contents self.new.inner) result buf.now }
         ensures failed { self.new.failed ≡ (self.old.failed || takes_nothing result buf.now) }
         ensures pending { self.new.pending ≡ (self.old.pending || takes_bytes result) }
-        ensures closed { Closes result self.old.closed self.new.closed }
+        ensures closed { MatchResult result (λ _. self.new.closed ≡ self.old.closed)
+            (λ e. IsClosedBy e self.old.closed self.new.closed) }
     {
         let result = self.inner.write(buf);
         match &result {
@@ -180,7 +182,8 @@ impl<W: Write> Write for Ended<W> {
         ensures bytes { Keeps (W.contents self.old.inner) (W.contents self.new.inner) }
         ensures failed { self.new.failed ≡ (self.old.failed || is_err result) }
         ensures pending { self.new.pending ≡ (self.old.pending && is_err result) }
-        ensures closed { Closes result self.old.closed self.new.closed }
+        ensures closed { MatchResult result (λ _. self.new.closed ≡ self.old.closed)
+            (λ e. IsClosedBy e self.old.closed self.new.closed) }
     {
         let result = self.inner.flush();
         match &result {

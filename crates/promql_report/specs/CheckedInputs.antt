@@ -1,5 +1,10 @@
--- What a check found. Private: nothing rests on believing it.
-use Rattle.std.specs.Prelude.{string_bytes}
+-- What a check found, and what a query is read as. Private: nothing rests on believing it.
+use Rattle.std.specs.Prelude.{MatchResult, Result, string_bytes}
+use Rattle.promql_ast.specs.View.{tree_of}
+use Rattle.promql_ast.specs.declared.expr.Expr.{Expr}
+use Rattle.promql_span.specs.declared.limits.Limits.{Limits}
+use Rattle.promql_report.specs.Rejecting.{IsRead, IsRejection}
+use Rattle.promql_report.specs.declared.rejection.Rejection.{Rejection}
 use Rattle.promql_text.specs.Texts.{Text}
 use Rattle.promql_report.specs.Checking.{IsQueryIn, IsReported, IsSilent, IsWarned}
 use Rattle.promql_report.specs.declared.check_settings.CheckSettings.{CheckSettings}
@@ -15,3 +20,7 @@ IsFound s query (Rejected status report) = IsReported s status (string_bytes rep
 -- of the query of a text
 abbrev pub IsChecked : CheckSettings → Text → Checked → Type 0
 IsChecked s input found = (query : Text) × IsQueryIn input query × IsFound s query found
+
+-- the query is read as this tree, or is rejected so
+abbrev pub IsReadAs : Limits → Text → Result Expr Rejection → Type 0
+IsReadAs limits query r = MatchResult r (λ e. IsRead limits query (tree_of e)) (IsRejection limits query)

@@ -1,20 +1,18 @@
 -- The options of the programs, which change the limits of queries (docs/reference/programs.md, "Limits of a query").
-use Rattle.std.specs.Prelude.{ℕ, ◌^◌, ◌&&◌, ◌||◌, Bool, bytes_eq, codes, if◌then◌else◌, length, List, [], ◌∷◌, nat_lt, Option, Some, None, option_and_then, option_map}
+use Rattle.std.specs.Prelude.{ℕ, ◌^◌, ◌&&◌, bytes_eq, codes, if◌then◌else◌, length, List, [], ◌∷◌, nat_lt, Option, Some, None, option_and_then, option_map}
 use Rattle.std.specs.Char.{digit_value}
 use Rattle.std.specs.List.{list_all}
+use Rattle.std.specs.Map.{lookup}
 use Rattle.std.specs.Option.{option_map_or}
 use Rattle.std.specs.Str.Parse.{digits_value, without_leading_plus}
 use Rattle.promql_text.specs.Texts.{Text}
 use Rattle.promql_run.specs.Programs.{Command, run, show}
 use Rattle.promql_span.specs.declared.limits.Limits.{Limits}
 
-abbrev pub is_help : Text → Bool
-is_help word = bytes_eq word (codes "--help") || bytes_eq word (codes "-h")
-
 -- "Help and version": one of these texts, if its option is the only word after the program's own name
 abbrev pub asked_text : Text → Text → List Text → Option Text
 asked_text help version (own ∷ word ∷ []) =
-    if is_help word then Some help else if bytes_eq word (codes "--version") then Some version else None
+    lookup (bytes_eq word) ((codes "--help", help) ∷ (codes "-h", help) ∷ (codes "--version", version) ∷ [])
 asked_text help version args = None
 
 -- that text, or what has settings

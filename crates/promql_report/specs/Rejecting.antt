@@ -1,10 +1,8 @@
 -- Why and where a query is rejected (docs/reference/programs.md, "Errors").
-use Rattle.std.specs.Prelude.{◌≡◌, ◌≤◌, ℕ, MatchOption, Option, Some, None, Result, Ok, Err}
+use Rattle.std.specs.Prelude.{◌≡◌, ◌≤◌, ℕ, MatchOption, Option, Some, None, Ok, Err}
 use Rattle.promql_span.specs.Locations.{location_of}
 use Rattle.promql_text.specs.Texts.{Text}
 use Rattle.promql_ast.specs.Tree.{Tree}
-use Rattle.promql_ast.specs.View.{tree_of}
-use Rattle.promql_ast.specs.declared.expr.Expr.{Expr}
 use Rattle.promql_span.specs.ErrorPlaces.{IsPlaceOf}
 use Rattle.promql_span.specs.PlacedTokens.{end_of}
 use Rattle.promql_span.specs.QueryLimits.{IsLimitFault, IsWithin, patterns_size}
@@ -69,8 +67,3 @@ IsRead limits query t = IsWithin query limits × IsAnswerTo query (Ok t)
 -- it has a tree
 abbrev pub IsParsed : Limits → Text → Type 0
 IsParsed limits query = (t : Tree) × IsRead limits query t
-
--- the query is read as this tree, or is rejected so
-abbrev pub IsReadAs : Limits → Text → Result Expr Rejection → Type 0
-IsReadAs limits query (Ok e) = IsRead limits query (tree_of e)
-IsReadAs limits query (Err r) = IsRejection limits query r

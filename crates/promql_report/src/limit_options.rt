@@ -1,16 +1,10 @@
 //! The options of the programs, which change the limits of queries: docs/reference/programs.md, "Limits of a query".
 
-ghost use Rattle.std.specs.Prelude.{◌≡◌, map, option_map, string_bytes};
+ghost use Rattle.std.specs.Prelude.{◌≡◌, [], ◌∷◌, bytes_eq, codes, map, option_map, string_bytes};
+ghost use Rattle.std.specs.Map.{lookup};
 ghost use Rattle.promql_report.specs.LimitOptions as spec;
 
 use promql_span::limits::{Limits, MAX_LEN, MAX_OUTPUT, MAX_PATTERN_SIZE};
-
-/// Whether a word asks for the help.
-fn is_help(word: &str) -> bool
-    ensures { result ≡ spec.is_help word.now }
-{
-    matches!(word, "--help" | "-h")
-}
 
 /// The text that the arguments ask for alone, the help or the version, the program's own name first; `None` where they are others.
 pub fn asked_text(
@@ -23,12 +17,18 @@ pub fn asked_text(
     let [_, word] = args else {
         return None;
     };
-    if is_help(word.as_str()) {
-        Some(help)
-    } else if word.as_str() == "--version" {
-        Some(version)
-    } else {
-        None
+    text_named(word.as_str(), help, version)
+}
+
+/// The text that a word asks for.
+fn text_named(word: &str, help: &'static str, version: &'static str) -> Option<&'static str>
+    ensures { option_map (λ s. s.now) result ≡ lookup (bytes_eq word.now)
+        ((codes "--help", help.now) ∷ (codes "-h", help.now) ∷ (codes "--version", version.now) ∷ []) }
+{
+    match word {
+        "--help" | "-h" => Some(help),
+        "--version" => Some(version),
+        _ => None,
     }
 }
 

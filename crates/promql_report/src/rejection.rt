@@ -1,12 +1,13 @@
 //! The tree of a query, or why and where it is rejected.
 
-ghost use Rattle.std.specs.Prelude.{◌≡◌, ◌≤◌, IfOk, not, string_bytes};
+ghost use Rattle.std.specs.Prelude.{◌≡◌, ◌≤◌, IfOk, MatchResult, not, string_bytes};
 ghost use Rattle.std.specs.Bool.{Decides};
+ghost use Rattle.promql_ast.specs.View.{tree_of};
 ghost use Rattle.promql_span.specs.Locations.{location_of};
 ghost use Rattle.promql_span.specs.QueryLimits.{patterns_size};
 ghost use Rattle.promql_syntax.specs.declared.parser.ParseError.TheVariants as parse_errors;
 ghost use Rattle.promql_report.specs.declared.rejection.Reason.TheVariants as reasons;
-ghost use Rattle.promql_report.specs.Rejecting.{IsMessage, IsPlainMessage, IsReadAs, IsTold, limit_place, reason_number};
+ghost use Rattle.promql_report.specs.Rejecting.{IsMessage, IsPlainMessage, IsRead, IsRejection, IsTold, limit_place, reason_number};
 
 use promql_ast::Expr;
 use promql_span::diagnosis::{Diagnosis, diagnose};
@@ -146,7 +147,7 @@ pub fn read_query(
     limits: &Limits,
     query: &str,
 ) -> Result<Result<Expr, Rejection>, AllocError>
-    ensures { IfOk result (IsReadAs limits.now query.now) }
+    ensures { IfOk result (λ r. MatchResult r (λ e. IsRead limits.now query.now (tree_of e)) (IsRejection limits.now query.now)) }
 {
     if let Err(fault) = check_limits(alloc, query, limits) {
         let span = limit_span(query, fault).ok_or(AllocError)?;

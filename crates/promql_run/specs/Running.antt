@@ -1,5 +1,6 @@
 -- What a run does (docs/reference/programs.md, "A run").
-use Rattle.std.specs.Prelude.{◌≡◌, ◌≢◌, ℕ, ◌++◌, [], ◌∷◌, Option, Some, None, Result, Ok, Err, if◌then◌else◌, bytes_eq, codes}
+use Rattle.std.specs.Prelude.{◌≡◌, ◌≢◌, ℕ, ◌++◌, [], ◌∷◌, Option, Some, None, Result, Ok, Err, bytes_eq, codes}
+use Rattle.std.specs.Map.{lookup}
 use Rattle.promql_syntax.specs.declared.parser.ParseError.TheVariants as parse_errors
 use Rattle.promql_text.specs.Texts.{Text}
 use Rattle.promql_grammar.specs.Results.{on_result}
@@ -19,10 +20,7 @@ use Rattle.promql_run.specs.declared.run.RunError.TheVariants as error
 -- "Modes": the format of a mode
 abbrev pub format_named : Text → Option Format
 format_named name =
-    if bytes_eq name (codes "pretty") then Some (Pretty (record { level = 0; width = 100 }))
-    else if bytes_eq name (codes "line") then Some Line
-    else if bytes_eq name (codes "json") then Some Json
-    else None
+    lookup (bytes_eq name) ((codes "pretty", Pretty (record { level = 0; width = 100 })) ∷ (codes "line", Line) ∷ (codes "json", Json) ∷ [])
 
 -- the text of a tree in a format, or why it has none
 abbrev pub format_text : Format → Tree → Result Text JsonError
@@ -39,10 +37,8 @@ error_number error.Write = 5
 error_number error.Json = 6
 
 -- the text has a tree, and this is the text of that in the format, or why it has none
-pub record HasFormatText (format : Format) (text : Text) (made : Result Text JsonError) : Type 0 where
-  pub tree : Tree
-  pub parsed : IsAnswerTo text (Ok tree)
-  pub gives : format_text format tree ≡ made
+abbrev pub HasFormatText : Format → Text → Result Text JsonError → Type 0
+HasFormatText format text made = (t : Tree) × IsAnswerTo text (Ok t) × (format_text format t ≡ made)
 
 -- "A run": the text of its tree, and a line feed
 abbrev pub IsPrinted : Format → Text → Text → Type 0

@@ -16,18 +16,13 @@ pub render_line-line-requires-clause-plain : goal.render_line-line-requires-clau
 render_line-line-requires-clause-plain c = answers_are_plain c.args.text.now (tree_of c.in-Ok.expr) c.in-Ok.ensures
 
 pub returns-clause-json : goal.returns-clause-json
-returns-clause-json c = λ is.
-    record {
-      tree = tree_of c.in-Ok.expr;
-      parsed = c.in-Ok.ensures;
-      gives = c.render_line-line.ensures.json is;
-    }
+returns-clause-json c = λ is. (tree_of c.in-Ok.expr, c.in-Ok.ensures, c.render_line-line.ensures.json is)
 
 pub returns-clause-parse : goal.returns-clause-parse
 returns-clause-parse c = λ e is. absurd (subst (λ r. IfErr r IsShowError) is c.render_line-line.ensures.errors)
 
 line_printed : (r : Result (String Global) RunError) (format : Format) (text : Text) (t : Tree) → IsAnswerTo text (Ok t) → IfOk r (λ s. (body : Text) × (format_text format t ≡ Ok body) × (string_bytes s ≡ body ++ 10 ∷ [])) → IfOk r (λ s. IsPrinted format text (string_bytes s))
-line_printed (Ok s) format text t parsed line = (line.0, record { tree = t; parsed = parsed; gives = line.1 }, line.2)
+line_printed (Ok s) format text t parsed line = (line.0, (t, parsed, line.1), line.2)
 line_printed (Err e) format text t parsed line = tt
 
 pub returns-clause-ok : goal.returns-clause-ok
