@@ -1,14 +1,16 @@
 -- Lines and columns, counted along the characters of a text.
-use Rattle.std.proofs.Common.{◌≡◌, ℕ, ◌+◌, ◌-◌, ◌<◌, ◌≤◌, ⊎_elim, Bool, true, false, [], ◌∷◌, ◌++◌, length, take, drop, refl, sym, ap, ◌∙◌, arith, length-append, append-nil}
-use Rattle.std.specs.Prelude.{if◌then◌else◌, ◌||◌}
+use Rattle.std.proofs.Common.{◌≡◌, ℕ, suc, ◌+◌, ◌-◌, ◌<◌, ◌≤◌, ⊎_elim, Bool, true, false, [], ◌∷◌, ◌++◌, length, take, drop, refl, sym, ap, ◌∙◌, arith, length-append, append-nil, reverse}
+use Rattle.std.specs.Prelude.{if◌then◌else◌, ◌||◌, ◌==◌, ◌/◌, ◌%◌, nat_lt, not}
 use Rattle.std.specs.Char.{encode_utf8, len_utf8}
-use Rattle.std.specs.List.{count_by, list_any, sum_by}
+use Rattle.std.specs.Char.Escape.{encode_utf16}
+use Rattle.std.specs.List.{after_last, count_by, list_any, prefix_len, suffix_len, sum_by}
 use Rattle.std.specs.Str.{IsCharBoundary, IsUtf8, chars}
-use Rattle.std.proofs.lemmas.Bool.{cases_lt, cond_above, cond_below}
-use Rattle.std.proofs.lemmas.List.{length-take-le, take-append-drop}
+use Rattle.std.proofs.lemmas.Bool.{cases_lt, cond-false, cond-true, cond_above, cond_below, eq-eqb, ne_eqb, or_right}
+use Rattle.std.proofs.lemmas.List.{length-reverse, length-take-le, reverse-append, take-append-drop}
+use Rattle.std.proofs.lemmas.List.Folds.{prefix_len-append}
 use Rattle.std.proofs.lemmas.List.Sums.{sum_by-cons}
 use Rattle.std.proofs.lemmas.Str.{chars-append, chars-nil, chars_past_char, encodes-chars, length-encode, len_utf8_bounds, IsCharBoundary-past_char, IsUtf8-drop, IsUtf8-past_char, IsUtf8-take}
-use Rattle.promql_span.specs.Locations.{characters_before, is_line_feed, last_line, len_utf16}
+use Rattle.promql_span.specs.Locations.{characters_before, is_line_feed}
 use Rattle.promql_text.specs.Texts.{Text}
 use lib.Utf8.{encodes}
 
@@ -57,6 +59,71 @@ column_from w k (c ∷ cs) = column_from w (if is_line_feed c then 1 else k + w 
 abbrev pub one : ℕ → ℕ
 one c = 1
 
+-- what comes after the last line feed, or all where there is none, character by character
+abbrev pub last_line : Text → Text
+last_line [] = []
+last_line (c ∷ cs) = if is_line_feed c || list_any is_line_feed cs then last_line cs else c ∷ cs
+
+abbrev is_other : ℕ → Bool
+is_other c = not (is_line_feed c)
+
+-- how many characters come after the last line feed
+one_before : (c : ℕ) (cs : Text) → suffix_len is_other (c ∷ cs)
+    ≡ (if suffix_len is_other cs == length cs then length cs + prefix_len is_other (c ∷ []) else suffix_len is_other cs)
+one_before c cs =
+    ap (prefix_len is_other) (reverse-append (c ∷ []) cs) ∙ prefix_len-append is_other (reverse cs) (c ∷ [])
+    ∙ ap (λ n. if suffix_len is_other cs == n then n + prefix_len is_other (c ∷ []) else suffix_len is_other cs) (length-reverse cs)
+
+record Counted (cs : Text) : Type 0 where
+  all : list_any is_line_feed cs ≡ false → suffix_len is_other cs ≡ length cs
+  fewer : list_any is_line_feed cs ≡ true → suffix_len is_other cs < length cs
+  after : last_line cs ≡ after_last is_line_feed cs
+
+counted_on : (c : ℕ) (cs : Text) → Counted cs → Counted (c ∷ cs)
+counted_on c cs n = go (is_line_feed c) refl (list_any is_line_feed cs) refl
+  where
+    size : ℕ
+    size = suffix_len is_other cs
+
+    go : (b : Bool) → is_line_feed c ≡ b → (a : Bool) → list_any is_line_feed cs ≡ a → Counted (c ∷ cs)
+    go b feed true any =
+        let less : size < length cs = n.fewer any in
+        let same : suffix_len is_other (c ∷ cs) ≡ size = one_before c cs ∙ cond-false (size == length cs) _ _ (ne_eqb size (length cs) (λ e. absurd (omega (arith, e, less)))) in
+        let here : length (c ∷ cs) - suffix_len is_other (c ∷ cs) ≡ suc (length cs - size) = omega (arith, same, less) in
+        record {
+          all = λ no. let never : true ≡ false = sym (or_right b _ any) ∙ sym (ap (λ x. x || list_any is_line_feed cs) feed) ∙ no in cc;
+          fewer = λ _. omega (arith, same, less);
+          after = ap (λ x. if x then last_line cs else c ∷ cs) (ap (λ x. x || list_any is_line_feed cs) feed ∙ or_right b _ any) ∙ n.after ∙ sym (ap (λ k. drop k (c ∷ cs)) here);
+        }
+    go true feed false none =
+        let whole : size ≡ length cs = n.all none in
+        let first : prefix_len is_other (c ∷ []) ≡ 0 = ap (λ (b : Bool). if not b then 1 else 0) feed in
+        let same : suffix_len is_other (c ∷ cs) ≡ length cs = one_before c cs ∙ cond-true (size == length cs) _ _ (eq-eqb size (length cs) whole) ∙ omega (arith, first) in
+        let here : length (c ∷ cs) - suffix_len is_other (c ∷ cs) ≡ 1 = omega (arith, same) in
+        let start : length cs - size ≡ 0 = omega (arith, whole) in
+        record {
+          all = λ no. let never : true ≡ false = sym (ap (λ x. x || list_any is_line_feed cs) feed) ∙ no in cc;
+          fewer = λ _. omega (arith, same);
+          after = ap (λ x. if x || list_any is_line_feed cs then last_line cs else c ∷ cs) feed ∙ n.after ∙ ap (λ k. drop k cs) start ∙ sym (ap (λ k. drop k (c ∷ cs)) here);
+        }
+    go false feed false none =
+        let whole : size ≡ length cs = n.all none in
+        let first : prefix_len is_other (c ∷ []) ≡ 1 = ap (λ (b : Bool). if not b then 1 else 0) feed in
+        let same : suffix_len is_other (c ∷ cs) ≡ length cs + 1 = one_before c cs ∙ cond-true (size == length cs) _ _ (eq-eqb size (length cs) whole) ∙ omega (arith, first) in
+        let here : length (c ∷ cs) - suffix_len is_other (c ∷ cs) ≡ 0 = omega (arith, same) in
+        record {
+          all = λ _. omega (arith, same);
+          fewer = λ yes. let never : true ≡ false = sym yes ∙ ap (λ x. x || list_any is_line_feed cs) feed ∙ none in cc;
+          after = ap (λ x. if x then last_line cs else c ∷ cs) (ap (λ x. x || list_any is_line_feed cs) feed ∙ none) ∙ sym (ap (λ k. drop k (c ∷ cs)) here);
+        }
+
+counted : (cs : Text) → Counted cs
+counted [] = record { all = λ _. refl; fewer = λ yes. let never : true ≡ false = sym yes in cc; after = refl }
+counted (c ∷ cs) = counted_on c cs (counted cs)
+
+pub last_line_is : (cs : Text) → last_line cs ≡ after_last is_line_feed cs
+last_line_is cs = (counted cs).after
+
 last_line_whole : (cs : Text) → list_any is_line_feed cs ≡ false → last_line cs ≡ cs
 last_line_whole [] h = refl
 last_line_whole (c ∷ cs) h = ap (λ b. if b then last_line cs else c ∷ cs) h
@@ -72,8 +139,8 @@ column_is w k (c ∷ cs) = go (is_line_feed c) (list_any is_line_feed cs) refl (
     go false true e ih = ih
     go false false e ih = omega (arith, ih, sum_by-cons w c cs)
 
-pub column_whole : (w : ℕ → ℕ) (cs : Text) → column_from w 1 cs ≡ 1 + sum_by w (last_line cs)
-column_whole w cs = column_is w 1 cs ∙ go (list_any is_line_feed cs) refl
+pub column_whole : (w : ℕ → ℕ) (cs : Text) → column_from w 1 cs ≡ 1 + sum_by w (after_last is_line_feed cs)
+column_whole w cs = column_is w 1 cs ∙ go (list_any is_line_feed cs) refl ∙ ap (λ l. 1 + sum_by w l) (last_line_is cs)
   where
     go : (a : Bool) → list_any is_line_feed cs ≡ a → (if a then 1 + sum_by w (last_line cs) else 1 + sum_by w cs) ≡ 1 + sum_by w (last_line cs)
     go true e = refl
@@ -95,8 +162,22 @@ module _ (s rest : Text) (c : ℕ) (text : IsUtf8 s) (split : s ≡ encode_utf8 
   pub next_size : length s ≡ len_utf8 c + length rest
   next_size = omega (arith, ap length split, length-append (encode_utf8 c) rest, length-encode c)
 
+-- how many units a character takes in UTF-16
+abbrev pub len_utf16 : ℕ → ℕ
+len_utf16 c = length (encode_utf16 c)
+
+units_are : (c : ℕ) → len_utf16 c ≡ (if nat_lt c 0x1_0000 then 1 else 2)
+units_are c = go (nat_lt c 0x1_0000)
+  where
+    go : (b : Bool) → length (if b then c ∷ [] else (0xD800 + (c - 0x1_0000) / 0x400) ∷ (0xDC00 + (c - 0x1_0000) % 0x400) ∷ []) ≡ (if b then 1 else 2)
+    go true = refl
+    go false = refl
+
+few_units : (c : ℕ) → (if nat_lt c 0x1_0000 then 1 else 2) ≤ len_utf8 c
+few_units c = grind arith
+
 pub len_utf16-le : (c : ℕ) → len_utf16 c ≤ len_utf8 c
-len_utf16-le c = grind arith
+len_utf16-le c = omega (arith, units_are c, few_units c)
 
 -- ---- the steps of a count
 
@@ -131,4 +212,5 @@ no_line s none = ap (count_by is_line_feed) (no_chars s none)
 
 -- units of UTF-16
 pub len_utf16-is : (c n : ℕ) → (c < 0x1_0000 → n ≡ 1) → (0x1_0000 ≤ c → n ≡ 2) → n ≡ len_utf16 c
-len_utf16-is c n low high = ⊎_elim (λ lt. low lt ∙ cond_below c 0x1_0000 1 2 lt) (λ ge. high ge ∙ cond_above c 0x1_0000 1 2 2 ge refl) (cases_lt c 0x1_0000)
+len_utf16-is c n low high =
+    ⊎_elim (λ lt. low lt ∙ cond_below c 0x1_0000 1 2 lt) (λ ge. high ge ∙ cond_above c 0x1_0000 1 2 2 ge refl) (cases_lt c 0x1_0000) ∙ sym (units_are c)

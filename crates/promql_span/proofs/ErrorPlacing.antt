@@ -29,7 +29,8 @@ use Rattle.promql_syntax.specs.declared.grammar.place.TokenRange.{TokenRange}
 use Rattle.promql_syntax.specs.declared.parser.ParseError.{ParseError}
 use Rattle.promql_syntax.specs.declared.parser.ParseError.TheVariants as errors
 use Rattle.promql_span.proofs.TokenRanges.{span_at}
-use Rattle.promql_span.specs.ErrorPlaces.{IsAtBuildFault, IsAtError, IsAtFault, IsAtPlainError, IsCharOrEnd, IsPlaceOf}
+use Rattle.promql_span.specs.ErrorPlaces.{IsAtBuildFault, IsAtError, IsAtFault, IsPlaceOf}
+use Rattle.promql_span.specs.CharSpans.{IsCharAt}
 use Rattle.promql_span.specs.Findings.{HasFault, IsFindingOf, IsFound, IsFoundAt, IsMisfit, IsPlacedError, IsPlacedFault}
 use Rattle.promql_grammar.specs.Results.{on_result}
 use Rattle.promql_syntax.specs.BuildErrors.{BuildError, build_error_of, build_fault_of}
@@ -133,7 +134,7 @@ pub found_place : (s : Text) (e : ParseError) (found : Finding) (span : Span) �
 found_place s errors.Memory found span memory lexical empty is at = absurd (memory refl)
 found_place s (errors.Lex f) found span memory lexical empty is at = absurd (lexical f refl)
 found_place s errors.Empty found span memory lexical empty is at = absurd (empty refl)
-found_place s errors.Syntax (Misfit left) span memory lexical empty is at = record { left = left; misfits = is; is = at }
+found_place s errors.Syntax (Misfit left) span memory lexical empty is at = (left, (is, at))
 found_place s errors.Syntax (Fault place) span memory lexical empty is at = absurd is
 found_place s errors.TooDeep found span memory lexical empty is at = fault_place s errors.TooDeep found span is at
 found_place s (errors.Number f) found span memory lexical empty is at = fault_place s (errors.Number f) found span is at
@@ -170,14 +171,18 @@ fault_at s e place span placed at is = record {
   place = span_at s (fault_tokens e placed.sub.after placed.sub.derivation) place span placed.there is;
 }
 
+same_fault : (e f : BuildError) → plain.fault e ≡ plain.fault f → e ≡ f
+same_fault e f same = cc
+
 pub placed_at : (s : Text) (e : PlainParseError) (place : Place) (span : Span) → (0 < length (placed_tokens s)) × IsPlacedError s e place → (0 < length (placed_tokens s) → IsAtTokens s span)
-    → ((range : TokenRange) → place ≡ Tokens range → 0 < length (in_range range 0 (placed_tokens s)) → span ≡ span_over s (in_range range 0 (placed_tokens s))) → IsAtTokens s span × IsAtPlainError s e span
-placed_at s (plain.fault e) place span has at is = (at has.0, fault_at s e place span has.1 (at has.0) is)
-placed_at s plain.memory place span has at is = (at has.0, tt)
-placed_at s (plain.lexical f) place span has at is = (at has.0, tt)
-placed_at s plain.empty place span has at is = (at has.0, tt)
-placed_at s plain.syntax place span has at is = (at has.0, tt)
-placed_at s plain.too_deep place span has at is = (at has.0, tt)
+    → ((range : TokenRange) → place ≡ Tokens range → 0 < length (in_range range 0 (placed_tokens s)) → span ≡ span_over s (in_range range 0 (placed_tokens s)))
+    → IsAtTokens s span × ((f : BuildError) → e ≡ plain.fault f → IsAtBuildFault s f span)
+placed_at s (plain.fault e) place span has at is = (at has.0, λ f same. subst (λ f. IsAtBuildFault s f span) (same_fault e f same) (fault_at s e place span has.1 (at has.0) is))
+placed_at s plain.memory place span has at is = (at has.0, λ f same. cc)
+placed_at s (plain.lexical f) place span has at is = (at has.0, λ f same. cc)
+placed_at s plain.empty place span has at is = (at has.0, λ f same. cc)
+placed_at s plain.syntax place span has at is = (at has.0, λ f same. cc)
+placed_at s plain.too_deep place span has at is = (at has.0, λ f same. cc)
 
 -- a misfit is no fault
 pub found_misfit : (s : Text) (e : ParseError) (left : ℕ) (span : Span) → span ≡ first_span s (last_tokens left (placed_tokens s)) → IsFoundAt s e (Misfit left) span
@@ -185,7 +190,7 @@ found_misfit s e left span is = is
 
 -- ---- lexical faults
 
-pub char_fault : (s : Text) (at : ℕ) (kind : LexFaultKind) (span : Span) → kind ≢ UnclosedParen → IsCharOrEnd s at span → IsAtFault s at kind span
+pub char_fault : (s : Text) (at : ℕ) (kind : LexFaultKind) (span : Span) → kind ≢ UnclosedParen → (at < length s → IsCharAt s at span) × (length s ≤ at → span ≡ end_of s) → IsAtFault s at kind span
 char_fault s at UnclosedParen span other is = absurd (other refl)
 char_fault s at kind span other is = is
 

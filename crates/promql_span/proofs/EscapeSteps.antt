@@ -1,7 +1,7 @@
 -- The first escape of a text, byte by byte.
-use Rattle.std.proofs.Common.{◌≡◌, ℕ, ◌+◌, ◌≤◌, Bool, true, false, not, ◌&&◌, ◌==◌, [], ◌∷◌, length, Option, None, Some, IfSome, cond, refl, sym, ap, ◌∙◌, true≢false, arith}
+use Rattle.std.proofs.Common.{◌≡◌, ℕ, ◌+◌, ◌≤◌, Bool, true, false, not, ◌&&◌, ◌==◌, [], ◌∷◌, length, Option, None, Some, IfSome, cond, refl, sym, ap, true≢false, arith}
 use Rattle.promql_text.specs.Texts.{Text, code}
-use Rattle.promql_span.specs.ByteEscapes.{escape_between, first_escape, is_byte_escape}
+use Rattle.promql_span.specs.ByteEscapes.{first_escape, is_byte_escape}
 
 not_both : (a : Bool) → false ≡ a && false
 not_both true = refl
@@ -34,7 +34,7 @@ later : (at : ℕ) (z : Text) (o : Option ℕ) → IfSome o (λ a. a + 4 ≤ at 
 later at z None h b = tt
 later at z (Some a) h b = omega (arith, h)
 
-found_within : (escaped : Bool) (at : ℕ) (z : Text) → IfSome (first_escape escaped at z) (λ a. a + 4 ≤ at + length z)
+pub found_within : (escaped : Bool) (at : ℕ) (z : Text) → IfSome (first_escape escaped at z) (λ a. a + 4 ≤ at + length z)
 found_within escaped at [] = tt
 found_within true at (b ∷ z) = later at z _ (found_within false (at + 1) z) b
 found_within false at (b ∷ z) = go (b == code "\\" && is_byte_escape z) refl (later at z _ (found_within (b == code "\\") (at + 1) z) b)
@@ -43,11 +43,3 @@ found_within false at (b ∷ z) = go (b == code "\\" && is_byte_escape z) refl (
         → IfSome (cond e (Some at) (first_escape (b == code "\\") (at + 1) z)) (λ a. a + 4 ≤ at + length (b ∷ z))
     go true is h = omega (arith, three_follow z (both_true (b == code "\\") (is_byte_escape z) is))
     go false is h = h
-
-pub between_within : (at : ℕ) (z : Text) → IfSome (escape_between at z) (λ a. a + 4 ≤ at + length z)
-between_within at [] = tt
-between_within at (quote ∷ z) = go (quote == code "`")
-  where
-    go : (b : Bool) → IfSome (cond b None (first_escape false (at + 1) z)) (λ a. a + 4 ≤ at + length (quote ∷ z))
-    go true = tt
-    go false = later at z _ (found_within false (at + 1) z) quote

@@ -13,7 +13,7 @@ use Rattle.promql_grammar.specs.Symbols.{Symbol, punct, word, is_punct, symbol, 
 use Rattle.promql_grammar.specs.declared.token_kinds.TokenKind.{TokenKind}
 use Rattle.promql_grammar.specs.declared.token_kinds.TokenKind.TheVariants.{Other}
 use Rattle.promql_grammar.specs.declared.token_kinds.TheConstants.{TOKEN_KINDS}
-use Rattle.promql_span.specs.ExpectedTokens.{GoesOn}
+use Rattle.promql_span.specs.TokensBefore.{GoesOn}
 use Rattle.promql_span.specs.PlacedTokens.{symbols_at}
 use Rattle.promql_span.proofs.OrderedTokens.{AreOrdered}
 use Rattle.promql_span.proofs.Respelling.{AreAlike, alike_append, derivation_again, same_alike}

@@ -1,16 +1,18 @@
 -- The parts of a line around a place.
 use Rattle.std.proofs.Common.{◌≡◌, ℕ, zero, suc, ◌+◌, ◌-◌, ◌<◌, ◌≤◌, Bool, true, false, [], ◌∷◌, ◌++◌, length, drop, take, map, min, replicate, None, Some, refl, sym, ap, ◌∙◌, subst, arith, append_assoc}
-use Rattle.std.specs.Prelude.{◌==◌, ◌||◌, if◌then◌else◌}
+use Rattle.std.specs.Prelude.{◌==◌, ◌||◌, if◌then◌else◌, not}
 use Rattle.std.specs.Char.{encode_utf8}
-use Rattle.std.specs.List.{list_any}
+use Rattle.std.specs.List.{after_last, before_first, list_any}
 use Rattle.std.specs.Str.{IsCharBoundary, IsUtf8, NoCharPasses, NonePass, chars}
 use Rattle.std.specs.Str.Pattern.{FindsChar, RFindsChar}
 use Rattle.std.proofs.lemmas.Bool.{cond-false, cond-true, cond_both, eq-eqb, or_right}
 use Rattle.std.proofs.lemmas.List.{append_cancel_right, drop_at, take-append-drop}
+use Rattle.std.proofs.lemmas.List.Sums.{take_while-cons}
 use Rattle.std.proofs.lemmas.Str.{IsUtf8-drop, IsUtf8-past_char, IsUtf8-take, chars-append, chars-nil, chars_from_encodes, chars_past_char, encode_ascii, encodes-append, encodes-chars, length-le-encodes}
-use Rattle.promql_span.specs.Locations.{is_line_feed, last_line}
+use Rattle.promql_span.specs.Locations.{is_line_feed}
+use Rattle.promql_span.proofs.Columns.{last_line, last_line_is}
 use Rattle.promql_text.specs.Texts.{Text}
-use Rattle.promql_span.specs.Snippets.{blank, snippet_of, up_to}
+use Rattle.promql_span.specs.Snippets.{blank, snippet_of}
 use Rattle.promql_span.specs.Visible.{visible}
 use lib.Utf8.{encodes}
 
@@ -47,16 +49,30 @@ last_line_at [] ys none = last_line_whole ys none
 last_line_at (x ∷ xs) ys none =
     ap (λ b. if b then last_line (xs ++ 10 ∷ ys) else x ∷ (xs ++ 10 ∷ ys)) (or_right (is_line_feed x) _ (feed_in xs ys)) ∙ last_line_at xs ys none
 
-pub whole_is_last : (s : Text) → IsUtf8 s → RFindsChar 10 s None → chars s ≡ last_line (chars s)
-whole_is_last s text none = sym (last_line_whole (chars s) (no_feed (chars s) (none_of is_line_feed s text none)))
+pub whole_is_last : (s : Text) → IsUtf8 s → RFindsChar 10 s None → chars s ≡ after_last is_line_feed (chars s)
+whole_is_last s text none = sym (last_line_whole (chars s) (no_feed (chars s) (none_of is_line_feed s text none))) ∙ last_line_is (chars s)
 
-pub after_is_last : (s : Text) (i j : ℕ) → IsUtf8 s → IsCharBoundary s i → RFindsChar 10 s (Some (i, j)) → chars (drop j s) ≡ last_line (chars s)
+pub after_is_last : (s : Text) (i j : ℕ) → IsUtf8 s → IsCharBoundary s i → RFindsChar 10 s (Some (i, j)) → chars (drop j s) ≡ after_last is_line_feed (chars s)
 after_is_last s i j text place found =
     let split = found.1.split in
     let rest = text_past s i j 10 text place split in
     sym (ap last_line (chars_around s i j 10 text place split) ∙ last_line_at (chars (take i s)) (chars (drop j s)) (no_feed (chars (drop j s)) (none_of is_line_feed (drop j s) rest found.0)))
+    ∙ last_line_is (chars s)
 
 -- ---- up to a character
+
+abbrev up_to : ℕ → Text → Text
+up_to b [] = []
+up_to b (c ∷ cs) = if c == b then [] else c ∷ up_to b cs
+
+up_to_is : (b : ℕ) (cs : Text) → up_to b cs ≡ before_first (λ c. c == b) cs
+up_to_is b [] = refl
+up_to_is b (c ∷ cs) =
+    ap (λ l. if c == b then [] else c ∷ l) (up_to_is b cs) ∙ go (c == b) ∙ sym (take_while-cons (λ d. not (d == b)) c cs)
+  where
+    go : (e : Bool) → (if e then [] else c ∷ before_first (λ d. d == b) cs) ≡ (if not e then c ∷ before_first (λ d. d == b) cs else [])
+    go true = refl
+    go false = refl
 
 up_to_whole : (b : ℕ) (cs : Text) → NonePass (λ d. d == b) cs → up_to b cs ≡ cs
 up_to_whole b [] none = refl
@@ -66,12 +82,13 @@ up_to_at : (b : ℕ) (cs ds : Text) → NonePass (λ d. d == b) cs → up_to b (
 up_to_at b [] ds none = cond-true (b == b) [] (b ∷ up_to b ds) (eq-eqb b b refl)
 up_to_at b (c ∷ cs) ds none = cond-false (c == b) [] (c ∷ up_to b (cs ++ b ∷ ds)) none.0 ∙ ap (λ l. c ∷ l) (up_to_at b cs ds none.1)
 
-pub whole_is_up_to : (b : ℕ) (s : Text) → IsUtf8 s → FindsChar b s None → chars s ≡ up_to b (chars s)
-whole_is_up_to b s text none = sym (up_to_whole b (chars s) (none_of (λ d. d == b) s text none))
+pub whole_is_up_to : (b : ℕ) (s : Text) → IsUtf8 s → FindsChar b s None → chars s ≡ before_first (λ c. c == b) (chars s)
+whole_is_up_to b s text none = sym (up_to_whole b (chars s) (none_of (λ d. d == b) s text none)) ∙ up_to_is b (chars s)
 
-pub front_is_up_to : (b : ℕ) (s : Text) (i j : ℕ) → IsUtf8 s → IsCharBoundary s i → FindsChar b s (Some (i, j)) → chars (take i s) ≡ up_to b (chars s)
+pub front_is_up_to : (b : ℕ) (s : Text) (i j : ℕ) → IsUtf8 s → IsCharBoundary s i → FindsChar b s (Some (i, j)) → chars (take i s) ≡ before_first (λ c. c == b) (chars s)
 front_is_up_to b s i j text place found =
     sym (ap (up_to b) (chars_around s i j b text place found.1.split) ∙ up_to_at b (chars (take i s)) (chars (drop j s)) (none_of (λ d. d == b) (take i s) (IsUtf8-take s i text place) found.0))
+    ∙ up_to_is b (chars s)
 
 -- ---- the bytes of a snippet
 

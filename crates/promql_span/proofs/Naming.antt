@@ -2,12 +2,12 @@
 use Rattle.std.proofs.Common.{◌≡◌, ◌⊎◌, ℕ, ◌+◌, ◌<◌, ◌≤◌, Bool, true, false, ◌||◌, List, [], ◌∷◌, ◌++◌, Contains, Decides, append_assoc, append-nil, ap, ◌∙◌, arith, bytes_eq, codes, get_or, length, map, refl, subst, sym, take}
 use mathlib.Core.Logic.{inl, inr, ⊎_elim}
 use Rattle.std.specs.List.{flat_map, list_any}
+use Rattle.std.specs.Set.{is_member}
 use Rattle.std.specs.Borrow.{Bor}
 use Rattle.std.specs.Prelude.{◌==◌}
-use Rattle.std.proofs.lemmas.Bool.{cases_Bool}
 use Rattle.std.proofs.lemmas.List.{take_more, take_all}
 use Rattle.std.proofs.lemmas.List.Elements as elements
-use Rattle.std.proofs.lemmas.Map.Made.{Contains-tail}
+use Rattle.std.proofs.lemmas.Map.Made.{is_member-Decides}
 use Rattle.std.proofs.lemmas.Map.Views.{Contains-from_any}
 use Rattle.std.proofs.lemmas.Slice.Eq.{bytes_eq-Decides}
 use Rattle.promql_text.specs.Texts.{Text, joined_text}
@@ -32,17 +32,10 @@ contains_name names name is =
 -- ---- kinds among others
 
 abbrev pub has_in : List TokenKind → TokenKind → Bool
-has_in ks k = list_any (λ y. same_kinds.ghosts.eq y k) ks
-
-has_one : (ks : List TokenKind) (k : TokenKind) → Contains ks k → has_in ks k ≡ true
-has_one [] k at = absurd (omega (arith, at.1))
-has_one (y ∷ ks) k at =
-    ⊎_elim (λ same. ap (λ b. b || has_in ks k) same)
-    (λ other. ap (λ b. b || has_in ks k) other ∙ has_one ks k (Contains-tail y ks k (λ is. let no : true ≡ false = sym ((kind_Decides y k).1 is) ∙ other in cc) at))
-    (cases_Bool (same_kinds.ghosts.eq y k))
+has_in = is_member same_kinds.ghosts.eq
 
 pub has_in_is : (ks : List TokenKind) (k : TokenKind) → Decides (has_in ks k) (Contains ks k)
-has_in_is ks k = (Contains-from_any {eq = λ a b. same_kinds.ghosts.eq b a} (λ a b same. sym ((kind_Decides b a).0 same)) k ks, has_one ks k)
+has_in_is = is_member-Decides kind_Decides
 
 -- ---- the names of the first kinds
 
@@ -77,22 +70,17 @@ one_more_named has xs ks i d name old new same less is named here keeps only =
 
 -- names of all kinds, and of the end where a text may end
 pub named_without_end : (ks : List TokenKind) (names : List Text) → AreNamed (has_in ks) ks names → AreNames ks false names
-named_without_end ks names named = record {
-  has = has_in ks;
-  has_is = has_in_is ks;
-  all = named.all;
-  end = λ no. let never : true ≡ false = sym no in cc;
-  only = λ n at. inl (named.only n at);
-}
+named_without_end ks names named = λ n.
+    ((λ at. inl (named.only n at)), (λ either. ⊎_elim (λ of. subst (Contains names) (sym of.2) (named.all of.0 of.1)) (λ end. let never : true ≡ false = sym end.0 in cc) either))
 
 pub named_with_end : (ks : List TokenKind) (names : List Text) → AreNamed (has_in ks) ks names → AreNames ks true (names ++ codes "end of query" ∷ [])
-named_with_end ks names named = record {
-  has = has_in ks;
-  has_is = has_in_is ks;
-  all = λ k at. elements.Contains-append_left names (codes "end of query" ∷ []) (name_among (has_in ks) k) (named.all k at);
-  end = λ _. elements.Contains-push names (codes "end of query");
-  only = λ n at. ⊎_elim (λ before. inl (named.only n before)) (λ same. inr (refl, sym same)) (elements.Contains-push_cases names (codes "end of query") n at);
-}
+named_with_end ks names named = λ n.
+    let all = names ++ codes "end of query" ∷ [] in (
+      (λ at. ⊎_elim (λ before. inl (named.only n before)) (λ same. inr (refl, sym same)) (elements.Contains-push_cases names (codes "end of query") n at)),
+      (λ either. ⊎_elim
+          (λ of. subst (Contains all) (sym of.2) (elements.Contains-append_left names (codes "end of query" ∷ []) (name_among (has_in ks) of.0) (named.all of.0 of.1)))
+          (λ end. subst (Contains all) (sym end.1) (elements.Contains-push names (codes "end of query"))) either),
+    )
 
 -- so many kinds are all
 pub all_named : (has : TokenKind → Bool) (xs ks : List TokenKind) (i : ℕ) (names : List Text) → xs ≡ ks → length xs ≤ i → AreNamed has (take i ks) names → AreNamed has ks names
@@ -125,7 +113,7 @@ join_shape f s g t r =
     ∙ sym (append_assoc f ((s ++ g) ++ t) r)
 
 either_last : (f : Bor Text) (fs : List (Bor Text)) (last : Bor Text)
-    → either_text (map (λ n. n.now) (f ∷ fs ++ last ∷ [])) ≡ joined_text (codes ", ") (map (λ n. n.now) (f ∷ fs)) ++ (codes " or " ++ last.now)
+    → either_text f.now (map (λ n. n.now) (fs ++ last ∷ [])) ≡ joined_text (codes ", ") (map (λ n. n.now) (f ∷ fs)) ++ (codes " or " ++ last.now)
 either_last f [] last = ap (λ t. t ++ (codes " or " ++ last.now)) (sym (append-nil f.now))
 either_last f (g ∷ []) last =
     ap (λ t. f.now ++ (codes ", " ++ t)) (either_last g [] last) ∙ join_shape f.now (codes ", ") g.now [] (codes " or " ++ last.now)

@@ -1,16 +1,56 @@
 -- The tokens of a text are in order, and none of them is empty.
-use Rattle.std.proofs.Common.{◌≡◌, ℕ, ◌+◌, ◌<◌, ◌≤◌, true, false, cond, List, [], ◌∷◌, ◌++◌, length, drop, Ok, Err, refl, sym, ap, ◌∙◌, subst, arith, length-drop, length-take-le}
+use Rattle.std.proofs.Common.{◌≡◌, ℕ, ◌+◌, ◌<◌, ◌≤◌, Bool, true, false, cond, List, [], ◌∷◌, ◌++◌, length, drop, filter, Result, Ok, Err, refl, sym, ap, ◌∙◌, subst, arith, length-drop, length-take-le}
 use Rattle.std.specs.Prelude.{◌==◌, not}
+use Rattle.std.specs.Result.{ok_prefix}
 use Rattle.std.proofs.lemmas.Bool.{cond_both, eqb-false, not-true}
 use Rattle.std.proofs.lemmas.List.{drop-drop}
 use Rattle.promql_text.specs.Texts.{Text}
+use Rattle.promql_token.specs.declared.fault.LexFault.{LexFault}
+use Rattle.promql_token.specs.declared.ids.TheConstants.{T_EOF}
 use Rattle.promql_token.specs.declared.lexeme.Lexeme.{Lexeme}
 use Rattle.promql_token.specs.declared.state.State.{State}
-use Rattle.promql_token.specs.Lexing.{ScannedText, Found, cut, found, goes_on, item, len_of, place_items, scanned_text, start, state_after_scan}
+use Rattle.promql_token.specs.Lexing.{ScannedText, Found, cut, found, goes_on, item, items, len_of, place_items, scanned_text, start, state_after_scan}
 use Rattle.promql_token.specs.TokenScanning.{Scanned, after_trivia, trivia_len}
 use Rattle.promql_token.proofs.Ends.{PieceEnds, piece_ends}
 use Rattle.promql_token.proofs.Steps.{cut_is, found_fits}
-use Rattle.promql_span.specs.PlacedTokens.{placed_tokens, up_to_end}
+use Rattle.promql_token.proofs.TestsAndCounts.{by_bool}
+use Rattle.promql_span.specs.PlacedTokens.{placed_tokens}
+use Rattle.promql_span.specs.TokensLeft.{up_to_end}
+
+-- ---- the end is the last of all items
+
+abbrev before_end : List (Result Lexeme LexFault) → List Lexeme
+before_end rs = filter (λ x. not (x.id == T_EOF)) (ok_prefix rs)
+
+first_kept : (place : ℕ) (w : ScannedText) (more : List (Result Lexeme LexFault)) → (goes_on w ≡ true → up_to_end more ≡ before_end more) → (goes_on w ≡ false → more ≡ [])
+    → up_to_end (item place w ∷ more) ≡ before_end (item place w ∷ more)
+first_kept place (Err e) more kept stops = refl
+first_kept place (Ok t) more kept stops =
+    let x : Lexeme = record { id = t.0; start = place; len = length t.1 } in
+    by_bool (t.0 == T_EOF)
+    (λ end. ap (λ (b : Bool). cond b [] (x ∷ up_to_end more)) end ∙ sym (ap (λ (b : Bool). cond (not b) (x ∷ before_end more) (before_end more)) end ∙ ap before_end (stops (ap not end))))
+    (λ apart. ap (λ (b : Bool). cond b [] (x ∷ up_to_end more)) apart ∙ ap (λ l. x ∷ l) (kept (ap not apart)) ∙ sym (ap (λ (b : Bool). cond (not b) (x ∷ before_end more) (before_end more)) apart))
+
+all_kept : (fs : List Found) (state : State) (z : Text) (at : ℕ) → cut state z ≡ fs → up_to_end (place_items at fs) ≡ before_end (place_items at fs)
+all_kept [] state z at is = refl
+all_kept (f ∷ fs) state z at is =
+    let f0 = found state z in
+    let head = sym is ∙ cut_is state z in
+    let first : f ≡ f0 = cc in
+    let next = state_after_scan state f0.scanned_text in
+    let left = drop (f0.trivia + len_of f0.scanned_text) z in
+    let rest : fs ≡ cond (goes_on f0.scanned_text) (cut next left) [] = cc in
+    let rest_is : (b : Bool) → goes_on f.scanned_text ≡ b → fs ≡ cond b (cut next left) [] =
+    λ b is_b. rest ∙ ap (λ b. cond b (cut next left) []) (sym (ap (λ g. goes_on g.scanned_text) first) ∙ is_b) in
+    let there : ℕ = at + f.trivia + len_of f.scanned_text in
+    first_kept (at + f.trivia) f.scanned_text (place_items there fs)
+    (λ goes. all_kept fs next left there (sym (rest_is true goes)))
+    (λ stops. ap (place_items there) (rest_is false stops))
+
+pub placed_is : (s : Text) → up_to_end (items s) ≡ placed_tokens s
+placed_is s = all_kept (cut start s) start s 0 refl
+
+-- ---- order
 
 -- from `at` on, tokens are in order up to `len`, and none is empty
 abbrev pub AreOrdered : ℕ → ℕ → List Lexeme → Type 0
@@ -61,7 +101,7 @@ all_ordered s (f ∷ fs) state at within is =
     (ap (cut (state_after_scan state f0.scanned_text)) at_rest ∙ sym (rest ∙ ap (λ b. cond b (cut (state_after_scan state f0.scanned_text) (drop (f0.trivia + len_of f0.scanned_text) z)) []) (sym (ap (λ g. goes_on g.scanned_text) first) ∙ goes))))
 
 pub ordered : (s : Text) → AreOrdered (length s) 0 (placed_tokens s)
-ordered s = all_ordered s (cut start s) start 0 (omega arith) refl
+ordered s = subst (AreOrdered (length s) 0) (placed_is s) (all_ordered s (cut start s) start 0 (omega arith) refl)
 
 -- ---- what follows from order
 

@@ -11,7 +11,9 @@ use Rattle.promql_token.specs.Lexing.{ScannedText, Found, cut, found, goes_on, i
 use Rattle.promql_token.proofs.Spans.{spans, stands}
 use Rattle.promql_token.proofs.Steps.{cut_is, found_fits}
 use Rattle.promql_token.proofs.TestsAndCounts.{by_bool}
-use Rattle.promql_span.specs.PlacedTokens.{PiecesArePlaced, TokensArePlaced, placed_tokens, up_to_end}
+use Rattle.promql_span.specs.PlacedTokens.{PiecesArePlaced, TokensArePlaced, placed_tokens}
+use Rattle.promql_span.specs.TokensLeft.{up_to_end}
+use Rattle.promql_span.proofs.OrderedTokens.{placed_is}
 
 abbrev texts_of : List Found → List (ℕ × Text)
 texts_of fs = filter is_before_end (up_to_fault (map (λ f. f.scanned_text) fs))
@@ -57,7 +59,7 @@ all_texts s (f ∷ fs) state at within is =
     (λ stops. rest_is false stops)
 
 pub pieces_placed : PiecesArePlaced
-pieces_placed s = all_texts s (cut start s) start 0 (omega arith) refl
+pieces_placed s = all_texts s (cut start s) start 0 (omega arith) refl ∙ ap (slice_texts s) (placed_is s)
 
 -- ---- the token list
 

@@ -1,13 +1,16 @@
 -- The measures of the tokens of a text, token by token.
-use Rattle.std.proofs.Common.{◌≡◌, ℕ, suc, ◌+◌, ◌≤◌, Bool, false, List, [], ◌∷◌, ◌++◌, length, refl, ap, ◌∙◌, arith, length-append}
-use Rattle.std.specs.Prelude.{◌||◌, ◌==◌}
+use Rattle.std.proofs.Common.{◌≡◌, ℕ, suc, ◌+◌, ◌<◌, ◌≤◌, Bool, false, List, [], ◌∷◌, ◌++◌, length, drop, take, refl, ap, ◌∙◌, arith, length-append}
+use Rattle.std.specs.Prelude.{◌||◌, ◌==◌, sum}
+use Rattle.std.proofs.Math.Seq.{take-append-add, take-append_seam}
+use Rattle.std.proofs.lemmas.List.Sums.{sum_by_push}
 use Rattle.std.proofs.lemmas.List.{length-map}
 use Rattle.promql_text.specs.Texts.{Text}
 use Rattle.promql_token.specs.Cursor.{tokens_up_to_fault}
 use Rattle.promql_token.specs.declared.ids.TheConstants.{T_EQL_REGEX, T_NEQ_REGEX}
 use Rattle.promql_token.specs.Lexing.{text_at}
-use Rattle.promql_span.specs.PlacedTokens.{placed_tokens}
-use Rattle.promql_span.specs.QueryLimits.{measures, token_measures}
+use Rattle.promql_span.specs.PlacedTokens.{first_span, placed_tokens}
+use Rattle.promql_span.specs.declared.span.Span.{Span}
+use Rattle.promql_span.specs.QueryLimits.{IsAtPassing, measures, token_measures}
 use Rattle.promql_span.proofs.OrderedTokens.{tokens_fit}
 use Rattle.promql_span.proofs.PlacedTexts.{pieces_placed}
 
@@ -29,3 +32,12 @@ index_fits s before after t ts left all begins =
     let next : length left ≡ suc (length ts) = ap length begins in
     let counted : length (token_measures s) ≡ length before + length left = ap length all ∙ length-append before (measures after left) ∙ ap (λ n. length before + n) (as_many after left) in
     omega (arith, measures_fit s, next, counted)
+
+-- the token with which the sum is more than `most`, where the measures before it are these
+pub passing_at : (s : Text) (most : ℕ) (before after : List ℕ) (n : ℕ) (place : Span) → token_measures s ≡ before ++ n ∷ after → sum before ≤ most → most < sum before + n
+    → place ≡ first_span s (drop (length before) (placed_tokens s)) → IsAtPassing s most place
+passing_at s most before after n place all fit passes is =
+    let front : take (length before) (token_measures s) ≡ before = ap (take (length before)) all ∙ take-append_seam before (n ∷ after) in
+    let through : take (length before + 1) (token_measures s) ≡ before ++ n ∷ [] = ap (take (length before + 1)) all ∙ take-append-add before (n ∷ after) 1 in
+    let more : sum (before ++ n ∷ []) ≡ sum before + n = sum_by_push (λ k. k) before n in
+    (length before, omega (arith, ap sum front, fit), omega (arith, ap sum through, more, passes), is)

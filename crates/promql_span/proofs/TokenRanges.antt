@@ -1,12 +1,11 @@
 -- The tokens with an index in a range, by how many are left.
 use Rattle.std.proofs.Common.{◌≡◌, ℕ, zero, suc, ◌+◌, ◌-◌, ◌<◌, ◌≤◌, ⊎_elim, List, [], ◌∷◌, ◌++◌, length, drop, take, Some, None, refl, sym, ap, ap₂, ◌∙◌, subst, arith}
-use Rattle.std.specs.Prelude.{Option}
+use Rattle.std.specs.Prelude.{IfSome, Option}
 use Rattle.std.proofs.lemmas.Bool.{cases_lt, cond_above, cond_below}
 use Rattle.std.proofs.lemmas.List.{length-drop, take-append-drop}
 use Rattle.promql_span.proofs.TokenRows.{AreInRow}
 use Rattle.promql_text.specs.Texts.{Text}
 use Rattle.promql_token.specs.declared.lexeme.Lexeme.{Lexeme}
-use Rattle.promql_span.specs.ErrorPlaces.{IsSpanOf}
 use Rattle.promql_span.specs.PlacedTokens.{last_tokens, placed_tokens}
 use Rattle.promql_span.specs.SpanSteps.{in_range}
 use Rattle.promql_span.specs.TokenSpans.{span_over}
@@ -101,7 +100,8 @@ range_row range xs some =
 
 -- a span over the tokens in a range is that of the tokens that are left there
 pub span_at : (s : Text) (left : Option (ℕ × ℕ)) (place : Place) (span : Span) → AreTokens (length (placed_tokens s)) left place
-    → ((range : TokenRange) → place ≡ Tokens range → 0 < length (in_range range 0 (placed_tokens s)) → span ≡ span_over s (in_range range 0 (placed_tokens s))) → IsSpanOf s left span
+    → ((range : TokenRange) → place ≡ Tokens range → 0 < length (in_range range 0 (placed_tokens s)) → span ≡ span_over s (in_range range 0 (placed_tokens s)))
+    → IfSome left (λ l. l.1 < l.0 → span ≡ span_over s (take (l.0 - l.1) (last_tokens l.0 (placed_tokens s))))
 span_at s None place span are is = tt
 span_at s (Some left) (Argument range index) span are is = absurd are
 span_at s (Some left) (Tokens range) span are is = λ some.

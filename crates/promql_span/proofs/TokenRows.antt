@@ -2,13 +2,16 @@
 use Rattle.std.proofs.Common.{◌≡◌, ℕ, ◌+◌, ◌-◌, ◌<◌, ◌≤◌, Bool, true, false, List, [], ◌∷◌, ◌++◌, length, drop, take, filter, refl, sym, ap, ◌∙◌, subst, arith, length-drop, append-nil}
 use Rattle.std.specs.Prelude.{nat_le, nat_lt}
 use Rattle.std.proofs.lemmas.Bool.{and_from, and_left, and_right, cond-false, cond-true, leb-true, le-leb, le-ltb, ltb-false}
+use Rattle.std.proofs.Math.Seq.{drop-append_seam, take-append_seam}
 use Rattle.std.proofs.lemmas.List.{take-append-drop}
 use Rattle.promql_text.specs.Texts.{Text}
 use Rattle.promql_token.specs.declared.lexeme.Lexeme.{Lexeme}
 use Rattle.promql_token.proofs.TestsAndCounts.{by_bool}
 use Rattle.promql_span.specs.declared.span.Span.{Span}
 use Rattle.promql_span.specs.PlacedTokens.{first_span, last_tokens, placed_tokens, span_of}
-use Rattle.promql_span.specs.TokenSpans.{IsAtTokens, begins_from, begins_in, last_of, or_else, span_over, tokens_by}
+use Rattle.promql_span.specs.TokenSpans.{IsAtTokens, span_over, tokens_by}
+use Rattle.promql_span.specs.SpanSteps.{begins_from, begins_in, last_of, nearest_tokens, or_else}
+use Rattle.promql_span.proofs.Covered.{nearest_are, over_is}
 use Rattle.promql_span.proofs.OrderedTokens.{AreOrdered, ordered, ordered_after}
 
 -- some tokens in a row of others
@@ -41,7 +44,13 @@ row_at s [] before after is some = absurd (omega arith)
 row_at s (x ∷ xs) before after is some =
     let o = ordered_after (length s) 0 before (x ∷ (xs ++ after)) (subst (AreOrdered (length s) 0) is (ordered s)) in
     let b = bounds (length s) o.0 x xs after o.1 in
-    record { before = before; marked = x ∷ xs; after = after; tokens = is; is = refl; some = b.some; within = b.within }
+    let taken : take (length (x ∷ xs)) (drop (length before) (placed_tokens s)) ≡ x ∷ xs =
+    ap (λ l. take (length (x ∷ xs)) (drop (length before) l)) is
+    ∙ ap (take (length (x ∷ xs))) (drop-append_seam before (x ∷ (xs ++ after))) ∙ take-append_seam (x ∷ xs) after in (
+      (length before, length (x ∷ xs), ap (span_over s) (sym taken)),
+      subst (λ span. x.start < span.end) (sym (over_is s x xs)) b.some,
+      subst (λ span. span.end ≤ length s) (sym (over_is s x xs)) b.within,
+    )
 
 pub at_row : (s : Text) (marked : List Lexeme) → AreInRow marked (placed_tokens s) → IsAtTokens s (span_over s marked)
 at_row s marked row = row_at s marked row.before row.after row.tokens row.some
@@ -142,7 +151,7 @@ take_some : (ys : List Lexeme) → 0 < length (take 1 ys) → 0 < length ys
 take_some [] some = some
 take_some (y ∷ ys) some = omega arith
 
-chosen_row : (len at : ℕ) (part : Span) (xs : List Lexeme) → AreOrdered len at xs → 0 < length xs → AreInRow (tokens_by part xs) xs
+chosen_row : (len at : ℕ) (part : Span) (xs : List Lexeme) → AreOrdered len at xs → 0 < length xs → AreInRow (nearest_tokens part xs) xs
 chosen_row len at part xs o some =
     let row = all_in len part at xs o in
     let from = filter (begins_from part.start) xs in
@@ -151,4 +160,5 @@ chosen_row len at part xs o some =
     (choose xs (take 1 from) (last_tokens 1 xs) (λ any. first_passing (begins_from part.start) xs from refl (take_some from any)) (last_row xs some))
 
 pub chosen_at : (s : Text) (part : Span) → 0 < length (placed_tokens s) → IsAtTokens s (span_over s (tokens_by part (placed_tokens s)))
-chosen_at s part some = at_row s _ (chosen_row (length s) 0 part (placed_tokens s) (ordered s) some)
+chosen_at s part some =
+    at_row s _ (subst (λ xs. AreInRow xs (placed_tokens s)) (nearest_are part (placed_tokens s)) (chosen_row (length s) 0 part (placed_tokens s) (ordered s) some))

@@ -5,9 +5,7 @@ use Rattle.promql_text.specs.Texts.{Text}
 use Rattle.promql_span.specs.declared.span.Span.{Span}
 
 -- from a place between characters to the next one, with this byte between them
-pub record IsCharAt (s : Text) (at : ℕ) (span : Span) : Type 0 where
-  pub starts : IsCharBoundary s span.start
-  pub ends : IsCharBoundary s span.end
-  pub from : span.start ≤ at
-  pub until : at < span.end
-  pub one : (i : ℕ) → span.start < i → i < span.end → ¬ (IsCharBoundary s i)
+abbrev pub IsCharAt : Text → ℕ → Span → Type 0
+IsCharAt s at span =
+    IsCharBoundary s span.start × IsCharBoundary s span.end × (span.start ≤ at) × (at < span.end)
+    × ((i : ℕ) → span.start < i → i < span.end → ¬ (IsCharBoundary s i))

@@ -10,15 +10,8 @@ use Rattle.promql_span.specs.PlacedTokens.{placed_tokens, symbols_at}
 abbrev pub symbols_before : Text → ℕ → List Symbol
 symbols_before s at = symbols_at s (filter (λ x. nat_lt x.start at) (placed_tokens s))
 
--- a well formed derivation begins with these tokens and then one of this kind
-abbrev pub GoesOn : List Symbol → TokenKind → Type 0
-GoesOn front k = (d : Derivation) × (text : Text) × (others : List Symbol) × IsWellFormed d × (yield d ≡ front ++ symbol k text ∷ others)
-
--- a well formed derivation has these tokens and no more
-abbrev pub IsQuery : List Symbol → Type 0
-IsQuery front = (d : Derivation) × IsWellFormed d × (yield d ≡ front)
-
--- each kind of token with which they go on is among these, and the end where they are a query
+-- each kind of token with which a well formed derivation goes on after these tokens is among the kinds, and the end where they are one
 pub record AreExpected (front : List Symbol) (kinds : List TokenKind) (ends : Bool) : Type 0 where
-  pub tokens : (id : ℕ) → GoesOn front (token_kind id) → Contains kinds (token_kind id)
-  pub end : IsQuery front → ends ≡ true
+  pub tokens : (id : ℕ) (d : Derivation) (text : Text) (others : List Symbol) → IsWellFormed d
+      → yield d ≡ front ++ symbol (token_kind id) text ∷ others → Contains kinds (token_kind id)
+  pub end : (d : Derivation) → IsWellFormed d → yield d ≡ front → ends ≡ true

@@ -1,7 +1,8 @@
 -- The tokens of a text with their places (docs/reference/grammar.md, "Places of errors").
-use Rattle.std.specs.Prelude.{◌≡◌, ℕ, ◌+◌, ◌-◌, ◌==◌, if◌then◌else◌, List, [], ◌∷◌, length, drop, filter, map, Result, Ok, Err}
+use Rattle.std.specs.Prelude.{◌≡◌, ℕ, ◌+◌, ◌-◌, ◌==◌, not, List, length, drop, filter, map, slice_get, Ok}
+use Rattle.std.specs.Option.{option_map_or}
+use Rattle.std.specs.Result.{ok_prefix}
 use Rattle.promql_text.specs.Texts.{Text}
-use Rattle.promql_token.specs.declared.fault.LexFault.{LexFault}
 use Rattle.promql_token.specs.declared.ids.TheConstants.{T_EOF}
 use Rattle.promql_token.specs.declared.lexeme.Lexeme.{Lexeme}
 use Rattle.promql_token.specs.Cursor.{is_before_end, up_to_fault}
@@ -11,13 +12,8 @@ use Rattle.promql_grammar.specs.Symbols.{Symbol, symbol_of}
 use Rattle.promql_span.specs.declared.span.Span.{Span}
 
 -- the tokens before the end, or before the lexical fault
-abbrev pub up_to_end : List (Result Lexeme LexFault) → List Lexeme
-up_to_end [] = []
-up_to_end (Ok x ∷ rs) = if x.id == T_EOF then [] else x ∷ up_to_end rs
-up_to_end (Err f ∷ rs) = []
-
 abbrev pub placed_tokens : Text → List Lexeme
-placed_tokens s = up_to_end (items s)
+placed_tokens s = filter (λ x. not (x.id == T_EOF)) (ok_prefix (items s))
 
 -- what the grammar sees of tokens
 abbrev pub symbols_at : Text → List Lexeme → List Symbol
@@ -36,14 +32,12 @@ span_of x = record { start = x.start; end = x.start + x.len }
 
 -- the first of these tokens, or the end
 abbrev pub first_span : Text → List Lexeme → Span
-first_span s [] = end_of s
-first_span s (x ∷ xs) = span_of x
+first_span s xs = option_map_or span_of (slice_get xs 0) (end_of s)
 
 -- the first token that does not fit, or the end where one is missing
-pub record IsAtMisfit (s : Text) (span : Span) : Type 0 where
-  pub left : ℕ
-  pub misfits : AreMisfits (symbols_at s (placed_tokens s)) (symbols_at s (last_tokens left (placed_tokens s)))
-  pub is : span ≡ first_span s (last_tokens left (placed_tokens s))
+abbrev pub IsAtMisfit : Text → Span → Type 0
+IsAtMisfit s span =
+    (n : ℕ) × (let left = last_tokens n (placed_tokens s) in AreMisfits (symbols_at s (placed_tokens s)) (symbols_at s left) × (span ≡ first_span s left))
 
 -- ---- laws
 

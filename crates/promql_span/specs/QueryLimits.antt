@@ -1,5 +1,5 @@
 -- The limits of a query (docs/reference/programs.md, "Limits of a query").
-use Rattle.std.specs.Prelude.{◌≡◌, ℕ, ◌+◌, ◌-◌, ◌^◌, ◌<◌, ◌≤◌, min, Bool, false, ◌&&◌, ◌||◌, ◌==◌, if◌then◌else◌, List, [], ◌∷◌, ◌++◌, drop, length, option_map, sum}
+use Rattle.std.specs.Prelude.{◌≡◌, ℕ, ◌+◌, ◌-◌, ◌^◌, ◌<◌, ◌≤◌, min, Bool, false, ◌&&◌, ◌||◌, ◌==◌, if◌then◌else◌, List, [], ◌∷◌, drop, length, option_map, sum, take}
 use Rattle.std.specs.Option.{unwrap_or}
 use Rattle.promql_text.specs.Quoting.{unquoted_text}
 use Rattle.promql_text.specs.Texts.{Text}
@@ -31,14 +31,10 @@ abbrev pub patterns_size : Text → ℕ
 patterns_size s = min (sum (token_measures s)) (2 ^ 64 - 1)
 
 -- the token with which they are more than `most`
-pub record IsAtPassing (s : Text) (most : ℕ) (place : Span) : Type 0 where
-  pub before : List ℕ
-  pub passing : ℕ
-  pub after : List ℕ
-  pub all : token_measures s ≡ before ++ passing ∷ after
-  pub fit : sum before ≤ most
-  pub passes : most < sum before + passing
-  pub is : place ≡ first_span s (drop (length before) (placed_tokens s))
+abbrev pub IsAtPassing : Text → ℕ → Span → Type 0
+IsAtPassing s most place =
+    (n : ℕ) × (sum (take n (token_measures s)) ≤ most) × (most < sum (take (n + 1) (token_measures s)))
+    × (place ≡ first_span s (drop n (placed_tokens s)))
 
 pub record IsWithin (s : Text) (limits : Limits) : Type 0 where
   pub bytes : length s ≤ limits.max_len

@@ -1,15 +1,11 @@
 -- The line of a place, with a mark below it (docs/reference/grammar.md, "Places of errors"). A text is its characters
 -- here.
-use Rattle.std.specs.Prelude.{ℕ, ◌+◌, ◌-◌, ◌==◌, if◌then◌else◌, min, [], ◌∷◌, ◌++◌, drop, length, map, replicate, take}
-use Rattle.promql_span.specs.Locations.{characters_before, last_line}
+use Rattle.std.specs.Prelude.{ℕ, ◌+◌, ◌-◌, ◌==◌, if◌then◌else◌, min, ◌∷◌, ◌++◌, drop, length, map, replicate, take}
+use Rattle.std.specs.List.{after_last, before_first}
+use Rattle.promql_span.specs.Locations.{characters_before, is_line_feed}
 use Rattle.promql_span.specs.Visible.{visible}
 use Rattle.promql_text.specs.Texts.{Text, code}
 use Rattle.promql_span.specs.declared.span.Span.{Span}
-
--- the characters before the first of this kind, or all
-abbrev pub up_to : ℕ → Text → Text
-up_to b [] = []
-up_to b (c ∷ cs) = if c == b then [] else c ∷ up_to b cs
 
 -- below a character that is before the mark
 abbrev pub blank : ℕ → ℕ
@@ -27,4 +23,5 @@ snippet_of left right marked =
 abbrev pub snippet_text : Text → Span → Text
 snippet_text cs span =
     let front = characters_before cs span.start in
-    snippet_of (last_line front) (up_to (code "\r") (up_to (code "\n") (drop (length front) cs))) (length (characters_before cs span.end) - length front)
+    let rest = before_first is_line_feed (drop (length front) cs) in
+    snippet_of (after_last is_line_feed front) (before_first (λ c. c == code "\r") rest) (length (characters_before cs span.end) - length front)

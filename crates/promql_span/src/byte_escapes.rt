@@ -1,6 +1,7 @@
 //! Escapes of bytes past ASCII: docs/reference/texts.md, "Byte escapes".
 
-ghost use Rattle.std.specs.Prelude.{◌≡◌, ◌+◌, ◌<◌, ◌≤◌, ◌^◌, false, length, IfSome};
+ghost use Rattle.std.specs.Prelude.{◌≡◌, ◌+◌, ◌<◌, ◌≤◌, ◌^◌, ◌==◌, false, if◌then◌else◌, length, slice_index, IfSome, None};
+ghost use Rattle.std.specs.Char.{is_digit};
 ghost use Rattle.promql_span.specs.ByteEscapes as spec;
 
 use crate::placed::PlacedTokens;
@@ -44,12 +45,12 @@ fn escape_in(text: &str, token: Lexeme) -> Option<Span>
 /// Where the first one of a quoted text is, which begins at `at`.
 fn escape_between(at: usize, quoted: &[u8]) -> Option<usize>
     requires { at + length quoted.now < 2 ^ 64 }
-    ensures value { result ≡ spec.escape_between at quoted.now }
+    ensures value { result ≡ if slice_index quoted.now 0 == 96 then None else spec.first_escape false at quoted.now }
     ensures within { IfSome result (λ start. start + 4 ≤ at + length quoted.now) }
 {
     match quoted {
-        [b'`', ..] | [] => None,
-        [_, rest @ ..] => first_escape(at + 1, rest),
+        [b'`', ..] => None,
+        _ => first_escape(at, quoted),
     }
 }
 
@@ -90,7 +91,7 @@ fn is_byte_escape(text: &[u8]) -> bool
 fn is_digit(radix: u32, b: u8) -> bool
     requires least { 2 ≤ radix }
     requires most { radix ≤ 36 }
-    ensures { result ≡ spec.is_digit radix b }
+    ensures { result ≡ is_digit b radix }
 {
     char::from(b).is_digit(radix)
 }

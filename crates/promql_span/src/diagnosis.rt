@@ -1,6 +1,8 @@
 //! The error of a text, with its place: docs/reference/grammar.md, "Places of errors".
 
 ghost use Rattle.std.specs.Prelude.{◌≡◌, ◌⊎◌, ◌<◌, List, [], Ok, IfErr, IfOk, MatchOption, chars, encode_utf8_all, length, map, option_map, string_bytes};
+ghost use Rattle.std.specs.Result.{result_map_both};
+ghost use Rattle.promql_ast.specs.View.{tree_of};
 ghost use Rattle.promql_grammar.specs.Misfits.{AreMisfits};
 ghost use Rattle.promql_grammar.specs.Symbols.{symbol_of};
 ghost use Rattle.promql_grammar.specs.declared.read_error.ReadError.TheVariants as read_errors;
@@ -10,10 +12,10 @@ ghost use Rattle.promql_span.specs.Locations.{location_of};
 ghost use Rattle.promql_span.specs.PlacedTokens.{end_of, placed_tokens};
 ghost use Rattle.promql_span.specs.Snippets.{snippet_text};
 ghost use Rattle.promql_span.specs.TokenSpans.{IsAtTokens, span_over};
-ghost use Rattle.promql_span.specs.ErrorPlaces.{IsAtFault, IsPlaceOf, diagnosed_answer};
+ghost use Rattle.promql_span.specs.ErrorPlaces.{IsAtFault, IsPlaceOf};
 ghost use Rattle.promql_span.specs.SpanSteps.{in_range};
 ghost use Rattle.promql_span.specs.Findings.{IsFindingOf, IsFound, IsFoundAt, IsPlacedFault};
-ghost use Rattle.promql_syntax.specs.ParseAnswers.{IsAnswerTo};
+ghost use Rattle.promql_syntax.specs.ParseAnswers.{IsAnswerTo, plain_error_of};
 ghost use Rattle.promql_syntax.specs.BuildErrors.{build_error_of};
 ghost use Rattle.promql_syntax.specs.declared.grammar.place.Place as Place;
 ghost use Rattle.promql_syntax.specs.declared.grammar.place.TokenRange as ranges;
@@ -51,7 +53,7 @@ pub struct Diagnosis {
 ///
 /// Those of `parse`, when it has them. The text is lexed a few times more then, without an allocation.
 pub fn diagnose(alloc: Global, text: &str) -> Result<Expr, Diagnosis>
-    ensures answer { IsAnswerTo text.now (diagnosed_answer result) }
+    ensures answer { IsAnswerTo text.now (result_map_both tree_of (λ d. plain_error_of d.error) result) }
     ensures place { IfErr result (λ d. IsPlaceOf text.now d.error d.span) }
 {
     promql_ast::laws::checked_trees_are_typed();

@@ -4,9 +4,9 @@ ghost use Rattle.std.specs.Prelude.{◌≡◌, ◌++◌, ◌∷◌, ℕ, List, C
 ghost use Rattle.promql_grammar.specs.Misfits.{AreMisfits};
 ghost use Rattle.promql_grammar.specs.Symbols.{Symbol, token_kind};
 ghost use Rattle.promql_grammar.specs.SymbolsLeft.{symbols_left};
-ghost use Rattle.promql_span.specs.ExpectedTokens.{AreExpected, GoesOn, IsQuery, symbols_before};
+ghost use Rattle.promql_span.specs.ExpectedTokens.{AreExpected, symbols_before};
 ghost use Rattle.promql_span.specs.PlacedTokens.{placed_tokens};
-ghost use Rattle.promql_span.specs.TokensBefore.{IsListed, symbols_of_text};
+ghost use Rattle.promql_span.specs.TokensBefore.{GoesOn, IsListed, IsQuery, symbols_of_text};
 
 use crate::placed::PlacedTokens;
 use promql_ast::drop_expr;

@@ -2,6 +2,7 @@
 
 ghost use Rattle.std.specs.Prelude.{◌≡◌};
 ghost use Rattle.promql_grammar.specs.Symbols.{may_begin};
+ghost use Rattle.promql_grammar.specs.declared.token_kinds.TokenKind.TheVariants as kind;
 ghost use Rattle.promql_span.specs.KindNames as spec;
 
 use promql_grammar::TokenKind;
@@ -53,7 +54,7 @@ pub fn kind_name(kind: TokenKind) -> &'static str
 
 /// The names of operators.
 fn operator_name(id: TokenId) -> &'static str
-    ensures { result.now ≡ spec.operator_name id }
+    ensures { result.now ≡ spec.kind_name (kind.Operator id) }
 {
     match id {
         T_ADD => "\"+\"",
@@ -71,7 +72,8 @@ fn operator_name(id: TokenId) -> &'static str
         T_LAND => "\"and\"",
         T_LOR => "\"or\"",
         T_LUNLESS => "\"unless\"",
-        _ => "\"atan2\"",
+        T_ATAN2 => "\"atan2\"",
+        _ => "\"unknown token\"",
     }
 }
 

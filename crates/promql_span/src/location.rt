@@ -23,8 +23,7 @@ impl Location {
     /// A byte inside a character has the place of that character, and one past the end has the
     /// place of the end.
     pub fn line_column(text: &str, offset: usize) -> Location
-        ensures line { result.line ≡ spec.line_of (chars text.now) offset }
-        ensures column { result.column ≡ spec.column_of (chars text.now) offset }
+        ensures { result ≡ spec.location_of text.now offset }
     {
         let mut location = Location { line: 1, column: 1 };
         for c in text_before(text, offset).chars() {

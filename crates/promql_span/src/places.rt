@@ -3,8 +3,8 @@
 ghost use Rattle.std.specs.Prelude.{◌≡◌, ◌+◌, ◌<◌, ◌≤◌, ◌^◌, filter, length, None, Some};
 ghost use Rattle.promql_span.specs.CharSpans.{IsCharAt};
 ghost use Rattle.promql_span.specs.PlacedTokens.{end_of, first_span, last_tokens, placed_tokens, span_of};
-ghost use Rattle.promql_span.specs.SpanSteps.{cover, first_from, in_range, through};
-ghost use Rattle.promql_span.specs.TokenSpans.{IsAtTokens, begins_in, span_over, tokens_by};
+ghost use Rattle.promql_span.specs.SpanSteps.{begins_in, cover, first_from, in_range, through};
+ghost use Rattle.promql_span.specs.TokenSpans.{IsAtTokens, span_over, tokens_by};
 
 use crate::argument::argument_part;
 use crate::placed::PlacedTokens;

@@ -1,9 +1,10 @@
 //! Lines of a text with a mark below them: docs/reference/grammar.md, "Places of errors".
 
-ghost use Rattle.std.specs.Prelude.{◌≡◌, ◌≤◌, ◌++◌, ◌∷◌, ◌-◌, IfOk, OnOk, chars, drop, encode_utf8_all, length, map, replicate, string_bytes, take, IsCharBoundary};
+ghost use Rattle.std.specs.Prelude.{◌≡◌, ◌==◌, ◌≤◌, ◌++◌, ◌∷◌, ◌-◌, IfOk, OnOk, chars, drop, encode_utf8_all, length, map, replicate, string_bytes, take, IsCharBoundary};
+ghost use Rattle.std.specs.List.{after_last, before_first};
 ghost use Rattle.promql_text.specs.Texts.{code};
-ghost use Rattle.promql_span.specs.Locations.{characters_before, last_line};
-ghost use Rattle.promql_span.specs.Snippets.{blank, snippet_of, snippet_text, up_to};
+ghost use Rattle.promql_span.specs.Locations.{characters_before, is_line_feed};
+ghost use Rattle.promql_span.specs.Snippets.{blank, snippet_of, snippet_text};
 
 use crate::span::Span;
 use crate::visibility::visible;
@@ -44,7 +45,7 @@ pub fn text_before(text: &str, offset: usize) -> &str
 
 /// What comes after the last line feed, or all where there is none.
 fn after_line_feed(text: &str) -> &str
-    ensures { chars result.now ≡ last_line (chars text.now) }
+    ensures { chars result.now ≡ after_last is_line_feed (chars text.now) }
 {
     match text.rfind('\n') {
         Some(at) => &text[at + 1..],
@@ -54,7 +55,7 @@ fn after_line_feed(text: &str) -> &str
 
 /// What comes before the first of this character, or all where there is none.
 fn up_to(text: &str, stop: char) -> &str
-    ensures { chars result.now ≡ up_to stop (chars text.now) }
+    ensures { chars result.now ≡ before_first (λ c. c == stop) (chars text.now) }
 {
     match text.find(stop) {
         Some(at) => &text[..at],

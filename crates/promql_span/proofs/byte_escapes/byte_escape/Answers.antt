@@ -1,5 +1,7 @@
 use Rattle.std.proofs.Common.{◌≡◌, ◌∙◌, ap, length, subst, sym}
-use Rattle.promql_span.specs.ByteEscapes.{first_escape_in}
+use Rattle.std.specs.Prelude.{slice_get}
+use Rattle.std.specs.List.{filter_map}
+use Rattle.promql_span.specs.ByteEscapes.{escape_in}
 use Rattle.promql_span.specs.PlacedTokens.{placed_tokens}
 use Rattle.promql_span.specs.TokensLeft.{placed_left}
 use Rattle.promql_span.proofs.OrderedTokens.{AreOrdered, ordered}
@@ -9,4 +11,4 @@ pub loop-token-init : goal.loop-token-init
 loop-token-init c =
     let s = c.args.text.now in
     let all : placed_left c.into_iter-token-iterator.result ≡ placed_tokens s = ap placed_left c.into_iter-token-iterator.ensures.into_iter_gives ∙ c.new-token-items.ensures in
-    (tt, tt, (0, subst (AreOrdered (length s) 0) (sym all) (ordered s)), ap (first_escape_in s) all)
+    (tt, tt, (0, subst (AreOrdered (length s) 0) (sym all) (ordered s)), ap (λ xs. slice_get (filter_map (escape_in s) xs) 0) all)

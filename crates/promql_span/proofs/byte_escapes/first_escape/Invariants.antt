@@ -1,4 +1,4 @@
-use Rattle.std.proofs.Common.{◌≡◌, ℕ, ◌+◌, ◌<◌, ◌^◌, false, length}
+use Rattle.std.proofs.Common.{◌≡◌, ◌+◌, ◌<◌, ◌^◌, false, length}
 use Rattle.promql_span.specs.ByteEscapes as spec
 use Rattle.promql_span.proofs.byte_escapes.first_escape.Given as goal
 

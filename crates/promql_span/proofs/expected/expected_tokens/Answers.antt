@@ -6,6 +6,6 @@ pub returns : goal.returns
 returns c =
     let front = symbols_before c.args.text.now c.args.at in
     record {
-      tokens = c.in_ok-kinds.ensures front c.text_before-before.ensures;
-      end = λ query. not_false c.in_ok-ends.ends (λ no. c.in_ok-ends.ensures no front c.text_before-before.ensures query);
+      tokens = λ id d text others formed is. c.in_ok-kinds.ensures front c.text_before-before.ensures id (d, text, others, formed, is);
+      end = λ d formed is. not_false c.in_ok-ends.ends (λ no. c.in_ok-ends.ensures no front c.text_before-before.ensures (d, formed, is));
     }

@@ -1,7 +1,6 @@
 use Rattle.std.proofs.Common.{◌≡◌, ◌∙◌, None, ap, filter, length, subst, sym}
 use Rattle.promql_span.specs.PlacedTokens.{placed_tokens}
-use Rattle.promql_span.specs.SpanSteps.{cover}
-use Rattle.promql_span.specs.TokenSpans.{begins_in}
+use Rattle.promql_span.specs.SpanSteps.{begins_in, cover}
 use Rattle.promql_span.specs.TokensLeft.{placed_left}
 use Rattle.promql_span.proofs.OrderedTokens.{AreOrdered, ordered}
 use Rattle.promql_span.proofs.places.span_inside.Goals as goal

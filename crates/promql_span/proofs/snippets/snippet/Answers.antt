@@ -1,9 +1,10 @@
 use Rattle.std.proofs.Common.{◌≡◌, ◌-◌, ◌∙◌, IfOk, ap, drop, length, string_bytes, subst}
-use Rattle.std.specs.Prelude.{encode_utf8_all}
+use Rattle.std.specs.Prelude.{◌==◌, encode_utf8_all}
+use Rattle.std.specs.List.{after_last, before_first}
 use Rattle.std.specs.Str.{chars}
 use Rattle.promql_text.specs.Texts.{code}
-use Rattle.promql_span.specs.Locations.{characters_before, last_line}
-use Rattle.promql_span.specs.Snippets.{snippet_of, snippet_text, up_to}
+use Rattle.promql_span.specs.Locations.{characters_before, is_line_feed}
+use Rattle.promql_span.specs.Snippets.{snippet_of, snippet_text}
 use Rattle.promql_span.proofs.LineParts.{chars_after}
 use Rattle.promql_span.proofs.snippets.snippet.Goals as goal
 
@@ -14,8 +15,8 @@ returns c =
     let front = c.text_before-front in
     let before : chars front.result.now ≡ characters_before cs c.args.span.start = front.ensures.value in
     let rest = chars_after s front.result.now c.range_from-rest.result.now front.ensures.front c.range_from-rest.ensures.value front.utf8 ∙ ap (λ l. drop (length l) cs) before in
-    let left = c.after_line_feed.ensures ∙ ap last_line before in
-    let right = c.up_to-2.ensures ∙ ap (up_to (code "\r")) (c.up_to.ensures ∙ ap (up_to (code "\n")) rest) in
+    let left = c.after_line_feed.ensures ∙ ap (after_last is_line_feed) before in
+    let right = c.up_to-2.ensures ∙ ap (before_first (λ d. d == code "\r")) (c.up_to.ensures ∙ ap (before_first is_line_feed) rest) in
     let through = c.char_count.ensures ∙ ap length c.text_before.ensures.value in
     let skipped = c.char_count-2.ensures ∙ ap length before in
     let marked = c.saturating_sub-marked.ensures ∙ (λ i. through i - skipped i) in

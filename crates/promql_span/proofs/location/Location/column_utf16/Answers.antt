@@ -2,8 +2,8 @@ use Rattle.std.proofs.Common.{◌≡◌, ◌+◌, ◌∙◌, false, true, ap, ar
 use Rattle.std.specs.Str.{IsUtf8, chars}
 use Rattle.std.specs.Str.Iter.{chars_rest}
 use Rattle.std.proofs.lemmas.Bool.{eq-eqb, ne_eqb}
-use Rattle.promql_span.specs.Locations.{characters_before, is_line_feed, len_utf16}
-use Rattle.promql_span.proofs.Columns.{column_fed, column_from, column_on, column_whole, len_utf16-is, len_utf16-le, next_size, no_column, some_size, text_after}
+use Rattle.promql_span.specs.Locations.{characters_before, is_line_feed}
+use Rattle.promql_span.proofs.Columns.{column_fed, column_from, column_on, column_whole, len_utf16, len_utf16-is, len_utf16-le, next_size, no_column, some_size, text_after}
 use Rattle.promql_span.proofs.location.Location.column_utf16.Goals as goal
 
 pub loop-c-init : goal.loop-c-init

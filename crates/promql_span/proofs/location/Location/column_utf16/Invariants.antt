@@ -1,8 +1,8 @@
 use Rattle.std.proofs.Common.{◌≡◌, ◌+◌, ◌≤◌, length}
 use Rattle.std.specs.Str.{IsUtf8, chars}
 use Rattle.std.specs.Str.Iter.{chars_rest}
-use Rattle.promql_span.specs.Locations.{column_utf16_of, len_utf16}
-use Rattle.promql_span.proofs.Columns.{column_from}
+use Rattle.promql_span.specs.Locations.{column_utf16_of}
+use Rattle.promql_span.proofs.Columns.{column_from, len_utf16}
 use Rattle.promql_span.proofs.location.Location.column_utf16.Given as goal
 
 -- what was counted, and what is to be counted of the rest, is the whole
