@@ -1,6 +1,7 @@
 -- What is found byte by byte is the comments of the lines.
-use Rattle.std.proofs.Common.{◌≡◌, ℕ, ◌+◌, ◌-◌, ◌≤◌, Bool, true, false, cond, List, [], ◌∷◌, ◌++◌, drop, length, map, min, take, refl, sym, ap, ◌∙◌, subst, append_assoc, arith, inl, inr, length-drop}
+use Rattle.std.proofs.Common.{◌≡◌, ℕ, ◌+◌, ◌-◌, ◌≤◌, Bool, true, false, List, [], ◌∷◌, ◌++◌, drop, length, map, min, take, refl, sym, ap, ◌∙◌, subst, append_assoc, arith, inl, inr, length-drop}
 use Rattle.std.specs.Prelude.{◌==◌}
+use Rattle.std.specs.List.{onto_first, slice_split}
 use Rattle.std.proofs.lemmas.Bool.{cases_lt, eqb-true}
 use Rattle.std.proofs.lemmas.List.{drop_all, take_all}
 use Rattle.std.proofs.Math.Nat.{min-eq_left, min-eq_right}
@@ -8,8 +9,11 @@ use Rattle.std.proofs.Math.Seq.{take-nil}
 use Rattle.promql_token.specs.declared.lexeme.Lexeme.{Lexeme}
 use Rattle.promql_text.specs.Texts.{Text, code}
 use Rattle.promql_token.specs.Vocabulary.{concat_texts, is_line_end}
-use Rattle.promql_formatter.specs.Comments.{cut, gaps, line_comment, lines}
+use Rattle.promql_formatter.specs.Comments.{gaps, line_comment}
 use Rattle.promql_formatter.specs.CommentScans.{scan}
+
+abbrev pub lines : Text → List Text
+lines = slice_split is_line_end
 
 abbrev pub all : List Text → Text
 all ls = concat_texts (map line_comment ls)
@@ -23,15 +27,15 @@ by_bool : (b : Bool) (P : Type 0) → (b ≡ true → P) → (b ≡ false → P)
 by_bool true P f g = f refl
 by_bool false P f g = g refl
 
-begins : (b : ℕ) (ls : List Text) → (b == code "#") ≡ true → all (cut (b ∷ []) ls) ≡ b ∷ inside ls
+begins : (b : ℕ) (ls : List Text) → (b == code "#") ≡ true → all (onto_first b ls) ≡ b ∷ inside ls
 begins b [] is = rw is
 begins b (first ∷ rest) is = rw is (ap (λ t. b ∷ t) (append_assoc first (code "\n" ∷ []) (all rest)))
 
-skips : (b : ℕ) (ls : List Text) → (b == code "#") ≡ false → all (cut (b ∷ []) ls) ≡ all ls
+skips : (b : ℕ) (ls : List Text) → (b == code "#") ≡ false → all (onto_first b ls) ≡ all ls
 skips b [] is = rw is
 skips b (first ∷ rest) is = rw is
 
-goes_on : (b : ℕ) (ls : List Text) → inside (cut (b ∷ []) ls) ≡ b ∷ inside ls
+goes_on : (b : ℕ) (ls : List Text) → inside (onto_first b ls) ≡ b ∷ inside ls
 goes_on b [] = refl
 goes_on b (first ∷ rest) = refl
 

@@ -1,5 +1,5 @@
 -- The comments of what lies between two tokens, byte by byte. Private: nothing rests on believing it.
-use Rattle.std.specs.Prelude.{Bool, true, false, ◌==◌, if◌then◌else◌, List, [], ◌∷◌}
+use Rattle.std.specs.Prelude.{Bool, true, false, ◌==◌, if◌then◌else◌, [], ◌∷◌}
 use Rattle.promql_text.specs.Texts.{Text, code}
 use Rattle.promql_token.specs.Vocabulary.{is_line_end}
 

@@ -1,5 +1,6 @@
 -- The comments of a text (docs/reference/formatting.md, "Comments").
 use Rattle.std.specs.Prelude.{ℕ, ◌+◌, ◌-◌, ◌==◌, if◌then◌else◌, List, [], ◌∷◌, ◌++◌, drop, map, take}
+use Rattle.std.specs.List.{slice_split}
 use Rattle.promql_text.specs.Texts.{Text, code}
 use Rattle.promql_token.specs.declared.lexeme.Lexeme.{Lexeme}
 use Rattle.promql_token.specs.Lexing.{items}
@@ -11,15 +12,6 @@ abbrev pub gaps : Text → ℕ → List Lexeme → List Text
 gaps s at [] = drop at s ∷ []
 gaps s at (x ∷ xs) = take (x.start - at) (drop at s) ∷ gaps s (x.start + x.len) xs
 
--- the lines between line ends, of which the first is given
-abbrev pub cut : Text → List Text → List Text
-cut line [] = line ∷ []
-cut line (first ∷ rest) = (line ++ first) ∷ rest
-
-abbrev pub lines : Text → List Text
-lines [] = [] ∷ []
-lines (b ∷ bs) = if is_line_end b then [] ∷ lines bs else cut (b ∷ []) (lines bs)
-
 -- the comment of a line with its end, from the first `#` on
 abbrev pub line_comment : Text → Text
 line_comment [] = []
@@ -27,4 +19,4 @@ line_comment (b ∷ bs) = if b == code "#" then (b ∷ bs) ++ code "\n" ∷ [] e
 
 -- the comments between the tokens, in order, each as a line
 abbrev pub comment_lines : Text → Text
-comment_lines s = concat_texts (map (λ gap. concat_texts (map line_comment (lines gap))) (gaps s 0 (lexemes (items s))))
+comment_lines s = concat_texts (map (λ gap. concat_texts (map line_comment (slice_split is_line_end gap))) (gaps s 0 (lexemes (items s))))

@@ -14,18 +14,14 @@ IsKept true t read = read ≡ t
 IsKept false t read = normal read ≡ normal t
 
 -- both texts are queries, of one tree, and have the same comments
-pub record IsFormatOf (keep_spelling : Bool) (text out : Text) : Type 0 where
-  pub tree : Tree
-  pub answer : IsAnswerTo text (Ok tree)
-  pub read : Tree
-  pub reads : IsAnswerTo out (Ok read)
-  pub same : IsKept keep_spelling tree read
-  pub comments : comment_lines out ≡ comment_lines text
+abbrev pub IsFormatOf : Bool → Text → Text → Type 0
+IsFormatOf keep_spelling text out =
+    (t read : Tree) × IsAnswerTo text (Ok t) × IsAnswerTo out (Ok read)
+    × IsKept keep_spelling t read × (comment_lines out ≡ comment_lines text)
 
 -- the text is accepted
-pub record IsQuery (text : Text) : Type 0 where
-  pub tree : Tree
-  pub answer : IsAnswerTo text (Ok tree)
+abbrev pub IsQuery : Text → Type 0
+IsQuery text = (t : Tree) × IsAnswerTo text (Ok t)
 
 -- the text is rejected, for this reason and at this place
 pub record IsRejected (text : Text) (d : Diagnosis) : Type 0 where

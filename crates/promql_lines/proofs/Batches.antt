@@ -5,7 +5,7 @@ use Rattle.std.specs.Io.KnownBytes.{Appends, Consumes, Keeps}
 use Rattle.std.specs.List.{AllByRecursion, list_all}
 use Rattle.std.proofs.lemmas.List.Elements.{All-head, All-tail}
 use Rattle.promql_text.specs.Texts.{Text}
-use Rattle.promql_io.proofs.KnownBytes.{appends_keeps, appends_more, appends_none, consumes_more, consumes_none}
+use Rattle.promql_io.proofs.KnownBytes.{appends_keeps, appends_more, appends_none, consumes_more, consumes_none, whole_begun}
 use Rattle.promql_lines.specs.declared.settings.Settings.{Settings}
 use Rattle.promql_run.specs.declared.run.RunError.{RunError}
 use Rattle.promql_run.specs.declared.run.RunError.TheVariants as error
@@ -111,7 +111,7 @@ answered_kept settings line held held_mid held_after is_ok (answer, is, appends)
 pub answered_partly : (settings : Settings) (line : Text) (held held_mid held_after : Option (List ℕ)) (is_ok : Bool) → IsAnswered settings line held held_mid is_ok → Keeps held_mid held_after → IsPartlyAnswered settings line held held_after
 answered_partly settings line held held_mid held_after is_ok (answer, is, appends) same =
     let text = answer ++ 10 ∷ [] in
-    (answer, is_ok, is, record { front = text; rest = []; whole = append-nil text; appends = appends_keeps held held_mid held_after text appends same })
+    (answer, is_ok, is, whole_begun held held_mid held_after text appends same)
 
 -- ---- how a batch ends
 

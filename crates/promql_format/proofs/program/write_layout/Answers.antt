@@ -20,11 +20,11 @@ returns-in-Ok-query_layout-clause-answers g c =
         quiet = λ other. c.in-Ok.ensures.quiet;
         not_utf8 = λ three. absurd (not_written status 3 refl known three);
       };
-      ok = λ zero. record { text = text; read = read; utf8 = c.as_str.utf8; is = (answer, is, c.write_answer.ensures.text zero) };
+      ok = λ zero. (text, read, c.as_str.utf8, (answer, is, c.write_answer.ensures.text zero));
       flushed = c.write_answer.ensures.flushed;
       silent = c.write_answer.ensures.silent;
       write = c.write_answer.ensures.write;
-      begun = λ five. record { text = text; read = read; utf8 = c.as_str.utf8; is = (answer, is, c.write_answer.ensures.begun five) };
+      begun = λ five. (text, read, c.as_str.utf8, (answer, is, c.write_answer.ensures.begun five));
       unwritten = λ some other. absurd (⊎_elim some other known);
       none = ⊎_elim inl (λ five. inr (inr (inr (inr (inl five))))) known;
     }
@@ -52,12 +52,12 @@ returns-clause-answers g c =
       none = inr (inr (inr (inr (inr (
         e,
         sym number,
-        record {
-          text = text;
-          read = subst (HasRead (g.R.Read.remaining c.args.reader.now.inner) (g.R.Read.remaining c.read_text.new.reader.inner)) (sym c.as_str.ensures.value) c.in-Ok.ensures.read;
-          utf8 = c.as_str.utf8;
-          is = fails;
-        },
+        (
+          text,
+          subst (HasRead (g.R.Read.remaining c.args.reader.now.inner) (g.R.Read.remaining c.read_text.new.reader.inner)) (sym c.as_str.ensures.value) c.in-Ok.ensures.read,
+          c.as_str.utf8,
+          fails,
+        ),
       )))));
     }
 

@@ -1,9 +1,8 @@
-use Rattle.std.proofs.Common.{arith, ◌≡◌, ◌+◌, ◌-◌, ◌≤◌, ◌∷◌, ◌++◌, ◌∙◌, List, [], ap, append-nil, append_assoc, drop, length, map, sym, take}
+use Rattle.std.proofs.Common.{arith, ◌≡◌, ◌+◌, ◌-◌, ◌≤◌, ◌∷◌, ◌++◌, ◌∙◌, [], ap, append-nil, append_assoc, drop, length, sym, take}
 use Rattle.promql_token.specs.Scan.{items_left}
 use Rattle.promql_token.specs.Trivia.{lexemes}
-use Rattle.promql_token.specs.Vocabulary.{concat_texts}
-use Rattle.promql_formatter.specs.Comments.{gaps, line_comment, lines}
-use Rattle.promql_formatter.proofs.CommentScans.{all, clamped_gaps, in_gaps, last_gap}
+use Rattle.promql_formatter.specs.Comments.{gaps}
+use Rattle.promql_formatter.proofs.CommentScans.{all, clamped_gaps, in_gaps, last_gap, lines}
 use Rattle.promql_formatter.proofs.comments.comment_lines.Goals as goal
 use Rattle.promql_formatter.proofs.comments.comment_lines.Goals.{in-None, in-Some+in_default}
 

@@ -1,7 +1,6 @@
-use Rattle.std.proofs.Common.{◌≡◌, ◌++◌, map}
+use Rattle.std.proofs.Common.{◌≡◌, ◌++◌}
 use Rattle.promql_token.specs.Scan.{items_left}
 use Rattle.promql_token.specs.Trivia.{lexemes}
-use Rattle.promql_token.specs.Vocabulary.{concat_texts}
 use Rattle.promql_formatter.specs.Comments.{comment_lines, gaps}
 use Rattle.promql_formatter.proofs.CommentScans.{in_gaps}
 use Rattle.promql_formatter.proofs.comments.comment_lines.Given as goal
