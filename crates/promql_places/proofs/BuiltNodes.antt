@@ -17,7 +17,9 @@ use Rattle.promql_ast.specs.Tree.{Tree, aggregate, unary, binary, paren, subquer
 use Rattle.promql_syntax.specs.Building.{build, build_all}
 use Rattle.promql_syntax.specs.FaultTokens.{Subexpression, here, rest_count}
 use Rattle.promql_syntax.proofs.CheckedAgain.{arguments}
-use Rattle.promql_places.specs.NodePlaces.{AreNested, BuildEach, IsNested, LiesWithin, argument_nodes, has_node, is_number, nodes, nodes_below, nodes_within, tree_nodes}
+use Rattle.promql_places.proofs.Pairs.{InOrder}
+use Rattle.promql_places.specs.NodePlaces.{BuildEach, IsNested, LiesWithin, argument_nodes, has_node, is_number, nodes, nodes_below, tree_nodes}
+use Rattle.promql_places.specs.PlacedFormSteps.{nodes_within}
 use Rattle.promql_places.proofs.BuiltTrees.{Alike, Gives, MinusOf, PostfixOf, Sort, UnaryOf, more_arguments, no_arguments, others, queries, shape, sort_of}
 use Rattle.promql_places.proofs.SignedTrees.{is_number_tree, number_is}
 
@@ -229,6 +231,9 @@ nested_in a (x ∷ xs) all = (inl all.0, nested_in a xs all.1)
 nested_after : (a : Subexpression) (j m : ℕ) (xs : List Subexpression) → m ≤ a.after → AllLie j m xs → AllByRecursion (IsNested a) xs
 nested_after a j m [] h all = tt
 nested_after a j m (x ∷ xs) h all = let first = all.0 in let begins = first.begins in (inr (omega arith), nested_after a j m xs h all.1)
+
+abbrev pub AreNested : List Subexpression → Type 0
+AreNested = InOrder IsNested
 
 nested_joined : (xs ys : List Subexpression) (j n k m : ℕ) → m ≤ j → AllLie j n xs → AllLie k m ys → AreNested xs → AreNested ys → AreNested (xs ++ ys)
 nested_joined [] ys j n k m h lx ly nx ny = ny

@@ -5,7 +5,7 @@ use Rattle.promql_text.specs.Texts.{Text}
 use Rattle.promql_token.specs.declared.lexeme.Lexeme.{Lexeme}
 use Rattle.promql_span.specs.PlacedTokens.{placed_tokens, span_of}
 use Rattle.promql_span.specs.TokensLeft.{placed_left}
-use Rattle.promql_span.specs.TokenSpans.{last_of}
+use Rattle.promql_span.specs.SpanSteps.{last_of}
 use Rattle.promql_span.specs.declared.placed.PlacedTokens.{PlacedTokens}
 use Rattle.promql_span.proofs.OrderedTokens.{AreOrdered, ordered}
 use Rattle.promql_places.specs.declared.token_cursor.TokenCursor.{TokenCursor}

@@ -11,3 +11,4 @@ pub mod PlacedNodes
 pub mod SignedTrees
 pub mod TakeSteps
 pub mod TakenParts
+pub mod Pairs

@@ -1,5 +1,5 @@
 -- The parts of an expression lie within it, one after the other.
-use Rattle.std.proofs.Common.{◌≡◌, inl, inr, ℕ, ◌+◌, ◌<◌, ◌≤◌, Bool, true, false, cond, Option, Some, None, List, [], ◌∷◌, ◌++◌, arith, length, length-append}
+use Rattle.std.proofs.Common.{◌≡◌, inl, inr, ℕ, ◌+◌, ◌<◌, ◌≤◌, Bool, true, false, cond, Option, Some, None, List, [], ◌∷◌, ◌++◌, append-nil, arith, length, length-append, refl, subst}
 use Rattle.std.specs.List.{AllByRecursion}
 use Rattle.std.specs.Option.{option_map_or}
 use Rattle.promql_grammar.specs.declared.token_kinds.TokenKind.TheVariants as kind
@@ -9,11 +9,18 @@ use Rattle.promql_grammar.specs.GrammarParts as part
 use Rattle.promql_grammar.specs.GrammarParts.{yield_after, yield_any_braces, yield_before, yield_braces, yield_fills, yield_group, yield_grouping, yield_item, yield_items, yield_labels, yield_matching, yield_modifier, yield_names, yield_postfix}
 use Rattle.promql_grammar.specs.PartTokens.{yield_flag}
 use Rattle.promql_grammar.specs.Symbols.{punct, word}
-use Rattle.promql_places.specs.NodeParts.{AreOrdered, Follows, LiesBetween, PartTokens, after_parts, before_parts, group_parts, item_parts, label_parts, matcher_parts, matching_parts, parts, piece, postfix_kind}
-use Rattle.promql_places.specs.NodePlaces.{has_node}
+use Rattle.promql_places.specs.NodeParts.{Follows, PartTokens, clause_parts, group_parts, item_parts, label_parts, matcher_parts, matching_parts, parts, piece, postfix_kind}
+use Rattle.promql_places.specs.NodePlaces.{LieWithin, has_node}
+use Rattle.promql_places.proofs.Pairs.{InOrder}
 use Rattle.promql_places.specs.declared.parts.PartKind.{PartKind}
 use Rattle.promql_places.specs.declared.parts.PartKind.TheVariants as sort
 use Rattle.promql_places.proofs.BuiltNodes.{some_tokens}
+
+abbrev pub LiesBetween : ℕ → ℕ → PartTokens → Type 0
+LiesBetween k n p = LieWithin k n p.count p.after
+
+abbrev pub AreOrdered : List PartTokens → Type 0
+AreOrdered = InOrder Follows
 
 abbrev AllLie : ℕ → ℕ → List PartTokens → Type 0
 AllLie k n = AllByRecursion (LiesBetween k n)
@@ -95,6 +102,20 @@ labels_fit p k ls = wider k (length (yield_names ls) + k) k _ (label_parts p k l
 
 grouping_fit : (k : ℕ) (by : Bool) (t : _) (ls : part.Labels) → Fit k (length (yield_grouping (part.grouping by t ls)) + k) (label_parts sort.Label k ls)
 grouping_fit k by t ls = wider k (length (yield_labels ls) + k) k _ (label_parts sort.Label k ls) (omega arith) (omega arith) (labels_fit sort.Label k ls)
+
+-- the clause before the arguments, and that after them
+abbrev pub before_parts : ℕ → part.Clause → List PartTokens
+before_parts k (part.before (part.grouping by t ls)) = label_parts sort.Label k ls
+before_parts k c = []
+
+abbrev pub after_parts : ℕ → part.Clause → List PartTokens
+after_parts k (part.after (part.grouping by t ls)) = label_parts sort.Label k ls
+after_parts k c = []
+
+pub clause_is : (n k : ℕ) (c : part.Clause) → before_parts n c ++ after_parts k c ≡ clause_parts n k c
+clause_is n k part.no_clause = refl
+clause_is n k (part.before (part.grouping by t ls)) = append-nil (label_parts sort.Label n ls)
+clause_is n k (part.after (part.grouping by t ls)) = refl
 
 before_fit : (k : ℕ) (c : part.Clause) → Fit k (length (yield_before c) + k) (before_parts k c)
 before_fit k part.no_clause = none_fit k _
@@ -179,7 +200,8 @@ parts_fit (grammar.aggregate op t c ds) k =
     let one = length-append (yield_before c) (punct kind.LeftParen ∷ (yield_arguments ds ++ yield_after c)) in
     let two = length-append (yield_arguments ds) (yield_after c) in
     more_fit k (length (yield (grammar.aggregate op t c ds)) + k) (length (yield_before c) + inner) (piece sort.Operator 1 (length (yield_before c) + inner)) _ (omega arith) (omega arith) (omega arith) (omega arith)
-    (both_fit (before_parts inner c) (after_parts k c) inner (length (yield_before c) + inner) k (length (yield_after c) + k) (omega arith) (omega arith) (omega arith) (before_fit inner c) (after_fit k c))
+    (subst (Fit k (length (yield_before c) + inner)) (clause_is inner k c)
+    (both_fit (before_parts inner c) (after_parts k c) inner (length (yield_before c) + inner) k (length (yield_after c) + k) (omega arith) (omega arith) (omega arith) (before_fit inner c) (after_fit k c)))
 parts_fit (grammar.postfixed d (part.range r)) k =
     let n = length (yield_postfix (part.range r)) + k in
     postfix_fits d (part.range r) k _ (whole_fits (piece sort.Selector (length (yield d)) n) n (length (yield d) + n) (parts n d) (some_tokens d) (omega arith) (omega arith) (parts_fit d n))

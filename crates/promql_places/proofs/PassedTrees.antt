@@ -20,7 +20,8 @@ use Rattle.promql_kind.specs.Modifiers.{Clause as TreeClause}
 use Rattle.promql_syntax.specs.Building.{build, build_all}
 use Rattle.promql_syntax.specs.FaultTokens.{Subexpression, rest_count}
 use Rattle.promql_syntax.proofs.CheckedAgain.{arguments}
-use Rattle.promql_places.specs.NodeParts.{PartTokens, after_parts, before_parts, matching_parts, parts, piece, postfix_kind}
+use Rattle.promql_places.specs.NodeParts.{PartTokens, clause_parts, matching_parts, parts, piece, postfix_kind}
+use Rattle.promql_places.proofs.LyingParts.{after_parts, before_parts, clause_is}
 use Rattle.promql_places.specs.NodePlaces.{argument_nodes, has_node, is_number, nodes, nodes_below}
 use Rattle.promql_places.specs.PartSteps as step
 use Rattle.promql_places.specs.PartSteps.{PartSpan, Step, Taken, also, and_then}
@@ -409,7 +410,8 @@ aggregate_lands : (op : ℕ) (text : Text) (c : Clause) (ds : Arguments) (e : Tr
 aggregate_lands op text c ds e p m formed more rest free still =
     let tail = yield_after c ++ rest in
     let inner = 1 + (length (yield_arguments ds) + (length (yield_after c) + length rest)) in
-    let ps = piece sort.Operator 1 (length (yield_before c) + inner) ∷ before_parts inner c in
+    let own = piece sort.Operator 1 (length (yield_before c) + inner) in
+    let ps = own ∷ before_parts inner c in
     let qs = after_parts (length rest) c in
     let subs = argument_nodes (1 + (length (yield_after c) + length rest)) ds in
     aggregate_inside op e p m (kinds (yield (grammar.aggregate op text c ds) ++ rest))
@@ -418,7 +420,7 @@ aggregate_lands op text c ds e p m formed more rest free still =
     ∙ ap (λ (x : Passed). then_take (let q : Passed = (spans ps, x.1, x.2) in q) step.clause) (more tail)
     ∙ ap (λ n. then_take (let q : Passed = (spans ps, counts (argument_nodes (1 + n) ds), kinds tail) in q) step.clause) (length-append (yield_after c) rest)
     ∙ ap (λ (r : Taken). (let q : Passed = (spans ps ++ r.0, counts subs, r.1) in q)) (after_taken c rest formed free)
-    ∙ ap (λ l. (let q : Passed = (l, counts subs, kinds rest) in q)) (sym (spans_joined ps qs) ∙ sym (append-nil (spans (ps ++ qs))))
+    ∙ ap (λ l. (let q : Passed = (l, counts subs, kinds rest) in q)) (sym (spans_joined ps qs) ∙ ap (λ l. spans (own ∷ l)) (clause_is inner (length rest) c) ∙ sym (append-nil (spans (own ∷ clause_parts inner (length rest) c))))
 
 -- ---- unary operators
 

@@ -10,7 +10,7 @@ use Rattle.serde_json.specs.View.{items_of}
 use Rattle.serde_json.specs.Written.{has_float, items_have_float, members_have_float}
 use Rattle.promql_text.specs.Texts.{Text}
 use Rattle.promql_label.specs.PlainMatchers.{PlainMatcher, plain_matcher, PlainMatchers, plain_matchers}
-use Rattle.promql_ast.specs.Selectors.{Selector, selector}
+use Rattle.promql_ast.specs.Selectors.{selector}
 use Rattle.promql_ast.specs.Tree.{Tree, aggregate, unary, binary, paren, subquery, number, string, vector, matrix, call, extension, MaybeTree, absent, present, Trees, no_trees, first_tree}
 use Rattle.promql_json.specs.Json.{first_fault, json, json_value, node_members, type_name, unless}
 use Rattle.promql_json.specs.JsonParts.{list}
@@ -19,7 +19,7 @@ use Rattle.promql_json.specs.declared.error.JsonError.{JsonError}
 use Rattle.promql_json.proofs.FaultOrder.{first_met}
 use Rattle.promql_json.proofs.NoFloat.{no_float_of_json}
 use Rattle.promql_span.specs.declared.span.Span.{Span}
-use Rattle.promql_places.specs.PlacedForms.{NodePlace, matcher_places, node_count, param_count, placed_args, placed_groups, placed_matcher, placed_matchers, placed_node, placed_param, placed_value, with_place, with_placed, with_placed_groups, with_selector}
+use Rattle.promql_places.specs.PlacedForms.{NodePlace, matcher_places, node_count, param_count, placed_args, placed_groups, placed_matcher, placed_matchers, placed_node, placed_param, placed_value, with_placed, with_placed_groups, with_placed_matchers}
 
 one_of : (o : Ordering) (a b c : Members) → members_have_float a ≡ false → members_have_float b ≡ false → members_have_float c ≡ false → members_have_float (match_ordering o a b c) ≡ false
 one_of Less a b c p q r = p
@@ -49,8 +49,8 @@ with_groups_none : (gs : List (List PlainMatcher)) (ps : List Span) (ms : Member
 with_groups_none [] ps ms h = h
 with_groups_none (g ∷ gs) ps ms h = none_put (codes "or_matchers") _ ms (none_in_groups (g ∷ gs) ps) h
 
-with_selector_none : (s : Selector) (ps : List Span) (ms : Members) → members_have_float ms ≡ false → members_have_float (with_selector s ps ms) ≡ false
-with_selector_none (selector name (plain_matchers plain groups) offset at) ps ms h =
+with_matchers_none : (cs : PlainMatchers) (ps : List Span) (ms : Members) → members_have_float ms ≡ false → members_have_float (with_placed_matchers cs ps ms) ≡ false
+with_matchers_none (plain_matchers plain groups) ps ms h =
     with_groups_none groups (drop (length plain) ps) _ (none_put (codes "matchers") _ ms (none_in_matchers plain ps) h)
 
 both_none : (a b : Option JsonError) → option_or a b ≡ None → (a ≡ None) × (b ≡ None)
@@ -88,8 +88,8 @@ mutual
       none_put (codes "expr") (placed_value e ps) ms (node_none e below (keeps_none e below) ps) h
   keeps_none (number n) fits qs ps ms h = h
   keeps_none (string s) fits qs ps ms h = h
-  keeps_none (vector s) fits qs ps ms h = with_selector_none s qs ms h
-  keeps_none (matrix s range mode) fits qs ps ms h = with_selector_none s qs ms h
+  keeps_none (vector (selector name cs offset at)) fits qs ps ms h = with_matchers_none cs qs ms h
+  keeps_none (matrix (selector name cs offset at) range mode) fits qs ps ms h = with_matchers_none cs qs ms h
   keeps_none (call f ts) fits qs ps ms h = none_put (codes "args") (list (placed_args ts ps)) ms (args_none ts fits ps) h
   keeps_none (extension name gives es) fits qs ps ms h = h
 

@@ -10,7 +10,7 @@ use Rattle.serde_json.specs.declared.value.Value.{Value, Array, the_lemmas}
 use Rattle.promql_label.specs.MatcherViews.{plain_matcher_of}
 use Rattle.promql_label.specs.PlainMatchers.{PlainMatcher}
 use Rattle.promql_label.specs.declared.matcher.Matcher.{Matcher}
-use Rattle.promql_ast.specs.Fold.{all_within, maybe_within}
+use Rattle.promql_ast.specs.Fold.{all_within}
 use Rattle.promql_ast.specs.Tree.{Tree, aggregate, unary, binary, paren, subquery, number, string, vector, matrix, call, extension, MaybeTree, absent, present, Trees, no_trees, first_tree}
 use Rattle.promql_ast.specs.View.{tree_of, trees_of}
 use Rattle.promql_ast.specs.declared.expr.Expr.{Expr}
@@ -21,9 +21,8 @@ use Rattle.promql_json.proofs.FaultOrder.{first_met}
 use Rattle.promql_json.specs.JsonParts.{list}
 use Rattle.promql_walk.specs.PlainMembers.{typed_members}
 use Rattle.promql_span.specs.declared.span.Span.{Span}
-use Rattle.promql_places.specs.NodePlaces.{nodes_within}
 use Rattle.promql_places.specs.PlacedForms.{NodePlace, node_count, param_count, placed_args, placed_groups, placed_matcher, placed_matchers, placed_value, with_placed, with_placed_groups}
-use Rattle.promql_places.specs.PlacedFormSteps.{args_count, inner_count, inner_fault}
+use Rattle.promql_places.specs.PlacedFormSteps.{args_count, inner_count, inner_fault, nodes_within}
 
 -- the members of nodes are put in any case
 pub from_plain : (t : Tree) (qs : List Span) (ps : List NodePlace) → with_placed t qs ps (typed_members t) ≡ with_placed t qs ps (put (codes "type") (text (type_name t)) (node_members t))

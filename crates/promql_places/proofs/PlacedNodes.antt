@@ -15,15 +15,18 @@ use Rattle.promql_grammar.specs.declared.token_kinds.TokenKind.{TokenKind}
 use Rattle.promql_syntax.specs.FaultTokens.{Subexpression}
 use Rattle.promql_syntax.specs.ParseAnswers.{Derives}
 use Rattle.promql_span.specs.PlacedTokens.{TokensArePlaced, last_tokens, placed_tokens, span_of}
-use Rattle.promql_span.specs.TokenSpans.{last_of, span_over}
+use Rattle.promql_span.specs.SpanSteps.{last_of}
+use Rattle.promql_span.specs.TokenSpans.{span_over}
+use Rattle.promql_span.proofs.Covered.{over_is}
 use Rattle.promql_span.specs.declared.span.Span.{Span}
 use Rattle.promql_places.specs.CursorTokens.{first_start, last_end, lexeme_kind, span_in}
-use Rattle.promql_places.specs.NodeParts.{LiesBetween, PartTokens, part_at, parts, parts_of}
+use Rattle.promql_places.specs.declared.parts.Part.{Part}
+use Rattle.promql_places.specs.NodeParts.{PartTokens, parts, parts_of}
 use Rattle.promql_places.specs.NodePlaces.{LiesWithin, place_of, tokens_at}
 use Rattle.promql_places.specs.PartSteps.{part_in}
 use Rattle.promql_places.specs.Passing.{parts_in, place_in}
 use Rattle.promql_places.specs.Skipping.{kind_of, kinds}
-use Rattle.promql_places.proofs.LyingParts.{parts_fit}
+use Rattle.promql_places.proofs.LyingParts.{LiesBetween, parts_fit}
 use Rattle.promql_places.proofs.PassedTrees.{counts}
 use Rattle.promql_places.proofs.TakenParts.{spans}
 
@@ -71,7 +74,7 @@ take_sum (suc i) j (x ∷ xs) = let same : suc i + j ≡ suc (i + j) = omega ari
 span_by : (s : Text) (zs xs : List Lexeme) (n : ℕ) → 0 < n → 0 < length xs → (let span : Span = record { start = first_start xs; end = last_end (zs ++ take n xs) } in span) ≡ span_over s (take n xs)
 span_by s zs [] n some any = absurd (omega arith)
 span_by s zs (x ∷ xs) zero some any = absurd (omega arith)
-span_by s zs (x ∷ xs) (suc n) some any = ap (λ e. let span : Span = record { start = x.start; end = e } in span) (last_joined zs x (take n xs))
+span_by s zs (x ∷ xs) (suc n) some any = ap (λ e. let span : Span = record { start = x.start; end = e } in span) (last_joined zs x (take n xs)) ∙ sym (over_is s x (take n xs))
 
 -- by counts of tokens, of which there is one at least
 pub tokens_are : (s : Text) (count after : ℕ) → 0 < count → count + after ≤ length (placed_tokens s) → span_in s (count + after, after) ≡ span_over s (tokens_at s count after)
@@ -91,6 +94,10 @@ places_are s [] all = refl
 places_are s (sub ∷ subs) all =
     let lies = all.0 in
     λ i. tokens_are s (length (yield sub.derivation)) sub.after lies.some lies.begins i ∷ places_are s subs all.1 i
+
+-- from the first of its tokens through the last
+abbrev part_at : Text → PartTokens → Part
+part_at s p = record { kind = p.kind; span = span_over s (tokens_at s p.count p.after) }
 
 parts_are : (s : Text) (sub : Subexpression) (ps : List PartTokens) → length (yield sub.derivation) + sub.after ≤ length (placed_tokens s) → AllByRecursion (LiesBetween sub.after (length (yield sub.derivation) + sub.after)) ps → map (part_in s) (spans ps) ≡ map (part_at s) ps
 parts_are s sub [] fits all = refl

@@ -6,7 +6,7 @@ use Rattle.promql_grammar.specs.Symbols.{token_kind}
 use Rattle.promql_grammar.specs.declared.token_kinds.TokenKind.{TokenKind}
 use Rattle.promql_span.specs.PlacedTokens.{last_tokens, placed_tokens, span_of}
 use Rattle.promql_span.specs.TokensLeft.{placed_left}
-use Rattle.promql_span.specs.TokenSpans.{last_of}
+use Rattle.promql_span.specs.SpanSteps.{last_of}
 use Rattle.promql_span.specs.declared.span.Span.{Span}
 use Rattle.promql_places.specs.declared.token_cursor.TokenCursor.{TokenCursor}
 

@@ -3,7 +3,6 @@ pub mod NodeParts
 pub mod NodePlaces
 pub mod PartSteps
 pub mod Passing
-pub mod PlacedAnswers
 pub mod PlacedForms
 pub mod PlacedFormSteps
 pub mod PlacedWalks

@@ -1,6 +1,5 @@
 -- Where the parts of nodes are in a text (docs/reference/walks.md, "Parts of nodes").
-use Rattle.std.specs.Prelude.{◌≡◌, ◌⊎◌, ℕ, ◌+◌, ◌<◌, ◌≤◌, if◌then◌else◌, List, [], ◌∷◌, ◌++◌, length, map}
-use Rattle.std.specs.List.{AllByRecursion}
+use Rattle.std.specs.Prelude.{◌≡◌, ◌⊎◌, ℕ, ◌+◌, ◌≤◌, if◌then◌else◌, List, [], ◌∷◌, ◌++◌, length, map}
 use Rattle.std.specs.Option.{option_map_or}
 use Rattle.promql_text.specs.Texts.{Text}
 use Rattle.promql_grammar.specs.Grammar as grammar
@@ -32,14 +31,11 @@ label_parts p k no_label = []
 label_parts p k (last w text) = piece p 1 (1 + k) ∷ []
 label_parts p k (next w text ls) = piece p 1 (1 + (length (yield_names ls) + k)) ∷ label_parts p k ls
 
--- the clause of an aggregation
-abbrev pub before_parts : ℕ → Clause → List PartTokens
-before_parts k (before (grouping by text ls)) = label_parts kind.Label k ls
-before_parts k c = []
-
-abbrev pub after_parts : ℕ → Clause → List PartTokens
-after_parts k (after (grouping by text ls)) = label_parts kind.Label k ls
-after_parts k c = []
+-- the clause of an aggregation, which n tokens come after where it is before the arguments
+abbrev pub clause_parts : ℕ → ℕ → Clause → List PartTokens
+clause_parts n k (before (grouping by text ls)) = label_parts kind.Label n ls
+clause_parts n k (after (grouping by text ls)) = label_parts kind.Label k ls
+clause_parts n k c = []
 
 -- the modifier of an operator
 abbrev pub group_parts : ℕ → Group → List PartTokens
@@ -80,7 +76,7 @@ parts k (grammar.nameless b) = matcher_parts k b
 parts k (grammar.call w text ds) = piece kind.Name 1 (1 + (length (yield_arguments ds) + k)) ∷ []
 parts k (grammar.aggregate op text c ds) =
     let inner = 1 + (length (yield_arguments ds) + (length (yield_after c) + k)) in
-    piece kind.Operator 1 (length (yield_before c) + inner) ∷ (before_parts inner c ++ after_parts k c)
+    piece kind.Operator 1 (length (yield_before c) + inner) ∷ clause_parts inner k c
 parts k (grammar.postfixed d p) =
     let after = length (yield_postfix p) + k in
     base_parts p (piece kind.Selector (length (yield d)) after) (parts after d) ++ piece (postfix_kind p) (length (yield_postfix p)) k ∷ []
@@ -93,11 +89,8 @@ parts k d = []
 -- ---- their places
 
 -- from the first of its tokens through the last
-abbrev pub part_at : Text → PartTokens → Part
-part_at s p = record { kind = p.kind; span = span_over s (tokens_at s p.count p.after) }
-
 abbrev pub parts_of : Text → Subexpression → List Part
-parts_of s sub = map (part_at s) (parts sub.after sub.derivation)
+parts_of s sub = map (λ p. record { kind = p.kind; span = span_over s (tokens_at s p.count p.after) }) (parts sub.after sub.derivation)
 
 -- the parts of the nodes of a text's tree: those of the expressions that build them
 pub record AreParts (s : Text) (t : Tree) (lists : List (List Part)) : Type 0 where
@@ -108,17 +101,6 @@ pub record AreParts (s : Text) (t : Tree) (lists : List (List Part)) : Type 0 wh
 
 -- ---- laws
 
--- a part has tokens, which lie within these: k come after the last, and n are left at the first
-pub record LiesBetween (k n : ℕ) (p : PartTokens) : Type 0 where
-  pub some : 0 < p.count
-  pub ends : k ≤ p.after
-  pub begins : p.count + p.after ≤ n
-
 -- the second of two parts begins after the first, or has its tokens and ends after it or with it
 abbrev pub Follows : PartTokens → PartTokens → Type 0
 Follows p q = (q.count + q.after ≤ p.after) ⊎ ((q.after ≤ p.after) × (p.count + p.after ≤ q.count + q.after))
-
--- and so of all, in their order
-abbrev pub AreOrdered : List PartTokens → Type 0
-AreOrdered [] = Unit {0}
-AreOrdered (p ∷ ps) = AllByRecursion (Follows p) ps × AreOrdered ps

@@ -1,6 +1,6 @@
 -- Where the nodes of a tree are in its text (docs/reference/walks.md, "Places").
 use Rattle.std.specs.Prelude.{◌≡◌, ◌⊎◌, ℕ, ◌+◌, ◌<◌, ◌≤◌, Bool, true, false, not, ◌&&◌, ◌==◌, if◌then◌else◌, List, [], ◌∷◌, ◌++◌, length, map, Ok, take}
-use Rattle.std.specs.List.{AllByRecursion}
+use Rattle.std.specs.List.{AllZip}
 use Rattle.promql_text.specs.Texts.{Text}
 use Rattle.promql_token.specs.declared.ids.TheConstants.{T_SUB}
 use Rattle.promql_token.specs.declared.lexeme.Lexeme.{Lexeme}
@@ -8,7 +8,7 @@ use Rattle.promql_grammar.specs.Grammar as grammar
 use Rattle.promql_grammar.specs.Grammar.{Derivation, Arguments, yield}
 use Rattle.promql_grammar.specs.GrammarParts as part
 use Rattle.promql_grammar.specs.GrammarParts.{yield_after, yield_modifier, yield_postfix}
-use Rattle.promql_ast.specs.Fold.{within}
+use Rattle.promql_ast.specs.Fold.{folded}
 use Rattle.promql_ast.specs.Tree.{Tree}
 use Rattle.promql_syntax.specs.Asking.{EndsIn}
 use Rattle.promql_syntax.specs.Building.{build}
@@ -56,18 +56,13 @@ nodes k d = here k d ∷ nodes_below k d
 
 -- ---- the nodes of a tree
 
-abbrev pub nodes_within : Tree → List Tree
-nodes_within = within [] ◌++◌ ◌∷◌
-
 -- in the order of a walk: a node, and those within it
 abbrev pub tree_nodes : Tree → List Tree
-tree_nodes t = t ∷ nodes_within t
+tree_nodes = folded [] ◌++◌ ◌∷◌
 
 -- each of the expressions builds its node
 abbrev pub BuildEach : List Subexpression → List Tree → Type 0
-BuildEach [] [] = Unit {0}
-BuildEach (sub ∷ subs) (t ∷ ts) = EndsIn (build sub.derivation) (Ok t) × BuildEach subs ts
-BuildEach subs ts = ⊥
+BuildEach = AllZip (λ sub t. EndsIn (build sub.derivation) (Ok t))
 
 -- ---- their places
 
@@ -88,18 +83,17 @@ pub record ArePlaces (s : Text) (t : Tree) (places : List Span) : Type 0 where
 
 -- ---- laws
 
--- an expression has tokens, which lie within these: k come after the last, and n are left at the first
-pub record LiesWithin (k n : ℕ) (sub : Subexpression) : Type 0 where
-  pub some : 0 < length (yield sub.derivation)
-  pub ends : k ≤ sub.after
-  pub begins : length (yield sub.derivation) + sub.after ≤ n
+-- tokens, which lie within these: k come after the last, and n are left at the first
+pub record LieWithin (k n count after : ℕ) : Type 0 where
+  pub some : 0 < count
+  pub ends : k ≤ after
+  pub begins : count + after ≤ n
+
+-- an expression has such tokens
+abbrev pub LiesWithin : ℕ → ℕ → Subexpression → Type 0
+LiesWithin k n sub = LieWithin k n (length (yield sub.derivation)) sub.after
 
 -- the second of two expressions lies within the first, or begins after it
 abbrev pub IsNested : Subexpression → Subexpression → Type 0
 IsNested a b =
     LiesWithin a.after (length (yield a.derivation) + a.after) b ⊎ (length (yield b.derivation) + b.after ≤ a.after)
-
--- and so of all, in their order
-abbrev pub AreNested : List Subexpression → Type 0
-AreNested [] = Unit {0}
-AreNested (x ∷ xs) = AllByRecursion (IsNested x) xs × AreNested xs

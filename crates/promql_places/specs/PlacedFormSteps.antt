@@ -1,16 +1,19 @@
 -- What is done for a form with places, step by step. Private: nothing rests on believing it.
-use Rattle.std.specs.Prelude.{ℕ, ◌+◌, List, length, map, zip, Option, None}
+use Rattle.std.specs.Prelude.{ℕ, ◌+◌, List, [], ◌∷◌, ◌++◌, length, map, zip, Option, None}
+use Rattle.promql_ast.specs.Fold.{within}
 use Rattle.promql_ast.specs.Tree.{Tree, subquery, vector, matrix, Trees, no_trees, first_tree}
 use Rattle.promql_json.specs.JsonFaults.{json_fault}
 use Rattle.promql_json.specs.declared.error.JsonError.{JsonError}
-use Rattle.promql_places.specs.NodePlaces.{nodes_within}
 use Rattle.promql_places.specs.PlacedForms.{NodePlace, node_count}
 use Rattle.promql_places.specs.declared.placed_form.NodesLeft.{NodesLeft}
 
 abbrev pub left : NodesLeft → List NodePlace
 left n = zip n.places.now (map (λ ps. ps.items) n.parts.now)
 
--- how many nodes are below one
+-- the nodes below one, and how many there are
+abbrev pub nodes_within : Tree → List Tree
+nodes_within = within [] ◌++◌ ◌∷◌
+
 abbrev pub inner_count : Tree → ℕ
 inner_count t = length (nodes_within t)
 

@@ -1,18 +1,19 @@
 -- The JSON form of a tree with the places of its nodes and matchers (docs/reference/json.md, "Places").
-use Rattle.std.specs.Prelude.{◌≡◌, ℕ, Bool, true, false, List, [], ◌∷◌, Option, Some, None, codes, drop, filter, length, map, slice_get, zip}
+use Rattle.std.specs.Prelude.{◌≡◌, ℕ, List, [], ◌∷◌, ◌++◌, Option, codes, drop, filter, length, map, slice_get, zip}
+use Rattle.std.specs.Option.{option_map_or}
 use Rattle.serde_json.specs.Data.{Data, null, number as whole_number, unsigned, string as text, object, Members, put}
-use Rattle.serde_json.specs.Written.{compact_text}
 use Rattle.promql_text.specs.Texts.{Text}
 use Rattle.promql_label.specs.PlainMatchers.{PlainMatcher, PlainMatchers, plain_matchers}
-use Rattle.promql_ast.specs.Selectors.{Selector, selector}
+use Rattle.promql_ast.specs.Fold.{maybe_within}
+use Rattle.promql_ast.specs.Selectors.{selector}
 use Rattle.promql_ast.specs.Tree.{Tree, aggregate, unary, binary, paren, subquery, vector, matrix, call, MaybeTree, absent, present, Trees, no_trees, first_tree}
 use Rattle.promql_json.specs.Json.{json_value, node_members, type_name}
 use Rattle.promql_json.specs.JsonParts.{list, matcher_json}
 use Rattle.promql_span.specs.declared.span.Span.{Span}
 use Rattle.promql_places.specs.NodeParts.{AreParts}
 use Rattle.promql_places.specs.NodePlaces.{ArePlaces, tree_nodes}
+use Rattle.promql_places.specs.contracts.parts.PartKindPartialEq.TheImpl as same_kinds
 use Rattle.promql_places.specs.declared.parts.Part.{Part}
-use Rattle.promql_places.specs.declared.parts.PartKind.{PartKind}
 use Rattle.promql_places.specs.declared.parts.PartKind.TheVariants as kind
 
 -- the members with a place
@@ -21,20 +22,15 @@ with_place p ms = put (codes "start") (whole_number (unsigned p.start)) (put (co
 
 -- ---- matchers
 
-abbrev pub is_matcher : PartKind → Bool
-is_matcher kind.Matcher = true
-is_matcher _ = false
-
 abbrev pub matcher_places : List Part → List Span
-matcher_places ps = map (λ p. p.span) (filter (λ p. is_matcher p.kind) ps)
+matcher_places ps = map (λ p. p.span) (filter (λ p. same_kinds.ghosts.eq p.kind kind.Matcher) ps)
 
 abbrev pub placed_object : Span → Data → Data
 placed_object p (object ms) = object (with_place p ms)
 placed_object p d = d
 
 abbrev pub placed_matcher : Option Span → PlainMatcher → Data
-placed_matcher None m = matcher_json m
-placed_matcher (Some p) m = placed_object p (matcher_json m)
+placed_matcher place m = option_map_or (λ p. placed_object p (matcher_json m)) place (matcher_json m)
 
 -- each with the place that comes next
 abbrev pub placed_matchers : List PlainMatcher → List Span → List Data
@@ -53,9 +49,6 @@ abbrev pub with_placed_matchers : PlainMatchers → List Span → Members → Me
 with_placed_matchers (plain_matchers plain groups) ps ms =
     with_placed_groups groups (drop (length plain) ps) (put (codes "matchers") (list (placed_matchers plain ps)) ms)
 
-abbrev pub with_selector : Selector → List Span → Members → Members
-with_selector (selector name ms offset at) = with_placed_matchers ms
-
 -- ---- nodes
 
 -- a node's place, and its parts
@@ -66,8 +59,7 @@ abbrev pub node_count : Tree → ℕ
 node_count t = length (tree_nodes t)
 
 abbrev pub param_count : MaybeTree → ℕ
-param_count absent = 0
-param_count (present e) = node_count e
+param_count p = length (maybe_within [] ◌++◌ ◌∷◌ p)
 
 -- a node's object: that of its form with its place, and anew the members that hold matchers and other nodes
 abbrev pub placed_node : (List Span → List NodePlace → Members → Members) → Tree → List NodePlace → Data
@@ -83,8 +75,8 @@ abbrev mutual
   with_placed (binary op l r m) = λ qs ps ms. put (codes "rhs") (placed_node (with_placed r) r (drop (node_count l) ps)) (put (codes "lhs") (placed_node (with_placed l) l ps) ms)
   with_placed (paren e) = λ qs ps ms. put (codes "expr") (placed_node (with_placed e) e ps) ms
   with_placed (subquery e offset at range step) = λ qs ps ms. put (codes "expr") (placed_node (with_placed e) e ps) ms
-  with_placed (vector s) = λ qs ps ms. with_selector s qs ms
-  with_placed (matrix s range mode) = λ qs ps ms. with_selector s qs ms
+  with_placed (vector (selector name cs offset at)) = λ qs ps ms. with_placed_matchers cs qs ms
+  with_placed (matrix (selector name cs offset at) range mode) = λ qs ps ms. with_placed_matchers cs qs ms
   with_placed (call f ts) = λ qs ps ms. put (codes "args") (list (placed_args ts ps)) ms
   with_placed t = λ qs ps ms. ms
 
@@ -102,13 +94,6 @@ placed_value t = placed_node (with_placed t) t
 -- ---- the form of a text's tree
 
 -- this value
-pub record IsPlacedForm (s : Text) (t : Tree) (d : Data) : Type 0 where
-  pub places : List Span
-  pub lists : List (List Part)
-  pub are_places : ArePlaces s t places
-  pub are_parts : AreParts s t lists
-  pub is : d ≡ placed_value t (zip places lists)
-
--- its text
-abbrev pub IsPlacedText : Text → Tree → Text → Type 0
-IsPlacedText s t printed = (d : Data) × IsPlacedForm s t d × (printed ≡ compact_text d)
+abbrev pub IsPlacedForm : Text → Tree → Data → Type 0
+IsPlacedForm s t d =
+    (places : List Span) × (lists : List (List Part)) × ArePlaces s t places × AreParts s t lists × (d ≡ placed_value t (zip places lists))

@@ -1,13 +1,13 @@
 //! Laws: the contracts of functions that do nothing.
 
 ghost use Rattle.std.specs.Prelude.{ℕ, ◌+◌, Ok, length};
-ghost use Rattle.std.specs.List.{AllByRecursion};
+ghost use Rattle.std.specs.List.{AllByRecursion, AllPairs};
 ghost use Rattle.promql_ast.specs.Tree.{Tree};
 ghost use Rattle.promql_grammar.specs.Grammar.{Derivation, yield};
 ghost use Rattle.promql_syntax.specs.Asking.{EndsIn};
 ghost use Rattle.promql_syntax.specs.Building.{build};
-ghost use Rattle.promql_places.specs.NodeParts.{AreOrdered, LiesBetween, parts};
-ghost use Rattle.promql_places.specs.NodePlaces.{AreNested, BuildEach, LiesWithin, nodes, nodes_below, tree_nodes};
+ghost use Rattle.promql_places.specs.NodeParts.{Follows, parts};
+ghost use Rattle.promql_places.specs.NodePlaces.{BuildEach, IsNested, LieWithin, LiesWithin, nodes, nodes_below, tree_nodes};
 
 /// The expressions of a derivation that are nodes build the nodes of its tree, in the order of a walk.
 pub fn nodes_are_built()
@@ -23,16 +23,16 @@ pub fn nodes_lie_within()
 
 /// Of two nodes the one that comes later in a walk lies within the other, or begins after it.
 pub fn nodes_nest()
-    ensures { (k : ℕ) (d : Derivation) → AreNested (nodes k d) }
+    ensures { (k : ℕ) (d : Derivation) → AllPairs IsNested (nodes k d) }
 {}
 
 /// The parts of an expression have tokens, which lie within those of the expression.
 pub fn parts_lie_within()
     ensures { (k : ℕ) (d : Derivation)
-        → AllByRecursion (LiesBetween k (length (yield d) + k)) (parts k d) }
+        → AllByRecursion (λ p. LieWithin k (length (yield d) + k) p.count p.after) (parts k d) }
 {}
 
 /// Of two parts of an expression the one that comes later begins after the other, or has its tokens.
 pub fn parts_are_ordered()
-    ensures { (k : ℕ) (d : Derivation) → AreOrdered (parts k d) }
+    ensures { (k : ℕ) (d : Derivation) → AllPairs Follows (parts k d) }
 {}

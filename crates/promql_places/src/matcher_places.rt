@@ -33,19 +33,13 @@ impl<'a> PlacesLeft<'a> {
     }
 }
 
-fn is_matcher(kind: PartKind) -> bool
-    ensures { result ≡ spec.is_matcher kind }
-{
-    matches!(kind, PartKind::Matcher)
-}
-
 /// The places of the matchers of a node with these parts.
 fn matcher_places(alloc: Global, parts: &[Part]) -> Result<Vec<Span>, AllocError>
     ensures { IfOk result (λ places. places.items ≡ spec.matcher_places parts.now) }
 {
     let mut places = Vec::new(alloc);
     for part in parts {
-        if is_matcher(part.kind) {
+        if part.kind == PartKind::Matcher {
             places.push(part.span)?;
         }
     }

@@ -1,13 +1,13 @@
 //! From a text to its tree, with the places of the tree's nodes.
 
 ghost use Rattle.std.specs.Prelude.{IfErr, IfOk, Ok, map};
+ghost use Rattle.std.specs.Result.{result_map_both};
 ghost use Rattle.promql_ast.specs.View.{tree_of};
 ghost use Rattle.promql_span.specs.ErrorPlaces.{IsPlaceOf};
-ghost use Rattle.promql_syntax.specs.ParseAnswers.{IsAnswerTo};
+ghost use Rattle.promql_syntax.specs.ParseAnswers.{IsAnswerTo, plain_error_of};
 ghost use Rattle.promql_places.specs.NodeParts.{AreParts};
 ghost use Rattle.promql_places.specs.NodePlaces.{ArePlaces};
 ghost use Rattle.promql_places.specs.Passing.{lists_of};
-ghost use Rattle.promql_places.specs.PlacedAnswers.{placed_answer};
 
 use crate::parts::Part;
 use crate::placing::{Placing, place_expr};
@@ -37,7 +37,7 @@ pub struct PlacedExpr {
 ///
 /// Those of `diagnose`, when it has them.
 pub fn parse_placed(alloc: Global, text: &str) -> Result<PlacedExpr, Diagnosis>
-    ensures answer { IsAnswerTo text.now (placed_answer result) }
+    ensures answer { IsAnswerTo text.now (result_map_both (λ p. tree_of p.expr) (λ d. plain_error_of d.error) result) }
     ensures place { IfErr result (λ d. IsPlaceOf text.now d.error d.span) }
     ensures places { IfOk result (λ p. ArePlaces text.now (tree_of p.expr) p.places.items) }
     ensures parts { IfOk result (λ p. AreParts text.now

@@ -1,7 +1,7 @@
 //! The JSON form of a tree with the places of its nodes and matchers: docs/reference/json.md, "Places".
 
 ghost use Rattle.std.specs.Prelude.{◌≡◌, ◌≢◌, ◌∷◌, [], None, Some, Ok, Err, IfErr, IfNone, IfOk, IfSome, OnOk, codes, drop, string_bytes};
-ghost use Rattle.serde_json.specs.Data.{put as with_member};
+ghost use Rattle.serde_json.specs.Data.{Data, put as with_member};
 ghost use Rattle.serde_json.specs.View.{members_view, view};
 ghost use Rattle.promql_ast.specs.View.{aggregate_tree, binary_tree, option_tree, tree_of, trees_of};
 ghost use Rattle.promql_json.specs.Json.{json, json_value};
@@ -10,7 +10,8 @@ ghost use Rattle.promql_json.specs.JsonParts.{list};
 ghost use Rattle.promql_json.specs.declared.error.JsonError.TheVariants.{Memory};
 ghost use Rattle.promql_syntax.specs.ParseAnswers.{IsAnswerTo};
 ghost use Rattle.promql_places.specs.PlacedForms as spec;
-ghost use Rattle.promql_places.specs.PlacedForms.{IsPlacedForm, IsPlacedText};
+ghost use Rattle.promql_places.specs.PlacedForms.{IsPlacedForm};
+ghost use Rattle.serde_json.specs.Written.{compact_text};
 ghost use Rattle.promql_places.specs.PlacedFormSteps.{args_count, left, inner_fault, inner_count};
 
 use crate::matcher_places::put_matchers;
@@ -255,7 +256,7 @@ pub fn placed_json(alloc: Global, text: &str, expr: &Expr) -> Result<Value, Json
 /// Those of `to_json`.
 pub fn placed_json_text(alloc: Global, text: &str, expr: &Expr) -> Result<String, JsonError>
     ensures form { IfOk result (λ s. IsAnswerTo text.now (Ok (tree_of expr.now))
-        → IsPlacedText text.now (tree_of expr.now) (string_bytes s)) }
+        → (d : Data) × IsPlacedForm text.now (tree_of expr.now) d × (string_bytes s ≡ compact_text d)) }
     ensures fits { OnOk result (json (tree_of expr.now) ≡ Ok (json_value (tree_of expr.now))) }
     ensures err { IfErr result (λ e. e ≢ Memory → json (tree_of expr.now) ≡ Err e) }
 {

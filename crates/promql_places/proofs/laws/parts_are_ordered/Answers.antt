@@ -1,5 +1,7 @@
+use Rattle.promql_places.specs.NodeParts.{Follows, parts}
 use Rattle.promql_places.proofs.LyingParts.{parts_fit}
+use Rattle.promql_places.proofs.Pairs.{pairs_of}
 use Rattle.promql_places.proofs.laws.parts_are_ordered.Goals as goal
 
 pub returns : goal.returns
-returns c = λ k d. (parts_fit d k).ordered
+returns c = λ k d. pairs_of Follows (parts k d) (parts_fit d k).ordered
