@@ -7,3 +7,4 @@ pub mod SeenNormal
 pub mod SeenParens
 pub mod SeenRenamed
 pub mod SeenSelectors
+pub mod SeenClauses

@@ -7,7 +7,8 @@ use Rattle.promql_ast.specs.Tree.{Tree, aggregate, unary, binary, paren, subquer
 use Rattle.promql_rewrite.specs.Collecting.{nodes_of, maybe_nodes, all_nodes}
 use Rattle.promql_rewrite.specs.Enforcing.{all_enforced, enforced, is_info, maybe_enforced}
 use Rattle.promql_meaning.specs.Stores.{Store, kept}
-use Rattle.promql_meaning.specs.Seen.{grouped, joined, aggregated, negated, operated, stepped, called, extended, one_seen, first_seen, seen, maybe_seen, all_seen, beside, info_beside, is_absent, matchers_in_first, nothing, sees_beside, has_call_that_sees_beside}
+use Rattle.promql_meaning.specs.Seen.{joined, aggregated, negated, operated, stepped, called, extended, none_seen, first_seen, seen, maybe_seen, all_seen, beside, info_beside, is_absent, nothing, sees_beside, has_call_that_sees_beside}
+use Rattle.promql_meaning.proofs.SeenClauses.{matchers_in_first, grouped}
 use Rattle.promql_meaning.proofs.NoNodes.{neither, none_apart}
 use Rattle.promql_meaning.proofs.SeenSelectors.{instants_at_home, ranges_at_home}
 
@@ -41,7 +42,7 @@ module _ (c : PlainMatcher) (store : Store) where
 
     maybe_at_home : (p : MaybeTree) → list_any sees_beside (maybe_nodes p) ≡ false → maybe_seen (kept c store) (maybe_enforced c p) ≡ maybe_seen (kept c store) p
     maybe_at_home absent h = refl
-    maybe_at_home (present e) h = λ i. one_seen (seen_at_home e h i)
+    maybe_at_home (present e) h = λ i. first_seen (seen_at_home e h i) none_seen
 
     all_at_home : (es : Trees) → list_any sees_beside (all_nodes es) ≡ false → all_seen (kept c store) (all_enforced c es) ≡ all_seen (kept c store) es
     all_at_home no_trees h = refl

@@ -6,10 +6,11 @@ use Rattle.promql_label.specs.PlainMatchers.{PlainMatcher}
 use Rattle.promql_kind.specs.Functions.{Signature}
 use Rattle.promql_ast.specs.Arguments.{count}
 use Rattle.promql_ast.specs.Tree.{Tree, aggregate, unary, binary, paren, subquery, number, string, vector, matrix, call, extension, MaybeTree, absent, present, Trees, no_trees, first_tree}
-use Rattle.promql_rewrite.specs.Collecting.{nodes_of, nodes_within, maybe_nodes, all_nodes}
+use Rattle.promql_rewrite.specs.Collecting.{nodes_of, maybe_nodes, all_nodes}
 use Rattle.promql_rewrite.specs.Enforcing.{all_enforced, enforced, has_bare_info, is_bare_info, is_info, maybe_enforced}
 use Rattle.promql_meaning.specs.Stores.{Store, kept}
-use Rattle.promql_meaning.specs.Seen.{grouped, joined, aggregated, negated, operated, stepped, called, extended, one_seen, first_seen, seen, maybe_seen, all_seen, beside, info_beside, is_absent, matchers_in_first, nothing}
+use Rattle.promql_meaning.specs.Seen.{joined, aggregated, negated, operated, stepped, called, extended, none_seen, first_seen, seen, maybe_seen, all_seen, beside, info_beside, is_absent, nothing}
+use Rattle.promql_meaning.proofs.SeenClauses.{matchers_in_first, grouped}
 use Rattle.promql_meaning.proofs.NoNodes.{neither, none_apart}
 use Rattle.promql_meaning.proofs.SeenSelectors.{instants_again, ranges_again}
 
@@ -47,7 +48,7 @@ module _ (c : PlainMatcher) (store : Store) where
 
     maybe_again : (p : MaybeTree) → list_any is_bare_info (maybe_nodes p) ≡ false → maybe_seen store (maybe_enforced c p) ≡ maybe_seen (kept c store) (maybe_enforced c p)
     maybe_again absent h = refl
-    maybe_again (present e) h = λ i. one_seen (seen_again e h i)
+    maybe_again (present e) h = λ i. first_seen (seen_again e h i) none_seen
 
     all_again : (es : Trees) → list_any is_bare_info (all_nodes es) ≡ false → all_seen store (all_enforced c es) ≡ all_seen (kept c store) (all_enforced c es)
     all_again no_trees h = refl

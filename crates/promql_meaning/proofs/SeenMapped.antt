@@ -13,7 +13,8 @@ use Rattle.promql_rewrite.specs.MappedSelectors.{arg_selectors, kind_after, para
 use Rattle.promql_rewrite.specs.declared.mapping.SelectorKind.{SelectorKind}
 use Rattle.promql_rewrite.specs.declared.mapping.SelectorKind.TheVariants.{Series}
 use Rattle.promql_meaning.specs.Stores.{Store}
-use Rattle.promql_meaning.specs.Seen.{Seen, MaybeSeen, Seens, grouped, joined, aggregated, negated, operated, stepped, constant, text, instants, ranges, called, extended, unseen, one_seen, none_seen, first_seen, instants_of, ranges_of, seen, maybe_seen, all_seen, is_absent, nothing, sees_beside, has_call_that_sees_beside}
+use Rattle.promql_meaning.specs.Seen.{Seen, Seens, joined, aggregated, negated, operated, stepped, constant, text, instants, ranges, called, extended, none_seen, first_seen, seen, maybe_seen, all_seen, is_absent, nothing, sees_beside, has_call_that_sees_beside}
+use Rattle.promql_meaning.proofs.SeenClauses.{instants_of, ranges_of, grouped}
 use Rattle.promql_rewrite.proofs.KindedSelectors.{selectors_are}
 use Rattle.promql_meaning.proofs.NoNodes.{neither, none_apart}
 use Rattle.promql_meaning.proofs.SeenAtHome.{sees_nothing_beside}
@@ -71,9 +72,9 @@ abbrev mutual
   see (call f args) vs = let a = all_see args vs in (called f nothing a.0, a.1)
   see (extension name gives es) vs = let a = all_see es vs in (extended name gives a.0, a.1)
 
-  maybe_see : MaybeTree → List Seen → MaybeSeen × List Seen
-  maybe_see absent vs = (unseen, vs)
-  maybe_see (present e) vs = let a = see e vs in (one_seen a.0, a.1)
+  maybe_see : MaybeTree → List Seen → Seens × List Seen
+  maybe_see absent vs = (none_seen, vs)
+  maybe_see (present e) vs = let a = see e vs in (first_seen a.0 none_seen, a.1)
 
   all_see : Trees → List Seen → Seens × List Seen
   all_see no_trees vs = (none_seen, vs)
@@ -94,7 +95,7 @@ module _ (store : Store) where
     sees k (aggregate op e p m) vs h =
         let parts = none_apart sees_beside (maybe_nodes p) (nodes_of e) h in
         ap (see (outline (aggregate op e p m))) (views_apart (param_selectors k p) (selectors_in k e) vs)
-        ∙ ap (λ (a : MaybeSeen × List Seen). let b = see (outline e) a.1 in (aggregated op b.0 a.0 (grouped m), b.1)) (maybe_sees k p (map view (selectors_in k e) ++ vs) parts.0)
+        ∙ ap (λ (a : Seens × List Seen). let b = see (outline e) a.1 in (aggregated op b.0 a.0 (grouped m), b.1)) (maybe_sees k p (map view (selectors_in k e) ++ vs) parts.0)
         ∙ ap (λ (b : Seen × List Seen). (aggregated op b.0 (maybe_seen store p) (grouped m), b.1)) (sees k e vs parts.1)
     sees k (unary e) vs h = ap (λ (a : Seen × List Seen). (negated a.0, a.1)) (sees k e vs h)
     sees k (binary op l r m) vs h =
@@ -116,7 +117,7 @@ module _ (store : Store) where
 
     maybe_sees : (k : SelectorKind) (p : MaybeTree) (vs : List Seen) → list_any sees_beside (maybe_nodes p) ≡ false → maybe_see (maybe_outline p) (map view (param_selectors k p) ++ vs) ≡ (maybe_seen store p, vs)
     maybe_sees k absent vs h = refl
-    maybe_sees k (present e) vs h = ap (λ (a : Seen × List Seen). (one_seen a.0, a.1)) (sees k e vs h)
+    maybe_sees k (present e) vs h = ap (λ (a : Seen × List Seen). (first_seen a.0 none_seen, a.1)) (sees k e vs h)
 
     all_sees : (k others : SelectorKind) (es : Trees) (vs : List Seen) → list_any sees_beside (all_nodes es) ≡ false → all_see (all_outlines es) (map view (arg_selectors k others es) ++ vs) ≡ (all_seen store es, vs)
     all_sees k others no_trees vs h = refl

@@ -16,7 +16,8 @@ use Rattle.promql_ast.proofs.NormalForms.{normal_twice}
 use Rattle.promql_rewrite.specs.Enforcing.{is_info}
 use Rattle.promql_rewrite.specs.Selecting.{Series, allows, allow_all, has_name, matchers_select, selects}
 use Rattle.promql_meaning.specs.Stores.{Stored, Store, read}
-use Rattle.promql_meaning.specs.Seen.{grouped, matched, joining, joined, aggregated, negated, operated, stepped, instants, ranges, called, extended, one_seen, first_seen, instants_of, ranges_of, seen, maybe_seen, all_seen, matchers, nothing, beside, info_beside, is_absent, matchers_in, matchers_in_first, matchers_of}
+use Rattle.promql_meaning.specs.Seen.{joined, aggregated, negated, operated, stepped, instants, ranges, called, extended, none_seen, first_seen, seen, maybe_seen, all_seen, matchers, nothing, beside, info_beside, is_absent, matchers_in}
+use Rattle.promql_meaning.proofs.SeenClauses.{instants_of, ranges_of, matchers_in_first, grouped, matched}
 
 -- ---- matchers in another order
 
@@ -68,7 +69,7 @@ joined_normal : (m : Option Matching) → joined (normal_matching m) ≡ joined 
 joined_normal None = refl
 joined_normal (Some (matching card clause return_bool values)) =
     joined_unless (matching card (normal_matched (is_grouping card) clause) return_bool values)
-    ∙ ap (λ c. joining card c return_bool values) (matched_normal (is_grouping card) clause)
+    ∙ ap (λ c. matching card (Some c) return_bool values) (matched_normal (is_grouping card) clause)
 
 -- ---- what a call sees beside its arguments
 
@@ -77,9 +78,8 @@ selector_within (vector (selector name cs offset at)) _ = cs
 selector_within _ cs = cs
 
 -- the normal form of matchers is its own
-of_normal : (s : Selector) → matchers_of (normal_selector s) ≡ matchers_of s
-of_normal (selector name cs offset at) =
-    ap (λ t. matchers (selector_within t cs)) (normal_twice (vector (selector name cs offset at)))
+of_normal : (cs : PlainMatchers) → matchers (normal_matchers (normal_matchers cs)) ≡ matchers (normal_matchers cs)
+of_normal cs = ap (λ t. matchers (selector_within t cs)) (normal_twice (vector (selector None cs None None)))
 
 in_normal : (t : Tree) → matchers_in (normal t) ≡ matchers_in t
 in_normal (aggregate op e p m) = refl
@@ -89,8 +89,8 @@ in_normal (paren e) = in_normal e
 in_normal (subquery e offset at range step) = refl
 in_normal (number n) = refl
 in_normal (string s) = refl
-in_normal (vector s) = of_normal s
-in_normal (matrix s range mode) = of_normal s
+in_normal (vector (selector name cs offset at)) = of_normal cs
+in_normal (matrix (selector name cs offset at) range mode) = of_normal cs
 in_normal (call f args) = refl
 in_normal (extension name gives es) = refl
 
@@ -136,7 +136,7 @@ module _ (store : Store) where
 
     maybe_seen_normal : (p : MaybeTree) → maybe_seen store (maybe_normal p) ≡ maybe_seen store p
     maybe_seen_normal absent = refl
-    maybe_seen_normal (present e) = λ i. one_seen (seen_normal e i)
+    maybe_seen_normal (present e) = λ i. first_seen (seen_normal e i) none_seen
 
     all_seen_normal : (es : Trees) → all_seen store (all_normal es) ≡ all_seen store es
     all_seen_normal no_trees = refl

@@ -3,9 +3,10 @@ use Rattle.std.proofs.Common.{◌≡◌, refl, ap, ◌∙◌, Bool, true, false,
 use Rattle.promql_kind.specs.Functions.{Signature}
 use Rattle.promql_ast.specs.Tree.{Tree, aggregate, unary, binary, paren, subquery, number, string, vector, matrix, call, extension, MaybeTree, absent, present, Trees, no_trees, first_tree}
 use Rattle.promql_rewrite.specs.Enforcing.{is_info}
-use Rattle.promql_rewrite.specs.Parenthesizing.{all_parenthesized, at_place, fits_left, fits_range, fits_right, fits_sign, maybe_parenthesized, parenthesized}
+use Rattle.promql_rewrite.specs.Parenthesizing.{all_parenthesized, fits_left, fits_range, fits_right, fits_sign, maybe_parenthesized, parenthesized}
 use Rattle.promql_meaning.specs.Stores.{Store}
-use Rattle.promql_meaning.specs.Seen.{grouped, joined, aggregated, negated, operated, stepped, called, extended, one_seen, first_seen, seen, maybe_seen, all_seen, beside, info_beside, is_absent, matchers_in, matchers_in_first, nothing}
+use Rattle.promql_meaning.specs.Seen.{joined, aggregated, negated, operated, stepped, called, extended, none_seen, first_seen, seen, maybe_seen, all_seen, beside, info_beside, is_absent, matchers_in, nothing}
+use Rattle.promql_meaning.proofs.SeenClauses.{matchers_in_first, grouped}
 
 in_parens : (t : Tree) → matchers_in (parenthesized t) ≡ matchers_in t
 in_parens (aggregate op e p m) = refl
@@ -57,7 +58,7 @@ module _ (store : Store) where
 
     maybe_in_parens : (p : MaybeTree) → maybe_seen store (maybe_parenthesized p) ≡ maybe_seen store p
     maybe_in_parens absent = refl
-    maybe_in_parens (present e) = λ i. one_seen (seen_in_parens e i)
+    maybe_in_parens (present e) = λ i. first_seen (seen_in_parens e i) none_seen
 
     all_in_parens : (es : Trees) → all_seen store (all_parenthesized es) ≡ all_seen store es
     all_in_parens no_trees = refl

@@ -1,8 +1,7 @@
 -- Over a store in which a label has another name, a query that has the other name sees what the query saw.
-use Rattle.std.proofs.Common.{◌≡◌, ◌≢◌, ℕ, refl, ap, ◌∙◌, sym, Bool, true, false, cond, ◌||◌, List, [], ◌∷◌, Option, Some, None, option_map, codes}
+use Rattle.std.proofs.Common.{◌≡◌, ◌≢◌, ℕ, refl, ap, ◌∙◌, sym, Bool, true, false, cond, ◌||◌, [], ◌∷◌, Option, Some, None, option_map, codes}
 use Rattle.std.specs.List.{list_any}
 use Rattle.promql_text.specs.Texts.{Text}
-use Rattle.promql_kind.specs.Functions.{Signature}
 use Rattle.promql_kind.specs.Modifiers.{Cardinality, Clause, Matching, including, excluding, matching, one_to_one, many_to_one, one_to_many, many_to_many}
 use Rattle.promql_ast.specs.Selectors.{Selector, selector}
 use Rattle.promql_ast.specs.Tree.{Tree, aggregate, unary, binary, paren, subquery, number, string, vector, matrix, call, extension, MaybeTree, absent, present, Trees, no_trees, first_tree}
@@ -13,8 +12,9 @@ use Rattle.promql_rewrite.specs.Renaming.{Renaming, all_renamed, maybe_renamed, 
 use Rattle.promql_rewrite.specs.Selecting.{selects}
 use Rattle.promql_rewrite.proofs.RenamedSeries.{label_selects}
 use Rattle.promql_meaning.specs.Stores.{Store, Stored, read}
-use Rattle.promql_meaning.specs.Seen.{Joining, joining, grouped, joined, matched, aggregated, negated, operated, stepped, instants, instants_of, ranges, ranges_of, called, extended, one_seen, first_seen, seen, maybe_seen, all_seen, is_absent, nothing, sees_beside, has_call_that_sees_beside}
-use Rattle.promql_meaning.specs.Relabeled.{all_relabeled, maybe_relabeled, relabeled, relabeled_joining, under_old_name}
+use Rattle.promql_meaning.specs.Seen.{joined, aggregated, negated, operated, stepped, instants, ranges, called, extended, none_seen, first_seen, seen, maybe_seen, all_seen, is_absent, nothing, sees_beside, has_call_that_sees_beside}
+use Rattle.promql_meaning.proofs.SeenClauses.{instants_of, ranges_of, grouped, matched}
+use Rattle.promql_meaning.specs.Relabeled.{all_relabeled, relabeled, under_old_name}
 use Rattle.promql_meaning.proofs.NoNodes.{neither, none_apart}
 use Rattle.promql_meaning.proofs.SeenAtHome.{sees_nothing_beside}
 
@@ -33,8 +33,12 @@ same_cardinality (many_to_one ls) = refl
 same_cardinality (one_to_many ls) = refl
 same_cardinality many_to_many = refl
 
-same_joining : (j : Joining) → relabeled_joining none j ≡ j
-same_joining (joining card clause return_bool values) = λ i. joining (same_cardinality card i) (same_clause clause i) return_bool values
+same_optional : (c : Option Clause) → option_map (renamed_clause none) c ≡ c
+same_optional None = refl
+same_optional (Some c) = ap (λ c. Some c) (same_clause c)
+
+same_joining : (m : Matching) → renamed_matching none m ≡ m
+same_joining (matching card clause return_bool values) = λ i. matching (same_cardinality card i) (same_optional clause i) return_bool values
 
 module _ (from to : Text) (old : from ≢ codes "__name__") where
   abbrev r : Renaming
@@ -56,11 +60,11 @@ module _ (from to : Text) (old : from ≢ codes "__name__") where
   match_renamed None = refl
   match_renamed (Some c) = refl
 
-  join_renamed : (m : Option Matching) → relabeled_joining none (joined (option_map (renamed_matching r) m)) ≡ relabeled_joining r (joined m)
+  join_renamed : (m : Option Matching) → renamed_matching none (joined (option_map (renamed_matching r) m)) ≡ renamed_matching r (joined m)
   join_renamed None = refl
   join_renamed (Some (matching card clause return_bool values)) =
-      same_joining (joining (renamed_cardinality r card) (matched (option_map (renamed_clause r) clause)) return_bool values)
-      ∙ ap (λ c. joining (renamed_cardinality r card) c return_bool values) (match_renamed clause)
+      same_joining (matching (renamed_cardinality r card) (Some (matched (option_map (renamed_clause r) clause))) return_bool values)
+      ∙ ap (λ c. matching (renamed_cardinality r card) (Some c) return_bool values) (match_renamed clause)
 
   -- ---- selectors
 
@@ -108,9 +112,9 @@ module _ (from to : Text) (old : from ≢ codes "__name__") where
           ∙ ap (λ b. called f b (all_relabeled as_they_are r (all_seen (before store) args))) (sym (sees_nothing_beside (before store) f args parts.0))
       seen_renamed (extension name gives es) h = ap (extended name gives) (all_seen_renamed es h)
 
-      maybe_seen_renamed : (p : MaybeTree) → list_any sees_beside (maybe_nodes p) ≡ false → maybe_relabeled before none (maybe_seen store (maybe_renamed r p)) ≡ maybe_relabeled as_they_are r (maybe_seen (before store) p)
+      maybe_seen_renamed : (p : MaybeTree) → list_any sees_beside (maybe_nodes p) ≡ false → all_relabeled before none (maybe_seen store (maybe_renamed r p)) ≡ all_relabeled as_they_are r (maybe_seen (before store) p)
       maybe_seen_renamed absent h = refl
-      maybe_seen_renamed (present e) h = ap one_seen (seen_renamed e h)
+      maybe_seen_renamed (present e) h = ap (λ x. first_seen x none_seen) (seen_renamed e h)
 
       all_seen_renamed : (es : Trees) → list_any sees_beside (all_nodes es) ≡ false → all_relabeled before none (all_seen store (all_renamed r es)) ≡ all_relabeled as_they_are r (all_seen (before store) es)
       all_seen_renamed no_trees h = refl

@@ -8,7 +8,8 @@ use Rattle.promql_rewrite.specs.Enforcing.{enforced_selector}
 use Rattle.promql_rewrite.specs.Selecting.{allows, selects}
 use Rattle.promql_rewrite.proofs.EnforcedSelectors.{selects_enforced}
 use Rattle.promql_meaning.specs.Stores.{Stored, Store, kept, read}
-use Rattle.promql_meaning.specs.Seen.{instants, instants_of, ranges, ranges_of}
+use Rattle.promql_meaning.specs.Seen.{instants, ranges}
+use Rattle.promql_meaning.proofs.SeenClauses.{instants_of, ranges_of}
 
 -- nothing passes where the second test fails
 none_of : (x : Stored) (r : Store) (a : Bool) → cond (a && false) (x ∷ r) r ≡ r

@@ -1,24 +1,21 @@
 -- What is seen under another name of a label (docs/guide/meaning.md, "Renamed labels").
 use Rattle.std.specs.Prelude.{map}
 use Rattle.promql_text.specs.Texts.{Text}
-use Rattle.promql_rewrite.specs.Renaming.{Renaming, renamed_cardinality, renamed_clause, replaced}
+use Rattle.promql_rewrite.specs.Renaming.{Renaming, renamed_clause, renamed_matching, replaced}
 use Rattle.promql_meaning.specs.Stores.{Store}
-use Rattle.promql_meaning.specs.Seen.{Joining, joining, Seen, aggregated, negated, operated, stepped, constant, text, instants, ranges, called, extended, MaybeSeen, unseen, one_seen, Seens, none_seen, first_seen}
+use Rattle.promql_meaning.specs.Seen.{Seen, aggregated, negated, operated, stepped, constant, text, instants, ranges, called, extended, Seens, none_seen, first_seen}
 
 -- the store in which each series has under the old name what it has under the new one
 abbrev pub under_old_name : Text → Text → Store → Store
 under_old_name from to store = map (λ x. record { labels = λ l. x.labels (replaced from to l); samples = x.samples }) store
 
-abbrev pub relabeled_joining : Renaming → Joining → Joining
-relabeled_joining r (joining card clause return_bool values) = joining (renamed_cardinality r card) (renamed_clause r clause) return_bool values
-
 -- what is seen, with other series, and with the labels of clauses renamed
 module _ (series : Store → Store) (r : Renaming) where
   abbrev mutual
     pub relabeled : Seen → Seen
-    relabeled (aggregated op e p clause) = aggregated op (relabeled e) (maybe_relabeled p) (renamed_clause r clause)
+    relabeled (aggregated op e p clause) = aggregated op (relabeled e) (all_relabeled p) (renamed_clause r clause)
     relabeled (negated e) = negated (relabeled e)
-    relabeled (operated op x y j) = operated op (relabeled x) (relabeled y) (relabeled_joining r j)
+    relabeled (operated op x y j) = operated op (relabeled x) (relabeled y) (renamed_matching r j)
     relabeled (stepped e offset at range step) = stepped (relabeled e) offset at range step
     relabeled (constant n) = constant n
     relabeled (text s) = text s
@@ -26,10 +23,6 @@ module _ (series : Store → Store) (r : Renaming) where
     relabeled (ranges xs offset at range mode) = ranges (series xs) offset at range mode
     relabeled (called f b es) = called f b (all_relabeled es)
     relabeled (extended name gives es) = extended name gives (all_relabeled es)
-
-    pub maybe_relabeled : MaybeSeen → MaybeSeen
-    maybe_relabeled unseen = unseen
-    maybe_relabeled (one_seen e) = one_seen (relabeled e)
 
     pub all_relabeled : Seens → Seens
     all_relabeled none_seen = none_seen

@@ -7,7 +7,7 @@ ghost use Rattle.promql_label.specs.PlainMatchers.{PlainMatcher};
 ghost use Rattle.promql_ast.specs.Layout.{layout_of};
 ghost use Rattle.promql_ast.specs.Normal.{normal};
 ghost use Rattle.promql_ast.specs.Text.{text};
-ghost use Rattle.promql_ast.specs.Tree.{Tree};
+ghost use Rattle.promql_ast.specs.Tree.{Tree, vector};
 ghost use Rattle.promql_syntax.specs.ParseAnswers.{HasTree, IsAnswerTo, IsServed};
 ghost use Rattle.promql_syntax.specs.Asking.{Asked};
 ghost use Rattle.promql_rewrite.specs.Enforced.{IsEnforced};
@@ -21,7 +21,7 @@ ghost use Rattle.promql_run.specs.Running.{IsPrinted};
 ghost use Rattle.promql_run.specs.declared.format.Format.TheVariants.{Line, Pretty};
 ghost use Rattle.promql_span.specs.declared.limits.Limits.{Limits};
 ghost use Rattle.promql_meaning.specs.Relabeled.{relabeled, under_old_name};
-ghost use Rattle.promql_meaning.specs.Seen.{has_call_that_sees_beside, instants_of, seen};
+ghost use Rattle.promql_meaning.specs.Seen.{has_call_that_sees_beside, seen};
 ghost use Rattle.promql_meaning.specs.Stores.{Store, kept};
 
 /// A tree's normal form sees what the tree sees. So, with one answer for each pattern, the text of a text's tree, on one line or
@@ -76,8 +76,8 @@ pub fn renamed_labels_are_seen_renamed()
 /// nothing else is changed.
 pub fn selectors_that_read_alike_see_alike()
     ensures { (s : Store) (t u : Tree) → outline t ≡ outline u
-        → map (λ (x : KindedSelector). instants_of s x.1) (selectors_of t)
-        ≡ map (λ (x : KindedSelector). instants_of s x.1) (selectors_of u)
+        → map (λ (x : KindedSelector). seen s (vector x.1)) (selectors_of t)
+        ≡ map (λ (x : KindedSelector). seen s (vector x.1)) (selectors_of u)
         → has_call_that_sees_beside t ≡ false → seen s t ≡ seen s u }
 {}
 
@@ -97,11 +97,11 @@ pub fn enforced_lines_see_only_what_is_allowed()
 /// what `enforced_lines_see_only_what_is_allowed` speaks of, for the matcher that its argument is.
 pub fn programs_keep_what_is_meant()
     ensures line { (g : Text → Answer) (query printed : Text) (p : IsPrinted Line query printed)
-        → HasTree g query p.1.tree → (body : Text) × (printed ≡ body ++ 10 ∷ [])
-        × ((u : Tree) × HasTree g body u × ((s : Store) → seen s u ≡ seen s p.1.tree)) }
+        → HasTree g query p.1.0 → (body : Text) × (printed ≡ body ++ 10 ∷ [])
+        × ((u : Tree) × HasTree g body u × ((s : Store) → seen s u ≡ seen s p.1.0)) }
     ensures pretty { (g : Text → Answer) (query printed : Text) (p : IsPrinted (Pretty (record { level = 0; width = 100 })) query printed)
-        → HasTree g query p.1.tree → (body : Text) × (printed ≡ body ++ 10 ∷ [])
-        × ((u : Tree) × HasTree g body u × ((s : Store) → seen s u ≡ seen s p.1.tree)) }
+        → HasTree g query p.1.0 → (body : Text) × (printed ≡ body ++ 10 ∷ [])
+        × ((u : Tree) × HasTree g body u × ((s : Store) → seen s u ≡ seen s p.1.0)) }
     ensures enforce { (limits : Limits) (query matcher line : Text) → IsEnforcedLine limits query matcher line
         → (c : PlainMatcher) × IsEnforceable matcher c × IsEnforced query c line }
 {
