@@ -1,9 +1,11 @@
 -- What can go wrong with a query (docs/reference/programs.md, "Numbers of errors").
 use Rattle.std.specs.Prelude.{◌≡◌, ◌≢◌, ◌⊎◌, ◌≤◌, ℕ, length, Option, Some, None, Result, Ok, Err}
+use Rattle.serde_json.specs.Data.{Data}
+use Rattle.serde_json.specs.Written.{compact_text}
 use Rattle.promql_text.specs.Texts.{Text}
 use Rattle.promql_ast.specs.Tree.{Tree}
 use Rattle.promql_json.specs.declared.error.JsonError.{JsonError}
-use Rattle.promql_places.specs.PlacedForms.{IsPlacedText}
+use Rattle.promql_places.specs.PlacedForms.{IsPlacedForm}
 use Rattle.promql_report.specs.Rejecting.{IsRead, IsRejection, reason_number}
 use Rattle.promql_run.specs.Running.{format_text}
 use Rattle.promql_run.specs.declared.format.Format.{Format}
@@ -87,4 +89,5 @@ IsPrintOfTree limits format t = GivesOr (HasNoText format t) limits (λ text. fo
 
 -- the text of the JSON form of this query's tree with places, if it has a form
 abbrev pub IsPlacedPrint : Limits → Text → Tree → Result Text QueryError → Type 0
-IsPlacedPrint limits query t = GivesOr (HasNoText Json t) limits (IsPlacedText query t)
+IsPlacedPrint limits query t =
+    GivesOr (HasNoText Json t) limits (λ text. (d : Data) × IsPlacedForm query t d × (text ≡ compact_text d))
