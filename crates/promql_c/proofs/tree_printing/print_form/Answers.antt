@@ -1,0 +1,10 @@
+use Rattle.std.proofs.Common.{inl, string_bytes, subst, sym}
+use Rattle.promql_grammar.specs.Results.{on_result}
+use Rattle.promql_c.specs.Calls.{IsTreePrintOf, PrintsForm}
+use Rattle.promql_c.proofs.tree_printing.print_form.Goals as goal
+
+pub returns : goal.returns
+returns c =
+    let limits = c.args.limits.now in let parens = c.args.parens in let made = on_result (λ s. string_bytes s) c.print_text.result in
+    subst (λ asked. IsTreePrintOf limits c.args.form.now asked parens made) (sym c.in-Some.is)
+    (inl (c.in-Ok.ensures.cases.1, subst (λ form. PrintsForm limits form parens c.in-Some.format made) c.in-Ok.ensures.cases.0 c.print_text.ensures))
