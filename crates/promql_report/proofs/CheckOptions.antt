@@ -1,5 +1,5 @@
 -- The options of a check, one and its value at a time.
-use Rattle.std.proofs.Common.{◌≡◌, ℕ, ◌-◌, ◌≤◌, Bool, true, false, [], ◌∷◌, List, length, drop, take, map, get_or, Some, None, Global, String, string_bytes, sym, ap, ◌∙◌, arith}
+use Rattle.std.proofs.Common.{◌≡◌, ◌-◌, ◌≤◌, Bool, true, false, [], ◌∷◌, List, length, drop, take, map, get_or, Some, None, Global, String, string_bytes, sym, ap, ◌∙◌, arith}
 use Rattle.std.specs.Prelude.{bytes_eq, codes, if◌then◌else◌, Option, option_and_then}
 use Rattle.std.proofs.lemmas.List.{take_rest}
 use Rattle.promql_span.specs.declared.limits.Limits.{Limits}

@@ -1,5 +1,5 @@
 -- What a check of a query does (docs/reference/programs.md, "One query, checked").
-use Rattle.std.specs.Prelude.{◌≡◌, ◌≢◌, ◌⊎◌, ℕ, ◌++◌, Bool, List, [], ◌∷◌, Option, Some, None, encode_utf8_all, codes}
+use Rattle.std.specs.Prelude.{◌≡◌, ◌≢◌, ◌⊎◌, ℕ, ◌++◌, Bool, List, Option, Some, None, encode_utf8_all, codes}
 use Rattle.std.specs.Str.{chars}
 use Rattle.promql_span.specs.ByteEscapes.{byte_escape}
 use Rattle.promql_span.specs.Locations.{location_of, location_text}
