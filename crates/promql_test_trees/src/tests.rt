@@ -1,15 +1,19 @@
-//! Each kind of node built, checked, copied, printed and laid out. Parts are read from texts; nodes that no text gives are
-//! made by hand.
+//! Each kind of node built, checked, copied, printed and laid out; walks that look and walks that change; what has a form in
+//! JSON. Parts are read from texts; nodes that no text gives are made by hand.
 
 mod builders;
+mod changes;
 mod checks;
+mod from_json;
 mod hashes;
+mod json;
 mod layout;
 mod memory;
 mod options;
 mod parts;
 mod printing;
 mod trees;
+mod walks;
 mod writers;
 
 use promql_ast::{CheckError, Expr};

@@ -37,7 +37,7 @@ fn check_line(rt: &impl Abort, alloc: Global, line: &str) -> Result<(), Fail> {
     let made = Box::new(alloc, from_json_text(alloc, form.as_str())?)?;
     let again = json_text(alloc, &made)?;
     assert_eq!(rt; again.as_str(), form.as_str());
-    prints(rt, alloc, &made, line)
+    prints(rt, alloc, &*made, line)
 }
 
 #[test]

@@ -1,7 +1,8 @@
 //! Visitors that change nodes, stop, and fail.
 
+use super::prints;
+use super::trees::{extension, is_read, read};
 use super::walks::{ENDED, Log, chain, log_up_to, sum};
-use super::{extension, is_read, prints, read};
 use promql_ast::Expr;
 use promql_label::{MatchOp, Matcher, Matchers};
 use promql_parser::parser::parse;
@@ -51,10 +52,10 @@ fn a_label_is_enforced(rt: HostRuntime) -> Result<(), Fail> {
     let alloc = rt.alloc();
     for (stops, want) in &ENFORCED {
         let stops = *stops;
-        let mut both = extension(alloc, "metric_a", "metric_b")?;
+        let mut both = extension(alloc, &["metric_a", "metric_b"])?;
         let end = walk_expr_mut(&mut Enforce { alloc, stops }, &mut both);
         assert!(rt; end == Ok(!stops));
-        prints(&rt, alloc, &both, want)?;
+        prints(&rt, alloc, &*both, want)?;
     }
     Ok(())
 }
@@ -98,9 +99,9 @@ const REPLACED: [(&str, &str, Result<bool, &str>, &str); 3] = [
 fn nodes_are_replaced(rt: HostRuntime) -> Result<(), Fail> {
     let alloc = rt.alloc();
     for (first, second, end, want) in &REPLACED {
-        let mut node = extension(alloc, first, second)?;
+        let mut node = extension(alloc, &[first, second])?;
         assert!(rt; walk_expr_mut(&mut Zero(alloc), &mut node) == *end);
-        prints(&rt, alloc, &node, want)?;
+        prints(&rt, alloc, &*node, want)?;
     }
     Ok(())
 }
@@ -154,7 +155,7 @@ fn nodes_may_grow_after_their_children(rt: HostRuntime) -> Result<(), Fail> {
         };
         assert!(rt; walk_expr_mut(&mut wrap, &mut expr) == Ok(*end));
         assert_eq!(rt; wrap.left, *left);
-        prints(&rt, alloc, &expr, want)?;
+        prints(&rt, alloc, &*expr, want)?;
     }
     Ok(())
 }
@@ -216,7 +217,7 @@ fn what_was_replaced_is_not_walked(rt: HostRuntime) -> Result<(), Fail> {
     let mut cut = Cut(0);
     assert!(rt; walk_expr_mut(&mut cut, &mut expr) == Ok(true));
     assert_eq!(rt; cut.0, 2);
-    prints(&rt, alloc, &expr, "0")
+    prints(&rt, alloc, &*expr, "0")
 }
 
 impl ExprVisitorMut for Log {

@@ -1,6 +1,6 @@
 //! The order of a walk, and where it ends.
 
-use super::{extension, is_read, read};
+use super::trees::{extension, is_read, read};
 use promql_ast::Expr;
 use promql_label::{MatchOp, Matchers};
 use promql_walk::{ExprVisitor, walk_expr};
@@ -18,7 +18,7 @@ pub fn chain(alloc: Global) -> Result<Box<Expr>, Fail> {
     for _ in 0..499 {
         text.push_str(")")?;
     }
-    read(alloc, text.as_str())
+    Ok(read(alloc, text.as_str())?)
 }
 
 /// A sum of 500 numbers, from left to right.
@@ -27,7 +27,7 @@ pub fn sum(alloc: Global) -> Result<Box<Expr>, Fail> {
     for _ in 1..500 {
         text.push_str(" + 1")?;
     }
-    read(alloc, text.as_str())
+    Ok(read(alloc, text.as_str())?)
 }
 
 /// Writes down each call. From the call of this number on it stops or fails.
@@ -99,7 +99,7 @@ const ALL_CALLS: &str = "before ext(rate(a[5m]) + max_over_time((-b)[1m:]), \"s\
 #[test]
 fn children_come_in_their_order(rt: HostRuntime) -> Result<(), Fail> {
     let alloc = rt.alloc();
-    let expr = extension(alloc, "rate(a[5m]) + max_over_time((-b)[1m:])", "\"s\"")?;
+    let expr = extension(alloc, &["rate(a[5m]) + max_over_time((-b)[1m:])", "\"s\""])?;
     let log = log_up_to(alloc, 100, false);
     assert!(rt; is_walked(log, &expr, Ok(true), ALL_CALLS));
     Ok(())

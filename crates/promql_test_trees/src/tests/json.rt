@@ -1,6 +1,6 @@
 //! The JSON form of each kind of node, of nodes and parts by themselves, and what has none.
 
-use super::{extension, read};
+use super::trees::{extension, read};
 use promql_ast::{Expr, FunctionArgs};
 use promql_kind::{ValueType, VectorMatchCardinality, VectorMatchFillValues, get_function};
 use promql_label::{Labels, MatchOp, Matcher, Matchers};
@@ -247,13 +247,13 @@ fn sum(alloc: Global, lhs: Box<Expr>, rhs: Box<Expr>) -> Result<Box<Expr>, Alloc
 /// A range that is too wide, and an extension after it.
 fn wide_first(alloc: Global) -> Result<Box<Expr>, Fail> {
     let wide = read(alloc, TOO_LONG)?;
-    Ok(sum(alloc, wide, extension(alloc, "a", "a")?)?)
+    Ok(sum(alloc, wide, extension(alloc, &["a", "a"])?)?)
 }
 
 /// An extension, and a range after it that is too wide.
 fn extension_first(alloc: Global) -> Result<Box<Expr>, Fail> {
     let wide = read(alloc, TOO_LONG)?;
-    Ok(sum(alloc, extension(alloc, "a", "a")?, wide)?)
+    Ok(sum(alloc, extension(alloc, &["a", "a"])?, wide)?)
 }
 
 /// An extension and a range, in a subquery whose own range is too wide.
@@ -266,7 +266,7 @@ fn wide_outside(alloc: Global) -> Result<Box<Expr>, Fail> {
 #[test]
 fn the_first_node_without_a_form_counts(rt: HostRuntime) -> Result<(), Fail> {
     let alloc = rt.alloc();
-    has_no_form(&rt, alloc, extension(alloc, TOO_LONG, "1")?, NONE)?;
+    has_no_form(&rt, alloc, extension(alloc, &[TOO_LONG, "1"])?, NONE)?;
     has_no_form(&rt, alloc, wide_first(alloc)?, WIDE)?;
     has_no_form(&rt, alloc, extension_first(alloc)?, NONE)?;
     has_no_form(&rt, alloc, wide_outside(alloc)?, WIDE)
