@@ -1,4 +1,4 @@
-//! The tests of texts from end to end, by the names that a user calls.
+//! The tests of texts from end to end, by the names that a user calls, and of the programs of docs/guide/cookbook.md.
 #![tactic(auto)]
 
 #[cfg(test)]

@@ -1,4 +1,5 @@
-//! Each text with its tree or its fault, printed, laid out, as JSON and walked; what a user of the crates writes.
+//! Each text with its tree or its fault, printed, laid out, as JSON and walked; what a user of the crates writes, with the
+//! programs of docs/guide/cookbook.md.
 
 mod calls;
 mod canonical;
@@ -6,6 +7,7 @@ mod dashboards;
 mod expected;
 mod facade;
 mod faults;
+mod guide;
 mod layouts;
 mod limits;
 mod locations;

@@ -1,4 +1,4 @@
-//! A visitor that a user writes, over a text that is read. promql_test_guide has others.
+//! A visitor that a user writes, over a text that is read. `guide` has others.
 
 use super::read;
 use promql_parser::parser::Expr;
