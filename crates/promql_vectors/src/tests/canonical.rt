@@ -58,7 +58,7 @@ fn check_printed(rt: &impl Abort, alloc: Global, text: &str) -> Result<(), Fail>
 
 #[test]
 fn queries_of_dashboards(rt: HostRuntime) -> Result<(), Fail> {
-    for text in &QUERIES {
+    for text in QUERIES.split('\n') {
         check_printed(&rt, rt.alloc(), text)?;
     }
     Ok(())

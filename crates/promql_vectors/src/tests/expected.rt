@@ -9,141 +9,52 @@ use std::alloc::{AllocError, Global};
 use std::process::Abort;
 use std::test::Fail;
 
-/// Queries with their messages. `NAME` is what may follow a name, `NODE` what may follow another operand, `RIGHT` what may
+/// A query a line, with its message. `NAME` is what may follow a name, `NODE` what may follow another operand, `RIGHT` what may
 /// begin a right side.
-const MESSAGES: [(&str, &str); 44] = [
-    ("foo{a=b}", "identifier \"b\", expected string"),
-    (
-        "foo{a b}",
-        "identifier \"b\", expected \"=\", \"=~\", \"!=\" or \"!~\"",
-    ),
-    ("foo{,}", "\",\", expected label name, \"}\" or string"),
-    (
-        "foo{=~\"x\"}",
-        "\"=~\", expected label name, \"}\" or string",
-    ),
-    (
-        "foo{a=\"b\" c=\"d\"}",
-        "identifier \"c\", expected \",\", \"}\" or \"or\"",
-    ),
-    (
-        "foo{\"a\" \"b\"}",
-        "string \"b\", expected \"=\", \",\", \"}\", \"=~\", \"or\", \"!=\" or \"!~\"",
-    ),
-    (
-        "foo{a==\"b\"}",
-        "\"=\", expected string; a matcher has one \"=\"",
-    ),
-    (
-        "foo{a=\"b\" AND c=\"d\"}",
-        "identifier \"AND\", expected \",\", \"}\" or \"or\"; matchers are joined by \",\"",
-    ),
-    (
-        "foo{a=\"b\" or c=\"d\" or}",
-        "identifier \"or\", expected \",\", \"}\" or \"or\"; matchers are joined by \",\"",
-    ),
-    (
-        "foo bar",
-        "identifier \"bar\", expected NAME or end of query; an operator is missing before it",
-    ),
-    (
-        "foo 5",
-        "number \"5\", expected NAME or end of query; an operator is missing before it",
-    ),
-    (
-        "foo 'x'",
-        "string 'x', expected NAME or end of query; an operator is missing before it",
-    ),
-    (
-        "foo 5m",
-        "duration \"5m\", expected NAME or end of query; a range is in brackets, as in foo[5m]",
-    ),
-    (
-        "a:b 1",
-        "number \"1\", expected \"{\", NODE or end of query; an operator is missing before it",
-    ),
-    (
-        "foo[5m] bar",
-        "identifier \"bar\", expected NODE or end of query; an operator is missing before it",
-    ),
-    (
-        "foo{} sum",
-        "aggregation \"sum\", expected NODE or end of query; an operator is missing before it",
-    ),
-    (
-        "(1) (2)",
-        "\"(\", expected NODE or end of query; an operator is missing before it",
-    ),
-    (
-        "rate(foo[5m]) by (job)",
-        "\"by\", expected NODE or end of query",
-    ),
-    ("foo,", "\",\", expected NAME or end of query"),
-    (
-        "(1 2)",
-        "number \"2\", expected \"[\", \")\", operator, \"@\", \"offset\", \"smoothed\" or \"anchored\"; an operator is missing before it",
-    ),
-    (
-        "f(1 2)",
-        "number \"2\", expected \",\", \"[\", \")\", operator, \"@\", \"offset\", \"smoothed\" or \"anchored\"; an operator is missing before it",
-    ),
-    ("f(,)", "\",\", expected expression or \")\""),
-    ("f(1,)", "\")\", expected expression"),
-    ("-", "end of query, expected expression"),
-    ("1 +", "end of query, expected RIGHT"),
-    ("foo + * bar", "\"*\", expected RIGHT"),
-    (
-        "a == bool",
-        "end of query, expected expression, \"ignoring\", \"on\", \"fill\", \"fill_left\" or \"fill_right\"",
-    ),
-    ("a + on b", "identifier \"b\", expected \"(\""),
-    (
-        "a + on(5) b",
-        "number \"5\", expected label name, \")\" or string",
-    ),
-    (
-        "a + fill(b) c",
-        "identifier \"b\", expected number, \"+\" or \"-\"",
-    ),
-    (
-        "a + fill_left(1) fill_left(1) b",
-        "\"fill_left\", expected expression or \"fill_right\"",
-    ),
-    ("sum by job (foo)", "identifier \"job\", expected \"(\""),
-    (
-        "sum by (job 1) (foo)",
-        "number \"1\", expected \",\" or \")\"",
-    ),
-    (
-        "by (job) sum(foo)",
-        "\"(\", expected \"{\", NODE or end of query; a grouping follows its aggregation, as in sum by (job) (foo)",
-    ),
-    (
-        "sum foo",
-        "identifier \"foo\", expected \"{\", \"[\", \"(\", operator, \"@\", \"by\", \"offset\", \"smoothed\", \"anchored\", \"without\" or end of query; an aggregation has its arguments in parentheses",
-    ),
-    ("sum(foo) by job", "identifier \"job\", expected \"(\""),
-    (
-        "sum(foo) by (job) by (a)",
-        "\"by\", expected NODE or end of query",
-    ),
-    (
-        "foo offset b",
-        "identifier \"b\", expected duration, number, \"+\" or \"-\"",
-    ),
-    (
-        "foo offset -b",
-        "identifier \"b\", expected duration or number",
-    ),
-    (
-        "foo @ b",
-        "identifier \"b\", expected number, \"+\", \"-\", \"start\" or \"end\"",
-    ),
-    ("foo @ -b", "identifier \"b\", expected number"),
-    ("foo @ start", "end of query, expected \"(\""),
-    ("foo @ end(5)", "number \"5\", expected \")\""),
-    ("rate(foo)", "another error"),
-];
+const MESSAGES: &str = r#"foo{a=b} => identifier "b", expected string
+foo{a b} => identifier "b", expected "=", "=~", "!=" or "!~"
+foo{,} => ",", expected label name, "}" or string
+foo{=~"x"} => "=~", expected label name, "}" or string
+foo{a="b" c="d"} => identifier "c", expected ",", "}" or "or"
+foo{"a" "b"} => string "b", expected "=", ",", "}", "=~", "or", "!=" or "!~"
+foo{a=="b"} => "=", expected string; a matcher has one "="
+foo{a="b" AND c="d"} => identifier "AND", expected ",", "}" or "or"; matchers are joined by ","
+foo{a="b" or c="d" or} => identifier "or", expected ",", "}" or "or"; matchers are joined by ","
+foo bar => identifier "bar", expected NAME or end of query; an operator is missing before it
+foo 5 => number "5", expected NAME or end of query; an operator is missing before it
+foo 'x' => string 'x', expected NAME or end of query; an operator is missing before it
+foo 5m => duration "5m", expected NAME or end of query; a range is in brackets, as in foo[5m]
+a:b 1 => number "1", expected "{", NODE or end of query; an operator is missing before it
+foo[5m] bar => identifier "bar", expected NODE or end of query; an operator is missing before it
+foo{} sum => aggregation "sum", expected NODE or end of query; an operator is missing before it
+(1) (2) => "(", expected NODE or end of query; an operator is missing before it
+rate(foo[5m]) by (job) => "by", expected NODE or end of query
+foo, => ",", expected NAME or end of query
+(1 2) => number "2", expected "[", ")", operator, "@", "offset", "smoothed" or "anchored"; an operator is missing before it
+f(1 2) => number "2", expected ",", "[", ")", operator, "@", "offset", "smoothed" or "anchored"; an operator is missing before it
+f(,) => ",", expected expression or ")"
+f(1,) => ")", expected expression
+- => end of query, expected expression
+1 + => end of query, expected RIGHT
+foo + * bar => "*", expected RIGHT
+a == bool => end of query, expected expression, "ignoring", "on", "fill", "fill_left" or "fill_right"
+a + on b => identifier "b", expected "("
+a + on(5) b => number "5", expected label name, ")" or string
+a + fill(b) c => identifier "b", expected number, "+" or "-"
+a + fill_left(1) fill_left(1) b => "fill_left", expected expression or "fill_right"
+sum by job (foo) => identifier "job", expected "("
+sum by (job 1) (foo) => number "1", expected "," or ")"
+by (job) sum(foo) => "(", expected "{", NODE or end of query; a grouping follows its aggregation, as in sum by (job) (foo)
+sum foo => identifier "foo", expected "{", "[", "(", operator, "@", "by", "offset", "smoothed", "anchored", "without" or end of query; an aggregation has its arguments in parentheses
+sum(foo) by job => identifier "job", expected "("
+sum(foo) by (job) by (a) => "by", expected NODE or end of query
+foo offset b => identifier "b", expected duration, number, "+" or "-"
+foo offset -b => identifier "b", expected duration or number
+foo @ b => identifier "b", expected number, "+", "-", "start" or "end"
+foo @ -b => identifier "b", expected number
+foo @ start => end of query, expected "("
+foo @ end(5) => number "5", expected ")"
+rate(foo) => another error"#;
 
 /// What the words in capitals of a message stand for.
 const WORDS: [(&str, &str); 3] = [
@@ -164,7 +75,8 @@ const WORDS: [(&str, &str); 3] = [
 #[test]
 fn syntax_errors_say_what_was_expected(rt: HostRuntime) -> Result<(), Fail> {
     let alloc = rt.alloc();
-    for (query, want) in MESSAGES {
+    for row in MESSAGES.split('\n') {
+        let (query, want) = row.split_once(" => ").unwrap_or((row, ""));
         let found = message(alloc, query)?;
         let want = in_full(alloc, want)?;
         assert!(rt; found == want, "{query}: {found}");
