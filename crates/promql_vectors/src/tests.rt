@@ -1,7 +1,6 @@
 //! Each text with its tree or its fault, printed, laid out, as JSON and walked; what a user of the crates writes, with the
 //! programs of docs/guide/cookbook.md.
 
-mod calls;
 mod canonical;
 mod dashboards;
 mod expected;
