@@ -1,8 +1,8 @@
 //! Where lines are broken (docs/reference/formatting.md, "Lines", "Chains").
 
+use crate::tests::{is_so, prints};
 use promql_formatter::{FormatError, FormatOptions, format_query};
 use std::alloc::Global;
-use std::test::Fail;
 
 /// A query, a width, and the layout.
 const LAYOUTS: [(&str, usize, &str); 16] = [
@@ -48,13 +48,12 @@ fn at_width(alloc: Global, query: &str, width: usize) -> Result<String, FormatEr
 }
 
 #[test]
-fn lines_are_broken_by_width(rt: HostRuntime) -> Result<(), Fail> {
+fn lines_are_broken_by_width(rt: HostRuntime) {
     let alloc = rt.alloc();
-    for (query, width, layout) in LAYOUTS {
-        assert_eq!(rt; at_width(alloc, query, width)?.as_str(), layout);
-        assert_eq!(rt; at_width(alloc, layout, width)?.as_str(), layout);
+    for (query, width, layout) in &LAYOUTS {
+        prints(&rt, at_width(alloc, query, *width), layout);
+        prints(&rt, at_width(alloc, layout, *width), layout);
     }
-    Ok(())
 }
 
 /// So many operands with `or` between them.
@@ -69,23 +68,25 @@ fn alternatives(alloc: Global, count: usize, separator: &str) -> Result<String, 
     Ok(query)
 }
 
-#[test]
-fn a_long_chain_is_flat(rt: HostRuntime) -> Result<(), Fail> {
-    let alloc = rt.alloc();
-    let query = alternatives(alloc, 500, " or ")?;
-    let layout = alternatives(alloc, 500, "\nor ")?;
-    assert_eq!(rt; at_width(alloc, &query, 100)?, layout);
-    Ok(())
+/// Whether so many operands are laid out with a line for each.
+fn is_flat(alloc: Global, count: usize) -> Result<bool, FormatError> {
+    let query = alternatives(alloc, count, " or ")?;
+    let layout = alternatives(alloc, count, "\nor ")?;
+    Ok(at_width(alloc, &query, 100)? == layout)
 }
 
 #[test]
-fn indentation_has_its_width(rt: HostRuntime) -> Result<(), Fail> {
+fn a_long_chain_is_flat(rt: HostRuntime) {
+    is_so(&rt, is_flat(rt.alloc(), 500), "500 operands");
+}
+
+#[test]
+fn indentation_has_its_width(rt: HostRuntime) {
     let options = FormatOptions {
         width: 8,
         indent_width: 4,
         keep_spelling: false,
     };
-    let layout = format_query(rt.alloc(), "sum(sum(aaaa))", &options)?;
-    assert_eq!(rt; layout.as_str(), "sum(\n    sum(\n    aaaa\n    )\n)");
-    Ok(())
+    let layout = format_query(rt.alloc(), "sum(sum(aaaa))", &options);
+    prints(&rt, layout, "sum(\n    sum(\n    aaaa\n    )\n)");
 }

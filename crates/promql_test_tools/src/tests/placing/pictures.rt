@@ -1,95 +1,106 @@
 //! Where the nodes of a query are (docs/reference/walks.md, "Places"): a line of marks for each, in the order of a walk.
 
+use crate::tests::{Failed, prints};
 use promql_places::parse_placed;
 use promql_span::Span;
 use std::alloc::{AllocError, Global};
-use std::test::Fail;
 
-/// Queries, and below each the tokens of its nodes.
-const PICTURES: [&str; 17] = [
-    "1
-~",
-    " - + 1m
- ~~~~~~",
-    "\"a\"
-~~~",
-    "a
-~",
-    "+{a='b'}
-~~~~~~~~",
-    "a{b=\"}\",} @ -1 offset 2m # c
-~~~~~~~~~~~~~~~~~~~~~~~~",
-    "-a @ start()
+/// Queries, and below each the tokens of its nodes. Between two queries is an empty line.
+const PICTURES: &str = r#"1
+~
+
+ - + 1m
+ ~~~~~~
+
+"a"
+~~~
+
+a
+~
+
++{a='b'}
+~~~~~~~~
+
+a{b="}",} @ -1 offset 2m # c
+~~~~~~~~~~~~~~~~~~~~~~~~
+
+-a @ start()
 ~~~~~~~~~~~~
- ~~~~~~~~~~~",
-    "(( a ))
+ ~~~~~~~~~~~
+
+(( a ))
 ~~~~~~~
  ~~~~~
-   ~",
-    "-a + b * 2
+   ~
+
+-a + b * 2
 ~~~~~~~~~~
 ~~
  ~
      ~~~~~
      ~
-         ~",
-    "-2 ^ -a ^ +b
+         ~
+
+-2 ^ -a ^ +b
 ~~~~~~~~~~~~
  ~~~~~~~~~~~
  ~
      ~~~~~~~
       ~~~~~~
       ~
-          ~~",
-    "+1 ^ 2 - 3
+          ~~
+
++1 ^ 2 - 3
 ~~~~~~~~~~
 ~~~~~~
  ~
      ~
-         ~",
-    "a / on(b) group_left(c) (d)
+         ~
+
+a / on(b) group_left(c) (d)
 ~~~~~~~~~~~~~~~~~~~~~~~~~~~
 ~
                         ~~~
-                         ~",
-    "a > bool fill_left(0) fill_right(-1) b
+                         ~
+
+a > bool fill_left(0) fill_right(-1) b
 ~~~~~~~~~~~~~~~~~~~~~~~~~~~~~~~~~~~~~~
 ~
-                                     ~",
-    "rate(a[5m] offset 1h) + time( )
+                                     ~
+
+rate(a[5m] offset 1h) + time( )
 ~~~~~~~~~~~~~~~~~~~~~~~~~~~~~~~
 ~~~~~~~~~~~~~~~~~~~~~
      ~~~~~~~~~~~~~~~
-                        ~~~~~~~",
-    "topk by (b) (2, a) or sum(a) without (b)
+                        ~~~~~~~
+
+topk by (b) (2, a) or sum(a) without (b)
 ~~~~~~~~~~~~~~~~~~~~~~~~~~~~~~~~~~~~~~~~
 ~~~~~~~~~~~~~~~~~~
              ~
                 ~
                       ~~~~~~~~~~~~~~~~~~
-                          ~",
-    "max_over_time(+a @ 1 offset 1m[5m:1m] offset 2h)
+                          ~
+
+max_over_time(+a @ 1 offset 1m[5m:1m] offset 2h)
 ~~~~~~~~~~~~~~~~~~~~~~~~~~~~~~~~~~~~~~~~~~~~~~~~
               ~~~~~~~~~~~~~~~~~~~~~~~~~~~~~~~~~
-               ~~~~~~~~~~~~~~~",
-    "max_over_time(a[1h:] @ 1) > bool (+b offset 5m)
+               ~~~~~~~~~~~~~~~
+
+max_over_time(a[1h:] @ 1) > bool (+b offset 5m)
 ~~~~~~~~~~~~~~~~~~~~~~~~~~~~~~~~~~~~~~~~~~~~~~~
 ~~~~~~~~~~~~~~~~~~~~~~~~~
               ~~~~~~~~~~
               ~
                                  ~~~~~~~~~~~~~~
-                                  ~~~~~~~~~~~~",
-];
+                                  ~~~~~~~~~~~~"#;
 
 #[test]
-fn places_are_shown(rt: HostRuntime) -> Result<(), Fail> {
-    let alloc = rt.alloc();
-    for picture in PICTURES {
+fn places_are_shown(rt: HostRuntime) {
+    for picture in PICTURES.split("\n\n") {
         let query = first_line(picture);
-        let drawn = drawn_query(alloc, query)?;
-        assert_eq!(rt; drawn.as_str(), picture);
+        prints(&rt, drawn_query(rt.alloc(), query), picture);
     }
-    Ok(())
 }
 
 fn first_line(text: &str) -> &str {
@@ -100,7 +111,7 @@ fn first_line(text: &str) -> &str {
 }
 
 /// The query with a line of marks for each node.
-fn drawn_query(alloc: Global, query: &str) -> Result<String, Fail> {
+fn drawn_query(alloc: Global, query: &str) -> Result<String, Failed> {
     let placed = Box::new(alloc, parse_placed(alloc, query)?)?;
     let mut drawn = String::from_str(alloc, query)?;
     for place in placed.places.as_slice() {

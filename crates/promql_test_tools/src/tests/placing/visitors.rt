@@ -1,11 +1,11 @@
 //! Visitors that are given the places of nodes (docs/reference/walks.md, "Visitors with places").
 
+use crate::tests::{Failed, is_so};
 use promql_ast::Expr;
 use promql_places::{Part, PlacedVisitor, WithPlaces, parse_placed};
 use promql_span::Span;
 use promql_walk::walk_expr;
 use std::alloc::{AllocError, Global};
-use std::test::Fail;
 
 /// Queries as they are printed, so each of their nodes prints as the text at its place; and how many nodes and parts they have.
 const PRINTED: [(&str, usize, usize); 6] = [
@@ -51,17 +51,14 @@ impl PlacedVisitor for Printed {
 }
 
 #[test]
-fn nodes_print_as_their_places(rt: HostRuntime) -> Result<(), Fail> {
-    let alloc = rt.alloc();
-    for (query, nodes, parts) in PRINTED {
-        let found = found_in(alloc, query)?;
-        assert_eq!(rt; found, (nodes, parts, nodes));
+fn nodes_print_as_their_places(rt: HostRuntime) {
+    for (query, nodes, parts) in &PRINTED {
+        is_so(&rt, finds(rt.alloc(), query, *nodes, *parts), query);
     }
-    Ok(())
 }
 
-/// How many nodes print as the text at their places, how many parts they have, and how many calls came after nodes.
-fn found_in(alloc: Global, query: &str) -> Result<(usize, usize, usize), Fail> {
+/// Whether so many nodes print as the text at their places and have so many parts, and a call came after each node.
+fn finds(alloc: Global, query: &str, nodes: usize, parts: usize) -> Result<bool, Failed> {
     let placed = Box::new(alloc, parse_placed(alloc, query)?)?;
     let printed = Printed {
         alloc,
@@ -72,11 +69,8 @@ fn found_in(alloc: Global, query: &str) -> Result<(usize, usize, usize), Fail> {
     };
     let mut visitor = WithPlaces::new(printed, placed.places.as_slice(), placed.parts.as_slice());
     walk_expr(&mut visitor, &placed.expr)?;
-    Ok((
-        visitor.visitor.nodes,
-        visitor.visitor.parts,
-        visitor.visitor.left,
-    ))
+    let found = &visitor.visitor;
+    Ok(found.nodes == nodes && found.parts == parts && found.left == nodes)
 }
 
 fn text_at(query: &str, place: Span) -> &str {

@@ -1,107 +1,42 @@
 //! A matcher in every selector.
 
+use crate::tests::{columns, is_so, prints};
 use promql_label::{MatchOp, Matcher};
 use promql_rewrite::{EnforceError, enforce_query};
 use std::alloc::{AllocError, Global};
-use std::test::Fail;
 
-/// Each query with its line once `namespace="team-a"` is enforced, or the message of its rejection.
-const ROWS: [(&str, &str); 29] = [
-    ("foo", r#"foo{namespace="team-a"}"#),
-    ("foo{}", r#"foo{namespace="team-a"}"#),
-    ("a + b", r#"a{namespace="team-a"} + b{namespace="team-a"}"#),
-    (
-        r#"sum by (job) (rate(a{b="c"}[5m])) / on (job) d offset 1h"#,
-        r#"sum by (job) (rate(a{b="c",namespace="team-a"}[5m])) / on (job) d{namespace="team-a"} offset 1h"#,
-    ),
-    ("absent(a)", r#"absent(a{namespace="team-a"})"#),
-    (
-        "max_over_time(rate(a[5m])[1h:1m] @ start())",
-        r#"max_over_time(rate(a{namespace="team-a"}[5m])[1h:1m] @ start())"#,
-    ),
-    (
-        "topk(scalar(k), a)",
-        r#"topk(scalar(k{namespace="team-a"}), a{namespace="team-a"})"#,
-    ),
-    ("-a ^ 2", r#"-a{namespace="team-a"} ^ 2"#),
-    (
-        "(a) offset 5m",
-        "offset modifier must be preceded by an vector selector or matrix selector or a subquery",
-    ),
-    ("a[5m] anchored", r#"a{namespace="team-a"}[5m] anchored"#),
-    ("1 + 2", "1 + 2"),
-    (
-        r#"label_replace(a, "b", "c", "d", "e")"#,
-        r#"label_replace(a{namespace="team-a"}, "b", "c", "d", "e")"#,
-    ),
-    // Groups: the matcher in each, unless it is there.
-    (
-        r#"{a="1" or b="2"}"#,
-        r#"{a="1", namespace="team-a" or b="2", namespace="team-a"}"#,
-    ),
-    (
-        r#"{a="1" or namespace="team-a" or b="2"}"#,
-        r#"{a="1", namespace="team-a" or namespace="team-a" or b="2", namespace="team-a"}"#,
-    ),
-    // Matchers of the same label: only an equal one makes a difference.
-    (r#"a{namespace="team-a"}"#, r#"a{namespace="team-a"}"#),
-    (
-        r#"a{namespace="team-a",b="c"}"#,
-        r#"a{b="c",namespace="team-a"}"#,
-    ),
-    (
-        r#"a{namespace="team-b"}"#,
-        r#"a{namespace="team-a",namespace="team-b"}"#,
-    ),
-    (
-        r#"a{namespace!="team-a"}"#,
-        r#"a{namespace!="team-a",namespace="team-a"}"#,
-    ),
-    (
-        r#"a{namespace=~"team-a"}"#,
-        r#"a{namespace="team-a",namespace=~"team-a"}"#,
-    ),
-    (
-        r#"a{namespace=""}"#,
-        r#"a{namespace="",namespace="team-a"}"#,
-    ),
-    // Quoted names, and a name among the matchers.
-    (
-        r#"{"a.b", "c d"="e"}"#,
-        r#"{"c d"="e",__name__="a.b",namespace="team-a"}"#,
-    ),
-    (
-        r#"{__name__=~"a|b"}"#,
-        r#"{__name__=~"a|b",namespace="team-a"}"#,
-    ),
-    // The second argument of `info` selects series like any other, and has to be there.
-    (
-        r#"info(a, {b="c"})"#,
-        r#"info(a{namespace="team-a"}, {b="c",namespace="team-a"})"#,
-    ),
-    (
-        "info(a)",
-        "info without a selector reads series that no matcher limits",
-    ),
-    (
-        "topk(scalar(info(a)), b)",
-        "info without a selector reads series that no matcher limits",
-    ),
-    (
-        "a + info(b, -info(c))",
-        "info without a selector reads series that no matcher limits",
-    ),
-    // Rejected queries.
-    (
-        "{}",
-        "vector selector must contain at least one non-empty matcher",
-    ),
-    ("a +", "invalid promql query"),
-    (
-        "rate(a)",
-        "expected type matrix in call to function 'rate', got vector",
-    ),
-];
+/// Each query with its line once `namespace="team-a"` is enforced, or the message of its rejection. In groups the matcher is in
+/// each, unless it is there. Of the matchers of its label only an equal one makes a difference. The second argument of `info`
+/// selects series like any other, and has to be there.
+const ROWS: &str = r#"foo => foo{namespace="team-a"}
+foo{} => foo{namespace="team-a"}
+a + b => a{namespace="team-a"} + b{namespace="team-a"}
+sum by (job) (rate(a{b="c"}[5m])) / on (job) d offset 1h => sum by (job) (rate(a{b="c",namespace="team-a"}[5m])) / on (job) d{namespace="team-a"} offset 1h
+absent(a) => absent(a{namespace="team-a"})
+max_over_time(rate(a[5m])[1h:1m] @ start()) => max_over_time(rate(a{namespace="team-a"}[5m])[1h:1m] @ start())
+topk(scalar(k), a) => topk(scalar(k{namespace="team-a"}), a{namespace="team-a"})
+-a ^ 2 => -a{namespace="team-a"} ^ 2
+(a) offset 5m => offset modifier must be preceded by an vector selector or matrix selector or a subquery
+a[5m] anchored => a{namespace="team-a"}[5m] anchored
+1 + 2 => 1 + 2
+label_replace(a, "b", "c", "d", "e") => label_replace(a{namespace="team-a"}, "b", "c", "d", "e")
+{a="1" or b="2"} => {a="1", namespace="team-a" or b="2", namespace="team-a"}
+{a="1" or namespace="team-a" or b="2"} => {a="1", namespace="team-a" or namespace="team-a" or b="2", namespace="team-a"}
+a{namespace="team-a"} => a{namespace="team-a"}
+a{namespace="team-a",b="c"} => a{b="c",namespace="team-a"}
+a{namespace="team-b"} => a{namespace="team-a",namespace="team-b"}
+a{namespace!="team-a"} => a{namespace!="team-a",namespace="team-a"}
+a{namespace=~"team-a"} => a{namespace="team-a",namespace=~"team-a"}
+a{namespace=""} => a{namespace="",namespace="team-a"}
+{"a.b", "c d"="e"} => {"c d"="e",__name__="a.b",namespace="team-a"}
+{__name__=~"a|b"} => {__name__=~"a|b",namespace="team-a"}
+info(a, {b="c"}) => info(a{namespace="team-a"}, {b="c",namespace="team-a"})
+info(a) => info without a selector reads series that no matcher limits
+topk(scalar(info(a)), b) => info without a selector reads series that no matcher limits
+a + info(b, -info(c)) => info without a selector reads series that no matcher limits
+{} => vector selector must contain at least one non-empty matcher
+a + => invalid promql query
+rate(a) => expected type matrix in call to function 'rate', got vector"#;
 
 fn tenant(alloc: Global) -> Result<Box<Matcher>, AllocError> {
     let matcher = Matcher::new(alloc, MatchOp::Equal, "namespace", "team-a")?;
@@ -120,15 +55,18 @@ fn enforced(alloc: Global, query: &str, matcher: &Matcher) -> Result<String, All
     }
 }
 
-#[test]
-fn each_selector_has_the_matcher(rt: HostRuntime) -> Result<(), Fail> {
-    let alloc = rt.alloc();
+/// The line of the query once `namespace="team-a"` is enforced, or the message of the error.
+fn tenants_line(alloc: Global, query: &str) -> Result<String, AllocError> {
     let matcher = tenant(alloc)?;
-    for (query, want) in ROWS {
-        let line = enforced(alloc, query, &matcher)?;
-        assert!(rt; line.as_str() == want, "{query}: {line}");
+    enforced(alloc, query, &matcher)
+}
+
+#[test]
+fn each_selector_has_the_matcher(rt: HostRuntime) {
+    for row in ROWS.split('\n') {
+        let (query, want) = columns(row);
+        prints(&rt, tenants_line(rt.alloc(), query), want);
     }
-    Ok(())
 }
 
 /// A text that is repeated between two others: the front, the text and the back.
@@ -171,46 +109,54 @@ fn repeated(alloc: Global, parts: &Parts, times: usize) -> Result<String, AllocE
     Ok(made)
 }
 
+/// Whether the query of these parts has the line of those, once `namespace="team-a"` is enforced.
+fn is_long_line(
+    alloc: Global,
+    query: &Parts,
+    want: &Parts,
+    times: usize,
+) -> Result<bool, AllocError> {
+    let query = repeated(alloc, query, times)?;
+    let line = tenants_line(alloc, query.as_str())?;
+    Ok(line == repeated(alloc, want, times)?)
+}
+
 #[test]
-fn long_queries_too(rt: HostRuntime) -> Result<(), Fail> {
-    let alloc = rt.alloc();
-    let matcher = tenant(alloc)?;
+fn long_queries_too(rt: HostRuntime) {
     for (times, query, want) in &LONG_ROWS {
-        let query = repeated(alloc, query, *times)?;
-        let line = enforced(alloc, query.as_str(), &matcher)?;
-        assert!(rt; line == repeated(alloc, want, *times)?, "{times}");
+        is_so(&rt, is_long_line(rt.alloc(), query, want, *times), want.1);
     }
-    Ok(())
+}
+
+/// Whether a matcher with a value of so many letters is in both selectors of a query.
+fn is_in_both(alloc: Global, size: usize) -> Result<bool, AllocError> {
+    let value = repeated(alloc, &("", "x", ""), size)?;
+    let matcher = Matcher::new(alloc, MatchOp::Equal, "a", value.as_str())?;
+    let line = enforced(alloc, "sum(b) / c", &matcher)?;
+    let want = format!(in alloc; "sum(b{{a=\"{value}\"}}) / c{{a=\"{value}\"}}")?;
+    Ok(line == want)
 }
 
 #[test]
-fn long_matchers_too(rt: HostRuntime) -> Result<(), Fail> {
-    let alloc = rt.alloc();
+fn long_matchers_too(rt: HostRuntime) {
     for size in [31, 1_000, 10_000] {
-        let value = repeated(alloc, &("", "x", ""), size)?;
-        let matcher = Matcher::new(alloc, MatchOp::Equal, "a", value.as_str())?;
-        let line = enforced(alloc, "sum(b) / c", &matcher)?;
-        let want = format!(in alloc; "sum(b{{a=\"{value}\"}}) / c{{a=\"{value}\"}}")?;
-        assert!(rt; line == want, "{size}");
+        is_so(&rt, is_in_both(rt.alloc(), size), "a long value");
     }
-    Ok(())
 }
 
-/// Whether the matcher is rejected, since it is of the metric's name.
-fn is_rejected(alloc: Global, query: &str, matcher: &Matcher) -> bool {
-    matches!(
-        enforce_query(alloc, query, matcher),
+/// Whether a matcher of the metric's name is rejected for that.
+fn is_rejected(alloc: Global, query: &str) -> Result<bool, AllocError> {
+    let matcher = Matcher::new(alloc, MatchOp::Equal, "__name__", "a")?;
+    Ok(matches!(
+        enforce_query(alloc, query, &matcher),
         Err(EnforceError::MetricName)
-    )
+    ))
 }
 
 #[test]
-fn the_metric_name_is_rejected(rt: HostRuntime) -> Result<(), Fail> {
-    let alloc = rt.alloc();
-    let matcher = Matcher::new(alloc, MatchOp::Equal, "__name__", "a")?;
-    assert!(rt; is_rejected(alloc, "b", &matcher));
+fn the_metric_name_is_rejected(rt: HostRuntime) {
     // Before the query is looked at.
-    assert!(rt; is_rejected(alloc, "b +", &matcher));
-    assert!(rt; is_rejected(alloc, "info(b)", &matcher));
-    Ok(())
+    for query in ["b", "b +", "info(b)"] {
+        is_so(&rt, is_rejected(rt.alloc(), query), query);
+    }
 }

@@ -1,10 +1,10 @@
 //! Texts that mean the tree that they were printed of, and trees that no text means.
 
+use crate::tests::{holds, prints};
 use promql_ast::{Expr, VectorSelector};
 use promql_rewrite::{NotFaithful, faithful_line, faithful_pretty};
 use promql_syntax::parser::{ParseError, parse};
 use std::alloc::Global;
-use std::test::Fail;
 
 const QUERY: &str = r#"sum by (b) (rate(a{c="d"}[5m])) / e"#;
 
@@ -34,14 +34,11 @@ fn lines(alloc: Global, query: &str, width: usize) -> Result<String, NotFaithful
 }
 
 #[test]
-fn what_was_read_prints(rt: HostRuntime) -> Result<(), Fail> {
+fn what_was_read_prints(rt: HostRuntime) {
     let alloc = rt.alloc();
-    assert_eq!(rt; lines(alloc, QUERY, 100)?.as_str(), QUERY);
-    assert_eq!(rt;
-        lines(alloc, QUERY, 10)?.as_str(),
-        "  sum by (b) (\n    rate(\n      a{c=\"d\"}[5m]\n    )\n  )\n/\n  e"
-    );
-    Ok(())
+    prints(&rt, lines(alloc, QUERY, 100), QUERY);
+    let laid = "  sum by (b) (\n    rate(\n      a{c=\"d\"}[5m]\n    )\n  )\n/\n  e";
+    prints(&rt, lines(alloc, QUERY, 10), laid);
 }
 
 /// Whether a line was rejected for this reason.
@@ -50,14 +47,20 @@ fn is_rejected(line: Result<String, NotFaithful>, why: NotFaithful) -> bool {
 }
 
 #[test]
-fn a_tree_that_no_text_has_is_rejected(rt: HostRuntime) -> Result<(), Fail> {
+fn a_tree_that_no_text_has_is_rejected(rt: HostRuntime) {
     let alloc = rt.alloc();
-    assert_eq!(rt; negated_line(alloc, "a")?.as_str(), "-a");
-    assert!(rt; is_rejected(negated_line(alloc, "a + b"), NotFaithful::OtherTree));
-    assert_eq!(rt; negated_line(alloc, "a ^ b")?.as_str(), "-a ^ b");
-    assert_eq!(rt; named_line(alloc, "a:b")?.as_str(), "a:b");
+    prints(&rt, negated_line(alloc, "a"), "-a");
+    let sum = is_rejected(negated_line(alloc, "a + b"), NotFaithful::OtherTree);
+    holds(&rt, sum, "a + b");
+    prints(&rt, negated_line(alloc, "a ^ b"), "-a ^ b");
+}
+
+#[test]
+fn a_name_that_is_none_is_rejected(rt: HostRuntime) {
+    let alloc = rt.alloc();
+    prints(&rt, named_line(alloc, "a:b"), "a:b");
     let syntax = NotFaithful::Rejected(ParseError::Syntax);
-    assert!(rt; is_rejected(named_line(alloc, "a b"), syntax));
-    assert!(rt; is_rejected(named_line(alloc, "1"), NotFaithful::OtherTree));
-    Ok(())
+    holds(&rt, is_rejected(named_line(alloc, "a b"), syntax), "a b");
+    let number = is_rejected(named_line(alloc, "1"), NotFaithful::OtherTree);
+    holds(&rt, number, "1");
 }

@@ -1,10 +1,10 @@
 //! Selectors that a mapper changes.
 
+use crate::tests::{Failed, is_so, prints};
 use promql_ast::{Expr, Offset, VectorSelector};
 use promql_rewrite::{SelectorKind, SelectorMapper, map_selectors};
 use promql_syntax::parser::parse;
 use std::alloc::{AllocError, Global};
-use std::test::Fail;
 use std::time::Duration;
 
 fn line_of(alloc: Global, expr: Expr) -> Result<String, AllocError> {
@@ -75,7 +75,7 @@ const DELAYED: [(&str, &str, usize); 9] = [
     ("a + b offset 5m + c", "a selector has an offset", 1),
 ];
 
-fn delayed_line(alloc: Global, query: &str, delay: &mut Delay) -> Result<String, Fail> {
+fn delayed_line(alloc: Global, query: &str, delay: &mut Delay) -> Result<String, Failed> {
     let expr = parse(alloc, query)?;
     match map_selectors(alloc, expr, delay) {
         Ok(expr) => Ok(line_of(alloc, expr)?),
@@ -83,21 +83,21 @@ fn delayed_line(alloc: Global, query: &str, delay: &mut Delay) -> Result<String,
     }
 }
 
+/// Whether the query has this line or error once it is delayed, and so many selectors were moved.
+fn is_delayed(alloc: Global, query: &str, want: &str, moved: usize) -> Result<bool, Failed> {
+    let mut delay = Delay {
+        by: Duration::from_secs(3600),
+        moved: 0,
+    };
+    let line = delayed_line(alloc, query, &mut delay)?;
+    Ok(line.as_str() == want && delay.moved == moved)
+}
+
 #[test]
-fn selectors_are_moved_and_counted(rt: HostRuntime) -> Result<(), Fail> {
-    let alloc = rt.alloc();
-    for (query, want, moved) in DELAYED {
-        let mut delay = Delay {
-            by: Duration::from_secs(3600),
-            moved: 0,
-        };
-        let line = delayed_line(alloc, query, &mut delay)?;
-        assert!(rt;
-            line.as_str() == want && delay.moved == moved,
-            "{query}: {line}"
-        );
+fn selectors_are_moved_and_counted(rt: HostRuntime) {
+    for (query, want, moved) in &DELAYED {
+        is_so(&rt, is_delayed(rt.alloc(), query, want, *moved), query);
     }
-    Ok(())
 }
 
 /// Names the selectors `m0`, `m1` and so on, up to a last number.
@@ -155,7 +155,7 @@ const NUMBERED: [(&str, &str); 12] = [
     ("a + b + c + d + e", "too many selectors"),
 ];
 
-fn numbered_line(alloc: Global, query: &str) -> Result<String, Fail> {
+fn numbered_line(alloc: Global, query: &str) -> Result<String, Failed> {
     let mut numbers = Numbers { next: 0, last: 3 };
     let expr = parse(alloc, query)?;
     match map_selectors(alloc, expr, &mut numbers) {
@@ -165,11 +165,8 @@ fn numbered_line(alloc: Global, query: &str) -> Result<String, Fail> {
 }
 
 #[test]
-fn selectors_are_mapped_in_the_order_of_the_text(rt: HostRuntime) -> Result<(), Fail> {
-    let alloc = rt.alloc();
-    for (query, want) in NUMBERED {
-        let line = numbered_line(alloc, query)?;
-        assert!(rt; line.as_str() == want, "{query}: {line}");
+fn selectors_are_mapped_in_the_order_of_the_text(rt: HostRuntime) {
+    for (query, want) in &NUMBERED {
+        prints(&rt, numbered_line(rt.alloc(), query), want);
     }
-    Ok(())
 }

@@ -1,15 +1,13 @@
 //! Which trees are printable, and why others are not.
 
+use crate::tests::{Failed, is_so, prints};
 use promql_ast::{Expr, VectorSelector};
 use promql_rewrite::{NotFaithful, NotPrintable, is_printable, why_not_printable};
 use promql_syntax::parser::{ParseError, parse};
 use std::alloc::Global;
-use std::fmt::Display;
-use std::process::Abort;
-use std::test::Fail;
 
 /// Whether a query's tree is printable.
-fn is_query_printable(alloc: Global, query: &str) -> Result<bool, Fail> {
+fn is_query_printable(alloc: Global, query: &str) -> Result<bool, Failed> {
     let expr = parse(alloc, query)?;
     let answer = is_printable(alloc, &expr);
     drop(expr);
@@ -17,7 +15,7 @@ fn is_query_printable(alloc: Global, query: &str) -> Result<bool, Fail> {
 }
 
 /// Why a query's tree is not printable under a minus sign without parentheses.
-fn why_not_negated(alloc: Global, query: &str) -> Result<Option<NotPrintable>, Fail> {
+fn why_not_negated(alloc: Global, query: &str) -> Result<Option<NotPrintable>, Failed> {
     let expr = Expr::new_unary_expr(alloc, parse(alloc, query)?)?;
     let why = why_not_printable(alloc, &expr);
     drop(expr);
@@ -25,101 +23,100 @@ fn why_not_negated(alloc: Global, query: &str) -> Result<Option<NotPrintable>, F
 }
 
 /// Why a selector of this name is not printable.
-fn why_not_named(alloc: Global, name: &str) -> Result<Option<NotPrintable>, Fail> {
+fn why_not_named(alloc: Global, name: &str) -> Result<Option<NotPrintable>, Failed> {
     let expr = Expr::from(VectorSelector::of_str(alloc, name)?);
     let why = why_not_printable(alloc, &expr);
     drop(expr);
     Ok(why?)
 }
 
-#[test]
-fn trees_of_queries_are_printable(rt: HostRuntime) -> Result<(), Fail> {
-    let alloc = rt.alloc();
-    assert!(rt;
-        is_query_printable(
-            alloc,
-            r#"sum by (b) (rate(a{c=~"d.*"}[5m] offset 1h)) / -e ^ 2"#
-        )?
-    );
-    assert!(rt; why_not_negated(alloc, "a")?.is_none());
-    Ok(())
+/// Whether this is the reason.
+fn is_why(
+    found: Result<Option<NotPrintable>, Failed>,
+    want: Option<NotPrintable>,
+) -> Result<bool, Failed> {
+    Ok(found? == want)
 }
 
 #[test]
-fn reasons_are_told(rt: HostRuntime) -> Result<(), Fail> {
+fn trees_of_queries_are_printable(rt: HostRuntime) {
+    let query = r#"sum by (b) (rate(a{c=~"d.*"}[5m] offset 1h)) / -e ^ 2"#;
+    is_so(&rt, is_query_printable(rt.alloc(), query), query);
+    is_so(&rt, is_why(why_not_negated(rt.alloc(), "a"), None), "a");
+}
+
+#[test]
+fn reasons_are_told(rt: HostRuntime) {
     let alloc = rt.alloc();
-    assert!(rt; why_not_negated(alloc, "a + b")? == Some(NotPrintable::Operand));
+    let operand = is_why(why_not_negated(alloc, "a + b"), Some(NotPrintable::Operand));
+    is_so(&rt, operand, "a + b");
     let syntax = Some(NotPrintable::Rejected(ParseError::Syntax));
-    assert!(rt; why_not_named(alloc, "a b")? == syntax);
-    assert!(rt; why_not_named(alloc, "1")? == Some(NotPrintable::OtherTree));
-    Ok(())
+    is_so(&rt, is_why(why_not_named(alloc, "a b"), syntax), "a b");
+    let number = is_why(why_not_named(alloc, "1"), Some(NotPrintable::OtherTree));
+    is_so(&rt, number, "1");
 }
 
-/// The reason has this message.
-fn shows<T: Display>(
-    rt: &impl Abort,
-    alloc: Global,
-    reason: &T,
-    message: &str,
-) -> Result<(), Fail> {
-    let found = reason.to_string(alloc)?;
-    assert!(rt; found.as_str() == message, "{found}");
-    Ok(())
+/// Reasons that are no error of a text, with their messages.
+const MESSAGES: [(NotPrintable, &str); 12] = [
+    (
+        NotPrintable::LeftSide,
+        "the left side of an operator needs parentheses",
+    ),
+    (
+        NotPrintable::RightSide,
+        "the right side of an operator needs parentheses",
+    ),
+    (
+        NotPrintable::Operand,
+        "the operand of a minus sign needs parentheses",
+    ),
+    (
+        NotPrintable::Subqueried,
+        "the expression of a subquery needs parentheses",
+    ),
+    (
+        NotPrintable::Operator,
+        "a binary expression has no operator",
+    ),
+    (NotPrintable::Grouping, "a grouping has no matching labels"),
+    (
+        NotPrintable::Cardinality,
+        "only set operators match many elements with many",
+    ),
+    (
+        NotPrintable::Parameter,
+        "an aggregation has a parameter too few or too many",
+    ),
+    (NotPrintable::Time, "a time is zero"),
+    (NotPrintable::Groups, "or-groups are not as they print"),
+    (
+        NotPrintable::Extension,
+        "an extension is not part of the language",
+    ),
+    (
+        NotPrintable::OtherTree,
+        "the printed query has another tree",
+    ),
+];
+
+#[test]
+fn messages_of_reasons(rt: HostRuntime) {
+    for (reason, message) in &MESSAGES {
+        prints(&rt, reason.to_string(rt.alloc()), message);
+    }
 }
 
 #[test]
-fn messages_of_operands(rt: HostRuntime) -> Result<(), Fail> {
-    let alloc = rt.alloc();
-    let side = "the left side of an operator needs parentheses";
-    shows(&rt, alloc, &NotPrintable::LeftSide, side)?;
-    let side = "the right side of an operator needs parentheses";
-    shows(&rt, alloc, &NotPrintable::RightSide, side)?;
-    let operand = "the operand of a minus sign needs parentheses";
-    shows(&rt, alloc, &NotPrintable::Operand, operand)?;
-    let subqueried = "the expression of a subquery needs parentheses";
-    shows(&rt, alloc, &NotPrintable::Subqueried, subqueried)
-}
-
-#[test]
-fn messages_of_operators(rt: HostRuntime) -> Result<(), Fail> {
-    let alloc = rt.alloc();
-    let operator = "a binary expression has no operator";
-    shows(&rt, alloc, &NotPrintable::Operator, operator)?;
-    let grouping = "a grouping has no matching labels";
-    shows(&rt, alloc, &NotPrintable::Grouping, grouping)?;
-    let cardinality = "only set operators match many elements with many";
-    shows(&rt, alloc, &NotPrintable::Cardinality, cardinality)?;
-    let parameter = "an aggregation has a parameter too few or too many";
-    shows(&rt, alloc, &NotPrintable::Parameter, parameter)
-}
-
-#[test]
-fn messages_of_selectors(rt: HostRuntime) -> Result<(), Fail> {
-    let alloc = rt.alloc();
-    shows(&rt, alloc, &NotPrintable::Time, "a time is zero")?;
-    let groups = "or-groups are not as they print";
-    shows(&rt, alloc, &NotPrintable::Groups, groups)?;
-    let extension = "an extension is not part of the language";
-    shows(&rt, alloc, &NotPrintable::Extension, extension)
-}
-
-#[test]
-fn messages_of_lines(rt: HostRuntime) -> Result<(), Fail> {
+fn messages_of_lines(rt: HostRuntime) {
     let alloc = rt.alloc();
     let rejected = "the printed query is rejected: invalid promql query";
     let syntax = NotPrintable::Rejected(ParseError::Syntax);
-    shows(&rt, alloc, &syntax, rejected)?;
+    prints(&rt, syntax.to_string(alloc), rejected);
     let syntax = NotFaithful::Rejected(ParseError::Syntax);
-    shows(&rt, alloc, &syntax, rejected)?;
-    let other = "the printed query has another tree";
-    shows(&rt, alloc, &NotPrintable::OtherTree, other)?;
-    shows(&rt, alloc, &NotFaithful::OtherTree, other)
-}
-
-#[test]
-fn messages_of_texts_that_are_not_made(rt: HostRuntime) -> Result<(), Fail> {
-    let alloc = rt.alloc();
-    shows(&rt, alloc, &NotFaithful::Memory, "out of memory")?;
-    let wide = "indentation too wide";
-    shows(&rt, alloc, &NotFaithful::IndentTooWide, wide)
+    prints(&rt, syntax.to_string(alloc), rejected);
+    let other = NotFaithful::OtherTree.to_string(alloc);
+    prints(&rt, other, "the printed query has another tree");
+    prints(&rt, NotFaithful::Memory.to_string(alloc), "out of memory");
+    let wide = NotFaithful::IndentTooWide.to_string(alloc);
+    prints(&rt, wide, "indentation too wide");
 }

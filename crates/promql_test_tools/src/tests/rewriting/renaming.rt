@@ -1,107 +1,46 @@
 //! Metrics and labels by other names.
 
+use crate::tests::{Failed, columns, holds, is_so, prints};
 use promql_ast::Expr;
 use promql_rewrite::{RenameLabelError, RenameMetricError, rename_label, rename_metric};
 use promql_syntax::parser::parse;
 use std::alloc::{AllocError, Global};
-use std::test::Fail;
+use std::process::Abort;
 
-/// Each query with a label and its new name, and the line once it is renamed, or the message of the error.
-const LABEL_ROWS: [(&str, &str, &str, &str); 18] = [
-    ("a", "b", "c", "a"),
-    (r#"a{b="1"}"#, "b", "c", r#"a{c="1"}"#),
-    (r#"a{b="1",d!="2"}[5m]"#, "d", "c", r#"a{b="1",c!="2"}[5m]"#),
-    (
-        r#"a{b="1" or b=~"2",d="3"}"#,
-        "b",
-        "c",
-        r#"a{c="1" or c=~"2", d="3"}"#,
-    ),
-    ("sum by (b) (a)", "b", "c", "sum by (c) (a)"),
-    ("sum without (d, b) (a)", "b", "c", "sum without (d, c) (a)"),
-    (
-        "a * on (b) group_left (d) e",
-        "d",
-        "c",
-        "a * on (b) group_left (c) e",
-    ),
-    (
-        "a * ignoring (b) group_right (d) e",
-        "b",
-        "c",
-        "a * ignoring (c) group_right (d) e",
-    ),
-    (
-        r#"topk(scalar(k{b="1"}), -(rate(a{b="2"}[5m:1m])))"#,
-        "b",
-        "c",
-        r#"topk(scalar(k{c="1"}), -(rate(a{c="2"}[5m:1m])))"#,
-    ),
-    // A metric of that name, and strings, are no labels.
-    (r#"b{b="b"}"#, "b", "c", r#"b{c="b"}"#),
-    (
-        r#"label_replace(a, "b", "$1", "b", ".*")"#,
-        "b",
-        "c",
-        r#"label_replace(a, "b", "$1", "b", ".*")"#,
-    ),
-    // Names that are quoted.
-    (r#"a{b="1"}"#, "b", "c d", r#"a{"c d"="1"}"#),
-    // Clashes, in one node alone.
-    (r#"a{b="1",c="2"}"#, "b", "c", "both labels are in one list"),
-    (
-        "a * on (b) group_left (c) e",
-        "b",
-        "c",
-        "both labels are in one list",
-    ),
-    (
-        r#"sum by (c) (a{b="1"})"#,
-        "b",
-        "c",
-        r#"sum by (c) (a{c="1"})"#,
-    ),
-    (r#"a{b="1"}"#, "b", "b", r#"a{b="1"}"#),
-    // The metric's name.
-    (
-        r#"a{b="1"}"#,
-        "b",
-        "__name__",
-        "the label of the metric name cannot be renamed",
-    ),
-    (
-        "a",
-        "__name__",
-        "b",
-        "the label of the metric name cannot be renamed",
-    ),
-];
+/// Each query with a label and its new name, and the line once it is renamed, or the message of the error. A metric of that name,
+/// and strings, are no labels. Labels clash in one node alone. The label of the metric's name stays.
+const LABEL_ROWS: &str = r#"a => b => c => a
+a{b="1"} => b => c => a{c="1"}
+a{b="1",d!="2"}[5m] => d => c => a{b="1",c!="2"}[5m]
+a{b="1" or b=~"2",d="3"} => b => c => a{c="1" or c=~"2", d="3"}
+sum by (b) (a) => b => c => sum by (c) (a)
+sum without (d, b) (a) => b => c => sum without (d, c) (a)
+a * on (b) group_left (d) e => d => c => a * on (b) group_left (c) e
+a * ignoring (b) group_right (d) e => b => c => a * ignoring (c) group_right (d) e
+topk(scalar(k{b="1"}), -(rate(a{b="2"}[5m:1m]))) => b => c => topk(scalar(k{c="1"}), -(rate(a{c="2"}[5m:1m])))
+b{b="b"} => b => c => b{c="b"}
+label_replace(a, "b", "$1", "b", ".*") => b => c => label_replace(a, "b", "$1", "b", ".*")
+a{b="1"} => b => c d => a{"c d"="1"}
+a{b="1",c="2"} => b => c => both labels are in one list
+a * on (b) group_left (c) e => b => c => both labels are in one list
+sum by (c) (a{b="1"}) => b => c => sum by (c) (a{c="1"})
+a{b="1"} => b => b => a{b="1"}
+a{b="1"} => b => __name__ => the label of the metric name cannot be renamed
+a => __name__ => b => the label of the metric name cannot be renamed"#;
 
 /// Each query with a metric and its new name, and the line once it is renamed, or the message of the error.
-const METRIC_ROWS: [(&str, &str, &str, &str); 12] = [
-    ("a", "a", "b", "b"),
-    ("a + c", "a", "b", "b + c"),
-    (r#"rate(a{a="a"}[5m])"#, "a", "b", r#"rate(b{a="a"}[5m])"#),
-    (r#"{__name__="a"}"#, "a", "b", r#"{__name__="b"}"#),
-    (
-        r#"{__name__="a" or c="a",__name__="a"}"#,
-        "a",
-        "b",
-        r#"{__name__="b" or c="a", __name__="b"}"#,
-    ),
-    (r#"{__name__=~"a"}"#, "a", "b", r#"{__name__=~"a"}"#),
-    (
-        r#"{__name__!="a",c="d"}"#,
-        "a",
-        "b",
-        r#"{__name__!="a",c="d"}"#,
-    ),
-    ("sum by (a) (a)", "a", "by", "sum by (a) (by)"),
-    ("a", "a", "b:c", "b:c"),
-    ("a", "a", "b.c", "the new name is no name of a metric"),
-    ("a", "a", "bool", "the new name is no name of a metric"),
-    ("a", "a", " b", "the new name is no name of a metric"),
-];
+const METRIC_ROWS: &str = r#"a => a => b => b
+a + c => a => b => b + c
+rate(a{a="a"}[5m]) => a => b => rate(b{a="a"}[5m])
+{__name__="a"} => a => b => {__name__="b"}
+{__name__="a" or c="a",__name__="a"} => a => b => {__name__="b" or c="a", __name__="b"}
+{__name__=~"a"} => a => b => {__name__=~"a"}
+{__name__!="a",c="d"} => a => b => {__name__!="a",c="d"}
+sum by (a) (a) => a => by => sum by (a) (by)
+a => a => b:c => b:c
+a => a => b.c => the new name is no name of a metric
+a => a => bool => the new name is no name of a metric
+a => a =>  b => the new name is no name of a metric"#;
 
 fn line_of(alloc: Global, expr: Expr) -> Result<String, AllocError> {
     let line = expr.to_string(alloc);
@@ -121,7 +60,7 @@ fn metric_message(alloc: Global, error: RenameMetricError) -> Result<String, All
     message
 }
 
-fn label_line(alloc: Global, query: &str, from: &str, to: &str) -> Result<String, Fail> {
+fn label_line(alloc: Global, query: &str, from: &str, to: &str) -> Result<String, Failed> {
     let expr = parse(alloc, query)?;
     match rename_label(alloc, expr, from, to) {
         Ok(expr) => Ok(line_of(alloc, expr)?),
@@ -129,7 +68,7 @@ fn label_line(alloc: Global, query: &str, from: &str, to: &str) -> Result<String
     }
 }
 
-fn metric_line(alloc: Global, query: &str, from: &str, to: &str) -> Result<String, Fail> {
+fn metric_line(alloc: Global, query: &str, from: &str, to: &str) -> Result<String, Failed> {
     let expr = parse(alloc, query)?;
     match rename_metric(alloc, expr, from, to) {
         Ok(expr) => Ok(line_of(alloc, expr)?),
@@ -138,23 +77,23 @@ fn metric_line(alloc: Global, query: &str, from: &str, to: &str) -> Result<Strin
 }
 
 #[test]
-fn labels_have_other_names(rt: HostRuntime) -> Result<(), Fail> {
-    let alloc = rt.alloc();
-    for (query, from, to, want) in LABEL_ROWS {
-        let line = label_line(alloc, query, from, to)?;
-        assert!(rt; line.as_str() == want, "{query}: {line}");
+fn labels_have_other_names(rt: HostRuntime) {
+    for row in LABEL_ROWS.split('\n') {
+        let (query, others) = columns(row);
+        let (from, others) = columns(others);
+        let (to, want) = columns(others);
+        prints(&rt, label_line(rt.alloc(), query, from, to), want);
     }
-    Ok(())
 }
 
 #[test]
-fn metrics_have_other_names(rt: HostRuntime) -> Result<(), Fail> {
-    let alloc = rt.alloc();
-    for (query, from, to, want) in METRIC_ROWS {
-        let line = metric_line(alloc, query, from, to)?;
-        assert!(rt; line.as_str() == want, "{query}: {line}");
+fn metrics_have_other_names(rt: HostRuntime) {
+    for row in METRIC_ROWS.split('\n') {
+        let (query, others) = columns(row);
+        let (from, others) = columns(others);
+        let (to, want) = columns(others);
+        prints(&rt, metric_line(rt.alloc(), query, from, to), want);
     }
-    Ok(())
 }
 
 /// A name of 10,000 letters.
@@ -166,16 +105,23 @@ fn long_name(alloc: Global) -> Result<String, AllocError> {
     Ok(name)
 }
 
-#[test]
-fn long_names_too(rt: HostRuntime) -> Result<(), Fail> {
-    let alloc = rt.alloc();
-    let name = long_name(alloc)?;
-    let name = name.as_str();
-    let metric = metric_line(alloc, name, name, "b")?;
-    assert!(rt; metric.as_str() == "b");
-    let metric = metric_line(alloc, "b", "b", name)?;
-    assert!(rt; metric.as_str() == name);
+/// Whether a label of this name is put in a query.
+fn is_label(alloc: Global, name: &str) -> Result<bool, Failed> {
     let label = label_line(alloc, "sum by (b) (a)", "b", name)?;
-    assert!(rt; label == format!(in alloc; "sum by ({name}) (a)")?);
-    Ok(())
+    Ok(label == format!(in alloc; "sum by ({name}) (a)")?)
+}
+
+/// Long names of metrics and labels.
+fn check_long_name(rt: &impl Abort, alloc: Global, name: &str) {
+    prints(rt, metric_line(alloc, name, name, "b"), "b");
+    prints(rt, metric_line(alloc, "b", "b", name), name);
+    is_so(rt, is_label(alloc, name), "a long label");
+}
+
+#[test]
+fn long_names_too(rt: HostRuntime) {
+    match long_name(rt.alloc()) {
+        Ok(name) => check_long_name(&rt, rt.alloc(), name.as_str()),
+        Err(_) => holds(&rt, false, "a long name"),
+    }
 }
