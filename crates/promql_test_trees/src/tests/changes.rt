@@ -1,8 +1,8 @@
 //! Visitors that change nodes, stop, and fail.
 
-use super::prints;
 use super::trees::{extension, is_read, read};
-use super::walks::{ENDED, Log, chain, log_up_to, sum};
+use super::walks::{ENDED, Log, TOPK, chain, log_up_to, sum};
+use super::{Failed, holds, is_so};
 use promql_ast::Expr;
 use promql_label::{MatchOp, Matcher, Matchers};
 use promql_parser::parser::parse;
@@ -10,7 +10,7 @@ use promql_text::Number;
 use promql_walk::{ExprVisitorMut, walk_expr_mut};
 use std::alloc::{AllocError, Global};
 use std::mem;
-use std::test::Fail;
+use std::process::Abort;
 
 /// Adds `env="prod"` to a selector, and stops there if it is to.
 #[derive(Drop)]
@@ -47,17 +47,23 @@ const ENFORCED: [(bool, &str); 2] = [
     (false, r#"ext(metric_a{env="prod"}, metric_b{env="prod"})"#),
 ];
 
+/// Whether the expression prints this text.
+fn is_printed(alloc: Global, expr: &Expr, text: &str) -> Result<bool, AllocError> {
+    Ok(expr.to_string(alloc)?.as_str() == text)
+}
+
+/// Whether the walk goes to its end unless it is to stop, and leaves this.
+fn is_enforced(alloc: Global, stops: bool, want: &str) -> Result<bool, Failed> {
+    let mut both = extension(alloc, &["metric_a", "metric_b"])?;
+    let end = walk_expr_mut(&mut Enforce { alloc, stops }, &mut both);
+    Ok(end == Ok(!stops) && is_printed(alloc, &both, want)?)
+}
+
 #[test]
-fn a_label_is_enforced(rt: HostRuntime) -> Result<(), Fail> {
-    let alloc = rt.alloc();
+fn a_label_is_enforced(rt: HostRuntime) {
     for (stops, want) in &ENFORCED {
-        let stops = *stops;
-        let mut both = extension(alloc, &["metric_a", "metric_b"])?;
-        let end = walk_expr_mut(&mut Enforce { alloc, stops }, &mut both);
-        assert!(rt; end == Ok(!stops));
-        prints(&rt, alloc, &*both, want)?;
+        is_so(&rt, is_enforced(rt.alloc(), *stops, want), want);
     }
-    Ok(())
 }
 
 /// Puts 0 in the place of a name, and fails at a text. Numbers become a text in parentheses, and the walk stops there.
@@ -95,15 +101,24 @@ const REPLACED: [(&str, &str, Result<bool, &str>, &str); 3] = [
     ("1", "b", Ok(false), "ext((\"high\"), b)"),
 ];
 
+/// Whether the walk over a node of these children ends so, and leaves this.
+fn is_replaced(
+    alloc: Global,
+    texts: &[&str],
+    end: Result<bool, &'static str>,
+    want: &str,
+) -> Result<bool, Failed> {
+    let mut node = extension(alloc, texts)?;
+    let found = walk_expr_mut(&mut Zero(alloc), &mut node);
+    Ok(found == end && is_printed(alloc, &node, want)?)
+}
+
 #[test]
-fn nodes_are_replaced(rt: HostRuntime) -> Result<(), Fail> {
-    let alloc = rt.alloc();
+fn nodes_are_replaced(rt: HostRuntime) {
     for (first, second, end, want) in &REPLACED {
-        let mut node = extension(alloc, &[first, second])?;
-        assert!(rt; walk_expr_mut(&mut Zero(alloc), &mut node) == *end);
-        prints(&rt, alloc, &*node, want)?;
+        let is_left = is_replaced(rt.alloc(), &[first, second], *end, want);
+        is_so(&rt, is_left, want);
     }
-    Ok(())
 }
 
 /// Puts each sum in parentheses, after its sides. Counts the nodes that are left to it.
@@ -144,20 +159,20 @@ const WRAPPED: [(&str, usize, bool, usize, &str); 2] = [
     ("sum(a + b)", 3, false, 0, "sum((a + b))"),
 ];
 
+/// Whether the walk of a row ends so, and leaves what it says.
+fn is_wrapped(alloc: Global, row: &(&str, usize, bool, usize, &str)) -> Result<bool, Failed> {
+    let (text, nodes, end, left, want) = *row;
+    let mut expr = read(alloc, text)?;
+    let mut wrap = Wrap { alloc, left: nodes };
+    let found = walk_expr_mut(&mut wrap, &mut expr);
+    Ok(found == Ok(end) && wrap.left == left && is_printed(alloc, &expr, want)?)
+}
+
 #[test]
-fn nodes_may_grow_after_their_children(rt: HostRuntime) -> Result<(), Fail> {
-    let alloc = rt.alloc();
-    for (text, nodes, end, left, want) in &WRAPPED {
-        let mut expr = read(alloc, text)?;
-        let mut wrap = Wrap {
-            alloc,
-            left: *nodes,
-        };
-        assert!(rt; walk_expr_mut(&mut wrap, &mut expr) == Ok(*end));
-        assert_eq!(rt; wrap.left, *left);
-        prints(&rt, alloc, &*expr, want)?;
+fn nodes_may_grow_after_their_children(rt: HostRuntime) {
+    for row in &WRAPPED {
+        is_so(&rt, is_wrapped(rt.alloc(), row), row.0);
     }
-    Ok(())
 }
 
 /// How many of 1,000 nodes are left after a walk to the end of the expression.
@@ -169,20 +184,24 @@ fn nodes_left(alloc: Global, expr: &mut Expr) -> usize {
     }
 }
 
-#[test]
-fn high_trees_without_a_sum_are_unchanged(rt: HostRuntime) -> Result<(), Fail> {
-    let mut expr = chain(rt.alloc())?;
-    assert_eq!(rt; nodes_left(rt.alloc(), &mut expr), 500);
-    assert!(rt; *expr == *chain(rt.alloc())?);
-    Ok(())
+/// Whether a high tree without a sum is left as it is.
+fn is_chain_left(alloc: Global) -> Result<bool, Failed> {
+    let mut expr = chain(alloc)?;
+    let left = nodes_left(alloc, &mut expr);
+    Ok(left == 500 && *expr == *chain(alloc)?)
+}
+
+/// Whether a high sum is in parentheses after a walk.
+fn is_sum_wrapped(alloc: Global) -> Result<bool, Failed> {
+    let mut expr = sum(alloc)?;
+    let left = nodes_left(alloc, &mut expr);
+    Ok(left == 1 && matches!(*expr, Expr::Paren(_)))
 }
 
 #[test]
-fn high_sums_are_changed(rt: HostRuntime) -> Result<(), Fail> {
-    let mut expr = sum(rt.alloc())?;
-    assert_eq!(rt; nodes_left(rt.alloc(), &mut expr), 1);
-    assert!(rt; matches!(*expr, Expr::Paren(_)));
-    Ok(())
+fn high_trees_are_changed_where_they_have_sums(rt: HostRuntime) {
+    is_so(&rt, is_chain_left(rt.alloc()), "parentheses");
+    is_so(&rt, is_sum_wrapped(rt.alloc()), "a sum");
 }
 
 /// Puts 0 in the place of each operator, and counts the calls.
@@ -210,14 +229,17 @@ impl ExprVisitorMut for Cut {
     }
 }
 
-#[test]
-fn what_was_replaced_is_not_walked(rt: HostRuntime) -> Result<(), Fail> {
-    let alloc = rt.alloc();
-    let mut expr = read(alloc, "topk(5, a) + b")?;
+/// Whether a walk that puts 0 in the place of the whole expression makes two calls.
+fn is_cut(alloc: Global) -> Result<bool, Failed> {
+    let mut expr = read(alloc, TOPK)?;
     let mut cut = Cut(0);
-    assert!(rt; walk_expr_mut(&mut cut, &mut expr) == Ok(true));
-    assert_eq!(rt; cut.0, 2);
-    prints(&rt, alloc, &*expr, "0")
+    let end = walk_expr_mut(&mut cut, &mut expr);
+    Ok(end == Ok(true) && cut.0 == 2 && is_printed(alloc, &expr, "0")?)
+}
+
+#[test]
+fn what_was_replaced_is_not_walked(rt: HostRuntime) {
+    is_so(&rt, is_cut(rt.alloc()), TOPK);
 }
 
 impl ExprVisitorMut for Log {
@@ -242,14 +264,19 @@ fn is_walked(log: Log, expr: &mut Expr, end: Result<bool, &'static str>, calls: 
     walk_expr_mut(&mut log, expr) == end && log.text.as_str() == calls
 }
 
-#[test]
-fn a_changing_walk_that_ends_leaves_the_expression(rt: HostRuntime) -> Result<(), Fail> {
-    let alloc = rt.alloc();
-    let mut expr = read(alloc, "topk(5, a) + b")?;
+/// Changing walks that end within the expression, and leave it.
+fn check_ended(rt: &impl Abort, alloc: Global, expr: &mut Expr) {
     for (last, fails, end, calls) in &ENDED {
         let log = log_up_to(alloc, *last, *fails);
-        assert!(rt; is_walked(log, &mut expr, *end, calls), "{calls}");
+        holds(rt, is_walked(log, expr, *end, calls), calls);
     }
-    assert!(rt; is_read(alloc, &expr, "topk(5, a) + b")?);
-    Ok(())
+    is_so(rt, is_read(alloc, expr, TOPK), TOPK);
+}
+
+#[test]
+fn a_changing_walk_that_ends_leaves_the_expression(rt: HostRuntime) {
+    match read(rt.alloc(), TOPK) {
+        Ok(mut expr) => check_ended(&rt, rt.alloc(), &mut expr),
+        Err(_) => holds(&rt, false, TOPK),
+    }
 }

@@ -1,39 +1,30 @@
 //! What the checks of a node say of children that its builder takes.
 
-use super::shows;
 use super::trees::{KINDS, arguments, is_kind, kind, name, new_box, operation};
+use super::{Failed, built_text, is_so, prints, shows};
 use promql_ast::{AggregateExpr, CheckError, Expr, FunctionArgs};
 use promql_kind::{BinModifier, Function, ValueType, VectorMatchCardinality};
 use promql_token::ids::{T_ADD, T_LAND, T_NUMBER, T_TOPK};
 use promql_token::{TokenId, TokenType};
 use std::alloc::Global;
-use std::process::Abort;
-use std::test::Fail;
 
-/// The check accepts what was built, which prints this text, or rejects it with this message.
-fn checks(
-    rt: &impl Abort,
-    alloc: Global,
-    built: Result<Expr, CheckError>,
-    want: &str,
-) -> Result<(), Fail> {
-    shows(rt, alloc, Expr::checked(alloc, built?), want)
+/// What was built, which the check accepts, as it prints; or the message of the check.
+fn checked_text(alloc: Global, built: Result<Expr, CheckError>) -> Result<String, Failed> {
+    Ok(built_text(alloc, Expr::checked(alloc, built?))?)
 }
 
-/// The node of one of the kinds, as it is after its check.
-fn checked_kind(alloc: Global, text: &str) -> Result<Box<Expr>, Fail> {
+/// Whether the node of one of the kinds passes its check, and is what it was.
+fn is_checked(alloc: Global, text: &str) -> Result<bool, Failed> {
     let expr = Box::into_inner(kind(alloc, text)?);
-    Ok(new_box(alloc, Expr::checked(alloc, expr)?)?)
+    let checked = new_box(alloc, Expr::checked(alloc, expr)?)?;
+    is_kind(alloc, &checked, text)
 }
 
 #[test]
-fn well_typed_nodes_pass(rt: HostRuntime) -> Result<(), Fail> {
-    let alloc = rt.alloc();
+fn well_typed_nodes_pass(rt: HostRuntime) {
     for text in &KINDS {
-        let expr = checked_kind(alloc, text)?;
-        assert!(rt; is_kind(alloc, &expr, text)?, "{text}");
+        is_so(&rt, is_checked(rt.alloc(), text), text);
     }
-    Ok(())
 }
 
 /// An aggregation of `a` with this token in place of the aggregator.
@@ -43,20 +34,14 @@ fn aggregated(alloc: Global, op: TokenId) -> Result<Expr, CheckError> {
 }
 
 #[test]
-fn other_tokens_are_rejected(rt: HostRuntime) -> Result<(), Fail> {
+fn other_tokens_are_rejected(rt: HostRuntime) {
     let alloc = rt.alloc();
-    checks(
-        &rt,
-        alloc,
-        operation(alloc, T_NUMBER, None),
-        "binary expression does not support operator '{Num}'",
-    )?;
-    checks(
-        &rt,
-        alloc,
-        aggregated(alloc, T_ADD),
-        "aggregation operator expected in aggregation expression but got '+'",
-    )
+    let number = checked_text(alloc, operation(alloc, T_NUMBER, None));
+    let message = "binary expression does not support operator '{Num}'";
+    prints(&rt, number, message);
+    let plus = checked_text(alloc, aggregated(alloc, T_ADD));
+    let message = "aggregation operator expected in aggregation expression but got '+'";
+    prints(&rt, plus, message);
 }
 
 /// `a and b` that matches many with many.
@@ -70,17 +55,17 @@ fn checked_and(alloc: Global) -> Result<Expr, CheckError> {
     Expr::checked(alloc, operation(alloc, T_LAND, None)?)
 }
 
-#[test]
-fn set_operators_match_many_to_many(rt: HostRuntime) -> Result<(), Fail> {
-    let alloc = rt.alloc();
+/// Whether the check makes `a and b` match many with many.
+fn is_many_to_many(alloc: Global) -> Result<bool, CheckError> {
     let expr = new_box(alloc, checked_and(alloc)?)?;
-    assert!(rt; *expr == *many_to_many(alloc)?);
-    Ok(())
+    Ok(*expr == *many_to_many(alloc)?)
 }
 
 #[test]
-fn set_operators_print_no_modifier(rt: HostRuntime) -> Result<(), Fail> {
-    shows(&rt, rt.alloc(), checked_and(rt.alloc()), "a and b")
+fn set_operators_match_many_to_many(rt: HostRuntime) {
+    let alloc = rt.alloc();
+    is_so(&rt, is_many_to_many(alloc), "a and b");
+    shows(&rt, alloc, checked_and(alloc), "a and b");
 }
 
 /// `topk` without its parameter.
@@ -95,14 +80,10 @@ fn without_parameter(alloc: Global) -> Result<Expr, CheckError> {
 }
 
 #[test]
-fn aggregations_need_their_parameter(rt: HostRuntime) -> Result<(), Fail> {
-    let alloc = rt.alloc();
-    checks(
-        &rt,
-        alloc,
-        without_parameter(alloc),
-        "expected type scalar in aggregation expression, got None",
-    )
+fn aggregations_need_their_parameter(rt: HostRuntime) {
+    let topk = checked_text(rt.alloc(), without_parameter(rt.alloc()));
+    let message = "expected type scalar in aggregation expression, got None";
+    prints(&rt, topk, message);
 }
 
 /// The call of a function made by hand that takes no argument, and so many more, with these, and what its check says.
@@ -115,13 +96,16 @@ const MADE_BY_HAND: [(i32, &[&str], &str); 2] = [
     ),
 ];
 
+/// The call of `f`, or what its check says.
+fn call_text(alloc: Global, variadic: i32, texts: &[&str]) -> Result<String, Failed> {
+    let args = arguments(alloc, texts)?;
+    let function = Function::new("f", Vec::new(alloc), variadic, ValueType::Vector, false);
+    checked_text(alloc, Ok(Expr::new_call(function, args)))
+}
+
 #[test]
-fn functions_made_by_hand_are_checked(rt: HostRuntime) -> Result<(), Fail> {
-    let alloc = rt.alloc();
+fn functions_made_by_hand_are_checked(rt: HostRuntime) {
     for (variadic, texts, want) in &MADE_BY_HAND {
-        let args = arguments(alloc, texts)?;
-        let function = Function::new("f", Vec::new(alloc), *variadic, ValueType::Vector, false);
-        checks(&rt, alloc, Ok(Expr::new_call(function, args)), want)?;
+        prints(&rt, call_text(rt.alloc(), *variadic, texts), want);
     }
-    Ok(())
 }

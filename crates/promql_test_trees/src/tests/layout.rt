@@ -2,15 +2,14 @@
 
 ghost use Rattle.std.specs.Prelude.{◌≡◌, IfOk, Some, codes, refl, string_bytes};
 
-use super::prints;
 use super::trees::{EXTENSION, KINDS, arguments, is_read, kind, read};
+use super::{Failed, holds, is_so, prints};
 use promql_ast::{Expr, FunctionArgs, Prettier, PrettyError, Tally};
-use promql_parser::parser::{EvalStmt, parse};
+use promql_parser::parser::{EvalStmt, ParseError, parse};
 use promql_text::{minute_duration, second_duration};
 use std::alloc::Global;
 use std::fmt;
 use std::process::Abort;
-use std::test::Fail;
 
 /// An expression that is split in lines of 17 bytes, and not in lines of 18.
 const SHARE: &str = "sum by (b) (a) / c";
@@ -114,27 +113,17 @@ const LEAVES: [(&str, &str); 4] = [
     ("a[5m] anchored offset 1m", "  a[5m] anchored offset 1m"),
 ];
 
-/// The value was laid out as this text.
-fn check_layout(
-    rt: &impl Abort,
-    laid: Result<String, PrettyError>,
-    want: &str,
-) -> Result<(), Fail> {
-    assert_eq!(rt; laid?.as_str(), want);
-    Ok(())
-}
-
-fn check<T: Prettier>(rt: &impl Abort, alloc: Global, value: &T, row: &Row) -> Result<(), Fail> {
-    check_layout(rt, value.pretty(alloc, 1, row.max), row.split)?;
-    check_layout(rt, value.pretty(alloc, 1, 100), row.line)?;
-    check_layout(rt, value.format(alloc, 1, 100), row.format)?;
-    assert!(rt; !value.needs_split(row.fits));
-    assert!(rt; row.fits == 0 || value.needs_split(row.fits - 1));
-    Ok(())
+fn check<T: Prettier>(rt: &impl Abort, alloc: Global, value: &T, row: &Row) {
+    prints(rt, value.pretty(alloc, 1, row.max), row.split);
+    prints(rt, value.pretty(alloc, 1, 100), row.line);
+    prints(rt, value.format(alloc, 1, 100), row.format);
+    holds(rt, !value.needs_split(row.fits), row.line);
+    let is_least = row.fits == 0 || value.needs_split(row.fits - 1);
+    holds(rt, is_least, row.line);
 }
 
 /// The node of an expression, as a value of its own.
-fn check_node(rt: &impl Abort, alloc: Global, expr: &Expr, row: &Row) -> Result<(), Fail> {
+fn check_node(rt: &impl Abort, alloc: Global, expr: &Expr, row: &Row) {
     match expr {
         Expr::Aggregate(e) => check(rt, alloc, e, row),
         Expr::Unary(e) => check(rt, alloc, e, row),
@@ -146,24 +135,26 @@ fn check_node(rt: &impl Abort, alloc: Global, expr: &Expr, row: &Row) -> Result<
         Expr::VectorSelector(e) => check(rt, alloc, e, row),
         Expr::MatrixSelector(e) => check(rt, alloc, e, row),
         Expr::Call(e) => check(rt, alloc, e, row),
-        Expr::Extension(_) => Ok(()),
+        Expr::Extension(_) => holds(rt, false, "an extension"),
     }
 }
 
 /// The node of a text, as a value of its own.
-fn check_text(rt: &impl Abort, alloc: Global, text: &str, row: &Row) -> Result<(), Fail> {
-    check_node(rt, alloc, &*read(alloc, text)?, row)
+fn check_text(rt: &impl Abort, alloc: Global, text: &str, row: &Row) {
+    match read(alloc, text) {
+        Ok(expr) => check_node(rt, alloc, &expr, row),
+        Err(_) => holds(rt, false, text),
+    }
 }
 
 #[test]
-fn each_node_by_itself(rt: HostRuntime) -> Result<(), Fail> {
+fn each_node_by_itself(rt: HostRuntime) {
     for (text, row) in &NODES {
-        check_text(&rt, rt.alloc(), text, row)?;
+        check_text(&rt, rt.alloc(), text, row);
     }
     for (text, line) in &LEAVES {
-        check_text(&rt, rt.alloc(), text, &Row::leaf(line))?;
+        check_text(&rt, rt.alloc(), text, &Row::leaf(line));
     }
-    Ok(())
 }
 
 /// `1, (a), 2`
@@ -176,33 +167,39 @@ const ARGUMENTS: Row = Row {
 };
 
 #[test]
-fn arguments_have_a_line_each(rt: HostRuntime) -> Result<(), Fail> {
-    let alloc = rt.alloc();
-    let args = arguments(alloc, &["1", "(a)", "2"])?;
-    check(&rt, alloc, &args, &ARGUMENTS)
+fn arguments_have_a_line_each(rt: HostRuntime) {
+    match arguments(rt.alloc(), &["1", "(a)", "2"]) {
+        Ok(args) => check(&rt, rt.alloc(), &args, &ARGUMENTS),
+        Err(_) => holds(&rt, false, "1, (a), 2"),
+    }
 }
 
 #[test]
-fn no_arguments_have_no_line(rt: HostRuntime) -> Result<(), Fail> {
+fn no_arguments_have_no_line(rt: HostRuntime) {
     let alloc = rt.alloc();
     let none = FunctionArgs::empty_args(alloc);
-    check_layout(&rt, none.pretty(alloc, 1, 0), "")?;
-    check_layout(&rt, none.format(alloc, 1, 0), "  ")
+    prints(&rt, none.pretty(alloc, 1, 0), "");
+    prints(&rt, none.format(alloc, 1, 0), "  ");
+}
+
+/// The expression is laid out on this line, and formatted as it is.
+fn check_kept(rt: &impl Abort, alloc: Global, expr: &Expr, line: &str) {
+    prints(rt, expr.pretty(alloc, 0, line.len()), line);
+    prints(rt, expr.format(alloc, 0, 0), line);
 }
 
 #[test]
-fn a_line_that_fits_is_kept(rt: HostRuntime) -> Result<(), Fail> {
-    let alloc = rt.alloc();
+fn a_line_that_fits_is_kept(rt: HostRuntime) {
     for line in &KINDS {
-        let expr = kind(alloc, line)?;
-        check_layout(&rt, expr.pretty(alloc, 0, line.len()), line)?;
-        check_layout(&rt, expr.format(alloc, 0, 0), line)?;
+        match kind(rt.alloc(), line) {
+            Ok(expr) => check_kept(&rt, rt.alloc(), &expr, line),
+            Err(_) => holds(&rt, false, line),
+        }
     }
-    Ok(())
 }
 
 /// `a` at each 15 seconds from the first time to the last.
-pub fn statement(alloc: Global, start: i64, end: i64) -> Result<Box<EvalStmt>, Fail> {
+pub fn statement(alloc: Global, start: i64, end: i64) -> Result<Box<EvalStmt>, Failed> {
     let statement = EvalStmt {
         expr: parse(alloc, "a")?,
         start,
@@ -229,24 +226,27 @@ const STATEMENTS: [(i64, i64, &str); 4] = [
     ),
 ];
 
-#[test]
-fn statements_print_their_times(rt: HostRuntime) -> Result<(), Fail> {
-    let alloc = rt.alloc();
-    for (start, end, text) in &STATEMENTS {
-        prints(&rt, alloc, &*statement(alloc, *start, *end)?, text)?;
-    }
-    Ok(())
+/// How a statement prints.
+fn statement_text(alloc: Global, start: i64, end: i64) -> Result<String, Failed> {
+    Ok(statement(alloc, start, end)?.to_string(alloc)?)
+}
+
+/// How the copy of a statement prints.
+fn copy_text(alloc: Global, start: i64, end: i64) -> Result<String, Failed> {
+    let copy = Box::new(alloc, statement(alloc, start, end)?.try_clone(alloc)?)?;
+    Ok(copy.to_string(alloc)?)
 }
 
 #[test]
-fn copies_of_statements_print_alike(rt: HostRuntime) -> Result<(), Fail> {
-    let alloc = rt.alloc();
-    let copy = Box::new(alloc, statement(alloc, 0, 1500)?.try_clone(alloc)?)?;
-    prints(&rt, alloc, &*copy, "[a] @ [0.000, 1.500, 15s, 5m]")
+fn statements_and_their_copies_print_their_times(rt: HostRuntime) {
+    for (start, end, text) in &STATEMENTS {
+        prints(&rt, statement_text(rt.alloc(), *start, *end), text);
+        prints(&rt, copy_text(rt.alloc(), *start, *end), text);
+    }
 }
 
 /// A sum of 512 ones.
-fn ones(alloc: Global) -> Result<Box<Expr>, Fail> {
+fn ones(alloc: Global) -> Result<Box<Expr>, Failed> {
     let mut text = String::from_str(alloc, "1")?;
     for _ in 1..512 {
         text.push_str("+1")?;
@@ -254,34 +254,30 @@ fn ones(alloc: Global) -> Result<Box<Expr>, Fail> {
     Ok(read(alloc, text.as_str())?)
 }
 
-/// The layout of the expression in lines of `max` bytes has more bytes than this, and takes so many widths.
-fn check_widths(
-    rt: &impl Abort,
+/// Whether the layout of the expression in lines of `max` bytes has more bytes than the least, and takes so many widths.
+fn has_widths(
     alloc: Global,
-    expr: &Expr,
+    expr: Result<Box<Expr>, Failed>,
     max: usize,
     widths: usize,
     least: usize,
-) -> Result<(), Fail> {
+) -> Result<bool, Failed> {
+    let expr = expr?;
     let mut tally = Tally::default();
     let laid = expr.pretty_counted(alloc, 0, max, &mut tally)?;
-    assert_eq!(rt; tally.widths(), widths);
-    assert!(rt; laid.as_str().len() > least);
-    assert!(rt; laid == expr.pretty(alloc, 0, max)?);
-    Ok(())
+    let is_counted = tally.widths() == widths && laid.as_str().len() > least;
+    Ok(is_counted && laid == expr.pretty(alloc, 0, max)?)
 }
 
 #[test]
-fn each_node_has_one_width(rt: HostRuntime) -> Result<(), Fail> {
+fn each_node_has_one_width(rt: HostRuntime) {
+    let alloc = rt.alloc();
     for max in [0, 10] {
-        check_widths(&rt, rt.alloc(), &*read(rt.alloc(), SHARE)?, max, 4, 20)?;
+        let is_one = has_widths(alloc, kind(alloc, SHARE), max, 4, 20);
+        is_so(&rt, is_one, SHARE);
     }
-    Ok(())
-}
-
-#[test]
-fn each_node_of_a_long_sum_has_one_width(rt: HostRuntime) -> Result<(), Fail> {
-    check_widths(&rt, rt.alloc(), &*ones(rt.alloc())?, 0, 1023, 100_000)
+    let is_one = has_widths(alloc, ones(alloc), 0, 1023, 100_000);
+    is_so(&rt, is_one, "a long sum");
 }
 
 /// Whether a layout failed since its indentation is wider than a `usize` counts.
@@ -289,30 +285,28 @@ fn is_too_wide(laid: &Result<String, PrettyError>) -> bool {
     matches!(laid, Err(PrettyError::IndentTooWide))
 }
 
+/// Whether the greatest indentation is rejected, and leaves the expression.
+fn is_rejected_and_left(alloc: Global, text: &str) -> Result<bool, ParseError> {
+    let expr = read(alloc, text)?;
+    let is_rejected = is_too_wide(&expr.pretty(alloc, usize::MAX, 0));
+    Ok(is_rejected && is_read(alloc, &expr, text)?)
+}
+
 #[test]
-fn too_wide_indentations_are_rejected(rt: HostRuntime) -> Result<(), Fail> {
-    let alloc = rt.alloc();
+fn too_wide_indentations_are_rejected(rt: HostRuntime) {
     for text in [SHARE, "1"] {
-        let expr = read(alloc, text)?;
-        assert!(rt; is_too_wide(&expr.pretty(alloc, usize::MAX, 0)));
+        is_so(&rt, is_rejected_and_left(rt.alloc(), text), text);
     }
-    Ok(())
+}
+
+/// The extension at the greatest indentation.
+fn extension_laid_out(alloc: Global) -> Result<String, Failed> {
+    Ok(kind(alloc, EXTENSION)?.pretty(alloc, usize::MAX, 0)?)
 }
 
 #[test]
-fn a_failed_layout_leaves_the_expression(rt: HostRuntime) -> Result<(), Fail> {
-    let alloc = rt.alloc();
-    let expr = read(alloc, SHARE)?;
-    assert!(rt; is_too_wide(&expr.pretty(alloc, usize::MAX, 0)));
-    assert!(rt; is_read(alloc, &expr, SHARE)?);
-    Ok(())
-}
-
-#[test]
-fn an_extension_is_not_indented(rt: HostRuntime) -> Result<(), Fail> {
-    let alloc = rt.alloc();
-    let laid = kind(alloc, EXTENSION)?.pretty(alloc, usize::MAX, 0);
-    check_layout(&rt, laid, EXTENSION)
+fn an_extension_is_not_indented(rt: HostRuntime) {
+    prints(&rt, extension_laid_out(rt.alloc()), EXTENSION);
 }
 
 /// A type that has its one line and nothing of its own for a layout.
@@ -336,33 +330,36 @@ impl Prettier for Note<'_> {
 }
 
 #[test]
-fn a_type_without_bodies_is_one_line(rt: HostRuntime) -> Result<(), Fail> {
+fn a_type_without_bodies_is_one_line(rt: HostRuntime) {
     let alloc = rt.alloc();
     let long = Note {
         text: "demo_again.",
     };
-    assert!(rt; long.needs_split(10));
-    check_layout(&rt, long.pretty(alloc, 1, 10), "  demo_again.")?;
-    check_layout(&rt, long.format(alloc, 1, 10), "  demo_again.")?;
+    holds(&rt, long.needs_split(10), "demo_again.");
+    prints(&rt, long.pretty(alloc, 1, 10), "  demo_again.");
+    prints(&rt, long.format(alloc, 1, 10), "  demo_again.");
     let short = Note { text: "demo" };
-    assert!(rt; !short.needs_split(10));
-    check_layout(&rt, short.pretty(alloc, 1, 10), "  demo")
+    holds(&rt, !short.needs_split(10), "demo");
+    prints(&rt, short.pretty(alloc, 1, 10), "  demo");
+}
+
+/// Whether a line of so many bytes is split at each width below that and at none above, and is its own layout.
+fn is_split_below(alloc: Global, len: usize) -> Result<bool, Failed> {
+    let line = "x".repeat(alloc, len)?;
+    let note = Note {
+        text: line.as_str(),
+    };
+    let is_split = note.needs_split(0) && note.needs_split(len.saturating_sub(1));
+    let fits = !note.needs_split(len) && !note.needs_split(usize::MAX);
+    Ok(is_split && fits && note.pretty(alloc, 0, 0)? == line)
 }
 
 /// The default `needs_split` at each width around a line, as long as any that it counts.
 #[test]
-fn a_line_of_any_length_is_split(rt: HostRuntime) -> Result<(), Fail> {
-    let alloc = rt.alloc();
+fn a_line_of_any_length_is_split(rt: HostRuntime) {
     for len in [1usize, 2, 999, 1_000, 1_001, 4_096, 70_000] {
-        let line = "x".repeat(alloc, len)?;
-        let note = Note {
-            text: line.as_str(),
-        };
-        assert!(rt; note.needs_split(0) && note.needs_split(len.saturating_sub(1)));
-        assert!(rt; !note.needs_split(len) && !note.needs_split(usize::MAX));
-        check_layout(&rt, note.pretty(alloc, 0, 0), line.as_str())?;
+        is_so(&rt, is_split_below(rt.alloc(), len), "a line");
     }
-    Ok(())
 }
 
 /// A type with a form of its own over several lines, and the bodies of the trait for all else.
@@ -390,15 +387,14 @@ impl Prettier for Pair {
 }
 
 #[test]
-fn a_line_that_fits_has_no_other_form(rt: HostRuntime) -> Result<(), Fail> {
+fn a_line_that_fits_has_no_other_form(rt: HostRuntime) {
     let alloc = rt.alloc();
     for max in [0usize, 1, 11] {
-        assert!(rt; Pair.needs_split(max));
-        check_layout(&rt, Pair.pretty(alloc, 1, max), "first\nsecond")?;
+        holds(&rt, Pair.needs_split(max), "split");
+        prints(&rt, Pair.pretty(alloc, 1, max), "first\nsecond");
     }
     for max in [12usize, 13, 1_000, usize::MAX] {
-        assert!(rt; !Pair.needs_split(max));
-        check_layout(&rt, Pair.pretty(alloc, 1, max), "  first second")?;
+        holds(&rt, !Pair.needs_split(max), "not split");
+        prints(&rt, Pair.pretty(alloc, 1, max), "  first second");
     }
-    Ok(())
 }

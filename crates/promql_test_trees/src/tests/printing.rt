@@ -1,51 +1,43 @@
 //! One-line texts, copies and equality.
 
 use super::trees::{KINDS, is_kind, is_read, kind, new_box, read};
-use super::{prints, shows};
+use super::{Failed, answers, built_text, is_so, prints, shows};
 use promql_ast::{CheckError, Expr, VectorSelector};
 use promql_label::Matchers;
 use promql_parser::parser::{ParseError, parse};
-use std::alloc::Global;
-use std::process::Abort;
-use std::test::Fail;
+use std::alloc::{AllocError, Global};
 
-/// The copy is the expression, and both print this text.
-fn check_copy(
-    rt: &impl Abort,
-    alloc: Global,
-    expr: &Expr,
-    copy: &Expr,
-    text: &str,
-) -> Result<(), Fail> {
-    assert!(rt; *copy == *expr, "{text}");
-    prints(rt, alloc, expr, text)?;
-    prints(rt, alloc, copy, text)
+/// Whether the expression prints this text.
+fn is_printed(alloc: Global, expr: &Expr, text: &str) -> Result<bool, AllocError> {
+    Ok(expr.to_string(alloc)?.as_str() == text)
 }
 
-fn check_kind(rt: &impl Abort, alloc: Global, text: &str) -> Result<(), Fail> {
+/// Whether the copy of a kind is the kind, and both print this text.
+fn is_copied(alloc: Global, text: &str) -> Result<bool, Failed> {
     let expr = kind(alloc, text)?;
     let copy = new_box(alloc, expr.try_clone(alloc)?)?;
-    check_copy(rt, alloc, &expr, &copy, text)
+    Ok(*copy == *expr && is_printed(alloc, &expr, text)? && is_printed(alloc, &copy, text)?)
 }
 
 #[test]
-fn copies_are_equal_and_print_alike(rt: HostRuntime) -> Result<(), Fail> {
+fn copies_are_equal_and_print_alike(rt: HostRuntime) {
     for text in &KINDS {
-        check_kind(&rt, rt.alloc(), text)?;
+        is_so(&rt, is_copied(rt.alloc(), text), text);
     }
-    Ok(())
+}
+
+/// Whether both texts are of one kind.
+fn is_one_kind(alloc: Global, one: &str, other: &str) -> Result<bool, Failed> {
+    is_kind(alloc, &*kind(alloc, one)?, other)
 }
 
 #[test]
-fn kinds_are_not_equal(rt: HostRuntime) -> Result<(), Fail> {
+fn kinds_are_not_equal(rt: HostRuntime) {
     for (i, one) in KINDS.iter().enumerate() {
-        let expr = kind(rt.alloc(), one)?;
         for (j, other) in KINDS.iter().enumerate() {
-            let is_same = is_kind(rt.alloc(), &expr, other)?;
-            assert_eq!(rt; is_same, i == j, "{one} and {other}");
+            answers(&rt, is_one_kind(rt.alloc(), one, other), i == j, one);
         }
     }
-    Ok(())
 }
 
 /// Selectors that differ in one part.
@@ -64,20 +56,18 @@ fn is_same(alloc: Global, one: &str, other: &str) -> Result<bool, ParseError> {
     is_read(alloc, &*read(alloc, one)?, other)
 }
 
-#[test]
-fn each_part_tells_selectors_apart(rt: HostRuntime) -> Result<(), Fail> {
-    for (one, other) in &DIFFERENT {
-        assert!(rt; !is_same(rt.alloc(), one, other)?, "{one} and {other}");
-    }
-    Ok(())
+/// Whether a selector without a name is that of a text.
+fn is_nameless(alloc: Global, text: &str) -> Result<bool, ParseError> {
+    let nameless = new_box(alloc, Expr::from(VectorSelector::empty(alloc)))?;
+    is_read(alloc, &nameless, text)
 }
 
 #[test]
-fn a_name_tells_selectors_apart(rt: HostRuntime) -> Result<(), Fail> {
-    let alloc = rt.alloc();
-    let nameless = new_box(alloc, Expr::from(VectorSelector::empty(alloc)))?;
-    assert!(rt; !is_read(alloc, &nameless, "a")?);
-    Ok(())
+fn each_part_tells_selectors_apart(rt: HostRuntime) {
+    for (one, other) in &DIFFERENT {
+        answers(&rt, is_same(rt.alloc(), one, other), false, other);
+    }
+    answers(&rt, is_nameless(rt.alloc(), "a"), false, "a");
 }
 
 /// `a` with an empty group of matchers.
@@ -88,19 +78,27 @@ fn of_empty_group(alloc: Global) -> Result<Expr, CheckError> {
 }
 
 #[test]
-fn an_empty_group_is_not_printed(rt: HostRuntime) -> Result<(), Fail> {
+fn an_empty_group_is_not_printed(rt: HostRuntime) {
     let alloc = rt.alloc();
-    shows(&rt, alloc, of_empty_group(alloc), "a")
+    shows(&rt, alloc, of_empty_group(alloc), "a");
+}
+
+/// The expression of a text under a minus sign.
+fn under_minus(alloc: Global, text: &str) -> Result<String, Failed> {
+    let expr = Expr::new_unary_expr(alloc, parse(alloc, text)?);
+    Ok(built_text(alloc, expr)?)
+}
+
+/// The selector of a name, negated.
+fn negated_selector(alloc: Global, name: &str) -> Result<String, AllocError> {
+    let selector = VectorSelector::of_str(alloc, name)?.negated(alloc)?;
+    selector.to_string(alloc)
 }
 
 #[test]
-fn powers_and_selectors_are_negated(rt: HostRuntime) -> Result<(), Fail> {
-    let alloc = rt.alloc();
-    let power = parse(alloc, "5 ^ 2")?;
-    shows(&rt, alloc, Expr::new_unary_expr(alloc, power), "-5 ^ 2")?;
-    let selector = VectorSelector::of_str(alloc, "a")?.negated(alloc)?;
-    assert_eq!(rt; selector.to_string(alloc)?.as_str(), "-a");
-    Ok(())
+fn powers_and_selectors_are_negated(rt: HostRuntime) {
+    prints(&rt, under_minus(rt.alloc(), "5 ^ 2"), "-5 ^ 2");
+    prints(&rt, negated_selector(rt.alloc(), "a"), "-a");
 }
 
 /// Texts of trees that are not normal, with the lines that they print.
@@ -124,19 +122,21 @@ fn is_normal_form(alloc: Global, text: &str, line: &str) -> Result<bool, ParseEr
 }
 
 #[test]
-fn normal_forms_are_read_of_printed_lines(rt: HostRuntime) -> Result<(), Fail> {
+fn normal_forms_are_read_of_printed_lines(rt: HostRuntime) {
     for (text, line) in &NOT_NORMAL {
-        assert!(rt; is_normal_form(rt.alloc(), text, line)?, "{text}");
-        assert!(rt; !is_same(rt.alloc(), text, line)?, "{text}");
+        is_so(&rt, is_normal_form(rt.alloc(), text, line), text);
+        answers(&rt, is_same(rt.alloc(), text, line), false, text);
     }
-    Ok(())
+}
+
+/// The fields of a text's tree.
+fn fields(alloc: Global, text: &str) -> Result<String, Failed> {
+    let expr = read(alloc, text)?;
+    Ok(format!(in alloc; "{:?}", *expr)?)
 }
 
 #[test]
-fn trees_are_shown_field_by_field(rt: HostRuntime) -> Result<(), Fail> {
-    let expr = read(rt.alloc(), r#"("a")"#)?;
-    let display_text = format!(in rt.alloc(); "{:?}", *expr)?;
+fn trees_are_shown_field_by_field(rt: HostRuntime) {
     let want = r#"Paren(ParenExpr { expr: StringLiteral(StringLiteral { val: "a" }) })"#;
-    assert_eq!(rt; display_text.as_str(), want);
-    Ok(())
+    prints(&rt, fields(rt.alloc(), r#"("a")"#), want);
 }

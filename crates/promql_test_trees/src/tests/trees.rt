@@ -3,6 +3,7 @@
 //! A tree that a test looks at is in a box. Where a function ends, the drop of a box is one step of its proof, and the drop
 //! of an expression is one for each kind of node.
 
+use super::Failed;
 use promql_ast::{
     AtModifier, CheckError, Expr, Extension, FunctionArgs, Offset, RangeMode, VectorSelector,
 };
@@ -15,7 +16,6 @@ use promql_text::{Number, minute_duration, parse_str_radix};
 use promql_token::TokenId;
 use promql_token::ids::{T_ADD, T_TOPK};
 use std::alloc::{AllocError, Global};
-use std::test::Fail;
 
 /// How each kind of node prints. The last one is of no text.
 pub const KINDS: [&str; 12] = [
@@ -47,7 +47,7 @@ pub fn read(alloc: Global, text: &str) -> Result<Box<Expr>, ParseError> {
 }
 
 /// The node of one of the kinds.
-pub fn kind(alloc: Global, text: &str) -> Result<Box<Expr>, Fail> {
+pub fn kind(alloc: Global, text: &str) -> Result<Box<Expr>, Failed> {
     if text == EXTENSION {
         return extension(alloc, &["a", "2"]);
     }
@@ -60,7 +60,7 @@ pub fn is_read(alloc: Global, expr: &Expr, text: &str) -> Result<bool, ParseErro
 }
 
 /// Whether the expression is the node of this kind.
-pub fn is_kind(alloc: Global, expr: &Expr, text: &str) -> Result<bool, Fail> {
+pub fn is_kind(alloc: Global, expr: &Expr, text: &str) -> Result<bool, Failed> {
     Ok(*kind(alloc, text)? == *expr)
 }
 
@@ -73,7 +73,7 @@ pub fn is_copy<T: PartialEq + Drop>(
 }
 
 /// The trees of texts.
-fn read_each(alloc: Global, texts: &[&str]) -> Result<Vec<Expr>, Fail> {
+fn read_each(alloc: Global, texts: &[&str]) -> Result<Vec<Expr>, Failed> {
     let mut trees = Vec::new(alloc);
     for text in texts {
         trees.push(parse(alloc, text)?)?;
@@ -82,7 +82,7 @@ fn read_each(alloc: Global, texts: &[&str]) -> Result<Vec<Expr>, Fail> {
 }
 
 /// `ext(TEXTS)`, which no text gives.
-pub fn extension(alloc: Global, texts: &[&str]) -> Result<Box<Expr>, Fail> {
+pub fn extension(alloc: Global, texts: &[&str]) -> Result<Box<Expr>, Failed> {
     let children = read_each(alloc, texts)?;
     Ok(new_box(alloc, extension_of(alloc, children)?)?)
 }
@@ -98,7 +98,7 @@ fn extension_of(alloc: Global, children: Vec<Expr>) -> Result<Expr, CheckError> 
 }
 
 /// The arguments of these texts.
-pub fn arguments(alloc: Global, texts: &[&str]) -> Result<FunctionArgs, Fail> {
+pub fn arguments(alloc: Global, texts: &[&str]) -> Result<FunctionArgs, Failed> {
     let mut args = Vec::new(alloc);
     for text in texts {
         args.push(read(alloc, text)?)?;

@@ -1,15 +1,16 @@
 //! The order of a walk, and where it ends.
 
 use super::trees::{extension, is_read, read};
+use super::{Failed, answers, holds, is_so};
 use promql_ast::Expr;
 use promql_label::{MatchOp, Matchers};
 use promql_walk::{ExprVisitor, walk_expr};
 use std::alloc::{AllocError, Global};
 use std::fmt::Write;
-use std::test::Fail;
+use std::process::Abort;
 
 /// 499 pairs of parentheses round a number: 500 nodes, one below the other.
-pub fn chain(alloc: Global) -> Result<Box<Expr>, Fail> {
+pub fn chain(alloc: Global) -> Result<Box<Expr>, Failed> {
     let mut text = String::new(alloc);
     for _ in 0..499 {
         text.push_str("(")?;
@@ -22,7 +23,7 @@ pub fn chain(alloc: Global) -> Result<Box<Expr>, Fail> {
 }
 
 /// A sum of 500 numbers, from left to right.
-pub fn sum(alloc: Global) -> Result<Box<Expr>, Fail> {
+pub fn sum(alloc: Global) -> Result<Box<Expr>, Failed> {
     let mut text = String::from_str(alloc, "0")?;
     for _ in 1..500 {
         text.push_str(" + 1")?;
@@ -80,10 +81,17 @@ pub fn log_up_to(alloc: Global, last: usize, fails: bool) -> Log {
     }
 }
 
-/// Whether a walk ends with this result after these calls.
-fn is_walked(log: Log, expr: &Expr, end: Result<bool, &'static str>, calls: &str) -> bool {
+/// A walk ends with this result after these calls.
+fn check_walk(
+    rt: &impl Abort,
+    log: Log,
+    expr: &Expr,
+    end: Result<bool, &'static str>,
+    calls: &str,
+) {
     let mut log = log;
-    walk_expr(&mut log, expr) == end && log.text.as_str() == calls
+    holds(rt, walk_expr(&mut log, expr) == end, calls);
+    holds(rt, log.text.as_str() == calls, calls);
 }
 
 /// The calls of a whole walk.
@@ -97,12 +105,13 @@ const ALL_CALLS: &str = "before ext(rate(a[5m]) + max_over_time((-b)[1m:]), \"s\
     before \"s\"; after \"s\"; after ext(rate(a[5m]) + max_over_time((-b)[1m:]), \"s\"); ";
 
 #[test]
-fn children_come_in_their_order(rt: HostRuntime) -> Result<(), Fail> {
-    let alloc = rt.alloc();
-    let expr = extension(alloc, &["rate(a[5m]) + max_over_time((-b)[1m:])", "\"s\""])?;
-    let log = log_up_to(alloc, 100, false);
-    assert!(rt; is_walked(log, &expr, Ok(true), ALL_CALLS));
-    Ok(())
+fn children_come_in_their_order(rt: HostRuntime) {
+    let texts = ["rate(a[5m]) + max_over_time((-b)[1m:])", "\"s\""];
+    let log = log_up_to(rt.alloc(), 100, false);
+    match extension(rt.alloc(), &texts) {
+        Ok(expr) => check_walk(&rt, log, &expr, Ok(true), ALL_CALLS),
+        Err(_) => holds(&rt, false, ALL_CALLS),
+    }
 }
 
 /// What a walk over `topk(5, a)` has called up to each call: its parameter comes first.
@@ -115,26 +124,28 @@ const CALLS: [&str; 6] = [
     "before topk(5, a); before 5; after 5; before a; after a; after topk(5, a); ",
 ];
 
-#[test]
-fn a_walk_ends_at_the_first_other_result(rt: HostRuntime) -> Result<(), Fail> {
-    let alloc = rt.alloc();
-    let expr = read(alloc, "topk(5, a)")?;
+/// Walks that stop or fail at each call, and one that would after the last.
+fn check_ends(rt: &impl Abort, alloc: Global, expr: &Expr) {
     for (last, calls) in (1..10).zip(&CALLS) {
         let stops = log_up_to(alloc, last, false);
-        assert!(rt; is_walked(stops, &expr, Ok(false), calls), "{last}");
+        check_walk(rt, stops, expr, Ok(false), calls);
         let fails = log_up_to(alloc, last, true);
-        assert!(rt; is_walked(fails, &expr, Err("failed"), calls), "{last}");
+        check_walk(rt, fails, expr, Err("failed"), calls);
     }
-    Ok(())
+    let whole = log_up_to(alloc, 7, true);
+    check_walk(rt, whole, expr, Ok(true), CALLS[5]);
 }
 
 #[test]
-fn a_walk_goes_on_to_its_end(rt: HostRuntime) -> Result<(), Fail> {
-    let expr = read(rt.alloc(), "topk(5, a)")?;
-    let log = log_up_to(rt.alloc(), 7, true);
-    assert!(rt; is_walked(log, &expr, Ok(true), CALLS[5]));
-    Ok(())
+fn a_walk_ends_at_the_first_other_result(rt: HostRuntime) {
+    match read(rt.alloc(), "topk(5, a)") {
+        Ok(expr) => check_ends(&rt, rt.alloc(), &expr),
+        Err(_) => holds(&rt, false, "topk(5, a)"),
+    }
 }
+
+/// What `ENDED` walks over.
+pub const TOPK: &str = "topk(5, a) + b";
 
 /// Walks over `topk(5, a) + b`: the call that ends one, whether it fails, how the walk ends, and its calls. The first
 /// ends before `a`, the second after `5`.
@@ -153,16 +164,21 @@ pub const ENDED: [(usize, bool, Result<bool, &str>, &str); 2] = [
     ),
 ];
 
-#[test]
-fn a_walk_that_ends_leaves_the_expression(rt: HostRuntime) -> Result<(), Fail> {
-    let alloc = rt.alloc();
-    let expr = read(alloc, "topk(5, a) + b")?;
+/// Walks that end within the expression, and leave it.
+fn check_ended(rt: &impl Abort, alloc: Global, expr: &Expr) {
     for (last, fails, end, calls) in &ENDED {
         let log = log_up_to(alloc, *last, *fails);
-        assert!(rt; is_walked(log, &expr, *end, calls), "{calls}");
+        check_walk(rt, log, expr, *end, calls);
     }
-    assert!(rt; is_read(alloc, &expr, "topk(5, a) + b")?);
-    Ok(())
+    is_so(rt, is_read(alloc, expr, TOPK), TOPK);
+}
+
+#[test]
+fn a_walk_that_ends_leaves_the_expression(rt: HostRuntime) {
+    match read(rt.alloc(), TOPK) {
+        Ok(expr) => check_ended(&rt, rt.alloc(), &expr),
+        Err(_) => holds(&rt, false, TOPK),
+    }
 }
 
 /// Whether each selector has the matcher `namespace="s"` beside its groups, and no number or string is met.
@@ -211,14 +227,17 @@ const NAMESPACES: [(&str, bool); 5] = [
     ("m{namespace=\"s\"} ^ m{namespace=\"s\"}", true),
 ];
 
+/// How the walk over a text's tree ends.
+fn namespace_end(alloc: Global, text: &str) -> Result<bool, Failed> {
+    let expr = read(alloc, text)?;
+    Ok(walk_expr(&mut Namespace, &expr)?)
+}
+
 #[test]
-fn selectors_are_in_a_namespace(rt: HostRuntime) -> Result<(), Fail> {
-    let alloc = rt.alloc();
+fn selectors_are_in_a_namespace(rt: HostRuntime) {
     for (text, is_in) in &NAMESPACES {
-        let expr = read(alloc, text)?;
-        assert!(rt; walk_expr(&mut Namespace, &expr) == Ok(*is_in), "{text}");
+        answers(&rt, namespace_end(rt.alloc(), text), *is_in, text);
     }
-    Ok(())
 }
 
 /// Counts the calls before nodes, and goes on.
@@ -245,9 +264,13 @@ fn node_count(expr: &Expr) -> usize {
     }
 }
 
+/// Whether the expression has so many nodes.
+fn has_nodes(expr: Result<Box<Expr>, Failed>, count: usize) -> Result<bool, Failed> {
+    Ok(node_count(&*expr?) == count)
+}
+
 #[test]
-fn high_trees_are_walked(rt: HostRuntime) -> Result<(), Fail> {
-    assert_eq!(rt; node_count(&*chain(rt.alloc())?), 500);
-    assert_eq!(rt; node_count(&*sum(rt.alloc())?), 999);
-    Ok(())
+fn high_trees_are_walked(rt: HostRuntime) {
+    is_so(&rt, has_nodes(chain(rt.alloc()), 500), "parentheses");
+    is_so(&rt, has_nodes(sum(rt.alloc()), 999), "a sum");
 }
