@@ -1,75 +1,68 @@
 //! Printed texts are read again: as one line and laid out, each gives the tree of the line and prints the line.
 
 use super::dashboards::QUERIES;
-use super::{read, repeated};
+use super::{Failed, is_so, read, repeated};
 use promql_parser::parser::{Expr, Prettier};
 use std::alloc::Global;
-use std::process::Abort;
-use std::test::Fail;
 
 const LEVELS: [usize; 2] = [0, 3];
 
 const WIDTHS: [usize; 3] = [0, 10, 100];
 
-/// The text gives this tree, and prints this line.
-fn check_text(
-    rt: &impl Abort,
-    alloc: Global,
-    text: &str,
-    tree: &Expr,
-    line: &str,
-) -> Result<(), Fail> {
+/// Whether the text gives this tree, and prints this line.
+fn is_read_as(alloc: Global, text: &str, tree: &Expr, line: &str) -> Result<bool, Failed> {
     let expr = read(alloc, text)?;
-    let printed = expr.to_string(alloc)?;
-    assert!(rt; *expr == *tree && printed.as_str() == line, "at {text:?}");
-    Ok(())
+    Ok(*expr == *tree && expr.to_string(alloc)?.as_str() == line)
 }
 
-/// What is printed of the expression at each level and width gives this tree, and prints this line.
-fn check_layouts(
-    rt: &impl Abort,
-    alloc: Global,
-    expr: &Expr,
-    tree: &Expr,
-    line: &str,
-) -> Result<(), Fail> {
+/// Whether what is printed of the expression at each level and width gives this tree, and prints this line.
+fn are_read_as(alloc: Global, expr: &Expr, tree: &Expr, line: &str) -> Result<bool, Failed> {
     for level in LEVELS {
         for most in WIDTHS {
             let laid = expr.pretty(alloc, level, most)?;
-            check_text(rt, alloc, laid.as_str(), tree, line)?;
+            if !is_read_as(alloc, laid.as_str(), tree, line)? {
+                return Ok(false);
+            }
         }
     }
-    Ok(())
+    Ok(true)
 }
 
-/// The line, and what is laid out of the expression, are read as one tree with this line.
-fn check_line(rt: &impl Abort, alloc: Global, expr: &Expr, line: &str) -> Result<(), Fail> {
+/// Whether the line, and what is laid out of the expression, are read as one tree with this line.
+fn is_line_of(alloc: Global, expr: &Expr, line: &str) -> Result<bool, Failed> {
     let tree = read(alloc, line)?;
-    check_text(rt, alloc, line, &tree, line)?;
-    check_layouts(rt, alloc, expr, &tree, line)
+    Ok(is_read_as(alloc, line, &tree, line)? && are_read_as(alloc, expr, &tree, line)?)
 }
 
-/// What is printed of the text's tree, at each level and width, is read as one tree with one line.
-fn check_printed(rt: &impl Abort, alloc: Global, text: &str) -> Result<(), Fail> {
+/// Whether what is printed of the text's tree, at each level and width, is read as one tree with one line.
+fn is_read_again(alloc: Global, text: &str) -> Result<bool, Failed> {
     let expr = read(alloc, text)?;
     let line = expr.to_string(alloc)?;
-    check_line(rt, alloc, &expr, line.as_str())
+    is_line_of(alloc, &expr, line.as_str())
 }
 
 #[test]
-fn queries_of_dashboards(rt: HostRuntime) -> Result<(), Fail> {
+fn queries_of_dashboards(rt: HostRuntime) {
     for text in QUERIES.split('\n') {
-        check_printed(&rt, rt.alloc(), text)?;
+        is_so(&rt, is_read_again(rt.alloc(), text), text);
     }
-    Ok(())
 }
 
-#[test]
-fn greatest_heights(rt: HostRuntime) -> Result<(), Fail> {
-    let alloc = rt.alloc();
+/// Whether a sum of the greatest height is read again.
+fn is_sum_read(alloc: Global) -> Result<bool, Failed> {
     let sum = repeated(alloc, "1", " + 1", 511, "")?;
-    check_printed(&rt, alloc, sum.as_str())?;
+    is_read_again(alloc, sum.as_str())
+}
+
+/// Whether parentheses of the greatest height are read again.
+fn is_nest_read(alloc: Global) -> Result<bool, Failed> {
     let opened = repeated(alloc, "", "(", 511, "1")?;
     let nest = repeated(alloc, opened.as_str(), ")", 511, "")?;
-    check_printed(&rt, alloc, nest.as_str())
+    is_read_again(alloc, nest.as_str())
+}
+
+#[test]
+fn greatest_heights(rt: HostRuntime) {
+    is_so(&rt, is_sum_read(rt.alloc()), "a sum");
+    is_so(&rt, is_nest_read(rt.alloc()), "parentheses");
 }

@@ -1,11 +1,10 @@
 //! Each public name at its path in the facade: docs/API.md.
 
+use super::{holds, prints};
 use promql_parser::parser::value::{Value, ValueType};
 use promql_parser::parser::{MAX_DEPTH, function, lex, token};
 use promql_parser::util::{duration, number};
 use promql_parser::{label, util};
-use std::process::Abort;
-use std::test::Fail;
 use std::time::Duration;
 
 /// The types, each by the paths that it has.
@@ -194,11 +193,11 @@ fn ids_have_their_numbers(rt: HostRuntime) {
 
 #[test]
 fn names_of_labels(rt: HostRuntime) {
-    assert_eq!(rt; label::METRIC_NAME, "__name__");
-    assert_eq!(rt; label::ALERT_NAME, "alertname");
-    assert_eq!(rt; label::BUCKET_LABEL, "le");
-    assert_eq!(rt; label::INSTANCE_NAME, "instance");
-    assert_eq!(rt; MAX_DEPTH, 512);
+    holds(&rt, label::METRIC_NAME == "__name__", "__name__");
+    holds(&rt, label::ALERT_NAME == "alertname", "alertname");
+    holds(&rt, label::BUCKET_LABEL == "le", "le");
+    holds(&rt, label::INSTANCE_NAME == "instance", "instance");
+    holds(&rt, MAX_DEPTH == 512, "MAX_DEPTH");
 }
 
 #[test]
@@ -216,45 +215,37 @@ fn units_of_time(rt: HostRuntime) {
     }
 }
 
-/// The call made this text.
-fn makes<E: Drop>(rt: &impl Abort, made: Result<String, E>, want: &str) {
-    match made {
-        Ok(text) => assert_eq!(rt; text.as_str(), want),
-        Err(_) => assert!(rt; false, "{want}"),
-    }
-}
-
 #[test]
 fn texts_of_calls(rt: HostRuntime) {
     let alloc = rt.alloc();
-    makes(&rt, util::escape_string(alloc, "\"{"), "\\\"{");
-    makes(&rt, label::escape_repeats(alloc, "\"{"), "\"\\{");
-    makes(&rt, util::unquote_string(alloc, "'\"{'"), "\"{");
+    prints(&rt, util::escape_string(alloc, "\"{"), "\\\"{");
+    prints(&rt, label::escape_repeats(alloc, "\"{"), "\"\\{");
+    prints(&rt, util::unquote_string(alloc, "'\"{'"), "\"{");
     let hour = Duration::from_secs(3_600);
-    makes(&rt, util::display_duration(alloc, &hour), "1h");
-    makes(&rt, duration::display_duration(alloc, &hour), "1h");
+    prints(&rt, util::display_duration(alloc, &hour), "1h");
+    prints(&rt, duration::display_duration(alloc, &hour), "1h");
 }
 
 #[test]
 fn values_of_texts(rt: HostRuntime) {
     let hour = Ok(Duration::from_secs(3_600));
-    assert!(rt; util::parse_duration("1h") == hour);
-    assert!(rt; duration::parse_duration("1h") == hour);
+    holds(&rt, util::parse_duration("1h") == hour, "1h");
+    holds(&rt, duration::parse_duration("1h") == hour, "1h");
     let ten = Ok(number::Number::from_i64(10));
-    assert!(rt; util::parse_str_radix("0xA") == ten);
-    assert!(rt; number::parse_str_radix("0xA") == ten);
+    holds(&rt, util::parse_str_radix("0xA") == ten, "0xA");
+    holds(&rt, number::parse_str_radix("0xA") == ten, "0xA");
 }
 
 #[test]
-fn words_of_the_language(rt: HostRuntime) -> Result<(), Fail> {
-    assert!(rt; lex::is_label("b") && !lex::is_label("b:c"));
-    assert_eq!(rt; token::token_display(token::T_TOPK), "topk");
-    assert!(rt; token::get_keyword_token("topk") == Some(token::T_TOPK));
-    let Some(rate) = function::get_function(rt.alloc(), "rate")? else {
-        return Err(Fail::new("no function"));
-    };
-    assert_eq!(rt; rate.name, "rate");
-    Ok(())
+fn words_of_the_language(rt: HostRuntime) {
+    holds(&rt, lex::is_label("b") && !lex::is_label("b:c"), "b");
+    holds(&rt, token::token_display(token::T_TOPK) == "topk", "topk");
+    let topk = token::get_keyword_token("topk");
+    holds(&rt, topk == Some(token::T_TOPK), "topk");
+    match function::get_function(rt.alloc(), "rate") {
+        Ok(Some(rate)) => holds(&rt, rate.name == "rate", "rate"),
+        _ => holds(&rt, false, "no function"),
+    }
 }
 
 /// A value of a caller's own.

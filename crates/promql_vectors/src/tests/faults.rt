@@ -1,13 +1,12 @@
 //! Errors of texts that are rejected, with their kinds and places. docs/reference/grammar.md and
 //! docs/reference/tokens.md have the rules.
 
-use super::{check_value, error_of, repeated};
+use super::{check_value, error_of, holds, is_so, prints, repeated};
 use promql_parser::parser::lex::{LexError, LexFault, LexFaultKind};
 use promql_parser::parser::{CheckFault, NodeFault, ParseError, lexer};
 use promql_text::{DurationFault, NumberFault};
-use std::alloc::Global;
+use std::alloc::{AllocError, Global};
 use std::process::Abort;
-use std::test::Fail;
 
 const SYNTAX: &str = "invalid promql query";
 
@@ -23,43 +22,40 @@ const PLACES: [(&str, LexFaultKind, usize); 5] = [
 ];
 
 /// The text has a lexical fault of this kind at this place.
-fn has_fault(
+fn has_fault(rt: &impl Abort, alloc: Global, text: &str, kind: LexFaultKind, at: usize) {
+    match error_of(alloc, text) {
+        Some(ParseError::Lex(fault)) => {
+            holds(rt, fault.kind == kind && fault.at == at, "a fault");
+            check_value(rt, lexer(alloc, text), Err(LexError::Fault(fault)), &at);
+        }
+        _ => holds(rt, false, "no lexical fault"),
+    }
+}
+
+/// The text was made, and has a lexical fault of this kind at this place.
+fn has_long_fault(
     rt: &impl Abort,
     alloc: Global,
-    text: &str,
+    made: Result<String, AllocError>,
     kind: LexFaultKind,
     at: usize,
-) -> Result<(), Fail> {
-    let Some(ParseError::Lex(fault)) = error_of(alloc, text) else {
-        return Err(Fail::new("no lexical fault"));
-    };
-    assert!(rt; fault.kind == kind && fault.at == at, "{fault} at {at}");
-    check_value(rt, lexer(alloc, text), Err(LexError::Fault(fault)), &at);
-    Ok(())
+) {
+    match made {
+        Ok(text) => has_fault(rt, alloc, text.as_str(), kind, at),
+        Err(_) => holds(rt, false, "no text"),
+    }
 }
 
 #[test]
-fn lexical_faults_have_places(rt: HostRuntime) -> Result<(), Fail> {
+fn lexical_faults_have_places(rt: HostRuntime) {
     let alloc = rt.alloc();
     for (text, kind, at) in &PLACES {
-        has_fault(&rt, alloc, text, *kind, *at)?;
+        has_fault(&rt, alloc, text, *kind, *at);
     }
-    let unclosed = repeated(alloc, "", "(", 100_000, "")?;
-    has_fault(
-        &rt,
-        alloc,
-        unclosed.as_str(),
-        LexFaultKind::UnclosedParen,
-        100_000,
-    )?;
-    let bracketed = repeated(alloc, "1", "+1", 599, "]")?;
-    has_fault(
-        &rt,
-        alloc,
-        bracketed.as_str(),
-        LexFaultKind::RightBracket,
-        1_199,
-    )
+    let unclosed = repeated(alloc, "", "(", 100_000, "");
+    has_long_fault(&rt, alloc, unclosed, LexFaultKind::UnclosedParen, 100_000);
+    let bracketed = repeated(alloc, "1", "+1", 599, "]");
+    has_long_fault(&rt, alloc, bracketed, LexFaultKind::RightBracket, 1_199);
 }
 
 /// Texts that are rejected whether or not there is memory.
@@ -99,7 +95,7 @@ fn faults_of_tokens_have_kinds(rt: HostRuntime) {
 }
 
 #[test]
-fn rejections_have_kinds(rt: HostRuntime) -> Result<(), Fail> {
+fn rejections_have_kinds(rt: HostRuntime) {
     let alloc = rt.alloc();
     for (text, want) in [
         ("", ParseError::Empty),
@@ -114,11 +110,20 @@ fn rejections_have_kinds(rt: HostRuntime) -> Result<(), Fail> {
     ] {
         has_error(&rt, alloc, text, want);
     }
-    let pattern = ParseError::Pattern(String::from_str(alloc, "(")?);
-    has_error(&rt, alloc, "{a=~\"(\"}", pattern);
-    let unknown = ParseError::UnknownFunction(String::from_str(alloc, "nosuch")?);
-    has_error(&rt, alloc, "nosuch()", unknown);
-    Ok(())
+    is_so(&rt, names_pattern(alloc), "a pattern");
+    is_so(&rt, names_function(alloc), "a function");
+}
+
+/// Whether the error of a pattern has the pattern.
+fn names_pattern(alloc: Global) -> Result<bool, AllocError> {
+    let want = ParseError::Pattern(String::from_str(alloc, "(")?);
+    Ok(error_of(alloc, "{a=~\"(\"}") == Some(want))
+}
+
+/// Whether the error of a call of no function has its name.
+fn names_function(alloc: Global) -> Result<bool, AllocError> {
+    let want = ParseError::UnknownFunction(String::from_str(alloc, "nosuch")?);
+    Ok(error_of(alloc, "nosuch()") == Some(want))
 }
 
 const FAULT: LexFault = LexFault {
@@ -166,9 +171,8 @@ fn errors_differ(rt: HostRuntime) {
 }
 
 #[test]
-fn errors_have_messages(rt: HostRuntime) -> Result<(), Fail> {
+fn errors_have_messages(rt: HostRuntime) {
     for (error, message) in &ERRORS {
-        assert_eq!(rt; error.to_string(rt.alloc())?.as_str(), *message);
+        prints(&rt, error.to_string(rt.alloc()), message);
     }
-    Ok(())
 }

@@ -1,20 +1,23 @@
 //! Which texts are split, and a user's own type that is laid out.
 
-use super::read;
+use super::{Failed, holds, is_so, prints, read};
 use promql_parser::parser::Prettier;
+use std::alloc::Global;
 use std::fmt;
 use std::fmt::{Display, Write};
-use std::test::Fail;
 
 const SHARE: &str = "sum by (b) (a) / c";
 
-#[test]
-fn a_line_is_split_where_it_is_too_long(rt: HostRuntime) -> Result<(), Fail> {
-    let alloc = rt.alloc();
+/// Whether the line is split where it is too long, and else stays.
+fn is_split(alloc: Global) -> Result<bool, Failed> {
     let share = read(alloc, SHARE)?;
-    assert!(rt; share.needs_split(17) && !share.needs_split(18));
-    assert_eq!(rt; share.prettify(alloc)?.as_str(), SHARE);
-    Ok(())
+    let is_too_long = share.needs_split(17) && !share.needs_split(18);
+    Ok(is_too_long && share.prettify(alloc)?.as_str() == SHARE)
+}
+
+#[test]
+fn a_line_is_split_where_it_is_too_long(rt: HostRuntime) {
+    is_so(&rt, is_split(rt.alloc()), SHARE);
 }
 
 /// A rule that records what a query gives.
@@ -41,16 +44,15 @@ impl Prettier for Rule<'_> {
 }
 
 #[test]
-fn a_type_of_a_user(rt: HostRuntime) -> Result<(), Fail> {
+fn a_type_of_a_user(rt: HostRuntime) {
     let alloc = rt.alloc();
     let rule = Rule {
         record: "job:up",
         query: "sum(up)",
     };
-    assert!(rt; rule.needs_split(15) && !rule.needs_split(16));
+    holds(&rt, rule.needs_split(15) && !rule.needs_split(16), "job:up");
     for most in [0, 100] {
-        assert_eq!(rt; rule.pretty(alloc, 1, most)?.as_str(), "  job:up = sum(up)");
-        assert_eq!(rt; rule.format(alloc, 0, most)?.as_str(), "job:up = sum(up)");
+        prints(&rt, rule.pretty(alloc, 1, most), "  job:up = sum(up)");
+        prints(&rt, rule.format(alloc, 0, most), "job:up = sum(up)");
     }
-    Ok(())
 }

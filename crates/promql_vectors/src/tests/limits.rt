@@ -1,9 +1,8 @@
 //! Texts of many tokens.
 
-use super::read;
+use super::{Failed, is_so, read};
 use promql_parser::parser::lexer;
 use std::alloc::{AllocError, Global};
-use std::test::Fail;
 
 /// A pair of parentheses round a text twice, with a minus between, so many times over: the height grows by two.
 fn balanced(alloc: Global, levels: usize) -> Result<String, AllocError> {
@@ -14,17 +13,24 @@ fn balanced(alloc: Global, levels: usize) -> Result<String, AllocError> {
     Ok(text)
 }
 
-#[test]
-fn texts_of_many_tokens(rt: HostRuntime) -> Result<(), Fail> {
-    let alloc = rt.alloc();
-    for (levels, least) in [(11, 10_000), (15, 100_000)] {
-        let text = balanced(alloc, levels)?;
-        let Ok(lexemes) = lexer(alloc, text.as_str()) else {
-            return Err(Fail::new("a lexical fault"));
-        };
-        assert!(rt; least < lexemes.len());
-        let expr = read(alloc, text.as_str())?;
-        assert!(rt; expr.to_string(alloc)? == text, "at {levels}");
+/// Whether the text has more than so many tokens.
+fn has_tokens(alloc: Global, text: &str, least: usize) -> bool {
+    match lexer(alloc, text) {
+        Ok(lexemes) => least < lexemes.len(),
+        Err(_) => false,
     }
-    Ok(())
+}
+
+/// Whether a text of so many levels has more than so many tokens, and is printed as it is.
+fn is_printed(alloc: Global, levels: usize, least: usize) -> Result<bool, Failed> {
+    let text = balanced(alloc, levels)?;
+    let is_long = has_tokens(alloc, text.as_str(), least);
+    let expr = read(alloc, text.as_str())?;
+    Ok(is_long && expr.to_string(alloc)? == text)
+}
+
+#[test]
+fn texts_of_many_tokens(rt: HostRuntime) {
+    is_so(&rt, is_printed(rt.alloc(), 11, 10_000), "11 levels");
+    is_so(&rt, is_printed(rt.alloc(), 15, 100_000), "15 levels");
 }

@@ -1,8 +1,7 @@
 //! Lines and columns of bytes.
 
-use super::check_value;
+use super::{check_value, prints};
 use promql_parser::util::Location;
-use std::test::Fail;
 
 /// Texts with a byte, its line, its column and its column in UTF-16.
 const PLACES: [(&str, usize, usize, usize, usize); 17] = [
@@ -27,25 +26,18 @@ const PLACES: [(&str, usize, usize, usize, usize); 17] = [
 
 #[test]
 fn bytes_have_lines_and_columns(rt: HostRuntime) {
-    for (text, offset, line, column, _) in PLACES {
+    for (text, offset, line, column, utf16) in PLACES {
         let found = Location::line_column(text, offset);
         check_value(&rt, found, Location { line, column }, &text);
+        check_value(&rt, Location::column_utf16(text, offset), utf16, &text);
     }
 }
 
 #[test]
-fn bytes_have_columns_in_utf16(rt: HostRuntime) {
-    for (text, offset, _, _, column) in PLACES {
-        check_value(&rt, Location::column_utf16(text, offset), column, &text);
-    }
-}
-
-#[test]
-fn locations_are_displayed(rt: HostRuntime) -> Result<(), Fail> {
+fn locations_are_displayed(rt: HostRuntime) {
     let location = Location {
         line: 3,
         column: 14,
     };
-    assert_eq!(rt; location.to_string(rt.alloc())?.as_str(), "3:14");
-    Ok(())
+    prints(&rt, location.to_string(rt.alloc()), "3:14");
 }

@@ -6,7 +6,6 @@ use promql_walk::{JsonError, json_text};
 use std::alloc::Global;
 use std::fmt::Display;
 use std::process::Abort;
-use std::test::Fail;
 
 const QUERY: &str =
     "topk(5, sum by (l) (rate(a{b=~\"c|d\",e!=\"f\"}[5m])) + on (l) group_left (m) g)";
@@ -23,7 +22,7 @@ fn has_json(rt: &impl Abort, alloc: Global, expr: &Expr, want: &str) {
 }
 
 #[test]
-fn a_text_runs_out_of_memory_or_has_its_form(rt: HostRuntime) -> Result<(), Fail> {
+fn a_text_runs_out_of_memory_or_has_its_form(rt: HostRuntime) {
     let alloc = rt.alloc();
     match parse(alloc, QUERY) {
         Ok(expr) => {
@@ -32,7 +31,6 @@ fn a_text_runs_out_of_memory_or_has_its_form(rt: HostRuntime) -> Result<(), Fail
         }
         Err(error) => check_value(&rt, error, ParseError::Memory, &QUERY),
     }
-    Ok(())
 }
 
 /// Each text with what is printed of it, or the message of its rejection.
@@ -83,7 +81,7 @@ fn has_answer(alloc: Global, text: &str, want: &str) -> Result<bool, ParseError>
 }
 
 #[test]
-fn one_failed_allocation_takes_one_answer(rt: HostRuntime) -> Result<(), Fail> {
+fn one_failed_allocation_takes_one_answer(rt: HostRuntime) {
     let alloc = rt.alloc();
     let mut has_failed = false;
     for (text, want) in &ROWS {
@@ -95,5 +93,4 @@ fn one_failed_allocation_takes_one_answer(rt: HostRuntime) -> Result<(), Fail> {
             }
         }
     }
-    Ok(())
 }

@@ -1,9 +1,8 @@
 //! Texts that have one tree.
 
-use super::{check_value, read};
+use super::{Failed, check_value, is_so, read};
 use promql_parser::parser::{ParseError, parse};
 use std::alloc::Global;
-use std::test::Fail;
 
 /// Texts, and whether their trees are equal.
 const PAIRS: [(&str, &str, bool); 2] = [
@@ -19,17 +18,17 @@ const PAIRS: [(&str, &str, bool); 2] = [
     ),
 ];
 
-/// Whether the texts give one tree.
-fn is_same(alloc: Global, one: &str, other: &str) -> Result<bool, Fail> {
-    Ok(*read(alloc, one)? == *read(alloc, other)?)
+/// Whether the texts give one tree, if they should, or two.
+fn is_equal(alloc: Global, one: &str, other: &str, want: bool) -> Result<bool, Failed> {
+    let is_one = *read(alloc, one)? == *read(alloc, other)?;
+    Ok(is_one == want)
 }
 
 #[test]
-fn equal_trees(rt: HostRuntime) -> Result<(), Fail> {
+fn equal_trees(rt: HostRuntime) {
     for (one, other, want) in &PAIRS {
-        assert_eq!(rt; is_same(rt.alloc(), one, other)?, *want, "{other}");
+        is_so(&rt, is_equal(rt.alloc(), one, other, *want), other);
     }
-    Ok(())
 }
 
 #[test]

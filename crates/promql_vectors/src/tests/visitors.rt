@@ -1,10 +1,10 @@
 //! A visitor that a user writes, over a text that is read. `guide` has others.
 
-use super::read;
+use super::{Failed, is_so, read};
 use promql_parser::parser::Expr;
 use promql_parser::util::{ExprVisitor, walk_expr};
+use std::alloc::Global;
 use std::fmt::Write;
-use std::test::Fail;
 
 /// Writes down each call.
 #[derive(Drop)]
@@ -32,15 +32,18 @@ impl ExprVisitor for Log {
     }
 }
 
-#[test]
-fn the_order_of_a_walk(rt: HostRuntime) -> Result<(), Fail> {
-    let alloc = rt.alloc();
-    let expr = read(alloc, "topk(5, a)")?;
+/// The calls of a walk over a text's tree.
+const CALLS: &str = "before topk(5, a); before 5; after 5; before a; after a; after topk(5, a); ";
+
+/// Whether a walk over the text's tree goes to its end, with these calls.
+fn is_walked(alloc: Global, text: &str, calls: &str) -> Result<bool, Failed> {
+    let expr = read(alloc, text)?;
     let mut log = Log(String::new(alloc));
-    assert!(rt; walk_expr(&mut log, &expr) == Ok(true));
-    assert_eq!(rt;
-        log.0.as_str(),
-        "before topk(5, a); before 5; after 5; before a; after a; after topk(5, a); "
-    );
-    Ok(())
+    let end = walk_expr(&mut log, &expr);
+    Ok(end == Ok(true) && log.0.as_str() == calls)
+}
+
+#[test]
+fn the_order_of_a_walk(rt: HostRuntime) {
+    is_so(&rt, is_walked(rt.alloc(), "topk(5, a)", CALLS), CALLS);
 }
