@@ -1,4 +1,6 @@
-//! The programs as functions of their arguments, inputs and outputs.
+//! The programs as functions of their arguments, inputs and outputs. What a test says of a row is said by the calls below: they are
+//! proved once, and a test that only calls them is proved fast. A long table is several, since an array costs the square of its
+//! length.
 
 mod batch;
 mod check;
@@ -15,6 +17,27 @@ use std::process::Abort;
 /// The value is the wanted one, at this row.
 fn check_value<T: Debug + Drop + PartialEq>(rt: &impl Abort, found: T, want: T, row: &impl Debug) {
     assert_eq!(rt; found, want, "at {row:?}");
+}
+
+/// The text was made, and is this one.
+fn prints<E: Drop>(rt: &impl Abort, text: Result<String, E>, want: &str) {
+    match text {
+        Ok(found) => assert!(rt; found.as_str() == want, "{found}, not {want}"),
+        Err(_) => assert!(rt; false, "an error, not {want}"),
+    }
+}
+
+/// It holds for this row.
+fn holds(rt: &impl Abort, is: bool, row: &str) {
+    assert!(rt; is, "{row}");
+}
+
+/// What was asked is so.
+fn is_so<E: Drop>(rt: &impl Abort, is: Result<bool, E>, row: &str) {
+    match is {
+        Ok(is) => holds(rt, is, row),
+        Err(_) => assert!(rt; false, "an error at {row}"),
+    }
 }
 
 fn texts(alloc: Global, words: &[&str]) -> Result<Vec<String>, AllocError> {

@@ -1,7 +1,7 @@
 //! Batches over readers and writers in memory, and over some that fail.
 
 use super::streams::{FlakyReader, FlakyWriter};
-use super::{check_value, texts};
+use super::{check_value, is_so, texts};
 use promql_io::ended::Ended;
 use promql_lines::batch::run_batch;
 use promql_lines::batch_program::{BATCH_HELP, BATCH_USAGE, batch_program};
@@ -9,10 +9,10 @@ use promql_lines::settings::Settings;
 use promql_run::format::Format;
 use promql_run::run::RunError;
 use promql_span::limits::{Limits, MAX_LEN, MAX_OUTPUT, MAX_PATTERN_SIZE};
-use std::alloc::{AllocError, Global};
+use std::alloc::Global;
+use std::io;
 use std::io::BufReader;
 use std::process::Abort;
-use std::test::Fail;
 
 /// The settings of a batch in the mode `line`.
 const LINE: Settings = Settings {
@@ -36,13 +36,12 @@ const ANSWERS: &[u8] = b"{\"ok\":\"1 + 2\"}
 ";
 
 #[test]
-fn lines_and_their_answers(rt: HostRuntime) -> Result<(), Fail> {
+fn lines_and_their_answers(rt: HostRuntime) {
     let alloc = rt.alloc();
     let mut writer = Ended::new(Vec::new(alloc));
     let answer = run_batch(alloc, &LINE, &mut Ended::new(LINES), &mut writer);
     check_value(&rt, answer, Ok(false), &LINES);
     assert!(rt; writer.inner().as_slice() == ANSWERS && !writer.is_pending());
-    Ok(())
 }
 
 /// What is written of a batch in the mode `line`, and whether each answer is an `ok`.
@@ -55,39 +54,40 @@ fn check_batch(rt: &impl Abort, alloc: Global, input: &[u8], want: &[u8], all_ok
 }
 
 #[test]
-fn ends_of_the_input(rt: HostRuntime) -> Result<(), Fail> {
+fn ends_of_the_input(rt: HostRuntime) {
     let alloc = rt.alloc();
     check_batch(&rt, alloc, b"", b"", true);
     check_batch(&rt, alloc, b"\"1\"", b"{\"ok\":\"1\"}\n", true);
     check_batch(&rt, alloc, b"\"1\"\n", b"{\"ok\":\"1\"}\n", true);
     let empty = b"{\"code\":7,\"error\":\"line is not a request\"}\n";
     check_batch(&rt, alloc, b"\n", empty, false);
-    Ok(())
+}
+
+/// Whether both lines are answered, although the read of this number fails.
+fn is_read_on(alloc: Global, fails_at: usize) -> io::Result<bool> {
+    let flaky = FlakyReader {
+        left: b"\"1\"\n\"2\"\n",
+        calls: 0,
+        fails_at,
+    };
+    let mut reader = Ended::new(BufReader::with_capacity(alloc, 2, flaky)?);
+    let mut writer = Ended::new(Vec::new(alloc));
+    // The fake error is an interruption, after which the read is made again.
+    let answer = run_batch(alloc, &LINE, &mut reader, &mut writer);
+    let want = b"{\"ok\":\"1\"}\n{\"ok\":\"2\"}\n".as_slice();
+    Ok(answer == Ok(true) && !reader.has_failed() && writer.inner().as_slice() == want)
 }
 
 #[test]
-fn a_reader_that_fails(rt: HostRuntime) -> Result<(), Fail> {
-    let alloc = rt.alloc();
+fn a_reader_that_fails(rt: HostRuntime) {
     // 8 bytes are 4 reads.
     for fails_at in 2..=4 {
-        let flaky = FlakyReader {
-            left: b"\"1\"\n\"2\"\n",
-            calls: 0,
-            fails_at,
-        };
-        let mut reader = Ended::new(BufReader::with_capacity(alloc, 2, flaky)?);
-        let mut writer = Ended::new(Vec::new(alloc));
-        // The fake error is an interruption, after which the read is made again.
-        let answer = run_batch(alloc, &LINE, &mut reader, &mut writer);
-        check_value(&rt, answer, Ok(true), &fails_at);
-        assert!(rt; !reader.has_failed());
-        assert!(rt; writer.inner().as_slice() == b"{\"ok\":\"1\"}\n{\"ok\":\"2\"}\n".as_slice());
+        is_so(&rt, is_read_on(rt.alloc(), fails_at), "two lines");
     }
-    Ok(())
 }
 
 #[test]
-fn a_writer_that_fails(rt: HostRuntime) -> Result<(), Fail> {
+fn a_writer_that_fails(rt: HostRuntime) {
     let alloc = rt.alloc();
     let want = b"{\"ok\":\"1\"}\n{\"code\":7,\"error\":\"line is not a request\"}\n";
     // 10 bytes and 42 are 18 writes, their line feeds two, and the flushes before the end is read and after it two more.
@@ -108,36 +108,41 @@ fn a_writer_that_fails(rt: HostRuntime) -> Result<(), Fail> {
             "at {fails_at}"
         );
     }
-    Ok(())
 }
 
-/// The status of the program with a word after its name, and what it writes to its two outputs.
+/// The status of the program with these arguments, and what it writes to its two outputs.
+fn check_args(
+    rt: &impl Abort,
+    alloc: Global,
+    args: &[String],
+    input: &[u8],
+    want: (u8, &str, &str),
+) {
+    let mut reader = Ended::new(input);
+    let mut writer = Ended::new(Vec::new(alloc));
+    let mut errors = Ended::new(Vec::new(alloc));
+    let status = batch_program(alloc, args, &mut reader, &mut writer, &mut errors);
+    assert_eq!(rt; status, want.0);
+    assert!(rt; writer.inner().as_slice() == want.1.as_bytes());
+    assert!(rt; errors.inner().as_slice() == want.2.as_bytes());
+}
+
+/// The same with these words.
 fn check_program(
     rt: &impl Abort,
     alloc: Global,
     words: &[&str],
     input: &[u8],
     want: (u8, &str, &str),
-) -> Result<(), AllocError> {
-    let args = texts(alloc, words)?;
-    let mut reader = Ended::new(input);
-    let mut writer = Ended::new(Vec::new(alloc));
-    let mut errors = Ended::new(Vec::new(alloc));
-    let status = batch_program(
-        alloc,
-        args.as_slice(),
-        &mut reader,
-        &mut writer,
-        &mut errors,
-    );
-    assert_eq!(rt; status, want.0);
-    assert!(rt; writer.inner().as_slice() == want.1.as_bytes());
-    assert!(rt; errors.inner().as_slice() == want.2.as_bytes());
-    Ok(())
+) {
+    match texts(alloc, words) {
+        Ok(args) => check_args(rt, alloc, args.as_slice(), input, want),
+        Err(_) => assert!(rt; false, "out of memory"),
+    }
 }
 
 #[test]
-fn statuses_of_batches(rt: HostRuntime) -> Result<(), Fail> {
+fn statuses_of_batches(rt: HostRuntime) {
     let alloc = rt.alloc();
     check_program(
         &rt,
@@ -145,14 +150,14 @@ fn statuses_of_batches(rt: HostRuntime) -> Result<(), Fail> {
         &["", "line"],
         b"\"1\"\n",
         (0, "{\"ok\":\"1\"}\n", ""),
-    )?;
+    );
     check_program(
         &rt,
         alloc,
         &["", "json"],
         b"1",
         (4, "{\"code\":7,\"error\":\"line is not a request\"}\n", ""),
-    )?;
+    );
     check_program(
         &rt,
         alloc,
@@ -163,7 +168,7 @@ fn statuses_of_batches(rt: HostRuntime) -> Result<(), Fail> {
             "{\"ok\":\"{a=~\\\"bcd\\\"}\"}\n{\"code\":14,\"column\":12,\"end\":11,\"error\":\"query is too long: 11 bytes, at most 10\",\"line\":1,\"start\":11}\n{\"code\":14,\"column\":12,\"end\":11,\"error\":\"query is too long: 11 bytes, at most 10\",\"line\":1,\"start\":11}\n",
             "",
         ),
-    )?;
+    );
     check_program(
         &rt,
         alloc,
@@ -174,15 +179,14 @@ fn statuses_of_batches(rt: HostRuntime) -> Result<(), Fail> {
             "{\"code\":14,\"column\":5,\"end\":10,\"error\":\"patterns are too large: 10, at most 9\",\"line\":1,\"start\":4}\n",
             "",
         ),
-    )?;
-    check_program(&rt, alloc, &["", "--help"], b"\"1\"", (0, BATCH_HELP, ""))?;
-    check_program(&rt, alloc, &["", "lines"], b"\"1\"", (64, "", BATCH_USAGE))?;
+    );
+    check_program(&rt, alloc, &["", "--help"], b"\"1\"", (0, BATCH_HELP, ""));
+    check_program(&rt, alloc, &["", "lines"], b"\"1\"", (64, "", BATCH_USAGE));
     check_program(
         &rt,
         alloc,
         &["", "line", "line"],
         b"\"1\"",
         (64, "", BATCH_USAGE),
-    )?;
-    Ok(())
+    );
 }

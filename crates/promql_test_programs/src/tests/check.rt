@@ -1,12 +1,11 @@
 //! The program that checks a query, over its arguments, its input and its outputs.
 
 use super::streams::{FlakyReader, FlakyWriter};
-use super::texts;
+use super::{holds, texts};
 use promql_io::ended::Ended;
 use promql_report::check::{CHECK_HELP, CHECK_USAGE, check_program};
-use std::alloc::Global;
+use std::alloc::{AllocError, Global};
 use std::process::Abort;
-use std::test::Fail;
 
 /// Arguments, input, status, standard output, standard error.
 type Row = (
@@ -17,7 +16,8 @@ type Row = (
     &'static str,
 );
 
-const ROWS: [Row; 27] = [
+/// Queries that are accepted, and ones that are not.
+const QUERIES: [Row; 6] = [
     (&["promql_check"], b"1 + (foo - 2)", 0, "", ""),
     (&[""], b"foo\n", 0, "", ""),
     (
@@ -48,6 +48,10 @@ const ROWS: [Row; 27] = [
         "",
         "3:3: expected type matrix in call to function 'rate', got vector\n  foo)\n  ^~~\n",
     ),
+];
+
+/// Queries with characters that are shown in another way, and bytes that are none.
+const CHARACTERS: [Row; 9] = [
     (
         &[""],
         b"\x1b]0;x\x07(",
@@ -105,11 +109,20 @@ const ROWS: [Row; 27] = [
         "1:3: unexpected character: '\\u{feff}'\nup\\u{feff}\n  ^~~~~~~~\n",
     ),
     (&[""], b"1 + \xff", 3, "", "input is not UTF-8\n"),
+];
+
+/// Arguments that there are not, and the help.
+const USAGES: [Row; 6] = [
     (&[], b"1", 64, "", CHECK_USAGE),
     (&["", "line"], b"1", 64, "", CHECK_USAGE),
     (&["", "--max-len"], b"1", 64, "", CHECK_USAGE),
     (&["", "--max-len", "x"], b"1", 64, "", CHECK_USAGE),
     (&["", "--max-length", "1"], b"1", 64, "", CHECK_USAGE),
+    (&["", "--help"], b"1", 0, CHECK_HELP, ""),
+];
+
+/// Queries and their limits.
+const LIMITS: [Row; 6] = [
     (&["", "--max-len", "4"], b"foo2\n", 0, "", ""),
     (
         &["", "--max-len", "9", "--max-len", "3"],
@@ -140,7 +153,6 @@ const ROWS: [Row; 27] = [
         "",
         "1:12: patterns are too large: 800039, at most 16000\n{a=~'b',b!~'\\\\w{32000}',c=~'d'} b\n           ^~~~~~~~~~~~\n",
     ),
-    (&["", "--help"], b"1", 0, CHECK_HELP, ""),
 ];
 
 /// The program with these arguments does what the row says.
@@ -157,13 +169,33 @@ fn check_row(rt: &impl Abort, alloc: Global, args: &[String], row: &Row) {
     assert_eq!(rt; reader.inner().is_empty(), is_read, "{words:?}");
 }
 
-#[test]
-fn statuses_and_reports(rt: HostRuntime) -> Result<(), Fail> {
-    for row in &ROWS {
-        let args = texts(rt.alloc(), row.0)?;
-        check_row(&rt, rt.alloc(), args.as_slice(), row);
+fn check_rows(rt: &impl Abort, alloc: Global, rows: &[Row]) {
+    for row in rows {
+        match texts(alloc, row.0) {
+            Ok(args) => check_row(rt, alloc, args.as_slice(), row),
+            Err(_) => holds(rt, false, "no arguments"),
+        }
     }
-    Ok(())
+}
+
+#[test]
+fn queries_are_reported(rt: HostRuntime) {
+    check_rows(&rt, rt.alloc(), &QUERIES);
+}
+
+#[test]
+fn characters_are_shown(rt: HostRuntime) {
+    check_rows(&rt, rt.alloc(), &CHARACTERS);
+}
+
+#[test]
+fn arguments_have_statuses(rt: HostRuntime) {
+    check_rows(&rt, rt.alloc(), &USAGES);
+}
+
+#[test]
+fn queries_have_limits(rt: HostRuntime) {
+    check_rows(&rt, rt.alloc(), &LIMITS);
 }
 
 /// Options, whether there are colors where none says it, input, status, and standard error.
@@ -263,18 +295,17 @@ fn check_color_row(rt: &impl Abort, alloc: Global, args: &[String], row: &ColorR
 }
 
 #[test]
-fn colors_of_reports(rt: HostRuntime) -> Result<(), Fail> {
+fn colors_of_reports(rt: HostRuntime) {
     for row in &COLOR_ROWS {
-        let args = texts(rt.alloc(), row.0)?;
-        check_color_row(&rt, rt.alloc(), args.as_slice(), row);
+        match texts(rt.alloc(), row.0) {
+            Ok(args) => check_color_row(&rt, rt.alloc(), args.as_slice(), row),
+            Err(_) => holds(&rt, false, "no arguments"),
+        }
     }
-    Ok(())
 }
 
-#[test]
-fn a_failed_read_ends_with_two(rt: HostRuntime) -> Result<(), Fail> {
-    let alloc = rt.alloc();
-    let args = texts(alloc, &[""])?;
+/// A read that fails has its status and its message.
+fn check_failed_read(rt: &impl Abort, alloc: Global, args: &[String]) {
     let flaky = FlakyReader {
         left: b"1 + 2",
         calls: 0,
@@ -283,7 +314,7 @@ fn a_failed_read_ends_with_two(rt: HostRuntime) -> Result<(), Fail> {
     let mut errors = Ended::new(Vec::new(alloc));
     let status = check_program(
         alloc,
-        args.as_slice(),
+        args,
         false,
         &mut Ended::new(flaky),
         &mut Ended::new(Vec::new(alloc)),
@@ -291,25 +322,35 @@ fn a_failed_read_ends_with_two(rt: HostRuntime) -> Result<(), Fail> {
     );
     assert_eq!(rt; status, 2);
     assert!(rt; errors.inner().as_slice() == b"read failed\n".as_slice());
-    Ok(())
+}
+
+#[test]
+fn a_failed_read_ends_with_two(rt: HostRuntime) {
+    match texts(rt.alloc(), &[""]) {
+        Ok(args) => check_failed_read(&rt, rt.alloc(), args.as_slice()),
+        Err(_) => holds(&rt, false, "no arguments"),
+    }
+}
+
+/// The status of the program with these words, whose writes fail.
+fn failed_status(alloc: Global, words: &[&str]) -> Result<u8, AllocError> {
+    let input: &[u8] = b"a b";
+    let args = texts(alloc, words)?;
+    Ok(check_program(
+        alloc,
+        args.as_slice(),
+        true,
+        &mut Ended::new(input),
+        &mut Ended::new(FlakyWriter::new(alloc, 2, 0)),
+        &mut Ended::new(FlakyWriter::new(alloc, 2, 0)),
+    ))
 }
 
 // The status is the same where the report cannot be written; the help has no other place.
 #[test]
-fn writes_that_fail(rt: HostRuntime) -> Result<(), Fail> {
-    let alloc = rt.alloc();
-    let input: &[u8] = b"a b";
-    for (words, want) in [([""].as_slice(), 4), (["", "--help"].as_slice(), 5)] {
-        let args = texts(alloc, words)?;
-        let status = check_program(
-            alloc,
-            args.as_slice(),
-            true,
-            &mut Ended::new(input),
-            &mut Ended::new(FlakyWriter::new(alloc, 2, 0)),
-            &mut Ended::new(FlakyWriter::new(alloc, 2, 0)),
-        );
-        assert_eq!(rt; status, want);
-    }
-    Ok(())
+fn writes_that_fail(rt: HostRuntime) {
+    let status = failed_status(rt.alloc(), &[""]);
+    holds(&rt, status == Ok(4), "a report");
+    let status = failed_status(rt.alloc(), &["", "--help"]);
+    holds(&rt, status == Ok(5), "the help");
 }

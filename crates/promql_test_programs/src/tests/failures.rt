@@ -5,10 +5,9 @@ use super::streams::{FlakyReader, FlakyWriter};
 use promql_io::ended::Ended;
 use promql_run::format::{Format, PRETTY_LAYOUT};
 use promql_run::run::{RunError, run};
-use std::test::Fail;
 
 #[test]
-fn a_reader_that_fails(rt: HostRuntime) -> Result<(), Fail> {
+fn a_reader_that_fails(rt: HostRuntime) {
     let alloc = rt.alloc();
     // 13 bytes are 7 reads, and the end is one more.
     for fails_at in 1..=9 {
@@ -30,11 +29,10 @@ fn a_reader_that_fails(rt: HostRuntime) -> Result<(), Fail> {
             );
         }
     }
-    Ok(())
 }
 
 #[test]
-fn a_writer_that_fails(rt: HostRuntime) -> Result<(), Fail> {
+fn a_writer_that_fails(rt: HostRuntime) {
     let alloc = rt.alloc();
     // 14 bytes are 5 writes, and the flush is one more.
     for fails_at in 1..=7 {
@@ -54,11 +52,10 @@ fn a_writer_that_fails(rt: HostRuntime) -> Result<(), Fail> {
         );
         assert_eq!(rt; writer.inner().calls, fails_at.min(6));
     }
-    Ok(())
 }
 
 #[test]
-fn a_writer_that_takes_nothing(rt: HostRuntime) -> Result<(), Fail> {
+fn a_writer_that_takes_nothing(rt: HostRuntime) {
     let alloc = rt.alloc();
     for takes_none_at in 1..=5 {
         let input: &[u8] = b"1 + (foo - 2)";
@@ -69,12 +66,11 @@ fn a_writer_that_takes_nothing(rt: HostRuntime) -> Result<(), Fail> {
         assert!(rt; writer.has_failed());
         assert_eq!(rt; writer.inner().calls, takes_none_at);
     }
-    Ok(())
 }
 
 // Out of memory, or the same answer: bin/test_memory makes each allocation fail in turn.
 #[test]
-fn one_row_for_failing_allocations(rt: HostRuntime) -> Result<(), Fail> {
+fn one_row_for_failing_allocations(rt: HostRuntime) {
     let alloc = rt.alloc();
     for (format, input, want) in [
         (
@@ -104,5 +100,4 @@ fn one_row_for_failing_allocations(rt: HostRuntime) -> Result<(), Fail> {
             }
         }
     }
-    Ok(())
 }

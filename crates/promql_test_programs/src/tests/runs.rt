@@ -1,12 +1,11 @@
 //! Runs over readers and writers in memory.
 
-use super::check_value;
+use super::{check_value, is_so, prints};
 use promql_io::ended::Ended;
 use promql_parser::parser::ParseError;
 use promql_run::format::{Format, PRETTY_LAYOUT};
 use promql_run::run::{RunError, run};
 use std::alloc::{AllocError, Global};
-use std::test::Fail;
 
 // One millisecond more than 2^63.
 const WIDE: &str = "foo offset -9223372036854775809ms";
@@ -30,7 +29,7 @@ const ROWS: [(&[u8], Result<&[u8], RunError>); 6] = [
 ];
 
 #[test]
-fn bytes_in_and_out(rt: HostRuntime) -> Result<(), Fail> {
+fn bytes_in_and_out(rt: HostRuntime) {
     let alloc = rt.alloc();
     for (input, want) in &ROWS {
         let mut reader = Ended::new(*input);
@@ -48,7 +47,6 @@ fn bytes_in_and_out(rt: HostRuntime) -> Result<(), Fail> {
         }
         assert!(rt; !reader.has_failed() && !writer.has_failed() && reader.inner().is_empty());
     }
-    Ok(())
 }
 
 /// Errors, their numbers and their messages.
@@ -66,14 +64,11 @@ const ERRORS: [(RunError, u8, &str); 6] = [
 ];
 
 #[test]
-fn errors(rt: HostRuntime) -> Result<(), Fail> {
-    let alloc = rt.alloc();
+fn errors(rt: HostRuntime) {
     for (error, number, message) in &ERRORS {
-        assert_eq!(rt; error.number(), *number);
-        let found = format!(in alloc; "{error}")?;
-        assert_eq!(rt; found.as_str(), *message);
+        prints(&rt, error.to_string(rt.alloc()), message);
+        assert!(rt; error.number() == *number, "{message}");
     }
-    Ok(())
 }
 
 #[test]
@@ -96,23 +91,24 @@ fn answer(alloc: Global, format: Format, text: &str) -> Result<Vec<u8>, RunError
     Ok(written)
 }
 
-#[test]
-fn laid_out(rt: HostRuntime) -> Result<(), Fail> {
-    let alloc = rt.alloc();
-    let found = answer(alloc, Format::Pretty(PRETTY_LAYOUT), SUM)?;
-    assert!(rt; found.as_slice() == SUM_LINES.as_bytes());
-    let syntax = RunError::Parse(ParseError::Syntax);
-    check_value(
-        &rt,
-        answer(alloc, Format::Pretty(PRETTY_LAYOUT), "a b"),
-        Err(syntax),
-        &"a b",
-    );
-    Ok(())
+// Whether a run in the format prints this of the text.
+fn is_answer(alloc: Global, format: Format, text: &str, want: &str) -> Result<bool, RunError> {
+    let found = answer(alloc, format, text)?;
+    Ok(found.as_slice() == want.as_bytes())
 }
 
 #[test]
-fn as_json(rt: HostRuntime) -> Result<(), Fail> {
+fn laid_out(rt: HostRuntime) {
+    let alloc = rt.alloc();
+    let pretty = Format::Pretty(PRETTY_LAYOUT);
+    is_so(&rt, is_answer(alloc, pretty, SUM, SUM_LINES), SUM);
+    let found = answer(alloc, Format::Pretty(PRETTY_LAYOUT), "a b");
+    let syntax = RunError::Parse(ParseError::Syntax);
+    check_value(&rt, found, Err(syntax), &"a b");
+}
+
+#[test]
+fn as_json(rt: HostRuntime) {
     let alloc = rt.alloc();
     for (text, want) in [
         (
@@ -121,8 +117,7 @@ fn as_json(rt: HostRuntime) -> Result<(), Fail> {
         ),
         ("-1e3", "{\"type\":\"numberLiteral\",\"val\":\"-1000\"}\n"),
     ] {
-        let found = answer(alloc, Format::Json, text)?;
-        assert!(rt; found.as_slice() == want.as_bytes(), "{text}");
+        is_so(&rt, is_answer(alloc, Format::Json, text, want), text);
     }
     check_value(
         &rt,
@@ -132,7 +127,6 @@ fn as_json(rt: HostRuntime) -> Result<(), Fail> {
     );
     let empty = RunError::Parse(ParseError::Empty);
     check_value(&rt, answer(alloc, Format::Json, ""), Err(empty), &"");
-    Ok(())
 }
 
 // The text with so many copies of `x` between `front` and `back`.
@@ -145,30 +139,34 @@ fn padded(alloc: Global, front: &str, count: usize, back: &str) -> Result<String
     Ok(made)
 }
 
+// Whether a name of so many letters is printed.
+fn is_name_printed(alloc: Global, len: usize) -> Result<bool, RunError> {
+    let name = padded(alloc, "", len, "")?;
+    let want = padded(alloc, "", len, "\n")?;
+    is_answer(alloc, Format::Line, name.as_str(), want.as_str())
+}
+
 // The input is read in blocks of 4,096 bytes.
 #[test]
-fn inputs_of_many_blocks(rt: HostRuntime) -> Result<(), Fail> {
-    let alloc = rt.alloc();
+fn inputs_of_many_blocks(rt: HostRuntime) {
     for len in [
         1, 13, 14, 4_094, 4_095, 4_096, 4_097, 8_191, 8_192, 8_193, 1_000_000,
     ] {
-        let name = padded(alloc, "", len, "")?;
-        let want = padded(alloc, "", len, "\n")?;
-        let line = answer(alloc, Format::Line, name.as_str())?;
-        assert!(rt; line.as_slice() == want.as_bytes(), "at {len}");
+        is_so(&rt, is_name_printed(rt.alloc(), len), "a long name");
     }
-    Ok(())
+}
+
+// Whether a sum is read after a comment of so many letters and the first part of this text.
+fn is_sum_read(alloc: Global, before: usize, back: &str) -> Result<bool, RunError> {
+    let text = padded(alloc, "1 # ", before, back)?;
+    is_answer(alloc, Format::Line, text.as_str(), "1 + 2\n")
 }
 
 #[test]
-fn characters_across_blocks(rt: HostRuntime) -> Result<(), Fail> {
-    let alloc = rt.alloc();
+fn characters_across_blocks(rt: HostRuntime) {
     for before in 4_088..4_096 {
         for back in ["é\n+ 2", "€\n+ 2", "\u{1f600}\n+ 2"] {
-            let text = padded(alloc, "1 # ", before, back)?;
-            let line = answer(alloc, Format::Line, text.as_str())?;
-            assert!(rt; line.as_slice() == b"1 + 2\n".as_slice(), "at {before}");
+            is_so(&rt, is_sum_read(rt.alloc(), before, back), back);
         }
     }
-    Ok(())
 }
