@@ -38,7 +38,10 @@ extern "C" {
 enum promql_mode {
     PROMQL_LINE = 0,   /* on one line */
     PROMQL_PRETTY = 1, /* laid out over several lines where one is too long */
-    PROMQL_JSON = 2    /* the JSON form, without a space */
+    PROMQL_JSON = 2,   /* the JSON form, without a space */
+    /* the JSON form with the places of nodes and matchers, `start` and `end` in bytes (docs/reference/json.md, "Places");
+     * promql_print_tree has no such mode */
+    PROMQL_PLACED_JSON = 3
 };
 
 /* What promql_rename renames. */
@@ -58,7 +61,7 @@ enum promql_status {
     PROMQL_OUT_OF_MEMORY = 1,
     PROMQL_NOT_UTF8 = 3,
     PROMQL_REJECTED = 4,         /* the query is rejected: the result has the place */
-    PROMQL_NUMBER_TOO_WIDE = 6,  /* PROMQL_JSON: a number of milliseconds is below -2^63 or above 2^64 - 1 */
+    PROMQL_NUMBER_TOO_WIDE = 6,  /* PROMQL_JSON, PROMQL_PLACED_JSON: a number of milliseconds is below -2^63 or above 2^64 - 1 */
     PROMQL_BUFFER_TOO_SMALL = 8, /* the text has more bytes than the buffer: `length` */
     PROMQL_UNKNOWN_MODE = 9,     /* or a level above 512, or no kind of what is renamed */
     PROMQL_BAD_POINTER = 10,     /* a pointer is NULL though its length is not 0, a length is above PTRDIFF_MAX, or the
