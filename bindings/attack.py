@@ -32,7 +32,7 @@ MATCHER = 'tenant="a"'
 # promql has no limits, is held against what a part of it takes on the same machine.)
 SECONDS, MEMORY = 10, 512
 TOO_DEEP, UNCLOSED = "expression nested too deeply", "unclosed left parenthesis"
-# What promql_check says in place of TOO_DEEP.
+# What promql_check and the page say in place of TOO_DEEP.
 TOO_MANY_LEVELS = "more than 512 levels: "
 TOO_LARGE, TOO_LONG = "patterns are too large", "query is too long"
 
@@ -418,7 +418,7 @@ def attack_page():
             if len(body) < 250_000:
                 said, value = ask(port, body)
                 error = (value or {}).get("error", {"message": ""})["message"]
-                wanted = OVER_LIMITS.get(name, message)
+                wanted = OVER_LIMITS.get(name, TOO_MANY_LEVELS if message == TOO_DEEP else message)
                 check(f"{name} for the page", said == 200 and error.startswith(wanted) and bool(error) == bool(status), (said, error))
         check("the page after all that", answers(port), "no answer in time")
         peak = int(next(line for line in Path(f"/proc/{process.pid}/status").read_text().splitlines() if "VmHWM" in line).split()[1])
