@@ -9,7 +9,7 @@ import signal
 import sys
 from typing import List, Optional, TextIO
 
-from . import check_command, completion_command, format_command, lint_command, lsp_command, page
+from . import __version__, check_command, completion_command, format_command, lint_command, lsp_command, page
 from .documents import Status
 
 COMMANDS = (
@@ -24,6 +24,7 @@ COMMANDS = (
 
 def main(arguments: Optional[List[str]] = None) -> int:
     parser = argparse.ArgumentParser(prog="python -m promql", description="PromQL from a command line.")
+    parser.add_argument("--version", action="version", version=f"promql {__version__}", help="print the version, and do no more")
     subparsers = parser.add_subparsers(required=True, metavar="COMMAND")
     for command in COMMANDS:
         command.add_parser(subparsers)

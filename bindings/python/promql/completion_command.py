@@ -68,7 +68,7 @@ def _bash(commands: List[Command]) -> Iterator[str]:
     yield f"_{_PROGRAM}() {{"
     yield "    local word=${COMP_WORDS[COMP_CWORD]} before=${COMP_WORDS[COMP_CWORD - 1]} words="
     yield '    case "$COMP_CWORD ${COMP_WORDS[1]} $before" in'
-    yield f"    '1 '*) words={_quoted(names + ' --help')} ;;"
+    yield f"    '1 '*) words={_quoted(names + ' --help --version')} ;;"
     for command in commands:
         if command.choices:
             yield f"    '2 {command.name} {command.name}') words={_quoted(' '.join(command.choices))} ;;"

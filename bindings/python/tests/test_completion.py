@@ -6,6 +6,7 @@ import tempfile
 import unittest
 from pathlib import Path
 
+import promql
 from command_line import run
 
 # The words before the one that is completed, its beginning, and what may come there.
@@ -39,13 +40,16 @@ class Completions(unittest.TestCase):
         path.write_text(said.out)
         return str(path)
 
+    def test_version(self):
+        self.assertEqual(run("--version"), (0, f"promql {promql.__version__}\n", ""))
+
     @unittest.skipUnless(shutil.which("bash"), "there is no bash here")
     def test_bash(self):
         call = '. "$1"; shift; COMP_WORDS=("$@"); COMP_CWORD=$(($# - 1)); _promql; printf "%s\\n" "${COMPREPLY[@]}"'
         script = self.script("bash")
         for before, word, wanted in COMPLETED:
             found = ran("bash", "-c", call, "bash", script, "promql", *before, word)
-            self.assertEqual(sorted(set(found) - {"--help"}), wanted, (before, word))
+            self.assertEqual(sorted(set(found) - {"--help", "--version"}), wanted, (before, word))
         # (a file comes by the shell's own completion)
         self.assertEqual(ran("bash", "-c", call, "bash", script, "promql", "check", ""), [])
         self.assertEqual(ran("bash", "-c", '. "$1"; complete -p promql', "bash", script)[-1], "promql")
