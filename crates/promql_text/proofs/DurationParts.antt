@@ -29,35 +29,35 @@ parts_follow : (us : List Unit) (ps : List Part) → AreParts us ps → prefix_l
 parts_follow us [] are = refl
 parts_follow [] (p ∷ ps) are = absurd are
 parts_follow (u ∷ us) (p ∷ ps) are =
-    ⊎_elim (λ here. no_run (parts_text (p ∷ ps)) (front_digit p.count (word_of p.unit ++ parts_text ps) here.1.0 here.1.1)) (λ later. parts_follow us (p ∷ ps) later) are
+    ⊎_elim (λ here. no_run (parts_text (p ∷ ps)) (front_digit p.0 (word_of p.1 ++ parts_text ps) here.1.0 here.1.1)) (λ later. parts_follow us (p ∷ ps) later) are
 
 record First (p : Part) (ps : List Part) : Type 0 where
-  count : IsCount p.count
+  count : IsCount p.0
   follow : prefix_len is_no_digit (parts_text ps) ≡ 0
 
 first_is : (us : List Unit) (p : Part) (ps : List Part) → AreParts us (p ∷ ps) → First p ps
 first_is [] p ps are = absurd are
 first_is (u ∷ us) p ps are = ⊎_elim (λ here. record { count = here.1; follow = parts_follow us ps here.2 }) (λ later. first_is us p ps later) are
 
-part_begins : (p : Part) (ps : List Part) (v : Unit) → First p ps → begins_part v (parts_text (p ∷ ps)) ≡ bytes_eq (word_of p.unit) (word_of v)
+part_begins : (p : Part) (ps : List Part) (v : Unit) → First p ps → begins_part v (parts_text (p ∷ ps)) ≡ bytes_eq (word_of p.1) (word_of v)
 part_begins p ps v is =
     let r : Text = parts_text ps in
-    ap (λ d. d && bytes_eq (word_run (past_run (parts_text (p ∷ ps)))) (word_of v)) (front_digit p.count (word_of p.unit ++ r) is.count.0 is.count.1)
-    ∙ ap (λ w. bytes_eq (word_run w) (word_of v)) (past_append p.count (word_of p.unit ++ r) is.count.1 (word_letter p.unit r))
-    ∙ ap (λ w. bytes_eq w (word_of v)) (word_runs p.unit r is.follow)
+    ap (λ d. d && bytes_eq (word_run (past_run (parts_text (p ∷ ps)))) (word_of v)) (front_digit p.0 (word_of p.1 ++ r) is.count.0 is.count.1)
+    ∙ ap (λ w. bytes_eq (word_run w) (word_of v)) (past_append p.0 (word_of p.1 ++ r) is.count.1 (word_letter p.1 r))
+    ∙ ap (λ w. bytes_eq w (word_of v)) (word_runs p.1 r is.follow)
 
 part_reads : (p : Part) (ps : List Part) (us : List Unit) → First p ps
-    → parts_nanos (p.unit ∷ us) (parts_text (p ∷ ps)) ≡ option_map (λ k. digits_value 10 p.count * nanos_of p.unit + k) (parts_nanos us (parts_text ps))
+    → parts_nanos (p.1 ∷ us) (parts_text (p ∷ ps)) ≡ option_map (λ k. digits_value 10 p.0 * nanos_of p.1 + k) (parts_nanos us (parts_text ps))
 part_reads p ps us is =
     let r : Text = parts_text ps in
     let t : Text = parts_text (p ∷ ps) in
-    cond-true (begins_part p.unit t) _ _ (part_begins p ps p.unit is ∙ same_word p.unit)
-    ∙ ap (λ ds. option_map (λ k. digits_value 10 ds * nanos_of p.unit + k) (parts_nanos us (past_word (past_run t)))) (run_append p.count (word_of p.unit ++ r) is.count.1 (word_letter p.unit r))
-    ∙ ap (λ w. option_map (λ k. digits_value 10 p.count * nanos_of p.unit + k) (parts_nanos us (past_word w))) (past_append p.count (word_of p.unit ++ r) is.count.1 (word_letter p.unit r))
-    ∙ ap (λ w. option_map (λ k. digits_value 10 p.count * nanos_of p.unit + k) (parts_nanos us w)) (word_passed p.unit r is.follow)
+    cond-true (begins_part p.1 t) _ _ (part_begins p ps p.1 is ∙ same_word p.1)
+    ∙ ap (λ ds. option_map (λ k. digits_value 10 ds * nanos_of p.1 + k) (parts_nanos us (past_word (past_run t)))) (run_append p.0 (word_of p.1 ++ r) is.count.1 (word_letter p.1 r))
+    ∙ ap (λ w. option_map (λ k. digits_value 10 p.0 * nanos_of p.1 + k) (parts_nanos us (past_word w))) (past_append p.0 (word_of p.1 ++ r) is.count.1 (word_letter p.1 r))
+    ∙ ap (λ w. option_map (λ k. digits_value 10 p.0 * nanos_of p.1 + k) (parts_nanos us w)) (word_passed p.1 r is.follow)
 
 -- the first part is in none of the units that come before
-other_word : (u : Unit) (us : List Unit) (p : Part) (ps : List Part) → NoWord u us → AreParts us (p ∷ ps) → bytes_eq (word_of p.unit) (word_of u) ≡ false
+other_word : (u : Unit) (us : List Unit) (p : Part) (ps : List Part) → NoWord u us → AreParts us (p ∷ ps) → bytes_eq (word_of p.1) (word_of u) ≡ false
 other_word u [] p ps none are = absurd are
 other_word u (v ∷ us) p ps none are =
     ⊎_elim (λ here. ap (λ w. bytes_eq (word_of w) (word_of u)) here.0 ∙ none.0) (λ later. other_word u us p ps none.1 later) are
@@ -69,9 +69,9 @@ parts_read (u ∷ us) (p ∷ ps) apart are =
     let t : Text = parts_text (p ∷ ps) in
     ⊎_elim
     (λ here.
-    let e : p.unit ≡ u = here.0 in
+    let e : p.1 ≡ u = here.0 in
     ap (λ v. parts_nanos (v ∷ us) t) (sym e) ∙ part_reads p ps us (record { count = here.1; follow = parts_follow us ps here.2 })
-    ∙ ap (option_map (λ k. digits_value 10 p.count * nanos_of p.unit + k)) (parts_read us ps apart.1 here.2))
+    ∙ ap (option_map (λ k. digits_value 10 p.0 * nanos_of p.1 + k)) (parts_read us ps apart.1 here.2))
     (λ later.
     cond-false (begins_part u t) _ _ (part_begins p ps u (first_is us p ps later) ∙ other_word u us p ps apart.0 later) ∙ parts_read us (p ∷ ps) apart.1 later)
     are
@@ -89,11 +89,11 @@ parts_form [] some are = absurd (omega arith)
 parts_form (p ∷ ps) some are =
     let is = first_is units p ps are in
     let r : Text = parts_text ps in
-    word_form p.count (word_of p.unit ++ r) is.count.0 is.count.1 (word_letter p.unit r) (word_no_point p.unit r) (word_no_end p.unit r)
+    word_form p.0 (word_of p.1 ++ r) is.count.0 is.count.1 (word_letter p.1 r) (word_no_point p.1 r) (word_no_end p.1 r)
 
 pub parts_long : (ps : List Part) → 0 < length ps → AreParts units ps → 0 < length (parts_text ps)
 parts_long [] some are = absurd (omega arith)
-parts_long (p ∷ ps) some are = let is = first_is units p ps are in omega (arith, is.count.0, length-append p.count (word_of p.unit ++ parts_text ps))
+parts_long (p ∷ ps) some are = let is = first_is units p ps are in omega (arith, is.count.0, length-append p.0 (word_of p.1 ++ parts_text ps))
 
 -- ---- what is read is parts
 
@@ -121,7 +121,7 @@ part_found u us s n (Some m) rest begins is =
     let h = both (is_ascii_digit (front s)) (bytes_eq (word_run (past_run s)) (word_of u)) begins in
     let r : Found us (after_part s) m = rest m refl in
     let sum : n ≡ digits_value 10 (digit_run s) * nanos_of u + m = sym (same (digits_value 10 (digit_run s) * nanos_of u + m) n is) in (
-      record { count = digit_run s; unit = u } ∷ r.0,
+      (digit_run s, u) ∷ r.0,
       inl (refl, (run_some s h.0, run_digits s), r.1),
       word_cut u s h.1 ∙ ap (λ t. digit_run s ++ (word_of u ++ t)) r.2,
       sum ∙ ap (λ k. digits_value 10 (digit_run s) * nanos_of u + k) r.3,

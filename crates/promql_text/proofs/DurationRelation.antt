@@ -44,14 +44,14 @@ form_gives s f h = let is = spelled_form s f h in duration-form s (Some f) (not_
 
 parts_some : (s : Text) (n : ℕ) → IsParts s n → s ≢ []
 parts_some s n h none =
-    let long = parts_long h.parts h.some h.order in
-    let short : length (parts_text h.parts) ≡ 0 = ap length (sym h.text ∙ none) in
+    let long = parts_long h.0 h.1 h.2 in
+    let short : length (parts_text h.0) ≡ 0 = ap length (sym h.3 ∙ none) in
     omega (arith, long, short)
 
 parts_give : (s : Text) (n : ℕ) → IsParts s n → duration_of s ≡ in_range n
 parts_give s n h =
-    duration-form s None (not_empty s (parts_some s n h)) (ap decimal_form h.text ∙ parts_form h.parts h.some h.order)
-    ∙ ap of_parts (ap (parts_nanos units) h.text ∙ units_read h.parts h.order ∙ ap Some (sym h.sum))
+    duration-form s None (not_empty s (parts_some s n h)) (ap decimal_form h.3 ∙ parts_form h.0 h.1 h.2)
+    ∙ ap of_parts (ap (parts_nanos units) h.3 ∙ units_read h.0 h.2 ∙ ap Some (sym h.4))
 
 below_zero : (r : Reading) → r ≢ NotANumber → of_seconds true r ≡ Err NotPositive
 below_zero NotANumber other = absurd (other refl)
@@ -60,7 +60,7 @@ below_zero (form.Finite n) other = refl
 
 means_said : (s : Text) (m : Meaning) → Means s m → duration_of s ≡ result_of m
 means_said s (Nanos n) h =
-    ⊎_elim (λ parts. parts_give s n parts) (λ seconds. form_gives s (signed_of false (form.Finite seconds.numeral)) seconds.text ∙ ap in_range (seconds_one seconds.numeral n seconds.nanos)) h
+    ⊎_elim (λ parts. parts_give s n parts) (λ seconds. form_gives s (signed_of false (form.Finite seconds.0)) seconds.1 ∙ ap in_range (seconds_one seconds.0 n seconds.2)) h
 means_said s Negative h = form_gives s (signed_of true h.0) h.2 ∙ below_zero h.0 h.1
 means_said s Infinite h = form_gives s (signed_of false form.Infinite) h
 
@@ -75,13 +75,13 @@ seconds_meant s true form.Infinite is = inl (Negative, (form.Infinite, (λ e. cc
 seconds_meant s false form.Infinite is = inl (Infinite, form_spelled s (signed_of false form.Infinite) is)
 seconds_meant s true (form.Finite n) is = inl (Negative, (form.Finite n, (λ e. cc), form_spelled s (signed_of true (form.Finite n)) is))
 seconds_meant s false (form.Finite n) is =
-    inl (Nanos (second_nanos n), inr (record { numeral = n; text = form_spelled s (signed_of false (form.Finite n)) is; nanos = seconds_are n }))
+    inl (Nanos (second_nanos n), inr (n, form_spelled s (signed_of false (form.Finite n)) is, seconds_are n))
 
 parts_meant : (s : Text) (o : Option ℕ) → s ≢ [] → decimal_form s ≡ None → parts_nanos units s ≡ o → Meant s
 parts_meant s None some none is = inr (duration-form s None (not_empty s some) none ∙ ap of_parts is)
 parts_meant s (Some n) some none is =
     let f = parts_found units s n is in
-    inl (Nanos n, inl (record { parts = f.0; some = some_part f.0 f.2; order = f.1; text = f.2; sum = f.3 }))
+    inl (Nanos n, inl (f.0, some_part f.0 f.2, f.1, f.2, f.3))
   where
     some_part : (ps : List Part) → s ≡ parts_text ps → 0 < length ps
     some_part [] e = absurd (some e)

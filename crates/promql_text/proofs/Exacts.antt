@@ -12,9 +12,7 @@ unfolding digits
 exact_zero_is = record {
   short = lit< tt;
   ends = λ _. refl;
-  no_minus_zero = λ _. refl;
-  no_zeros = λ _. refl;
-  no_places = λ _. refl;
+  one_zero = λ _. (refl, refl, refl);
   one_side = λ _. refl;
   below = lit≤ tt;
   above = lit≤ tt;
@@ -31,9 +29,7 @@ whole_is neg a z n is some ends less =
     record {
       short = omega arith;
       ends = λ e. absurd (ends e);
-      no_minus_zero = λ e. absurd (omega arith);
-      no_zeros = λ e. absurd (omega arith);
-      no_places = λ e. absurd (omega arith);
+      one_zero = λ e. absurd (omega arith);
       one_side = λ e. absurd (omega arith);
       below = omega arith;
       above = omega arith;
@@ -64,9 +60,7 @@ with_places_is a z n p is some ends less near =
     record {
       short = omega arith;
       ends = λ e. absurd (ends e);
-      no_minus_zero = λ e. refl;
-      no_zeros = λ e. absurd (omega arith);
-      no_places = λ e. absurd (omega arith);
+      one_zero = λ e. absurd (omega arith);
       one_side = λ e. omega arith;
       below = omega arith;
       above = omega arith;

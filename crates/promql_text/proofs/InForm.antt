@@ -88,9 +88,7 @@ scaled_exact neg c up down short ends range =
     record {
       short = short;
       ends = λ e. absurd (ends e);
-      no_minus_zero = λ e. absurd (omega (arith, ends));
-      no_zeros = λ e. absurd (omega (arith, ends));
-      no_places = λ e. absurd (omega (arith, ends));
+      one_zero = λ e. absurd (omega (arith, ends));
       one_side = λ some. omega arith;
       below = omega (arith, low, high);
       above = omega (arith, low, high);

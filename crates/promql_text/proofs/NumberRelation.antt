@@ -15,20 +15,20 @@ use Rattle.promql_text.proofs.NumberValues.{whole_gives, whole_is, numeral_gives
 reading_gives : (b : Bool) (r : Reading) (t : Text) → IsReading r t → GivesReading b r (apply_sign b r)
 reading_gives b NotANumber t is = refl
 reading_gives b Infinite t is = refl
-reading_gives b (form.Finite n) t is = numeral_gives b n is.whole is.fraction
+reading_gives b (form.Finite n) t is = numeral_gives b n is.3 is.4
 
 reading_is : (b : Bool) (r : Reading) (t : Text) (q : Result Number NumberFault) → IsReading r t → GivesReading b r q → apply_sign b r ≡ q
 reading_is b NotANumber t q is h = sym h
 reading_is b Infinite t q is h = sym h
-reading_is b (form.Finite n) t q is h = numeral_is b n q is.whole is.fraction h
+reading_is b (form.Finite n) t q is h = numeral_is b n q is.3 is.4 h
 
 meaning_gives : (t : Text) (m : Meaning) → Means t m → Gives m (result_of m)
 meaning_gives t (Whole b n) is = whole_gives b n
-meaning_gives t (Decimal f) is = reading_gives f.is_negative f.reading is.0.body is.0.is_body
+meaning_gives t (Decimal f) is = reading_gives f.is_negative f.reading is.0.1 is.0.4
 
 meaning_is : (t : Text) (m : Meaning) (r : Result Number NumberFault) → Means t m → Gives m r → result_of m ≡ r
 meaning_is t (Whole b n) r is h = whole_is b n r h
-meaning_is t (Decimal f) r is h = reading_is f.is_negative f.reading is.0.body r is.0.is_body h
+meaning_is t (Decimal f) r is h = reading_is f.is_negative f.reading is.0.1 r is.0.4 h
 
 -- no meaning gives that there is none
 reading_some : (b : Bool) (r : Reading) → GivesReading b r (Err fault.NotANumber) → ⊥

@@ -13,9 +13,9 @@ use Rattle.promql_text.specs.Texts.{Text}
 use Rattle.promql_text.specs.DecimalForm.{front, is_minus, without_sign, Numeral, Reading, NotANumber, Infinite, Signed, decimal_form}
 use Rattle.promql_text.specs.DecimalForm as form
 use Rattle.promql_text.specs.NumberText.{hexadecimal, is_digit_below, is_octal, is_past_octal, is_x, number_of, of_form, radix_number, apply_sign}
-use Rattle.promql_text.specs.NumberForms.{IsHexadecimal, IsOctal, BeginsOctal, Meaning, Whole, Decimal, Means}
+use Rattle.promql_text.specs.NumberForms.{IsInRadix, BeginsOctal, Meaning, Whole, Decimal, Means}
 use Rattle.promql_text.specs.Numbers.{whole}
-use Rattle.promql_text.specs.NumeralSpelling.{IsSign, IsPoint, HasNoExponent, HasExponent, IsReading, IsDecimalForm}
+use Rattle.promql_text.specs.NumeralSpelling.{IsSign, IsPoint, IsExponent, IsReading, IsDecimalForm}
 use Rattle.promql_text.specs.declared.number.Number.{Number}
 use Rattle.promql_text.specs.declared.number.Number.TheVariants as number
 use Rattle.promql_text.specs.declared.number.NumberFault.{NumberFault}
@@ -122,16 +122,18 @@ hexadecimal_is : (t : Text) → hexadecimal t ≡ of_body (is_minus t) (without_
 unfolding hexadecimal
 hexadecimal_is t = refl
 
-hexadecimal_said : (t : Text) (b : Bool) (n : ℕ) → IsHexadecimal t b n → number_of t ≡ result_of (Whole b n)
-hexadecimal_said t b n h =
-    let u : Text = 48 ∷ h.x ∷ h.digits in
-    let s : Text = h.sign ++ u in
-    let g : Signs b s u = signs_plain b h.sign u h.is_sign refl in
-    let has : list_any is_x s ≡ true = sign_none is_x b h.sign u refl refl h.is_sign ∙ ap (λ e. e || list_any is_x h.digits) h.is_x in
-    ap number_of h.text ∙ number_hexadecimal s has ∙ hexadecimal_is s
+hexadecimal_said : (t : Text) (b : Bool) (n x : ℕ) → is_x x ≡ true → IsInRadix 16 (x ∷ []) t b n → number_of t ≡ result_of (Whole b n)
+hexadecimal_said t b n x is h =
+    let sign : Text = h.0 in
+    let digits : Text = h.1 in
+    let u : Text = 48 ∷ x ∷ digits in
+    let s : Text = sign ++ u in
+    let g : Signs b s u = signs_plain b sign u h.3 refl in
+    let has : list_any is_x s ≡ true = sign_none is_x b sign u refl refl h.3 ∙ ap (λ e. e || list_any is_x digits) is in
+    ap number_of h.2 ∙ number_hexadecimal s has ∙ hexadecimal_is s
     ∙ ap (λ m. of_body m (without_sign s)) g.minus ∙ ap (of_body b) g.rest
-    ∙ ap (λ e. cond e (radix_number 16 b h.digits) (Err fault.NotANumber)) h.is_x
-    ∙ radix_said 16 b h.digits h.some h.all ∙ ap (λ k. result_of (Whole b k)) (sym h.value)
+    ∙ ap (λ e. cond e (radix_number 16 b digits) (Err fault.NotANumber)) is
+    ∙ radix_said 16 b digits h.4 h.5 ∙ ap (λ k. result_of (Whole b k)) (sym h.6)
 
 x_cut : (body : Text) → begins_x body ≡ true → (x : ℕ) × (body ≡ 48 ∷ x ∷ drop 2 body) × (is_x x ≡ true)
 x_cut [] is = absurd (cc)
@@ -158,7 +160,7 @@ hexadecimal_found t has =
     let s : SignCut t = sign_found t in
     let x = x_cut body begins in
     let d = digits_are 16 ds digits in
-    inl (Whole b (digits_value 16 ds), inl (record { sign = s.sign; x = x.0; digits = ds; text = s.is ∙ ap (λ r. s.sign ++ r) x.1; is_sign = s.has; is_x = x.2; some = d.some; all = d.all; value = refl })))
+    inl (Whole b (digits_value 16 ds), inl (x.0, x.2, (s.sign, ds, s.is ∙ ap (λ r. s.sign ++ r) x.1, s.has, d.some, d.all, refl))))
     (λ none. inr (to_digits ∙ radix_none 16 b ds none)))
     (λ other. inr (is ∙ ap (λ e. cond e (radix_number 16 b ds) (Err fault.NotANumber)) other))
 
@@ -169,12 +171,14 @@ octal_body body past = front body == 48 && (not (length (drop 1 body) == 0) && n
 
 begins_octal : (t : Text) → BeginsOctal t → is_octal t ≡ true
 begins_octal t h =
-    let u : Text = 48 ∷ h.rest in
-    let s : Text = h.sign ++ u in
-    let g : Signs h.is_negative s u = signs_plain h.is_negative h.sign u h.is_sign refl in
-    let past : list_any is_past_octal s ≡ false = sign_none is_past_octal h.is_negative h.sign u refl refl h.is_sign ∙ h.none in
-    ap is_octal h.text ∙ ap (λ body. octal_body body (list_any is_past_octal s)) g.rest
-    ∙ ap (octal_body u) past ∙ ap (λ e. not e && true) (ne_eqb (length h.rest) 0 (λ e. absurd (let some = h.some in omega arith)))
+    let rest : Text = h.2 in
+    let u : Text = 48 ∷ rest in
+    let s : Text = h.1 ++ u in
+    let g : Signs h.0 s u = signs_plain h.0 h.1 u h.4 refl in
+    let past : list_any is_past_octal s ≡ false = sign_none is_past_octal h.0 h.1 u refl refl h.4 ∙ h.6 in
+    let some : 0 < length rest = h.5 in
+    ap is_octal h.3 ∙ ap (λ body. octal_body body (list_any is_past_octal s)) g.rest
+    ∙ ap (octal_body u) past ∙ ap (λ e. not e && true) (ne_eqb (length rest) 0 (λ e. absurd (omega arith)))
 
 zero_cut : (body : Text) → (front body == 48) ≡ true → body ≡ 48 ∷ drop 1 body
 zero_cut [] is = absurd (cc)
@@ -195,29 +199,28 @@ octal_begins t is =
     let h = both (front body == 48) (not (length rest == 0) && not (list_any is_past_octal t)) is in
     let k = both (not (length rest == 0)) (not (list_any is_past_octal t)) h.1 in
     let cut : body ≡ 48 ∷ rest = zero_cut body h.0 in
-    let text : t ≡ s.sign ++ (48 ∷ rest) = s.is ∙ ap (λ r. s.sign ++ r) cut in
-    record {
-      is_negative = is_minus t;
-      sign = s.sign;
-      rest = rest;
-      text = text;
-      is_sign = s.has;
-      some = some_length rest (not_true (length rest == 0) k.0);
-      none = sym (ap (list_any is_past_octal) text ∙ sign_none is_past_octal (is_minus t) s.sign (48 ∷ rest) refl refl s.has) ∙ not_true (list_any is_past_octal t) k.1;
-    }
+    let text : t ≡ s.sign ++ (48 ∷ rest) = s.is ∙ ap (λ r. s.sign ++ r) cut in (
+      is_minus t,
+      s.sign,
+      rest,
+      text,
+      s.has,
+      some_length rest (not_true (length rest == 0) k.0),
+      sym (ap (list_any is_past_octal) text ∙ sign_none is_past_octal (is_minus t) s.sign (48 ∷ rest) refl refl s.has) ∙ not_true (list_any is_past_octal t) k.1,
+    )
 
-octal_said : (t : Text) (b : Bool) (n : ℕ) → IsOctal t b n → number_of t ≡ result_of (Whole b n)
+octal_said : (t : Text) (b : Bool) (n : ℕ) → IsInRadix 8 [] t b n → number_of t ≡ result_of (Whole b n)
 octal_said t b n h =
-    let u : Text = 48 ∷ h.digits in
-    let s : Text = h.sign ++ u in
-    let g : Signs b s u = signs_plain b h.sign u h.is_sign refl in
-    let none : list_any is_x s ≡ false = sign_none is_x b h.sign u refl refl h.is_sign ∙ digits_none is_x 8 h.digits octal_no_x h.all in
-    let begins : is_octal s ≡ true
-    = begins_octal s (record { is_negative = b; sign = h.sign; rest = h.digits; text = refl; is_sign = h.is_sign; some = h.some; none = digits_none is_past_octal 8 h.digits octal_not_past h.all })
-    in
-    ap number_of h.text ∙ number_octal s none begins
+    let sign : Text = h.0 in
+    let digits : Text = h.1 in
+    let u : Text = 48 ∷ digits in
+    let s : Text = sign ++ u in
+    let g : Signs b s u = signs_plain b sign u h.3 refl in
+    let none : list_any is_x s ≡ false = sign_none is_x b sign u refl refl h.3 ∙ digits_none is_x 8 digits octal_no_x h.5 in
+    let begins : is_octal s ≡ true = begins_octal s (b, sign, digits, refl, h.3, h.4, digits_none is_past_octal 8 digits octal_not_past h.5) in
+    ap number_of h.2 ∙ number_octal s none begins
     ∙ ap (λ m. radix_number 8 m (drop 1 (without_sign s))) g.minus ∙ ap (λ body. radix_number 8 b (drop 1 body)) g.rest
-    ∙ radix_said 8 b h.digits h.some h.all ∙ ap (λ k. result_of (Whole b k)) (sym h.value)
+    ∙ radix_said 8 b digits h.4 h.5 ∙ ap (λ k. result_of (Whole b k)) (sym h.6)
 
 octal_found : (t : Text) → list_any is_x t ≡ false → is_octal t ≡ true → Found t
 octal_found t none is =
@@ -229,7 +232,7 @@ octal_found t none is =
     let s : SignCut t = sign_found t in
     let d = digits_are 8 ds digits in
     let h = both (front (without_sign t) == 48) (not (length ds == 0) && not (list_any is_past_octal t)) is in
-    inl (Whole b (digits_value 8 ds), inr (record { sign = s.sign; digits = ds; text = s.is ∙ ap (λ r. s.sign ++ r) (zero_cut (without_sign t) h.0); is_sign = s.has; some = d.some; all = d.all; value = refl })))
+    inl (Whole b (digits_value 8 ds), inr (s.sign, ds, s.is ∙ ap (λ r. s.sign ++ r) (zero_cut (without_sign t) h.0), s.has, d.some, d.all, refl)))
     (λ other. inr (to_digits ∙ radix_none 8 b ds other))
 
 -- ---- decimal texts
@@ -250,26 +253,26 @@ point_no_x point fraction is = ⊎_elim (λ e. ap (list_any is_x) e) (λ e. ap (
 letter_no_x : (c : ℕ) → (c ≡ 101) ⊎ (c ≡ 69) → is_x c ≡ false
 letter_no_x c is = ⊎_elim (λ e. ap is_x e) (λ e. ap is_x e) is
 
-end_no_x : (n : Numeral) (t : Text) → HasNoExponent n t ⊎ HasExponent n t → list_any is_x t ≡ false
+end_no_x : (n : Numeral) (t : Text) → IsExponent n t → list_any is_x t ≡ false
 end_no_x n t h =
     ⊎_elim
-    (λ none. ap (list_any is_x) none.is)
+    (λ none. ap (list_any is_x) none.0)
     (λ some.
-    ap (list_any is_x) some.is ∙ ap (λ b. b || list_any is_x (some.sign ++ n.exponent)) (letter_no_x some.letter some.is_letter)
-    ∙ sign_none is_x n.is_down some.sign n.exponent refl refl some.is_sign ∙ digits_none is_x 10 n.exponent digit_no_x some.digits)
+    ap (list_any is_x) some.2 ∙ ap (λ b. b || list_any is_x (some.1 ++ n.exponent)) (letter_no_x some.0 some.3)
+    ∙ sign_none is_x n.is_down some.1 n.exponent refl refl some.4 ∙ digits_none is_x 10 n.exponent digit_no_x some.6)
     h
 
 reading_no_x : (r : Reading) (s : Text) → IsReading r s → list_any is_x s ≡ false
 reading_no_x NotANumber s is = word_no_x s (codes "nan") is refl
 reading_no_x Infinite s is = ⊎_elim (λ e. word_no_x s (codes "inf") e refl) (λ e. word_no_x s (codes "infinity") e refl) is
 reading_no_x (form.Finite n) s is =
-    ap (list_any is_x) is.is
-    ∙ both_none is_x n.whole (is.point ++ (n.fraction ++ is.end)) (digits_none is_x 10 n.whole digit_no_x is.whole)
-    (both_none is_x is.point (n.fraction ++ is.end) (point_no_x is.point n.fraction is.has_point)
-    (both_none is_x n.fraction is.end (digits_none is_x 10 n.fraction digit_no_x is.fraction) (end_no_x n is.end is.ends)))
+    ap (list_any is_x) is.2
+    ∙ both_none is_x n.whole (is.0 ++ (n.fraction ++ is.1)) (digits_none is_x 10 n.whole digit_no_x is.3)
+    (both_none is_x is.0 (n.fraction ++ is.1) (point_no_x is.0 n.fraction is.6)
+    (both_none is_x n.fraction is.1 (digits_none is_x 10 n.fraction digit_no_x is.4) (end_no_x n is.1 is.7)))
 
 decimal_no_x : (f : Signed) (t : Text) → IsDecimalForm f t → list_any is_x t ≡ false
-decimal_no_x f t h = ap (list_any is_x) h.is ∙ sign_none is_x f.is_negative h.sign h.body refl refl h.is_sign ∙ reading_no_x f.reading h.body h.is_body
+decimal_no_x f t h = ap (list_any is_x) h.2 ∙ sign_none is_x f.is_negative h.0 h.1 refl refl h.3 ∙ reading_no_x f.reading h.1 h.4
 
 decimal_said : (t : Text) (f : Signed) → IsDecimalForm f t → (BeginsOctal t → ⊥) → number_of t ≡ result_of (Decimal f)
 decimal_said t f h other =
@@ -286,7 +289,7 @@ decimal_found t (Some f) none other is = inl (Decimal f, (form_spelled t f is, �
 -- ---- any text
 
 pub means_said : (t : Text) (m : Meaning) → Means t m → number_of t ≡ result_of m
-means_said t (Whole b n) h = ⊎_elim (hexadecimal_said t b n) (octal_said t b n) h
+means_said t (Whole b n) h = ⊎_elim (λ x. hexadecimal_said t b n x.0 x.1 x.2) (octal_said t b n) h
 means_said t (Decimal f) h = decimal_said t f h.0 h.1
 
 pub text_found : (t : Text) → Found t

@@ -7,8 +7,9 @@ use Rattle.std.proofs.lemmas.Bool.{cases_lt, cond_both, cond-false, cond-true, l
 use Rattle.std.proofs.lemmas.Bool.Decides.{nat_tests}
 use Rattle.std.proofs.Math.Nat.{mul-div_left, zero-mul}
 use Rattle.promql_text.specs.DecimalForm.{Numeral, digits_number, exponent_size, places}
+use Rattle.promql_text.specs.DecimalForm as form
 use Rattle.promql_text.specs.DurationForms.{up, down}
-use Rattle.promql_text.specs.NumberForms.{Whole, HasValue, IsTooLong, GivesWhole, GivesNumeral}
+use Rattle.promql_text.specs.NumberForms.{Whole, HasValue, IsTooLong, GivesReading, Gives}
 use Rattle.promql_text.specs.NumberText.{at_place, finite, zeros_of}
 use Rattle.promql_text.specs.Numbers.{Exact, IsExact, digit_count, exact_zero, is_in_range, from_digits, exact_quotient, tens, whole}
 use Rattle.promql_text.specs.declared.number.Number.TheVariants as number
@@ -28,7 +29,7 @@ cancel_tens a b k is = sym (mul-div_left a (ten_pos k)) ∙ ap (λ n. n / 10 ^ k
 
 zero_digits : (b : Bool) (m u v : ℕ) (d : Exact) → HasValue b m u v d → m ≡ 0 → d.digits ≡ 0
 zero_digits b m u v d h none =
-    let size : d.digits * 10 ^ (d.zeros + v) ≡ 0 = h.size ∙ ap (λ k. k * 10 ^ (u + d.places)) none ∙ zero-mul (10 ^ (u + d.places)) in
+    let size : d.digits * 10 ^ (d.zeros + v) ≡ 0 = h.2 ∙ ap (λ k. k * 10 ^ (u + d.places)) none ∙ zero-mul (10 ^ (u + d.places)) in
     let low = below_product d.digits (d.zeros + v) in
     omega (arith, size, low)
 
@@ -47,18 +48,18 @@ pub value_one : (b : Bool) (m u v : ℕ) (d e : Exact) → HasValue b m u v d �
 value_one b m u v d e h k =
     let sign : d.is_negative ≡ e.is_negative =
     ⊎_elim
-    (λ some. h.sign some ∙ sym (k.sign some))
-    (λ low. let none : m ≡ 0 = omega arith in h.exact.no_minus_zero (zero_digits b m u v d h none) ∙ sym (k.exact.no_minus_zero (zero_digits b m u v e k none)))
+    (λ some. h.1 some ∙ sym (k.1 some))
+    (λ low. let none : m ≡ 0 = omega arith in (h.0.one_zero (zero_digits b m u v d h none)).0 ∙ sym (k.0.one_zero (zero_digits b m u v e k none)).0)
     (cases_lt 0 m)
     in
-    one_form d e h.exact k.exact (record { sign = sign; size = cross_sizes d.digits d.zeros d.places e.digits e.zeros e.places m u v h.size k.size })
+    one_form d e h.0 k.0 (sign, cross_sizes d.digits d.zeros d.places e.digits e.zeros e.places m u v h.2 k.2)
 
 -- the digits of a number of this value, where it is c and z zeros
 value_digits : (b : Bool) (m u v : ℕ) (d : Exact) (c z : ℕ) → HasValue b m u v d → c * 10 ^ z ≡ m → c % 10 ≢ 0 → (d.digits ≡ c) × (d.zeros + v ≡ z + (u + d.places))
 value_digits b m u v d c z h is ends =
-    let size : d.digits * 10 ^ (d.zeros + v) ≡ c * 10 ^ (z + (u + d.places)) = h.size ∙ ap (λ k. k * 10 ^ (u + d.places)) (sym is) ∙ sym (times_both c z (u + d.places)) in
+    let size : d.digits * 10 ^ (d.zeros + v) ≡ c * 10 ^ (z + (u + d.places)) = h.2 ∙ ap (λ k. k * 10 ^ (u + d.places)) (sym is) ∙ sym (times_both c z (u + d.places)) in
     let last : d.digits % 10 ≢ 0 = λ e. absurd
-    (let none : d.digits ≡ 0 = h.exact.ends e in
+    (let none : d.digits ≡ 0 = h.0.ends e in
     let product : d.digits * 10 ^ (d.zeros + v) ≡ 0 = ap (λ k. k * 10 ^ (d.zeros + v)) none ∙ zero-mul (10 ^ (d.zeros + v)) in
     let low = below_product c (z + (u + d.places)) in
     omega (arith, size, product, low, ends))
@@ -72,14 +73,14 @@ scaled_value : (b : Bool) (c z m u v : ℕ) → c * 10 ^ z ≡ m → IsExact (ex
 scaled_value b c z m u v is exact =
     let k : ℕ = u + (v - (z + u)) in
     let e : (z + u - v) + v ≡ z + k = omega arith in
-    record { exact = exact; sign = λ _. refl; size = ap (λ n. c * 10 ^ n) e ∙ times_both c z k ∙ ap (λ n. n * 10 ^ k) is }
+    (exact, λ _. refl, ap (λ n. c * 10 ^ n) e ∙ times_both c z k ∙ ap (λ n. n * 10 ^ k) is)
 
 zero_value : (b : Bool) (m u v : ℕ) → m ≡ 0 → HasValue b m u v exact_zero
-zero_value b m u v none = record {
-  exact = exact_zero_is;
-  sign = λ some. absurd (omega arith);
-  size = zero-mul (10 ^ (0 + v)) ∙ sym (ap (λ k. k * 10 ^ (u + 0)) none ∙ zero-mul (10 ^ (u + 0)));
-}
+zero_value b m u v none = (
+  exact_zero_is,
+  (λ some. absurd (omega arith)),
+  zero-mul (10 ^ (0 + v)) ∙ sym (ap (λ k. k * 10 ^ (u + 0)) none ∙ zero-mul (10 ^ (u + 0))),
+)
 
 -- ---- whole numbers
 
@@ -104,13 +105,13 @@ whole_value b n less =
 not_below : (a b : ℕ) → nat_lt a b ≡ false → b ≤ a
 not_below a b is = grind (arith, nat_tests)
 
-pub whole_gives : (b : Bool) (n : ℕ) → GivesWhole b n (result_of (Whole b n))
+pub whole_gives : (b : Bool) (n : ℕ) → Gives (Whole b n) (result_of (Whole b n))
 whole_gives b n =
-    cond_both (nat_lt n (2 ^ 63)) (Ok (number.Finite (whole b n))) (Err fault.OutOfRange) (GivesWhole b n)
+    cond_both (nat_lt n (2 ^ 63)) (Ok (number.Finite (whole b n))) (Err fault.OutOfRange) (Gives (Whole b n))
     (λ less. let small = below n (2 ^ 63) less in (small, whole_value b n small))
     (λ more. not_below n (2 ^ 63) more)
 
-pub whole_is : (b : Bool) (n : ℕ) (r : Result _ NumberFault) → GivesWhole b n r → result_of (Whole b n) ≡ r
+pub whole_is : (b : Bool) (n : ℕ) (r : Result _ NumberFault) → Gives (Whole b n) r → result_of (Whole b n) ≡ r
 whole_is b n (Ok (number.Finite d)) h =
     cond-true (nat_lt n (2 ^ 63)) _ _ (lt-ltb n (2 ^ 63) h.0) ∙ ap (λ e. Ok (number.Finite e)) (value_one b n 0 0 (whole b n) d (whole_value b n h.0) h.1)
 whole_is b n (Ok number.Inf) h = absurd h
@@ -151,7 +152,7 @@ value_range : (b : Bool) (m u v : ℕ) (d : Exact) (c z : ℕ) → HasValue b m 
 value_range b m u v d c z h is ends =
     let same = value_digits b m u v d c z h is ends in
     let count : digit_count d.digits ≡ digit_count c = ap digit_count same.0 in
-    in_range (digit_count c) (z + u) v (omega (arith, count, same.1, h.exact.below)) (omega (arith, count, same.1, h.exact.above))
+    in_range (digit_count c) (z + u) v (omega (arith, count, same.1, h.0.below)) (omega (arith, count, same.1, h.0.above))
   where
     in_range : (k i j : ℕ) → k + i ≤ 309 + j → j ≤ k + i + 323 → ◌≡◌ {A = Bool} (nat_le (k + i) (309 + j) && nat_le j (k + i + 323)) true
     in_range k i j low high = grind (arith, nat_tests)
@@ -164,7 +165,7 @@ value_not_long b m u v d most less h long =
     let p : Parts m z = tens_parts most m some less in
     let same = value_digits b m u v d (m / 10 ^ z) z h p.is p.ends in
     let many = long (m / 10 ^ z) z p.is in
-    omega (arith, same.0, many, h.exact.short))
+    omega (arith, same.0, many, h.0.short))
     (λ low.
     let none : 0 * 10 ^ 0 ≡ m = omega arith in
     let many = long 0 0 none in
@@ -234,15 +235,15 @@ outcome b n whole fraction =
     (λ low. zero_outcome b n whole fraction (omega arith))
     (cases_lt 0 (digits_number n))
 
-pub numeral_gives : (b : Bool) (n : Numeral) → AllDigits 10 n.whole → AllDigits 10 n.fraction → GivesNumeral b n (finite b n)
+pub numeral_gives : (b : Bool) (n : Numeral) → AllDigits 10 n.whole → AllDigits 10 n.fraction → GivesReading b (form.Finite n) (finite b n)
 numeral_gives b n whole fraction =
-    let P : Result _ NumberFault → Type 0 = λ r. GivesNumeral b n r in
+    let P : Result _ NumberFault → Type 0 = λ r. GivesReading b (form.Finite n) r in
     ⊎_elim
     (λ long. subst P (sym long.1) long.0)
     (λ short. ⊎_elim (λ value. subst P (sym value.2) value.1) (λ out. subst P (sym out.1) (short.0, out.0)) short.1)
     (outcome b n whole fraction)
 
-pub numeral_is : (b : Bool) (n : Numeral) (r : Result _ NumberFault) → AllDigits 10 n.whole → AllDigits 10 n.fraction → GivesNumeral b n r → finite b n ≡ r
+pub numeral_is : (b : Bool) (n : Numeral) (r : Result _ NumberFault) → AllDigits 10 n.whole → AllDigits 10 n.fraction → GivesReading b (form.Finite n) r → finite b n ≡ r
 numeral_is b n (Ok (number.Finite d)) whole fraction h =
     ⊎_elim
     (λ long. absurd (value_not_long b (digits_number n) (up n) (down n) d (length n.whole + length n.fraction) (number_below n whole fraction) h long.0))

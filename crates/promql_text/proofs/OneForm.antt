@@ -20,9 +20,7 @@ exact_negated : (d : Exact) → IsExact d → IsExact (negate d)
 exact_negated d e = record {
   short = e.short;
   ends = e.ends;
-  no_minus_zero = λ none. ap (λ t. not d.is_negative && not t) (eq-eqb d.digits 0 none) ∙ and_false (not d.is_negative);
-  no_zeros = e.no_zeros;
-  no_places = e.no_places;
+  one_zero = λ none. (ap (λ t. not d.is_negative && not t) (eq-eqb d.digits 0 none) ∙ and_false (not d.is_negative), (e.one_zero none).1, (e.one_zero none).2);
   one_side = e.one_side;
   below = e.below;
   above = e.above;
@@ -52,7 +50,7 @@ none_both : (v w : Exact) → v.digits ≡ 0 → SameValue v w → w.digits ≡ 
 none_both v w none same =
     let zero_size : v.digits * 10 ^ (v.zeros + w.places) ≡ 0 = ap (λ n. n * 10 ^ (v.zeros + w.places)) none ∙ zero-mul (10 ^ (v.zeros + w.places)) in
     let low = below_product w.digits (w.zeros + v.places) in
-    omega (arith, low, zero_size, same.size)
+    omega (arith, low, zero_size, same.1)
 
 sides : (a b c d : ℕ) → (0 < b → a ≡ 0) → (0 < d → c ≡ 0) → a + d ≡ c + b → (a ≡ c) × (b ≡ d)
 sides a zero c zero left right is = (omega arith, refl)
@@ -68,13 +66,13 @@ pub one_form : (v w : Exact) → IsExact v → IsExact w → SameValue v w → v
 one_form v w e f same =
     ⊎_elim
     (λ some.
-    let other : 0 < w.digits = (other_some v.digits w.digits (10 ^ (v.zeros + w.places)) (10 ^ (w.zeros + v.places)) some (ten_pos (v.zeros + w.places)) same.size) in
+    let other : 0 < w.digits = (other_some v.digits w.digits (10 ^ (v.zeros + w.places)) (10 ^ (w.zeros + v.places)) some (ten_pos (v.zeros + w.places)) same.1) in
     let last : v.digits % 10 ≢ 0 = λ h. absurd (let k : v.digits ≡ 0 = e.ends h in omega arith) in
     let end : w.digits % 10 ≢ 0 = λ h. absurd (let k : w.digits ≡ 0 = f.ends h in omega arith) in
-    let zeros : v.zeros + w.places ≡ w.zeros + v.places = same_zeros v.digits w.digits (v.zeros + w.places) (w.zeros + v.places) last end same.size in
-    let digits : v.digits ≡ w.digits = same_digits v.digits w.digits (v.zeros + w.places) (w.zeros + v.places) zeros same.size in
+    let zeros : v.zeros + w.places ≡ w.zeros + v.places = same_zeros v.digits w.digits (v.zeros + w.places) (w.zeros + v.places) last end same.1 in
+    let digits : v.digits ≡ w.digits = same_digits v.digits w.digits (v.zeros + w.places) (w.zeros + v.places) zeros same.1 in
     let s : (v.zeros ≡ w.zeros) × (v.places ≡ w.places) = sides v.zeros v.places w.zeros w.places e.one_side f.one_side zeros in
-    ap (λ b. exact_of b v.digits v.zeros v.places) same.sign ∙ ap (λ c. exact_of w.is_negative c v.zeros v.places) digits
+    ap (λ b. exact_of b v.digits v.zeros v.places) same.0 ∙ ap (λ c. exact_of w.is_negative c v.zeros v.places) digits
     ∙ ap (λ z. exact_of w.is_negative w.digits z v.places) s.0 ∙ ap (λ p. exact_of w.is_negative w.digits w.zeros p) s.1)
     (λ low.
     let none : v.digits ≡ 0 = omega arith in

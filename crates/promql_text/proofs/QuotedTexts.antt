@@ -9,8 +9,9 @@ use Rattle.std.proofs.lemmas.Grind.{common_steps}
 use Rattle.std.proofs.lemmas.Str.{encode_ascii}
 use Rattle.std.proofs.Math.Seq.{drop-append_seam}
 use Rattle.promql_text.specs.Texts.{Text}
-use Rattle.promql_text.specs.Quoting.{is_quote, letter, number, hexadecimal, escape, inside, unquoted_text}
-use Rattle.promql_text.specs.QuoteSpellings.{Spelling, Itself, OwnQuote, Letter, Octal, Hexadecimal, text_of, escape_digits, Spells, spelled_text, AllSpell, IsQuotedText}
+use Rattle.promql_text.specs.Quoting.{is_quote, letter, number, escape, inside, unquoted_text}
+use Rattle.promql_text.specs.Quoting as quoting
+use Rattle.promql_text.specs.QuoteSpellings.{escape_digits, Spells, itself, own_quote, by_letter, octal, hexadecimal, AreSpelled, no_more, and_more, IsQuotedText}
 use Rattle.promql_text.proofs.Quotes.{escape-own, escape-x, escape-u, escape-U, escape-octal, escape-letter}
 use Rattle.promql_text.proofs.QuotedCharacters.{reads_between_backticks, reads_itself, reads_escape}
 
@@ -68,7 +69,7 @@ octal_reads quote x y z c r is ticks digits value small =
     ∙ ap (option_and_then (λ c. cond (nat_le c 255) (Some (c, 3)) None)) number_is
     ∙ cond-true (nat_le c 255) _ _ (le-leb c 255 small)
 
-hexadecimal_reads : (n c : ℕ) (ds r : Text) → length ds ≡ n → AllDigits 16 ds → digits_value 16 ds ≡ c → IsScalar c → hexadecimal n (ds ++ r) ≡ Some (c, n + 1)
+hexadecimal_reads : (n c : ℕ) (ds r : Text) → length ds ≡ n → AllDigits 16 ds → digits_value 16 ds ≡ c → IsScalar c → quoting.hexadecimal n (ds ++ r) ≡ Some (c, n + 1)
 hexadecimal_reads n c ds r len digits value is =
     ap (option_and_then (λ c. cond (scalar c) (Some (c, n + 1)) None))
     (ap (λ n. number 16 n 0 (ds ++ r)) (sym len) ∙ number-all 16 0 ds r digits ∙ ap Some value)
@@ -116,32 +117,28 @@ digits_escape_reads quote b c ds r is ticks count digits value character =
 
 -- ---- a spelling, and all of them
 
-spelling_reads : (quote : ℕ) (p : Spelling) (c : ℕ) (r : Text) → is_quote quote ≡ true → Spells quote p c → inside quote 0 (text_of quote p ++ r) ≡ option_map (λ more. encode_utf8 c ++ more) (inside quote 0 r)
-spelling_reads quote (Itself d) c r is spells =
-    ap (λ d. inside quote 0 (encode_utf8 d ++ r)) spells.0
-    ∙ ⊎_elim
-    (λ (ticks : quote ≡ 96). reads_between_backticks quote c r ticks spells.2)
-    (λ (no : quote ≡ 96 → ⊥). reads_itself quote c r is spells.2 (spells.3 no).0 (spells.3 no).1)
+spelling_reads : (quote : ℕ) (w : Text) (c : ℕ) (r : Text) → is_quote quote ≡ true → Spells quote w c → inside quote 0 (w ++ r) ≡ option_map (λ more. encode_utf8 c ++ more) (inside quote 0 r)
+spelling_reads quote _ _ r is (itself c scalar_c other plain) =
+    ⊎_elim
+    (λ (ticks : quote ≡ 96). reads_between_backticks quote c r ticks other)
+    (λ (no : quote ≡ 96 → ⊥). reads_itself quote c r is other (plain no).0 (plain no).1)
     (cases_eq quote 96)
-spelling_reads quote OwnQuote c r is spells =
-    escape_reads quote c 1 (quote ∷ r) r is spells.0 (escape-own quote r ∙ ap (λ c. Some (c, 1)) (sym spells.1)) refl
-spelling_reads quote (Letter b) c r is spells = escape_reads quote c 1 (b ∷ r) r is spells.0 (letter_reads quote b c r is spells.0 spells.1) refl
-spelling_reads quote (Octal x y z) c r is spells =
-    escape_reads quote c 3 (x ∷ y ∷ z ∷ r) r is spells.0 (octal_reads quote x y z c r is spells.0 spells.1 spells.2 spells.3) refl
-spelling_reads quote (Hexadecimal b ds) c r is spells =
-    escape_reads quote c (length ds + 1) (b ∷ (ds ++ r)) r is spells.0
-    (digits_escape_reads quote b c ds r is spells.0 spells.1 spells.2 spells.3 spells.4) (escape_rest b (length ds) ds r refl)
+spelling_reads quote _ _ r is (own_quote ticks) = escape_reads quote quote 1 (quote ∷ r) r is ticks (escape-own quote r) refl
+spelling_reads quote _ _ r is (by_letter b c ticks says) = escape_reads quote c 1 (b ∷ r) r is ticks (letter_reads quote b c r is ticks says) refl
+spelling_reads quote _ _ r is (octal x y z c ticks digits value small) =
+    escape_reads quote c 3 (x ∷ y ∷ z ∷ r) r is ticks (octal_reads quote x y z c r is ticks digits value small) refl
+spelling_reads quote _ _ r is (hexadecimal b c ds ticks count digits value character) =
+    escape_reads quote c (length ds + 1) (b ∷ (ds ++ r)) r is ticks
+    (digits_escape_reads quote b c ds r is ticks count digits value character) (escape_rest b (length ds) ds r refl)
 
-all_read : (quote : ℕ) (ps : List Spelling) (cs : List ℕ) → is_quote quote ≡ true → AllSpell quote ps cs → inside quote 0 (spelled_text quote ps ++ quote ∷ []) ≡ Some (encode_utf8_all cs)
-all_read quote [] [] is spell = cond-true (quote == quote) _ _ (eq-eqb quote quote refl)
-all_read quote [] (c ∷ cs) is spell = absurd spell
-all_read quote (p ∷ ps) [] is spell = absurd spell
-all_read quote (p ∷ ps) (c ∷ cs) is spell =
-    let r : Text = spelled_text quote ps ++ quote ∷ [] in
-    ap (inside quote 0) (append_assoc (text_of quote p) (spelled_text quote ps) (quote ∷ []))
-    ∙ spelling_reads quote p c r is spell.0
-    ∙ ap (option_map (λ more. encode_utf8 c ++ more)) (all_read quote ps cs is spell.1)
+all_read : (quote : ℕ) (z : Text) (cs : List ℕ) → is_quote quote ≡ true → AreSpelled quote z cs → inside quote 0 (z ++ quote ∷ []) ≡ Some (encode_utf8_all cs)
+all_read quote _ _ is no_more = cond-true (quote == quote) _ _ (eq-eqb quote quote refl)
+all_read quote _ _ is (and_more w z c cs spells spelled) =
+    let r : Text = z ++ quote ∷ [] in
+    ap (inside quote 0) (append_assoc w z (quote ∷ []))
+    ∙ spelling_reads quote w c r is spells
+    ∙ ap (option_map (λ more. encode_utf8 c ++ more)) (all_read quote z cs is spelled)
 
 pub quoted_text_is_read : (s : Text) (cs : List ℕ) → IsQuotedText s cs → unquoted_text s ≡ Some (encode_utf8_all cs)
 unfolding unquoted_text
-quoted_text_is_read s cs q = ap unquoted_text q.text ∙ cond-true (is_quote q.quote) _ _ q.is_quote ∙ all_read q.quote q.spellings cs q.is_quote q.spell
+quoted_text_is_read s cs q = ap unquoted_text q.4 ∙ cond-true (is_quote q.0) _ _ q.2 ∙ all_read q.0 q.1 cs q.2 q.3

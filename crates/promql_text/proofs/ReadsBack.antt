@@ -74,7 +74,7 @@ number_signed b t n digit plain decimal_text is =
 -- ---- a number at its own place
 
 pub zero_is : (d : Exact) → IsExact d → d.digits ≡ 0 → exact_zero ≡ d
-zero_is d e none = sym (rw (e.no_minus_zero none, e.no_zeros none, e.no_places none, none) refl)
+zero_is d e none = sym (let zero = e.one_zero none in rw (zero.0, zero.1, zero.2, none) refl)
 
 abbrev at_zeros : Exact → ℕ → ℕ → Exact
 at_zeros d z p = record { is_negative = d.is_negative; digits = d.digits; zeros = z; places = p }

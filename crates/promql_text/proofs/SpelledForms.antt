@@ -127,8 +127,8 @@ signs_plain false s x is plain =
 
 pub spelled_form : (t : Text) (f : Signed) → IsDecimalForm f t → decimal_form t ≡ Some f
 spelled_form t f h =
-    let g : Signs f.is_negative (h.sign ++ h.body) h.body = signs_plain f.is_negative h.sign h.body h.is_sign (reading_plain f.reading h.body h.is_body) in
-    ap decimal_form h.is ∙ form_at (h.sign ++ h.body) h.body f.is_negative f.reading g.minus g.rest (spelled_reading f.reading h.body h.is_body)
+    let g : Signs f.is_negative (h.0 ++ h.1) h.1 = signs_plain f.is_negative h.0 h.1 h.3 (reading_plain f.reading h.1 h.4) in
+    ap decimal_form h.2 ∙ form_at (h.0 ++ h.1) h.1 f.is_negative f.reading g.minus g.rest (spelled_reading f.reading h.1 h.4)
 
 pub sign_found : (t : Text) → SignCut t
 sign_found [] = record { sign = []; is = refl; has = inl refl }
@@ -149,7 +149,7 @@ form_spelled t f is = of_reading (reading (without_sign t)) refl is
     of_reading (Some r) is e =
         let c : SignCut t = sign_found t in
         let P : Signed → Type 0 = λ g. IsDecimalForm g t in
-        subst P (same (signed_of (is_minus t) r) e) (record { sign = c.sign; body = without_sign t; is = c.is; is_sign = c.has; is_body = reading_spelled r (without_sign t) is })
+        subst P (same (signed_of (is_minus t) r) e) (c.sign, without_sign t, c.is, c.has, reading_spelled r (without_sign t) is)
 
 pub forms_spelled : FormsAreSpelled
 forms_spelled t f = (form_spelled t f, spelled_form t f)

@@ -7,7 +7,7 @@ use Rattle.std.specs.Str.Parse.{AllDigits}
 use Rattle.std.proofs.lemmas.Bool.{eq-eqb, eqb-true, ne_eqb}
 use Rattle.promql_text.specs.Texts.{Text}
 use Rattle.promql_text.specs.DecimalForm.{front, digit_run, past_run, past_point, without_sign, is_minus, is_exponent, ends_well, Numeral, numeral}
-use Rattle.promql_text.specs.NumeralSpelling.{IsSign, IsPoint, HasNoExponent, HasExponent, Spells, NumeralsAreSpelled}
+use Rattle.promql_text.specs.NumeralSpelling.{IsSign, IsPoint, IsExponent, Spells, NumeralsAreSpelled}
 use Rattle.promql_text.proofs.Runs.{run_digits, past_run_digit, past_run_other, digit_run_digit, digit_run_other, run_append, past_append, run_all, past_all, front_digit}
 use Rattle.promql_text.proofs.TextForms.{digit_no_sign, digit_no_minus}
 
@@ -74,11 +74,11 @@ ended_letter n c s letter sign some digits =
       exponent = ap digit_run g.rest ∙ run_all x digits;
     }
 
-exponent_or_none : (n : Numeral) (t : Text) → HasNoExponent n t ⊎ HasExponent n t → Ended n t
+exponent_or_none : (n : Numeral) (t : Text) → IsExponent n t → Ended n t
 exponent_or_none n t h =
     ⊎_elim
-    (λ none. ended_at n t [] none.is (record { stops = refl; no_point = refl; well = refl; down = sym none.is_up; exponent = sym none.nothing }))
-    (λ more. ended_at n t (more.letter ∷ (more.sign ++ n.exponent)) more.is (ended_letter n more.letter more.sign more.is_letter more.is_sign more.some more.digits))
+    (λ none. ended_at n t [] none.0 (record { stops = refl; no_point = refl; well = refl; down = sym none.1; exponent = sym none.2 }))
+    (λ more. ended_at n t (more.0 ∷ (more.1 ++ n.exponent)) more.2 (ended_letter n more.0 more.1 more.3 more.4 more.5 more.6))
     h
 
 -- what comes after the digits before the point
@@ -116,19 +116,19 @@ some_digit (c ∷ w) r f e some whole fraction = ap (λ b. b || is_ascii_digit (
 pub spelled_reads : (t : Text) (n : Numeral) → Spells n t → numeral t ≡ Some n
 spelled_reads t n s =
     let f : Text = n.fraction in
-    let e : Text = s.end in
-    let r : Text = s.point ++ (f ++ e) in
+    let e : Text = s.1 in
+    let r : Text = s.0 ++ (f ++ e) in
     let u : Text = n.whole ++ r in
-    let en : Ended n e = exponent_or_none n e s.ends in
-    let b : AfterPoint r (f ++ e) = after_point s.point f e s.has_point en.stops en.no_point in
-    let rest : past_point (past_run u) ≡ f ++ e = ap past_point (past_append n.whole r s.whole b.stops) ∙ b.past in
-    ap numeral s.is ∙ numeral_is u
+    let en : Ended n e = exponent_or_none n e s.7 in
+    let b : AfterPoint r (f ++ e) = after_point s.0 f e s.6 en.stops en.no_point in
+    let rest : past_point (past_run u) ≡ f ++ e = ap past_point (past_append n.whole r s.3 b.stops) ∙ b.past in
+    ap numeral s.2 ∙ numeral_is u
     ∙ ap (λ z. numeral_of_parts u z (past_run z)) rest
-    ∙ ap (numeral_of_parts u (f ++ e)) (past_append f e s.fraction en.stops)
-    ∙ ap (λ x. cond (x && ends_well e) (Some (numeral_of (digit_run u) (digit_run (f ++ e)) (is_minus (drop 1 e)) (digit_run (without_sign (drop 1 e))))) None) (some_digit n.whole r f e s.some s.whole s.fraction)
+    ∙ ap (numeral_of_parts u (f ++ e)) (past_append f e s.4 en.stops)
+    ∙ ap (λ x. cond (x && ends_well e) (Some (numeral_of (digit_run u) (digit_run (f ++ e)) (is_minus (drop 1 e)) (digit_run (without_sign (drop 1 e))))) None) (some_digit n.whole r f e s.5 s.3 s.4)
     ∙ ap (λ x. cond x (Some (numeral_of (digit_run u) (digit_run (f ++ e)) (is_minus (drop 1 e)) (digit_run (without_sign (drop 1 e))))) None) en.well
-    ∙ ap (λ w. Some (numeral_of w (digit_run (f ++ e)) (is_minus (drop 1 e)) (digit_run (without_sign (drop 1 e))))) (run_append n.whole r s.whole b.stops)
-    ∙ ap (λ g. Some (numeral_of n.whole g (is_minus (drop 1 e)) (digit_run (without_sign (drop 1 e))))) (run_append f e s.fraction en.stops)
+    ∙ ap (λ w. Some (numeral_of w (digit_run (f ++ e)) (is_minus (drop 1 e)) (digit_run (without_sign (drop 1 e))))) (run_append n.whole r s.3 b.stops)
+    ∙ ap (λ g. Some (numeral_of n.whole g (is_minus (drop 1 e)) (digit_run (without_sign (drop 1 e))))) (run_append f e s.4 en.stops)
     ∙ ap (λ d. Some (numeral_of n.whole f d (digit_run (without_sign (drop 1 e))))) en.down
     ∙ ap (λ x. Some (numeral_of n.whole f n.is_down x)) en.exponent
 
@@ -219,7 +219,7 @@ sign_cut (d ∷ z) digit = sign_at d z (d == 43) (d == 45) refl refl
 abbrev ended_numeral : Text → Text → Text → Numeral
 ended_numeral w f e = numeral_of w f (is_minus (drop 1 e)) (digit_run (without_sign (drop 1 e)))
 
-exponent_is : (w f : Text) (c : ℕ) (z : Text) → is_exponent (c ∷ z) ≡ true → HasExponent (ended_numeral w f (c ∷ z)) (c ∷ z)
+exponent_is : (w f : Text) (c : ℕ) (z : Text) → is_exponent (c ∷ z) ≡ true → IsExponent (ended_numeral w f (c ∷ z)) (c ∷ z)
 exponent_is w f c z ex =
     let u : Text = without_sign z in
     let h : ((c == 101 || c == 69) ≡ true) × ((is_ascii_digit (front u) && length (past_run u) == 0) ≡ true) =
@@ -227,21 +227,21 @@ exponent_is w f c z ex =
     let k : (is_ascii_digit (front u) ≡ true) × ((length (past_run u) == 0) ≡ true) = both (is_ascii_digit (front u)) (length (past_run u) == 0) h.1 in
     let s : SignCut z = sign_cut z k.0 in
     let all : u ≡ digit_run u = run_and_rest u ∙ ap (λ r. digit_run u ++ r) (nothing_left (past_run u) k.1) ∙ append-nil (digit_run u) in
-    record {
-      letter = c;
-      sign = s.sign;
-      is = ap (λ r. c ∷ r) (s.is ∙ ap (λ r. s.sign ++ r) all);
-      is_letter = ⊎_elim (λ e. inl (eqb-true c 101 e)) (λ e. inr (eqb-true c 69 e)) (either (c == 101) (c == 69) h.0);
-      is_sign = s.has;
-      some = run_some u k.0;
-      digits = run_digits u;
-    }
+    inr (
+      c,
+      s.sign,
+      ap (λ r. c ∷ r) (s.is ∙ ap (λ r. s.sign ++ r) all),
+      ⊎_elim (λ e. inl (eqb-true c 101 e)) (λ e. inr (eqb-true c 69 e)) (either (c == 101) (c == 69) h.0),
+      s.has,
+      run_some u k.0,
+      run_digits u,
+    )
 
-end_is : (w f e : Text) → ends_well e ≡ true → HasNoExponent (ended_numeral w f e) e ⊎ HasExponent (ended_numeral w f e) e
-end_is w f [] well = inl (record { is = refl; is_up = refl; nothing = refl })
+end_is : (w f e : Text) → ends_well e ≡ true → IsExponent (ended_numeral w f e) e
+end_is w f [] well = inl (refl, refl, refl)
 end_is w f (c ∷ z) well =
     let some : (length (c ∷ z) == 0) ≡ false = ne_eqb (length (c ∷ z)) 0 (omega arith) in
-    inr (exponent_is w f c z (sym (ap (λ b. b || is_exponent (c ∷ z)) some) ∙ well))
+    exponent_is w f c z (sym (ap (λ b. b || is_exponent (c ∷ z)) some) ∙ well)
 
 some_run : (t b : Text) → (is_ascii_digit (front t) || is_ascii_digit (front b)) ≡ true → 0 < length (digit_run t) + length (digit_run b)
 some_run t b h =
@@ -261,16 +261,16 @@ reads_spelled t n is =
     let digit : Bool = is_ascii_digit (front t) || is_ascii_digit (front b) in
     let g : ((digit && ends_well e) ≡ true) × (r ≡ n) = some_numeral_is (digit && ends_well e) r n (sym (numeral_is t) ∙ is) in
     let h : (digit ≡ true) × (ends_well e ≡ true) = both digit (ends_well e) g.0 in
-    let s : Spells r t = record {
-      point = p.point;
-      end = e;
-      is = run_and_rest t ∙ ap (λ w. digit_run t ++ w) (p.is ∙ ap (λ w. p.point ++ w) (run_and_rest b));
-      whole = run_digits t;
-      fraction = run_digits b;
-      some = some_run t b h.0;
-      has_point = p.has;
-      ends = end_is (digit_run t) (digit_run b) e h.1;
-    } in
+    let s : Spells r t = (
+      p.point,
+      e,
+      run_and_rest t ∙ ap (λ w. digit_run t ++ w) (p.is ∙ ap (λ w. p.point ++ w) (run_and_rest b)),
+      run_digits t,
+      run_digits b,
+      some_run t b h.0,
+      p.has,
+      end_is (digit_run t) (digit_run b) e h.1,
+    ) in
     let P : Numeral → Type 0 = λ m. Spells m t in
     subst P g.1 s
 

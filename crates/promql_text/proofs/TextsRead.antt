@@ -10,8 +10,9 @@ use Rattle.std.proofs.lemmas.Str.{encode_ascii, length-encode, len_utf8_bounds, 
 use Rattle.std.proofs.Math.Seq.{drop-append_seam}
 use lib.Utf8.{scalar, scalars}
 use Rattle.promql_text.specs.Texts.{Text}
-use Rattle.promql_text.specs.Quoting.{is_quote, letter, number, hexadecimal, octal, escape, inside, unquoted_text}
-use Rattle.promql_text.specs.QuoteSpellings.{Spelling, Itself, OwnQuote, Letter, Octal, Hexadecimal, text_of, escape_digits, Spells, spelled_text, AllSpell, IsQuotedText}
+use Rattle.promql_text.specs.Quoting.{is_quote, letter, number, escape, inside, unquoted_text}
+use Rattle.promql_text.specs.Quoting as quoting
+use Rattle.promql_text.specs.QuoteSpellings.{escape_digits, Spells, itself, own_quote, by_letter, octal, hexadecimal, AreSpelled, no_more, and_more, IsQuotedText}
 use Rattle.promql_text.proofs.Quotes.{escape-own, escape-x, escape-u, escape-U, escape-octal, escape-letter}
 use Rattle.promql_text.proofs.QuotedTexts.{slash_no_quote}
 use Rattle.promql_text.proofs.QuotedCharacters.{reads_between_backticks, reads_itself, slash_reads, inside-passed, closes, letter_past}
@@ -80,10 +81,8 @@ utf8_after (b ∷ w) r low text =
 
 -- the escape that a text begins with, after its backslash
 record Escape (quote c len : ℕ) (z : Text) : Type 0 where
-  spelling : Spelling
-  spells : Spells quote spelling c
   bytes : Text
-  text : text_of quote spelling ≡ 92 ∷ bytes
+  spells : Spells quote (92 ∷ bytes) c
   low : AllLow bytes
   size : length bytes ≡ len
   rest : Text
@@ -99,22 +98,20 @@ option_parts (Some d) p n c len is =
     (λ (other : p d ≡ false). absurd (none_some (sym (cond-false (p d) (Some (d, n)) None other) ∙ is)))
     (cases_Bool (p d))
 
-hexadecimal_found : (quote b n c len : ℕ) (z : Text) → (quote ≡ 96 → ⊥) → b < 128 → escape_digits b ≡ Some n → hexadecimal n z ≡ Some (c, len) → Escape quote c len (b ∷ z)
+hexadecimal_found : (quote b n c len : ℕ) (z : Text) → (quote ≡ 96 → ⊥) → b < 128 → escape_digits b ≡ Some n → quoting.hexadecimal n z ≡ Some (c, len) → Escape quote c len (b ∷ z)
 hexadecimal_found quote b n c len z ticks low later is =
     let parts = option_parts (number 16 n 0 z) scalar (n + 1) c len is in
     let found = digits_found 16 n 0 c z parts.0 in
     record {
-      spelling = Hexadecimal b found.digits;
-      spells = (ticks, later ∙ ap Some (sym found.len), found.all, found.value, parts.1);
       bytes = b ∷ found.digits;
-      text = refl;
+      spells = hexadecimal b c found.digits ticks (later ∙ ap Some (sym found.len)) found.all found.value parts.1;
       low = (low, digits_low 16 found.digits (omega arith) found.all);
       size = omega (arith, found.len, parts.2);
       rest = found.rest;
       front = ap (λ t. b ∷ t) found.front;
     }
 
-octal_found : (quote b c len : ℕ) (z : Text) → (quote ≡ 96 → ⊥) → 48 ≤ b → b ≤ 55 → octal b z ≡ Some (c, len) → Escape quote c len (b ∷ z)
+octal_found : (quote b c len : ℕ) (z : Text) → (quote ≡ 96 → ⊥) → 48 ≤ b → b ≤ 55 → quoting.octal b z ≡ Some (c, len) → Escape quote c len (b ∷ z)
 octal_found quote b c len z ticks above below is =
     let parts = option_parts (number 8 2 (b - 48) z) (λ c. nat_le c 255) 3 c len is in
     octal_digits quote b c len z ticks above below (leb-true c 255 parts.1) parts.2 (digits_found 8 2 (b - 48) c z parts.0)
@@ -126,10 +123,8 @@ octal_found quote b c len z ticks above below is =
     octal_at quote b c len z rest [] ticks above below small three two digits value front = absurd (omega arith)
     octal_at quote b c len z rest (x ∷ []) ticks above below small three two digits value front = absurd (omega arith)
     octal_at quote b c len z rest (x ∷ y ∷ []) ticks above below small three two digits value front = record {
-      spelling = Octal b x y;
-      spells = (ticks, (omega (arith, octal_value b above below), digits), ap (λ n. digits_value_after 8 n (x ∷ y ∷ [])) (let e : 0 * 8 + digit_value b ≡ b - 48 = omega (arith, octal_value b above below) in e) ∙ value, small);
       bytes = b ∷ x ∷ y ∷ [];
-      text = refl;
+      spells = octal b x y c ticks (omega (arith, octal_value b above below), digits) (ap (λ n. digits_value_after 8 n (x ∷ y ∷ [])) (let e : 0 * 8 + digit_value b ≡ b - 48 = omega (arith, octal_value b above below) in e) ∙ value) small;
       low = (omega arith, digits_low 8 (x ∷ y ∷ []) (omega arith) digits);
       size = omega arith;
       rest = rest;
@@ -144,10 +139,8 @@ letter_found : (quote b c len : ℕ) (z : Text) → (quote ≡ 96 → ⊥) → o
 letter_found quote b c len z ticks is =
     let parts = map_parts (letter b) c len is in
     record {
-      spelling = Letter b;
-      spells = (ticks, parts.0);
       bytes = b ∷ [];
-      text = refl;
+      spells = by_letter b c ticks parts.0;
       low = (low_letter b c parts.0, tt);
       size = parts.1;
       rest = z;
@@ -165,10 +158,8 @@ own_found : (quote c len : ℕ) (z : Text) → is_quote quote ≡ true → (quot
 own_found quote c len z is ticks reads =
     let pair : ◌≡◌ {A = ℕ × ℕ} (quote, 1) (c, len) = some_same (sym (escape-own quote z) ∙ reads) in
     record {
-      spelling = OwnQuote;
-      spells = (ticks, sym (ap (λ (q : ℕ × ℕ). q.0) pair));
       bytes = quote ∷ [];
-      text = refl;
+      spells = subst (λ k. Spells quote (92 ∷ quote ∷ []) k) (ap (λ (q : ℕ × ℕ). q.0) pair) (own_quote ticks);
       low = (quote_ascii quote is, tt);
       size = ap (λ (q : ℕ × ℕ). q.1) pair;
       rest = z;
@@ -205,19 +196,19 @@ escape_found quote c len b z is ticks reads =
 
 -- the spellings up to the closing quote
 record Inside (quote : ℕ) (z t : Text) : Type 0 where
-  spellings : List Spelling
+  between : Text
   chars : List ℕ
-  spell : AllSpell quote spellings chars
-  text : z ≡ spelled_text quote spellings ++ quote ∷ []
+  spell : AreSpelled quote between chars
+  text : z ≡ between ++ quote ∷ []
   value : encode_utf8_all chars ≡ t
 
 -- one more spelling in front
-inside_more : (quote c : ℕ) (p : Spelling) (w z r t : Text) → Spells quote p c → text_of quote p ≡ w → z ≡ w ++ r → Inside quote r t → Inside quote z (encode_utf8 c ++ t)
-inside_more quote c p w z r t spells text front found = record {
-  spellings = p ∷ found.spellings;
+inside_more : (quote c : ℕ) (w z r t : Text) → Spells quote w c → z ≡ w ++ r → Inside quote r t → Inside quote z (encode_utf8 c ++ t)
+inside_more quote c w z r t spells front found = record {
+  between = w ++ found.between;
   chars = c ∷ found.chars;
-  spell = (spells, found.spell);
-  text = front ∙ ap (λ w. w ++ r) (sym text) ∙ ap (λ r. text_of quote p ++ r) found.text ∙ sym (append_assoc (text_of quote p) (spelled_text quote found.spellings) (quote ∷ []));
+  spell = and_more w found.between c found.chars spells found.spell;
+  text = front ∙ ap (λ r. w ++ r) found.text ∙ sym (append_assoc w found.between (quote ∷ []));
   value = ap (λ t. encode_utf8 c ++ t) found.value;
 }
 
@@ -234,9 +225,9 @@ at_end quote z rest t is front reads =
     let closing = sym (closes quote z rest is front) ∙ reads in
     ⊎_elim
     (λ (last : length rest ≡ 0). record {
-      spellings = [];
+      between = [];
       chars = [];
-      spell = tt;
+      spell = no_more;
       text = front ∙ ap (λ e. e ++ rest) (encode_ascii quote (quote_ascii quote is)) ∙ ap (λ r. quote ∷ r) (empty rest last);
       value = some_same (sym (cond-true (length rest == 0) (Some []) None (eq-eqb (length rest) 0 last)) ∙ closing);
     })
@@ -247,11 +238,11 @@ at_end quote z rest t is front reads =
     empty [] e = refl
     empty (b ∷ r) e = absurd (omega arith)
 
-at_itself : (quote k d : ℕ) (z rest t : Text) → Reads quote k → Spells quote (Itself d) d → z ≡ encode_utf8 d ++ rest → IsUtf8 rest → length rest ≤ k → inside quote 0 (encode_utf8 d ++ rest) ≡ option_map (λ more. encode_utf8 d ++ more) (inside quote 0 rest) → inside quote 0 z ≡ Some t → Inside quote z t
+at_itself : (quote k d : ℕ) (z rest t : Text) → Reads quote k → Spells quote (encode_utf8 d) d → z ≡ encode_utf8 d ++ rest → IsUtf8 rest → length rest ≤ k → inside quote 0 (encode_utf8 d ++ rest) ≡ option_map (λ more. encode_utf8 d ++ more) (inside quote 0 rest) → inside quote 0 z ≡ Some t → Inside quote z t
 unfolding Reads
 at_itself quote k d z rest t more spells front utf8 short step reads =
     let found = map_found (λ x. encode_utf8 d ++ x) (inside quote 0 rest) t (sym step ∙ ap (inside quote 0) (sym front) ∙ reads) in
-    subst (λ t. Inside quote z t) found.2 (inside_more quote d (Itself d) (encode_utf8 d) z rest found.0 spells refl front (more rest found.0 utf8 short found.1))
+    subst (λ t. Inside quote z t) found.2 (inside_more quote d (encode_utf8 d) z rest found.0 spells front (more rest found.0 utf8 short found.1))
 
 escape_any : (quote c len : ℕ) (z : Text) → is_quote quote ≡ true → (quote ≡ 96 → ⊥) → escape quote z ≡ Some (c, len) → Escape quote c len z
 unfolding escape
@@ -273,7 +264,7 @@ at_slash quote k z rest t (Some e) more is ticks front utf8 short says reads =
     let fits : length esc.rest ≤ k = omega (arith, ap length esc.front, length-append esc.bytes esc.rest) in
     let utf8_rest = utf8_after esc.bytes esc.rest esc.low (subst IsUtf8 esc.front utf8) in
     subst (λ t. Inside quote z t) found.2
-    (inside_more quote c esc.spelling (92 ∷ esc.bytes) z esc.rest found.0 esc.spells esc.text (front ∙ ap (λ r. 92 ∷ r) esc.front) (more esc.rest found.0 utf8_rest fits later))
+    (inside_more quote c (92 ∷ esc.bytes) z esc.rest found.0 esc.spells (front ∙ ap (λ r. 92 ∷ r) esc.front) (more esc.rest found.0 utf8_rest fits later))
 
 feed_none : (quote : ℕ) (rest : Text) → (quote ≡ 96 → ⊥) → (10 ≡ quote → ⊥) → inside quote 0 (10 ∷ rest) ≡ None
 feed_none quote rest ticks other =
@@ -285,7 +276,7 @@ one_char quote k d z rest t more is scalar_d front utf8 short reads =
     ⊎_elim
     (λ (own : d ≡ quote). at_end quote z rest t is (front ∙ ap (λ c. encode_utf8 c ++ rest) own) reads)
     (λ (other : d ≡ quote → ⊥). ⊎_elim
-    (λ (ticks : quote ≡ 96). at_itself quote k d z rest t more (refl, scalar_d, other, λ no. absurd (no ticks)) front utf8 short (reads_between_backticks quote d rest ticks other) reads)
+    (λ (ticks : quote ≡ 96). at_itself quote k d z rest t more (itself d scalar_d other (λ no. absurd (no ticks))) front utf8 short (reads_between_backticks quote d rest ticks other) reads)
     (λ (no_ticks : quote ≡ 96 → ⊥). ⊎_elim
     (λ (feed : d ≡ 10). absurd (none_some (sym (feed_none quote rest no_ticks (λ e. other (feed ∙ e))) ∙ ap (inside quote 0) (sym (ascii 10 d z rest (lit< tt) feed front)) ∙ reads)))
     (λ (no_feed : d ≡ 10 → ⊥). ⊎_elim
@@ -293,7 +284,7 @@ one_char quote k d z rest t more is scalar_d front utf8 short reads =
     let whole = ascii 92 d z rest (lit< tt) slash front in
     at_slash quote k z rest t (escape quote rest) more is no_ticks whole utf8 short refl
     (sym (slash_reads quote rest (escape quote rest) no_ticks (slash_no_quote quote is) refl) ∙ ap (inside quote 0) (sym whole) ∙ reads))
-    (λ (no_slash : d ≡ 92 → ⊥). at_itself quote k d z rest t more (refl, scalar_d, other, λ _. (no_feed, no_slash)) front utf8 short (reads_itself quote d rest is other no_feed no_slash) reads)
+    (λ (no_slash : d ≡ 92 → ⊥). at_itself quote k d z rest t more (itself d scalar_d other (λ _. (no_feed, no_slash))) front utf8 short (reads_itself quote d rest is other no_feed no_slash) reads)
     (cases_eq d 92))
     (cases_eq d 10))
     (cases_eq quote 96))
@@ -327,6 +318,6 @@ text_is_quoted (b ∷ z) t utf8 reads =
     (λ (is : is_quote b ≡ true).
     let utf8_z = utf8_after (b ∷ []) z (quote_ascii b is, tt) utf8 in
     let found = all_found b (length z) is z t utf8_z (omega arith) (sym (cond-true (is_quote b) (inside b 0 z) None is) ∙ reads) in
-    (found.chars, record { quote = b; spellings = found.spellings; is_quote = is; spell = found.spell; text = ap (λ z. b ∷ z) found.text }, found.value))
+    (found.chars, (b, found.between, is, found.spell, ap (λ z. b ∷ z) found.text), found.value))
     (λ (other : is_quote b ≡ false). absurd (none_some (sym (cond-false (is_quote b) (inside b 0 z) None other) ∙ reads)))
     (cases_Bool (is_quote b))

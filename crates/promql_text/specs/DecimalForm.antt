@@ -60,8 +60,7 @@ numeral s =
 
 -- What a text of the decimal form is without its sign.
 pub data Reading : Type 0 where
-  NotANumber : Reading
-  Infinite : Reading
+  NotANumber Infinite : Reading
   Finite : Numeral → Reading
 
 unfoldable pub reading : Text → Option Reading

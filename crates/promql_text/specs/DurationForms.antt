@@ -14,9 +14,8 @@ use Rattle.promql_text.specs.declared.duration.DurationFault.TheVariants as faul
 -- ---- parts
 
 -- a count, as digits, and its unit
-pub record Part : Type 0 where
-  pub count : Text
-  pub unit : Unit
+abbrev pub Part : Type 0
+Part = Text × Unit
 
 abbrev pub IsCount : Text → Type 0
 IsCount ds = (0 < length ds) × AllDigits 10 ds
@@ -25,23 +24,19 @@ IsCount ds = (0 < length ds) × AllDigits 10 ds
 abbrev pub AreParts : List Unit → List Part → Type 0
 AreParts us [] = ⊤
 AreParts [] (p ∷ ps) = ⊥
-AreParts (u ∷ us) (p ∷ ps) = ((p.unit ≡ u) × IsCount p.count × AreParts us ps) ⊎ AreParts us (p ∷ ps)
+AreParts (u ∷ us) (p ∷ ps) = ((p.1 ≡ u) × IsCount p.0 × AreParts us ps) ⊎ AreParts us (p ∷ ps)
 
 abbrev pub parts_text : List Part → Text
 parts_text [] = []
-parts_text (p ∷ ps) = p.count ++ (word_of p.unit ++ parts_text ps)
+parts_text (p ∷ ps) = p.0 ++ (word_of p.1 ++ parts_text ps)
 
 abbrev pub parts_sum : List Part → ℕ
 parts_sum [] = 0
-parts_sum (p ∷ ps) = digits_value 10 p.count * nanos_of p.unit + parts_sum ps
+parts_sum (p ∷ ps) = digits_value 10 p.0 * nanos_of p.1 + parts_sum ps
 
 -- the text is one or more parts, of n nanoseconds together
-pub record IsParts (s : Text) (n : ℕ) : Type 0 where
-  pub parts : List Part
-  pub some : 0 < length parts
-  pub order : AreParts units parts
-  pub text : s ≡ parts_text parts
-  pub sum : n ≡ parts_sum parts
+abbrev pub IsParts : Text → ℕ → Type 0
+IsParts s n = (parts : List Part) × (0 < length parts) × AreParts units parts × (s ≡ parts_text parts) × (n ≡ parts_sum parts)
 
 -- ---- seconds
 
@@ -59,18 +54,17 @@ abbrev pub down : Numeral → ℕ
 down n = if n.is_down then places n + exponent_size n else places n
 
 -- the text is a numeral of seconds, which are n nanoseconds when rounded
-pub record IsSeconds (s : Text) (n : ℕ) : Type 0 where
-  pub numeral : Numeral
-  pub text : IsDecimalForm (record { is_negative = false; reading = form.Finite numeral }) s
-  pub nanos : IsNearest (digits_number numeral * 10 ^ (9 + up numeral)) (10 ^ down numeral) n
+abbrev pub IsSeconds : Text → ℕ → Type 0
+IsSeconds s n =
+    (m : Numeral) × IsDecimalForm (record { is_negative = false; reading = form.Finite m }) s
+    × IsNearest (digits_number m * 10 ^ (9 + up m)) (10 ^ down m) n
 
 -- ---- durations
 
 -- what a text means: nanoseconds, a number with a minus sign, or infinity
 pub data Meaning : Type 0 where
   Nanos : ℕ → Meaning
-  Negative : Meaning
-  Infinite : Meaning
+  Negative Infinite : Meaning
 
 abbrev pub Means : Text → Meaning → Type 0
 Means s (Nanos n) = IsParts s n ⊎ IsSeconds s n

@@ -18,9 +18,7 @@ digit_count n = length (decimal n)
 pub record IsExact (d : Exact) : Type 0 where
   pub short : d.digits < 10 ^ 38
   pub ends : d.digits % 10 ≡ 0 → d.digits ≡ 0
-  pub no_minus_zero : d.digits ≡ 0 → d.is_negative ≡ false
-  pub no_zeros : d.digits ≡ 0 → d.zeros ≡ 0
-  pub no_places : d.digits ≡ 0 → d.places ≡ 0
+  pub one_zero : d.digits ≡ 0 → (d.is_negative ≡ false) × (d.zeros ≡ 0) × (d.places ≡ 0)
   pub one_side : 0 < d.places → d.zeros ≡ 0
   pub below : digit_count d.digits + d.zeros ≤ 309 + d.places
   pub above : d.places ≤ digit_count d.digits + d.zeros + 323

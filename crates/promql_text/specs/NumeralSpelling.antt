@@ -15,32 +15,17 @@ IsSign false s = (s ≡ []) ⊎ (s ≡ 43 ∷ [])
 abbrev pub IsPoint : Text → Text → Type 0
 IsPoint point fraction = (point ≡ 46 ∷ []) ⊎ ((point ≡ []) × (fraction ≡ []))
 
--- no exponent
-pub record HasNoExponent (n : Numeral) (t : Text) : Type 0 where
-  pub is : t ≡ []
-  pub is_up : n.is_down ≡ false
-  pub nothing : n.exponent ≡ []
-
--- `e` or `E`, a sign or none, and one or more digits
-pub record HasExponent (n : Numeral) (t : Text) : Type 0 where
-  pub letter : ℕ
-  pub sign : Text
-  pub is : t ≡ letter ∷ (sign ++ n.exponent)
-  pub is_letter : (letter ≡ 101) ⊎ (letter ≡ 69)
-  pub is_sign : IsSign n.is_down sign
-  pub some : 0 < length n.exponent
-  pub digits : AllDigits 10 n.exponent
+-- no exponent, or `e` or `E`, a sign or none, and one or more digits
+abbrev pub IsExponent : Numeral → Text → Type 0
+IsExponent n t =
+    ((t ≡ []) × (n.is_down ≡ false) × (n.exponent ≡ []))
+    ⊎ ((e : ℕ) × (sign : Text) × (t ≡ e ∷ (sign ++ n.exponent)) × ((e ≡ 101) ⊎ (e ≡ 69)) × IsSign n.is_down sign × (0 < length n.exponent) × AllDigits 10 n.exponent)
 
 -- digits, a point or none, digits, and an exponent or none; among the first two at least one digit
-pub record Spells (n : Numeral) (t : Text) : Type 0 where
-  pub point : Text
-  pub end : Text
-  pub is : t ≡ n.whole ++ (point ++ (n.fraction ++ end))
-  pub whole : AllDigits 10 n.whole
-  pub fraction : AllDigits 10 n.fraction
-  pub some : 0 < length n.whole + length n.fraction
-  pub has_point : IsPoint point n.fraction
-  pub ends : HasNoExponent n end ⊎ HasExponent n end
+abbrev pub Spells : Numeral → Text → Type 0
+Spells n t =
+    (point : Text) × (end : Text) × (t ≡ n.whole ++ (point ++ (n.fraction ++ end))) × AllDigits 10 n.whole × AllDigits 10 n.fraction
+    × (0 < length n.whole + length n.fraction) × IsPoint point n.fraction × IsExponent n end
 
 abbrev pub NumeralsAreSpelled : Type 0
 NumeralsAreSpelled = (t : Text) (n : Numeral) → (numeral t ≡ Some n) ↔ Spells n t
@@ -52,12 +37,8 @@ IsReading Infinite t = (str_to_ascii_lowercase t ≡ codes "inf") ⊎ (str_to_as
 IsReading (Finite n) t = Spells n t
 
 -- a sign or none, and one of these
-pub record IsDecimalForm (f : Signed) (t : Text) : Type 0 where
-  pub sign : Text
-  pub body : Text
-  pub is : t ≡ sign ++ body
-  pub is_sign : IsSign f.is_negative sign
-  pub is_body : IsReading f.reading body
+abbrev pub IsDecimalForm : Signed → Text → Type 0
+IsDecimalForm f t = (sign : Text) × (body : Text) × (t ≡ sign ++ body) × IsSign f.is_negative sign × IsReading f.reading body
 
 abbrev pub FormsAreSpelled : Type 0
 FormsAreSpelled = (t : Text) (f : Signed) → (decimal_form t ≡ Some f) ↔ IsDecimalForm f t

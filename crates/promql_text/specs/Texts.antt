@@ -2,7 +2,6 @@
 use Prim.Native.String.{String}
 use Rattle.std.specs.Prelude.{ℕ, List, Result, codes, slice_index}
 use Rattle.std.specs.Borrow.{Bor, MutBor}
-use Rattle.std.specs.Fmt.{WritesOnOk, WritesStyledOnOk}
 use Rattle.std.specs.declared.fmt.Error.{Error}
 use Rattle.std.specs.declared.fmt.Formatter.{Formatter}
 use Rattle.std.specs.List.{join_by}
@@ -19,16 +18,7 @@ code s = slice_index (codes s) 0
 abbrev pub joined_text : Text → List Text → Text
 joined_text = join_by (λ t. t)
 
--- each of these calls writes the text of its item
-abbrev pub WritesTexts : {T W : Type 0} → (W → Text → W → Type 0)
-    → (Bor T → MutBor (Formatter W) → Result (Unit {0}) Error → MutBor (Formatter W) → Type 0)
-    → (T → Text) → Type 0
-WritesTexts took called text = (item : _) (before : _) (r : _) (after : _)
-    → called item before r after → WritesOnOk took before.now r (text item.now) after.now
-
--- the same, whatever options the formatter has
-abbrev pub WritesStyledTexts : {T W : Type 0} → (W → Text → W → Type 0)
-    → (Bor T → MutBor (Formatter W) → Result (Unit {0}) Error → MutBor (Formatter W) → Type 0)
-    → (T → Text) → Type 0
-WritesStyledTexts took called text = (item : _) (before : _) (r : _) (after : _)
-    → called item before r after → WritesStyledOnOk took before.now r (text item.now) after.now
+-- each of these calls writes the text of its item, as `Writes` says of a call
+abbrev pub WritesBy : {T W : Type 0} → (Formatter W → Result (Unit {0}) Error → Text → Formatter W → Type 0)
+    → (Bor T → MutBor (Formatter W) → Result (Unit {0}) Error → MutBor (Formatter W) → Type 0) → (T → Text) → Type 0
+WritesBy Writes called text = (item : _) (before : _) (r : _) (after : _) → called item before r after → Writes before.now r (text item.now) after.now

@@ -42,6 +42,5 @@ IsNumber (Finite d) = IsExact d
 IsNumber _ = Unit {0}
 
 -- two finite numbers of one value: their digits, with the zeros and places of both, are one whole number
-pub record SameValue (v w : Exact) : Type 0 where
-  pub sign : v.is_negative ≡ w.is_negative
-  pub size : v.digits * 10 ^ (v.zeros + w.places) ≡ w.digits * 10 ^ (w.zeros + v.places)
+abbrev pub SameValue : Exact → Exact → Type 0
+SameValue v w = (v.is_negative ≡ w.is_negative) × (v.digits * 10 ^ (v.zeros + w.places) ≡ w.digits * 10 ^ (w.zeros + v.places))

@@ -23,7 +23,7 @@
 
 ghost use Rattle.std.specs.Prelude.{◌≡◌, ◌==◌, if◌then◌else◌, [], Some, map};
 ghost use Rattle.std.specs.Fmt.{DisplaysOnOk, DisplaysStyledOnOk, WritesOnOk, WritesStyledOnOk, formatter_spec};
-ghost use Rattle.promql_text.specs.Texts.{Text, WritesStyledTexts, WritesTexts, joined_text};
+ghost use Rattle.promql_text.specs.Texts.{Text, WritesBy, joined_text};
 
 use std::fmt;
 use std::fmt::Display;
@@ -75,10 +75,10 @@ pub fn write_joined_by<T, W: fmt::Write, F: Fn(&T, &mut fmt::Formatter<W>) -> fm
     write: F,
 ) -> fmt::Result
     requires { F.IsAlwaysCallable write }
-    ensures writes { (text : T → Text) → WritesTexts W.write_str_gives (F.post write) text
+    ensures writes { (text : T → Text) → WritesBy (WritesOnOk W.write_str_gives) (F.post write) text
         → WritesOnOk W.write_str_gives f.old result
         (joined_text separator.now (map text items.now)) f.new }
-    ensures styled { (text : T → Text) → WritesStyledTexts W.write_str_gives (F.post write) text
+    ensures styled { (text : T → Text) → WritesBy (WritesStyledOnOk W.write_str_gives) (F.post write) text
         → WritesStyledOnOk W.write_str_gives f.old result
         (joined_text separator.now (map text items.now)) f.new }
 {
