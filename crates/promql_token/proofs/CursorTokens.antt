@@ -60,7 +60,7 @@ first_or_later at (Err e) rs ws f later is = refl
 
 collected_fault : (at : ℕ) (fs : List Found) (f : LexFault) → collect_items (place_items at fs) ≡ Err f → has_fault (map (λ (g : Found). g.scanned_text) fs) ≡ true
 collected_fault at [] f is = cc
-collected_fault at (g ∷ gs) f is = first_or_later (at + g.trivia) g.scanned_text _ _ f (collected_fault (at + g.trivia + len_of g.scanned_text) gs f) is
+collected_fault at (g ∷ gs) f is = first_or_later (at + g.trivia) g.scanned_text (place_items (at + g.trivia + len_of g.scanned_text) gs) (map (λ (g : Found). g.scanned_text) gs) f (collected_fault (at + g.trivia + len_of g.scanned_text) gs f) is
 
 sliced_fault : (s : Text) (r : Result (List Lexeme) LexFault) (f : LexFault) → result_texts s r ≡ Err f → r ≡ Err f
 sliced_fault s (Ok xs) f is = cc

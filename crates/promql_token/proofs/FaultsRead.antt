@@ -16,7 +16,8 @@ use Rattle.promql_token.specs.declared.state.State.{State}
 use Rattle.promql_text.specs.Texts.{Text}
 use Rattle.promql_token.specs.Begins.{IsNumeral}
 use Rattle.promql_token.specs.Classes.{is_in, is_letter}
-use Rattle.promql_token.specs.FaultPlaces.{IsEscaping, IsFault, Meets, Misses, NoNumeral, is_among}
+use Rattle.promql_token.specs.FaultPlaces.{IsEscaping, IsFault, Meets, Misses, NoNumeral}
+use Rattle.promql_token.specs.Ids.{is_one_of}
 use Rattle.promql_token.specs.Vocabulary.{next}
 use Rattle.promql_token.specs.TokenScanning.{Scanned, begins_numeral, in_braces, in_brackets, is_quote, numeral, outside, scan_token, punctuator, string, word}
 use Rattle.promql_token.specs.Printed.{holds_strings, concat_texts}
@@ -94,17 +95,17 @@ no_digit b h = grind (arith, common_steps)
 no_letter : (b : ℕ) → is_in class.Word b ≡ false → (is_letter b || (b == 58)) ≡ false
 no_letter b h = grind (arith, common_steps)
 
-other_punctuator : (depth b : ℕ) (y : Text) → is_among (codes ".@,*/%+-^{[()}]=!<>") b ≡ false → punctuator depth (b ∷ y) ≡ Err (Character, 0)
+other_punctuator : (depth b : ℕ) (y : Text) → is_one_of (codes ".@,*/%+-^{[()}]=!<>") b ≡ false → punctuator depth (b ∷ y) ≡ Err (Character, 0)
 unfolding punctuator
 other_punctuator depth b y h =
     let no : (i k : ℕ) → slice_get (codes ".@,*/%+-^{[()}]=!<>") i ≡ Some k → (b == k) ≡ false = λ i k is. none_of (codes ".@,*/%+-^{[()}]=!<>") b i k h is in
     rw (no 0 46 refl, no 1 64 refl, no 2 44 refl, no 3 42 refl, no 4 47 refl, no 5 37 refl, no 6 43 refl, no 7 45 refl, no 8 94 refl, no 9 123 refl, no 10 91 refl, no 11 40 refl, no 12 41 refl, no 13 125 refl, no 14 93 refl, no 15 61 refl, no 16 33 refl, no 17 60 refl, no 18 62 refl) refl
 
-character_at : (depth b : ℕ) (y : Text) → (is_in class.Word b || (is_quote b || is_among (codes ".@,*/%+-^{[()}]=!<>") b)) ≡ false → HasFault Character mode.Outside depth [] (b ∷ y)
+character_at : (depth b : ℕ) (y : Text) → (is_in class.Word b || (is_quote b || is_one_of (codes ".@,*/%+-^{[()}]=!<>") b)) ≡ false → HasFault Character mode.Outside depth [] (b ∷ y)
 unfolding scan_token outside
 character_at depth b y h =
-    let a = or_false (is_in class.Word b) (is_quote b || is_among (codes ".@,*/%+-^{[()}]=!<>") b) h in
-    let c = or_false (is_quote b) (is_among (codes ".@,*/%+-^{[()}]=!<>") b) a.1 in
+    let a = or_false (is_in class.Word b) (is_quote b || is_one_of (codes ".@,*/%+-^{[()}]=!<>") b) h in
+    let c = or_false (is_quote b) (is_one_of (codes ".@,*/%+-^{[()}]=!<>") b) a.1 in
     let n46 = none_of (codes ".@,*/%+-^{[()}]=!<>") b 0 46 c.1 refl in
     let z : Text = b ∷ y in
     let begins : begins_numeral z ≡ false = λ i. no_digit b a.0 i || (n46 i && is_ascii_digit (next y)) in
@@ -155,11 +156,11 @@ brace_at : (depth : ℕ) (y : Text) → HasFault BraceInBraces mode.Braces depth
 unfolding scan_token in_braces
 brace_at depth y = refl
 
-other_in_braces : (depth b : ℕ) (y : Text) → (is_letter b || (is_quote b || is_among (codes ",=!{}") b)) ≡ false → HasFault InBraces mode.Braces depth [] (b ∷ y)
+other_in_braces : (depth b : ℕ) (y : Text) → (is_letter b || (is_quote b || is_one_of (codes ",=!{}") b)) ≡ false → HasFault InBraces mode.Braces depth [] (b ∷ y)
 unfolding scan_token in_braces
 other_in_braces depth b y h =
-    let a = or_false (is_letter b) (is_quote b || is_among (codes ",=!{}") b) h in
-    let c = or_false (is_quote b) (is_among (codes ",=!{}") b) a.1 in
+    let a = or_false (is_letter b) (is_quote b || is_one_of (codes ",=!{}") b) h in
+    let c = or_false (is_quote b) (is_one_of (codes ",=!{}") b) a.1 in
     let no : (i k : ℕ) → slice_get (codes ",=!{}") i ≡ Some k → (b == k) ≡ false = λ i k is. none_of (codes ",=!{}") b i k c.1 is in
     rw (no 0 44 refl, no 1 61 refl, no 2 33 refl, no 3 123 refl, no 4 125 refl, a.0, c.0) refl
 
@@ -181,10 +182,10 @@ bracket_at : (inside : Bracket) (depth : ℕ) (y : Text) → HasFault BracketInB
 unfolding scan_token in_brackets
 bracket_at inside depth y = refl
 
-other_in_brackets : (inside : Bracket) (depth b : ℕ) (y : Text) → (is_ascii_digit b || is_among (codes ":[]") b) ≡ false → HasFault InBrackets (mode.Brackets inside) depth [] (b ∷ y)
+other_in_brackets : (inside : Bracket) (depth b : ℕ) (y : Text) → (is_ascii_digit b || is_one_of (codes ":[]") b) ≡ false → HasFault InBrackets (mode.Brackets inside) depth [] (b ∷ y)
 unfolding scan_token in_brackets
 other_in_brackets inside depth b y h =
-    let a = or_false (is_ascii_digit b) (is_among (codes ":[]") b) h in
+    let a = or_false (is_ascii_digit b) (is_one_of (codes ":[]") b) h in
     let no : (i k : ℕ) → slice_get (codes ":[]") i ≡ Some k → (b == k) ≡ false = λ i k is. none_of (codes ":[]") b i k a.1 is in
     rw (no 0 58 refl, no 1 91 refl, no 2 93 refl, a.0) refl
 
@@ -208,7 +209,7 @@ fault_read RightParen mode.Outside zero u v h = meets (HasFault RightParen mode.
 fault_read RightBrace mode.Outside depth u v h = meets (HasFault RightBrace mode.Outside depth) [] 125 u v (omega arith) (right_brace_at depth) h
 fault_read RightBracket mode.Outside depth u v h = meets (HasFault RightBracket mode.Outside depth) [] 93 u v (omega arith) (right_bracket_at depth) h
 fault_read Character mode.Outside depth u v h =
-    misses (HasFault Character mode.Outside depth) [] (λ b. is_in class.Word b || (is_quote b || is_among (codes ".@,*/%+-^{[()}]=!<>") b)) u v (character_at depth) h
+    misses (HasFault Character mode.Outside depth) [] (λ b. is_in class.Word b || (is_quote b || is_one_of (codes ".@,*/%+-^{[()}]=!<>") b)) u v (character_at depth) h
 fault_read Numeral mode.Outside depth u v h = numeral_at depth u v h.0 h.1
 fault_read Numeral (mode.Brackets inside) depth u v h = numeral_in_brackets inside depth u v h.0 h.1
 fault_read Escape m depth u v h = escaping_piece m depth h.1 u v h.0 h.2 ∙ string_unknown h.1 u v h.2 h.3 h.4
@@ -218,12 +219,12 @@ fault_read OpenString m depth u v h =
 fault_read AfterBangInBraces mode.Braces depth u v h = misses (HasFault AfterBangInBraces mode.Braces depth) (codes "!") (λ b. b == 61 || b == 126) u v (bang_in_braces_at depth) h
 fault_read BraceInBraces mode.Braces depth u v h = meets (HasFault BraceInBraces mode.Braces depth) [] 123 u v (omega arith) (brace_at depth) h
 fault_read InBraces mode.Braces depth u v h =
-    misses (HasFault InBraces mode.Braces depth) [] (λ b. is_letter b || (is_quote b || is_among (codes ",=!{}") b)) u v (other_in_braces depth) h
+    misses (HasFault InBraces mode.Braces depth) [] (λ b. is_letter b || (is_quote b || is_one_of (codes ",=!{}") b)) u v (other_in_braces depth) h
 fault_read EndInBraces mode.Braces depth u v h = both (HasFault EndInBraces mode.Braces depth) [] [] u v h.0 h.1 (end_in_braces depth)
 fault_read SecondColon (mode.Brackets bracket.Colon) depth u v h = meets (HasFault SecondColon (mode.Brackets bracket.Colon) depth) [] 58 u v (omega arith) (second_colon depth) h
 fault_read FirstColon (mode.Brackets bracket.Nothing) depth u v h = meets (HasFault FirstColon (mode.Brackets bracket.Nothing) depth) [] 58 u v (omega arith) (first_colon depth) h
 fault_read BracketInBrackets (mode.Brackets inside) depth u v h = meets (HasFault BracketInBrackets (mode.Brackets inside) depth) [] 91 u v (omega arith) (bracket_at inside depth) h
 fault_read InBrackets (mode.Brackets inside) depth u v h =
-    misses (HasFault InBrackets (mode.Brackets inside) depth) [] (λ b. is_ascii_digit b || is_among (codes ":[]") b) u v (other_in_brackets inside depth) h
+    misses (HasFault InBrackets (mode.Brackets inside) depth) [] (λ b. is_ascii_digit b || is_one_of (codes ":[]") b) u v (other_in_brackets inside depth) h
 fault_read EndInBrackets (mode.Brackets inside) depth u v h = both (HasFault EndInBrackets (mode.Brackets inside) depth) [] [] u v h.0 h.1 (end_in_brackets inside depth)
 fault_read kind m depth u v h = absurd h

@@ -14,7 +14,8 @@ use Rattle.promql_token.specs.declared.state.Mode.{Mode}
 use Rattle.promql_token.specs.declared.state.Mode.TheVariants as mode
 use Rattle.promql_text.specs.Texts.{Text}
 use Rattle.promql_token.specs.Classes.{is_letter, end_of_run}
-use Rattle.promql_token.specs.Ids.{lookup, keywords, keyword_in_any_case, same_word}
+use Rattle.promql_token.specs.Ids.{lookup, keywords, keyword_in_any_case}
+use Rattle.promql_token.specs.WordCases.{same_word}
 use Rattle.promql_token.specs.declared.ids.Case.TheVariants as case
 use Rattle.promql_token.specs.TokenScanning.{Scanned, is_fill, opens, name_id, word_id, word, braces_id, word_in_braces, number_end, units, numeral, is_quote, is_escape, string_from, string, equal_token, bang_token, single, punctuator, begins_numeral, outside, bang_in_braces, in_braces, colon_token, in_brackets, scan_in_mode, after}
 use Rattle.promql_token.proofs.Ends.{and_left, and_right}

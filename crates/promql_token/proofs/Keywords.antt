@@ -10,7 +10,8 @@ use Rattle.std.specs.Str.{str_to_ascii_lowercase}
 use Rattle.promql_text.specs.Texts.{Text, code}
 use Rattle.promql_token.specs.declared.ids.Case.{Case}
 use Rattle.promql_token.specs.declared.ids.Case.TheVariants as case
-use Rattle.promql_token.specs.Ids.{keyword_in_any_case, keywords, lookup, same_word}
+use Rattle.promql_token.specs.Ids.{keyword_in_any_case, keywords, lookup}
+use Rattle.promql_token.specs.WordCases.{same_word}
 use Rattle.promql_token.proofs.Ends.{and_left, and_right}
 use Rattle.promql_token.proofs.TestsAndCounts.{by_bool}
 

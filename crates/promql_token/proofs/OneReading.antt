@@ -16,9 +16,9 @@ use Rattle.promql_token.specs.Begins.{MayBegin}
 use Rattle.promql_token.specs.Cut.{mode_at, state_at, ids_after}
 use Rattle.promql_token.specs.FaultPlaces.{IsFault}
 use Rattle.promql_token.specs.Trivia.{IsTriviaIn}
-use Rattle.promql_token.specs.Lexing.{Found, ScannedText, state_after_scan, collect_items, cut, found, goes_on, items, len_of, lex, place_items, result_texts, fault_char, slice_texts, start, text_at, scanned_text, pieces, with_front}
+use Rattle.promql_token.specs.Lexing.{Found, ScannedText, state_after_scan, collect_items, cut, found, goes_on, items, len_of, lex, place_items, result_texts, fault_char, slice_texts, start, text_at, scanned_text, pieces, tokens, with_front}
 use Rattle.promql_token.specs.TokenScanning.{Scanned, scan_token, after_trivia, after, end_in, trivia_len}
-use Rattle.promql_token.specs.TokenLists.{Step, state_after, IsRead, IsEnd, EndsIn, places, to_end, OnlyTokens, OnlyFault, OnlyTexts, OnlyPieces, OnlyItems}
+use Rattle.promql_token.specs.TokenLists.{Step, state_after, IsRead, IsEnd, EndsIn, places, to_end, IsLexed, OnlyTokens, OnlySteps}
 use Rattle.promql_token.proofs.ScannedForms.{begins_piece, faults, piece_begins}
 use Rattle.promql_token.proofs.TestsAndCounts.{by_bool}
 use Rattle.promql_token.proofs.Ends.{PieceEnds, piece_ends}
@@ -362,12 +362,6 @@ items_told s =
     (λ e. inr (e.0, e.1, subst (λ n. IsRead (EndsIn e.0 n) [] s e.1) n e.2, e.3))
     (cut_matches_relation (cut start s) [] start 0 s at_start refl)
 
-pub only_items : OnlyItems
-only_items s rs = (
-  λ is. subst (IsItems s) is (items_told s),
-  λ h. ⊎_elim (λ e. items_to_end s e.0 e.1 ∙ sym e.2) (λ e. items_to_fault s e.0 e.1 e.2 ∙ sym e.3) h,
-)
-
 all_tokens : (xs : List Lexeme) → collect_items (map (λ x. Ok x) xs) ≡ Ok xs
 all_tokens [] = refl
 all_tokens (x ∷ xs) = ap (with_front (x ∷ [])) (all_tokens xs)
@@ -376,25 +370,21 @@ one_fault : (xs : List Lexeme) (f : LexFault) → collect_items (map (λ x. Ok x
 one_fault [] f = refl
 one_fault (x ∷ xs) f = ap (with_front (x ∷ [])) (one_fault xs f)
 
-pub only_tokens : OnlyTokens
+lexed_told : (s : Text) → IsLexed s (lex s)
 unfolding lex
-only_tokens s xs = (
-  λ is. ⊎_elim
-      (λ e. let same : to_end s e.0 ≡ xs = let r = sym (ap collect_items e.2 ∙ all_tokens (to_end s e.0)) ∙ is in cc in (e.0, e.1, sym same))
-      (λ e. let r = sym (ap collect_items e.3 ∙ one_fault (places 0 e.1) e.0) ∙ is in absurd (cc))
-      (items_told s),
-  λ e. ap collect_items (items_to_end s e.0 e.1) ∙ all_tokens (to_end s e.0) ∙ ap (λ xs. Ok xs) (sym e.2),
-)
+lexed_told s =
+    ⊎_elim
+    (λ e. let is : lex s ≡ Ok (to_end s e.0) = ap collect_items e.2 ∙ all_tokens (to_end s e.0) in subst (IsLexed s) (sym is) (e.0, e.1, refl))
+    (λ e. let is : lex s ≡ Err e.0 = ap collect_items e.3 ∙ one_fault (places 0 e.1) e.0 in subst (IsLexed s) (sym is) (e.1, e.2))
+    (items_told s)
 
-pub only_fault : OnlyFault
+lexed_is : (s : Text) (r : Result (List Lexeme) LexFault) → IsLexed s r → lex s ≡ r
 unfolding lex
-only_fault s f = (
-  λ is. ⊎_elim
-      (λ e. let r = sym (ap collect_items e.2 ∙ all_tokens (to_end s e.0)) ∙ is in absurd (cc))
-      (λ e. let same : e.0 ≡ f = let r = sym (ap collect_items e.3 ∙ one_fault (places 0 e.1) e.0) ∙ is in cc in (e.1, subst (λ f. IsRead (EndsIn f (length s)) [] s e.1) same e.2))
-      (items_told s),
-  λ e. ap collect_items (items_to_fault s f e.0 e.1) ∙ one_fault (places 0 e.0) f,
-)
+lexed_is s (Ok xs) e = ap collect_items (items_to_end s e.0 e.1) ∙ all_tokens (to_end s e.0) ∙ ap (λ xs. Ok xs) (sym e.2)
+lexed_is s (Err f) e = ap collect_items (items_to_fault s f e.0 e.1) ∙ one_fault (places 0 e.0) f
+
+pub only_tokens : OnlyTokens
+only_tokens s r = ((λ is. subst (IsLexed s) is (lexed_told s)), lexed_is s r)
 
 -- ---- ids and texts
 
@@ -416,39 +406,24 @@ sliced_end s (x ∷ xs) n = ap (λ us. (x.id, text_at s x) ∷ us) (sliced_end s
 sliced_is : (s : Text) (ts : List Step) → IsRead IsEnd [] s ts → slice_texts s (to_end s ts) ≡ map (λ t. (t.1, t.2)) ts ++ (6, []) ∷ []
 sliced_is s ts read = sliced_end s (places 0 ts) (length s) ∙ ap (λ us. us ++ (6, []) ∷ []) (sliced_steps IsEnd s ts [] 0 s refl read)
 
--- what a list of tokens by texts came from
-texts_from : (s : Text) (r : Result (List Lexeme) LexFault) (us : List (ℕ × Text)) → result_texts s r ≡ Ok us → (xs : List Lexeme) × (r ≡ Ok xs) × (slice_texts s xs ≡ us)
-texts_from s (Ok xs) us is = (xs, refl, cc)
-texts_from s (Err e) us is = absurd (cc)
-
-fault_from : (s : Text) (r : Result (List Lexeme) LexFault) (f : LexFault) → result_texts s r ≡ Err f → r ≡ Err f
-fault_from s (Ok xs) f is = absurd (cc)
-fault_from s (Err e) f is = let same : e ≡ f = cc in ap (λ e. Err e) same
-
-pub only_texts : OnlyTexts
-only_texts s = (
-  λ us. (
-    λ is.
-        let x = texts_from s (lex s) us is in
-        let e = (only_tokens s x.0).0 x.1 in
-        (e.0, e.1, sym x.2 ∙ ap (slice_texts s) e.2 ∙ sliced_is s e.0 e.1),
-    λ e. ap (result_texts s) ((only_tokens s (to_end s e.0)).1 (e.0, e.1, refl)) ∙ ap (λ us. Ok us) (sliced_is s e.0 e.1 ∙ sym e.2),
-  ),
-  λ f. (
-    λ is. (only_fault s f).0 (fault_from s (lex s) f is),
-    λ e. ap (result_texts s) ((only_fault s f).1 e),
-  ),
-)
+texts_to_end : (s : Text) (ts : List Step) → IsRead IsEnd [] s ts → tokens s ≡ Ok (map (λ t. (t.1, t.2)) ts ++ (6, []) ∷ [])
+texts_to_end s ts read = ap (result_texts s) (lexed_is s (Ok (to_end s ts)) (ts, read, refl)) ∙ ap (λ us. Ok us) (sliced_is s ts read)
 
 -- ---- what a cursor gives
 
-pub only_pieces : OnlyPieces
-only_pieces s ts = (
-  λ read.
-      let k = steps_pieces IsEnd (λ ws. ws ≡ Ok (6, []) ∷ []) ts [] start s (λ before state z h e. (Ok (6, []) ∷ [], refl, end_pieces before state z h e)) at_start read in
-      k.2 ∙ ap (λ ws. map (λ t. Ok (t.1, t.2)) ts ++ ws) k.1,
-  λ f read.
-      let k = steps_pieces (EndsIn f (length s)) (λ ws. (n : ℕ) × (ws ≡ Err (f.kind, n, f.ch) ∷ [])) ts [] start s
-      (λ before state z h e. (Err (f.kind, length e.1, f.ch) ∷ [], (length e.1, refl), fault_pieces f (length s) before state z h e)) at_start read in
-      (k.1.0, k.2 ∙ ap (λ ws. map (λ t. Ok (t.1, t.2)) ts ++ ws) k.1.1),
+pieces_to_end : (s : Text) (ts : List Step) → IsRead IsEnd [] s ts → pieces start s ≡ map (λ t. Ok (t.1, t.2)) ts ++ Ok (6, []) ∷ []
+pieces_to_end s ts read =
+    let k = steps_pieces IsEnd (λ ws. ws ≡ Ok (6, []) ∷ []) ts [] start s (λ before state z h e. (Ok (6, []) ∷ [], refl, end_pieces before state z h e)) at_start read in
+    k.2 ∙ ap (λ ws. map (λ t. Ok (t.1, t.2)) ts ++ ws) k.1
+
+pieces_to_fault : (s : Text) (ts : List Step) (f : LexFault) → IsRead (EndsIn f (length s)) [] s ts → (n : ℕ) × (pieces start s ≡ map (λ t. Ok (t.1, t.2)) ts ++ Err (f.kind, n, f.ch) ∷ [])
+pieces_to_fault s ts f read =
+    let k = steps_pieces (EndsIn f (length s)) (λ ws. (n : ℕ) × (ws ≡ Err (f.kind, n, f.ch) ∷ [])) ts [] start s
+    (λ before state z h e. (Err (f.kind, length e.1, f.ch) ∷ [], (length e.1, refl), fault_pieces f (length s) before state z h e)) at_start read in
+    (k.1.0, k.2 ∙ ap (λ ws. map (λ t. Ok (t.1, t.2)) ts ++ ws) k.1.1)
+
+pub only_steps : OnlySteps
+only_steps s ts = (
+  (λ read. (items_to_end s ts read, texts_to_end s ts read, pieces_to_end s ts read)),
+  (λ f read. (items_to_fault s f ts read, ap (result_texts s) (lexed_is s (Err f) (ts, read)), pieces_to_fault s ts f read)),
 )

@@ -9,7 +9,7 @@ use Rattle.promql_token.specs.declared.class.Class.TheVariants as class
 use Rattle.promql_token.specs.declared.state.Mode.{Mode}
 use Rattle.promql_token.specs.declared.state.Mode.TheVariants as mode
 use Rattle.promql_text.specs.Texts.{Text}
-use Rattle.promql_token.specs.Trivia.{is_line, IsComment, AreBlank, IsTriviaIn}
+use Rattle.promql_token.specs.Trivia.{IsComment, AreBlank, IsTriviaIn}
 use Rattle.promql_token.specs.Vocabulary.{next}
 use Rattle.promql_token.specs.TokenScanning.{trivia_len, trivia_from, is_line_end}
 use Rattle.promql_token.specs.Printed.{concat_texts}
@@ -33,12 +33,12 @@ all_white (b ∷ p) z h =
     let same : suc (length p + trivia_from false z) ≡ suc (length p) + trivia_from false z = omega arith in
     one_white b (p ++ z) (and_left (is_ascii_whitespace b) (list_all is_ascii_whitespace p) h) ∙ ap suc more ∙ same
 
-line_passed : (line z : Text) → is_line line ≡ true → trivia_from true (line ++ z) ≡ length line + trivia_from true z
+line_passed : (line z : Text) → list_all (λ b. not (is_line_end b)) line ≡ true → trivia_from true (line ++ z) ≡ length line + trivia_from true z
 line_passed [] z h = sym (zero-add (trivia_from true z))
 line_passed (b ∷ line) z h =
-    let more = line_passed line z (and_right (not (is_line_end b)) (is_line line) h) in
+    let more = line_passed line z (and_right (not (is_line_end b)) (list_all (λ b. not (is_line_end b)) line) h) in
     let same : suc (length line + trivia_from true z) ≡ suc (length line) + trivia_from true z = omega arith in
-    ap (λ c. suc (trivia_from c (line ++ z))) (and_left (not (is_line_end b)) (is_line line) h) ∙ ap suc more ∙ same
+    ap (λ c. suc (trivia_from c (line ++ z))) (and_left (not (is_line_end b)) (list_all (λ b. not (is_line_end b)) line) h) ∙ ap suc more ∙ same
 
 comment_passed : (p z : Text) → IsComment p z → trivia_from false (p ++ z) ≡ length p + trivia_from false z
 comment_passed p z c =
@@ -89,7 +89,7 @@ record Blank (z : Text) : Type 0 where
 -- the rest of a comment, and what follows it
 record Line (z : Text) : Type 0 where
   line : Text
-  plain : is_line line ≡ true
+  plain : list_all (λ b. not (is_line_end b)) line ≡ true
   end : ((e : ℕ) × (r : Text) × (is_line_end e ≡ true) × (z ≡ line ++ e ∷ r) × Blank r) ⊎ (z ≡ line)
 
 longer_line : (b : ℕ) (z : Text) → is_line_end b ≡ false → Line z → Line (b ∷ z)

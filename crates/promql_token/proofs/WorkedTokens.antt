@@ -3,6 +3,7 @@ use Rattle.std.proofs.Common.{◌≡◌, refl, List, Ok}
 use Rattle.std.specs.Prelude.{Result, Err}
 use Rattle.std.specs.Str.{chars}
 use Rattle.promql_token.specs.Ids.{keyword_in_any_case}
+use Rattle.promql_token.specs.LexicalFaults.{has_char}
 use Rattle.promql_token.specs.Lexing.{lex, cut, found}
 use Rattle.promql_token.specs.TokenScanning.{trivia_len, word, word_in_braces, number_end, units, numeral, string, punctuator, outside, in_braces, in_brackets, scan_token, after_trivia, after}
 use Rattle.promql_token.specs.TokenRows.{ExampleTokens, ExampleFaults}
@@ -10,21 +11,20 @@ use Rattle.promql_token.specs.TokenLists.{IsLexed}
 use Rattle.promql_token.specs.declared.fault.LexFault.{LexFault}
 use Rattle.promql_token.specs.declared.lexeme.Lexeme.{Lexeme}
 use Rattle.promql_text.specs.Texts.{Text}
-use Rattle.promql_token.proofs.OneReading.{only_fault, only_tokens}
+use Rattle.promql_token.proofs.OneReading.{only_tokens}
 
 pub worked_tokens : ExampleTokens (λ s r. lex s ≡ r)
 unfolding lex cut found trivia_len keyword_in_any_case word word_in_braces number_end units numeral string punctuator outside in_braces in_brackets scan_token after_trivia after
 worked_tokens = record { fill_word = refl; fill_name = refl; or_words = refl; duration = refl; hexadecimal = refl; bare_exponent = refl; comment = refl; raw_string = refl; spaced_colon = refl }
 
 pub worked_faults : ExampleFaults (λ s r. lex s ≡ r)
-unfolding lex cut found trivia_len keyword_in_any_case word word_in_braces number_end units numeral string punctuator outside in_braces in_brackets scan_token after_trivia after chars
+unfolding lex cut found trivia_len keyword_in_any_case word word_in_braces number_end units numeral string punctuator outside in_braces in_brackets scan_token after_trivia after chars has_char
 worked_faults = record { unclosed_paren = refl; after_equal = refl; after_bang = refl; bang_at_end = refl; bang_at_end_in_braces = refl; after_dot = refl; dot_at_end = refl; right_paren = refl; right_brace = refl; right_bracket = refl; character = refl; numeral = refl; numeral_in_brackets = refl; escape = refl; wide_escape = refl; escape_at_end = refl; open_string = refl; after_bang_in_braces = refl; brace_in_braces = refl; in_braces = refl; end_in_braces = refl; second_colon = refl; first_colon = refl; bracket_in_brackets = refl; in_brackets = refl; no_comment = refl; end_in_brackets = refl }
 
 -- ---- the same by the relations
 
 read_by_law : (s : Text) (r : Result (List Lexeme) LexFault) → lex s ≡ r → IsLexed s r
-read_by_law s (Ok xs) e = (only_tokens s xs).0 e
-read_by_law s (Err f) e = (only_fault s f).0 e
+read_by_law s r e = (only_tokens s r).0 e
 
 pub read_tokens : ExampleTokens IsLexed
 read_tokens = let w = worked_tokens in record {

@@ -1,5 +1,7 @@
 -- What is still to be drawn from a cursor.
-use Rattle.std.specs.Prelude.{ℕ, Bool, true, false, not, ◌==◌, List, [], ◌∷◌, drop, filter, Ok, Err}
+use Rattle.std.specs.Prelude.{ℕ, Bool, not, ◌==◌, List, drop, filter}
+use Rattle.std.specs.List.{list_any}
+use Rattle.std.specs.Result.{is_err, ok_prefix}
 use Rattle.promql_token.specs.declared.ids.TheConstants.{T_EOF}
 use Rattle.promql_token.specs.declared.cursor.Cursor as code
 use Rattle.promql_text.specs.Texts.{Text}
@@ -11,9 +13,7 @@ is_before_end t = not (t.0 == T_EOF)
 
 -- the tokens up to a fault
 abbrev pub up_to_fault : List ScannedText → List (ℕ × Text)
-up_to_fault [] = []
-up_to_fault (Ok t ∷ ws) = t ∷ up_to_fault ws
-up_to_fault (Err f ∷ ws) = []
+up_to_fault = ok_prefix
 
 -- the tokens of a text before its end, or before its fault
 abbrev pub tokens_up_to_fault : Text → List (ℕ × Text)
@@ -25,9 +25,7 @@ tokens_left c = filter is_before_end (up_to_fault (pieces c.state (drop c.at c.t
 
 -- whether there is a fault
 abbrev pub has_fault : List ScannedText → Bool
-has_fault [] = false
-has_fault (Ok t ∷ ws) = has_fault ws
-has_fault (Err f ∷ ws) = true
+has_fault = list_any is_err
 
 -- whether what is to come ends in a fault
 abbrev pub ends_in_fault : code.Cursor → Bool

@@ -5,8 +5,6 @@ use Rattle.std.specs.Option.{unwrap_or}
 use Rattle.std.specs.Str.{bytes_eq, str_eq_ignore_ascii_case}
 use Rattle.promql_token.specs.declared.ids.TheConstants.{TEXTS, KEYWORDS, T_EQL, T_BLANK, T_COLON, T_COMMA, T_COMMENT, T_DURATION, T_EOF, T_ERROR, T_IDENTIFIER, T_LEFT_BRACE, T_LEFT_BRACKET, T_LEFT_PAREN, T_OPEN_HIST, T_CLOSE_HIST, T_METRIC_IDENTIFIER, T_NUMBER, T_RIGHT_BRACE, T_RIGHT_BRACKET, T_RIGHT_PAREN, T_SEMICOLON, T_SPACE, T_STRING, T_TIMES, T_OPERATORS_START, T_ADD, T_DIV, T_EQLC, T_EQL_REGEX, T_GTE, T_GTR, T_LAND, T_LOR, T_LSS, T_LTE, T_LUNLESS, T_MOD, T_MUL, T_NEQ, T_NEQ_REGEX, T_POW, T_SUB, T_AT, T_ATAN2, T_OPERATORS_END, T_AGGREGATORS_START, T_AVG, T_BOTTOMK, T_COUNT, T_COUNT_VALUES, T_GROUP, T_MAX, T_MIN, T_QUANTILE, T_STDDEV, T_STDVAR, T_SUM, T_TOPK, T_LIMITK, T_LIMIT_RATIO, T_AGGREGATORS_END, T_KEYWORDS_START, T_BOOL, T_BY, T_GROUP_LEFT, T_GROUP_RIGHT, T_IGNORING, T_OFFSET, T_SMOOTHED, T_ANCHORED, T_ON, T_WITHOUT, T_FILL, T_FILL_LEFT, T_FILL_RIGHT, T_KEYWORDS_END, T_PREPROCESSOR_START, T_START, T_END, T_STEP, T_PREPROCESSOR_END, T_STARTSYMBOLS_START, T_START_METRIC, T_START_SERIES_DESCRIPTION, T_START_EXPRESSION, T_START_METRIC_SELECTOR, T_STARTSYMBOLS_END}
 use Rattle.promql_text.specs.Texts.{Text}
-use Rattle.promql_token.specs.declared.ids.Case.{Case}
-use Rattle.promql_token.specs.declared.ids.Case.TheVariants as case
 
 -- the text of an id, in a table of texts from id 0 on
 abbrev pub text_in : List Text → ℕ → Text
@@ -25,17 +23,13 @@ abbrev pub lookup : (Text → Text → Bool) → List (Text × ℕ) → Text →
 lookup same [] word = None
 lookup same (k ∷ ks) word = if same k.0 word then Some k.1 else lookup same ks word
 
-abbrev pub same_word : Case → Text → Text → Bool
-same_word case.Lower = bytes_eq
-same_word case.Any = str_eq_ignore_ascii_case
-
 -- the keyword that a word is, in lower case
 unfoldable pub keyword : Text → Option ℕ
-keyword = lookup (same_word case.Lower) keywords
+keyword = lookup bytes_eq keywords
 
 -- the keyword that a word is in any case of its letters
 unfoldable pub keyword_in_any_case : Text → Option ℕ
-keyword_in_any_case = lookup (same_word case.Any) keywords
+keyword_in_any_case = lookup str_eq_ignore_ascii_case keywords
 
 -- ---- classes
 
@@ -68,17 +62,15 @@ count_up n (suc more) = n ∷ count_up (n + 1) more
 -- the constants in the order of the page
 abbrev pub constants : List ℕ
 constants =
-    T_EQL ∷ T_BLANK ∷ T_COLON ∷ T_COMMA ∷ T_COMMENT ∷ T_DURATION ∷ T_EOF ∷ T_ERROR ∷ T_IDENTIFIER ∷
-    T_LEFT_BRACE ∷ T_LEFT_BRACKET ∷ T_LEFT_PAREN ∷ T_OPEN_HIST ∷ T_CLOSE_HIST ∷ T_METRIC_IDENTIFIER ∷
-    T_NUMBER ∷ T_RIGHT_BRACE ∷ T_RIGHT_BRACKET ∷ T_RIGHT_PAREN ∷ T_SEMICOLON ∷ T_SPACE ∷ T_STRING ∷ T_TIMES ∷
-    T_OPERATORS_START ∷ T_ADD ∷ T_DIV ∷ T_EQLC ∷ T_EQL_REGEX ∷ T_GTE ∷ T_GTR ∷ T_LAND ∷ T_LOR ∷ T_LSS ∷ T_LTE ∷
-    T_LUNLESS ∷ T_MOD ∷ T_MUL ∷ T_NEQ ∷ T_NEQ_REGEX ∷ T_POW ∷ T_SUB ∷ T_AT ∷ T_ATAN2 ∷ T_OPERATORS_END ∷
-    T_AGGREGATORS_START ∷ T_AVG ∷ T_BOTTOMK ∷ T_COUNT ∷ T_COUNT_VALUES ∷ T_GROUP ∷ T_MAX ∷ T_MIN ∷ T_QUANTILE ∷
-    T_STDDEV ∷ T_STDVAR ∷ T_SUM ∷ T_TOPK ∷ T_LIMITK ∷ T_LIMIT_RATIO ∷ T_AGGREGATORS_END ∷ T_KEYWORDS_START ∷
-    T_BOOL ∷ T_BY ∷ T_GROUP_LEFT ∷ T_GROUP_RIGHT ∷ T_IGNORING ∷ T_OFFSET ∷ T_SMOOTHED ∷ T_ANCHORED ∷ T_ON ∷
-    T_WITHOUT ∷ T_FILL ∷ T_FILL_LEFT ∷ T_FILL_RIGHT ∷ T_KEYWORDS_END ∷ T_PREPROCESSOR_START ∷ T_START ∷ T_END ∷
-    T_STEP ∷ T_PREPROCESSOR_END ∷ T_STARTSYMBOLS_START ∷ T_START_METRIC ∷ T_START_SERIES_DESCRIPTION ∷
-    T_START_EXPRESSION ∷ T_START_METRIC_SELECTOR ∷ T_STARTSYMBOLS_END ∷ []
+    T_EQL ∷ T_BLANK ∷ T_COLON ∷ T_COMMA ∷ T_COMMENT ∷ T_DURATION ∷ T_EOF ∷ T_ERROR ∷ T_IDENTIFIER ∷ T_LEFT_BRACE ∷ T_LEFT_BRACKET ∷
+    T_LEFT_PAREN ∷ T_OPEN_HIST ∷ T_CLOSE_HIST ∷ T_METRIC_IDENTIFIER ∷ T_NUMBER ∷ T_RIGHT_BRACE ∷ T_RIGHT_BRACKET ∷ T_RIGHT_PAREN ∷
+    T_SEMICOLON ∷ T_SPACE ∷ T_STRING ∷ T_TIMES ∷ T_OPERATORS_START ∷ T_ADD ∷ T_DIV ∷ T_EQLC ∷ T_EQL_REGEX ∷ T_GTE ∷ T_GTR ∷ T_LAND ∷ T_LOR ∷
+    T_LSS ∷ T_LTE ∷ T_LUNLESS ∷ T_MOD ∷ T_MUL ∷ T_NEQ ∷ T_NEQ_REGEX ∷ T_POW ∷ T_SUB ∷ T_AT ∷ T_ATAN2 ∷ T_OPERATORS_END ∷
+    T_AGGREGATORS_START ∷ T_AVG ∷ T_BOTTOMK ∷ T_COUNT ∷ T_COUNT_VALUES ∷ T_GROUP ∷ T_MAX ∷ T_MIN ∷ T_QUANTILE ∷ T_STDDEV ∷ T_STDVAR ∷
+    T_SUM ∷ T_TOPK ∷ T_LIMITK ∷ T_LIMIT_RATIO ∷ T_AGGREGATORS_END ∷ T_KEYWORDS_START ∷ T_BOOL ∷ T_BY ∷ T_GROUP_LEFT ∷ T_GROUP_RIGHT ∷
+    T_IGNORING ∷ T_OFFSET ∷ T_SMOOTHED ∷ T_ANCHORED ∷ T_ON ∷ T_WITHOUT ∷ T_FILL ∷ T_FILL_LEFT ∷ T_FILL_RIGHT ∷ T_KEYWORDS_END ∷
+    T_PREPROCESSOR_START ∷ T_START ∷ T_END ∷ T_STEP ∷ T_PREPROCESSOR_END ∷ T_STARTSYMBOLS_START ∷ T_START_METRIC ∷
+    T_START_SERIES_DESCRIPTION ∷ T_START_EXPRESSION ∷ T_START_METRIC_SELECTOR ∷ T_STARTSYMBOLS_END ∷ []
 
 -- the ids of the rows of texts
 abbrev pub ids_of_texts : List ℕ

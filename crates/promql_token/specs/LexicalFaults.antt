@@ -1,6 +1,7 @@
 -- Lexical faults and their messages (docs/reference/tokens.md, "Faults").
-use Rattle.std.specs.Prelude.{Bool, true, false, if◌then◌else◌, List, [], ◌∷◌, ◌++◌, codes, map}
+use Rattle.std.specs.Prelude.{Bool, if◌then◌else◌, List, [], ◌∷◌, ◌++◌, codes, map}
 use Rattle.std.specs.Char.{encode_utf8}
+use Rattle.std.specs.List.{list_any}
 use Rattle.std.specs.Option.{option_map_or}
 use Rattle.promql_text.specs.Texts.{Text}
 use Rattle.promql_token.specs.contracts.fault.LexFaultKindPartialEq.TheImpl as kinds
@@ -10,16 +11,9 @@ use Rattle.promql_token.specs.declared.fault.LexFaultKind.{LexFaultKind}
 use Rattle.promql_token.specs.declared.fault.LexFaultKind.TheVariants.{AfterBang, AfterDot, Character, Escape, OpenString, AfterBangInBraces, InBraces, InBrackets}
 
 -- the kinds that show the character at fault
-abbrev pub has_char : LexFaultKind → Bool
-has_char AfterBang = true
-has_char AfterDot = true
-has_char Character = true
-has_char Escape = true
-has_char OpenString = true
-has_char AfterBangInBraces = true
-has_char InBraces = true
-has_char InBrackets = true
-has_char _ = false
+unfoldable pub has_char : LexFaultKind → Bool
+has_char kind =
+    list_any (kinds.ghosts.eq kind) (AfterBang ∷ AfterDot ∷ Character ∷ Escape ∷ OpenString ∷ AfterBangInBraces ∷ InBraces ∷ InBrackets ∷ [])
 
 -- the words beside a kind, in a table
 abbrev pub message_in : List (LexFaultKind × Text) → LexFaultKind → Text

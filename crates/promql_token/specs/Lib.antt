@@ -22,4 +22,5 @@ pub mod States
 pub mod TokenLists
 pub mod Tokens
 pub mod Vocabulary
+pub mod WordCases
 pub mod WordRanks

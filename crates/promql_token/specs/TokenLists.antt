@@ -1,6 +1,6 @@
 -- The one way in which a text is trivia and tokens, to its end or to a fault (docs/reference/tokens.md,
 -- "The token list of a text").
-use Rattle.std.specs.Prelude.{◌≡◌, ◌⊎◌, ◌↔◌, ℕ, ◌+◌, List, [], ◌∷◌, ◌++◌, length, map, Result, Ok, Err}
+use Rattle.std.specs.Prelude.{◌≡◌, ◌↔◌, ℕ, ◌+◌, List, [], ◌∷◌, ◌++◌, length, map, Result, Ok, Err}
 use Rattle.promql_token.specs.declared.fault.LexFault.{LexFault}
 use Rattle.promql_token.specs.declared.ids.TheConstants.{T_EOF}
 use Rattle.promql_token.specs.declared.lexeme.Lexeme.{Lexeme}
@@ -52,31 +52,18 @@ abbrev pub IsLexed : Text → Result (List Lexeme) LexFault → Type 0
 IsLexed s (Ok xs) = (ts : List Step) × IsRead IsEnd [] s ts × (xs ≡ to_end s ts)
 IsLexed s (Err f) = (ts : List Step) × IsRead (EndsIn f (length s)) [] s ts
 
--- a text has a token list exactly if it is read so
+-- a text has a token list, or a fault, exactly if it is read so
 abbrev pub OnlyTokens : Type 0
-OnlyTokens = (s : Text) (xs : List Lexeme) → (lex s ≡ Ok xs) ↔ IsLexed s (Ok xs)
+OnlyTokens = (s : Text) (r : Result (List Lexeme) LexFault) → (lex s ≡ r) ↔ IsLexed s r
 
--- and a fault exactly if it is read so up to this fault
-abbrev pub OnlyFault : Type 0
-OnlyFault = (s : Text) (f : LexFault) → (lex s ≡ Err f) ↔ IsLexed s (Err f)
-
--- the ids and texts of the tokens, or the fault
-abbrev pub OnlyTexts : Type 0
-OnlyTexts =
-    (s : Text)
-    → ((us : List (ℕ × Text)) → (tokens s ≡ Ok us) ↔ ((ts : List Step) × IsRead IsEnd [] s ts × (us ≡ map (λ t. (t.1, t.2)) ts ++ (T_EOF, []) ∷ [])))
-    × ((f : LexFault) → (tokens s ≡ Err f) ↔ ((ts : List Step) × IsRead (EndsIn f (length s)) [] s ts))
-
--- the tokens that a cursor gives from the start on, to the end or to the fault
-abbrev pub OnlyPieces : Type 0
-OnlyPieces =
+-- by the steps of a text: the items of a lexer, which yields the tokens and then the fault; the ids and texts of the tokens, or the fault;
+-- and what a cursor gives from the start on
+abbrev pub OnlySteps : Type 0
+OnlySteps =
     (s : Text) (ts : List Step)
-    → (IsRead IsEnd [] s ts → pieces start s ≡ map (λ t. Ok (t.1, t.2)) ts ++ Ok (T_EOF, []) ∷ [])
-    × ((f : LexFault) → IsRead (EndsIn f (length s)) [] s ts → (n : ℕ) × (pieces start s ≡ map (λ t. Ok (t.1, t.2)) ts ++ Err (f.kind, n, f.ch) ∷ []))
-
--- a lexer yields the tokens, and then the fault
-abbrev pub OnlyItems : Type 0
-OnlyItems =
-    (s : Text) (rs : List (Result Lexeme LexFault)) → (items s ≡ rs)
-    ↔ (((ts : List Step) × IsRead IsEnd [] s ts × (rs ≡ map (λ x. Ok x) (to_end s ts)))
-    ⊎ ((f : LexFault) × (ts : List Step) × IsRead (EndsIn f (length s)) [] s ts × (rs ≡ map (λ x. Ok x) (places 0 ts) ++ Err f ∷ [])))
+    → (IsRead IsEnd [] s ts
+    → (items s ≡ map (λ x. Ok x) (to_end s ts)) × (tokens s ≡ Ok (map (λ t. (t.1, t.2)) ts ++ (T_EOF, []) ∷ []))
+    × (pieces start s ≡ map (λ t. Ok (t.1, t.2)) ts ++ Ok (T_EOF, []) ∷ []))
+    × ((f : LexFault) → IsRead (EndsIn f (length s)) [] s ts
+    → (items s ≡ map (λ x. Ok x) (places 0 ts) ++ Err f ∷ []) × (tokens s ≡ Err f)
+    × ((n : ℕ) × (pieces start s ≡ map (λ t. Ok (t.1, t.2)) ts ++ Err (f.kind, n, f.ch) ∷ [])))

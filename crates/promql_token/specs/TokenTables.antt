@@ -9,37 +9,30 @@ use Rattle.promql_token.specs.declared.ids.TheConstants.{T_ANCHORED, T_ATAN2, T_
 -- the texts of the ids, from id 0 on
 abbrev pub texts : List Text
 texts =
-    codes "=" ∷ codes "_" ∷ codes ":" ∷ codes "," ∷ codes "#" ∷ codes "[du]" ∷ codes "<eof>" ∷
-    codes "{Err}" ∷ codes "{ID}" ∷ codes "{" ∷ codes "[" ∷ codes "(" ∷ codes "{{" ∷ codes "}}" ∷
-    codes "{Metric_ID}" ∷ codes "{Num}" ∷ codes "}" ∷ codes "]" ∷ codes ")" ∷ codes "," ∷ codes "<space>" ∷
-    codes "{Str}" ∷ codes "x" ∷ codes "operators_start" ∷ codes "+" ∷ codes "/" ∷ codes "==" ∷ codes "=~" ∷
-    codes ">=" ∷ codes ">" ∷ codes "and" ∷ codes "or" ∷ codes "<" ∷ codes "<=" ∷ codes "unless" ∷ codes "%" ∷
-    codes "*" ∷ codes "!=" ∷ codes "!~" ∷ codes "^" ∷ codes "-" ∷ codes "@" ∷ codes "atan2" ∷
-    codes "operators_end" ∷ codes "aggregators_start" ∷ codes "avg" ∷ codes "bottomk" ∷ codes "count" ∷
-    codes "count_values" ∷ codes "group" ∷ codes "max" ∷ codes "min" ∷ codes "quantile" ∷ codes "stddev" ∷
-    codes "stdvar" ∷ codes "sum" ∷ codes "topk" ∷ codes "limitk" ∷ codes "limit_ratio" ∷
-    codes "aggregators_end" ∷ codes "keywords_start" ∷ codes "bool" ∷ codes "by" ∷ codes "group_left" ∷
-    codes "group_right" ∷ codes "ignoring" ∷ codes "offset" ∷ codes "smoothed" ∷ codes "anchored" ∷
-    codes "on" ∷ codes "without" ∷ codes "fill" ∷ codes "fill_left" ∷ codes "fill_right" ∷
-    codes "keywords_end" ∷ codes "preprocessor_start" ∷ codes "start" ∷ codes "end" ∷ codes "step" ∷
-    codes "preprocessors_end" ∷ codes "not used" ∷ codes "not used" ∷ codes "not used" ∷ codes "not used" ∷
-    codes "not used" ∷ codes "not used" ∷ []
+    codes "=" ∷ codes "_" ∷ codes ":" ∷ codes "," ∷ codes "#" ∷ codes "[du]" ∷ codes "<eof>" ∷ codes "{Err}" ∷ codes "{ID}" ∷ codes "{" ∷
+    codes "[" ∷ codes "(" ∷ codes "{{" ∷ codes "}}" ∷ codes "{Metric_ID}" ∷ codes "{Num}" ∷ codes "}" ∷ codes "]" ∷ codes ")" ∷ codes "," ∷
+    codes "<space>" ∷ codes "{Str}" ∷ codes "x" ∷ codes "operators_start" ∷ codes "+" ∷ codes "/" ∷ codes "==" ∷ codes "=~" ∷ codes ">=" ∷
+    codes ">" ∷ codes "and" ∷ codes "or" ∷ codes "<" ∷ codes "<=" ∷ codes "unless" ∷ codes "%" ∷ codes "*" ∷ codes "!=" ∷ codes "!~" ∷
+    codes "^" ∷ codes "-" ∷ codes "@" ∷ codes "atan2" ∷ codes "operators_end" ∷ codes "aggregators_start" ∷ codes "avg" ∷ codes "bottomk" ∷
+    codes "count" ∷ codes "count_values" ∷ codes "group" ∷ codes "max" ∷ codes "min" ∷ codes "quantile" ∷ codes "stddev" ∷ codes "stdvar" ∷
+    codes "sum" ∷ codes "topk" ∷ codes "limitk" ∷ codes "limit_ratio" ∷ codes "aggregators_end" ∷ codes "keywords_start" ∷ codes "bool" ∷
+    codes "by" ∷ codes "group_left" ∷ codes "group_right" ∷ codes "ignoring" ∷ codes "offset" ∷ codes "smoothed" ∷ codes "anchored" ∷
+    codes "on" ∷ codes "without" ∷ codes "fill" ∷ codes "fill_left" ∷ codes "fill_right" ∷ codes "keywords_end" ∷
+    codes "preprocessor_start" ∷ codes "start" ∷ codes "end" ∷ codes "step" ∷ codes "preprocessors_end" ∷ codes "not used" ∷
+    codes "not used" ∷ codes "not used" ∷ codes "not used" ∷ codes "not used" ∷ codes "not used" ∷ []
 
 -- the words that are keywords and their ids, by first letter
 abbrev pub keywords : List (Text × ℕ)
 keywords =
-    (codes "and", T_LAND) ∷ (codes "avg", T_AVG) ∷ (codes "atan2", T_ATAN2) ∷
-    (codes "anchored", T_ANCHORED) ∷ (codes "by", T_BY) ∷ (codes "bool", T_BOOL) ∷
-    (codes "bottomk", T_BOTTOMK) ∷ (codes "count", T_COUNT) ∷ (codes "count_values", T_COUNT_VALUES) ∷
-    (codes "end", T_END) ∷ (codes "fill", T_FILL) ∷ (codes "fill_left", T_FILL_LEFT) ∷
-    (codes "fill_right", T_FILL_RIGHT) ∷ (codes "group_left", T_GROUP_LEFT) ∷
-    (codes "group_right", T_GROUP_RIGHT) ∷ (codes "group", T_GROUP) ∷ (codes "inf", T_NUMBER) ∷
-    (codes "ignoring", T_IGNORING) ∷ (codes "limitk", T_LIMITK) ∷ (codes "limit_ratio", T_LIMIT_RATIO) ∷
-    (codes "max", T_MAX) ∷ (codes "min", T_MIN) ∷ (codes "nan", T_NUMBER) ∷ (codes "on", T_ON) ∷
-    (codes "or", T_LOR) ∷ (codes "offset", T_OFFSET) ∷ (codes "quantile", T_QUANTILE) ∷
-    (codes "sum", T_SUM) ∷ (codes "start", T_START) ∷ (codes "stddev", T_STDDEV) ∷
-    (codes "stdvar", T_STDVAR) ∷ (codes "smoothed", T_SMOOTHED) ∷ (codes "topk", T_TOPK) ∷
-    (codes "unless", T_LUNLESS) ∷ (codes "without", T_WITHOUT) ∷ []
+    (codes "and", T_LAND) ∷ (codes "avg", T_AVG) ∷ (codes "atan2", T_ATAN2) ∷ (codes "anchored", T_ANCHORED) ∷ (codes "by", T_BY) ∷
+    (codes "bool", T_BOOL) ∷ (codes "bottomk", T_BOTTOMK) ∷ (codes "count", T_COUNT) ∷ (codes "count_values", T_COUNT_VALUES) ∷
+    (codes "end", T_END) ∷ (codes "fill", T_FILL) ∷ (codes "fill_left", T_FILL_LEFT) ∷ (codes "fill_right", T_FILL_RIGHT) ∷
+    (codes "group_left", T_GROUP_LEFT) ∷ (codes "group_right", T_GROUP_RIGHT) ∷ (codes "group", T_GROUP) ∷ (codes "inf", T_NUMBER) ∷
+    (codes "ignoring", T_IGNORING) ∷ (codes "limitk", T_LIMITK) ∷ (codes "limit_ratio", T_LIMIT_RATIO) ∷ (codes "max", T_MAX) ∷
+    (codes "min", T_MIN) ∷ (codes "nan", T_NUMBER) ∷ (codes "on", T_ON) ∷ (codes "or", T_LOR) ∷ (codes "offset", T_OFFSET) ∷
+    (codes "quantile", T_QUANTILE) ∷ (codes "sum", T_SUM) ∷ (codes "start", T_START) ∷ (codes "stddev", T_STDDEV) ∷
+    (codes "stdvar", T_STDVAR) ∷ (codes "smoothed", T_SMOOTHED) ∷ (codes "topk", T_TOPK) ∷ (codes "unless", T_LUNLESS) ∷
+    (codes "without", T_WITHOUT) ∷ []
 
 -- the words of the faults: what a message has before the character, or the whole message
 abbrev pub messages : List (LexFaultKind × Text)

@@ -1,7 +1,8 @@
 -- Trivia, and the places of the tokens between them (docs/reference/tokens.md, "The token list of a text").
-use Rattle.std.specs.Prelude.{◌≡◌, ◌⊎◌, ℕ, ◌+◌, ◌-◌, ◌≤◌, Bool, true, false, not, ◌==◌, List, [], ◌∷◌, ◌++◌, length, take, drop, Result, Ok}
+use Rattle.std.specs.Prelude.{◌≡◌, ◌⊎◌, ℕ, ◌+◌, ◌-◌, ◌≤◌, Bool, true, false, not, ◌==◌, List, [], ◌∷◌, ◌++◌, length, take, drop, Result}
 use Rattle.std.specs.Char.{is_ascii_whitespace}
 use Rattle.std.specs.List.{list_all}
+use Rattle.std.specs.Result.{ok_prefix}
 use Rattle.std.specs.Str.{IsCharBoundary, IsUtf8}
 use Rattle.promql_token.specs.declared.fault.LexFault.{LexFault}
 use Rattle.promql_token.specs.declared.lexeme.Lexeme.{Lexeme}
@@ -14,12 +15,9 @@ use Rattle.promql_token.specs.Vocabulary.{is_line_end, concat_texts, next}
 
 -- ---- trivia
 
-abbrev pub is_line : Text → Bool
-is_line w = list_all (λ b. not (is_line_end b)) w
-
 -- `#`, and what follows through the first line end, or to the end of the text
 abbrev pub IsComment : Text → Text → Type 0
-IsComment c r = (line : Text) × (is_line line ≡ true) × (((e : ℕ) × (is_line_end e ≡ true) × (c ≡ code "#" ∷ (line ++ e ∷ []))) ⊎ ((c ≡ code "#" ∷ line) × (r ≡ [])))
+IsComment c r = (line : Text) × (list_all (λ b. not (is_line_end b)) line ≡ true) × (((e : ℕ) × (is_line_end e ≡ true) × (c ≡ code "#" ∷ (line ++ e ∷ []))) ⊎ ((c ≡ code "#" ∷ line) × (r ≡ [])))
 
 -- white space and comments in a row, before the text r
 abbrev pub AreBlank : List Text → Text → Type 0
@@ -35,8 +33,7 @@ IsTriviaIn m g r = (ps : List Text) × (g ≡ concat_texts ps) × AreBlank ps r 
 
 -- the tokens before a fault, or all
 abbrev pub lexemes : List (Result Lexeme LexFault) → List Lexeme
-lexemes (Ok x ∷ rs) = x ∷ lexemes rs
-lexemes rs = []
+lexemes = ok_prefix
 
 -- a token begins and ends between characters, so that its text is a text
 abbrev pub IsPlaced : Text → Lexeme → Type 0

@@ -1,7 +1,7 @@
 -- Words for the parts of tokens (docs/reference/tokens.md, "Outside", "Numerals", "Strings").
 use Rattle.std.specs.Prelude.{ℕ, Bool, true, false, not, ◌&&◌, ◌||◌, if◌then◌else◌, ◌==◌, List, [], ◌∷◌, ◌++◌, length, slice_index, codes}
 use Rattle.std.specs.Char.{is_ascii_digit}
-use Rattle.std.specs.List.{list_all, list_any}
+use Rattle.std.specs.List.{concat, list_all, list_any}
 use Rattle.std.specs.Option.{unwrap_or}
 use Rattle.std.specs.Str.{str_eq_ignore_ascii_case}
 use Rattle.promql_token.specs.declared.class.Class.TheVariants as class
@@ -92,5 +92,4 @@ is_spelling quote p =
     list_all (λ b. not (b == quote) && not (b == code "\\")) p || (length p == 2 && slice_index p 0 == code "\\" && is_escape quote (slice_index p 1))
 
 abbrev pub concat_texts : List Text → Text
-concat_texts [] = []
-concat_texts (p ∷ ps) = p ++ concat_texts ps
+concat_texts = concat

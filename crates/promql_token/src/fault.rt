@@ -136,6 +136,7 @@ impl LexFaultKind {
     }
 
     /// Whether a fault of this kind shows the character.
+    #[tactic(auto, unfolding(crate::specs::LexicalFaults::has_char))]
     pub(crate) fn has_char(self) -> bool
         ensures { result ≡ spec.has_char self }
     {

@@ -5,6 +5,7 @@ ghost use Rattle.std.specs.List.{slice_range};
 ghost use Rattle.std.specs.Char.{to_ascii_lowercase};
 ghost use Rattle.std.specs.Str.{str_eq_ignore_ascii_case};
 ghost use Rattle.promql_token.specs.Ids as spec;
+ghost use Rattle.promql_token.specs.WordCases.{same_word};
 
 use crate::class::byte;
 
@@ -392,7 +393,7 @@ fn is_same_in_any_case(a: &[u8], b: &[u8]) -> bool
 
 fn is_same_word(case: Case, a: &[u8], b: &[u8]) -> bool
     requires { length a.now ≡ length b.now }
-    ensures { result ≡ spec.same_word case a.now b.now }
+    ensures { result ≡ same_word case a.now b.now }
 {
     match case {
         Case::Lower => a == b,
@@ -403,7 +404,7 @@ fn is_same_word(case: Case, a: &[u8], b: &[u8]) -> bool
 // Most words differ from a keyword in length already, which costs less to see than a call.
 #[inline(always)]
 fn lookup(case: Case, mut table: &[(&[u8], TokenId)], word: &[u8]) -> Option<TokenId>
-    ensures { result ≡ spec.lookup (spec.same_word case)
+    ensures { result ≡ spec.lookup (same_word case)
         (map (λ k. (k.0.now, k.1)) table.entry.now) word.now }
 {
     while let [row, rest @ ..] = table {
@@ -418,7 +419,7 @@ fn lookup(case: Case, mut table: &[(&[u8], TokenId)], word: &[u8]) -> Option<Tok
 /// The keyword that a word is, in lower case or in any case of its letters.
 #[inline(always)]
 fn find_keyword(case: Case, word: &[u8]) -> Option<TokenId>
-    ensures { result ≡ spec.lookup (spec.same_word case) spec.keywords word.now }
+    ensures { result ≡ spec.lookup (same_word case) spec.keywords word.now }
 {
     lookup(case, keywords_of_letter(byte(word, 0)), word)
 }

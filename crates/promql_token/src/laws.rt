@@ -31,10 +31,7 @@ pub fn spans_to_fault()
 /// fault, each of them what may begin there.
 pub fn only_tokens()
     ensures tokens { lists.OnlyTokens }
-    ensures fault { lists.OnlyFault }
-    ensures texts { lists.OnlyTexts }
-    ensures pieces { lists.OnlyPieces }
-    ensures items { lists.OnlyItems }
+    ensures steps { lists.OnlySteps }
 {}
 
 /// What a text begins with in a state is a token, or a fault, exactly if that may begin there.

@@ -1,7 +1,8 @@
 use Rattle.std.proofs.Common.{◌∙◌, ap, filter, get_or}
 use Rattle.std.specs.Prelude.{◌==◌}
 use Rattle.std.specs.Char.{to_ascii_lowercase}
-use Rattle.promql_token.specs.Ids.{keywords, lookup, same_word}
+use Rattle.promql_token.specs.Ids.{keywords, lookup}
+use Rattle.promql_token.specs.WordCases.{same_word}
 use Rattle.promql_token.proofs.Keywords.{among_letter}
 use Rattle.promql_token.proofs.ids.find_keyword.Goals as goal
 
