@@ -1,9 +1,9 @@
 -- The grammar: derivations, their tokens, their heights, and which of them are well formed (docs/reference/grammar.md,
 -- "Grammar").
 use Rattle.std.specs.Prelude.{◌≡◌, ◌⊎◌, ℕ, ◌+◌, ◌≤◌, ◌<◌, Bool, true, ◌==◌, if◌then◌else◌, min, max, Option, List, [], ◌∷◌, ◌++◌}
-use Rattle.std.specs.List.{list_any}
 use Rattle.promql_text.specs.Texts.{Text}
 use Rattle.promql_token.specs.declared.ids.TheConstants.{T_LOR, T_LAND, T_LUNLESS, T_EQLC, T_NEQ, T_LTE, T_LSS, T_GTE, T_GTR, T_ADD, T_SUB, T_POW}
+use Rattle.promql_token.specs.Ids.{is_one_of}
 use Rattle.promql_grammar.specs.declared.token_kinds.TokenKind.{TokenKind}
 use Rattle.promql_grammar.specs.declared.token_kinds.TokenKind.TheVariants as kind
 use Rattle.promql_grammar.specs.Symbols.{Symbol, punct, word, is_plus_or_minus, may_be_name, may_be_called}
@@ -12,9 +12,7 @@ use Rattle.promql_grammar.specs.GrammarParts.{Braces, yield_braces, yield_any_br
 -- a derivation, with a case for each form of expression; it keeps the tokens of its form
 mutual
   pub data Derivation : Type 0 where
-    number : Text → Derivation
-    duration : Text → Derivation
-    string : Text → Derivation
+    number duration string : Text → Derivation
     selector : TokenKind → Text → Option Braces → Derivation
     nameless : Braces → Derivation
     paren : Derivation → Derivation
@@ -50,10 +48,6 @@ abbrev mutual
   pub yield_rest : Arguments → List Symbol
   yield_rest none = punct kind.RightParen ∷ []
   yield_rest (more d ds) = punct kind.Comma ∷ (yield d ++ yield_rest ds)
-
--- the operators of one precedence, but for the highest two
-abbrev is_one_of : List ℕ → ℕ → Bool
-is_one_of ops op = list_any (λ k. op == k) ops
 
 -- how tightly an operator binds; `*`, `/`, `%` and `atan2` by 5
 abbrev pub precedence : ℕ → ℕ

@@ -9,8 +9,7 @@ use Rattle.promql_grammar.specs.Symbols.{Symbol, punct, word, may_be_label}
 
 -- "Times": a number of seconds, or a duration
 pub data Time : Type 0 where
-  seconds : Text → Time
-  duration : Text → Time
+  seconds duration : Text → Time
 
 abbrev pub yield_time : Time → List Symbol
 yield_time (seconds text) = word kind.Number text ∷ []
@@ -55,8 +54,7 @@ pub data Grouping : Type 0 where
 
 pub data Clause : Type 0 where
   no_clause : Clause
-  before : Grouping → Clause
-  after : Grouping → Clause
+  before after : Grouping → Clause
 
 abbrev pub yield_grouping : Grouping → List Symbol
 yield_grouping (grouping by text ls) = word (if by then kind.By else kind.Without) text ∷ yield_labels ls
@@ -134,10 +132,8 @@ IsMatching (matching on text ls g) = IsLabels ls × IsGroup g
 
 -- "Selectors": a name, matchers in braces, or both
 pub data MatchOperator : Type 0 where
-  equal : MatchOperator
+  equal equal_regex not_equal_regex : MatchOperator
   not_equal : Text → MatchOperator
-  equal_regex : MatchOperator
-  not_equal_regex : MatchOperator
 
 abbrev pub yield_match_operator : MatchOperator → Symbol
 yield_match_operator equal = punct kind.Equal
@@ -158,8 +154,7 @@ yield_separator comma = punct kind.Comma
 yield_separator (or text) = word (kind.Operator T_LOR) text
 
 pub data Items : Type 0 where
-  last_item : Item → Items
-  last_item_comma : Item → Items
+  last_item last_item_comma : Item → Items
   next_item : Item → Separator → Items → Items
 
 pub data Braces : Type 0 where

@@ -7,15 +7,12 @@ use Rattle.promql_grammar.specs.declared.token_kinds.TokenKind.TheVariants.{Aggr
 -- from id 0 on
 abbrev pub kinds : List TokenKind
 kinds =
-    Equal ∷ Other ∷ Colon ∷ Comma ∷ Other ∷ Duration ∷ Other ∷ Other ∷ Identifier ∷ LeftBrace ∷ LeftBracket ∷
-    LeftParen ∷ Other ∷ Other ∷ MetricIdentifier ∷ Number ∷ RightBrace ∷ RightBracket ∷ RightParen ∷ Other ∷
-    Other ∷ String ∷ Other ∷ Other ∷ Operator T_ADD ∷ Operator T_DIV ∷ Operator T_EQLC ∷ EqualRegex ∷
-    Operator T_GTE ∷ Operator T_GTR ∷ Operator T_LAND ∷ Operator T_LOR ∷ Operator T_LSS ∷ Operator T_LTE ∷
-    Operator T_LUNLESS ∷ Operator T_MOD ∷ Operator T_MUL ∷ Operator T_NEQ ∷ NotEqualRegex ∷ Operator T_POW ∷
-    Operator T_SUB ∷ At ∷ Operator T_ATAN2 ∷ Other ∷ Other ∷ Aggregator T_AVG ∷ Aggregator T_BOTTOMK ∷
-    Aggregator T_COUNT ∷ Aggregator T_COUNT_VALUES ∷ Aggregator T_GROUP ∷ Aggregator T_MAX ∷
-    Aggregator T_MIN ∷ Aggregator T_QUANTILE ∷ Aggregator T_STDDEV ∷ Aggregator T_STDVAR ∷ Aggregator T_SUM ∷
-    Aggregator T_TOPK ∷ Aggregator T_LIMITK ∷ Aggregator T_LIMIT_RATIO ∷ Other ∷ Other ∷ Bool ∷ By ∷
-    GroupLeft ∷ GroupRight ∷ Ignoring ∷ Offset ∷ Smoothed ∷ Anchored ∷ On ∷ Without ∷ Fill ∷ FillLeft ∷
-    FillRight ∷ Other ∷ Other ∷ Start ∷ End ∷ Other ∷ Other ∷ Other ∷ Other ∷ Other ∷ Other ∷ Other ∷ Other ∷
-    []
+    Equal ∷ Other ∷ Colon ∷ Comma ∷ Other ∷ Duration ∷ Other ∷ Other ∷ Identifier ∷ LeftBrace ∷ LeftBracket ∷ LeftParen ∷ Other ∷ Other ∷
+    MetricIdentifier ∷ Number ∷ RightBrace ∷ RightBracket ∷ RightParen ∷ Other ∷ Other ∷ String ∷ Other ∷ Other ∷ Operator T_ADD ∷
+    Operator T_DIV ∷ Operator T_EQLC ∷ EqualRegex ∷ Operator T_GTE ∷ Operator T_GTR ∷ Operator T_LAND ∷ Operator T_LOR ∷ Operator T_LSS ∷
+    Operator T_LTE ∷ Operator T_LUNLESS ∷ Operator T_MOD ∷ Operator T_MUL ∷ Operator T_NEQ ∷ NotEqualRegex ∷ Operator T_POW ∷
+    Operator T_SUB ∷ At ∷ Operator T_ATAN2 ∷ Other ∷ Other ∷ Aggregator T_AVG ∷ Aggregator T_BOTTOMK ∷ Aggregator T_COUNT ∷
+    Aggregator T_COUNT_VALUES ∷ Aggregator T_GROUP ∷ Aggregator T_MAX ∷ Aggregator T_MIN ∷ Aggregator T_QUANTILE ∷ Aggregator T_STDDEV ∷
+    Aggregator T_STDVAR ∷ Aggregator T_SUM ∷ Aggregator T_TOPK ∷ Aggregator T_LIMITK ∷ Aggregator T_LIMIT_RATIO ∷ Other ∷ Other ∷ Bool ∷
+    By ∷ GroupLeft ∷ GroupRight ∷ Ignoring ∷ Offset ∷ Smoothed ∷ Anchored ∷ On ∷ Without ∷ Fill ∷ FillLeft ∷ FillRight ∷ Other ∷ Other ∷
+    Start ∷ End ∷ Other ∷ Other ∷ Other ∷ Other ∷ Other ∷ Other ∷ Other ∷ Other ∷ []
