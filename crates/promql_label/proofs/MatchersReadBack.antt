@@ -32,7 +32,7 @@ matcher_again : (c : PlainMatcher) → read_matcher (matcher_tokens c) ≡ Some 
 matcher_again (plain_matcher op name value) = λ i.
     option_and_then (λ n.
     option_and_then (λ s.
-    option_map (λ v. record { operator = s; name = n; value = v }) (unquoted_text-quoted value i)) (operator_again op i)) (name_again name i)
+    option_map (λ v. (s, n, v)) (unquoted_text-quoted value i)) (operator_again op i)) (name_again name i)
 
 all_again : {X A Y : Type 0} (f : A → Option Y) (g : X → A) (h : X → Y) → ((x : X) → f (g x) ≡ Some (h x)) → (xs : List X) → all_or_none (map f (map g xs)) ≡ Some (map h xs)
 all_again f g h each [] = refl
@@ -107,11 +107,11 @@ matchers_again (plain_matchers plain []) = groups_again (sorted_matchers plain) 
 matchers_again (plain_matchers plain (g ∷ gs)) = groups_again g gs
 
 -- a matcher that was built of an id, a name and a value has these parts
-pub parts_built : (id : ℕ) (name value : Text) (c : PlainMatcher) → IsMatcherOf id name value c → parts_of c ≡ record { operator = id; name = name; value = value }
-parts_built id name value (plain_matcher equal n v) h = λ i. record { operator = sym h.0 i; name = h.1 i; value = h.2 i }
-parts_built id name value (plain_matcher not_equal n v) h = λ i. record { operator = sym h.0 i; name = h.1 i; value = h.2 i }
-parts_built id name value (plain_matcher (matches w) n v) h = λ i. record { operator = sym h.0.0 i; name = h.1 i; value = h.2 i }
-parts_built id name value (plain_matcher (matches_not w) n v) h = λ i. record { operator = sym h.0.0 i; name = h.1 i; value = h.2 i }
+pub parts_built : (id : ℕ) (name value : Text) (c : PlainMatcher) → IsMatcherOf id name value c → parts_of c ≡ (id, name, value)
+parts_built id name value (plain_matcher equal n v) h = λ i. (sym h.0 i, h.1 i, h.2 i)
+parts_built id name value (plain_matcher not_equal n v) h = λ i. (sym h.0 i, h.1 i, h.2 i)
+parts_built id name value (plain_matcher (matches w) n v) h = λ i. (sym h.0.0 i, h.1 i, h.2 i)
+parts_built id name value (plain_matcher (matches_not w) n v) h = λ i. (sym h.0.0 i, h.1 i, h.2 i)
 
 abbrev tokens_of : List ScannedText → List Token
 tokens_of [] = []

@@ -44,7 +44,7 @@ matcher_read (n ∷ s ∷ v ∷ []) p e =
     option_and_then_some _ (read_operator s) p named (λ operator es some_operator.
     mapped_some _ (read_string v) p some_operator (λ value ev is.
     let op = operator_read s operator es in
-    (plain_matcher op.0 name value, (λ i. record { operator = op.1 i; name = name; value = value }) ∙ is))))
+    (plain_matcher op.0 name value, (λ i. (op.1 i, name, value)) ∙ is))))
 matcher_read _ p e = absurd (cc)
 
 group_read : (ts : List Token) (ps : List Parts) → read_group ts ≡ Some ps → (cs : List PlainMatcher) × (map parts_of cs ≡ ps)

@@ -21,20 +21,20 @@ after_digits_is : (n r : Text) → list_all is_ascii_digit n ≡ true → is_asc
 after_digits_is n r digits stop = ap (λ k. drop k (n ++ r)) (prefix_all is_ascii_digit n r digits stop) ∙ drop-append_seam n r
 
 begins : (n r : Text) → IsNumeral n → is_ascii_digit (slice_index (n ++ r) 0) ≡ true
-begins [] r numeral = absurd (omega (arith, numeral.some))
-begins (b ∷ n) r numeral = and_left (is_ascii_digit b) (list_all is_ascii_digit n) numeral.digits
+begins [] r numeral = absurd (omega (arith, numeral.0))
+begins (b ∷ n) r numeral = and_left (is_ascii_digit b) (list_all is_ascii_digit n) numeral.1
 
 count_after : (n r : Text) → IsNumeral n → is_ascii_digit (get_or r 0 0) ≡ false → ends_count r ≡ true → opens_count (n ++ r) ≡ true
 count_after n r numeral stop ends =
     ap (λ digit. digit && ends_count (after_digits (n ++ r))) (begins n r numeral)
-    ∙ ap ends_count (after_digits_is n r numeral.digits stop) ∙ ends
+    ∙ ap ends_count (after_digits_is n r numeral.1 stop) ∙ ends
 
 pub opens_count_of_relation : (z : Text) → OpensCount z → opens_count z ≡ true
 opens_count_of_relation _ (exactly n z numeral) = count_after n (125 ∷ z) numeral refl refl
 opens_count_of_relation _ (at_least n z numeral) = count_after n (44 ∷ 125 ∷ z) numeral refl refl
 opens_count_of_relation _ (between n m z numeral more) =
     count_after n (44 ∷ (m ++ 125 ∷ z)) numeral refl
-    (ap (λ e. slice_index e 0 == 125) (after_digits_is m (125 ∷ z) more.digits refl))
+    (ap (λ e. slice_index e 0 == 125) (after_digits_is m (125 ∷ z) more.1 refl))
 
 -- ---- where the test passes there is a count
 
@@ -54,10 +54,7 @@ taken_numeral (b ∷ z) h =
     let k = prefix_len is_ascii_digit z in
     let next : suc k ≡ 1 + k = omega arith in
     let one_more : 0 < length (take (suc k) (b ∷ z)) = omega arith in
-    record {
-      some = subst (λ t. 0 < length (take (cond t (1 + k) 0) (b ∷ z))) (sym h) (subst (λ n. 0 < length (take n (b ∷ z))) next one_more);
-      digits = taken_digits (b ∷ z);
-    }
+    (subst (λ t. 0 < length (take (cond t (1 + k) 0) (b ∷ z))) (sym h) (subst (λ n. 0 < length (take n (b ∷ z))) next one_more), taken_digits (b ∷ z))
 
 no_digits : (z : Text) → is_ascii_digit (slice_index z 0) ≡ false → after_digits z ≡ z
 no_digits [] h = refl

@@ -1,5 +1,6 @@
 -- Why no matcher is made: docs/reference/matchers.md, "Operators of tokens".
-use Rattle.std.specs.Prelude.{◌≡◌, ℕ, true, false, string_bytes}
+use Rattle.std.specs.Prelude.{◌≡◌, ◌⊎◌, ℕ, true, false, Option, Some, None, string_bytes}
+use mathlib.Core.Logic.{inl, inr}
 use Rattle.promql_label.specs.Answers.{Allows, rejected}
 use Rattle.promql_label.specs.declared.matcher.MatcherError.{MatcherError}
 use Rattle.promql_label.specs.declared.matcher.MatcherError.TheVariants as errors
@@ -19,13 +20,8 @@ IsFaultOf id value errors.Memory = is_pattern_id id ≡ true
 IsFaultOf id value (errors.InvalidOp k) = (is_operator_id id ≡ false) × (k ≡ id)
 IsFaultOf id value (errors.Pattern s) = (is_pattern_id id ≡ true) × Allows value rejected × (string_bytes s ≡ value)
 
--- an error as plain data
-pub data PlainError : Type 0 where
-  memory : PlainError
-  invalid_op : ℕ → PlainError
-  rejected_pattern : Text → PlainError
-
-abbrev pub plain_error_of : MatcherError → PlainError
-plain_error_of errors.Memory = memory
-plain_error_of (errors.InvalidOp id) = invalid_op id
-plain_error_of (errors.Pattern s) = rejected_pattern (string_bytes s)
+-- an error as plain data: the id that is no operator's, or the rejected value, or nothing where memory ran out
+abbrev pub plain_error_of : MatcherError → Option (ℕ ⊎ Text)
+plain_error_of errors.Memory = None
+plain_error_of (errors.InvalidOp id) = Some (inl id)
+plain_error_of (errors.Pattern s) = Some (inr (string_bytes s))

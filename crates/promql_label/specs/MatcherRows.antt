@@ -18,7 +18,7 @@ two_groups =
     ∷ [])
 
 abbrev pub parts : ℕ → Text → Text → Parts
-parts operator name value = record { operator = operator; name = name; value = value }
+parts operator name value = (operator, name, value)
 
 pub record WorkedLists : Type 0 where
   pub none : matchers_text (plain_matchers [] []) ≡ codes ""

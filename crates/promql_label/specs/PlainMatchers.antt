@@ -10,10 +10,8 @@ use Rattle.promql_text.specs.Texts.{Text, joined_text}
 
 -- what a matcher compares by; a pattern is its built text
 pub data Operator : Type 0 where
-  equal : Operator
-  not_equal : Operator
-  matches : Text → Operator
-  matches_not : Text → Operator
+  equal not_equal : Operator
+  matches matches_not : Text → Operator
 
 -- a matcher: its operator, the label's name, and the value
 pub data PlainMatcher : Type 0 where

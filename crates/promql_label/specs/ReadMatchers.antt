@@ -64,13 +64,11 @@ abbrev pub matchers_tokens : PlainMatchers → List Token
 matchers_tokens cs = join_by group_tokens ((T_LOR, codes "or") ∷ []) (printed_groups cs)
 
 -- what a matcher prints: the id of its operator, its name and its value
-pub record Parts : Type 0 where
-  pub operator : ℕ
-  pub name : Text
-  pub value : Text
+abbrev pub Parts : Type 0
+Parts = ℕ × Text × Text
 
 abbrev pub parts_of : PlainMatcher → Parts
-parts_of (plain_matcher op name value) = record { operator = operator_id op; name = name; value = value }
+parts_of (plain_matcher op name value) = (operator_id op, name, value)
 
 -- a string means its text unquoted, and an identifier its text
 abbrev pub read_string : Token → Option Text
@@ -87,7 +85,7 @@ abbrev pub read_matcher : List Token → Option Parts
 read_matcher (n ∷ s ∷ v ∷ []) =
     option_and_then (λ name.
     option_and_then (λ operator.
-    option_map (λ value. record { operator = operator; name = name; value = value }) (read_string v)) (read_operator s)) (read_name n)
+    option_map (λ value. (operator, name, value)) (read_string v)) (read_operator s)) (read_name n)
 read_matcher _ = None
 
 -- all values, if each is there

@@ -5,9 +5,8 @@ use Rattle.std.specs.List.{list_all, prefix_len}
 use Rattle.promql_text.specs.Texts.{Text}
 
 -- one or more digits
-pub record IsNumeral (n : Text) : Type 0 where
-  pub some : 0 < length n
-  pub digits : list_all is_ascii_digit n ≡ true
+abbrev pub IsNumeral : Text → Type 0
+IsNumeral n = (0 < length n) × (list_all is_ascii_digit n ≡ true)
 
 -- "Repetitions": a count, which is `n}`, `n,}` or `n,m}`, comes before some text
 pub data OpensCount : Text → Type 0 where

@@ -86,7 +86,7 @@ pub fn printed_matchers_read_back()
         → map matcher_text (sorted_matchers cs) ≡ sorted_texts (map matcher_text cs) }
     ensures built { (id : ℕ) (name value : Text) (c : PlainMatcher)
         → IsMatcherOf id name value c
-        → parts_of c ≡ record { operator = id; name = name; value = value } }
+        → parts_of c ≡ (id, name, value) }
     ensures alike { (cs ds : PlainMatchers) → matchers_text cs ≡ matchers_text ds
         → map (map parts_of) (printed_groups cs) ≡ map (map parts_of) (printed_groups ds) }
     ensures worked { WorkedLists }
