@@ -1,25 +1,19 @@
 -- How modifiers print (docs/reference/printing.md, "Modifiers"): each part with one space before it.
-use Rattle.std.specs.Prelude.{Bool, true, false, if◌then◌else◌, List, [], ◌∷◌, ◌++◌, Option, Some, None, codes}
+use Rattle.std.specs.Prelude.{Bool, ◌||◌, if◌then◌else◌, [], ◌++◌, Option, Some, None, codes}
 use Rattle.promql_text.specs.NumberText.{number_text}
 use Rattle.promql_text.specs.declared.number.Number.{Number}
 use Rattle.promql_label.specs.Labels.{labels_text}
 use Rattle.promql_text.specs.Texts.{Text}
-use Rattle.promql_kind.specs.Modifiers.{Clause, including, excluding, Cardinality, many_to_one, one_to_many, Fills, fills, Matching, matching, is_grouping, number_eq}
+use Rattle.promql_kind.specs.Modifiers.{Clause, including, excluding, Cardinality, many_to_one, one_to_many, Fills, fills, Matching, matching, has_any, is_grouping, number_eq}
 
 abbrev pub bool_text : Bool → Text
-bool_text true = codes " bool"
-bool_text false = []
+bool_text b = if b then codes " bool" else []
 
 -- an empty list after `ignoring` prints only before a grouping
-abbrev pub ignoring_text : Bool → List Text → Text
-ignoring_text false [] = []
-ignoring_text true [] = codes " ignoring (" ++ (labels_text [] ++ codes ")")
-ignoring_text _ (l ∷ ls) = codes " ignoring (" ++ (labels_text (l ∷ ls) ++ codes ")")
-
 abbrev pub matched_text : Bool → Option Clause → Text
 matched_text is_grouping None = []
 matched_text is_grouping (Some (including ls)) = codes " on (" ++ (labels_text ls ++ codes ")")
-matched_text is_grouping (Some (excluding ls)) = ignoring_text is_grouping ls
+matched_text is_grouping (Some (excluding ls)) = if has_any ls || is_grouping then codes " ignoring (" ++ (labels_text ls ++ codes ")") else []
 
 abbrev pub grouping_text : Cardinality → Text
 grouping_text (many_to_one ls) = codes " group_left (" ++ (labels_text ls ++ codes ")")

@@ -1,6 +1,7 @@
 -- Modifiers, as plain data (docs/reference/tree.md, "Modifiers").
-use Rattle.std.specs.Prelude.{Bool, true, false, ◌==◌, ◌&&◌, List, [], ◌∷◌, Option, Some, None, is_some}
+use Rattle.std.specs.Prelude.{Bool, true, false, ◌==◌, ◌&&◌, List, [], ◌∷◌, Option, Some, None, is_some, option_map}
 use Rattle.std.specs.List.{list_any}
+use Rattle.std.specs.Option.{option_map_or, option_zip}
 use mathlib.Core.Bool.{beq}
 use Rattle.promql_text.specs.Numbers.{Exact}
 use Rattle.promql_text.specs.declared.number.Number.{Number}
@@ -10,15 +11,12 @@ use Rattle.promql_text.specs.Texts.{Text}
 
 -- labels to include, after `by` and `on`, or to exclude, after `without` and `ignoring`
 pub data Clause : Type 0 where
-  including : List Text → Clause
-  excluding : List Text → Clause
+  including excluding : List Text → Clause
 
 -- how many elements match how many, with the labels after `group_left` or `group_right`
 pub data Cardinality : Type 0 where
-  one_to_one : Cardinality
-  many_to_one : List Text → Cardinality
-  one_to_many : List Text → Cardinality
-  many_to_many : Cardinality
+  one_to_one many_to_many : Cardinality
+  many_to_one one_to_many : List Text → Cardinality
 
 -- the right side's value, and the left side's
 pub data Fills : Type 0 where
@@ -48,21 +46,14 @@ grouping _ = None
 abbrev pub is_grouping : Cardinality → Bool
 is_grouping card = is_some (grouping card)
 
--- what two lists that are both there have in common
-abbrev pub common_of : Option (List Text) → Option Clause → Option (List Text)
-common_of (Some ls) (Some m) = Some (common ls (clause_labels m))
-common_of _ _ = None
-
-abbrev pub shares_label : Option (List Text) → Option Clause → Bool
-shares_label (Some ls) (Some m) = list_any (is_among (clause_labels m)) ls
-shares_label _ _ = false
-
--- the labels that the grouping and the matching list have in common
+-- the labels that the grouping and the matching list have in common, where both are there, and whether there is one
 abbrev pub joint_labels : Matching → Option (List Text)
-joint_labels (matching card clause return_bool values) = common_of (grouping card) clause
+joint_labels (matching card clause return_bool values) =
+    option_map (λ (p : List Text × Clause). common p.0 (clause_labels p.1)) (option_zip (grouping card) clause)
 
 abbrev pub is_joint : Matching → Bool
-is_joint (matching card clause return_bool values) = shares_label (grouping card) clause
+is_joint (matching card clause return_bool values) =
+    option_map_or (λ (p : List Text × Clause). list_any (is_among (clause_labels p.1)) p.0) (option_zip (grouping card) clause) false
 
 abbrev pub is_including_some : Option Clause → Bool
 is_including_some None = false
@@ -75,13 +66,9 @@ abbrev pub has_any : List Text → Bool
 has_any [] = false
 has_any (l ∷ ls) = true
 
-abbrev pub has_labels : Option Clause → Bool
-has_labels None = false
-has_labels (Some m) = has_any (clause_labels m)
-
 -- there is a label after `on` or `ignoring`
 abbrev pub has_matching_labels : Matching → Bool
-has_matching_labels (matching card clause return_bool values) = has_labels clause
+has_matching_labels (matching card clause return_bool values) = option_map_or (λ m. has_any (clause_labels m)) clause false
 
 abbrev pub exact_eq : Exact → Exact → Bool
 exact_eq a b =
