@@ -7,6 +7,7 @@ use Rattle.promql_ast.specs.Arguments.{count}
 use Rattle.promql_ast.specs.Builds.{aggregate_args, aggregated_alone, aggregated_with}
 use Rattle.promql_ast.specs.Faults.{Gives, rejected, node}
 use Rattle.promql_ast.specs.Tree.{Trees, no_trees, first_tree}
+use Rattle.promql_ast.specs.View.{tree_of}
 use Rattle.promql_ast.specs.declared.fault.CheckError.{CheckError}
 use Rattle.promql_ast.specs.declared.fault.CheckError.TheVariants.{Check}
 use Rattle.promql_ast.specs.declared.fault.CheckFault.TheVariants.{Node}
@@ -28,7 +29,7 @@ wrong_with op m (first_tree p (first_tree e (first_tree f ts))) n some not = ref
 
 pub miscounted_with : (op : ℕ) (m : Option Clause) (ts : Trees) (n expected found : ℕ) (e : CheckError) → is_aggregator_with_param op ≡ true
     → expected ≡ 2 → found ≡ count ts → found ≡ n + 1 → (found ≡ expected → ⊥) → e ≡ Check (Node (ArgumentCount expected found))
-    → Gives (Err e) (aggregate_args op m ts)
+    → Gives ⊥ tree_of (Err e) (aggregate_args op m ts)
 miscounted_with op m ts n expected found e with two same some not is =
     rejects e (ArgumentCount expected found) _ is
     (ap (λ b. if b then aggregated_with op m ts else aggregated_alone op m ts) with
@@ -37,7 +38,7 @@ miscounted_with op m ts n expected found e with two same some not is =
 
 pub miscounted_alone : (op : ℕ) (m : Option Clause) (ts : Trees) (n expected found : ℕ) (e : CheckError) → is_aggregator_with_param op ≡ false
     → expected ≡ 1 → found ≡ count ts → found ≡ n + 1 → (found ≡ expected → ⊥) → e ≡ Check (Node (ArgumentCount expected found))
-    → Gives (Err e) (aggregate_args op m ts)
+    → Gives ⊥ tree_of (Err e) (aggregate_args op m ts)
 miscounted_alone op m ts n expected found e alone one same some not is =
     rejects e (ArgumentCount expected found) _ is
     (ap (λ b. if b then aggregated_with op m ts else aggregated_alone op m ts) alone

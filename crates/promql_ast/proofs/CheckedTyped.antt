@@ -1,6 +1,6 @@
 -- What the checks accept, over well typed children, is well typed.
 use Rattle.std.proofs.Common.{◌≡◌, ◌∙◌, ◌⊎◌, inl, inr, ◌≤◌, ◌+◌, ◌-◌, ℕ, ℤ, Bool, true, false, not, ◌&&◌, ◌||◌, List, [], ◌∷◌, length, Option, Some, None, refl, sym, ap, subst, unsigned_abs}
-use Rattle.std.specs.Prelude.{if◌then◌else◌, ◌==◌, nat_lt}
+use Rattle.std.specs.Prelude.{if◌then◌else◌, ◌==◌, nat_lt, option_map}
 use Rattle.std.specs.Int.{is_negative}
 use Rattle.std.proofs.lemmas.Bool.{ltb-false}
 use Rattle.std.proofs.lemmas.Bool.Decides.{Decides-eqb}
@@ -16,7 +16,7 @@ use Rattle.promql_kind.proofs.SameModifiersDecide.{type_eq-Decides}
 use Rattle.promql_ast.specs.Arguments.{count}
 use Rattle.promql_ast.specs.Checked.{check_tree}
 use Rattle.promql_ast.specs.Checks.{when, first_fault, unless, is_scalar, is_vector, is_scalar_or_vector, type_fault}
-use Rattle.promql_ast.specs.Faults.{Fault, Context, in_aggregation, binary_operator, bool_modifier, scalar_comparison, set_on_scalar, no_grouping, binary_types, vector_matching, Verdict, passes}
+use Rattle.promql_ast.specs.Faults.{Fault, Context, in_aggregation, binary_operator, bool_modifier, scalar_comparison, set_on_scalar, no_grouping, binary_types, name_twice, vector_matching, Verdict, passes}
 use Rattle.promql_ast.specs.OptionalModifiers.{has_matching_labels, is_grouped, is_on, joint_labels, returns_bool}
 use Rattle.promql_ast.specs.Selectors.{Selector, selector}
 use Rattle.promql_ast.specs.Tree.{Tree, aggregate, unary, binary, paren, subquery, number, string, vector, matrix, call, extension, Trees, no_trees, first_tree}
@@ -25,7 +25,7 @@ use Rattle.promql_ast.specs.Types.{type_of}
 use Rattle.promql_ast.specs.check.AggregateChecks.{aggregate_fault, maybe_type, param_fault, param_type}
 use Rattle.promql_ast.specs.check.BinaryChecks.{first_twice, label_fault, operator_fault, set_fault, settle_matching, settled_set, side_fault}
 use Rattle.promql_ast.specs.check.CallChecks.{arity_fault, is_exempt, types_fault, typing_fault}
-use Rattle.promql_ast.specs.check.VectorChecks.{name_fault, second_name, selector_fault}
+use Rattle.promql_ast.specs.check.VectorChecks.{name_fault, selector_fault}
 
 -- ---- faults that do not apply
 
@@ -226,7 +226,7 @@ typed_aggregate op e p h =
 name_without_fault : (name : Option Text) (ms : PlainMatchers) → name_fault name ms ≡ None → HasName name ms
 name_without_fault (Some n) ms e = go (found_value ms _) e
   where
-    go : (v : Option Text) → second_name n v ≡ None → v ≡ None
+    go : (v : Option Text) → option_map (name_twice n) v ≡ None → v ≡ None
     go None h = refl
     go (Some v) h = cc
 name_without_fault None ms e = when_none _ _ e

@@ -12,8 +12,8 @@ use Rattle.promql_ast.specs.declared.fault.NodeFault.{NodeFault}
 use Rattle.promql_ast.specs.declared.fault.NodeFault.TheVariants.{RangeBase, AtBase, OffsetBase, ModeBase}
 use Rattle.promql_ast.specs.declared.range_mode.RangeMode.{RangeMode}
 
-pub rejects : (e : CheckError) (f : NodeFault) (v : Verdict) → e ≡ Check (Node f) → v ≡ rejected (node f) → Gives (Err e) v
-rejects e f v is same = subst (λ x. Gives (Err x) v) (sym is) same
+pub rejects : (e : CheckError) (f : NodeFault) (v : Verdict) → e ≡ Check (Node f) → v ≡ rejected (node f) → Gives ⊥ tree_of (Err e) v
+rejects e f v is same = subst (λ x. Gives ⊥ tree_of (Err x) v) (sym is) same
 
 pub no_scalar : (e : Expr) → ((x : _) → e ≡ NumberLiteral x → ⊥) → None ≡ scalar_value (tree_of e)
 no_scalar (NumberLiteral x) h = absurd (h x refl)

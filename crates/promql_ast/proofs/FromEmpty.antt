@@ -3,7 +3,7 @@ use Rattle.std.proofs.Common.{◌≡◌, ℕ, ◌*◌, ◌<◌, ◌≤◌, List,
 use Rattle.promql_text.specs.Texts.{Text, joined_text}
 use Rattle.promql_text.specs.PrintedLen.{usize_max}
 use Rattle.promql_ast.specs.Decisions.{all_decisions, layouts_by, all_deepest_by, decisions, operand_decisions, layout_by, lines_by, deepest_by, lines_deepest_by}
-use Rattle.promql_ast.specs.Layout.{args_layout_of, deepest, deepests, layout_of, lines, lines_deepest}
+use Rattle.promql_ast.specs.Layout.{deepest, deepests, layout_of, layouts_of, lines, lines_deepest}
 use Rattle.promql_ast.specs.Lines.{squeeze}
 use Rattle.promql_ast.specs.Text.{texts}
 use Rattle.promql_ast.specs.Tree.{Tree, Trees}
@@ -36,7 +36,7 @@ lines_fits t level most bs is h = subst (λ n. 2 * n ≤ usize_max) (lines_deepe
 
 -- arguments
 
-pub args_text : (ts : Trees) (level most : ℕ) (start all : Text) (bs : List Bool) → start ≡ [] → bs ≡ all_decisions ts most → all ≡ start ++ joined_text (codes ",\n") (layouts_by ts level bs) → all ≡ args_layout_of ts level most
+pub args_text : (ts : Trees) (level most : ℕ) (start all : Text) (bs : List Bool) → start ≡ [] → bs ≡ all_decisions ts most → all ≡ start ++ joined_text (codes ",\n") (layouts_by ts level bs) → all ≡ joined_text (codes ",\n") (layouts_of ts level most)
 args_text ts level most start all bs e is p = fresh start all (joined_text (codes ",\n") (layouts_by ts level bs)) e p ∙ args_laid_by ts level most bs is
 
 pub args_squeezed : (ts : Trees) (level most : ℕ) (start all : Text) (bs : List Bool) → start ≡ [] → bs ≡ all_decisions ts most → all ≡ start ++ joined_text (codes ",\n") (layouts_by ts level bs) → squeeze all ≡ squeeze (joined_text (codes ", ") (texts ts))

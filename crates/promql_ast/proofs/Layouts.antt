@@ -9,7 +9,7 @@ use Rattle.promql_text.specs.Texts.{Text, joined_text}
 use Rattle.promql_token.specs.Ids.{text_of}
 use Rattle.promql_kind.specs.Functions.{name_of}
 use Rattle.promql_ast.specs.Layout.{without_indent, line_or_lines, param_lines, aggregate_lines, paren_lines, unary_line, binary_lines, call_lines, layout_of, maybe_layout_of, layouts_of, lines}
-use Rattle.promql_ast.specs.Lines.{is_shown, is_longer, squeeze, indent, Keeps}
+use Rattle.promql_ast.specs.Lines.{is_longer, squeeze, indent, Keeps}
 use Rattle.promql_ast.specs.Shifts.{at_text, offset_text}
 use Rattle.promql_ast.specs.Text.{text, maybe_text, texts}
 use Rattle.promql_ast.specs.Tree.{Tree, aggregate, unary, binary, paren, subquery, number, string, vector, matrix, call, extension, MaybeTree, absent, present, Trees, no_trees, first_tree}
@@ -29,7 +29,7 @@ same : (a : Text) → Alike a a
 same a = record { shown = refl }
 
 together : (a b c d : Text) → Alike a b → Alike c d → Alike (a ++ c) (b ++ d)
-together a b c d p q = record { shown = filter-append is_shown a c ∙ (λ i. p.shown i ++ q.shown i) ∙ sym (filter-append is_shown b d) }
+together a b c d p q = record { shown = filter-append _ a c ∙ (λ i. p.shown i ++ q.shown i) ∙ sym (filter-append _ b d) }
 
 after : (a c d : Text) → Alike c d → Alike (a ++ c) (a ++ d)
 after a c d q = together a a c d (same a) q

@@ -1,6 +1,6 @@
 -- The normal form of a normal form is itself, and prints as the tree does.
 use Rattle.std.proofs.Common.{◌≡◌, ◌∙◌, Bool, true, false, List, [], ◌∷◌, ◌++◌, Option, Some, None, Ordering, Less, Equal, Greater, map, codes, refl, sym, ap, is_gt}
-use Rattle.std.specs.Prelude.{if◌then◌else◌}
+use Rattle.std.specs.Prelude.{if◌then◌else◌, unwrap_or}
 use Rattle.std.specs.Ordering.{ordering_reverse}
 use Rattle.std.proofs.lemmas.Cmp.{nat_list_cmp_total}
 use Rattle.promql_text.specs.Texts.{joined_text}
@@ -21,7 +21,7 @@ use Rattle.promql_ast.specs.node.Binary.{matching_text}
 use Rattle.promql_ast.specs.node.Call.{call_text}
 use Rattle.promql_ast.specs.node.Matrix.{matrix_range_text}
 use Rattle.promql_ast.specs.node.Subquery.{subquery_text}
-use Rattle.promql_ast.specs.node.Vector.{base_text, with_braces, selected_name_text, suffix_text}
+use Rattle.promql_ast.specs.node.Vector.{base_text, with_braces, suffix_text}
 
 -- ---- sorted matchers
 
@@ -89,7 +89,7 @@ matchers_twice : (ms : PlainMatchers) → normal_matchers (normal_matchers ms) �
 matchers_twice (plain_matchers cs gs) = ap (λ ds. plain_matchers ds gs) (sorted_twice cs)
 
 base_alike : (s : Selector) → base_text (normal_selector s) ≡ base_text s
-base_alike (selector name matchers offset at) = ap (λ t. selected_name_text name ++ with_braces t) (matchers_alike matchers)
+base_alike (selector name matchers offset at) = ap (λ t. unwrap_or name [] ++ with_braces t) (matchers_alike matchers)
 
 suffix_alike : (s : Selector) → suffix_text (normal_selector s) ≡ suffix_text s
 suffix_alike (selector name matchers offset at) = refl

@@ -1,5 +1,6 @@
 -- The time after `@` (docs/reference/tree.md, "Offset and @").
-use Rattle.std.specs.Prelude.{ℕ, ℤ, ◌==◌, if◌then◌else◌, Option, Some, None, Result, Ok, Err}
+use Rattle.std.specs.Prelude.{ℕ, ℤ, ◌==◌, if◌then◌else◌, Option, Result, Ok, Err}
+use Rattle.std.specs.Option.{option_map_or}
 use Rattle.promql_text.specs.Millis.{to_millis}
 use Rattle.promql_text.specs.declared.number.Number.{Number}
 use Rattle.promql_token.specs.declared.ids.TheConstants.{T_START, T_END}
@@ -16,16 +17,11 @@ at_of_id id = if id == T_START then Ok Start else (if id == T_END then Ok End el
 
 -- seconds since the epoch, to the nearest millisecond
 abbrev pub at_of_millis : Number → Option ℤ → Result AtModifier AtFault
-at_of_millis seconds (Some millis) = Ok (At millis)
-at_of_millis seconds None = Err (OutOfBounds seconds)
+at_of_millis seconds millis = option_map_or (λ t. Ok (At t)) millis (Err (OutOfBounds seconds))
 
 abbrev pub at_of_number : Number → Result AtModifier AtFault
 at_of_number seconds = at_of_millis seconds (to_millis seconds)
 
 -- an expression: the number of a number literal
-abbrev pub at_of_scalar : Option Number → Result AtModifier AtFault
-at_of_scalar (Some seconds) = at_of_number seconds
-at_of_scalar None = Err NotANumber
-
 abbrev pub at_of_expr : Tree → Result AtModifier AtFault
-at_of_expr t = at_of_scalar (scalar_value t)
+at_of_expr t = option_map_or at_of_number (scalar_value t) (Err NotANumber)

@@ -3,8 +3,6 @@ use Rattle.std.specs.Prelude.{◌≡◌, ℕ, Option, Some, None, Result, Ok, Er
 use Rattle.promql_text.specs.Texts.{Text}
 use Rattle.promql_kind.specs.declared.value.ValueType.{ValueType}
 use Rattle.promql_ast.specs.Tree.{Tree}
-use Rattle.promql_ast.specs.View.{tree_of}
-use Rattle.promql_ast.specs.declared.expr.Expr.{Expr}
 use Rattle.promql_ast.specs.declared.fault.CheckError.{CheckError}
 use Rattle.promql_ast.specs.declared.fault.CheckError.TheVariants as error
 use Rattle.promql_ast.specs.declared.fault.CheckFault.{CheckFault}
@@ -19,23 +17,13 @@ pub data Context : Type 0 where
   in_call : Text → Context
 
 pub data Fault : Type 0 where
-  binary_operator : ℕ → Fault
-  bool_modifier : Fault
-  scalar_comparison : Fault
+  bool_modifier scalar_comparison binary_types vector_matching empty_selector : Fault
+  binary_operator set_on_scalar no_grouping aggregator_expected : ℕ → Fault
   label_twice : Text → Fault
-  set_on_scalar : ℕ → Fault
-  no_grouping : ℕ → Fault
-  binary_types : Fault
-  vector_matching : Fault
-  aggregator_expected : ℕ → Fault
-  type_expected : ValueType → Context → Option ValueType → Fault
-  arity_exact : ℕ → Text → ℕ → Fault
-  arity_least : ℕ → Text → ℕ → Fault
-  arity_most : ℕ → Text → ℕ → Fault
-  unary_type : ValueType → Fault
-  subquery_type : ValueType → Fault
   name_twice : Text → Text → Fault
-  empty_selector : Fault
+  type_expected : ValueType → Context → Option ValueType → Fault
+  arity_exact arity_least arity_most : ℕ → Text → ℕ → Fault
+  unary_type subquery_type : ValueType → Fault
   node : NodeFault → Fault
 
 abbrev pub context_of : TypeContext → Context
@@ -72,20 +60,8 @@ pub data Verdict : Type 0 where
   passes : Tree → Verdict
   rejected : Fault → Verdict
 
--- the result is the verdict; an allocation cannot fail
-abbrev pub Gives : Result Expr CheckError → Verdict → Type 0
-Gives (Ok e) verdict = verdict ≡ passes (tree_of e)
-Gives (Err error.Memory) verdict = ⊥
-Gives (Err (error.Check f)) verdict = verdict ≡ rejected (fault_of f)
-
--- the result is the verdict, or an allocation failed
-abbrev pub GivesOrMemory : Result Expr CheckError → Verdict → Type 0
-GivesOrMemory (Ok e) verdict = verdict ≡ passes (tree_of e)
-GivesOrMemory (Err error.Memory) verdict = Unit {0}
-GivesOrMemory (Err (error.Check f)) verdict = verdict ≡ rejected (fault_of f)
-
--- the result is the verdict, or an allocation failed; a tree that passes is this one
-abbrev pub Settles : {X : Type 0} → Result X CheckError → Verdict → Tree → Type 0
-Settles (Ok x) verdict t = verdict ≡ passes t
-Settles (Err error.Memory) verdict t = Unit {0}
-Settles (Err (error.Check f)) verdict t = verdict ≡ rejected (fault_of f)
+-- the result is the verdict, where a value stands for this tree; `memory` says whether an allocation may fail
+abbrev pub Gives : {X : Type 0} → Type 0 → (X → Tree) → Result X CheckError → Verdict → Type 0
+Gives memory tree (Ok x) verdict = verdict ≡ passes (tree x)
+Gives memory tree (Err error.Memory) verdict = memory
+Gives memory tree (Err (error.Check f)) verdict = verdict ≡ rejected (fault_of f)

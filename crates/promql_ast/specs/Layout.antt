@@ -67,16 +67,12 @@ abbrev mutual
   layouts_of no_trees level most = []
   layouts_of (first_tree e es) level most = layout_of e level most ∷ layouts_of es level most
 
--- arguments, one after the other
-abbrev pub args_layout_of : Trees → ℕ → ℕ → Text
-args_layout_of args level most = joined_text (codes ",\n") (layouts_of args level most)
-
 -- a node over several lines, where it has such a form
 abbrev pub lines : Tree → ℕ → ℕ → Text
 lines (aggregate op e p m) level most = aggregate_lines op m (maybe_layout_of p (level + 1) most) (layout_of e (level + 1) most) level
 lines (binary op l r m) level most = binary_lines op m (layout_of l (level + 1) most) (layout_of r (level + 1) most) level
 lines (paren e) level most = paren_lines (layout_of e (level + 1) most) level
-lines (call f args) level most = call_lines (name_of f) (args_layout_of args (level + 1) most) level
+lines (call f args) level most = call_lines (name_of f) (joined_text (codes ",\n") (layouts_of args (level + 1) most)) level
 lines t level most = indent level ++ text t
 
 -- the nodes that never need a split

@@ -18,12 +18,9 @@ abbrev pub indent : ℕ → Text
 indent zero = []
 indent (suc n) = code " " ∷ code " " ∷ indent n
 
-abbrev pub is_shown : ℕ → Bool
-is_shown b = not (b == code " ") && not (b == code "\n")
-
 -- the text without spaces and line feeds
 abbrev pub squeeze : Text → Text
-squeeze t = filter is_shown t
+squeeze t = filter (λ b. not (b == code " ") && not (b == code "\n")) t
 
 -- the one line, indented; `too_wide` only where the indentation has more bytes than a `usize` counts
 abbrev pub IsLine : {E : Type 0} → Option Text → ℕ → E → Result (String Global) E → Type 0

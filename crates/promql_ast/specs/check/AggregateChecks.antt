@@ -1,5 +1,5 @@
 -- The checks of an aggregation, in order (docs/reference/tree.md, "Aggregations").
-use Rattle.std.specs.Prelude.{ℕ, not, ◌==◌, if◌then◌else◌, [], ◌∷◌, Option, Some, None}
+use Rattle.std.specs.Prelude.{ℕ, not, ◌==◌, if◌then◌else◌, [], ◌∷◌, Option, Some, None, option_and_then}
 use Rattle.promql_token.specs.Ids.{is_aggregator, is_one_of}
 use Rattle.promql_token.specs.declared.ids.TheConstants.{T_TOPK, T_BOTTOMK, T_QUANTILE, T_LIMITK, T_LIMIT_RATIO, T_COUNT_VALUES}
 use Rattle.promql_kind.specs.Modifiers.{Clause}
@@ -21,8 +21,7 @@ maybe_type absent = None
 maybe_type (present e) = Some (type_of e)
 
 abbrev pub param_fault : Option ValueType → Option ValueType → Option Fault
-param_fault None found = None
-param_fault (Some expected) found = type_fault expected in_aggregation found
+param_fault expected found = option_and_then (λ t. type_fault t in_aggregation found) expected
 
 abbrev pub aggregate_fault : ℕ → ValueType → Option ValueType → Option Fault
 aggregate_fault op e p = first_fault (

@@ -1,7 +1,7 @@
 //! Layouts of nodes, of expressions and of lists of arguments: docs/reference/printing.md, "Nodes over several lines".
 
 ghost use Rattle.std.specs.Prelude.{◌≡◌, ◌≤◌, ◌+◌, ◌++◌, ◌<◌, ◌*◌, ◌⊎◌, ◌&&◌, not, codes, ⊤, Err, Some, IfOk, OnOk, IfSome, IsTrue, string_bytes};
-ghost use Rattle.promql_ast.specs.Layout.{args_layout_of, deepest, deepests, is_leaf, layout_of, lines, lines_deepest};
+ghost use Rattle.promql_ast.specs.Layout.{deepest, deepests, is_leaf, layout_of, layouts_of, lines, lines_deepest};
 ghost use Rattle.promql_ast.specs.Lines.{indent, is_longer, Keeps};
 ghost use Rattle.promql_ast.specs.NodeView.{tree_of_node};
 ghost use Rattle.promql_ast.specs.Nodes.{nodes};
@@ -211,7 +211,7 @@ impl Prettier for FunctionArgs {
         ensures keeps { Keeps (Some (joined_text (codes ", ") (texts
             (trees_of self.now.args.items)))) result }
         ensures text { IfOk result
-            (λ s. string_bytes s ≡ args_layout_of (trees_of self.now.args.items) level max) }
+            (λ s. string_bytes s ≡ joined_text (codes ",\n") (layouts_of (trees_of self.now.args.items) level max)) }
         ensures wide { result ≡ Err PrettyError.IndentTooWide
             → usize_max < 2 * deepests (trees_of self.now.args.items) level max }
         ensures fits { IfOk result

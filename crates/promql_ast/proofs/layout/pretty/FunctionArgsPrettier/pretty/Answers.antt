@@ -3,7 +3,7 @@ use Rattle.std.proofs.lemmas.Result.{err_from_is_err_and}
 use Rattle.promql_text.specs.Texts.{joined_text}
 use Rattle.promql_text.specs.PrintedLen.{usize_max}
 use Rattle.promql_ast.specs.Decisions.{all_decisions}
-use Rattle.promql_ast.specs.Layout.{args_layout_of, deepests}
+use Rattle.promql_ast.specs.Layout.{deepests, layouts_of}
 use Rattle.promql_ast.specs.Lines.{squeeze}
 use Rattle.promql_ast.specs.Text.{texts}
 use Rattle.promql_ast.specs.View.{trees_of}
@@ -22,7 +22,7 @@ returns-in_err-write_args-clause-wide c = λ e.
 pub returns-clause-text : goal.returns-clause-text
 returns-clause-text c =
     args_text (trees_of c.as_slice-args.result.now) c.args.level c.args.max _ (string_bytes c.write_args.new.self.out) _ c.new-writer.ensures.out (c.new-writer.ensures.decisions ∙ c.deref.ensures.value ∙ c.in_ok-measure_args.ensures.decisions ∙ ap (λ s. s ++ all_decisions (trees_of c.as_slice-args.result.now) c.args.max) c.new-measurer.ensures.decisions) c.in_ok-write_args.ensures.text
-    ∙ ap (λ xs. args_layout_of (trees_of xs) c.args.level c.args.max) c.as_slice-args.ensures.value
+    ∙ ap (λ xs. joined_text (codes ",\n") (layouts_of (trees_of xs) c.args.level c.args.max)) c.as_slice-args.ensures.value
 
 pub returns-clause-keeps : goal.returns-clause-keeps
 returns-clause-keeps c =
