@@ -1,16 +1,17 @@
 -- What is found of an accepted text.
-use Rattle.std.proofs.Common.{◌≡◌, ◌+◌, List, [], ◌∷◌, ◌++◌, Result, Ok, Err, refl, sym, ap, subst, ◌∙◌, arith, length, map}
+use Rattle.std.proofs.Common.{◌≡◌, ◌≢◌, ◌+◌, List, [], ◌∷◌, ◌++◌, Result, Ok, Err, refl, sym, ap, subst, ◌∙◌, arith, length, map}
 use Rattle.std.specs.List.{AllByRecursion}
 use Rattle.std.proofs.lemmas.List.{length-map}
 use Rattle.promql_text.specs.Texts.{Text}
 use Rattle.promql_ast.specs.Tree.{Tree}
-use Rattle.promql_grammar.specs.Grammar.{Derivation, yield}
+use Rattle.promql_grammar.specs.Grammar.{Derivation, IsWellFormed, yield}
 use Rattle.promql_grammar.specs.Results.{on_result}
-use Rattle.promql_grammar.specs.Symbols.{symbol_of}
+use Rattle.promql_grammar.specs.Symbols.{Symbol, symbol_of}
+use Rattle.promql_grammar.specs.SourceTokens.{Token, tokens}
 use Rattle.promql_span.specs.PlacedTokens.{TokensArePlaced, placed_tokens}
 use Rattle.promql_syntax.specs.Asking.{EndsIn}
 use Rattle.promql_syntax.specs.Building.{build}
-use Rattle.promql_syntax.specs.ParseAnswers.{BeginsNone, Derives, IsAnswerTo, memory}
+use Rattle.promql_syntax.specs.ParseAnswers.{Derives, IsAnswerTo, memory}
 use Rattle.promql_places.specs.CursorTokens.{kinds_left, lexeme_kind}
 use Rattle.promql_places.specs.NodeParts.{AreParts}
 use Rattle.promql_places.specs.NodePlaces.{ArePlaces, LiesWithin, nodes}
@@ -31,14 +32,15 @@ answered : (s : Text) (t : Tree) → IsAnswerTo s (Ok t) → IsAnswered s t
 answered s t answer =
     let served = answer.served (λ e. cc) in
     let is = served.1.built (Ok t) refl in
-    record { derivation = is.derivation; derives = is.derives; builds = record { answers = served.0; allowed = served.1.allowed; ends = is.ends } }
+    record { derivation = is.0; derives = is.1; builds = record { answers = served.0; allowed = served.1.allowed; ends = is.3 } }
 
 -- memory may run out later
-begun : (s : Text) (d : Derivation) → Derives s d → BeginsNone s → ⊥
-begun s d derives none =
-    let spelled : Ok (map symbol_of (none.token ∷ none.rest)) ≡ (let r : Result (List _) _ = Ok (yield d) in r) = sym (ap (on_result (map symbol_of)) none.is) ∙ derives.spells in
-    let same : yield d ≡ symbol_of none.token ∷ map symbol_of none.rest = cc in
-    none.none d (map symbol_of none.rest) derives.formed same
+begun : (s : Text) (d : Derivation) → Derives s d → (token : Token) (rest : List Token) → tokens s ≡ Ok (token ∷ rest)
+    → ((e : Derivation) (others : List Symbol) → IsWellFormed e → yield e ≢ symbol_of token ∷ others) → ⊥
+begun s d derives token rest first none =
+    let spelled : Ok (map symbol_of (token ∷ rest)) ≡ (let r : Result (List _) _ = Ok (yield d) in r) = sym (ap (on_result (map symbol_of)) first) ∙ derives.spells in
+    let same : yield d ≡ symbol_of token ∷ map symbol_of rest = cc in
+    none d (map symbol_of rest) derives.formed same
 
 pub memory_instead : (s : Text) (t : Tree) → IsAnswerTo s (Ok t) → IsAnswerTo s (Err memory)
 memory_instead s t answer =
@@ -49,7 +51,7 @@ memory_instead s t answer =
       too_deep = λ e. cc;
       empty = (λ e. cc, λ h. let no = answer.empty.1 h in cc);
       lexical = λ f. (λ e. cc, λ h. let no = (answer.lexical f).1 h in cc);
-      early = λ none. absurd (begun s a.derivation a.derives none);
+      early = λ token rest first none. absurd (begun s a.derivation a.derives token rest first none);
       typed = λ u e. cc;
       low = λ u e. cc;
     }

@@ -1,5 +1,6 @@
 -- An enforced tree has the tree's types, and passes the checks and the builders that the tree passes.
 use Rattle.std.proofs.Common.{◌≡◌, ◌≢◌, ℕ, ◌+◌, refl, ◌∙◌, ap, Bool, true, false, cond, not, Option, Some, None, List, [], ◌∷◌, length, codes}
+use Rattle.std.specs.Prelude.{option_and_then}
 use Rattle.promql_text.specs.Texts.{Text}
 use Rattle.promql_token.specs.Ids.{is_aggregator_with_param}
 use Rattle.promql_label.specs.PlainMatchers.{PlainMatcher, name_of}
@@ -7,7 +8,7 @@ use Rattle.promql_kind.specs.Functions.{Signature, signature}
 use Rattle.promql_kind.specs.Modifiers.{Clause}
 use Rattle.promql_kind.specs.ValueTypes.{type_eq}
 use Rattle.promql_kind.specs.declared.value.ValueType.{ValueType}
-use Rattle.promql_ast.specs.Arguments.{count}
+use Rattle.promql_ast.specs.Arguments.{count, first_of}
 use Rattle.promql_ast.specs.Builds.{aggregate_args, aggregated_alone, aggregated_with, at_given, mode_given, offset_given, scalar_value}
 use Rattle.promql_ast.specs.Checked.{check_tree}
 use Rattle.promql_ast.specs.Checks.{is_scalar_or_vector, is_vector, unless, when}
@@ -18,7 +19,7 @@ use Rattle.promql_ast.specs.Shifts.{Shift, Moment}
 use Rattle.promql_ast.specs.Tree.{Tree, aggregate, unary, binary, paren, subquery, number, string, vector, matrix, call, extension, MaybeTree, absent, present, Trees, no_trees, first_tree}
 use Rattle.promql_ast.specs.Types.{type_of}
 use Rattle.promql_ast.specs.check.AggregateChecks.{aggregate_fault, maybe_type}
-use Rattle.promql_ast.specs.check.CallChecks.{arity_fault, first_scalar, is_exempt_number, types_fault, typing_fault}
+use Rattle.promql_ast.specs.check.CallChecks.{arity_fault, is_exempt_number, types_fault, typing_fault}
 use Rattle.promql_ast.specs.check.VectorChecks.{name_fault}
 use Rattle.promql_ast.specs.declared.range_mode.RangeMode.{RangeMode}
 use Rattle.promql_ast.specs.declared.range_mode.RangeMode.TheVariants.{Plain}
@@ -38,7 +39,7 @@ same_count : {ts us : Trees} → SameTypes ts us → count us ≡ count ts
 same_count none = refl
 same_count (first e f s) = ap (λ n. n + 1) (same_count s)
 
-same_first : {ts us : Trees} → SameTypes ts us → first_scalar us ≡ first_scalar ts
+same_first : {ts us : Trees} → SameTypes ts us → option_and_then scalar_value (first_of us) ≡ option_and_then scalar_value (first_of ts)
 same_first none = refl
 same_first (first e f s) = f
 

@@ -7,9 +7,9 @@ use Rattle.promql_text.specs.Texts.{Text}
 use Rattle.promql_label.specs.Answers.{Answer}
 use Rattle.promql_label.specs.PlainMatchers.{equal, not_equal, matches, matches_not, PlainMatcher, plain_matcher, PlainMatchers, plain_matchers, every, holds, is_of, name_of, value_of}
 use Rattle.promql_ast.specs.Checks.{when}
-use Rattle.promql_ast.specs.Faults.{Fault, empty_selector}
+use Rattle.promql_ast.specs.Faults.{Fault, empty_selector, name_twice}
 use Rattle.promql_ast.specs.Same.{matcher_eq}
-use Rattle.promql_ast.specs.check.VectorChecks.{name_fault, second_name}
+use Rattle.promql_ast.specs.check.VectorChecks.{name_fault}
 use Rattle.promql_syntax.specs.Asking.{under}
 use Rattle.promql_syntax.specs.PartBuilding.{pattern_operator}
 use Rattle.promql_syntax.proofs.PrintedMatcherLists.{AllStand, AreAnyMatchers, GroupsStand, Stands}
@@ -122,7 +122,7 @@ when_none false f e = refl
 
 pub name_passes : (c : PlainMatcher) → name_of c ≢ codes "__name__" → (name : Option Text) (cs : PlainMatchers) → name_fault name cs ≡ None → name_fault name (enforced_matchers c cs) ≡ None
 name_passes c other (Some name) cs e =
-    ap (λ o. second_name name (option_map value_of o)) (same_found c (is_of (codes "__name__")) (no_name c other) (every_inserted c cs)) ∙ e
+    ap (λ o. option_map (name_twice name) (option_map value_of o)) (same_found c (is_of (codes "__name__")) (no_name c other) (every_inserted c cs)) ∙ e
 name_passes c other None cs e =
     let p = λ (d : PlainMatcher). holds d [] in
     ap (λ b. when b empty_selector) (not_each c p (every_inserted c cs) (when_none (list_all p (every cs)) empty_selector e))

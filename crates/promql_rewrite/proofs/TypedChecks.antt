@@ -1,6 +1,6 @@
 -- What is well typed passes its checks.
 use Rattle.std.proofs.Common.{◌≡◌, ◌≢◌, ◌⊎◌, inl, inr, ◌≤◌, ◌<◌, ◌+◌, ◌-◌, ℕ, ℤ, refl, sym, ◌∙◌, ap, arith, Bool, true, false, cond, not, ◌&&◌, ◌||◌, List, [], ◌∷◌, length, Option, Some, None, unsigned_abs}
-use Rattle.std.specs.Prelude.{◌==◌, nat_lt}
+use Rattle.std.specs.Prelude.{◌==◌, nat_lt, option_map}
 use Rattle.std.specs.Int.{is_negative}
 use Rattle.std.proofs.lemmas.Bool.Decides.{Decides-eqb, Decides-ltb}
 use Rattle.promql_text.specs.Texts.{Text}
@@ -25,7 +25,7 @@ use Rattle.promql_ast.specs.Types.{type_of}
 use Rattle.promql_ast.specs.check.AggregateChecks.{aggregate_fault, maybe_type, param_fault, param_type}
 use Rattle.promql_ast.specs.check.BinaryChecks.{first_twice, label_fault, operator_fault, set_fault, settle_matching, side_fault}
 use Rattle.promql_ast.specs.check.CallChecks.{arity_fault, is_exempt, types_fault, typing_fault}
-use Rattle.promql_ast.specs.check.VectorChecks.{name_fault, second_name}
+use Rattle.promql_ast.specs.check.VectorChecks.{name_fault}
 use Rattle.promql_syntax.proofs.PrintedModifiers.{PassesChecks}
 use Rattle.promql_rewrite.specs.PrintableConditions.{IsNegated}
 
@@ -148,7 +148,7 @@ aggregate_passes op e p m typed =
 -- ---- selectors
 
 pub name_passes : (name : Option Text) (cs : PlainMatchers) → HasName name cs → name_fault name cs ≡ None
-name_passes (Some name) cs h = ap (second_name name) h
+name_passes (Some name) cs h = ap (option_map (faults.name_twice name)) h
 name_passes None cs h = ap (λ b. when b faults.empty_selector) h
 
 -- ---- unary operators and subqueries

@@ -218,4 +218,4 @@ pub answers_are_plain : (text : Text) (t : Tree) → IsAnswerTo text (Ok t) → 
 answers_are_plain text t is =
     let served = is.served (λ e. cc) in
     let whole = served.1.built (Ok t) refl in
-    gives_in_end HasNoExtension (build whole.derivation) served.0 t (built_plain whole.derivation) whole.ends
+    gives_in_end HasNoExtension (build whole.0) served.0 t (built_plain whole.0) whole.3

@@ -22,8 +22,9 @@ use Rattle.promql_grammar.proofs.Sound.{height_yield}
 use Rattle.promql_ast.specs.Height.{height as tree_height}
 use Rattle.promql_ast.specs.Tree.{Tree}
 use Rattle.promql_ast.specs.Typed.{Typed}
-use Rattle.promql_syntax.specs.ParseAnswers.{PlainParseError, memory, lexical, empty, syntax, too_deep, fault, plain_error_of, Derives, BeginsNone, IsBuilt, IsServed, IsAnswerTo, built_answer}
+use Rattle.promql_syntax.specs.ParseAnswers.{PlainParseError, memory, lexical, empty, syntax, too_deep, fault, plain_error_of, Derives, IsServed, IsAnswerTo}
 use Rattle.promql_syntax.specs.Asking.{Ends}
+use Rattle.promql_syntax.specs.PartBuilding.{on_error}
 use Rattle.promql_syntax.specs.Building.{build}
 use Rattle.promql_syntax.specs.BuildErrors.{BuildError, build_error_of, build_fault_of}
 use Rattle.promql_syntax.specs.ParseErrors.{error_of, error_of_build, error_of_fault, first_error}
@@ -76,12 +77,12 @@ none_answer text e none build_errors no_syntax no_deep no_memory is_empty is_lex
   too_deep = λ is. absurd (no_deep (cc));
   empty = (λ is. is_empty.0 (cc), λ is. ap Err (is_empty.1 is));
   lexical = λ f. (λ is. (is_lexical f).0 (cc), λ is. ap Err ((is_lexical f).1 is));
-  early = λ first is. no_memory (cc);
+  early = λ token rest is none same. no_memory (cc);
   typed = λ t is. cc;
   low = λ t is. cc;
 }
   where
-    none_built : ((f : BuildError) → e ≢ fault f) → (result : Result Tree BuildError) → Err e ≡ built_answer result → IsBuilt text [] result
+    none_built : ((f : BuildError) → e ≢ fault f) → (result : Result Tree BuildError) → Err e ≡ on_error fault result → (d : Derivation) × Derives text d × (height d ≤ 512) × Ends (build d) [] result
     none_built build_errors (Ok t) is = cc
     none_built build_errors (Err f) is = let same : e ≡ fault f = cc in absurd (build_errors f same)
 
@@ -128,7 +129,7 @@ front_derivation kind.Anchored text us may = (selector kind.Anchored text None, 
 front_derivation k text us may = cc
 
 -- what was built tells its result
-same_result : (r s : Result Tree BuildError) → built_answer r ≡ built_answer s → r ≡ s
+same_result : (r s : Result Tree BuildError) → on_error fault r ≡ on_error fault s → r ≡ s
 same_result (Ok t) (Ok u) same = cc
 same_result (Err e) (Err f) same = cc
 same_result (Ok t) (Err f) same = cc
@@ -154,29 +155,30 @@ module _ (text : Text) (list : List Token) (is : tokens text ≡ Ok list) (some 
   no_fault : (f : LexFault) → ¬ (tokens text ≡ Err f)
   no_fault f faulty = cc
 
-  no_memory : begins ts ≡ true → ¬ (BeginsNone text)
+  no_memory : begins ts ≡ true → (token : Token) (rest : List Token) → tokens text ≡ Ok (token ∷ rest)
+      → ¬ ((d : Derivation) (others : List Symbol) → IsWellFormed d → yield d ≢ symbol_of token ∷ others)
   unfolding Lookahead
-  no_memory may none =
-      let same : list ≡ none.token ∷ none.rest = let both : Ok list ≡ Ok (none.token ∷ none.rest) = sym is ∙ none.is in cc in
-      let front = front_derivation (token_kind none.token.0) none.token.1 (map symbol_of none.rest) (sym (ap begins (kinds ∙ ap (map symbol_of) same)) ∙ may) in
-      none.none front.0 front.1 front.2 front.3
+  no_memory may token rest first none =
+      let same : list ≡ token ∷ rest = let both : Ok list ≡ Ok (token ∷ rest) = sym is ∙ first in cc in
+      let front = front_derivation (token_kind token.0) token.1 (map symbol_of rest) (sym (ap begins (kinds ∙ ap (map symbol_of) same)) ∙ may) in
+      none front.0 front.1 front.2 front.3
 
-  built_of_whole : (r : Result Tree BuildError) (whole : IsQueryValue 512 ts r) → IsServed text whole.answers (built_answer r)
+  built_of_whole : (r : Result Tree BuildError) (whole : IsQueryValue 512 ts r) → IsServed text whole.answers (on_error fault r)
   built_of_whole r whole = record {
     allowed = whole.allowed;
-    built = λ result same. record {
-      derivation = whole.derivation;
-      derives = derives_of whole.derivation whole.formed whole.spells;
-      low = whole.low;
-      ends = subst (Ends (build whole.derivation) whole.answers) (same_result r result same) whole.is;
-    };
-    only = λ d derives low. record {
-      result = r;
-      ends = subst (λ e. Ends (build e) whole.answers r) (one_derivation whole.derivation d whole.formed derives.formed (whole.spells ∙ sym (yield_is d derives))) whole.is;
-      is = refl;
-    };
+    built = λ result same. (
+      whole.derivation,
+      derives_of whole.derivation whole.formed whole.spells,
+      whole.low,
+      subst (Ends (build whole.derivation) whole.answers) (same_result r result same) whole.is,
+    );
+    only = λ d derives low. (
+      r,
+      subst (λ e. Ends (build e) whole.answers r) (one_derivation whole.derivation d whole.formed derives.formed (whole.spells ∙ sym (yield_is d derives))) whole.is,
+      refl,
+    );
     single = λ g single d derives low.
-        ap built_answer (ends_under g (build d) whole.answers r
+        ap (on_error fault) (ends_under g (build d) whole.answers r
         (subst (λ e. Ends (build e) whole.answers r) (one_derivation whole.derivation d whole.formed derives.formed (whole.spells ∙ sym (yield_is d derives))) whole.is) single);
     reads_back = λ g single t same. text_reads_back g text t (record {
       derivation = whole.derivation;
@@ -196,7 +198,7 @@ module _ (text : Text) (list : List Token) (is : tokens text ≡ Ok list) (some 
     too_deep = λ same. cc;
     empty = (λ same. cc, λ none. absurd (not_empty none));
     lexical = λ f. (λ same. cc, λ faulty. absurd (no_fault f faulty));
-    early = λ first same. cc;
+    early = λ token rest is none same. cc;
     typed = λ u same. let good = whole_good law t whole in let one : t ≡ u = cc in subst Typed one good.typed;
     low = λ u same.
         let good = whole_good law t whole in
@@ -213,7 +215,7 @@ module _ (text : Text) (list : List Token) (is : tokens text ≡ Ok list) (some 
     too_deep = λ same. cc;
     empty = (λ same. cc, λ none. absurd (not_empty none));
     lexical = λ e. (λ same. cc, λ faulty. absurd (no_fault e faulty));
-    early = λ first same. cc;
+    early = λ token rest is none same. cc;
     typed = λ t same. cc;
     low = λ t same. cc;
   }
@@ -241,7 +243,7 @@ module _ (text : Text) (list : List Token) (is : tokens text ≡ Ok list) (some 
     reads_back = λ g single t same. cc;
   }
     where
-      none_built : (e : PlainParseError) → ((f : BuildError) → e ≢ fault f) → (result : Result Tree BuildError) → Err e ≡ built_answer result → IsBuilt text [] result
+      none_built : (e : PlainParseError) → ((f : BuildError) → e ≢ fault f) → (result : Result Tree BuildError) → Err e ≡ on_error fault result → (d : Derivation) × Derives text d × (height d ≤ 512) × Ends (build d) [] result
       none_built e build_errors (Ok t) same = cc
       none_built e build_errors (Err f) same = let one : e ≡ fault f = cc in absurd (build_errors f one)
 
@@ -252,7 +254,7 @@ module _ (text : Text) (list : List Token) (is : tokens text ≡ Ok list) (some 
     too_deep = λ same. cc;
     empty = (λ same. cc, λ none. absurd (not_empty none));
     lexical = λ f. (λ same. cc, λ faulty. absurd (no_fault f faulty));
-    early = λ none same. no_memory (begun refl) none;
+    early = λ token rest first none same. no_memory (begun refl) token rest first none;
     typed = λ t same. cc;
     low = λ t same. cc;
   }
@@ -262,7 +264,7 @@ module _ (text : Text) (list : List Token) (is : tokens text ≡ Ok list) (some 
     too_deep = λ same. cc;
     empty = (λ same. cc, λ none. absurd (not_empty none));
     lexical = λ f. (λ same. cc, λ faulty. absurd (no_fault f faulty));
-    early = λ none same. cc;
+    early = λ token rest first none same. cc;
     typed = λ t same. cc;
     low = λ t same. cc;
   }
@@ -270,12 +272,12 @@ module _ (text : Text) (list : List Token) (is : tokens text ≡ Ok list) (some 
     served = λ own. ([], none_served too_deep (λ f same. cc) whole.1);
     syntax = λ same. cc;
     too_deep = λ same. (
-      record { list = list; is = is; many = let many = whole.0 in let count = ap length kinds ∙ length-map list symbol_of in omega arith },
+      (list, is, let many = whole.0 in let count = ap length kinds ∙ length-map list symbol_of in omega arith),
       λ d derives. ⊎_elim (λ high. high) (λ low. absurd (whole.1 d derives.formed low (yield_is d derives))) (cases_lt 512 (height d)),
     );
     empty = (λ same. cc, λ none. absurd (not_empty none));
     lexical = λ f. (λ same. cc, λ faulty. absurd (no_fault f faulty));
-    early = λ none same. cc;
+    early = λ token rest first none same. cc;
     typed = λ t same. cc;
     low = λ t same. cc;
   }

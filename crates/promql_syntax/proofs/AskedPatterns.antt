@@ -1,6 +1,7 @@
 -- What building asks about are patterns of the tree that it builds.
 use Rattle.std.proofs.Common.{◌≡◌, ℕ, Bool, true, false, not, cond, List, [], ◌∷◌, ◌++◌, Option, Some, None, Result, Ok, Err, refl, sym, ap, subst, codes}
 use Rattle.std.specs.Prelude.{◌==◌}
+use Rattle.std.specs.List.{AllByRecursion}
 use Rattle.promql_text.specs.Texts.{Text}
 use Rattle.promql_text.specs.Values.{from_nanos}
 use Rattle.promql_token.specs.declared.ids.TheConstants.{T_SUB}
@@ -34,7 +35,7 @@ use Rattle.promql_syntax.specs.PartBuilding.{append_matcher, braces_value, claus
 use Rattle.promql_syntax.specs.Atoms.{any_braces_value}
 use Rattle.promql_syntax.proofs.CheckedAgain.{aggregate_again, aggregates, arguments, call_again, same_tree, unary_again}
 use Rattle.promql_syntax.proofs.PrintedModifiers.{binary_checked}
-use Rattle.promql_syntax.specs.TreePatterns.{AllPatterns, GroupsPatterns, HasSuchPattern, ListPatterns, MatcherPattern, MatchersPatterns, MaybePatterns, SelectorPatterns, TreePatterns}
+use Rattle.promql_syntax.specs.TreePatterns.{AllPatterns, HasSuchPattern, MatcherPattern, MatchersPatterns, MaybePatterns, SelectorPatterns, TreePatterns}
 
 -- an end of two steps is an end of each, in turn
 record Splits {A B : Type 0} (m : Asking A) (f : A → Asking B) (answers : List Asked) (y : B) : Type 0 where
@@ -70,6 +71,13 @@ vector_checked s t h = same_tree _ _ (unless_passes (selector_fault s) (passes (
 
 subquery_checked : (e : Tree) (offset : Option Shift) (at : Option Moment) (range : ℕ) (step : Option ℕ) (t : Tree) → check_tree (subquery e offset at range step) ≡ passes t → subquery e offset at range step ≡ t
 subquery_checked e offset at range step t h = same_tree _ _ (unless_passes (when (not (is_vector (type_of e))) (subquery_type (type_of e))) (passes (subquery e offset at range step)) t h)
+
+-- the patterns of a list of matchers, and of lists between which `or` stands
+abbrev ListPatterns : (Text → Bool) → List PlainMatcher → Type 0
+ListPatterns is_such = AllByRecursion (MatcherPattern is_such)
+
+abbrev GroupsPatterns : (Text → Bool) → List (List PlainMatcher) → Type 0
+GroupsPatterns is_such = AllByRecursion (ListPatterns is_such)
 
 module _ (is_such : Text → Bool) where
   -- each answer is about such a text

@@ -14,7 +14,7 @@ use Rattle.promql_label.specs.PlainMatchers.{PlainMatchers}
 use Rattle.promql_kind.specs.Functions.{Signature}
 use Rattle.promql_kind.specs.Modifiers.{Clause, Matching}
 use Rattle.promql_ast.specs.Builds.{minus, aggregate_args}
-use Rattle.promql_ast.specs.Faults.{Verdict, passes, rejected, Gives, GivesOrMemory}
+use Rattle.promql_ast.specs.Faults.{Verdict, passes, rejected, Gives}
 use Rattle.promql_ast.specs.Selectors.{selector}
 use Rattle.promql_ast.specs.declared.fault.CheckError.{CheckError}
 use Rattle.promql_ast.specs.declared.fault.CheckError.TheVariants as errors
@@ -114,7 +114,7 @@ postfix_ends t p r o same ends = subst (λ m. EndsIn m o) (postfix_changes t p) 
 
 -- ---- what follows the children
 
-pub gives_or_memory : (r : Result Expr CheckError) (v : Verdict) → Gives r v → GivesOrMemory r v
+pub gives_or_memory : (r : Result Expr CheckError) (v : Verdict) → Gives ⊥ tree_of r v → Gives (Unit {0}) tree_of r v
 gives_or_memory (Ok e) v given = given
 gives_or_memory (Err errors.Memory) v given = tt
 gives_or_memory (Err (errors.Check f)) v given = given

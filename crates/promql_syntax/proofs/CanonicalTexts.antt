@@ -12,7 +12,8 @@ use Rattle.promql_ast.specs.Normal.{normal}
 use Rattle.promql_ast.specs.Text.{text}
 use Rattle.promql_ast.specs.Tree.{Tree}
 use Rattle.promql_ast.proofs.NormalForms.{text_alike}
-use Rattle.promql_syntax.specs.ParseAnswers.{Derives, HasTree, IsServed, PlainParseError, built_answer}
+use Rattle.promql_syntax.specs.ParseAnswers.{Derives, HasTree, IsServed, PlainParseError, fault}
+use Rattle.promql_syntax.specs.PartBuilding.{on_error}
 use Rattle.promql_syntax.specs.Asking.{AreAnswersOf, Asked, under}
 use Rattle.promql_syntax.specs.Building.{build}
 use Rattle.promql_syntax.proofs.Derive.{derive}
@@ -44,7 +45,7 @@ one_tree g z s t first second =
 
 -- ---- answers
 
-built_ok : (r : Result Tree BuildError) (t : Tree) → Ok t ≡ built_answer r → r ≡ Ok t
+built_ok : (r : Result Tree BuildError) (t : Tree) → Ok t ≡ on_error fault r → r ≡ Ok t
 built_ok (Ok u) t same = cc
 built_ok (Err e) t same = cc
 
@@ -52,11 +53,11 @@ built_ok (Err e) t same = cc
 pub answer_has : (g : Text → Answer) (source : Text) (answers : List Asked) (t : Tree) → IsServed source answers (Ok t) → AreAnswersOf g answers → HasTree g source t
 answer_has g source answers t s single =
     let b = s.built (Ok t) refl in
-    record { derivation = b.derivation; derives = b.derives; low = b.low; builds = built_ok (under g (build b.derivation)) t (s.single g single b.derivation b.derives b.low) }
+    record { derivation = b.0; derives = b.1; low = b.2; builds = built_ok (under g (build b.0)) t (s.single g single b.0 b.1 b.2) }
 
 -- where the text has a tree, the answer is it
 pub has_answer : (g : Text → Answer) (source : Text) (answers : List Asked) (answer : Result Tree PlainParseError) (t : Tree) → IsServed source answers answer → AreAnswersOf g answers → HasTree g source t → answer ≡ Ok t
-has_answer g source answers answer t s single h = s.single g single h.derivation h.derives h.low ∙ ap built_answer h.builds
+has_answer g source answers answer t s single h = s.single g single h.derivation h.derives h.low ∙ ap (on_error fault) h.builds
 
 module _ (g : Text → Answer) where
   keeps_of : (source : Text) (t : Tree) → (h : HasTree g source t) → Keeps g h.derivation t

@@ -1,5 +1,6 @@
 -- The normal form passes the checks that a tree passes.
 use Rattle.std.proofs.Common.{◌≡◌, ℕ, ◌+◌, refl, sym, ◌∙◌, ap, Bool, true, false, cond, not, Option, Some, None, List, [], ◌∷◌, length}
+use Rattle.std.specs.Prelude.{option_and_then}
 use Rattle.promql_text.specs.Texts.{Text}
 use Rattle.promql_token.specs.Ids.{is_aggregator, is_aggregator_with_param}
 use Rattle.promql_kind.specs.Functions.{Signature, signature}
@@ -7,7 +8,7 @@ use Rattle.promql_kind.specs.Modifiers.{Clause}
 use Rattle.promql_kind.specs.ValueTypes.{type_eq}
 use Rattle.promql_kind.specs.declared.value.ValueType.{ValueType}
 use Rattle.promql_kind.specs.declared.value.ValueType.TheVariants as kind
-use Rattle.promql_ast.specs.Arguments.{count}
+use Rattle.promql_ast.specs.Arguments.{count, first_of}
 use Rattle.promql_ast.specs.Builds.{aggregate_args, aggregated_alone, aggregated_with, minus, scalar_value}
 use Rattle.promql_ast.specs.Checked.{check_tree}
 use Rattle.promql_ast.specs.Checks.{first_fault, is_scalar_or_vector, is_vector, type_fault, unless, when}
@@ -17,7 +18,7 @@ use Rattle.promql_ast.specs.Normal.{normal, maybe_normal, all_normal}
 use Rattle.promql_ast.specs.Tree.{Tree, aggregate, unary, binary, paren, subquery, number, string, vector, matrix, call, extension, MaybeTree, absent, present, Trees, no_trees, first_tree}
 use Rattle.promql_ast.specs.Types.{type_of}
 use Rattle.promql_ast.specs.check.AggregateChecks.{aggregate_fault, maybe_type, param_fault, param_type}
-use Rattle.promql_ast.specs.check.CallChecks.{arity_fault, first_scalar, is_exempt_number, types_fault, typing_fault}
+use Rattle.promql_ast.specs.check.CallChecks.{arity_fault, is_exempt_number, types_fault, typing_fault}
 use Rattle.promql_ast.specs.node.Binary.{binary_type}
 
 -- ---- types
@@ -87,7 +88,7 @@ scalar_normal : (t : Tree) → scalar_value (normal t) ≡ scalar_value t
 scalar_normal (number n) = refl
 scalar_normal t = refl
 
-first_normal : (ts : Trees) → first_scalar (all_normal ts) ≡ first_scalar ts
+first_normal : (ts : Trees) → option_and_then scalar_value (first_of (all_normal ts)) ≡ option_and_then scalar_value (first_of ts)
 first_normal no_trees = refl
 first_normal (first_tree t ts) = scalar_normal t
 

@@ -25,13 +25,7 @@ in_first n xs ys e fault =
     let found = fault.first in
     record {
       sub = fault.sub;
-      first = record {
-        before = found.before;
-        rest = found.rest ++ ys;
-        are = ap (λ l. l ++ ys) found.are ∙ append_assoc found.before (fault.sub ∷ found.rest) ys;
-        built = found.built;
-        fails = found.fails;
-      };
+      first = (found.0, found.1 ++ ys, ap (λ l. l ++ ys) found.2 ∙ append_assoc found.0 (fault.sub ∷ found.1) ys, found.3, found.4);
       place = fault.place;
     }
 
@@ -41,13 +35,13 @@ in_second n xs ys e build fault =
     let found = fault.first in
     record {
       sub = fault.sub;
-      first = record {
-        before = xs ++ found.before;
-        rest = found.rest;
-        are = ap (λ l. xs ++ l) found.are ∙ sym (append_assoc xs found.before (fault.sub ∷ found.rest));
-        built = All-append Builds xs found.before build found.built;
-        fails = found.fails;
-      };
+      first = (
+        xs ++ found.0,
+        found.1,
+        ap (λ l. xs ++ l) found.2 ∙ sym (append_assoc xs found.0 (fault.sub ∷ found.1)),
+        All-append Builds xs found.0 build found.3,
+        found.4,
+      );
       place = fault.place;
     }
 
@@ -71,7 +65,7 @@ pub own_placed : (n k : ℕ) (d : grammar.Derivation) (parts : List Subexpressio
 own_placed n k d parts (Ok x) built ends place = All-push Builds parts (here k d) built (tree_of x.value, ends)
 own_placed n k d parts (Err e) built ends place = record {
   sub = here k d;
-  first = record { before = parts; rest = []; are = refl; built = built; fails = ends };
+  first = (parts, [], refl, built, ends);
   place = place e refl;
 }
 

@@ -1,6 +1,6 @@
 -- The bytes of a laid-out tree's items are its layout.
 use Rattle.std.proofs.Common.{◌≡◌, ℕ, zero, suc, ◌+◌, ◌-◌, ◌<◌, ◌≤◌, refl, sym, ◌∙◌, ap, subst, arith, Bool, true, false, cond, Option, Some, None, List, [], ◌∷◌, ◌++◌, append-nil, append_assoc, codes, replicate}
-use Rattle.std.specs.Prelude.{◌==◌, ◌/◌, ◌%◌, ◌^◌, option_map}
+use Rattle.std.specs.Prelude.{◌==◌, ◌/◌, ◌%◌, ◌^◌, option_map, unwrap_or}
 use Rattle.std.proofs.Math.Nat.{div-le_self}
 use Rattle.std.specs.Char.{is_ascii_digit}
 use Rattle.std.specs.Fmt.{decimal}
@@ -42,7 +42,7 @@ use Rattle.promql_ast.specs.node.Aggregate.{clause_text}
 use Rattle.promql_ast.specs.node.Binary.{matching_text}
 use Rattle.promql_ast.specs.node.Matrix.{mode_text}
 use Rattle.promql_ast.specs.node.Subquery.{range_text}
-use Rattle.promql_ast.specs.node.Vector.{with_braces, selected_name_text}
+use Rattle.promql_ast.specs.node.Vector.{with_braces}
 use Rattle.promql_syntax.proofs.Derive.{derive, derive_after, derive_all, derive_base, derive_number, with_at, with_mode, with_suffix}
 use Rattle.promql_syntax.proofs.PrintedItems.{Item, token, blank, newline, render, spell, after_line, arguments_lines, before_line, choose_items, closing_line, indent_items, line, lines, modifier_line, postfix_line, rest_lines, signed_line, time_line, trim_items}
 use Rattle.promql_syntax.proofs.PrintedParts.{braces, clause, modifier, moment, shift, time, word_kind}
@@ -301,19 +301,19 @@ module _ (g : Text → Answer) where
 
   -- ---- the layout
 
-  base_laid : (level most : ℕ) (name : Option Text) (cs : PlainMatchers) → IsSelecting g name cs → render (lines (derive_base name (braces cs)) level most) ≡ indent level ++ (selected_name_text name ++ with_braces (matchers_text cs))
+  base_laid : (level most : ℕ) (name : Option Text) (cs : PlainMatchers) → IsSelecting g name cs → render (lines (derive_base name (braces cs)) level most) ≡ indent level ++ (unwrap_or name [] ++ with_braces (matchers_text cs))
   base_laid level most name cs h = ap render (base_lines level most name (braces cs)) ∙ indented_is level (line (derive_base name (braces cs))) _ (base_bytes g name cs h)
 
   vector_laid : (level most : ℕ) (s : Selector) → PrintableSelector g s → render (lines (derive (vector s)) level most) ≡ layout_of (vector s) level most
   vector_laid level most (selector name cs o a) h =
       suffix_lines level most o a (derive_base name (braces cs)) _ (base_laid level most name cs h.0)
-      ∙ append_assoc (indent level) (selected_name_text name ++ with_braces (matchers_text cs)) (at_text a ++ offset_text o)
+      ∙ append_assoc (indent level) (unwrap_or name [] ++ with_braces (matchers_text cs)) (at_text a ++ offset_text o)
 
   matrix_laid : (level most : ℕ) (s : Selector) (range : ℕ) (mode : RangeMode) → PrintableSelector g s → render (lines (derive (matrix s range mode)) level most) ≡ layout_of (matrix s range mode) level most
   matrix_laid level most (selector name cs o a) range mode h =
       let base = derive_base name (braces cs) in
       let below = grammar.postfixed base (part.range (time range)) in
-      let b = selected_name_text name ++ with_braces (matchers_text cs) in
+      let b = unwrap_or name [] ++ with_braces (matchers_text cs) in
       let r = codes "[" ++ (duration_text range ++ codes "]") in
       let m = mode_text mode in
       let x = at_text a ++ offset_text o in

@@ -1,6 +1,7 @@
 -- The bytes of a printed line are the one-line text of the tree.
 use Rattle.std.proofs.Common.{◌≡◌, ℕ, refl, sym, ◌∙◌, ap, subst, Bool, true, false, cond, Option, Some, None, List, [], ◌∷◌, ◌++◌, append-nil, append_assoc, map, codes, is_gt}
-use Rattle.std.specs.Prelude.{option_map}
+use Rattle.std.specs.Prelude.{option_map, unwrap_or}
+use Rattle.std.specs.Option.{option_map_or}
 use Rattle.std.specs.List.{flat_map}
 use Rattle.promql_text.specs.DurationText.{duration_text}
 use Rattle.promql_text.specs.NumberText.{number_text}
@@ -29,8 +30,8 @@ use Rattle.promql_ast.specs.declared.range_mode.RangeMode.{RangeMode}
 use Rattle.promql_ast.specs.node.Aggregate.{clause_text, param_text}
 use Rattle.promql_ast.specs.node.Binary.{matching_text}
 use Rattle.promql_ast.specs.node.Matrix.{mode_text}
-use Rattle.promql_ast.specs.node.Subquery.{range_text, step_text}
-use Rattle.promql_ast.specs.node.Vector.{with_braces, selected_name_text}
+use Rattle.promql_ast.specs.node.Subquery.{range_text}
+use Rattle.promql_ast.specs.node.Vector.{with_braces}
 use Rattle.promql_syntax.proofs.Derive.{derive, derive_after, derive_all, derive_base, derive_number, with_mode}
 use Rattle.promql_syntax.proofs.PrintedItems.{Item, token, blank, render, close, wide, spacing, after_line, any_braces_line, arguments_line, before_line, item_line, items_line, line, modifier_line, postfix_line, rest_line, separator_line, signed_line, step_line, time_line}
 use Rattle.promql_syntax.proofs.PrintedParts.{any_items, braces, clause, group_items, item, modifier, or_items, time}
@@ -152,9 +153,9 @@ after_arguments m is t e = ap (λ js. render (is ++ js)) (nothing_after m) ∙ a
 pub range_bytes : (n : ℕ) (s : Option ℕ) → render (postfix_line (part.subquery (time n) (option_map time s))) ≡ range_text n s
 range_bytes n s =
     ap (λ t. codes "[" ++ t) (render_both (time_line (time n)) (token (punct kind.Colon) ∷ (step_line (option_map time s) ++ token (punct kind.RightBracket) ∷ [])) (duration_text n) _ (time_bytes n)
-    (ap (λ t. codes ":" ++ t) (render_both (step_line (option_map time s)) (token (punct kind.RightBracket) ∷ []) (step_text s) (codes "]") (step s) refl)))
+    (ap (λ t. codes ":" ++ t) (render_both (step_line (option_map time s)) (token (punct kind.RightBracket) ∷ []) (option_map_or duration_text s []) (codes "]") (step s) refl)))
   where
-    step : (s : Option ℕ) → render (step_line (option_map time s)) ≡ step_text s
+    step : (s : Option ℕ) → render (step_line (option_map time s)) ≡ option_map_or duration_text s []
     step None = refl
     step (Some n) = time_bytes n
 
@@ -203,7 +204,7 @@ module _ (g : Text → Answer) where
   nameless_bytes None t e h = absurd (subst HasByte (sym e) h)
   nameless_bytes (Some b) t e h = e
 
-  pub base_bytes : (name : Option Text) (cs : PlainMatchers) → IsSelecting g name cs → render (line (derive_base name (braces cs))) ≡ selected_name_text name ++ with_braces (matchers_text cs)
+  pub base_bytes : (name : Option Text) (cs : PlainMatchers) → IsSelecting g name cs → render (line (derive_base name (braces cs))) ≡ unwrap_or name [] ++ with_braces (matchers_text cs)
   base_bytes (Some name) cs h = ap (λ t. name ++ t) (braces_bytes cs h.1)
   base_bytes None cs h = nameless_bytes (braces cs) _ (braces_bytes cs (any_matchers g cs h)) (matchers_byte cs h)
 
@@ -211,7 +212,7 @@ module _ (g : Text → Answer) where
   matrix_bytes (selector name cs o a) range mode h =
       let base = derive_base name (braces cs) in
       let below = grammar.postfixed base (part.range (time range)) in
-      let b = selected_name_text name ++ with_braces (matchers_text cs) in
+      let b = unwrap_or name [] ++ with_braces (matchers_text cs) in
       let r = codes "[" ++ (duration_text range ++ codes "]") in
       let is : render (line below) ≡ b ++ r = render_both (line base) (postfix_line (part.range (time range))) b r (base_bytes name cs h.0)
       (ap (λ t. codes "[" ++ t) (render_both (time_line (time range)) (token (punct kind.RightBracket) ∷ []) (duration_text range) (codes "]") (time_bytes range) refl)) in

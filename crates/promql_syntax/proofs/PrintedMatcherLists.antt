@@ -13,7 +13,7 @@ use Rattle.promql_label.specs.SortedTexts.{text_order}
 use Rattle.promql_ast.specs.Checks.{when}
 use Rattle.promql_ast.specs.Faults as build_errors
 use Rattle.promql_ast.specs.Normal.{normal_matchers}
-use Rattle.promql_ast.specs.check.VectorChecks.{name_fault, second_name}
+use Rattle.promql_ast.specs.check.VectorChecks.{name_fault}
 use Rattle.promql_syntax.specs.Asking.{gives, ◌giving◌, known, under}
 use Rattle.promql_syntax.specs.BuildErrors.{BuildError}
 use Rattle.promql_syntax.specs.PartBuilding.{braces_value, item_value, items_value, append_matcher, label_value, operator_value, pattern_operator, string_value}
@@ -308,7 +308,7 @@ none_of_map : (o : Option PlainMatcher) → option_map value_of o ≡ None → o
 none_of_map (Some c) e = cc
 none_of_map None e = refl
 
-nothing_second : (name : Text) (o : Option Text) → second_name name o ≡ None → o ≡ None
+nothing_second : (name : Text) (o : Option Text) → option_map (build_errors.name_twice name) o ≡ None → o ≡ None
 nothing_second name (Some v) e = cc
 nothing_second name None e = refl
 
@@ -317,6 +317,6 @@ named_again (Some name) (plain_matchers cs gs) e =
     let p = is_of (codes "__name__") in
     let rest = flat_map (λ g. g) gs in
     let none = none_found p (cs ++ rest) (none_of_map (find p (cs ++ rest)) (nothing_second name (option_map value_of (find p (cs ++ rest))) e)) in
-    ap (λ o. second_name name (option_map value_of o)) (found_none p (sorted_matchers cs ++ rest) (sorted_any p cs rest ∙ none))
+    ap (λ o. option_map (build_errors.name_twice name) (option_map value_of o)) (found_none p (sorted_matchers cs ++ rest) (sorted_any p cs rest ∙ none))
 named_again None (plain_matchers cs gs) e =
     ap (λ b. when b build_errors.empty_selector) (sorted_all (λ c. holds c []) cs (flat_map (λ g. g) gs)) ∙ e

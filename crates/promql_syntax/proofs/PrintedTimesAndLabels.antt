@@ -43,7 +43,7 @@ not_zero : (d : Exact) → IsExact d → d.is_negative ≡ true → (d.digits ==
 not_zero d is minus = decided (d.digits == 0) refl
   where
     decided : (b : Bool) → (d.digits == 0) ≡ b → b ≡ false
-    decided true e = let none : d.digits ≡ 0 = grind (arith, nat_tests) in let plus : d.is_negative ≡ false = is.no_minus_zero none in cc
+    decided true e = let none : d.digits ≡ 0 = grind (arith, nat_tests) in let plus : d.is_negative ≡ false = (is.one_zero none).0 in cc
     decided false e = refl
 
 -- a number below zero is the opposite of its opposite, which is not below zero

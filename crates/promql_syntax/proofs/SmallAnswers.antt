@@ -41,11 +41,11 @@ module _ (is_such : Text → Bool) (g : Text → Answer) (one : (v : Text) → i
   pub tree_is_had : (source : Text) (answers : List Asked) (t : Tree) → IsServed source answers (Ok t) → TreePatterns is_such t → HasTree g source t
   tree_is_had source answers t served small =
       let made = served.built (Ok t) refl in
-      answer_has g source answers t served (allowed_are_answers answers (asked_about is_such made.derivation answers t made.ends small) served.allowed)
+      answer_has g source answers t served (allowed_are_answers answers (asked_about is_such made.0 answers t made.3 small) served.allowed)
 
   pub tree_is_answer : (source : Text) (answers : List Asked) (answer : Result Tree PlainParseError) (t : Tree) → IsServed source answers answer → HasTree g source t → TreePatterns is_such t → answer ≡ Ok t
   tree_is_answer source answers answer t served has small =
       let only = served.only has.derivation has.derives has.low in
       let such = asked_about is_such has.derivation (path (build has.derivation)) t (subst (Ends (build has.derivation) (path (build has.derivation))) has.builds (path_ends (build has.derivation))) small in
-      let taken = path_is_taken (build has.derivation) answers only.result such served.allowed only.ends in
+      let taken = path_is_taken (build has.derivation) answers only.0 such served.allowed only.1 in
       has_answer g source answers answer t served taken has

@@ -47,12 +47,9 @@ abbrev pub Builds : Subexpression → Type 0
 Builds sub = (t : Tree) × EndsIn (build sub.derivation) (Ok t)
 
 -- the first of these that does not build has the fault
-pub record IsFirstFault (fault : BuildError) (subs : List Subexpression) (sub : Subexpression) : Type 0 where
-  pub before : List Subexpression
-  pub rest : List Subexpression
-  pub are : subs ≡ before ++ sub ∷ rest
-  pub built : All Builds before
-  pub fails : EndsIn (build sub.derivation) (Err fault)
+abbrev pub IsFirstFault : BuildError → List Subexpression → Subexpression → Type 0
+IsFirstFault fault subs sub =
+    (before rest : List Subexpression) × (subs ≡ before ++ sub ∷ rest) × All Builds before × EndsIn (build sub.derivation) (Err fault)
 
 -- the tokens that a fault of an expression is about, where it is told which: how many are left from the first of them, and after the last
 abbrev modifier_tokens : ℕ → part.Modifier → Derivation → Option (ℕ × ℕ)

@@ -1,5 +1,6 @@
 -- The answer to a text (docs/reference/grammar.md, "The answer to a text").
 use Rattle.std.specs.Prelude.{◌≡◌, ◌≢◌, ◌↔◌, ◌+◌, ◌<◌, ◌≤◌, List, [], ◌∷◌, length, map, Result, Ok, Err, string_bytes}
+use Rattle.std.specs.Result.{result_map_both}
 use Rattle.promql_text.specs.Texts.{Text}
 use Rattle.promql_token.specs.declared.fault.LexFault.{LexFault}
 use Rattle.promql_grammar.specs.SourceTokens.{Token, tokens}
@@ -20,15 +21,13 @@ use Rattle.promql_syntax.specs.declared.parser.ParseError.TheVariants as errors
 use Rattle.promql_syntax.specs.declared.parser.TheConstants.{MAX_DEPTH}
 use Rattle.promql_syntax.specs.Asking.{Asked, AreAllowed, AreAnswersOf, Ends, under}
 use Rattle.promql_syntax.specs.Building.{build}
+use Rattle.promql_syntax.specs.PartBuilding.{on_error}
 use Rattle.promql_syntax.specs.BuildErrors.{BuildError, number, quoted, duration, at, pattern, unknown_function, check}
 
 -- why a text has no tree, as plain data
 pub data PlainParseError : Type 0 where
-  memory : PlainParseError
+  memory empty syntax too_deep : PlainParseError
   lexical : LexFault → PlainParseError
-  empty : PlainParseError
-  syntax : PlainParseError
-  too_deep : PlainParseError
   fault : BuildError → PlainParseError
 
 abbrev pub plain_error_of : ParseError → PlainParseError
@@ -47,8 +46,7 @@ plain_error_of (errors.Check f) = fault (check (trees.fault_of f))
 
 -- the answer of the code, as plain data
 abbrev pub answer_of : Result Expr ParseError → Result Tree PlainParseError
-answer_of (Ok e) = Ok (tree_of e)
-answer_of (Err e) = Err (plain_error_of e)
+answer_of result = result_map_both tree_of plain_error_of result
 
 -- the derivation is well formed, and spells the tokens of the text before its end
 pub record Derives (text : Text) (d : Derivation) : Type 0 where
@@ -62,55 +60,27 @@ pub record HasTree (g : Text → regex.Answer) (text : Text) (t : Tree) : Type 0
   pub low : height derivation ≤ MAX_DEPTH
   pub builds : under g (build derivation) ≡ Ok t
 
--- the text has more than MAX_DEPTH tokens, its end counted
-pub record IsLong (text : Text) : Type 0 where
-  pub list : List Token
-  pub is : tokens text ≡ Ok list
-  pub many : MAX_DEPTH < length list + 1
-
--- the text has a first token, and no well formed derivation begins with it
-pub record BeginsNone (text : Text) : Type 0 where
-  pub token : Token
-  pub rest : List Token
-  pub is : tokens text ≡ Ok (token ∷ rest)
-  pub none : (d : Derivation) (others : List Symbol) → IsWellFormed d → yield d ≢ symbol_of token ∷ others
-
--- what was built, as an answer
-abbrev pub built_answer : Result Tree BuildError → Result Tree PlainParseError
-built_answer (Ok t) = Ok t
-built_answer (Err f) = Err (fault f)
-
--- a derivation of the text that is low enough ends in the result, with these answers of `regex`
-pub record IsBuilt (text : Text) (answers : List Asked) (result : Result Tree BuildError) : Type 0 where
-  pub derivation : Derivation
-  pub derives : Derives text derivation
-  pub low : height derivation ≤ MAX_DEPTH
-  pub ends : Ends (build derivation) answers result
-
--- what building the derivation ends in, with these answers of `regex`, is the answer
-pub record Builds (d : Derivation) (answers : List Asked) (answer : Result Tree PlainParseError) : Type 0 where
-  pub result : Result Tree BuildError
-  pub ends : Ends (build d) answers result
-  pub is : answer ≡ built_answer result
-
 -- `regex` allows these answers, and with them the answer is what is built: where it is a tree or a fault of building, it
 -- is, and where there is a derivation, nothing else is; as well if each pattern has one answer, and then the one-line text of
 -- a tree has the tree's normal form
 pub record IsServed (text : Text) (answers : List Asked) (answer : Result Tree PlainParseError) : Type 0 where
   pub allowed : AreAllowed answers
-  pub built : (result : Result Tree BuildError) → answer ≡ built_answer result → IsBuilt text answers result
-  pub only : (d : Derivation) → Derives text d → height d ≤ MAX_DEPTH → Builds d answers answer
-  pub single : (g : Text → regex.Answer) → AreAnswersOf g answers → (d : Derivation) → Derives text d → height d ≤ MAX_DEPTH → answer ≡ built_answer (under g (build d))
+  pub built : (r : _) → answer ≡ on_error fault r → (d : Derivation) × Derives text d × (height d ≤ MAX_DEPTH) × Ends (build d) answers r
+  pub only : (d : Derivation) → Derives text d → height d ≤ MAX_DEPTH → (r : _) × Ends (build d) answers r × (answer ≡ on_error fault r)
+  pub single : (g : Text → regex.Answer) → AreAnswersOf g answers → (d : Derivation) → Derives text d → height d ≤ MAX_DEPTH → answer ≡ on_error fault (under g (build d))
   pub reads_back : (g : Text → regex.Answer) → AreAnswersOf g answers → (t : Tree) → answer ≡ Ok t → HasTree g (line_text t) (normal t)
 
--- what `parse` promises of its answer to a text; only memory running out may come in place of what is built, of Syntax
--- and of TooDeep
+-- what `parse` promises of its answer to a text; only memory running out may come in place of what is built, of Syntax and of TooDeep;
+-- TooDeep says that the text has more than MAX_DEPTH tokens, its end counted, and memory does not run out where no well formed
+-- derivation begins with the first token
 pub record IsAnswerTo (text : Text) (answer : Result Tree PlainParseError) : Type 0 where
   pub served : answer ≢ Err memory → (answers : List Asked) × IsServed text answers answer
   pub syntax : answer ≡ Err syntax → (d : Derivation) → ¬ (Derives text d)
-  pub too_deep : answer ≡ Err too_deep → IsLong text × ((d : Derivation) → Derives text d → MAX_DEPTH < height d)
+  pub too_deep : answer ≡ Err too_deep → ((list : List Token) × (tokens text ≡ Ok list) × (MAX_DEPTH < length list + 1))
+      × ((d : Derivation) → Derives text d → MAX_DEPTH < height d)
   pub empty : (answer ≡ Err empty) ↔ (tokens text ≡ Ok [])
   pub lexical : (f : LexFault) → (answer ≡ Err (lexical f)) ↔ (tokens text ≡ Err f)
-  pub early : BeginsNone text → answer ≢ Err memory
+  pub early : (token : Token) (rest : List Token) → tokens text ≡ Ok (token ∷ rest)
+      → ((d : Derivation) (others : List Symbol) → IsWellFormed d → yield d ≢ symbol_of token ∷ others) → answer ≢ Err memory
   pub typed : (t : Tree) → answer ≡ Ok t → Typed t
   pub low : (t : Tree) → answer ≡ Ok t → tree_height t ≤ MAX_DEPTH

@@ -1,6 +1,7 @@
 -- What the parts of an expression build (docs/reference/grammar.md, "Building"): each from left to right, up to its
 -- first error.
-use Rattle.std.specs.Prelude.{ℕ, Bool, true, false, if◌then◌else◌, Option, Some, None, is_some, ok_or, List, [], ◌∷◌, Result, Ok, Err, codes}
+use Rattle.std.specs.Prelude.{ℕ, Bool, true, false, if◌then◌else◌, Option, Some, None, is_some, ok_or, List, [], ◌∷◌, Result, Ok, codes}
+use Rattle.std.specs.Result.{result_map_both}
 use Rattle.promql_text.specs.Texts.{Text}
 use Rattle.promql_text.specs.declared.number.Number.{Number}
 use Rattle.promql_text.specs.Durations.{duration_of}
@@ -20,10 +21,9 @@ use Rattle.promql_ast.specs.Shifts.{Shift, back, ahead, Moment, moment_of}
 use Rattle.promql_syntax.specs.Asking.{Asking, gives, fails, asks, ◌giving◌, known}
 use Rattle.promql_syntax.specs.BuildErrors.{BuildError, number, quoted, duration, at, pattern}
 
--- a value, or the fault as an error of building
-abbrev pub on_error : {A F : Type 0} → (F → BuildError) → Result A F → Result A BuildError
-on_error error (Ok x) = Ok x
-on_error error (Err fault) = Err (error fault)
+-- a value, or the fault as another error
+abbrev pub on_error : {A E F : Type 0} → (F → E) → Result A F → Result A E
+on_error error result = result_map_both (λ x. x) error result
 
 -- "Strings"
 abbrev pub string_value : Text → Result Text BuildError

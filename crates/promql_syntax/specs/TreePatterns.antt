@@ -1,5 +1,5 @@
 -- The patterns in a tree (docs/reference/grammar.md, "Small patterns").
-use Rattle.std.specs.Prelude.{◌≡◌, Bool, true, List}
+use Rattle.std.specs.Prelude.{◌≡◌, Bool, true}
 use Rattle.std.specs.List.{AllByRecursion}
 use Rattle.promql_text.specs.Texts.{Text}
 use Rattle.promql_label.specs.Answers.{has_one_answer}
@@ -18,14 +18,8 @@ module _ (is_such : Text → Bool) where
   abbrev pub MatcherPattern : PlainMatcher → Type 0
   MatcherPattern (plain_matcher op name value) = HasSuchPattern op value
 
-  abbrev pub ListPatterns : List PlainMatcher → Type 0
-  ListPatterns = AllByRecursion MatcherPattern
-
-  abbrev pub GroupsPatterns : List (List PlainMatcher) → Type 0
-  GroupsPatterns = AllByRecursion ListPatterns
-
   abbrev pub MatchersPatterns : PlainMatchers → Type 0
-  MatchersPatterns (plain_matchers plain groups) = ListPatterns plain × GroupsPatterns groups
+  MatchersPatterns (plain_matchers plain groups) = AllByRecursion MatcherPattern plain × AllByRecursion (AllByRecursion MatcherPattern) groups
 
   abbrev pub SelectorPatterns : Selector → Type 0
   SelectorPatterns (selector name cs offset at) = MatchersPatterns cs

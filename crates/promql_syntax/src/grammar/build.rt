@@ -2,7 +2,7 @@
 
 ghost use Rattle.std.specs.Prelude.{◌≡◌, ℕ, ◌+◌, ◌≤◌, length, max, Bool, ◌&&◌, is_ok, List, Option, None, Some, Ok, Err, IfErr, IfOk, MatchResult, option_map};
 ghost use Rattle.promql_ast.specs.Checked.{check_tree};
-ghost use Rattle.promql_ast.specs.Faults.{GivesOrMemory, Verdict, fault_of, node, rejected};
+ghost use Rattle.promql_ast.specs.Faults.{Gives, Verdict, fault_of, node, rejected};
 ghost use Rattle.promql_ast.specs.declared.fault.NodeFault.{NodeFault};
 ghost use Rattle.promql_ast.specs.Settling.{SettlesAtOnce};
 ghost use Rattle.promql_ast.specs.Tree.{binary};
@@ -133,7 +133,7 @@ fn check_result(
     height: usize,
     extent: &Extent,
 ) -> Result<ParsedExpr, AllocError>
-    ensures value { IfOk result (λ parsed. (verdict : Verdict) → GivesOrMemory built verdict
+    ensures value { IfOk result (λ parsed. (verdict : Verdict) → Gives (Unit {0}) tree_of built verdict
         → tree_result parsed ≡ (outcome verdict then λ t. outcome (check_tree t))) }
     ensures tall { IfOk result (λ parsed. parsed.height ≡ height) }
 {
