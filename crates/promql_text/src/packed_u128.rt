@@ -1,4 +1,4 @@
-//! Whole numbers that are kept in packed_u128 of packed_u128.
+//! Whole numbers that are kept in halves of halves.
 //!
 //! A `u128` is aligned to 16 bytes, and so is what holds one. In parts of two bytes, the lowest first, a number takes 24
 //! bytes in place of 48, and each node of a tree takes less, since a node may hold two numbers.
@@ -9,7 +9,7 @@ use std::fmt;
 use std::hash::{Hash, Hasher};
 use std::marker::Model;
 
-/// A whole number below 2^128 in two packed_u128.
+/// A whole number below 2^128 in two halves.
 #[derive(Clone, Copy, Eq, Drop)]
 pub(crate) struct PackedU128 {
     low: Halves64,
@@ -35,7 +35,7 @@ impl Model for PackedU128 {
 }
 
 impl PackedU128 {
-    /// The number in packed_u128.
+    /// The number in halves.
     pub(crate) const fn new(n: u128) -> PackedU128
         ensures { result ≡ n }
     {
@@ -87,7 +87,7 @@ impl fmt::Debug for PackedU128 {
     }
 }
 
-/// A whole number below 2^64 in two packed_u128.
+/// A whole number below 2^64 in two halves.
 #[derive(Clone, Copy, PartialEq, Eq, Drop)]
 struct Halves64 {
     low: Halves32,
@@ -129,7 +129,7 @@ impl Halves64 {
     }
 }
 
-/// A whole number below 2^32 in two packed_u128.
+/// A whole number below 2^32 in two halves.
 #[derive(Clone, Copy, PartialEq, Eq, Drop)]
 struct Halves32 {
     low: u16,
