@@ -11,9 +11,10 @@ use Rattle.promql_token.specs.Cursor.{is_before_end}
 use Rattle.promql_grammar.specs.Results.{on_result}
 use Rattle.promql_text.specs.Texts.{Text}
 use Rattle.promql_grammar.specs.SourceTokens.{Token, has_any, tokens}
+use Rattle.promql_token.specs.declared.ids.TheConstants.{T_EOF}
 
 abbrev pub is_token : Lexeme → Bool
-is_token x = not (x.id == 6)
+is_token x = not (x.id == T_EOF)
 
 abbrev pub any_token : Result (List Lexeme) LexFault → Result Bool LexFault
 any_token lexed = on_result (list_any is_token) lexed

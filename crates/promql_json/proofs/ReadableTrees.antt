@@ -1,5 +1,5 @@
 -- A readable tree is one of at most 512 nodes above one another, by recursion.
-use Rattle.std.proofs.Common.{ℕ, zero, suc, List, [], ◌∷◌, ◌++◌, ◌≤◌, ◌<◌, ◌≡◌, ◌≢◌, ◌&&◌, Bool, true, false, true≢false, if◌then◌else◌, nat_le, refl, sym, arith, Some, None}
+use Rattle.std.proofs.Common.{ℕ, zero, suc, List, [], ◌∷◌, ◌++◌, ◌≤◌, ◌<◌, ◌≡◌, ◌≢◌, ◌&&◌, Bool, true, false, true≢false, if◌then◌else◌, nat_lt, refl, sym, arith, Some, None}
 use Rattle.std.proofs.lemmas.Bool.Decides.{nat_tests}
 use Rattle.std.specs.List.{AllByRecursion, flat_map}
 use Rattle.serde_json.specs.Data.{Data}
@@ -15,6 +15,7 @@ use Rattle.promql_json.specs.Readable.{HasReadableParts, IsNoForm, ReadableMatch
 use Rattle.promql_json.specs.ReadableBelow.{AllReadableBelow, MaybeReadableBelow, ReadableBelow, ReadableMatchers}
 use Rattle.promql_json.specs.declared.read_values.TheConstants.{AGGREGATORS, OPERATORS}
 use Rattle.promql_json.proofs.ReadForms.{no_form}
+use Rattle.promql_token.specs.declared.ids.TheConstants.{T_AGGREGATORS_END, T_AGGREGATORS_START, T_OPERATORS_END, T_OPERATORS_START}
 
 abbrev Within : Tree → Type 0
 Within = within (Unit {0}) (λ A B. A × B) (λ t below. HasReadableParts t × below)
@@ -46,14 +47,14 @@ then_true false b h is = absurd (true≢false (sym is))
 
 pub aggregator : (op : ℕ) → is_aggregator op ≡ true → is_one_of AGGREGATORS op ≡ true
 aggregator op is =
-    let low : op < 59 = grind (arith, nat_tests, both_true (nat_le 45 op) (nat_le op 58) is) in
-    then_true (is_aggregator op) _ (at_below (λ k. if is_aggregator k then is_one_of AGGREGATORS k else true) 59 op refl low) is
+    let low : op < T_AGGREGATORS_END = grind (arith, nat_tests, both_true (nat_lt T_AGGREGATORS_START op) (nat_lt op T_AGGREGATORS_END) is) in
+    then_true (is_aggregator op) _ (at_below (λ k. if is_aggregator k then is_one_of AGGREGATORS k else true) T_AGGREGATORS_END op refl low) is
 
 pub operator : (op : ℕ) → is_binary_operator op ≡ true → is_one_of OPERATORS op ≡ true
 operator op is =
     let among = both_true (is_operator op) _ is in
-    let low : op < 59 = grind (arith, nat_tests, both_true (nat_le 24 op) (nat_le op 42) among.0) in
-    then_true (is_binary_operator op) _ (at_below (λ k. if is_binary_operator k then is_one_of OPERATORS k else true) 59 op refl low) is
+    let low : op < T_AGGREGATORS_END = grind (arith, nat_tests, both_true (nat_lt T_OPERATORS_START op) (nat_lt op T_OPERATORS_END) among.0) in
+    then_true (is_binary_operator op) _ (at_below (λ k. if is_binary_operator k then is_one_of OPERATORS k else true) T_AGGREGATORS_END op refl low) is
 
 -- ---- matchers
 

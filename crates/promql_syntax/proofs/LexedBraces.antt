@@ -9,7 +9,7 @@ use Rattle.promql_token.specs.Lexing.{pieces}
 use Rattle.promql_token.specs.TokenScanning as scan
 use Rattle.promql_token.specs.TokenScanning.{after, in_braces, outside}
 use Rattle.promql_token.specs.declared.class.Class.TheVariants as class
-use Rattle.promql_token.specs.declared.ids.TheConstants.{T_IDENTIFIER, T_LOR, T_STRING}
+use Rattle.promql_token.specs.declared.ids.TheConstants.{T_IDENTIFIER, T_LOR, T_STRING, T_COMMA, T_EQL, T_EQL_REGEX, T_LEFT_BRACE, T_NEQ, T_NEQ_REGEX, T_RIGHT_BRACE}
 use Rattle.promql_token.specs.declared.state.Mode.TheVariants as mode
 use Rattle.promql_token.specs.declared.state.State.{State}
 use Rattle.promql_token.proofs.Concatenation.{joins, joins_name}
@@ -36,23 +36,23 @@ blank_inside depth c is more r = let m = more r in (m.0, m.1, pieces_run (inside
 
 brace_reads : (depth : ℕ) (r : Text) → Reads (at_depth depth) (inside depth) (punct kind.LeftBrace) r
 unfolding scan.scan_token outside scan.punctuator after
-brace_reads depth r = record { id = 9; is = refl; reads = joins (at_depth depth) (123 ∷ []) r 9 (omega arith) refl refl }
+brace_reads depth r = record { id = T_LEFT_BRACE; is = refl; reads = joins (at_depth depth) (123 ∷ []) r T_LEFT_BRACE (omega arith) refl refl }
 
 unbrace_reads : (depth : ℕ) (r : Text) → Reads (inside depth) (at_depth depth) (punct kind.RightBrace) r
 unfolding scan.scan_token in_braces after
-unbrace_reads depth r = record { id = 16; is = refl; reads = joins (inside depth) (125 ∷ []) r 16 (omega arith) refl refl }
+unbrace_reads depth r = record { id = T_RIGHT_BRACE; is = refl; reads = joins (inside depth) (125 ∷ []) r T_RIGHT_BRACE (omega arith) refl refl }
 
 comma_inside : (depth : ℕ) (r : Text) → Reads (inside depth) (inside depth) (punct kind.Comma) r
 unfolding scan.scan_token in_braces after
-comma_inside depth r = record { id = 3; is = refl; reads = joins (inside depth) (44 ∷ []) r 3 (omega arith) refl refl }
+comma_inside depth r = record { id = T_COMMA; is = refl; reads = joins (inside depth) (44 ∷ []) r T_COMMA (omega arith) refl refl }
 
 -- the operator of a matcher, before a quote
 match_operator_reads : (depth : ℕ) (op : Operator) (r : Text) → Reads (inside depth) (inside depth) (part.yield_match_operator (match_operator op)) (34 ∷ r)
 unfolding scan.scan_token in_braces after
-match_operator_reads depth equal r = record { id = 0; is = refl; reads = joins (inside depth) (61 ∷ []) (34 ∷ r) 0 (omega arith) refl refl }
-match_operator_reads depth not_equal r = record { id = 37; is = refl; reads = joins (inside depth) (33 ∷ 61 ∷ []) (34 ∷ r) 37 (omega arith) refl refl }
-match_operator_reads depth (matches w) r = record { id = 27; is = refl; reads = joins (inside depth) (61 ∷ 126 ∷ []) (34 ∷ r) 27 (omega arith) refl refl }
-match_operator_reads depth (matches_not w) r = record { id = 38; is = refl; reads = joins (inside depth) (33 ∷ 126 ∷ []) (34 ∷ r) 38 (omega arith) refl refl }
+match_operator_reads depth equal r = record { id = T_EQL; is = refl; reads = joins (inside depth) (61 ∷ []) (34 ∷ r) T_EQL (omega arith) refl refl }
+match_operator_reads depth not_equal r = record { id = T_NEQ; is = refl; reads = joins (inside depth) (33 ∷ 61 ∷ []) (34 ∷ r) T_NEQ (omega arith) refl refl }
+match_operator_reads depth (matches w) r = record { id = T_EQL_REGEX; is = refl; reads = joins (inside depth) (61 ∷ 126 ∷ []) (34 ∷ r) T_EQL_REGEX (omega arith) refl refl }
+match_operator_reads depth (matches_not w) r = record { id = T_NEQ_REGEX; is = refl; reads = joins (inside depth) (33 ∷ 126 ∷ []) (34 ∷ r) T_NEQ_REGEX (omega arith) refl refl }
 
 -- ---- matchers
 

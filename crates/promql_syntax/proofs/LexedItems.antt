@@ -19,6 +19,7 @@ use Rattle.promql_syntax.proofs.PrintedItems.{Item, token, blank, newline, rende
 use Rattle.promql_syntax.proofs.LexedPunctuators.{close_lex, comma_lex, open_lex}
 use Rattle.promql_syntax.proofs.PrintedBytes.{render_append}
 use Rattle.promql_syntax.proofs.PrintedExprTokens.{strip_append}
+use Rattle.promql_token.specs.declared.ids.TheConstants.{T_COMMA, T_LEFT_PAREN, T_RIGHT_PAREN}
 
 -- ---- items one after the other
 
@@ -92,13 +93,13 @@ append_lex a b c is js first second r =
 -- ---- punctuation
 
 pub open_reads : (depth : ℕ) (r : Text) → Reads (at_depth depth) (at_depth (suc depth)) (punct kind.LeftParen) r
-open_reads depth r = record { id = 11; is = refl; reads = open_lex depth r }
+open_reads depth r = record { id = T_LEFT_PAREN; is = refl; reads = open_lex depth r }
 
 pub comma_reads : (depth : ℕ) (r : Text) → Reads (at_depth depth) (at_depth depth) (punct kind.Comma) r
-comma_reads depth r = record { id = 3; is = refl; reads = comma_lex depth r }
+comma_reads depth r = record { id = T_COMMA; is = refl; reads = comma_lex depth r }
 
 pub close_reads : (depth : ℕ) (r : Text) → Reads (at_depth (suc depth)) (at_depth depth) (punct kind.RightParen) r
-close_reads depth r = record { id = 18; is = refl; reads = close_lex depth r }
+close_reads depth r = record { id = T_RIGHT_PAREN; is = refl; reads = close_lex depth r }
 
 -- ---- words
 

@@ -10,7 +10,7 @@ use Rattle.promql_token.specs.Ids.{keyword_in_any_case}
 use Rattle.promql_token.specs.Laws.{is_word}
 use Rattle.promql_token.specs.TokenScanning.{after, opens, word_id}
 use Rattle.promql_token.specs.declared.class.Class.TheVariants as class
-use Rattle.promql_token.specs.declared.ids.TheConstants.{T_STRING}
+use Rattle.promql_token.specs.declared.ids.TheConstants.{T_STRING, T_BY, T_GROUP_LEFT, T_GROUP_RIGHT, T_IGNORING, T_ON, T_WITHOUT}
 use Rattle.promql_token.proofs.ValueTokens.{joins_quoted}
 use Rattle.promql_grammar.specs.declared.token_kinds.TokenKind.{TokenKind}
 use Rattle.promql_grammar.specs.declared.token_kinds.TokenKind.TheVariants as kind
@@ -87,11 +87,11 @@ labels_lex depth (l ∷ ls) =
 
 -- ---- groupings
 
-by_id : (r : Text) → word_id (codes "by") r ≡ 62
+by_id : (r : Text) → word_id (codes "by") r ≡ T_BY
 unfolding keyword_in_any_case
 by_id r = refl
 
-without_id : (r : Text) → word_id (codes "without") r ≡ 70
+without_id : (r : Text) → word_id (codes "without") r ≡ T_WITHOUT
 unfolding keyword_in_any_case
 without_id r = refl
 
@@ -109,40 +109,40 @@ spaced_labels depth ls = let o = at_depth depth in append_lex o o o (labels_line
 pub clause_lex : (depth : ℕ) (c : Option Clause) → Lexes (at_depth depth) (at_depth depth) (before_line (clause c))
 clause_lex depth None = nothing (at_depth depth)
 clause_lex depth (Some (including [])) = nothing (at_depth depth)
-clause_lex depth (Some (including (l ∷ ls))) = spaced_word depth 62 kind.By (codes "by") (labels_line (labels (l ∷ ls)) ++ blank ∷ []) refl by_id refl (spaced_labels depth (l ∷ ls))
-clause_lex depth (Some (excluding ls)) = spaced_word depth 70 kind.Without (codes "without") (labels_line (labels ls) ++ blank ∷ []) refl without_id refl (spaced_labels depth ls)
+clause_lex depth (Some (including (l ∷ ls))) = spaced_word depth T_BY kind.By (codes "by") (labels_line (labels (l ∷ ls)) ++ blank ∷ []) refl by_id refl (spaced_labels depth (l ∷ ls))
+clause_lex depth (Some (excluding ls)) = spaced_word depth T_WITHOUT kind.Without (codes "without") (labels_line (labels ls) ++ blank ∷ []) refl without_id refl (spaced_labels depth ls)
 
 -- ---- matchings
 
-on_id : (r : Text) → word_id (codes "on") r ≡ 69
+on_id : (r : Text) → word_id (codes "on") r ≡ T_ON
 unfolding keyword_in_any_case
 on_id r = refl
 
-ignoring_id : (r : Text) → word_id (codes "ignoring") r ≡ 65
+ignoring_id : (r : Text) → word_id (codes "ignoring") r ≡ T_IGNORING
 unfolding keyword_in_any_case
 ignoring_id r = refl
 
-group_left_id : (r : Text) → word_id (codes "group_left") r ≡ 63
+group_left_id : (r : Text) → word_id (codes "group_left") r ≡ T_GROUP_LEFT
 unfolding keyword_in_any_case
 group_left_id r = refl
 
-group_right_id : (r : Text) → word_id (codes "group_right") r ≡ 64
+group_right_id : (r : Text) → word_id (codes "group_right") r ≡ T_GROUP_RIGHT
 unfolding keyword_in_any_case
 group_right_id r = refl
 
 group_lex : (depth : ℕ) (card : Cardinality) → Lexes (at_depth depth) (at_depth depth) (group_line (group card))
 group_lex depth one_to_one = nothing (at_depth depth)
-group_lex depth (many_to_one ls) = spaced_word depth 63 kind.GroupLeft (codes "group_left") (labels_line (labels ls)) refl group_left_id refl (labels_lex depth ls)
-group_lex depth (one_to_many ls) = spaced_word depth 64 kind.GroupRight (codes "group_right") (labels_line (labels ls)) refl group_right_id refl (labels_lex depth ls)
+group_lex depth (many_to_one ls) = spaced_word depth T_GROUP_LEFT kind.GroupLeft (codes "group_left") (labels_line (labels ls)) refl group_left_id refl (labels_lex depth ls)
+group_lex depth (one_to_many ls) = spaced_word depth T_GROUP_RIGHT kind.GroupRight (codes "group_right") (labels_line (labels ls)) refl group_right_id refl (labels_lex depth ls)
 group_lex depth many_to_many = nothing (at_depth depth)
 
 pub matching_lex : (depth : ℕ) (c : Option Clause) (card : Cardinality) → Lexes (at_depth depth) (at_depth depth) (matching_line (matching_of_clause c (group card)))
 matching_lex depth None card = nothing (at_depth depth)
 matching_lex depth (Some (including ls)) card =
     let o = at_depth depth in
-    spaced_word depth 69 kind.On (codes "on") (labels_line (labels ls) ++ group_line (group card)) refl on_id refl
+    spaced_word depth T_ON kind.On (codes "on") (labels_line (labels ls) ++ group_line (group card)) refl on_id refl
     (append_lex o o o (labels_line (labels ls)) (group_line (group card)) (labels_lex depth ls) (group_lex depth card))
 matching_lex depth (Some (excluding ls)) card =
     let o = at_depth depth in
-    spaced_word depth 65 kind.Ignoring (codes "ignoring") (labels_line (labels ls) ++ group_line (group card)) refl ignoring_id refl
+    spaced_word depth T_IGNORING kind.Ignoring (codes "ignoring") (labels_line (labels ls) ++ group_line (group card)) refl ignoring_id refl
     (append_lex o o o (labels_line (labels ls)) (group_line (group card)) (labels_lex depth ls) (group_lex depth card))

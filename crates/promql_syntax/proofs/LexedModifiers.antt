@@ -18,8 +18,9 @@ use Rattle.promql_syntax.proofs.LexedLabels.{matching_lex}
 use Rattle.promql_syntax.proofs.LexedValues.{fills_lex}
 use Rattle.promql_syntax.proofs.PrintedBytes.{render_append}
 use Rattle.promql_syntax.proofs.PrintedModifiers.{AreFills, IsMatched}
+use Rattle.promql_token.specs.declared.ids.TheConstants.{T_BOOL}
 
-bool_id : (r : Text) → word_id (codes "bool") r ≡ 61
+bool_id : (r : Text) → word_id (codes "bool") r ≡ T_BOOL
 unfolding keyword_in_any_case
 bool_id r = refl
 
@@ -28,7 +29,7 @@ flag_lex depth false = before_any ends_word (at_depth depth) (at_depth depth) []
 flag_lex depth true =
     let o = at_depth depth in
     blank_before ends_word depth o (token (word kind.Bool (codes "bool")) ∷ [])
-    (last_before ends_word o o (word kind.Bool (codes "bool")) (λ r ends. known_reads depth (codes "bool") r 61 kind.Bool refl (bool_id r) refl (not_true _ ends)))
+    (last_before ends_word o o (word kind.Bool (codes "bool")) (λ r ends. known_reads depth (codes "bool") r T_BOOL kind.Bool refl (bool_id r) refl (not_true _ ends)))
 
 values_lex : (depth : ℕ) (f : Fills) → AreFills f → Lexes (at_depth depth) (at_depth depth) (fills_line (fill_words f))
 values_lex depth (fills None None) are = fills_lex depth None None tt tt

@@ -19,7 +19,7 @@ use Rattle.promql_token.specs.Lexing.{pieces}
 use Rattle.promql_token.specs.TokenScanning as scan
 use Rattle.promql_token.specs.TokenScanning.{after, outside, word_id}
 use Rattle.promql_token.specs.Printed.{are_digits}
-use Rattle.promql_token.specs.declared.ids.TheConstants.{T_NUMBER}
+use Rattle.promql_token.specs.declared.ids.TheConstants.{T_NUMBER, T_AT, T_END, T_START}
 use Rattle.promql_token.proofs.Concatenation.{joins}
 use Rattle.promql_token.proofs.PrintedForms.{joins_number}
 use Rattle.promql_grammar.specs.declared.token_kinds.TokenKind.TheVariants as kind
@@ -42,17 +42,17 @@ use Rattle.promql_syntax.proofs.SingleAnswers.{same_ok, then_steps}
 
 -- ---- the start and the end
 
-start_id : (r : Text) → word_id (codes "start") r ≡ 76
+start_id : (r : Text) → word_id (codes "start") r ≡ T_START
 unfolding keyword_in_any_case
 start_id r = refl
 
-end_id : (r : Text) → word_id (codes "end") r ≡ 77
+end_id : (r : Text) → word_id (codes "end") r ≡ T_END
 unfolding keyword_in_any_case
 end_id r = refl
 
 at_reads : (depth : ℕ) (r : Text) → Reads (at_depth depth) (at_depth depth) (punct kind.At) r
 unfolding scan.scan_token outside scan.punctuator after
-at_reads depth r = record { id = 41; is = refl; reads = joins (at_depth depth) (64 ∷ []) r 41 (omega arith) refl refl }
+at_reads depth r = record { id = T_AT; is = refl; reads = joins (at_depth depth) (64 ∷ []) r T_AT (omega arith) refl refl }
 
 at_then : (test : Text → Bool) (depth : ℕ) (is : List Item) → LexesBefore test (at_depth depth) (at_depth depth) is → LexesBefore test (at_depth depth) (at_depth depth) (blank ∷ token (punct kind.At) ∷ blank ∷ is)
 at_then test depth is more =
@@ -162,8 +162,8 @@ moment_size t e =
 -- ---- times and offsets
 
 pub moment_lex : (depth : ℕ) (m : Moment) → IsMoment m → LexesBefore is_clear (at_depth depth) (at_depth depth) (postfix_line (moment m))
-moment_lex depth at_start is = bound_lex depth 76 true (codes "start") refl start_id refl
-moment_lex depth at_end is = bound_lex depth 77 false (codes "end") refl end_id refl
+moment_lex depth at_start is = bound_lex depth T_START true (codes "start") refl start_id refl
+moment_lex depth at_end is = bound_lex depth T_END false (codes "end") refl end_id refl
 moment_lex depth (at_time t) is = at_time_lex depth t (moment_size t is)
 
 pub shift_lex : (depth : ℕ) (s : Shift) → IsShift (Some s) → LexesBefore is_clear (at_depth depth) (at_depth depth) (postfix_line (shift s))

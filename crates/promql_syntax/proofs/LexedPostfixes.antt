@@ -16,7 +16,7 @@ use Rattle.promql_token.specs.TokenScanning as scan
 use Rattle.promql_token.specs.TokenScanning.{after, in_brackets, mode_after_something, outside, word_id}
 use Rattle.promql_token.specs.Printed.{holds_numerals}
 use Rattle.promql_token.specs.PrintedValues.{time_id}
-use Rattle.promql_token.specs.declared.ids.TheConstants.{T_DURATION, T_NUMBER, T_SUB}
+use Rattle.promql_token.specs.declared.ids.TheConstants.{T_DURATION, T_NUMBER, T_SUB, T_ANCHORED, T_COLON, T_LEFT_BRACKET, T_OFFSET, T_RIGHT_BRACKET, T_SMOOTHED}
 use Rattle.promql_token.specs.declared.state.Bracket.{Bracket}
 use Rattle.promql_token.specs.declared.state.Bracket.TheVariants as bracket
 use Rattle.promql_token.specs.declared.state.Mode.{Mode}
@@ -75,15 +75,15 @@ time_lex m depth n holds is =
 
 bracket_reads : (depth : ℕ) (r : Text) → Reads (at_depth depth) (in_bracket depth bracket.Nothing) (punct kind.LeftBracket) r
 unfolding scan.scan_token outside scan.punctuator after
-bracket_reads depth r = record { id = 10; is = refl; reads = joins (at_depth depth) (91 ∷ []) r 10 (omega arith) refl refl }
+bracket_reads depth r = record { id = T_LEFT_BRACKET; is = refl; reads = joins (at_depth depth) (91 ∷ []) r T_LEFT_BRACKET (omega arith) refl refl }
 
 unbracket_reads : (depth : ℕ) (inside : Bracket) (r : Text) → Reads (in_bracket depth inside) (at_depth depth) (punct kind.RightBracket) r
 unfolding scan.scan_token in_brackets after
-unbracket_reads depth inside r = record { id = 17; is = refl; reads = joins (in_bracket depth inside) (93 ∷ []) r 17 (omega arith) refl refl }
+unbracket_reads depth inside r = record { id = T_RIGHT_BRACKET; is = refl; reads = joins (in_bracket depth inside) (93 ∷ []) r T_RIGHT_BRACKET (omega arith) refl refl }
 
 colon_reads : (depth : ℕ) (r : Text) → Reads (in_bracket depth bracket.Something) (in_bracket depth bracket.Colon) (punct kind.Colon) r
 unfolding scan.scan_token in_brackets after
-colon_reads depth r = record { id = 2; is = refl; reads = joins (in_bracket depth bracket.Something) (58 ∷ []) r 2 (omega arith) refl refl }
+colon_reads depth r = record { id = T_COLON; is = refl; reads = joins (in_bracket depth bracket.Something) (58 ∷ []) r T_COLON (omega arith) refl refl }
 
 abbrev any : Text → Bool
 any r = true
@@ -126,7 +126,7 @@ pub signed_before : (test : Text → Bool) (depth : ℕ) (b : Bool) (is : List I
 signed_before test depth false is more = more
 signed_before test depth true is more = token_before test (at_depth depth) (at_depth depth) (at_depth depth) (word (kind.Operator T_SUB) (codes "-")) is (λ r passes. minus_reads depth (render is ++ r)) more
 
-offset_id : (r : Text) → word_id (codes "offset") r ≡ 66
+offset_id : (r : Text) → word_id (codes "offset") r ≡ T_OFFSET
 unfolding keyword_in_any_case
 offset_id r = refl
 
@@ -137,15 +137,15 @@ offset_lex depth n b is =
     let o = at_depth depth in
     let late = signed_line (printed.sign b) ++ time_line (time n) in
     blank_before is_clear depth o (token (word kind.Offset (codes "offset")) ∷ blank ∷ late)
-    (token_before is_clear o o o (word kind.Offset (codes "offset")) (blank ∷ late) (λ r clear. known_reads depth (codes "offset") (32 ∷ (render late ++ r)) 66 kind.Offset refl (offset_id (32 ∷ (render late ++ r))) refl refl)
+    (token_before is_clear o o o (word kind.Offset (codes "offset")) (blank ∷ late) (λ r clear. known_reads depth (codes "offset") (32 ∷ (render late ++ r)) T_OFFSET kind.Offset refl (offset_id (32 ∷ (render late ++ r))) refl refl)
     (blank_before is_clear depth o late
     (signed_before is_clear depth b (time_line (time n)) (before_fewer (stops_numeral (duration_text n)) is_clear o o (time_line (time n)) (clear_stops (duration_text n)) (time_lex mode.Outside depth n refl is)))))
 
-smoothed_id : (r : Text) → word_id (codes "smoothed") r ≡ 67
+smoothed_id : (r : Text) → word_id (codes "smoothed") r ≡ T_SMOOTHED
 unfolding keyword_in_any_case
 smoothed_id r = refl
 
-anchored_id : (r : Text) → word_id (codes "anchored") r ≡ 68
+anchored_id : (r : Text) → word_id (codes "anchored") r ≡ T_ANCHORED
 unfolding keyword_in_any_case
 anchored_id r = refl
 
@@ -156,7 +156,7 @@ last_word depth id k w letters known symbol =
     blank_before is_clear depth o (token (word k w) ∷ []) (last_before is_clear o o (word k w) (λ r clear. known_reads depth w r id k letters (known r) symbol (not_true _ (clear_ends r clear))))
 
 pub smoothed_lex : (depth : ℕ) → LexesBefore is_clear (at_depth depth) (at_depth depth) (postfix_line (part.mode true (codes "smoothed")))
-smoothed_lex depth = last_word depth 67 kind.Smoothed (codes "smoothed") refl smoothed_id refl
+smoothed_lex depth = last_word depth T_SMOOTHED kind.Smoothed (codes "smoothed") refl smoothed_id refl
 
 pub anchored_lex : (depth : ℕ) → LexesBefore is_clear (at_depth depth) (at_depth depth) (postfix_line (part.mode false (codes "anchored")))
-anchored_lex depth = last_word depth 68 kind.Anchored (codes "anchored") refl anchored_id refl
+anchored_lex depth = last_word depth T_ANCHORED kind.Anchored (codes "anchored") refl anchored_id refl

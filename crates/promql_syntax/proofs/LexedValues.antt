@@ -11,7 +11,7 @@ use Rattle.promql_text.proofs.OneForm.{negated_in_form}
 use Rattle.promql_token.specs.Ids.{keyword_in_any_case}
 use Rattle.promql_token.specs.Laws.{is_word}
 use Rattle.promql_token.specs.TokenScanning.{word_id}
-use Rattle.promql_token.specs.declared.ids.TheConstants.{T_SUB}
+use Rattle.promql_token.specs.declared.ids.TheConstants.{T_SUB, T_FILL, T_FILL_LEFT, T_FILL_RIGHT, T_NUMBER}
 use Rattle.promql_token.proofs.ValueTokens.{joins_number_text}
 use Rattle.promql_grammar.specs.declared.token_kinds.TokenKind.{TokenKind}
 use Rattle.promql_grammar.specs.declared.token_kinds.TokenKind.TheVariants as kind
@@ -26,14 +26,14 @@ use Rattle.promql_syntax.proofs.LexedItems.{Reads, append_lex, blank_then, close
 use Rattle.promql_syntax.proofs.LexedPunctuators.{minus_lex}
 
 pub minus_reads : (depth : ℕ) (r : Text) → Reads (at_depth depth) (at_depth depth) (word (kind.Operator T_SUB) (codes "-")) r
-minus_reads depth r = record { id = 40; is = refl; reads = minus_lex depth r }
+minus_reads depth r = record { id = T_SUB; is = refl; reads = minus_lex depth r }
 
 -- the number of a value, and the parenthesis after it
 number_lex : (depth : ℕ) (v : Number) → IsNumber v → is_below_zero v ≡ false → Lexes (at_depth (suc depth)) (at_depth depth) (token (word kind.Number (number_text v)) ∷ token (punct kind.RightParen) ∷ [])
 number_lex depth v is above =
     let inner = at_depth (suc depth) in
     token_then inner inner (at_depth depth) (word kind.Number (number_text v)) (token (punct kind.RightParen) ∷ [])
-    (λ r. record { id = 15; is = refl; reads = joins_number_text (suc depth) v (41 ∷ r) is above refl refl })
+    (λ r. record { id = T_NUMBER; is = refl; reads = joins_number_text (suc depth) v (41 ∷ r) is above refl refl })
     (token_then inner (at_depth depth) (at_depth depth) (punct kind.RightParen) [] (λ r. close_reads depth r) (nothing (at_depth depth)))
 
 abbrev signed_items : Bool → Number → List Item
@@ -80,24 +80,24 @@ fill_last depth id k w v letters known symbol number =
     blank_then depth o (token (word k w) ∷ value_line (value v))
     (token_then o o o (word k w) (value_line (value v)) (λ r. known_reads depth w (32 ∷ 40 ∷ (render inside ++ r)) id k letters (known (render inside ++ r)) symbol refl) (value_lex depth v number))
 
-fill_id : (z : Text) → word_id (codes "fill") (32 ∷ 40 ∷ z) ≡ 71
+fill_id : (z : Text) → word_id (codes "fill") (32 ∷ 40 ∷ z) ≡ T_FILL
 unfolding keyword_in_any_case
 fill_id z = refl
 
-fill_left_id : (z : Text) → word_id (codes "fill_left") (32 ∷ 40 ∷ z) ≡ 72
+fill_left_id : (z : Text) → word_id (codes "fill_left") (32 ∷ 40 ∷ z) ≡ T_FILL_LEFT
 unfolding keyword_in_any_case
 fill_left_id z = refl
 
-fill_right_id : (z : Text) → word_id (codes "fill_right") (32 ∷ 40 ∷ z) ≡ 73
+fill_right_id : (z : Text) → word_id (codes "fill_right") (32 ∷ 40 ∷ z) ≡ T_FILL_RIGHT
 unfolding keyword_in_any_case
 fill_right_id z = refl
 
 pub fills_lex : (depth : ℕ) (right left : Option Number) → IfSome right IsNumber → IfSome left IsNumber → Lexes (at_depth depth) (at_depth depth) (fills_line (fill_words (fills right left)))
 fills_lex depth None None a b = nothing (at_depth depth)
-fills_lex depth (Some r) None a b = fill_last depth 73 kind.FillRight (codes "fill_right") r refl fill_right_id refl a
-fills_lex depth None (Some l) a b = fill_last depth 72 kind.FillLeft (codes "fill_left") l refl fill_left_id refl b
+fills_lex depth (Some r) None a b = fill_last depth T_FILL_RIGHT kind.FillRight (codes "fill_right") r refl fill_right_id refl a
+fills_lex depth None (Some l) a b = fill_last depth T_FILL_LEFT kind.FillLeft (codes "fill_left") l refl fill_left_id refl b
 fills_lex depth (Some r) (Some l) a b =
     cond_both (number_eq l r) (part.both (codes "fill") (value l)) (part.two true (codes "fill_left") (value l) (codes "fill_right") (value r)) (λ f. Lexes (at_depth depth) (at_depth depth) (fills_line f))
-    (λ _. fill_last depth 71 kind.Fill (codes "fill") l refl fill_id refl b)
-    (λ _. fill_then depth 72 kind.FillLeft (codes "fill_left") l (blank ∷ token (word kind.FillRight (codes "fill_right")) ∷ value_line (value r)) refl fill_left_id refl b
-    (fill_last depth 73 kind.FillRight (codes "fill_right") r refl fill_right_id refl a))
+    (λ _. fill_last depth T_FILL kind.Fill (codes "fill") l refl fill_id refl b)
+    (λ _. fill_then depth T_FILL_LEFT kind.FillLeft (codes "fill_left") l (blank ∷ token (word kind.FillRight (codes "fill_right")) ∷ value_line (value r)) refl fill_left_id refl b
+    (fill_last depth T_FILL_RIGHT kind.FillRight (codes "fill_right") r refl fill_right_id refl a))

@@ -1,5 +1,5 @@
 -- The lexer reads printed operators, aggregators and names as tokens outside braces.
-use Rattle.std.proofs.Common.{◌≡◌, ◌≢◌, ⊎_elim, ℕ, zero, suc, ◌+◌, ◌<◌, ◌≤◌, refl, sym, ◌∙◌, ap, subst, arith, Bool, true, false, cond, not, ◌&&◌, ◌||◌, Option, Some, None, List, [], ◌∷◌, eqb-true, length, Ok, Err}
+use Rattle.std.proofs.Common.{◌≡◌, ◌≢◌, ⊎_elim, ℕ, zero, suc, ◌+◌, ◌<◌, ◌≤◌, refl, sym, ◌∙◌, ap, subst, arith, Bool, true, false, cond, not, ◌&&◌, ◌||◌, Option, Some, None, List, [], ◌∷◌, eqb-true, length, Ok, Err, ◌-◌}
 use Rattle.std.specs.Prelude.{◌==◌}
 use Rattle.std.specs.List.{list_all, list_any}
 use Rattle.std.specs.Option.{unwrap_or}
@@ -13,7 +13,7 @@ use Rattle.promql_token.specs.Lexing.{pieces}
 use Rattle.promql_token.specs.TokenScanning.{Scanned, is_fill, name_id, opens, outside, scan_token, word_id}
 use Rattle.promql_token.specs.TokenScanning as scan
 use Rattle.promql_token.specs.declared.state.Mode.TheVariants as mode
-use Rattle.promql_token.specs.declared.ids.TheConstants.{T_IDENTIFIER, T_METRIC_IDENTIFIER}
+use Rattle.promql_token.specs.declared.ids.TheConstants.{T_IDENTIFIER, T_METRIC_IDENTIFIER, T_ADD, T_AGGREGATORS_END, T_AGGREGATORS_START, T_ATAN2, T_DIV, T_EQLC, T_GTE, T_GTR, T_LAND, T_LOR, T_LSS, T_LTE, T_LUNLESS, T_MOD, T_MUL, T_NEQ, T_POW, T_SUB}
 use Rattle.promql_token.proofs.Inner.{after_outside, is_plain}
 use Rattle.promql_token.proofs.Concatenation.{joins}
 use Rattle.promql_grammar.specs.declared.token_kinds.TokenKind.{TokenKind}
@@ -39,13 +39,13 @@ test_of test (k ∷ ids) id all is =
 -- ---- operators
 
 abbrev plain_operators : List ℕ
-plain_operators = 24 ∷ 25 ∷ 26 ∷ 28 ∷ 33 ∷ 35 ∷ 36 ∷ 37 ∷ 39 ∷ 40 ∷ []
+plain_operators = T_ADD ∷ T_DIV ∷ T_EQLC ∷ T_GTE ∷ T_LTE ∷ T_MOD ∷ T_MUL ∷ T_NEQ ∷ T_POW ∷ T_SUB ∷ []
 
 abbrev order_operators : List ℕ
-order_operators = 29 ∷ 32 ∷ []
+order_operators = T_GTR ∷ T_LSS ∷ []
 
 abbrev word_operators : List ℕ
-word_operators = 30 ∷ 31 ∷ 34 ∷ 42 ∷ []
+word_operators = T_LAND ∷ T_LOR ∷ T_LUNLESS ∷ T_ATAN2 ∷ []
 
 abbrev is_one_of : List ℕ → ℕ → Bool
 is_one_of ids id = list_any (λ k. id == k) ids
@@ -135,9 +135,8 @@ aggregator_kind : (id : ℕ) (k : TokenKind) → aggregates id k ≡ true → k 
 aggregator_kind id (kind.Aggregator op) e = ap kind.Aggregator (eqb-true op id e)
 aggregator_kind id k e = cc
 
-aggregator_word : (op : ℕ) → is_one_of (count_up 45 14) op ≡ true → is_word_token op ≡ true
-unfolding keyword_in_any_case
-aggregator_word op is = test_of is_word_token (count_up 45 14) op refl is
+abbrev aggregators : List ℕ
+aggregators = count_up (suc T_AGGREGATORS_START) (T_AGGREGATORS_END - suc T_AGGREGATORS_START)
 
 is_counted : (low n id : ℕ) → low ≤ id → id < low + n → list_any (λ k. id == k) (count_up low n) ≡ true
 is_counted low zero id above below = absurd (omega arith)
@@ -147,12 +146,21 @@ is_counted low (suc n) id above below = go (id == low) refl (λ later. is_counte
     go true is more = refl
     go false is more = let other : id ≢ low = grind (arith, nat_tests) in more (omega arith)
 
+-- a test that all aggregators pass
+pub test_of_aggregators : (test : ℕ → Bool) → list_all test aggregators ≡ true → (op : ℕ) → is_aggregator op ≡ true → test op ≡ true
+test_of_aggregators test all op is =
+    let low : T_AGGREGATORS_START < op = grind (arith, nat_tests) in
+    let high : op < T_AGGREGATORS_END = grind (arith, nat_tests) in
+    test_of test aggregators op all (is_counted (suc T_AGGREGATORS_START) (T_AGGREGATORS_END - suc T_AGGREGATORS_START) op low high)
+
+aggregator_word : (op : ℕ) → is_aggregator op ≡ true → is_word_token op ≡ true
+unfolding keyword_in_any_case
+aggregator_word op is = test_of_aggregators is_word_token refl op is
+
 pub aggregator_reads : (depth op : ℕ) (r : Text) → is_aggregator op ≡ true → ends_word r ≡ true → Reads (at_depth depth) (at_depth depth) (word (kind.Aggregator op) (text_of op)) r
 aggregator_reads depth op r is ends =
-    let low : 45 ≤ op = grind (arith, nat_tests) in
-    let high : op ≤ 58 = grind (arith, nat_tests) in
-    let here = is_counted 45 14 op low (omega arith) in
-    keyword_reads depth op (kind.Aggregator op) r (aggregator_kind op (token_kind op) (test_of (λ id. aggregates id (token_kind id)) (count_up 45 14) op refl here)) refl (aggregator_word op here) ends
+    let same = aggregator_kind op (token_kind op) (test_of_aggregators (λ id. aggregates id (token_kind id)) refl op is) in
+    keyword_reads depth op (kind.Aggregator op) r same refl (aggregator_word op is) ends
 
 -- ---- names
 

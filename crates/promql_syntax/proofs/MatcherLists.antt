@@ -23,6 +23,7 @@ use Rattle.promql_syntax.specs.MatcherItems.{ItemEnds, ItemsEnd, AddsItem}
 use Rattle.promql_syntax.specs.PartBuilding.{braces_value, item_value, items_value, append_matcher}
 use Rattle.promql_syntax.proofs.Asked.{allowed_all, ends_on, ends_fails}
 use Rattle.promql_syntax.proofs.ResultSteps.{fails_then, fails_same, then_then}
+use Rattle.promql_token.specs.declared.ids.TheConstants.{T_LOR}
 
 -- what a matcher and its end give
 abbrev items_after : (List Symbol → Read Items) → Item → ItemEnd × List Symbol → Read Items
@@ -38,7 +39,7 @@ after_step : (r : List Symbol → Read Items) (i : Item) (ts : List Symbol) → 
 after_step r i (punct kind.RightBrace ∷ ts) = refl
 after_step r i (punct kind.Comma ∷ (punct kind.RightBrace ∷ ts)) = refl
 after_step r i (punct kind.Comma ∷ ts) = refl
-after_step r i (word (kind.Operator op) t ∷ ts) = choice_then (op == 31) (joins (or t), ts) (items_after r i) (word (kind.Operator op) t ∷ ts)
+after_step r i (word (kind.Operator op) t ∷ ts) = choice_then (op == T_LOR) (joins (or t), ts) (items_after r i) (word (kind.Operator op) t ∷ ts)
 after_step r i ts = refl
 
 some_items : (ts : List Symbol) → HasNo kind.RightBrace ts → parse_braces ts ≡ (parse_items (length ts) ts then λ y. Ok (items y.0, y.1))

@@ -1,5 +1,5 @@
 -- The bytes of a laid-out tree's items are its layout.
-use Rattle.std.proofs.Common.{◌≡◌, ℕ, zero, suc, ◌+◌, ◌-◌, ◌<◌, ◌≤◌, refl, sym, ◌∙◌, ap, subst, arith, Bool, true, false, cond, Option, Some, None, List, [], ◌∷◌, ◌++◌, append-nil, append_assoc, codes, replicate}
+use Rattle.std.proofs.Common.{◌≡◌, ℕ, zero, suc, ◌+◌, ◌-◌, ◌<◌, ◌≤◌, refl, sym, ◌∙◌, ap, subst, arith, Bool, true, false, cond, Option, Some, None, List, [], ◌∷◌, ◌++◌, append-nil, append_assoc, codes, replicate, true≢false, not}
 use Rattle.std.specs.Prelude.{◌==◌, ◌/◌, ◌%◌, ◌^◌, option_map, unwrap_or}
 use Rattle.std.proofs.Math.Nat.{div-le_self}
 use Rattle.std.specs.Char.{is_ascii_digit}
@@ -47,6 +47,8 @@ use Rattle.promql_syntax.proofs.Derive.{derive, derive_after, derive_all, derive
 use Rattle.promql_syntax.proofs.PrintedItems.{Item, token, blank, newline, render, spell, after_line, arguments_lines, before_line, choose_items, closing_line, indent_items, line, lines, modifier_line, postfix_line, rest_lines, signed_line, time_line, trim_items}
 use Rattle.promql_syntax.proofs.PrintedParts.{braces, clause, modifier, moment, shift, time, word_kind}
 use Rattle.promql_syntax.proofs.PrintedParts as printed
+use Rattle.promql_syntax.proofs.Booleans.{not_true}
+use Rattle.promql_syntax.proofs.LexedWords.{test_of_aggregators}
 use Rattle.promql_syntax.proofs.Printable.{AllPrintable, IsSelecting, MaybePrintable, Printable, PrintableSelector}
 use Rattle.promql_syntax.proofs.PrintedBytes.{clause_bytes, render_both, modifier_bytes, moment_bytes, number_split, shift_bytes, time_bytes}
 use Rattle.promql_syntax.proofs.PrintedLines.{base_bytes, line_bytes, nothing_after, range_bytes}
@@ -94,29 +96,16 @@ trimmed_bytes (token s ∷ is) h = sym (kept_front (spell s) (render is) h)
 trimmed_bytes (blank ∷ is) h = trimmed_bytes is h
 trimmed_bytes (newline ∷ is) h = absurd h
 
-aggregator_front : (k : ℕ) → k < 14 → IsFront (text_of (45 + k))
-aggregator_front zero h = refl
-aggregator_front (suc zero) h = refl
-aggregator_front (suc (suc zero)) h = refl
-aggregator_front (suc (suc (suc zero))) h = refl
-aggregator_front (suc (suc (suc (suc zero)))) h = refl
-aggregator_front (suc (suc (suc (suc (suc zero))))) h = refl
-aggregator_front (suc (suc (suc (suc (suc (suc zero)))))) h = refl
-aggregator_front (suc (suc (suc (suc (suc (suc (suc zero))))))) h = refl
-aggregator_front (suc (suc (suc (suc (suc (suc (suc (suc zero)))))))) h = refl
-aggregator_front (suc (suc (suc (suc (suc (suc (suc (suc (suc zero))))))))) h = refl
-aggregator_front (suc (suc (suc (suc (suc (suc (suc (suc (suc (suc zero)))))))))) h = refl
-aggregator_front (suc (suc (suc (suc (suc (suc (suc (suc (suc (suc (suc zero))))))))))) h = refl
-aggregator_front (suc (suc (suc (suc (suc (suc (suc (suc (suc (suc (suc (suc zero)))))))))))) h = refl
-aggregator_front (suc (suc (suc (suc (suc (suc (suc (suc (suc (suc (suc (suc (suc zero))))))))))))) h = refl
-aggregator_front (suc (suc (suc (suc (suc (suc (suc (suc (suc (suc (suc (suc (suc (suc k)))))))))))))) h = absurd (omega arith)
+abbrev begins_unblank : Text → Bool
+begins_unblank [] = false
+begins_unblank (b ∷ t) = not (b == 32)
+
+unblank_front : (t : Text) → begins_unblank t ≡ true → IsFront t
+unblank_front [] is = absurd (true≢false (sym is))
+unblank_front (b ∷ t) is = not_true _ is
 
 text_front : (op : ℕ) → is_aggregator op ≡ true → IsFront (text_of op)
-text_front op is =
-    let low : 45 ≤ op = grind (arith, nat_tests) in
-    let high : op ≤ 58 = grind (arith, nat_tests) in
-    let same : 45 + (op - 45) ≡ op = omega arith in
-    subst (λ x. IsFront (text_of x)) same (aggregator_front (op - 45) (omega arith))
+text_front op is = unblank_front (text_of op) (test_of_aggregators (λ id. begins_unblank (text_of id)) refl op is)
 
 word_front : (w : Text) → is_word w ≡ true → IsFront w
 word_front [] is = cc

@@ -12,7 +12,7 @@ use Rattle.promql_token.specs.Lexing as lexing
 use Rattle.promql_token.specs.TokenScanning.{is_fill, name_id, opens, word_id}
 use Rattle.promql_token.specs.TokenSpelling.{AreSpelled, IsSpelled, IsWordToken, in_braces_after, is_no_word, no_words}
 use Rattle.promql_token.specs.declared.fault.LexFault.{LexFault}
-use Rattle.promql_token.specs.declared.ids.TheConstants.{T_IDENTIFIER}
+use Rattle.promql_token.specs.declared.ids.TheConstants.{T_IDENTIFIER, T_FILL, T_FILL_LEFT, T_FILL_RIGHT, T_LEFT_BRACE, T_LEFT_BRACKET, T_NUMBER, T_RIGHT_BRACE, T_RIGHT_BRACKET}
 use Rattle.promql_grammar.specs.SourceTokens.{Token, tokens}
 use Rattle.promql_token.proofs.SpelledTokens.{tokens_are_spelled}
 use Rattle.promql_grammar.specs.declared.token_kinds.TokenKind.{TokenKind}
@@ -39,8 +39,8 @@ is_number k = false
 
 number_id : (id : ℕ) → token_kind id ≡ kind.Number → id ≡ 15
 number_id id is =
-    let test = by_table (λ id k. not (is_number k) || (id == 15)) TOKEN_KINDS (λ id. refl) refl id in
-    eqb-true id 15 (ap (λ k. not (is_number k) || (id == 15)) (sym is) ∙ test)
+    let test = by_table (λ id k. not (is_number k) || (id == T_NUMBER)) TOKEN_KINDS (λ id. refl) refl id in
+    eqb-true id T_NUMBER (ap (λ k. not (is_number k) || (id == T_NUMBER)) (sym is) ∙ test)
 
 -- in braces after punctuation
 abbrev in_after : Bool → TokenKind → Bool
@@ -48,25 +48,25 @@ in_after inside kind.LeftBrace = true
 in_after inside kind.RightBrace = false
 in_after inside k = inside
 
-close_id : (id : ℕ) → in_after true (token_kind id) ≡ false → (id == 16) ≡ true
+close_id : (id : ℕ) → in_after true (token_kind id) ≡ false → (id == T_RIGHT_BRACE) ≡ true
 close_id id is =
-    let test = by_table (λ id k. in_after true k || (id == 16)) TOKEN_KINDS (λ id. refl) refl id in
-    ap (λ b. b || (id == 16)) (sym is) ∙ test
+    let test = by_table (λ id k. in_after true k || (id == T_RIGHT_BRACE)) TOKEN_KINDS (λ id. refl) refl id in
+    ap (λ b. b || (id == T_RIGHT_BRACE)) (sym is) ∙ test
 
 split : (c : Bool) {X : Type 0} → (c ≡ true → X) → (c ≡ false → X) → X
 split true f g = f refl
 split false f g = g refl
 
-left_brace : (id : ℕ) → (id == 9) ≡ true → in_after false (token_kind id) ≡ true
-left_brace id is = subst (λ k. in_after false (token_kind k) ≡ true) (sym (eqb-true id 9 is)) refl
+left_brace : (id : ℕ) → (id == T_LEFT_BRACE) ≡ true → in_after false (token_kind id) ≡ true
+left_brace id is = subst (λ k. in_after false (token_kind k) ≡ true) (sym (eqb-true id T_LEFT_BRACE is)) refl
 
 -- where a text is in braces after a token, the symbols say so
 out_again : (c b : Bool) (id : ℕ) → (c ≡ false → b ≡ false) → in_after c (token_kind id) ≡ false → in_braces_after b id ≡ false
-out_again true b id before out = subst (λ k. in_braces_after b k ≡ false) (sym (eqb-true id 16 (close_id id out))) refl
+out_again true b id before out = subst (λ k. in_braces_after b k ≡ false) (sym (eqb-true id T_RIGHT_BRACE (close_id id out))) refl
 out_again false b id before out =
-    split (id == 9) (λ yes. let left = left_brace id yes in absurd (cc)) (λ apart.
-    ap (λ c. cond c true (cond (id == 10) false (cond ((id == 16) || (id == 17)) false b))) apart
-    ∙ cond_both (id == 10) false _ (λ c. c ≡ false) (λ _. refl) (λ _. cond_both ((id == 16) || (id == 17)) false b (λ c. c ≡ false) (λ _. refl) (λ _. before refl)))
+    split (id == T_LEFT_BRACE) (λ yes. let left = left_brace id yes in absurd (cc)) (λ apart.
+    ap (λ c. cond c true (cond (id == T_LEFT_BRACKET) false (cond ((id == T_RIGHT_BRACE) || (id == T_RIGHT_BRACKET)) false b))) apart
+    ∙ cond_both (id == T_LEFT_BRACKET) false _ (λ c. c ≡ false) (λ _. refl) (λ _. cond_both ((id == T_RIGHT_BRACE) || (id == T_RIGHT_BRACKET)) false b (λ c. c ≡ false) (λ _. refl) (λ _. before refl)))
 
 word_stays : (inside : Bool) (k : TokenKind) → is_punct k ≡ false → in_after inside k ≡ inside
 word_stays inside kind.LeftBrace plain = cc
@@ -88,7 +88,7 @@ AllFit inside (word k text ∷ ts) = (inside ≡ false → Fits k text) × AllFi
 
 fill_no_name : (id : ℕ) → is_fill id ≡ true → may_be_name (token_kind id) ≡ false
 fill_no_name id is =
-    ⊎_elim (λ h. ⊎_elim (λ h. at 71 refl h) (λ h. at 72 refl h) (or_cases (id == 71) (id == 72) h)) (λ h. at 73 refl h) (or_cases ((id == 71) || (id == 72)) (id == 73) is)
+    ⊎_elim (λ h. ⊎_elim (λ h. at T_FILL refl h) (λ h. at T_FILL_LEFT refl h) (or_cases (id == T_FILL) (id == T_FILL_LEFT) h)) (λ h. at T_FILL_RIGHT refl h) (or_cases ((id == T_FILL) || (id == T_FILL_LEFT)) (id == T_FILL_RIGHT) is)
   where
     at : (n : ℕ) → may_be_name (token_kind n) ≡ false → (id == n) ≡ true → may_be_name (token_kind id) ≡ false
     at n none h = subst (λ k. may_be_name (token_kind k) ≡ false) (sym (eqb-true id n h)) none

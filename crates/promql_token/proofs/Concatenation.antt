@@ -7,7 +7,7 @@ use Rattle.std.proofs.lemmas.Grind.{common_steps}
 use Rattle.std.proofs.Math.Seq.{take-length, drop-length}
 use Rattle.promql_token.specs.declared.class.Class.TheVariants as class
 use Rattle.promql_token.specs.declared.fault.LexFaultKind.TheVariants.{AfterBang, AfterBangInBraces, AfterEqual}
-use Rattle.promql_token.specs.declared.ids.TheConstants.{T_EQL, T_EQLC, T_EQL_REGEX, T_NEQ, T_NEQ_REGEX}
+use Rattle.promql_token.specs.declared.ids.TheConstants.{T_EQL, T_EQLC, T_EQL_REGEX, T_NEQ, T_NEQ_REGEX, T_GTE, T_GTR, T_LSS, T_LTE}
 use Rattle.promql_token.specs.declared.state.Bracket.{Bracket}
 use Rattle.promql_token.specs.declared.state.Mode.{Mode}
 use Rattle.promql_token.specs.declared.state.Mode.TheVariants as mode
@@ -170,9 +170,9 @@ punctuator_keeps depth b [] r t apart =
     (λ e is. let a = alone b r (ap (λ x. (x || (b == 60)) || (b == 62)) e) apart in
     ap (λ x. cond x (Ok (T_EQLC, 2)) (cond (c == 126) (Err (AfterEqual, 1)) (Ok (T_EQL, 1)))) a.equal ∙ ap (λ x. cond x (Err (AfterEqual, 1)) (Ok (T_EQL, 1))) a.tilde ∙ is) (λ n61.
     keeps (b == 60) _ _ _ _ t
-    (λ e is. let a = alone b r ((λ i. (n61 i || e i) || (b == 62))) apart in ap (λ x. cond x (Ok (33, 2)) (Ok (32, 1))) a.equal ∙ is) (λ n60.
+    (λ e is. let a = alone b r ((λ i. (n61 i || e i) || (b == 62))) apart in ap (λ x. cond x (Ok (T_LTE, 2)) (Ok (T_LSS, 1))) a.equal ∙ is) (λ n60.
     keeps (b == 62) _ _ _ _ t
-    (λ e is. let a = alone b r ((λ i. (n61 i || n60 i) || e i)) apart in ap (λ x. cond x (Ok (28, 2)) (Ok (29, 1))) a.equal ∙ is) (λ _.
+    (λ e is. let a = alone b r ((λ i. (n61 i || n60 i) || e i)) apart in ap (λ x. cond x (Ok (T_GTE, 2)) (Ok (T_GTR, 1))) a.equal ∙ is) (λ _.
     keeps (b == 33) _ _ _ _ t (λ _ is. cc) (λ _ is. is)))))
 punctuator_keeps depth b (c ∷ w) r t apart =
     keeps (b == 46) _ _ _ _ t (λ _ is. absurd (dot_never (b ∷ c ∷ w) t is)) (λ _.

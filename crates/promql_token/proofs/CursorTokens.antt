@@ -20,6 +20,7 @@ use Rattle.promql_token.proofs.Items.{is_token}
 use Rattle.promql_token.proofs.Items.{left_token as left_item}
 use Rattle.promql_token.proofs.Spans.{stands, spans}
 use Rattle.promql_token.proofs.Steps.{pieces_are, pieces_end}
+use Rattle.promql_token.specs.declared.ids.TheConstants.{T_EOF}
 
 up_to_no_fault : (ts : List (ℕ × Text)) → up_to_fault (map (λ t. Ok t) ts) ≡ ts
 up_to_no_fault [] = refl
@@ -83,10 +84,10 @@ left w ws = filter is_before_end (up_to_fault (w ∷ cond (goes_on w) ws []))
 ok_is : (a b : Lexeme) (r : Result Lexeme LexFault) → r ≡ Ok a → r ≡ Ok b → a ≡ b
 ok_is a b r e f = cc
 
-left_end : (at : ℕ) (w : ScannedText) (ws : List ScannedText) (x : Lexeme) → item at w ≡ Ok x → (x.id == 6) ≡ true → left w ws ≡ []
+left_end : (at : ℕ) (w : ScannedText) (ws : List ScannedText) (x : Lexeme) → item at w ≡ Ok x → (x.id == T_EOF) ≡ true → left w ws ≡ []
 left_end at (Ok t) ws x is end =
     let id : t.0 ≡ x.id = ap (λ (x : Lexeme). x.id) (ok_is _ _ (item at (Ok t)) refl is) in
-    let e : (t.0 == 6) ≡ true = ap (λ id. id == 6) id ∙ end in
+    let e : (t.0 == T_EOF) ≡ true = ap (λ id. id == T_EOF) id ∙ end in
     ap (λ b. cond (not b) (t ∷ filter is_before_end (up_to_fault (cond (not b) ws []))) (filter is_before_end (up_to_fault (cond (not b) ws [])))) e
 left_end at (Err f) ws x is end = cc
 
@@ -94,13 +95,13 @@ left_fault : (at : ℕ) (w : ScannedText) (ws : List ScannedText) (f : LexFault)
 left_fault at (Ok t) ws f is = cc
 left_fault at (Err e) ws f is = refl
 
-left_token : (at : ℕ) (w : ScannedText) (ws : List ScannedText) (x : Lexeme) (text : Text) → item at w ≡ Ok x → (x.id == 6) ≡ false → ((id : ℕ) (t : Text) → w ≡ Ok (id, t) → t ≡ take (length t) text)
+left_token : (at : ℕ) (w : ScannedText) (ws : List ScannedText) (x : Lexeme) (text : Text) → item at w ≡ Ok x → (x.id == T_EOF) ≡ false → ((id : ℕ) (t : Text) → w ≡ Ok (id, t) → t ≡ take (length t) text)
     → left w ws ≡ (x.id, take x.len text) ∷ filter is_before_end (up_to_fault ws)
 left_token at (Ok t) ws x text is more texts =
     let same = ok_is _ _ (item at (Ok t)) refl is in
     let id : t.0 ≡ x.id = ap (λ (x : Lexeme). x.id) same in
     let len : length t.1 ≡ x.len = ap (λ (x : Lexeme). x.len) same in
-    let e : (t.0 == 6) ≡ false = ap (λ id. id == 6) id ∙ more in
+    let e : (t.0 == T_EOF) ≡ false = ap (λ id. id == T_EOF) id ∙ more in
     let slice : t.1 ≡ take x.len text = texts t.0 t.1 refl ∙ ap (λ n. take n text) len in
     ap (λ b. cond (not b) (t ∷ filter is_before_end (up_to_fault (cond (not b) ws []))) (filter is_before_end (up_to_fault (cond (not b) ws [])))) e
     ∙ (λ i. (id i, slice i) ∷ filter is_before_end (up_to_fault ws))
@@ -111,7 +112,7 @@ pub none_end : (text : Text) (at : ℕ) (state : State) (x : Lexeme) → Ok x �
 none_end text at state x is end =
     let z = drop at text in
     let f = found state z in
-    ap (λ ws. filter is_before_end (up_to_fault ws)) (pieces_are state z) ∙ left_end (at + f.trivia) f.scanned_text _ x (sym is) (ap (λ id. id == 6) end)
+    ap (λ ws. filter is_before_end (up_to_fault ws)) (pieces_are state z) ∙ left_end (at + f.trivia) f.scanned_text _ x (sym is) (ap (λ id. id == T_EOF) end)
 
 none_fault : (text : Text) (at : ℕ) (state : State) (fault : LexFault) → Err fault ≡ first at (found state (drop at text)) → filter is_before_end (up_to_fault (pieces state (drop at text))) ≡ []
 none_fault text at state fault is =
@@ -143,7 +144,7 @@ token_left text at state x is more =
     let place : at + (f.trivia + len_of f.scanned_text) ≡ x.start + x.len = omega (arith, start, len) in
     let rest : drop (f.trivia + len_of f.scanned_text) z ≡ drop (x.start + x.len) text = drop-drop (f.trivia + len_of f.scanned_text) at text ∙ ap (λ n. drop n text) place in
     ap (λ ws. filter is_before_end (up_to_fault ws)) (pieces_are state z)
-    ∙ left_token (at + f.trivia) f.scanned_text _ x (drop x.start text) (sym is) (ne_eqb x.id 6 more) (λ id t w. st.text id t w ∙ ap (take (length t)) from)
+    ∙ left_token (at + f.trivia) f.scanned_text _ x (drop x.start text) (sym is) (ne_eqb x.id T_EOF more) (λ id t w. st.text id t w ∙ ap (take (length t)) from)
     ∙ (λ i. (x.id, text_at text x) ∷ filter is_before_end (up_to_fault (pieces (t.state state i) (rest i))))
 
 pub some_token : (x : Lexeme) (old new : code.Cursor) → Ok x ≡ first old.at (found old.state (drop old.at old.text.now)) → IsPast x old new → x.id ≢ 6
@@ -158,10 +159,10 @@ some_token x old new is end_of_run more =
 -- ---- what ends in a fault
 
 -- what comes first, and whether a fault comes then
-has_front_token : (t : ℕ × Text) (ws : List ScannedText) → (t.0 == 6) ≡ false → has_fault (Ok t ∷ cond (goes_on (Ok t)) ws []) ≡ has_fault ws
+has_front_token : (t : ℕ × Text) (ws : List ScannedText) → (t.0 == T_EOF) ≡ false → has_fault (Ok t ∷ cond (goes_on (Ok t)) ws []) ≡ has_fault ws
 has_front_token t ws more = ap (λ b. has_fault (cond (not b) ws [])) more
 
-has_front_end : (t : ℕ × Text) (ws : List ScannedText) → (t.0 == 6) ≡ true → has_fault (Ok t ∷ cond (goes_on (Ok t)) ws []) ≡ false
+has_front_end : (t : ℕ × Text) (ws : List ScannedText) → (t.0 == T_EOF) ≡ true → has_fault (Ok t ∷ cond (goes_on (Ok t)) ws []) ≡ false
 has_front_end t ws end = ap (λ b. has_fault (cond (not b) ws [])) end
 
 -- past a token as before it
@@ -181,7 +182,7 @@ past_token x old new is end_of_run more =
     front_of : (w : ScannedText) (at : ℕ) (ws : List ScannedText) → item at w ≡ Ok x → has_fault (w ∷ cond (goes_on w) ws []) ≡ has_fault ws
     front_of (Ok t) at ws here =
         let id : t.0 ≡ x.id = ap (λ (x : Lexeme). x.id) (ok_is _ _ (item at (Ok t)) refl here) in
-        has_front_token t ws (ap (λ id. id == 6) id ∙ ne_eqb x.id 6 more)
+        has_front_token t ws (ap (λ id. id == T_EOF) id ∙ ne_eqb x.id T_EOF more)
     front_of (Err f) at ws here = cc
 
 -- where no token comes, a fault is all that comes, or the end
@@ -199,14 +200,14 @@ at_end c x is none =
     let z = drop c.at c.text.now in
     sym (ap has_fault (pieces_are c.state z) ∙ front_of (found c.state z).scanned_text _ _ (sym is) (sym (ap (λ ws. filter is_before_end (up_to_fault ws)) (pieces_are c.state z)) ∙ none))
   where
-    by_test : (t : ℕ × Text) (ws : List ScannedText) (b : Bool) → (t.0 == 6) ≡ b → left (Ok t) ws ≡ [] → has_fault (Ok t ∷ cond (goes_on (Ok t)) ws []) ≡ false
+    by_test : (t : ℕ × Text) (ws : List ScannedText) (b : Bool) → (t.0 == T_EOF) ≡ b → left (Ok t) ws ≡ [] → has_fault (Ok t ∷ cond (goes_on (Ok t)) ws []) ≡ false
     by_test t ws true end none = has_front_end t ws end
     by_test t ws false more none =
         let some : [] ≡ t ∷ filter is_before_end (up_to_fault ws) = sym none ∙ ap (λ b. cond (not b) (t ∷ filter is_before_end (up_to_fault (cond (not b) ws []))) (filter is_before_end (up_to_fault (cond (not b) ws [])))) more in
         cc
 
     front_of : (w : ScannedText) (at : ℕ) (ws : List ScannedText) → item at w ≡ Ok x → left w ws ≡ [] → has_fault (w ∷ cond (goes_on w) ws []) ≡ false
-    front_of (Ok t) at ws here none = by_test t ws (t.0 == 6) refl none
+    front_of (Ok t) at ws here none = by_test t ws (t.0 == T_EOF) refl none
     front_of (Err e) at ws here none = cc
 
 pub at_fault_or_end : (c : code.Cursor) (r : Result Lexeme (LexFaultKind × ℕ)) → IsFront c r → tokens_left c ≡ [] → is_err r ≡ ends_in_fault c
@@ -223,17 +224,17 @@ pub at_text_end : (bytes : Text) (c : code.Cursor) → bytes ≡ c.text.now → 
 at_text_end bytes c same none depth mode =
     let rest : drop c.at c.text.now ≡ [] = ap (drop c.at) (sym same) ∙ sym (take_rest bytes c.at) ∙ no_bytes _ none in
     let state : c.state ≡ start = λ i. record { depth = depth i; mode = mode i } in
-    let is : pieces c.state (drop c.at c.text.now) ≡ Ok (6, []) ∷ [] = (λ i. pieces (state i) (rest i)) ∙ pieces_end in
+    let is : pieces c.state (drop c.at c.text.now) ≡ Ok (T_EOF, []) ∷ [] = (λ i. pieces (state i) (rest i)) ∙ pieces_end in
     (ap (λ ws. filter is_before_end (up_to_fault ws)) is, ap has_fault is)
 
 -- the same with places
 pub left_past : (x : Lexeme) (old new : code.Cursor) → Ok x ≡ first old.at (found old.state (drop old.at old.text.now)) → IsPast x old new
-    → place_items old.at (cut old.state (drop old.at old.text.now)) ≡ Ok x ∷ cond (x.id == 6) [] (place_items new.at (cut new.state (drop new.at new.text.now)))
+    → place_items old.at (cut old.state (drop old.at old.text.now)) ≡ Ok x ∷ cond (x.id == T_EOF) [] (place_items new.at (cut new.state (drop new.at new.text.now)))
 left_past x old new is end_of_run =
     let text = ap (λ (t : Bor Text). t.now) end_of_run.text in
     let place = end_of_run.placed in
     left_item old.text.now old.at old.state x is end_of_run.order place.1.0 end_of_run.moves
-    ∙ ap (λ l. Ok x ∷ l) (elim (x.id == 6) as (λ b. (x.id == 6) ≡ b → cond b [] (place_items (x.start + x.len) (cut (after old.state x.id) (drop (x.start + x.len) old.text.now))) ≡ cond b [] (place_items new.at (cut new.state (drop new.at new.text.now)))) [
+    ∙ ap (λ l. Ok x ∷ l) (elim (x.id == T_EOF) as (λ b. (x.id == T_EOF) ≡ b → cond b [] (place_items (x.start + x.len) (cut (after old.state x.id) (drop (x.start + x.len) old.text.now))) ≡ cond b [] (place_items new.at (cut new.state (drop new.at new.text.now)))) [
       | true ↦ λ end. refl
       | false ↦ λ goes.
           let more = eqb-false _ _ goes in

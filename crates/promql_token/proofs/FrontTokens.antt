@@ -22,6 +22,7 @@ use Rattle.promql_token.proofs.Inner.{word_plain, braces_plain, plain_no_end, af
 use Rattle.promql_token.proofs.Items.{ends_at}
 use Rattle.promql_token.proofs.Ends.{PieceEnds, piece_ends}
 use Rattle.promql_token.proofs.Steps.{pieces_piece, pieces_run}
+use Rattle.promql_token.specs.declared.ids.TheConstants.{T_EOF}
 
 -- ---- no trivia
 
@@ -53,7 +54,7 @@ unfolding scan_token
 scanned state [] some = absurd (omega arith)
 scanned state (b ∷ z) some = refl
 
-pub front_token : (state : State) (m : Mode) (z : Text) (id : ℕ) → state.mode ≡ m → 0 < length z → scan_in_mode m state.depth z ≡ Ok (id, 1) → (id == 6) ≡ false → begins_trivia (get_or z 0 0) ≡ false
+pub front_token : (state : State) (m : Mode) (z : Text) (id : ℕ) → state.mode ≡ m → 0 < length z → scan_in_mode m state.depth z ≡ Ok (id, 1) → (id == T_EOF) ≡ false → begins_trivia (get_or z 0 0) ≡ false
     → IsFront state z id 1
 front_token state m z id mode_is some is more begins = record {
   trivia = no_trivia state.mode z begins;

@@ -19,12 +19,13 @@ use Rattle.promql_token.specs.WordCases.{same_word}
 use Rattle.promql_token.specs.declared.ids.Case.TheVariants as case
 use Rattle.promql_token.specs.TokenScanning.{Scanned, is_fill, opens, name_id, word_id, word, braces_id, word_in_braces, number_end, units, numeral, is_quote, is_escape, string_from, string, equal_token, bang_token, single, punctuator, begins_numeral, outside, bang_in_braces, in_braces, colon_token, in_brackets, scan_in_mode, after}
 use Rattle.promql_token.proofs.Ends.{and_left, and_right}
+use Rattle.promql_token.specs.declared.ids.TheConstants.{T_COLON, T_EOF, T_LEFT_BRACE, T_LEFT_BRACKET, T_LEFT_PAREN, T_RIGHT_BRACE, T_RIGHT_BRACKET, T_RIGHT_PAREN}
 
 -- ---- ids that open, close and end nothing
 
 abbrev pub is_plain : ℕ → Bool
 is_plain id =
-    not (id == 6) && (not (id == 2) && (not (id == 9) && (not (id == 10) && (not (id == 11) && (not (id == 16) && (not (id == 17) && not (id == 18)))))))
+    not (id == T_EOF) && (not (id == T_COLON) && (not (id == T_LEFT_BRACE) && (not (id == T_LEFT_BRACKET) && (not (id == T_LEFT_PAREN) && (not (id == T_RIGHT_BRACE) && (not (id == T_RIGHT_BRACKET) && not (id == T_RIGHT_PAREN)))))))
 
 lookup_all : (p : ℕ → Bool) (same : Text → Text → Bool) (ks : List (Text × ℕ)) (w : Text) (d : ℕ) → list_all (λ k. p k.1) ks ≡ true → p d ≡ true → p (unwrap_or (lookup same ks w) d) ≡ true
 lookup_all p same [] w d all h = h
@@ -46,22 +47,22 @@ word_plain w r =
 pub braces_plain : (w r : Text) → is_plain (braces_id w r) ≡ true
 braces_plain w r = cond_both (str_eq_ignore_ascii_case w (codes "or") && (get_or r 0 0 == 32)) 31 8 (λ id. is_plain id ≡ true) (λ _. refl) (λ _. refl)
 
-pub plain_no_end : (id : ℕ) → is_plain id ≡ true → (id == 6) ≡ false
-plain_no_end id h = no (id == 6) (and_left (not (id == 6)) _ h)
+pub plain_no_end : (id : ℕ) → is_plain id ≡ true → (id == T_EOF) ≡ false
+plain_no_end id h = no (id == T_EOF) (and_left (not (id == T_EOF)) _ h)
   where
     no : (b : Bool) → not b ≡ true → b ≡ false
     no true h = sym h
     no false h = refl
 
-pub plain_no_close : (id : ℕ) → is_plain id ≡ true → (id == 18) ≡ false
+pub plain_no_close : (id : ℕ) → is_plain id ≡ true → (id == T_RIGHT_PAREN) ≡ false
 plain_no_close id h =
-    let h2 = and_right (not (id == 6)) _ h in
-    let h9 = and_right (not (id == 2)) _ h2 in
-    let h10 = and_right (not (id == 9)) _ h9 in
-    let h11 = and_right (not (id == 10)) _ h10 in
-    let h16 = and_right (not (id == 11)) _ h11 in
-    let h17 = and_right (not (id == 16)) _ h16 in
-    false_of (id == 18) (and_right (not (id == 17)) _ h17)
+    let h2 = and_right (not (id == T_EOF)) _ h in
+    let h9 = and_right (not (id == T_COLON)) _ h2 in
+    let h10 = and_right (not (id == T_LEFT_BRACE)) _ h9 in
+    let h11 = and_right (not (id == T_LEFT_BRACKET)) _ h10 in
+    let h16 = and_right (not (id == T_LEFT_PAREN)) _ h11 in
+    let h17 = and_right (not (id == T_RIGHT_BRACE)) _ h16 in
+    false_of (id == T_RIGHT_PAREN) (and_right (not (id == T_RIGHT_BRACKET)) _ h17)
   where
     false_of : (b : Bool) → not b ≡ true → b ≡ false
     false_of true h = sym h
@@ -70,13 +71,13 @@ plain_no_close id h =
 -- ---- pieces
 
 abbrev pub Inner : ℕ → Scanned → Type 0
-Inner depth (Ok t) = ((t.0 == 6) ≡ false) × ((t.0 == 18) ≡ true → 0 < depth)
+Inner depth (Ok t) = ((t.0 == T_EOF) ≡ false) × ((t.0 == 18) ≡ true → 0 < depth)
 Inner depth (Err f) = Unit {0}
 
 some : (depth : ℕ) → (depth == 0) ≡ false → 0 < depth
 some depth h = grind (arith, common_steps)
 
-plain_inner : (depth id : ℕ) → is_plain id ≡ true → ((id == 6) ≡ false) × ((id == 18) ≡ true → 0 < depth)
+plain_inner : (depth id : ℕ) → is_plain id ≡ true → ((id == T_EOF) ≡ false) × ((id == T_RIGHT_PAREN) ≡ true → 0 < depth)
 plain_inner depth id h = (plain_no_end id h, λ is. let n = plain_no_close id h in absurd (cc))
 
 numeral_inner : (depth : ℕ) (z : Text) → Inner depth (numeral z)
@@ -185,35 +186,35 @@ no false h = refl
 pub after_outside : (depth id : ℕ) → is_plain id ≡ true → after (record { depth = depth; mode = mode.Outside }) id ≡ record { depth = depth; mode = mode.Outside }
 unfolding after
 after_outside depth id h =
-    let h2 = and_right (not (id == 6)) _ h in
-    let h9 = and_right (not (id == 2)) _ h2 in
-    let h10 = and_right (not (id == 9)) _ h9 in
-    let h11 = and_right (not (id == 10)) _ h10 in
-    let h16 = and_right (not (id == 11)) _ h11 in
-    let h17 = and_right (not (id == 16)) _ h16 in
-    let n2 = no (id == 2) (and_left _ _ h2) in
-    let n9 = no (id == 9) (and_left _ _ h9) in
-    let n10 = no (id == 10) (and_left _ _ h10) in
-    let n11 = no (id == 11) (and_left _ _ h11) in
-    let n16 = no (id == 16) (and_left _ _ h16) in
-    let n17 = no (id == 17) (and_left _ _ h17) in
-    let n18 = no (id == 18) (and_right (not (id == 17)) _ h17) in
+    let h2 = and_right (not (id == T_EOF)) _ h in
+    let h9 = and_right (not (id == T_COLON)) _ h2 in
+    let h10 = and_right (not (id == T_LEFT_BRACE)) _ h9 in
+    let h11 = and_right (not (id == T_LEFT_BRACKET)) _ h10 in
+    let h16 = and_right (not (id == T_LEFT_PAREN)) _ h11 in
+    let h17 = and_right (not (id == T_RIGHT_BRACE)) _ h16 in
+    let n2 = no (id == T_COLON) (and_left _ _ h2) in
+    let n9 = no (id == T_LEFT_BRACE) (and_left _ _ h9) in
+    let n10 = no (id == T_LEFT_BRACKET) (and_left _ _ h10) in
+    let n11 = no (id == T_LEFT_PAREN) (and_left _ _ h11) in
+    let n16 = no (id == T_RIGHT_BRACE) (and_left _ _ h16) in
+    let n17 = no (id == T_RIGHT_BRACKET) (and_left _ _ h17) in
+    let n18 = no (id == T_RIGHT_PAREN) (and_right (not (id == T_RIGHT_BRACKET)) _ h17) in
     rw (n11, n18, n9, n10, n16, n17, n2) refl
 
 pub after_in_braces : (depth id : ℕ) → is_plain id ≡ true → after (record { depth = depth; mode = mode.Braces }) id ≡ record { depth = depth; mode = mode.Braces }
 unfolding after
 after_in_braces depth id h =
-    let h2 = and_right (not (id == 6)) _ h in
-    let h9 = and_right (not (id == 2)) _ h2 in
-    let h10 = and_right (not (id == 9)) _ h9 in
-    let h11 = and_right (not (id == 10)) _ h10 in
-    let h16 = and_right (not (id == 11)) _ h11 in
-    let h17 = and_right (not (id == 16)) _ h16 in
-    let n2 = no (id == 2) (and_left _ _ h2) in
-    let n9 = no (id == 9) (and_left _ _ h9) in
-    let n10 = no (id == 10) (and_left _ _ h10) in
-    let n11 = no (id == 11) (and_left _ _ h11) in
-    let n16 = no (id == 16) (and_left _ _ h16) in
-    let n17 = no (id == 17) (and_left _ _ h17) in
-    let n18 = no (id == 18) (and_right (not (id == 17)) _ h17) in
+    let h2 = and_right (not (id == T_EOF)) _ h in
+    let h9 = and_right (not (id == T_COLON)) _ h2 in
+    let h10 = and_right (not (id == T_LEFT_BRACE)) _ h9 in
+    let h11 = and_right (not (id == T_LEFT_BRACKET)) _ h10 in
+    let h16 = and_right (not (id == T_LEFT_PAREN)) _ h11 in
+    let h17 = and_right (not (id == T_RIGHT_BRACE)) _ h16 in
+    let n2 = no (id == T_COLON) (and_left _ _ h2) in
+    let n9 = no (id == T_LEFT_BRACE) (and_left _ _ h9) in
+    let n10 = no (id == T_LEFT_BRACKET) (and_left _ _ h10) in
+    let n11 = no (id == T_LEFT_PAREN) (and_left _ _ h11) in
+    let n16 = no (id == T_RIGHT_BRACE) (and_left _ _ h16) in
+    let n17 = no (id == T_RIGHT_BRACKET) (and_left _ _ h17) in
+    let n18 = no (id == T_RIGHT_PAREN) (and_right (not (id == T_RIGHT_BRACKET)) _ h17) in
     rw (n11, n18, n9, n10, n16, n17, n2) refl

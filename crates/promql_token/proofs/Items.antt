@@ -15,6 +15,7 @@ use Rattle.promql_token.specs.TokenScanning.{Scanned, trivia_len, scan_token, af
 use Rattle.promql_token.proofs.CutSteps.{cut_goes, cut_stops}
 use Rattle.promql_token.proofs.Ends.{PieceEnds, piece_ends}
 use Rattle.promql_token.proofs.Places.{Ends, boundary, trivia_len_ends}
+use Rattle.promql_token.specs.declared.ids.TheConstants.{T_EOF}
 
 pub ends_at : (t : Text) (i j : ℕ) → IsUtf8 t → IsCharBoundary t i → Ends (drop i t) j → IsCharBoundary t (i + j)
 ends_at t i j u b e = IsCharBoundary-from_rest t i j b.0 (boundary (drop i t) j (IsUtf8-drop t i u b) e)
@@ -85,7 +86,7 @@ ok_is a b r e f = cc
 pub record IsToken (at : ℕ) (w : ScannedText) (x : Lexeme) : Type 0 where
   pub start : x.start ≡ at
   pub len : len_of w ≡ x.len
-  pub goes : goes_on w ≡ not (x.id == 6)
+  pub goes : goes_on w ≡ not (x.id == T_EOF)
   pub state : (s : State) → state_after_scan s w ≡ after s x.id
 
 pub is_token : (at : ℕ) (w : ScannedText) (x : Lexeme) → item at w ≡ Ok x → IsToken at w x
@@ -97,14 +98,14 @@ no_token at (Ok t) f is = cc
 no_token at (Err e) f is = refl
 
 pub left_token : (text : Text) (at : ℕ) (state : State) (x : Lexeme) → Ok x ≡ first at (found state (drop at text)) → at ≤ x.start → x.start + x.len ≤ length text → (x.id ≢ 6 → 0 < x.len)
-    → place_items at (cut state (drop at text)) ≡ Ok x ∷ cond (x.id == 6) [] (place_items (x.start + x.len) (cut (after state x.id) (drop (x.start + x.len) text)))
+    → place_items at (cut state (drop at text)) ≡ Ok x ∷ cond (x.id == T_EOF) [] (place_items (x.start + x.len) (cut (after state x.id) (drop (x.start + x.len) text)))
 left_token text at state x is order fits moves =
     let z = drop at text in
     let f = found state z in
     let t = is_token (at + f.trivia) f.scanned_text x (sym is) in
     let start = t.start in
     let len = t.len in
-    elim (x.id == 6) as (λ b. (x.id == 6) ≡ b → place_items at (cut state z) ≡ Ok x ∷ cond b [] (place_items (x.start + x.len) (cut (after state x.id) (drop (x.start + x.len) text)))) [
+    elim (x.id == T_EOF) as (λ b. (x.id == T_EOF) ≡ b → place_items at (cut state z) ≡ Ok x ∷ cond b [] (place_items (x.start + x.len) (cut (after state x.id) (drop (x.start + x.len) text)))) [
       | true ↦ λ end. ap (place_items at) (cut_stops state z (t.goes ∙ ap not end)) ∙ ap (λ i. i ∷ []) (sym is)
       | false ↦ λ more.
           let back : f.trivia + len_of f.scanned_text ≡ (x.start + x.len) - at = omega arith in

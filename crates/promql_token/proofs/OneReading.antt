@@ -27,13 +27,14 @@ use Rattle.promql_token.proofs.Inner.{Inner, begun_inner}
 use Rattle.promql_token.proofs.Places.{trivia_len_ends}
 use Rattle.promql_token.proofs.Steps.{cut_is, pieces_are}
 use Rattle.promql_token.proofs.UniqueTokens.{IsAt, at_start, is_state, next_at}
+use Rattle.promql_token.specs.declared.ids.TheConstants.{T_EOF}
 
 -- ---- what is read
 
 -- a text read from `at` on, in a state: to its end, or to a fault
 abbrev IsTold : List ℕ → ℕ → Text → List (Result Lexeme LexFault) → Type 0
 IsTold before at z rs =
-    ((ts : List Step) × IsRead IsEnd before z ts × (rs ≡ map (λ x. Ok x) (places at ts ++ record { id = 6; start = at + length z; len = 0 } ∷ [])))
+    ((ts : List Step) × IsRead IsEnd before z ts × (rs ≡ map (λ x. Ok x) (places at ts ++ record { id = T_EOF; start = at + length z; len = 0 } ∷ [])))
     ⊎ ((f : LexFault) × (ts : List Step) × IsRead (EndsIn f (at + length z)) before z ts × (rs ≡ map (λ x. Ok x) (places at ts) ++ Err f ∷ []))
 
 -- the state with a trivia, told by the tokens before it
@@ -52,7 +53,7 @@ record AtEnd (state : State) (z : Text) (t : ℕ × ℕ) : Type 0 where
   mode : state.mode ≡ mode.Outside
   depth : state.depth ≡ 0
 
-at_end : (state : State) (z : Text) (t : ℕ × ℕ) → scan_token state z ≡ Ok t → (t.0 == 6) ≡ true → AtEnd state z t
+at_end : (state : State) (z : Text) (t : ℕ × ℕ) → scan_token state z ≡ Ok t → (t.0 == T_EOF) ≡ true → AtEnd state z t
 unfolding scan_token
 at_end state [] t is six = let e = end_state state.mode state.depth t is in record { none = refl; mode = e.0; depth = e.1 }
 at_end state (b ∷ y) t is six = let no = (subst (Inner state.depth) is (begun_inner state.mode state.depth (b ∷ y))).0 in absurd (cc)
@@ -87,7 +88,7 @@ after_own_trivia before state z h = record {
 }
 
 -- the end
-told_end : (before : List ℕ) (state : State) (at : ℕ) (z : Text) (n : ℕ) (t : ℕ × ℕ) → AfterTrivia before state z n → scan_token (after_trivia n state) (drop n z) ≡ Ok t → (t.0 == 6) ≡ true
+told_end : (before : List ℕ) (state : State) (at : ℕ) (z : Text) (n : ℕ) (t : ℕ × ℕ) → AfterTrivia before state z n → scan_token (after_trivia n state) (drop n z) ≡ Ok t → (t.0 == T_EOF) ≡ true
     → IsTold before at z (Ok (record { id = t.0; start = at + n; len = length (take t.1 (drop n z)) }) ∷ [])
 told_end before state at z n t k is six =
     let e = at_end (after_trivia n state) (drop n z) t is six in
@@ -135,7 +136,7 @@ told_fault before state at z n f k is =
     )
 
 -- a token, and what is read after it
-told_token : (before : List ℕ) (state : State) (at : ℕ) (z : Text) (n : ℕ) (t : ℕ × ℕ) (rs : List (Result Lexeme LexFault)) → AfterTrivia before state z n → scan_token (after_trivia n state) (drop n z) ≡ Ok t → (t.0 == 6) ≡ false
+told_token : (before : List ℕ) (state : State) (at : ℕ) (z : Text) (n : ℕ) (t : ℕ × ℕ) (rs : List (Result Lexeme LexFault)) → AfterTrivia before state z n → scan_token (after_trivia n state) (drop n z) ≡ Ok t → (t.0 == T_EOF) ≡ false
     → let w = take t.1 (drop n z) in IsTold (t.0 ∷ before) (at + n + length w) (drop (n + length w) z) rs
     → IsTold before at z (Ok (record { id = t.0; start = at + n; len = length w }) ∷ rs)
 told_token before state at z n t rs k is more rest_told =
@@ -164,7 +165,7 @@ told_token before state at z n t rs k is more rest_told =
       step ∷ e.0,
       (r, whole, trivia, begins, e.1),
       ap (λ rs. Ok (record { id = t.0; start = at + n; len = length w }) ∷ rs) e.2
-          ∙ (λ i. Ok (record { id = t.0; start = at + sym g_len i; len = length w }) ∷ map (λ x. Ok x) (places (sym from i) e.0 ++ record { id = 6; start = total i; len = 0 } ∷ [])),
+          ∙ (λ i. Ok (record { id = t.0; start = at + sym g_len i; len = length w }) ∷ map (λ x. Ok x) (places (sym from i) e.0 ++ record { id = T_EOF; start = total i; len = 0 } ∷ [])),
     ))
     (λ e. inr (
       e.0,
@@ -181,7 +182,7 @@ told_piece : (before : List ℕ) (state : State) (at : ℕ) (z : Text) (n : ℕ)
     → IsTold before at z (place_items at (record { trivia = n; scanned_text = scanned_text p (drop n z) } ∷ fs))
 told_piece before state at z n (Ok t) fs k is stops goes =
     let w = take t.1 (drop n z) in
-    by_bool (t.0 == 6)
+    by_bool (t.0 == T_EOF)
     (λ six. subst (λ fs. IsTold before at z (place_items at (record { trivia = n; scanned_text = Ok (t.0, w) } ∷ fs))) (sym (stops (ap not six))) (told_end before state at z n t k is six))
     (λ more. told_token before state at z n t (place_items (at + n + length w) fs) k is more (goes (ap not more)))
 told_piece before state at z n (Err f) fs k is stops goes =
@@ -282,7 +283,7 @@ outside_end : (n : ℕ) (s : State) → s.mode ≡ mode.Outside → s.depth ≡ 
 unfolding after_trivia
 outside_end n s m d = ap (after_trivia n) (λ i. record { depth = d i; mode = m i }) ∙ cond_both (n == 0) _ _ (λ (s : State). s ≡ record { depth = 0; mode = mode.Outside }) (λ _. refl) (λ _. refl)
 
-empty : scanned_text (scan_token (record { depth = 0; mode = mode.Outside }) []) [] ≡ Ok (6, [])
+empty : scanned_text (scan_token (record { depth = 0; mode = mode.Outside }) []) [] ≡ Ok (T_EOF, [])
 unfolding scan_token
 empty = refl
 
@@ -290,10 +291,10 @@ append_nil : (t : Text) → t ++ [] ≡ t
 append_nil [] = refl
 append_nil (b ∷ t) = ap (λ t. b ∷ t) (append_nil t)
 
-end_found : (before : List ℕ) (state : State) (z : Text) → IsAt before state → IsEnd before z → found state z ≡ record { trivia = length z; scanned_text = Ok (6, []) }
+end_found : (before : List ℕ) (state : State) (z : Text) → IsAt before state → IsEnd before z → found state z ≡ record { trivia = length z; scanned_text = Ok (T_EOF, []) }
 end_found before state z h e =
     let at_rest : state_after before z ≡ record { depth = 0; mode = mode.Outside } = outside_end (length z) (state_at before) e.1 e.2 in
-    let piece_text_is : scanned_text (scan_token (state_after before z) []) [] ≡ Ok (6, []) = ap (λ s. scanned_text (scan_token s []) []) at_rest ∙ empty in
+    let piece_text_is : scanned_text (scan_token (state_after before z) []) [] ≡ Ok (T_EOF, []) = ap (λ s. scanned_text (scan_token s []) []) at_rest ∙ empty in
     ap (found state) (sym (append_nil z)) ∙ found_is before state z [] h e.0 ∙ ap (λ w. record { trivia = length z; scanned_text = w }) piece_text_is
 
 fault_found : (f : LexFault) (total : ℕ) (before : List ℕ) (state : State) (z : Text) → IsAt before state → (e : EndsIn f total before z) → found state z ≡ record { trivia = length e.0; scanned_text = Err (f.kind, length e.1, f.ch) }
@@ -309,10 +310,10 @@ fault_found f total before state z h e =
 
 -- the end, in a text of this length
 end_placed : (total : ℕ) (before : List ℕ) (state : State) (at : ℕ) (z : Text) → IsAt before state → at + length z ≡ total → IsEnd before z
-    → place_items at (cut state z) ≡ Ok (record { id = 6; start = total; len = 0 }) ∷ []
+    → place_items at (cut state z) ≡ Ok (record { id = T_EOF; start = total; len = 0 }) ∷ []
 end_placed total before state at z h len e =
     ap (place_items at) (cut_is state z) ∙ ap (λ f. place_items at (f ∷ cond (goes_on f.scanned_text) (cut (state_after_scan state f.scanned_text) (drop (f.trivia + len_of f.scanned_text) z)) [])) (end_found before state z h e)
-    ∙ ap (λ n. Ok (record { id = 6; start = n; len = 0 }) ∷ []) len
+    ∙ ap (λ n. Ok (record { id = T_EOF; start = n; len = 0 }) ∷ []) len
 
 -- the fault
 fault_placed : (f : LexFault) (total : ℕ) (before : List ℕ) (state : State) (at : ℕ) (z : Text) → IsAt before state → at + length z ≡ total → EndsIn f total before z → place_items at (cut state z) ≡ Err f ∷ []
@@ -326,7 +327,7 @@ fault_placed f total before state at z h len e =
     ap (place_items at) (cut_is state z) ∙ ap (λ f. place_items at (f ∷ cond (goes_on f.scanned_text) (cut (state_after_scan state f.scanned_text) (drop (f.trivia + len_of f.scanned_text) z)) [])) (fault_found f total before state z h e)
     ∙ ap (λ n. Err (record { kind = f.kind; at = n; ch = f.ch }) ∷ []) place
 
-end_pieces : (before : List ℕ) (state : State) (z : Text) → IsAt before state → IsEnd before z → pieces state z ≡ Ok (6, []) ∷ []
+end_pieces : (before : List ℕ) (state : State) (z : Text) → IsAt before state → IsEnd before z → pieces state z ≡ Ok (T_EOF, []) ∷ []
 end_pieces before state z h e =
     pieces_are state z ∙ ap (λ f. f.scanned_text ∷ cond (goes_on f.scanned_text) (pieces (state_after_scan state f.scanned_text) (drop (f.trivia + len_of f.scanned_text) z)) []) (end_found before state z h e)
 
@@ -342,8 +343,8 @@ map_end (y ∷ ys) x = ap (λ rs. Ok y ∷ rs) (map_end ys x)
 
 pub items_to_end : (s : Text) (ts : List Step) → IsRead IsEnd [] s ts → items s ≡ map (λ x. Ok x) (to_end s ts)
 items_to_end s ts read =
-    steps_placed IsEnd (Ok (record { id = 6; start = length s; len = 0 }) ∷ []) (length s) ts [] start 0 s (end_placed (length s)) at_start (zero-add (length s)) read
-    ∙ map_end (places 0 ts) (record { id = 6; start = length s; len = 0 })
+    steps_placed IsEnd (Ok (record { id = T_EOF; start = length s; len = 0 }) ∷ []) (length s) ts [] start 0 s (end_placed (length s)) at_start (zero-add (length s)) read
+    ∙ map_end (places 0 ts) (record { id = T_EOF; start = length s; len = 0 })
 
 pub items_to_fault : (s : Text) (f : LexFault) (ts : List Step) → IsRead (EndsIn f (length s)) [] s ts → items s ≡ map (λ x. Ok x) (places 0 ts) ++ Err f ∷ []
 items_to_fault s f ts read = steps_placed (EndsIn f (length s)) (Err f ∷ []) (length s) ts [] start 0 s (fault_placed f (length s)) at_start (zero-add (length s)) read
@@ -358,7 +359,7 @@ pub items_told : (s : Text) → IsItems s (items s)
 items_told s =
     let n = zero-add (length s) in
     ⊎_elim
-    (λ e. inl (e.0, e.1, e.2 ∙ ap (λ n. map (λ x. Ok x) (places 0 e.0 ++ record { id = 6; start = n; len = 0 } ∷ [])) n))
+    (λ e. inl (e.0, e.1, e.2 ∙ ap (λ n. map (λ x. Ok x) (places 0 e.0 ++ record { id = T_EOF; start = n; len = 0 } ∷ [])) n))
     (λ e. inr (e.0, e.1, subst (λ n. IsRead (EndsIn e.0 n) [] s e.1) n e.2, e.3))
     (cut_matches_relation (cut start s) [] start 0 s at_start refl)
 
@@ -399,7 +400,7 @@ sliced_steps Rest s (t ∷ ts) before at z is read =
     let text : take (length w) (drop (at + length g) s) ≡ w = ap (take (length w)) here ∙ take-append_seam w r in
     λ i. (t.1, text i) ∷ sliced_steps Rest s ts (t.1 ∷ before) (at + length g + length w) r after_it read.4 i
 
-sliced_end : (s : Text) (xs : List Lexeme) (n : ℕ) → slice_texts s (xs ++ record { id = 6; start = n; len = 0 } ∷ []) ≡ slice_texts s xs ++ (6, []) ∷ []
+sliced_end : (s : Text) (xs : List Lexeme) (n : ℕ) → slice_texts s (xs ++ record { id = T_EOF; start = n; len = 0 } ∷ []) ≡ slice_texts s xs ++ (6, []) ∷ []
 sliced_end s [] n = refl
 sliced_end s (x ∷ xs) n = ap (λ us. (x.id, text_at s x) ∷ us) (sliced_end s xs n)
 
@@ -411,9 +412,9 @@ texts_to_end s ts read = ap (result_texts s) (lexed_is s (Ok (to_end s ts)) (ts,
 
 -- ---- what a cursor gives
 
-pieces_to_end : (s : Text) (ts : List Step) → IsRead IsEnd [] s ts → pieces start s ≡ map (λ t. Ok (t.1, t.2)) ts ++ Ok (6, []) ∷ []
+pieces_to_end : (s : Text) (ts : List Step) → IsRead IsEnd [] s ts → pieces start s ≡ map (λ t. Ok (t.1, t.2)) ts ++ Ok (T_EOF, []) ∷ []
 pieces_to_end s ts read =
-    let k = steps_pieces IsEnd (λ ws. ws ≡ Ok (6, []) ∷ []) ts [] start s (λ before state z h e. (Ok (6, []) ∷ [], refl, end_pieces before state z h e)) at_start read in
+    let k = steps_pieces IsEnd (λ ws. ws ≡ Ok (T_EOF, []) ∷ []) ts [] start s (λ before state z h e. (Ok (T_EOF, []) ∷ [], refl, end_pieces before state z h e)) at_start read in
     k.2 ∙ ap (λ ws. map (λ t. Ok (t.1, t.2)) ts ++ ws) k.1
 
 pieces_to_fault : (s : Text) (ts : List Step) (f : LexFault) → IsRead (EndsIn f (length s)) [] s ts → (n : ℕ) × (pieces start s ≡ map (λ t. Ok (t.1, t.2)) ts ++ Err (f.kind, n, f.ch) ∷ [])

@@ -18,6 +18,7 @@ use Rattle.promql_token.specs.FaultPlaces.{IsFault}
 use Rattle.promql_token.specs.Vocabulary.{next}
 use Rattle.promql_token.specs.TokenScanning.{Scanned, is_quote, bang_in_braces, bang_token, colon_token, dot_token, equal_token, or_equal, punctuator}
 use Rattle.promql_token.proofs.TestsAndCounts.{not_one}
+use Rattle.promql_token.specs.declared.ids.TheConstants.{T_COMMA, T_EQL, T_EQL_REGEX, T_RIGHT_BRACE, T_RIGHT_BRACKET, T_RIGHT_PAREN}
 
 -- what a piece says of its text
 abbrev pub Says : Mode → ℕ → Text → Scanned → Type 0
@@ -83,7 +84,7 @@ bang_says depth b (c ∷ y) is =
     cond_both (c == 61) _ _ (Says mode.Outside depth (b ∷ c ∷ y)) (λ e. outside_row depth 13 _ 37 2 (b ∷ c ∷ y) refl (two_bytes b 33 61 (c ∷ y) is e (omega arith), refl, refl))
     (λ no_equal. (byte_is b 33 is, omega arith, no_equal)))
 
-right_says : (depth b : ℕ) (y : Text) → (b == 41) ≡ true → Says mode.Outside depth (b ∷ y) (cond (depth == 0) (Err (RightParen, 0)) (Ok (18, 1)))
+right_says : (depth b : ℕ) (y : Text) → (b == 41) ≡ true → Says mode.Outside depth (b ∷ y) (cond (depth == 0) (Err (RightParen, 0)) (Ok (T_RIGHT_PAREN, 1)))
 right_says zero b y is = (refl, is)
 right_says (suc depth) b y is = cond_both (suc depth == 0) _ _ (Says mode.Outside (suc depth) (b ∷ y)) (λ none. absurd (grind (arith, common_steps))) (λ _. inl (inl (byte_is b 41 is, refl, refl)))
 
@@ -122,10 +123,10 @@ punctuator_says depth b y no_word no_quote no_digit =
 braces_row : (depth k : ℕ) (s : Punctuator) (id n : ℕ) (z : Text) → slice_get (punctuators mode.Braces depth) k ≡ Some s → IsRow s id (take n z) (drop n z) → MayBegin mode.Braces depth id (take n z) (drop n z)
 braces_row depth k s id n z is row = inl (row_at k (punctuators mode.Braces depth) s id (take n z) (drop n z) is row)
 
-pub comma_in_braces_says : (depth b : ℕ) (y : Text) → (b == 44) ≡ true → Says mode.Braces depth (b ∷ y) (Ok (3, 1))
+pub comma_in_braces_says : (depth b : ℕ) (y : Text) → (b == 44) ≡ true → Says mode.Braces depth (b ∷ y) (Ok (T_COMMA, 1))
 comma_in_braces_says depth b y is = braces_row depth 0 _ 3 1 (b ∷ y) refl (byte_is b 44 is, refl, refl)
 
-pub equal_in_braces_says : (depth b : ℕ) (y : Text) → (b == 61) ≡ true → Says mode.Braces depth (b ∷ y) (cond (next y == 126) (Ok (27, 2)) (Ok (0, 1)))
+pub equal_in_braces_says : (depth b : ℕ) (y : Text) → (b == 61) ≡ true → Says mode.Braces depth (b ∷ y) (cond (next y == 126) (Ok (T_EQL_REGEX, 2)) (Ok (T_EQL, 1)))
 equal_in_braces_says depth b y is =
     cond_both (next y == 126) _ _ (Says mode.Braces depth (b ∷ y)) (λ e. braces_row depth 3 _ 27 2 (b ∷ y) refl (two_bytes b 61 126 y is e (omega arith), refl, refl))
     (λ no_tilde. braces_row depth 1 _ 0 1 (b ∷ y) refl (byte_is b 61 is, refl, (λ i. no_tilde i || false)))
@@ -139,7 +140,7 @@ bang_in_braces_says depth b (c ∷ y) is =
     cond_both (c == 61) _ _ P (λ e. braces_row depth 2 _ 37 2 (b ∷ c ∷ y) refl (two_bytes b 33 61 (c ∷ y) is e (omega arith), refl, refl))
     (λ no_equal. (byte_is b 33 is, omega arith, (λ i. no_equal i || no_tilde i)))))
 
-pub right_brace_says : (depth b : ℕ) (y : Text) → (b == 125) ≡ true → Says mode.Braces depth (b ∷ y) (Ok (16, 1))
+pub right_brace_says : (depth b : ℕ) (y : Text) → (b == 125) ≡ true → Says mode.Braces depth (b ∷ y) (Ok (T_RIGHT_BRACE, 1))
 right_brace_says depth b y is = braces_row depth 5 _ 16 1 (b ∷ y) refl (byte_is b 125 is, refl, refl)
 
 -- ---- in brackets
@@ -149,7 +150,7 @@ colon_says bracket.Nothing depth b y is = (refl, is)
 colon_says bracket.Something depth b y is = inl (inr (inl (byte_is b 58 is, refl, refl)))
 colon_says bracket.Colon depth b y is = (refl, is)
 
-pub right_bracket_says : (inside : Bracket) (depth b : ℕ) (y : Text) → (b == 93) ≡ true → Says (mode.Brackets inside) depth (b ∷ y) (Ok (17, 1))
+pub right_bracket_says : (inside : Bracket) (depth b : ℕ) (y : Text) → (b == 93) ≡ true → Says (mode.Brackets inside) depth (b ∷ y) (Ok (T_RIGHT_BRACKET, 1))
 right_bracket_says bracket.Nothing depth b y is = inl (inl (byte_is b 93 is, refl, refl))
 right_bracket_says bracket.Something depth b y is = inl (inl (byte_is b 93 is, refl, refl))
 right_bracket_says bracket.Colon depth b y is = inl (inl (byte_is b 93 is, refl, refl))

@@ -16,10 +16,11 @@ use Rattle.promql_token.proofs.Inner.{Inner, begun_inner}
 use Rattle.promql_token.proofs.ReadBeginnings.{begun_read}
 use Rattle.promql_token.proofs.ScannedBeginnings.{begun_said}
 use Rattle.promql_token.proofs.PunctuatorRows.{Says}
+use Rattle.promql_token.specs.declared.ids.TheConstants.{T_EOF}
 
 -- T_EOF aside, a token may begin there, and a fault is there
 abbrev PieceSays : Mode → ℕ → Text → Scanned → Type 0
-PieceSays m depth z (Ok t) = (t.0 == 6) ≡ false → MayBegin m depth t.0 (take t.1 z) (drop t.1 z)
+PieceSays m depth z (Ok t) = (t.0 == T_EOF) ≡ false → MayBegin m depth t.0 (take t.1 z) (drop t.1 z)
 PieceSays m depth z (Err f) = IsFault f.0 m depth (take f.1 z) (drop f.1 z)
 
 end_said : (m : Mode) (depth : ℕ) → PieceSays m depth [] (end_in m depth)
@@ -37,13 +38,13 @@ unfolding scan_token
 piece_said state [] = end_said state.mode state.depth
 piece_said state (b ∷ y) = lift state.mode state.depth (b ∷ y) (scan_in_mode state.mode state.depth (b ∷ y)) (begun_said state.mode state.depth b y)
 
-pub piece_begins : (state : State) (id : ℕ) (w r : Text) → scan_token state (w ++ r) ≡ Ok (id, length w) → (id == 6) ≡ false → MayBegin state.mode state.depth id w r
+pub piece_begins : (state : State) (id : ℕ) (w r : Text) → scan_token state (w ++ r) ≡ Ok (id, length w) → (id == T_EOF) ≡ false → MayBegin state.mode state.depth id w r
 piece_begins state id w r is more =
     let m = state.mode in
     let said = (subst (PieceSays m state.depth (w ++ r)) is (piece_said state (w ++ r))) more in
     subst (λ w2. MayBegin m state.depth id w2 r) (take-append_seam w r) (subst (MayBegin m state.depth id (take (length w) (w ++ r))) (drop-append_seam w r) said)
 
-pub begins_piece : (state : State) (id : ℕ) (w r : Text) → MayBegin state.mode state.depth id w r → (scan_token state (w ++ r) ≡ Ok (id, length w)) × ((id == 6) ≡ false) × (0 < length w)
+pub begins_piece : (state : State) (id : ℕ) (w r : Text) → MayBegin state.mode state.depth id w r → (scan_token state (w ++ r) ≡ Ok (id, length w)) × ((id == T_EOF) ≡ false) × (0 < length w)
 unfolding scan_token
 begins_piece state id [] r h = let some = (begun_read state.mode state.depth id [] r h).1 in absurd (omega arith)
 begins_piece state id (b ∷ w) r h =

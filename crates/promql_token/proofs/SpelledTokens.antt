@@ -24,12 +24,13 @@ use Rattle.promql_token.proofs.Ends.{and_left, number_moves, or_cases}
 use Rattle.promql_token.proofs.Places.{past_moves}
 use Rattle.promql_token.proofs.Spans.{spans}
 use Rattle.promql_token.proofs.Steps.{pieces_are}
+use Rattle.promql_token.specs.declared.ids.TheConstants.{T_COLON, T_LEFT_BRACE, T_LEFT_BRACKET, T_NUMBER, T_RIGHT_BRACE, T_RIGHT_BRACKET}
 
 abbrev SpelledPiece : Text → Scanned → Type 0
 SpelledPiece z (Ok t) = IsSpelled (t.0, take t.1 z)
 SpelledPiece z (Err f) = Unit {0}
 
-no_word : (id : ℕ) (w : Text) → is_no_word id ≡ true → (id == 15) ≡ false → IsSpelled (id, w)
+no_word : (id : ℕ) (w : Text) → is_no_word id ≡ true → (id == T_NUMBER) ≡ false → IsSpelled (id, w)
 no_word id w is other = record { word = inr is; number = λ same. let no : (15 == 15) ≡ false = subst (λ k. (k == 15) ≡ false) same other in absurd (cc) }
 
 pub first_byte : (n : ℕ) (z : Text) → 0 < n → get_or (take n z) 0 0 ≡ get_or z 0 0
@@ -216,7 +217,7 @@ found_spelled state z out =
 -- ---- lists
 
 mode_inside : (m : Mode) (id : ℕ) → is_inside (mode_after m id) ≡ in_braces_after (is_inside m) id
-mode_inside m id = tests (id == 9) (id == 10) ((id == 16) || (id == 17)) (id == 2)
+mode_inside m id = tests (id == T_LEFT_BRACE) (id == T_LEFT_BRACKET) ((id == T_RIGHT_BRACE) || (id == T_RIGHT_BRACKET)) (id == T_COLON)
   where
     tests : (a b c d : Bool) → is_inside (cond a mode.Braces (cond b (mode.Brackets bracket.Nothing) (cond c mode.Outside (cond d (mode_after_colon m) (mode_after_something m))))) ≡ cond a true (cond b false (cond c false (is_inside m)))
     tests true b c d = refl

@@ -15,6 +15,7 @@ use Rattle.promql_token.specs.TokenScanning.{Scanned, trivia_len, trivia_from, s
 use Rattle.promql_token.proofs.CutSteps.{cut_goes, cut_stops}
 use Rattle.promql_token.proofs.Ends.{PieceEnds, piece_ends}
 use Rattle.promql_token.proofs.Places.{trivia_len_ends}
+use Rattle.promql_token.specs.declared.ids.TheConstants.{T_EOF}
 
 pub not_true : (b : Bool) → not b ≡ true → b ≡ false
 not_true true h = sym h
@@ -60,7 +61,7 @@ unfolding after_trivia
 no_trivia_state state = refl
 
 -- a piece with no trivia before it
-pub pieces_piece : (state : State) (w r : Text) (id : ℕ) → trivia_len state.mode (w ++ r) ≡ 0 → scan_token state (w ++ r) ≡ Ok (id, length w) → (id == 6) ≡ false → pieces state (w ++ r) ≡ Ok (id, w) ∷ pieces (after state id) r
+pub pieces_piece : (state : State) (w r : Text) (id : ℕ) → trivia_len state.mode (w ++ r) ≡ 0 → scan_token state (w ++ r) ≡ Ok (id, length w) → (id == T_EOF) ≡ false → pieces state (w ++ r) ≡ Ok (id, w) ∷ pieces (after state id) r
 unfolding found
 pieces_piece state w r id trivia is more =
     let z = w ++ r in
@@ -73,7 +74,7 @@ pieces_piece state w r id trivia is more =
     ∙ ap (λ n. Ok (id, w) ∷ pieces (after state id) (drop n z)) (zero-add (length w))
     ∙ ap (λ q. Ok (id, w) ∷ pieces (after state id) q) (drop-append_seam w r)
 
-pub pieces_end : pieces start [] ≡ Ok (6, []) ∷ []
+pub pieces_end : pieces start [] ≡ Ok (T_EOF, []) ∷ []
 unfolding found trivia_len scan_token after_trivia cut
 pieces_end = refl
 

@@ -1,5 +1,5 @@
 -- Ids of tokens: their texts, the keywords and the classes (docs/reference/tokens.md, "Ids").
-use Rattle.std.specs.Prelude.{ℕ, zero, suc, ◌+◌, Bool, ◌&&◌, ◌==◌, nat_le, if◌then◌else◌, List, [], ◌∷◌, codes, map, slice_get, Option, Some, None}
+use Rattle.std.specs.Prelude.{ℕ, zero, suc, ◌+◌, Bool, ◌&&◌, ◌==◌, nat_lt, if◌then◌else◌, List, [], ◌∷◌, codes, map, slice_get, Option, Some, None}
 use Rattle.std.specs.List.{list_any}
 use Rattle.std.specs.Option.{unwrap_or}
 use Rattle.std.specs.Str.{bytes_eq, str_eq_ignore_ascii_case}
@@ -34,10 +34,10 @@ keyword_in_any_case = lookup str_eq_ignore_ascii_case keywords
 -- ---- classes
 
 abbrev pub is_operator : ℕ → Bool
-is_operator id = nat_le 24 id && nat_le id 42
+is_operator id = nat_lt T_OPERATORS_START id && nat_lt id T_OPERATORS_END
 
 abbrev pub is_aggregator : ℕ → Bool
-is_aggregator id = nat_le 45 id && nat_le id 58
+is_aggregator id = nat_lt T_AGGREGATORS_START id && nat_lt id T_AGGREGATORS_END
 
 -- whether it is one of them
 abbrev pub is_one_of : List ℕ → ℕ → Bool
